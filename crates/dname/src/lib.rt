@@ -1,0 +1,2 @@
+//! Domain names.
+#![tactic(auto)]

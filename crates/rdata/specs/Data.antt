@@ -1,0 +1,52 @@
+-- RDATA of the served types as plain values (RFC 1035, sections 3.3 and 3.4; AAAA: RFC 3596, section 2.2).
+use Rattle.std.specs.Prelude.{◌≡◌, ℕ, ◌<◌, ◌≤◌, Bool, true, false, ◌&&◌, nat_eq, List, [], ◌∷◌, length}
+use Rattle.std.specs.Cmp.Lexicographic.{pointwise}
+use Rattle.dname.specs.Labels.{Name, same_name}
+
+-- What an SOA record says (RFC 1035, section 3.3.13): times in seconds.
+pub record Authority : Type 0 where
+  pub primary : List (List ℕ)
+  pub mailbox : List (List ℕ)
+  pub serial : ℕ
+  pub refresh : ℕ
+  pub retry : ℕ
+  pub expire : ℕ
+  pub minimum : ℕ
+
+-- Addresses are their bytes, four or sixteen; a TXT is its character-strings.
+pub data Datum : Type 0 where
+  Ipv4 : List ℕ → Datum
+  Ns : List (List ℕ) → Datum
+  Cname : List (List ℕ) → Datum
+  Soa : Authority → Datum
+  Ptr : List (List ℕ) → Datum
+  Mx : ℕ → List (List ℕ) → Datum
+  Txt : List (List ℕ) → Datum
+  Ipv6 : List ℕ → Datum
+
+-- Type numbers (RFC 1035, section 3.2.2; RFC 3596, section 2.1).
+abbrev pub type_of : Datum → ℕ
+type_of (Ipv4 a) = 1
+type_of (Ns n) = 2
+type_of (Cname n) = 5
+type_of (Soa s) = 6
+type_of (Ptr n) = 12
+type_of (Mx p n) = 15
+type_of (Txt ts) = 16
+type_of (Ipv6 a) = 28
+
+-- The same data, as a test.
+abbrev pub same_authority : Authority → Authority → Bool
+same_authority a b = same_name a.primary b.primary && same_name a.mailbox b.mailbox && nat_eq a.serial b.serial && nat_eq a.refresh b.refresh
+  && nat_eq a.retry b.retry && nat_eq a.expire b.expire && nat_eq a.minimum b.minimum
+
+abbrev pub same_data : Datum → Datum → Bool
+same_data (Ipv4 a) (Ipv4 b) = pointwise nat_eq a b
+same_data (Ns m) (Ns n) = same_name m n
+same_data (Cname m) (Cname n) = same_name m n
+same_data (Soa a) (Soa b) = same_authority a b
+same_data (Ptr m) (Ptr n) = same_name m n
+same_data (Mx p m) (Mx q n) = nat_eq p q && same_name m n
+same_data (Txt a) (Txt b) = pointwise (pointwise nat_eq) a b
+same_data (Ipv6 a) (Ipv6 b) = pointwise nat_eq a b
+same_data _ _ = false

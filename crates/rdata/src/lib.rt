@@ -1,0 +1,2 @@
+//! Resource records.
+#![tactic(auto)]
