@@ -1,0 +1,5 @@
+pub mod Reading
+pub mod Growing
+pub mod Standing
+pub mod Written
+pub mod Whole
