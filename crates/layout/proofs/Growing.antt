@@ -26,7 +26,7 @@ label-grown bytes more at l h =
       nonempty = h.nonempty;
       short = h.short;
       there = omega (arith, length-append bytes more);
-      text = take_drop-grown bytes more (at + 1) (length l) t ∙ h.text
+      text = take_drop-grown bytes more (at + 1) (length l) t ∙ h.text;
     }
 
 pointer-grown : (bytes more : List ℕ) (at target : ℕ) → IsPointerAt bytes at target → IsPointerAt (bytes ++ more) at target
@@ -36,7 +36,7 @@ pointer-grown bytes more at target h = record {
   first = get-grown bytes more at (192 + h.high) h.first;
   second = get-grown bytes more (at + 1) h.low h.second;
   fits = h.fits;
-  is = h.is
+  is = h.is;
 }
 
 pub stands-grown : (f : List ℕ → List ℕ) (bytes more : List ℕ) (start at end : ℕ) (labels : List (List ℕ)) → Stands f bytes start at labels end
@@ -61,7 +61,7 @@ at-grown bytes more at text end h =
     record {
       there = omega (arith, length-append bytes more);
       is = take_drop-grown bytes more at (length text) t ∙ h.is;
-      last = h.last
+      last = h.last;
     }
 
 pub flat-grown : (bytes more : List ℕ) (at : ℕ) (f : Flat) (end : ℕ) → FlatAt bytes at f end → FlatAt (bytes ++ more) at f end
@@ -82,5 +82,5 @@ piece-grown bytes more at (sized_group fs) end h = record {
   fits = h.fits;
   length_first = at-grown bytes more at _ (at + 2) h.length_first;
   stands = flats-grown bytes more (at + 2) fs end h.stands;
-  fills = h.fills
+  fills = h.fills;
 }

@@ -3,3 +3,4 @@ pub mod Growing
 pub mod Standing
 pub mod Written
 pub mod Whole
+pub mod Letters

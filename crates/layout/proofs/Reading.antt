@@ -3,7 +3,7 @@ use Rattle.std.proofs.Common.{◌≡◌, ℕ, ◌+◌, List, [], ◌∷◌, leng
 use Rattle.std.specs.Prelude.{slice_get}
 use Rattle.std.proofs.lemmas.List.{length-map}
 use Rattle.dname.specs.Labels.{folded_label, folded_labels}
-use Rattle.layout.specs.Names.{IsLabelAt, IsPointerAt, Stands, root_here, label_here, pointer_here, as_written}
+use Rattle.layout.specs.Names.{IsLabelAt, IsPointerAt, Stands, root_here, label_here, pointer_here, as_written, SpeltAt, NameAt}
 
 some_is : {x y : ℕ} → Some x ≡ Some y → x ≡ y
 some_is h = cc
@@ -98,3 +98,9 @@ spelling_of bytes start at end name (pointer_here _ _ _ target past _ p less r e
 -- Lower case changes no length.
 pub folded_long : (l : List ℕ) → length (folded_label l) ≡ length l
 folded_long l = search (arith, length-map)
+
+pub name_one : (bytes : List ℕ) (at : ℕ) (a b : List (List ℕ)) (x y : ℕ) → NameAt bytes at a x → NameAt bytes at b y → (a ≡ b) × (x ≡ y)
+name_one bytes at a b x y h k = one_reading folded_label bytes at at x a h.stands at at y b k.stands refl
+
+pub spelling_one : (bytes : List ℕ) (at : ℕ) (a b : List (List ℕ)) (x y : ℕ) → SpeltAt bytes at a x → SpeltAt bytes at b y → (a ≡ b) × (x ≡ y)
+spelling_one bytes at a b x y h k = one_reading as_written bytes at at x a h.stands at at y b k.stands refl

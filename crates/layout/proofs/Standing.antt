@@ -31,7 +31,7 @@ label_behind pre l rest some few = record {
   nonempty = some;
   short = few;
   there = omega (arith, length-append pre (length l ∷ (l ++ rest)), length-append l rest);
-  text = ap (take (length l)) (drop-append-add pre (length l ∷ (l ++ rest)) 1) ∙ take-append_seam l rest
+  text = ap (take (length l)) (drop-append-add pre (length l ∷ (l ++ rest)) 1) ∙ take-append_seam l rest;
 }
 
 pointer_behind : (pre : List ℕ) (place : ℕ) → place < 16384 → IsPointerAt (pre ++ pointer place) (length pre) place
@@ -41,7 +41,7 @@ pointer_behind pre place reach = record {
   first = get_behind pre (place % 256 ∷ []) (192 + place / 256);
   second = get_next pre [] (192 + place / 256) (place % 256);
   fits = omega arith;
-  is = omega arith
+  is = omega arith;
 }
 
 pub stands-along : (f : List ℕ → List ℕ) (bytes text : List ℕ) (start at place end last : ℕ) (labels : List (List ℕ))
@@ -73,13 +73,15 @@ AllStood bytes limit notes = AllByRecursion (Stood bytes limit) notes
 pub stood-grown : (bytes more : List ℕ) (limit later : ℕ) (notes : List Note) → AllStood bytes limit notes → limit ≤ later → AllStood (bytes ++ more) later notes
 stood-grown bytes more limit later [] h le = tt
 stood-grown bytes more limit later (n ∷ notes) (first, rest) le =
-    let b = first.before in
-    (record {
-      reach = first.reach;
-      before = omega arith;
-      end = first.end;
-      stands = stands-grown folded_label bytes more n.place n.place first.end n.suffix first.stands
-    }, stood-grown bytes more limit later notes rest le)
+    let b = first.before in (
+      record {
+        reach = first.reach;
+        before = omega arith;
+        end = first.end;
+        stands = stands-grown folded_label bytes more n.place n.place first.end n.suffix first.stands;
+      },
+      stood-grown bytes more limit later notes rest le,
+    )
 
 pub stood-append : (bytes : List ℕ) (limit : ℕ) (notes later : List Note) → AllStood bytes limit notes → AllStood bytes limit later
     → AllStood bytes limit (notes ++ later)
@@ -132,15 +134,15 @@ packed_step : (notes : List Note) (l : List ℕ) (tail : List (List ℕ)) (pre :
 packed_step notes l tail pre start limit le stood label text inner None e =
     let n : length (pre ++ length l ∷ l) ≡ length pre + 1 + length l = omega (arith, length-append pre (length l ∷ l)) in
     let last : length (pre ++ length l ∷ l) + length text ≡ length pre + length (length l ∷ (l ++ text)) =
-      omega (arith, length-append pre (length l ∷ l), length-append l text) in
+    omega (arith, length-append pre (length l ∷ l), length-append l text) in
     label_here start (length pre) (length pre + length (length l ∷ (l ++ text))) l l tail (label_behind pre l text label.nonempty label.short)
-      (sym (folds_same l label.bytes))
-      (stands-along folded_label _ _ start _ _ _ _ tail inner (append_assoc pre (length l ∷ l) text) n last)
+    (sym (folds_same l label.bytes))
+    (stands-along folded_label _ _ start _ _ _ _ tail inner (append_assoc pre (length l ∷ l) text) n last)
 packed_step notes l tail pre start limit le stood label text inner (Some p) e =
     let s = found pre limit notes (l ∷ tail) p stood e in
     let b = s.before in
     pointer_here start (length pre) (length pre + 2) p s.end (l ∷ tail) (pointer_behind pre p s.reach) (omega arith)
-      (stands-grown folded_label pre (pointer p) p p s.end (l ∷ tail) s.stands) refl
+    (stands-grown folded_label pre (pointer p) p p s.end (l ∷ tail) s.stands) refl
 
 pub packed_stands : (notes : List Note) (name : List (List ℕ)) (pre : List ℕ) (start limit : ℕ) → limit ≤ start → AllStood pre limit notes
     → AreLabels name → Stands folded_label (pre ++ packed notes name) start (length pre) name (length pre + length (packed notes name))
@@ -150,7 +152,7 @@ packed_stands notes (l ∷ []) pre start limit le stood h =
     subst P (sym h) (root_here start (length pre) (length pre + 1) (get_behind pre [] 0) refl)
 packed_stands notes (l ∷ m ∷ rest) pre start limit le stood h =
     let inner = packed_stands notes (m ∷ rest) (pre ++ length l ∷ l) start limit le
-      (stood-grown pre (length l ∷ l) limit limit notes stood (omega arith)) h.1 in
+    (stood-grown pre (length l ∷ l) limit limit notes stood (omega arith)) h.1 in
     packed_step notes l (m ∷ rest) pre start limit le stood h.0 (packed notes (m ∷ rest)) inner (find notes (l ∷ m ∷ rest)) refl
 
 -- ---- the notes of a packed name
@@ -179,9 +181,9 @@ packed_noted notes (l ∷ m ∷ rest) pre limit le stood h =
     let n : length (pre ++ length l ∷ l) ≡ length pre + 1 + length l = omega (arith, length-append pre (length l ∷ l)) in
     let inner = packed_noted notes (m ∷ rest) (pre ++ length l ∷ l) limit (omega arith) (stood-grown pre (length l ∷ l) limit limit notes stood (omega arith)) h.1 in
     let moved = stood-along _ (pre ++ length l ∷ (l ++ packed notes (m ∷ rest))) _ (packed_notes notes (length pre + 1 + length l) (m ∷ rest)) inner
-      (append_assoc pre (length l ∷ l) (packed notes (m ∷ rest))) (ap (λ k. packed_notes notes k (m ∷ rest)) n) in
+    (append_assoc pre (length l ∷ l) (packed notes (m ∷ rest))) (ap (λ k. packed_notes notes k (m ∷ rest)) n) in
     noted_step (l ∷ m ∷ rest) _ pre (length l ∷ (l ++ packed notes (m ∷ rest))) (find notes (l ∷ m ∷ rest)) (omega arith)
-      (packed_stands notes (l ∷ m ∷ rest) pre (length pre) limit le stood h) moved
+    (packed_stands notes (l ∷ m ∷ rest) pre (length pre) limit le stood h) moved
 
 -- ---- a name in full
 
@@ -195,9 +197,9 @@ full_stands (l ∷ m ∷ rest) pre start (some, few, h) =
     let text = wire (m ∷ rest) in
     let n : length (pre ++ length l ∷ l) ≡ length pre + 1 + length l = omega (arith, length-append pre (length l ∷ l)) in
     let last : length (pre ++ length l ∷ l) + length text ≡ length pre + length (length l ∷ (l ++ text)) =
-      omega (arith, length-append pre (length l ∷ l), length-append l text) in
+    omega (arith, length-append pre (length l ∷ l), length-append l text) in
     label_here start (length pre) (length pre + length (length l ∷ (l ++ text))) l l (m ∷ rest) (label_behind pre l text some few) refl
-      (stands-along as_written _ _ start _ _ _ _ (m ∷ rest) (full_stands (m ∷ rest) (pre ++ length l ∷ l) start h) (append_assoc pre (length l ∷ l) text) n last)
+    (stands-along as_written _ _ start _ _ _ _ (m ∷ rest) (full_stands (m ∷ rest) (pre ++ length l ∷ l) start h) (append_assoc pre (length l ∷ l) text) n last)
 
 pub full_noted : (labels : List (List ℕ)) (pre : List ℕ) → AreSpelled labels
     → AllStood (pre ++ wire labels) (length (pre ++ wire labels)) (full_notes (length pre) (folded_labels labels))
@@ -208,7 +210,7 @@ full_noted (l ∷ m ∷ rest) pre h =
     let n : length (pre ++ length l ∷ l) ≡ length pre + 1 + length (folded_label l) = omega (arith, length-append pre (length l ∷ l), folded_long l) in
     let inner = full_noted (m ∷ rest) (pre ++ length l ∷ l) h.2 in
     let moved = stood-along _ (pre ++ wire (l ∷ m ∷ rest)) _ (full_notes (length pre + 1 + length (folded_label l)) (folded_labels (m ∷ rest))) inner
-      (append_assoc pre (length l ∷ l) text) (ap (λ k. full_notes k (folded_labels (m ∷ rest))) n) in
+    (append_assoc pre (length l ∷ l) text) (ap (λ k. full_notes k (folded_labels (m ∷ rest))) n) in
     note_first (pre ++ wire (l ∷ m ∷ rest)) (length pre) (length pre + length (wire (l ∷ m ∷ rest))) (folded_labels (l ∷ m ∷ rest)) _
-      (omega (arith, length-append pre (wire (l ∷ m ∷ rest))))
-      (folds_to _ (length pre) (length pre) _ (l ∷ m ∷ rest) (full_stands (l ∷ m ∷ rest) pre (length pre) h)) moved
+    (omega (arith, length-append pre (wire (l ∷ m ∷ rest))))
+    (folds_to _ (length pre) (length pre) _ (l ∷ m ∷ rest) (full_stands (l ∷ m ∷ rest) pre (length pre) h)) moved

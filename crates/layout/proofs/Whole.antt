@@ -1,5 +1,5 @@
 -- The encoding of a message is that message.
-use Rattle.std.proofs.Common.{◌≡◌, ℕ, suc, ◌+◌, ◌<◌, ◌≤◌, Bool, true, false, List, [], ◌∷◌, ◌++◌, length, map, refl, sym, subst, arith, length-append}
+use Rattle.std.proofs.Common.{ap, ◌≡◌, ℕ, suc, ◌+◌, ◌<◌, ◌≤◌, Bool, true, false, List, [], ◌∷◌, ◌++◌, length, map, refl, sym, subst, arith, length-append}
 use Rattle.std.specs.Prelude.{nat_lt, if◌then◌else◌, flat_map}
 use Rattle.std.specs.List.{AllByRecursion}
 use Rattle.std.proofs.lemmas.List.{length-map}
@@ -11,7 +11,7 @@ use Rattle.layout.specs.Names.{Stands, root_here, label_here, pointer_here, Name
 use Rattle.layout.specs.Pieces.{Flat, Piece, plain_bytes}
 use Rattle.layout.specs.Places.{PiecesAt}
 use Rattle.layout.specs.Messages.{Header, Question, Message, Counts, header_pieces, question_pieces, data_flats, record_pieces, internet, any_record_pieces, message_pieces, counts_of, encoding, ttl_of, QuestionAt, QuestionsAt, RecordAt, SectionAt, none_left, kept_first, skipped_first, IsMessage, IsQuestion, IsRecord, AreNamesOf, IsWritable, folded_question, folded_message}
-use Rattle.layout.proofs.Reading.{folds_to, folded_long}
+use Rattle.layout.proofs.Reading.{folds_to, folded_long, name_one, spelling_of}
 use Rattle.layout.proofs.Written.{IsFlat, IsPiece, written_stands}
 
 -- ---- rows of pieces
@@ -58,13 +58,13 @@ third_pieces m = second_pieces m ++ flat_map record_pieces m.authority
 pieces_are : (m : Message) → IsWritable m → AllByRecursion IsPiece (message_pieces m)
 pieces_are m h =
     all-append IsPiece (third_pieces m) (flat_map record_pieces m.additional)
-      (all-append IsPiece (second_pieces m) (flat_map record_pieces m.authority)
-        (all-append IsPiece (first_pieces m) (flat_map record_pieces m.answer)
-          (all-append IsPiece (header_pieces m.header (counts_of m)) (flat_map question_pieces m.questions) (tt, (tt, (tt, (tt, (tt, (tt, tt))))))
-            (questions_are m.questions h.questions))
-          (records_are m.answer h.answer))
-        (records_are m.authority h.authority))
-      (records_are m.additional h.additional)
+    (all-append IsPiece (second_pieces m) (flat_map record_pieces m.authority)
+    (all-append IsPiece (first_pieces m) (flat_map record_pieces m.answer)
+    (all-append IsPiece (header_pieces m.header (counts_of m)) (flat_map question_pieces m.questions) (tt, (tt, (tt, (tt, (tt, (tt, tt))))))
+    (questions_are m.questions h.questions))
+    (records_are m.answer h.answer))
+    (records_are m.authority h.authority))
+    (records_are m.additional h.additional)
 
 -- ---- parts of a message
 
@@ -85,8 +85,21 @@ question_at bytes at q end is (mid, name, rest) = record {
   fits_class = is.qclass;
   behind_name = mid;
   name = spelling_is_name bytes at q.name mid name;
-  rest = rest
+  rest = rest;
 }
+
+pub spelling_gives : (bytes : List ℕ) (at : ℕ) (labels name : List (List ℕ)) (x y : ℕ) → SpeltAt bytes at labels x → NameAt bytes at name y
+    → (name ≡ folded_labels labels) × (x ≡ y)
+spelling_gives bytes at labels name x y h k =
+    let both = name_one bytes at (folded_labels labels) name x y (spelling_is_name bytes at labels x h) k in
+    (sym both.0, both.1)
+
+pub name_spelt : (bytes : List ℕ) (at : ℕ) (name : List (List ℕ)) (end : ℕ) → NameAt bytes at name end → (labels : List (List ℕ)) × SpeltAt bytes at labels end
+name_spelt bytes at name end h =
+    let found = spelling_of bytes at at end name h.stands in
+    let s = h.short in
+    let same : length (wire name) ≡ length (wire (folded_labels found.0)) = ap (λ x. length (wire x)) found.2 in
+    (found.0, record { stands = found.1; short = omega (arith, wire_folded_long found.0) })
 
 questions_at : (bytes : List ℕ) (at : ℕ) (qs : List Question) (end : ℕ) → AllByRecursion IsQuestion qs → PiecesAt bytes at (flat_map question_pieces qs) end
     → QuestionsAt bytes at (map folded_question qs) end
@@ -113,7 +126,7 @@ section_at bytes at [] end is h = none_left at 0 end refl h
 section_at bytes at (r ∷ rs) end (one, others) h =
     let parts = pieces_split bytes at (record_pieces r) (flat_map record_pieces rs) end h in
     kept_first at (suc (length rs)) (length rs) parts.0 end r rs (omega arith) (record_at bytes at r parts.0 one parts.1)
-      (section_at bytes parts.0 rs end others parts.2)
+    (section_at bytes parts.0 rs end others parts.2)
 
 -- ---- each thing takes a place
 
@@ -206,5 +219,5 @@ encoding_holds m is few =
       questions = asked;
       answer = answer;
       authority = authority;
-      additional = additional
+      additional = additional;
     }

@@ -27,7 +27,7 @@ pub at_behind : (pre text : List ℕ) → IsAt (pre ++ text) (length pre) text (
 at_behind pre text = record {
   there = omega (arith, length-append pre text);
   is = ap (take (length text)) (drop-append_seam pre text) ∙ take-length text;
-  last = length-append pre text
+  last = length-append pre text;
 }
 
 flat_stands : (notes : List Note) (pre : List ℕ) (f : Flat) → AllStood pre (length pre) notes → IsFlat f
@@ -35,11 +35,11 @@ flat_stands : (notes : List Note) (pre : List ℕ) (f : Flat) → AllStood pre (
 flat_stands notes pre (plain_bytes b) stood is = at_behind pre b
 flat_stands notes pre (packed_name n) stood is = record {
   stands = stands-along folded_label _ _ (length pre) _ _ _ _ n (packed_stands notes n pre (length pre) (length pre) (omega arith) stood is.labels) refl refl (sym (length-append pre (packed notes n)));
-  short = is.short
+  short = is.short;
 }
 flat_stands notes pre (asked_name n) stood is = record {
   stands = stands-along _ _ _ (length pre) _ _ _ _ n (full_stands n pre (length pre) is.spelled) refl refl (sym (length-append pre _));
-  short = is.short
+  short = is.short;
 }
 flat_stands notes pre (full_name n) stood is = record { letters = n; stands = at_behind pre _; folds = is }
 
@@ -92,15 +92,15 @@ flat_put before t f kept is =
     let joined : pre ++ text ≡ before ++ (t.bytes ++ text) = append_assoc before t.bytes text in
     let last : length (pre ++ text) ≡ t.start + length (t.bytes ++ text) = omega (arith, length-append pre text, length-append before t.bytes, length-append t.bytes text) in
     let notes = stood-append (pre ++ text) (length (pre ++ text)) t.notes (flat_notes t.notes (length pre) f)
-      (stood-grown pre text (length pre) (length (pre ++ text)) t.notes kept.stood (omega (arith, length-append pre text)))
-      (flat_noted t.notes pre f kept.stood is) in
+    (stood-grown pre text (length pre) (length (pre ++ text)) t.notes kept.stood (omega (arith, length-append pre text)))
+    (flat_noted t.notes pre f kept.stood is) in
     record {
       kept = record {
         at = a;
-        stood = stood-along (pre ++ text) _ _ _ notes joined (ap (λ k. t.notes ++ flat_notes t.notes k f) here)
+        stood = stood-along (pre ++ text) _ _ _ notes joined (ap (λ k. t.notes ++ flat_notes t.notes k f) here);
       };
       continues = record { more = text; bytes = refl; start = refl };
-      there = piece-along (pre ++ text) _ (length pre) _ (flat_piece f) _ _ (flat_stands t.notes pre f kept.stood is) joined here last
+      there = piece-along (pre ++ text) _ (length pre) _ (flat_piece f) _ _ (flat_stands t.notes pre f kept.stood is) joined here last;
     }
 
 pub record FlatsPut (before : List ℕ) (t : Text) (fs : List Flat) (u : Text) : Type 0 where
@@ -113,7 +113,7 @@ continues_on : (t u v : Text) → Continues t u → Continues u v → Continues 
 continues_on t u v h k = record {
   more = h.more ++ k.more;
   bytes = k.bytes ∙ (ap (λ x. x ++ k.more) h.bytes ∙ append_assoc t.bytes h.more k.more);
-  start = k.start ∙ h.start
+  start = k.start ∙ h.start;
 }
 
 -- What stands before a text stands before its continuation.
@@ -124,7 +124,7 @@ flats_put : (fs : List Flat) (before : List ℕ) (t : Text) → IsKept before t 
 flats_put [] before t kept is = record {
   kept = kept;
   continues = record { more = []; bytes = sym (append-nil t.bytes); start = refl };
-  there = refl
+  there = refl;
 }
 flats_put (f ∷ fs) before t kept (one, others) =
     let first = flat_put before t f kept one in
@@ -134,10 +134,12 @@ flats_put (f ∷ fs) before t kept (one, others) =
     record {
       kept = rest.kept;
       continues = continues_on t u v first.continues rest.continues;
-      there = (place_of u,
+      there = (
+        place_of u,
         piece-along _ _ _ _ (flat_piece f) _ _ (flat-grown (before ++ u.bytes) rest.continues.more (place_of t) f (place_of u) first.there)
-          (grown_by before u v rest.continues) refl refl,
-        rest.there)
+            (grown_by before u v rest.continues) refl refl,
+        rest.there,
+      );
     }
 
 pub record PiecePut (before : List ℕ) (t : Text) (p : Piece) (u : Text) : Type 0 where
@@ -160,13 +162,13 @@ group_put before t fs kept is =
     let behind : length (pre ++ size) ≡ place_of t + 2 = omega (arith, length-append pre size, length-append before t.bytes) in
     let nothing : (pre ++ size) ++ [] ≡ pre ++ size = append-nil (pre ++ size) in
     let stood = stood-along (pre ++ size) ((pre ++ size) ++ []) t.notes t.notes
-      (stood-grown pre size (length pre) (length (pre ++ size)) t.notes kept.stood (omega (arith, length-append pre size))) (sym nothing) refl in
+    (stood-grown pre size (length pre) (length (pre ++ size)) t.notes kept.stood (omega (arith, length-append pre size))) (sym nothing) refl in
     let done = flats_put fs (pre ++ size) inner (record { at = behind; stood = stood }) is in
     let joined : (pre ++ size) ++ group.bytes ≡ before ++ (t.bytes ++ (size ++ group.bytes)) =
-      append_assoc pre size group.bytes ∙ append_assoc before t.bytes (size ++ group.bytes) in
+    append_assoc pre size group.bytes ∙ append_assoc before t.bytes (size ++ group.bytes) in
     let began = done.continues.start in
     let last : t.start + length (t.bytes ++ (size ++ group.bytes)) ≡ place_of t + 2 + length group.bytes =
-      omega (arith, length-append t.bytes (size ++ group.bytes), length-append size group.bytes) in
+    omega (arith, length-append t.bytes (size ++ group.bytes), length-append size group.bytes) in
     record {
       kept = record { at = a; stood = stood-along _ _ _ _ done.kept.stood joined refl };
       continues = record { more = size ++ group.bytes; bytes = refl; start = refl };
@@ -174,10 +176,10 @@ group_put before t fs kept is =
         size = length group.bytes;
         fits = omega (arith, length-append t.bytes (size ++ group.bytes), length-append size group.bytes);
         length_first = piece-along _ _ _ _ (flat_piece (plain_bytes size)) _ _
-          (at-grown (pre ++ size) group.bytes (length pre) size (length (pre ++ size)) (at_behind pre size)) joined here behind;
+            (at-grown (pre ++ size) group.bytes (length pre) size (length (pre ++ size)) (at_behind pre size)) joined here behind;
         stands = flats-along _ _ _ _ fs _ _ done.there joined (omega arith) (omega arith);
-        fills = last
-      }
+        fills = last;
+      };
     }
 
 piece_put : (before : List ℕ) (t : Text) (p : Piece) → IsKept before t → IsPiece p → PiecePut before t p (put t p)
@@ -194,7 +196,7 @@ pub record PiecesPut (before : List ℕ) (t : Text) (ps : List Piece) (u : Text)
 pieces_put : (ps : List Piece) (before : List ℕ) (t : Text) → IsKept before t → AllByRecursion IsPiece ps → PiecesPut before t ps (after t ps)
 pieces_put [] before t kept is = record {
   continues = record { more = []; bytes = sym (append-nil t.bytes); start = refl };
-  there = λ few. refl
+  there = λ few. refl;
 }
 pieces_put (p ∷ ps) before t kept (one, others) =
     let first = piece_put before t p kept one in
@@ -204,10 +206,12 @@ pieces_put (p ∷ ps) before t kept (one, others) =
     let long : length v.bytes ≡ length u.bytes + length rest.continues.more = ap length rest.continues.bytes ∙ length-append u.bytes rest.continues.more in
     record {
       continues = continues_on t u v first.continues rest.continues;
-      there = λ few. (place_of u,
+      there = λ few. (
+        place_of u,
         piece-along _ _ _ _ p _ _ (piece-grown (before ++ u.bytes) rest.continues.more (place_of t) p (place_of u) (first.there (omega arith)))
-          (grown_by before u v rest.continues) refl refl,
-        rest.there few)
+            (grown_by before u v rest.continues) refl refl,
+        rest.there few,
+      );
     }
 
 -- A text of at most 65,535 bytes that was written as a row of pieces holds that row.

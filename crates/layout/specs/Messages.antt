@@ -114,7 +114,7 @@ counts_of m = record {
   questions = length m.questions;
   answer = length m.answer;
   authority = length m.authority;
-  additional = length m.additional
+  additional = length m.additional;
 }
 
 abbrev pub message_pieces : Message → List Piece
@@ -190,9 +190,9 @@ pub record SkippedAt (bytes : List ℕ) (at end : ℕ) : Type 0 where
 pub data SectionAt (bytes : List ℕ) : ℕ → ℕ → List Record → ℕ → Type 0 where
   none_left : (at count end : ℕ) → count ≡ 0 → end ≡ at → SectionAt bytes at count [] end
   kept_first : (at count left mid end : ℕ) (r : Record) (rest : List Record) → count ≡ left + 1 → RecordAt bytes at r mid
-    → SectionAt bytes mid left rest end → SectionAt bytes at count (r ∷ rest) end
+      → SectionAt bytes mid left rest end → SectionAt bytes at count (r ∷ rest) end
   skipped_first : (at count left mid end : ℕ) (rest : List Record) → count ≡ left + 1 → SkippedAt bytes at mid
-    → SectionAt bytes mid left rest end → SectionAt bytes at count rest end
+      → SectionAt bytes mid left rest end → SectionAt bytes at count rest end
 
 -- Each count fits 16 bits.
 pub record AreCounts (c : Counts) : Type 0 where
