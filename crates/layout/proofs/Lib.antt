@@ -4,3 +4,4 @@ pub mod Standing
 pub mod Written
 pub mod Whole
 pub mod Letters
+pub mod Single

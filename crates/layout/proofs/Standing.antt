@@ -94,7 +94,7 @@ stood-along bytes text notes later h b n =
     let Q : List Note → Type 0 = λ x. AllStood bytes (length bytes) x in
     subst P b (subst Q n h)
 
-wire-onto : (a b : List (List ℕ)) → wire a ≡ wire b → a ≡ b
+pub wire-onto : (a b : List (List ℕ)) → wire a ≡ wire b → a ≡ b
 wire-onto [] [] h = refl
 wire-onto [] (l ∷ b) h = cc
 wire-onto (l ∷ a) [] h = cc

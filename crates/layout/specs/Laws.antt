@@ -36,3 +36,7 @@ abbrev pub LettersStayInQuestion : Type 0
 LettersStayInQuestion =
     (m : Message) (q : Question) → m.questions ≡ q ∷ [] → (head tail : List ℕ) × (length head ≡ 12)
     × (encoding m ≡ head ++ (wire q.name ++ tail)) × (encoding (folded_message m) ≡ head ++ (wire (folded_labels q.name) ++ tail))
+
+-- Bytes are one message at most.
+abbrev pub OneMessage : Type 0
+OneMessage = (bytes : List ℕ) (m n : Message) → IsMessage bytes m → IsMessage bytes n → m ≡ n

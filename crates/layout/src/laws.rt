@@ -1,4 +1,4 @@
-ghost use Rattle.layout.specs.Laws.{OneName, OneSpelling, SpellingIsName, NameIsSpelt, EncodingIsMessage, LettersKeepLength, LettersStayInQuestion};
+ghost use Rattle.layout.specs.Laws.{OneName, OneSpelling, SpellingIsName, NameIsSpelt, EncodingIsMessage, LettersKeepLength, LettersStayInQuestion, OneMessage};
 
 /// At a place of a message stands one name at most (RFC 1035, section 4.1.4).
 pub fn one_name()
@@ -33,4 +33,9 @@ pub fn letters_keep_length()
 /// The letters of a question's name change nothing but the name itself.
 pub fn letters_stay_in_question()
     ensures { LettersStayInQuestion }
+{}
+
+/// Bytes are one message at most (RFC 1035, section 4).
+pub fn one_message()
+    ensures { OneMessage }
 {}
