@@ -1,1 +1,4 @@
+pub mod Draft
 pub mod Labels
+pub mod Laws
+pub mod Wire
