@@ -2,3 +2,4 @@ pub mod Draft
 pub mod Labels
 pub mod Laws
 pub mod Wire
+pub mod Written

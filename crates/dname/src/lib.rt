@@ -2,9 +2,11 @@
 //! words for want of memory that every crate shares.
 #![tactic(auto)]
 
+mod builder;
 mod memory;
 mod name;
 mod walk;
 
+pub use builder::{Builder, Overflow};
 pub use memory::{Heap, Starved};
 pub use name::Name;
