@@ -1,5 +1,5 @@
 -- Strings, questions and records read one after the other.
-use Rattle.std.proofs.Common.{◌≡◌, ℕ, zero, suc, ◌+◌, ◌-◌, ◌<◌, ◌≤◌, Bool, true, false, List, [], ◌∷◌, ◌++◌, length, Option, Some, None, Result, Ok, Err, refl, sym, ◌∙◌, ap, subst, arith, append_assoc}
+use Rattle.std.proofs.Common.{◌≡◌, ℕ, zero, suc, ◌+◌, ◌-◌, ◌<◌, ◌≤◌, true, false, List, [], ◌∷◌, ◌++◌, Option, Some, None, Result, Ok, Err, refl, sym, ◌∙◌, ap, arith, append_assoc}
 use Rattle.std.specs.Prelude.{nat_lt, if◌then◌else◌}
 use Rattle.std.specs.Option.{option_to_list}
 use Rattle.std.proofs.lemmas.Bool.Decides.{nat_tests}
@@ -7,10 +7,10 @@ use Rattle.std.proofs.lemmas.List.{append-nil}
 use Rattle.rdata.specs.Records.{Record}
 use Rattle.layout.specs.Messages.{Question}
 use Rattle.wire.specs.declared.error.WireError.{WireError}
-use Rattle.wire.specs.Results.{Fails, Gives, and_then}
+use Rattle.wire.specs.Results.{Fails, and_then}
 use Rattle.wire.specs.Values.{string_at, with_string, strings_from, txt_behind, texts_at}
 use Rattle.wire.specs.Entries.{entry_at, with_kept, section_from, question_at, with_question, questions_from}
-use Rattle.wire.proofs.Walks.{fails_with, fails_is}
+use Rattle.wire.proofs.Walks.{fails_with}
 
 -- ---- character-strings
 

@@ -1,12 +1,11 @@
 -- A name read part by part, as far as a loop has come.
-use Rattle.std.proofs.Common.{◌≡◌, ℕ, zero, suc, ◌+◌, ◌-◌, ◌<◌, ◌≤◌, Bool, true, false, List, [], ◌∷◌, ◌++◌, length, map, Option, Some, None, Result, Ok, Err, refl, sym, ◌∙◌, ap, subst, arith, append_assoc}
+use Rattle.std.proofs.Common.{◌≡◌, ℕ, zero, suc, ◌+◌, ◌-◌, ◌<◌, ◌≤◌, Bool, true, false, List, [], ◌∷◌, ◌++◌, length, Option, Some, None, Result, Ok, Err, refl, sym, ◌∙◌, ap, subst, arith, append_assoc}
 use Rattle.std.specs.Prelude.{nat_lt, nat_le, cond, if◌then◌else◌, slice_range}
 use Rattle.std.specs.Option.{unwrap_or, option_or}
-use Rattle.std.specs.Result.{IsErrAnd, IsErr}
+use Rattle.std.specs.Result.{IsErrAnd}
 use Rattle.std.proofs.lemmas.Bool.Decides.{nat_tests}
 use Rattle.std.proofs.lemmas.List.{map-append}
 use Rattle.dname.specs.Labels.{wire, folded_label, folded_labels}
-use Rattle.dname.specs.declared.builder.Overflow.{Overflow}
 use Rattle.dname.specs.declared.builder.Overflow.TheVariants.{LongName}
 use Rattle.dname.specs.Draft.{Draft, labelled}
 use Rattle.wire.specs.declared.error.WireError.{WireError}
@@ -15,7 +14,6 @@ use Rattle.wire.specs.declared.parts.Part.{Part}
 use Rattle.wire.specs.declared.parts.Part.TheVariants.{End, Label, Pointer}
 use Rattle.wire.specs.declared.parts.Faults.{Faults}
 use Rattle.wire.specs.Results.{Fails, Gives, and_then}
-use Rattle.wire.specs.Shapes.{IsPart}
 use Rattle.wire.specs.Parts.{part_at, behind_label, ends_at, followed, spelt_from, spelt_at, in_lower_case, name_at}
 
 abbrev done : {X E : Type 0} → X → Result X E

@@ -1,5 +1,5 @@
 -- What a part of a name that was read tells.
-use Rattle.std.specs.Prelude.{ℕ, ◌+◌, ◌<◌, ◌≤◌}
+use Rattle.std.specs.Prelude.{ℕ, ◌+◌, ◌<◌}
 use Rattle.wire.specs.declared.parts.Part.{Part}
 use Rattle.wire.specs.declared.parts.Part.TheVariants.{End, Label, Pointer}
 

@@ -1,6 +1,7 @@
 //! Messages read and written (RFC 1035, section 4).
 #![tactic(auto)]
 
+mod encoder;
 mod error;
 mod fields;
 mod header;
@@ -12,7 +13,9 @@ mod records;
 mod served;
 mod spelling;
 mod values;
+mod writer;
 
+pub use encoder::{Draft, encode, encode_draft};
 pub use error::WireError;
 pub use header::Header;
 pub use message::{Message, Question, Questions};

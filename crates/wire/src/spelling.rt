@@ -1,16 +1,19 @@
 ghost use Rattle.std.specs.Prelude.{◌≡◌, ◌≤◌, length};
-ghost use Rattle.dname.specs.Labels.{wire};
+ghost use Rattle.dname.specs.Labels.{wire, folded_labels};
 ghost use Rattle.wire.specs.Spellings.{IsSpelt};
 
+use dname::Name;
 use std::alloc::{Allocator, Global};
 use std::marker::Model;
 
-/// A name in the letters in which it was written, at most 255 bytes. Contracts see the list of its labels,
+/// A name with the letters in which it was written. Contracts see the list of its labels in these letters,
 /// the root's empty one last.
 #[derive(Drop)]
 pub struct Spelling<A: Allocator = Global> {
     // In wire form: each label behind its length, the root's zero last.
     bytes: Vec<u8, A>,
+    // The same in lower case.
+    name: Name<A>,
 }
 
 impl<A: Allocator> Model for Spelling<A> {
@@ -22,23 +25,22 @@ impl<A: Allocator> Model for Spelling<A> {
 
     ghost view = { λ s. labels_of s.bytes.items };
 
-    ghost invariant = { λ s. IsSpelt s.bytes.items };
+    ghost invariant = { λ s. IsSpelt s.bytes.items s.name };
 }
 
 impl<A: Allocator> Spelling<A> {
-    // A spelling from its wire form.
-    pub(crate) fn from_wire(bytes: Vec<u8, A>) -> Spelling<A>
-        requires { IsSpelt bytes.items }
-        ensures { wire result ≡ bytes.items }
-    {
-        Spelling { bytes }
-    }
-
     /// The spelling in wire form.
     pub fn wire(&self) -> &[u8]
         ensures is { result.now ≡ wire self.now }
         ensures short { length result.now ≤ 255 }
     {
         &self.bytes
+    }
+
+    /// The name in lower case.
+    pub fn name(&self) -> &Name<A>
+        ensures { result.now ≡ folded_labels self.now }
+    {
+        &self.name
     }
 }

@@ -1,8 +1,7 @@
-use Rattle.std.proofs.Common.{◌≡◌, List, []}
+use Rattle.std.proofs.Common.{[]}
 use Rattle.wire.specs.Parts.{spelt_at, name_at}
-use Rattle.wire.proofs.Walks.{NameWalk, walk_begins, walk_refused, name_refused, walk_too_long, walk_over, walk_forward, walk_ends, walk_label, walk_pointer, name_found, name_label, gives_failed}
-use Rattle.std.proofs.Common.{◌∙◌, sym, ap, ◌++◌, ◌∷◌, Ok, Err, refl, subst, ◌+◌}
-use Rattle.wire.specs.declared.parts.Part.TheVariants.{End, Label, Pointer}
+use Rattle.wire.proofs.Walks.{walk_begins, walk_refused, name_refused, walk_too_long, walk_over, walk_forward, walk_ends, walk_pointer, name_found, name_label, gives_failed}
+use Rattle.std.proofs.Common.{◌∙◌, sym, ap, Ok}
 use Rattle.wire.proofs.names.name_at.Goals as goal
 
 pub parts-init : goal.parts-init

@@ -1,4 +1,3 @@
-use Rattle.std.proofs.Common.{[]}
 use Rattle.wire.specs.Entries.{section_from}
 use Rattle.wire.proofs.Walks.{gives_failed}
 use Rattle.wire.proofs.Rows.{section_on, section_fails, section_ends}
