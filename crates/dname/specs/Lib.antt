@@ -1,1 +1,3 @@
 pub mod Labels
+pub mod Text
+pub mod Tokens

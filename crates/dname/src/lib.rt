@@ -1,2 +1,4 @@
 //! Domain names.
 #![tactic(auto)]
+
+pub mod text;
