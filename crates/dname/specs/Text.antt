@@ -1,9 +1,17 @@
 -- Names in text (RFC 1035, section 5.1): labels parted by dots, with escapes.
-use Rattle.std.specs.Prelude.{◌≡◌, ℕ, zero, suc, ◌+◌, ◌-◌, ◌*◌, ◌/◌, ◌%◌, ◌<◌, ◌≤◌, Bool, true, false, ◌&&◌, ◌||◌, cond, nat_eq, nat_le, Result, Ok, Err, List, [], ◌∷◌, ◌++◌, length}
+use Rattle.std.specs.Prelude.{◌≡◌, ℕ, zero, suc, ◌+◌, ◌-◌, ◌*◌, ◌/◌, ◌%◌, Bool, true, false, ◌&&◌, ◌||◌, cond, nat_eq, nat_le, Result, Ok, Err, List, [], ◌∷◌, ◌++◌, length}
 use Rattle.std.specs.Cmp.Lexicographic.{pointwise}
 use Rattle.dname.specs.Labels.{root, wire, folded, IsName}
+use Rattle.dname.specs.Draft.{Draft}
 use Rattle.dname.specs.declared.text.NameError.{NameError}
 use Rattle.dname.specs.declared.text.NameError.TheVariants.{EmptyLabel, LongLabel, LongName, BadByte, Memory}
+
+abbrev pub fault_number : NameError → ℕ
+fault_number EmptyLabel = 1
+fault_number LongLabel = 2
+fault_number LongName = 3
+fault_number BadByte = 4
+fault_number Memory = 5
 
 -- What stands at a place of a text: a dot that parts labels, a byte of a label, or neither of them.
 pub data Token : Type 0 where
@@ -45,11 +53,6 @@ tokens_behind (suc taken) (c ∷ cs) = tokens_behind taken cs
 
 abbrev pub tokens : List ℕ → List Token
 tokens cs = tokens_behind 0 cs
-
--- Labels that a text has up to a place: those that a dot closed, and the one that stands open there.
-pub record Draft : Type 0 where
-  pub closed : List (List ℕ)
-  pub opened : List ℕ
 
 abbrev pub is_empty : {A : Type 0} → List A → Bool
 is_empty [] = true
