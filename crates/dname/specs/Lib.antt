@@ -2,5 +2,6 @@ pub mod Draft
 pub mod Labels
 pub mod Laws
 pub mod Wire
+pub mod Written
 pub mod Text
 pub mod Tokens

@@ -1,13 +1,16 @@
 //! Names in text (RFC 1035, section 5.1).
 
-ghost use Rattle.std.specs.Prelude.{◌≡◌, ◌<◌, ◌≤◌, [], ◌∷◌, ◌++◌, length, string_bytes, OnOk, IfOk, MatchOption};
+ghost use Rattle.std.specs.Prelude.{◌≡◌, ◌<◌, ◌≤◌, [], ◌∷◌, ◌++◌, length, string_bytes, Ok, OnOk, IfOk, MatchOption, MatchResult};
 ghost use Rattle.dname.specs.Tokens.{token_of};
-ghost use Rattle.dname.specs.Text.{tokens, tokens_behind, escaped_token, byte_text, label_text, name_text, fault_number, TextIsReadBack};
+ghost use Rattle.dname.specs.Text.{tokens, tokens_behind, escaped_token, spelled, with_origin, name_under, name_of_text, IsFault, fault_of, byte_text, label_text, name_text, fault_number, TextIsReadBack};
+ghost use Rattle.dname.specs.Draft.{empty_draft};
+ghost use Rattle.dname.specs.Wire.{labels_of, IsNameWire};
 
+use crate::builder::{Builder, Overflow};
 use crate::memory::{Heap, Starved};
 use crate::name::Name;
 use crate::walk::next;
-use std::alloc::Allocator;
+use std::alloc::{AllocError, Allocator};
 
 /// Why a text is no name. The fault that stands first in the text counts.
 #[derive(Clone, Copy, Debug, PartialEq, Eq)]
@@ -35,6 +38,38 @@ impl NameError {
             NameError::LongName => 3,
             NameError::BadByte => 4,
             NameError::Memory => 5,
+        }
+    }
+}
+
+impl From<Starved> for NameError {
+    ghost use Rattle.dname.specs.declared.text.NameError.TheVariants.{Memory};
+
+    ghost from_gives = { λ _ e. e ≡ Memory };
+
+    fn from(_error: Starved) -> NameError {
+        NameError::Memory
+    }
+}
+
+impl From<AllocError> for NameError {
+    ghost use Rattle.dname.specs.declared.text.NameError.TheVariants.{Memory};
+
+    ghost from_gives = { λ _ e. e ≡ Memory };
+
+    fn from(_error: AllocError) -> NameError {
+        NameError::Memory
+    }
+}
+
+impl From<Overflow> for NameError {
+    ghost from_gives = { λ o e. e ≡ fault_of o };
+
+    fn from(error: Overflow) -> NameError {
+        match error {
+            Overflow::LongLabel => NameError::LongLabel,
+            Overflow::LongName => NameError::LongName,
+            Overflow::Memory => NameError::Memory,
         }
     }
 }
@@ -142,6 +177,87 @@ fn escaped(text: &[u8]) -> (Spelt, &[u8])
         }
         [b'0'..=b'9', ..] | [] => (Spelt::Bad, text),
         [byte, rest @ ..] => (Spelt::Byte(*byte), rest),
+    }
+}
+
+// The labels that a text writes, the one behind its last dot left open.
+fn spell<A: Heap>(alloc: A, text: &[u8]) -> Result<Builder<A>, NameError>
+    ensures { MatchResult result (λ b. spelled empty_draft (tokens text.now) ≡ Ok b) (λ e. IsFault e (spelled empty_draft (tokens text.now))) }
+{
+    let mut builder = Builder::new(alloc)?;
+    let mut rest = text;
+    'tokens: while let Some((spelt, after)) = first(rest) {
+        match spelt {
+            Spelt::Byte(byte) => builder.push(byte)?,
+            Spelt::Dot => {
+                if builder.open_len() == 0 {
+                    return Err(NameError::EmptyLabel);
+                }
+                builder.close()?;
+            }
+            Spelt::Bad => return Err(NameError::BadByte),
+        }
+        rest = after;
+    }
+    Ok(builder)
+}
+
+impl<A: Heap> Builder<A> {
+    // The labels with `origin`, a name in wire form, behind them.
+    fn finish_under(self, origin: &[u8]) -> Result<Name<A>, NameError>
+        requires shut { self.opened ≡ [] }
+        requires origin { IsNameWire origin.now }
+        ensures { MatchResult result (λ n. with_origin (labels_of origin.now) self.closed ≡ Ok n) (λ e. IsFault e (with_origin (labels_of origin.now) self.closed)) }
+    {
+        let Builder { mut bytes, start } = self;
+        if start + origin.len() > 255 {
+            return Err(NameError::LongName);
+        }
+        bytes.truncate(start);
+        bytes.extend_from_slice(origin)?;
+        Ok(Name::from_wire(bytes))
+    }
+}
+
+// `origin` is a name in wire form.
+fn read<A: Heap>(alloc: A, text: &[u8], origin: &[u8]) -> Result<Name<A>, NameError>
+    requires { IsNameWire origin.now }
+    ensures { MatchResult result (λ n. name_under (labels_of origin.now) text.now ≡ Ok n) (λ e. IsFault e (name_under (labels_of origin.now) text.now)) }
+{
+    if text.is_empty() {
+        return Err(NameError::EmptyLabel);
+    }
+    if text == b".".as_slice() {
+        return Ok(Name::root(alloc)?);
+    }
+    let mut builder = spell(alloc, text)?;
+    if builder.open_len() == 0 {
+        return Ok(builder.finish());
+    }
+    builder.close()?;
+    Ok(builder.finish_under(origin)?)
+}
+
+impl<A: Heap> Name<A> {
+    /// The name that a text writes: labels parted by dots, a closing dot or none, `.` alone the root. `\X` is the byte X,
+    /// and `\DDD` the byte of that decimal number (RFC 1035, section 5.1). Letters are folded. Refused by the fault that
+    /// stands first in the text, or where memory is refused.
+    pub fn from_text(alloc: A, text: &str) -> Result<Name<A>, NameError>
+        ensures { MatchResult result (λ n. name_of_text text.now ≡ Ok n) (λ e. IsFault e (name_of_text text.now)) }
+    {
+        read(alloc, text.as_bytes(), &[0])
+    }
+
+    /// The same where a name that no dot ends is relative to `origin`, as in master files (RFC 1035, section 5.1). Such
+    /// a name that is too long with the origin is refused as a long name.
+    pub fn under<B: Allocator>(
+        alloc: A,
+        text: &[u8],
+        origin: &Name<B>,
+    ) -> Result<Name<A>, NameError>
+        ensures { MatchResult result (λ n. name_under origin.now text.now ≡ Ok n) (λ e. IsFault e (name_under origin.now text.now)) }
+    {
+        read(alloc, text, &origin.bytes)
     }
 }
 
