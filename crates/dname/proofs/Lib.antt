@@ -3,3 +3,4 @@ pub mod Split
 pub mod Under
 pub mod WrittenNames
 pub mod Origins
+pub mod Ordered

@@ -5,3 +5,4 @@ pub mod Wire
 pub mod Written
 pub mod Text
 pub mod Tokens
+pub mod Order

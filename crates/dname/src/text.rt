@@ -11,6 +11,7 @@ use crate::memory::{Heap, Starved};
 use crate::name::Name;
 use crate::walk::next;
 use std::alloc::{AllocError, Allocator};
+use std::fmt;
 
 /// Why a text is no name. The fault that stands first in the text counts.
 #[derive(Clone, Copy, Debug, PartialEq, Eq)]
@@ -41,6 +42,20 @@ impl NameError {
         }
     }
 }
+
+impl fmt::Display for NameError {
+    fn fmt<W: fmt::Write>(&self, f: &mut fmt::Formatter<W>) -> fmt::Result {
+        match self {
+            NameError::EmptyLabel => write!(f, "empty label"),
+            NameError::LongLabel => write!(f, "label over 63 bytes"),
+            NameError::LongName => write!(f, "name over 255 bytes"),
+            NameError::BadByte => write!(f, "bad escape or byte"),
+            NameError::Memory => write!(f, "out of memory"),
+        }
+    }
+}
+
+impl std::error::Error for NameError {}
 
 impl From<Starved> for NameError {
     ghost use Rattle.dname.specs.declared.text.NameError.TheVariants.{Memory};
