@@ -3,6 +3,7 @@
 
 mod addr;
 mod data;
+mod laws;
 mod records;
 mod rtype;
 mod soa;
@@ -10,6 +11,7 @@ mod texts;
 
 pub use addr::Addr;
 pub use data::RData;
+pub use laws::same_data_law;
 pub use records::{Record, Records};
 pub use rtype::RType;
 pub use soa::Soa;
