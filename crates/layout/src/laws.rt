@@ -1,0 +1,3 @@
+ghost use Rattle.std.specs.Prelude.{◌≡◌};
+ghost use Rattle.layout.specs.Messages.{IsMessage, encoding};
+
