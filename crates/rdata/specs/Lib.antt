@@ -1,2 +1,3 @@
 pub mod Data
 pub mod Records
+pub mod Text

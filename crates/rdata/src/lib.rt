@@ -1,2 +1,4 @@
 //! Resource records.
 #![tactic(auto)]
+
+pub mod text;
