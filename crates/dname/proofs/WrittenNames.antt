@@ -4,7 +4,8 @@ use Rattle.std.proofs.lemmas.List.{append-nil}
 use Rattle.std.proofs.lemmas.Bool.Decides.{nat_tests}
 use Rattle.std.specs.Cmp.Lexicographic.{pointwise}
 use Rattle.dname.specs.Labels.{root, wire, folded, AreFolded, IsLabel, AreLabels, IsName}
-use Rattle.dname.specs.Text.{Token, Dot, Byte, Bad, Draft, tokens, spelled, completed, completed_draft, or_dot, name_of_text, byte_text, label_text, labels_text, name_text, TextIsReadBack}
+use Rattle.dname.specs.Draft.{Draft}
+use Rattle.dname.specs.Text.{Token, Dot, Byte, Bad, tokens, spelled, completed, completed_draft, or_dot, name_of_text, byte_text, label_text, labels_text, name_text, TextIsReadBack}
 
 byte_back : (b : ℕ) (cs : List ℕ) → b < 256 → tokens (byte_text b ++ cs) ≡ Byte b ∷ tokens cs
 byte_back b cs h = grind (arith, nat_tests)
@@ -82,3 +83,14 @@ text_back ((b ∷ bs) ∷ m ∷ ls) h =
     ∙ ap (λ x. cond x (Ok root) (completed_draft root (spelled [] [] (tokens (labels_text n))))) (no_dot (labels_text n) long)
     ∙ ap (completed_draft root) (labels_back [] n h.labels h.short)
     ∙ ap (λ x. Ok x) (before_root-root n h.labels)
+
+labels_alone : (n : List (List ℕ)) → AreLabels n → (n ≡ root → ⊥) → name_text n ≡ labels_text n
+labels_alone [] h ne = absurd h
+labels_alone (l ∷ []) h ne = absurd (ne (ap (λ x. x ∷ []) h))
+labels_alone ([] ∷ m ∷ ls) h ne = absurd (omega (arith, h.0.nonempty))
+labels_alone ((b ∷ bs) ∷ m ∷ ls) h ne = or_dot-long (labels_text ((b ∷ bs) ∷ m ∷ ls)) (text_size b bs (labels_text (m ∷ ls)))
+
+-- All labels are written once only the root's is left.
+pub all_written : (old out : List ℕ) (n rest : List (List ℕ)) → AreLabels n → (n ≡ root → ⊥) → rest ≡ root → out ++ labels_text rest ≡ old ++ labels_text n → out ≡ old ++ name_text n
+all_written old out n rest h ne e w =
+    sym (append-nil out) ∙ ap (λ x. out ++ labels_text x) (sym e) ∙ w ∙ ap (λ x. old ++ x) (sym (labels_alone n h ne))

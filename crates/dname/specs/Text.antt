@@ -2,6 +2,7 @@
 use Rattle.std.specs.Prelude.{◌≡◌, ℕ, zero, suc, ◌+◌, ◌-◌, ◌*◌, ◌/◌, ◌%◌, ◌<◌, ◌≤◌, Bool, true, false, ◌&&◌, ◌||◌, cond, nat_eq, nat_le, Result, Ok, Err, List, [], ◌∷◌, ◌++◌, length}
 use Rattle.std.specs.Cmp.Lexicographic.{pointwise}
 use Rattle.dname.specs.Labels.{root, wire, folded, IsName}
+use Rattle.dname.specs.Draft.{Draft, empty_draft}
 use Rattle.dname.specs.declared.text.NameError.{NameError}
 use Rattle.dname.specs.declared.text.NameError.TheVariants.{EmptyLabel, LongLabel, LongName, BadByte, Memory}
 
@@ -45,11 +46,6 @@ tokens_behind (suc taken) (c ∷ cs) = tokens_behind taken cs
 
 abbrev pub tokens : List ℕ → List Token
 tokens cs = tokens_behind 0 cs
-
--- Labels that a text has up to a place: those that a dot closed, and the one that stands open there.
-pub record Draft : Type 0 where
-  pub closed : List (List ℕ)
-  pub opened : List ℕ
 
 abbrev pub is_empty : {A : Type 0} → List A → Bool
 is_empty [] = true

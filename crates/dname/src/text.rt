@@ -1,7 +1,13 @@
 //! Names in text (RFC 1035, section 5.1).
-ghost use Rattle.std.specs.Prelude.{◌≡◌, ◌<◌, ◌≤◌, [], ◌∷◌, length, MatchOption};
+
+ghost use Rattle.std.specs.Prelude.{◌≡◌, ◌<◌, ◌≤◌, [], ◌∷◌, ◌++◌, length, string_bytes, OnOk, IfOk, MatchOption};
 ghost use Rattle.dname.specs.Tokens.{token_of};
-ghost use Rattle.dname.specs.Text.{tokens, tokens_behind, escaped_token, TextIsReadBack};
+ghost use Rattle.dname.specs.Text.{tokens, tokens_behind, escaped_token, byte_text, label_text, name_text, TextIsReadBack};
+
+use crate::memory::{Heap, Starved};
+use crate::name::Name;
+use crate::walk::next;
+use std::alloc::Allocator;
 
 /// Why a text is no name. The fault that stands first in the text counts.
 #[derive(Clone, Copy, Debug, PartialEq, Eq)]
@@ -30,6 +36,68 @@ impl NameError {
         }
     }
 }
+
+// ---- written
+
+/// Appends the name as text: each label and a dot, the root as a dot alone. The bytes that mean something in a master
+/// file have a backslash, and those outside 33 to 126 are three decimal digits behind one (RFC 1035, section 5.1).
+/// Where memory is refused, a part of it stands.
+pub fn put_name<A: Allocator, B: Allocator>(out: &mut String<B>, name: &Name<A>) -> Result<(), Starved>
+    ensures { OnOk result (string_bytes out.new ≡ string_bytes out.old ++ name_text name.now) }
+{
+    if name.is_root() {
+        out.push('.')?;
+        return Ok(());
+    }
+    let mut rest = name.bytes.as_slice();
+    while let Some((label, after)) = next(rest) {
+        put_label(out, label)?;
+        out.push('.')?;
+        rest = after;
+    }
+    Ok(())
+}
+
+fn put_label<A: Allocator>(out: &mut String<A>, label: &[u8]) -> Result<(), Starved>
+    ensures { OnOk result (string_bytes out.new ≡ string_bytes out.old ++ label_text label.now) }
+{
+    for byte in label {
+        put_byte(out, *byte)?;
+    }
+    Ok(())
+}
+
+fn put_byte<A: Allocator>(out: &mut String<A>, byte: u8) -> Result<(), Starved>
+    ensures { OnOk result (string_bytes out.new ≡ string_bytes out.old ++ byte_text byte) }
+{
+    match byte {
+        b'.' | b'\\' | b'"' | b';' | b'(' | b')' | b'@' | b'$' => {
+            out.push('\\')?;
+            out.push(char::from(byte))?;
+        }
+        33..=126 => out.push(char::from(byte))?,
+        _ => {
+            out.push('\\')?;
+            out.push(char::from(b'0' + byte / 100))?;
+            out.push(char::from(b'0' + byte / 10 % 10))?;
+            out.push(char::from(b'0' + byte % 10))?;
+        }
+    }
+    Ok(())
+}
+
+impl<A: Heap> Name<A> {
+    /// The name as text, as `put_name` writes it, on the name's allocator.
+    pub fn to_text(&self) -> Result<String<A>, Starved>
+        ensures { IfOk result (λ s. string_bytes s ≡ name_text self.now) }
+    {
+        let mut out = String::new(*self.bytes.allocator());
+        put_name(&mut out, self)?;
+        Ok(out)
+    }
+}
+
+// ---- read
 
 // What stands at the head of a text.
 #[derive(Clone, Copy)]
