@@ -1,1 +1,6 @@
+pub mod Draft
 pub mod Labels
+pub mod Laws
+pub mod Wire
+pub mod Text
+pub mod Tokens

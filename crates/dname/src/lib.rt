@@ -1,2 +1,12 @@
-//! Domain names.
+//! Domain names (RFC 1034, section 3.1): label by label, in text and in the bytes of messages, and the
+//! words for want of memory that every crate shares.
 #![tactic(auto)]
+
+mod memory;
+mod name;
+mod text;
+mod walk;
+
+pub use memory::{Heap, Starved};
+pub use name::Name;
+pub use text::{NameError, put_name, text_is_read_back};

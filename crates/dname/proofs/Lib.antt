@@ -1,0 +1,3 @@
+pub mod Split
+pub mod Under
+pub mod WrittenNames
