@@ -1,11 +1,10 @@
 -- What a name's text is read as.
-use Rattle.std.proofs.Common.{◌≡◌, ℕ, ◌+◌, ◌*◌, ◌-◌, ◌/◌, ◌%◌, ◌<◌, ◌≤◌, Bool, true, false, cond, ◌&&◌, ◌||◌, nat_eq, nat_le, Result, Ok, Err, List, [], ◌∷◌, ◌++◌, length, refl, sym, ap, ◌∙◌, append_assoc, length-append, zero-add, arith}
+use Rattle.std.proofs.Common.{◌≡◌, ℕ, ◌+◌, ◌<◌, ◌≤◌, false, cond, nat_eq, Ok, List, [], ◌∷◌, ◌++◌, length, refl, sym, ap, ◌∙◌, append_assoc, length-append, zero-add, arith}
 use Rattle.std.proofs.lemmas.List.{append-nil}
 use Rattle.std.proofs.lemmas.Bool.Decides.{nat_tests}
 use Rattle.std.specs.Cmp.Lexicographic.{pointwise}
-use Rattle.dname.specs.Labels.{root, wire, folded, AreFolded, IsLabel, AreLabels, IsName}
-use Rattle.dname.specs.Draft.{Draft}
-use Rattle.dname.specs.Text.{Token, Dot, Byte, Bad, tokens, spelled, completed, completed_draft, or_dot, name_of_text, byte_text, label_text, labels_text, name_text, TextIsReadBack}
+use Rattle.dname.specs.Labels.{root, wire, folded, AreFolded, AreLabels}
+use Rattle.dname.specs.Text.{Token, Byte, tokens, spelled, completed_draft, or_dot, name_of_text, byte_text, label_text, labels_text, name_text, TextIsReadBack}
 
 byte_back : (b : ℕ) (cs : List ℕ) → b < 256 → tokens (byte_text b ++ cs) ≡ Byte b ∷ tokens cs
 byte_back b cs h = grind (arith, nat_tests)

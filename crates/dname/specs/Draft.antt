@@ -1,6 +1,6 @@
 -- A name that is being written: the labels that are closed, and the bytes of the open one.
-use Rattle.std.specs.Prelude.{◌≡◌, ℕ, ◌+◌, ◌<◌, ◌≤◌, Bool, true, false, cond, nat_le, nat_lt, Result, Ok, Err, List, [], ◌∷◌, ◌++◌, length}
-use Rattle.dname.specs.Labels.{wire, folded, folded_label, IsLabel, AreFolded}
+use Rattle.std.specs.Prelude.{ℕ, ◌+◌, ◌<◌, ◌≤◌, List, [], ◌∷◌, length}
+use Rattle.dname.specs.Labels.{wire, IsLabel, AreFolded}
 
 pub record Draft : Type 0 where
   pub closed : List (List ℕ)

@@ -1,10 +1,17 @@
 -- Names in text (RFC 1035, section 5.1): labels parted by dots, with escapes.
-use Rattle.std.specs.Prelude.{◌≡◌, ℕ, zero, suc, ◌+◌, ◌-◌, ◌*◌, ◌/◌, ◌%◌, ◌<◌, ◌≤◌, Bool, true, false, ◌&&◌, ◌||◌, cond, nat_eq, nat_le, Result, Ok, Err, List, [], ◌∷◌, ◌++◌, length}
+use Rattle.std.specs.Prelude.{◌≡◌, ℕ, zero, suc, ◌+◌, ◌-◌, ◌*◌, ◌/◌, ◌%◌, Bool, true, false, ◌&&◌, ◌||◌, cond, nat_eq, nat_le, Result, Ok, Err, List, [], ◌∷◌, ◌++◌, length}
 use Rattle.std.specs.Cmp.Lexicographic.{pointwise}
 use Rattle.dname.specs.Labels.{root, wire, folded, IsName}
-use Rattle.dname.specs.Draft.{Draft, empty_draft}
+use Rattle.dname.specs.Draft.{Draft}
 use Rattle.dname.specs.declared.text.NameError.{NameError}
 use Rattle.dname.specs.declared.text.NameError.TheVariants.{EmptyLabel, LongLabel, LongName, BadByte, Memory}
+
+abbrev pub fault_number : NameError → ℕ
+fault_number EmptyLabel = 1
+fault_number LongLabel = 2
+fault_number LongName = 3
+fault_number BadByte = 4
+fault_number Memory = 5
 
 -- What stands at a place of a text: a dot that parts labels, a byte of a label, or neither of them.
 pub data Token : Type 0 where

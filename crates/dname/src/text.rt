@@ -2,7 +2,7 @@
 
 ghost use Rattle.std.specs.Prelude.{◌≡◌, ◌<◌, ◌≤◌, [], ◌∷◌, ◌++◌, length, string_bytes, OnOk, IfOk, MatchOption};
 ghost use Rattle.dname.specs.Tokens.{token_of};
-ghost use Rattle.dname.specs.Text.{tokens, tokens_behind, escaped_token, byte_text, label_text, name_text, TextIsReadBack};
+ghost use Rattle.dname.specs.Text.{tokens, tokens_behind, escaped_token, byte_text, label_text, name_text, fault_number, TextIsReadBack};
 
 use crate::memory::{Heap, Starved};
 use crate::name::Name;
@@ -26,7 +26,9 @@ pub enum NameError {
 
 impl NameError {
     /// The refusal's number, from 1 on in the order of the variants.
-    pub fn number(self) -> u8 {
+    pub fn number(self) -> u8
+        ensures { result ≡ fault_number self }
+    {
         match self {
             NameError::EmptyLabel => 1,
             NameError::LongLabel => 2,
@@ -42,7 +44,10 @@ impl NameError {
 /// Appends the name as text: each label and a dot, the root as a dot alone. The bytes that mean something in a master
 /// file have a backslash, and those outside 33 to 126 are three decimal digits behind one (RFC 1035, section 5.1).
 /// Where memory is refused, a part of it stands.
-pub fn put_name<A: Allocator, B: Allocator>(out: &mut String<B>, name: &Name<A>) -> Result<(), Starved>
+pub fn put_name<A: Allocator, B: Allocator>(
+    out: &mut String<B>,
+    name: &Name<A>,
+) -> Result<(), Starved>
     ensures { OnOk result (string_bytes out.new ≡ string_bytes out.old ++ name_text name.now) }
 {
     if name.is_root() {
@@ -143,5 +148,4 @@ fn escaped(text: &[u8]) -> (Spelt, &[u8])
 /// A law: the text of a name is read as that name.
 pub fn text_is_read_back()
     ensures { TextIsReadBack }
-{
-}
+{}
