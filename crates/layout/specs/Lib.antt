@@ -3,3 +3,4 @@ pub mod Packing
 pub mod Pieces
 pub mod Places
 pub mod Messages
+pub mod Laws

@@ -1,5 +1,6 @@
 -- Messages (RFC 1035, section 4): as plain values, as rows of pieces, and which bytes are which message.
-use Rattle.std.specs.Prelude.{◌≡◌, ℕ, ◌+◌, ◌*◌, ◌^◌, ◌<◌, ◌≤◌, Bool, false, ◌&&◌, ◌||◌, cond, nat_eq, nat_lt, if◌then◌else◌, List, [], ◌∷◌, ◌++◌, length, map, flat_map, All}
+use Rattle.std.specs.Prelude.{◌≡◌, ℕ, ◌+◌, ◌*◌, ◌^◌, ◌<◌, ◌≤◌, Bool, false, ◌&&◌, ◌||◌, cond, nat_eq, nat_lt, if◌then◌else◌, List, [], ◌∷◌, ◌++◌, length, map, flat_map}
+use Rattle.std.specs.List.{AllByRecursion}
 use Rattle.dname.specs.Labels.{folded_labels, wire, IsName}
 use Rattle.rdata.specs.Data.{Datum, Ipv4, Ns, Cname, Soa, Ptr, Mx, Txt, Ipv6, type_of}
 use Rattle.rdata.specs.Records.{Record, greatest_ttl}
@@ -113,7 +114,7 @@ counts_of m = record {
   questions = length m.questions;
   answer = length m.answer;
   authority = length m.authority;
-  additional = length m.additional
+  additional = length m.additional;
 }
 
 abbrev pub message_pieces : Message → List Piece
@@ -137,7 +138,7 @@ FitsRdata (Cname name) = Unit {0}
 FitsRdata (Soa s) = (s.serial < 2 ^ 32) × (s.refresh < 2 ^ 32) × (s.retry < 2 ^ 32) × (s.expire < 2 ^ 32) × (s.minimum < 2 ^ 32)
 FitsRdata (Ptr name) = Unit {0}
 FitsRdata (Mx preference name) = preference < 65536
-FitsRdata (Txt strings) = (0 < length strings) × All (λ s. length s < 256) strings
+FitsRdata (Txt strings) = (0 < length strings) × AllByRecursion (λ s. length s < 256) strings
 FitsRdata (Ipv6 address) = length address ≡ 16
 
 -- Types of which the data are read; those of other types are skipped.
@@ -189,9 +190,9 @@ pub record SkippedAt (bytes : List ℕ) (at end : ℕ) : Type 0 where
 pub data SectionAt (bytes : List ℕ) : ℕ → ℕ → List Record → ℕ → Type 0 where
   none_left : (at count end : ℕ) → count ≡ 0 → end ≡ at → SectionAt bytes at count [] end
   kept_first : (at count left mid end : ℕ) (r : Record) (rest : List Record) → count ≡ left + 1 → RecordAt bytes at r mid
-    → SectionAt bytes mid left rest end → SectionAt bytes at count (r ∷ rest) end
+      → SectionAt bytes mid left rest end → SectionAt bytes at count (r ∷ rest) end
   skipped_first : (at count left mid end : ℕ) (rest : List Record) → count ≡ left + 1 → SkippedAt bytes at mid
-    → SectionAt bytes mid left rest end → SectionAt bytes at count rest end
+      → SectionAt bytes mid left rest end → SectionAt bytes at count rest end
 
 -- Each count fits 16 bits.
 pub record AreCounts (c : Counts) : Type 0 where
@@ -253,10 +254,10 @@ pub record IsRecord (r : Record) : Type 0 where
 -- Every field of the message fits its bits, and its names are names.
 pub record IsWritable (m : Message) : Type 0 where
   pub header : IsHeader m.header
-  pub questions : All IsQuestion m.questions
-  pub answer : All IsRecord m.answer
-  pub authority : All IsRecord m.authority
-  pub additional : All IsRecord m.additional
+  pub questions : AllByRecursion IsQuestion m.questions
+  pub answer : AllByRecursion IsRecord m.answer
+  pub authority : AllByRecursion IsRecord m.authority
+  pub additional : AllByRecursion IsRecord m.additional
 
 -- The question with its name in lower case, and the message with all its questions so: what a reader sees.
 abbrev pub folded_question : Question → Question

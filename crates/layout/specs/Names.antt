@@ -27,11 +27,11 @@ pub record IsPointerAt (bytes : List ℕ) (at target : ℕ) : Type 0 where
 -- ends.
 pub data Stands (f : List ℕ → List ℕ) (bytes : List ℕ) : ℕ → ℕ → List (List ℕ) → ℕ → Type 0 where
   root_here : (start at end : ℕ) → slice_get bytes at ≡ Some 0 → end ≡ at + 1
-    → Stands f bytes start at ([] ∷ []) end
+      → Stands f bytes start at ([] ∷ []) end
   label_here : (start at end : ℕ) (written seen : List ℕ) (rest : List (List ℕ)) → IsLabelAt bytes at written → seen ≡ f written
-    → Stands f bytes start (at + 1 + length written) rest end → Stands f bytes start at (seen ∷ rest) end
+      → Stands f bytes start (at + 1 + length written) rest end → Stands f bytes start at (seen ∷ rest) end
   pointer_here : (start at end target past : ℕ) (labels : List (List ℕ)) → IsPointerAt bytes at target → target < start
-    → Stands f bytes target target labels past → end ≡ at + 2 → Stands f bytes start at labels end
+      → Stands f bytes target target labels past → end ≡ at + 2 → Stands f bytes start at labels end
 
 -- A label as it is written.
 abbrev pub as_written : List ℕ → List ℕ

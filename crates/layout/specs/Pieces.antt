@@ -53,7 +53,7 @@ unfoldable pub put_flat : Text → Flat → Text
 put_flat t f = record {
   start = t.start;
   bytes = t.bytes ++ flat_bytes t.notes f;
-  notes = t.notes ++ flat_notes t.notes (place_of t) f
+  notes = t.notes ++ flat_notes t.notes (place_of t) f;
 }
 
 abbrev pub put_flats : Text → List Flat → Text
@@ -69,7 +69,7 @@ abbrev pub with_group : Text → Text → Text
 with_group t group = record {
   start = t.start;
   bytes = t.bytes ++ (bytes_high_first 2 (length group.bytes) ++ group.bytes);
-  notes = group.notes
+  notes = group.notes;
 }
 
 -- The text with a piece behind it.
