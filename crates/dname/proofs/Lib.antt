@@ -1,3 +1,4 @@
+pub mod Drafts
 pub mod Split
 pub mod Under
 pub mod WrittenNames

@@ -4,3 +4,4 @@ pub mod Laws
 pub mod Wire
 pub mod Text
 pub mod Tokens
+pub mod Written

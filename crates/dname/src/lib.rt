@@ -2,11 +2,13 @@
 //! words for want of memory that every crate shares.
 #![tactic(auto)]
 
+mod builder;
 mod memory;
 mod name;
 mod text;
 mod walk;
 
+pub use builder::{Builder, Overflow};
 pub use memory::{Heap, Starved};
 pub use name::Name;
 pub use text::{NameError, put_name, text_is_read_back};

@@ -2,7 +2,7 @@ ghost use Rattle.std.specs.Prelude.{◌≡◌, ℕ, ◌+◌, ◌≤◌, ◌<◌,
 ghost use Rattle.std.specs.Bool.{OnTrue, OnFalse};
 ghost use Rattle.std.specs.Hash as fed;
 ghost use Rattle.dname.specs.Labels.{wire, root, star, same_name, is_under, parent_of, IsAtOrUnder, IsName};
-ghost use Rattle.dname.specs.Wire.{labels_of, IsWire};
+ghost use Rattle.dname.specs.Wire.{labels_of, IsNameWire};
 ghost use Rattle.dname.specs.Laws.{same_name_per, same_name_equiv, same_name_fed};
 
 use crate::memory::{Heap, Starved};
@@ -61,6 +61,16 @@ impl<A: Heap> Clone for Name<A> {
     fn clone(&self) -> Result<Name<A>, AllocError> {
         let bytes = Vec::from_slice(*self.bytes.allocator(), &self.bytes)?;
         Ok(Name { bytes })
+    }
+}
+
+impl<A: Allocator> Name<A> {
+    // A name from its wire form.
+    pub(crate) fn from_wire(bytes: Vec<u8, A>) -> Name<A>
+        requires { IsNameWire bytes.items }
+        ensures { result ≡ labels_of bytes.items }
+    {
+        Name { bytes }
     }
 }
 

@@ -2,6 +2,8 @@
 -- section 2.2, without `::`).
 use Rattle.std.specs.Prelude.{ℕ, ◌+◌, ◌*◌, ◌/◌, ◌%◌, false, ◌&&◌, ◌||◌, cond, nat_eq, nat_le, List, [], ◌∷◌, ◌++◌, slice_index, flat_map, codes, decimal}
 use Rattle.std.specs.Fmt.{digits}
+use Rattle.dname.specs.Text.{name_text}
+use Rattle.rdata.specs.Data.{Authority, Datum, Ipv4, Ns, Cname, Soa, Ptr, Mx, Txt, Ipv6}
 
 -- Four numbers parted by dots.
 abbrev pub ipv4_text : List ℕ → List ℕ
@@ -39,3 +41,29 @@ glyph b =
 -- A character-string in quotes.
 abbrev pub quoted : List ℕ → List ℕ
 quoted string = codes "\"" ++ flat_map glyph string ++ codes "\""
+
+-- A number, or a name, behind a space.
+abbrev pub spaced_number : ℕ → List ℕ
+spaced_number n = codes " " ++ decimal n
+
+abbrev pub spaced_name : List (List ℕ) → List ℕ
+spaced_name n = codes " " ++ name_text n
+
+abbrev pub spaced_string : List ℕ → List ℕ
+spaced_string string = codes " " ++ quoted string
+
+abbrev pub soa_text : Authority → List ℕ
+soa_text s =
+    codes "SOA" ++ spaced_name s.primary ++ spaced_name s.mailbox ++ spaced_number s.serial ++ spaced_number s.refresh
+    ++ spaced_number s.retry ++ spaced_number s.expire ++ spaced_number s.minimum
+
+-- Type and data, as they stand in a line of a master file.
+abbrev pub data_text : Datum → List ℕ
+data_text (Ipv4 a) = codes "A " ++ ipv4_text a
+data_text (Ns n) = codes "NS" ++ spaced_name n
+data_text (Cname n) = codes "CNAME" ++ spaced_name n
+data_text (Soa s) = soa_text s
+data_text (Ptr n) = codes "PTR" ++ spaced_name n
+data_text (Mx p n) = codes "MX" ++ spaced_number p ++ spaced_name n
+data_text (Txt ts) = codes "TXT" ++ flat_map spaced_string ts
+data_text (Ipv6 a) = codes "AAAA " ++ ipv6_text a

@@ -1,4 +1,18 @@
-//! Resource records.
+//! Resource records of the served types (RFC 1035, sections 3.2 and 3.3) and their sets.
 #![tactic(auto)]
 
-pub mod text;
+mod addr;
+mod data;
+mod records;
+mod rtype;
+mod soa;
+mod text;
+mod texts;
+
+pub use addr::Addr;
+pub use data::RData;
+pub use records::{Record, Records};
+pub use rtype::RType;
+pub use soa::Soa;
+pub use text::{put_data, put_ipv4};
+pub use texts::{CharacterString, Texts};

@@ -10,5 +10,5 @@ eight o p q r s t u v w a b c d e f g h ep eq er es et eu ev ew = rw (ew, ev, eu
 pub returns : goal.returns
 returns g c =
     on_ok_weaker c.put_next_group-7.result (λ last. eight _ _ _ _ _ _ _ _ _ _ _ _ _ _ _ _ _
-      c.in_ok-put_group.ensures c.in_ok-put_next_group.ensures c.in_ok-put_next_group-2.ensures c.in_ok-put_next_group-3.ensures
-      c.in_ok-put_next_group-4.ensures c.in_ok-put_next_group-5.ensures c.in_ok-put_next_group-6.ensures last) c.put_next_group-7.ensures
+    c.in_ok-put_group.ensures c.in_ok-put_next_group.ensures c.in_ok-put_next_group-2.ensures c.in_ok-put_next_group-3.ensures
+    c.in_ok-put_next_group-4.ensures c.in_ok-put_next_group-5.ensures c.in_ok-put_next_group-6.ensures last) c.put_next_group-7.ensures
