@@ -1,8 +1,10 @@
 -- Names in text (RFC 1035, section 5.1): labels parted by dots, with escapes.
-use Rattle.std.specs.Prelude.{◌≡◌, ℕ, zero, suc, ◌+◌, ◌-◌, ◌*◌, ◌/◌, ◌%◌, Bool, true, false, ◌&&◌, ◌||◌, cond, nat_eq, nat_le, Result, Ok, Err, List, [], ◌∷◌, ◌++◌, length}
+use Rattle.std.specs.Prelude.{◌≡◌, ℕ, zero, suc, ◌+◌, ◌-◌, ◌*◌, ◌/◌, ◌%◌, Bool, ◌&&◌, ◌||◌, cond, nat_eq, nat_le, Result, Ok, Err, List, [], ◌∷◌, ◌++◌, length}
 use Rattle.std.specs.Cmp.Lexicographic.{pointwise}
-use Rattle.dname.specs.Labels.{root, wire, folded, IsName}
-use Rattle.dname.specs.Draft.{Draft}
+use Rattle.dname.specs.Labels.{root, wire, IsName}
+use Rattle.dname.specs.Draft.{Draft, empty_draft, pushed, shut}
+use Rattle.dname.specs.declared.builder.Overflow.{Overflow}
+use Rattle.dname.specs.declared.builder.Overflow.TheVariants as over
 use Rattle.dname.specs.declared.text.NameError.{NameError}
 use Rattle.dname.specs.declared.text.NameError.TheVariants.{EmptyLabel, LongLabel, LongName, BadByte, Memory}
 
@@ -54,50 +56,52 @@ tokens_behind (suc taken) (c ∷ cs) = tokens_behind taken cs
 abbrev pub tokens : List ℕ → List Token
 tokens cs = tokens_behind 0 cs
 
-abbrev pub is_empty : {A : Type 0} → List A → Bool
-is_empty [] = true
-is_empty (x ∷ xs) = false
+abbrev pub fault_of : Overflow → NameError
+fault_of over.LongLabel = LongLabel
+fault_of over.LongName = LongName
+fault_of over.Memory = Memory
 
--- The bytes that the labels take in a message, the root's aside.
-abbrev pub draft_size : List (List ℕ) → List ℕ → ℕ
-draft_size closed opened = length (wire closed) + 1 + length opened
+abbrev pub after_push : (Draft → Result Draft NameError) → Result Draft Overflow → Result Draft NameError
+after_push go (Ok d) = go d
+after_push go (Err e) = Err (fault_of e)
 
--- The labels of a text, or the fault that stands first in it: an empty label at the dot that closes it, a long one
--- at its 64th byte, a long name at the byte with which it has more than 255 together with the root's label.
-abbrev pub spelled : List (List ℕ) → List ℕ → List Token → Result Draft NameError
-spelled closed opened [] = Ok (record { closed = closed; opened = opened })
-spelled closed opened (Dot ∷ ts) = cond (is_empty opened) (Err EmptyLabel) (spelled (closed ++ opened ∷ []) [] ts)
-spelled closed opened (Bad ∷ ts) = Err BadByte
-spelled closed opened (Byte b ∷ ts) =
-    cond (nat_le 63 (length opened)) (Err LongLabel)
-    (cond (nat_le 254 (draft_size closed opened)) (Err LongName) (spelled closed (opened ++ folded b ∷ []) ts))
+-- The labels that tokens write behind a draft, or the fault that stands first among them: an empty label at the dot that
+-- closes it, a long one at its 64th byte, a long name at the byte with which it must have more than 255.
+abbrev pub spelled : Draft → List Token → Result Draft NameError
+spelled d [] = Ok d
+spelled d (Dot ∷ ts) = cond (nat_eq (length d.opened) 0) (Err EmptyLabel) (spelled (shut d) ts)
+spelled d (Bad ∷ ts) = Err BadByte
+spelled d (Byte b ∷ ts) = after_push (λ next. spelled next ts) (pushed d b)
 
--- The name of these labels, where the last is not closed: the origin stands behind it.
-abbrev pub under_origin : List (List ℕ) → List (List ℕ) → Result (List (List ℕ)) NameError
-under_origin origin labels = cond (nat_le (length (wire (labels ++ origin))) 255) (Ok (labels ++ origin)) (Err LongName)
+-- The origin behind labels, where that is a name.
+abbrev pub with_origin : List (List ℕ) → List (List ℕ) → Result (List (List ℕ)) NameError
+with_origin origin labels = cond (nat_le (length (wire (labels ++ origin))) 255) (Ok (labels ++ origin)) (Err LongName)
 
-abbrev pub completed : List (List ℕ) → List (List ℕ) → List ℕ → Result (List (List ℕ)) NameError
-completed origin [] [] = Err EmptyLabel
-completed origin (l ∷ ls) [] = Ok (l ∷ ls ++ root)
-completed origin closed (b ∷ bs) = under_origin origin (closed ++ (b ∷ bs) ∷ [])
+-- A last label that no dot closes stands under the origin.
+abbrev pub completed : List (List ℕ) → Draft → Result (List (List ℕ)) NameError
+completed origin d = cond (nat_eq (length d.opened) 0) (Ok (d.closed ++ root)) (with_origin origin (shut d).closed)
 
 abbrev pub completed_draft : List (List ℕ) → Result Draft NameError → Result (List (List ℕ)) NameError
-completed_draft origin (Ok d) = completed origin d.closed d.opened
+completed_draft origin (Ok d) = completed origin d
 completed_draft origin (Err e) = Err e
 
 -- The name that a text writes where names that no dot ends are relative to `origin` (RFC 1035, section 5.1). A dot
 -- alone is the root.
 abbrev pub name_under : List (List ℕ) → List ℕ → Result (List (List ℕ)) NameError
-name_under origin text = cond (pointwise nat_eq text (46 ∷ [])) (Ok root) (completed_draft origin (spelled [] [] (tokens text)))
+name_under origin text = cond (nat_eq (length text) 0) (Err EmptyLabel)
+    (cond (pointwise nat_eq text (46 ∷ [])) (Ok root) (completed_draft origin (spelled empty_draft (tokens text))))
 
 -- The name that a text writes where every name is absolute: its closing dot may stand or not.
 abbrev pub name_of_text : List ℕ → Result (List (List ℕ)) NameError
 name_of_text text = name_under root text
 
 -- A reader's refusal: want of memory leaves all open, any other is the fault that stands first.
-abbrev pub IsFault : NameError → Result (List (List ℕ)) NameError → Type 0
+abbrev pub IsFault : {X : Type 0} → NameError → Result X NameError → Type 0
 IsFault Memory read = Unit {0}
-IsFault e read = read ≡ Err e
+IsFault EmptyLabel read = read ≡ Err EmptyLabel
+IsFault LongLabel read = read ≡ Err LongLabel
+IsFault LongName read = read ≡ Err LongName
+IsFault BadByte read = read ≡ Err BadByte
 
 -- ---- written
 

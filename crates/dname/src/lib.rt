@@ -5,6 +5,7 @@
 mod builder;
 mod memory;
 mod name;
+mod order;
 mod text;
 mod walk;
 
