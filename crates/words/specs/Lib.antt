@@ -1,0 +1,3 @@
+pub mod Lexemes
+pub mod Entries
+pub mod Views
