@@ -1,1 +1,2 @@
 mod Shifted
+pub mod Fuel

@@ -1,3 +1,4 @@
 pub mod Lexemes
 pub mod Entries
 pub mod Views
+pub mod Steps

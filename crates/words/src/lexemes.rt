@@ -85,7 +85,8 @@ fn line_len(text: &[u8]) -> usize
 
 /// What `text` begins with, and the text after it; `None` at its end.
 pub(crate) fn first(text: &[u8]) -> Option<(Lexeme<'_>, &[u8])>
-    ensures { MatchOption result (text.now ≡ []) (λ r. (lexeme_of r.0 ≡ (first_of text.now).lexeme) × (r.1.now ≡ (first_of text.now).after)) }
+    ensures value { MatchOption result (text.now ≡ []) (λ r. (lexeme_of r.0 ≡ (first_of text.now).lexeme) × (r.1.now ≡ (first_of text.now).after)) }
+    ensures shorter { MatchOption result (Unit {0}) (λ r. length r.1.now < length text.now) }
 {
     match text {
         [] => None,
