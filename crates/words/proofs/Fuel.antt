@@ -1,8 +1,7 @@
 -- A text's entries are read lexeme by lexeme: the count of steps in the definition never runs out.
-use Rattle.std.proofs.Common.{◌≡◌, ℕ, zero, suc, ◌+◌, ◌<◌, ◌≤◌, Bool, true, false, cond, List, [], ◌∷◌, length, take, drop, refl, sym, ap, ◌∙◌, arith, length-drop, Option, Some, None}
+use Rattle.std.proofs.Common.{◌≡◌, ℕ, zero, suc, ◌+◌, ◌<◌, ◌≤◌, Bool, true, false, List, [], ◌∷◌, length, refl, ap, arith, length-drop, Option, Some, None}
 use Rattle.std.proofs.lemmas.Bool.Decides.{nat_tests}
-use Rattle.std.proofs.lemmas.Grind.{common_steps}
-use Rattle.words.specs.Lexemes.{Word, plain, quoted, broken, Lexeme, gap, line_end, opens, closes, item, First, first, first_quoted, word_size, quote_size, line_size}
+use Rattle.words.specs.Lexemes.{plain, quoted, broken, Lexeme, gap, line_end, opens, closes, item, first, first_quoted}
 use Rattle.words.specs.Entries.{Text, lead, ended, next_entry, with_word, from_lexeme, text_within, text_from}
 
 quoted-shorter : (n : Option ℕ) (cs : List ℕ) → length (first_quoted n cs).after < suc (length cs)

@@ -1,7 +1,7 @@
 -- A master file as its entries of words (RFC 1035, section 5.1): a line is an entry; within parentheses a line's end
 -- does not end it. Parentheses do not nest.
 use Rattle.std.specs.Prelude.{ℕ, zero, suc, ◌+◌, ◌==◌, Bool, true, false, ◌||◌, cond, List, [], ◌∷◌, length}
-use Rattle.words.specs.Lexemes.{Word, plain, quoted, broken, Lexeme, gap, line_end, opens, closes, item, First, first}
+use Rattle.words.specs.Lexemes.{Word, plain, quoted, broken, Lexeme, gap, line_end, opens, closes, item, first}
 
 -- How an entry's first line begins.
 pub data Lead : Type 0 where

@@ -60,9 +60,9 @@ first_quoted (Some n) cs = record { lexeme = item (quoted (take n cs)); after = 
 abbrev pub first : List ℕ → First
 first [] = record { lexeme = gap; after = [] }
 first (c ∷ cs) = cond (c == 10) (record { lexeme = line_end; after = cs })
-  (cond (c == 40) (record { lexeme = opens; after = cs })
-  (cond (c == 41) (record { lexeme = closes; after = cs })
-  (cond (c == 59) (record { lexeme = gap; after = drop (line_size cs) cs })
-  (cond (c == 34) (first_quoted (quote_size false cs) cs)
-  (cond (is_blank c) (record { lexeme = gap; after = cs })
-  (record { lexeme = item (plain (take (word_size false (c ∷ cs)) (c ∷ cs))); after = drop (word_size false (c ∷ cs)) (c ∷ cs) }))))))
+    (cond (c == 40) (record { lexeme = opens; after = cs })
+    (cond (c == 41) (record { lexeme = closes; after = cs })
+    (cond (c == 59) (record { lexeme = gap; after = drop (line_size cs) cs })
+    (cond (c == 34) (first_quoted (quote_size false cs) cs)
+    (cond (is_blank c) (record { lexeme = gap; after = cs })
+    (record { lexeme = item (plain (take (word_size false (c ∷ cs)) (c ∷ cs))); after = drop (word_size false (c ∷ cs)) (c ∷ cs) }))))))

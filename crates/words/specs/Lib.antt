@@ -2,3 +2,4 @@ pub mod Lexemes
 pub mod Entries
 pub mod Views
 pub mod Steps
+pub mod Parts

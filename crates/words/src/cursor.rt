@@ -4,9 +4,8 @@ ghost use Rattle.words.specs.Entries.{lead, text_from, broken_off as broken_text
 ghost use Rattle.words.specs.Views.{word_of, lead_of};
 ghost use Rattle.words.specs.Steps.{text_at, IsStep};
 
-use std::marker::Model;
-
 use crate::lexemes::{Lexeme, Word, first};
+use std::marker::Model;
 
 /// How the first line of an entry begins (RFC 1035, section 5.1).
 #[derive(Clone, Copy, Drop)]
@@ -69,7 +68,10 @@ fn advance<'a>(from: Place<'a>) -> (Step<'a>, Place<'a>)
             }
             Lexeme::Open if !place.bracketed => place.bracketed = true,
             Lexeme::Close if place.bracketed => place.bracketed = false,
-            Lexeme::Item(word @ (Word::Plain(_) | Word::Quoted(_))) => return (Step::Word(word), place),
+            Lexeme::Item(word @ (Word::Plain(_) | Word::Quoted(_))) => return (
+                Step::Word(word),
+                place,
+            ),
             Lexeme::Open | Lexeme::Close | Lexeme::Item(Word::Broken) => return broken_off(place),
         }
     }
@@ -97,6 +99,7 @@ fn broken_off<'a>(place: Place<'a>) -> (Step<'a>, Place<'a>)
 
 /// A cursor over the words of a text, entry by entry. It shows the words that the open entry still has, and the
 /// entries after it.
+#[derive(Drop)]
 pub struct Words<'a> {
     place: Place<'a>,
 }

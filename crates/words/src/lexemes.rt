@@ -47,7 +47,10 @@ fn word_len(text: &[u8]) -> usize
 fn is_word_end(byte: u8) -> bool
     ensures { result ≡ ends_word byte }
 {
-    matches!(byte, b' ' | b'\t' | b'\r' | b'\n' | b'"' | b'(' | b')' | b';')
+    matches!(
+        byte,
+        b' ' | b'\t' | b'\r' | b'\n' | b'"' | b'(' | b')' | b';'
+    )
 }
 
 /// How many bytes stand before the quote that closes; `None` where the line ends first.

@@ -5,7 +5,12 @@
 #![tactic(auto)]
 
 mod cursor;
+mod laws;
 mod lexemes;
 
 pub use cursor::{Lead, Words};
+pub use laws::parts_both_ways;
 pub use lexemes::Word;
+
+#[cfg(test)]
+mod tests;

@@ -1,4 +1,4 @@
-use Rattle.std.proofs.Common.{length, drop, ◌-◌, ◌≡◌, ◌≤◌, ◌+◌, false}
+use Rattle.std.proofs.Common.{length, drop, ◌-◌, ◌≡◌, ◌≤◌, false}
 use Rattle.words.specs.Lexemes.{quote_size}
 use Rattle.words.proofs.Shifted.{shifted}
 use Rattle.words.proofs.lexemes.quote_len.Given as goal
