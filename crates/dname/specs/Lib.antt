@@ -1,1 +1,5 @@
+pub mod Draft
 pub mod Labels
+pub mod Laws
+pub mod Wire
+pub mod Written

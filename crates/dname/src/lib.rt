@@ -1,2 +1,12 @@
-//! Domain names.
+//! Domain names (RFC 1034, section 3.1): label by label, in text and in the bytes of messages, and the
+//! words for want of memory that every crate shares.
 #![tactic(auto)]
+
+mod builder;
+mod memory;
+mod name;
+mod walk;
+
+pub use builder::{Builder, Overflow};
+pub use memory::{Heap, Starved};
+pub use name::Name;

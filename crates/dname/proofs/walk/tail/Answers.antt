@@ -1,0 +1,9 @@
+use Rattle.std.proofs.Common.{◌∙◌}
+use Rattle.dname.proofs.Under.{under_step, root_short}
+use Rattle.dname.proofs.walk.tail.Goals as goal
+
+pub loop-after-preserved : goal.loop-after-preserved
+loop-after-preserved c = record {
+  form = c.in-Some.ensures.wire;
+  under = λ n e. c.loop-after.invariant.under n e ∙ under_step c.loop-after.rest.now c.in-Some.field-0-0.now c.in-Some.after.now n c.args.size c.loop-after.invariant.form c.in-Some.ensures e c.if-rest-size.false;
+}

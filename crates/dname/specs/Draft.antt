@@ -1,0 +1,46 @@
+-- A name that is being written: the labels that are closed, and the bytes of the open one.
+use Rattle.std.specs.Prelude.{◌≡◌, ℕ, ◌+◌, ◌<◌, ◌≤◌, Bool, true, false, cond, nat_le, nat_lt, Result, Ok, Err, List, [], ◌∷◌, ◌++◌, length, take, drop}
+use Rattle.dname.specs.Labels.{wire, folded, folded_label, IsLabel, AreFolded}
+use Rattle.dname.specs.Wire.{labels_of}
+use Rattle.dname.specs.declared.builder.Overflow.{Overflow}
+use Rattle.dname.specs.declared.builder.Overflow.TheVariants.{LongLabel, LongName, Memory}
+
+pub record Draft : Type 0 where
+  pub closed : List (List ℕ)
+  pub opened : List ℕ
+
+abbrev pub empty_draft : Draft
+empty_draft = record { closed = []; opened = [] }
+
+-- With one more byte in the open label. A label has at most 63 bytes, and a name at most 255 with its
+-- length bytes and closing zero (RFC 1035, section 2.3.4); at one byte the label's bound goes first.
+abbrev pub pushed : Draft → ℕ → Result Draft Overflow
+pushed d b = cond (nat_le 63 (length d.opened)) (Err LongLabel) (cond (nat_le 254 (length (wire d.closed) + 1 + length d.opened)) (Err LongName)
+    (Ok (record { closed = d.closed; opened = d.opened ++ folded b ∷ [] })))
+
+-- With a whole label more.
+abbrev pub labelled : Draft → List ℕ → Result Draft Overflow
+labelled d l = cond (nat_le 254 (length (wire d.closed) + length l)) (Err LongName) (Ok (record { closed = d.closed ++ folded_label l ∷ []; opened = [] }))
+
+-- The open label closed.
+abbrev pub shut : Draft → Draft
+shut d = record { closed = d.closed ++ d.opened ∷ []; opened = [] }
+
+-- A refusal is the one that stands there; want of memory can come at any time.
+abbrev pub Refuses : Overflow → Result Draft Overflow → Type 0
+Refuses Memory r = Unit {0}
+Refuses LongLabel r = r ≡ Err LongLabel
+Refuses LongName r = r ≡ Err LongName
+
+-- Labels of 1 to 63 bytes.
+abbrev pub AllLabels : List (List ℕ) → Type 0
+AllLabels [] = Unit {0}
+AllLabels (l ∷ ls) = IsLabel l × AllLabels ls
+
+-- A draft that can still become a name.
+pub record IsDraft (d : Draft) : Type 0 where
+  pub labels : AllLabels d.closed
+  pub folded_bytes : AreFolded d.opened
+  pub short : length d.opened < 64
+  pub room : length (wire d.closed) + 1 ≤ 255
+  pub open_room : 0 < length d.opened → length (wire d.closed) + length d.opened + 2 ≤ 255

@@ -1,0 +1,131 @@
+ghost use Rattle.std.specs.Prelude.{◌≡◌, ◌+◌, ◌≤◌, ◌<◌, List, [], ◌∷◌, ◌++◌, length, Ok, IfOk, OnOk, OnErr, MatchResult};
+ghost use Rattle.dname.specs.Labels.{wire, folded, folded_label};
+ghost use Rattle.dname.specs.Draft.{empty_draft, Refuses, pushed, shut, labelled};
+
+use crate::memory::{Heap, Starved};
+use crate::name::Name;
+use std::alloc::{AllocError, AllocFailed, Allocator, Global};
+use std::marker::Model;
+
+/// Why a byte or a label has no place in a name (RFC 1035, section 2.3.4).
+#[derive(Clone, Copy, Debug, PartialEq, Eq)]
+pub enum Overflow {
+    /// The label would have over 63 bytes.
+    LongLabel,
+    /// The name would have over 255 bytes, with its length bytes and closing zero.
+    LongName,
+    /// A growth was refused.
+    Memory,
+}
+
+impl From<AllocError> for Overflow {
+    ghost use Rattle.dname.specs.declared.builder.Overflow.TheVariants.{Memory};
+
+    ghost from_gives = { λ _ e. e ≡ Memory };
+
+    fn from(_error: AllocError) -> Overflow {
+        Overflow::Memory
+    }
+}
+
+impl<T: Drop> From<AllocFailed<T>> for Overflow {
+    ghost use Rattle.dname.specs.declared.builder.Overflow.TheVariants.{Memory};
+
+    ghost from_gives = { λ _ e. e ≡ Memory };
+
+    fn from(_error: AllocFailed<T>) -> Overflow {
+        Overflow::Memory
+    }
+}
+
+/// A name that is being written, label by label: contracts see its closed labels and its open one.
+#[derive(Drop)]
+pub struct Builder<A: Allocator = Global> {
+    bytes: Vec<u8, A>,
+    // Where the open label's length will stand.
+    start: usize,
+}
+
+impl<A: Allocator> Model for Builder<A> {
+    ghost use Rattle.dname.specs.Draft.{Draft};
+    ghost use Rattle.dname.specs.Written.{draft_of, IsWritten};
+
+    ghost Value = { Draft };
+
+    ghost view = { λ b. draft_of b.bytes.items b.start };
+
+    ghost invariant = { λ b. IsWritten b.bytes.items b.start };
+}
+
+// A letter from A to Z as the letter from a to z.
+fn fold(byte: u8) -> u8
+    ensures { result ≡ folded byte }
+{
+    match byte {
+        b'A'..=b'Z' => byte + 32,
+        _ => byte,
+    }
+}
+
+fn put_folded<A: Allocator>(out: &mut Vec<u8, A>, label: &[u8]) -> Result<(), AllocError>
+    ensures ok { OnOk result (out.new.items ≡ out.old.items ++ folded_label label.now) }
+{
+    for byte in label {
+        out.push(fold(*byte))?;
+    }
+    Ok(())
+}
+
+impl<A: Heap> Builder<A> {
+    /// Nothing written yet.
+    pub fn new(alloc: A) -> Result<Builder<A>, Starved>
+        ensures { IfOk result (λ b. b ≡ empty_draft) }
+    {
+        let mut bytes = Vec::with_capacity(alloc, 64)?;
+        bytes.push(0)?;
+        Ok(Builder { bytes, start: 0 })
+    }
+
+    /// The bytes of the open label.
+    pub fn open_len(&self) -> usize
+        ensures { result ≡ length self.now.opened }
+    {
+        self.bytes.len() - self.start - 1
+    }
+
+    /// Writes one byte of the open label, in lower case. Refused, and nothing changed, where the label
+    /// or the name would be too long or a growth is refused.
+    pub fn push(&mut self, byte: u8) -> Result<(), Overflow>
+        ensures { MatchResult result (λ _. pushed self.old byte ≡ Ok self.new) (λ e. Refuses e (pushed self.old byte) × (self.new ≡ self.old)) }
+    {
+        if self.open_len() >= 63 {
+            return Err(Overflow::LongLabel);
+        }
+        if self.bytes.len() >= 254 {
+            return Err(Overflow::LongName);
+        }
+        self.bytes.push(fold(byte))?;
+        Ok(())
+    }
+
+    /// Closes the open label.
+    pub fn close(&mut self) -> Result<(), Starved>
+        requires { 0 < length self.old.opened }
+        ensures ok { OnOk result (self.new ≡ shut self.old) }
+        ensures err { OnErr result (self.new ≡ self.old) }
+    {
+        let size = self.bytes.len() - self.start - 1;
+        self.bytes.push(0)?;
+        self.bytes[self.start] = size as u8;
+        self.start = self.bytes.len() - 1;
+        Ok(())
+    }
+
+    /// The name that was written, with the root's label at its end.
+    pub fn finish(self) -> Name<A>
+        requires { self.opened ≡ [] }
+        ensures { result ≡ self.closed ++ [] ∷ [] }
+    {
+        Name::from_wire(self.bytes)
+    }
+}

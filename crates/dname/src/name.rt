@@ -1,0 +1,194 @@
+ghost use Rattle.std.specs.Prelude.{◌≡◌, ℕ, ◌+◌, ◌≤◌, ◌<◌, ◌↔◌, List, [], ◌∷◌, ◌++◌, length, true, false, None, Some, IsTrue, IfOk, MatchOption};
+ghost use Rattle.std.specs.Bool.{OnTrue, OnFalse};
+ghost use Rattle.std.specs.Hash as fed;
+ghost use Rattle.dname.specs.Labels.{wire, root, star, same_name, is_under, parent_of, IsAtOrUnder, IsName};
+ghost use Rattle.dname.specs.Wire.{labels_of, IsNameWire};
+ghost use Rattle.dname.specs.Laws.{same_name_per, same_name_equiv, same_name_fed};
+
+use crate::memory::{Heap, Starved};
+use crate::walk::{next, tail};
+use std::alloc::{AllocError, Allocator, Global};
+use std::cmp::Eq;
+use std::hash::{Hash, Hasher};
+use std::marker::Model;
+
+/// A domain name in lower case, at most 255 bytes with its length bytes and closing zero (RFC 1035,
+/// section 2.3.4). Contracts see the list of its labels, the root's empty one last.
+#[derive(Drop)]
+pub struct Name<A: Allocator = Global> {
+    // In wire form: each label behind its length, the root's zero last.
+    bytes: Vec<u8, A>,
+}
+
+impl<A: Allocator> Model for Name<A> {
+    ghost use Rattle.std.specs.Prelude.{List, ℕ};
+    ghost use Rattle.dname.specs.Wire.{labels_of, IsNameWire};
+
+    ghost Value = { List (List ℕ) };
+
+    ghost view = { λ n. labels_of n.bytes.items };
+
+    ghost invariant = { λ n. IsNameWire n.bytes.items };
+}
+
+impl<A: Allocator> PartialEq for Name<A> {
+    ghost eq = { same_name };
+
+    ghost laws = { same_name_per };
+
+    fn eq(&self, other: &Name<A>) -> bool {
+        self.bytes.as_slice() == other.bytes.as_slice()
+    }
+}
+
+impl<A: Allocator> Eq for Name<A> {
+    ghost laws = { same_name_equiv };
+}
+
+impl<A: Allocator> Hash for Name<A> {
+    ghost hash_input = { λ n. fed.slice fed.u8 (wire n) };
+
+    ghost respects_eq = { same_name_fed };
+
+    fn hash<H: Hasher>(&self, state: &mut H) {
+        self.bytes.hash(state);
+    }
+}
+
+impl<A: Heap> Clone for Name<A> {
+    ghost is_clone = { λ x y. y ≡ x };
+
+    fn clone(&self) -> Result<Name<A>, AllocError> {
+        let bytes = Vec::from_slice(*self.bytes.allocator(), &self.bytes)?;
+        Ok(Name { bytes })
+    }
+}
+
+impl<A: Allocator> Name<A> {
+    // A name from its wire form.
+    pub(crate) fn from_wire(bytes: Vec<u8, A>) -> Name<A>
+        requires { IsNameWire bytes.items }
+        ensures { result ≡ labels_of bytes.items }
+    {
+        Name { bytes }
+    }
+}
+
+impl<A: Heap> Name<A> {
+    /// The root.
+    pub fn root(alloc: A) -> Result<Name<A>, Starved>
+        ensures { IfOk result (λ n. n ≡ root) }
+    {
+        let bytes = Vec::from_slice(alloc, &[0])?;
+        Ok(Name { bytes })
+    }
+
+    /// The same name on another allocator.
+    pub fn copied<B: Heap>(&self, alloc: B) -> Result<Name<B>, Starved>
+        ensures { IfOk result (λ n. n ≡ self.now) }
+    {
+        let bytes = Vec::from_slice(alloc, &self.bytes)?;
+        Ok(Name { bytes })
+    }
+
+    /// The name without its first label; the root has none above it.
+    pub fn parent(&self) -> Result<Option<Name<A>>, Starved>
+        ensures { IfOk result (λ p. p ≡ parent_of self.now) }
+    {
+        match next(&self.bytes) {
+            None => Ok(None),
+            Some((_, rest)) => {
+                let bytes = Vec::from_slice(*self.bytes.allocator(), rest)?;
+                Ok(Some(Name { bytes }))
+            }
+        }
+    }
+}
+
+impl<A: Allocator> Name<A> {
+    /// The number of labels; the root's is not counted.
+    pub fn labels(&self) -> usize
+        ensures { result + 1 ≡ length self.now }
+    {
+        let mut count = 0;
+        let mut rest = self.bytes.as_slice();
+        while let Some((_, after)) = next(rest) {
+            count += 1;
+            rest = after;
+        }
+        count
+    }
+
+    /// Bytes of the name in a message, with the length bytes and the closing zero: 1 to 255.
+    pub fn size(&self) -> usize
+        ensures is { result ≡ length (wire self.now) }
+        ensures short { result ≤ 255 }
+    {
+        self.bytes.len()
+    }
+
+    /// The name in wire form.
+    pub fn wire(&self) -> &[u8]
+        ensures { result.now ≡ wire self.now }
+    {
+        &self.bytes
+    }
+
+    /// Whether this is the root.
+    pub fn is_root(&self) -> bool
+        ensures { IsTrue result ↔ (self.now ≡ root) }
+    {
+        self.bytes[0] == 0
+    }
+
+    /// The first label and the wire form behind it; none at the root.
+    pub fn first(&self) -> Option<&[u8]>
+        ensures { MatchOption result (self.now ≡ root) (λ l. (ls : List (List ℕ)) × (self.now ≡ l.now ∷ ls)) }
+    {
+        match next(&self.bytes) {
+            None => None,
+            Some((label, _)) => Some(label),
+        }
+    }
+
+    /// Whether this is `other` or a name beneath it.
+    pub fn is_at_or_under<B: Allocator>(&self, other: &Name<B>) -> bool
+        ensures relation { IsTrue result ↔ IsAtOrUnder self.now other.now }
+        ensures test { result ≡ is_under self.now other.now }
+    {
+        tail(&self.bytes, other.bytes.len()) == other.bytes.as_slice()
+    }
+
+    /// Makes the name its parent, in place and without memory; false, and no change, at the root.
+    pub fn ascend(&mut self) -> bool
+        ensures above { OnTrue result (parent_of self.old ≡ Some self.new) }
+        ensures root { OnFalse result ((self.old ≡ root) × (self.new ≡ self.old)) }
+    {
+        let size = self.bytes.len();
+        let Some((_, rest)) = next(&self.bytes) else {
+            return false;
+        };
+        let left = rest.len();
+        self.bytes.copy_within(size - left.., 0);
+        self.bytes.truncate(left);
+        true
+    }
+
+    /// Whether this is `*` right under `encloser` (RFC 1034, section 4.3.3): `*.encloser` itself may be
+    /// too long for a name and is never built.
+    pub fn is_wildcard_of<B: Allocator>(&self, encloser: &Name<B>) -> bool
+        ensures { result ≡ same_name self.now (star ∷ encloser.now) }
+    {
+        match self.bytes.as_slice() {
+            [1, b'*', rest @ ..] => rest == encloser.bytes.as_slice(),
+            _ => false,
+        }
+    }
+
+    /// Every name is labels of 1 to 63 bytes and the root's, at most 255 bytes in all.
+    pub fn is_well_formed(&self)
+        ensures { IsName self.now }
+    {
+        let _ = self.bytes.len();
+    }
+}

@@ -1,0 +1,34 @@
+ghost use Rattle.std.specs.Prelude.{◌≡◌, ℕ, ◌≤◌, ◌<◌, List, length, MatchOption};
+ghost use Rattle.dname.specs.Labels.{root, wire, is_under};
+ghost use Rattle.dname.specs.Wire.{labels_of, IsWire, IsSplit};
+
+// The one walk over a name in wire form: its first label and the wire form behind it, none at the root.
+pub fn next(bytes: &[u8]) -> Option<(&[u8], &[u8])>
+    requires { IsWire bytes.now }
+    ensures { MatchOption result (labels_of bytes.now ≡ root) (λ p. IsSplit bytes.now p.0.now p.1.now) }
+{
+    let size = usize::from(bytes[0]);
+    if size == 0 {
+        return None;
+    }
+    let (_, rest) = bytes.split_at(1);
+    Some(rest.split_at(size))
+}
+
+// The longest end of a name that has at most `size` bytes: the one end that can equal a name of that size.
+pub fn tail(bytes: &[u8], size: usize) -> &[u8]
+    requires wire { IsWire bytes.now }
+    requires some { 0 < size }
+    ensures wire { IsWire result.now }
+    ensures short { length result.now ≤ size }
+    ensures under { (n : List (List ℕ)) → length (wire n) ≡ size → is_under (labels_of bytes.now) n ≡ is_under (labels_of result.now) n }
+{
+    let mut rest = bytes;
+    while let Some((_, after)) = next(rest) {
+        if rest.len() <= size {
+            return rest;
+        }
+        rest = after;
+    }
+    rest
+}
