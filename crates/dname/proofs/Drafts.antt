@@ -1,5 +1,5 @@
 -- How the writing of a name goes on.
-use Rattle.std.proofs.Common.{◌≡◌, ℕ, zero, suc, ◌+◌, ◌-◌, ◌<◌, ◌≤◌, List, [], ◌∷◌, ◌++◌, length, take, drop, refl, sym, ◌∙◌, ap, subst, arith, append_assoc, append-nil, length-append}
+use Rattle.std.proofs.Common.{◌≡◌, ℕ, zero, suc, ◌+◌, ◌-◌, ◌<◌, ◌≤◌, List, [], ◌∷◌, ◌++◌, length, take, drop, get_or, refl, sym, ◌∙◌, ap, subst, arith, append_assoc, append-nil, length-append}
 use Rattle.std.proofs.Math.Seq.{take-append_seam, drop-append-add}
 use Rattle.std.specs.Prelude.{slice_set, cond, Bool, true, false, nat_le, ◌&&◌}
 use Rattle.std.proofs.lemmas.Bool.Decides.{nat_tests}
@@ -8,6 +8,7 @@ use Rattle.dname.specs.Wire.{labels_of, IsWire, IsNameWire}
 use Rattle.dname.specs.Laws.{labels_of-wire}
 use Rattle.dname.specs.Draft.{Draft, IsDraft, AllLabels, empty_draft, shut}
 use Rattle.dname.specs.Written.{written, draft_of, IsWritten}
+use Rattle.std.proofs.lemmas.List.{length-map}
 use Rattle.dname.proofs.Split.{wire_is}
 
 pub wire-append : (a b : List (List ℕ)) → wire (a ++ b) ≡ wire a ++ wire b
@@ -154,3 +155,21 @@ finish_names bytes start d h e o =
     let opened : (draft_of bytes start).opened ≡ [] = ap (λ (x : Draft). x.opened) e ∙ o in
     subst (λ (x : Draft). Names bytes (x.closed ++ [] ∷ [])) e
     (named (draft_of bytes start).closed bytes h.draft.labels h.draft.room (h.all ∙ ap (λ (x : List ℕ). wire (draft_of bytes start).closed ++ 0 ∷ x) opened))
+
+-- A whole label, in lower case, in the open label's place.
+all_folded : (l : List ℕ) → ((i : ℕ) → get_or l i 0 < 256) → AreFolded (folded_label l)
+all_folded [] h = tt
+all_folded (b ∷ l) h = (folded_fits b (h 0), folded_twice b, all_folded l (λ i. h (suc i)))
+
+pub labelled_writes : (bytes label : List ℕ) (start : ℕ) (d : Draft) (new : List ℕ) → IsWritten bytes start → draft_of bytes start ≡ d → d.opened ≡ [] → ((i : ℕ) → get_or label i 0 < 256) → length label < 64
+    → length bytes + length label < 255 → new ≡ bytes ++ folded_label label → Writes new start (record { closed = d.closed; opened = folded_label label })
+labelled_writes bytes label start d new h e o fit few room en =
+    let opened : (draft_of bytes start).opened ≡ [] = ap (λ (x : Draft). x.opened) e ∙ o in
+    let s = written_size bytes start h in
+    let none : length (draft_of bytes start).opened ≡ 0 = ap length opened in
+    let same : length (folded_label label) ≡ length label = length-map label folded in
+    let all : new ≡ wire (draft_of bytes start).closed ++ 0 ∷ folded_label label =
+    en ∙ (ap (λ (x : List ℕ). x ++ folded_label label) (h.all ∙ ap (λ (x : List ℕ). wire (draft_of bytes start).closed ++ 0 ∷ x) opened) ∙ append_assoc (wire (draft_of bytes start).closed) (0 ∷ []) (folded_label label)) in
+    subst (λ (x : Draft). Writes new start (record { closed = x.closed; opened = folded_label label })) e
+    (writes (record { closed = (draft_of bytes start).closed; opened = folded_label label }) new start
+    (record { labels = h.draft.labels; folded_bytes = all_folded label fit; short = omega arith; room = h.draft.room; open_room = λ _. omega arith }) all h.begins)

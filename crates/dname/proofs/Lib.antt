@@ -1,3 +1,5 @@
 pub mod Drafts
 pub mod Split
 pub mod Under
+pub mod WrittenNames
+pub mod Origins

@@ -3,3 +3,5 @@ pub mod Labels
 pub mod Laws
 pub mod Wire
 pub mod Written
+pub mod Text
+pub mod Tokens

@@ -38,12 +38,22 @@ impl<T: Drop> From<AllocFailed<T>> for Overflow {
     }
 }
 
+impl From<Starved> for Overflow {
+    ghost use Rattle.dname.specs.declared.builder.Overflow.TheVariants.{Memory};
+
+    ghost from_gives = { λ _ e. e ≡ Memory };
+
+    fn from(_error: Starved) -> Overflow {
+        Overflow::Memory
+    }
+}
+
 /// A name that is being written, label by label: contracts see its closed labels and its open one.
 #[derive(Drop)]
 pub struct Builder<A: Allocator = Global> {
-    bytes: Vec<u8, A>,
+    pub(crate) bytes: Vec<u8, A>,
     // Where the open label's length will stand.
-    start: usize,
+    pub(crate) start: usize,
 }
 
 impl<A: Allocator> Model for Builder<A> {
@@ -67,11 +77,14 @@ fn fold(byte: u8) -> u8
     }
 }
 
+// All or nothing.
 fn put_folded<A: Allocator>(out: &mut Vec<u8, A>, label: &[u8]) -> Result<(), AllocError>
     ensures ok { OnOk result (out.new.items ≡ out.old.items ++ folded_label label.now) }
+    ensures err { OnErr result (out.new.items ≡ out.old.items) }
 {
+    out.reserve(label.len())?;
     for byte in label {
-        out.push(fold(*byte))?;
+        out.push_reserved(fold(*byte));
     }
     Ok(())
 }
@@ -118,6 +131,22 @@ impl<A: Heap> Builder<A> {
         self.bytes.push(0)?;
         self.bytes[self.start] = size as u8;
         self.start = self.bytes.len() - 1;
+        Ok(())
+    }
+
+    /// Writes a whole label, in lower case. Refused where the name would be too long or a growth is
+    /// refused: the draft then has the label's bytes open, or nothing of it.
+    pub fn push_label(&mut self, label: &[u8]) -> Result<(), Overflow>
+        requires shut { self.old.opened ≡ [] }
+        requires some { 0 < length label.now }
+        requires short { length label.now < 64 }
+        ensures { MatchResult result (λ _. labelled self.old label.now ≡ Ok self.new) (λ e. Refuses e (labelled self.old label.now)) }
+    {
+        if self.bytes.len() + label.len() >= 255 {
+            return Err(Overflow::LongName);
+        }
+        put_folded(&mut self.bytes, label)?;
+        self.close()?;
         Ok(())
     }
 
