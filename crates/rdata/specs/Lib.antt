@@ -1,2 +1,4 @@
 pub mod Data
+pub mod Kept
 pub mod Records
+pub mod Types

@@ -1,2 +1,16 @@
-//! Resource records.
+//! Resource records of the served types (RFC 1035, sections 3.2 and 3.3) and their sets.
 #![tactic(auto)]
+
+mod addr;
+mod data;
+mod records;
+mod rtype;
+mod soa;
+mod texts;
+
+pub use addr::Addr;
+pub use data::RData;
+pub use records::{Record, Records};
+pub use rtype::RType;
+pub use soa::Soa;
+pub use texts::{CharacterString, Texts};
