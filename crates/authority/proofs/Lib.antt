@@ -1,1 +1,2 @@
+pub mod Ascents
 pub mod Picks

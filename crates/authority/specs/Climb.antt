@@ -1,11 +1,10 @@
--- How a look-up over a list goes: what it picks, and its way from a name up to the closest encloser.
-use Rattle.std.specs.Prelude.{ℕ, Bool, true, false, ◌&&◌, cond, List, [], ◌∷◌, filter}
+-- What a look-up over a list of records picks.
+use Rattle.std.specs.Prelude.{ℕ, Bool, true, false, ◌&&◌, List, [], ◌∷◌, filter}
 use Rattle.std.specs.List.{list_any}
 use Rattle.dname.specs.Labels.{star, is_under, same_name}
 use Rattle.rdata.specs.Data.{Datum, same_data}
 use Rattle.rdata.specs.Records.{Record}
-use Rattle.zone.specs.Links.{Link}
-use Rattle.zone.specs.Look.{at, said_wild, is_owned, is_type}
+use Rattle.zone.specs.Look.{is_owned, is_type}
 
 -- The name itself, or the wildcard right under it.
 abbrev pub target : Bool → List (List ℕ) → List (List ℕ)
@@ -33,8 +32,3 @@ has_under n rs = list_any (λ (r : Record). is_under r.owner n) rs
 abbrev pub above : List (List ℕ) → List (List ℕ)
 above [] = []
 above (l ∷ ls) = ls
-
--- The first name above with an owner at or under it is the closest encloser: its wildcard answers.
-abbrev pub climbed : Record → List (List ℕ) → ℕ → List Record → List (List ℕ) → Link
-climbed soa q t rs [] = said_wild soa q t []
-climbed soa q t rs (l ∷ ls) = cond (has_under ls rs) (said_wild soa q t (at (star ∷ ls) rs)) (climbed soa q t rs ls)

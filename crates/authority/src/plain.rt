@@ -1,5 +1,5 @@
 // Look-up by walking a zone's list of records.
-ghost use Rattle.std.specs.Prelude.{◌≡◌, ◌&&◌, ℕ, List, cond, find, Some, None, IfOk, OnOk, map};
+ghost use Rattle.std.specs.Prelude.{◌≡◌, ◌&&◌, ℕ, List, cond, true, find, Some, None, IfOk, OnOk, map};
 ghost use Rattle.std.specs.List.{list_any};
 ghost use Rattle.std.specs.Option.{option_copied};
 ghost use Rattle.dname.specs.Labels.{is_under};
@@ -7,9 +7,9 @@ ghost use Rattle.rdata.specs.Types.{type_number};
 ghost use Rattle.rdata.specs.Data.{same_data};
 ghost use Rattle.rdata.specs.Kept.{datum};
 ghost use Rattle.zone.specs.Zones.{ns_type, cname_type};
-ghost use Rattle.zone.specs.Look.{is_type, is_owned, at, of_type, owns, is_cut, cut_of, firsts, with_owner, said, said_alias, said_wild, ns_of, glue_of, local_by, or_else, add_new, add_glue, is_address};
+ghost use Rattle.zone.specs.Look.{is_type, is_owned, at, of_type, owns, is_cut, cut_of, firsts, with_owner, said, said_alias, said_wild, ns_of, glue_of, local_by, or_else, add_new, add_glue, is_address, climbed};
 ghost use Rattle.authority.specs.Answers.{link_view, local_view};
-ghost use Rattle.authority.specs.Climb.{target, is_picked, picked, has_data, has_under, climbed};
+ghost use Rattle.authority.specs.Climb.{target, is_picked, picked, has_data, has_under};
 
 use crate::answer::{Link, Local};
 use dname::{Heap, Name, Starved};

@@ -1,6 +1,6 @@
 use Rattle.std.proofs.Common.{◌≡◌, length}
 use Rattle.rdata.specs.Types.{type_number}
-use Rattle.authority.specs.Climb.{climbed}
+use Rattle.zone.specs.Look.{climbed}
 use Rattle.authority.proofs.plain.climb.Given as goal
 
 abbrev pub invariant-up : goal.invariant-up
