@@ -5,6 +5,7 @@
 mod builder;
 mod memory;
 mod name;
+mod stars;
 mod walk;
 
 pub use builder::{Builder, Overflow};
