@@ -7,6 +7,7 @@ mod memory;
 mod name;
 mod order;
 mod text;
+mod stars;
 mod walk;
 
 pub use builder::{Builder, Overflow};

@@ -1,3 +1,6 @@
+pub mod Faults
+pub mod Kept
 pub mod Links
 pub mod Look
+pub mod Rules
 pub mod Zones

@@ -1,2 +1,12 @@
-//! Zones (RFC 1034, section 4.2).
+//! Zones (RFC 1034, section 4.2): an origin and records that meet the rules of a zone.
 #![tactic(auto)]
+
+mod cuts;
+mod denial;
+mod fault;
+mod rules;
+mod scan;
+mod zone;
+
+pub use fault::ZoneError;
+pub use zone::Zone;
