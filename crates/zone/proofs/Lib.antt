@@ -1,2 +1,3 @@
 pub mod LawExists
 pub mod LawLists
+pub mod LawTests

@@ -1,3 +1,5 @@
 pub mod Links
 pub mod Look
+pub mod Ruled
+pub mod Same
 pub mod Zones
