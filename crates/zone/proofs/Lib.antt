@@ -1,3 +1,5 @@
 pub mod LawExists
+pub mod LawFirsts
+pub mod LawLink
 pub mod LawLists
 pub mod LawTests
