@@ -1,5 +1,5 @@
 -- What a set without repeats has: of each datum one record, and no other.
-use Rattle.std.proofs.Common.{◌≡◌, ◌≢◌, ℕ, ◌⊎◌, inl, inr, ⊎_elim, Bool, true, false, cond, List, [], ◌∷◌, ◌++◌, refl, sym, ◌∙◌, ap, subst}
+use Rattle.std.proofs.Common.{◌≡◌, ◌≢◌, ◌⊎◌, inl, inr, ⊎_elim, Bool, List, [], ◌∷◌, ◌++◌, refl, sym, ◌∙◌, ap, subst}
 use Rattle.std.specs.Prelude.{Contains, fold}
 use Rattle.std.specs.List.{list_any}
 use Rattle.std.proofs.lemmas.Bool.{cond_both, both_ways}
@@ -31,9 +31,10 @@ add_has kept r = cond_both (list_any (says_it r) kept) kept (kept ++ r ∷ []) (
 
 distinct_push : (xs : List Record) (x : Record) → Distinct xs → (Contains xs x → ⊥) → Distinct (xs ++ x ∷ [])
 distinct_push [] x d n = (λ h. none_in x h, tt)
-distinct_push (y ∷ xs) x d n =
-    (λ h. ⊎_elim (λ k. d.0 k) (λ e. n (subst (λ (w : Record). Contains (y ∷ xs) w) (sym e) (first_in y xs))) (Contains-push_cases xs x y h),
-        distinct_push xs x d.1 (λ h. n (later_in y x xs h)))
+distinct_push (y ∷ xs) x d n = (
+  λ h. ⊎_elim (λ k. d.0 k) (λ e. n (subst (λ (w : Record). Contains (y ∷ xs) w) (sym e) (first_in y xs))) (Contains-push_cases xs x y h),
+  distinct_push xs x d.1 (λ h. n (later_in y x xs h)),
+)
 
 add_distinct : (kept : List Record) (r : Record) → Distinct kept → Distinct (add_new kept r)
 add_distinct kept r d = cond_both (list_any (says_it r) kept) kept (kept ++ r ∷ []) Distinct (λ e. d)

@@ -1,21 +1,20 @@
 -- What the look-up gives is the zone's link.
-use Rattle.std.proofs.Common.{◌≡◌, ◌≢◌, ◌<◌, ◌≤◌, ℕ, ◌⊎◌, inl, inr, ⊎_elim, Bool, true, false, cond, Option, Some, None, List, [], ◌∷◌, ◌++◌, length, refl, sym, ◌∙◌, ap, subst, eqb-true, eq-eqb}
-use Rattle.std.specs.Prelude.{Contains, map, filter, find}
-use Rattle.std.specs.List.{list_any}
+use Rattle.std.proofs.Common.{◌≡◌, ◌≢◌, ℕ, ◌⊎◌, inl, inr, ⊎_elim, Bool, true, false, cond, Option, Some, None, List, [], ◌∷◌, refl, sym, ◌∙◌, ap, subst, eqb-true, eq-eqb}
+use Rattle.std.specs.Prelude.{Contains, map, find}
 use Rattle.std.proofs.lemmas.Bool.{both_ways}
-use Rattle.dname.specs.Labels.{star, same_name, is_under, IsAtOrUnder}
+use Rattle.dname.specs.Labels.{star, IsAtOrUnder}
 use Rattle.dname.specs.Laws.{same_name-exact, same_name-equal}
 use Rattle.dname.proofs.Under.{is_under_holds}
 use Rattle.rdata.specs.Data.{type_of}
 use Rattle.rdata.specs.Records.{Record}
-use Rattle.zone.specs.Zones.{Zone, At, IsCutOver, Exists, IsEncloser, cname_type, soa_type}
-use Rattle.zone.specs.Links.{Link, Found, Alias, NoData, NxDomain, IsSource, IsFrom, HasNone, IsEmpty, IsDenial, lessened, Distinct, Says, IsLink}
+use Rattle.zone.specs.Zones.{Zone, At, Exists, cname_type, soa_type}
+use Rattle.zone.specs.Links.{IsSource, IsFrom, HasNone, IsEmpty, IsDenial, lessened, Says, IsLink}
 use Rattle.zone.specs.Ruled.{IsNamed, HasSoaAtOrigin, HasOneTtl}
-use Rattle.zone.specs.Look.{is_type, is_owned, at, of_type, cut_of, exists, closest, with_owner, firsts, said_alias, said_by, said, said_wild, wild_at, wild, link_by, denial_by, denial_of}
-use Rattle.zone.proofs.LawLists.{none_in, first_in, filter_of, filter_in, map_of, map_in, find_of, any_from, at_itself}
+use Rattle.zone.specs.Look.{is_type, is_owned, at, of_type, cut_of, exists, with_owner, firsts, said_alias, said_by, said, said_wild, wild_at, wild, link_by, denial_by, denial_of}
+use Rattle.zone.proofs.LawLists.{none_in, first_in, filter_of, filter_in, map_of, map_in, find_of, any_from}
 use Rattle.zone.proofs.LawFirsts.{firsts_of, firsts_has, firsts_distinct, firsts_some}
 use Rattle.zone.proofs.LawExists.{cut_kept, exists_plain, some_or_none, is_beneath_name}
-use Rattle.zone.proofs.LawTests.{cut_of_holds, uncut_holds, exists_holds, exists_is, closest_holds, closest_some}
+use Rattle.zone.proofs.LawTests.{uncut_holds, exists_holds, exists_is, closest_holds, closest_some}
 
 -- The records of a type at a name.
 pub at_of : (z : Zone) (s : List (List ℕ)) (t : ℕ) (r : Record) → Contains (of_type t (at s z.records)) r → At z s t r
@@ -37,9 +36,10 @@ back_home q s y e = λ i. record { owner = sym e i; ttl = y.ttl; value = y.value
 from_map : (z : Zone) (s q : List (List ℕ)) (t : ℕ) (x : Record) → Contains (map (with_owner q) (of_type t (at s z.records))) x → IsFrom z s q t x
 from_map z s q t x h =
     let m = map_of (with_owner q) (of_type t (at s z.records)) x h in
-    let a : At z s t m.0 = at_of z s t m.0 m.1 in
-    (sym (ap (λ (w : Record). w.owner) m.2),
-        subst (λ (w : Record). At z s t (record w { owner = s })) m.2 (subst (λ (w : Record). At z s t w) (sym (back_home q s m.0 a.owner)) a))
+    let a : At z s t m.0 = at_of z s t m.0 m.1 in (
+      sym (ap (λ (w : Record). w.owner) m.2),
+      subst (λ (w : Record). At z s t (record w { owner = s })) m.2 (subst (λ (w : Record). At z s t w) (sym (back_home q s m.0 a.owner)) a),
+    )
 
 in_map : (z : Zone) (s q : List (List ℕ)) (t : ℕ) (x : Record) → IsFrom z s q t x → Contains (map (with_owner q) (of_type t (at s z.records))) x
 in_map z s q t x h =
@@ -67,18 +67,21 @@ in_firsts z s q t x one h =
 alias_says : (z : Zone) (s q : List (List ℕ)) (t : ℕ) (soa : Record) (xs : List Record) → HasNone z s t → (Exists z q ⊎ (IsEmpty z s → ⊥)) → IsDenial z soa
     → of_type cname_type (at s z.records) ≡ xs → Says z s q t (said_alias soa q xs)
 alias_says z s q t soa [] none some d e = (none, none_at z s cname_type e, some, d)
-alias_says z s q t soa (r ∷ rs) none some d e =
-    (none, from_map z s q cname_type (with_owner q r)
-        (map_in (with_owner q) (of_type cname_type (at s z.records)) r (subst (λ (ys : List Record). Contains ys r) (sym e) (first_in r rs))))
+alias_says z s q t soa (r ∷ rs) none some d e = (
+  none,
+  from_map z s q cname_type (with_owner q r)
+      (map_in (with_owner q) (of_type cname_type (at s z.records)) r (subst (λ (ys : List Record). Contains ys r) (sym e) (first_in r rs))),
+)
 
 by_says : (z : Zone) (s q : List (List ℕ)) (t : ℕ) (soa : Record) (xs : List Record) → HasOneTtl z → (Exists z q ⊎ (IsEmpty z s → ⊥)) → IsDenial z soa
     → of_type t (at s z.records) ≡ xs → Says z s q t (said_by soa q (at s z.records) xs)
 by_says z s q t soa [] one some d e = alias_says z s q t soa (of_type cname_type (at s z.records)) (none_at z s t e) some d refl
-by_says z s q t soa (r ∷ rs) one some d e =
-    (λ x h. from_map z s q t x (firsts_of (map (with_owner q) (of_type t (at s z.records))) x (subst (λ (ys : List Record). Contains (firsts (map (with_owner q) ys)) x) (sym e) h)),
-        λ x h. subst (λ (ys : List Record). Contains (firsts (map (with_owner q) ys)) x) e (in_firsts z s q t x one h),
-        firsts_distinct (map (with_owner q) (r ∷ rs)),
-        firsts_some (with_owner q r) (map (with_owner q) rs))
+by_says z s q t soa (r ∷ rs) one some d e = (
+  λ x h. from_map z s q t x (firsts_of (map (with_owner q) (of_type t (at s z.records))) x (subst (λ (ys : List Record). Contains (firsts (map (with_owner q) ys)) x) (sym e) h)),
+  λ x h. subst (λ (ys : List Record). Contains (firsts (map (with_owner q) ys)) x) e (in_firsts z s q t x one h),
+  firsts_distinct (map (with_owner q) (r ∷ rs)),
+  firsts_some (with_owner q r) (map (with_owner q) rs),
+)
 
 pub own_says : (z : Zone) (s q : List (List ℕ)) (t : ℕ) (soa : Record) → HasOneTtl z → (Exists z q ⊎ (IsEmpty z s → ⊥)) → IsDenial z soa → Says z s q t (said soa q t (at s z.records))
 own_says z s q t soa one some d = by_says z s q t soa (of_type t (at s z.records)) one some d refl
@@ -92,6 +95,7 @@ wild_says z s q t soa (r ∷ rs) one none d e =
   where
     stands : Contains (at s z.records) r
     stands = subst (λ (ys : List Record). Contains ys r) (sym e) (first_in r rs)
+
     here : At z s (type_of r.value) r
     here = at_of z s (type_of r.value) r (filter_in (is_type (type_of r.value)) (at s z.records) r stands (eq-eqb (type_of r.value) (type_of r.value) refl))
 
@@ -132,9 +136,11 @@ link_step z q t soa true named one d ne o u e =
     (q, inl (real, refl), own_says z q q t soa one (inl real) d)
 link_step z q t soa false named one d ne o u e =
     let none : Exists z q → ⊥ = λ x. both_ways (exists z q) e (exists_is z q x) in
-    let c = closest_some z q z.origin ne o u in
-    (star ∷ c.0, inr (none, (c.0, closest_holds z q c.0 named c.1, refl)),
-        subst (λ (k : Option (List (List ℕ))). Says z (star ∷ c.0) q t (said_wild soa q t (wild_at z k))) (sym c.1) (wild_says z (star ∷ c.0) q t soa (at (star ∷ c.0) z.records) one none d refl))
+    let c = closest_some z q z.origin ne o u in (
+      star ∷ c.0,
+      inr (none, (c.0, closest_holds z q c.0 named c.1, refl)),
+      subst (λ (k : Option (List (List ℕ))). Says z (star ∷ c.0) q t (said_wild soa q t (wild_at z k))) (sym c.1) (wild_says z (star ∷ c.0) q t soa (at (star ∷ c.0) z.records) one none d refl),
+    )
 
 pub link_law : (z : Zone) (q : List (List ℕ)) (t : ℕ) (soa : Record) → IsNamed z → HasSoaAtOrigin z → HasOneTtl z → denial_of z ≡ Some soa → IsAtOrUnder q z.origin → cut_of z q ≡ None → IsLink z q t (link_by soa z q t)
 link_law z q t soa named there one h u free =

@@ -1,6 +1,6 @@
 -- Members of a list, tests over it, and the ends of one list.
 use Rattle.std.proofs.Common.{◌≡◌, ℕ, zero, suc, ◌≤◌, ◌⊎◌, inl, inr, ⊎_elim, Bool, true, false, ◌||◌, List, [], ◌∷◌, ◌++◌, length, refl, sym, ◌∙◌, ap, subst, arith, append_assoc, length-append}
-use Rattle.std.specs.Prelude.{Contains, filter, map, find, Option, Some, None, cond}
+use Rattle.std.specs.Prelude.{Contains, filter, map, find, Some, cond}
 use Rattle.std.specs.List.{list_any}
 use Rattle.std.proofs.lemmas.Bool.{or_left, or_right}
 use Rattle.dname.specs.Labels.{IsAtOrUnder}

@@ -1,7 +1,5 @@
 -- The tests of a zone are the relations: cuts, names that exist, closest enclosers.
-use Rattle.std.proofs.Common.{◌≡◌, ◌≢◌, ◌<◌, ◌≤◌, ℕ, ◌⊎◌, inl, inr, ⊎_elim, Bool, true, false, not, ◌&&◌, cond, is_some, Option, Some, None, List, [], ◌∷◌, ◌++◌, length, refl, sym, ◌∙◌, ap, subst, arith, eqb-true, eq-eqb}
-use Rattle.std.specs.Prelude.{Contains}
-use Rattle.std.specs.List.{list_any}
+use Rattle.std.proofs.Common.{◌≡◌, ◌≢◌, ◌≤◌, ℕ, ⊎_elim, Bool, true, false, not, ◌&&◌, cond, is_some, Option, Some, None, List, [], ◌∷◌, length, refl, sym, ◌∙◌, ap, subst, arith, eqb-true, eq-eqb}
 use Rattle.std.proofs.lemmas.Bool.{and_parts, and_from, both_ways, false_from_ne_true, not-true, not_from_false}
 use Rattle.dname.specs.Labels.{same_name, is_under, IsAtOrUnder}
 use Rattle.dname.specs.Laws.{same_name-exact, same_name-equal}
@@ -11,16 +9,17 @@ use Rattle.rdata.specs.Records.{Record}
 use Rattle.zone.specs.Zones.{Zone, At, IsCut, IsUncut, IsCutOver, IsBeneath, Exists, IsEncloser, ns_type}
 use Rattle.zone.specs.Ruled.{IsNamed}
 use Rattle.zone.specs.Look.{is_owned, is_type, owns, is_cut, or_else, cut_of, is_beneath_cut, exists, closest}
-use Rattle.zone.proofs.LawLists.{any_from, any_of, over_one, under_cases, under_under, under_length, same_over, at_itself, one_under}
-use Rattle.zone.proofs.LawExists.{CutIs, cut_of_is, cut_kept, cut_itself, server_of, counts, beneath_some, some_or_none}
+use Rattle.zone.proofs.LawLists.{any_from, any_of, over_one, under_cases, under_length, same_over, at_itself, one_under}
+use Rattle.zone.proofs.LawExists.{cut_of_is, cut_kept, cut_itself, server_of, counts, some_or_none}
 
 -- Cuts.
 pub is_cut_is : (z : Zone) (c : List (List ℕ)) → is_cut z c ≡ true → IsCut z c
 is_cut_is z c h =
     let s = server_of z c h in
-    let p = and_parts (owns ns_type c z.records) (not (same_name c z.origin)) h in
-    (λ e. both_ways (same_name c z.origin) (not-true (same_name c z.origin) p.1) (same_name-equal c z.origin e),
-        (s.0, record { stands = s.1; owner = s.2; kind = eqb-true (type_of s.0.value) ns_type s.3 }))
+    let p = and_parts (owns ns_type c z.records) (not (same_name c z.origin)) h in (
+      λ e. both_ways (same_name c z.origin) (not-true (same_name c z.origin) p.1) (same_name-equal c z.origin e),
+      (s.0, record { stands = s.1; owner = s.2; kind = eqb-true (type_of s.0.value) ns_type s.3 }),
+    )
 
 pub is_cut_holds : (z : Zone) (c : List (List ℕ)) → IsCut z c → is_cut z c ≡ true
 is_cut_holds z c h =
@@ -28,8 +27,8 @@ is_cut_holds z c h =
     let a : At z c ns_type r = h.1.1 in
     let test : (is_owned c r && is_type ns_type r) ≡ true = and_from (is_owned c r) (is_type ns_type r) (same_name-equal r.owner c a.owner) (eq-eqb (type_of r.value) ns_type a.kind) in
     and_from (owns ns_type c z.records) (not (same_name c z.origin))
-        (any_from (λ (x : Record). is_owned c x && is_type ns_type x) z.records r a.stands test)
-        (not_from_false (same_name c z.origin) (false_from_ne_true (same_name c z.origin) (λ t. h.0 (same_name-exact c z.origin t))))
+    (any_from (λ (x : Record). is_owned c x && is_type ns_type x) z.records r a.stands test)
+    (not_from_false (same_name c z.origin) (false_from_ne_true (same_name c z.origin) (λ t. h.0 (same_name-exact c z.origin t))))
 
 -- An owner of NS records is a name.
 pub cut_named : (z : Zone) (c : List (List ℕ)) → IsNamed z → IsCut z c → c ≢ []
@@ -54,10 +53,10 @@ cut_of_holds z q c n h =
       over = m.over;
       nearest = λ d k u. ⊎_elim
           (λ (v : IsAtOrUnder c d).
-              let x = cut_over_itself z d (cut_named z d n k) (is_cut_holds z d k) in
-              let e : Some x.0 ≡ Some c = sym (cut_kept z c d x.0 v x.1) ∙ cut_itself z q c h in
-              let f : x.0 ≡ c = cc in
-              under_length d c (subst (λ (y : List (List ℕ)). IsAtOrUnder d y) f ((cut_of_is z d x.0 x.1).over)))
+          let x = cut_over_itself z d (cut_named z d n k) (is_cut_holds z d k) in
+          let e : Some x.0 ≡ Some c = sym (cut_kept z c d x.0 v x.1) ∙ cut_itself z q c h in
+          let f : x.0 ≡ c = cc in
+          under_length d c (subst (λ (y : List (List ℕ)). IsAtOrUnder d y) f ((cut_of_is z d x.0 x.1).over)))
           (λ (v : IsAtOrUnder d c). under_length d c v)
           (over_one q c d m.over u);
     }
@@ -102,9 +101,9 @@ plain_is : (z : Zone) (o : List (List ℕ)) → ((c : List (List ℕ)) → IsCut
 plain_is z [] h = refl
 plain_is z (l ∷ ls) h = ⊎_elim (λ e. ap is_some e)
     (λ x.
-        let m = cut_of_is z ls x.0 x.1 in
-        let short : length x.0 ≤ length ls = under_length ls x.0 m.over in
-        absurd (h x.0 (is_cut_is z x.0 m.cut) (one_under l ls x.0 m.over, λ e. absurd (omega (arith, ap length e)))))
+    let m = cut_of_is z ls x.0 x.1 in
+    let short : length x.0 ≤ length ls = under_length ls x.0 m.over in
+    absurd (h x.0 (is_cut_is z x.0 m.cut) (one_under l ls x.0 m.over, λ e. absurd (omega (arith, ap length e)))))
     (some_or_none (cut_of z ls))
 
 -- Names that exist.

@@ -2,4 +2,5 @@ pub mod LawExists
 pub mod LawFirsts
 pub mod LawLink
 pub mod LawLists
+pub mod LawOne
 pub mod LawTests

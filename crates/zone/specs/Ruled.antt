@@ -1,5 +1,5 @@
 -- Rules of a zone's records, in words; laws of look-up take them as premises.
-use Rattle.std.specs.Prelude.{◌≡◌, ◌≢◌, ℕ, List, [], Contains}
+use Rattle.std.specs.Prelude.{◌≡◌, ◌≢◌, [], Contains}
 use Rattle.rdata.specs.Data.{type_of}
 use Rattle.rdata.specs.Records.{Record}
 use Rattle.zone.specs.Zones.{Zone, cname_type, soa_type}

@@ -1,2 +1,6 @@
 //! Zones (RFC 1034, section 4.2).
 #![tactic(auto)]
+
+mod laws;
+
+pub use laws::{cut_law, encloser_law, existence_law, link_law, one_link_law};
