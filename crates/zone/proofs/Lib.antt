@@ -3,4 +3,5 @@ pub mod LawFirsts
 pub mod LawLink
 pub mod LawLists
 pub mod LawOne
+pub mod LawReferral
 pub mod LawTests

@@ -6,7 +6,8 @@ ghost use Rattle.dname.specs.Labels.{is_under, IsAtOrUnder};
 ghost use Rattle.rdata.specs.Records.{Record};
 ghost use Rattle.zone.specs.Zones.{Zone, IsUncut, IsCutOver, Exists, IsEncloser};
 ghost use Rattle.zone.specs.Links.{Link, IsLink};
-ghost use Rattle.zone.specs.Look.{cut_of, exists, closest, link_by, denial_of};
+ghost use Rattle.zone.specs.Look.{cut_of, exists, closest, link_by, local_by, denial_of};
+ghost use Rattle.zone.specs.Referrals.{IsLocal};
 ghost use Rattle.zone.specs.Ruled.{IsNamed, HasSoaAtOrigin, HasOneSoa, HasOneTtl, HasOneAlias};
 ghost use Rattle.zone.specs.Same.{SameLink};
 
@@ -37,6 +38,14 @@ pub fn link_law()
     ensures link { (z : Zone) (q : List (List ℕ)) (t : ℕ) (soa : Record) → IsNamed z → HasSoaAtOrigin z → HasOneTtl z → denial_of z ≡ Some soa
         → IsAtOrUnder q z.origin → cut_of z q ≡ None → IsLink z q t (link_by soa z q t) }
     ensures referral { (z : Zone) (q c : List (List ℕ)) → IsNamed z → cut_of z q ≡ Some c → IsCutOver z q c }
+{}
+
+/// All that the look-up gives for a name at or under the origin: the zone's link where no cut stands
+/// over the name, and otherwise the referral: the cut, its NS records and the addresses that the zone
+/// has of its servers, each once (RFC 1034, section 4.3.2, step 3b).
+pub fn local_law()
+    ensures { (z : Zone) (q : List (List ℕ)) (t : ℕ) (soa : Record) → IsNamed z → HasSoaAtOrigin z → HasOneTtl z → denial_of z ≡ Some soa
+        → IsAtOrUnder q z.origin → IsLocal z q t (local_by soa z q t) }
 {}
 
 /// A question has one link but for TTLs, order and repeats (RFC 2181, sections 5 and 10.1), and the

@@ -3,4 +3,4 @@
 
 mod laws;
 
-pub use laws::{cut_law, encloser_law, existence_law, link_law, one_link_law};
+pub use laws::{cut_law, encloser_law, existence_law, link_law, local_law, one_link_law};
