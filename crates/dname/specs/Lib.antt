@@ -3,3 +3,6 @@ pub mod Labels
 pub mod Laws
 pub mod Wire
 pub mod Written
+pub mod Text
+pub mod Tokens
+pub mod Order

@@ -5,8 +5,11 @@
 mod builder;
 mod memory;
 mod name;
+mod order;
+mod text;
 mod walk;
 
 pub use builder::{Builder, Overflow};
 pub use memory::{Heap, Starved};
 pub use name::Name;
+pub use text::{NameError, put_name, text_is_read_back};

@@ -7,6 +7,7 @@ mod laws;
 mod records;
 mod rtype;
 mod soa;
+mod text;
 mod texts;
 
 pub use addr::Addr;
@@ -15,4 +16,5 @@ pub use laws::same_data_law;
 pub use records::{Record, Records};
 pub use rtype::RType;
 pub use soa::Soa;
+pub use text::{put_data, put_ipv4};
 pub use texts::{CharacterString, Texts};

@@ -9,7 +9,7 @@ use Rattle.dname.proofs.Under.{under_is, is_under_holds}
 use Rattle.rdata.specs.Records.{Record}
 use Rattle.zone.specs.Zones.{Zone, ns_type}
 use Rattle.zone.specs.Links.{Link}
-use Rattle.zone.specs.Look.{is_owned, is_type, owns, is_cut, or_else, cut_of, is_beneath_cut, exists, closest, at, said_wild, wild_at, wild}
+use Rattle.zone.specs.Look.{is_owned, is_type, owns, is_cut, or_else, cut_of, is_beneath_cut, exists, closest, at, said_wild, wild_at, wild, climbed}
 use Rattle.zone.proofs.LawLists.{any_from, any_of, same_tests, over_one, under_cases, at_itself, one_under}
 
 -- What the cut over a name is.
@@ -118,13 +118,6 @@ pub exists_plain : (z : Zone) (n : List (List ℕ)) → cut_of z n ≡ None → 
 exists_plain z n free = same_tests (exists z n) (list_any (is_beneath_name n) z.records)
     (λ h. let m = any_of (counts z n) z.records h in any_from (is_beneath_name n) z.records m.0 m.1 ((and_parts (not (is_beneath_cut z m.0.owner)) (is_under m.0.owner n) m.2).1))
     (λ h. let m = any_of (is_beneath_name n) z.records h in shown z n m.0 (is_beneath_cut z m.0.owner) free m.1 m.2 refl)
-
--- The climb from a name that does not exist: up to the first name that an owner is at or under, whose
--- wildcard answers; none at the end of the labels.
-abbrev pub climbed : Record → List (List ℕ) → ℕ → List Record → List (List ℕ) → Link
-climbed soa q t rs [] = said_wild soa q t []
-climbed soa q t rs (l ∷ []) = said_wild soa q t []
-climbed soa q t rs (l ∷ m ∷ ms) = cond (list_any (λ (r : Record). is_under r.owner (m ∷ ms)) rs) (said_wild soa q t (at (star ∷ m ∷ ms) rs)) (climbed soa q t rs (m ∷ ms))
 
 -- The closest encloser above a name with no cut over it.
 climb_step : (soa : Record) (q : List (List ℕ)) (t : ℕ) (z : Zone) (m : List ℕ) (ms : List (List ℕ)) (b : Bool) → exists z (m ∷ ms) ≡ b
