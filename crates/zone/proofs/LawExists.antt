@@ -53,7 +53,7 @@ cut_itself z n c h =
     let e : cut_of z (m.first ∷ m.rest) ≡ Some (m.first ∷ m.rest) = rw (m.above, ap (is_cut z) (sym m.is) ∙ m.cut) refl in
     subst (λ (x : List (List ℕ)). cut_of z x ≡ Some x) (sym m.is) e
 
-some_or_none : {X : Type 0} (o : Option X) → (o ≡ None) ⊎ ((x : X) × (o ≡ Some x))
+pub some_or_none : {X : Type 0} (o : Option X) → (o ≡ None) ⊎ ((x : X) × (o ≡ Some x))
 some_or_none None = inl refl
 some_or_none (Some x) = inr (x, refl)
 
@@ -61,7 +61,7 @@ pub uncut_above : (z : Zone) (l : List ℕ) (ls : List (List ℕ)) → cut_of z 
 uncut_above z l ls h = ⊎_elim (λ e. e) (λ k. absurd (let p = cut_kept z (l ∷ ls) ls k.0 (l ∷ [], refl) k.1 in cc)) (some_or_none (cut_of z ls))
 
 -- A name of which the test says that it is beneath a cut.
-beneath_some : (o : Option (List (List ℕ))) → is_some o ≡ true → (c : List (List ℕ)) × (o ≡ Some c)
+pub beneath_some : (o : Option (List (List ℕ))) → is_some o ≡ true → (c : List (List ℕ)) × (o ≡ Some c)
 beneath_some None h = absurd (cc)
 beneath_some (Some c) h = (c, refl)
 

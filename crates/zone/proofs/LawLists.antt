@@ -1,6 +1,6 @@
 -- Members of a list, tests over it, and the ends of one list.
-use Rattle.std.proofs.Common.{◌≡◌, ℕ, zero, suc, ◌≤◌, ◌⊎◌, inl, inr, ⊎_elim, Bool, true, false, ◌||◌, List, [], ◌∷◌, ◌++◌, length, refl, sym, ◌∙◌, ap, arith, append_assoc, length-append}
-use Rattle.std.specs.Prelude.{Contains}
+use Rattle.std.proofs.Common.{◌≡◌, ℕ, zero, suc, ◌≤◌, ◌⊎◌, inl, inr, ⊎_elim, Bool, true, false, ◌||◌, List, [], ◌∷◌, ◌++◌, length, refl, sym, ◌∙◌, ap, subst, arith, append_assoc, length-append}
+use Rattle.std.specs.Prelude.{Contains, filter, map, find, Some, cond}
 use Rattle.std.specs.List.{list_any}
 use Rattle.std.proofs.lemmas.Bool.{or_left, or_right}
 use Rattle.dname.specs.Labels.{IsAtOrUnder}
@@ -72,3 +72,37 @@ same_over a b c h k e = ⊎_elim (λ u. by_length b c u e) (λ u. sym (by_length
     by_length : (x y : List (List ℕ)) → IsAtOrUnder x y → length x ≡ length y → x ≡ y
     by_length x y ([], p) q = p
     by_length x y (l ∷ f, p) q = absurd (omega (arith, ap length p, length-append f y))
+
+-- Members of what a filter, a map and a search give.
+filter_split : {X : Type 0} (p : X → Bool) (y x : X) (xs : List X) (b : Bool) → p y ≡ b → (Contains (filter p xs) x → Contains xs x × (p x ≡ true))
+    → Contains (cond b (y ∷ filter p xs) (filter p xs)) x → Contains (y ∷ xs) x × (p x ≡ true)
+filter_split p y x xs true e k h = ⊎_elim (λ q. (subst (λ w. Contains (y ∷ xs) w) q (first_in y xs), sym (ap p q) ∙ e)) (λ m. let n = k m in (later_in y x xs n.0, n.1)) (in_cases y x (filter p xs) h)
+filter_split p y x xs false e k h = let n = k h in (later_in y x xs n.0, n.1)
+
+pub filter_of : {X : Type 0} (p : X → Bool) (xs : List X) (x : X) → Contains (filter p xs) x → Contains xs x × (p x ≡ true)
+filter_of p [] x h = absurd (none_in x h)
+filter_of p (y ∷ xs) x h = filter_split p y x xs (p y) refl (filter_of p xs x) h
+
+filter_more : {X : Type 0} (p : X → Bool) (y x : X) (xs : List X) (b : Bool) → p y ≡ b → p x ≡ true → Contains (y ∷ xs) x → (Contains xs x → Contains (filter p xs) x) → Contains (cond b (y ∷ filter p xs) (filter p xs)) x
+filter_more p y x xs true e t h k = ⊎_elim (λ q. subst (λ w. Contains (y ∷ filter p xs) w) q (first_in y (filter p xs))) (λ m. later_in y x (filter p xs) (k m)) (in_cases y x xs h)
+filter_more p y x xs false e t h k = ⊎_elim (λ q. absurd (let f : p x ≡ false = sym (ap p q) ∙ e in cc)) k (in_cases y x xs h)
+
+pub filter_in : {X : Type 0} (p : X → Bool) (xs : List X) (x : X) → Contains xs x → p x ≡ true → Contains (filter p xs) x
+filter_in p [] x h t = absurd (none_in x h)
+filter_in p (y ∷ xs) x h t = filter_more p y x xs (p y) refl t h (λ m. filter_in p xs x m t)
+
+pub map_of : {X Y : Type 0} (f : X → Y) (xs : List X) (y : Y) → Contains (map f xs) y → (x : X) × Contains xs x × (f x ≡ y)
+map_of f [] y h = absurd (none_in y h)
+map_of f (x ∷ xs) y h = ⊎_elim (λ q. (x, first_in x xs, q)) (λ m. let n = map_of f xs y m in (n.0, later_in x n.0 xs n.1, n.2)) (in_cases (f x) y (map f xs) h)
+
+pub map_in : {X Y : Type 0} (f : X → Y) (xs : List X) (x : X) → Contains xs x → Contains (map f xs) (f x)
+map_in f [] x h = absurd (none_in x h)
+map_in f (w ∷ xs) x h = ⊎_elim (λ q. subst (λ v. Contains (map f (w ∷ xs)) (f v)) q (first_in (f w) (map f xs))) (λ m. later_in (f w) (f x) (map f xs) (map_in f xs x m)) (in_cases w x xs h)
+
+find_split : {X : Type 0} (p : X → Bool) (y x : X) (xs : List X) (b : Bool) → p y ≡ b → (find p xs ≡ Some x → Contains xs x × (p x ≡ true)) → cond b (Some y) (find p xs) ≡ Some x → Contains (y ∷ xs) x × (p x ≡ true)
+find_split p y x xs true e k h = let q : y ≡ x = cc in (subst (λ w. Contains (y ∷ xs) w) q (first_in y xs), sym (ap p q) ∙ e)
+find_split p y x xs false e k h = let n = k h in (later_in y x xs n.0, n.1)
+
+pub find_of : {X : Type 0} (p : X → Bool) (xs : List X) (x : X) → find p xs ≡ Some x → Contains xs x × (p x ≡ true)
+find_of p [] x h = absurd (cc)
+find_of p (y ∷ xs) x h = find_split p y x xs (p y) refl (find_of p xs x) h
