@@ -6,3 +6,4 @@ pub mod Written
 pub mod Text
 pub mod Tokens
 pub mod Order
+pub mod Spelling
