@@ -38,7 +38,7 @@ type_of (Ipv6 a) = 28
 -- The same data, as a test.
 abbrev pub same_authority : Authority → Authority → Bool
 same_authority a b = same_name a.primary b.primary && same_name a.mailbox b.mailbox && nat_eq a.serial b.serial && nat_eq a.refresh b.refresh
-  && nat_eq a.retry b.retry && nat_eq a.expire b.expire && nat_eq a.minimum b.minimum
+    && nat_eq a.retry b.retry && nat_eq a.expire b.expire && nat_eq a.minimum b.minimum
 
 abbrev pub same_data : Datum → Datum → Bool
 same_data (Ipv4 a) (Ipv4 b) = pointwise nat_eq a b

@@ -1,2 +1,20 @@
-//! Resource records.
+//! Resource records of the served types (RFC 1035, sections 3.2 and 3.3) and their sets.
 #![tactic(auto)]
+
+mod addr;
+mod data;
+mod laws;
+mod records;
+mod rtype;
+mod soa;
+mod text;
+mod texts;
+
+pub use addr::Addr;
+pub use data::RData;
+pub use laws::same_data_law;
+pub use records::{Record, Records};
+pub use rtype::RType;
+pub use soa::Soa;
+pub use text::{put_data, put_ipv4};
+pub use texts::{CharacterString, Texts};

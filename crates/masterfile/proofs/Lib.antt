@@ -1,0 +1,4 @@
+pub mod NumberLemmas
+pub mod FieldLemmas
+pub mod Ipv6Lemmas
+pub mod Fronts

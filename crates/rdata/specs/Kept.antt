@@ -1,0 +1,15 @@
+-- RDATA as it is kept, seen as a plain value.
+use Rattle.std.specs.Prelude.{◌≡◌, ℕ, ◌<◌, ◌≤◌, List, [], ◌∷◌, length}
+use Rattle.rdata.specs.Data.{Datum, Ipv4, Ns, Cname, Soa, Ptr, Mx, Txt, Ipv6}
+use Rattle.rdata.specs.declared.data.RData.{RData}
+use Rattle.rdata.specs.declared.data.RData.TheVariants as kept
+
+abbrev pub datum : {H : Type 0} → RData H → Datum
+datum (kept.A a) = Ipv4 a.0
+datum (kept.Ns n) = Ns n
+datum (kept.Cname n) = Cname n
+datum (kept.Soa s) = Soa s
+datum (kept.Ptr n) = Ptr n
+datum (kept.Mx p n) = Mx p n
+datum (kept.Txt ts) = Txt ts
+datum (kept.Aaaa a) = Ipv6 a

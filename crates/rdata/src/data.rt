@@ -1,0 +1,79 @@
+ghost use Rattle.std.specs.Prelude.{◌≡◌};
+ghost use Rattle.rdata.specs.Data.{type_of, same_data};
+ghost use Rattle.rdata.specs.Kept.{datum};
+ghost use Rattle.rdata.specs.Types.{type_number};
+
+use crate::addr::Addr;
+use crate::rtype::RType;
+use crate::soa::Soa;
+use crate::texts::Texts;
+use dname::{Heap, Name};
+use std::alloc::{AllocError, Allocator, Global};
+
+/// RDATA of the served types (RFC 1035, section 3.3; AAAA: RFC 3596, section 2.2).
+#[derive(Drop)]
+pub enum RData<A: Allocator = Global> {
+    A(Addr),
+    Ns(Name<A>),
+    Cname(Name<A>),
+    Soa(Soa<A>),
+    Ptr(Name<A>),
+    /// Preference, the lowest first, and exchange.
+    Mx(u16, Name<A>),
+    Txt(Texts<A>),
+    Aaaa([u8; 16]),
+}
+
+impl<A: Allocator> RData<A> {
+    /// Its type.
+    pub fn kind(&self) -> RType
+        ensures { type_number result ≡ type_of (datum self.now) }
+    {
+        match self {
+            RData::A(_) => RType::A,
+            RData::Ns(_) => RType::Ns,
+            RData::Cname(_) => RType::Cname,
+            RData::Soa(_) => RType::Soa,
+            RData::Ptr(_) => RType::Ptr,
+            RData::Mx(_, _) => RType::Mx,
+            RData::Txt(_) => RType::Txt,
+            RData::Aaaa(_) => RType::Aaaa,
+        }
+    }
+}
+
+impl<A: Heap> Clone for RData<A> {
+    ghost is_clone = { λ x y. y ≡ x };
+
+    fn clone(&self) -> Result<RData<A>, AllocError> {
+        match self {
+            RData::A(addr) => Ok(RData::A(*addr)),
+            RData::Ns(name) => Ok(RData::Ns(name.clone()?)),
+            RData::Cname(name) => Ok(RData::Cname(name.clone()?)),
+            RData::Soa(soa) => Ok(RData::Soa(soa.clone()?)),
+            RData::Ptr(name) => Ok(RData::Ptr(name.clone()?)),
+            RData::Mx(preference, name) => Ok(RData::Mx(*preference, name.clone()?)),
+            RData::Txt(texts) => Ok(RData::Txt(texts.clone()?)),
+            RData::Aaaa(bytes) => Ok(RData::Aaaa(*bytes)),
+        }
+    }
+}
+
+impl<A: Allocator> RData<A> {
+    /// Whether these are the same data.
+    pub fn is_same(&self, other: &RData<A>) -> bool
+        ensures { result ≡ same_data (datum self.now) (datum other.now) }
+    {
+        match (self, other) {
+            (RData::A(a), RData::A(b)) => a.0 == b.0,
+            (RData::Ns(a), RData::Ns(b)) => a == b,
+            (RData::Cname(a), RData::Cname(b)) => a == b,
+            (RData::Soa(a), RData::Soa(b)) => a.is_same(b),
+            (RData::Ptr(a), RData::Ptr(b)) => a == b,
+            (RData::Mx(p, a), RData::Mx(q, b)) => *p == *q && a == b,
+            (RData::Txt(a), RData::Txt(b)) => a.is_same(b),
+            (RData::Aaaa(a), RData::Aaaa(b)) => a == b,
+            _ => false,
+        }
+    }
+}

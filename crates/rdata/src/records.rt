@@ -1,0 +1,121 @@
+ghost use Rattle.std.specs.Prelude.{◌≡◌, ◌≤◌, [], ◌∷◌, ◌++◌, length, IfOk, OnOk, OnErr, ◌↔◌, IsTrue};
+
+use crate::data::RData;
+use dname::{Heap, Name, Starved};
+use std::alloc::{AllocError, Allocator, Global};
+use std::marker::Model;
+
+/// A resource record of class IN (RFC 1035, section 3.2.1).
+#[derive(Drop)]
+pub struct Record<A: Allocator = Global> {
+    pub owner: Name<A>,
+    /// Time to live in seconds, at most 2,147,483,647 (RFC 2181, section 8).
+    pub ttl: u32,
+    pub value: RData<A>,
+}
+
+impl<A: Allocator> Model for Record<A> {
+    ghost use Rattle.std.specs.Prelude.{◌≤◌};
+    ghost use Rattle.rdata.specs.Records.{Record, greatest_ttl};
+    ghost use Rattle.rdata.specs.Kept.{datum};
+
+    ghost Value = { Record };
+
+    ghost view = { λ r. record { owner = r.owner; ttl = r.ttl; value = datum r.value } };
+
+    ghost invariant = { λ r. r.ttl ≤ greatest_ttl };
+}
+
+impl<A: Allocator> Record<A> {
+    /// The greatest TTL, in seconds (RFC 2181, section 8).
+    pub const GREATEST_TTL: u32 = 2_147_483_647;
+}
+
+impl<A: Heap> Clone for Record<A> {
+    ghost is_clone = { λ x y. y ≡ x };
+
+    fn clone(&self) -> Result<Record<A>, AllocError> {
+        Ok(Record {
+            owner: self.owner.clone()?,
+            ttl: self.ttl,
+            value: self.value.clone()?,
+        })
+    }
+}
+
+fn copies<A: Heap>(alloc: A, records: &[Record<A>]) -> Result<Vec<Record<A>, A>, AllocError>
+    ensures { IfOk result (λ v. v.items ≡ records.now) }
+{
+    let mut items = Vec::with_capacity(alloc, records.len())?;
+    for record in records {
+        items.push(record.clone()?)?;
+    }
+    Ok(items)
+}
+
+/// Records in order. Contracts see their list.
+#[derive(Drop)]
+pub struct Records<A: Allocator = Global> {
+    items: Vec<Record<A>, A>,
+}
+
+impl<A: Allocator> Model for Records<A> {
+    ghost use Rattle.std.specs.Prelude.{List};
+    ghost use Rattle.rdata.specs.Records.{Record};
+
+    ghost Value = { List Record };
+
+    ghost view = { λ r. r.items.items };
+}
+
+impl<A: Heap> Records<A> {
+    /// No records; takes no memory.
+    pub fn new(alloc: A) -> Records<A>
+        ensures { result ≡ [] }
+    {
+        Records {
+            items: Vec::new(alloc),
+        }
+    }
+
+    /// One record more, at the end.
+    pub fn push(&mut self, added: Record<A>) -> Result<(), Starved>
+        ensures ok { OnOk result (self.new ≡ self.old ++ added ∷ []) }
+        ensures err { OnErr result (self.new ≡ self.old) }
+    {
+        self.items.push(added)?;
+        Ok(())
+    }
+}
+
+impl<A: Allocator> Records<A> {
+    /// How many there are.
+    pub fn len(&self) -> usize
+        ensures { result ≡ length self.now }
+    {
+        self.items.len()
+    }
+
+    /// Whether there are none.
+    pub fn is_empty(&self) -> bool
+        ensures { IsTrue result ↔ (self.now ≡ []) }
+    {
+        self.items.is_empty()
+    }
+
+    /// The records in order.
+    pub fn as_slice(&self) -> &[Record<A>]
+        ensures { result.now ≡ self.now }
+    {
+        &self.items
+    }
+}
+
+impl<A: Heap> Clone for Records<A> {
+    ghost is_clone = { λ x y. y ≡ x };
+
+    fn clone(&self) -> Result<Records<A>, AllocError> {
+        let items = copies(*self.items.allocator(), &self.items)?;
+        Ok(Records { items })
+    }
+}

@@ -1,0 +1,77 @@
+ghost use Rattle.std.specs.Prelude.{◌≡◌, ◌↔◌, IsTrue, IsSome, IfSome, Some};
+ghost use Rattle.rdata.specs.Types.{type_number, type_word, is_served};
+
+use std::fmt;
+
+/// A served record type (RFC 1035, section 3.2.2; AAAA: RFC 3596).
+#[derive(Clone, Copy, Debug, PartialEq, Eq, Hash)]
+pub enum RType {
+    A,
+    Ns,
+    Cname,
+    Soa,
+    Ptr,
+    Mx,
+    Txt,
+    Aaaa,
+}
+
+impl RType {
+    /// Its number in messages.
+    pub fn number(self) -> u16
+        ensures { result ≡ type_number self }
+    {
+        match self {
+            RType::A => 1,
+            RType::Ns => 2,
+            RType::Cname => 5,
+            RType::Soa => 6,
+            RType::Ptr => 12,
+            RType::Mx => 15,
+            RType::Txt => 16,
+            RType::Aaaa => 28,
+        }
+    }
+
+    /// The type of a number; none where it is not served.
+    pub fn from_number(number: u16) -> Option<RType>
+        ensures served { IsSome result ↔ IsTrue (is_served number) }
+        ensures value { IfSome result (λ t. type_number t ≡ number) }
+    {
+        match number {
+            1 => Some(RType::A),
+            2 => Some(RType::Ns),
+            5 => Some(RType::Cname),
+            6 => Some(RType::Soa),
+            12 => Some(RType::Ptr),
+            15 => Some(RType::Mx),
+            16 => Some(RType::Txt),
+            28 => Some(RType::Aaaa),
+            _ => None,
+        }
+    }
+
+    /// Its word in master files, in capitals.
+    pub fn word(self) -> &'static str
+        ensures { result.now ≡ type_word self }
+    {
+        match self {
+            RType::A => "A",
+            RType::Ns => "NS",
+            RType::Cname => "CNAME",
+            RType::Soa => "SOA",
+            RType::Ptr => "PTR",
+            RType::Mx => "MX",
+            RType::Txt => "TXT",
+            RType::Aaaa => "AAAA",
+        }
+    }
+}
+
+impl fmt::Display for RType {
+    ghost output = { λ t. Some (type_word t) };
+
+    fn fmt<W: fmt::Write>(&self, f: &mut fmt::Formatter<W>) -> fmt::Result {
+        f.write_str(self.word())
+    }
+}

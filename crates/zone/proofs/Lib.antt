@@ -1,0 +1,2 @@
+pub mod LawExists
+pub mod LawLists

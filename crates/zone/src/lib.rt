@@ -1,0 +1,2 @@
+//! Zones (RFC 1034, section 4.2).
+#![tactic(auto)]
