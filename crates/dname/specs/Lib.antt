@@ -7,3 +7,4 @@ pub mod Written
 pub mod Text
 pub mod Tokens
 pub mod Order
+pub mod Spelling
