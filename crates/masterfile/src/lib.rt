@@ -3,6 +3,7 @@
 
 mod addresses;
 mod faults;
+mod fields;
 mod numbers;
 mod strings;
 
