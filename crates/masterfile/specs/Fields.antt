@@ -67,7 +67,7 @@ find_type w (t ∷ ts) = cond (same_word w (type_word t)) (Some t) (find_type w 
 abbrev pub served_types : List RType
 served_types = rtype.A ∷ rtype.Ns ∷ rtype.Cname ∷ rtype.Soa ∷ rtype.Ptr ∷ rtype.Mx ∷ rtype.Txt ∷ rtype.Aaaa ∷ []
 
-abbrev pub type_named : List ℕ → Option RType
+unfoldable pub type_named : List ℕ → Option RType
 type_named w = find_type w served_types
 
 -- The greatest numbers of 16 and of 32 bits.

@@ -29,6 +29,7 @@ pub(crate) fn is_same_word(word: &[u8], other: &[u8]) -> bool
 }
 
 /// The type that a word names.
+#[tactic(auto, unfolding(crate::specs::Fields::type_named))]
 pub(crate) fn type_of_word(word: &[u8]) -> Option<RType>
     ensures { result ≡ type_named word.now }
 {
@@ -105,6 +106,7 @@ pub(crate) fn number_field(words: &mut Words<'_>, limit: u32) -> Result<u32, Fil
 pub(crate) fn end(words: &mut Words<'_>) -> Result<(), FileKind>
     ensures left { MatchResult result (λ _. left_over words.old.words ≡ None) (λ e. left_over words.old.words ≡ Some e) }
     ensures done { OnOk result ((words.old.words ≡ []) × (words.new ≡ words.old)) }
+    ensures later { words.new.later ≡ words.old.later }
 {
     match words.next() {
         None => Ok(()),
