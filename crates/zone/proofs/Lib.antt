@@ -1,1 +1,3 @@
 pub mod Above
+pub mod Last
+pub mod Members
