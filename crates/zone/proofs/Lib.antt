@@ -1,4 +1,5 @@
 pub mod Above
+pub mod Last
 pub mod LawExists
 pub mod LawFirsts
 pub mod LawLink
@@ -6,3 +7,4 @@ pub mod LawLists
 pub mod LawOne
 pub mod LawReferral
 pub mod LawTests
+pub mod Members
