@@ -5,3 +5,4 @@ pub mod LawLists
 pub mod LawOne
 pub mod LawReferral
 pub mod LawTests
+pub mod LawZones
