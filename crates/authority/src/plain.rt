@@ -1,15 +1,15 @@
 // Look-up by walking a zone's list of records.
-ghost use Rattle.std.specs.Prelude.{◌≡◌, ◌&&◌, ℕ, List, cond, true, find, Some, None, IfOk, OnOk, map};
+ghost use Rattle.std.specs.Prelude.{◌≡◌, ◌&&◌, ℕ, List, cond, true, find, filter, fold, Some, None, IfOk, OnOk, map};
 ghost use Rattle.std.specs.List.{list_any};
 ghost use Rattle.std.specs.Option.{option_copied};
-ghost use Rattle.dname.specs.Labels.{is_under};
+ghost use Rattle.dname.specs.Labels.{is_under, same_name};
 ghost use Rattle.rdata.specs.Types.{type_number};
 ghost use Rattle.rdata.specs.Data.{same_data};
 ghost use Rattle.rdata.specs.Kept.{datum};
 ghost use Rattle.zone.specs.Zones.{ns_type, cname_type};
-ghost use Rattle.zone.specs.Look.{is_type, is_owned, at, of_type, owns, is_cut, cut_of, firsts, with_owner, said, said_alias, said_wild, ns_of, glue_of, local_by, or_else, add_new, add_glue, is_address, climbed};
+ghost use Rattle.zone.specs.Look.{is_type, is_owned, at, of_type, owns, is_cut, cut_of, firsts, with_owner, said, said_alias, said_wild, ns_of, glue_of, local_by, or_else, add_new, add_glue, is_address, addresses_of, climbed, Cut, link_by};
 ghost use Rattle.authority.specs.Answers.{link_view, local_view};
-ghost use Rattle.authority.specs.Climb.{target, is_picked, picked, has_data, has_under};
+ghost use Rattle.authority.specs.Climb.{target, is_picked, picked, has_data, has_glue, has_under};
 
 use crate::answer::{Link, Local};
 use dname::{Heap, Name, Starved};
@@ -190,7 +190,7 @@ fn climb<A: Heap>(alloc: A, records: &[Record<A>], soa: &Record<A>, name: &Name<
     let mut up = name.clone()?;
     'up: while up.ascend() {
         if has_owner_under(records, &up) {
-            return wildcard(alloc, records, soa, name, kind, &up);
+            return Ok(wildcard(alloc, records, soa, name, kind, &up)?);
         }
     }
     Ok(Link::NxDomain(soa.clone()?))
@@ -204,4 +204,95 @@ fn wildcard<A: Heap>(alloc: A, records: &[Record<A>], soa: &Record<A>, name: &Na
         return Ok(say(alloc, records, soa, name, kind, encloser, true)?);
     }
     Ok(Link::NxDomain(soa.clone()?))
+}
+
+fn is_address_of<A: Allocator>(added: &Record<A>, name: &Name<A>) -> bool
+    ensures { result ≡ (is_owned name.now added.now && is_address added.now) }
+{
+    added.owner == *name && (is_kind(added, RType::A) || is_kind(added, RType::Aaaa))
+}
+
+fn is_repeat<A: Allocator>(kept: &Record<A>, added: &Record<A>) -> bool
+    ensures { result ≡ (same_name kept.now.owner added.now.owner && same_data kept.now.value added.now.value) }
+{
+    kept.owner == added.owner && kept.value.is_same(&added.value)
+}
+
+fn has_repeat<A: Allocator>(set: &[Record<A>], added: &Record<A>) -> bool
+    ensures { result ≡ has_glue added.now set.now }
+{
+    set.iter().any(|kept| is_repeat(kept, added))
+}
+
+// One address more, where it is new.
+fn put_glue<A: Heap>(set: &mut Records<A>, added: &Record<A>, picked: bool) -> Result<(), Starved>
+    ensures { OnOk result (set.new ≡ cond picked (add_glue set.old added.now) set.old) }
+{
+    if !picked {
+        return Ok(());
+    }
+    if has_repeat(set.as_slice(), added) {
+        return Ok(());
+    }
+    set.push(added.clone()?)?;
+    Ok(())
+}
+
+// The addresses of a server's name.
+fn put_addresses<A: Heap>(set: &mut Records<A>, records: &[Record<A>], name: &Name<A>) -> Result<(), Starved>
+    ensures { OnOk result (set.new ≡ fold add_glue set.old (filter (λ r. is_owned name.now r && is_address r) records.now)) }
+{
+    for added in records {
+        put_glue(set, added, is_address_of(added, name))?;
+    }
+    Ok(())
+}
+
+fn put_server<A: Heap>(set: &mut Records<A>, records: &[Record<A>], server: &Record<A>) -> Result<(), Starved>
+    ensures { OnOk result (set.new ≡ fold add_glue set.old (addresses_of records.now server.now.value)) }
+{
+    if let RData::Ns(name) = &server.value {
+        put_addresses(set, records, name)?;
+    }
+    Ok(())
+}
+
+// The addresses of an NS set's servers, server by server.
+fn glue<A: Heap>(alloc: A, records: &[Record<A>], servers: &[Record<A>]) -> Result<Records<A>, Starved>
+    ensures { IfOk result (λ set. set ≡ glue_of records.now servers.now) }
+{
+    let mut set = Records::new(alloc);
+    for server in servers {
+        put_server(&mut set, records, server)?;
+    }
+    Ok(set)
+}
+
+/// What a zone's records give for a name and a type; `soa` is the zone's denial.
+pub fn look_in<A: Heap>(alloc: A, origin: &Name<A>, soa: &Record<A>, records: &[Record<A>], name: &Name<A>, kind: RType) -> Result<Local<A>, Starved>
+    ensures { IfOk result (λ l. local_view l ≡ local_by soa.now record { origin = origin.now; records = records.now } name.now (type_number kind)) }
+{
+    match cut_over(origin, records, name)? {
+        Some(cut) => Ok(refer(alloc, records, cut)?),
+        None => Ok(Local::Link(link(alloc, origin, soa, records, name, kind)?)),
+    }
+}
+
+fn refer<A: Heap>(alloc: A, records: &[Record<A>], cut: Name<A>) -> Result<Local<A>, Starved>
+    ensures { IfOk result (λ l. (origin : List (List ℕ)) → local_view l ≡ Cut cut (ns_of record { origin = origin; records = records.now } cut) (glue_of records.now (ns_of record { origin = origin; records = records.now } cut))) }
+{
+    let servers = gathered(alloc, records, &cut, RType::Ns, &cut, false)?;
+    let addresses = glue(alloc, records, servers.as_slice())?;
+    Ok(Local::Cut(cut, servers, addresses))
+}
+
+// The link of a name over which no cut stands.
+fn link<A: Heap>(alloc: A, origin: &Name<A>, soa: &Record<A>, records: &[Record<A>], name: &Name<A>, kind: RType) -> Result<Link<A>, Starved>
+    requires { cut_of record { origin = origin.now; records = records.now } name.now ≡ None }
+    ensures { IfOk result (λ l. link_view l ≡ link_by soa.now record { origin = origin.now; records = records.now } name.now (type_number kind)) }
+{
+    if has_owner_under(records, name) {
+        return Ok(say(alloc, records, soa, name, kind, name, false)?);
+    }
+    Ok(climb(alloc, records, soa, name, kind)?)
 }

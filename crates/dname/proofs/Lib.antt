@@ -4,3 +4,6 @@ pub mod Under
 pub mod WrittenNames
 pub mod Origins
 pub mod Ordered
+pub mod Spellings
+pub mod ReadNames
+pub mod FirstFaults

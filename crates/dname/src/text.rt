@@ -4,6 +4,7 @@ ghost use Rattle.std.specs.Prelude.{◌≡◌, ◌<◌, ◌≤◌, [], ◌∷◌
 ghost use Rattle.dname.specs.Tokens.{token_of};
 ghost use Rattle.dname.specs.Text.{tokens, tokens_behind, escaped_token, spelled, with_origin, name_under, name_of_text, IsFault, fault_of, byte_text, label_text, name_text, fault_number, TextIsReadBack};
 ghost use Rattle.dname.specs.Draft.{empty_draft};
+ghost use Rattle.dname.specs.Spelling.{TextWritesName, FirstFaultCounts};
 ghost use Rattle.dname.specs.Wire.{labels_of, IsNameWire};
 
 use crate::builder::{Builder, Overflow};
@@ -217,6 +218,9 @@ fn spell<A: Heap>(alloc: A, text: &[u8]) -> Result<Builder<A>, NameError>
     Ok(builder)
 }
 
+// Bytes of a name with its length bytes and closing zero (RFC 1035, section 2.3.4).
+const LONGEST_NAME: usize = 255;
+
 impl<A: Heap> Builder<A> {
     // The labels with `origin`, a name in wire form, behind them.
     fn finish_under(self, origin: &[u8]) -> Result<Name<A>, NameError>
@@ -225,7 +229,7 @@ impl<A: Heap> Builder<A> {
         ensures { MatchResult result (λ n. with_origin (labels_of origin.now) self.closed ≡ Ok n) (λ e. IsFault e (with_origin (labels_of origin.now) self.closed)) }
     {
         let Builder { mut bytes, start } = self;
-        if start + origin.len() > 255 {
+        if start + origin.len() > LONGEST_NAME {
             return Err(NameError::LongName);
         }
         bytes.truncate(start);
@@ -275,6 +279,16 @@ impl<A: Heap> Name<A> {
         read(alloc, text, &origin.bytes)
     }
 }
+
+/// A law: a text is read as a name exactly where it writes that name.
+pub fn text_writes_name()
+    ensures { TextWritesName }
+{}
+
+/// A law: a text is refused by the first of its dots and bytes that is at fault.
+pub fn first_fault_counts()
+    ensures { FirstFaultCounts }
+{}
 
 /// A law: the text of a name is read as that name.
 pub fn text_is_read_back()

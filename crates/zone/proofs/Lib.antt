@@ -1,3 +1,4 @@
+pub mod Above
 pub mod LawExists
 pub mod LawFirsts
 pub mod LawLink
