@@ -1,5 +1,5 @@
 -- What the rules of a zone give to the laws of its look-up.
-use Rattle.std.proofs.Common.{◌≡◌, ◌≢◌, ◌≤◌, ◌<◌, ◌+◌, ℕ, ◌⊎◌, inl, inr, ⊎_elim, Bool, true, false, cond, Option, Some, None, List, [], ◌∷◌, ◌++◌, length, refl, sym, ◌∙◌, ap, subst, arith, eq-eqb}
+use Rattle.std.proofs.Common.{◌≡◌, ⊎_elim, Bool, true, false, cond, Some, List, [], ◌∷◌, ◌++◌, refl, sym, ◌∙◌, ap, subst, eq-eqb}
 use Rattle.std.specs.Prelude.{Contains, find}
 use Rattle.std.proofs.lemmas.List.Elements.{Contains-append_left, Contains-append_right, Contains-append_cases}
 use Rattle.rdata.specs.Data.{type_of}
@@ -8,15 +8,15 @@ use Rattle.zone.specs.Zones.{Zone, soa_type}
 use Rattle.zone.specs.Links.{lessened}
 use Rattle.zone.specs.Ruled.{HasSoaAtOrigin, HasOneSoa, HasOneAlias, IsZone}
 use Rattle.zone.specs.Look.{is_type, denial_by, denial_of}
-use Rattle.zone.proofs.LawLists.{none_in, first_in, later_in, in_cases}
+use Rattle.zone.proofs.LawLists.{none_in, first_in, in_cases}
 
 -- The one SOA.
 the_soa : (z : Zone) (k : IsZone z) (s : Record) → Contains z.records s → type_of s.value ≡ soa_type → k.soa.1 ≡ s
 the_soa z k s h e =
     let h' : Contains (k.soa.0 ++ k.soa.1 ∷ k.soa.2) s = subst (λ (xs : List Record). Contains xs s) k.soa.3 h in
     ⊎_elim (λ f. absurd (k.soa.6 s (Contains-append_left k.soa.0 k.soa.2 s f) e))
-        (λ b. ⊎_elim (λ q. q) (λ m. absurd (k.soa.6 s (Contains-append_right k.soa.0 k.soa.2 s m) e)) (in_cases k.soa.1 s k.soa.2 b))
-        (Contains-append_cases k.soa.0 (k.soa.1 ∷ k.soa.2) s h')
+    (λ b. ⊎_elim (λ q. q) (λ m. absurd (k.soa.6 s (Contains-append_right k.soa.0 k.soa.2 s m) e)) (in_cases k.soa.1 s k.soa.2 b))
+    (Contains-append_cases k.soa.0 (k.soa.1 ∷ k.soa.2) s h')
 
 pub soa_at_origin : (z : Zone) → IsZone z → HasSoaAtOrigin z
 soa_at_origin z k s h e = sym (ap (λ (w : Record). w.owner) (the_soa z k s h e)) ∙ k.soa.5
