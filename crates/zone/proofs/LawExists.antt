@@ -8,7 +8,6 @@ use Rattle.dname.specs.Laws.{same_name-exact}
 use Rattle.dname.proofs.Under.{under_is, is_under_holds}
 use Rattle.rdata.specs.Records.{Record}
 use Rattle.zone.specs.Zones.{Zone, ns_type}
-use Rattle.zone.specs.Links.{Link}
 use Rattle.zone.specs.Look.{is_owned, is_type, owns, is_cut, or_else, cut_of, is_beneath_cut, exists, closest, at, said_wild, wild_at, wild, climbed}
 use Rattle.zone.proofs.LawLists.{any_from, any_of, same_tests, over_one, under_cases, at_itself, one_under}
 

@@ -59,10 +59,10 @@ flat_in rs (n ∷ ns) r s h k = ⊎_elim
     (λ m. Contains-append_right (addresses_of rs n.value) (flat_map (λ (x : Record). addresses_of rs x.value) ns) r (flat_in rs ns r s m k))
     (in_cases n s ns h)
 
-address_kind : (r : Record) → is_address r ≡ true → (type_of r.value ≡ a_type) ⊎ (type_of r.value ≡ aaaa_type)
+pub address_kind : (r : Record) → is_address r ≡ true → (type_of r.value ≡ a_type) ⊎ (type_of r.value ≡ aaaa_type)
 address_kind r h = ⊎_elim (λ e. inl (eqb-true (type_of r.value) 1 e)) (λ e. inr (eqb-true (type_of r.value) 28 e)) (or_cases (is_type 1 r) (is_type 28 r) h)
 
-address_test : (r : Record) → (type_of r.value ≡ a_type) ⊎ (type_of r.value ≡ aaaa_type) → is_address r ≡ true
+pub address_test : (r : Record) → (type_of r.value ≡ a_type) ⊎ (type_of r.value ≡ aaaa_type) → is_address r ≡ true
 address_test r h = ⊎_elim (λ e. or_left (is_type 1 r) (is_type 28 r) (eq-eqb (type_of r.value) 1 e)) (λ e. or_right (is_type 1 r) (is_type 28 r) (eq-eqb (type_of r.value) 28 e)) h
 
 flat_glue : (z : Zone) (c : List (List ℕ)) (r : Record) → Contains (flat_map (λ (s : Record). addresses_of z.records s.value) (ns_of z c)) r → IsGlue z c r

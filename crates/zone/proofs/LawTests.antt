@@ -81,14 +81,11 @@ cut_of_one z q c n h =
     e ∙ ap Some f
 
 -- Owners beneath a cut.
-IsPlain : Zone → List (List ℕ) → Type 0
-IsPlain z o = (c : List (List ℕ)) → IsCut z c → IsBeneath o c → ⊥
-
 beneath_none : (o : Option (List (List ℕ))) → is_some o ≡ false → o ≡ None
 beneath_none None h = refl
 beneath_none (Some c) h = absurd (cc)
 
-plain_holds : (z : Zone) (o : List (List ℕ)) → IsNamed z → is_beneath_cut z o ≡ false → (c : List (List ℕ)) → IsCut z c → IsBeneath o c → ⊥
+pub plain_holds : (z : Zone) (o : List (List ℕ)) → IsNamed z → is_beneath_cut z o ≡ false → (c : List (List ℕ)) → IsCut z c → IsBeneath o c → ⊥
 plain_holds z [] n h c k b = cut_named z c n k (empty_over c b.0)
   where
     empty_over : (c : List (List ℕ)) → IsAtOrUnder [] c → c ≡ []
@@ -97,7 +94,7 @@ plain_holds z [] n h c k b = cut_named z c n k (empty_over c b.0)
 plain_holds z (l ∷ ls) n h c k b =
     ⊎_elim (λ e. b.1 e) (λ u. uncut_holds z ls n (beneath_none (cut_of z ls) h) c k u) (under_cases l ls c b.0)
 
-plain_is : (z : Zone) (o : List (List ℕ)) → ((c : List (List ℕ)) → IsCut z c → IsBeneath o c → ⊥) → is_beneath_cut z o ≡ false
+pub plain_is : (z : Zone) (o : List (List ℕ)) → ((c : List (List ℕ)) → IsCut z c → IsBeneath o c → ⊥) → is_beneath_cut z o ≡ false
 plain_is z [] h = refl
 plain_is z (l ∷ ls) h = ⊎_elim (λ e. ap is_some e)
     (λ x.

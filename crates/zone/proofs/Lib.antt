@@ -6,5 +6,7 @@ pub mod LawLink
 pub mod LawLists
 pub mod LawOne
 pub mod LawReferral
+pub mod LawRules
 pub mod LawTests
+pub mod LawZones
 pub mod Members

@@ -8,7 +8,8 @@ ghost use Rattle.zone.specs.Zones.{Zone, IsUncut, IsCutOver, Exists, IsEncloser}
 ghost use Rattle.zone.specs.Links.{Link, IsLink};
 ghost use Rattle.zone.specs.Look.{cut_of, exists, closest, link_by, local_by, denial_of};
 ghost use Rattle.zone.specs.Referrals.{IsLocal};
-ghost use Rattle.zone.specs.Ruled.{IsNamed, HasSoaAtOrigin, HasOneSoa, HasOneTtl, HasOneAlias};
+ghost use Rattle.zone.specs.Faults.{fault_of};
+ghost use Rattle.zone.specs.Ruled.{IsNamed, IsZone, HasSoaAtOrigin, HasOneSoa, HasOneTtl, HasOneAlias};
 ghost use Rattle.zone.specs.Same.{SameLink};
 
 /// The search for a cut finds the one that a name is referred to, nearest to the origin, and none only
@@ -54,4 +55,12 @@ pub fn one_link_law()
     ensures one { (z : Zone) (q : List (List ℕ)) (t : ℕ) (k l : Link) → HasOneAlias z → HasOneSoa z → IsLink z q t k → IsLink z q t l → SameLink k l }
     ensures looked_up { (z : Zone) (q : List (List ℕ)) (t : ℕ) (soa : Record) (l : Link) → IsNamed z → HasSoaAtOrigin z → HasOneSoa z → HasOneTtl z → HasOneAlias z
         → denial_of z ≡ Some soa → IsLink z q t l → SameLink l (link_by soa z q t) }
+{}
+
+/// The refusals of a zone are breaches of its rules: none stands where the records keep all of them, and
+/// only there (RFC 1034, sections 3.6.2 and 4.2.1; RFC 2181, sections 5.2 and 10.1; RFC 4592, section 4).
+/// A zone that keeps them meets the premises of the laws above.
+pub fn zone_law()
+    ensures rules { (z : Zone) → IsNamed z → (fault_of z ≡ None) ↔ IsZone z }
+    ensures premises { (z : Zone) → IsZone z → HasSoaAtOrigin z × HasOneSoa z × HasOneTtl z × HasOneAlias z × ((soa : Record) × (denial_of z ≡ Some soa)) }
 {}
