@@ -79,18 +79,33 @@ fn zone_at<'a, A: Allocator>(zones: &'a [Zone<A>], name: &Name<A>) -> Option<&'a
     zones.iter().find(|zone| is_at(zone, name))
 }
 
+fn has_zone_at<A: Allocator>(zones: &[Zone<A>], name: &Name<A>) -> bool
+    ensures { result ≡ list_any (λ z. same_name z.origin name.now) zones.now }
+{
+    zones.iter().any(|zone| is_at(zone, name))
+}
+
+fn has_twin_of<A: Allocator>(zone: &Zone<A>, others: &[Zone<A>]) -> bool
+    ensures { result ≡ list_any (λ z. same_name z.origin zone.now.origin) others.now }
+{
+    has_zone_at(others, zone.origin())
+}
+
 // Whether two zones have one origin.
 fn has_twins<A: Allocator>(zones: &[Zone<A>]) -> bool
     ensures { result ≡ has_twins zones.now }
 {
     match zones {
         [] => false,
-        [first, rest @ ..] => rest.iter().any(|zone| is_at(zone, first.origin())) || has_twins(rest),
+        [first, rest @ ..] => has_twin_of(first, rest) || has_twins(rest),
     }
 }
 
 // The zone with the longest origin over the name.
-fn zone_over<'a, A: Heap>(zones: &'a [Zone<A>], name: &Name<A>) -> Result<Option<&'a Zone<A>>, Starved>
+fn zone_over<'a, A: Heap>(
+    zones: &'a [Zone<A>],
+    name: &Name<A>,
+) -> Result<Option<&'a Zone<A>>, Starved>
     ensures { IfOk result (λ z. option_copied z ≡ zone_over zones.now name.now) }
 {
     name.is_well_formed();
@@ -123,7 +138,14 @@ impl<A: Heap> Catalog<A> {
     {
         match zone_over(&self.zones, name)? {
             None => Ok(Local::NotHere),
-            Some(zone) => Ok(look_in(alloc, zone.origin(), zone.denial(), zone.records(), name, kind)?),
+            Some(zone) => Ok(look_in(
+                alloc,
+                zone.origin(),
+                zone.denial(),
+                zone.records(),
+                name,
+                kind,
+            )?),
         }
     }
 }

@@ -68,10 +68,17 @@ fn has_owner_under<A: Allocator>(records: &[Record<A>], name: &Name<A>) -> bool
 }
 
 // The first record of the type there.
-fn first_of<'a, A: Allocator>(records: &'a [Record<A>], name: &Name<A>, wild: bool, kind: RType) -> Option<&'a Record<A>>
+fn first_of<'a, A: Allocator>(
+    records: &'a [Record<A>],
+    name: &Name<A>,
+    wild: bool,
+    kind: RType,
+) -> Option<&'a Record<A>>
     ensures { option_copied result ≡ find (is_picked (target wild name.now) (type_number kind)) records.now }
 {
-    records.iter().find(|added| answers(added, name, wild, kind))
+    records
+        .iter()
+        .find(|added| answers(added, name, wild, kind))
 }
 
 fn has_value<A: Allocator>(kept: &Record<A>, value: &RData<A>) -> bool
@@ -109,7 +116,12 @@ fn put_new<A: Heap>(set: &mut Records<A>, owner: &Name<A>, added: &Record<A>) ->
 }
 
 // The same of a record that may have another type or name.
-fn put_picked<A: Heap>(set: &mut Records<A>, owner: &Name<A>, added: &Record<A>, picked: bool) -> Result<(), Starved>
+fn put_picked<A: Heap>(
+    set: &mut Records<A>,
+    owner: &Name<A>,
+    added: &Record<A>,
+    picked: bool,
+) -> Result<(), Starved>
     ensures { OnOk result (set.new ≡ cond picked (add_new set.old (with_owner owner.now added.now)) set.old) }
 {
     if picked {
@@ -119,7 +131,14 @@ fn put_picked<A: Heap>(set: &mut Records<A>, owner: &Name<A>, added: &Record<A>,
 }
 
 // The set of a type there, each record once, with `owner` as owner.
-fn gathered<A: Heap>(alloc: A, records: &[Record<A>], owner: &Name<A>, kind: RType, name: &Name<A>, wild: bool) -> Result<Records<A>, Starved>
+fn gathered<A: Heap>(
+    alloc: A,
+    records: &[Record<A>],
+    owner: &Name<A>,
+    kind: RType,
+    name: &Name<A>,
+    wild: bool,
+) -> Result<Records<A>, Starved>
     ensures { IfOk result (λ set. set ≡ firsts (map (with_owner owner.now) (picked (target wild name.now) (type_number kind) records.now))) }
 {
     let mut set = Records::new(alloc);
@@ -130,7 +149,13 @@ fn gathered<A: Heap>(alloc: A, records: &[Record<A>], owner: &Name<A>, kind: RTy
 }
 
 // An alias there, with `owner` as owner, or the denial.
-fn alias_or_none<A: Heap>(records: &[Record<A>], soa: &Record<A>, owner: &Name<A>, name: &Name<A>, wild: bool) -> Result<Link<A>, Starved>
+fn alias_or_none<A: Heap>(
+    records: &[Record<A>],
+    soa: &Record<A>,
+    owner: &Name<A>,
+    name: &Name<A>,
+    wild: bool,
+) -> Result<Link<A>, Starved>
     ensures { IfOk result (λ l. link_view l ≡ said_alias soa.now owner.now (picked (target wild name.now) cname_type records.now)) }
 {
     match first_of(records, name, wild, RType::Cname) {
@@ -140,7 +165,15 @@ fn alias_or_none<A: Heap>(records: &[Record<A>], soa: &Record<A>, owner: &Name<A
 }
 
 // What the records there say.
-fn say<A: Heap>(alloc: A, records: &[Record<A>], soa: &Record<A>, owner: &Name<A>, kind: RType, name: &Name<A>, wild: bool) -> Result<Link<A>, Starved>
+fn say<A: Heap>(
+    alloc: A,
+    records: &[Record<A>],
+    soa: &Record<A>,
+    owner: &Name<A>,
+    kind: RType,
+    name: &Name<A>,
+    wild: bool,
+) -> Result<Link<A>, Starved>
     ensures { IfOk result (λ l. link_view l ≡ said soa.now owner.now (type_number kind) (at (target wild name.now) records.now)) }
 {
     let set = gathered(alloc, records, owner, kind, name, wild)?;
@@ -151,7 +184,11 @@ fn say<A: Heap>(alloc: A, records: &[Record<A>], soa: &Record<A>, owner: &Name<A
 }
 
 // The cut that stands right there.
-fn cut_at<A: Heap>(origin: &Name<A>, records: &[Record<A>], name: &Name<A>) -> Result<Option<Name<A>>, Starved>
+fn cut_at<A: Heap>(
+    origin: &Name<A>,
+    records: &[Record<A>],
+    name: &Name<A>,
+) -> Result<Option<Name<A>>, Starved>
     ensures { IfOk result (λ c. c ≡ cond (is_cut record { origin = origin.now; records = records.now } name.now) (Some name.now) None) }
 {
     if has_any(records, name, false, RType::Ns) && *name != *origin {
@@ -170,7 +207,11 @@ fn first_or<A: Heap>(nearer: Option<Name<A>>, found: Option<Name<A>>) -> Option<
 }
 
 // The cut over a name that is nearest to the origin: the last one on the way up.
-fn cut_over<A: Heap>(origin: &Name<A>, records: &[Record<A>], name: &Name<A>) -> Result<Option<Name<A>>, Starved>
+fn cut_over<A: Heap>(
+    origin: &Name<A>,
+    records: &[Record<A>],
+    name: &Name<A>,
+) -> Result<Option<Name<A>>, Starved>
     ensures { IfOk result (λ c. c ≡ cut_of record { origin = origin.now; records = records.now } name.now) }
 {
     name.is_well_formed();
@@ -183,7 +224,13 @@ fn cut_over<A: Heap>(origin: &Name<A>, records: &[Record<A>], name: &Name<A>) ->
 }
 
 // The answer of the wildcard right under the closest encloser of a name that does not exist itself.
-fn climb<A: Heap>(alloc: A, records: &[Record<A>], soa: &Record<A>, name: &Name<A>, kind: RType) -> Result<Link<A>, Starved>
+fn climb<A: Heap>(
+    alloc: A,
+    records: &[Record<A>],
+    soa: &Record<A>,
+    name: &Name<A>,
+    kind: RType,
+) -> Result<Link<A>, Starved>
     ensures { IfOk result (λ l. link_view l ≡ climbed soa.now name.now (type_number kind) records.now name.now) }
 {
     name.is_well_formed();
@@ -197,7 +244,14 @@ fn climb<A: Heap>(alloc: A, records: &[Record<A>], soa: &Record<A>, name: &Name<
 }
 
 // What the wildcard right under a name says.
-fn wildcard<A: Heap>(alloc: A, records: &[Record<A>], soa: &Record<A>, name: &Name<A>, kind: RType, encloser: &Name<A>) -> Result<Link<A>, Starved>
+fn wildcard<A: Heap>(
+    alloc: A,
+    records: &[Record<A>],
+    soa: &Record<A>,
+    name: &Name<A>,
+    kind: RType,
+    encloser: &Name<A>,
+) -> Result<Link<A>, Starved>
     ensures { IfOk result (λ l. link_view l ≡ said_wild soa.now name.now (type_number kind) (at (target true encloser.now) records.now)) }
 {
     if is_held(records, encloser, true) {
@@ -239,7 +293,11 @@ fn put_glue<A: Heap>(set: &mut Records<A>, added: &Record<A>, picked: bool) -> R
 }
 
 // The addresses of a server's name.
-fn put_addresses<A: Heap>(set: &mut Records<A>, records: &[Record<A>], name: &Name<A>) -> Result<(), Starved>
+fn put_addresses<A: Heap>(
+    set: &mut Records<A>,
+    records: &[Record<A>],
+    name: &Name<A>,
+) -> Result<(), Starved>
     ensures { OnOk result (set.new ≡ fold add_glue set.old (filter (λ r. is_owned name.now r && is_address r) records.now)) }
 {
     for added in records {
@@ -248,7 +306,11 @@ fn put_addresses<A: Heap>(set: &mut Records<A>, records: &[Record<A>], name: &Na
     Ok(())
 }
 
-fn put_server<A: Heap>(set: &mut Records<A>, records: &[Record<A>], server: &Record<A>) -> Result<(), Starved>
+fn put_server<A: Heap>(
+    set: &mut Records<A>,
+    records: &[Record<A>],
+    server: &Record<A>,
+) -> Result<(), Starved>
     ensures { OnOk result (set.new ≡ fold add_glue set.old (addresses_of records.now server.now.value)) }
 {
     if let RData::Ns(name) = &server.value {
@@ -258,7 +320,11 @@ fn put_server<A: Heap>(set: &mut Records<A>, records: &[Record<A>], server: &Rec
 }
 
 // The addresses of an NS set's servers, server by server.
-fn glue<A: Heap>(alloc: A, records: &[Record<A>], servers: &[Record<A>]) -> Result<Records<A>, Starved>
+fn glue<A: Heap>(
+    alloc: A,
+    records: &[Record<A>],
+    servers: &[Record<A>],
+) -> Result<Records<A>, Starved>
     ensures { IfOk result (λ set. set ≡ glue_of records.now servers.now) }
 {
     let mut set = Records::new(alloc);
@@ -269,7 +335,14 @@ fn glue<A: Heap>(alloc: A, records: &[Record<A>], servers: &[Record<A>]) -> Resu
 }
 
 /// What a zone's records give for a name and a type; `soa` is the zone's denial.
-pub fn look_in<A: Heap>(alloc: A, origin: &Name<A>, soa: &Record<A>, records: &[Record<A>], name: &Name<A>, kind: RType) -> Result<Local<A>, Starved>
+pub fn look_in<A: Heap>(
+    alloc: A,
+    origin: &Name<A>,
+    soa: &Record<A>,
+    records: &[Record<A>],
+    name: &Name<A>,
+    kind: RType,
+) -> Result<Local<A>, Starved>
     ensures { IfOk result (λ l. local_view l ≡ local_by soa.now record { origin = origin.now; records = records.now } name.now (type_number kind)) }
 {
     match cut_over(origin, records, name)? {
@@ -287,7 +360,14 @@ fn refer<A: Heap>(alloc: A, records: &[Record<A>], cut: Name<A>) -> Result<Local
 }
 
 // The link of a name over which no cut stands.
-fn link<A: Heap>(alloc: A, origin: &Name<A>, soa: &Record<A>, records: &[Record<A>], name: &Name<A>, kind: RType) -> Result<Link<A>, Starved>
+fn link<A: Heap>(
+    alloc: A,
+    origin: &Name<A>,
+    soa: &Record<A>,
+    records: &[Record<A>],
+    name: &Name<A>,
+    kind: RType,
+) -> Result<Link<A>, Starved>
     requires { cut_of record { origin = origin.now; records = records.now } name.now ≡ None }
     ensures { IfOk result (λ l. link_view l ≡ link_by soa.now record { origin = origin.now; records = records.now } name.now (type_number kind)) }
 {

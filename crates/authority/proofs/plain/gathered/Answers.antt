@@ -6,5 +6,5 @@ use Rattle.authority.proofs.plain.gathered.Goals as goal
 
 pub loop-added-preserved : goal.loop-added-preserved
 loop-added-preserved g c =
-  gathered_more (with_owner c.args.owner.now) (is_picked (target c.args.wild c.args.name.now) (type_number c.args.kind)) c.args.records.now c.loop-added.set c.put_picked.new.set c.loop-added.added-index
+    gathered_more (with_owner c.args.owner.now) (is_picked (target c.args.wild c.args.name.now) (type_number c.args.kind)) c.args.records.now c.loop-added.set c.put_picked.new.set c.loop-added.added-index
     c.added-item.result c.answers.result c.loop-added-test.true c.added-item.is c.loop-added.invariant c.answers.ensures c.in_ok-put_picked.ensures
