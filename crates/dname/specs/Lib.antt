@@ -4,3 +4,7 @@ pub mod Laws
 pub mod Stars
 pub mod Wire
 pub mod Written
+pub mod Text
+pub mod Tokens
+pub mod Order
+pub mod Spelling
