@@ -2,8 +2,10 @@
 #![tactic(auto)]
 
 mod answer;
+mod catalog;
 mod cause;
 mod plain;
 
 pub use answer::{Link, Local};
+pub use catalog::{Catalog, CatalogError};
 pub use cause::Cause;

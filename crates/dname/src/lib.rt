@@ -2,6 +2,7 @@
 //! words for want of memory that every crate shares.
 #![tactic(auto)]
 
+mod allocated;
 mod builder;
 mod memory;
 mod name;

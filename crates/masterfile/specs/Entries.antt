@@ -1,5 +1,5 @@
 -- What an entry of a master file says (RFC 1035, section 5.1; `$TTL`: RFC 2308, section 4).
-use Rattle.std.specs.Prelude.{◌≤◌, ℕ, Bool, true, false, ◌||◌, cond, nat_eq, Option, Some, None, MatchOption, Result, Ok, Err, List, [], ◌∷◌, codes}
+use Rattle.std.specs.Prelude.{◌≤◌, ℕ, Bool, true, false, ◌||◌, cond, nat_eq, Option, Some, None, is_some, Result, Ok, Err, List, [], ◌∷◌, codes}
 use Rattle.rdata.specs.Data.{Datum}
 use Rattle.rdata.specs.Records.{Record, greatest_ttl}
 use Rattle.rdata.specs.declared.rtype.RType.{RType}
@@ -8,7 +8,7 @@ use Rattle.words.specs.Entries.{Lead, margin, blank, shifted}
 use Rattle.masterfile.specs.declared.faults.FileKind.{FileKind}
 use Rattle.masterfile.specs.declared.faults.FileKind.TheVariants.{UnknownType, NoTtl, NoOwner, OpenText, UnknownDirective, BadClass, BadData}
 use Rattle.masterfile.specs.Faults.{◌>>=◌}
-use Rattle.masterfile.specs.Numbers.{is_number, value_from, within}
+use Rattle.masterfile.specs.Numbers.{is_number, number_of}
 use Rattle.masterfile.specs.Fields.{same_word, name_of, take_name, take_number, take_end, take_data, type_named}
 
 -- What earlier entries leave to the later ones.
@@ -27,10 +27,6 @@ pub record Head : Type 0 where
   pub kind : RType
   pub rest : List Word
 
-abbrev pub is_some : Option ℕ → Bool
-is_some None = false
-is_some (Some n) = true
-
 abbrev pub is_internet : List ℕ → Bool
 is_internet w = same_word w (codes "IN")
 
@@ -47,7 +43,7 @@ take_head ttl classed [] = Err BadData
 take_head ttl classed (quoted w ∷ ws) = Err BadData
 take_head ttl classed (broken ∷ ws) = Err OpenText
 take_head ttl classed (plain w ∷ ws) =
-    cond (is_number w) (cond (is_some ttl) (Err UnknownType) (within greatest_ttl (value_from 0 w) >>= λ (n : ℕ). take_head (Some n) classed ws))
+    cond (is_number w) (cond (is_some ttl) (Err UnknownType) (number_of greatest_ttl w >>= λ (n : ℕ). take_head (Some n) classed ws))
     (cond (is_internet w) (cond classed (Err UnknownType) (take_head ttl true ws))
     (cond (is_foreign_class w) (cond classed (Err UnknownType) (Err BadClass))
     (head_of_type (type_named w) ttl ws)))
@@ -101,3 +97,8 @@ entry_in c lead (broken ∷ ws) = Err OpenText
 entry_in c blank (plain w ∷ ws) = or_no_owner c.owner >>= λ (owner : List (List ℕ)). record_of c owner (plain w ∷ ws)
 entry_in c shifted (plain w ∷ ws) = record_of_named c w ws
 entry_in c margin (plain w ∷ ws) = cond (begins_directive w) (directive_in c w ws >>= no_record) (record_of_named c w ws)
+
+-- A TTL that was kept is within its bound.
+abbrev pub IsTtl : Option ℕ → Type 0
+IsTtl None = Unit {0}
+IsTtl (Some n) = n ≤ greatest_ttl

@@ -20,12 +20,16 @@ use Rattle.masterfile.specs.Strings.{take_strings}
 abbrev pub same_word : List ℕ → List ℕ → Bool
 same_word a b = pointwise nat_eq (map folded a) (map folded b)
 
+-- The next word, where it has no quotes.
+abbrev pub plain_word : List Word → Result (List ℕ × List Word) FileKind
+plain_word [] = Err BadData
+plain_word (plain w ∷ ws) = Ok (w, ws)
+plain_word (quoted w ∷ ws) = Err BadData
+plain_word (broken ∷ ws) = Err OpenText
+
 -- A field is one word without quotes.
 abbrev pub take_by : {X : Type 0} → (List ℕ → Result X FileKind) → List Word → Result (X × List Word) FileKind
-take_by read [] = Err BadData
-take_by {X} read (plain w ∷ ws) = read w >>= λ (x : X). Ok (x, ws)
-take_by read (quoted w ∷ ws) = Err BadData
-take_by read (broken ∷ ws) = Err OpenText
+take_by {X} read ws = plain_word ws >>= λ (w : List ℕ × List Word). read w.0 >>= λ (x : X). Ok (x, w.1)
 
 abbrev pub or_bad_name : Result (List (List ℕ)) NameError → Result (List (List ℕ)) FileKind
 or_bad_name (Ok n) = Ok n
@@ -41,12 +45,20 @@ take_name origin ws = take_by (name_of origin) ws
 abbrev pub take_number : ℕ → List Word → Result (ℕ × List Word) FileKind
 take_number limit ws = take_by (number_of limit) ws
 
+-- The fault of words that are left over.
+abbrev pub left_over : List Word → Option FileKind
+left_over [] = None
+left_over (plain w ∷ ws) = Some BadData
+left_over (quoted w ∷ ws) = Some BadData
+left_over (broken ∷ ws) = Some OpenText
+
+abbrev pub unless : {X : Type 0} → Option FileKind → X → Result X FileKind
+unless None x = Ok x
+unless (Some kind) x = Err kind
+
 -- Nothing may be left.
 abbrev pub take_end : {X : Type 0} → X → List Word → Result X FileKind
-take_end x [] = Ok x
-take_end x (plain w ∷ ws) = Err BadData
-take_end x (quoted w ∷ ws) = Err BadData
-take_end x (broken ∷ ws) = Err OpenText
+take_end x ws = unless (left_over ws) x
 
 abbrev pub find_type : List ℕ → List RType → Option RType
 find_type w [] = None
@@ -55,7 +67,7 @@ find_type w (t ∷ ts) = cond (same_word w (type_word t)) (Some t) (find_type w 
 abbrev pub served_types : List RType
 served_types = rtype.A ∷ rtype.Ns ∷ rtype.Cname ∷ rtype.Soa ∷ rtype.Ptr ∷ rtype.Mx ∷ rtype.Txt ∷ rtype.Aaaa ∷ []
 
-abbrev pub type_named : List ℕ → Option RType
+unfoldable pub type_named : List ℕ → Option RType
 type_named w = find_type w served_types
 
 -- The greatest numbers of 16 and of 32 bits.

@@ -11,6 +11,11 @@ use Rattle.masterfile.specs.Entries.{Context, entry_in}
 abbrev pub start : List (List ℕ) → Context
 start origin = record { origin = origin; owner = None; standing = None; stated = None }
 
+-- The record of an entry that has one.
+abbrev pub listed : Option Record → List Record
+listed None = []
+listed (Some r) = r ∷ []
+
 abbrev pub with_record : Option Record → Result (List Record) FileError → Result (List Record) FileError
 with_record None rs = rs
 with_record (Some r) rs = onto r rs

@@ -2,6 +2,9 @@
 use Rattle.std.specs.Prelude.{◌≡◌, ℕ, Result, Ok, Err, Option, Some, None, List}
 use Rattle.words.specs.Lexemes.{Word}
 use Rattle.masterfile.specs.declared.faults.FileKind.{FileKind}
+use Rattle.rdata.specs.Records.{Record}
+use Rattle.masterfile.specs.declared.entries.Head.{Head as KeptHead}
+use Rattle.masterfile.specs.Entries.{Context, Head}
 use Rattle.masterfile.specs.Faults.{FaultIn}
 
 abbrev pub GivesRest : {X Y : Type 0} → (X → Y) → Result X FileKind → List Word → Result (Y × List Word) FileKind → Type 0
@@ -15,3 +18,17 @@ ReadsRest view (Err e) rest read = read ≡ Err e
 
 abbrev pub same : {X : Type 0} → X → X
 same x = x
+
+-- A head, and the words that it leaves.
+abbrev pub GivesHead : Result KeptHead FileKind → List Word → Result Head FileKind → Type 0
+GivesHead (Ok h) rest read = read ≡ Ok (record { ttl = h.ttl; kind = h.kind; rest = rest })
+GivesHead (Err e) rest read = read ≡ Err e
+
+-- What an entry says, and what it leaves to the later ones.
+abbrev pub GivesEntry : Result (Option Record) FileKind → Context → Result (Option Record × Context) FileKind → Type 0
+GivesEntry (Ok r) after read = read ≡ Ok (r, after)
+GivesEntry (Err e) after read = FaultIn e read
+
+abbrev pub GivesContext : Result Unit FileKind → Context → Result Context FileKind → Type 0
+GivesContext (Ok _) after read = read ≡ Ok after
+GivesContext (Err e) after read = FaultIn e read

@@ -2,8 +2,12 @@
 #![tactic(auto)]
 
 mod addresses;
+mod entries;
 mod faults;
+mod fields;
+mod files;
 mod numbers;
 mod strings;
 
 pub use faults::{FileError, FileKind};
+pub use files::{read, read_block};

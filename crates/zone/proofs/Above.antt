@@ -1,5 +1,5 @@
 -- Up one label, and what no SOA record means.
-use Rattle.std.proofs.Common.{◌≡◌, ℕ, suc, ◌<◌, ◌≤◌, Bool, true, false, ◌||◌, ◌&&◌, not, nat_eq, cond, Option, Some, None, List, [], ◌∷◌, length, refl, sym, ◌∙◌, ap, subst, arith}
+use Rattle.std.proofs.Common.{◌≡◌, ℕ, ◌<◌, Bool, true, false, ◌||◌, ◌&&◌, not, nat_eq, cond, Option, Some, None, List, [], ◌∷◌, length, refl, ◌∙◌, ap, arith}
 use Rattle.std.specs.Prelude.{is_some, find}
 use Rattle.dname.specs.Labels.{parent_of, root}
 use Rattle.rdata.specs.Records.{Record}

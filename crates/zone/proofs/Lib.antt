@@ -1,4 +1,5 @@
 pub mod Above
+pub mod Last
 pub mod LawExists
 pub mod LawFirsts
 pub mod LawLink
@@ -8,3 +9,4 @@ pub mod LawReferral
 pub mod LawRules
 pub mod LawTests
 pub mod LawZones
+pub mod Members

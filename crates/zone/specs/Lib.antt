@@ -1,5 +1,6 @@
 pub mod Faults
 pub mod Kept
+pub mod Last
 pub mod Links
 pub mod Look
 pub mod Referrals

@@ -1,10 +1,10 @@
 -- The rules that records of a zone meet (RFC 1034, sections 3.6.2 and 4.2.1; RFC 2181, sections 5.2
 -- and 10.1; RFC 4592, section 4), as tests: true where a rule is broken.
-use Rattle.std.specs.Prelude.{ℕ, Bool, true, false, ◌&&◌, ◌||◌, not, nat_eq, List, [], ◌∷◌, length}
+use Rattle.std.specs.Prelude.{Bool, ◌&&◌, ◌||◌, not, nat_eq, length}
 use Rattle.std.specs.List.{list_any}
-use Rattle.dname.specs.Labels.{same_name, is_under}
+use Rattle.dname.specs.Labels.{is_under}
 use Rattle.dname.specs.Stars.{is_wildcard, has_inner_star as star_inside}
-use Rattle.rdata.specs.Data.{type_of, same_data}
+use Rattle.rdata.specs.Data.{same_data}
 use Rattle.rdata.specs.Records.{Record, same_set}
 use Rattle.zone.specs.Zones.{Zone, ns_type, cname_type, soa_type}
 use Rattle.zone.specs.Look.{is_type, is_owned, of_type, owns, is_cut, is_beneath_cut, is_address}
@@ -51,5 +51,8 @@ abbrev pub has_wildcard_authority : Zone → Bool
 has_wildcard_authority z = list_any (λ (r : Record). is_wildcard r.owner && (is_type ns_type r || is_type soa_type r)) z.records
 
 -- An owner whose first label is `*` beneath a cut.
+abbrev pub is_wildcard_beneath : Zone → Record → Bool
+is_wildcard_beneath z r = is_wildcard r.owner && is_beneath_cut z r.owner
+
 abbrev pub has_wildcard_beneath_cut : Zone → Bool
-has_wildcard_beneath_cut z = list_any (λ (r : Record). is_wildcard r.owner && is_beneath_cut z r.owner) z.records
+has_wildcard_beneath_cut z = list_any (is_wildcard_beneath z) z.records

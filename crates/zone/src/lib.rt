@@ -2,12 +2,14 @@
 //! their look-up.
 #![tactic(auto)]
 
+mod aliases;
 mod cuts;
 mod denial;
 mod fault;
 mod laws;
 mod rules;
 mod scan;
+mod ttls;
 mod zone;
 
 pub use fault::ZoneError;

@@ -3,13 +3,15 @@ ghost use Rattle.std.specs.List.{list_any};
 ghost use Rattle.dname.specs.Stars.{is_wildcard};
 ghost use Rattle.zone.specs.Zones.{ns_type, cname_type, soa_type};
 ghost use Rattle.zone.specs.Look.{is_type};
-ghost use Rattle.zone.specs.Rules.{lacks_soa, lacks_servers, has_foreign_owner, clashes, has_cname_clash, differs, has_mixed_ttls, is_out_of_place, has_data_at_cut, has_inner_star, has_wildcard_authority, has_wildcard_beneath_cut};
+ghost use Rattle.zone.specs.Rules.{lacks_soa, lacks_servers, has_foreign_owner, is_out_of_place, has_inner_star, has_wildcard_authority, is_wildcard_beneath};
 ghost use Rattle.zone.specs.Faults.{fault_of, IsFault};
 ghost use Rattle.zone.specs.Kept.{zone_with};
 
-use crate::cuts::{is_beneath_cut, is_cut};
+use crate::aliases::has_cname_clash;
+use crate::cuts::Cuts;
 use crate::fault::ZoneError;
-use crate::scan::{count_of_type, is_address, is_owned, is_type, owns};
+use crate::scan::{count_of_type, is_address, is_type, owns};
+use crate::ttls::has_mixed_ttls;
 use dname::{Heap, Name, Starved};
 use rdata::{RType, Record};
 use std::alloc::Allocator;
@@ -40,78 +42,24 @@ fn has_foreign_owner<A: Allocator>(origin: &Name<A>, records: &[Record<A>]) -> b
         .any(|record| !record.owner.is_at_or_under(origin))
 }
 
-// Whether another record has the alias's owner and other data.
-fn clashes<A: Allocator>(alias: &Record<A>, other: &Record<A>) -> bool
-    ensures { result ≡ clashes alias.now other.now }
-{
-    is_owned(other, &alias.owner) && !alias.value.is_same(&other.value)
-}
-
-fn clashes_with_any<A: Allocator>(alias: &Record<A>, records: &[Record<A>]) -> bool
-    ensures { result ≡ list_any (clashes alias.now) records.now }
-{
-    records.iter().any(|other| clashes(alias, other))
-}
-
-fn is_clashing_alias<A: Allocator>(subject: &Record<A>, records: &[Record<A>]) -> bool
-    ensures { result ≡ (is_type cname_type subject.now && list_any (clashes subject.now) records.now) }
-{
-    is_type(subject, RType::Cname) && clashes_with_any(subject, records)
-}
-
-// A CNAME stands beside any other record than its own repeat.
-fn has_cname_clash<A: Allocator>(origin: &Name<A>, records: &[Record<A>]) -> bool
-    ensures { result ≡ has_cname_clash (zone_with origin.now records.now) }
-{
-    records
-        .iter()
-        .any(|record| is_clashing_alias(record, records))
-}
-
-// Whether two records of one set differ in their TTLs.
-fn differs<A: Allocator>(subject: &Record<A>, other: &Record<A>) -> bool
-    ensures { result ≡ differs subject.now other.now }
-{
-    subject.owner == other.owner
-        && subject.value.kind().number() == other.value.kind().number()
-        && subject.ttl != other.ttl
-}
-
-fn differs_in_set<A: Allocator>(subject: &Record<A>, records: &[Record<A>]) -> bool
-    ensures { result ≡ list_any (differs subject.now) records.now }
-{
-    records.iter().any(|other| differs(subject, other))
-}
-
-// TTLs differ in a set.
-fn has_mixed_ttls<A: Allocator>(origin: &Name<A>, records: &[Record<A>]) -> bool
-    ensures { result ≡ has_mixed_ttls (zone_with origin.now records.now) }
-{
-    records.iter().any(|record| differs_in_set(record, records))
-}
-
 // Beneath a cut anything but an address, or at a cut anything but NS and addresses.
-fn is_out_of_place<A: Heap>(
-    origin: &Name<A>,
-    records: &[Record<A>],
-    subject: &Record<A>,
-) -> Result<bool, Starved>
-    ensures { IfOk result (λ b. b ≡ is_out_of_place (zone_with origin.now records.now) subject.now) }
+fn is_out_of_place<A: Heap>(cuts: &Cuts<A>, subject: &Record<A>) -> Result<bool, Starved>
+    ensures { IfOk result (λ b. b ≡ is_out_of_place cuts.now subject.now) }
 {
     if is_address(subject) {
         return Ok(false);
     }
-    if is_cut(origin, records, &subject.owner) && !is_type(subject, RType::Ns) {
+    if cuts.is_cut(&subject.owner) && !is_type(subject, RType::Ns) {
         return Ok(true);
     }
-    is_beneath_cut(origin, records, &subject.owner)
+    cuts.is_beneath_cut(&subject.owner)
 }
 
-fn has_data_at_cut<A: Heap>(origin: &Name<A>, records: &[Record<A>]) -> Result<bool, Starved>
-    ensures { IfOk result (λ b. b ≡ has_data_at_cut (zone_with origin.now records.now)) }
+fn some_is_out_of_place<A: Heap>(cuts: &Cuts<A>, records: &[Record<A>]) -> Result<bool, Starved>
+    ensures { IfOk result (λ b. b ≡ list_any (is_out_of_place cuts.now) records.now) }
 {
     for record in records {
-        if is_out_of_place(origin, records, record)? {
+        if is_out_of_place(cuts, record)? {
             return Ok(true);
         }
     }
@@ -139,14 +87,11 @@ fn has_wildcard_authority<A: Allocator>(origin: &Name<A>, records: &[Record<A>])
 }
 
 // A wildcard beneath a cut.
-fn has_wildcard_beneath_cut<A: Heap>(
-    origin: &Name<A>,
-    records: &[Record<A>],
-) -> Result<bool, Starved>
-    ensures { IfOk result (λ b. b ≡ has_wildcard_beneath_cut (zone_with origin.now records.now)) }
+fn some_wildcard_is_beneath<A: Heap>(cuts: &Cuts<A>, records: &[Record<A>]) -> Result<bool, Starved>
+    ensures { IfOk result (λ b. b ≡ list_any (is_wildcard_beneath cuts.now) records.now) }
 {
     for record in records {
-        if record.owner.is_wildcard() && is_beneath_cut(origin, records, &record.owner)? {
+        if record.owner.is_wildcard() && cuts.is_beneath_cut(&record.owner)? {
             return Ok(true);
         }
     }
@@ -166,13 +111,14 @@ pub fn check<A: Heap>(origin: &Name<A>, records: &[Record<A>]) -> Result<(), Zon
     if has_foreign_owner(origin, records) {
         return Err(ZoneError::ForeignOwner);
     }
-    if has_cname_clash(origin, records) {
+    if has_cname_clash(origin, records)? {
         return Err(ZoneError::CnameClash);
     }
-    if has_mixed_ttls(origin, records) {
+    if has_mixed_ttls(origin, records)? {
         return Err(ZoneError::MixedTtls);
     }
-    if has_data_at_cut(origin, records)? {
+    let cuts = Cuts::new(origin, records)?;
+    if some_is_out_of_place(&cuts, records)? {
         return Err(ZoneError::DataAtCut);
     }
     if has_inner_star(origin, records) {
@@ -181,7 +127,7 @@ pub fn check<A: Heap>(origin: &Name<A>, records: &[Record<A>]) -> Result<(), Zon
     if has_wildcard_authority(origin, records) {
         return Err(ZoneError::WildcardAuthority);
     }
-    if has_wildcard_beneath_cut(origin, records)? {
+    if some_wildcard_is_beneath(&cuts, records)? {
         return Err(ZoneError::WildcardBeneathCut);
     }
     Ok(())
