@@ -12,6 +12,9 @@ ghost use Rattle.zone.specs.Faults.{fault_of};
 ghost use Rattle.zone.specs.Ruled.{IsNamed, IsZone, HasSoaAtOrigin, HasOneSoa, HasOneTtl, HasOneAlias};
 ghost use Rattle.zone.specs.Same.{SameLink};
 
+use crate::zone::Zone as KeptZone;
+use std::alloc::Allocator;
+
 /// The search for a cut finds the one that a name is referred to, nearest to the origin, and none only
 /// where none stands over the name (RFC 1034, section 4.3.2, step 3b).
 pub fn cut_law()
@@ -64,3 +67,14 @@ pub fn zone_law()
     ensures rules { (z : Zone) → IsNamed z → (fault_of z ≡ None) ↔ IsZone z }
     ensures premises { (z : Zone) → IsZone z → HasSoaAtOrigin z × HasOneSoa z × HasOneTtl z × HasOneAlias z × ((soa : Record) × (denial_of z ≡ Some soa)) }
 {}
+
+/// Each zone keeps all rules, and each of its owners has a label. Reads each owner once.
+pub fn zone_keeps_rules<A: Allocator>(zone: &KeptZone<A>)
+    ensures named { IsNamed zone.now }
+    ensures rules { IsZone zone.now }
+{
+    zone.is_sound();
+    for added in zone.records() {
+        let _ = added.owner.labels();
+    }
+}

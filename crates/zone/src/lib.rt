@@ -13,5 +13,8 @@ mod ttls;
 mod zone;
 
 pub use fault::ZoneError;
-pub use laws::{cut_law, encloser_law, existence_law, link_law, local_law, one_link_law, zone_law};
+pub use laws::{
+    cut_law, encloser_law, existence_law, link_law, local_law, one_link_law, zone_keeps_rules,
+    zone_law,
+};
 pub use zone::Zone;

@@ -72,4 +72,11 @@ impl<A: Allocator> Zone<A> {
     {
         &self.denial
     }
+
+    /// A law: its records meet all rules.
+    pub(crate) fn is_sound(&self)
+        ensures { fault_of self.now ≡ None }
+    {
+        let _ = &self.origin;
+    }
 }
