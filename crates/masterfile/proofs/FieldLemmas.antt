@@ -43,12 +43,12 @@ abbrev Four : Result (List ℕ) FileKind → Result (List ℕ) FileKind
 Four r = r >>= λ (ns : List ℕ). cond (length ns == 4) (Ok ns) (Err BadData)
 
 more_than_four : (w : List ℕ) (a b c d : ℕ) (r : Result (List ℕ) FileKind) → octets (fields w) ≡ r
-  → Four (after_octet a (after_octet b (after_octet c (after_octet d r)))) ≡ Err (surplus_kind r)
+    → Four (after_octet a (after_octet b (after_octet c (after_octet d r)))) ≡ Err (surplus_kind r)
 more_than_four w a b c d (Err k) e = refl
 more_than_four w a b c d (Ok []) e = absurd (some_octet (fields w) (some_field w) e)
 more_than_four w a b c d (Ok (n ∷ ns)) e = grind (arith, nat_tests)
 
 pub long_address : (w v u t rest : List ℕ) (a b c d : ℕ) → octets (fields w) ≡ after_octet a (octets (fields v)) → octets (fields v) ≡ after_octet b (octets (fields u))
-  → octets (fields u) ≡ after_octet c (octets (fields t)) → octets (fields t) ≡ after_octet d (octets (fields rest)) → ipv4_of w ≡ Err (surplus_kind (octets (fields rest)))
+    → octets (fields u) ≡ after_octet c (octets (fields t)) → octets (fields t) ≡ after_octet d (octets (fields rest)) → ipv4_of w ≡ Err (surplus_kind (octets (fields rest)))
 long_address w v u t rest a b c d e f g h =
     ap Four (e ∙ ap (after_octet a) (f ∙ ap (after_octet b) (g ∙ ap (after_octet c) h))) ∙ more_than_four rest a b c d (octets (fields rest)) refl

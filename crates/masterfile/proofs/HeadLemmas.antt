@@ -20,13 +20,13 @@ third : {X : Type 0} (a b : Bool) (r : Result ℕ FileKind) (n : ℕ) (x y : Res
 third a b r n x y f p q e = rw (p, q, e) refl
 
 pub ttl_then : (w : List ℕ) (ws : List Word) (ttl : Option ℕ) (classed : Bool) (n : ℕ) (v : List ℕ) (rest : List Word) → is_number w ≡ true → is_some ttl ≡ false
-  → number_of greatest_ttl w ≡ Ok n → plain_word ws ≡ Ok (v, rest) → take_head (Some n) classed (plain v ∷ rest) ≡ take_head ttl classed (plain w ∷ ws)
+    → number_of greatest_ttl w ≡ Ok n → plain_word ws ≡ Ok (v, rest) → take_head (Some n) classed (plain v ∷ rest) ≡ take_head ttl classed (plain w ∷ ws)
 ttl_then w ws ttl classed n v rest a b e p =
     ap (λ (xs : List Word). take_head (Some n) classed xs) (sym (plain_is ws v rest p))
     ∙ third (is_number w) (is_some ttl) (number_of greatest_ttl w) n (Err UnknownType) _ (λ (m : ℕ). take_head (Some m) classed ws) a b e
 
 pub class_then : (w : List ℕ) (ws : List Word) (ttl : Option ℕ) (classed : Bool) (v : List ℕ) (rest : List Word) → is_number w ≡ false → is_internet w ≡ true
-  → classed ≡ false → plain_word ws ≡ Ok (v, rest) → take_head ttl true (plain v ∷ rest) ≡ take_head ttl classed (plain w ∷ ws)
+    → classed ≡ false → plain_word ws ≡ Ok (v, rest) → take_head ttl true (plain v ∷ rest) ≡ take_head ttl classed (plain w ∷ ws)
 class_then w ws ttl classed v rest a b e p = rw (plain_is ws v rest p, a, b, e) refl
 
 within_is : (limit m : ℕ) (b : Bool) (n : ℕ) → within limit m ≡ Ok n → n ≤ limit
@@ -39,6 +39,6 @@ bound : {X Y : Type 0} (r : Result X FileKind) (x : X) (f : X → Result Y FileK
 bound r x f e = rw e refl
 
 pub named_is : (c : Context) (w first : List ℕ) (owner : List (List ℕ)) (ws rest : List Word) → name_of c.origin w ≡ Ok owner → plain_word ws ≡ Ok (first, rest)
-  → record_of c owner (plain first ∷ rest) ≡ record_of_named c w ws
+    → record_of c owner (plain first ∷ rest) ≡ record_of_named c w ws
 named_is c w first owner ws rest e p =
     ap (λ (xs : List Word). record_of c owner xs) (sym (plain_is ws first rest p)) ∙ bound (name_of c.origin w) owner (λ (o : List (List ℕ)). record_of c o ws) e

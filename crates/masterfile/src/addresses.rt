@@ -2,10 +2,9 @@
 ghost use Rattle.std.specs.Prelude.{◌≡◌, ◌<◌, ◌∷◌, [], length, MatchOption, MatchResult, Ok, Err};
 ghost use Rattle.masterfile.specs.Addresses.{fields, is_decimal as decimal_test, octet as octet_of, octets, octets_after, after_octet, surplus_kind, IsFirstField, has_dot as dot_test, ipv4_of, ipv6_of};
 
-use std::net::Ipv6Addr;
-
 use crate::faults::FileKind;
 use crate::numbers::{is_number, value};
+use std::net::Ipv6Addr;
 
 /// What stands before the first dot, and what stands behind it.
 #[tactic(auto, using(crate::proofs::FieldLemmas::behind_nothing))]

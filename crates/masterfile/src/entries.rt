@@ -8,15 +8,16 @@ ghost use Rattle.masterfile.specs.Entries.{is_internet as internet_test, is_fore
 ghost use Rattle.masterfile.specs.Files.{start};
 ghost use Rattle.masterfile.specs.Given.{GivesHead, GivesEntry, GivesContext};
 
+use crate::faults::FileKind;
+use crate::fields::{
+    end, is_same_word, name, name_of_word, number_field, plain, rdata, type_of_word,
+};
+use crate::numbers::{is_number, number};
 use dname::{Heap, Name};
 use rdata::{RType, Record};
 use std::alloc::{Allocator, Global};
 use std::marker::Model;
 use words::{Lead, Word, Words};
-
-use crate::faults::FileKind;
-use crate::fields::{end, is_same_word, name, name_of_word, number_field, plain, rdata, type_of_word};
-use crate::numbers::{is_number, number};
 
 /// The greatest TTL, in seconds (RFC 2181, section 8).
 const GREATEST_TTL: u32 = 2_147_483_647;
@@ -87,7 +88,11 @@ fn read_head(first: &[u8], words: &mut Words<'_>) -> Result<Head, FileKind>
             classed = true;
             word = plain(words)?;
         } else if is_foreign_class(word) {
-            return Err(if classed { FileKind::UnknownType } else { FileKind::BadClass });
+            return Err(if classed {
+                FileKind::UnknownType
+            } else {
+                FileKind::BadClass
+            });
         } else {
             let kind = type_of_word(word).ok_or(FileKind::UnknownType)?;
             return Ok(Head { ttl, kind });
@@ -121,7 +126,10 @@ impl<A: Heap> Context<A> {
         ensures later { words.new.later ≡ words.old.later }
     {
         let Head { ttl: stated, kind } = read_head(first, words)?;
-        let ttl = stated.or(self.standing).or(self.stated).ok_or(FileKind::NoTtl)?;
+        let ttl = stated
+            .or(self.standing)
+            .or(self.stated)
+            .ok_or(FileKind::NoTtl)?;
         let value = rdata(alloc, words, &self.origin, kind)?;
         end(words)?;
         self.owner = Some(owner.copied(alloc)?);
@@ -132,12 +140,7 @@ impl<A: Heap> Context<A> {
     }
 
     /// A directive: `$ORIGIN` or `$TTL`.
-    fn directive(
-        &mut self,
-        alloc: A,
-        word: &[u8],
-        words: &mut Words<'_>,
-    ) -> Result<(), FileKind>
+    fn directive(&mut self, alloc: A, word: &[u8], words: &mut Words<'_>) -> Result<(), FileKind>
         ensures value { GivesContext result self.new (directive_in self.old word.now words.old.words) }
         ensures all { OnOk result (words.new.words ≡ []) }
         ensures later { words.new.later ≡ words.old.later }

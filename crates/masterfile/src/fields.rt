@@ -8,14 +8,13 @@ ghost use Rattle.masterfile.specs.Strings.{string_word, take_strings};
 ghost use Rattle.masterfile.specs.Given.{GivesRest, ReadsRest, same};
 ghost use Rattle.masterfile.specs.Fields.{same_word, plain_word, name_of, left_over, take_by, take_name, take_number, take_end, type_named, take_authority, take_exchange, take_data};
 
-use dname::{Heap, Name, NameError};
-use rdata::{Addr, CharacterString, RData, RType, Soa, Texts};
-use words::{Word, Words};
-
 use crate::addresses::{ipv4, ipv6};
 use crate::faults::FileKind;
 use crate::numbers::number;
 use crate::strings::string;
+use dname::{Heap, Name, NameError};
+use rdata::{Addr, CharacterString, RData, RType, Soa, Texts};
+use words::{Word, Words};
 
 /// Whether two words are the same without regard to case.
 pub(crate) fn is_same_word(word: &[u8], other: &[u8]) -> bool

@@ -2,12 +2,11 @@
 ghost use Rattle.std.specs.Prelude.{◌≡◌, ◌+◌, ◌<◌, ◌^◌, ◌++◌, length, Ok, OnOk, MatchResult};
 ghost use Rattle.masterfile.specs.Files.{listed, read_lines, read_text, IsFirstFault};
 
+use crate::entries::Context;
+use crate::faults::{FileError, FileKind};
 use dname::{Heap, Name, Starved};
 use rdata::{Record, Records};
 use words::{Lead, Words};
-
-use crate::entries::Context;
-use crate::faults::{FileError, FileKind};
 
 /// The records of a zone text, in order (RFC 1035, section 5.1; `$TTL`: RFC 2308, section 4). A name that no dot ends is
 /// relative to `origin`, until an `$ORIGIN` line. Refused by the first fault, at the line on which its entry starts, or
@@ -28,7 +27,10 @@ pub fn read_block<A: Heap>(
     requires { line + length text.now < 2 ^ 64 }
     ensures { MatchResult result (λ v. read_lines origin.now line text.now ≡ Ok v) (λ e. IsFirstFault e.kind e (read_lines origin.now line text.now)) }
 {
-    let starved = FileError { line, kind: FileKind::Memory };
+    let starved = FileError {
+        line,
+        kind: FileKind::Memory,
+    };
     let Ok(own) = origin.copied(alloc) else {
         return Err(starved);
     };

@@ -11,3 +11,6 @@ mod strings;
 
 pub use faults::{FileError, FileKind};
 pub use files::{read, read_block};
+
+#[cfg(test)]
+mod tests;

@@ -4,10 +4,9 @@ ghost use Rattle.masterfile.specs.declared.faults.FileKind.TheVariants.{BadData}
 ghost use Rattle.masterfile.specs.Strings.{unescaped, escaped_bytes, byte_onto, string_of};
 ghost use Rattle.masterfile.specs.Faults.{FaultIn};
 
+use crate::faults::FileKind;
 use dname::Heap;
 use rdata::CharacterString;
-
-use crate::faults::FileKind;
 
 /// The first byte that a text writes, and the text behind it; `None` where the escape is bad.
 fn escaped(text: &[u8]) -> Option<(u8, &[u8])>

@@ -6,7 +6,7 @@ use Rattle.masterfile.proofs.addresses.first_field.Given as goal
 abbrev pub invariant-loop-size : goal.invariant-loop-size
 invariant-loop-size l = record {
   within : l.size ≤ length l.word;
-  same : behind (take l.size l.word) (fields (drop l.size l.word)) ≡ fields l.word
+  same : behind (take l.size l.word) (fields (drop l.size l.word)) ≡ fields l.word;
 }
 
 abbrev pub decreases-loop-size : goal.decreases-loop-size

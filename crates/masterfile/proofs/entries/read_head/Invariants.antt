@@ -7,7 +7,7 @@ abbrev pub invariant-words : goal.invariant-words
 invariant-words l = record {
   read : take_head l.ttl l.classed (plain l.word ∷ l.words.words) ≡ take_head None false (plain l.fn.first ∷ l.fn.words.words);
   ttl : IsTtl l.ttl;
-  later : l.words.later ≡ l.fn.words.later
+  later : l.words.later ≡ l.fn.words.later;
 }
 
 abbrev pub decreases-words : goal.decreases-words

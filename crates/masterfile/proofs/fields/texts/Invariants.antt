@@ -7,7 +7,7 @@ abbrev pub invariant-strings : goal.invariant-strings
 invariant-strings g l = record {
   fits : l.size ≤ 65535;
   read : with_front l.texts (strings_from l.size l.words.words) ≡ take_strings l.fn.words.words;
-  later : l.words.later ≡ l.fn.words.later
+  later : l.words.later ≡ l.fn.words.later;
 }
 
 abbrev pub decreases-strings : goal.decreases-strings

@@ -6,5 +6,5 @@ abbrev pub invariant-loop-byte : goal.invariant-loop-byte
 invariant-loop-byte l = record {
   fits : l.value ≤ l.limit;
   left : are_digits (drop l.byte-index l.digits) ≡ true;
-  same : value_from l.value (drop l.byte-index l.digits) ≡ value_from 0 l.digits
+  same : value_from l.value (drop l.byte-index l.digits) ≡ value_from 0 l.digits;
 }
