@@ -7,8 +7,8 @@ mod builder;
 mod memory;
 mod name;
 mod order;
-mod text;
 mod stars;
+mod text;
 mod walk;
 
 pub use builder::{Builder, Overflow};
