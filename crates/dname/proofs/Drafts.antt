@@ -1,10 +1,10 @@
 -- How the writing of a name goes on.
-use Rattle.std.proofs.Common.{◌≡◌, ℕ, zero, suc, ◌+◌, ◌-◌, ◌<◌, ◌≤◌, List, [], ◌∷◌, ◌++◌, length, take, drop, get_or, refl, sym, ◌∙◌, ap, subst, arith, append_assoc, append-nil, length-append}
+use Rattle.std.proofs.Common.{◌≡◌, ℕ, suc, ◌+◌, ◌-◌, ◌<◌, ◌≤◌, List, [], ◌∷◌, ◌++◌, length, take, drop, get_or, refl, sym, ◌∙◌, ap, subst, arith, append_assoc, append-nil, length-append}
 use Rattle.std.proofs.Math.Seq.{take-append_seam, drop-append-add}
-use Rattle.std.specs.Prelude.{slice_set, cond, Bool, true, false, nat_le, ◌&&◌}
+use Rattle.std.specs.Prelude.{slice_set}
 use Rattle.std.proofs.lemmas.Bool.Decides.{nat_tests}
-use Rattle.dname.specs.Labels.{wire, root, folded, folded_label, AreFolded, AreLabels, IsLabel}
-use Rattle.dname.specs.Wire.{labels_of, IsWire, IsNameWire}
+use Rattle.dname.specs.Labels.{wire, folded, folded_label, AreFolded, AreLabels, IsLabel}
+use Rattle.dname.specs.Wire.{labels_of, IsNameWire}
 use Rattle.dname.specs.Laws.{labels_of-wire}
 use Rattle.dname.specs.Draft.{Draft, IsDraft, AllLabels, empty_draft, shut}
 use Rattle.dname.specs.Written.{written, draft_of, IsWritten}

@@ -1,3 +1,9 @@
 pub mod Drafts
 pub mod Split
 pub mod Under
+pub mod WrittenNames
+pub mod Origins
+pub mod Ordered
+pub mod Spellings
+pub mod ReadNames
+pub mod FirstFaults

@@ -1,6 +1,6 @@
 -- `is_under`, the test, decides `IsAtOrUnder`, and may be made from the first label on by length.
-use Rattle.std.proofs.Common.{◌≡◌, ℕ, ◌+◌, ◌<◌, ◌≤◌, ◌≢◌, Bool, true, false, ◌||◌, List, [], ◌∷◌, ◌++◌, length, refl, sym, ◌∙◌, ap, subst, arith, length-append}
-use Rattle.std.specs.Cmp.Lexicographic.{pointwise, unequal, bytes_decides}
+use Rattle.std.proofs.Common.{◌≡◌, ℕ, ◌<◌, ◌≤◌, ◌≢◌, Bool, true, false, ◌||◌, List, [], ◌∷◌, ◌++◌, length, refl, sym, ◌∙◌, ap, subst, arith, length-append}
+use Rattle.std.specs.Cmp.Lexicographic.{pointwise, unequal}
 use Rattle.std.specs.Prelude.{nat_eq, IsTrue}
 use Rattle.dname.specs.Labels.{wire, root, same_name, is_under, IsAtOrUnder}
 use Rattle.dname.specs.Wire.{labels_of, IsWire, IsSplit}

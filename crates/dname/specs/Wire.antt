@@ -1,6 +1,6 @@
 -- Names as they are kept: in wire form, and read back from it.
 use Rattle.std.specs.Prelude.{◌≡◌, ℕ, zero, suc, ◌+◌, ◌<◌, ◌≤◌, List, [], ◌∷◌, ◌++◌, length, take}
-use Rattle.dname.specs.Labels.{wire, AreLabels, IsName}
+use Rattle.dname.specs.Labels.{wire, AreLabels}
 
 -- The labels from a length byte on, after the given number of bytes that are passed over.
 abbrev pub labels_after : ℕ → List ℕ → List (List ℕ)

@@ -51,9 +51,9 @@ impl From<Starved> for Overflow {
 /// A name that is being written, label by label: contracts see its closed labels and its open one.
 #[derive(Drop)]
 pub struct Builder<A: Allocator = Global> {
-    bytes: Vec<u8, A>,
+    pub(crate) bytes: Vec<u8, A>,
     // Where the open label's length will stand.
-    start: usize,
+    pub(crate) start: usize,
 }
 
 impl<A: Allocator> Model for Builder<A> {

@@ -2,11 +2,16 @@
 //! words for want of memory that every crate shares.
 #![tactic(auto)]
 
+mod allocated;
 mod builder;
 mod memory;
 mod name;
+mod order;
+mod stars;
+mod text;
 mod walk;
 
 pub use builder::{Builder, Overflow};
 pub use memory::{Heap, Starved};
 pub use name::Name;
+pub use text::{NameError, first_fault_counts, put_name, text_is_read_back, text_writes_name};

@@ -17,7 +17,7 @@ use std::marker::Model;
 #[derive(Drop)]
 pub struct Name<A: Allocator = Global> {
     // In wire form: each label behind its length, the root's zero last.
-    bytes: Vec<u8, A>,
+    pub(crate) bytes: Vec<u8, A>,
 }
 
 impl<A: Allocator> Model for Name<A> {

@@ -1,5 +1,5 @@
 use Rattle.std.proofs.Common.{◌∙◌}
-use Rattle.dname.proofs.Under.{under_step, root_short}
+use Rattle.dname.proofs.Under.{under_step}
 use Rattle.dname.proofs.walk.tail.Goals as goal
 
 pub loop-after-preserved : goal.loop-after-preserved

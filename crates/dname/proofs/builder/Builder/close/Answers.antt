@@ -1,7 +1,7 @@
-use Rattle.std.proofs.Common.{◌≡◌, ◌<◌, ◌+◌, ◌-◌, ◌∷◌, [], ◌++◌, length, ap, ◌∙◌, sym, subst, arith, rules, ℕ, refl, length-append}
+use Rattle.std.proofs.Common.{◌≡◌, ◌<◌, ◌-◌, ◌∷◌, [], length, ap, ◌∙◌, arith, rules, ℕ, refl, length-append}
 use Rattle.dname.specs.Draft.{Draft, shut}
 use Rattle.dname.specs.Written.{draft_of}
-use Rattle.dname.proofs.Drafts.{shut_writes, Writes}
+use Rattle.dname.proofs.Drafts.{shut_writes}
 use Rattle.dname.proofs.builder.Builder.close.Goals as goal
 use Rattle.std.specs.Prelude.{slice_set}
 

@@ -1,4 +1,4 @@
-use Rattle.std.proofs.Common.{◌≡◌, ◌<◌, ◌∷◌, [], ◌++◌, length, ap, ◌∙◌, sym, subst, arith, rules, ℕ}
+use Rattle.std.proofs.Common.{◌≡◌, ◌<◌, length, ap, ◌∙◌, sym, subst, arith, rules, ℕ}
 use Rattle.dname.specs.Labels.{folded}
 use Rattle.dname.specs.Draft.{Draft}
 use Rattle.dname.specs.Written.{draft_of}

@@ -1,4 +1,4 @@
-use Rattle.std.proofs.Common.{◌≡◌, ◌<◌, ◌+◌, length, arith, rules, ℕ}
+use Rattle.std.proofs.Common.{◌≡◌, length, arith, rules}
 use Rattle.dname.proofs.Drafts.{labelled_writes}
 use Rattle.dname.proofs.builder.Builder.push_label.Goals as goal
 

@@ -1,5 +1,5 @@
-use Rattle.std.proofs.Common.{◌≡◌, List, ℕ, sym, ◌∙◌, ap, length, rules}
-use Rattle.dname.specs.Wire.{IsNameWire, IsSplit, labels_of}
+use Rattle.std.proofs.Common.{◌≡◌, length, rules}
+use Rattle.dname.specs.Wire.{IsSplit}
 use Rattle.dname.proofs.Split.{moved_front, ascended, ascended_parent}
 use Rattle.dname.proofs.name.Name.ascend.Goals as goal
 

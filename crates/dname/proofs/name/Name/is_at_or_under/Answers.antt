@@ -1,8 +1,8 @@
-use Rattle.std.proofs.Common.{◌≡◌, ◌≤◌, List, ℕ, sym, ◌∙◌, ap, subst, length, rules, arith}
+use Rattle.std.proofs.Common.{◌≡◌, ◌≤◌, List, ℕ, sym, ◌∙◌, ap, length, rules, arith}
 use Rattle.std.specs.Prelude.{nat_eq}
 use Rattle.std.specs.Cmp.Lexicographic.{pointwise}
 use Rattle.dname.specs.Labels.{wire, is_under}
-use Rattle.dname.specs.Wire.{IsWire, labels_of}
+use Rattle.dname.specs.Wire.{labels_of}
 use Rattle.dname.proofs.Under.{under_bytes, relation_of}
 use Rattle.dname.proofs.name.Name.is_at_or_under.Goals as goal
 

@@ -1,0 +1,412 @@
+//! Names in text (RFC 1035, section 5.1).
+
+ghost use Rattle.std.specs.Prelude.{◌≡◌, ◌<◌, ◌≤◌, [], ◌∷◌, ◌++◌, length, string_bytes, Ok, OnOk, IfOk, MatchOption, MatchResult};
+ghost use Rattle.dname.specs.Tokens.{token_of};
+ghost use Rattle.dname.specs.Text.{tokens, tokens_behind, escaped_token, spelled, with_origin, name_under, name_of_text, IsFault, fault_of, byte_text, label_text, name_text, fault_number, TextIsReadBack};
+ghost use Rattle.dname.specs.Draft.{empty_draft};
+ghost use Rattle.dname.specs.Spelling.{TextWritesName, FirstFaultCounts};
+ghost use Rattle.dname.specs.Wire.{labels_of, IsNameWire};
+
+use crate::builder::{Builder, Overflow};
+use crate::memory::{Heap, Starved};
+use crate::name::Name;
+use crate::walk::next;
+use std::alloc::{AllocError, Allocator};
+use std::fmt;
+
+/// Why a text is no name. The fault that stands first in the text counts.
+#[derive(Clone, Copy, Debug, PartialEq, Eq)]
+pub enum NameError {
+    /// A label without bytes, at the dot that closes it or at the end of the text.
+    EmptyLabel,
+    /// A label of more than 63 bytes, at its 64th.
+    LongLabel,
+    /// A name of more than 255 bytes in a message, at the byte with which it must have them.
+    LongName,
+    /// A bad escape, or a byte outside 33 to 126 that no backslash precedes.
+    BadByte,
+    /// Memory was refused.
+    Memory,
+}
+
+impl NameError {
+    /// The refusal's number, from 1 on in the order of the variants.
+    pub fn number(self) -> u8
+        ensures { result ≡ fault_number self }
+    {
+        match self {
+            NameError::EmptyLabel => 1,
+            NameError::LongLabel => 2,
+            NameError::LongName => 3,
+            NameError::BadByte => 4,
+            NameError::Memory => 5,
+        }
+    }
+}
+
+impl fmt::Display for NameError {
+    fn fmt<W: fmt::Write>(&self, f: &mut fmt::Formatter<W>) -> fmt::Result {
+        match self {
+            NameError::EmptyLabel => write!(f, "empty label"),
+            NameError::LongLabel => write!(f, "label over 63 bytes"),
+            NameError::LongName => write!(f, "name over 255 bytes"),
+            NameError::BadByte => write!(f, "bad escape or byte"),
+            NameError::Memory => write!(f, "out of memory"),
+        }
+    }
+}
+
+impl std::error::Error for NameError {}
+
+impl From<Starved> for NameError {
+    ghost use Rattle.dname.specs.declared.text.NameError.TheVariants.{Memory};
+
+    ghost from_gives = { λ _ e. e ≡ Memory };
+
+    fn from(_error: Starved) -> NameError {
+        NameError::Memory
+    }
+}
+
+impl From<AllocError> for NameError {
+    ghost use Rattle.dname.specs.declared.text.NameError.TheVariants.{Memory};
+
+    ghost from_gives = { λ _ e. e ≡ Memory };
+
+    fn from(_error: AllocError) -> NameError {
+        NameError::Memory
+    }
+}
+
+impl From<Overflow> for NameError {
+    ghost from_gives = { λ o e. e ≡ fault_of o };
+
+    fn from(error: Overflow) -> NameError {
+        match error {
+            Overflow::LongLabel => NameError::LongLabel,
+            Overflow::LongName => NameError::LongName,
+            Overflow::Memory => NameError::Memory,
+        }
+    }
+}
+
+// ---- written
+
+/// Appends the name as text: each label and a dot, the root as a dot alone. The bytes that mean something in a master
+/// file have a backslash, and those outside 33 to 126 are three decimal digits behind one (RFC 1035, section 5.1).
+/// Where memory is refused, a part of it stands.
+pub fn put_name<A: Allocator, B: Allocator>(
+    out: &mut String<B>,
+    name: &Name<A>,
+) -> Result<(), Starved>
+    ensures { OnOk result (string_bytes out.new ≡ string_bytes out.old ++ name_text name.now) }
+{
+    if name.is_root() {
+        out.push('.')?;
+        return Ok(());
+    }
+    let mut rest = name.bytes.as_slice();
+    while let Some((label, after)) = next(rest) {
+        put_label(out, label)?;
+        out.push('.')?;
+        rest = after;
+    }
+    Ok(())
+}
+
+fn put_label<A: Allocator>(out: &mut String<A>, label: &[u8]) -> Result<(), Starved>
+    ensures { OnOk result (string_bytes out.new ≡ string_bytes out.old ++ label_text label.now) }
+{
+    for byte in label {
+        put_byte(out, *byte)?;
+    }
+    Ok(())
+}
+
+fn put_byte<A: Allocator>(out: &mut String<A>, byte: u8) -> Result<(), Starved>
+    ensures { OnOk result (string_bytes out.new ≡ string_bytes out.old ++ byte_text byte) }
+{
+    match byte {
+        b'.' | b'\\' | b'"' | b';' | b'(' | b')' | b'@' | b'$' => {
+            out.push('\\')?;
+            out.push(char::from(byte))?;
+        }
+        33..=126 => out.push(char::from(byte))?,
+        _ => {
+            out.push('\\')?;
+            out.push(char::from(b'0' + byte / 100))?;
+            out.push(char::from(b'0' + byte / 10 % 10))?;
+            out.push(char::from(b'0' + byte % 10))?;
+        }
+    }
+    Ok(())
+}
+
+impl<A: Heap> Name<A> {
+    /// The name as text, as `put_name` writes it, on the name's allocator.
+    pub fn to_text(&self) -> Result<String<A>, Starved>
+        ensures { IfOk result (λ s. string_bytes s ≡ name_text self.now) }
+    {
+        let mut out = String::new(*self.bytes.allocator());
+        put_name(&mut out, self)?;
+        Ok(out)
+    }
+}
+
+// ---- read
+
+// What stands at the head of a text.
+#[derive(Clone, Copy)]
+enum Spelt {
+    Dot,
+    Byte(u8),
+    Bad,
+}
+
+// The head of a text and what stands behind it, which counts for nothing where the head is bad.
+fn first(text: &[u8]) -> Option<(Spelt, &[u8])>
+    ensures value { MatchOption result (text.now ≡ []) (λ p. tokens text.now ≡ token_of p.0 ∷ tokens p.1.now) }
+    ensures shorter { MatchOption result (text.now ≡ []) (λ p. length p.1.now < length text.now) }
+{
+    match text {
+        [] => None,
+        [b'\\', rest @ ..] => Some(escaped(rest)),
+        [b'.', rest @ ..] => Some((Spelt::Dot, rest)),
+        [byte @ 33..=126, rest @ ..] => Some((Spelt::Byte(*byte), rest)),
+        [_, rest @ ..] => Some((Spelt::Bad, rest)),
+    }
+}
+
+// What a backslash before `text` makes of its head.
+fn escaped(text: &[u8]) -> (Spelt, &[u8])
+    ensures token { token_of result.0 ≡ (escaped_token text.now).0 }
+    ensures rest { tokens result.1.now ≡ tokens_behind (escaped_token text.now).1 text.now }
+    ensures shorter { length result.1.now ≤ length text.now }
+{
+    match text {
+        [d @ b'0'..=b'9', e @ b'0'..=b'9', f @ b'0'..=b'9', rest @ ..] => {
+            let value = 100 * u16::from(d - b'0') + 10 * u16::from(e - b'0') + u16::from(f - b'0');
+            match u8::try_from(value) {
+                Ok(byte) => (Spelt::Byte(byte), rest),
+                Err(_) => (Spelt::Bad, text),
+            }
+        }
+        [b'0'..=b'9', ..] | [] => (Spelt::Bad, text),
+        [byte, rest @ ..] => (Spelt::Byte(*byte), rest),
+    }
+}
+
+// The labels that a text writes, the one behind its last dot left open.
+fn spell<A: Heap>(alloc: A, text: &[u8]) -> Result<Builder<A>, NameError>
+    ensures { MatchResult result (λ b. spelled empty_draft (tokens text.now) ≡ Ok b) (λ e. IsFault e (spelled empty_draft (tokens text.now))) }
+{
+    let mut builder = Builder::new(alloc)?;
+    let mut rest = text;
+    'tokens: while let Some((spelt, after)) = first(rest) {
+        match spelt {
+            Spelt::Byte(byte) => builder.push(byte)?,
+            Spelt::Dot => {
+                if builder.open_len() == 0 {
+                    return Err(NameError::EmptyLabel);
+                }
+                builder.close()?;
+            }
+            Spelt::Bad => return Err(NameError::BadByte),
+        }
+        rest = after;
+    }
+    Ok(builder)
+}
+
+// Bytes of a name with its length bytes and closing zero (RFC 1035, section 2.3.4).
+const LONGEST_NAME: usize = 255;
+
+impl<A: Heap> Builder<A> {
+    // The labels with `origin`, a name in wire form, behind them.
+    fn finish_under(self, origin: &[u8]) -> Result<Name<A>, NameError>
+        requires shut { self.opened ≡ [] }
+        requires origin { IsNameWire origin.now }
+        ensures { MatchResult result (λ n. with_origin (labels_of origin.now) self.closed ≡ Ok n) (λ e. IsFault e (with_origin (labels_of origin.now) self.closed)) }
+    {
+        let Builder { mut bytes, start } = self;
+        if start + origin.len() > LONGEST_NAME {
+            return Err(NameError::LongName);
+        }
+        bytes.truncate(start);
+        bytes.extend_from_slice(origin)?;
+        Ok(Name::from_wire(bytes))
+    }
+}
+
+// `origin` is a name in wire form.
+fn read<A: Heap>(alloc: A, text: &[u8], origin: &[u8]) -> Result<Name<A>, NameError>
+    requires { IsNameWire origin.now }
+    ensures { MatchResult result (λ n. name_under (labels_of origin.now) text.now ≡ Ok n) (λ e. IsFault e (name_under (labels_of origin.now) text.now)) }
+{
+    if text.is_empty() {
+        return Err(NameError::EmptyLabel);
+    }
+    if text == b".".as_slice() {
+        return Ok(Name::root(alloc)?);
+    }
+    let mut builder = spell(alloc, text)?;
+    if builder.open_len() == 0 {
+        return Ok(builder.finish());
+    }
+    builder.close()?;
+    Ok(builder.finish_under(origin)?)
+}
+
+impl<A: Heap> Name<A> {
+    /// The name that a text writes: labels parted by dots, a closing dot or none, `.` alone the root. `\X` is the byte X,
+    /// and `\DDD` the byte of that decimal number (RFC 1035, section 5.1). Letters are folded. Refused by the fault that
+    /// stands first in the text, or where memory is refused.
+    pub fn from_text(alloc: A, text: &str) -> Result<Name<A>, NameError>
+        ensures { MatchResult result (λ n. name_of_text text.now ≡ Ok n) (λ e. IsFault e (name_of_text text.now)) }
+    {
+        read(alloc, text.as_bytes(), &[0])
+    }
+
+    /// The same where a name that no dot ends is relative to `origin`, as in master files (RFC 1035, section 5.1). Such
+    /// a name that is too long with the origin is refused as a long name.
+    pub fn under<B: Allocator>(
+        alloc: A,
+        text: &[u8],
+        origin: &Name<B>,
+    ) -> Result<Name<A>, NameError>
+        ensures { MatchResult result (λ n. name_under origin.now text.now ≡ Ok n) (λ e. IsFault e (name_under origin.now text.now)) }
+    {
+        read(alloc, text, &origin.bytes)
+    }
+}
+
+/// A law: a text is read as a name exactly where it writes that name.
+pub fn text_writes_name()
+    ensures { TextWritesName }
+{}
+
+/// A law: a text is refused by the first of its dots and bytes that is at fault.
+pub fn first_fault_counts()
+    ensures { FirstFaultCounts }
+{}
+
+/// A law: the text of a name is read as that name.
+pub fn text_is_read_back()
+    ensures { TextIsReadBack }
+{}
+
+#[cfg(test)]
+mod tests {
+    use super::*;
+    use std::test::Fail;
+
+    fn text_of<A: Heap>(alloc: A, text: &str) -> Result<String<A>, NameError> {
+        Ok(Name::from_text(alloc, text)?.to_text()?)
+    }
+
+    // Labels of `a` of these sizes, each with a dot behind it.
+    fn labels<A: Heap>(alloc: A, sizes: &[usize]) -> Result<String<A>, Starved> {
+        let mut text = String::new(alloc);
+        for size in sizes {
+            for _ in 0..*size {
+                text.push('a')?;
+            }
+            text.push('.')?;
+        }
+        Ok(text)
+    }
+
+    #[test]
+    fn texts_and_their_names(rt: HostRuntime) -> Result<(), Fail> {
+        let rows = [
+            (".", "."),
+            ("a", "a."),
+            ("a.b.", "a.b."),
+            ("WWW.Example.COM", "www.example.com."),
+            ("a\\046b", "a\\.b."),
+            ("\\065\\.\\\\", "a\\.\\\\."),
+            ("\\@.\\$.\\(\\).\\;.\\\"", "\\@.\\$.\\(\\).\\;.\\\"."),
+            ("\\032\\255\\ ", "\\032\\255\\032."),
+            ("*._x-1.a/b", "*._x-1.a/b."),
+        ];
+        for (text, wanted) in rows {
+            let written = text_of(rt.alloc(), text)?;
+            assert!(rt; written.as_str() == wanted, "{text}");
+        }
+        Ok(())
+    }
+
+    #[test]
+    fn the_first_fault_counts(rt: HostRuntime) -> Result<(), Fail> {
+        let rows = [
+            ("", NameError::EmptyLabel),
+            ("a..b", NameError::EmptyLabel),
+            ("..", NameError::EmptyLabel),
+            (".a", NameError::EmptyLabel),
+            (".\\999", NameError::EmptyLabel),
+            ("a b", NameError::BadByte),
+            ("a\\", NameError::BadByte),
+            ("a\\25", NameError::BadByte),
+            ("a\\256..", NameError::BadByte),
+            ("a\\é", NameError::BadByte),
+            ("é", NameError::BadByte),
+        ];
+        for (text, fault) in rows {
+            let name = Name::from_text(rt.alloc(), text);
+            assert!(rt; matches!(name, Err(found) if found == fault), "{text}");
+        }
+        Ok(())
+    }
+
+    #[test]
+    fn longest_labels_and_names(rt: HostRuntime) -> Result<(), Fail> {
+        let longest = labels(rt.alloc(), &[63, 63, 63, 61])?;
+        assert_eq!(rt; Name::from_text(rt.alloc(), longest.as_str())?.size(), 255);
+        let longer = labels(rt.alloc(), &[63, 63, 63, 62])?;
+        assert!(rt;
+            matches!(
+                Name::from_text(rt.alloc(), longer.as_str()),
+                Err(NameError::LongName)
+            )
+        );
+        let wider = labels(rt.alloc(), &[64])?;
+        assert!(rt;
+            matches!(
+                Name::from_text(rt.alloc(), wider.as_str()),
+                Err(NameError::LongLabel)
+            )
+        );
+        let both = labels(rt.alloc(), &[63, 63, 61, 64])?;
+        assert!(rt;
+            matches!(
+                Name::from_text(rt.alloc(), both.as_str()),
+                Err(NameError::LongLabel)
+            )
+        );
+        Ok(())
+    }
+
+    #[test]
+    fn names_under_an_origin(rt: HostRuntime) -> Result<(), Fail> {
+        let origin = Name::from_text(rt.alloc(), "example.com")?;
+        let rows = [
+            (b"www".as_slice(), "www.example.com."),
+            (b"www.", "www."),
+            (b"a\\.", "a\\..example.com."),
+            (b".", "."),
+        ];
+        for (text, wanted) in rows {
+            let written = Name::under(rt.alloc(), text, &origin)?.to_text()?;
+            assert!(rt; written.as_str() == wanted, "{wanted}");
+        }
+        let longest = Name::from_text(rt.alloc(), labels(rt.alloc(), &[63, 63, 63, 59])?.as_str())?;
+        assert_eq!(rt; Name::under(rt.alloc(), b"b", &longest)?.size(), 255);
+        assert!(rt;
+            matches!(
+                Name::under(rt.alloc(), b"bc", &longest),
+                Err(NameError::LongName)
+            )
+        );
+        Ok(())
+    }
+}

@@ -1,0 +1,32 @@
+-- Faults of a master file, and how one reading follows another.
+use Rattle.std.specs.Prelude.{◌≡◌, ℕ, Result, Ok, Err, List, [], ◌∷◌, ◌++◌}
+use Rattle.masterfile.specs.declared.faults.FileKind.{FileKind}
+use Rattle.masterfile.specs.declared.faults.FileKind.TheVariants.{UnknownType, BadName, BadNumber, NoTtl, NoOwner, OpenText, UnknownDirective, BadClass, BadData, Memory}
+
+abbrev pub kind_number : FileKind → ℕ
+kind_number UnknownType = 1
+kind_number BadName = 2
+kind_number BadNumber = 3
+kind_number NoTtl = 4
+kind_number NoOwner = 5
+kind_number OpenText = 6
+kind_number UnknownDirective = 7
+kind_number BadClass = 8
+kind_number BadData = 9
+kind_number Memory = 10
+
+-- What is read first decides: after a fault nothing is read.
+infixl 10 ◌>>=◌
+abbrev pub ◌>>=◌ : {A B : Type 0} → Result A FileKind → (A → Result B FileKind) → Result B FileKind
+(Ok x) >>= f = f x
+(Err e) >>= f = Err e
+
+-- A thing read before the others, where they are read too.
+abbrev pub onto : {X E : Type 0} → X → Result (List X) E → Result (List X) E
+onto x (Ok xs) = Ok (x ∷ xs)
+onto x (Err e) = Err e
+
+-- A refusal: want of memory leaves all open, any other is the fault that was read first.
+abbrev pub FaultIn : {X : Type 0} → FileKind → Result X FileKind → Type 0
+FaultIn Memory read = Unit {0}
+FaultIn kind read = read ≡ Err kind

@@ -1,0 +1,107 @@
+-- The fields of an entry: each is read from the entry's words that are left, and leaves the words behind it.
+use Rattle.std.specs.Prelude.{ℕ, Bool, true, false, ◌||◌, cond, nat_eq, Option, Some, None, Result, Ok, Err, List, [], ◌∷◌, codes, map}
+use Rattle.std.specs.Cmp.Lexicographic.{pointwise}
+use Rattle.dname.specs.Labels.{folded}
+use Rattle.dname.specs.Text.{name_under}
+use Rattle.dname.specs.declared.text.NameError.{NameError}
+use Rattle.rdata.specs.Data.{Datum, Ipv4, Ns, Cname, Soa, Ptr, Mx, Txt, Ipv6, Authority}
+use Rattle.rdata.specs.Types.{type_word}
+use Rattle.rdata.specs.declared.rtype.RType.{RType}
+use Rattle.rdata.specs.declared.rtype.RType.TheVariants as rtype
+use Rattle.words.specs.Lexemes.{Word, plain, quoted, broken}
+use Rattle.masterfile.specs.declared.faults.FileKind.{FileKind}
+use Rattle.masterfile.specs.declared.faults.FileKind.TheVariants.{BadData, BadName, OpenText}
+use Rattle.masterfile.specs.Faults.{◌>>=◌}
+use Rattle.masterfile.specs.Numbers.{number_of}
+use Rattle.masterfile.specs.Addresses.{ipv4_of, ipv6_of}
+use Rattle.masterfile.specs.Strings.{take_strings}
+
+-- Words are compared without regard to case.
+abbrev pub same_word : List ℕ → List ℕ → Bool
+same_word a b = pointwise nat_eq (map folded a) (map folded b)
+
+-- The next word, where it has no quotes.
+abbrev pub plain_word : List Word → Result (List ℕ × List Word) FileKind
+plain_word [] = Err BadData
+plain_word (plain w ∷ ws) = Ok (w, ws)
+plain_word (quoted w ∷ ws) = Err BadData
+plain_word (broken ∷ ws) = Err OpenText
+
+-- A field is one word without quotes.
+abbrev pub take_by : {X : Type 0} → (List ℕ → Result X FileKind) → List Word → Result (X × List Word) FileKind
+take_by {X} read ws = plain_word ws >>= λ (w : List ℕ × List Word). read w.0 >>= λ (x : X). Ok (x, w.1)
+
+abbrev pub or_bad_name : Result (List (List ℕ)) NameError → Result (List (List ℕ)) FileKind
+or_bad_name (Ok n) = Ok n
+or_bad_name (Err e) = Err BadName
+
+-- `@` is the origin, and a name that no dot ends is relative to it.
+abbrev pub name_of : List (List ℕ) → List ℕ → Result (List (List ℕ)) FileKind
+name_of origin w = cond (pointwise nat_eq w (64 ∷ [])) (Ok origin) (or_bad_name (name_under origin w))
+
+abbrev pub take_name : List (List ℕ) → List Word → Result (List (List ℕ) × List Word) FileKind
+take_name origin ws = take_by (name_of origin) ws
+
+abbrev pub take_number : ℕ → List Word → Result (ℕ × List Word) FileKind
+take_number limit ws = take_by (number_of limit) ws
+
+-- The fault of words that are left over.
+abbrev pub left_over : List Word → Option FileKind
+left_over [] = None
+left_over (plain w ∷ ws) = Some BadData
+left_over (quoted w ∷ ws) = Some BadData
+left_over (broken ∷ ws) = Some OpenText
+
+abbrev pub unless : {X : Type 0} → Option FileKind → X → Result X FileKind
+unless None x = Ok x
+unless (Some kind) x = Err kind
+
+-- Nothing may be left.
+abbrev pub take_end : {X : Type 0} → X → List Word → Result X FileKind
+take_end x ws = unless (left_over ws) x
+
+abbrev pub find_type : List ℕ → List RType → Option RType
+find_type w [] = None
+find_type w (t ∷ ts) = cond (same_word w (type_word t)) (Some t) (find_type w ts)
+
+abbrev pub served_types : List RType
+served_types = rtype.A ∷ rtype.Ns ∷ rtype.Cname ∷ rtype.Soa ∷ rtype.Ptr ∷ rtype.Mx ∷ rtype.Txt ∷ rtype.Aaaa ∷ []
+
+unfoldable pub type_named : List ℕ → Option RType
+type_named w = find_type w served_types
+
+-- The greatest numbers of 16 and of 32 bits.
+abbrev pub greatest_16 : ℕ
+greatest_16 = 65535
+
+abbrev pub greatest_32 : ℕ
+greatest_32 = 4294967295
+
+-- Two names and five numbers (RFC 1035, section 3.3.13).
+abbrev pub take_authority : List (List ℕ) → List Word → Result (Authority × List Word) FileKind
+take_authority origin ws =
+    take_name origin ws >>= λ (primary : List (List ℕ) × List Word).
+    take_name origin primary.1 >>= λ (mailbox : List (List ℕ) × List Word).
+    take_number greatest_32 mailbox.1 >>= λ (serial : ℕ × List Word).
+    take_number greatest_32 serial.1 >>= λ (refresh : ℕ × List Word).
+    take_number greatest_32 refresh.1 >>= λ (retry : ℕ × List Word).
+    take_number greatest_32 retry.1 >>= λ (expire : ℕ × List Word).
+    take_number greatest_32 expire.1 >>= λ (minimum : ℕ × List Word).
+    Ok (record { primary = primary.0; mailbox = mailbox.0; serial = serial.0; refresh = refresh.0; retry = retry.0; expire = expire.0; minimum = minimum.0 }, minimum.1)
+
+-- Preference and exchange (RFC 1035, section 3.3.9).
+abbrev pub take_exchange : List (List ℕ) → List Word → Result (Datum × List Word) FileKind
+take_exchange origin ws =
+    take_number greatest_16 ws >>= λ (preference : ℕ × List Word).
+    take_name origin preference.1 >>= λ (exchange : List (List ℕ) × List Word). Ok (Mx preference.0 exchange.0, exchange.1)
+
+-- The data of a type.
+abbrev pub take_data : List (List ℕ) → RType → List Word → Result (Datum × List Word) FileKind
+take_data origin rtype.A ws = take_by ipv4_of ws >>= λ (a : List ℕ × List Word). Ok (Ipv4 a.0, a.1)
+take_data origin rtype.Ns ws = take_name origin ws >>= λ (n : List (List ℕ) × List Word). Ok (Ns n.0, n.1)
+take_data origin rtype.Cname ws = take_name origin ws >>= λ (n : List (List ℕ) × List Word). Ok (Cname n.0, n.1)
+take_data origin rtype.Soa ws = take_authority origin ws >>= λ (s : Authority × List Word). Ok (Soa s.0, s.1)
+take_data origin rtype.Ptr ws = take_name origin ws >>= λ (n : List (List ℕ) × List Word). Ok (Ptr n.0, n.1)
+take_data origin rtype.Mx ws = take_exchange origin ws
+take_data origin rtype.Txt ws = take_strings ws >>= λ (ts : List (List ℕ)). Ok (Txt ts, [])
+take_data origin rtype.Aaaa ws = take_by ipv6_of ws >>= λ (a : List ℕ × List Word). Ok (Ipv6 a.0, a.1)

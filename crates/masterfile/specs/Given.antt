@@ -1,0 +1,34 @@
+-- What a reader of fields gives back, and the words that it leaves.
+use Rattle.std.specs.Prelude.{◌≡◌, ℕ, Result, Ok, Err, Option, Some, None, List}
+use Rattle.words.specs.Lexemes.{Word}
+use Rattle.masterfile.specs.declared.faults.FileKind.{FileKind}
+use Rattle.rdata.specs.Records.{Record}
+use Rattle.masterfile.specs.declared.entries.Head.{Head as KeptHead}
+use Rattle.masterfile.specs.Entries.{Context, Head}
+use Rattle.masterfile.specs.Faults.{FaultIn}
+
+abbrev pub GivesRest : {X Y : Type 0} → (X → Y) → Result X FileKind → List Word → Result (Y × List Word) FileKind → Type 0
+GivesRest view (Ok x) rest read = read ≡ Ok (view x, rest)
+GivesRest view (Err e) rest read = FaultIn e read
+
+-- The same where no memory is taken: each refusal is the fault that was read.
+abbrev pub ReadsRest : {X Y : Type 0} → (X → Y) → Result X FileKind → List Word → Result (Y × List Word) FileKind → Type 0
+ReadsRest view (Ok x) rest read = read ≡ Ok (view x, rest)
+ReadsRest view (Err e) rest read = read ≡ Err e
+
+abbrev pub same : {X : Type 0} → X → X
+same x = x
+
+-- A head, and the words that it leaves.
+abbrev pub GivesHead : Result KeptHead FileKind → List Word → Result Head FileKind → Type 0
+GivesHead (Ok h) rest read = read ≡ Ok (record { ttl = h.ttl; kind = h.kind; rest = rest })
+GivesHead (Err e) rest read = read ≡ Err e
+
+-- What an entry says, and what it leaves to the later ones.
+abbrev pub GivesEntry : Result (Option Record) FileKind → Context → Result (Option Record × Context) FileKind → Type 0
+GivesEntry (Ok r) after read = read ≡ Ok (r, after)
+GivesEntry (Err e) after read = FaultIn e read
+
+abbrev pub GivesContext : Result Unit FileKind → Context → Result Context FileKind → Type 0
+GivesContext (Ok _) after read = read ≡ Ok after
+GivesContext (Err e) after read = FaultIn e read

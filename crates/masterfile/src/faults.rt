@@ -1,0 +1,87 @@
+//! Why a text is no master file.
+ghost use Rattle.std.specs.Prelude.{◌≡◌};
+ghost use Rattle.masterfile.specs.Faults.{kind_number};
+
+use std::alloc::{AllocError, AllocFailed};
+
+/// What is wrong with an entry.
+#[derive(Clone, Copy, Debug, PartialEq, Eq)]
+pub enum FileKind {
+    /// A type that is not served, a second TTL or a second class.
+    UnknownType,
+    /// A name that is none, or too long with the origin.
+    BadName,
+    /// A number out of its range.
+    BadNumber,
+    /// No TTL: none stands here, no `$TTL` before, and no record stated one.
+    NoTtl,
+    /// A record without an owner where none stood before.
+    NoOwner,
+    /// A parenthesis or a quote that is not closed, or a parenthesis that closes none or stands within another.
+    OpenText,
+    /// A directive other than `$ORIGIN` and `$TTL`.
+    UnknownDirective,
+    /// A class other than `IN`.
+    BadClass,
+    /// Data missing, of the wrong form or too long, words left over, or a quote where none may stand.
+    BadData,
+    /// A growth was refused.
+    Memory,
+}
+
+impl FileKind {
+    /// The kind's number, from 1 on in the order of the variants.
+    pub fn number(self) -> u8
+        ensures { result ≡ kind_number self }
+    {
+        match self {
+            FileKind::UnknownType => 1,
+            FileKind::BadName => 2,
+            FileKind::BadNumber => 3,
+            FileKind::NoTtl => 4,
+            FileKind::NoOwner => 5,
+            FileKind::OpenText => 6,
+            FileKind::UnknownDirective => 7,
+            FileKind::BadClass => 8,
+            FileKind::BadData => 9,
+            FileKind::Memory => 10,
+        }
+    }
+}
+
+impl From<AllocError> for FileKind {
+    ghost use Rattle.masterfile.specs.declared.faults.FileKind.TheVariants.{Memory};
+
+    ghost from_gives = { λ _ e. e ≡ Memory };
+
+    fn from(_error: AllocError) -> FileKind {
+        FileKind::Memory
+    }
+}
+
+impl<T: Drop> From<AllocFailed<T>> for FileKind {
+    ghost use Rattle.masterfile.specs.declared.faults.FileKind.TheVariants.{Memory};
+
+    ghost from_gives = { λ _ e. e ≡ Memory };
+
+    fn from(_error: AllocFailed<T>) -> FileKind {
+        FileKind::Memory
+    }
+}
+
+impl From<dname::Starved> for FileKind {
+    ghost use Rattle.masterfile.specs.declared.faults.FileKind.TheVariants.{Memory};
+
+    ghost from_gives = { λ _ e. e ≡ Memory };
+
+    fn from(_error: dname::Starved) -> FileKind {
+        FileKind::Memory
+    }
+}
+
+/// The first fault of a text: the line on which its entry starts, counted from 1, and what is wrong with it.
+#[derive(Clone, Copy, Debug, PartialEq, Eq)]
+pub struct FileError {
+    pub line: usize,
+    pub kind: FileKind,
+}

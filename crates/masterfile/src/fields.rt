@@ -1,0 +1,207 @@
+//! The fields of an entry, read word by word.
+ghost use Rattle.std.specs.Prelude.{◌≡◌, ◌≤◌, ◌^◌, ℕ, [], length, IfOk, OnOk, MatchResult, Ok, Err, None, Some};
+ghost use Rattle.words.specs.Views.{word_of};
+ghost use Rattle.rdata.specs.Kept.{datum};
+ghost use Rattle.masterfile.specs.Faults.{FaultIn};
+ghost use Rattle.masterfile.specs.Addresses.{ipv4_of, ipv6_of};
+ghost use Rattle.masterfile.specs.Strings.{string_word, take_strings};
+ghost use Rattle.masterfile.specs.Given.{GivesRest, ReadsRest, same};
+ghost use Rattle.masterfile.specs.Fields.{same_word, plain_word, name_of, left_over, take_by, take_name, take_number, take_end, type_named, take_authority, take_exchange, take_data};
+
+use crate::addresses::{ipv4, ipv6};
+use crate::faults::FileKind;
+use crate::numbers::number;
+use crate::strings::string;
+use dname::{Heap, Name, NameError};
+use rdata::{Addr, CharacterString, RData, RType, Soa, Texts};
+use words::{Word, Words};
+
+/// Whether two words are the same without regard to case.
+pub(crate) fn is_same_word(word: &[u8], other: &[u8]) -> bool
+    ensures { result ≡ same_word word.now other.now }
+{
+    match (word, other) {
+        ([], []) => true,
+        ([a, word @ ..], [b, other @ ..]) => a.eq_ignore_ascii_case(b) && is_same_word(word, other),
+        _ => false,
+    }
+}
+
+/// The type that a word names.
+#[tactic(auto, unfolding(crate::specs::Fields::type_named))]
+pub(crate) fn type_of_word(word: &[u8]) -> Option<RType>
+    ensures { result ≡ type_named word.now }
+{
+    for kind in [
+        RType::A,
+        RType::Ns,
+        RType::Cname,
+        RType::Soa,
+        RType::Ptr,
+        RType::Mx,
+        RType::Txt,
+        RType::Aaaa,
+    ] {
+        if is_same_word(word, kind.word().as_bytes()) {
+            return Some(kind);
+        }
+    }
+    None
+}
+
+/// The next word, which may have no quotes.
+pub(crate) fn plain<'a>(words: &mut Words<'a>) -> Result<&'a [u8], FileKind>
+    ensures value { ReadsRest (λ w. w.now) result words.new.words (plain_word words.old.words) }
+    ensures later { words.new.later ≡ words.old.later }
+{
+    match words.next() {
+        Some(Word::Plain(word)) => Ok(word),
+        Some(Word::Broken) => Err(FileKind::OpenText),
+        Some(Word::Quoted(_)) | None => Err(FileKind::BadData),
+    }
+}
+
+/// A name, relative to the origin where no dot ends it.
+pub(crate) fn name_of_word<A: Heap>(
+    alloc: A,
+    word: &[u8],
+    origin: &Name<A>,
+) -> Result<Name<A>, FileKind>
+    ensures { MatchResult result (λ n. name_of origin.now word.now ≡ Ok n) (λ e. FaultIn e (name_of origin.now word.now)) }
+{
+    if word == b"@".as_slice() {
+        return Ok(origin.copied(alloc)?);
+    }
+    match Name::under(alloc, word, origin) {
+        Ok(name) => Ok(name),
+        Err(NameError::Memory) => Err(FileKind::Memory),
+        Err(_) => Err(FileKind::BadName),
+    }
+}
+
+pub(crate) fn name<A: Heap>(
+    alloc: A,
+    words: &mut Words<'_>,
+    origin: &Name<A>,
+) -> Result<Name<A>, FileKind>
+    ensures value { GivesRest same result words.new.words (take_name origin.now words.old.words) }
+    ensures later { words.new.later ≡ words.old.later }
+{
+    let word = plain(words)?;
+    name_of_word(alloc, word, origin)
+}
+
+/// A number up to `limit`.
+pub(crate) fn number_field(words: &mut Words<'_>, limit: u32) -> Result<u32, FileKind>
+    ensures value { ReadsRest same result words.new.words (take_number limit words.old.words) }
+    ensures within { IfOk result (λ n. n ≤ limit) }
+    ensures later { words.new.later ≡ words.old.later }
+{
+    let word = plain(words)?;
+    number(word, limit)
+}
+
+/// Nothing may be left of the entry.
+pub(crate) fn end(words: &mut Words<'_>) -> Result<(), FileKind>
+    ensures left { MatchResult result (λ _. left_over words.old.words ≡ None) (λ e. left_over words.old.words ≡ Some e) }
+    ensures done { OnOk result ((words.old.words ≡ []) × (words.new ≡ words.old)) }
+    ensures later { words.new.later ≡ words.old.later }
+{
+    match words.next() {
+        None => Ok(()),
+        Some(Word::Broken) => Err(FileKind::OpenText),
+        Some(_) => Err(FileKind::BadData),
+    }
+}
+
+/// A string of a TXT record, in quotes or not.
+fn string_of_word<A: Heap>(alloc: A, word: Word<'_>) -> Result<CharacterString<A>, FileKind>
+    ensures value { MatchResult result (λ s. string_word (word_of word.entry) ≡ Ok s) (λ e. FaultIn e (string_word (word_of word.entry))) }
+    ensures short { IfOk result (λ s. length s ≤ 255) }
+{
+    match word {
+        Word::Plain(text) | Word::Quoted(text) => string(alloc, text),
+        Word::Broken => Err(FileKind::OpenText),
+    }
+}
+
+/// The strings of a TXT record: one or more, all that the entry still has.
+#[tactic(auto, using(crate::proofs::Fronts::onto_front))]
+fn texts<A: Heap>(alloc: A, words: &mut Words<'_>) -> Result<Texts<A>, FileKind>
+    ensures value { MatchResult result (λ t. take_strings words.old.words ≡ Ok t) (λ e. FaultIn e (take_strings words.old.words)) }
+    ensures all { OnOk result (words.new.words ≡ []) }
+    ensures later { words.new.later ≡ words.old.later }
+{
+    let Some(word) = words.next() else {
+        return Err(FileKind::BadData);
+    };
+    let first = string_of_word(alloc, word)?;
+    // Each string takes its bytes and a length byte.
+    let mut size = 1 + first.bytes().len();
+    let mut texts = Texts::new(alloc, first)?;
+    'strings: while let Some(word) = words.next() {
+        let string = string_of_word(alloc, word)?;
+        size += 1 + string.bytes().len();
+        if size > MAX_DATA {
+            return Err(FileKind::BadData);
+        }
+        texts.push(string)?;
+    }
+    Ok(texts)
+}
+
+/// The greatest size of a record's data in a message (RFC 1035, section 3.2.1).
+const MAX_DATA: usize = 65_535;
+
+fn soa<A: Heap>(alloc: A, words: &mut Words<'_>, origin: &Name<A>) -> Result<Soa<A>, FileKind>
+    ensures value { GivesRest same result words.new.words (take_authority origin.now words.old.words) }
+    ensures later { words.new.later ≡ words.old.later }
+{
+    let primary = name(alloc, words, origin)?;
+    let mailbox = name(alloc, words, origin)?;
+    let serial = number_field(words, u32::MAX)?;
+    let refresh = number_field(words, u32::MAX)?;
+    let retry = number_field(words, u32::MAX)?;
+    let expire = number_field(words, u32::MAX)?;
+    let minimum = number_field(words, u32::MAX)?;
+    Ok(Soa {
+        primary,
+        mailbox,
+        serial,
+        refresh,
+        retry,
+        expire,
+        minimum,
+    })
+}
+
+fn mx<A: Heap>(alloc: A, words: &mut Words<'_>, origin: &Name<A>) -> Result<RData<A>, FileKind>
+    ensures value { GivesRest datum result words.new.words (take_exchange origin.now words.old.words) }
+    ensures later { words.new.later ≡ words.old.later }
+{
+    let preference = number_field(words, 65_535)?;
+    let exchange = name(alloc, words, origin)?;
+    Ok(RData::Mx(preference as u16, exchange))
+}
+
+/// The data of a type.
+pub(crate) fn rdata<A: Heap>(
+    alloc: A,
+    words: &mut Words<'_>,
+    origin: &Name<A>,
+    kind: RType,
+) -> Result<RData<A>, FileKind>
+    ensures value { GivesRest datum result words.new.words (take_data origin.now kind words.old.words) }
+    ensures later { words.new.later ≡ words.old.later }
+{
+    match kind {
+        RType::A => Ok(RData::A(Addr(ipv4(plain(words)?)?))),
+        RType::Ns => Ok(RData::Ns(name(alloc, words, origin)?)),
+        RType::Cname => Ok(RData::Cname(name(alloc, words, origin)?)),
+        RType::Soa => Ok(RData::Soa(soa(alloc, words, origin)?)),
+        RType::Ptr => Ok(RData::Ptr(name(alloc, words, origin)?)),
+        RType::Mx => mx(alloc, words, origin),
+        RType::Txt => Ok(RData::Txt(texts(alloc, words)?)),
+        RType::Aaaa => Ok(RData::Aaaa(ipv6(plain(words)?)?)),
+    }
+}

@@ -1,0 +1,101 @@
+//! An allocator for tests: it counts growths, and refuses the one that a test chooses.
+//!
+//! Lend it: `&Refusing<B>` is an allocator too, and `Copy`, so that whatever a test hands it to shares one count.
+#![tactic(auto)]
+
+use std::alloc::{AllocError, Allocator};
+use std::cell::Cell;
+
+/// Passes each call on to `B`, but for the growth that is to be refused.
+pub struct Refusing<B: Allocator> {
+    inner: B,
+    // Growths until the refused one. It counts down and wraps, so from `u64::MAX` on none is refused.
+    left: Cell<u64>,
+}
+
+impl<B: Allocator> Refusing<B> {
+    /// Refuses no growth until `refuse_after` says so.
+    pub fn new(inner: B) -> Refusing<B> {
+        Refusing {
+            inner,
+            left: Cell::new(u64::MAX),
+        }
+    }
+
+    /// How many growths were asked for since `new`, where `refuse_after` was not called since.
+    pub fn growths(&self) -> u64 {
+        u64::MAX - self.left.get()
+    }
+
+    /// Refuses the growth that comes after `n` more, and that one alone.
+    pub fn refuse_after(&self, n: u64) {
+        self.left.set(n);
+    }
+}
+
+impl<B: Allocator> Drop for Refusing<B> {
+    fn drop(self) {
+        let Self { inner: _, left: _ } = self;
+    }
+}
+
+// Counts one growth; true where it is the one to refuse.
+fn refuses(left: &Cell<u64>) -> bool {
+    let n = left.get();
+    left.set(n.wrapping_sub(1));
+    n == 0
+}
+
+unsafe impl<B: Allocator> Allocator for Refusing<B> {
+    ghost dealloc_token = { λ heap ty ptr. B.dealloc_token heap.inner ty ptr };
+
+    fn allocate(&self, size: usize, align: usize) -> Result<*mut u8, AllocError> {
+        if refuses(&self.left) {
+            return Err(AllocError);
+        }
+        self.inner.allocate(size, align)
+    }
+
+    unsafe fn deallocate(&self, ptr: *mut u8, size: usize, align: usize) {
+        self.inner.deallocate(ptr, size, align);
+    }
+}
+
+#[cfg(test)]
+mod tests {
+    use super::*;
+    use std::test::Fail;
+
+    // Three growths: `Vec`'s room for `first`, its room for `second`, and the copy.
+    fn doubled<A: Allocator + Copy>(
+        alloc: A,
+        first: &[u8],
+        second: &[u8],
+    ) -> Result<Vec<u8, A>, AllocError> {
+        let mut bytes = Vec::from_slice(alloc, first)?;
+        bytes.extend_from_slice(second)?;
+        Vec::from_slice(alloc, &bytes)
+    }
+
+    #[test]
+    fn refuses_each_growth_in_turn(rt: HostRuntime) -> Result<(), Fail> {
+        let heap = Refusing::new(rt.alloc());
+        assert!(rt; doubled(&heap, b"ab", b"cdefghijklmnopqrstuvwxyz").is_ok());
+        let growths = heap.growths();
+        assert_eq!(rt; growths, 3);
+        for n in 0..growths {
+            heap.refuse_after(n);
+            assert!(rt;
+                doubled(&heap, b"ab", b"cdefghijklmnopqrstuvwxyz").is_err(),
+                "growth {n}"
+            );
+            assert!(rt;
+                doubled(&heap, b"ab", b"cdefghijklmnopqrstuvwxyz").is_ok(),
+                "after growth {n}"
+            );
+        }
+        heap.refuse_after(growths);
+        assert!(rt; doubled(&heap, b"ab", b"cdefghijklmnopqrstuvwxyz").is_ok());
+        Ok(())
+    }
+}

@@ -1,0 +1,4 @@
+mod Shifted
+pub mod Fuel
+mod Heads
+pub mod PartsLaw

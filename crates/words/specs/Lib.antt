@@ -1,0 +1,5 @@
+pub mod Lexemes
+pub mod Entries
+pub mod Views
+pub mod Steps
+pub mod Parts

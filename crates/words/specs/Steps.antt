@@ -1,0 +1,16 @@
+-- What a place of a text holds, and what a step from it finds.
+use Rattle.std.specs.Prelude.{◌≡◌, []}
+use Rattle.words.specs.Entries.{Text, next_entry, with_word, text_from}
+use Rattle.words.specs.declared.cursor.Place.{Place}
+use Rattle.words.specs.declared.cursor.Step.{Step}
+use Rattle.words.specs.declared.cursor.Step.TheVariants.{Word, Line, Nothing}
+use Rattle.words.specs.Views.{word_of, lead_of}
+
+abbrev pub text_at : Place → Text
+text_at p = text_from p.line p.bracketed p.text.now
+
+-- The step takes the text apart: what it found, and what the place behind it holds.
+abbrev pub IsStep : Step → Text → Place → Type 0
+IsStep (Word w) t p = t ≡ with_word (word_of w) (text_at p)
+IsStep (Line l) t p = t ≡ next_entry p.line (lead_of l) (text_at p)
+IsStep Nothing t p = t ≡ record { words = []; later = [] }

@@ -1,0 +1,8 @@
+//! Laws of the definitions.
+ghost use Rattle.words.specs.Parts.{PartsBothWays};
+
+/// The entries that the cursor shows are the text's parts by the rules of RFC 1035, section 5.1, and each text that
+/// parts by those rules is shown so.
+pub fn parts_both_ways()
+    ensures { PartsBothWays }
+{}
