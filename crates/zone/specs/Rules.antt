@@ -47,8 +47,11 @@ abbrev pub has_inner_star : Zone → Bool
 has_inner_star z = list_any (λ (r : Record). star_inside r.owner) z.records
 
 -- NS or SOA at an owner whose first label is `*`.
+abbrev pub is_wildcard_authority : Record → Bool
+is_wildcard_authority r = is_wildcard r.owner && (is_type ns_type r || is_type soa_type r)
+
 abbrev pub has_wildcard_authority : Zone → Bool
-has_wildcard_authority z = list_any (λ (r : Record). is_wildcard r.owner && (is_type ns_type r || is_type soa_type r)) z.records
+has_wildcard_authority z = list_any is_wildcard_authority z.records
 
 -- An owner whose first label is `*` beneath a cut.
 abbrev pub is_wildcard_beneath : Zone → Record → Bool

@@ -9,6 +9,8 @@ mod fault;
 mod laws;
 mod rules;
 mod scan;
+#[cfg(test)]
+mod tests;
 mod ttls;
 mod zone;
 

@@ -1,9 +1,7 @@
-ghost use Rattle.std.specs.Prelude.{◌≡◌, ◌&&◌, ◌||◌, IfOk, None, MatchResult};
+ghost use Rattle.std.specs.Prelude.{◌≡◌, IfOk, None, MatchResult};
 ghost use Rattle.std.specs.List.{list_any};
-ghost use Rattle.dname.specs.Stars.{is_wildcard};
-ghost use Rattle.zone.specs.Zones.{ns_type, cname_type, soa_type};
-ghost use Rattle.zone.specs.Look.{is_type};
-ghost use Rattle.zone.specs.Rules.{lacks_soa, lacks_servers, has_foreign_owner, is_out_of_place, has_inner_star, has_wildcard_authority, is_wildcard_beneath};
+ghost use Rattle.dname.specs.Stars.{has_inner_star};
+ghost use Rattle.zone.specs.Rules.{lacks_soa, lacks_servers, has_foreign_owner, is_out_of_place, is_wildcard_authority, is_wildcard_beneath};
 ghost use Rattle.zone.specs.Faults.{fault_of, IsFault};
 ghost use Rattle.zone.specs.Kept.{zone_with};
 
@@ -67,21 +65,21 @@ fn some_is_out_of_place<A: Heap>(cuts: &Cuts<A>, records: &[Record<A>]) -> Resul
 }
 
 // A label `*` stands in an owner other than as its first.
-fn has_inner_star<A: Allocator>(origin: &Name<A>, records: &[Record<A>]) -> bool
-    ensures { result ≡ has_inner_star (zone_with origin.now records.now) }
+fn some_has_inner_star<A: Allocator>(records: &[Record<A>]) -> bool
+    ensures { result ≡ list_any (λ r. has_inner_star r.owner) records.now }
 {
     records.iter().any(|record| record.owner.has_inner_star())
 }
 
 fn is_wildcard_authority<A: Allocator>(subject: &Record<A>) -> bool
-    ensures { result ≡ (is_wildcard subject.now.owner && (is_type ns_type subject.now || is_type soa_type subject.now)) }
+    ensures { result ≡ is_wildcard_authority subject.now }
 {
     subject.owner.is_wildcard() && (is_type(subject, RType::Ns) || is_type(subject, RType::Soa))
 }
 
 // NS or SOA at a wildcard.
-fn has_wildcard_authority<A: Allocator>(origin: &Name<A>, records: &[Record<A>]) -> bool
-    ensures { result ≡ has_wildcard_authority (zone_with origin.now records.now) }
+fn some_is_wildcard_authority<A: Allocator>(records: &[Record<A>]) -> bool
+    ensures { result ≡ list_any is_wildcard_authority records.now }
 {
     records.iter().any(|record| is_wildcard_authority(record))
 }
@@ -121,10 +119,10 @@ pub fn check<A: Heap>(origin: &Name<A>, records: &[Record<A>]) -> Result<(), Zon
     if some_is_out_of_place(&cuts, records)? {
         return Err(ZoneError::DataAtCut);
     }
-    if has_inner_star(origin, records) {
+    if some_has_inner_star(records) {
         return Err(ZoneError::InnerStar);
     }
-    if has_wildcard_authority(origin, records) {
+    if some_is_wildcard_authority(records) {
         return Err(ZoneError::WildcardAuthority);
     }
     if some_wildcard_is_beneath(&cuts, records)? {
