@@ -4,3 +4,7 @@ pub mod Ipv6Lemmas
 pub mod Fronts
 pub mod HeadLemmas
 pub mod FileLemmas
+mod Inverse
+mod HeadLaw
+mod EntryLaw
+pub mod TextLaw

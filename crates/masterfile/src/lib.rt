@@ -6,11 +6,13 @@ mod entries;
 mod faults;
 mod fields;
 mod files;
+mod laws;
 mod numbers;
 mod strings;
 
 pub use faults::{FileError, FileKind};
 pub use files::{read, read_block};
+pub use laws::reads_both_ways;
 
 #[cfg(test)]
 mod tests;
