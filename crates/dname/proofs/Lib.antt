@@ -3,3 +3,7 @@ pub mod Split
 pub mod Under
 pub mod WrittenNames
 pub mod Origins
+pub mod Ordered
+pub mod Spellings
+pub mod ReadNames
+pub mod FirstFaults

@@ -12,7 +12,7 @@ use Rattle.dname.specs.declared.text.NameError.TheVariants.{LongName}
 use Rattle.dname.proofs.Split.{wire_is}
 use Rattle.dname.proofs.Drafts.{wire-append, Names}
 
-labels_on : (ls ns : List (List ℕ)) → AllLabels ls → AreLabels ns → AreLabels (ls ++ ns)
+pub labels_on : (ls ns : List (List ℕ)) → AllLabels ls → AreLabels ns → AreLabels (ls ++ ns)
 labels_on ls [] h k = absurd k
 labels_on [] (m ∷ ms) h k = k
 labels_on (l ∷ []) (m ∷ ms) h k = (h.0, k)
@@ -21,10 +21,10 @@ labels_on (l ∷ l' ∷ ls) (m ∷ ms) h k = (h.0, labels_on (l' ∷ ls) (m ∷ 
 joined : (closed : List (List ℕ)) (origin : List ℕ) → IsWire origin → wire (closed ++ labels_of origin) ≡ wire closed ++ origin
 joined closed origin h = wire-append closed (labels_of origin) ∙ ap (λ (x : List ℕ). wire closed ++ x) h.bytes
 
-too_long : (origin closed : List (List ℕ)) → 255 < length (wire (closed ++ origin)) → with_origin origin closed ≡ Err LongName
+pub too_long : (origin closed : List (List ℕ)) → 255 < length (wire (closed ++ origin)) → with_origin origin closed ≡ Err LongName
 too_long origin closed h = grind (arith, nat_tests)
 
-fits : (origin closed : List (List ℕ)) → length (wire (closed ++ origin)) ≤ 255 → with_origin origin closed ≡ Ok (closed ++ origin)
+pub fits : (origin closed : List (List ℕ)) → length (wire (closed ++ origin)) ≤ 255 → with_origin origin closed ≡ Ok (closed ++ origin)
 fits origin closed h = grind (arith, nat_tests)
 
 module _ (bytes : List ℕ) (start : ℕ) (d : Draft) (origin : List ℕ) (h : IsWritten bytes start) (e : draft_of bytes start ≡ d) (o : IsNameWire origin) where

@@ -1,7 +1,10 @@
 pub mod Draft
 pub mod Labels
 pub mod Laws
+pub mod Stars
 pub mod Wire
 pub mod Written
 pub mod Text
 pub mod Tokens
+pub mod Order
+pub mod Spelling

@@ -2,13 +2,16 @@
 //! words for want of memory that every crate shares.
 #![tactic(auto)]
 
+mod allocated;
 mod builder;
 mod memory;
 mod name;
+mod order;
 mod text;
+mod stars;
 mod walk;
 
 pub use builder::{Builder, Overflow};
 pub use memory::{Heap, Starved};
 pub use name::Name;
-pub use text::{NameError, put_name, text_is_read_back};
+pub use text::{NameError, first_fault_counts, put_name, text_is_read_back, text_writes_name};

@@ -4,6 +4,7 @@ ghost use Rattle.std.specs.Prelude.{◌≡◌, ◌<◌, ◌≤◌, [], ◌∷◌
 ghost use Rattle.dname.specs.Tokens.{token_of};
 ghost use Rattle.dname.specs.Text.{tokens, tokens_behind, escaped_token, spelled, with_origin, name_under, name_of_text, IsFault, fault_of, byte_text, label_text, name_text, fault_number, TextIsReadBack};
 ghost use Rattle.dname.specs.Draft.{empty_draft};
+ghost use Rattle.dname.specs.Spelling.{TextWritesName, FirstFaultCounts};
 ghost use Rattle.dname.specs.Wire.{labels_of, IsNameWire};
 
 use crate::builder::{Builder, Overflow};
@@ -11,6 +12,7 @@ use crate::memory::{Heap, Starved};
 use crate::name::Name;
 use crate::walk::next;
 use std::alloc::{AllocError, Allocator};
+use std::fmt;
 
 /// Why a text is no name. The fault that stands first in the text counts.
 #[derive(Clone, Copy, Debug, PartialEq, Eq)]
@@ -41,6 +43,20 @@ impl NameError {
         }
     }
 }
+
+impl fmt::Display for NameError {
+    fn fmt<W: fmt::Write>(&self, f: &mut fmt::Formatter<W>) -> fmt::Result {
+        match self {
+            NameError::EmptyLabel => write!(f, "empty label"),
+            NameError::LongLabel => write!(f, "label over 63 bytes"),
+            NameError::LongName => write!(f, "name over 255 bytes"),
+            NameError::BadByte => write!(f, "bad escape or byte"),
+            NameError::Memory => write!(f, "out of memory"),
+        }
+    }
+}
+
+impl std::error::Error for NameError {}
 
 impl From<Starved> for NameError {
     ghost use Rattle.dname.specs.declared.text.NameError.TheVariants.{Memory};
@@ -202,6 +218,9 @@ fn spell<A: Heap>(alloc: A, text: &[u8]) -> Result<Builder<A>, NameError>
     Ok(builder)
 }
 
+// Bytes of a name with its length bytes and closing zero (RFC 1035, section 2.3.4).
+const LONGEST_NAME: usize = 255;
+
 impl<A: Heap> Builder<A> {
     // The labels with `origin`, a name in wire form, behind them.
     fn finish_under(self, origin: &[u8]) -> Result<Name<A>, NameError>
@@ -210,7 +229,7 @@ impl<A: Heap> Builder<A> {
         ensures { MatchResult result (λ n. with_origin (labels_of origin.now) self.closed ≡ Ok n) (λ e. IsFault e (with_origin (labels_of origin.now) self.closed)) }
     {
         let Builder { mut bytes, start } = self;
-        if start + origin.len() > 255 {
+        if start + origin.len() > LONGEST_NAME {
             return Err(NameError::LongName);
         }
         bytes.truncate(start);
@@ -261,7 +280,133 @@ impl<A: Heap> Name<A> {
     }
 }
 
+/// A law: a text is read as a name exactly where it writes that name.
+pub fn text_writes_name()
+    ensures { TextWritesName }
+{}
+
+/// A law: a text is refused by the first of its dots and bytes that is at fault.
+pub fn first_fault_counts()
+    ensures { FirstFaultCounts }
+{}
+
 /// A law: the text of a name is read as that name.
 pub fn text_is_read_back()
     ensures { TextIsReadBack }
 {}
+
+#[cfg(test)]
+mod tests {
+    use super::*;
+    use std::test::Fail;
+
+    fn text_of<A: Heap>(alloc: A, text: &str) -> Result<String<A>, NameError> {
+        Ok(Name::from_text(alloc, text)?.to_text()?)
+    }
+
+    // Labels of `a` of these sizes, each with a dot behind it.
+    fn labels<A: Heap>(alloc: A, sizes: &[usize]) -> Result<String<A>, Starved> {
+        let mut text = String::new(alloc);
+        for size in sizes {
+            for _ in 0..*size {
+                text.push('a')?;
+            }
+            text.push('.')?;
+        }
+        Ok(text)
+    }
+
+    #[test]
+    fn texts_and_their_names(rt: HostRuntime) -> Result<(), Fail> {
+        let rows = [
+            (".", "."),
+            ("a", "a."),
+            ("a.b.", "a.b."),
+            ("WWW.Example.COM", "www.example.com."),
+            ("a\\046b", "a\\.b."),
+            ("\\065\\.\\\\", "a\\.\\\\."),
+            ("\\@.\\$.\\(\\).\\;.\\\"", "\\@.\\$.\\(\\).\\;.\\\"."),
+            ("\\032\\255\\ ", "\\032\\255\\032."),
+            ("*._x-1.a/b", "*._x-1.a/b."),
+        ];
+        for (text, wanted) in rows {
+            let written = text_of(rt.alloc(), text)?;
+            assert!(rt; written.as_str() == wanted, "{text}");
+        }
+        Ok(())
+    }
+
+    #[test]
+    fn the_first_fault_counts(rt: HostRuntime) -> Result<(), Fail> {
+        let rows = [
+            ("", NameError::EmptyLabel),
+            ("a..b", NameError::EmptyLabel),
+            ("..", NameError::EmptyLabel),
+            (".a", NameError::EmptyLabel),
+            (".\\999", NameError::EmptyLabel),
+            ("a b", NameError::BadByte),
+            ("a\\", NameError::BadByte),
+            ("a\\25", NameError::BadByte),
+            ("a\\256..", NameError::BadByte),
+            ("a\\é", NameError::BadByte),
+            ("é", NameError::BadByte),
+        ];
+        for (text, fault) in rows {
+            let name = Name::from_text(rt.alloc(), text);
+            assert!(rt; matches!(name, Err(found) if found == fault), "{text}");
+        }
+        Ok(())
+    }
+
+    #[test]
+    fn longest_labels_and_names(rt: HostRuntime) -> Result<(), Fail> {
+        let longest = labels(rt.alloc(), &[63, 63, 63, 61])?;
+        assert_eq!(rt; Name::from_text(rt.alloc(), longest.as_str())?.size(), 255);
+        let longer = labels(rt.alloc(), &[63, 63, 63, 62])?;
+        assert!(rt;
+            matches!(
+                Name::from_text(rt.alloc(), longer.as_str()),
+                Err(NameError::LongName)
+            )
+        );
+        let wider = labels(rt.alloc(), &[64])?;
+        assert!(rt;
+            matches!(
+                Name::from_text(rt.alloc(), wider.as_str()),
+                Err(NameError::LongLabel)
+            )
+        );
+        let both = labels(rt.alloc(), &[63, 63, 61, 64])?;
+        assert!(rt;
+            matches!(
+                Name::from_text(rt.alloc(), both.as_str()),
+                Err(NameError::LongLabel)
+            )
+        );
+        Ok(())
+    }
+
+    #[test]
+    fn names_under_an_origin(rt: HostRuntime) -> Result<(), Fail> {
+        let origin = Name::from_text(rt.alloc(), "example.com")?;
+        let rows = [
+            (b"www".as_slice(), "www.example.com."),
+            (b"www.", "www."),
+            (b"a\\.", "a\\..example.com."),
+            (b".", "."),
+        ];
+        for (text, wanted) in rows {
+            let written = Name::under(rt.alloc(), text, &origin)?.to_text()?;
+            assert!(rt; written.as_str() == wanted, "{wanted}");
+        }
+        let longest = Name::from_text(rt.alloc(), labels(rt.alloc(), &[63, 63, 63, 59])?.as_str())?;
+        assert_eq!(rt; Name::under(rt.alloc(), b"b", &longest)?.size(), 255);
+        assert!(rt;
+            matches!(
+                Name::under(rt.alloc(), b"bc", &longest),
+                Err(NameError::LongName)
+            )
+        );
+        Ok(())
+    }
+}

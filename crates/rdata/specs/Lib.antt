@@ -1,4 +1,5 @@
 pub mod Data
 pub mod Kept
 pub mod Records
+pub mod Text
 pub mod Types

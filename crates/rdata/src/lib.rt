@@ -3,14 +3,18 @@
 
 mod addr;
 mod data;
+mod laws;
 mod records;
 mod rtype;
 mod soa;
+mod text;
 mod texts;
 
 pub use addr::Addr;
 pub use data::RData;
+pub use laws::same_data_law;
 pub use records::{Record, Records};
 pub use rtype::RType;
 pub use soa::Soa;
+pub use text::{put_data, put_ipv4};
 pub use texts::{CharacterString, Texts};

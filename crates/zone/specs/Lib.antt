@@ -1,3 +1,10 @@
+pub mod Faults
+pub mod Kept
+pub mod Last
 pub mod Links
 pub mod Look
+pub mod Referrals
+pub mod Ruled
+pub mod Rules
+pub mod Same
 pub mod Zones

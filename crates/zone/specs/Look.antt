@@ -86,6 +86,13 @@ wild z q = wild_at z (closest z q)
 abbrev pub link_by : Record → Zone → List (List ℕ) → ℕ → Link
 link_by soa z q t = cond (exists z q) (said soa q t (at q z.records)) (said_wild soa q t (wild z q))
 
+-- The way up to the closest encloser where no cut stands: the first name above with an owner at or under
+-- it, whose wildcard answers.
+abbrev pub climbed : Record → List (List ℕ) → ℕ → List Record → List (List ℕ) → Link
+climbed soa q t rs [] = said_wild soa q t []
+climbed soa q t rs (l ∷ []) = said_wild soa q t []
+climbed soa q t rs (l ∷ m ∷ ms) = cond (list_any (λ (r : Record). is_under r.owner (m ∷ ms)) rs) (said_wild soa q t (at (star ∷ m ∷ ms) rs)) (climbed soa q t rs (m ∷ ms))
+
 -- A referral's records: the NS set of the cut, and the addresses of its targets, target by target.
 abbrev pub ns_of : Zone → List (List ℕ) → List Record
 ns_of z c = firsts (of_type ns_type (at c z.records))

@@ -1,0 +1,25 @@
+use Rattle.std.proofs.Common.{◌≡◌, ◌∙◌, sym, ap, subst, List, ℕ}
+use Rattle.dname.specs.Labels.{AreLabels}
+use Rattle.authority.specs.Catalogs.{zone_over}
+use Rattle.authority.proofs.Ascents.{shorter, zone_stops, zone_goes_on, zone_found, zone_next}
+use Rattle.authority.proofs.catalog.zone_over.Goals as goal
+
+pub returns-in-Some : goal.returns-in-Some
+returns-in-Some g c =
+    let labels : AreLabels c.in_ok-up.up = subst (λ (n : List (List ℕ)). AreLabels n) (sym c.in_ok-up.ensures.cases) c.is_well_formed.ensures.labels in
+    zone_stops c.args.zones.now c.in_ok-up.up c.in-Some.found.now labels c.in-Some.ensures ∙ ap (zone_over c.args.zones.now) c.in_ok-up.ensures.cases
+
+pub up-init : goal.up-init
+up-init g c =
+    let labels : AreLabels c.in_ok-up.up = subst (λ (n : List (List ℕ)). AreLabels n) (sym c.in_ok-up.ensures.cases) c.is_well_formed.ensures.labels in
+    zone_goes_on c.args.zones.now c.in_ok-up.up labels c.in_default.ensures ∙ ap (zone_over c.args.zones.now) c.in_ok-up.ensures.cases
+
+pub returns-in-Some-zone_at : goal.returns-in-Some-zone_at
+returns-in-Some-zone_at g c =
+    zone_found c.args.zones.now c.up.up c.ascend.new.self c.args.name.now c.in-Some-zone_at.found.now c.up-test.ensures.above c.up.invariant c.in-Some-zone_at.ensures
+
+pub up-smaller : goal.up-smaller
+up-smaller g c = shorter c.up.up c.ascend.new.self c.up-test.ensures.above
+
+pub up-preserved : goal.up-preserved
+up-preserved g c = zone_next c.args.zones.now c.up.up c.ascend.new.self c.args.name.now c.up-test.ensures.above c.up.invariant c.in_default-zone_at.ensures

@@ -1,0 +1,13 @@
+-- Refusals of a catalog and their numbers.
+use Rattle.std.specs.Prelude.{◌≡◌, ℕ, Bool, true}
+use Rattle.authority.specs.declared.catalog.CatalogError.{CatalogError}
+use Rattle.authority.specs.declared.catalog.CatalogError.TheVariants.{Twins, Memory}
+
+abbrev pub catalog_fault_number : CatalogError → ℕ
+catalog_fault_number Twins = 1
+catalog_fault_number Memory = 2
+
+-- Two zones of one origin are refused as such; memory can be wanting at any time.
+abbrev pub CatalogRefuses : CatalogError → Bool → Type 0
+CatalogRefuses Twins twins = twins ≡ true
+CatalogRefuses Memory twins = Unit {0}

@@ -1,0 +1,34 @@
+-- What a look-up over a list of records picks.
+use Rattle.std.specs.Prelude.{ℕ, Bool, true, false, ◌&&◌, List, [], ◌∷◌, filter}
+use Rattle.std.specs.List.{list_any}
+use Rattle.dname.specs.Labels.{star, is_under, same_name}
+use Rattle.rdata.specs.Data.{Datum, same_data}
+use Rattle.rdata.specs.Records.{Record}
+use Rattle.zone.specs.Look.{is_owned, is_type}
+
+-- The name itself, or the wildcard right under it.
+abbrev pub target : Bool → List (List ℕ) → List (List ℕ)
+target true n = star ∷ n
+target false n = n
+
+-- A record of that owner and type.
+abbrev pub is_picked : List (List ℕ) → ℕ → Record → Bool
+is_picked n t r = is_owned n r && is_type t r
+
+abbrev pub picked : List (List ℕ) → ℕ → List Record → List Record
+picked n t rs = filter (is_picked n t) rs
+
+abbrev pub has_data : Datum → List Record → Bool
+has_data d rs = list_any (λ (s : Record). same_data s.value d) rs
+
+abbrev pub has_glue : Record → List Record → Bool
+has_glue r rs = list_any (λ (s : Record). same_name s.owner r.owner && same_data s.value r.value) rs
+
+-- Some owner is at or under the name.
+abbrev pub has_under : List (List ℕ) → List Record → Bool
+has_under n rs = list_any (λ (r : Record). is_under r.owner n) rs
+
+-- The labels behind the first.
+abbrev pub above : List (List ℕ) → List (List ℕ)
+above [] = []
+above (l ∷ ls) = ls

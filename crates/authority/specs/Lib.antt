@@ -1,0 +1,5 @@
+pub mod Answers
+pub mod CatalogFaults
+pub mod Catalogs
+pub mod Causes
+pub mod Climb

@@ -1,0 +1,26 @@
+use dname::Name;
+use rdata::{Record, Records};
+use std::alloc::{Allocator, Global};
+
+/// What a zone says of a name and a type (RFC 1034, section 4.3.2; RFC 2308).
+#[derive(Drop)]
+pub enum Link<A: Allocator = Global> {
+    /// The record set.
+    Found(Records<A>),
+    /// The CNAME record.
+    Alias(Record<A>),
+    /// The name exists without such records; with the zone's SOA.
+    NoData(Record<A>),
+    /// The name does not exist; with the zone's SOA.
+    NxDomain(Record<A>),
+}
+
+/// What the local zones say.
+#[derive(Drop)]
+pub enum Local<A: Allocator = Global> {
+    Link(Link<A>),
+    /// The name is delegated: the cut, its NS set and the addresses of its servers that the zone has.
+    Cut(Name<A>, Records<A>, Records<A>),
+    /// No local zone is over the name.
+    NotHere,
+}

@@ -1,0 +1,151 @@
+ghost use Rattle.std.specs.Prelude.{◌≡◌, ◌||◌, ℕ, Some, None, find, IfOk, MatchResult, true, false};
+ghost use Rattle.std.specs.List.{list_any};
+ghost use Rattle.std.specs.Option.{option_copied};
+ghost use Rattle.dname.specs.Labels.{same_name};
+ghost use Rattle.rdata.specs.Types.{type_number};
+ghost use Rattle.authority.specs.Answers.{local_view};
+ghost use Rattle.authority.specs.Catalogs.{zone_at, zone_over, looked, has_twins};
+ghost use Rattle.authority.specs.CatalogFaults.{catalog_fault_number, CatalogRefuses};
+
+use crate::answer::Local;
+use crate::plain::look_in;
+use dname::{Heap, Name, Starved};
+use rdata::RType;
+use std::alloc::{Allocator, Global};
+use std::fmt;
+use std::marker::Model;
+use zone::Zone;
+
+/// Why zones are no catalog.
+#[derive(Clone, Copy, Debug, PartialEq, Eq)]
+pub enum CatalogError {
+    /// Two zones have one origin.
+    Twins,
+    /// A growth was refused.
+    Memory,
+}
+
+impl CatalogError {
+    /// The number of the refusal.
+    pub fn number(self) -> u8
+        ensures { result ≡ catalog_fault_number self }
+    {
+        match self {
+            CatalogError::Twins => 1,
+            CatalogError::Memory => 2,
+        }
+    }
+}
+
+impl fmt::Display for CatalogError {
+    fn fmt<W: fmt::Write>(&self, f: &mut fmt::Formatter<W>) -> fmt::Result {
+        match self {
+            CatalogError::Twins => write!(f, "two zones have one origin"),
+            CatalogError::Memory => write!(f, "out of memory"),
+        }
+    }
+}
+
+impl std::error::Error for CatalogError {}
+
+/// Zones of different origins. Contracts see their list.
+#[derive(Drop)]
+pub struct Catalog<A: Allocator = Global> {
+    zones: Vec<Zone<A>, A>,
+}
+
+impl<A: Allocator> Model for Catalog<A> {
+    ghost use Rattle.std.specs.Prelude.{◌≡◌, List, false};
+    ghost use Rattle.zone.specs.Zones.{Zone};
+    ghost use Rattle.authority.specs.Catalogs.{has_twins};
+
+    ghost Value = { List Zone };
+
+    ghost view = { λ c. c.zones.items };
+
+    ghost invariant = { λ c. has_twins c.zones.items ≡ false };
+}
+
+fn is_at<A: Allocator>(zone: &Zone<A>, name: &Name<A>) -> bool
+    ensures { result ≡ same_name zone.now.origin name.now }
+{
+    *zone.origin() == *name
+}
+
+// The zone of that origin.
+fn zone_at<'a, A: Allocator>(zones: &'a [Zone<A>], name: &Name<A>) -> Option<&'a Zone<A>>
+    ensures { option_copied result ≡ zone_at name.now zones.now }
+{
+    zones.iter().find(|zone| is_at(zone, name))
+}
+
+fn has_zone_at<A: Allocator>(zones: &[Zone<A>], name: &Name<A>) -> bool
+    ensures { result ≡ list_any (λ z. same_name z.origin name.now) zones.now }
+{
+    zones.iter().any(|zone| is_at(zone, name))
+}
+
+fn has_twin_of<A: Allocator>(zone: &Zone<A>, others: &[Zone<A>]) -> bool
+    ensures { result ≡ list_any (λ z. same_name z.origin zone.now.origin) others.now }
+{
+    has_zone_at(others, zone.origin())
+}
+
+// Whether two zones have one origin.
+fn has_twins<A: Allocator>(zones: &[Zone<A>]) -> bool
+    ensures { result ≡ has_twins zones.now }
+{
+    match zones {
+        [] => false,
+        [first, rest @ ..] => has_twin_of(first, rest) || has_twins(rest),
+    }
+}
+
+// The zone with the longest origin over the name.
+fn zone_over<'a, A: Heap>(
+    zones: &'a [Zone<A>],
+    name: &Name<A>,
+) -> Result<Option<&'a Zone<A>>, Starved>
+    ensures { IfOk result (λ z. option_copied z ≡ zone_over zones.now name.now) }
+{
+    name.is_well_formed();
+    let mut up = name.clone()?;
+    if let Some(found) = zone_at(zones, &up) {
+        return Ok(Some(found));
+    }
+    'up: while up.ascend() {
+        if let Some(found) = zone_at(zones, &up) {
+            return Ok(Some(found));
+        }
+    }
+    Ok(None)
+}
+
+impl<A: Heap> Catalog<A> {
+    /// The catalog of these zones; refused where two have one origin.
+    pub fn new(zones: Vec<Zone<A>, A>) -> Result<Catalog<A>, CatalogError>
+        ensures { MatchResult result (λ c. (c ≡ zones.items) × (has_twins zones.items ≡ false)) (λ e. CatalogRefuses e (has_twins zones.items)) }
+    {
+        if has_twins(&zones) {
+            return Err(CatalogError::Twins);
+        }
+        Ok(Catalog { zones })
+    }
+
+    /// What the zone with the longest origin over the name says of it.
+    pub fn look(&self, alloc: A, name: &Name<A>, kind: RType) -> Result<Local<A>, Starved>
+        ensures { IfOk result (λ l. local_view l ≡ looked self.now name.now (type_number kind)) }
+    {
+        match zone_over(&self.zones, name)? {
+            None => Ok(Local::NotHere),
+            Some(zone) => Ok(look_in(
+                alloc,
+                zone.origin(),
+                zone.denial(),
+                zone.records(),
+                name,
+                kind,
+            )?),
+        }
+    }
+}

@@ -1,0 +1,35 @@
+ghost use Rattle.std.specs.Prelude.{◌≡◌};
+ghost use Rattle.authority.specs.Causes.{cause_number};
+
+/// Why a query is answered SERVFAIL (RFC 1035, section 4.1.1).
+#[derive(Clone, Copy, Debug, PartialEq, Eq)]
+pub enum Cause {
+    /// Too many queries are open.
+    TooManyOpen,
+    /// The query's deadline is over.
+    Deadline,
+    /// More aliases than a chain may have.
+    Chain,
+    /// The query has sent as often as it may.
+    Sends,
+    /// No server is left to ask.
+    NoServer,
+    /// The reply is too large to be sent.
+    Large,
+}
+
+impl Cause {
+    /// Its number in output lines.
+    pub fn number(self) -> u8
+        ensures { result ≡ cause_number self }
+    {
+        match self {
+            Cause::TooManyOpen => 1,
+            Cause::Deadline => 2,
+            Cause::Chain => 3,
+            Cause::Sends => 4,
+            Cause::NoServer => 5,
+            Cause::Large => 6,
+        }
+    }
+}

@@ -1,0 +1,11 @@
+//! Local look-up: what the zones at hand say of a name and a type (RFC 1034, section 4.3.2).
+#![tactic(auto)]
+
+mod answer;
+mod catalog;
+mod cause;
+mod plain;
+
+pub use answer::{Link, Local};
+pub use catalog::{Catalog, CatalogError};
+pub use cause::Cause;

@@ -1,0 +1,378 @@
+// Look-up by walking a zone's list of records.
+ghost use Rattle.std.specs.Prelude.{◌≡◌, ◌&&◌, ℕ, List, cond, true, find, filter, fold, Some, None, IfOk, OnOk, map};
+ghost use Rattle.std.specs.List.{list_any};
+ghost use Rattle.std.specs.Option.{option_copied};
+ghost use Rattle.dname.specs.Labels.{is_under, same_name};
+ghost use Rattle.rdata.specs.Types.{type_number};
+ghost use Rattle.rdata.specs.Data.{same_data};
+ghost use Rattle.rdata.specs.Kept.{datum};
+ghost use Rattle.zone.specs.Zones.{ns_type, cname_type};
+ghost use Rattle.zone.specs.Look.{is_type, is_owned, at, of_type, owns, is_cut, cut_of, firsts, with_owner, said, said_alias, said_wild, ns_of, glue_of, local_by, or_else, add_new, add_glue, is_address, addresses_of, climbed, Cut, link_by};
+ghost use Rattle.authority.specs.Answers.{link_view, local_view};
+ghost use Rattle.authority.specs.Climb.{target, is_picked, picked, has_data, has_glue, has_under};
+
+use crate::answer::{Link, Local};
+use dname::{Heap, Name, Starved};
+use rdata::{RData, RType, Record, Records};
+use std::alloc::Allocator;
+
+// Whether a record stands at the name, or at the wildcard right under it.
+fn stands<A: Allocator>(added: &Record<A>, name: &Name<A>, wild: bool) -> bool
+    ensures { result ≡ is_owned (target wild name.now) added.now }
+{
+    if wild {
+        added.owner.is_wildcard_of(name)
+    } else {
+        added.owner == *name
+    }
+}
+
+fn is_kind<A: Allocator>(added: &Record<A>, kind: RType) -> bool
+    ensures { result ≡ is_type (type_number kind) added.now }
+{
+    added.value.kind().number() == kind.number()
+}
+
+// Whether it stands there and has the type.
+fn answers<A: Allocator>(added: &Record<A>, name: &Name<A>, wild: bool, kind: RType) -> bool
+    ensures { result ≡ is_picked (target wild name.now) (type_number kind) added.now }
+{
+    stands(added, name, wild) && is_kind(added, kind)
+}
+
+// Whether some record of the type stands there.
+fn has_any<A: Allocator>(records: &[Record<A>], name: &Name<A>, wild: bool, kind: RType) -> bool
+    ensures { result ≡ list_any (is_picked (target wild name.now) (type_number kind)) records.now }
+{
+    records.iter().any(|added| answers(added, name, wild, kind))
+}
+
+// Whether any record stands there.
+fn is_held<A: Allocator>(records: &[Record<A>], name: &Name<A>, wild: bool) -> bool
+    ensures { result ≡ list_any (is_owned (target wild name.now)) records.now }
+{
+    records.iter().any(|added| stands(added, name, wild))
+}
+
+fn is_owner_under<A: Allocator>(added: &Record<A>, name: &Name<A>) -> bool
+    ensures { result ≡ is_under added.now.owner name.now }
+{
+    added.owner.is_at_or_under(name)
+}
+
+// Whether some owner is at or under the name.
+fn has_owner_under<A: Allocator>(records: &[Record<A>], name: &Name<A>) -> bool
+    ensures { result ≡ has_under name.now records.now }
+{
+    records.iter().any(|added| is_owner_under(added, name))
+}
+
+// The first record of the type there.
+fn first_of<'a, A: Allocator>(
+    records: &'a [Record<A>],
+    name: &Name<A>,
+    wild: bool,
+    kind: RType,
+) -> Option<&'a Record<A>>
+    ensures { option_copied result ≡ find (is_picked (target wild name.now) (type_number kind)) records.now }
+{
+    records
+        .iter()
+        .find(|added| answers(added, name, wild, kind))
+}
+
+fn has_value<A: Allocator>(kept: &Record<A>, value: &RData<A>) -> bool
+    ensures { result ≡ same_data kept.now.value (datum value.now) }
+{
+    kept.value.is_same(value)
+}
+
+// Whether the set has that data.
+fn has<A: Allocator>(set: &[Record<A>], value: &RData<A>) -> bool
+    ensures { result ≡ has_data (datum value.now) set.now }
+{
+    set.iter().any(|kept| has_value(kept, value))
+}
+
+fn owned_by<A: Heap>(owner: &Name<A>, added: &Record<A>) -> Result<Record<A>, Starved>
+    ensures { IfOk result (λ r. r ≡ with_owner owner.now added.now) }
+{
+    Ok(Record {
+        owner: owner.clone()?,
+        ttl: added.ttl,
+        value: added.value.clone()?,
+    })
+}
+
+// One record more with that owner, where its data is new.
+fn put_new<A: Heap>(set: &mut Records<A>, owner: &Name<A>, added: &Record<A>) -> Result<(), Starved>
+    ensures { OnOk result (set.new ≡ add_new set.old (with_owner owner.now added.now)) }
+{
+    if has(set.as_slice(), &added.value) {
+        return Ok(());
+    }
+    set.push(owned_by(owner, added)?)?;
+    Ok(())
+}
+
+// The same of a record that may have another type or name.
+fn put_picked<A: Heap>(
+    set: &mut Records<A>,
+    owner: &Name<A>,
+    added: &Record<A>,
+    picked: bool,
+) -> Result<(), Starved>
+    ensures { OnOk result (set.new ≡ cond picked (add_new set.old (with_owner owner.now added.now)) set.old) }
+{
+    if picked {
+        put_new(set, owner, added)?;
+    }
+    Ok(())
+}
+
+// The set of a type there, each record once, with `owner` as owner.
+fn gathered<A: Heap>(
+    alloc: A,
+    records: &[Record<A>],
+    owner: &Name<A>,
+    kind: RType,
+    name: &Name<A>,
+    wild: bool,
+) -> Result<Records<A>, Starved>
+    ensures { IfOk result (λ set. set ≡ firsts (map (with_owner owner.now) (picked (target wild name.now) (type_number kind) records.now))) }
+{
+    let mut set = Records::new(alloc);
+    for added in records {
+        put_picked(&mut set, owner, added, answers(added, name, wild, kind))?;
+    }
+    Ok(set)
+}
+
+// An alias there, with `owner` as owner, or the denial.
+fn alias_or_none<A: Heap>(
+    records: &[Record<A>],
+    soa: &Record<A>,
+    owner: &Name<A>,
+    name: &Name<A>,
+    wild: bool,
+) -> Result<Link<A>, Starved>
+    ensures { IfOk result (λ l. link_view l ≡ said_alias soa.now owner.now (picked (target wild name.now) cname_type records.now)) }
+{
+    match first_of(records, name, wild, RType::Cname) {
+        Some(alias) => Ok(Link::Alias(owned_by(owner, alias)?)),
+        None => Ok(Link::NoData(soa.clone()?)),
+    }
+}
+
+// What the records there say.
+fn say<A: Heap>(
+    alloc: A,
+    records: &[Record<A>],
+    soa: &Record<A>,
+    owner: &Name<A>,
+    kind: RType,
+    name: &Name<A>,
+    wild: bool,
+) -> Result<Link<A>, Starved>
+    ensures { IfOk result (λ l. link_view l ≡ said soa.now owner.now (type_number kind) (at (target wild name.now) records.now)) }
+{
+    let set = gathered(alloc, records, owner, kind, name, wild)?;
+    if set.is_empty() {
+        return Ok(alias_or_none(records, soa, owner, name, wild)?);
+    }
+    Ok(Link::Found(set))
+}
+
+// The cut that stands right there.
+fn cut_at<A: Heap>(
+    origin: &Name<A>,
+    records: &[Record<A>],
+    name: &Name<A>,
+) -> Result<Option<Name<A>>, Starved>
+    ensures { IfOk result (λ c. c ≡ cond (is_cut record { origin = origin.now; records = records.now } name.now) (Some name.now) None) }
+{
+    if has_any(records, name, false, RType::Ns) && *name != *origin {
+        return Ok(Some(name.clone()?));
+    }
+    Ok(None)
+}
+
+fn first_or<A: Heap>(nearer: Option<Name<A>>, found: Option<Name<A>>) -> Option<Name<A>>
+    ensures { result ≡ or_else nearer found }
+{
+    match nearer {
+        Some(cut) => Some(cut),
+        None => found,
+    }
+}
+
+// The cut over a name that is nearest to the origin: the last one on the way up.
+fn cut_over<A: Heap>(
+    origin: &Name<A>,
+    records: &[Record<A>],
+    name: &Name<A>,
+) -> Result<Option<Name<A>>, Starved>
+    ensures { IfOk result (λ c. c ≡ cut_of record { origin = origin.now; records = records.now } name.now) }
+{
+    name.is_well_formed();
+    let mut up = name.clone()?;
+    let mut found = cut_at(origin, records, &up)?;
+    'up: while up.ascend() {
+        found = first_or(cut_at(origin, records, &up)?, found);
+    }
+    Ok(found)
+}
+
+// The answer of the wildcard right under the closest encloser of a name that does not exist itself.
+fn climb<A: Heap>(
+    alloc: A,
+    records: &[Record<A>],
+    soa: &Record<A>,
+    name: &Name<A>,
+    kind: RType,
+) -> Result<Link<A>, Starved>
+    ensures { IfOk result (λ l. link_view l ≡ climbed soa.now name.now (type_number kind) records.now name.now) }
+{
+    name.is_well_formed();
+    let mut up = name.clone()?;
+    'up: while up.ascend() {
+        if has_owner_under(records, &up) {
+            return Ok(wildcard(alloc, records, soa, name, kind, &up)?);
+        }
+    }
+    Ok(Link::NxDomain(soa.clone()?))
+}
+
+// What the wildcard right under a name says.
+fn wildcard<A: Heap>(
+    alloc: A,
+    records: &[Record<A>],
+    soa: &Record<A>,
+    name: &Name<A>,
+    kind: RType,
+    encloser: &Name<A>,
+) -> Result<Link<A>, Starved>
+    ensures { IfOk result (λ l. link_view l ≡ said_wild soa.now name.now (type_number kind) (at (target true encloser.now) records.now)) }
+{
+    if is_held(records, encloser, true) {
+        return Ok(say(alloc, records, soa, name, kind, encloser, true)?);
+    }
+    Ok(Link::NxDomain(soa.clone()?))
+}
+
+fn is_address_of<A: Allocator>(added: &Record<A>, name: &Name<A>) -> bool
+    ensures { result ≡ (is_owned name.now added.now && is_address added.now) }
+{
+    added.owner == *name && (is_kind(added, RType::A) || is_kind(added, RType::Aaaa))
+}
+
+fn is_repeat<A: Allocator>(kept: &Record<A>, added: &Record<A>) -> bool
+    ensures { result ≡ (same_name kept.now.owner added.now.owner && same_data kept.now.value added.now.value) }
+{
+    kept.owner == added.owner && kept.value.is_same(&added.value)
+}
+
+fn has_repeat<A: Allocator>(set: &[Record<A>], added: &Record<A>) -> bool
+    ensures { result ≡ has_glue added.now set.now }
+{
+    set.iter().any(|kept| is_repeat(kept, added))
+}
+
+// One address more, where it is new.
+fn put_glue<A: Heap>(set: &mut Records<A>, added: &Record<A>, picked: bool) -> Result<(), Starved>
+    ensures { OnOk result (set.new ≡ cond picked (add_glue set.old added.now) set.old) }
+{
+    if !picked {
+        return Ok(());
+    }
+    if has_repeat(set.as_slice(), added) {
+        return Ok(());
+    }
+    set.push(added.clone()?)?;
+    Ok(())
+}
+
+// The addresses of a server's name.
+fn put_addresses<A: Heap>(
+    set: &mut Records<A>,
+    records: &[Record<A>],
+    name: &Name<A>,
+) -> Result<(), Starved>
+    ensures { OnOk result (set.new ≡ fold add_glue set.old (filter (λ r. is_owned name.now r && is_address r) records.now)) }
+{
+    for added in records {
+        put_glue(set, added, is_address_of(added, name))?;
+    }
+    Ok(())
+}
+
+fn put_server<A: Heap>(
+    set: &mut Records<A>,
+    records: &[Record<A>],
+    server: &Record<A>,
+) -> Result<(), Starved>
+    ensures { OnOk result (set.new ≡ fold add_glue set.old (addresses_of records.now server.now.value)) }
+{
+    if let RData::Ns(name) = &server.value {
+        put_addresses(set, records, name)?;
+    }
+    Ok(())
+}
+
+// The addresses of an NS set's servers, server by server.
+fn glue<A: Heap>(
+    alloc: A,
+    records: &[Record<A>],
+    servers: &[Record<A>],
+) -> Result<Records<A>, Starved>
+    ensures { IfOk result (λ set. set ≡ glue_of records.now servers.now) }
+{
+    let mut set = Records::new(alloc);
+    for server in servers {
+        put_server(&mut set, records, server)?;
+    }
+    Ok(set)
+}
+
+/// What a zone's records give for a name and a type; `soa` is the zone's denial.
+pub fn look_in<A: Heap>(
+    alloc: A,
+    origin: &Name<A>,
+    soa: &Record<A>,
+    records: &[Record<A>],
+    name: &Name<A>,
+    kind: RType,
+) -> Result<Local<A>, Starved>
+    ensures { IfOk result (λ l. local_view l ≡ local_by soa.now record { origin = origin.now; records = records.now } name.now (type_number kind)) }
+{
+    match cut_over(origin, records, name)? {
+        Some(cut) => Ok(refer(alloc, records, cut)?),
+        None => Ok(Local::Link(link(alloc, origin, soa, records, name, kind)?)),
+    }
+}
+
+fn refer<A: Heap>(alloc: A, records: &[Record<A>], cut: Name<A>) -> Result<Local<A>, Starved>
+    ensures { IfOk result (λ l. (origin : List (List ℕ)) → local_view l ≡ Cut cut (ns_of record { origin = origin; records = records.now } cut) (glue_of records.now (ns_of record { origin = origin; records = records.now } cut))) }
+{
+    let servers = gathered(alloc, records, &cut, RType::Ns, &cut, false)?;
+    let addresses = glue(alloc, records, servers.as_slice())?;
+    Ok(Local::Cut(cut, servers, addresses))
+}
+
+// The link of a name over which no cut stands.
+fn link<A: Heap>(
+    alloc: A,
+    origin: &Name<A>,
+    soa: &Record<A>,
+    records: &[Record<A>],
+    name: &Name<A>,
+    kind: RType,
+) -> Result<Link<A>, Starved>
+    requires { cut_of record { origin = origin.now; records = records.now } name.now ≡ None }
+    ensures { IfOk result (λ l. link_view l ≡ link_by soa.now record { origin = origin.now; records = records.now } name.now (type_number kind)) }
+{
+    if has_owner_under(records, name) {
+        return Ok(say(alloc, records, soa, name, kind, name, false)?);
+    }
+    Ok(climb(alloc, records, soa, name, kind)?)
+}

@@ -1,0 +1,21 @@
+-- The lines that the program takes, in the words of `clap`.
+use Rattle.std.specs.Prelude.{Some, true, codes}
+use Rattle.clap.specs.Words.{App, Rule, Text, new_app, new_rule, with_rule, with_subcommand}
+use Rattle.clap.specs.declared.builder.action.ArgAction.TheVariants.{Set}
+
+-- A word that has to stand, and stands once.
+abbrev pub word_rule : Text → Rule
+word_rule name = record (new_rule name) { required = true; action = Some Set }
+
+-- `ask ORIGIN FILE NAME TYPE`
+abbrev pub ask_app : App
+ask_app = with_rule (with_rule (with_rule (with_rule (new_app (codes "ask")) (word_rule (codes "origin"))) (word_rule (codes "file")))
+    (word_rule (codes "name"))) (word_rule (codes "type"))
+
+-- The line without its subcommands: one of them has to stand.
+abbrev pub bare_app : App
+bare_app = let a = new_app (codes "resolverd") in record a { top = record a.top { no_binary_name = true; subcommand_required = true } }
+
+-- The whole line.
+abbrev pub line_app : App
+line_app = with_subcommand bare_app ask_app.top

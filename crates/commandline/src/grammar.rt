@@ -1,0 +1,56 @@
+//! The lines that the program takes, as `clap` reads them: a function for each subcommand.
+ghost use Rattle.std.specs.Prelude.{◌≡◌, IfOk, true, false, codes};
+ghost use Rattle.clap.specs.Words.{app_of, rule_of};
+ghost use Rattle.clap.specs.declared.builder.command.Command.TheViews.{out-Command};
+ghost use Rattle.commandline.specs.Grammar.{ask_app, line_app, word_rule};
+
+use clap::{Arg, ArgAction};
+use std::alloc::{AllocError, Global};
+
+/// What stands below the help: the numbers of faults and statuses in words.
+pub static NUMBERS: &str = "One line on standard error says what went wrong.
+
+  error: FILE:LINE: file K   the master file: 1 unknown type, 2 bad name, 3 bad number, 4 no TTL, 5 no owner,
+                             6 open parenthesis or quote, 7 directive not served, 8 bad class, 9 bad data
+  error: FILE: zone K        the zone: 1 not one SOA at the origin, 2 no NS at the origin, 3 an owner outside,
+                             4 CNAME beside other data, 5 TTLs differ in a set, 6 other data at or beneath a cut,
+                             7 a * inside an owner, 8 NS or SOA at a wildcard, 9 a wildcard beneath a cut
+  error: FILE: unreadable    the file is missing or is not UTF-8
+  error: name K              a name: 1 empty label, 2 label over 63 bytes, 3 name over 255 bytes, 4 bad escape
+  error: type                a type that is not served
+  error: memory, error: output
+
+The exit status is 0 where all went well, 1 for a fault in what was read, 2 for the command line,
+3 for want of memory, and 4 for an unreadable file or failed output.";
+
+// A word that has to stand, and stands once.
+fn word<'a>(alloc: Global, name: &'a str) -> Arg<'a>
+    ensures rule { rule_of result ≡ word_rule name.entry.now }
+    ensures local { result.global ≡ false }
+{
+    Arg::new(alloc, name).required(true).action(ArgAction::Set)
+}
+
+// `ask ORIGIN FILE NAME TYPE`
+fn ask_line<'a>(alloc: Global) -> Result<clap::Command<'a>, AllocError>
+    ensures app { IfOk result (λ c. app_of c ≡ ask_app) }
+    ensures local { IfOk result (λ c. (out-Command c).has_globals ≡ false) }
+{
+    clap::Command::new(alloc, "ask")
+        .about("Answers one query from one zone file")
+        .arg(word(alloc, "origin"))?
+        .arg(word(alloc, "file"))?
+        .arg(word(alloc, "name"))?
+        .arg(word(alloc, "type"))
+}
+
+/// The whole line, after the program's name.
+pub fn line<'a>(alloc: Global) -> Result<clap::Command<'a>, AllocError>
+    ensures app { IfOk result (λ c. app_of c ≡ line_app) }
+{
+    clap::Command::new(alloc, "resolverd")
+        .about("A recursive DNS resolver")
+        .no_binary_name(true)
+        .subcommand_required(true)
+        .subcommand(ask_line(alloc)?)
+}

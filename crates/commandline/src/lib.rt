@@ -1,0 +1,43 @@
+//! The command line of `resolverd`: which subcommand the words name, with what.
+//!
+//! It is a library of its own, so that no other crate's check has to read `clap`.
+#![tactic(auto)]
+
+ghost use Rattle.std.specs.Prelude.{◌≡◌, IfOk, IfErr, true, map, string_bytes};
+ghost use Rattle.clap.specs.Words.{subcommand_of, takes};
+ghost use Rattle.commandline.specs.Grammar.{line_app};
+ghost use Rattle.commandline.specs.Says.{Says};
+ghost use Rattle.commandline.specs.declared.fault.LineFault.TheVariants.{Words, Memory};
+ghost use Rattle.commandline.specs.declared.subcommands.Command.{Command};
+
+mod fault;
+mod grammar;
+mod subcommands;
+
+pub use fault::LineFault;
+use std::alloc::Global;
+pub use subcommands::Command;
+
+/// What the words after the program's name ask for.
+///
+/// A call for help is `LineFault::Words`, as every line that names no command.
+pub fn read_words(alloc: Global, words: &[String]) -> Result<Command, LineFault>
+    ensures ok { IfOk result (Says (subcommand_of line_app (map string_bytes words.now))) }
+    ensures refused { IfErr result (λ e. e ≡ Words → takes line_app (map string_bytes words.now) ≡ true
+        → (command : Command) → Says (subcommand_of line_app (map string_bytes words.now)) command → ⊥) }
+{
+    let line = grammar::line(alloc)?;
+    let matches = line.try_get_matches_from(words)?;
+    subcommands::read_subcommand(alloc, &matches)
+}
+
+/// The text that says what the program can be asked, and what its numbers mean.
+pub fn help_text(alloc: Global) -> Result<String, LineFault>
+    ensures { IfErr result (λ e. e ≡ Memory) }
+{
+    let mut line = grammar::line(alloc)?.after_help(grammar::NUMBERS);
+    Ok(line.render_help()?)
+}
+
+#[cfg(test)]
+mod tests;

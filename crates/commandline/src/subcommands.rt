@@ -1,0 +1,64 @@
+//! The subcommands, read from what `clap` matched: a function and an arm for each.
+ghost use Rattle.std.specs.Prelude.{◌≡◌, IfOk, IfErr, Some, None, string_bytes};
+ghost use Rattle.clap.specs.Words.{found_of, first_of, rows_of, subcommand_rows_of};
+ghost use Rattle.commandline.specs.Says.{Asks, Says};
+ghost use Rattle.commandline.specs.declared.fault.LineFault.TheVariants.{Words};
+ghost use Rattle.commandline.specs.declared.subcommands.Command.{Command};
+
+use crate::fault::LineFault;
+use clap::ArgMatches;
+use std::alloc::Global;
+
+/// What the program is asked to do.
+#[derive(Debug, Drop)]
+pub enum Command {
+    /// `ask ORIGIN FILE NAME TYPE`: answers one query from one zone file.
+    Ask {
+        /// The zone's origin.
+        origin: String,
+        /// The path of the zone's master file.
+        file: String,
+        /// The name that is asked for.
+        name: String,
+        /// The type that is asked for, as a word.
+        kind: String,
+    },
+}
+
+// The word that stands for `id`.
+fn text_of(alloc: Global, found: &ArgMatches<'_>, id: &str) -> Result<String, LineFault>
+    ensures ok { IfOk result (λ copy. first_of id.now (rows_of (found_of found.now)) ≡ Some (string_bytes copy)) }
+    ensures refused { IfErr result (λ e. e ≡ Words → first_of id.now (rows_of (found_of found.now)) ≡ None) }
+{
+    match found.get_str(id) {
+        Some(text) => Ok(String::from_str(alloc, text)?),
+        None => Err(LineFault::Words),
+    }
+}
+
+fn read_ask(alloc: Global, found: &ArgMatches<'_>) -> Result<Command, LineFault>
+    ensures ok { IfOk result (Asks (rows_of (found_of found.now))) }
+    ensures refused { IfErr result (λ e. e ≡ Words → (command : Command) → Asks (rows_of (found_of found.now)) command → ⊥) }
+{
+    let origin = text_of(alloc, found, "origin")?;
+    let file = text_of(alloc, found, "file")?;
+    let name = text_of(alloc, found, "name")?;
+    let kind = text_of(alloc, found, "type")?;
+    Ok(Command::Ask {
+        origin,
+        file,
+        name,
+        kind,
+    })
+}
+
+/// The subcommand that the line names, with its words.
+pub fn read_subcommand(alloc: Global, matches: &ArgMatches<'_>) -> Result<Command, LineFault>
+    ensures ok { IfOk result (Says (subcommand_rows_of matches.now)) }
+    ensures refused { IfErr result (λ e. e ≡ Words → (command : Command) → Says (subcommand_rows_of matches.now) command → ⊥) }
+{
+    match matches.subcommand() {
+        Some(("ask", found)) => read_ask(alloc, found),
+        _ => Err(LineFault::Words),
+    }
+}

@@ -1,0 +1,85 @@
+//! Lines that are taken and lines that are not.
+use super::*;
+use std::process::Abort;
+use std::test::Fail;
+
+fn words(alloc: Global, texts: &[&str]) -> Result<Vec<String>, Fail> {
+    let mut words = Vec::new(alloc);
+    for text in texts {
+        words.push(String::from_str(alloc, text)?)?;
+    }
+    Ok(words)
+}
+
+#[test]
+fn ask_takes_four_words(rt: HostRuntime) -> Result<(), Fail> {
+    let line = words(
+        rt.alloc(),
+        &["ask", "lab.example.", "lab.zone", "x.lab.example.", "TXT"],
+    )?;
+    let Ok(
+        Command::Ask {
+            origin,
+            file,
+            name,
+            kind,
+        },
+    ) = read_words(rt.alloc(), line.as_slice())
+    else {
+        panic!(rt; "the line is refused");
+    };
+    assert_eq!(rt; origin.as_str(), "lab.example.");
+    assert_eq!(rt; file.as_str(), "lab.zone");
+    assert_eq!(rt; name.as_str(), "x.lab.example.");
+    assert_eq!(rt; kind.as_str(), "TXT");
+    Ok(())
+}
+
+fn number_of(rt: &impl Abort, line: &Result<Command, LineFault>) -> u8 {
+    match line {
+        Ok(_) => panic!(rt; "the line is taken"),
+        Err(fault) => fault.number(),
+    }
+}
+
+#[test]
+fn other_lines_are_refused(rt: HostRuntime) -> Result<(), Fail> {
+    let missing = words(
+        rt.alloc(),
+        &["ask", "lab.example.", "lab.zone", "x.lab.example."],
+    )?;
+    assert_eq!(rt;
+        number_of(&rt, &read_words(rt.alloc(), missing.as_slice())),
+        1
+    );
+    let unknown = words(
+        rt.alloc(),
+        &[
+            "answer",
+            "lab.example.",
+            "lab.zone",
+            "x.lab.example.",
+            "TXT",
+        ],
+    )?;
+    assert_eq!(rt;
+        number_of(&rt, &read_words(rt.alloc(), unknown.as_slice())),
+        1
+    );
+    let nothing = words(rt.alloc(), &[])?;
+    assert_eq!(rt;
+        number_of(&rt, &read_words(rt.alloc(), nothing.as_slice())),
+        1
+    );
+    let help = words(rt.alloc(), &["--help"])?;
+    assert_eq!(rt; number_of(&rt, &read_words(rt.alloc(), help.as_slice())), 1);
+    Ok(())
+}
+
+#[test]
+fn help_names_the_subcommand(rt: HostRuntime) -> Result<(), Fail> {
+    let text = help_text(rt.alloc()).ok().ok_or("no help")?;
+    assert!(rt; text.as_str().contains("ask"));
+    assert!(rt; text.as_str().contains("unreadable"));
+    Ok(())
+}

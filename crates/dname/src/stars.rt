@@ -1,0 +1,35 @@
+ghost use Rattle.std.specs.Prelude.{◌≡◌};
+ghost use Rattle.dname.specs.Stars.{is_wildcard, has_inner_star};
+
+use crate::name::Name;
+use crate::walk::next;
+use std::alloc::Allocator;
+
+impl<A: Allocator> Name<A> {
+    /// Whether the first label is `*` (RFC 4592, section 2.1.1).
+    pub fn is_wildcard(&self) -> bool
+        ensures { result ≡ is_wildcard self.now }
+    {
+        match next(&self.bytes) {
+            None => false,
+            Some((label, _)) => label == b"*".as_slice(),
+        }
+    }
+
+    /// Whether a label other than the first is `*`.
+    pub fn has_inner_star(&self) -> bool
+        ensures { result ≡ has_inner_star self.now }
+    {
+        let Some((_, behind)) = next(&self.bytes) else {
+            return false;
+        };
+        let mut rest = behind;
+        while let Some((label, after)) = next(rest) {
+            if label == b"*".as_slice() {
+                return true;
+            }
+            rest = after;
+        }
+        false
+    }
+}

@@ -1,0 +1,42 @@
+-- The laws about messages that the functions of this crate state.
+use Rattle.std.specs.Prelude.{◌≡◌, ℕ, ◌≤◌, List, [], ◌∷◌, ◌++◌, length}
+use Rattle.dname.specs.Labels.{folded_labels, wire}
+use Rattle.layout.specs.Names.{SpeltAt, NameAt}
+use Rattle.layout.specs.Messages.{Question, Message, IsWritable, IsMessage, encoding, folded_message}
+
+-- At a place stands one name at most, and it has one end.
+abbrev pub OneName : Type 0
+OneName = (bytes : List ℕ) (at : ℕ) (a b : List (List ℕ)) (x y : ℕ) → NameAt bytes at a x → NameAt bytes at b y → (a ≡ b) × (x ≡ y)
+
+-- At a place stands one spelling at most.
+abbrev pub OneSpelling : Type 0
+OneSpelling = (bytes : List ℕ) (at : ℕ) (a b : List (List ℕ)) (x y : ℕ) → SpeltAt bytes at a x → SpeltAt bytes at b y → (a ≡ b) × (x ≡ y)
+
+-- The name at a place is its spelling in lower case, and a spelling has the name's end.
+abbrev pub SpellingIsName : Type 0
+SpellingIsName =
+    (bytes : List ℕ) (at : ℕ) (labels name : List (List ℕ)) (x y : ℕ) → SpeltAt bytes at labels x → NameAt bytes at name y
+    → (name ≡ folded_labels labels) × (x ≡ y)
+
+-- Where a name stands, a spelling stands.
+abbrev pub NameIsSpelt : Type 0
+NameIsSpelt = (bytes : List ℕ) (at : ℕ) (name : List (List ℕ)) (end : ℕ) → NameAt bytes at name end → (labels : List (List ℕ)) × SpeltAt bytes at labels end
+
+-- An encoding of at most 65,535 bytes is the message that was encoded, its questions' names in lower case.
+abbrev pub EncodingIsMessage : Type 0
+EncodingIsMessage = (m : Message) → IsWritable m → length (encoding m) ≤ 65535 → IsMessage (encoding m) (folded_message m)
+
+-- The letters of its questions' names change no length of an encoding.
+abbrev pub LettersKeepLength : Type 0
+LettersKeepLength = (m : Message) → length (encoding m) ≡ length (encoding (folded_message m))
+
+-- The encoding of a message of one question is a header of 12 bytes, the question's name in its letters, and
+-- bytes that are the same for every spelling of that name.
+abbrev pub LettersStayInQuestion : Type 0
+LettersStayInQuestion =
+    (m : Message) (q : Question) → m.questions ≡ q ∷ [] → (head tail : List ℕ) × (length head ≡ 12)
+    × (encoding m ≡ head ++ (wire q.name ++ tail)) × (encoding (folded_message m) ≡ head ++ (wire (folded_labels q.name) ++ tail))
+
+-- Bytes are one message at most.
+abbrev pub OneMessage : Type 0
+OneMessage = (bytes : List ℕ) (m n : Message) → IsMessage bytes m → IsMessage bytes n → m ≡ n

@@ -1,0 +1,41 @@
+ghost use Rattle.layout.specs.Laws.{OneName, OneSpelling, SpellingIsName, NameIsSpelt, EncodingIsMessage, LettersKeepLength, LettersStayInQuestion, OneMessage};
+
+/// At a place of a message stands one name at most (RFC 1035, section 4.1.4).
+pub fn one_name()
+    ensures { OneName }
+{}
+
+/// At a place of a message stands one spelling at most.
+pub fn one_spelling()
+    ensures { OneSpelling }
+{}
+
+/// The name at a place is the spelling there, in lower case.
+pub fn spelling_is_name()
+    ensures { SpellingIsName }
+{}
+
+/// Where a name stands, a spelling stands.
+pub fn name_is_spelt()
+    ensures { NameIsSpelt }
+{}
+
+/// The encoding of a message is that message (RFC 1035, section 4): what is written is read back.
+pub fn encoding_is_message()
+    ensures { EncodingIsMessage }
+{}
+
+/// The letters of a question's name change no length.
+pub fn letters_keep_length()
+    ensures { LettersKeepLength }
+{}
+
+/// The letters of a question's name change nothing but the name itself.
+pub fn letters_stay_in_question()
+    ensures { LettersStayInQuestion }
+{}
+
+/// Bytes are one message at most (RFC 1035, section 4).
+pub fn one_message()
+    ensures { OneMessage }
+{}

@@ -1,0 +1,12 @@
+pub mod Above
+pub mod Last
+pub mod LawExists
+pub mod LawFirsts
+pub mod LawLink
+pub mod LawLists
+pub mod LawOne
+pub mod LawReferral
+pub mod LawRules
+pub mod LawTests
+pub mod LawZones
+pub mod Members

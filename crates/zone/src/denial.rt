@@ -1,0 +1,47 @@
+ghost use Rattle.std.specs.Prelude.{◌≡◌, IfOk, find};
+ghost use Rattle.rdata.specs.Kept.{datum};
+ghost use Rattle.zone.specs.Zones.{soa_type};
+ghost use Rattle.zone.specs.Links.{counted, denial_ttl, lessened};
+ghost use Rattle.zone.specs.Look.{is_type, denial_by};
+
+use crate::scan::is_type;
+use dname::{Heap, Starved};
+use rdata::{RData, RType, Record};
+use std::alloc::Allocator;
+
+// A MINIMUM with its top bit set counts as 0 (RFC 2181, section 8).
+fn counted(minimum: u32) -> u32
+    ensures { result ≡ counted minimum }
+{
+    if minimum < 2_147_483_648 { minimum } else { 0 }
+}
+
+fn denial_ttl<A: Allocator>(ttl: u32, value: &RData<A>) -> u32
+    ensures { result ≡ denial_ttl ttl (datum value.now) }
+{
+    match value {
+        RData::Soa(soa) => ttl.min(counted(soa.minimum)),
+        _ => ttl,
+    }
+}
+
+// The SOA as a denial has it: with the lesser of its TTL and MINIMUM (RFC 2308, section 3).
+fn lessened<A: Heap>(soa: &Record<A>) -> Result<Record<A>, Starved>
+    ensures { IfOk result (λ d. d ≡ lessened soa.now) }
+{
+    Ok(Record {
+        owner: soa.owner.clone()?,
+        ttl: denial_ttl(soa.ttl, &soa.value),
+        value: soa.value.clone()?,
+    })
+}
+
+// The denial that the first SOA record makes; none without such a record.
+pub fn denial_in<A: Heap>(records: &[Record<A>]) -> Result<Option<Record<A>>, Starved>
+    ensures { IfOk result (λ d. d ≡ denial_by (find (is_type soa_type) records.now)) }
+{
+    match records.iter().find(|record| is_type(record, RType::Soa)) {
+        None => Ok(None),
+        Some(soa) => Ok(Some(lessened(soa)?)),
+    }
+}

@@ -1,0 +1,134 @@
+ghost use Rattle.std.specs.Prelude.{◌≡◌, ◌&&◌, ◌||◌, IfOk, None, MatchResult};
+ghost use Rattle.std.specs.List.{list_any};
+ghost use Rattle.dname.specs.Stars.{is_wildcard};
+ghost use Rattle.zone.specs.Zones.{ns_type, cname_type, soa_type};
+ghost use Rattle.zone.specs.Look.{is_type};
+ghost use Rattle.zone.specs.Rules.{lacks_soa, lacks_servers, has_foreign_owner, is_out_of_place, has_inner_star, has_wildcard_authority, is_wildcard_beneath};
+ghost use Rattle.zone.specs.Faults.{fault_of, IsFault};
+ghost use Rattle.zone.specs.Kept.{zone_with};
+
+use crate::aliases::has_cname_clash;
+use crate::cuts::Cuts;
+use crate::fault::ZoneError;
+use crate::scan::{count_of_type, is_address, is_type, owns};
+use crate::ttls::has_mixed_ttls;
+use dname::{Heap, Name, Starved};
+use rdata::{RType, Record};
+use std::alloc::Allocator;
+
+// SOA records are other than exactly one, owned by the origin.
+fn lacks_soa<A: Allocator>(origin: &Name<A>, records: &[Record<A>]) -> bool
+    ensures { result ≡ lacks_soa (zone_with origin.now records.now) }
+{
+    if count_of_type(records, RType::Soa) != 1 {
+        return true;
+    }
+    !owns(records, origin, RType::Soa)
+}
+
+// No NS record at the origin.
+fn lacks_servers<A: Allocator>(origin: &Name<A>, records: &[Record<A>]) -> bool
+    ensures { result ≡ lacks_servers (zone_with origin.now records.now) }
+{
+    !owns(records, origin, RType::Ns)
+}
+
+// An owner is not at or under the origin.
+fn has_foreign_owner<A: Allocator>(origin: &Name<A>, records: &[Record<A>]) -> bool
+    ensures { result ≡ has_foreign_owner (zone_with origin.now records.now) }
+{
+    records
+        .iter()
+        .any(|record| !record.owner.is_at_or_under(origin))
+}
+
+// Beneath a cut anything but an address, or at a cut anything but NS and addresses.
+fn is_out_of_place<A: Heap>(cuts: &Cuts<A>, subject: &Record<A>) -> Result<bool, Starved>
+    ensures { IfOk result (λ b. b ≡ is_out_of_place cuts.now subject.now) }
+{
+    if is_address(subject) {
+        return Ok(false);
+    }
+    if cuts.is_cut(&subject.owner) && !is_type(subject, RType::Ns) {
+        return Ok(true);
+    }
+    cuts.is_beneath_cut(&subject.owner)
+}
+
+fn some_is_out_of_place<A: Heap>(cuts: &Cuts<A>, records: &[Record<A>]) -> Result<bool, Starved>
+    ensures { IfOk result (λ b. b ≡ list_any (is_out_of_place cuts.now) records.now) }
+{
+    for record in records {
+        if is_out_of_place(cuts, record)? {
+            return Ok(true);
+        }
+    }
+    Ok(false)
+}
+
+// A label `*` stands in an owner other than as its first.
+fn has_inner_star<A: Allocator>(origin: &Name<A>, records: &[Record<A>]) -> bool
+    ensures { result ≡ has_inner_star (zone_with origin.now records.now) }
+{
+    records.iter().any(|record| record.owner.has_inner_star())
+}
+
+fn is_wildcard_authority<A: Allocator>(subject: &Record<A>) -> bool
+    ensures { result ≡ (is_wildcard subject.now.owner && (is_type ns_type subject.now || is_type soa_type subject.now)) }
+{
+    subject.owner.is_wildcard() && (is_type(subject, RType::Ns) || is_type(subject, RType::Soa))
+}
+
+// NS or SOA at a wildcard.
+fn has_wildcard_authority<A: Allocator>(origin: &Name<A>, records: &[Record<A>]) -> bool
+    ensures { result ≡ has_wildcard_authority (zone_with origin.now records.now) }
+{
+    records.iter().any(|record| is_wildcard_authority(record))
+}
+
+// A wildcard beneath a cut.
+fn some_wildcard_is_beneath<A: Heap>(cuts: &Cuts<A>, records: &[Record<A>]) -> Result<bool, Starved>
+    ensures { IfOk result (λ b. b ≡ list_any (is_wildcard_beneath cuts.now) records.now) }
+{
+    for record in records {
+        if record.owner.is_wildcard() && cuts.is_beneath_cut(&record.owner)? {
+            return Ok(true);
+        }
+    }
+    Ok(false)
+}
+
+/// Whether the records are a zone: the rule of the lowest number that is broken.
+pub fn check<A: Heap>(origin: &Name<A>, records: &[Record<A>]) -> Result<(), ZoneError>
+    ensures { MatchResult result (λ _. fault_of (zone_with origin.now records.now) ≡ None) (λ e. IsFault e (fault_of (zone_with origin.now records.now))) }
+{
+    if lacks_soa(origin, records) {
+        return Err(ZoneError::Soa);
+    }
+    if lacks_servers(origin, records) {
+        return Err(ZoneError::NoServers);
+    }
+    if has_foreign_owner(origin, records) {
+        return Err(ZoneError::ForeignOwner);
+    }
+    if has_cname_clash(origin, records)? {
+        return Err(ZoneError::CnameClash);
+    }
+    if has_mixed_ttls(origin, records)? {
+        return Err(ZoneError::MixedTtls);
+    }
+    let cuts = Cuts::new(origin, records)?;
+    if some_is_out_of_place(&cuts, records)? {
+        return Err(ZoneError::DataAtCut);
+    }
+    if has_inner_star(origin, records) {
+        return Err(ZoneError::InnerStar);
+    }
+    if has_wildcard_authority(origin, records) {
+        return Err(ZoneError::WildcardAuthority);
+    }
+    if some_wildcard_is_beneath(&cuts, records)? {
+        return Err(ZoneError::WildcardBeneathCut);
+    }
+    Ok(())
+}

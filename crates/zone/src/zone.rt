@@ -1,0 +1,82 @@
+ghost use Rattle.std.specs.Prelude.{◌≡◌, None, Some, MatchResult};
+ghost use Rattle.zone.specs.Look.{denial_of};
+ghost use Rattle.zone.specs.Faults.{fault_of, IsFault};
+ghost use Rattle.zone.specs.Kept.{zone_with};
+
+use crate::denial::denial_in;
+use crate::fault::ZoneError;
+use crate::rules::check;
+use dname::{Heap, Name};
+use rdata::{Record, Records};
+use std::alloc::{Allocator, Global};
+use std::marker::Model;
+
+/// A zone (RFC 1034, section 4.2): its records meet all rules of `ZoneError`. Contracts see its origin
+/// and its records in order.
+#[derive(Drop)]
+pub struct Zone<A: Allocator = Global> {
+    origin: Name<A>,
+    records: Records<A>,
+    // The SOA with the lesser of its TTL and MINIMUM, as every denial has it.
+    denial: Record<A>,
+}
+
+impl<A: Allocator> Model for Zone<A> {
+    ghost use Rattle.zone.specs.Zones.{Zone};
+    ghost use Rattle.zone.specs.Kept.{zone_with, IsKept};
+
+    ghost Value = { Zone };
+
+    ghost view = { λ z. zone_with z.origin z.records };
+
+    ghost invariant = { λ z. IsKept (zone_with z.origin z.records) z.denial };
+}
+
+impl<A: Heap> Zone<A> {
+    /// The zone of these records. Refused where they break a rule, by the lowest number, or where a
+    /// growth is refused.
+    pub fn build(origin: Name<A>, records: Records<A>) -> Result<Zone<A>, ZoneError>
+        ensures { MatchResult result (λ z. (z ≡ zone_with origin records) × (fault_of (zone_with origin records) ≡ None)) (λ e. IsFault e (fault_of (zone_with origin records))) }
+    {
+        let Some(denial) = denial_in(records.as_slice())? else {
+            return Err(ZoneError::Soa);
+        };
+        check(&origin, records.as_slice())?;
+        Ok(Zone {
+            origin,
+            records,
+            denial,
+        })
+    }
+}
+
+impl<A: Allocator> Zone<A> {
+    /// Its origin: the name at its top.
+    pub fn origin(&self) -> &Name<A>
+        ensures { result.now ≡ self.now.origin }
+    {
+        &self.origin
+    }
+
+    /// Its records in the order in which they were given.
+    pub fn records(&self) -> &[Record<A>]
+        ensures { result.now ≡ self.now.records }
+    {
+        self.records.as_slice()
+    }
+
+    /// The SOA that its denials carry: its TTL is the lesser of the record's own and MINIMUM (RFC 2308,
+    /// section 3).
+    pub fn denial(&self) -> &Record<A>
+        ensures { denial_of self.now ≡ Some result.now }
+    {
+        &self.denial
+    }
+
+    /// A law: its records meet all rules.
+    pub(crate) fn is_sound(&self)
+        ensures { fault_of self.now ≡ None }
+    {
+        let _ = &self.origin;
+    }
+}
