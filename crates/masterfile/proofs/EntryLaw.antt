@@ -45,16 +45,16 @@ record_entry c lead all owner ws y o e =
       head = head_is ws a.0 a.1;
       time = some_ttl (first_some a.0.ttl (first_some c.standing c.stated)) b.0 b.1;
       value = data_is c.origin a.0.kind a.0.rest d.0.0 d.0.1 d.1 f.0;
-      after = sym (ap (λ (x : Found). x.1) f.1)
+      after = sym (ap (λ (x : Found). x.1) f.1);
     })
 
 none_is : (c : Context) (y : Found) → no_record c ≡ Ok y → (y.0 ≡ None) × (y.1 ≡ c)
 none_is c y e = let p = pair_is None y.0 c y.1 e in (sym p.0, sym p.1)
 
 directive_by : (c : Context) (d : List ℕ) (ws : List Word) (next : Context) (y : Found) (a b : Bool) → begins_directive d ≡ true → same_word d (codes "$ORIGIN") ≡ a → same_word d (codes "$TTL") ≡ b
-  → cond a (take_name c.origin ws >>= λ (n : List (List ℕ) × List Word). take_end (record c { origin = n.0 }) n.1)
+    → cond a (take_name c.origin ws >>= λ (n : List (List ℕ) × List Word). take_end (record c { origin = n.0 }) n.1)
     (cond b (take_number greatest_ttl ws >>= λ (n : ℕ × List Word). take_end (record c { standing = Some n.0 }) n.1) (Err UnknownDirective)) ≡ Ok next
-  → y.0 ≡ None → y.1 ≡ next → Says c margin (plain d ∷ ws) y.0 y.1
+    → y.0 ≡ None → y.1 ≡ next → Says c margin (plain d ∷ ws) y.0 y.1
 directive_by c d ws next y true b k o t e r n =
     let s = steps (take_name c.origin ws) (λ (m : List (List ℕ) × List Word). take_end (record c { origin = m.0 }) m.1) next e in
     let after : Context = record c { origin = s.0.0 } in
@@ -70,13 +70,13 @@ directive_by c d ws next y false true k o t e r n =
 directive_by c d ws next y false false k o t e r n = cc
 
 named_entry : (c : Context) (lead : Lead) (all : List Word) (w : List ℕ) (ws : List Word) (y : Found)
-  → ((owner : List (List ℕ)) → name_of c.origin w ≡ Ok owner → IsOwner c lead all owner ws) → record_of_named c w ws ≡ Ok y → Says c lead all y.0 y.1
+    → ((owner : List (List ℕ)) → name_of c.origin w ≡ Ok owner → IsOwner c lead all owner ws) → record_of_named c w ws ≡ Ok y → Says c lead all y.0 y.1
 named_entry c lead all w ws y o e =
     let s = steps (name_of c.origin w) (λ (owner : List (List ℕ)). record_of c owner ws) y e in
     record_entry c lead all s.0 ws y (o s.0 s.1) s.2
 
 margin_by : (c : Context) (w : List ℕ) (ws : List Word) (y : Found) (b : Bool) → begins_directive w ≡ b → cond b (directive_in c w ws >>= no_record) (record_of_named c w ws) ≡ Ok y
-  → Says c margin (plain w ∷ ws) y.0 y.1
+    → Says c margin (plain w ∷ ws) y.0 y.1
 margin_by c w ws y true k e =
     let s = steps (directive_in c w ws) no_record y e in
     let n = none_is s.0 y s.2 in
@@ -99,7 +99,7 @@ record_read c lead ws r next h =
     rw (head_read h.behind h.stated h.kind h.rest h.head, h.time, data_read c.origin h.kind h.rest r.value h.value, h.after) refl
 
 entry_read : (c : Context) (lead : Lead) (ws : List Word) (owner : List (List ℕ)) (behind : List Word) (w : List ℕ) (more : List Word) (y : Result Found FileKind) → IsOwner c lead ws owner behind
-  → behind ≡ plain w ∷ more → record_of c owner behind ≡ y → entry_in c lead ws ≡ y
+    → behind ≡ plain w ∷ more → record_of c owner behind ≡ y → entry_in c lead ws ≡ y
 entry_read c blank ws owner behind w more y o h e =
     rw (sym o.1 ∙ h) (rw o.0 (subst (λ (b : List Word). record_of c owner b ≡ y) h e))
 entry_read c shifted ws owner behind w more y o h e = rw (o.1, o.2) e

@@ -50,9 +50,9 @@ data Step (ttl : Option ℕ) (classed : Bool) (w : List ℕ) (ws : List Word) (h
   a_type : IsTypeWord w h.kind → h.ttl ≡ ttl → h.rest ≡ ws → Step ttl classed w ws h
 
 step_by : (ttl : Option ℕ) (classed : Bool) (w : List ℕ) (ws : List Word) (h : Head) (a b d : Bool) → is_number w ≡ a → is_internet w ≡ b → is_foreign_class w ≡ d
-  → cond a (cond (is_some ttl) (Err UnknownType) (number_of greatest_ttl w >>= λ (n : ℕ). take_head (Some n) classed ws))
+    → cond a (cond (is_some ttl) (Err UnknownType) (number_of greatest_ttl w >>= λ (n : ℕ). take_head (Some n) classed ws))
     (cond b (cond classed (Err UnknownType) (take_head ttl true ws)) (cond d (cond classed (Err UnknownType) (Err BadClass)) (head_of_type (type_named w) ttl ws))) ≡ Ok h
-  → Step ttl classed w ws h
+    → Step ttl classed w ws h
 step_by None classed w ws h true b d p q r e =
     let s = steps (number_of greatest_ttl w) (λ (n : ℕ). take_head (Some n) classed ws) h e in a_ttl s.0 refl s.1 s.2
 step_by (Some n) classed w ws h true b d p q r e = cc
@@ -78,9 +78,9 @@ ttl_last : (v : List ℕ) (n : ℕ) (all ws : List Word) (h : Head) → all ≡ 
 ttl_last v n all ws h a l e =
     let s = word_step (Some n) false ws h e in
     elim s.3 [
-      a_ttl m p q r ↦ cc
+      | a_ttl m p q r ↦ cc
       | a_class p c r ↦ (let f = last_step n s.1 h r in
-        ttl_and_class _ _ _ _ v s.0 f.0 n (a ∙ ap (λ (x : List Word). plain v ∷ x) (s.2 ∙ ap (λ (x : List Word). plain s.0 ∷ x) f.1)) f.3 l c f.2)
+          ttl_and_class _ _ _ _ v s.0 f.0 n (a ∙ ap (λ (x : List Word). plain v ∷ x) (s.2 ∙ ap (λ (x : List Word). plain s.0 ∷ x) f.1)) f.3 l c f.2)
       | a_type k t r ↦ ttl_first _ _ _ _ v s.0 n (a ∙ ap (λ (x : List Word). plain v ∷ x) (s.2 ∙ ap (λ (x : List Word). plain s.0 ∷ x) (sym r))) t l k
     ]
 
@@ -88,8 +88,8 @@ class_last : (c : List ℕ) (all ws : List Word) (h : Head) → all ≡ plain c 
 class_last c all ws h a i e =
     let s = word_step None true ws h e in
     elim s.3 [
-      a_ttl m p l r ↦ (let f = last_step m s.1 h r in
-        class_and_ttl _ _ _ _ c s.0 f.0 m (a ∙ ap (λ (x : List Word). plain c ∷ x) (s.2 ∙ ap (λ (x : List Word). plain s.0 ∷ x) f.1)) f.3 i l f.2)
+      | a_ttl m p l r ↦ (let f = last_step m s.1 h r in
+          class_and_ttl _ _ _ _ c s.0 f.0 m (a ∙ ap (λ (x : List Word). plain c ∷ x) (s.2 ∙ ap (λ (x : List Word). plain s.0 ∷ x) f.1)) f.3 i l f.2)
       | a_class p q r ↦ cc
       | a_type k t r ↦ class_first _ _ _ _ c s.0 (a ∙ ap (λ (x : List Word). plain c ∷ x) (s.2 ∙ ap (λ (x : List Word). plain s.0 ∷ x) (sym r))) t i k
     ]
@@ -98,7 +98,7 @@ pub head_is : (ws : List Word) (h : Head) → take_head None false ws ≡ Ok h �
 head_is ws h e =
     let s = word_step None false ws h e in
     elim s.3 [
-      a_ttl m p l r ↦ ttl_last s.0 m ws s.1 h s.2 l r
+      | a_ttl m p l r ↦ ttl_last s.0 m ws s.1 h s.2 l r
       | a_class p c r ↦ class_last s.0 ws s.1 h s.2 c r
       | a_type k t r ↦ type_alone _ _ _ _ s.0 (s.2 ∙ ap (λ (x : List Word). plain s.0 ∷ x) (sym r)) t k
     ]

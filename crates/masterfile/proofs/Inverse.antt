@@ -37,7 +37,7 @@ onto_ok x (Err k) ys e = cc
 
 -- a field is a word, and its reading
 pub field : {X : Type 0} (read : List ℕ → Result X FileKind) (ws : List Word) (x : X) (rest : List Word) → take_by read ws ≡ Ok (x, rest)
-  → (w : List ℕ) × (ws ≡ plain w ∷ rest) × (read w ≡ Ok x)
+    → (w : List ℕ) × (ws ≡ plain w ∷ rest) × (read w ≡ Ok x)
 field read [] x rest e = cc
 field read (quoted w ∷ ws) x rest e = cc
 field read (broken ∷ ws) x rest e = cc
@@ -56,8 +56,8 @@ at_end : (w : List ℕ) (ws rest last : List Word) → ws ≡ plain w ∷ rest �
 at_end w ws rest last e f g = e ∙ ap (λ (r : List Word). plain w ∷ r) (f ∙ g)
 
 address_data : (make : List ℕ → Datum) (read : List ℕ → Result (List ℕ) FileKind) (ws : List Word) (d : Datum) (rest : List Word)
-  → ◌>>=◌ {B = Datum × List Word} (take_by read ws) (λ (a : List ℕ × List Word). Ok (make a.0, a.1)) ≡ Ok (d, rest) → rest ≡ []
-  → (w : List ℕ) × (a : List ℕ) × (ws ≡ plain w ∷ []) × (read w ≡ Ok a) × (d ≡ make a)
+    → ◌>>=◌ {B = Datum × List Word} (take_by read ws) (λ (a : List ℕ × List Word). Ok (make a.0, a.1)) ≡ Ok (d, rest) → rest ≡ []
+    → (w : List ℕ) × (a : List ℕ) × (ws ≡ plain w ∷ []) × (read w ≡ Ok a) × (d ≡ make a)
 address_data make read ws d rest e h =
     let s = steps (take_by read ws) (λ (a : List ℕ × List Word). Ok (make a.0, a.1)) (d, rest) e in
     let p = pair_is (make s.0.0) d s.0.1 rest s.2 in
@@ -65,8 +65,8 @@ address_data make read ws d rest e h =
     (f.0, s.0.0, at_end f.0 ws s.0.1 rest f.1 p.1 h, f.2, sym p.0)
 
 name_data : (origin : List (List ℕ)) (make : List (List ℕ) → Datum) (ws : List Word) (d : Datum) (rest : List Word)
-  → ◌>>=◌ {B = Datum × List Word} (take_name origin ws) (λ (n : List (List ℕ) × List Word). Ok (make n.0, n.1)) ≡ Ok (d, rest) → rest ≡ []
-  → (n : List (List ℕ)) × IsNameData origin ws n × (d ≡ make n)
+    → ◌>>=◌ {B = Datum × List Word} (take_name origin ws) (λ (n : List (List ℕ) × List Word). Ok (make n.0, n.1)) ≡ Ok (d, rest) → rest ≡ []
+    → (n : List (List ℕ)) × IsNameData origin ws n × (d ≡ make n)
 name_data origin make ws d rest e h =
     let s = steps (take_name origin ws) (λ (n : List (List ℕ) × List Word). Ok (make n.0, n.1)) (d, rest) e in
     let p = pair_is (make s.0.0) d s.0.1 rest s.2 in
@@ -99,12 +99,16 @@ authority_data origin ws s rest e h =
       expire = wg.0;
       minimum = wk.0;
       spelled = wa.1 ∙ ap (λ (r : List Word). plain wa.0 ∷ r) (wb.1 ∙ ap (λ (r : List Word). plain wb.0 ∷ r) (wc.1 ∙ ap (λ (r : List Word). plain wc.0 ∷ r)
-        (wd.1 ∙ ap (λ (r : List Word). plain wd.0 ∷ r) (wf.1 ∙ ap (λ (r : List Word). plain wf.0 ∷ r) (wg.1 ∙ ap (λ (r : List Word). plain wg.0 ∷ r)
-        (at_end wk.0 g.0.1 k.0.1 rest wk.1 p.1 h))))));
+          (wd.1 ∙ ap (λ (r : List Word). plain wd.0 ∷ r) (wf.1 ∙ ap (λ (r : List Word). plain wf.0 ∷ r) (wg.1 ∙ ap (λ (r : List Word). plain wg.0 ∷ r)
+          (at_end wk.0 g.0.1 k.0.1 rest wk.1 p.1 h))))));
       names = (wa.2 ∙ ap (λ (x : Authority). (let r : Result (List (List ℕ)) FileKind = Ok x.primary in r)) p.0, wb.2 ∙ ap (λ (x : Authority). (let r : Result (List (List ℕ)) FileKind = Ok x.mailbox in r)) p.0);
-      numbers = (wc.2 ∙ ap (λ (x : Authority). (let r : Result ℕ FileKind = Ok x.serial in r)) p.0, wd.2 ∙ ap (λ (x : Authority). (let r : Result ℕ FileKind = Ok x.refresh in r)) p.0,
-        wf.2 ∙ ap (λ (x : Authority). (let r : Result ℕ FileKind = Ok x.retry in r)) p.0, wg.2 ∙ ap (λ (x : Authority). (let r : Result ℕ FileKind = Ok x.expire in r)) p.0,
-        wk.2 ∙ ap (λ (x : Authority). (let r : Result ℕ FileKind = Ok x.minimum in r)) p.0)
+      numbers = (
+        wc.2 ∙ ap (λ (x : Authority). (let r : Result ℕ FileKind = Ok x.serial in r)) p.0,
+        wd.2 ∙ ap (λ (x : Authority). (let r : Result ℕ FileKind = Ok x.refresh in r)) p.0,
+        wf.2 ∙ ap (λ (x : Authority). (let r : Result ℕ FileKind = Ok x.retry in r)) p.0,
+        wg.2 ∙ ap (λ (x : Authority). (let r : Result ℕ FileKind = Ok x.expire in r)) p.0,
+        wk.2 ∙ ap (λ (x : Authority). (let r : Result ℕ FileKind = Ok x.minimum in r)) p.0,
+      );
     }
 
 exchange_data : (origin : List (List ℕ)) (ws : List Word) (d : Datum) (rest : List Word) → take_exchange origin ws ≡ Ok (d, rest) → rest ≡ [] → IsData origin rtype.Mx ws d

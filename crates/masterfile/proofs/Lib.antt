@@ -8,3 +8,4 @@ mod Inverse
 mod HeadLaw
 mod EntryLaw
 pub mod TextLaw
+mod PrintLemmas

@@ -27,7 +27,7 @@ nothing_is : (rs : List Record) → (let r : Result (List Record) FileError = Ok
 nothing_is rs e = cc
 
 entry_by : (c : Context) (e : Entry) (es : List Entry) (rs : List Record) (found : Result (Option Record × Context) FileKind) → entry_in c e.lead e.words ≡ found
-  → after_entry (λ next. read_from next es) e.line found ≡ Ok rs → ((next : Context) (some : List Record) → read_from next es ≡ Ok some → Say next es some) → Say c (e ∷ es) rs
+    → after_entry (λ next. read_from next es) e.line found ≡ Ok rs → ((next : Context) (some : List Record) → read_from next es ≡ Ok some → Say next es some) → Say c (e ∷ es) rs
 entry_by c e es rs (Err k) f h go = cc
 entry_by c e es rs (Ok (None, next)) f h go = says_none c (e ∷ es) rs e es next refl (entry_is c e.lead e.words (None, next) f) (go next rs h)
 entry_by c e es rs (Ok (Some r, next)) f h go =
@@ -42,5 +42,5 @@ pub text_is_read : ReadsBothWays
 text_is_read origin text records = (
   λ m. (let p = (parts_are_found 1 text m.0).0 m.1 in ap (λ (es : List Entry). read_from (start origin) es) p.0 ∙ say_read (start origin) m.0 records m.2),
   λ e. (let s = say_is (start origin) (entries_from 1 text) records e in
-    (entries_from 1 text, (parts_are_found 1 text (entries_from 1 text)).1 (refl, say_whole (start origin) (entries_from 1 text) records s), s))
+      (entries_from 1 text, (parts_are_found 1 text (entries_from 1 text)).1 (refl, say_whole (start origin) (entries_from 1 text) records s), s)),
 )

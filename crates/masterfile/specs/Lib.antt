@@ -7,3 +7,4 @@ pub mod Entries
 pub mod Files
 pub mod Given
 pub mod MasterText
+pub mod Printed

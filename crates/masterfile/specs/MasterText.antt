@@ -42,7 +42,7 @@ pub record IsAuthorityData (origin : List (List ℕ)) (ws : List Word) (s : Auth
   pub spelled : ws ≡ plain primary ∷ plain mailbox ∷ plain serial ∷ plain refresh ∷ plain retry ∷ plain expire ∷ plain minimum ∷ []
   pub names : (name_of origin primary ≡ Ok s.primary) × (name_of origin mailbox ≡ Ok s.mailbox)
   pub numbers : (number_of greatest_32 serial ≡ Ok s.serial) × (number_of greatest_32 refresh ≡ Ok s.refresh) × (number_of greatest_32 retry ≡ Ok s.retry)
-    × (number_of greatest_32 expire ≡ Ok s.expire) × (number_of greatest_32 minimum ≡ Ok s.minimum)
+      × (number_of greatest_32 expire ≡ Ok s.expire) × (number_of greatest_32 minimum ≡ Ok s.minimum)
 
 -- The words of data of a type.
 abbrev pub IsData : List (List ℕ) → RType → List Word → Datum → Type 0
@@ -68,15 +68,15 @@ IsTypeWord w t = (is_number w ≡ false) × (is_internet w ≡ false) × (is_for
 -- `[TTL] [CLASS] TYPE` or `[CLASS] [TTL] TYPE`, and the words of the data behind.
 pub data HasHead : List Word → Option ℕ → RType → List Word → Type 0 where
   type_alone : (ws : List Word) (ttl : Option ℕ) (kind : RType) (rest : List Word) (t : List ℕ)
-    → ws ≡ plain t ∷ rest → ttl ≡ None → IsTypeWord t kind → HasHead ws ttl kind rest
+      → ws ≡ plain t ∷ rest → ttl ≡ None → IsTypeWord t kind → HasHead ws ttl kind rest
   class_first : (ws : List Word) (ttl : Option ℕ) (kind : RType) (rest : List Word) (c t : List ℕ)
-    → ws ≡ plain c ∷ plain t ∷ rest → ttl ≡ None → IsClassWord c → IsTypeWord t kind → HasHead ws ttl kind rest
+      → ws ≡ plain c ∷ plain t ∷ rest → ttl ≡ None → IsClassWord c → IsTypeWord t kind → HasHead ws ttl kind rest
   ttl_first : (ws : List Word) (ttl : Option ℕ) (kind : RType) (rest : List Word) (v t : List ℕ) (n : ℕ)
-    → ws ≡ plain v ∷ plain t ∷ rest → ttl ≡ Some n → IsTtlWord v n → IsTypeWord t kind → HasHead ws ttl kind rest
+      → ws ≡ plain v ∷ plain t ∷ rest → ttl ≡ Some n → IsTtlWord v n → IsTypeWord t kind → HasHead ws ttl kind rest
   ttl_and_class : (ws : List Word) (ttl : Option ℕ) (kind : RType) (rest : List Word) (v c t : List ℕ) (n : ℕ)
-    → ws ≡ plain v ∷ plain c ∷ plain t ∷ rest → ttl ≡ Some n → IsTtlWord v n → IsClassWord c → IsTypeWord t kind → HasHead ws ttl kind rest
+      → ws ≡ plain v ∷ plain c ∷ plain t ∷ rest → ttl ≡ Some n → IsTtlWord v n → IsClassWord c → IsTypeWord t kind → HasHead ws ttl kind rest
   class_and_ttl : (ws : List Word) (ttl : Option ℕ) (kind : RType) (rest : List Word) (c v t : List ℕ) (n : ℕ)
-    → ws ≡ plain c ∷ plain v ∷ plain t ∷ rest → ttl ≡ Some n → IsClassWord c → IsTtlWord v n → IsTypeWord t kind → HasHead ws ttl kind rest
+      → ws ≡ plain c ∷ plain v ∷ plain t ∷ rest → ttl ≡ Some n → IsClassWord c → IsTtlWord v n → IsTypeWord t kind → HasHead ws ttl kind rest
 
 -- The owner, and the words behind it: the last owner where the line begins with a space or tab.
 abbrev pub IsOwner : Context → Lead → List Word → List (List ℕ) → List Word → Type 0
@@ -101,21 +101,21 @@ pub record IsRecordEntry (c : Context) (lead : Lead) (ws : List Word) (r : Recor
 pub data Says : Context → Lead → List Word → Option Record → Context → Type 0 where
   says_nothing : (c : Context) (lead : Lead) (ws : List Word) (r : Option Record) (next : Context) → ws ≡ [] → r ≡ None → next ≡ c → Says c lead ws r next
   sets_origin : (c : Context) (lead : Lead) (ws : List Word) (r : Option Record) (next : Context) (d w : List ℕ) (n : List (List ℕ)) → lead ≡ margin
-    → ws ≡ plain d ∷ plain w ∷ [] → begins_directive d ≡ true → same_word d (codes "$ORIGIN") ≡ true → name_of c.origin w ≡ Ok n
-    → r ≡ None → next ≡ record c { origin = n } → Says c lead ws r next
+      → ws ≡ plain d ∷ plain w ∷ [] → begins_directive d ≡ true → same_word d (codes "$ORIGIN") ≡ true → name_of c.origin w ≡ Ok n
+      → r ≡ None → next ≡ record c { origin = n } → Says c lead ws r next
   sets_ttl : (c : Context) (lead : Lead) (ws : List Word) (r : Option Record) (next : Context) (d w : List ℕ) (n : ℕ) → lead ≡ margin
-    → ws ≡ plain d ∷ plain w ∷ [] → begins_directive d ≡ true → same_word d (codes "$ORIGIN") ≡ false → same_word d (codes "$TTL") ≡ true → number_of greatest_ttl w ≡ Ok n
-    → r ≡ None → next ≡ record c { standing = Some n } → Says c lead ws r next
+      → ws ≡ plain d ∷ plain w ∷ [] → begins_directive d ≡ true → same_word d (codes "$ORIGIN") ≡ false → same_word d (codes "$TTL") ≡ true → number_of greatest_ttl w ≡ Ok n
+      → r ≡ None → next ≡ record c { standing = Some n } → Says c lead ws r next
   states_record : (c : Context) (lead : Lead) (ws : List Word) (r : Option Record) (next : Context) (stated : Record) → r ≡ Some stated
-    → IsRecordEntry c lead ws stated next → Says c lead ws r next
+      → IsRecordEntry c lead ws stated next → Says c lead ws r next
 
 -- What entries say, in order.
 pub data Say : Context → List Entry → List Record → Type 0 where
   nothing_left : (c : Context) (es : List Entry) (rs : List Record) → es ≡ [] → rs ≡ [] → Say c es rs
   says_none : (c : Context) (es : List Entry) (rs : List Record) (e : Entry) (later : List Entry) (next : Context) → es ≡ e ∷ later
-    → Says c e.lead e.words None next → Say next later rs → Say c es rs
+      → Says c e.lead e.words None next → Say next later rs → Say c es rs
   says_one : (c : Context) (es : List Entry) (rs : List Record) (e : Entry) (later : List Entry) (next : Context) (r : Record) (found : List Record) → es ≡ e ∷ later
-    → rs ≡ r ∷ found → Says c e.lead e.words (Some r) next → Say next later found → Say c es rs
+      → rs ≡ r ∷ found → Says c e.lead e.words (Some r) next → Say next later found → Say c es rs
 
 -- The text stands for these records.
 abbrev pub IsMasterText : List (List ℕ) → List ℕ → List Record → Type 0
