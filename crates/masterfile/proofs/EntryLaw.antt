@@ -1,6 +1,5 @@
 -- What an entry says: by cases, and by the function that reads it.
 use Rattle.std.proofs.Common.{◌≡◌, ℕ, Bool, true, false, cond, Option, Some, None, Result, Ok, Err, List, [], ◌∷◌, refl, sym, ap, subst, ◌∙◌, codes}
-use Rattle.rdata.specs.Data.{Datum}
 use Rattle.rdata.specs.Records.{Record, greatest_ttl}
 use Rattle.words.specs.Lexemes.{Word, plain, quoted, broken}
 use Rattle.words.specs.Entries.{Lead, margin, blank, shifted}
@@ -10,9 +9,9 @@ use Rattle.masterfile.specs.declared.faults.FileKind.TheVariants.{UnknownDirecti
 use Rattle.masterfile.specs.Faults.{◌>>=◌}
 use Rattle.masterfile.specs.Numbers.{number_of}
 use Rattle.masterfile.specs.Fields.{same_word, name_of, take_name, take_number, take_end, take_data}
-use Rattle.masterfile.specs.Entries.{Context, Head, take_head, first_some, or_no_ttl, ttl_in, or_no_owner, record_of, begins_directive, directive_in, no_record, record_of_named, entry_in}
-use Rattle.masterfile.specs.MasterText.{HasHead, IsData, IsOwner, IsRecordEntry, Says, says_nothing, sets_origin, sets_ttl, states_record}
-use Rattle.masterfile.proofs.HeadLemmas.{bound}
+use Rattle.masterfile.specs.Entries.{Context, take_head, first_some, or_no_ttl, ttl_in, or_no_owner, record_of, begins_directive, directive_in, no_record, record_of_named, entry_in}
+use Rattle.masterfile.specs.MasterText.{IsOwner, IsRecordEntry, Says, says_nothing, sets_origin, sets_ttl, states_record}
+use Rattle.masterfile.proofs.WordLemmas.{origin_directive, ttl_directive, ttl_no_origin}
 use Rattle.masterfile.proofs.HeadLaw.{head_is, head_read, head_first, head_whole}
 use Rattle.masterfile.proofs.Inverse.{steps, pair_is, field, ended, data_is, data_read, data_whole}
 
@@ -60,13 +59,13 @@ directive_by c d ws next y true b k o t e r n =
     let after : Context = record c { origin = s.0.0 } in
     let f = ended after next s.0.1 s.2 in
     let g = field (name_of c.origin) ws s.0.0 s.0.1 s.1 in
-    sets_origin c margin (plain d ∷ ws) y.0 y.1 d g.0 s.0.0 refl (ap (λ (x : List Word). plain d ∷ x) (g.1 ∙ ap (λ (x : List Word). plain g.0 ∷ x) f.0)) k o g.2 r (n ∙ sym f.1)
+    sets_origin c margin (plain d ∷ ws) y.0 y.1 d g.0 s.0.0 refl (ap (λ (x : List Word). plain d ∷ x) (g.1 ∙ ap (λ (x : List Word). plain g.0 ∷ x) f.0)) o g.2 r (n ∙ sym f.1)
 directive_by c d ws next y false true k o t e r n =
     let s = steps (take_number greatest_ttl ws) (λ (m : ℕ × List Word). take_end (record c { standing = Some m.0 }) m.1) next e in
     let after : Context = record c { standing = Some s.0.0 } in
     let f = ended after next s.0.1 s.2 in
     let g = field (number_of greatest_ttl) ws s.0.0 s.0.1 s.1 in
-    sets_ttl c margin (plain d ∷ ws) y.0 y.1 d g.0 s.0.0 refl (ap (λ (x : List Word). plain d ∷ x) (g.1 ∙ ap (λ (x : List Word). plain g.0 ∷ x) f.0)) k o t g.2 r (n ∙ sym f.1)
+    sets_ttl c margin (plain d ∷ ws) y.0 y.1 d g.0 s.0.0 refl (ap (λ (x : List Word). plain d ∷ x) (g.1 ∙ ap (λ (x : List Word). plain g.0 ∷ x) f.0)) t g.2 r (n ∙ sym f.1)
 directive_by c d ws next y false false k o t e r n = cc
 
 named_entry : (c : Context) (lead : Lead) (all : List Word) (w : List ℕ) (ws : List Word) (y : Found)
@@ -107,8 +106,8 @@ entry_read c margin ws owner behind w more y o h e = rw (o.1, o.2, o.3) e
 
 pub says_read : (c : Context) (lead : Lead) (ws : List Word) (r : Option Record) (next : Context) → Says c lead ws r next → entry_in c lead ws ≡ Ok (r, next)
 says_read _ _ _ _ _ (says_nothing c lead ws r next e n k) = rw (e, n, k) refl
-says_read _ _ _ _ _ (sets_origin c lead ws r next d w n l e b o m k j) = rw (l, e, b, o, m, k, j) refl
-says_read _ _ _ _ _ (sets_ttl c lead ws r next d w n l e b o t m k j) = rw (l, e, b, o, t, m, k, j) refl
+says_read _ _ _ _ _ (sets_origin c lead ws r next d w n l e o m k j) = rw (l, e, origin_directive d o, o, m, k, j) refl
+says_read _ _ _ _ _ (sets_ttl c lead ws r next d w n l e t m k j) = rw (l, e, ttl_directive d t, ttl_no_origin d t, t, m, k, j) refl
 says_read _ _ _ _ _ (states_record c lead ws r next s e h) =
     let f = head_first h.behind h.stated h.kind h.rest h.head in
     rw e (entry_read c lead ws s.owner h.behind f.0 f.1 (Ok (Some s, next)) h.owner f.2 (record_read c lead ws s next h))
@@ -120,7 +119,7 @@ owner_whole c margin ws owner behind o h = rw o.1 h
 
 pub says_whole : (c : Context) (lead : Lead) (ws : List Word) (r : Option Record) (next : Context) → Says c lead ws r next → AreWhole ws
 says_whole _ _ _ _ _ (says_nothing c lead ws r next e n k) = rw e tt
-says_whole _ _ _ _ _ (sets_origin c lead ws r next d w n l e b o m k j) = rw e tt
-says_whole _ _ _ _ _ (sets_ttl c lead ws r next d w n l e b o t m k j) = rw e tt
+says_whole _ _ _ _ _ (sets_origin c lead ws r next d w n l e o m k j) = rw e tt
+says_whole _ _ _ _ _ (sets_ttl c lead ws r next d w n l e t m k j) = rw e tt
 says_whole _ _ _ _ _ (states_record c lead ws r next s e h) =
     owner_whole c lead ws s.owner h.behind h.owner (head_whole h.behind h.stated h.kind h.rest h.head (data_whole c.origin h.kind h.rest s.value h.value))

@@ -1,9 +1,8 @@
 -- TTL, class and type: the words by cases, and the function that reads them.
-use Rattle.std.proofs.Common.{◌≡◌, ℕ, Bool, true, false, cond, Option, Some, None, is_some, Result, Ok, Err, List, [], ◌∷◌, refl, sym, ap, ◌∙◌}
+use Rattle.std.proofs.Common.{◌≡◌, ℕ, Bool, true, false, cond, Option, Some, None, is_some, Ok, Err, List, [], ◌∷◌, refl, sym, ap, ◌∙◌}
 use Rattle.rdata.specs.Records.{greatest_ttl}
 use Rattle.rdata.specs.declared.rtype.RType.{RType}
 use Rattle.words.specs.Lexemes.{Word, plain, quoted, broken}
-use Rattle.masterfile.specs.declared.faults.FileKind.{FileKind}
 use Rattle.masterfile.specs.declared.faults.FileKind.TheVariants.{UnknownType, BadClass, BadData}
 use Rattle.masterfile.specs.Faults.{◌>>=◌}
 use Rattle.masterfile.specs.Numbers.{is_number, value_from, within, number_of}
@@ -12,16 +11,17 @@ use Rattle.masterfile.specs.Entries.{Head, take_head, head_of_type, is_internet,
 use Rattle.masterfile.specs.MasterText.{IsTtlWord, IsClassWord, IsTypeWord, HasHead, type_alone, class_first, ttl_first, ttl_and_class, class_and_ttl}
 use Rattle.words.specs.Parts.{AreWhole}
 use Rattle.masterfile.proofs.HeadLemmas.{third}
+use Rattle.masterfile.proofs.WordLemmas.{type_no_number, type_no_internet, type_no_class, class_no_number}
 use Rattle.masterfile.proofs.Inverse.{steps, cond_ok, ok_is}
 
 number_digits : (limit : ℕ) (w : List ℕ) (n : ℕ) → number_of limit w ≡ Ok n → is_number w ≡ true
 number_digits limit w n e = (cond_ok (is_number w) (within limit (value_from 0 w)) BadData n e).0
 
 type_step : (ttl : Option ℕ) (classed : Bool) (w : List ℕ) (kind : RType) (ws : List Word) → IsTypeWord w kind → take_head ttl classed (plain w ∷ ws) ≡ Ok (record { ttl = ttl; kind = kind; rest = ws })
-type_step ttl classed w kind ws h = rw (h.0, h.1, h.2, h.3) refl
+type_step ttl classed w kind ws h = rw (type_no_number w kind h, type_no_internet w kind h, type_no_class w kind h, h) refl
 
 class_step : (ttl : Option ℕ) (w : List ℕ) (ws : List Word) → IsClassWord w → take_head ttl false (plain w ∷ ws) ≡ take_head ttl true ws
-class_step ttl w ws h = rw (h.0, h.1) refl
+class_step ttl w ws h = rw (class_no_number w h, h) refl
 
 ttl_step : (classed : Bool) (w : List ℕ) (n : ℕ) (ws : List Word) → IsTtlWord w n → take_head None classed (plain w ∷ ws) ≡ take_head (Some n) classed ws
 ttl_step classed w n ws h =
@@ -57,10 +57,10 @@ step_by None classed w ws h true b d p q r e =
     let s = steps (number_of greatest_ttl w) (λ (n : ℕ). take_head (Some n) classed ws) h e in a_ttl s.0 refl s.1 s.2
 step_by (Some n) classed w ws h true b d p q r e = cc
 step_by ttl true w ws h false true d p q r e = cc
-step_by ttl false w ws h false true d p q r e = a_class refl (p, q) e
+step_by ttl false w ws h false true d p q r e = a_class refl q e
 step_by ttl true w ws h false false true p q r e = cc
 step_by ttl false w ws h false false true p q r e = cc
-step_by ttl classed w ws h false false false p q r e = let t = type_is (type_named w) ttl ws h e in a_type (p, q, r, t.0) t.1 t.2
+step_by ttl classed w ws h false false false p q r e = let t = type_is (type_named w) ttl ws h e in a_type t.0 t.1 t.2
 
 word_step : (ttl : Option ℕ) (classed : Bool) (ws : List Word) (h : Head) → take_head ttl classed ws ≡ Ok h → (w : List ℕ) × (rest : List Word) × (ws ≡ plain w ∷ rest) × Step ttl classed w rest h
 word_step ttl classed [] h e = cc

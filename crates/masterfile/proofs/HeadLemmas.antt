@@ -1,12 +1,12 @@
 -- On the words before a record's data.
-use Rattle.std.proofs.Common.{◌≡◌, ℕ, ◌≤◌, Bool, true, false, cond, Option, Some, None, is_some, Result, Ok, Err, List, [], ◌∷◌, refl, sym, ap, ◌∙◌, arith}
+use Rattle.std.proofs.Common.{◌≡◌, ℕ, ◌≤◌, Bool, true, false, cond, Option, Some, is_some, Result, Ok, Err, List, [], ◌∷◌, refl, sym, ap, ◌∙◌, arith}
 use Rattle.std.proofs.lemmas.Bool.Decides.{nat_tests}
 use Rattle.masterfile.specs.declared.faults.FileKind.{FileKind}
 use Rattle.masterfile.specs.declared.faults.FileKind.TheVariants.{UnknownType}
 use Rattle.masterfile.specs.Faults.{◌>>=◌}
 use Rattle.rdata.specs.Records.{greatest_ttl}
 use Rattle.words.specs.Lexemes.{Word, plain, quoted, broken}
-use Rattle.masterfile.specs.Numbers.{is_number, value_from, within, number_of}
+use Rattle.masterfile.specs.Numbers.{is_number, within, number_of}
 use Rattle.masterfile.specs.Fields.{plain_word, name_of}
 use Rattle.masterfile.specs.Entries.{Context, take_head, is_internet, record_of, record_of_named}
 

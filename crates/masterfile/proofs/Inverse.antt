@@ -1,5 +1,5 @@
 -- What a reading that succeeded says of each of its steps.
-use Rattle.std.proofs.Common.{◌≡◌, ℕ, ◌+◌, ◌<◌, ◌≤◌, Bool, true, false, cond, nat_le, Option, Some, None, Result, Ok, Err, List, [], ◌∷◌, length, refl, sym, ap, ◌∙◌, arith}
+use Rattle.std.proofs.Common.{◌≡◌, ℕ, ◌+◌, ◌≤◌, Bool, true, false, cond, nat_le, Result, Ok, Err, List, [], ◌∷◌, length, refl, sym, ap, ◌∙◌, arith}
 use Rattle.std.proofs.lemmas.Bool.Decides.{nat_tests}
 use Rattle.words.specs.Lexemes.{Word, plain, quoted, broken}
 use Rattle.words.specs.Parts.{AreWhole}
@@ -11,10 +11,9 @@ use Rattle.masterfile.specs.declared.faults.FileKind.TheVariants.{BadData}
 use Rattle.masterfile.specs.Faults.{◌>>=◌, onto}
 use Rattle.masterfile.specs.Numbers.{number_of}
 use Rattle.masterfile.specs.Addresses.{ipv4_of, ipv6_of}
-use Rattle.masterfile.specs.Strings.{string_word, strings_from, take_strings}
-use Rattle.masterfile.specs.Fields.{plain_word, take_by, take_name, take_number, left_over, unless, take_end, name_of, take_authority, take_exchange, take_data, greatest_16, greatest_32}
+use Rattle.masterfile.specs.Strings.{string_word, strings_from}
+use Rattle.masterfile.specs.Fields.{take_by, take_name, take_number, take_end, name_of, take_authority, take_exchange, take_data, greatest_16, greatest_32}
 use Rattle.masterfile.specs.MasterText.{AreStrings, strings_size, IsNameData, IsAuthorityData, IsData}
-use Rattle.masterfile.proofs.HeadLemmas.{plain_is}
 
 -- the value of the first step, and what the second made of it
 pub steps : {X Y : Type 0} (r : Result X FileKind) (f : X → Result Y FileKind) (y : Y) → (r >>= f) ≡ Ok y → (x : X) × (r ≡ Ok x) × (f x ≡ Ok y)

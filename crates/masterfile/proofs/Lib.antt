@@ -5,6 +5,7 @@ pub mod Fronts
 pub mod HeadLemmas
 pub mod FileLemmas
 mod Inverse
+mod WordLemmas
 mod HeadLaw
 mod EntryLaw
 pub mod TextLaw

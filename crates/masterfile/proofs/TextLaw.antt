@@ -1,15 +1,14 @@
 -- What a text stands for is what is read.
-use Rattle.std.proofs.Common.{◌≡◌, ℕ, Option, Some, None, Result, Ok, Err, List, [], ◌∷◌, ◌↔◌, refl, sym, ap, ◌∙◌}
+use Rattle.std.proofs.Common.{◌≡◌, Option, Some, None, Result, Ok, Err, List, [], ◌∷◌, refl, ap, ◌∙◌}
 use Rattle.rdata.specs.Records.{Record}
 use Rattle.words.specs.Entries.{Entry, entries_from}
 use Rattle.words.specs.Parts.{AreWholeEntries}
 use Rattle.words.proofs.PartsLaw.{parts_are_found}
 use Rattle.masterfile.specs.declared.faults.FileKind.{FileKind}
 use Rattle.masterfile.specs.declared.faults.FileError.{FileError}
-use Rattle.masterfile.specs.Faults.{onto}
 use Rattle.masterfile.specs.Entries.{Context, entry_in}
 use Rattle.masterfile.specs.Files.{start, read_from, after_entry}
-use Rattle.masterfile.specs.MasterText.{Says, Say, nothing_left, says_none, says_one, ReadsBothWays}
+use Rattle.masterfile.specs.MasterText.{Say, nothing_left, says_none, says_one, ReadsBothWays}
 use Rattle.masterfile.proofs.Inverse.{onto_ok}
 use Rattle.masterfile.proofs.EntryLaw.{entry_is, says_read, says_whole}
 

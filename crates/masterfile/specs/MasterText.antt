@@ -1,5 +1,5 @@
 -- What a master file says, by cases (RFC 1035, section 5.1; `$TTL`: RFC 2308, section 4).
-use Rattle.std.specs.Prelude.{◌≡◌, ℕ, ◌+◌, ◌<◌, ◌≤◌, Bool, true, false, Option, Some, None, ◌↔◌, Result, Ok, List, [], ◌∷◌, length, codes}
+use Rattle.std.specs.Prelude.{◌≡◌, ℕ, ◌+◌, ◌<◌, ◌≤◌, true, false, Option, Some, None, ◌↔◌, Ok, List, [], ◌∷◌, length, codes}
 use Rattle.rdata.specs.Data.{Datum, Ipv4, Ns, Cname, Soa, Ptr, Mx, Txt, Ipv6, Authority}
 use Rattle.rdata.specs.Records.{Record, greatest_ttl}
 use Rattle.rdata.specs.declared.rtype.RType.{RType}
@@ -7,11 +7,11 @@ use Rattle.rdata.specs.declared.rtype.RType.TheVariants as rtype
 use Rattle.words.specs.Lexemes.{Word, plain}
 use Rattle.words.specs.Entries.{Entry, Lead, margin, blank, shifted}
 use Rattle.words.specs.Parts.{IsPartedFrom}
-use Rattle.masterfile.specs.Numbers.{is_number, number_of}
+use Rattle.masterfile.specs.Numbers.{number_of}
 use Rattle.masterfile.specs.Addresses.{ipv4_of, ipv6_of}
 use Rattle.masterfile.specs.Strings.{string_word}
 use Rattle.masterfile.specs.Fields.{same_word, name_of, type_named, greatest_16, greatest_32}
-use Rattle.masterfile.specs.Entries.{Context, is_internet, is_foreign_class, first_some, begins_directive}
+use Rattle.masterfile.specs.Entries.{Context, is_internet, first_some, begins_directive}
 use Rattle.masterfile.specs.Files.{start, read_text}
 
 -- Each word writes one string.
@@ -60,10 +60,10 @@ abbrev pub IsTtlWord : List ℕ → ℕ → Type 0
 IsTtlWord w n = number_of greatest_ttl w ≡ Ok n
 
 abbrev pub IsClassWord : List ℕ → Type 0
-IsClassWord w = (is_number w ≡ false) × (is_internet w ≡ true)
+IsClassWord w = is_internet w ≡ true
 
 abbrev pub IsTypeWord : List ℕ → RType → Type 0
-IsTypeWord w t = (is_number w ≡ false) × (is_internet w ≡ false) × (is_foreign_class w ≡ false) × (type_named w ≡ Some t)
+IsTypeWord w t = type_named w ≡ Some t
 
 -- `[TTL] [CLASS] TYPE` or `[CLASS] [TTL] TYPE`, and the words of the data behind.
 pub data HasHead : List Word → Option ℕ → RType → List Word → Type 0 where
@@ -101,10 +101,10 @@ pub record IsRecordEntry (c : Context) (lead : Lead) (ws : List Word) (r : Recor
 pub data Says : Context → Lead → List Word → Option Record → Context → Type 0 where
   says_nothing : (c : Context) (lead : Lead) (ws : List Word) (r : Option Record) (next : Context) → ws ≡ [] → r ≡ None → next ≡ c → Says c lead ws r next
   sets_origin : (c : Context) (lead : Lead) (ws : List Word) (r : Option Record) (next : Context) (d w : List ℕ) (n : List (List ℕ)) → lead ≡ margin
-      → ws ≡ plain d ∷ plain w ∷ [] → begins_directive d ≡ true → same_word d (codes "$ORIGIN") ≡ true → name_of c.origin w ≡ Ok n
+      → ws ≡ plain d ∷ plain w ∷ [] → same_word d (codes "$ORIGIN") ≡ true → name_of c.origin w ≡ Ok n
       → r ≡ None → next ≡ record c { origin = n } → Says c lead ws r next
   sets_ttl : (c : Context) (lead : Lead) (ws : List Word) (r : Option Record) (next : Context) (d w : List ℕ) (n : ℕ) → lead ≡ margin
-      → ws ≡ plain d ∷ plain w ∷ [] → begins_directive d ≡ true → same_word d (codes "$ORIGIN") ≡ false → same_word d (codes "$TTL") ≡ true → number_of greatest_ttl w ≡ Ok n
+      → ws ≡ plain d ∷ plain w ∷ [] → same_word d (codes "$TTL") ≡ true → number_of greatest_ttl w ≡ Ok n
       → r ≡ None → next ≡ record c { standing = Some n } → Says c lead ws r next
   states_record : (c : Context) (lead : Lead) (ws : List Word) (r : Option Record) (next : Context) (stated : Record) → r ≡ Some stated
       → IsRecordEntry c lead ws stated next → Says c lead ws r next

@@ -1,5 +1,5 @@
 -- Records as a zone text (RFC 1035, section 5.1).
-use Rattle.std.specs.Prelude.{ℕ, List, [], ◌∷◌, ◌++◌, flat_map, codes, decimal}
+use Rattle.std.specs.Prelude.{ℕ, List, ◌++◌, flat_map, codes, decimal}
 use Rattle.dname.specs.Text.{name_text}
 use Rattle.rdata.specs.Text.{data_text}
 use Rattle.rdata.specs.Records.{Record}
