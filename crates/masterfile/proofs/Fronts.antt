@@ -1,5 +1,5 @@
 -- Lists that are read from the front on.
-use Rattle.std.proofs.Common.{◌≡◌, ℕ, Option, Some, None, Result, Ok, Err, List, [], ◌∷◌, ◌++◌, refl, sym, ap, append_assoc}
+use Rattle.std.proofs.Common.{◌≡◌, ℕ, Option, Some, None, Result, Ok, Err, List, [], ◌∷◌, ◌++◌, refl, ap, append_assoc}
 use Rattle.masterfile.specs.Faults.{onto}
 use Rattle.masterfile.specs.Strings.{byte_onto}
 

@@ -1,12 +1,12 @@
 -- On the words before a record's data.
-use Rattle.std.proofs.Common.{◌≡◌, ℕ, ◌≤◌, Bool, true, false, cond, Option, Some, None, is_some, Result, Ok, Err, List, [], ◌∷◌, refl, sym, ap, ◌∙◌, arith}
+use Rattle.std.proofs.Common.{◌≡◌, ℕ, ◌≤◌, Bool, true, false, cond, Option, Some, is_some, Result, Ok, Err, List, [], ◌∷◌, refl, sym, ap, ◌∙◌, arith}
 use Rattle.std.proofs.lemmas.Bool.Decides.{nat_tests}
 use Rattle.masterfile.specs.declared.faults.FileKind.{FileKind}
 use Rattle.masterfile.specs.declared.faults.FileKind.TheVariants.{UnknownType}
 use Rattle.masterfile.specs.Faults.{◌>>=◌}
 use Rattle.rdata.specs.Records.{greatest_ttl}
 use Rattle.words.specs.Lexemes.{Word, plain, quoted, broken}
-use Rattle.masterfile.specs.Numbers.{is_number, value_from, within, number_of}
+use Rattle.masterfile.specs.Numbers.{is_number, within, number_of}
 use Rattle.masterfile.specs.Fields.{plain_word, name_of}
 use Rattle.masterfile.specs.Entries.{Context, take_head, is_internet, record_of, record_of_named}
 
@@ -16,7 +16,7 @@ plain_is (plain x ∷ xs) w rest e = let p : ◌≡◌ {A = List ℕ × List Wor
 plain_is (quoted x ∷ xs) w rest e = cc
 plain_is (broken ∷ xs) w rest e = cc
 
-third : {X : Type 0} (a b : Bool) (r : Result ℕ FileKind) (n : ℕ) (x y : Result X FileKind) (f : ℕ → Result X FileKind) → a ≡ true → b ≡ false → r ≡ Ok n → f n ≡ cond a (cond b x (r >>= f)) y
+pub third : {X : Type 0} (a b : Bool) (r : Result ℕ FileKind) (n : ℕ) (x y : Result X FileKind) (f : ℕ → Result X FileKind) → a ≡ true → b ≡ false → r ≡ Ok n → f n ≡ cond a (cond b x (r >>= f)) y
 third a b r n x y f p q e = rw (p, q, e) refl
 
 pub ttl_then : (w : List ℕ) (ws : List Word) (ttl : Option ℕ) (classed : Bool) (n : ℕ) (v : List ℕ) (rest : List Word) → is_number w ≡ true → is_some ttl ≡ false
@@ -35,7 +35,7 @@ within_is limit m b n e = grind (arith, nat_tests)
 pub number_within : (limit : ℕ) (w : List ℕ) (n : ℕ) → number_of limit w ≡ Ok n → n ≤ limit
 number_within limit w n e = grind (arith, nat_tests)
 
-bound : {X Y : Type 0} (r : Result X FileKind) (x : X) (f : X → Result Y FileKind) → r ≡ Ok x → f x ≡ (r >>= f)
+pub bound : {X Y : Type 0} (r : Result X FileKind) (x : X) (f : X → Result Y FileKind) → r ≡ Ok x → f x ≡ (r >>= f)
 bound r x f e = rw e refl
 
 pub named_is : (c : Context) (w first : List ℕ) (owner : List (List ℕ)) (ws rest : List Word) → name_of c.origin w ≡ Ok owner → plain_word ws ≡ Ok (first, rest)

@@ -1,10 +1,10 @@
 -- What std's reader of IPv6 addresses finds.
-use Rattle.std.proofs.Common.{◌≡◌, ℕ, ◌==◌, List, [], ◌∷◌, ◌++◌, length, Option, Some, None, refl, sym, ap, ◌∙◌, subst, append-nil, arith}
+use Rattle.std.proofs.Common.{◌≡◌, ℕ, List, [], ◌∷◌, Option, Some, None, refl, sym, ap, ◌∙◌, subst, append-nil, arith}
 use Rattle.std.proofs.lemmas.Bool.Decides.{nat_tests}
 use Rattle.std.specs.declared.net.ipv6_addr.Ipv6Addr.{Ipv6Addr}
 use Rattle.std.specs.Net.Addr.{ipv6_segments}
 use Rattle.std.specs.Net.Grammar.{IsColonHex, IsIpv6Text}
-use Rattle.std.specs.Net.Reader.{Read, read_ipv6, whole_value}
+use Rattle.std.specs.Net.Reader.{read_ipv6, whole_value}
 use Rattle.std.proofs.NetLemmas.Ipv6.{read_ipv6_complete, read_ipv6_sound, EndsGroups-nil}
 
 pub ipv6_read : (w : List ℕ) (a : Ipv6Addr) → IsIpv6Text w a → whole_value (read_ipv6 w) ≡ Some (ipv6_segments a)

@@ -4,3 +4,9 @@ pub mod Ipv6Lemmas
 pub mod Fronts
 pub mod HeadLemmas
 pub mod FileLemmas
+mod Inverse
+mod WordLemmas
+mod HeadLaw
+mod EntryLaw
+pub mod TextLaw
+mod PrintLemmas

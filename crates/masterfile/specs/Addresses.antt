@@ -1,10 +1,10 @@
 -- Addresses in a master file (RFC 1035, section 3.4.1; RFC 4291, section 2.2).
-use Rattle.std.specs.Prelude.{◌≡◌, ℕ, ◌==◌, Bool, true, false, ◌&&◌, ◌||◌, not, cond, Result, Ok, Err, Option, Some, None, List, [], ◌∷◌, length}
+use Rattle.std.specs.Prelude.{◌≡◌, ℕ, ◌==◌, Bool, false, ◌&&◌, ◌||◌, not, cond, Result, Ok, Err, Option, Some, None, List, [], ◌∷◌, length}
 use Rattle.std.specs.Borrow.{Bor}
 use Rattle.std.specs.Net.Addr.{octets_of}
 use Rattle.std.specs.Net.Reader.{read_ipv6, whole_value}
 use Rattle.masterfile.specs.declared.faults.FileKind.{FileKind}
-use Rattle.masterfile.specs.declared.faults.FileKind.TheVariants.{BadNumber, BadData}
+use Rattle.masterfile.specs.declared.faults.FileKind.TheVariants.{BadData}
 use Rattle.masterfile.specs.Faults.{◌>>=◌}
 use Rattle.masterfile.specs.Numbers.{is_number, value_from, within}
 

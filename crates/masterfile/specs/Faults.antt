@@ -1,5 +1,5 @@
 -- Faults of a master file, and how one reading follows another.
-use Rattle.std.specs.Prelude.{◌≡◌, ℕ, Result, Ok, Err, List, [], ◌∷◌, ◌++◌}
+use Rattle.std.specs.Prelude.{◌≡◌, ℕ, Result, Ok, Err, List, ◌∷◌}
 use Rattle.masterfile.specs.declared.faults.FileKind.{FileKind}
 use Rattle.masterfile.specs.declared.faults.FileKind.TheVariants.{UnknownType, BadName, BadNumber, NoTtl, NoOwner, OpenText, UnknownDirective, BadClass, BadData, Memory}
 

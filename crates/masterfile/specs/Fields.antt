@@ -1,5 +1,5 @@
 -- The fields of an entry: each is read from the entry's words that are left, and leaves the words behind it.
-use Rattle.std.specs.Prelude.{ℕ, Bool, true, false, ◌||◌, cond, nat_eq, Option, Some, None, Result, Ok, Err, List, [], ◌∷◌, codes, map}
+use Rattle.std.specs.Prelude.{ℕ, Bool, cond, nat_eq, Option, Some, None, Result, Ok, Err, List, [], ◌∷◌, map}
 use Rattle.std.specs.Cmp.Lexicographic.{pointwise}
 use Rattle.dname.specs.Labels.{folded}
 use Rattle.dname.specs.Text.{name_under}

@@ -1,5 +1,5 @@
 -- What a reader of fields gives back, and the words that it leaves.
-use Rattle.std.specs.Prelude.{◌≡◌, ℕ, Result, Ok, Err, Option, Some, None, List}
+use Rattle.std.specs.Prelude.{◌≡◌, Result, Ok, Err, Option, List}
 use Rattle.words.specs.Lexemes.{Word}
 use Rattle.masterfile.specs.declared.faults.FileKind.{FileKind}
 use Rattle.rdata.specs.Records.{Record}

@@ -6,3 +6,5 @@ pub mod Fields
 pub mod Entries
 pub mod Files
 pub mod Given
+pub mod MasterText
+pub mod Printed

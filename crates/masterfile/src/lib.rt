@@ -6,11 +6,15 @@ mod entries;
 mod faults;
 mod fields;
 mod files;
+mod laws;
 mod numbers;
+mod printed;
 mod strings;
 
 pub use faults::{FileError, FileKind};
 pub use files::{read, read_block};
+pub use laws::reads_both_ways;
+pub use printed::{print, put_record};
 
 #[cfg(test)]
 mod tests;

@@ -68,3 +68,24 @@ fn names_the_first_fault(rt: HostRuntime) -> Result<(), Fail> {
     assert_eq!(rt; fault(&rt, "a 1 AAAA ::1.2.3.4\n")?, (1, 9));
     Ok(())
 }
+
+#[test]
+fn prints_what_was_read(rt: HostRuntime) -> Result<(), Fail> {
+    let text = "$TTL 60\n@ SOA ns h ( 1 2 ; c\n  3 4 5 )\n  NS ns\na\\046b A 192.0.2.8\n";
+    let printed =
+        "$ORIGIN e.\ne. 60 IN SOA ns.e. h.e. 1 2 3 4 5\ne. 60 IN NS ns.e.\na\\.b.e. 60 IN A 192.0.2.8\n";
+    let origin = Name::from_text(rt.alloc(), "e.");
+    assert!(rt; origin.is_ok());
+    if let Ok(origin) = origin {
+        let records = read(rt.alloc(), &origin, text);
+        assert!(rt; records.is_ok());
+        if let Ok(records) = records {
+            let out = print(rt.alloc(), &origin, records.as_slice());
+            assert!(rt; out.is_ok());
+            if let Ok(out) = out {
+                assert_eq!(rt; out.as_str(), printed);
+            }
+        }
+    }
+    Ok(())
+}

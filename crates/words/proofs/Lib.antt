@@ -2,3 +2,4 @@ mod Shifted
 pub mod Fuel
 mod Heads
 pub mod PartsLaw
+pub mod LineLaw

@@ -3,3 +3,4 @@ pub mod Entries
 pub mod Views
 pub mod Steps
 pub mod Parts
+pub mod Lines

@@ -1,8 +1,14 @@
 //! Laws of the definitions.
+ghost use Rattle.words.specs.Lines.{LineIsReadBack};
 ghost use Rattle.words.specs.Parts.{PartsBothWays};
 
 /// The entries that the cursor shows are the text's parts by the rules of RFC 1035, section 5.1, and each text that
 /// parts by those rules is shown so.
 pub fn parts_both_ways()
     ensures { PartsBothWays }
+{}
+
+/// Words that are written as a line, with one space between them, are read as these words.
+pub fn line_is_read_back()
+    ensures { LineIsReadBack }
 {}

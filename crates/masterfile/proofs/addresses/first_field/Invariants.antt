@@ -1,4 +1,4 @@
-use Rattle.std.proofs.Common.{◌≡◌, ◌≤◌, ◌-◌, ◌++◌, take, drop, length}
+use Rattle.std.proofs.Common.{◌≡◌, ◌≤◌, ◌-◌, take, drop, length}
 use Rattle.masterfile.specs.Addresses.{fields}
 use Rattle.masterfile.proofs.FieldLemmas.{behind}
 use Rattle.masterfile.proofs.addresses.first_field.Given as goal

@@ -1,0 +1,16 @@
+-- Records as a zone text (RFC 1035, section 5.1).
+use Rattle.std.specs.Prelude.{ℕ, List, ◌++◌, flat_map, codes, decimal}
+use Rattle.dname.specs.Text.{name_text}
+use Rattle.rdata.specs.Text.{data_text}
+use Rattle.rdata.specs.Records.{Record}
+
+-- `OWNER TTL IN TYPE DATA`.
+abbrev pub record_text : Record → List ℕ
+record_text r = name_text r.owner ++ (codes " " ++ decimal r.ttl ++ codes " IN ") ++ data_text r.value
+
+abbrev pub line_text : Record → List ℕ
+line_text r = record_text r ++ codes "\n"
+
+-- The origin's line, then a line a record.
+abbrev pub file_text : List (List ℕ) → List Record → List ℕ
+file_text origin rs = codes "$ORIGIN " ++ name_text origin ++ codes "\n" ++ flat_map line_text rs

@@ -1,0 +1,50 @@
+//! Records printed.
+ghost use Rattle.std.specs.Prelude.{◌≡◌, ◌++◌, IfOk, OnOk, string_bytes};
+ghost use Rattle.masterfile.specs.Printed.{record_text, line_text, file_text};
+
+use dname::{Heap, Name, Starved, put_name};
+use rdata::{Record, put_data};
+use std::alloc::Allocator;
+
+/// The records as a zone text: a line `$ORIGIN NAME`, then a line `OWNER TTL IN TYPE DATA` a record, with one space
+/// between words and every name absolute.
+pub fn print<A: Heap, B: Allocator>(
+    alloc: A,
+    origin: &Name<B>,
+    records: &[Record<B>],
+) -> Result<String<A>, Starved>
+    ensures { IfOk result (λ s. string_bytes s ≡ file_text origin.now records.now) }
+{
+    let mut out = String::new(alloc);
+    out.push_str("$ORIGIN ")?;
+    put_name(&mut out, origin)?;
+    out.push('\n')?;
+    for record in records {
+        put_line(&mut out, record)?;
+    }
+    Ok(out)
+}
+
+fn put_line<A: Allocator, B: Allocator>(
+    out: &mut String<B>,
+    record: &Record<A>,
+) -> Result<(), Starved>
+    ensures { OnOk result (string_bytes out.new ≡ string_bytes out.old ++ line_text record.now) }
+{
+    put_record(out, record)?;
+    out.push('\n')?;
+    Ok(())
+}
+
+/// Appends a record as `OWNER TTL IN TYPE DATA`. Where memory is refused, a part of it stands.
+pub fn put_record<A: Allocator, B: Allocator>(
+    out: &mut String<B>,
+    record: &Record<A>,
+) -> Result<(), Starved>
+    ensures { OnOk result (string_bytes out.new ≡ string_bytes out.old ++ record_text record.now) }
+{
+    let ttl = record.ttl;
+    put_name(out, &record.owner)?;
+    write!(out, " {ttl} IN ")?;
+    put_data(out, &record.value)
+}
