@@ -11,3 +11,6 @@ pub use answer::{Link, Local};
 pub use catalog::{Catalog, CatalogError};
 pub use cause::Cause;
 pub use laws::one_answer_law;
+
+#[cfg(test)]
+mod tests;
