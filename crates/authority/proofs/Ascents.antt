@@ -2,8 +2,8 @@
 use Rattle.std.specs.List.{list_any}
 use Rattle.std.proofs.Math.Seq.{take-length}
 use Rattle.dname.specs.Labels.{same_name}
-use Rattle.std.proofs.Common.{◌≡◌, ℕ, suc, ◌≤◌, ◌-◌, Bool, true, false, ◌||◌, cond, Option, Some, None, List, [], ◌∷◌, length, take, drop, get_or, refl, sym, ◌∙◌, ap, subst, arith}
-use Rattle.dname.specs.Labels.{star, root, parent_of, AreLabels, is_under}
+use Rattle.std.proofs.Common.{◌≡◌, ℕ, suc, ◌≤◌, ◌-◌, Bool, true, false, ◌||◌, cond, Option, Some, None, List, [], ◌∷◌, length, take, drop, get_or, refl, sym, ◌∙◌, ap, arith}
+use Rattle.dname.specs.Labels.{star, root, parent_of, AreLabels}
 use Rattle.rdata.specs.Records.{Record}
 use Rattle.zone.specs.Zones.{Zone}
 use Rattle.zone.specs.Links.{Link}
@@ -100,7 +100,7 @@ pub looked_by : (zs : List Zone) (q : List (List ℕ)) (t : ℕ) (z : Zone) (soa
 looked_by zs q t z soa e d = ap (said_by_zone q t z) (sym d) ∙ ap (looked_in q t) e
 
 -- The first zone's twins, and those among the others.
-rest_is : (x : Zone) (xs others : List Zone) → others ≡ take (length (x ∷ xs) - 1) (drop 1 (x ∷ xs)) → others ≡ xs
+pub rest_is : (x : Zone) (xs others : List Zone) → others ≡ take (length (x ∷ xs) - 1) (drop 1 (x ∷ xs)) → others ≡ xs
 rest_is x xs others e = let size : length (x ∷ xs) - 1 ≡ length xs = omega arith in e ∙ (ap (λ (n : ℕ). take n xs) size ∙ take-length xs)
 
 pub twins_by : (zs : List Zone) (z : Zone) (others : List Zone) (b : Bool) → 1 ≤ length zs → z ≡ get_or zs 0 z → others ≡ take (length zs - 1) (drop 1 zs)

@@ -1,2 +1,4 @@
 pub mod Ascents
+pub mod Charges
+pub mod OneAnswers
 pub mod Picks

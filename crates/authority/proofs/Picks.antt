@@ -1,5 +1,5 @@
 -- What a walk over a list of records picks.
-use Rattle.std.proofs.Common.{◌≡◌, ◌≢◌, ℕ, ◌+◌, ◌<◌, Bool, true, false, ◌&&◌, ◌||◌, cond, Option, Some, None, List, [], ◌∷◌, ◌++◌, length, take, get_or, map, filter, find, fold, append-nil, refl, sym, ◌∙◌, ap, subst}
+use Rattle.std.proofs.Common.{◌≡◌, ℕ, ◌+◌, ◌<◌, Bool, true, false, ◌&&◌, ◌||◌, cond, Some, None, List, [], ◌∷◌, ◌++◌, length, take, get_or, map, filter, find, fold, append-nil, refl, sym, ◌∙◌, ap}
 use Rattle.std.proofs.lemmas.List.{take_more}
 use Rattle.std.specs.List.{list_any, flat_map}
 use Rattle.rdata.specs.Data.{same_data}
@@ -7,9 +7,9 @@ use Rattle.rdata.specs.Records.{Record}
 use Rattle.dname.specs.Laws.{same_name-exact}
 use Rattle.zone.specs.Zones.{Zone, ns_type, cname_type}
 use Rattle.zone.specs.Links.{Link, Found, Alias, NoData, NxDomain}
-use Rattle.zone.specs.Look.{is_owned, is_type, at, of_type, add_new, firsts, with_owner, said_alias, said_by, said, said_wild, add_glue, addresses_of, glue_of, ns_of, cut_of, exists, wild, climbed, link_by, local_of, local_by, Local, Linked, Cut}
+use Rattle.zone.specs.Look.{is_owned, is_type, at, of_type, add_new, firsts, with_owner, said_alias, said_by, said, said_wild, add_glue, addresses_of, glue_of, ns_of, cut_of, exists, wild, climbed, link_by, local_of, local_by, Linked, Cut}
 use Rattle.zone.proofs.LawExists.{exists_plain, climbed_is}
-use Rattle.authority.specs.Climb.{is_picked, picked, has_data, has_glue, has_under}
+use Rattle.authority.specs.Climb.{picked, has_data, has_glue, has_under}
 
 module _ (f : Record → Record) (p : Record → Bool) where
   one_more : (b : Bool) (kept : List Record) (r : Record) (rest : List Record) → fold add_new kept (map f (cond b (r ∷ rest) rest)) ≡ fold add_new (cond b (add_new kept (f r)) kept) (map f rest)

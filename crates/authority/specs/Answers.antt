@@ -1,6 +1,4 @@
 -- Answers of a look-up, seen as the plain values of the zones' definitions.
-use Rattle.std.specs.Prelude.{List}
-use Rattle.rdata.specs.Records.{Record}
 use Rattle.zone.specs.Links as said
 use Rattle.zone.specs.Look as looked
 use Rattle.authority.specs.declared.answer.Link.{Link}

@@ -1,5 +1,5 @@
 -- Which of several zones answers for a name, and what it gives.
-use Rattle.std.specs.Prelude.{◌≡◌, ℕ, ◌≤◌, Bool, true, false, ◌||◌, Option, Some, None, ◌⊎◌, List, [], ◌∷◌, length, find, Contains}
+use Rattle.std.specs.Prelude.{◌≡◌, ◌≢◌, ℕ, ◌≤◌, Bool, false, ◌||◌, Option, Some, None, ◌⊎◌, List, [], ◌∷◌, length, find, Contains}
 use Rattle.std.specs.List.{list_any}
 use Rattle.dname.specs.Labels.{same_name, IsAtOrUnder}
 use Rattle.rdata.specs.Records.{Record}
@@ -46,3 +46,12 @@ looked zs q t = looked_in q t (zone_over zs q)
 abbrev pub has_twins : List Zone → Bool
 has_twins [] = false
 has_twins (z ∷ zs) = list_any (λ (y : Zone). same_name y.origin z.origin) zs || has_twins zs
+
+-- Each origin has a label: the root's at least (RFC 1034, section 3.1).
+abbrev pub AreNamed : List Zone → Type 0
+AreNamed zs = (z : Zone) → Contains zs z → z.origin ≢ []
+
+-- How a catalog's zones are kept.
+pub record IsCatalog (zs : List Zone) : Type 0 where
+  pub apart : has_twins zs ≡ false
+  pub named : AreNamed zs

@@ -3,3 +3,4 @@ pub mod CatalogFaults
 pub mod Catalogs
 pub mod Causes
 pub mod Climb
+pub mod OneAnswer

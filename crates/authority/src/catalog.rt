@@ -4,7 +4,7 @@ ghost use Rattle.std.specs.Option.{option_copied};
 ghost use Rattle.dname.specs.Labels.{same_name};
 ghost use Rattle.rdata.specs.Types.{type_number};
 ghost use Rattle.authority.specs.Answers.{local_view};
-ghost use Rattle.authority.specs.Catalogs.{zone_at, zone_over, looked, has_twins};
+ghost use Rattle.authority.specs.Catalogs.{zone_at, zone_over, looked, has_twins, AreNamed, IsLooked};
 ghost use Rattle.authority.specs.CatalogFaults.{catalog_fault_number, CatalogRefuses};
 
 use crate::answer::Local;
@@ -14,7 +14,7 @@ use rdata::RType;
 use std::alloc::{Allocator, Global};
 use std::fmt;
 use std::marker::Model;
-use zone::Zone;
+use zone::{Zone, zone_keeps_rules};
 
 /// Why zones are no catalog.
 #[derive(Clone, Copy, Debug, PartialEq, Eq)]
@@ -55,15 +55,15 @@ pub struct Catalog<A: Allocator = Global> {
 }
 
 impl<A: Allocator> Model for Catalog<A> {
-    ghost use Rattle.std.specs.Prelude.{◌≡◌, List, false};
+    ghost use Rattle.std.specs.Prelude.{List};
     ghost use Rattle.zone.specs.Zones.{Zone};
-    ghost use Rattle.authority.specs.Catalogs.{has_twins};
+    ghost use Rattle.authority.specs.Catalogs.{IsCatalog};
 
     ghost Value = { List Zone };
 
     ghost view = { λ c. c.zones.items };
 
-    ghost invariant = { λ c. has_twins c.zones.items ≡ false };
+    ghost invariant = { λ c. IsCatalog c.zones.items };
 }
 
 fn is_at<A: Allocator>(zone: &Zone<A>, name: &Name<A>) -> bool
@@ -101,6 +101,19 @@ fn has_twins<A: Allocator>(zones: &[Zone<A>]) -> bool
     }
 }
 
+// A law: each origin has a label.
+fn have_named_origins<A: Allocator>(zones: &[Zone<A>])
+    ensures { AreNamed zones.now }
+{
+    match zones {
+        [] => {}
+        [first, rest @ ..] => {
+            first.origin().is_well_formed();
+            have_named_origins(rest)
+        }
+    }
+}
+
 // The zone with the longest origin over the name.
 fn zone_over<'a, A: Heap>(
     zones: &'a [Zone<A>],
@@ -129,23 +142,28 @@ impl<A: Heap> Catalog<A> {
         if has_twins(&zones) {
             return Err(CatalogError::Twins);
         }
+        have_named_origins(&zones);
         Ok(Catalog { zones })
     }
 
-    /// What the zone with the longest origin over the name says of it.
+    /// What the zone with the longest origin over the name says of it (RFC 1034, section 4.3.2).
     pub fn look(&self, alloc: A, name: &Name<A>, kind: RType) -> Result<Local<A>, Starved>
-        ensures { IfOk result (λ l. local_view l ≡ looked self.now name.now (type_number kind)) }
+        ensures value { IfOk result (λ l. local_view l ≡ looked self.now name.now (type_number kind)) }
+        ensures relation { IfOk result (λ l. IsLooked self.now name.now (type_number kind) (local_view l)) }
     {
         match zone_over(&self.zones, name)? {
             None => Ok(Local::NotHere),
-            Some(zone) => Ok(look_in(
-                alloc,
-                zone.origin(),
-                zone.denial(),
-                zone.records(),
-                name,
-                kind,
-            )?),
+            Some(zone) => {
+                zone_keeps_rules(zone);
+                Ok(look_in(
+                    alloc,
+                    zone.origin(),
+                    zone.denial(),
+                    zone.records(),
+                    name,
+                    kind,
+                )?)
+            }
         }
     }
 }

@@ -4,8 +4,13 @@
 mod answer;
 mod catalog;
 mod cause;
+mod laws;
 mod plain;
 
 pub use answer::{Link, Local};
 pub use catalog::{Catalog, CatalogError};
 pub use cause::Cause;
+pub use laws::one_answer_law;
+
+#[cfg(test)]
+mod tests;

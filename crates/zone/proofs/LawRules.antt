@@ -5,7 +5,7 @@ use Rattle.std.specs.List.{list_any}
 use Rattle.std.specs.Cmp.Lexicographic.{bytes_decides}
 use Rattle.std.proofs.lemmas.Bool.{and_parts, and_from, or_parts, or_cases, or_right, both_ways, not-true, not-false, not_from_true, false_from_ne_true, true_from_ne_false}
 use Rattle.std.proofs.lemmas.List.Elements.{Contains-append_left, Contains-append_right, Contains-append_cases}
-use Rattle.dname.specs.Labels.{star, same_name, is_under, IsAtOrUnder}
+use Rattle.dname.specs.Labels.{star, same_name, is_under, IsAtOrUnder, AreLabels}
 use Rattle.dname.specs.Laws.{same_name-exact, same_name-equal}
 use Rattle.dname.specs.Stars.{is_star, has_star, is_wildcard, has_inner_star as star_inside}
 use Rattle.dname.proofs.Under.{under_is, is_under_holds}
@@ -287,6 +287,25 @@ star_cuts_holds z h = all_fail (λ (x : Record). is_wildcard x.owner && is_benea
 passed : (b : Bool) (e : ZoneError) (f : Option ZoneError) → cond b (Some e) f ≡ None → (b ≡ false) × (f ≡ None)
 passed true e f h = absurd (cc)
 passed false e f h = (refl, h)
+
+-- Owners at or under an origin that has a label have one.
+inside_named : (z : Zone) → AreLabels z.origin → ((r : Record) → Contains z.records r → IsAtOrUnder r.owner z.origin) → IsNamed z
+inside_named z h inside r m e = no_labels z.origin h (over_nothing z.origin (subst (λ (n : List (List ℕ)). IsAtOrUnder n z.origin) e (inside r m)))
+  where
+    over_nothing : (n : List (List ℕ)) → IsAtOrUnder [] n → n ≡ []
+    over_nothing n ([], p) = sym p
+    over_nothing n (l ∷ f, p) = absurd (cc)
+
+    no_labels : (n : List (List ℕ)) → AreLabels n → n ≡ [] → ⊥
+    no_labels [] k p = k
+    no_labels (l ∷ ls) k p = absurd (cc)
+
+pub zone_named : (z : Zone) → AreLabels z.origin → fault_of z ≡ None → IsNamed z
+zone_named z labels h =
+    let p1 = passed (lacks_soa z) Soa _ h in
+    let p2 = passed (lacks_servers z) NoServers _ p1.1 in
+    let p3 = passed (has_foreign_owner z) ForeignOwner _ p2.1 in
+    inside_named z labels (inside_is z p3.0)
 
 pub zone_is : (z : Zone) → IsNamed z → fault_of z ≡ None → IsZone z
 zone_is z named h =

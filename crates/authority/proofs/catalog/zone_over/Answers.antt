@@ -1,4 +1,4 @@
-use Rattle.std.proofs.Common.{◌≡◌, ◌∙◌, sym, ap, subst, List, ℕ}
+use Rattle.std.proofs.Common.{◌∙◌, sym, ap, subst, List, ℕ}
 use Rattle.dname.specs.Labels.{AreLabels}
 use Rattle.authority.specs.Catalogs.{zone_over}
 use Rattle.authority.proofs.Ascents.{shorter, zone_stops, zone_goes_on, zone_found, zone_next}

@@ -1,7 +1,6 @@
-use Rattle.std.proofs.Common.{◌≡◌, ◌∙◌, sym, ap}
-use Rattle.rdata.specs.Records.{Record}
+use Rattle.std.proofs.Common.{◌∙◌, sym, ap}
 use Rattle.zone.specs.Zones.{cname_type}
-use Rattle.zone.specs.Links.{Link, Alias, NoData}
+use Rattle.zone.specs.Links.{Alias, NoData}
 use Rattle.authority.specs.Climb.{target, is_picked}
 use Rattle.authority.proofs.Picks.{alias_found, alias_missing}
 use Rattle.authority.proofs.plain.alias_or_none.Goals as goal

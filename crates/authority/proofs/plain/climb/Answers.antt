@@ -1,8 +1,7 @@
-use Rattle.std.proofs.Common.{◌≡◌, ◌∙◌, sym, ap}
+use Rattle.std.proofs.Common.{◌∙◌}
 use Rattle.rdata.specs.Types.{type_number}
-use Rattle.zone.specs.Links.{NxDomain}
 use Rattle.zone.specs.Look.{climbed}
-use Rattle.authority.proofs.Ascents.{shorter, climb_stops, climb_goes_on, climb_ends}
+use Rattle.authority.proofs.Ascents.{shorter, climb_stops, climb_goes_on}
 use Rattle.authority.proofs.plain.climb.Goals as goal
 
 pub up-smaller : goal.up-smaller

@@ -1,7 +1,7 @@
-use Rattle.std.proofs.Common.{◌≡◌, ◌∙◌, sym, subst, List, ℕ}
+use Rattle.std.proofs.Common.{◌≡◌, sym, subst, List, ℕ}
 use Rattle.dname.specs.Labels.{AreLabels}
 use Rattle.zone.specs.Zones.{Zone}
-use Rattle.zone.specs.Look.{is_cut, cut_of, or_else}
+use Rattle.zone.specs.Look.{cut_of, or_else}
 use Rattle.authority.specs.Climb.{above}
 use Rattle.authority.proofs.Ascents.{shorter, cut_first, cut_more, cut_last}
 use Rattle.authority.proofs.plain.cut_over.Goals as goal

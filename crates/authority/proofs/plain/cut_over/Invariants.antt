@@ -1,5 +1,4 @@
 use Rattle.std.proofs.Common.{◌≡◌, length}
-use Rattle.dname.specs.Labels.{AreLabels}
 use Rattle.zone.specs.Look.{cut_of, or_else}
 use Rattle.authority.specs.Climb.{above}
 use Rattle.authority.proofs.plain.cut_over.Given as goal

@@ -1,4 +1,4 @@
-use Rattle.std.proofs.Common.{◌≡◌, ◌∙◌, sym, ap, ◌∷◌}
+use Rattle.std.proofs.Common.{◌∙◌, sym, ap, ◌∷◌}
 use Rattle.dname.specs.Labels.{star}
 use Rattle.rdata.specs.Types.{type_number}
 use Rattle.zone.specs.Links.{NxDomain}

@@ -1,0 +1,202 @@
+use super::*;
+use dname::{Name, Starved};
+use rdata::{Addr, CharacterString, RData, RType, Record, Records, Soa, Texts};
+use std::alloc::Global;
+use std::test::Fail;
+use zone::Zone;
+
+fn name(alloc: Global, text: &str) -> Result<Name, Starved> {
+    match Name::from_text(alloc, text) {
+        Ok(name) => Ok(name),
+        Err(_) => Err(Starved),
+    }
+}
+
+fn words(alloc: Global) -> Result<RData, Starved> {
+    let string = CharacterString::new(Vec::from_slice(alloc, b"words")?);
+    Ok(RData::Txt(Texts::new(alloc, string)?))
+}
+
+fn put(
+    alloc: Global,
+    records: &mut Records,
+    owner: &str,
+    ttl: u16,
+    value: RData,
+) -> Result<(), Starved> {
+    let owner = name(alloc, owner)?;
+    records.push(Record {
+        owner,
+        ttl: ttl as u32,
+        value,
+    })
+}
+
+// The SOA and the server of a zone.
+fn top(alloc: Global, origin: &str) -> Result<Records, Starved> {
+    let mut records = Records::new(alloc);
+    let soa = Soa {
+        primary: name(alloc, "ns.example")?,
+        mailbox: name(alloc, "root.example")?,
+        serial: 1,
+        refresh: 7200,
+        retry: 600,
+        expire: 3_600_000,
+        minimum: 60,
+    };
+    put(alloc, &mut records, origin, 3600, RData::Soa(soa))?;
+    let server = RData::Ns(name(alloc, "ns.example")?);
+    put(alloc, &mut records, origin, 3600, server)?;
+    Ok(records)
+}
+
+fn zone(alloc: Global, origin: &str, records: Records) -> Result<Zone, Starved> {
+    match Zone::build(name(alloc, origin)?, records) {
+        Ok(zone) => Ok(zone),
+        Err(_) => Err(Starved),
+    }
+}
+
+// RFC 4592, section 2.2.1, in small: a wildcard, a name between owners and the origin, a cut, an alias.
+fn lab(alloc: Global) -> Result<Zone, Starved> {
+    let mut records = top(alloc, "lab.example")?;
+    put(alloc, &mut records, "*.lab.example", 60, words(alloc)?)?;
+    put(alloc, &mut records, "*.lab.example", 60, words(alloc)?)?;
+    let address = RData::A(Addr([192, 0, 2, 1]));
+    put(alloc, &mut records, "a.b.lab.example", 60, address)?;
+    let target = RData::Cname(name(alloc, "a.b.lab.example")?);
+    put(alloc, &mut records, "www.lab.example", 60, target)?;
+    let server = RData::Ns(name(alloc, "ns.sub.lab.example")?);
+    put(alloc, &mut records, "sub.lab.example", 60, server)?;
+    let glue = RData::A(Addr([192, 0, 2, 2]));
+    put(alloc, &mut records, "ns.sub.lab.example", 60, glue)?;
+    zone(alloc, "lab.example", records)
+}
+
+fn catalog(alloc: Global) -> Result<Catalog, Starved> {
+    let mut zones = Vec::new(alloc);
+    zones.push(zone(alloc, "example", top(alloc, "example")?)?)?;
+    zones.push(lab(alloc)?)?;
+    match Catalog::new(zones) {
+        Ok(catalog) => Ok(catalog),
+        Err(_) => Err(Starved),
+    }
+}
+
+// The answer's kind, the name that it speaks of, and how many records and addresses it has.
+fn told(
+    alloc: Global,
+    zones: &Catalog,
+    asked: &str,
+    kind: RType,
+) -> Result<(&'static str, String, usize, usize), Starved> {
+    let asked = name(alloc, asked)?;
+    match zones.look(alloc, &asked, kind)? {
+        Local::Link(Link::Found(set)) => {
+            let owner = match set.as_slice() {
+                [first, ..] => first.owner.to_text()?,
+                [] => String::new(alloc),
+            };
+            Ok(("found", owner, set.len(), 0))
+        }
+        Local::Link(Link::Alias(alias)) => Ok(("alias", alias.owner.to_text()?, 1, 0)),
+        Local::Link(Link::NoData(soa)) => Ok(("no data", soa.owner.to_text()?, 0, 0)),
+        Local::Link(Link::NxDomain(soa)) => Ok(("no name", soa.owner.to_text()?, 0, 0)),
+        Local::Cut(cut, servers, addresses) => {
+            Ok(("cut", cut.to_text()?, servers.len(), addresses.len()))
+        }
+        Local::NotHere => Ok(("not here", String::new(alloc), 0, 0)),
+    }
+}
+
+#[test]
+fn answers_from_the_longest_origin(rt: HostRuntime) -> Result<(), Fail> {
+    let zones = catalog(rt.alloc());
+    assert!(rt; zones.is_ok());
+    if let Ok(zones) = zones {
+        for (asked, kind, answer, owner, records, addresses) in [
+            ("x.lab.example", RType::Txt, "found", "x.lab.example.", 1, 0),
+            (
+                "x.y.lab.example",
+                RType::Txt,
+                "found",
+                "x.y.lab.example.",
+                1,
+                0,
+            ),
+            ("x.lab.example", RType::A, "no data", "lab.example.", 0, 0),
+            (
+                "x.b.lab.example",
+                RType::Txt,
+                "no name",
+                "lab.example.",
+                0,
+                0,
+            ),
+            ("b.lab.example", RType::Txt, "no data", "lab.example.", 0, 0),
+            (
+                "a.b.lab.example",
+                RType::A,
+                "found",
+                "a.b.lab.example.",
+                1,
+                0,
+            ),
+            (
+                "www.lab.example",
+                RType::A,
+                "alias",
+                "www.lab.example.",
+                1,
+                0,
+            ),
+            (
+                "x.sub.lab.example",
+                RType::A,
+                "cut",
+                "sub.lab.example.",
+                1,
+                1,
+            ),
+            (
+                "sub.lab.example",
+                RType::Ns,
+                "cut",
+                "sub.lab.example.",
+                1,
+                1,
+            ),
+            ("lab.example", RType::Ns, "found", "lab.example.", 1, 0),
+            ("other.example", RType::Txt, "no name", "example.", 0, 0),
+            ("example", RType::Txt, "no data", "example.", 0, 0),
+            ("test", RType::A, "not here", "", 0, 0),
+        ] {
+            let given = told(rt.alloc(), &zones, asked, kind);
+            assert!(rt; given.is_ok());
+            if let Ok((word, name, set, glue)) = given {
+                assert_eq!(rt; word, answer, "for {asked}");
+                assert_eq!(rt; name.as_str(), owner, "for {asked}");
+                assert_eq!(rt; (set, glue), (records, addresses), "for {asked}");
+            }
+        }
+    }
+    Ok(())
+}
+
+#[test]
+fn refuses_twins(rt: HostRuntime) -> Result<(), Fail> {
+    let mut zones = Vec::new(rt.alloc());
+    for _ in 0..2 {
+        let twin = lab(rt.alloc());
+        assert!(rt; twin.is_ok());
+        if let Ok(twin) = twin {
+            zones.push(twin)?;
+        }
+    }
+    let refused = Catalog::new(zones);
+    assert!(rt; refused.is_err());
+    if let Err(error) = refused {
+        assert_eq!(rt; error, CatalogError::Twins);
+    }
+    Ok(())
+}
