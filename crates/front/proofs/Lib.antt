@@ -1,0 +1,5 @@
+pub mod Hearing
+pub mod Limits
+pub mod Following
+pub mod Single
+pub mod Short

@@ -1,0 +1,34 @@
+-- Which reply goes out, by the length of the whole one.
+use Rattle.std.proofs.Common.{◌≡◌, ◌∙◌, sym, ap, subst, ℕ, ◌<◌, ◌≤◌, nat_lt, true, false, if◌then◌else◌, Option, Some, None, List, [], ◌∷◌, length, refl}
+use Rattle.std.proofs.lemmas.Bool.{lt-ltb, le-ltb}
+use Rattle.layout.specs.Messages.{Message, encoding}
+use Rattle.authority.specs.declared.cause.Cause.{Cause}
+use Rattle.authority.specs.declared.cause.Cause.TheVariants.{Large}
+use Rattle.front.specs.Replies.{whole_reply, cut_reply, bare, failure_of, limit_of, reply_of}
+use Rattle.front.specs.declared.queries.Query.{Query}
+use Rattle.front.specs.declared.queries.Outcome.{Outcome}
+use Rattle.front.specs.declared.queries.Via.{Via}
+use Rattle.front.specs.declared.queries.Via.TheVariants.{Udp, Tcp}
+
+fits : {X : Type 0} (n l : ℕ) (x y : X) → l ≤ n → (if nat_lt n l then x else y) ≡ y
+fits n l x y short = rw (le-ltb n l short) refl
+
+over : {X : Type 0} (n l : ℕ) (x y : X) → n < l → (if nat_lt n l then x else y) ≡ x
+over n l x y long = rw (lt-ltb n l long) refl
+
+pub reply_fits : {A : Type 0} (via : Via) (q : Query A) (o : Outcome A) (m : Message) → m ≡ whole_reply q o → length (encoding m) ≤ limit_of via
+    → reply_of via q o ≡ (m, failure_of o)
+reply_fits Udp q o m is short =
+    fits 512 (length (encoding (whole_reply q o))) _ _ (subst (λ (n : Message). length (encoding n) ≤ 512) is short)
+    ∙ ap (λ (n : Message). let r : Message × Option Cause = (n, failure_of o) in r) (sym is)
+reply_fits Tcp q o m is short =
+    fits 65535 (length (encoding (whole_reply q o))) _ _ (subst (λ (n : Message). length (encoding n) ≤ 65535) is short)
+    ∙ ap (λ (n : Message). let r : Message × Option Cause = (n, failure_of o) in r) (sym is)
+
+pub reply_cut : {A : Type 0} (q : Query A) (o : Outcome A) (m : Message) → m ≡ whole_reply q o → 512 < length (encoding m)
+    → reply_of Udp q o ≡ (cut_reply (whole_reply q o), failure_of o)
+reply_cut q o m is long = over 512 (length (encoding (whole_reply q o))) _ _ (subst (λ (n : Message). 512 < length (encoding n)) is long)
+
+pub reply_fails : {A : Type 0} (q : Query A) (o : Outcome A) (m : Message) → m ≡ whole_reply q o → 65535 < length (encoding m)
+    → reply_of Tcp q o ≡ (bare q.start (q.echo ∷ []) false 2, Some Large)
+reply_fails q o m is long = over 65535 (length (encoding (whole_reply q o))) _ _ (subst (λ (n : Message). 65535 < length (encoding n)) is long)

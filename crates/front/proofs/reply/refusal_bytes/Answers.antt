@@ -1,0 +1,17 @@
+-- A refusal has no records.
+use Rattle.std.proofs.Common.{◌≡◌, ◌∙◌, ap, option_copied, false, ℕ}
+use Rattle.std.proofs.lemmas.Result.{IfOk-weaker}
+use Rattle.layout.specs.Messages.{encoding}
+use Rattle.wire.specs.Drafts.{asked_alone}
+use Rattle.front.specs.Replies.{bare}
+use Rattle.front.proofs.Short.{bare_fits}
+use Rattle.front.proofs.reply.refusal_bytes.Goals as goal
+
+pub short_bytes-requires-clause-fits : goal.short_bytes-requires-clause-fits
+short_bytes-requires-clause-fits g c =
+    bare_fits c.args.start (option_copied c.args.echo) c.rcode.result c.empty_draft.result c.empty_draft.ensures c.is_short.ensures
+
+pub returns-clause-bytes : goal.returns-clause-bytes
+returns-clause-bytes g c =
+    IfOk-weaker c.short_bytes.result _ _ (λ r bytes. bytes ∙ ap encoding (c.empty_draft.ensures
+      ∙ ap (λ (rcode : ℕ). bare c.args.start (asked_alone (option_copied c.args.echo)) false rcode) c.rcode.ensures)) c.short_bytes.ensures.bytes

@@ -1,0 +1,46 @@
+-- The short reply where the whole one does not fit.
+use Rattle.std.proofs.Common.{rules, ◌≡◌, ◌∙◌, sym, ap, arith, ◌<◌, ◌≤◌, Option, Some, length}
+use Rattle.dname.specs.Labels.{wire}
+use Rattle.layout.specs.Messages.{Message, encoding}
+use Rattle.authority.specs.declared.cause.Cause.{Cause}
+use Rattle.front.specs.Replies.{reply_of, cut_reply}
+use Rattle.front.specs.declared.queries.Via.{Via}
+use Rattle.front.proofs.Limits.{reply_cut, reply_fails}
+use Rattle.front.proofs.Short.{cut_fits, bare_fits}
+use Rattle.front.proofs.reply.reply_bytes.Goals as goal
+
+pub short_bytes-requires-clause-fits : goal.short_bytes-requires-clause-fits
+short_bytes-requires-clause-fits g c =
+    cut_fits c.args.query.now c.args.outcome.now c.draft_of-whole.result c.cut.result c.draft_of-whole.ensures c.cut.ensures c.is_short.ensures
+
+pub short_bytes-requires-in-None-2-clause-fits : goal.short_bytes-requires-in-None-2-clause-fits
+short_bytes-requires-in-None-2-clause-fits g c =
+    let fits : length (encoding c.empty_draft-failure.result) ≤ 512 =
+      bare_fits c.args.query.now.start (Some c.args.query.now.echo) 2 c.empty_draft-failure.result c.empty_draft-failure.ensures c.is_short-in-None-2.ensures in
+    omega arith
+
+pub returns-in_ok-short_bytes-in-None-clause-bytes : goal.returns-in_ok-short_bytes-in-None-clause-bytes
+returns-in_ok-short_bytes-in-None-clause-bytes g c =
+    let long : 512 < length (encoding c.draft_of-whole.result) = search rules in
+    c.in_ok-short_bytes-in-None.ensures.bytes ∙ ap encoding (c.cut.ensures ∙ ap cut_reply c.draft_of-whole.ensures)
+    ∙ ap (λ (r : Message × Option Cause). encoding r.0) (sym (reply_cut c.args.query.now c.args.outcome.now c.draft_of-whole.result c.draft_of-whole.ensures long))
+    ∙ ap (λ (via : Via). encoding (reply_of via c.args.query.now c.args.outcome.now).0) (sym c.in-Udp.is)
+
+pub returns-in_ok-short_bytes-in-None-clause-cause : goal.returns-in_ok-short_bytes-in-None-clause-cause
+returns-in_ok-short_bytes-in-None-clause-cause g c =
+    let long : 512 < length (encoding c.draft_of-whole.result) = search rules in
+    c.cause_in-cause.ensures ∙ ap (λ (r : Message × Option Cause). r.1) (sym (reply_cut c.args.query.now c.args.outcome.now c.draft_of-whole.result c.draft_of-whole.ensures long))
+    ∙ ap (λ (via : Via). (reply_of via c.args.query.now c.args.outcome.now).1) (sym c.in-Udp.is)
+
+pub returns-in_ok-short_bytes-in-None-2-clause-bytes : goal.returns-in_ok-short_bytes-in-None-2-clause-bytes
+returns-in_ok-short_bytes-in-None-2-clause-bytes g c =
+    let long : 65535 < length (encoding c.draft_of-whole.result) = search rules in
+    c.in_ok-short_bytes-in-None-2.ensures.bytes ∙ ap encoding c.empty_draft-failure.ensures
+    ∙ ap (λ (r : Message × Option Cause). encoding r.0) (sym (reply_fails c.args.query.now c.args.outcome.now c.draft_of-whole.result c.draft_of-whole.ensures long))
+    ∙ ap (λ (via : Via). encoding (reply_of via c.args.query.now c.args.outcome.now).0) (sym c.in-Tcp.is)
+
+pub returns-in_ok-short_bytes-in-None-2-clause-cause : goal.returns-in_ok-short_bytes-in-None-2-clause-cause
+returns-in_ok-short_bytes-in-None-2-clause-cause g c =
+    let long : 65535 < length (encoding c.draft_of-whole.result) = search rules in
+    ap (λ (r : Message × Option Cause). r.1) (sym (reply_fails c.args.query.now c.args.outcome.now c.draft_of-whole.result c.draft_of-whole.ensures long))
+    ∙ ap (λ (via : Via). (reply_of via c.args.query.now c.args.outcome.now).1) (sym c.in-Tcp.is)

@@ -1,0 +1,66 @@
+-- What the bytes from a client ask (RFC 1035, sections 4.1.1 and 7.3).
+use Rattle.std.specs.Prelude.{◌≡◌, ℕ, ◌+◌, ◌*◌, ◌/◌, ◌%◌, ◌<◌, ◌≤◌, ◌⊎◌, Bool, ◌&&◌, cond, nat_eq, Option, Some, None, Ok, Err, List, [], ◌∷◌, length, slice_index}
+use Rattle.rdata.specs.Types.{is_served}
+use Rattle.rdata.specs.declared.rtype.RType.{RType}
+use Rattle.rdata.specs.declared.rtype.RType.TheVariants as kind
+use Rattle.layout.specs.Messages.{Message, Question, internet}
+use Rattle.wire.specs.Entries.{message_of, spelling_of}
+use Rattle.wire.specs.declared.error.WireError.{WireError}
+use Rattle.front.specs.Openings.{Opening, opening_of}
+use Rattle.front.specs.declared.queries.Refusal.{Refusal}
+use Rattle.front.specs.declared.queries.Refusal.TheVariants.{FormErr, NotImp}
+use Rattle.front.specs.declared.queries.Query.{Query as Asking}
+use Rattle.front.specs.declared.queries.Asked.{Asked}
+use Rattle.front.specs.declared.queries.Asked.TheVariants.{Drop, Refuse, Query}
+
+-- What bytes mean: no message, a message of no question or several, or a message of one question, in the
+-- letters in which it was asked.
+pub data Heard : Type 0 where
+  nothing_heard : Heard
+  other_heard : Message → Heard
+  one_heard : Message → Question → List (List ℕ) → Heard
+
+abbrev pub IsHeard : List ℕ → Heard → Type 0
+IsHeard bytes nothing_heard = (e : WireError) × (message_of bytes ≡ Err e)
+IsHeard bytes (other_heard m) = (message_of bytes ≡ Ok m) × (length m.questions ≡ 1 → ⊥)
+IsHeard bytes (one_heard m q letters) = (message_of bytes ≡ Ok m) × (m.questions ≡ q ∷ []) × (spelling_of bytes 12 ≡ Ok letters)
+
+-- The type of a number that is served.
+abbrev pub kind_with : ℕ → RType
+kind_with n = cond (nat_eq n 1) kind.A (cond (nat_eq n 2) kind.Ns (cond (nat_eq n 5) kind.Cname (cond (nat_eq n 6) kind.Soa
+    (cond (nat_eq n 12) kind.Ptr (cond (nat_eq n 15) kind.Mx (cond (nat_eq n 16) kind.Txt kind.Aaaa))))))
+
+-- A query of operation 0, class IN and a served type.
+abbrev pub is_answerable : Opening → Question → Bool
+is_answerable s q = nat_eq s.opcode 0 && nat_eq q.qclass internet && is_served q.qtype
+
+-- The question in these letters.
+abbrev pub in_letters : Question → List (List ℕ) → Question
+in_letters q letters = record { name = letters; qtype = q.qtype; qclass = q.qclass }
+
+abbrev pub query_of : {A : Type 0} → Opening → Question → List (List ℕ) → Asking A
+query_of s q letters = record { start = s; name = q.name; kind = kind_with q.qtype; echo = in_letters q letters }
+
+abbrev pub by_question : {A : Type 0} → Opening → Question → List (List ℕ) → Asked A
+by_question s q letters =
+    cond (is_answerable s q) (Query (query_of s q letters)) (Refuse NotImp s (Some (in_letters q letters)))
+
+abbrev pub by_heard : {A : Type 0} → Opening → Heard → Asked A
+by_heard s nothing_heard = Refuse FormErr s None
+by_heard s (other_heard m) = Refuse FormErr s None
+by_heard s (one_heard m q letters) = by_question s q letters
+
+-- Twelve bytes or more that are no reply are answered by what they mean.
+pub record IsRead {A : Type 0} (bytes : List ℕ) (asked : Asked A) : Type 0 where
+  pub whole : 12 ≤ length bytes
+  pub query : slice_index bytes 2 < 128
+  pub heard : Heard
+  pub hears : IsHeard bytes heard
+  pub is : asked ≡ by_heard (opening_of bytes) heard
+
+-- Others are dropped.
+abbrev pub IsDropped : {A : Type 0} → List ℕ → Asked A → Type 0
+IsDropped bytes asked = ((length bytes < 12) ⊎ (128 ≤ slice_index bytes 2)) × (asked ≡ Drop)
+
+abbrev pub IsAsked : {A : Type 0} → List ℕ → Asked A → Type 0
+IsAsked bytes asked = IsDropped bytes asked ⊎ IsRead bytes asked

@@ -1,0 +1,20 @@
+//! The question that a reply repeats.
+use std::alloc::{Allocator, Global};
+use std::marker::Model;
+use wire::Spelling;
+
+/// A question in the client's own letters.
+#[derive(Drop)]
+pub struct Echo<A: Allocator = Global> {
+    pub spelling: Spelling<A>,
+    pub qtype: u16,
+    pub qclass: u16,
+}
+
+impl<A: Allocator> Model for Echo<A> {
+    ghost use Rattle.layout.specs.Messages.{Question};
+
+    ghost Value = { Question };
+
+    ghost view = { λ e. record { name = e.spelling; qtype = e.qtype; qclass = e.qclass } };
+}

@@ -1,0 +1,99 @@
+//! Answers from local zones alone.
+ghost use Rattle.std.specs.Prelude.{◌≡◌, ℕ, List, [], ◌∷◌, IfOk};
+ghost use Rattle.rdata.specs.Types.{type_number};
+ghost use Rattle.zone.specs.Look.{Linked};
+ghost use Rattle.authority.specs.Answers.{link_view, local_view};
+ghost use Rattle.authority.specs.Catalogs.{looked};
+ghost use Rattle.front.specs.Chains.{AnswersLocally, FollowsOn, target_of};
+ghost use Rattle.front.specs.Steps.{IsStep};
+
+use crate::queries::{End, Outcome, Query};
+use authority::{Catalog, Cause, Link, Local};
+use dname::{Heap, Name, Starved};
+use rdata::{RData, RType, Record, Records};
+use std::alloc::Allocator;
+
+// The aliases that a chain may have.
+const MOST: usize = 8;
+
+/// What local zones alone answer a query, one whose RD is clear: nothing where none is over the name, a
+/// referral at a cut, else the chain of aliases through local zones and what stands at its end. A ninth alias
+/// is a failure.
+pub fn answer_local<A: Heap>(
+    alloc: A,
+    query: &Query<A>,
+    catalog: &Catalog<A>,
+) -> Result<Outcome<A>, Starved>
+    ensures { IfOk result (AnswersLocally (λ name. looked catalog.now name (type_number query.now.kind)) query.now.name) }
+{
+    match catalog.look(alloc, &query.name, query.kind)? {
+        Local::NotHere => Ok(Outcome::Refused),
+        Local::Cut(_, ns, glue) => Ok(Outcome::Referral(ns, glue)),
+        Local::Link(link) => follow(alloc, catalog, query.kind, link),
+    }
+}
+
+// The chain that begins with the link of the asked name.
+fn follow<A: Heap>(
+    alloc: A,
+    catalog: &Catalog<A>,
+    kind: RType,
+    first: Link<A>,
+) -> Result<Outcome<A>, Starved>
+    ensures { (name : List (List ℕ)) → looked catalog.now name (type_number kind) ≡ Linked (link_view first)
+        → IfOk result (FollowsOn (λ n. looked catalog.now n (type_number kind)) name) }
+{
+    let mut aliases = Records::new(alloc);
+    let mut found = Local::Link(first);
+    'aliases: loop {
+        let step = step_at(alloc, found)?;
+        match step {
+            Step::Ended(end) => return Ok(Outcome::Answer(true, aliases, end)),
+            Step::Onward(alias) => {
+                if aliases.len() == MOST {
+                    return Ok(Outcome::Fail(Cause::Chain));
+                }
+                found = catalog.look(alloc, target(&alias), kind)?;
+                aliases.push(alias)?;
+            }
+        }
+    }
+}
+
+// What a look-up means for a chain: one alias more, or its end.
+#[derive(Drop)]
+enum Step<A: Allocator> {
+    Onward(Record<A>),
+    Ended(End<A>),
+}
+
+fn step_at<A: Heap>(alloc: A, found: Local<A>) -> Result<Step<A>, Starved>
+    ensures { IfOk result (IsStep (local_view found)) }
+{
+    match found {
+        Local::Link(Link::Alias(alias)) => Ok(Step::Onward(alias)),
+        Local::Link(Link::Found(set)) => Ok(Step::Ended(End::Found(set))),
+        Local::Link(Link::NoData(soa)) => Ok(Step::Ended(End::NoData(alone(alloc, soa)?))),
+        Local::Link(Link::NxDomain(soa)) => Ok(Step::Ended(End::NxDomain(alone(alloc, soa)?))),
+        Local::Cut(_, _, _) | Local::NotHere => Ok(Step::Ended(End::Outside)),
+    }
+}
+
+// The name that an alias leads to.
+fn target<A: Allocator>(alias: &Record<A>) -> &Name<A>
+    ensures { result.now ≡ target_of alias.now }
+{
+    match &alias.value {
+        RData::Cname(name) => name,
+        _ => &alias.owner,
+    }
+}
+
+// The records of one.
+fn alone<A: Heap>(alloc: A, only: Record<A>) -> Result<Records<A>, Starved>
+    ensures { IfOk result (λ records. records ≡ only ∷ []) }
+{
+    let mut records = Records::new(alloc);
+    records.push(only)?;
+    Ok(records)
+}

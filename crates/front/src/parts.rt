@@ -1,0 +1,75 @@
+//! Messages that are written from parts.
+ghost use Rattle.std.specs.Prelude.{◌≡◌, ◌≤◌, ◌<◌, IfOk, MatchOption, length, option_copied};
+ghost use Rattle.layout.specs.Messages.{encoding};
+ghost use Rattle.wire.specs.Drafts.{asked_by};
+
+use crate::echo::Echo;
+use dname::{Heap, Starved};
+use rdata::Record;
+use std::alloc::{Allocator, Global};
+use std::marker::Model;
+use wire::{Draft, Header, Spelling, WireError, encode_draft};
+
+/// A reply that is lent part by part: no record is cloned for it. Contracts see the message.
+#[derive(Drop)]
+pub struct Parts<'a, A: Allocator = Global> {
+    pub header: Header,
+    pub question: Option<&'a Echo<A>>,
+    /// The answer is `first` and then `second`.
+    pub first: &'a [Record<A>],
+    pub second: &'a [Record<A>],
+    pub authority: &'a [Record<A>],
+    pub additional: &'a [Record<A>],
+}
+
+impl<'a, A: Allocator> Model for Parts<'a, A> {
+    ghost use Rattle.std.specs.Prelude.{◌++◌, option_copied};
+    ghost use Rattle.layout.specs.Messages.{Message};
+    ghost use Rattle.wire.specs.Drafts.{asked_alone};
+
+    ghost Value = { Message };
+
+    ghost view = { λ p. record { header = p.header; questions = asked_alone (option_copied p.question); answer = p.first.now ++ p.second.now; authority = p.authority.now; additional = p.additional.now } };
+}
+
+// The bytes of a message; none where they are more than the limit.
+pub fn encoded<A: Heap>(
+    alloc: A,
+    parts: &Parts<'_, A>,
+    limit: usize,
+) -> Result<Option<Vec<u8, A>>, Starved>
+    requires { limit ≤ 65535 }
+    ensures { IfOk result (λ o. MatchOption o (limit < length (encoding parts.now)) (λ v. (v.items ≡ encoding parts.now) × (length v.items ≤ limit))) }
+{
+    let draft = Draft {
+        header: parts.header,
+        question: asked(parts.question),
+        first: parts.first,
+        second: parts.second,
+        authority: parts.authority,
+        additional: parts.additional,
+    };
+    let written = encode_draft(alloc, &draft, limit);
+    let Draft {
+        header: _,
+        question: _,
+        first: _,
+        second: _,
+        authority: _,
+        additional: _,
+    } = draft;
+    match written {
+        Ok(bytes) => Ok(Some(bytes)),
+        Err(WireError::OverLimit) => Ok(None),
+        Err(_) => Err(Starved),
+    }
+}
+
+fn asked<'a, A: Allocator>(echo: Option<&'a Echo<A>>) -> Option<(&'a Spelling<A>, u16, u16)>
+    ensures { asked_by (λ s. s.now) result ≡ option_copied echo.entry }
+{
+    match echo {
+        None => None,
+        Some(echo) => Some((&echo.spelling, echo.qtype, echo.qclass)),
+    }
+}

@@ -1,0 +1,85 @@
+//! What a client asks, and what it is to be answered.
+ghost use Rattle.std.specs.Prelude.{◌≡◌};
+ghost use Rattle.front.specs.Replies.{refusal_rcode};
+
+use crate::echo::Echo;
+use crate::start::Start;
+use authority::Cause;
+use dname::Name;
+use rdata::{RType, Records};
+use std::alloc::{Allocator, Global};
+
+/// Why a query is refused before it is looked at.
+#[derive(Clone, Copy, Debug, PartialEq, Eq)]
+pub enum Refusal {
+    /// The bytes are no message of one question.
+    FormErr,
+    /// Another operation than a query, another class than IN, or a type that is not served.
+    NotImp,
+}
+
+impl Refusal {
+    /// The RCODE (RFC 1035, section 4.1.1).
+    pub fn rcode(self) -> u8
+        ensures { result ≡ refusal_rcode self }
+    {
+        match self {
+            Refusal::FormErr => 1,
+            Refusal::NotImp => 4,
+        }
+    }
+}
+
+/// A query that can be answered: of class IN and a served type.
+#[derive(Drop)]
+pub struct Query<A: Allocator = Global> {
+    pub start: Start,
+    /// The name that is asked for, in lower case.
+    pub name: Name<A>,
+    pub kind: RType,
+    /// The question in the client's own letters.
+    pub echo: Echo<A>,
+}
+
+/// What the bytes from a client ask.
+#[derive(Drop)]
+pub enum Asked<A: Allocator = Global> {
+    /// Nothing: under 12 bytes, or a reply.
+    Drop,
+    /// A refusal, with the question to repeat, if there is one.
+    Refuse(Refusal, Start, Option<Echo<A>>),
+    /// A query.
+    Query(Query<A>),
+}
+
+/// How a client's bytes came, and its reply goes.
+#[derive(Clone, Copy, Debug, PartialEq, Eq)]
+pub enum Via {
+    Udp,
+    Tcp,
+}
+
+/// Where a chain of aliases ends.
+#[derive(Drop)]
+pub enum End<A: Allocator = Global> {
+    /// The records that were asked for.
+    Found(Records<A>),
+    /// The name has no such records; with the zone's SOA alone.
+    NoData(Records<A>),
+    /// The name does not exist; with the zone's SOA alone.
+    NxDomain(Records<A>),
+    /// At a name of which nothing is said here.
+    Outside,
+}
+
+/// What a query is to be answered.
+#[derive(Drop)]
+pub enum Outcome<A: Allocator = Global> {
+    /// Whether the asked name's own link is local, the aliases in order, and where they end.
+    Answer(bool, Records<A>, End<A>),
+    /// The NS set of a cut, and the addresses of its servers.
+    Referral(Records<A>, Records<A>),
+    /// Nothing is said of the name here.
+    Refused,
+    Fail(Cause),
+}

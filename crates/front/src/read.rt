@@ -1,0 +1,72 @@
+//! A client's bytes, read.
+ghost use Rattle.std.specs.Prelude.{◌≡◌, ℕ, ◌≤◌, ◌<◌, IfOk, length, slice_index};
+ghost use Rattle.front.specs.Openings.{opening_of};
+ghost use Rattle.front.specs.Queries.{IsAsked, by_question};
+
+use crate::echo::Echo;
+use crate::queries::{Asked, Query, Refusal};
+use crate::start::Start;
+use dname::{Heap, Starved};
+use rdata::RType;
+use wire::{Question, Spelling, WireError, decode, question_spelling};
+
+/// What the bytes from a client ask, in this order: under 12 bytes or QR set, nothing; no message, or other
+/// than one question, a format error; another operation than a query, a class other than IN or a type that
+/// is not served, not implemented; else a query.
+pub fn read_query<A: Heap>(alloc: A, bytes: &[u8]) -> Result<Asked<A>, Starved>
+    ensures { IfOk result (IsAsked bytes.now) }
+{
+    if bytes.len() < 12 || bytes[2] >= 128 {
+        return Ok(Asked::Drop);
+    }
+    let start = start_at(bytes);
+    let message = match decode(alloc, bytes) {
+        Ok(message) => message,
+        Err(WireError::Memory) => return Err(Starved),
+        Err(_) => return Ok(Asked::Refuse(Refusal::FormErr, start, None)),
+    };
+    let Some(question) = message.questions.into_only() else {
+        return Ok(Asked::Refuse(Refusal::FormErr, start, None));
+    };
+    match question_spelling(alloc, bytes) {
+        Ok(spelling) => Ok(sort_question(start, question, spelling)),
+        Err(WireError::Memory) => Err(Starved),
+        Err(_) => {
+            prove!(false);
+            Err(Starved)
+        }
+    }
+}
+
+fn start_at(bytes: &[u8]) -> Start
+    requires { 12 ≤ length bytes.now }
+    ensures { result ≡ opening_of bytes.now }
+{
+    let id = u16::from(bytes[0]) * 256 + u16::from(bytes[1]);
+    Start::new(id, bytes[2] / 8 % 16, bytes[2] % 2 == 1)
+}
+
+// A message of one question: a query, or nothing that is served.
+fn sort_question<A: Heap>(start: Start, question: Question<A>, spelling: Spelling<A>) -> Asked<A>
+    ensures { result ≡ by_question start question spelling }
+{
+    let Question {
+        name,
+        qtype,
+        qclass,
+    } = question;
+    let echo = Echo {
+        spelling,
+        qtype,
+        qclass,
+    };
+    match RType::from_number(qtype) {
+        Some(kind) if start.opcode() == 0 && qclass == 1 => Asked::Query(Query {
+            start,
+            name,
+            kind,
+            echo,
+        }),
+        _ => Asked::Refuse(Refusal::NotImp, start, Some(echo)),
+    }
+}

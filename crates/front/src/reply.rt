@@ -1,0 +1,197 @@
+//! Replies, written.
+ghost use Rattle.std.specs.Prelude.{◌≡◌, false, ◌≤◌, ◌<◌, [], ◌∷◌, IfOk, IfSome, length, option_copied};
+ghost use Rattle.dname.specs.Labels.{wire};
+ghost use Rattle.wire.specs.Drafts.{asked_alone};
+ghost use Rattle.layout.specs.Messages.{encoding};
+ghost use Rattle.front.specs.Replies.{reply_header, whole_reply, cut_reply, bare, reply_of, limit_of, failure_of, refusal_reply, end_rcode, found_in, denied_by};
+
+use crate::echo::Echo;
+use crate::parts::{Parts, encoded};
+use crate::queries::{End, Outcome, Query, Refusal, Via};
+use crate::start::Start;
+use authority::Cause;
+use dname::{Heap, Starved};
+use rdata::Record;
+use std::alloc::Allocator;
+use wire::Header;
+
+/// The bytes of the reply, and the cause of a SERVFAIL. A reply over 512 bytes on UDP keeps header and
+/// question, with TC set; one over 65,535 bytes on TCP is a SERVFAIL.
+pub fn reply_bytes<A: Heap>(
+    alloc: A,
+    query: &Query<A>,
+    outcome: &Outcome<A>,
+    via: Via,
+) -> Result<(Vec<u8, A>, Option<Cause>), Starved>
+    ensures bytes { IfOk result (λ r. r.0.items ≡ encoding (reply_of via query.now outcome.now).0) }
+    ensures cause { IfOk result (λ r. r.1 ≡ (reply_of via query.now outcome.now).1) }
+    ensures short { IfOk result (λ r. length r.0.items ≤ limit_of via) }
+{
+    let cause = cause_in(outcome);
+    let whole = draft_of(query, outcome);
+    match via {
+        Via::Udp => match encoded(alloc, &whole, 512)? {
+            Some(bytes) => Ok((bytes, cause)),
+            None => {
+                is_short(Some(&query.echo));
+                Ok((short_bytes(alloc, &cut(&whole), 512)?, cause))
+            }
+        },
+        Via::Tcp => match encoded(alloc, &whole, 65_535)? {
+            Some(bytes) => Ok((bytes, cause)),
+            None => {
+                is_short(Some(&query.echo));
+                let failure = empty_draft(query.start, Some(&query.echo), 2);
+                Ok((short_bytes(alloc, &failure, 65_535)?, Some(Cause::Large)))
+            }
+        },
+    }
+}
+
+/// The bytes of the reply to a query that is refused before it is looked at: header, and the question if it
+/// was read.
+pub fn refusal_bytes<A: Heap>(
+    alloc: A,
+    refusal: Refusal,
+    start: Start,
+    echo: Option<&Echo<A>>,
+) -> Result<Vec<u8, A>, Starved>
+    ensures bytes { IfOk result (λ r. r.items ≡ encoding (refusal_reply refusal start (option_copied echo.entry))) }
+    ensures short { IfOk result (λ r. length r.items ≤ 512) }
+{
+    is_short(echo);
+    short_bytes(alloc, &empty_draft(start, echo, refusal.rcode()), 512)
+}
+
+// The bytes of a message that is short enough for its limit.
+fn short_bytes<A: Heap>(alloc: A, parts: &Parts<'_, A>, limit: usize) -> Result<Vec<u8, A>, Starved>
+    requires limit { limit ≤ 65535 }
+    requires fits { length (encoding parts.now) ≤ limit }
+    ensures bytes { IfOk result (λ r. r.items ≡ encoding parts.now) }
+    ensures short { IfOk result (λ r. length r.items ≤ limit) }
+{
+    match encoded(alloc, parts, limit)? {
+        Some(bytes) => Ok(bytes),
+        None => unreachable!(),
+    }
+}
+
+// The name of an echo has at most 255 bytes.
+fn is_short<A: Allocator>(echo: Option<&Echo<A>>)
+    ensures { IfSome (option_copied echo.entry) (λ q. length (wire q.name) ≤ 255) }
+{
+    if let Some(echo) = echo {
+        let _ = echo.spelling.wire();
+    }
+}
+
+fn cause_in<A: Allocator>(outcome: &Outcome<A>) -> Option<Cause>
+    ensures { result ≡ failure_of outcome.now }
+{
+    match outcome {
+        Outcome::Fail(cause) => Some(*cause),
+        _ => None,
+    }
+}
+
+fn header(start: Start, aa: bool, tc: bool, rcode: u8) -> Header
+    requires { rcode < 16 }
+    ensures { result ≡ reply_header start aa tc rcode }
+{
+    Header {
+        id: start.id(),
+        qr: true,
+        opcode: start.opcode(),
+        aa,
+        tc,
+        rd: start.wants_recursion(),
+        ra: true,
+        z: 0,
+        rcode,
+    }
+}
+
+// A reply without records.
+fn empty_draft<'a, A: Allocator>(start: Start, echo: Option<&'a Echo<A>>, rcode: u8) -> Parts<'a, A>
+    requires { rcode < 16 }
+    ensures { result ≡ bare start (asked_alone (option_copied echo.entry)) false rcode }
+{
+    Parts {
+        header: header(start, false, false, rcode),
+        question: echo,
+        first: &[],
+        second: &[],
+        authority: &[],
+        additional: &[],
+    }
+}
+
+// The reply without its records, and with TC.
+fn cut<'a, A: Allocator>(whole: &Parts<'a, A>) -> Parts<'a, A>
+    ensures { result ≡ cut_reply whole.now }
+{
+    let mut header = whole.header;
+    header.tc = true;
+    Parts {
+        header,
+        question: whole.question,
+        first: &[],
+        second: &[],
+        authority: &[],
+        additional: &[],
+    }
+}
+
+// The whole reply.
+fn draft_of<'a, A: Allocator>(query: &'a Query<A>, outcome: &'a Outcome<A>) -> Parts<'a, A>
+    ensures { result ≡ whole_reply query.now outcome.now }
+{
+    match outcome {
+        Outcome::Answer(aa, aliases, end) => Parts {
+            header: header(query.start, *aa, false, rcode_at(end)),
+            question: Some(&query.echo),
+            first: aliases.as_slice(),
+            second: found_at(end),
+            authority: denial_at(end),
+            additional: &[],
+        },
+        Outcome::Referral(ns, glue) => Parts {
+            header: header(query.start, false, false, 0),
+            question: Some(&query.echo),
+            first: &[],
+            second: &[],
+            authority: ns.as_slice(),
+            additional: glue.as_slice(),
+        },
+        Outcome::Refused => empty_draft(query.start, Some(&query.echo), 5),
+        Outcome::Fail(_) => empty_draft(query.start, Some(&query.echo), 2),
+    }
+}
+
+fn rcode_at<A: Allocator>(end: &End<A>) -> u8
+    ensures is { result ≡ end_rcode end.now }
+    ensures fits { result < 16 }
+{
+    match end {
+        End::NxDomain(_) => 3,
+        _ => 0,
+    }
+}
+
+fn found_at<A: Allocator>(end: &End<A>) -> &[Record<A>]
+    ensures { result.now ≡ found_in end.now }
+{
+    match end {
+        End::Found(set) => set.as_slice(),
+        _ => &[],
+    }
+}
+
+fn denial_at<A: Allocator>(end: &End<A>) -> &[Record<A>]
+    ensures { result.now ≡ denied_by end.now }
+{
+    match end {
+        End::NoData(soa) | End::NxDomain(soa) => soa.as_slice(),
+        _ => &[],
+    }
+}

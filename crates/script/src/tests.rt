@@ -1,0 +1,94 @@
+//! Lines of replies, by examples.
+ghost use Rattle.std.specs.Prelude.{◌<◌};
+
+use crate::put_reply;
+use authority::Cause;
+use dname::Name;
+use rdata::{Addr, RData, Record, Records, Soa};
+use std::alloc::Global;
+use std::test::Fail;
+use wire::{Header, Message, Questions};
+
+fn name(alloc: Global, text: &str) -> Result<Name, Fail> {
+    Ok(Name::from_text(alloc, text).ok().ok_or("no name")?)
+}
+
+fn reply(alloc: Global, aa: bool, tc: bool, rcode: u8) -> Message
+    requires { rcode < 16 }
+{
+    Message {
+        header: Header {
+            id: 1,
+            qr: true,
+            opcode: 0,
+            aa,
+            tc,
+            rd: false,
+            ra: true,
+            z: 0,
+            rcode,
+        },
+        questions: Questions::new(alloc),
+        answer: Records::new(alloc),
+        authority: Records::new(alloc),
+        additional: Records::new(alloc),
+    }
+}
+
+#[test]
+fn records_stand_in_their_sections(rt: HostRuntime) -> Result<(), Fail> {
+    let alloc = rt.alloc();
+    let mut message = reply(alloc, true, false, 3);
+    message.answer.push(Record {
+        owner: name(alloc, "app.example")?,
+        ttl: 3600,
+        value: RData::Cname(name(alloc, "gone.example")?),
+    })?;
+    message.authority.push(Record {
+        owner: name(alloc, "example")?,
+        ttl: 60,
+        value: RData::Soa(Soa {
+            primary: name(alloc, "ns.example")?,
+            mailbox: name(alloc, "h.example")?,
+            serial: 1,
+            refresh: 2,
+            retry: 3,
+            expire: 4,
+            minimum: 60,
+        }),
+    })?;
+    message.additional.push(Record {
+        owner: name(alloc, "ns.example")?,
+        ttl: 5,
+        value: RData::A(Addr([192, 0, 2, 1])),
+    })?;
+    let mut out = String::new(alloc);
+    put_reply(&mut out, 1, &message, None)?;
+    assert_eq!(rt;
+        out.as_str(),
+        "reply 1 NXDOMAIN aa\n  an app.example. 3600 CNAME gone.example.\n  ns example. 60 SOA ns.example. h.example. 1 2 3 4 60\n  ar ns.example. 5 A 192.0.2.1\n"
+    );
+    Ok(())
+}
+
+#[test]
+fn heads_name_rcode_flags_and_cause(rt: HostRuntime) -> Result<(), Fail> {
+    let alloc = rt.alloc();
+    let mut out = String::new(alloc);
+    put_reply(&mut out, 7, &reply(alloc, true, true, 0), None)?;
+    put_reply(
+        &mut out,
+        18446744073709551615,
+        &reply(alloc, false, false, 2),
+        Some(Cause::NoServer),
+    )?;
+    put_reply(&mut out, 2, &reply(alloc, false, false, 5), None)?;
+    put_reply(&mut out, 3, &reply(alloc, false, false, 1), None)?;
+    put_reply(&mut out, 4, &reply(alloc, false, false, 4), None)?;
+    put_reply(&mut out, 5, &reply(alloc, false, false, 15), None)?;
+    assert_eq!(rt;
+        out.as_str(),
+        "reply 7 NOERROR aa tc\nreply 18446744073709551615 SERVFAIL cause 5\nreply 2 REFUSED\nreply 3 FORMERR\nreply 4 NOTIMP\nreply 5 15\n"
+    );
+    Ok(())
+}
