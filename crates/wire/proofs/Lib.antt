@@ -1,0 +1,4 @@
+pub mod Walks
+pub mod Rows
+pub mod Whole
+pub mod Writing

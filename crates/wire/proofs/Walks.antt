@@ -1,0 +1,249 @@
+-- A name read part by part, as far as a loop has come.
+use Rattle.std.proofs.Common.{◌≡◌, ℕ, zero, suc, ◌+◌, ◌-◌, ◌<◌, ◌≤◌, Bool, true, false, List, [], ◌∷◌, ◌++◌, length, Option, Some, None, Result, Ok, Err, refl, sym, ◌∙◌, ap, subst, arith, append_assoc}
+use Rattle.std.specs.Prelude.{nat_lt, nat_le, cond, if◌then◌else◌, slice_range}
+use Rattle.std.specs.Option.{unwrap_or, option_or}
+use Rattle.std.specs.Result.{IsErrAnd}
+use Rattle.std.proofs.lemmas.Bool.Decides.{nat_tests}
+use Rattle.std.proofs.lemmas.List.{map-append}
+use Rattle.dname.specs.Labels.{wire, folded_label, folded_labels}
+use Rattle.dname.specs.declared.builder.Overflow.TheVariants.{LongName}
+use Rattle.dname.specs.Draft.{Draft, labelled}
+use Rattle.wire.specs.declared.error.WireError.{WireError}
+use Rattle.wire.specs.declared.error.WireError.TheVariants.{Short, BadLabel, PointerNotEarlier, NameTooLong, BadRdataLength, BadRdataName, TrailingBytes, OverLimit, Memory}
+use Rattle.wire.specs.declared.parts.Part.{Part}
+use Rattle.wire.specs.declared.parts.Part.TheVariants.{End, Label, Pointer}
+use Rattle.wire.specs.declared.parts.Faults.{Faults}
+use Rattle.wire.specs.Results.{Fails, Gives, and_then}
+use Rattle.wire.specs.Parts.{part_at, behind_label, ends_at, followed, spelt_from, spelt_at, in_lower_case, name_at}
+
+abbrev done : {X E : Type 0} → X → Result X E
+done x = Ok x
+
+ok_is : {X E : Type 0} {x y : X} → done {E = E} x ≡ done y → x ≡ y
+ok_is h = cc
+
+pub fails_is : {X : Type 0} (e : WireError) (read : Result X WireError) → read ≡ Err e → Fails e read
+fails_is Short read h = h
+fails_is BadLabel read h = h
+fails_is PointerNotEarlier read h = h
+fails_is NameTooLong read h = h
+fails_is BadRdataLength read h = h
+fails_is BadRdataName read h = h
+fails_is TrailingBytes read h = h
+fails_is OverLimit read h = h
+fails_is Memory read h = tt
+
+-- A refusal of a reader is the refusal of what follows from it.
+pub fails_with : {X Y : Type 0} (e : WireError) (read : Result X WireError) (total : Result Y WireError) → (read ≡ Err e → total ≡ Err e) → Fails e read → Fails e total
+fails_with Short read total f h = f h
+fails_with BadLabel read total f h = f h
+fails_with PointerNotEarlier read total f h = f h
+fails_with NameTooLong read total f h = f h
+fails_with BadRdataLength read total f h = f h
+fails_with BadRdataName read total f h = f h
+fails_with TrailingBytes read total f h = f h
+fails_with OverLimit read total f h = f h
+fails_with Memory read total f h = tt
+
+-- What a `?` hands on.
+pub gives_failed : {X Y : Type 0} (view : X → Y) (r : Result X WireError) (e : WireError) (read : Result Y WireError) → IsErrAnd r (λ y. y ≡ e) → Fails e read → Gives view r read
+gives_failed view (Ok x) e read h k = absurd h
+gives_failed view (Err y) e read h k = subst (λ (z : WireError). Fails z read) (sym h) k
+
+abbrev pub Spelt : Type 0
+Spelt = Result (List (List ℕ) × ℕ) WireError
+
+-- What is left of a name, behind these labels.
+abbrev pub resumed : List (List ℕ) → Option ℕ → Spelt → Spelt
+resumed front end (Ok (labels, past)) = Ok (front ++ labels, unwrap_or end past)
+resumed front end (Err e) = Err e
+
+abbrev pub EndsIn : ℕ → ℕ → Option ℕ → Type 0
+EndsIn limit stop None = stop ≡ limit
+EndsIn limit stop (Some end) = end ≤ limit
+
+pub record Walk (bytes : List ℕ) (faults : Faults) (limit : ℕ) (whole : Spelt) (front : List (List ℕ)) (start place stop : ℕ) (border : WireError) (room : ℕ)
+    (end : Option ℕ) : Type 0 where
+  pub fuel : ℕ
+  pub enough : start + room < fuel
+  pub some_room : 0 < room
+  pub fits : stop ≤ length bytes
+  pub ended : EndsIn limit stop end
+  pub so_far : whole ≡ resumed front end (spelt_from fuel bytes faults stop border start place room)
+
+unfueled : (fuel : ℕ) (bytes : List ℕ) (faults : Faults) (stop : ℕ) (border : WireError) (start place room : ℕ) → 0 < fuel
+    → spelt_from fuel bytes faults stop border start place room
+    ≡ and_then (part_at bytes stop border faults.bad_label place) (followed (spelt_from (fuel - 1) bytes faults) bytes faults stop border start place room)
+unfueled zero bytes faults stop border start place room h = absurd (omega arith)
+unfueled (suc fuel) bytes faults stop border start place room h =
+    let less : fuel ≡ suc fuel - 1 = omega arith in
+    ap (λ n. and_then (part_at bytes stop border faults.bad_label place) (followed (spelt_from n bytes faults) bytes faults stop border start place room)) less
+
+resumed_none : (r : Spelt) → resumed [] None r ≡ r
+resumed_none (Ok (labels, past)) = refl
+resumed_none (Err e) = refl
+
+pub walk_begins : (bytes : List ℕ) (faults : Faults) (limit at : ℕ) → limit ≤ length bytes
+    → Walk bytes faults limit (spelt_at bytes faults limit at) [] at at limit faults.border 255 None
+unfolding spelt_at
+walk_begins bytes faults limit at fits = record {
+  fuel = at + 256;
+  enough = omega arith;
+  some_room = omega arith;
+  fits = fits;
+  ended = refl;
+  so_far = sym (resumed_none (spelt_from (at + 256) bytes faults limit faults.border at at 255));
+}
+
+-- What is left, by the part that stands at the place.
+left_by : (bytes : List ℕ) (faults : Faults) (limit : ℕ) (whole : Spelt) (front : List (List ℕ)) (start place stop : ℕ) (border : WireError) (room : ℕ)
+    (end : Option ℕ) (w : Walk bytes faults limit whole front start place stop border room end) (p : Result Part WireError) → p ≡ part_at bytes stop border faults.bad_label place
+    → whole ≡ resumed front end (and_then p (followed (spelt_from (w.fuel - 1) bytes faults) bytes faults stop border start place room))
+left_by bytes faults limit whole front start place stop border room end w p is =
+    let fuel = w.fuel in
+    let enough = w.enough in
+    let u = unfueled fuel bytes faults stop border start place room (omega arith) in
+    w.so_far ∙ (ap (resumed front end) u
+    ∙ ap (λ x. resumed front end (and_then x (followed (spelt_from (fuel - 1) bytes faults) bytes faults stop border start place room))) (sym is))
+
+-- A part that is refused.
+pub walk_refused : (bytes : List ℕ) (faults : Faults) (limit : ℕ) (whole : Spelt) (front : List (List ℕ)) (start place stop : ℕ) (border : WireError) (room : ℕ)
+    (end : Option ℕ) (w : Walk bytes faults limit whole front start place stop border room end) (e : WireError) (p : Result Part WireError) → p ≡ part_at bytes stop border faults.bad_label place
+    → p ≡ Err e → whole ≡ Err e
+walk_refused bytes faults limit whole front start place stop border room end w e p is bad =
+    left_by bytes faults limit whole front start place stop border room end w (Err e) (sym bad ∙ is)
+
+pub walk_ends : (bytes : List ℕ) (faults : Faults) (limit : ℕ) (whole : Spelt) (front : List (List ℕ)) (start place stop : ℕ) (border : WireError) (room : ℕ)
+    (end : Option ℕ) (w : Walk bytes faults limit whole front start place stop border room end) (p : Result Part WireError) → p ≡ part_at bytes stop border faults.bad_label place
+    → p ≡ Ok End → whole ≡ Ok (front ++ [] ∷ [], unwrap_or end (place + 1))
+walk_ends bytes faults limit whole front start place stop border room end w p is ends =
+    left_by bytes faults limit whole front start place stop border room end w (Ok End) (sym ends ∙ is)
+
+test : (b : Bool) (x y : Spelt) → b ≡ true → (if b then x else y) ≡ x
+test b x y h = ap (λ c. if c then x else y) h
+
+test_no : (b : Bool) (x y : Spelt) → b ≡ false → (if b then x else y) ≡ y
+test_no b x y h = ap (λ c. if c then x else y) h
+
+-- A label with which the name is too long.
+pub walk_too_long : (bytes : List ℕ) (faults : Faults) (limit : ℕ) (whole : Spelt) (front : List (List ℕ)) (start place stop : ℕ) (border : WireError) (room : ℕ)
+    (end : Option ℕ) (w : Walk bytes faults limit whole front start place stop border room end) (size : ℕ) (p : Result Part WireError) → p ≡ part_at bytes stop border faults.bad_label place
+    → p ≡ Ok (Label size) → room < size + 2 → whole ≡ Err faults.too_long
+walk_too_long bytes faults limit whole front start place stop border room end w size p is label long =
+    let l = left_by bytes faults limit whole front start place stop border room end w (Ok (Label size)) (sym label ∙ is) in
+    let b : nat_lt room (size + 2) ≡ true = grind (arith, nat_tests) in
+    l ∙ ap (resumed front end) (test (nat_lt room (size + 2)) _ _ b)
+
+-- A label that runs over the border.
+pub walk_over : (bytes : List ℕ) (faults : Faults) (limit : ℕ) (whole : Spelt) (front : List (List ℕ)) (start place stop : ℕ) (border : WireError) (room : ℕ)
+    (end : Option ℕ) (w : Walk bytes faults limit whole front start place stop border room end) (size : ℕ) (p : Result Part WireError) → p ≡ part_at bytes stop border faults.bad_label place
+    → p ≡ Ok (Label size) → size + 2 ≤ room → stop - place - 1 < size → place < stop → whole ≡ Err border
+walk_over bytes faults limit whole front start place stop border room end w size p is label room_is over within =
+    let l = left_by bytes faults limit whole front start place stop border room end w (Ok (Label size)) (sym label ∙ is) in
+    let b : nat_lt room (size + 2) ≡ false = grind (arith, nat_tests) in
+    let c : nat_lt stop (place + 1 + size) ≡ true = grind (arith, nat_tests) in
+    l ∙ ap (resumed front end) (test_no (nat_lt room (size + 2)) _ _ b ∙ test (nat_lt stop (place + 1 + size)) _ _ c)
+
+resumed_label : (front : List (List ℕ)) (end : Option ℕ) (label : List ℕ) (r : Spelt) → resumed front end (and_then r (behind_label label)) ≡ resumed (front ++ label ∷ []) end r
+resumed_label front end label (Ok (labels, past)) = λ i. Ok (sym (append_assoc front (label ∷ []) labels) i, unwrap_or end past)
+resumed_label front end label (Err e) = refl
+
+pub walk_label : (bytes : List ℕ) (faults : Faults) (limit : ℕ) (whole : Spelt) (front : List (List ℕ)) (start place stop : ℕ) (border : WireError) (room : ℕ)
+    (end : Option ℕ) (w : Walk bytes faults limit whole front start place stop border room end) (size : ℕ) (p : Result Part WireError) → p ≡ part_at bytes stop border faults.bad_label place
+    → p ≡ Ok (Label size) → size + 2 ≤ room → size ≤ stop - place - 1 → place < stop
+    → Walk bytes faults limit whole (front ++ slice_range bytes (place + 1) (place + 1 + size) ∷ []) start (place + (1 + size)) stop border (room - (size + 1)) end
+walk_label bytes faults limit whole front start place stop border room end w size p is label room_is fits within =
+    let l = left_by bytes faults limit whole front start place stop border room end w (Ok (Label size)) (sym label ∙ is) in
+    let b : nat_lt room (size + 2) ≡ false = grind (arith, nat_tests) in
+    let c : nat_lt stop (place + 1 + size) ≡ false = grind (arith, nat_tests) in
+    let text = slice_range bytes (place + 1) (place + 1 + size) in
+    let enough = w.enough in
+    let next : place + 1 + size ≡ place + (1 + size) = omega arith in
+    record {
+      fuel = w.fuel - 1;
+      enough = omega arith;
+      some_room = omega arith;
+      fits = w.fits;
+      ended = w.ended;
+      so_far = l ∙ (ap (resumed front end) (test_no (nat_lt room (size + 2)) _ _ b ∙ test_no (nat_lt stop (place + 1 + size)) _ _ c)
+          ∙ (resumed_label front end text (spelt_from (w.fuel - 1) bytes faults stop border start (place + 1 + size) (room - (size + 1)))
+          ∙ ap (λ n. resumed (front ++ text ∷ []) end (spelt_from (w.fuel - 1) bytes faults stop border start n (room - (size + 1)))) next));
+    }
+
+-- A pointer that leads nowhere earlier.
+pub walk_forward : (bytes : List ℕ) (faults : Faults) (limit : ℕ) (whole : Spelt) (front : List (List ℕ)) (start place stop : ℕ) (border : WireError) (room : ℕ)
+    (end : Option ℕ) (w : Walk bytes faults limit whole front start place stop border room end) (target : ℕ) (p : Result Part WireError) → p ≡ part_at bytes stop border faults.bad_label place
+    → p ≡ Ok (Pointer target) → start ≤ target → whole ≡ Err faults.not_earlier
+walk_forward bytes faults limit whole front start place stop border room end w target p is pointer forward =
+    let l = left_by bytes faults limit whole front start place stop border room end w (Ok (Pointer target)) (sym pointer ∙ is) in
+    let b : nat_lt target start ≡ false = grind (arith, nat_tests) in
+    l ∙ ap (resumed front end) (test_no (nat_lt target start) _ _ b)
+
+resumed_pointer : (front : List (List ℕ)) (end : Option ℕ) (here : ℕ) (r : Spelt) → resumed front end (and_then r (ends_at here)) ≡ resumed front (option_or end (Some here)) r
+resumed_pointer front None here (Ok (labels, past)) = refl
+resumed_pointer front (Some before) here (Ok (labels, past)) = refl
+resumed_pointer front None here (Err e) = refl
+resumed_pointer front (Some before) here (Err e) = refl
+
+first_in : (limit stop : ℕ) (end : Option ℕ) (here size : ℕ) → EndsIn limit stop end → here ≤ stop → EndsIn limit size (option_or end (Some here))
+first_in limit stop None here size h within = omega arith
+first_in limit stop (Some before) here size h within = h
+
+pub walk_pointer : (bytes : List ℕ) (faults : Faults) (limit : ℕ) (whole : Spelt) (front : List (List ℕ)) (start place stop : ℕ) (border : WireError) (room : ℕ)
+    (end : Option ℕ) (w : Walk bytes faults limit whole front start place stop border room end) (target : ℕ) (p : Result Part WireError) → p ≡ part_at bytes stop border faults.bad_label place
+    → p ≡ Ok (Pointer target) → target < start → place + 1 < stop
+    → Walk bytes faults limit whole front target target (length bytes) Short room (option_or end (Some (place + 2)))
+walk_pointer bytes faults limit whole front start place stop border room end w target p is pointer earlier within =
+    let l = left_by bytes faults limit whole front start place stop border room end w (Ok (Pointer target)) (sym pointer ∙ is) in
+    let b : nat_lt target start ≡ true = grind (arith, nat_tests) in
+    let enough = w.enough in
+    record {
+      fuel = w.fuel - 1;
+      enough = omega arith;
+      some_room = w.some_room;
+      fits = omega arith;
+      ended = first_in limit stop end (place + 2) (length bytes) w.ended (omega arith);
+      so_far = l ∙ (ap (resumed front end) (test (nat_lt target start) _ _ b)
+          ∙ resumed_pointer front end (place + 2) (spelt_from (w.fuel - 1) bytes faults (length bytes) Short target target room));
+    }
+
+-- ---- the name in lower case
+
+labelled_is : (d n : Draft) (label : List ℕ) → labelled d label ≡ Ok n → n ≡ record { closed = d.closed ++ folded_label label ∷ []; opened = [] }
+labelled_is d n label h = by (nat_le 254 (length (wire d.closed) + length label)) h
+  where
+    by : (b : Bool) → cond b (Err LongName) (Ok (record { closed = d.closed ++ folded_label label ∷ []; opened = [] })) ≡ Ok n
+        → n ≡ record { closed = d.closed ++ folded_label label ∷ []; opened = [] }
+    by true k = cc
+    by false k = let same : record { closed = d.closed ++ folded_label label ∷ []; opened = [] } ≡ n = ok_is k in sym same
+
+pub record NameWalk (bytes : List ℕ) (faults : Faults) (limit at : ℕ) (d : Draft) (start place stop : ℕ) (border : WireError) (room : ℕ) (end : Option ℕ) : Type 0 where
+  pub front : List (List ℕ)
+  pub walk : Walk bytes faults limit (spelt_at bytes faults limit at) front start place stop border room end
+  pub opened : d.opened ≡ []
+  pub closed : d.closed ≡ folded_labels front
+
+pub name_refused : (bytes : List ℕ) (faults : Faults) (limit at : ℕ) (e : WireError) → spelt_at bytes faults limit at ≡ Err e → Fails e (name_at bytes faults limit at)
+unfolding name_at
+name_refused bytes faults limit at e h = fails_is e (name_at bytes faults limit at) (ap (λ x. and_then x in_lower_case) h)
+
+pub name_found : (bytes : List ℕ) (faults : Faults) (limit at : ℕ) (front : List (List ℕ)) (closed : List (List ℕ)) (past : ℕ) → spelt_at bytes faults limit at ≡ Ok (front ++ [] ∷ [], past)
+    → closed ≡ folded_labels front → name_at bytes faults limit at ≡ Ok (closed ++ [] ∷ [], past)
+unfolding name_at
+name_found bytes faults limit at front closed past h e =
+    let joined : folded_labels (front ++ [] ∷ []) ≡ closed ++ [] ∷ [] = map-append folded_label front ([] ∷ []) ∙ ap (λ x. x ++ [] ∷ []) (sym e) in
+    ap (λ x. and_then x in_lower_case) h ∙ (λ i. Ok (joined i, past))
+
+pub name_label : (bytes : List ℕ) (faults : Faults) (limit at : ℕ) (d n : Draft) (start place stop : ℕ) (border : WireError) (room : ℕ) (end : Option ℕ)
+    (w : NameWalk bytes faults limit at d start place stop border room end) (size : ℕ) (p : Result Part WireError) → p ≡ part_at bytes stop border faults.bad_label place
+    → p ≡ Ok (Label size) → size + 2 ≤ room → size ≤ stop - place - 1 → place < stop → labelled d (slice_range bytes (place + 1) (place + 1 + size)) ≡ Ok n
+    → NameWalk bytes faults limit at n start (place + (1 + size)) stop border (room - (size + 1)) end
+name_label bytes faults limit at d n start place stop border room end w size p is label room_is fits within put =
+    let text = slice_range bytes (place + 1) (place + 1 + size) in
+    let pushed = labelled_is d n text put in
+    record {
+      front = w.front ++ text ∷ [];
+      walk = walk_label bytes faults limit (spelt_at bytes faults limit at) w.front start place stop border room end w.walk size p is label room_is fits within;
+      opened = ap (λ x. x.opened) pushed;
+      closed = ap (λ x. x.closed) pushed ∙ (ap (λ x. x ++ folded_label text ∷ []) w.closed ∙ sym (map-append folded_label w.front (text ∷ [])));
+    }

@@ -1,0 +1,8 @@
+use Rattle.layout.specs.Messages.{question_pieces}
+use Rattle.wire.proofs.Writing.{row_on}
+use Rattle.wire.proofs.writer.Writer.put_questions.Goals as goal
+
+pub loop-question-preserved : goal.loop-question-preserved
+loop-question-preserved g c =
+    row_on question_pieces c.args.self.now c.loop-question.self c.put_question.new.self c.args.questions.now c.loop-question.question-index c.question-item.result c.loop-question.invariant
+    c.loop-question-test.true c.question-item.is c.in_ok-put_question.ensures

@@ -1,0 +1,8 @@
+use Rattle.std.proofs.Common.{◌≡◌, take}
+use Rattle.std.specs.Prelude.{flat_map}
+use Rattle.layout.specs.Pieces.{after}
+use Rattle.layout.specs.Messages.{question_pieces}
+use Rattle.wire.proofs.writer.Writer.put_questions.Given as goal
+
+abbrev pub invariant-loop-question : goal.invariant-loop-question
+invariant-loop-question g l = l.self ≡ after l.initial.self (flat_map question_pieces (take l.question-index l.questions))

@@ -1,0 +1,8 @@
+use Rattle.std.proofs.Common.{◌≡◌, take}
+use Rattle.std.specs.Prelude.{flat_map}
+use Rattle.layout.specs.Pieces.{after}
+use Rattle.layout.specs.Messages.{record_pieces}
+use Rattle.wire.proofs.writer.Writer.put_records.Given as goal
+
+abbrev pub invariant-loop-added : goal.invariant-loop-added
+invariant-loop-added g l = l.self ≡ after l.initial.self (flat_map record_pieces (take l.added-index l.records))

@@ -1,0 +1,35 @@
+-- What an encoder answers, and a reply's message as the parts that it is written from.
+use Rattle.std.specs.Prelude.{ℕ, ◌<◌, Option, Some, None, List, [], ◌∷◌, ◌++◌, length}
+use Rattle.rdata.specs.Records.{Record}
+use Rattle.layout.specs.Messages.{Header, Question, Message, Counts}
+use Rattle.wire.specs.declared.error.WireError.{WireError}
+use Rattle.wire.specs.declared.error.WireError.TheVariants.{OverLimit, Memory}
+use Rattle.wire.specs.declared.writer.Tally.{Tally}
+
+-- A refusal of an encoder: the text is longer than the limit; want of memory can come at any time.
+abbrev pub RefusesText : WireError → List ℕ → ℕ → Type 0
+RefusesText OverLimit text limit = limit < length text
+RefusesText Memory text limit = Unit {0}
+RefusesText _ text limit = ⊥
+
+abbrev pub counts_by : Tally → Counts
+counts_by t = record { questions = t.questions; answer = t.answer; authority = t.authority; additional = t.additional }
+
+abbrev pub asked_alone : Option Question → List Question
+asked_alone None = []
+asked_alone (Some q) = q ∷ []
+
+-- The message of a header, at most one question in its own letters, an answer in two parts, and two sections.
+abbrev pub drafted : Header → Option Question → List Record → List Record → List Record → List Record → Message
+drafted header question first second authority additional = record {
+  header = header;
+  questions = asked_alone question;
+  answer = first ++ second;
+  authority = authority;
+  additional = additional;
+}
+
+-- The question of a draft: a spelling, a type and a class.
+abbrev pub asked_by : {R : Type 0} → (R → List (List ℕ)) → Option (R × ℕ × ℕ) → Option Question
+asked_by spelling None = None
+asked_by spelling (Some (name, qtype, qclass)) = Some (record { name = spelling name; qtype = qtype; qclass = qclass })

@@ -1,0 +1,11 @@
+pub mod Errors
+pub mod Numbers
+pub mod Heads
+pub mod Results
+pub mod Parts
+pub mod Shapes
+pub mod Served
+pub mod Values
+pub mod Entries
+pub mod Drafts
+pub mod Spellings

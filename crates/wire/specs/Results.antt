@@ -1,0 +1,26 @@
+-- Words for the results of readers. A reader is exact as far as memory is there.
+use Rattle.std.specs.Prelude.{◌≡◌, Result, Ok, Err}
+use Rattle.wire.specs.declared.error.WireError.{WireError}
+use Rattle.wire.specs.declared.error.WireError.TheVariants.{Short, BadLabel, PointerNotEarlier, NameTooLong, BadRdataLength, BadRdataName, TrailingBytes, OverLimit, Memory}
+
+-- The refusal stands there; want of memory can come at any time.
+abbrev pub Fails : {X : Type 0} → WireError → Result X WireError → Type 0
+Fails Memory read = Unit {0}
+Fails Short read = read ≡ Err Short
+Fails BadLabel read = read ≡ Err BadLabel
+Fails PointerNotEarlier read = read ≡ Err PointerNotEarlier
+Fails NameTooLong read = read ≡ Err NameTooLong
+Fails BadRdataLength read = read ≡ Err BadRdataLength
+Fails BadRdataName read = read ≡ Err BadRdataName
+Fails TrailingBytes read = read ≡ Err TrailingBytes
+Fails OverLimit read = read ≡ Err OverLimit
+
+-- What a reader answers is what these bytes give, seen by `view`.
+abbrev pub Gives : {X Y : Type 0} → (X → Y) → Result X WireError → Result Y WireError → Type 0
+Gives view (Ok x) read = read ≡ Ok (view x)
+Gives view (Err e) read = Fails e read
+
+-- One reader behind another.
+abbrev pub and_then : {X Y : Type 0} → Result X WireError → (X → Result Y WireError) → Result Y WireError
+and_then (Ok x) next = next x
+and_then (Err e) next = Err e

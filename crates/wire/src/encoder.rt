@@ -1,0 +1,106 @@
+ghost use Rattle.std.specs.Prelude.{◌≡◌, ◌≤◌, ◌<◌, ◌+◌, ◌%◌, length, flat_map, OnOk, IfOk, IfErr};
+ghost use Rattle.layout.specs.Pieces.{after};
+ghost use Rattle.layout.specs.Messages.{encoding, question_pieces};
+ghost use Rattle.wire.specs.Drafts.{RefusesText, drafted, asked_alone, asked_by};
+
+use crate::error::WireError;
+use crate::header::Header;
+use crate::message::Message;
+use crate::spelling::Spelling;
+use crate::writer::{Tally, Writer};
+use dname::{Heap, Starved};
+use rdata::Record;
+use std::alloc::{Allocator, Global};
+
+/// A message that is written from borrowed parts: no record is cloned for it.
+pub struct Draft<'a, A: Allocator = Global> {
+    pub header: Header,
+    /// The question, where there is one: its name in its own letters, its type and class.
+    pub question: Option<(&'a Spelling<A>, u16, u16)>,
+    /// The answer is `first` and then `second`.
+    pub first: &'a [Record<A>],
+    pub second: &'a [Record<A>],
+    pub authority: &'a [Record<A>],
+    pub additional: &'a [Record<A>],
+}
+
+/// The encoding of a message (RFC 1035, section 4), names compressed. Refused where it is longer than
+/// `limit`, or where a growth is refused.
+pub fn encode<A: Heap>(alloc: A, m: &Message<A>, limit: usize) -> Result<Vec<u8, A>, WireError>
+    requires { limit ≤ 65535 }
+    ensures ok { IfOk result (λ v. (v.items ≡ encoding m.now) × (length (encoding m.now) ≤ limit)) }
+    ensures err { IfErr result (λ e. RefusesText e (encoding m.now) limit) }
+{
+    let mut writer = Writer::new(alloc);
+    writer.put_header(
+        m.header,
+        Tally {
+            questions: m.questions.len(),
+            answer: m.answer.len(),
+            authority: m.authority.len(),
+            additional: m.additional.len(),
+        },
+    )?;
+    writer.put_questions(m.questions.as_slice())?;
+    writer.put_records(m.answer.as_slice())?;
+    writer.put_records(m.authority.as_slice())?;
+    writer.put_records(m.additional.as_slice())?;
+    writer.finish(limit)
+}
+
+// How many questions there are.
+fn count_of<A: Heap>(question: &Option<(&Spelling<A>, u16, u16)>) -> usize
+    ensures { result ≡ length (asked_alone (asked_by (λ s. s.now) question.now)) }
+{
+    match question {
+        None => 0,
+        Some(_) => 1,
+    }
+}
+
+// The lowest 16 bits of the number of records in both, and perhaps one bit more.
+fn low_count<A: Heap>(first: &[Record<A>], second: &[Record<A>]) -> usize
+    ensures { result ≡ length first.now % 65536 + length second.now % 65536 }
+{
+    first.len() % 65_536 + second.len() % 65_536
+}
+
+fn put_alone<A: Heap>(
+    writer: &mut Writer<A>,
+    question: &Option<(&Spelling<A>, u16, u16)>,
+) -> Result<(), Starved>
+    ensures { OnOk result (writer.new ≡ after writer.old (flat_map question_pieces (asked_alone (asked_by (λ s. s.now) question.now)))) }
+{
+    match question {
+        None => Ok(()),
+        Some((spelling, qtype, qclass)) => writer.put_spelled(spelling, *qtype, *qclass),
+    }
+}
+
+/// The encoding of the message of these parts, its question in its own letters. Refused as `encode` is.
+pub fn encode_draft<A: Heap>(
+    alloc: A,
+    draft: &Draft<'_, A>,
+    limit: usize,
+) -> Result<Vec<u8, A>, WireError>
+    requires { limit ≤ 65535 }
+    ensures ok { let m = drafted draft.now.header (asked_by (λ s. s.now) draft.now.question) draft.now.first.now draft.now.second.now draft.now.authority.now draft.now.additional.now in IfOk result (λ v. (v.items ≡ encoding m) × (length (encoding m) ≤ limit)) }
+    ensures err { let m = drafted draft.now.header (asked_by (λ s. s.now) draft.now.question) draft.now.first.now draft.now.second.now draft.now.authority.now draft.now.additional.now in IfErr result (λ e. RefusesText e (encoding m) limit) }
+{
+    let mut writer = Writer::new(alloc);
+    writer.put_header(
+        draft.header,
+        Tally {
+            questions: count_of(&draft.question),
+            answer: low_count(draft.first, draft.second),
+            authority: draft.authority.len(),
+            additional: draft.additional.len(),
+        },
+    )?;
+    put_alone(&mut writer, &draft.question)?;
+    writer.put_records(draft.first)?;
+    writer.put_records(draft.second)?;
+    writer.put_records(draft.authority)?;
+    writer.put_records(draft.additional)?;
+    writer.finish(limit)
+}

@@ -1,0 +1,55 @@
+ghost use Rattle.std.specs.Prelude.{◌≡◌, ◌≤◌, length};
+ghost use Rattle.wire.specs.Heads.{header_of};
+
+use crate::fields::two_at;
+use std::marker::Model;
+
+/// A message's header without the counts (RFC 1035, section 4.1.1). Opcode and RCODE are at most 15, Z is at
+/// most 7.
+#[derive(Clone, Copy, Debug, PartialEq, Eq)]
+pub struct Header {
+    pub id: u16,
+    pub qr: bool,
+    pub opcode: u8,
+    pub aa: bool,
+    pub tc: bool,
+    pub rd: bool,
+    pub ra: bool,
+    pub z: u8,
+    pub rcode: u8,
+}
+
+impl Model for Header {
+    ghost use Rattle.std.specs.Prelude.{◌<◌};
+    ghost use Rattle.layout.specs.Messages.{Header};
+
+    ghost Value = { Header };
+
+    ghost view = { λ h. record { id = h.id; qr = h.qr; opcode = h.opcode; aa = h.aa; tc = h.tc; rd = h.rd; ra = h.ra; z = h.z; rcode = h.rcode } };
+
+    ghost invariant = { λ h. (h.opcode < 16) × (h.z < 8) × (h.rcode < 16) };
+
+    ghost inverse = { λ h. record { id = h.id; qr = h.qr; opcode = h.opcode; aa = h.aa; tc = h.tc; rd = h.rd; ra = h.ra; z = h.z; rcode = h.rcode } };
+}
+
+impl Header {
+    // The header that the first bytes of a message hold.
+    pub(crate) fn read(bytes: &[u8]) -> Header
+        requires { 12 ≤ length bytes.now }
+        ensures { result ≡ header_of bytes.now }
+    {
+        let high = bytes[2];
+        let low = bytes[3];
+        Header {
+            id: two_at(bytes, 0),
+            qr: high >> 7 == 1,
+            opcode: (high >> 3) & 0x0f,
+            aa: (high >> 2) & 1 == 1,
+            tc: (high >> 1) & 1 == 1,
+            rd: high & 1 == 1,
+            ra: low >> 7 == 1,
+            z: (low >> 4) & 7,
+            rcode: low & 0x0f,
+        }
+    }
+}

@@ -1,0 +1,23 @@
+//! Messages read and written (RFC 1035, section 4).
+#![tactic(auto)]
+
+mod encoder;
+mod error;
+mod fields;
+mod header;
+mod message;
+mod names;
+mod parts;
+mod reader;
+mod records;
+mod served;
+mod spelling;
+mod values;
+mod writer;
+
+pub use encoder::{Draft, encode, encode_draft};
+pub use error::WireError;
+pub use header::Header;
+pub use message::{Message, Question, Questions};
+pub use reader::decode;
+pub use spelling::Spelling;

@@ -1,0 +1,110 @@
+ghost use Rattle.std.specs.Prelude.{◌≡◌, [], ◌∷◌, ◌++◌, length, ◌↔◌, IsTrue, OnOk, OnErr, MatchOption, ◌⊎◌};
+
+use crate::header::Header;
+use dname::{Heap, Name, Starved};
+use rdata::Records;
+use std::alloc::{Allocator, Global};
+use std::marker::Model;
+
+/// A question (RFC 1035, section 4.1.2), of any type and class.
+#[derive(Drop)]
+pub struct Question<A: Allocator = Global> {
+    pub name: Name<A>,
+    pub qtype: u16,
+    pub qclass: u16,
+}
+
+impl<A: Allocator> Model for Question<A> {
+    ghost use Rattle.layout.specs.Messages.{Question};
+
+    ghost Value = { Question };
+
+    ghost view = { λ q. record { name = q.name; qtype = q.qtype; qclass = q.qclass } };
+}
+
+/// The questions of a message in order. Contracts see their list.
+#[derive(Drop)]
+pub struct Questions<A: Allocator = Global> {
+    items: Vec<Question<A>, A>,
+}
+
+impl<A: Allocator> Model for Questions<A> {
+    ghost use Rattle.std.specs.Prelude.{List};
+    ghost use Rattle.layout.specs.Messages.{Question};
+
+    ghost Value = { List Question };
+
+    ghost view = { λ q. q.items.items };
+}
+
+impl<A: Heap> Questions<A> {
+    /// No questions; takes no memory.
+    pub fn new(alloc: A) -> Questions<A>
+        ensures { result ≡ [] }
+    {
+        Questions {
+            items: Vec::new(alloc),
+        }
+    }
+
+    /// One question more, at the end.
+    pub fn push(&mut self, added: Question<A>) -> Result<(), Starved>
+        ensures ok { OnOk result (self.new ≡ self.old ++ added ∷ []) }
+        ensures err { OnErr result (self.new ≡ self.old) }
+    {
+        self.items.push(added)?;
+        Ok(())
+    }
+}
+
+impl<A: Allocator> Questions<A> {
+    /// How many there are.
+    pub fn len(&self) -> usize
+        ensures { result ≡ length self.now }
+    {
+        self.items.len()
+    }
+
+    /// Whether there are none.
+    pub fn is_empty(&self) -> bool
+        ensures { IsTrue result ↔ (self.now ≡ []) }
+    {
+        self.items.is_empty()
+    }
+
+    /// The questions in order.
+    pub fn as_slice(&self) -> &[Question<A>]
+        ensures { result.now ≡ self.now }
+    {
+        &self.items
+    }
+
+    /// The one question; none where there are none or several.
+    pub fn into_only(mut self) -> Option<Question<A>>
+        ensures { MatchOption result (length self ≡ 1 → ⊥) (λ q. self ≡ q ∷ []) }
+    {
+        if self.items.len() == 1 {
+            self.items.pop()
+        } else {
+            None
+        }
+    }
+}
+
+/// A message (RFC 1035, section 4.1).
+#[derive(Drop)]
+pub struct Message<A: Allocator = Global> {
+    pub header: Header,
+    pub questions: Questions<A>,
+    pub answer: Records<A>,
+    pub authority: Records<A>,
+    pub additional: Records<A>,
+}
+
+impl<A: Allocator> Model for Message<A> {
+    ghost use Rattle.layout.specs.Messages.{Message};
+
+    ghost Value = { Message };
+
+    ghost view = { λ m. record { header = m.header; questions = m.questions; answer = m.answer; authority = m.authority; additional = m.additional } };
+}

@@ -1,0 +1,60 @@
+ghost use Rattle.std.specs.Prelude.{◌≡◌, ℕ, ◌≤◌, ◌<◌, List, length, IfOk};
+ghost use Rattle.wire.specs.Parts.{spelt_at, name_at};
+ghost use Rattle.wire.specs.Results.{Gives};
+
+use crate::error::WireError;
+use crate::parts::{Faults, Part, part_at};
+use crate::spelling::Spelling;
+use dname::{Builder, Heap, Name};
+
+// The name at a place (RFC 1035, section 4.1.4), whose own part ends at the limit at the latest, and the
+// end of what lies there.
+pub fn name_at<A: Heap>(
+    alloc: A,
+    bytes: &[u8],
+    faults: Faults,
+    limit: usize,
+    at: usize,
+) -> Result<(Name<A>, usize), WireError>
+    requires { limit ≤ length bytes.now }
+    ensures is { Gives {Y = List (List ℕ) × ℕ} (λ x. (x.0, x.1)) result (name_at bytes.now faults limit at) }
+    ensures within { IfOk result (λ x. x.1 ≤ limit) }
+{
+    let mut name = Builder::new(alloc)?;
+    let mut start = at;
+    let mut stop = limit;
+    let mut border = faults.border;
+    let mut place = at;
+    let mut room = 255;
+    let mut end = None;
+    'parts: loop {
+        match part_at(bytes, stop, border, faults.bad_label, place)? {
+            Part::End => return Ok((name.finish(), end.unwrap_or(place + 1))),
+            Part::Label(size) => {
+                if room < size + 2 {
+                    return Err(faults.too_long);
+                }
+                if stop - place - 1 < size {
+                    return Err(border);
+                }
+                // The room was tested: only memory can be refused.
+                match name.push_label(&bytes[place + 1..place + 1 + size]) {
+                    Ok(()) => {}
+                    Err(_) => return Err(WireError::Memory),
+                }
+                place += 1 + size;
+                room -= size + 1;
+            }
+            Part::Pointer(target) => {
+                if target >= start {
+                    return Err(faults.not_earlier);
+                }
+                end = end.or(Some(place + 2));
+                start = target;
+                stop = bytes.len();
+                border = WireError::Short;
+                place = target;
+            }
+        }
+    }
+}

@@ -1,0 +1,37 @@
+ghost use Rattle.std.specs.Prelude.{◌≡◌, List, ℕ};
+ghost use Rattle.layout.specs.Messages as layouts;
+ghost use Rattle.wire.specs.Entries.{message_of};
+ghost use Rattle.wire.specs.Results.{Gives};
+
+use crate::error::WireError;
+use crate::fields::two_at;
+use crate::header::Header;
+use crate::message::Message;
+use crate::records::{questions_at, section_at};
+use dname::Heap;
+
+/// The message that these bytes are (RFC 1035, section 4). Records of types that are not served and of
+/// classes other than IN are left out. Refused by the first fault from the left.
+#[tactic(auto, using(crate::proofs::Walks::fails_with), unfolding(crate::specs::Entries::message_of))]
+pub fn decode<A: Heap>(alloc: A, bytes: &[u8]) -> Result<Message<A>, WireError>
+    ensures { Gives {Y = layouts.Message} (λ m. m) result (message_of bytes.now) }
+{
+    if bytes.len() < 12 {
+        return Err(WireError::Short);
+    }
+    let header = Header::read(bytes);
+    let (questions, at) = questions_at(alloc, bytes, two_at(bytes, 4), 12)?;
+    let (answer, at) = section_at(alloc, bytes, two_at(bytes, 6), at)?;
+    let (authority, at) = section_at(alloc, bytes, two_at(bytes, 8), at)?;
+    let (additional, at) = section_at(alloc, bytes, two_at(bytes, 10), at)?;
+    if at != bytes.len() {
+        return Err(WireError::TrailingBytes);
+    }
+    Ok(Message {
+        header,
+        questions,
+        answer,
+        authority,
+        additional,
+    })
+}

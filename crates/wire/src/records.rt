@@ -1,0 +1,127 @@
+ghost use Rattle.std.specs.Prelude.{◌≡◌, ℕ, ◌≤◌, ◌+◌, List, Option, length, option_to_list, ◌++◌, OnOk};
+ghost use Rattle.rdata.specs.Records as plain;
+ghost use Rattle.layout.specs.Messages as layouts;
+ghost use Rattle.layout.specs.Messages.{ttl_of};
+ghost use Rattle.wire.specs.Entries.{entry_at, section_from, question_at, questions_from};
+ghost use Rattle.wire.specs.Results.{Gives};
+
+use crate::error::WireError;
+use crate::fields::{four_at, two_at};
+use crate::message::{Question, Questions};
+use crate::names::name_at;
+use crate::parts::Faults;
+use crate::served::served_type;
+use crate::values::value_at;
+use dname::{Heap, Starved};
+use rdata::{Record, Records};
+
+// The greatest TTL: one with its top bit set is read as 0 (RFC 2181, section 8).
+const GREATEST_TTL: u32 = 2_147_483_647;
+
+fn ttl_of(ttl: u32) -> u32
+    ensures is { result ≡ ttl_of ttl }
+    ensures within { result ≤ 2147483647 }
+{
+    if ttl > GREATEST_TTL { 0 } else { ttl }
+}
+
+// The record at a place, where it is one that is kept, and its end.
+#[tactic(auto, using(crate::proofs::Walks::fails_with), unfolding(crate::specs::Entries::entry_at))]
+fn entry_at<A: Heap>(
+    alloc: A,
+    bytes: &[u8],
+    at: usize,
+) -> Result<(Option<Record<A>>, usize), WireError>
+    ensures { Gives {Y = Option plain.Record × ℕ} (λ x. (x.0, x.1)) result (entry_at bytes.now at) }
+{
+    let (owner, at) = name_at(alloc, bytes, Faults::in_message(), bytes.len(), at)?;
+    if bytes.len() - at < 10 {
+        return Err(WireError::Short);
+    }
+    let ttl = ttl_of(four_at(bytes, at + 4));
+    let size = usize::from(two_at(bytes, at + 8));
+    let start = at + 10;
+    if bytes.len() - start < size {
+        return Err(WireError::Short);
+    }
+    match served_type(two_at(bytes, at), two_at(bytes, at + 2)) {
+        None => Ok((None, start + size)),
+        Some(kind) => {
+            let value = value_at(alloc, kind, bytes, start, start + size)?;
+            Ok((Some(Record { owner, ttl, value }), start + size))
+        }
+    }
+}
+
+// Adds a record where there is one.
+fn keep<A: Heap>(records: &mut Records<A>, found: Option<Record<A>>) -> Result<(), Starved>
+    ensures { OnOk result (records.new ≡ records.old ++ option_to_list found) }
+{
+    match found {
+        None => Ok(()),
+        Some(record) => records.push(record),
+    }
+}
+
+// So many records from a place on, those that are kept, and their end.
+pub fn section_at<A: Heap>(
+    alloc: A,
+    bytes: &[u8],
+    count: u16,
+    at: usize,
+) -> Result<(Records<A>, usize), WireError>
+    ensures { Gives {Y = List plain.Record × ℕ} (λ x. (x.0, x.1)) result (section_from count bytes.now at) }
+{
+    let mut records = Records::new(alloc);
+    let mut place = at;
+    for _ in 0..count {
+        let (found, next) = entry_at(alloc, bytes, place)?;
+        keep(&mut records, found)?;
+        place = next;
+    }
+    Ok((records, place))
+}
+
+// The question at a place, and its end.
+#[tactic(auto, using(crate::proofs::Walks::fails_with), unfolding(crate::specs::Entries::question_at))]
+fn question_at<A: Heap>(
+    alloc: A,
+    bytes: &[u8],
+    at: usize,
+) -> Result<(Question<A>, usize), WireError>
+    ensures { Gives {Y = layouts.Question × ℕ} (λ x. (x.0, x.1)) result (question_at bytes.now at) }
+{
+    let (name, at) = name_at(alloc, bytes, Faults::in_message(), bytes.len(), at)?;
+    if bytes.len() - at < 4 {
+        return Err(WireError::Short);
+    }
+    let qtype = two_at(bytes, at);
+    let qclass = two_at(bytes, at + 2);
+    Ok((
+        Question {
+            name,
+            qtype,
+            qclass,
+        },
+        at + 4,
+    ))
+}
+
+// So many questions from a place on, and their end.
+pub fn questions_at<A: Heap>(
+    alloc: A,
+    bytes: &[u8],
+    count: u16,
+    at: usize,
+) -> Result<(Questions<A>, usize), WireError>
+    ensures { Gives {Y = List layouts.Question × ℕ} (λ x. (x.0, x.1)) result (questions_from count bytes.now at) }
+{
+    let mut questions = Questions::new(alloc);
+    let mut place = at;
+    for _ in 0..count {
+        let (question, next) = question_at(alloc, bytes, place)?;
+        questions.push(question)?;
+        place = next;
+    }
+    Ok((questions, place))
+}

@@ -1,0 +1,190 @@
+ghost use Rattle.std.specs.Prelude.{◌≡◌, ℕ, ◌≤◌, ◌<◌, ◌+◌, List, length, IfOk};
+ghost use Rattle.rdata.specs.Data.{Datum};
+ghost use Rattle.rdata.specs.Kept.{datum};
+ghost use Rattle.wire.specs.Values.{two_within, string_at, texts_at, soa_behind, form_at, value_at, name_within};
+ghost use Rattle.wire.specs.Results.{Gives, and_then};
+
+use crate::error::WireError;
+use crate::fields::{four_at, two_at};
+use crate::names::name_at;
+use crate::parts::Faults;
+use dname::{Heap, Name};
+use rdata::{Addr, CharacterString, RData, RType, Soa, Texts};
+
+// A name in RDATA that end at `end`.
+fn name_within<A: Heap>(
+    alloc: A,
+    bytes: &[u8],
+    at: usize,
+    end: usize,
+) -> Result<(Name<A>, usize), WireError>
+    requires { end ≤ length bytes.now }
+    ensures is { Gives {Y = List (List ℕ) × ℕ} (λ x. (x.0, x.1)) result (name_within bytes.now at end) }
+    ensures within { IfOk result (λ x. x.1 ≤ end) }
+{
+    name_at(alloc, bytes, Faults::in_rdata(), end, at)
+}
+
+// One character-string, and its end.
+fn string_at<A: Heap>(
+    alloc: A,
+    bytes: &[u8],
+    at: usize,
+    end: usize,
+) -> Result<(CharacterString<A>, usize), WireError>
+    requires { end ≤ length bytes.now }
+    ensures is { Gives {Y = List ℕ × ℕ} (λ x. (x.0, x.1)) result (string_at bytes.now at end) }
+    ensures within { IfOk result (λ x. (at < x.1) × (x.1 ≤ end)) }
+{
+    if end <= at {
+        return Err(WireError::BadRdataLength);
+    }
+    let size = usize::from(bytes[at]);
+    if end - at - 1 < size {
+        return Err(WireError::BadRdataLength);
+    }
+    let string = Vec::from_slice(alloc, &bytes[at + 1..at + 1 + size])?;
+    Ok((CharacterString::new(string), at + 1 + size))
+}
+
+// One or more strings up to the end.
+fn texts_at<A: Heap>(alloc: A, bytes: &[u8], at: usize, end: usize) -> Result<Texts<A>, WireError>
+    requires { end ≤ length bytes.now }
+    ensures { Gives {Y = List (List ℕ)} (λ x. x) result (texts_at bytes.now at end) }
+{
+    let (first, mut place) = string_at(alloc, bytes, at, end)?;
+    let mut texts = Texts::new(alloc, first)?;
+    while place < end {
+        let (string, next) = string_at(alloc, bytes, place, end)?;
+        texts.push(string)?;
+        place = next;
+    }
+    Ok(texts)
+}
+
+fn soa_at<A: Heap>(
+    alloc: A,
+    bytes: &[u8],
+    at: usize,
+    end: usize,
+) -> Result<(RData<A>, usize), WireError>
+    requires { end ≤ length bytes.now }
+    ensures { Gives {Y = Datum × ℕ} (λ x. (datum x.0, x.1)) result (form_at RType.Soa bytes.now at end) }
+{
+    let (primary, at) = name_within(alloc, bytes, at, end)?;
+    let (mailbox, at) = name_within(alloc, bytes, at, end)?;
+    if end - at < 20 {
+        return Err(WireError::BadRdataLength);
+    }
+    let soa = Soa {
+        primary,
+        mailbox,
+        serial: four_at(bytes, at),
+        refresh: four_at(bytes, at + 4),
+        retry: four_at(bytes, at + 8),
+        expire: four_at(bytes, at + 12),
+        minimum: four_at(bytes, at + 16),
+    };
+    Ok((RData::Soa(soa), at + 20))
+}
+
+fn mx_at<A: Heap>(
+    alloc: A,
+    bytes: &[u8],
+    at: usize,
+    end: usize,
+) -> Result<(RData<A>, usize), WireError>
+    requires fits { end ≤ length bytes.now }
+    requires starts { at ≤ end }
+    ensures { Gives {Y = Datum × ℕ} (λ x. (datum x.0, x.1)) result (form_at RType.Mx bytes.now at end) }
+{
+    if end - at < 2 {
+        return Err(WireError::BadRdataLength);
+    }
+    let preference = two_at(bytes, at);
+    let (exchange, at) = name_within(alloc, bytes, at + 2, end)?;
+    Ok((RData::Mx(preference, exchange), at))
+}
+
+fn ipv4_at<A: Heap>(bytes: &[u8], at: usize, end: usize) -> Result<(RData<A>, usize), WireError>
+    requires fits { end ≤ length bytes.now }
+    requires starts { at ≤ end }
+    ensures { Gives {Y = Datum × ℕ} (λ x. (datum x.0, x.1)) result (form_at RType.A bytes.now at end) }
+{
+    if end - at < 4 {
+        return Err(WireError::BadRdataLength);
+    }
+    let mut address = [0; 4];
+    address.copy_from_slice(&bytes[at..at + 4]);
+    Ok((RData::A(Addr(address)), at + 4))
+}
+
+fn ipv6_at<A: Heap>(bytes: &[u8], at: usize, end: usize) -> Result<(RData<A>, usize), WireError>
+    requires fits { end ≤ length bytes.now }
+    requires starts { at ≤ end }
+    ensures { Gives {Y = Datum × ℕ} (λ x. (datum x.0, x.1)) result (form_at RType.Aaaa bytes.now at end) }
+{
+    if end - at < 16 {
+        return Err(WireError::BadRdataLength);
+    }
+    let mut address = [0; 16];
+    address.copy_from_slice(&bytes[at..at + 16]);
+    Ok((RData::Aaaa(address), at + 16))
+}
+
+// RDATA of a type at a place, and the end of its form.
+fn form_at<A: Heap>(
+    alloc: A,
+    kind: RType,
+    bytes: &[u8],
+    at: usize,
+    end: usize,
+) -> Result<(RData<A>, usize), WireError>
+    requires fits { end ≤ length bytes.now }
+    requires starts { at ≤ end }
+    ensures { Gives {Y = Datum × ℕ} (λ x. (datum x.0, x.1)) result (form_at kind bytes.now at end) }
+{
+    match kind {
+        RType::A => ipv4_at(bytes, at, end),
+        RType::Ns => {
+            let (name, past) = name_within(alloc, bytes, at, end)?;
+            Ok((RData::Ns(name), past))
+        }
+        RType::Cname => {
+            let (name, past) = name_within(alloc, bytes, at, end)?;
+            Ok((RData::Cname(name), past))
+        }
+        RType::Soa => soa_at(alloc, bytes, at, end),
+        RType::Ptr => {
+            let (name, past) = name_within(alloc, bytes, at, end)?;
+            Ok((RData::Ptr(name), past))
+        }
+        RType::Mx => mx_at(alloc, bytes, at, end),
+        RType::Txt => {
+            let texts = texts_at(alloc, bytes, at, end)?;
+            Ok((RData::Txt(texts), end))
+        }
+        RType::Aaaa => ipv6_at(bytes, at, end),
+    }
+}
+
+// RDATA of a type that fill the bytes from `at` to `end`.
+#[tactic(auto, using(crate::proofs::Walks::fails_with), unfolding(crate::specs::Values::value_at))]
+pub fn value_at<A: Heap>(
+    alloc: A,
+    kind: RType,
+    bytes: &[u8],
+    at: usize,
+    end: usize,
+) -> Result<RData<A>, WireError>
+    requires fits { end ≤ length bytes.now }
+    requires starts { at ≤ end }
+    ensures { Gives {Y = Datum} datum result (value_at kind bytes.now at end) }
+{
+    let (value, past) = form_at(alloc, kind, bytes, at, end)?;
+    if past == end {
+        Ok(value)
+    } else {
+        Err(WireError::BadRdataLength)
+    }
+}

@@ -1,0 +1,275 @@
+ghost use Rattle.std.specs.Prelude.{◌≡◌, ℕ, ◌+◌, ◌<◌, ◌≤◌, ◌++◌, [], ◌∷◌, length, OnOk, IfOk, IfErr, flat_map};
+ghost use Rattle.std.specs.Int.{bytes_high_first};
+ghost use Rattle.rdata.specs.Data as plain;
+ghost use Rattle.rdata.specs.Kept.{datum};
+ghost use Rattle.layout.specs.Pieces.{put_flat, put_flats, put, after, empty, plain_bytes, packed_name, asked_name, sized_group};
+ghost use Rattle.layout.specs.Packing.{pointer};
+ghost use Rattle.layout.specs.Messages.{data_flats, record_pieces, question_pieces, header_pieces, strings_bytes};
+ghost use Rattle.wire.specs.Drafts.{counts_by};
+
+use crate::error::WireError;
+use crate::header::Header;
+use crate::message::Question;
+use crate::served::INTERNET;
+use crate::spelling::Spelling;
+use dname::{Heap, Name, Starved};
+use rdata::{RData, Record, Soa, Texts};
+use std::alloc::{Allocator, Global};
+use std::marker::Model;
+use suffixes::Suffixes;
+
+// How many questions and records a header announces.
+#[derive(Clone, Copy)]
+pub struct Tally {
+    pub questions: usize,
+    pub answer: usize,
+    pub authority: usize,
+    pub additional: usize,
+}
+
+// A message that is being written. Contracts see its bytes and the notes of its names.
+#[derive(Drop)]
+pub struct Writer<A: Allocator = Global> {
+    bytes: Vec<u8, A>,
+    names: Suffixes<A>,
+}
+
+impl<A: Allocator> Model for Writer<A> {
+    ghost use Rattle.layout.specs.Pieces.{Text};
+
+    ghost Value = { Text };
+
+    ghost view = { λ w. record { start = 0; bytes = w.bytes.items; notes = w.names } };
+}
+
+// A pointer: two top bits set, then fourteen bits of offset.
+fn pointer_to(place: u16) -> [u8; 2]
+    requires { place < 16384 }
+    ensures { result ≡ pointer place }
+{
+    [192 + (place / 256) as u8, (place % 256) as u8]
+}
+
+impl<A: Heap> Writer<A> {
+    // Nothing written yet; takes no memory.
+    pub fn new(alloc: A) -> Writer<A>
+        ensures { result ≡ empty }
+    {
+        Writer {
+            bytes: Vec::new(alloc),
+            names: Suffixes::new(alloc),
+        }
+    }
+
+    #[tactic(auto, using(crate::proofs::Writing::plain_put))]
+    fn put_bytes(&mut self, bytes: &[u8]) -> Result<(), Starved>
+        ensures { OnOk result (self.new ≡ put_flat self.old (plain_bytes bytes.now)) }
+    {
+        self.bytes.extend_from_slice(bytes)?;
+        Ok(())
+    }
+
+    // A number of 16 bits.
+    fn put_two(&mut self, number: u16) -> Result<(), Starved>
+        ensures { OnOk result (self.new ≡ put_flat self.old (plain_bytes (bytes_high_first 2 number))) }
+    {
+        self.put_bytes(&number.to_be_bytes())
+    }
+
+    // A number of 32 bits.
+    fn put_four(&mut self, number: u32) -> Result<(), Starved>
+        ensures { OnOk result (self.new ≡ put_flat self.old (plain_bytes (bytes_high_first 4 number))) }
+    {
+        self.put_bytes(&number.to_be_bytes())
+    }
+
+    // A count: its lowest 16 bits. A message with more than 65,535 of anything is over every limit.
+    fn put_count(&mut self, count: usize) -> Result<(), Starved>
+        ensures { OnOk result (self.new ≡ put_flat self.old (plain_bytes (bytes_high_first 2 count))) }
+    {
+        self.put_bytes(&[(count / 256 % 256) as u8, (count % 256) as u8])
+    }
+
+    // A name, compressed (RFC 1035, section 4.1.4).
+    fn put_name(&mut self, name: &Name<A>) -> Result<(), Starved>
+        ensures { OnOk result (self.new ≡ put_flat self.old (packed_name name.now)) }
+    {
+        name.is_well_formed();
+        let at = self.bytes.len();
+        match self.names.longest(name) {
+            None => {
+                self.bytes.extend_from_slice(name.wire())?;
+                self.names.note(name, name.labels(), at)
+            }
+            Some(found) => {
+                let (before, _) = name.wire().split_at(found.bytes);
+                self.bytes.extend_from_slice(before)?;
+                self.bytes.extend_from_slice(&pointer_to(found.place))?;
+                self.names.note(name, found.labels, at)
+            }
+        }
+    }
+
+    // A question's name, in full.
+    fn put_asked(&mut self, name: &Name<A>) -> Result<(), Starved>
+        ensures { OnOk result (self.new ≡ put_flat self.old (asked_name name.now)) }
+    {
+        name.is_well_formed();
+        let at = self.bytes.len();
+        self.bytes.extend_from_slice(name.wire())?;
+        self.names.note(name, name.labels(), at)
+    }
+
+    // A question's name, in full and in its own letters.
+    fn put_spelling(&mut self, spelling: &Spelling<A>) -> Result<(), Starved>
+        ensures { OnOk result (self.new ≡ put_flat self.old (asked_name spelling.now)) }
+    {
+        let name = spelling.name();
+        name.is_well_formed();
+        let at = self.bytes.len();
+        self.bytes.extend_from_slice(spelling.wire())?;
+        self.names.note(name, name.labels(), at)
+    }
+
+    // RDATA without its length.
+    fn put_data(&mut self, value: &RData<A>) -> Result<(), Starved>
+        ensures { OnOk result (self.new ≡ put_flats self.old (data_flats (datum value.now))) }
+    {
+        match value {
+            RData::A(address) => self.put_bytes(&address.0),
+            RData::Ns(name) => self.put_name(name),
+            RData::Cname(name) => self.put_name(name),
+            RData::Soa(soa) => self.put_soa(soa),
+            RData::Ptr(name) => self.put_name(name),
+            RData::Mx(preference, name) => {
+                self.put_two(*preference)?;
+                self.put_name(name)
+            }
+            RData::Txt(texts) => self.put_texts(texts),
+            RData::Aaaa(address) => self.put_bytes(address),
+        }
+    }
+
+    fn put_soa(&mut self, soa: &Soa<A>) -> Result<(), Starved>
+        ensures { OnOk result (self.new ≡ put_flats self.old (data_flats (plain.Soa soa.now))) }
+    {
+        self.put_name(&soa.primary)?;
+        self.put_name(&soa.mailbox)?;
+        self.put_four(soa.serial)?;
+        self.put_four(soa.refresh)?;
+        self.put_four(soa.retry)?;
+        self.put_four(soa.expire)?;
+        self.put_four(soa.minimum)
+    }
+
+    fn put_texts(&mut self, texts: &Texts<A>) -> Result<(), Starved>
+        ensures { OnOk result (self.new ≡ put_flat self.old (plain_bytes (strings_bytes texts.now))) }
+    {
+        for string in texts.strings() {
+            let bytes = string.bytes();
+            self.put_bytes(&[bytes.len() as u8])?;
+            self.put_bytes(bytes)?;
+        }
+        Ok(())
+    }
+
+    // RDATA behind its length.
+    fn put_group(&mut self, value: &RData<A>) -> Result<(), Starved>
+        ensures { OnOk result (self.new ≡ put self.old (sized_group (data_flats (datum value.now)))) }
+    {
+        let at = self.bytes.len();
+        self.put_bytes(&[0, 0])?;
+        self.put_data(value)?;
+        let size = self.bytes.len() - at - 2;
+        self.bytes[at] = (size / 256 % 256) as u8;
+        self.bytes[at + 1] = (size % 256) as u8;
+        Ok(())
+    }
+
+    #[tactic(auto, unfolding(layout::specs::Pieces::put))]
+    fn put_record(&mut self, added: &Record<A>) -> Result<(), Starved>
+        ensures { OnOk result (self.new ≡ after self.old (record_pieces added.now)) }
+    {
+        self.put_name(&added.owner)?;
+        self.put_two(added.value.kind().number())?;
+        self.put_two(INTERNET)?;
+        self.put_four(added.ttl)?;
+        self.put_group(&added.value)
+    }
+
+    /// The records in order.
+    pub fn put_records(&mut self, records: &[Record<A>]) -> Result<(), Starved>
+        ensures { OnOk result (self.new ≡ after self.old (flat_map record_pieces records.now)) }
+    {
+        for added in records {
+            self.put_record(added)?;
+        }
+        Ok(())
+    }
+
+    #[tactic(auto, unfolding(layout::specs::Pieces::put))]
+    fn put_question(&mut self, question: &Question<A>) -> Result<(), Starved>
+        ensures { OnOk result (self.new ≡ after self.old (question_pieces question.now)) }
+    {
+        self.put_asked(&question.name)?;
+        self.put_two(question.qtype)?;
+        self.put_two(question.qclass)
+    }
+
+    /// The questions in order.
+    pub fn put_questions(&mut self, questions: &[Question<A>]) -> Result<(), Starved>
+        ensures { OnOk result (self.new ≡ after self.old (flat_map question_pieces questions.now)) }
+    {
+        for question in questions {
+            self.put_question(question)?;
+        }
+        Ok(())
+    }
+
+    #[tactic(auto, unfolding(layout::specs::Pieces::put))]
+    /// A question in its own letters.
+    pub fn put_spelled(
+        &mut self,
+        spelling: &Spelling<A>,
+        qtype: u16,
+        qclass: u16,
+    ) -> Result<(), Starved>
+        ensures { OnOk result (self.new ≡ after self.old (question_pieces (record { name = spelling.now; qtype = qtype; qclass = qclass }))) }
+    {
+        self.put_spelling(spelling)?;
+        self.put_two(qtype)?;
+        self.put_two(qclass)
+    }
+
+    #[tactic(auto, unfolding(layout::specs::Pieces::put))]
+    /// A header with its counts.
+    pub fn put_header(&mut self, header: Header, counts: Tally) -> Result<(), Starved>
+        ensures { OnOk result (self.new ≡ after self.old (header_pieces header (counts_by counts))) }
+    {
+        let high = u8::from(header.qr) * 128
+            + header.opcode * 8
+            + u8::from(header.aa) * 4
+            + u8::from(header.tc) * 2
+            + u8::from(header.rd);
+        let low = u8::from(header.ra) * 128 + header.z * 16 + header.rcode;
+        self.put_two(header.id)?;
+        self.put_bytes(&[high, low])?;
+        self.put_count(counts.questions)?;
+        self.put_count(counts.answer)?;
+        self.put_count(counts.authority)?;
+        self.put_count(counts.additional)
+    }
+
+    /// What was written, where it is within the limit.
+    pub fn finish(self, limit: usize) -> Result<Vec<u8, A>, WireError>
+        ensures ok { IfOk result (λ v. (v.items ≡ self.bytes) × (length self.bytes ≤ limit)) }
+        ensures over { IfErr result (λ e. (e ≡ WireError.OverLimit) × (limit < length self.bytes)) }
+    {
+        let Writer { bytes, names: _ } = self;
+        if bytes.len() > limit {
+            Err(WireError::OverLimit)
+        } else {
+            Ok(bytes)
+        }
+    }
+}
