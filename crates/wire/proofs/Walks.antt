@@ -4,7 +4,8 @@ use Rattle.std.specs.Prelude.{nat_lt, nat_le, cond, if◌then◌else◌, slice_r
 use Rattle.std.specs.Option.{unwrap_or, option_or}
 use Rattle.std.specs.Result.{IsErrAnd}
 use Rattle.std.proofs.lemmas.Bool.Decides.{nat_tests}
-use Rattle.std.proofs.lemmas.List.{map-append}
+use Rattle.std.proofs.lemmas.List.{map-append, append-nil, length-take}
+use Rattle.std.proofs.Common.{length-append, length-drop, drop}
 use Rattle.dname.specs.Labels.{wire, folded_label, folded_labels}
 use Rattle.dname.specs.declared.builder.Overflow.TheVariants.{LongName}
 use Rattle.dname.specs.Draft.{Draft, labelled}
@@ -14,7 +15,12 @@ use Rattle.wire.specs.declared.parts.Part.{Part}
 use Rattle.wire.specs.declared.parts.Part.TheVariants.{End, Label, Pointer}
 use Rattle.wire.specs.declared.parts.Faults.{Faults}
 use Rattle.wire.specs.Results.{Fails, Gives, and_then}
-use Rattle.wire.specs.Parts.{part_at, behind_label, ends_at, followed, spelt_from, spelt_at, in_lower_case, name_at}
+use Rattle.layout.specs.Messages.{AreSpelled}
+use Rattle.dname.specs.Wire.{labels_of}
+use Rattle.dname.specs.Laws.{labels_of-wire}
+use Rattle.wire.specs.Spellings.{IsSpelt}
+use Rattle.wire.specs.Entries.{spelling_of, labels_alone}
+use Rattle.wire.specs.Parts.{message_faults, part_at, behind_label, ends_at, followed, spelt_from, spelt_at, in_lower_case, name_at}
 
 abbrev done : {X E : Type 0} → X → Result X E
 done x = Ok x
@@ -247,3 +253,146 @@ name_label bytes faults limit at d n start place stop border room end w size p i
       opened = ap (λ x. x.opened) pushed;
       closed = ap (λ x. x.closed) pushed ∙ (ap (λ x. x ++ folded_label text ∷ []) w.closed ∙ sym (map-append folded_label w.front (text ∷ [])));
     }
+
+-- ---- the name in its own letters
+
+abbrev lowered : List (List ℕ) × ℕ → Result (List (List ℕ) × ℕ) WireError
+lowered (labels, past) = Ok (folded_labels labels, past)
+
+abbrev lowered_as : List (List ℕ) × ℕ → Result (List (List ℕ) × ℕ) WireError
+lowered_as p = Ok p
+
+abbrev pair_done : List (List ℕ) × ℕ → Result (List (List ℕ) × ℕ) WireError
+pair_done p = Ok p
+
+pair_is : {x y : List (List ℕ) × ℕ} → pair_done x ≡ pair_done y → x ≡ y
+pair_is h = cc
+
+abbrev pub AllSpelled : List (List ℕ) → Type 0
+AllSpelled [] = Unit {0}
+AllSpelled (l ∷ rest) = (0 < length l) × (length l < 64) × AllSpelled rest
+
+pub record SpeltWalk (bytes : List ℕ) (at : ℕ) (letters : List ℕ) (start place stop : ℕ) (border : WireError) (room : ℕ) : Type 0 where
+  pub front : List (List ℕ)
+  pub end : Option ℕ
+  pub walk : Walk bytes message_faults (length bytes) (spelt_at bytes message_faults (length bytes) at) front start place stop border room end
+  pub form : letters ≡ wire front
+  pub taken : room + length (wire front) ≡ 255
+  pub spelled : AllSpelled front
+
+pub spelt_begins : (bytes : List ℕ) (at : ℕ) (letters : List ℕ) → letters ≡ [] → SpeltWalk bytes at letters at at (length bytes) Short 255
+spelt_begins bytes at letters e = record {
+  front = [];
+  end = None;
+  walk = walk_begins bytes message_faults (length bytes) at (omega arith);
+  form = e;
+  taken = omega arith;
+  spelled = tt;
+}
+
+pub spelling_refused : (bytes : List ℕ) (at : ℕ) (e : WireError) → spelt_at bytes message_faults (length bytes) at ≡ Err e → Fails e (spelling_of bytes at)
+unfolding spelling_of
+spelling_refused bytes at e h = fails_is e (spelling_of bytes at) (ap (λ x. and_then x labels_alone) h)
+
+pub name_spelling_fails : (bytes : List ℕ) (at : ℕ) (e : WireError) → Fails e (name_at bytes message_faults (length bytes) at) → Fails e (spelling_of bytes at)
+unfolding name_at spelling_of
+name_spelling_fails bytes at e h =
+    fails_with e (name_at bytes message_faults (length bytes) at) (spelling_of bytes at) (back (spelt_at bytes message_faults (length bytes) at) e) h
+  where
+    back : (r : Spelt) (x : WireError) → and_then r in_lower_case ≡ Err x → and_then r labels_alone ≡ Err x
+    back (Ok p) x k = cc
+    back (Err y) x k = let same : y ≡ x = cc in ap (λ z. Err z) same
+
+wire-append : (a b : List (List ℕ)) → wire (a ++ b) ≡ wire a ++ wire b
+wire-append [] b = refl
+wire-append (l ∷ a) b = ap (λ x. length l ∷ x) (ap (λ x. l ++ x) (wire-append a b) ∙ sym (append_assoc l (wire a) (wire b)))
+
+spelled-append : (a : List (List ℕ)) (l : List ℕ) → AllSpelled a → 0 < length l → length l < 64 → AllSpelled (a ++ l ∷ [])
+spelled-append [] l h some few = (some, few, tt)
+spelled-append (m ∷ a) l h some few = (h.0, h.1, spelled-append a l h.2 some few)
+
+are_spelled : (a : List (List ℕ)) → AllSpelled a → AreSpelled (a ++ [] ∷ [])
+are_spelled [] h = refl
+are_spelled (l ∷ []) h = (h.0, h.1, refl)
+are_spelled (l ∷ m ∷ a) h = (h.0, h.1, are_spelled (m ∷ a) h.2)
+
+label_long : (bytes : List ℕ) (place size : ℕ) → place + 1 + size ≤ length bytes → length (slice_range bytes (place + 1) (place + 1 + size)) ≡ size
+label_long bytes place size fits =
+    omega (arith, length-take (place + 1 + size - (place + 1)) (drop (place + 1) bytes), length-drop (place + 1) bytes)
+
+pub spelt_label : (bytes : List ℕ) (at : ℕ) (letters next : List ℕ) (start place stop : ℕ) (border : WireError) (room : ℕ)
+    (w : SpeltWalk bytes at letters start place stop border room) (size : ℕ) (p : Result Part WireError) → p ≡ part_at bytes stop border BadLabel place
+    → p ≡ Ok (Label size) → size + 2 ≤ room → size ≤ stop - place - 1 → place < stop → 0 < size → size < 64
+    → next ≡ (letters ++ size ∷ []) ++ slice_range bytes (place + 1) (place + 1 + size)
+    → SpeltWalk bytes at next start (place + (1 + size)) stop border (room - (size + 1))
+spelt_label bytes at letters next start place stop border room w size p is label room_is fits within some few put =
+    let text = slice_range bytes (place + 1) (place + 1 + size) in
+    let inside = w.walk.fits in
+    let long : length text ≡ size = label_long bytes place size (omega arith) in
+    let taken = w.taken in
+    let joined : wire (w.front ++ text ∷ []) ≡ wire w.front ++ (length text ∷ (text ++ [])) = wire-append w.front (text ∷ []) in
+    let last : length text ∷ (text ++ []) ≡ size ∷ text = λ i. long i ∷ append-nil text i in
+    let whole : next ≡ wire (w.front ++ text ∷ []) =
+    put ∙ (append_assoc letters (size ∷ []) text ∙ (ap (λ x. x ++ size ∷ text) w.form ∙ sym (joined ∙ ap (λ x. wire w.front ++ x) last))) in
+    let size_is : length (wire (w.front ++ text ∷ [])) ≡ length (wire w.front) + (1 + size) =
+    omega (arith, ap length (joined ∙ ap (λ x. wire w.front ++ x) last), length-append (wire w.front) (size ∷ text)) in
+    record {
+      front = w.front ++ text ∷ [];
+      end = w.end;
+      walk = walk_label bytes message_faults (length bytes) (spelt_at bytes message_faults (length bytes) at) w.front start place stop border room w.end w.walk size p is label room_is fits within;
+      form = whole;
+      taken = omega arith;
+      spelled = spelled-append w.front text w.spelled (omega arith) (omega arith);
+    }
+
+pub spelt_pointer : (bytes : List ℕ) (at : ℕ) (letters : List ℕ) (start place stop : ℕ) (border : WireError) (room : ℕ)
+    (w : SpeltWalk bytes at letters start place stop border room) (target : ℕ) (p : Result Part WireError) → p ≡ part_at bytes stop border BadLabel place
+    → p ≡ Ok (Pointer target) → target < start → place + 1 < stop → SpeltWalk bytes at letters target target (length bytes) Short room
+spelt_pointer bytes at letters start place stop border room w target p is pointer earlier within = record {
+  front = w.front;
+  end = option_or w.end (Some (place + 2));
+  walk = walk_pointer bytes message_faults (length bytes) (spelt_at bytes message_faults (length bytes) at) w.front start place stop border room w.end w.walk target p is pointer earlier within;
+  form = w.form;
+  taken = w.taken;
+  spelled = w.spelled;
+}
+
+name_by : (bytes : List ℕ) (at : ℕ) (name labels : List (List ℕ)) (end past : ℕ) → name_at bytes message_faults (length bytes) at ≡ Ok (name, end)
+    → spelt_at bytes message_faults (length bytes) at ≡ Ok (labels, past) → name ≡ folded_labels labels
+unfolding name_at
+name_by bytes at name labels end past h k =
+    let e : lowered (labels, past) ≡ lowered_as (name, end) = sym (ap (λ x. and_then x in_lower_case) k) ∙ h in
+    ap (λ x. x.0) (pair_is (sym e))
+
+pub spelt_done : (bytes : List ℕ) (at : ℕ) (letters next : List ℕ) (name : List (List ℕ)) (past start place stop : ℕ) (border : WireError) (room : ℕ)
+    (w : SpeltWalk bytes at letters start place stop border room) (p : Result Part WireError) → p ≡ part_at bytes stop border BadLabel place → p ≡ Ok End
+    → name_at bytes message_faults (length bytes) at ≡ Ok (name, past) → next ≡ letters ++ 0 ∷ [] → IsSpelt next name × (spelling_of bytes at ≡ Ok (labels_of next))
+unfolding spelling_of
+spelt_done bytes at letters next name past start place stop border room w p is ends named put =
+    let labels = w.front ++ [] ∷ [] in
+    let read = walk_ends bytes message_faults (length bytes) (spelt_at bytes message_faults (length bytes) at) w.front start place stop border room w.end w.walk p is ends in
+    let form : next ≡ wire labels = put ∙ (ap (λ x. x ++ 0 ∷ []) w.form ∙ sym (wire-append w.front ([] ∷ []))) in
+    let seen : labels_of next ≡ labels = ap labels_of form ∙ labels_of-wire labels in
+    let folds = name_by bytes at name labels past (unwrap_or w.end (place + 1)) named read in
+    let taken = w.taken in
+    let some = w.walk.some_room in (
+      record {
+        labels = subst (λ (x : List (List ℕ)). AreSpelled x) (sym seen) (are_spelled w.front w.spelled);
+        form = ap wire seen ∙ sym form;
+        short = omega (arith, ap length (put ∙ ap (λ x. x ++ 0 ∷ []) w.form), length-append (wire w.front) (0 ∷ []));
+        folds = folds ∙ ap folded_labels (sym seen);
+      },
+      ap (λ x. and_then x labels_alone) read ∙ (λ i. Ok (sym seen i)),
+    )
+
+pub record NamedWalk (bytes : List ℕ) (at : ℕ) (name : List (List ℕ)) (letters : List ℕ) (start place stop : ℕ) (border : WireError) (room : ℕ) : Type 0 where
+  pub past : ℕ
+  pub named : name_at bytes message_faults (length bytes) at ≡ Ok (name, past)
+  pub walk : SpeltWalk bytes at letters start place stop border room
+
+pub named_by : (bytes : List ℕ) (at past : ℕ) (name : List (List ℕ)) (faults : Faults) → faults ≡ message_faults → name_at bytes faults (length bytes) at ≡ Ok (name, past)
+    → name_at bytes message_faults (length bytes) at ≡ Ok (name, past)
+named_by bytes at past name faults e h = ap (λ f. name_at bytes f (length bytes) at) (sym e) ∙ h
+
+pub named_fails : (bytes : List ℕ) (at : ℕ) (x : WireError) (faults : Faults) → faults ≡ message_faults → Fails x (name_at bytes faults (length bytes) at) → Fails x (spelling_of bytes at)
+named_fails bytes at x faults e h = name_spelling_fails bytes at x (subst (λ (f : Faults). Fails x (name_at bytes f (length bytes) at)) e h)

@@ -86,6 +86,6 @@ message_of bytes =
 abbrev pub labels_alone : List (List ℕ) × ℕ → Result (List (List ℕ)) WireError
 labels_alone (labels, end) = Ok labels
 
--- The spelling of the name behind the header.
-unfoldable pub spelling_of : List ℕ → Result (List (List ℕ)) WireError
-spelling_of bytes = and_then (spelt_at bytes message_faults (length bytes) 12) labels_alone
+-- The labels at a place in their own letters.
+unfoldable pub spelling_of : List ℕ → ℕ → Result (List (List ℕ)) WireError
+spelling_of bytes at = and_then (spelt_at bytes message_faults (length bytes) at) labels_alone

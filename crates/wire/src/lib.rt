@@ -19,5 +19,5 @@ pub use encoder::{Draft, encode, encode_draft};
 pub use error::WireError;
 pub use header::Header;
 pub use message::{Message, Question, Questions};
-pub use reader::decode;
+pub use reader::{decode, question_spelling};
 pub use spelling::Spelling;

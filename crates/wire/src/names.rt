@@ -1,5 +1,6 @@
 ghost use Rattle.std.specs.Prelude.{◌≡◌, ℕ, ◌≤◌, ◌<◌, List, length, IfOk};
 ghost use Rattle.wire.specs.Parts.{spelt_at, name_at};
+ghost use Rattle.wire.specs.Entries.{spelling_of};
 ghost use Rattle.wire.specs.Results.{Gives};
 
 use crate::error::WireError;
@@ -50,6 +51,48 @@ pub fn name_at<A: Heap>(
                     return Err(faults.not_earlier);
                 }
                 end = end.or(Some(place + 2));
+                start = target;
+                stop = bytes.len();
+                border = WireError::Short;
+                place = target;
+            }
+        }
+    }
+}
+
+// The name at a place as `name_at` reads it, and beside it its own letters.
+pub fn spelling_at<A: Heap>(alloc: A, bytes: &[u8], at: usize) -> Result<Spelling<A>, WireError>
+    ensures { Gives {Y = List (List ℕ)} (λ s. s) result (spelling_of bytes.now at) }
+{
+    let (name, _) = name_at(alloc, bytes, Faults::in_message(), bytes.len(), at)?;
+    let mut letters = Vec::with_capacity(alloc, name.size())?;
+    let mut start = at;
+    let mut stop = bytes.len();
+    let mut border = WireError::Short;
+    let mut place = at;
+    let mut room = 255;
+    'parts: loop {
+        match part_at(bytes, stop, border, WireError::BadLabel, place)? {
+            Part::End => {
+                letters.push(0)?;
+                return Ok(Spelling::from_wire(letters, name));
+            }
+            Part::Label(size) => {
+                if room < size + 2 {
+                    return Err(WireError::NameTooLong);
+                }
+                if stop - place - 1 < size {
+                    return Err(border);
+                }
+                letters.push(size as u8)?;
+                letters.extend_from_slice(&bytes[place + 1..place + 1 + size])?;
+                place += 1 + size;
+                room -= size + 1;
+            }
+            Part::Pointer(target) => {
+                if target >= start {
+                    return Err(WireError::PointerNotEarlier);
+                }
                 start = target;
                 stop = bytes.len();
                 border = WireError::Short;

@@ -1,13 +1,15 @@
 ghost use Rattle.std.specs.Prelude.{◌≡◌, List, ℕ};
 ghost use Rattle.layout.specs.Messages as layouts;
-ghost use Rattle.wire.specs.Entries.{message_of};
+ghost use Rattle.wire.specs.Entries.{message_of, spelling_of};
 ghost use Rattle.wire.specs.Results.{Gives};
 
 use crate::error::WireError;
 use crate::fields::two_at;
 use crate::header::Header;
 use crate::message::Message;
+use crate::names::spelling_at;
 use crate::records::{questions_at, section_at};
+use crate::spelling::Spelling;
 use dname::Heap;
 
 /// The message that these bytes are (RFC 1035, section 4). Records of types that are not served and of
@@ -34,4 +36,12 @@ pub fn decode<A: Heap>(alloc: A, bytes: &[u8]) -> Result<Message<A>, WireError>
         authority,
         additional,
     })
+}
+
+/// The name of the first question in its own letters, where a question stands behind the header. Refused
+/// as `decode` refuses that name.
+pub fn question_spelling<A: Heap>(alloc: A, bytes: &[u8]) -> Result<Spelling<A>, WireError>
+    ensures { Gives {Y = List (List ℕ)} (λ s. s) result (spelling_of bytes.now 12) }
+{
+    spelling_at(alloc, bytes, 12)
 }

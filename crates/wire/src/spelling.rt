@@ -1,5 +1,6 @@
 ghost use Rattle.std.specs.Prelude.{◌≡◌, ◌≤◌, length};
 ghost use Rattle.dname.specs.Labels.{wire, folded_labels};
+ghost use Rattle.dname.specs.Wire.{labels_of};
 ghost use Rattle.wire.specs.Spellings.{IsSpelt};
 
 use dname::Name;
@@ -29,6 +30,14 @@ impl<A: Allocator> Model for Spelling<A> {
 }
 
 impl<A: Allocator> Spelling<A> {
+    // A spelling from its wire form and the name in lower case.
+    pub(crate) fn from_wire(bytes: Vec<u8, A>, name: Name<A>) -> Spelling<A>
+        requires { IsSpelt bytes.items name }
+        ensures { result ≡ labels_of bytes.items }
+    {
+        Spelling { bytes, name }
+    }
+
     /// The spelling in wire form.
     pub fn wire(&self) -> &[u8]
         ensures is { result.now ≡ wire self.now }

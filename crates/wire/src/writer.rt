@@ -12,6 +12,7 @@ use crate::header::Header;
 use crate::message::Question;
 use crate::served::INTERNET;
 use crate::spelling::Spelling;
+use byteorder::{BigEndian, ByteOrder};
 use dname::{Heap, Name, Starved};
 use rdata::{RData, Record, Soa, Texts};
 use std::alloc::{Allocator, Global};
@@ -73,14 +74,18 @@ impl<A: Heap> Writer<A> {
     fn put_two(&mut self, number: u16) -> Result<(), Starved>
         ensures { OnOk result (self.new ≡ put_flat self.old (plain_bytes (bytes_high_first 2 number))) }
     {
-        self.put_bytes(&number.to_be_bytes())
+        let mut two = [0; 2];
+        BigEndian::write_u16(&mut two, number);
+        self.put_bytes(&two)
     }
 
     // A number of 32 bits.
     fn put_four(&mut self, number: u32) -> Result<(), Starved>
         ensures { OnOk result (self.new ≡ put_flat self.old (plain_bytes (bytes_high_first 4 number))) }
     {
-        self.put_bytes(&number.to_be_bytes())
+        let mut four = [0; 4];
+        BigEndian::write_u32(&mut four, number);
+        self.put_bytes(&four)
     }
 
     // A count: its lowest 16 bits. A message with more than 65,535 of anything is over every limit.
