@@ -10,6 +10,7 @@ mod numbers;
 mod strings;
 
 pub use faults::{FileError, FileKind};
+pub use fields::type_of_word;
 pub use files::{read, read_block};
 
 #[cfg(test)]
