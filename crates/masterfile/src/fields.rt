@@ -29,7 +29,7 @@ pub(crate) fn is_same_word(word: &[u8], other: &[u8]) -> bool
 
 /// The type that a word names.
 #[tactic(auto, unfolding(crate::specs::Fields::type_named))]
-pub(crate) fn type_of_word(word: &[u8]) -> Option<RType>
+pub fn type_of_word(word: &[u8]) -> Option<RType>
     ensures { result ≡ type_named word.now }
 {
     for kind in [

@@ -12,6 +12,7 @@ mod printed;
 mod strings;
 
 pub use faults::{FileError, FileKind};
+pub use fields::type_of_word;
 pub use files::{read, read_block};
 pub use laws::reads_both_ways;
 pub use printed::{print, put_record};

@@ -1,0 +1,26 @@
+# What the repository is used for. `rt` is the Rattle toolchain's command.
+PREFIX = /usr/local
+PROGRAM = crates/resolverd
+
+# The words of the example: which zone, its file, and what is asked.
+QUESTION = ask lab.example. $(CURDIR)/examples/lab.zone x.lab.example. TXT
+
+.PHONY: ask test try install
+
+# Proves and builds the program and all below it, and answers one query.
+ask:
+	cd $(PROGRAM) && rt run -- $(QUESTION)
+
+# The gate: every proof, every edit that must fail, every test and every run.
+test:
+	rt ci
+
+# The same query without any proof, by an instrumented build: for use while the code changes.
+try:
+	cd $(PROGRAM) && rt try -- $(QUESTION)
+
+# Puts the proved program to $(PREFIX)/bin.
+install:
+	cd $(PROGRAM) && rt run -- $(QUESTION)
+	install -d $(DESTDIR)$(PREFIX)/bin
+	install -m 755 $(PROGRAM)/out/resolverd $(DESTDIR)$(PREFIX)/bin/resolverd

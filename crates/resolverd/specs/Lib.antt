@@ -1,0 +1,5 @@
+pub mod Asks
+pub mod Faults
+pub mod Runs
+pub mod Texts
+pub mod Zones

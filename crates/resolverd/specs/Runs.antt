@@ -1,0 +1,42 @@
+-- What a command leaves behind.
+use Rattle.std.specs.Prelude.{◌≡◌, ℕ, List, ◌++◌, ◌⊎◌, Option, Result, Ok, Err, codes, string_bytes}
+use Rattle.std.specs.Io.KnownBytes.{Appends}
+use Rattle.commandline.specs.declared.subcommands.Command.{Command}
+use Rattle.commandline.specs.declared.subcommands.Command.TheVariants.{Ask}
+use Rattle.resolverd.specs.Asks.{IsRefused}
+use Rattle.resolverd.specs.declared.fault.Fault.{Fault}
+use Rattle.resolverd.specs.Faults.{fault_text, status_of}
+
+-- The line of a fault.
+abbrev pub fault_line : Fault → List ℕ
+fault_line f = codes "error: " ++ fault_text f ++ codes "\n"
+
+-- The line of a fault was written, and its status given; 4 where it could not be.
+abbrev pub IsReported : Fault → Option (List ℕ) → Option (List ℕ) → ℕ → Type 0
+IsReported f err err2 n = ((n ≡ status_of f) × Appends err err2 (fault_line f)) ⊎ (n ≡ 4)
+
+-- A text was written, and its status given, and nothing else was; 4 where it could not be.
+abbrev pub IsPrinted : List ℕ → ℕ → Option (List ℕ) → Option (List ℕ) → Option (List ℕ) → Option (List ℕ) → ℕ → Type 0
+IsPrinted text status out out2 err err2 n = ((n ≡ status) × Appends out out2 text × (err2 ≡ err)) ⊎ (n ≡ 4)
+
+-- The bytes of the text that came out, if one did.
+abbrev pub shown : {S : Type 0} → (S → List ℕ) → Result S Fault → Result (List ℕ) Fault
+shown bytes (Ok text) = Ok (bytes text)
+shown bytes (Err f) = Err f
+
+-- A command ended with this text or this fault. Of a fault nothing is printed but its line.
+abbrev pub Ended : Result (List ℕ) Fault → Option (List ℕ) → Option (List ℕ) → Option (List ℕ) → Option (List ℕ) → ℕ → Type 0
+Ended (Ok text) out out2 err err2 n = IsPrinted text 0 out out2 err err2 n
+Ended (Err f) out out2 err err2 n = IsReported f err err2 n × (out2 ≡ out)
+
+-- What is not done has one of these faults.
+abbrev pub IsAllowed : (Fault → Type 0) → Result (List ℕ) Fault → Type 0
+IsAllowed faults (Ok text) = Unit {0}
+IsAllowed faults (Err f) = faults f
+
+abbrev pub IsRun : (Fault → Type 0) → Option (List ℕ) → Option (List ℕ) → Option (List ℕ) → Option (List ℕ) → ℕ → Type 0
+IsRun faults out out2 err err2 n = (done : Result (List ℕ) Fault) × IsAllowed faults done × Ended done out out2 err err2 n
+
+-- The faults of a command, over what is known to stand at a path.
+abbrev pub faults_of : (List ℕ → Option (Option (List ℕ))) → Command → Fault → Type 0
+faults_of held (Ask origin file name kind) = IsRefused (held (string_bytes file)) (string_bytes origin) (string_bytes name) (string_bytes kind)

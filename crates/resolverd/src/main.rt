@@ -1,0 +1,52 @@
+//! `resolverd`: what its command line asks, done with the real files and streams.
+#![tactic(auto)]
+
+mod ask;
+mod exchange;
+mod fault;
+mod run;
+mod texts;
+mod zones;
+
+use crate::run::{refuse_line, run_words};
+use crate::texts::Disk;
+use commandline::LineFault;
+use std::io::ErrorKind;
+use std::process::ExitCode;
+use std::rt::Env;
+use std::{env, io};
+
+fn main(rt: HostRuntime) -> ExitCode {
+    let alloc = rt.alloc();
+    let mut out = rt.stdout();
+    let mut err = rt.stderr();
+    let status = match words_of(&rt) {
+        Ok(words) => run_words(alloc, &words, &mut Disk::new(&rt), &mut out, &mut err),
+        Err(fault) => refuse_line(alloc, fault, &mut out, &mut err),
+    };
+    ExitCode::from(status)
+}
+
+// The words after the program's name. One that is not UTF-8 names no command.
+fn words_of<R: Env + AllocGlobal>(rt: &R) -> Result<Vec<String>, LineFault> {
+    let mut words = Vec::new(rt.alloc());
+    match env::args(rt) {
+        Ok(args) => {
+            for word in args.skip(1) {
+                words.push(word)?;
+            }
+            Ok(words)
+        }
+        Err(error) => Err(line_fault(&error)),
+    }
+}
+
+fn line_fault(error: &io::Error) -> LineFault {
+    match error.kind() {
+        ErrorKind::OutOfMemory => LineFault::Memory,
+        _ => LineFault::Words,
+    }
+}
+
+#[cfg(test)]
+mod tests;

@@ -1,0 +1,243 @@
+//! Commands over texts in memory.
+
+use crate::run::{refuse_line, run_command, run_words};
+use crate::texts::Texts;
+use commandline::{Command, LineFault};
+use dname::Starved;
+use std::alloc::{AllocError, Global};
+use std::io;
+use std::io::{ErrorKind, Write};
+use std::process::Abort;
+use std::test::Fail;
+
+static LAB: &str = "$TTL 300\n@ SOA ns h 1 2 3 4 60\n@ NS ns\n* TXT \"wild\"\na.b A 192.0.2.7\n";
+
+// What stands at the only path there is.
+#[derive(Clone, Copy)]
+enum Held {
+    Text(&'static str),
+    Nothing,
+    Starved,
+}
+
+impl Texts for Held {
+    fn text(&mut self, alloc: Global, path: &str) -> Result<Option<String>, Starved> {
+        match *self {
+            Held::Text(text) if path == "lab.zone" => Ok(Some(String::from_str(alloc, text)?)),
+            Held::Text(_) | Held::Nothing => Ok(None),
+            Held::Starved => Err(Starved),
+        }
+    }
+}
+
+// A writer that takes so many bytes, three at a time, and fails at the next.
+#[derive(Drop)]
+struct Page {
+    bytes: Vec<u8>,
+    room: usize,
+}
+
+impl Page {
+    fn new(alloc: Global, room: usize) -> Page {
+        Page {
+            bytes: Vec::new(alloc),
+            room,
+        }
+    }
+}
+
+impl Write for Page {
+    fn write(&mut self, buf: &[u8]) -> io::Result<usize> {
+        let mut taken = 0;
+        for byte in buf {
+            if taken == 3 || self.room == 0 {
+                break;
+            }
+            self.bytes.push(*byte)?;
+            self.room -= 1;
+            taken += 1;
+        }
+        if taken == 0 && !buf.is_empty() {
+            return Err(io::Error::from(ErrorKind::StorageFull));
+        }
+        Ok(taken)
+    }
+
+    fn flush(&mut self) -> io::Result<()> {
+        Ok(())
+    }
+}
+
+// The room of a page that is never full here.
+const WIDE: usize = 65_536;
+
+fn ask_line(
+    alloc: Global,
+    origin: &str,
+    file: &str,
+    name: &str,
+    kind: &str,
+) -> Result<Command, AllocError> {
+    Ok(Command::Ask {
+        origin: String::from_str(alloc, origin)?,
+        file: String::from_str(alloc, file)?,
+        name: String::from_str(alloc, name)?,
+        kind: String::from_str(alloc, kind)?,
+    })
+}
+
+// What a command must write and end with.
+fn check(
+    rt: &impl Abort,
+    alloc: Global,
+    held: Held,
+    line: [&str; 4],
+    want: (u8, &str, &str),
+) -> Result<(), Fail> {
+    let [origin, file, name, kind] = line;
+    let command = ask_line(alloc, origin, file, name, kind)?;
+    let mut source = held;
+    let mut out = Page::new(alloc, WIDE);
+    let mut err = Page::new(alloc, WIDE);
+    let status = run_command(alloc, &command, &mut source, &mut out, &mut err);
+    let (code, printed, fault) = want;
+    assert!(rt;
+        out.bytes.as_slice() == printed.as_bytes(),
+        "output at {name} {kind}"
+    );
+    assert!(rt;
+        err.bytes.as_slice() == fault.as_bytes(),
+        "fault at {name} {kind}"
+    );
+    assert_eq!(rt; status, code, "at {name} {kind}");
+    Ok(())
+}
+
+#[test]
+fn a_zone_answers(rt: HostRuntime) -> Result<(), Fail> {
+    let soa = "  ns lab.example. 60 SOA ns.lab.example. h.lab.example. 1 2 3 4 60\n";
+    let denied = format!(in rt.alloc(); "reply 1 NXDOMAIN aa\n{soa}")?;
+    let empty = format!(in rt.alloc(); "reply 1 NOERROR aa\n{soa}")?;
+    for (name, kind, want) in [
+        (
+            "x.lab.example.",
+            "TXT",
+            "reply 1 NOERROR aa\n  an x.lab.example. 300 TXT \"wild\"\n",
+        ),
+        ("x.b.lab.example.", "txt", denied.as_str()),
+        ("b.lab.example.", "TxT", empty.as_str()),
+        ("www.other.", "A", "reply 1 REFUSED\n"),
+    ] {
+        let line = ["lab.example.", "lab.zone", name, kind];
+        check(&rt, rt.alloc(), Held::Text(LAB), line, (0, want, ""))?;
+    }
+    Ok(())
+}
+
+#[test]
+fn words_are_read_before_the_file(rt: HostRuntime) -> Result<(), Fail> {
+    for (line, want) in [
+        (
+            ["lab..example.", "lab.zone", "x\\999", "SRV"],
+            "error: name 1\n",
+        ),
+        (
+            ["lab.example.", "lab.zone", "x\\999", "SRV"],
+            "error: name 4\n",
+        ),
+        (["lab.example.", "lab.zone", "x", "SRV"], "error: type\n"),
+    ] {
+        check(&rt, rt.alloc(), Held::Nothing, line, (1, "", want))?;
+    }
+    Ok(())
+}
+
+#[test]
+fn texts_are_refused(rt: HostRuntime) -> Result<(), Fail> {
+    let line = ["lab.example.", "lab.zone", "x.lab.example.", "TXT"];
+    for (held, status, want) in [
+        (Held::Nothing, 4, "error: lab.zone: unreadable\n"),
+        (Held::Starved, 3, "error: memory\n"),
+        (
+            Held::Text("$TTL 300\n\n@ SOA ns h (1 2 3\n 4 60)\n@ NS ns bad\n"),
+            1,
+            "error: lab.zone:5: file 9\n",
+        ),
+        (
+            Held::Text("$TTL 300\n@ NS ns\n"),
+            1,
+            "error: lab.zone: zone 1\n",
+        ),
+        (
+            Held::Text("$TTL 300\n@ SOA ns h 1 2 3 4 60\n"),
+            1,
+            "error: lab.zone: zone 2\n",
+        ),
+    ] {
+        check(&rt, rt.alloc(), held, line, (status, "", want))?;
+    }
+    Ok(())
+}
+
+#[test]
+fn another_path_is_unreadable(rt: HostRuntime) -> Result<(), Fail> {
+    let line = ["lab.example.", "other.zone", "x.lab.example.", "TXT"];
+    let want = (4, "", "error: other.zone: unreadable\n");
+    check(&rt, rt.alloc(), Held::Text(LAB), line, want)
+}
+
+#[test]
+fn output_may_fail(rt: HostRuntime) -> Result<(), Fail> {
+    let alloc = rt.alloc();
+    let command = ask_line(alloc, "lab.example.", "lab.zone", "www.other.", "A")?;
+    let mut source = Held::Text(LAB);
+    let mut out = Page::new(alloc, 4);
+    let mut err = Page::new(alloc, WIDE);
+    let status = run_command(alloc, &command, &mut source, &mut out, &mut err);
+    assert_eq!(rt; status, 4);
+    assert!(rt; out.bytes.as_slice() == "repl".as_bytes());
+    assert!(rt; err.bytes.as_slice() == "error: output\n".as_bytes());
+    Ok(())
+}
+
+#[test]
+fn a_fault_line_may_fail(rt: HostRuntime) -> Result<(), Fail> {
+    let alloc = rt.alloc();
+    let command = ask_line(alloc, "lab..example.", "lab.zone", "www.other.", "A")?;
+    let mut source = Held::Nothing;
+    let mut out = Page::new(alloc, WIDE);
+    let mut err = Page::new(alloc, 0);
+    let status = run_command(alloc, &command, &mut source, &mut out, &mut err);
+    assert_eq!(rt; status, 4);
+    assert!(rt; out.bytes.is_empty());
+    assert!(rt; err.bytes.is_empty());
+    Ok(())
+}
+
+#[test]
+fn lines_without_a_command_get_help(rt: HostRuntime) -> Result<(), Fail> {
+    let alloc = rt.alloc();
+    for word in ["--help", "answer"] {
+        let words = vec![in alloc; String::from_str(alloc, word)?]?;
+        let mut source = Held::Text(LAB);
+        let mut out = Page::new(alloc, WIDE);
+        let mut err = Page::new(alloc, WIDE);
+        let status = run_words(alloc, &words, &mut source, &mut out, &mut err);
+        assert_eq!(rt; status, 2, "at {word}");
+        assert!(rt; !out.bytes.is_empty(), "at {word}");
+        assert!(rt; err.bytes.is_empty(), "at {word}");
+    }
+    Ok(())
+}
+
+#[test]
+fn lines_may_starve(rt: HostRuntime) -> Result<(), Fail> {
+    let alloc = rt.alloc();
+    let mut out = Page::new(alloc, WIDE);
+    let mut err = Page::new(alloc, WIDE);
+    let status = refuse_line(alloc, LineFault::Memory, &mut out, &mut err);
+    assert_eq!(rt; status, 3);
+    assert!(rt; out.bytes.is_empty());
+    assert!(rt; err.bytes.as_slice() == "error: memory\n".as_bytes());
+    Ok(())
+}

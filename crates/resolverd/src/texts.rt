@@ -1,0 +1,45 @@
+//! Where the texts that a command names come from.
+ghost use Rattle.std.specs.Prelude.{ℕ, List, Option, None, IfOk, string_bytes};
+ghost use Rattle.std.specs.Option.{option_map};
+ghost use Rattle.resolverd.specs.Texts.{MayHold};
+
+use dname::Starved;
+use std::alloc::Global;
+use std::fs;
+use std::io::ErrorKind;
+use std::rt::Files;
+
+/// A source of texts.
+pub trait Texts {
+    // What stands at a path, where that is known.
+    ghost held: { Self → List ℕ → Option (Option (List ℕ)) } = { λ _ _. None };
+
+    /// The text at a path; none where it can't be read or is not UTF-8.
+    fn text(&mut self, alloc: Global, path: &str) -> Result<Option<String>, Starved>
+        ensures { IfOk result (λ text. MayHold (held self.old path.now) (option_map string_bytes text)) };
+}
+
+/// The files that the program can reach.
+#[derive(Drop)]
+pub struct Disk<'a, R> {
+    runtime: &'a R,
+}
+
+impl<'a, R: Files + AllocGlobal> Disk<'a, R> {
+    /// Those that this runtime opens.
+    pub fn new(runtime: &'a R) -> Disk<'a, R> {
+        Disk { runtime }
+    }
+}
+
+impl<R: Files + AllocGlobal> Texts for Disk<'_, R> {
+    fn text(&mut self, _alloc: Global, path: &str) -> Result<Option<String>, Starved> {
+        match fs::read_to_string(self.runtime, path) {
+            Ok(text) => Ok(Some(text)),
+            Err(error) => match error.kind() {
+                ErrorKind::OutOfMemory => Err(Starved),
+                _ => Ok(None),
+            },
+        }
+    }
+}
