@@ -96,7 +96,7 @@ walk_begins notes name w h e =
       size = omega (arith, ap length e);
       count = omega (arith, ap length labels);
       few = omega arith;
-      short = s
+      short = s;
     }
 
 pub walk_on : (notes : List Note) (name : List (List ℕ)) (rest label after : List ℕ) (labels bytes : ℕ) (o : Option ℕ) → Walked notes name rest labels bytes
@@ -106,7 +106,7 @@ walk_on notes name rest label after labels bytes o h s is none =
     let form = s.wire in
     let here : find notes (label ∷ labels_of after) ≡ None = ap (find notes) (sym split) ∙ (sym is ∙ none) in
     let step : longest notes (labels_of rest) ≡ one_more (length label) (longest notes (labels_of after)) =
-      ap (longest notes) split ∙ (longest_cons notes label (labels_of after) form.labels ∙ ap (λ x. here_or x (one_more (length label) (longest notes (labels_of after)))) here) in
+    ap (longest notes) split ∙ (longest_cons notes label (labels_of after) form.labels ∙ ap (λ x. here_or x (one_more (length label) (longest notes (labels_of after)))) here) in
     let a = h.size in
     let b = s.size in
     let c = h.count in
@@ -118,7 +118,7 @@ walk_on notes name rest label after labels bytes o h s is none =
       size = omega arith;
       count = omega (arith, ap length split);
       few = omega arith;
-      short = e
+      short = e;
     }
 
 pub walk_found : (notes : List Note) (name : List (List ℕ)) (rest label after : List ℕ) (labels bytes p : ℕ) (o : Option ℕ) → Walked notes name rest labels bytes
@@ -128,7 +128,7 @@ walk_found notes name rest label after labels bytes p o h s is some =
     let form = s.wire in
     let here : find notes (label ∷ labels_of after) ≡ Some p = ap (find notes) (sym split) ∙ (sym is ∙ some) in
     let step : longest notes (labels_of rest) ≡ Some (record { labels = 0; bytes = 0; place = p }) =
-      ap (longest notes) split ∙ (longest_cons notes label (labels_of after) form.labels ∙ ap (λ x. here_or x (one_more (length label) (longest notes (labels_of after)))) here) in
+    ap (longest notes) split ∙ (longest_cons notes label (labels_of after) form.labels ∙ ap (λ x. here_or x (one_more (length label) (longest notes (labels_of after)))) here) in
     let whole = h.so_far ∙ ap (moved labels bytes) step in
     sym (whole ∙ (λ i. Some (record { labels = zero_right labels i; bytes = zero_right bytes i; place = p })))
 
@@ -208,10 +208,10 @@ noting_on old now new written at i place name rest label after h s near less put
     let note : Note = record { suffix = label ∷ labels_of after; place = place } in
     let later = first_notes (written - (i + 1)) (place + (1 + length label)) (labels_of after) in
     let step : first_notes (written - i) place (labels_of rest) ≡ note ∷ later =
-      (λ j. first_notes (left j) place (s.labels j)) ∙ (first_near (written - (i + 1)) place label (labels_of after) form.labels near
-      ∙ ap (λ n. note ∷ first_notes (written - (i + 1)) n (labels_of after)) next) in
+    (λ j. first_notes (left j) place (s.labels j)) ∙ (first_near (written - (i + 1)) place label (labels_of after) form.labels near
+    ∙ ap (λ n. note ∷ first_notes (written - (i + 1)) n (labels_of after)) next) in
     let new_is : new ≡ now ++ note ∷ [] = put ∙ ap (λ x. now ++ record { suffix = x; place = place } ∷ []) s.labels in
     record {
       form = form;
-      so_far = ap (λ x. x ++ later) new_is ∙ (append_assoc now (note ∷ []) later ∙ (sym (ap (λ x. now ++ x) step) ∙ h.so_far))
+      so_far = ap (λ x. x ++ later) new_is ∙ (append_assoc now (note ∷ []) later ∙ (sym (ap (λ x. now ++ x) step) ∙ h.so_far));
     }

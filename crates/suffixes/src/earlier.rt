@@ -144,7 +144,11 @@ impl<A: Allocator> Suffixes<A> {
         let mut bytes = 0;
         while let Some((label, after)) = next(rest) {
             if let Some(place) = self.find(rest) {
-                return Some(Found { labels, bytes, place });
+                return Some(Found {
+                    labels,
+                    bytes,
+                    place,
+                });
             }
             labels += 1;
             bytes += 1 + label.len();

@@ -20,4 +20,4 @@ pub prove-unreachable-requires : goal.prove-unreachable-requires
 prove-unreachable-requires g c =
     let other : c.in-Err-question_spelling.field-0 ≡ Memory → ⊥ = search rules in
     one_is_spelt _ c.in-Ok.message c.in-Some.question c.in-Err-question_spelling.field-0 c.in-Ok.ensures
-      (sym (ap (λ (m : Message). m.questions) c.message.view_is) ∙ c.in-Some.ensures) (fails_other c.in-Err-question_spelling.field-0 _ other c.in-Err-question_spelling.ensures)
+    (sym (ap (λ (m : Message). m.questions) c.message.view_is) ∙ c.in-Some.ensures) (fails_other c.in-Err-question_spelling.field-0 _ other c.in-Err-question_spelling.ensures)

@@ -14,4 +14,4 @@ short_bytes-requires-clause-fits g c =
 pub returns-clause-bytes : goal.returns-clause-bytes
 returns-clause-bytes g c =
     IfOk-weaker c.short_bytes.result _ _ (λ r bytes. bytes ∙ ap encoding (c.empty_draft.ensures
-      ∙ ap (λ (rcode : ℕ). bare c.args.start (asked_alone (option_copied c.args.echo)) false rcode) c.rcode.ensures)) c.short_bytes.ensures.bytes
+    ∙ ap (λ (rcode : ℕ). bare c.args.start (asked_alone (option_copied c.args.echo)) false rcode) c.rcode.ensures)) c.short_bytes.ensures.bytes

@@ -16,7 +16,7 @@ short_bytes-requires-clause-fits g c =
 pub short_bytes-requires-in-None-2-clause-fits : goal.short_bytes-requires-in-None-2-clause-fits
 short_bytes-requires-in-None-2-clause-fits g c =
     let fits : length (encoding c.empty_draft-failure.result) ≤ 512 =
-      bare_fits c.args.query.now.start (Some c.args.query.now.echo) 2 c.empty_draft-failure.result c.empty_draft-failure.ensures c.is_short-in-None-2.ensures in
+    bare_fits c.args.query.now.start (Some c.args.query.now.echo) 2 c.empty_draft-failure.result c.empty_draft-failure.ensures c.is_short-in-None-2.ensures in
     omega arith
 
 pub returns-in_ok-short_bytes-in-None-clause-bytes : goal.returns-in_ok-short_bytes-in-None-clause-bytes

@@ -11,8 +11,8 @@ use Rattle.script.proofs.lines.put_reply_bytes.Goals as goal
 pub returns-in-Ok : goal.returns-in-Ok
 returns-in-Ok g c =
     on_ok_weaker c.put_reply.result (λ printed m is. printed
-      ∙ ap (λ (n : Message). string_bytes c.args.out.now ++ reply_text c.args.client n c.args.cause)
-        (one_read c.in-Ok.message m (message_of c.args.bytes.now) c.in-Ok.ensures is)) c.put_reply.ensures
+    ∙ ap (λ (n : Message). string_bytes c.args.out.now ++ reply_text c.args.client n c.args.cause)
+    (one_read c.in-Ok.message m (message_of c.args.bytes.now) c.in-Ok.ensures is)) c.put_reply.ensures
 
 pub returns-in-Err : goal.returns-in-Err
 returns-in-Err g c m is =
