@@ -48,18 +48,12 @@ impl Page {
 
 impl Write for Page {
     fn write(&mut self, buf: &[u8]) -> io::Result<usize> {
-        let mut taken = 0;
-        for byte in buf {
-            if taken == 3 || self.room == 0 {
-                break;
-            }
-            self.bytes.push(*byte)?;
-            self.room -= 1;
-            taken += 1;
-        }
+        let taken = buf.len().min(self.room).min(3);
         if taken == 0 && !buf.is_empty() {
             return Err(io::Error::from(ErrorKind::StorageFull));
         }
+        self.bytes.extend_from_slice(&buf[..taken])?;
+        self.room -= taken;
         Ok(taken)
     }
 
