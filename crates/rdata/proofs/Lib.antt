@@ -1,2 +1,4 @@
 pub mod Copies
 pub mod Exact
+pub mod Gathered
+pub mod Words

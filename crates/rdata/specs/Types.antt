@@ -1,5 +1,7 @@
 -- The served record types: their numbers (RFC 1035, section 3.2.2; AAAA: RFC 3596, section 2.1) and words.
-use Rattle.std.specs.Prelude.{◌≡◌, ℕ, Bool, ◌||◌, nat_eq, List, codes, map}
+use Rattle.std.specs.Prelude.{◌≡◌, ℕ, Bool, ◌||◌, cond, nat_eq, Option, Some, None, List, [], ◌∷◌, codes, map}
+use Rattle.std.specs.Cmp.Lexicographic.{pointwise}
+use Rattle.dname.specs.Labels.{folded}
 use Rattle.rdata.specs.declared.rtype.RType.{RType}
 use Rattle.rdata.specs.declared.rtype.RType.TheVariants.{A, Ns, Cname, Soa, Ptr, Mx, Txt, Aaaa}
 
@@ -26,3 +28,18 @@ type_word Aaaa = codes "AAAA"
 -- The numbers that are served.
 abbrev pub is_served : ℕ → Bool
 is_served n = nat_eq n 1 || nat_eq n 2 || nat_eq n 5 || nat_eq n 6 || nat_eq n 12 || nat_eq n 15 || nat_eq n 16 || nat_eq n 28
+
+-- Words are compared without regard to case.
+abbrev pub same_word : List ℕ → List ℕ → Bool
+same_word a b = pointwise nat_eq (map folded a) (map folded b)
+
+abbrev pub served_types : List RType
+served_types = A ∷ Ns ∷ Cname ∷ Soa ∷ Ptr ∷ Mx ∷ Txt ∷ Aaaa ∷ []
+
+abbrev pub find_type : List ℕ → List RType → Option RType
+find_type w [] = None
+find_type w (t ∷ ts) = cond (same_word w (type_word t)) (Some t) (find_type w ts)
+
+-- The type that a word names.
+unfoldable pub type_named : List ℕ → Option RType
+type_named w = find_type w served_types

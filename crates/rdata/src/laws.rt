@@ -1,10 +1,17 @@
 //! Laws of the definitions that contracts cite: functions that do nothing, whose clauses are proved.
 
-ghost use Rattle.std.specs.Prelude.{◌≡◌, true};
+ghost use Rattle.std.specs.Prelude.{◌≡◌, true, Some};
 ghost use Rattle.rdata.specs.Data.{Datum, same_data};
+ghost use Rattle.rdata.specs.Types.{type_word, type_named};
+ghost use Rattle.rdata.specs.declared.rtype.RType.{RType};
 
 /// The test for the same data finds equal data and no other.
 pub fn same_data_law()
     ensures exact { (d e : Datum) → same_data d e ≡ true → d ≡ e }
     ensures same { (d e : Datum) → d ≡ e → same_data d e ≡ true }
+{}
+
+/// Each type is named by its word.
+pub fn word_names_type_law()
+    ensures { (t : RType) → type_named (type_word t) ≡ Some t }
 {}

@@ -6,15 +6,22 @@ mod data;
 mod laws;
 mod records;
 mod rtype;
+mod sets;
 mod soa;
 mod text;
 mod texts;
 
 pub use addr::Addr;
 pub use data::RData;
-pub use laws::same_data_law;
+pub use laws::{same_data_law, word_names_type_law};
 pub use records::{Record, Records};
-pub use rtype::RType;
+pub use rtype::{RType, is_same_word};
+pub use sets::{dedup_set, same_set};
 pub use soa::Soa;
 pub use text::{put_data, put_ipv4};
 pub use texts::{CharacterString, Texts};
+
+#[cfg(test)]
+mod growth_tests;
+#[cfg(test)]
+mod tests;

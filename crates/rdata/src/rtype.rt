@@ -1,5 +1,5 @@
 ghost use Rattle.std.specs.Prelude.{◌≡◌, ◌↔◌, IsTrue, IsSome, IfSome, Some};
-ghost use Rattle.rdata.specs.Types.{type_number, type_word, is_served};
+ghost use Rattle.rdata.specs.Types.{type_number, type_word, is_served, same_word, type_named};
 
 use std::fmt;
 
@@ -51,6 +51,28 @@ impl RType {
         }
     }
 
+    /// The type that a word of a master file names, in letters of either case (RFC 1035, section 5.1).
+    #[tactic(auto, unfolding(crate::specs::Types::type_named))]
+    pub fn from_word(word: &[u8]) -> Option<RType>
+        ensures { result ≡ type_named word.now }
+    {
+        for kind in [
+            RType::A,
+            RType::Ns,
+            RType::Cname,
+            RType::Soa,
+            RType::Ptr,
+            RType::Mx,
+            RType::Txt,
+            RType::Aaaa,
+        ] {
+            if is_same_word(word, kind.word().as_bytes()) {
+                return Some(kind);
+            }
+        }
+        None
+    }
+
     /// Its word in master files, in capitals.
     pub fn word(self) -> &'static str
         ensures { result.now ≡ type_word self }
@@ -65,6 +87,17 @@ impl RType {
             RType::Txt => "TXT",
             RType::Aaaa => "AAAA",
         }
+    }
+}
+
+/// Whether two words are the same without regard to case.
+pub fn is_same_word(word: &[u8], other: &[u8]) -> bool
+    ensures { result ≡ same_word word.now other.now }
+{
+    match (word, other) {
+        ([], []) => true,
+        ([a, word @ ..], [b, other @ ..]) => a.eq_ignore_ascii_case(b) && is_same_word(word, other),
+        _ => false,
     }
 }
 

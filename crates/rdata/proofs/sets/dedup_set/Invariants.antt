@@ -1,0 +1,6 @@
+use Rattle.std.proofs.Common.{◌≡◌, take}
+use Rattle.rdata.specs.Gathering.{gathered}
+use Rattle.rdata.proofs.sets.dedup_set.Given as goal
+
+abbrev pub invariant-loop-added : goal.invariant-loop-added
+invariant-loop-added g l = l.set ≡ gathered l.ttl (take l.added-index l.records)

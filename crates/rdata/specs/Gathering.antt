@@ -1,0 +1,16 @@
+-- A set in the making.
+use Rattle.std.specs.Prelude.{ℕ, Bool, cond, List, [], ◌∷◌, ◌++◌, fold}
+use Rattle.std.specs.List.{list_any}
+use Rattle.rdata.specs.Records.{Record}
+use Rattle.rdata.specs.Sets.{is_repeat, with_ttl}
+
+-- Some record of the set is the same, TTLs aside.
+abbrev pub has : List Record → Record → Bool
+has set added = list_any (λ (r : Record). is_repeat r added) set
+
+-- The set with a record more, if it is new.
+abbrev pub add_once : ℕ → List Record → Record → List Record
+add_once ttl set added = cond (has set added) set (set ++ with_ttl ttl added ∷ [])
+
+unfoldable pub gathered : ℕ → List Record → List Record
+gathered ttl rs = fold (add_once ttl) [] rs
