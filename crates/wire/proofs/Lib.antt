@@ -6,3 +6,5 @@ pub mod Bytes
 pub mod Heading
 pub mod NamesRead
 pub mod DataRead
+pub mod EntriesRead
+pub mod MessagesRead

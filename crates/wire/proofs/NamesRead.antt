@@ -176,6 +176,9 @@ stands_within f bytes start at end labels (pointer_here _ _ _ target past _ p le
 pub name_within_bytes : (bytes : List ℕ) (at : ℕ) (name : List (List ℕ)) (end : ℕ) → NameAt bytes at name end → (at < end) × (end ≤ length bytes)
 name_within_bytes bytes at name end h = (name_takes folded_label bytes at at end name h.stands, stands_within folded_label bytes at at end name h.stands)
 
+pub spelling_within : (bytes : List ℕ) (at : ℕ) (labels : List (List ℕ)) (end : ℕ) → SpeltAt bytes at labels end → end ≤ length bytes
+spelling_within bytes at labels end h = stands_within as_written bytes at at end labels h.stands
+
 wire_some : (f : List ℕ → List ℕ) (bytes : List ℕ) (start at end : ℕ) (labels : List (List ℕ)) → Stands f bytes start at labels end → 0 < length (wire labels)
 wire_some f bytes start at end labels (root_here _ _ _ z e) = omega arith
 wire_some f bytes start at end labels (label_here _ _ _ w seen rest l s r) = omega arith

@@ -1,6 +1,5 @@
-use Rattle.wire.proofs.Heading.{header_stands, header_takes}
-use Rattle.wire.proofs.DataRead.{value_stands, value_read}
+use Rattle.wire.proofs.MessagesRead.{are_small, message_exact}
 use Rattle.wire.proofs.laws.reading_is_message.Goals as goal
 
 pub returns : goal.returns
-returns c = let x = header_stands in let z = header_takes in let u = value_stands in let v = value_read in ?
+returns c = λ bytes m are. message_exact bytes m (are_small bytes are)

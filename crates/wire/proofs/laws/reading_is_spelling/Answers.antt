@@ -1,5 +1,5 @@
-use Rattle.wire.proofs.NamesRead.{spelt_stands, spelt_takes}
+use Rattle.wire.proofs.MessagesRead.{are_small, spelling_exact}
 use Rattle.wire.proofs.laws.reading_is_spelling.Goals as goal
 
 pub returns : goal.returns
-returns c = let x = spelt_stands in let y = spelt_takes in ?
+returns c = λ bytes at labels are. spelling_exact bytes at labels (are_small bytes are)
