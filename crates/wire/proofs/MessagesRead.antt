@@ -1,5 +1,5 @@
 -- The message that bytes are is the one that is read.
-use Rattle.std.proofs.Common.{◌≡◌, ℕ, zero, suc, ◌+◌, ◌<◌, ◌≤◌, ◌↔◌, Bool, true, false, List, [], ◌∷◌, length, get_or, Result, Ok, Err, IfOk, refl, sym, ◌∙◌, ap, subst, arith}
+use Rattle.std.proofs.Common.{◌≡◌, ℕ, zero, suc, ◌+◌, ◌<◌, ◌≤◌, ◌↔◌, Bool, true, false, ◌⊎◌, List, [], ◌∷◌, length, Result, Ok, Err, IfOk, IfErr, IsErrAnd, ⊎_elim, inl, inr, refl, sym, ◌∙◌, ap, subst, arith}
 use Rattle.std.specs.Prelude.{nat_eq, nat_lt, slice_index}
 use Rattle.std.proofs.lemmas.Bool.Decides.{nat_tests}
 use Rattle.dname.specs.Spelling.{AreBytes}
@@ -7,11 +7,11 @@ use Rattle.rdata.specs.Records.{Record}
 use Rattle.layout.specs.Names.{SpeltAt}
 use Rattle.layout.specs.Messages.{Question, Message, QuestionsAt, SectionAt, IsMessage}
 use Rattle.wire.specs.declared.error.WireError.{WireError}
-use Rattle.wire.specs.declared.error.WireError.TheVariants.{Short, TrailingBytes}
+use Rattle.wire.specs.declared.error.WireError.TheVariants.{Short, BadLabel, PointerNotEarlier, NameTooLong, BadRdataLength, BadRdataName, TrailingBytes, OverLimit, Memory}
 use Rattle.wire.specs.Numbers.{two_at}
 use Rattle.wire.specs.Heads.{header_of}
 use Rattle.wire.specs.Parts.{message_faults, spelt_at}
-use Rattle.wire.specs.Results.{and_then}
+use Rattle.wire.specs.Results.{Fails, Gives, and_then}
 use Rattle.wire.specs.Entries.{section_from, questions_from, message_first, message_second, message_third, message_whole, message_of, labels_alone, spelling_of}
 use Rattle.wire.proofs.Bytes.{AreSmall, test_read, then_read, was_read, test_yes, test_no}
 use Rattle.wire.proofs.Heading.{counts_at, header_stands, header_fits, header_takes}
@@ -83,17 +83,69 @@ message_read bytes m h =
     ∙ (test_yes (nat_eq (length bytes) (length bytes)) _ (Err TrailingBytes) same
     ∙ (λ i. Ok (record { header = header i; questions = m.questions; answer = m.answer; authority = m.authority; additional = m.additional })))))))
 
-pub message_exact : (bytes : List ℕ) (m : Message) → AreSmall bytes → (message_of bytes ≡ Ok m) ↔ IsMessage bytes m
-message_exact bytes m small = (was_read (IsMessage bytes) (message_of bytes) m (message_stands bytes small), message_read bytes m)
+pub message_there : (bytes : List ℕ) (m : Message) → AreSmall bytes → message_of bytes ≡ Ok m → IsMessage bytes m
+message_there bytes m small = was_read (IsMessage bytes) (message_of bytes) m (message_stands bytes small)
+
+-- ---- refusals
+
+ok_or_err : {X : Type 0} (x : X) (e : WireError) (r : Result X WireError) → r ≡ Ok x → r ≡ Err e → ⊥
+ok_or_err x e r h k = cc
+
+-- A refusal for another reason than memory refuses every value.
+pub fails_all : {X Y : Type 0} (P : Y → Type 0) (read : Result X WireError) (e : WireError) → ((y : Y) → P y → (x : X) × (read ≡ Ok x)) → Fails e read
+    → (e ≡ Memory) ⊎ ((y : Y) → P y → ⊥)
+fails_all P read Memory found h = inl refl
+fails_all P read Short found h = inr (λ y p. ok_or_err (found y p).0 Short read (found y p).1 h)
+fails_all P read BadLabel found h = inr (λ y p. ok_or_err (found y p).0 BadLabel read (found y p).1 h)
+fails_all P read PointerNotEarlier found h = inr (λ y p. ok_or_err (found y p).0 PointerNotEarlier read (found y p).1 h)
+fails_all P read NameTooLong found h = inr (λ y p. ok_or_err (found y p).0 NameTooLong read (found y p).1 h)
+fails_all P read BadRdataLength found h = inr (λ y p. ok_or_err (found y p).0 BadRdataLength read (found y p).1 h)
+fails_all P read BadRdataName found h = inr (λ y p. ok_or_err (found y p).0 BadRdataName read (found y p).1 h)
+fails_all P read TrailingBytes found h = inr (λ y p. ok_or_err (found y p).0 TrailingBytes read (found y p).1 h)
+fails_all P read OverLimit found h = inr (λ y p. ok_or_err (found y p).0 OverLimit read (found y p).1 h)
+
+pub no_message : (bytes : List ℕ) (e : WireError) → Fails e (message_of bytes) → (e ≡ Memory) ⊎ ((m : Message) → IsMessage bytes m → ⊥)
+no_message bytes e h = fails_all (IsMessage bytes) (message_of bytes) e (λ m is. (m, message_read bytes m is)) h
+
+-- What a `?` hands on.
+pub none_handed_on : {X : Type 0} (bytes : List ℕ) (r : Result X WireError) (e : WireError) → IsErrAnd r (λ y. y ≡ e) → Fails e (message_of bytes)
+    → IfErr r (λ y. (y ≡ Memory) ⊎ ((m : Message) → IsMessage bytes m → ⊥))
+none_handed_on bytes (Ok x) e h k = tt
+none_handed_on bytes (Err y) e h k = no_message bytes y (subst (λ (z : WireError). Fails z (message_of bytes)) (sym h) k)
 
 -- ---- spellings
 
-pub spelling_exact : (bytes : List ℕ) (at : ℕ) (labels : List (List ℕ)) → AreSmall bytes → (spelling_of bytes at ≡ Ok labels) ↔ ((end : ℕ) × SpeltAt bytes at labels end)
+spelling_stands : (bytes : List ℕ) (at : ℕ) → AreSmall bytes → IfOk (spelling_of bytes at) (λ x. (end : ℕ) × SpeltAt bytes at x end)
 unfolding spelling_of
-spelling_exact bytes at labels small = (
-  was_read (λ x. (end : ℕ) × SpeltAt bytes at x end) (and_then (spelt_at bytes message_faults (length bytes) at) labels_alone) labels
-      (then_read (λ x. SpeltAt bytes at x.0 x.1 × (x.1 ≤ length bytes)) (λ x. (end : ℕ) × SpeltAt bytes at x end) (spelt_at bytes message_faults (length bytes) at) labels_alone
-      (spelt_stands bytes message_faults (length bytes) at small (omega arith)) (λ x h. (x.1, h.0))),
-  λ h. ap (λ x. and_then x labels_alone)
-      (spelt_takes bytes message_faults (length bytes) at labels h.0 h.1 (omega arith) (spelling_within bytes at labels h.0 h.1)),
-)
+spelling_stands bytes at small =
+    then_read (λ x. SpeltAt bytes at x.0 x.1 × (x.1 ≤ length bytes)) (λ x. (end : ℕ) × SpeltAt bytes at x end) (spelt_at bytes message_faults (length bytes) at) labels_alone
+    (spelt_stands bytes message_faults (length bytes) at small (omega arith)) (λ x h. (x.1, h.0))
+
+pub spelling_there : (bytes : List ℕ) (at : ℕ) (labels : List (List ℕ)) → AreSmall bytes → spelling_of bytes at ≡ Ok labels → (end : ℕ) × SpeltAt bytes at labels end
+spelling_there bytes at labels small = was_read (λ x. (end : ℕ) × SpeltAt bytes at x end) (spelling_of bytes at) labels (spelling_stands bytes at small)
+
+pub spelling_read : (bytes : List ℕ) (at : ℕ) (labels : List (List ℕ)) (end : ℕ) → SpeltAt bytes at labels end → spelling_of bytes at ≡ Ok labels
+unfolding spelling_of
+spelling_read bytes at labels end h =
+    ap (λ x. and_then x labels_alone) (spelt_takes bytes message_faults (length bytes) at labels end h (omega arith) (spelling_within bytes at labels end h))
+
+abbrev IsSpeltThere : List ℕ → ℕ → List (List ℕ) → Type 0
+IsSpeltThere bytes at labels = (end : ℕ) × SpeltAt bytes at labels end
+
+abbrev NoneSpelt : List ℕ → ℕ → WireError → Type 0
+NoneSpelt bytes at e = (e ≡ Memory) ⊎ ((labels : List (List ℕ)) (end : ℕ) → SpeltAt bytes at labels end → ⊥)
+
+no_spelling : (bytes : List ℕ) (at : ℕ) (e : WireError) → Fails e (spelling_of bytes at) → NoneSpelt bytes at e
+no_spelling bytes at e h =
+    ⊎_elim (λ m. inl m) (λ no. inr (λ labels end k. no labels (end, k)))
+    (fails_all (IsSpeltThere bytes at) (spelling_of bytes at) e (λ labels k. (labels, spelling_read bytes at labels k.0 k.1)) h)
+
+pub given_spelling : (bytes : List ℕ) (at : ℕ) (r : Result (List (List ℕ)) WireError) → AreSmall bytes → Gives (λ s. s) r (spelling_of bytes at)
+    → IfOk r (λ s. (end : ℕ) × SpeltAt bytes at s end)
+given_spelling bytes at (Ok s) small h = spelling_there bytes at s small h
+given_spelling bytes at (Err e) small h = tt
+
+pub given_no_spelling : (bytes : List ℕ) (at : ℕ) (r : Result (List (List ℕ)) WireError) → Gives (λ s. s) r (spelling_of bytes at)
+    → IfErr r (λ e. (e ≡ Memory) ⊎ ((labels : List (List ℕ)) (end : ℕ) → SpeltAt bytes at labels end → ⊥))
+given_no_spelling bytes at (Ok s) h = tt
+given_no_spelling bytes at (Err e) h = no_spelling bytes at e h

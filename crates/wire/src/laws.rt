@@ -1,14 +1,15 @@
-ghost use Rattle.wire.specs.Laws.{ReadingIsMessage, ReadingIsSpelling, EncodingIsReadBack};
+ghost use Rattle.wire.specs.Laws.{ReadIsMessage, MessageIsRead, ReadIsSpelling, SpellingIsRead, EncodingIsReadBack};
 
-/// What `decode` reads is what the bytes are by the layout of messages (RFC 1035, section 4), and all that
-/// they are.
-pub fn reading_is_message()
-    ensures { ReadingIsMessage }
+/// What is read of bytes is the message that they are (RFC 1035, section 4), and each message is read.
+pub fn decoding_is_message()
+    ensures read { ReadIsMessage }
+    ensures found { MessageIsRead }
 {}
 
-/// The spelling that is read at a place is the one that stands there (RFC 1035, section 4.1.4).
+/// The labels that are read at a place stand there (RFC 1035, section 4.1.4), and all that stand are read.
 pub fn reading_is_spelling()
-    ensures { ReadingIsSpelling }
+    ensures read { ReadIsSpelling }
+    ensures found { SpellingIsRead }
 {}
 
 /// What is written is read back.

@@ -19,7 +19,7 @@ mod writer;
 pub use encoder::{Draft, encode, encode_draft};
 pub use error::WireError;
 pub use header::Header;
-pub use laws::{encoding_is_read_back, reading_is_message, reading_is_spelling};
+pub use laws::{decoding_is_message, encoding_is_read_back, reading_is_spelling};
 pub use message::{Message, Question, Questions};
 pub use reader::{decode, question_spelling};
 pub use spelling::Spelling;
