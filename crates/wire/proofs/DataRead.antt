@@ -1,6 +1,6 @@
 -- RDATA that stand at a place are those that are read there.
-use Rattle.std.proofs.Common.{◌≡◌, ℕ, zero, suc, ◌+◌, ◌-◌, ◌<◌, ◌≤◌, ◌^◌, Bool, true, false, List, [], ◌∷◌, ◌++◌, length, take, drop, Result, Ok, Err, IfOk, refl, sym, ◌∙◌, ap, subst, arith, length-append, length-take, length-drop}
-use Rattle.std.specs.Prelude.{nat_eq, nat_lt, nat_le, if◌then◌else◌, slice_index, slice_range}
+use Rattle.std.proofs.Common.{◌≡◌, ℕ, zero, suc, ◌+◌, ◌-◌, ◌<◌, ◌≤◌, true, false, List, [], ◌∷◌, ◌++◌, length, take, drop, Ok, Err, IfOk, refl, sym, ◌∙◌, ap, subst, arith, length-append, length-take, length-drop}
+use Rattle.std.specs.Prelude.{nat_eq, nat_lt, nat_le, slice_index, slice_range}
 use Rattle.std.specs.Int.{bytes_high_first}
 use Rattle.std.specs.List.{AllByRecursion}
 use Rattle.std.proofs.Math.Seq.{take-add, take-append_seam, drop-append_seam}
@@ -13,7 +13,6 @@ use Rattle.rdata.specs.declared.rtype.RType.TheVariants as served
 use Rattle.layout.specs.Names.{NameAt}
 use Rattle.layout.specs.Places.{IsAt, FlatsAt}
 use Rattle.layout.specs.Messages.{strings_bytes, data_flats, FitsRdata}
-use Rattle.wire.specs.declared.error.WireError.{WireError}
 use Rattle.wire.specs.declared.error.WireError.TheVariants.{BadRdataLength}
 use Rattle.wire.specs.Numbers.{two_at, four_at}
 use Rattle.wire.specs.Parts.{rdata_faults}
@@ -65,23 +64,23 @@ string_stands bytes at end small fits =
     let few = small at in
     test_read (IsString bytes at end) (nat_le end at) (Err BadRdataLength) _ (λ _. tt)
     (λ inside.
-      let within : at < end = grind (arith, nat_tests) in
-      test_read (IsString bytes at end) (nat_lt end (at + 1 + size)) (Err BadRdataLength) _ (λ _. tt)
-      (λ over.
-        let reach : at + 1 + size ≤ end = grind (arith, nat_tests) in
-        let text = range_stands bytes (at + 1) size (omega arith) in
-        let s = slice_range bytes (at + 1) (at + 1 + size) in
-        let long : length s ≡ size = text.1 in
-        let is = text.0.is in
-        let head = first_byte bytes at (omega arith) in (
-          record {
-            there = omega arith;
-            is = ap (take (suc (length s))) head ∙ (λ i. sym long i ∷ is i);
-            last = omega arith;
-          },
-          omega arith,
-          reach,
-        )))
+    let within : at < end = grind (arith, nat_tests) in
+    test_read (IsString bytes at end) (nat_lt end (at + 1 + size)) (Err BadRdataLength) _ (λ _. tt)
+    (λ over.
+    let reach : at + 1 + size ≤ end = grind (arith, nat_tests) in
+    let text = range_stands bytes (at + 1) size (omega arith) in
+    let s = slice_range bytes (at + 1) (at + 1 + size) in
+    let long : length s ≡ size = text.1 in
+    let is = text.0.is in
+    let head = first_byte bytes at (omega arith) in (
+      record {
+        there = omega arith;
+        is = ap (take (suc (length s))) head ∙ (λ i. sym long i ∷ is i);
+        last = omega arith;
+      },
+      omega arith,
+      reach,
+    )))
 
 string_read : (bytes : List ℕ) (at end : ℕ) (s : List ℕ) (mid : ℕ) → IsAt bytes at (length s ∷ s) mid → mid ≤ end → string_at bytes at end ≡ Ok (s, mid)
 string_read bytes at end s mid h within =
@@ -110,12 +109,12 @@ strings_stand zero bytes at end small fits within enough = no_strings bytes at e
 strings_stand (suc fuel) bytes at end small fits within enough =
     test_read (AreStrings bytes at end) (nat_lt at end) _ (Ok [])
     (λ _. then_read (IsString bytes at end) (AreStrings bytes at end) (string_at bytes at end) (λ s. and_then (strings_from fuel bytes s.1 end) (with_string s.0))
-      (string_stands bytes at end small fits)
-      (λ s h.
-        let e = h.0.last in
-        then_read (AreStrings bytes s.1 end) (AreStrings bytes at end) (strings_from fuel bytes s.1 end) (with_string s.0)
-        (strings_stand fuel bytes s.1 end small fits h.2 (omega arith))
-        (λ rest k. (join bytes at (length s.0 ∷ s.0) (strings_bytes rest) s.1 end h.0 k.0, (h.1, k.1)))))
+    (string_stands bytes at end small fits)
+    (λ s h.
+    let e = h.0.last in
+    then_read (AreStrings bytes s.1 end) (AreStrings bytes at end) (strings_from fuel bytes s.1 end) (with_string s.0)
+    (strings_stand fuel bytes s.1 end small fits h.2 (omega arith))
+    (λ rest k. (join bytes at (length s.0 ∷ s.0) (strings_bytes rest) s.1 end h.0 k.0, (h.1, k.1)))))
     (λ past. no_strings bytes at end fits (grind (arith, nat_tests)))
 
 strings_read : (strings : List (List ℕ)) (fuel : ℕ) (bytes : List ℕ) (at end : ℕ) → IsAt bytes at (strings_bytes strings) end → end - at ≤ fuel
@@ -143,8 +142,8 @@ texts_stand : (bytes : List ℕ) (at end : ℕ) → AreSmall bytes → end ≤ l
 texts_stand bytes at end small fits =
     then_read (IsString bytes at end) (AreTexts bytes at end) (string_at bytes at end) (txt_behind bytes end) (string_stands bytes at end small fits)
     (λ s h. then_read (AreStrings bytes s.1 end) (AreTexts bytes at end) (strings_from (end - s.1) bytes s.1 end) (with_string s.0)
-      (strings_stand (end - s.1) bytes s.1 end small fits h.2 (omega arith))
-      (λ rest k. (join bytes at (length s.0 ∷ s.0) (strings_bytes rest) s.1 end h.0 k.0, omega arith, (h.1, k.1))))
+    (strings_stand (end - s.1) bytes s.1 end small fits h.2 (omega arith))
+    (λ rest k. (join bytes at (length s.0 ∷ s.0) (strings_bytes rest) s.1 end h.0 k.0, omega arith, (h.1, k.1))))
 
 texts_read : (strings : List (List ℕ)) (bytes : List ℕ) (at end : ℕ) → IsAt bytes at (strings_bytes strings) end → 0 < length strings → texts_at bytes at end ≡ Ok strings
 texts_read [] bytes at end h some = absurd (omega arith)
@@ -191,37 +190,37 @@ soa_stands : (bytes : List ℕ) (at end : ℕ) → AreSmall bytes → end ≤ le
 soa_stands bytes at end small fits =
     then_read (IsNameTo bytes at end) (IsForm bytes served.Soa at) (name_within bytes at end) (soa_behind bytes end) (name_stands bytes rdata_faults end at small fits)
     (λ p first. then_read (IsNameTo bytes p.1 end) (IsForm bytes served.Soa at) (name_within bytes p.1 end) (soa_numbers bytes end p.0)
-      (name_stands bytes rdata_faults end p.1 small fits)
-      (λ m second. test_read (IsForm bytes served.Soa at) (nat_lt end (m.1 + 20)) (Err BadRdataLength) _ (λ _. tt)
-        (λ over.
-          let reach : m.1 + 20 ≤ end = grind (arith, nat_tests) in
-          let n = m.1 in
-          let four : (k next : ℕ) → n + k + 4 ≤ length bytes → n + k + 4 ≡ next → IsAt bytes (n + k) (bytes_high_first 4 (four_at bytes (n + k))) next =
-          λ k next inside e. at-along bytes (n + k) (n + k) _ (n + k + 4) next (four_stands bytes (n + k) small inside) refl e in (
+    (name_stands bytes rdata_faults end p.1 small fits)
+    (λ m second. test_read (IsForm bytes served.Soa at) (nat_lt end (m.1 + 20)) (Err BadRdataLength) _ (λ _. tt)
+    (λ over.
+    let reach : m.1 + 20 ≤ end = grind (arith, nat_tests) in
+    let n = m.1 in
+    let four : (k next : ℕ) → n + k + 4 ≤ length bytes → n + k + 4 ≡ next → IsAt bytes (n + k) (bytes_high_first 4 (four_at bytes (n + k))) next =
+    λ k next inside e. at-along bytes (n + k) (n + k) _ (n + k + 4) next (four_stands bytes (n + k) small inside) refl e in (
+      (
+        p.1,
+        first.0,
+        (
+          n,
+          second.0,
+          (
+            n + 4,
+            four_stands bytes n small (omega arith),
             (
-              p.1,
-              first.0,
+              n + 8,
+              four 4 (n + 8) (omega arith) (omega arith),
               (
-                n,
-                second.0,
-                (
-                  n + 4,
-                  four_stands bytes n small (omega arith),
-                  (
-                    n + 8,
-                    four 4 (n + 8) (omega arith) (omega arith),
-                    (
-                      n + 12,
-                      four 8 (n + 12) (omega arith) (omega arith),
-                      (n + 16, four 12 (n + 16) (omega arith) (omega arith), (n + 20, four 16 (n + 20) (omega arith) (omega arith), refl)),
-                    ),
-                  ),
-                ),
+                n + 12,
+                four 8 (n + 12) (omega arith) (omega arith),
+                (n + 16, four 12 (n + 16) (omega arith) (omega arith), (n + 20, four 16 (n + 20) (omega arith) (omega arith), refl)),
               ),
             ),
-            (four_small bytes n small, four_small bytes (n + 4) small, four_small bytes (n + 8) small, four_small bytes (n + 12) small, four_small bytes (n + 16) small),
-            refl,
-          ))))
+          ),
+        ),
+      ),
+      (four_small bytes n small, four_small bytes (n + 4) small, four_small bytes (n + 8) small, four_small bytes (n + 12) small, four_small bytes (n + 16) small),
+      refl,
+    ))))
 
 form_stands : (kind : RType) (bytes : List ℕ) (at end : ℕ) → AreSmall bytes → end ≤ length bytes → IfOk (form_at kind bytes at end) (IsForm bytes kind at)
 form_stands served.A bytes at end small fits =
@@ -241,7 +240,7 @@ form_stands served.Mx bytes at end small fits =
     then_read (λ x. IsAt bytes at (bytes_high_first 2 x.0) x.1 × (x.0 < 65536)) (IsForm bytes served.Mx at) (two_within bytes at end) (mx_behind bytes end)
     (two_stand bytes at end small fits)
     (λ p h. then_read (IsNameTo bytes p.1 end) (IsForm bytes served.Mx at) (name_within bytes p.1 end) (as_mx p.0) (name_stands bytes rdata_faults end p.1 small fits)
-      (λ x k. ((p.1, h.0, (x.1, k.0, refl)), h.1, refl)))
+    (λ x k. ((p.1, h.0, (x.1, k.0, refl)), h.1, refl)))
 form_stands served.Txt bytes at end small fits =
     then_read (AreTexts bytes at end) (IsForm bytes served.Txt at) (texts_at bytes at end) (as_txt end) (texts_stand bytes at end small fits)
     (λ ss h. ((end, h.0, refl), (h.1, h.2), refl))
@@ -258,10 +257,10 @@ unfolding value_at
 value_stands kind bytes at end small fits =
     then_read (IsForm bytes kind at) (IsValue bytes kind at end) (form_at kind bytes at end) (whole end) (form_stands kind bytes at end small fits)
     (λ x h. test_read (IsValue bytes kind at end) (nat_eq x.1 end) (Ok x.0) (Err BadRdataLength)
-      (λ same.
-        let e : x.1 ≡ end = grind (arith, nat_tests) in
-        (subst (λ (n : ℕ). FlatsAt bytes at (data_flats x.0) n) e h.0, h.1, h.2))
-      (λ _. tt))
+    (λ same.
+    let e : x.1 ≡ end = grind (arith, nat_tests) in
+    (subst (λ (n : ℕ). FlatsAt bytes at (data_flats x.0) n) e h.0, h.1, h.2))
+    (λ _. tt))
 
 -- ---- what stands is read
 

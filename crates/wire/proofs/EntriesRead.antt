@@ -1,5 +1,5 @@
 -- Records, questions and sections that stand at a place are those that are read there.
-use Rattle.std.proofs.Common.{◌≡◌, ℕ, zero, suc, ◌+◌, ◌<◌, ◌≤◌, ◌^◌, Bool, true, false, ◌||◌, ◌&&◌, List, [], ◌∷◌, length, Option, Some, None, Result, Ok, Err, IfOk, refl, sym, ◌∙◌, ap, subst, arith}
+use Rattle.std.proofs.Common.{◌≡◌, ℕ, zero, suc, ◌+◌, ◌<◌, ◌≤◌, Bool, true, false, ◌||◌, ◌&&◌, List, [], ◌∷◌, length, Option, Some, None, Ok, Err, IfOk, refl, sym, ◌∙◌, ap, subst, arith}
 use Rattle.std.specs.Prelude.{nat_eq, nat_lt, if◌then◌else◌, slice_range}
 use Rattle.std.proofs.lemmas.Bool.Decides.{nat_tests}
 use Rattle.rdata.specs.Data.{Datum, Ipv4, Ns, Cname, Soa, Ptr, Mx, Txt, Ipv6, type_of}
@@ -9,9 +9,8 @@ use Rattle.rdata.specs.declared.rtype.RType.{RType}
 use Rattle.rdata.specs.declared.rtype.RType.TheVariants as served
 use Rattle.layout.specs.Names.{NameAt}
 use Rattle.layout.specs.Pieces.{Flat, plain_bytes}
-use Rattle.layout.specs.Places.{IsAt, FlatsAt, PiecesAt}
-use Rattle.layout.specs.Messages.{Question, data_flats, internet, any_record_pieces, FitsRdata, is_served, ttl_of, QuestionAt, QuestionsAt, RecordAt, SkippedAt, SectionAt, none_left, kept_first, skipped_first}
-use Rattle.wire.specs.declared.error.WireError.{WireError}
+use Rattle.layout.specs.Places.{FlatsAt, PiecesAt}
+use Rattle.layout.specs.Messages.{Question, data_flats, internet, any_record_pieces, is_served, ttl_of, QuestionAt, QuestionsAt, RecordAt, SkippedAt, SectionAt, none_left, kept_first, skipped_first}
 use Rattle.wire.specs.declared.error.WireError.TheVariants.{Short}
 use Rattle.wire.specs.Numbers.{two_at, four_at}
 use Rattle.wire.specs.Parts.{message_faults, name_at}
@@ -20,7 +19,7 @@ use Rattle.wire.specs.Values.{value_at}
 use Rattle.wire.specs.Results.{and_then}
 use Rattle.wire.specs.Entries.{kept_value, entry_kept, entry_sized, entry_behind, entry_at, with_kept, section_from, question_behind, question_at, with_question, questions_from}
 use Rattle.wire.proofs.Bytes.{AreSmall, test_read, then_read, test_no, range_stands, at-along, two_stands, two_small, two_takes, four_stands, four_small, four_takes}
-use Rattle.wire.proofs.NamesRead.{name_stands, name_read, name_within_bytes}
+use Rattle.wire.proofs.NamesRead.{name_stands, name_read}
 use Rattle.wire.proofs.DataRead.{IsValue, value_stands, value_read, kind_of, data_within}
 
 -- ---- served types
@@ -163,16 +162,16 @@ kept_stands bytes at owner mid small name fits (Some t) is =
     let ttl = four_at bytes (mid + 4) in
     then_read (IsValue bytes t (mid + 10) end) (IsEntry bytes at) (value_at t bytes (mid + 10) end) (kept_value owner ttl end) (value_stands t bytes (mid + 10) end small fits)
     (λ value h.
-      let kind : two_at bytes mid ≡ type_of value = is.0 ∙ sym h.2 in
-      let row = row_stands bytes at owner mid (data_flats value) small name fits h.0 in
-      record {
-        ttl = ttl;
-        fits_ttl = four_small bytes (mid + 4) small;
-        is_ttl = refl;
-        fits = h.1;
-        stands = subst (λ (n : ℕ). PiecesAt bytes at (any_record_pieces owner (type_of value) n ttl (data_flats value)) end) is.1
-            (subst (λ (n : ℕ). PiecesAt bytes at (any_record_pieces owner n (two_at bytes (mid + 2)) ttl (data_flats value)) end) kind row);
-      })
+    let kind : two_at bytes mid ≡ type_of value = is.0 ∙ sym h.2 in
+    let row = row_stands bytes at owner mid (data_flats value) small name fits h.0 in
+    record {
+      ttl = ttl;
+      fits_ttl = four_small bytes (mid + 4) small;
+      is_ttl = refl;
+      fits = h.1;
+      stands = subst (λ (n : ℕ). PiecesAt bytes at (any_record_pieces owner (type_of value) n ttl (data_flats value)) end) is.1
+          (subst (λ (n : ℕ). PiecesAt bytes at (any_record_pieces owner n (two_at bytes (mid + 2)) ttl (data_flats value)) end) kind row);
+    })
 
 pub entry_stands : (bytes : List ℕ) (at : ℕ) → AreSmall bytes → IfOk (entry_at bytes at) (IsEntry bytes at)
 unfolding entry_at
@@ -180,12 +179,12 @@ entry_stands bytes at small =
     then_read (λ x. NameAt bytes at x.0 x.1 × (x.1 ≤ length bytes)) (IsEntry bytes at) (name_at bytes message_faults (length bytes) at) (entry_behind bytes)
     (name_stands bytes message_faults (length bytes) at small (omega arith))
     (λ x h.
-      let mid = x.1 in
-      test_read (IsEntry bytes at) (nat_lt (length bytes) (mid + 10)) (Err Short) (entry_sized bytes x.0 mid) (λ _. tt)
-      (λ _. test_read (IsEntry bytes at) (nat_lt (length bytes) (mid + 10 + two_at bytes (mid + 8))) (Err Short) _ (λ _. tt)
-        (λ over.
-          let fits : mid + 10 + two_at bytes (mid + 8) ≤ length bytes = grind (arith, nat_tests) in
-          kept_stands bytes at x.0 mid small h.0 fits (served_type (two_at bytes mid) (two_at bytes (mid + 2))) (served_is (two_at bytes mid) (two_at bytes (mid + 2))))))
+    let mid = x.1 in
+    test_read (IsEntry bytes at) (nat_lt (length bytes) (mid + 10)) (Err Short) (entry_sized bytes x.0 mid) (λ _. tt)
+    (λ _. test_read (IsEntry bytes at) (nat_lt (length bytes) (mid + 10 + two_at bytes (mid + 8))) (Err Short) _ (λ _. tt)
+    (λ over.
+    let fits : mid + 10 + two_at bytes (mid + 8) ≤ length bytes = grind (arith, nat_tests) in
+    kept_stands bytes at x.0 mid small h.0 fits (served_type (two_at bytes mid) (two_at bytes (mid + 2))) (served_is (two_at bytes mid) (two_at bytes (mid + 2))))))
 
 -- What is read where a record's pieces stand.
 row_read : (bytes : List ℕ) (at : ℕ) (owner : List (List ℕ)) (kind class ttl : ℕ) (rdata : List Flat) (end : ℕ)
@@ -257,7 +256,7 @@ section_stands zero bytes at small = none_left at 0 at refl refl
 section_stands (suc count) bytes at small =
     then_read (IsEntry bytes at) (IsSection bytes at (suc count)) (entry_at bytes at) (λ r. and_then (section_from count bytes r.1) (with_kept r.0)) (entry_stands bytes at small)
     (λ found h. then_read (IsSection bytes found.1 count) (IsSection bytes at (suc count)) (section_from count bytes found.1) (with_kept found.0)
-      (section_stands count bytes found.1 small) (λ rest k. section_on bytes at count found h rest k))
+    (section_stands count bytes found.1 small) (λ rest k. section_on bytes at count found h rest k))
 
 pub section_read : (bytes : List ℕ) (at count : ℕ) (records : List Record) (end : ℕ) → SectionAt bytes at count records end → section_from count bytes at ≡ Ok (records, end)
 section_read bytes at count records end (none_left _ _ _ none e) = ap (λ n. section_from n bytes at) none ∙ (λ i. Ok ([], sym e i))
@@ -281,25 +280,25 @@ question_stands bytes at small =
     then_read (λ x. NameAt bytes at x.0 x.1 × (x.1 ≤ length bytes)) (IsAsked bytes at) (name_at bytes message_faults (length bytes) at) (question_behind bytes)
     (name_stands bytes message_faults (length bytes) at small (omega arith))
     (λ x h.
-      let mid = x.1 in
-      test_read (IsAsked bytes at) (nat_lt (length bytes) (mid + 4)) (Err Short) _ (λ _. tt)
-      (λ over.
-        let fits : mid + 4 ≤ length bytes = grind (arith, nat_tests) in
-        record {
-          fits_type = two_small bytes mid small;
-          fits_class = two_small bytes (mid + 2) small;
-          behind_name = mid;
-          name = h.0;
-          rest = (
-              mid + 2,
-              two_stands bytes mid small (omega arith),
-              (
-                mid + 4,
-                at-along bytes (mid + 2) (mid + 2) _ (mid + 2 + 2) (mid + 4) (two_stands bytes (mid + 2) small (omega arith)) refl (omega arith),
-                refl,
-              ),
-            );
-        }))
+    let mid = x.1 in
+    test_read (IsAsked bytes at) (nat_lt (length bytes) (mid + 4)) (Err Short) _ (λ _. tt)
+    (λ over.
+    let fits : mid + 4 ≤ length bytes = grind (arith, nat_tests) in
+    record {
+      fits_type = two_small bytes mid small;
+      fits_class = two_small bytes (mid + 2) small;
+      behind_name = mid;
+      name = h.0;
+      rest = (
+        mid + 2,
+        two_stands bytes mid small (omega arith),
+        (
+          mid + 4,
+          at-along bytes (mid + 2) (mid + 2) _ (mid + 2 + 2) (mid + 4) (two_stands bytes (mid + 2) small (omega arith)) refl (omega arith),
+          refl,
+        ),
+      );
+    }))
 
 question_read : (bytes : List ℕ) (at : ℕ) (q : Question) (end : ℕ) → QuestionAt bytes at q end → question_at bytes at ≡ Ok (q, end)
 unfolding question_at
@@ -325,7 +324,7 @@ questions_stand zero bytes at small = (refl, refl)
 questions_stand (suc count) bytes at small =
     then_read (IsAsked bytes at) (AreAsked bytes at (suc count)) (question_at bytes at) (λ q. and_then (questions_from count bytes q.1) (with_question q.0)) (question_stands bytes at small)
     (λ found h. then_read (AreAsked bytes found.1 count) (AreAsked bytes at (suc count)) (questions_from count bytes found.1) (with_question found.0)
-      (questions_stand count bytes found.1 small) (λ rest k. ((found.1, h, k.0), ap suc k.1)))
+    (questions_stand count bytes found.1 small) (λ rest k. ((found.1, h, k.0), ap suc k.1)))
 
 pub questions_read : (questions : List Question) (bytes : List ℕ) (at end : ℕ) → QuestionsAt bytes at questions end → questions_from (length questions) bytes at ≡ Ok (questions, end)
 questions_read [] bytes at end h = λ i. Ok ([], sym h i)

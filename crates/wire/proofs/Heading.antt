@@ -1,5 +1,5 @@
 -- A header that stands at a message's start is the one that is read there.
-use Rattle.std.proofs.Common.{◌≡◌, ℕ, zero, suc, ◌+◌, ◌*◌, ◌/◌, ◌%◌, ◌<◌, ◌≤◌, Bool, true, false, List, [], ◌∷◌, length, refl, sym, ◌∙◌, ap, arith}
+use Rattle.std.proofs.Common.{◌≡◌, ℕ, zero, suc, ◌/◌, ◌%◌, ◌<◌, ◌≤◌, Bool, true, false, List, [], ◌∷◌, length, refl, sym, ◌∙◌, ap, arith}
 use Rattle.std.specs.Prelude.{nat_eq, slice_index}
 use Rattle.layout.specs.Places.{IsAt, PiecesAt}
 use Rattle.layout.specs.Messages.{Header, Counts, bit, high_flags, low_flags, IsHeader, AreCounts, header_pieces}

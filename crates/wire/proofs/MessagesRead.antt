@@ -1,15 +1,13 @@
 -- The message that bytes are is the one that is read.
-use Rattle.std.proofs.Common.{◌≡◌, ℕ, zero, suc, ◌+◌, ◌<◌, ◌≤◌, ◌↔◌, Bool, true, false, ◌⊎◌, List, [], ◌∷◌, length, Result, Ok, Err, IfOk, IfErr, IsErrAnd, ⊎_elim, inl, inr, refl, sym, ◌∙◌, ap, subst, arith}
-use Rattle.std.specs.Prelude.{nat_eq, nat_lt, slice_index}
+use Rattle.std.proofs.Common.{◌≡◌, ℕ, zero, suc, ◌≤◌, true, false, ◌⊎◌, List, [], ◌∷◌, length, Result, Ok, Err, IfOk, IfErr, IsErrAnd, ⊎_elim, inl, inr, refl, sym, ◌∙◌, ap, subst, arith}
+use Rattle.std.specs.Prelude.{nat_eq, nat_lt}
 use Rattle.std.proofs.lemmas.Bool.Decides.{nat_tests}
 use Rattle.dname.specs.Spelling.{AreBytes}
-use Rattle.rdata.specs.Records.{Record}
 use Rattle.layout.specs.Names.{SpeltAt}
-use Rattle.layout.specs.Messages.{Question, Message, QuestionsAt, SectionAt, IsMessage}
+use Rattle.layout.specs.Messages.{Message, QuestionsAt, SectionAt, IsMessage}
 use Rattle.wire.specs.declared.error.WireError.{WireError}
 use Rattle.wire.specs.declared.error.WireError.TheVariants.{Short, BadLabel, PointerNotEarlier, NameTooLong, BadRdataLength, BadRdataName, TrailingBytes, OverLimit, Memory}
 use Rattle.wire.specs.Numbers.{two_at}
-use Rattle.wire.specs.Heads.{header_of}
 use Rattle.wire.specs.Parts.{message_faults, spelt_at}
 use Rattle.wire.specs.Results.{Fails, Gives, and_then}
 use Rattle.wire.specs.Entries.{section_from, questions_from, message_first, message_second, message_third, message_whole, message_of, labels_alone, spelling_of}
@@ -30,34 +28,34 @@ unfolding message_of
 message_stands bytes small =
     test_read (IsMessage bytes) (nat_lt (length bytes) 12) (Err Short) _ (λ _. tt)
     (λ long.
-      let fits : 12 ≤ length bytes = grind (arith, nat_tests) in
-      let head = header_fits bytes small in
-      then_read (λ q. QuestionsAt bytes 12 q.0 q.1 × (two_at bytes 4 ≡ length q.0)) (IsMessage bytes) (questions_from (two_at bytes 4) bytes 12) (message_first bytes)
-      (questions_stand (two_at bytes 4) bytes 12 small)
-      (λ q asked. then_read (λ x. SectionAt bytes q.1 (two_at bytes 6) x.0 x.1) (IsMessage bytes) (section_from (two_at bytes 6) bytes q.1) (message_second bytes q.0)
-        (section_stands (two_at bytes 6) bytes q.1 small)
-        (λ a answer. then_read (λ x. SectionAt bytes a.1 (two_at bytes 8) x.0 x.1) (IsMessage bytes) (section_from (two_at bytes 8) bytes a.1) (message_third bytes q.0 a.0)
-          (section_stands (two_at bytes 8) bytes a.1 small)
-          (λ n authority. then_read (λ x. SectionAt bytes n.1 (two_at bytes 10) x.0 x.1) (IsMessage bytes) (section_from (two_at bytes 10) bytes n.1) (message_whole bytes q.0 a.0 n.0)
-            (section_stands (two_at bytes 10) bytes n.1 small)
-            (λ d additional. test_read (IsMessage bytes) (nat_eq d.1 (length bytes)) _ (Err TrailingBytes)
-              (λ ends.
-                let e : d.1 ≡ length bytes = grind (arith, nat_tests) in
-                record {
-                  counts = counts_at bytes;
-                  fit_counts = head.1;
-                  fits_header = head.0;
-                  header = header_stands bytes small fits;
-                  behind_questions = q.1;
-                  behind_answer = a.1;
-                  behind_authority = n.1;
-                  count = asked.1;
-                  questions = asked.0;
-                  answer = answer;
-                  authority = authority;
-                  additional = subst (λ (k : ℕ). SectionAt bytes n.1 (two_at bytes 10) d.0 k) e additional;
-                })
-              (λ _. tt))))))
+    let fits : 12 ≤ length bytes = grind (arith, nat_tests) in
+    let head = header_fits bytes small in
+    then_read (λ q. QuestionsAt bytes 12 q.0 q.1 × (two_at bytes 4 ≡ length q.0)) (IsMessage bytes) (questions_from (two_at bytes 4) bytes 12) (message_first bytes)
+    (questions_stand (two_at bytes 4) bytes 12 small)
+    (λ q asked. then_read (λ x. SectionAt bytes q.1 (two_at bytes 6) x.0 x.1) (IsMessage bytes) (section_from (two_at bytes 6) bytes q.1) (message_second bytes q.0)
+    (section_stands (two_at bytes 6) bytes q.1 small)
+    (λ a answer. then_read (λ x. SectionAt bytes a.1 (two_at bytes 8) x.0 x.1) (IsMessage bytes) (section_from (two_at bytes 8) bytes a.1) (message_third bytes q.0 a.0)
+    (section_stands (two_at bytes 8) bytes a.1 small)
+    (λ n authority. then_read (λ x. SectionAt bytes n.1 (two_at bytes 10) x.0 x.1) (IsMessage bytes) (section_from (two_at bytes 10) bytes n.1) (message_whole bytes q.0 a.0 n.0)
+    (section_stands (two_at bytes 10) bytes n.1 small)
+    (λ d additional. test_read (IsMessage bytes) (nat_eq d.1 (length bytes)) _ (Err TrailingBytes)
+    (λ ends.
+    let e : d.1 ≡ length bytes = grind (arith, nat_tests) in
+    record {
+      counts = counts_at bytes;
+      fit_counts = head.1;
+      fits_header = head.0;
+      header = header_stands bytes small fits;
+      behind_questions = q.1;
+      behind_answer = a.1;
+      behind_authority = n.1;
+      count = asked.1;
+      questions = asked.0;
+      answer = answer;
+      authority = authority;
+      additional = subst (λ (k : ℕ). SectionAt bytes n.1 (two_at bytes 10) d.0 k) e additional;
+    })
+    (λ _. tt))))))
 
 -- ---- what stands is read
 

@@ -1,10 +1,10 @@
 -- The labels and the name that stand at a place are those that are read there.
-use Rattle.std.proofs.Common.{◌≡◌, ℕ, zero, suc, ◌+◌, ◌-◌, ◌*◌, ◌<◌, ◌≤◌, Bool, true, false, List, [], ◌∷◌, length, take, drop, Option, Some, Result, Ok, Err, IfOk, refl, sym, ◌∙◌, ap, subst, arith, length-append}
-use Rattle.std.specs.Prelude.{nat_eq, nat_lt, nat_le, if◌then◌else◌, slice_get, slice_index, slice_range}
+use Rattle.std.proofs.Common.{◌≡◌, ℕ, zero, suc, ◌+◌, ◌-◌, ◌*◌, ◌<◌, ◌≤◌, true, false, List, [], ◌∷◌, length, Some, Result, Ok, Err, IfOk, refl, sym, ◌∙◌, ap, subst, arith, length-append}
+use Rattle.std.specs.Prelude.{nat_eq, nat_lt, nat_le, slice_get, slice_index, slice_range}
 use Rattle.std.proofs.lemmas.Bool.Decides.{nat_tests}
 use Rattle.std.proofs.lemmas.Option.{slice_get-get_or, get_or_from_slice_get, slice_get_within}
 use Rattle.dname.specs.Labels.{wire, folded_label, folded_labels}
-use Rattle.layout.specs.Names.{IsLabelAt, IsPointerAt, Stands, root_here, label_here, pointer_here, as_written, SpeltAt, NameAt}
+use Rattle.layout.specs.Names.{IsPointerAt, Stands, root_here, label_here, pointer_here, as_written, SpeltAt, NameAt}
 use Rattle.layout.proofs.Reading.{name_one}
 use Rattle.layout.proofs.Whole.{name_takes, name_spelt, spelling_is_name}
 use Rattle.wire.specs.declared.error.WireError.{WireError}
@@ -29,27 +29,29 @@ part_there : (bytes : List ℕ) (limit : ℕ) (border bad : WireError) (at : ℕ
 part_there bytes limit border bad at small fits =
     let byte = slice_index bytes at in
     test_read (IsThere bytes limit at) (nat_le limit at) (Err border) (part_by bytes limit border bad at byte) (λ _. tt) (λ inside.
-      let within : at < limit = grind (arith, nat_tests) in
-      let get : slice_get bytes at ≡ Some byte = slice_get-get_or bytes at 0 (omega arith) in
-      let b = small at in
-      test_read (IsThere bytes limit at) (nat_eq byte 0) (Ok End) _
-      (λ zero_byte. let z : byte ≡ 0 = grind (arith, nat_tests) in (within, get ∙ ap (λ n. Some n) z))
-      (λ some. let s : 0 < byte = grind (arith, nat_tests) in
-        test_read (IsThere bytes limit at) (nat_lt byte 64) (Ok (Label byte)) _
-        (λ few. let f : byte < 64 = grind (arith, nat_tests) in (get, s, f))
-        (λ many. test_read (IsThere bytes limit at) (nat_lt byte 192) (Err bad) _ (λ _. tt)
-          (λ high. let h : 192 ≤ byte = grind (arith, nat_tests) in
-            test_read (IsThere bytes limit at) (nat_le limit (at + 1)) (Err border) (Ok (Pointer ((byte - 192) * 256 + slice_index bytes (at + 1)))) (λ _. tt)
-            (λ room. let r : at + 1 < limit = grind (arith, nat_tests) in
-              let first : byte ≡ 192 + (byte - 192) = omega arith in
-              (r, record {
-                high = byte - 192;
-                low = slice_index bytes (at + 1);
-                first = get ∙ ap (λ n. Some n) first;
-                second = slice_get-get_or bytes (at + 1) 0 (omega arith);
-                fits = omega arith;
-                is = omega arith;
-              }))))))
+    let within : at < limit = grind (arith, nat_tests) in
+    let get : slice_get bytes at ≡ Some byte = slice_get-get_or bytes at 0 (omega arith) in
+    let b = small at in
+    test_read (IsThere bytes limit at) (nat_eq byte 0) (Ok End) _
+    (λ zero_byte. let z : byte ≡ 0 = grind (arith, nat_tests) in (within, get ∙ ap (λ n. Some n) z))
+    (λ some. let s : 0 < byte = grind (arith, nat_tests) in
+    test_read (IsThere bytes limit at) (nat_lt byte 64) (Ok (Label byte)) _
+    (λ few. let f : byte < 64 = grind (arith, nat_tests) in (get, s, f))
+    (λ many. test_read (IsThere bytes limit at) (nat_lt byte 192) (Err bad) _ (λ _. tt)
+    (λ high. let h : 192 ≤ byte = grind (arith, nat_tests) in
+    test_read (IsThere bytes limit at) (nat_le limit (at + 1)) (Err border) (Ok (Pointer ((byte - 192) * 256 + slice_index bytes (at + 1)))) (λ _. tt)
+    (λ room. let r : at + 1 < limit = grind (arith, nat_tests) in
+    let first : byte ≡ 192 + (byte - 192) = omega arith in (
+      r,
+      record {
+        high = byte - 192;
+        low = slice_index bytes (at + 1);
+        first = get ∙ ap (λ n. Some n) first;
+        second = slice_get-get_or bytes (at + 1) 0 (omega arith);
+        fits = omega arith;
+        is = omega arith;
+      },
+    ))))))
 
 -- ---- what was read stands
 
@@ -72,12 +74,12 @@ label_on bytes limit start at room size rest fits get one few taken inside h =
     let next : at + 1 + size ≡ at + 1 + length label = omega arith in
     record {
       stands = label_here start at rest.1 label label rest.0 (record {
-            head = get ∙ ap (λ n. Some n) (sym long);
-            nonempty = omega arith;
-            short = omega arith;
-            there = omega arith;
-            text = text.0.is;
-          }) refl (subst (λ (n : ℕ). Stands as_written bytes start n rest.0 rest.1) next h.stands);
+        head = get ∙ ap (λ n. Some n) (sym long);
+        nonempty = omega arith;
+        short = omega arith;
+        there = omega arith;
+        text = text.0.is;
+      }) refl (subst (λ (n : ℕ). Stands as_written bytes start n rest.0 rest.1) next h.stands);
       short = omega (arith, length-append label (wire rest.0));
       within = h.within;
     }
@@ -91,21 +93,21 @@ followed_stands go bytes faults limit border start at room small fits some goes 
 followed_stands go bytes faults limit border start at room small fits some goes (Label size) (get, one, few) =
     test_read (Spells bytes limit start at room) (nat_lt room (size + 2)) (Err faults.too_long) _ (λ _. tt)
     (λ long.
-      let taken : size + 2 ≤ room = grind (arith, nat_tests) in
-      test_read (Spells bytes limit start at room) (nat_lt limit (at + 1 + size)) (Err border) _ (λ _. tt)
-      (λ over.
-        let inside : at + 1 + size ≤ limit = grind (arith, nat_tests) in
-        then_read (Spells bytes limit start (at + 1 + size) (room - (size + 1))) (Spells bytes limit start at room)
-        (go limit border start (at + 1 + size) (room - (size + 1))) (behind_label (slice_range bytes (at + 1) (at + 1 + size)))
-        (goes limit border start (at + 1 + size) (room - (size + 1)) fits (omega arith))
-        (λ rest h. label_on bytes limit start at room size rest fits get one few taken inside h)))
+    let taken : size + 2 ≤ room = grind (arith, nat_tests) in
+    test_read (Spells bytes limit start at room) (nat_lt limit (at + 1 + size)) (Err border) _ (λ _. tt)
+    (λ over.
+    let inside : at + 1 + size ≤ limit = grind (arith, nat_tests) in
+    then_read (Spells bytes limit start (at + 1 + size) (room - (size + 1))) (Spells bytes limit start at room)
+    (go limit border start (at + 1 + size) (room - (size + 1))) (behind_label (slice_range bytes (at + 1) (at + 1 + size)))
+    (goes limit border start (at + 1 + size) (room - (size + 1)) fits (omega arith))
+    (λ rest h. label_on bytes limit start at room size rest fits get one few taken inside h)))
 followed_stands go bytes faults limit border start at room small fits some goes (Pointer target) (within, leads) =
     test_read (Spells bytes limit start at room) (nat_lt target start) _ (Err faults.not_earlier)
     (λ less.
-      let earlier : target < start = grind (arith, nat_tests) in
-      then_read (Spells bytes (length bytes) target target room) (Spells bytes limit start at room) (go (length bytes) Short target target room) (ends_at (at + 2))
-      (goes (length bytes) Short target target room (omega arith) some)
-      (λ rest h. record { stands = pointer_here start at (at + 2) target rest.1 rest.0 leads earlier h.stands refl; short = h.short; within = omega arith }))
+    let earlier : target < start = grind (arith, nat_tests) in
+    then_read (Spells bytes (length bytes) target target room) (Spells bytes limit start at room) (go (length bytes) Short target target room) (ends_at (at + 2))
+    (goes (length bytes) Short target target room (omega arith) some)
+    (λ rest h. record { stands = pointer_here start at (at + 2) target rest.1 rest.0 leads earlier h.stands refl; short = h.short; within = omega arith }))
     (λ _. tt)
 
 spells_from : (fuel : ℕ) (bytes : List ℕ) (faults : Faults) (limit : ℕ) (border : WireError) (start at room : ℕ) → AreSmall bytes → limit ≤ length bytes → 0 < room
