@@ -8,7 +8,8 @@ use Rattle.std.proofs.lemmas.List.{map-append, append-nil, length-take}
 use Rattle.std.proofs.Common.{length-append, length-drop, drop}
 use Rattle.dname.specs.Labels.{wire, folded_label, folded_labels}
 use Rattle.dname.specs.declared.builder.Overflow.TheVariants.{LongName}
-use Rattle.dname.specs.Draft.{Draft, labelled}
+use Rattle.dname.specs.Draft.{Draft, empty_draft, labelled}
+use Rattle.layout.proofs.Whole.{wire_folded_long}
 use Rattle.wire.specs.declared.error.WireError.{WireError}
 use Rattle.wire.specs.declared.error.WireError.TheVariants.{Short, BadLabel, PointerNotEarlier, NameTooLong, BadRdataLength, BadRdataName, TrailingBytes, OverLimit, Memory}
 use Rattle.wire.specs.declared.parts.Part.{Part}
@@ -27,6 +28,18 @@ done x = Ok x
 
 ok_is : {X E : Type 0} {x y : X} → done {E = E} x ≡ done y → x ≡ y
 ok_is h = cc
+
+wire-append : (a b : List (List ℕ)) → wire (a ++ b) ≡ wire a ++ wire b
+wire-append [] b = refl
+wire-append (l ∷ a) b = ap (λ x. length l ∷ x) (ap (λ x. l ++ x) (wire-append a b) ∙ sym (append_assoc l (wire a) (wire b)))
+
+wire_longer : (front : List (List ℕ)) (label : List ℕ) → length (wire (front ++ label ∷ [])) ≡ length (wire front) + 1 + length label
+wire_longer front label =
+    omega (arith, ap length (wire-append front (label ∷ [])), length-append (wire front) (length label ∷ (label ++ [])), length-append label [])
+
+pub label_long : (bytes : List ℕ) (place size : ℕ) → place + 1 + size ≤ length bytes → length (slice_range bytes (place + 1) (place + 1 + size)) ≡ size
+label_long bytes place size fits =
+    omega (arith, length-take (place + 1 + size - (place + 1)) (drop (place + 1) bytes), length-drop (place + 1) bytes)
 
 pub fails_is : {X : Type 0} (e : WireError) (read : Result X WireError) → read ≡ Err e → Fails e read
 fails_is Short read h = h
@@ -75,6 +88,7 @@ pub record Walk (bytes : List ℕ) (faults : Faults) (limit : ℕ) (whole : Spel
   pub some_room : 0 < room
   pub fits : stop ≤ length bytes
   pub ended : EndsIn limit stop end
+  pub taken : room + length (wire front) ≡ 255
   pub so_far : whole ≡ resumed front end (spelt_from fuel bytes faults stop border start place room)
 
 unfueled : (fuel : ℕ) (bytes : List ℕ) (faults : Faults) (stop : ℕ) (border : WireError) (start place room : ℕ) → 0 < fuel
@@ -98,6 +112,7 @@ walk_begins bytes faults limit at fits = record {
   some_room = omega arith;
   fits = fits;
   ended = refl;
+  taken = omega arith;
   so_far = sym (resumed_none (spelt_from (at + 256) bytes faults limit faults.border at at 255));
 }
 
@@ -164,6 +179,10 @@ walk_label bytes faults limit whole front start place stop border room end w siz
     let c : nat_lt stop (place + 1 + size) ≡ false = grind (arith, nat_tests) in
     let text = slice_range bytes (place + 1) (place + 1 + size) in
     let enough = w.enough in
+    let taken = w.taken in
+    let inside = w.fits in
+    let long = label_long bytes place size (omega arith) in
+    let longer = wire_longer front text in
     let next : place + 1 + size ≡ place + (1 + size) = omega arith in
     record {
       fuel = w.fuel - 1;
@@ -171,6 +190,7 @@ walk_label bytes faults limit whole front start place stop border room end w siz
       some_room = omega arith;
       fits = w.fits;
       ended = w.ended;
+      taken = omega arith;
       so_far = l ∙ (ap (resumed front end) (test_no (nat_lt room (size + 2)) _ _ b ∙ test_no (nat_lt stop (place + 1 + size)) _ _ c)
           ∙ (resumed_label front end text (spelt_from (w.fuel - 1) bytes faults stop border start (place + 1 + size) (room - (size + 1)))
           ∙ ap (λ n. resumed (front ++ text ∷ []) end (spelt_from (w.fuel - 1) bytes faults stop border start n (room - (size + 1)))) next));
@@ -209,6 +229,7 @@ walk_pointer bytes faults limit whole front start place stop border room end w t
       some_room = w.some_room;
       fits = omega arith;
       ended = first_in limit stop end (place + 2) (length bytes) w.ended (omega arith);
+      taken = w.taken;
       so_far = l ∙ (ap (resumed front end) (test (nat_lt target start) _ _ b)
           ∙ resumed_pointer front end (place + 2) (spelt_from (w.fuel - 1) bytes faults (length bytes) Short target target room));
     }
@@ -254,58 +275,41 @@ name_label bytes faults limit at d n start place stop border room end w size p i
       closed = ap (λ x. x.closed) pushed ∙ (ap (λ x. x ++ folded_label text ∷ []) w.closed ∙ sym (map-append folded_label w.front (text ∷ [])));
     }
 
+-- The room of a label that was tested.
+pub label_room : (d : Draft) (front : List (List ℕ)) (room size : ℕ) (label : List ℕ) → d.closed ≡ folded_labels front → room + length (wire front) ≡ 255 → size + 2 ≤ room
+    → length label ≡ size → length (wire d.closed) + length label < 254
+label_room d front room size label closed taken fits long =
+    omega (arith, ap (λ x. length (wire x)) closed, wire_folded_long front)
+
 -- ---- the name in its own letters
-
-abbrev lowered : List (List ℕ) × ℕ → Result (List (List ℕ) × ℕ) WireError
-lowered (labels, past) = Ok (folded_labels labels, past)
-
-abbrev lowered_as : List (List ℕ) × ℕ → Result (List (List ℕ) × ℕ) WireError
-lowered_as p = Ok p
-
-abbrev pair_done : List (List ℕ) × ℕ → Result (List (List ℕ) × ℕ) WireError
-pair_done p = Ok p
-
-pair_is : {x y : List (List ℕ) × ℕ} → pair_done x ≡ pair_done y → x ≡ y
-pair_is h = cc
 
 abbrev pub AllSpelled : List (List ℕ) → Type 0
 AllSpelled [] = Unit {0}
 AllSpelled (l ∷ rest) = (0 < length l) × (length l < 64) × AllSpelled rest
 
-pub record SpeltWalk (bytes : List ℕ) (at : ℕ) (letters : List ℕ) (start place stop : ℕ) (border : WireError) (room : ℕ) : Type 0 where
+pub record SpeltWalk (bytes : List ℕ) (at : ℕ) (d : Draft) (letters : List ℕ) (start place stop : ℕ) (border : WireError) (room : ℕ) : Type 0 where
   pub front : List (List ℕ)
   pub end : Option ℕ
   pub walk : Walk bytes message_faults (length bytes) (spelt_at bytes message_faults (length bytes) at) front start place stop border room end
+  pub opened : d.opened ≡ []
+  pub closed : d.closed ≡ folded_labels front
   pub form : letters ≡ wire front
-  pub taken : room + length (wire front) ≡ 255
   pub spelled : AllSpelled front
 
-pub spelt_begins : (bytes : List ℕ) (at : ℕ) (letters : List ℕ) → letters ≡ [] → SpeltWalk bytes at letters at at (length bytes) Short 255
-spelt_begins bytes at letters e = record {
+pub spelt_begins : (bytes : List ℕ) (at : ℕ) (d : Draft) (letters : List ℕ) → d ≡ empty_draft → letters ≡ [] → SpeltWalk bytes at d letters at at (length bytes) Short 255
+spelt_begins bytes at d letters none e = record {
   front = [];
   end = None;
   walk = walk_begins bytes message_faults (length bytes) at (omega arith);
+  opened = ap (λ x. x.opened) none;
+  closed = ap (λ x. x.closed) none;
   form = e;
-  taken = omega arith;
   spelled = tt;
 }
 
 pub spelling_refused : (bytes : List ℕ) (at : ℕ) (e : WireError) → spelt_at bytes message_faults (length bytes) at ≡ Err e → Fails e (spelling_of bytes at)
 unfolding spelling_of
 spelling_refused bytes at e h = fails_is e (spelling_of bytes at) (ap (λ x. and_then x labels_alone) h)
-
-pub name_spelling_fails : (bytes : List ℕ) (at : ℕ) (e : WireError) → Fails e (name_at bytes message_faults (length bytes) at) → Fails e (spelling_of bytes at)
-unfolding name_at spelling_of
-name_spelling_fails bytes at e h =
-    fails_with e (name_at bytes message_faults (length bytes) at) (spelling_of bytes at) (back (spelt_at bytes message_faults (length bytes) at) e) h
-  where
-    back : (r : Spelt) (x : WireError) → and_then r in_lower_case ≡ Err x → and_then r labels_alone ≡ Err x
-    back (Ok p) x k = cc
-    back (Err y) x k = let same : y ≡ x = cc in ap (λ z. Err z) same
-
-wire-append : (a b : List (List ℕ)) → wire (a ++ b) ≡ wire a ++ wire b
-wire-append [] b = refl
-wire-append (l ∷ a) b = ap (λ x. length l ∷ x) (ap (λ x. l ++ x) (wire-append a b) ∙ sym (append_assoc l (wire a) (wire b)))
 
 spelled-append : (a : List (List ℕ)) (l : List ℕ) → AllSpelled a → 0 < length l → length l < 64 → AllSpelled (a ++ l ∷ [])
 spelled-append [] l h some few = (some, few, tt)
@@ -316,65 +320,55 @@ are_spelled [] h = refl
 are_spelled (l ∷ []) h = (h.0, h.1, refl)
 are_spelled (l ∷ m ∷ a) h = (h.0, h.1, are_spelled (m ∷ a) h.2)
 
-label_long : (bytes : List ℕ) (place size : ℕ) → place + 1 + size ≤ length bytes → length (slice_range bytes (place + 1) (place + 1 + size)) ≡ size
-label_long bytes place size fits =
-    omega (arith, length-take (place + 1 + size - (place + 1)) (drop (place + 1) bytes), length-drop (place + 1) bytes)
-
-pub spelt_label : (bytes : List ℕ) (at : ℕ) (letters next : List ℕ) (start place stop : ℕ) (border : WireError) (room : ℕ)
-    (w : SpeltWalk bytes at letters start place stop border room) (size : ℕ) (p : Result Part WireError) → p ≡ part_at bytes stop border BadLabel place
+pub spelt_label : (bytes : List ℕ) (at : ℕ) (d n : Draft) (letters next : List ℕ) (start place stop : ℕ) (border : WireError) (room : ℕ)
+    (w : SpeltWalk bytes at d letters start place stop border room) (size : ℕ) (p : Result Part WireError) → p ≡ part_at bytes stop border BadLabel place
     → p ≡ Ok (Label size) → size + 2 ≤ room → size ≤ stop - place - 1 → place < stop → 0 < size → size < 64
+    → labelled d (slice_range bytes (place + 1) (place + 1 + size)) ≡ Ok n
     → next ≡ (letters ++ size ∷ []) ++ slice_range bytes (place + 1) (place + 1 + size)
-    → SpeltWalk bytes at next start (place + (1 + size)) stop border (room - (size + 1))
-spelt_label bytes at letters next start place stop border room w size p is label room_is fits within some few put =
+    → SpeltWalk bytes at n next start (place + (1 + size)) stop border (room - (size + 1))
+spelt_label bytes at d n letters next start place stop border room w size p is label room_is fits within some few named put =
     let text = slice_range bytes (place + 1) (place + 1 + size) in
     let inside = w.walk.fits in
     let long : length text ≡ size = label_long bytes place size (omega arith) in
-    let taken = w.taken in
+    let pushed = labelled_is d n text named in
     let joined : wire (w.front ++ text ∷ []) ≡ wire w.front ++ (length text ∷ (text ++ [])) = wire-append w.front (text ∷ []) in
     let last : length text ∷ (text ++ []) ≡ size ∷ text = λ i. long i ∷ append-nil text i in
     let whole : next ≡ wire (w.front ++ text ∷ []) =
     put ∙ (append_assoc letters (size ∷ []) text ∙ (ap (λ x. x ++ size ∷ text) w.form ∙ sym (joined ∙ ap (λ x. wire w.front ++ x) last))) in
-    let size_is : length (wire (w.front ++ text ∷ [])) ≡ length (wire w.front) + (1 + size) =
-    omega (arith, ap length (joined ∙ ap (λ x. wire w.front ++ x) last), length-append (wire w.front) (size ∷ text)) in
     record {
       front = w.front ++ text ∷ [];
       end = w.end;
       walk = walk_label bytes message_faults (length bytes) (spelt_at bytes message_faults (length bytes) at) w.front start place stop border room w.end w.walk size p is label room_is fits within;
+      opened = ap (λ x. x.opened) pushed;
+      closed = ap (λ x. x.closed) pushed ∙ (ap (λ x. x ++ folded_label text ∷ []) w.closed ∙ sym (map-append folded_label w.front (text ∷ [])));
       form = whole;
-      taken = omega arith;
       spelled = spelled-append w.front text w.spelled (omega arith) (omega arith);
     }
 
-pub spelt_pointer : (bytes : List ℕ) (at : ℕ) (letters : List ℕ) (start place stop : ℕ) (border : WireError) (room : ℕ)
-    (w : SpeltWalk bytes at letters start place stop border room) (target : ℕ) (p : Result Part WireError) → p ≡ part_at bytes stop border BadLabel place
-    → p ≡ Ok (Pointer target) → target < start → place + 1 < stop → SpeltWalk bytes at letters target target (length bytes) Short room
-spelt_pointer bytes at letters start place stop border room w target p is pointer earlier within = record {
+pub spelt_pointer : (bytes : List ℕ) (at : ℕ) (d : Draft) (letters : List ℕ) (start place stop : ℕ) (border : WireError) (room : ℕ)
+    (w : SpeltWalk bytes at d letters start place stop border room) (target : ℕ) (p : Result Part WireError) → p ≡ part_at bytes stop border BadLabel place
+    → p ≡ Ok (Pointer target) → target < start → place + 1 < stop → SpeltWalk bytes at d letters target target (length bytes) Short room
+spelt_pointer bytes at d letters start place stop border room w target p is pointer earlier within = record {
   front = w.front;
   end = option_or w.end (Some (place + 2));
   walk = walk_pointer bytes message_faults (length bytes) (spelt_at bytes message_faults (length bytes) at) w.front start place stop border room w.end w.walk target p is pointer earlier within;
+  opened = w.opened;
+  closed = w.closed;
   form = w.form;
-  taken = w.taken;
   spelled = w.spelled;
 }
 
-name_by : (bytes : List ℕ) (at : ℕ) (name labels : List (List ℕ)) (end past : ℕ) → name_at bytes message_faults (length bytes) at ≡ Ok (name, end)
-    → spelt_at bytes message_faults (length bytes) at ≡ Ok (labels, past) → name ≡ folded_labels labels
-unfolding name_at
-name_by bytes at name labels end past h k =
-    let e : lowered (labels, past) ≡ lowered_as (name, end) = sym (ap (λ x. and_then x in_lower_case) k) ∙ h in
-    ap (λ x. x.0) (pair_is (sym e))
-
-pub spelt_done : (bytes : List ℕ) (at : ℕ) (letters next : List ℕ) (name : List (List ℕ)) (past start place stop : ℕ) (border : WireError) (room : ℕ)
-    (w : SpeltWalk bytes at letters start place stop border room) (p : Result Part WireError) → p ≡ part_at bytes stop border BadLabel place → p ≡ Ok End
-    → name_at bytes message_faults (length bytes) at ≡ Ok (name, past) → next ≡ letters ++ 0 ∷ [] → IsSpelt next name × (spelling_of bytes at ≡ Ok (labels_of next))
+pub spelt_done : (bytes : List ℕ) (at : ℕ) (d : Draft) (letters next : List ℕ) (start place stop : ℕ) (border : WireError) (room : ℕ)
+    (w : SpeltWalk bytes at d letters start place stop border room) (p : Result Part WireError) → p ≡ part_at bytes stop border BadLabel place → p ≡ Ok End
+    → next ≡ letters ++ 0 ∷ [] → IsSpelt next (d.closed ++ [] ∷ []) × (spelling_of bytes at ≡ Ok (labels_of next))
 unfolding spelling_of
-spelt_done bytes at letters next name past start place stop border room w p is ends named put =
+spelt_done bytes at d letters next start place stop border room w p is ends put =
     let labels = w.front ++ [] ∷ [] in
     let read = walk_ends bytes message_faults (length bytes) (spelt_at bytes message_faults (length bytes) at) w.front start place stop border room w.end w.walk p is ends in
     let form : next ≡ wire labels = put ∙ (ap (λ x. x ++ 0 ∷ []) w.form ∙ sym (wire-append w.front ([] ∷ []))) in
     let seen : labels_of next ≡ labels = ap labels_of form ∙ labels_of-wire labels in
-    let folds = name_by bytes at name labels past (unwrap_or w.end (place + 1)) named read in
-    let taken = w.taken in
+    let folds : d.closed ++ [] ∷ [] ≡ folded_labels labels = ap (λ x. x ++ [] ∷ []) w.closed ∙ sym (map-append folded_label w.front ([] ∷ [])) in
+    let taken = w.walk.taken in
     let some = w.walk.some_room in (
       record {
         labels = subst (λ (x : List (List ℕ)). AreSpelled x) (sym seen) (are_spelled w.front w.spelled);
@@ -384,15 +378,3 @@ spelt_done bytes at letters next name past start place stop border room w p is e
       },
       ap (λ x. and_then x labels_alone) read ∙ (λ i. Ok (sym seen i)),
     )
-
-pub record NamedWalk (bytes : List ℕ) (at : ℕ) (name : List (List ℕ)) (letters : List ℕ) (start place stop : ℕ) (border : WireError) (room : ℕ) : Type 0 where
-  pub past : ℕ
-  pub named : name_at bytes message_faults (length bytes) at ≡ Ok (name, past)
-  pub walk : SpeltWalk bytes at letters start place stop border room
-
-pub named_by : (bytes : List ℕ) (at past : ℕ) (name : List (List ℕ)) (faults : Faults) → faults ≡ message_faults → name_at bytes faults (length bytes) at ≡ Ok (name, past)
-    → name_at bytes message_faults (length bytes) at ≡ Ok (name, past)
-named_by bytes at past name faults e h = ap (λ f. name_at bytes f (length bytes) at) (sym e) ∙ h
-
-pub named_fails : (bytes : List ℕ) (at : ℕ) (x : WireError) (faults : Faults) → faults ≡ message_faults → Fails x (name_at bytes faults (length bytes) at) → Fails x (spelling_of bytes at)
-named_fails bytes at x faults e h = name_spelling_fails bytes at x (subst (λ (f : Faults). Fails x (name_at bytes f (length bytes) at)) e h)

@@ -45,6 +45,17 @@ third bytes n at next questions answer authority f e k = record {
   so_far = f.so_far ∙ (ap (λ x. and_then (section_from x bytes at) (message_third bytes questions answer)) (sym e) ∙ ap (λ x. and_then x (message_third bytes questions answer)) k);
 }
 
+pub questions_fail : (bytes : List ℕ) (n : ℕ) (e : WireError) → 12 ≤ length bytes → n ≡ two_at bytes 4 → Fails e (questions_from n bytes 12) → Fails e (message_of bytes)
+questions_fail bytes n e long is h =
+    fails_with e (questions_from n bytes 12) (message_of bytes)
+    (λ k. opened bytes long ∙ (ap (λ x. and_then (questions_from x bytes 12) (message_first bytes)) (sym is) ∙ ap (λ x. and_then x (message_first bytes)) k)) h
+
+pub answer_fails : (bytes : List ℕ) (n at : ℕ) (questions : List Question) (e : WireError) → First bytes questions at → n ≡ two_at bytes 6
+    → Fails e (section_from n bytes at) → Fails e (message_of bytes)
+answer_fails bytes n at questions e f is h =
+    fails_with e (section_from n bytes at) (message_of bytes)
+    (λ k. f.so_far ∙ (ap (λ x. and_then (section_from x bytes at) (message_second bytes questions)) (sym is) ∙ ap (λ x. and_then x (message_second bytes questions)) k)) h
+
 pub authority_fails : (bytes : List ℕ) (n at : ℕ) (questions : List Question) (answer : List Record) (e : WireError) → Second bytes questions answer at → n ≡ two_at bytes 8
     → Fails e (section_from n bytes at) → Fails e (message_of bytes)
 authority_fails bytes n at questions answer e f is h =

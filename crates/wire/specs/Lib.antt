@@ -9,3 +9,4 @@ pub mod Values
 pub mod Entries
 pub mod Drafts
 pub mod Spellings
+pub mod Laws

@@ -1,4 +1,6 @@
-ghost use Rattle.std.specs.Prelude.{◌≡◌, ℕ, ◌≤◌, ◌<◌, List, length, IfOk};
+ghost use Rattle.std.specs.Prelude.{◌≡◌, ℕ, ◌≤◌, ◌<◌, ◌+◌, List, [], Ok, length, IfOk, OnOk};
+ghost use Rattle.dname.specs.Labels.{wire};
+ghost use Rattle.dname.specs.Draft.{labelled};
 ghost use Rattle.wire.specs.Parts.{spelt_at, name_at};
 ghost use Rattle.wire.specs.Entries.{spelling_of};
 ghost use Rattle.wire.specs.Results.{Gives};
@@ -6,7 +8,24 @@ ghost use Rattle.wire.specs.Results.{Gives};
 use crate::error::WireError;
 use crate::parts::{Faults, Part, part_at};
 use crate::spelling::Spelling;
-use dname::{Builder, Heap, Name};
+use dname::{Builder, Heap, Name, Overflow, Starved};
+
+// A label more of a name that has room for it: only memory can be refused.
+fn put_label<A: Heap>(name: &mut Builder<A>, label: &[u8]) -> Result<(), Starved>
+    requires shut { name.old.opened ≡ [] }
+    requires some { 0 < length label.now }
+    requires short { length label.now < 64 }
+    requires room { length (wire name.old.closed) + length label.now < 254 }
+    ensures { OnOk result (labelled name.old label.now ≡ Ok name.new) }
+{
+    match name.push_label(label) {
+        Ok(()) => Ok(()),
+        Err(refused) => {
+            prove!(matches!(refused, Overflow::Memory));
+            Err(Starved)
+        }
+    }
+}
 
 // The name at a place (RFC 1035, section 4.1.4), whose own part ends at the limit at the latest, and the
 // end of what lies there.
@@ -38,11 +57,7 @@ pub fn name_at<A: Heap>(
                 if stop - place - 1 < size {
                     return Err(border);
                 }
-                // The room was tested: only memory can be refused.
-                match name.push_label(&bytes[place + 1..place + 1 + size]) {
-                    Ok(()) => {}
-                    Err(_) => return Err(WireError::Memory),
-                }
+                put_label(&mut name, &bytes[place + 1..place + 1 + size])?;
                 place += 1 + size;
                 room -= size + 1;
             }
@@ -64,8 +79,8 @@ pub fn name_at<A: Heap>(
 pub fn spelling_at<A: Heap>(alloc: A, bytes: &[u8], at: usize) -> Result<Spelling<A>, WireError>
     ensures { Gives {Y = List (List ℕ)} (λ s. s) result (spelling_of bytes.now at) }
 {
-    let (name, _) = name_at(alloc, bytes, Faults::in_message(), bytes.len(), at)?;
-    let mut letters = Vec::with_capacity(alloc, name.size())?;
+    let mut name = Builder::new(alloc)?;
+    let mut letters = Vec::with_capacity(alloc, 64)?;
     let mut start = at;
     let mut stop = bytes.len();
     let mut border = WireError::Short;
@@ -75,7 +90,7 @@ pub fn spelling_at<A: Heap>(alloc: A, bytes: &[u8], at: usize) -> Result<Spellin
         match part_at(bytes, stop, border, WireError::BadLabel, place)? {
             Part::End => {
                 letters.push(0)?;
-                return Ok(Spelling::from_wire(letters, name));
+                return Ok(Spelling::from_wire(letters, name.finish()));
             }
             Part::Label(size) => {
                 if room < size + 2 {
@@ -84,6 +99,7 @@ pub fn spelling_at<A: Heap>(alloc: A, bytes: &[u8], at: usize) -> Result<Spellin
                 if stop - place - 1 < size {
                     return Err(border);
                 }
+                put_label(&mut name, &bytes[place + 1..place + 1 + size])?;
                 letters.push(size as u8)?;
                 letters.extend_from_slice(&bytes[place + 1..place + 1 + size])?;
                 place += 1 + size;

@@ -1,5 +1,8 @@
-ghost use Rattle.std.specs.Prelude.{◌≡◌, List, ℕ};
+ghost use Rattle.std.specs.Prelude.{◌≡◌, ◌⊎◌, List, ℕ, IfOk, IfErr};
 ghost use Rattle.layout.specs.Messages as layouts;
+ghost use Rattle.layout.specs.Messages.{IsMessage};
+ghost use Rattle.layout.specs.Names.{SpeltAt};
+ghost use Rattle.wire.specs.declared.error.WireError.TheVariants.{Memory};
 ghost use Rattle.wire.specs.Entries.{message_of, spelling_of};
 ghost use Rattle.wire.specs.Results.{Gives};
 
@@ -16,7 +19,9 @@ use dname::Heap;
 /// classes other than IN are left out. Refused by the first fault from the left.
 #[tactic(auto, using(crate::proofs::Walks::fails_with), unfolding(crate::specs::Entries::message_of))]
 pub fn decode<A: Heap>(alloc: A, bytes: &[u8]) -> Result<Message<A>, WireError>
-    ensures { Gives {Y = layouts.Message} (λ m. m) result (message_of bytes.now) }
+    ensures exact { Gives {Y = layouts.Message} (λ m. m) result (message_of bytes.now) }
+    ensures read { IfOk result (λ m. IsMessage bytes.now m) }
+    ensures refused { IfErr result (λ e. (e ≡ Memory) ⊎ ((m : layouts.Message) → IsMessage bytes.now m → ⊥)) }
 {
     if bytes.len() < 12 {
         return Err(WireError::Short);
@@ -41,7 +46,9 @@ pub fn decode<A: Heap>(alloc: A, bytes: &[u8]) -> Result<Message<A>, WireError>
 /// The name of the first question in its own letters, where a question stands behind the header. Refused
 /// as `decode` refuses that name.
 pub fn question_spelling<A: Heap>(alloc: A, bytes: &[u8]) -> Result<Spelling<A>, WireError>
-    ensures { Gives {Y = List (List ℕ)} (λ s. s) result (spelling_of bytes.now 12) }
+    ensures exact { Gives {Y = List (List ℕ)} (λ s. s) result (spelling_of bytes.now 12) }
+    ensures read { IfOk result (λ s. (end : ℕ) × SpeltAt bytes.now 12 s end) }
+    ensures refused { IfErr result (λ e. (e ≡ Memory) ⊎ ((labels : List (List ℕ)) (end : ℕ) → SpeltAt bytes.now 12 labels end → ⊥)) }
 {
     spelling_at(alloc, bytes, 12)
 }

@@ -1,6 +1,7 @@
-use Rattle.std.proofs.Common.{[]}
+use Rattle.std.proofs.Common.{[], arith}
+use Rattle.std.specs.Prelude.{slice_range, ◌+◌}
 use Rattle.wire.specs.Parts.{spelt_at, name_at}
-use Rattle.wire.proofs.Walks.{walk_begins, walk_refused, name_refused, walk_too_long, walk_over, walk_forward, walk_ends, walk_pointer, name_found, name_label, gives_failed}
+use Rattle.wire.proofs.Walks.{walk_begins, walk_refused, name_refused, walk_too_long, walk_over, walk_forward, walk_ends, walk_pointer, name_found, name_label, gives_failed, label_long, label_room}
 use Rattle.std.proofs.Common.{◌∙◌, sym, ap, Ok}
 use Rattle.wire.proofs.names.name_at.Goals as goal
 
@@ -45,8 +46,8 @@ returns-then-stop-place-clause-is g c =
 pub parts-preserved-in-Label : goal.parts-preserved-in-Label
 parts-preserved-in-Label g c =
     let w = c.parts.invariant in
-    name_label c.args.bytes.now c.args.faults c.args.limit c.args.at c.parts.name c.push_label.new.self c.parts.start c.parts.place c.parts.stop c.parts.border c.parts.room c.parts.end w c.in-Label.size c.part_at.result c.part_at.ensures.is
-    (c.in_ok-part_at.was ∙ ap (λ p. Ok p) c.in-Label.is) c.if-room-size.false c.if-stop-place.false (rw c.in-Label.is at c.in_ok-part_at.ensures.shape).0 c.in-Ok.ensures
+    name_label c.args.bytes.now c.args.faults c.args.limit c.args.at c.parts.name c.put_label.new.name c.parts.start c.parts.place c.parts.stop c.parts.border c.parts.room c.parts.end w c.in-Label.size c.part_at.result c.part_at.ensures.is
+    (c.in_ok-part_at.was ∙ ap (λ p. Ok p) c.in-Label.is) c.if-room-size.false c.if-stop-place.false (rw c.in-Label.is at c.in_ok-part_at.ensures.shape).0 c.in_ok-put_label-in-Label.ensures
 
 pub returns-then-target-start-clause-is : goal.returns-then-target-start-clause-is
 returns-then-target-start-clause-is g c =
@@ -61,3 +62,14 @@ parts-preserved g c =
     let walk = walk_pointer c.args.bytes.now c.args.faults c.args.limit (spelt_at c.args.bytes.now c.args.faults c.args.limit c.args.at) w.front c.parts.start c.parts.place c.parts.stop c.parts.border c.parts.room c.parts.end w.walk c.in-Pointer.target c.part_at.result c.part_at.ensures.is
     (c.in_ok-part_at.was ∙ ap (λ p. Ok p) c.in-Pointer.is) c.if-target-start.false (rw c.in-Pointer.is at c.in_ok-part_at.ensures.shape).0 in
     record { front = w.front; walk = rw c.or-end.ensures walk; opened = w.opened; closed = w.closed }
+
+pub put_label-requires-clause-room : goal.put_label-requires-clause-room
+put_label-requires-clause-room g c =
+    let w = c.parts.invariant in
+    let inside = w.walk.fits in
+    let place = c.parts.place in
+    let size = c.in-Label.size in
+    let within = (rw c.in-Label.is at c.in_ok-part_at.ensures.shape).0 in
+    let fits = c.if-stop-place.false in
+    label_room c.parts.name w.front c.parts.room size (slice_range c.args.bytes.now (place + 1) (place + 1 + size)) w.closed w.walk.taken c.if-room-size.false
+    (label_long c.args.bytes.now place size (omega arith))
