@@ -1,5 +1,4 @@
-ghost use Rattle.std.specs.Prelude.{◌≡◌, ◌≤◌, [], IfOk, OnOk, OnErr, IsOk, IsSome};
-ghost use Rattle.std.specs.NonZero.{non_zero_usize_get};
+ghost use Rattle.std.specs.Prelude.{◌≡◌, ◌<◌, ◌≤◌, [], IfOk, OnOk, OnErr, IsOk, IsSome};
 ghost use Rattle.std.specs.Map.{lookup};
 ghost use Rattle.lru.specs.LruCache.{lru_cache};
 ghost use Rattle.recency.specs.Orders.{KeepsOnly, LosesOnly, MayGo};
@@ -34,13 +33,16 @@ impl<S: BuildHasher + Drop, A: Allocator> Model for Penalties<S, A> {
 }
 
 impl<S: BuildHasher + Drop, A: Heap> Penalties<S, A> {
-    /// No penalties, with room for those of `cap` addresses, which is taken as they come.
-    pub fn new(alloc: A, cap: NonZeroUsize, hasher: S) -> Result<Penalties<S, A>, Starved>
-        requires { non_zero_usize_get cap ≤ 1000000 }
-        ensures { IfOk result (λ p. p ≡ lru_cache [] (non_zero_usize_get cap)) }
+    /// No penalties, with room for those of `cap` addresses, 1 to 1,000,000, which is taken as they come.
+    pub fn new(alloc: A, cap: usize, hasher: S) -> Result<Penalties<S, A>, Starved>
+        requires some { 0 < cap }
+        requires few { cap ≤ 1000000 }
+        ensures { IfOk result (λ p. p ≡ lru_cache [] cap) }
     {
         let mut levels = LruCache::unbounded_with_hasher(alloc, hasher)?;
-        levels.resize(cap);
+        if let Some(cap) = NonZeroUsize::new(cap) {
+            levels.resize(cap);
+        }
         Ok(Penalties { levels })
     }
 

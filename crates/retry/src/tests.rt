@@ -4,7 +4,6 @@ use lru::DefaultHasher;
 use rdata::Addr;
 use refusing::Refusing;
 use std::hash::BuildHasherDefault;
-use std::num::NonZeroUsize;
 use std::test::Fail;
 
 const X: Addr = Addr([192, 0, 2, 1]);
@@ -13,11 +12,8 @@ const Y: Addr = Addr([192, 0, 2, 2]);
 
 const Z: Addr = Addr([192, 0, 2, 3]);
 
-fn penalties<A: Heap>(alloc: A, cap: usize) -> Result<Penalties<DefaultHasher, A>, Starved>
-    requires { cap ≤ 1000000 }
-{
-    let cap = NonZeroUsize::new(cap).unwrap_or(NonZeroUsize::MIN);
-    Penalties::new(alloc, cap, BuildHasherDefault::new())
+fn hasher() -> DefaultHasher {
+    BuildHasherDefault::new()
 }
 
 // What a plan of these addresses gives, and how long each is waited for.
@@ -47,7 +43,7 @@ fn rounds(first: Addr, second: Addr) -> [(Addr, u32); 4] {
 
 #[test]
 fn penalties_decide_the_order_of_two_rounds(rt: HostRuntime) -> Result<(), Fail> {
-    let mut penalties = penalties(rt.alloc(), 10)?;
+    let mut penalties = Penalties::new(rt.alloc(), 10, hasher())?;
     let both = [X, Y];
     assert!(rt; asked(rt.alloc(), &both, &penalties)?.as_slice() == rounds(X, Y).as_slice());
     penalties.timed_out(X)?;
@@ -62,7 +58,7 @@ fn penalties_decide_the_order_of_two_rounds(rt: HostRuntime) -> Result<(), Fail>
 
 #[test]
 fn penalties_stop_at_eight(rt: HostRuntime) -> Result<(), Fail> {
-    let mut penalties = penalties(rt.alloc(), 10)?;
+    let mut penalties = Penalties::new(rt.alloc(), 10, hasher())?;
     for level in [2, 4, 6, 8, 8] {
         penalties.timed_out(X)?;
         assert_eq!(rt; penalties.of(X), level);
@@ -74,7 +70,7 @@ fn penalties_stop_at_eight(rt: HostRuntime) -> Result<(), Fail> {
 // Two entries: the one that was used least goes, and one that fell to 0 still counts.
 #[test]
 fn the_least_used_penalty_goes(rt: HostRuntime) -> Result<(), Fail> {
-    let mut penalties = penalties(rt.alloc(), 2)?;
+    let mut penalties = Penalties::new(rt.alloc(), 2, hasher())?;
     penalties.timed_out(X)?;
     penalties.timed_out(Y)?;
     penalties.answered(X);
@@ -90,7 +86,7 @@ fn the_least_used_penalty_goes(rt: HostRuntime) -> Result<(), Fail> {
 }
 
 fn play<A: Heap>(alloc: A) -> Result<bool, Starved> {
-    let mut penalties = penalties(alloc, 2)?;
+    let mut penalties = Penalties::new(alloc, 2, hasher())?;
     penalties.timed_out(X)?;
     penalties.timed_out(Y)?;
     penalties.timed_out(X)?;
@@ -114,7 +110,7 @@ fn each_growth_refused_in_turn(rt: HostRuntime) -> Result<(), Fail> {
 #[test]
 fn a_refused_penalty_changes_nothing(rt: HostRuntime) -> Result<(), Fail> {
     let heap = Refusing::new(rt.alloc());
-    let mut penalties = penalties(&heap, 2)?;
+    let mut penalties = Penalties::new(&heap, 2, hasher())?;
     penalties.timed_out(X)?;
     heap.refuse_after(0);
     assert!(rt; penalties.timed_out(X).is_ok());
