@@ -1,6 +1,8 @@
-use dname::Name;
+ghost use Rattle.std.specs.Prelude.{◌≡◌};
+
+use dname::{Heap, Name};
 use rdata::{Record, Records};
-use std::alloc::{Allocator, Global};
+use std::alloc::{AllocError, Allocator, Global};
 
 /// What a zone says of a name and a type (RFC 1034, section 4.3.2; RFC 2308).
 #[derive(Drop)]
@@ -13,6 +15,19 @@ pub enum Link<A: Allocator = Global> {
     NoData(Record<A>),
     /// The name does not exist; with the zone's SOA.
     NxDomain(Record<A>),
+}
+
+impl<A: Heap> Clone for Link<A> {
+    ghost is_clone = { λ x y. y ≡ x };
+
+    fn clone(&self) -> Result<Link<A>, AllocError> {
+        match self {
+            Link::Found(records) => Ok(Link::Found(records.clone()?)),
+            Link::Alias(record) => Ok(Link::Alias(record.clone()?)),
+            Link::NoData(soa) => Ok(Link::NoData(soa.clone()?)),
+            Link::NxDomain(soa) => Ok(Link::NxDomain(soa.clone()?)),
+        }
+    }
 }
 
 /// What the local zones say.

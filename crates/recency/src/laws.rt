@@ -1,0 +1,33 @@
+//! Laws of lists of entries: functions that do nothing, whose clauses are proved.
+
+ghost use Rattle.std.specs.Prelude.{◌≡◌, ℕ, ◌≤◌, ◌⊎◌, Bool, false, List, Some, None, length, Contains};
+ghost use Rattle.std.specs.Map.{lookup, remove_entry};
+ghost use Rattle.lru.specs.LruCache.{lru_cache, put_entries, promoted};
+ghost use Rattle.recency.specs.Orders.{IsExact, kept, used, KeepsOnly, LosesOnly, HasSame, MayGo};
+
+/// What `put` leaves: the entry put, first; nothing else is new; and what goes is the old entry of its key,
+/// or what stood past the capacity where the key had none. A look-up then finds it, and of any other key
+/// what it found before, or nothing.
+pub fn kept_law<K, V>()
+    ensures put { (same : K → K → Bool) (cap : ℕ) (k : K) (v : V) (es : List (K × V)) → IsExact same → put_entries same (lru_cache es cap) k v ≡ kept same cap k v es }
+    ensures there { (same : K → K → Bool) (cap : ℕ) (k : K) (v : V) (es : List (K × V)) → Contains (kept same cap k v es) (k, v) }
+    ensures only { (same : K → K → Bool) (cap : ℕ) (k : K) (v : V) (es : List (K × V)) → KeepsOnly es (λ e. e ≡ (k, v)) (kept same cap k v es) }
+    ensures gone { (same : K → K → Bool) (cap : ℕ) (k : K) (v : V) (es : List (K × V)) → IsExact same → LosesOnly es (MayGo same cap k es) (kept same cap k v es) }
+    ensures found { (same : K → K → Bool) (cap : ℕ) (k : K) (v : V) (es : List (K × V)) → IsExact same → lookup (same k) (kept same cap k v es) ≡ Some v }
+    ensures others { (same : K → K → Bool) (cap : ℕ) (k : K) (v : V) (es : List (K × V)) (j : K) → IsExact same → same j k ≡ false
+        → (lookup (same j) (kept same cap k v es) ≡ lookup (same j) es) ⊎ (lookup (same j) (kept same cap k v es) ≡ None) }
+{}
+
+/// What `promote` leaves: the entry of the key first, the same entries, and the same answers.
+pub fn used_law<K, V>()
+    ensures promoted { (same : K → K → Bool) (k : K) (es : List (K × V)) → IsExact same → promoted (same k) es ≡ used same k es }
+    ensures members { (same : K → K → Bool) (k : K) (es : List (K × V)) → IsExact same → HasSame es (used same k es) }
+    ensures found { (same : K → K → Bool) (k j : K) (es : List (K × V)) → IsExact same → lookup (same j) (used same k es) ≡ lookup (same j) es }
+{}
+
+/// What `pop` leaves: nothing is new, and of other keys nothing goes and every answer stays.
+pub fn removed_law<K, V>()
+    ensures only { (test : K → Bool) (es : List (K × V)) (e : K × V) → Contains (remove_entry test es) e → Contains es e }
+    ensures gone { (same : K → K → Bool) (k : K) (es : List (K × V)) → IsExact same → LosesOnly es (λ e. e.0 ≡ k) (remove_entry (same k) es) }
+    ensures others { (same : K → K → Bool) (k j : K) (es : List (K × V)) → IsExact same → same j k ≡ false → lookup (same j) (remove_entry (same k) es) ≡ lookup (same j) es }
+{}

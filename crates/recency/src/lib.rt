@@ -1,0 +1,7 @@
+//! What `lru` does to the list of its entries, in exact words, where equality of keys is exact: laws for
+//! the stores that stand on it.
+#![tactic(auto)]
+
+mod laws;
+
+pub use laws::{kept_law, removed_law, used_law};

@@ -1,0 +1,3 @@
+pub mod Exact
+pub mod Orders
+pub mod Steps

@@ -1,0 +1,11 @@
+//! Which server is asked next: penalties of addresses, and plans of two rounds over addresses.
+#![tactic(auto)]
+
+mod penalties;
+mod plan;
+
+pub use penalties::Penalties;
+pub use plan::Plan;
+
+#[cfg(test)]
+mod tests;
