@@ -13,7 +13,7 @@ use Rattle.masterfile.specs.Faults.{onto}
 use Rattle.masterfile.specs.Entries.{Context, entry_in}
 use Rattle.masterfile.specs.Files.{start, after_entry, read_from, read_text}
 use Rattle.masterfile.specs.Printed.{line_text, file_text}
-use Rattle.masterfile.specs.ReadBack.{IsSound, AreSound, PrintedIsReadBack}
+use Rattle.masterfile.specs.ReadBack.{IsSound, AreSound, IsReadAs, PrintedIsReadBack}
 use Rattle.masterfile.proofs.NamesBack.{name_back, name_plain, name_some}
 use Rattle.masterfile.proofs.RecordsBack.{record_words, record_line, record_writable, record_back, next_context}
 
@@ -59,8 +59,11 @@ first_line : (c next : Context) (ws : List Word) (line : ℕ) (later : List Entr
 first_line c next ws line later rs e k = rw (e) k
 
 pub printed_is_read : PrintedIsReadBack
-printed_is_read first origin rs hf ho h =
+printed_is_read origin rs ho h first hf =
     let next : Context = record (start first) { origin = origin } in
     ap (read_text first) (file_lines origin rs)
     ∙ (ap (λ (es : List Entry). read_from (start first) es) (lines_are_read 1 (origin_words origin ∷ all_words rs) (origin_writable origin ho, all_writable rs h))
     ∙ first_line (start first) next (origin_words origin) 1 (entries_of 2 (all_words rs)) rs (origin_back (start first) origin hf ho) (records_back next 2 rs ho h))
+
+pub text_is_read : (origin : List (List ℕ)) (rs : List Record) (text : List ℕ) → text ≡ file_text origin rs → IsName origin → AreSound rs → IsReadAs text rs
+text_is_read origin rs text e ho h = rw e (printed_is_read origin rs ho h)

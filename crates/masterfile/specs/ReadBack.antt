@@ -45,6 +45,10 @@ abbrev pub AreSound : List Record → Type 0
 AreSound [] = Unit {0}
 AreSound (r ∷ rs) = IsSound r × AreSound rs
 
--- The text of records is read as these records, whatever origin the reader begins with.
+-- The text is read as these records, whatever origin the reader begins with.
+abbrev pub IsReadAs : List ℕ → List Record → Type 0
+IsReadAs text rs = (first : List (List ℕ)) → IsName first → read_text first text ≡ Ok rs
+
+-- The text of records is read as these records.
 abbrev pub PrintedIsReadBack : Type 0
-PrintedIsReadBack = (first origin : List (List ℕ)) (rs : List Record) → IsName first → IsName origin → AreSound rs → read_text first (file_text origin rs) ≡ Ok rs
+PrintedIsReadBack = (origin : List (List ℕ)) (rs : List Record) → IsName origin → AreSound rs → IsReadAs (file_text origin rs) rs
