@@ -10,3 +10,10 @@ mod HeadLaw
 mod EntryLaw
 pub mod TextLaw
 mod PrintLemmas
+mod PlainWords
+mod NumbersBack
+mod NamesBack
+mod AddressesBack
+mod StringsBack
+mod RecordsBack
+pub mod ReadBack

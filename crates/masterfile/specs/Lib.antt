@@ -8,3 +8,4 @@ pub mod Files
 pub mod Given
 pub mod MasterText
 pub mod Printed
+pub mod ReadBack

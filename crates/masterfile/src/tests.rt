@@ -1,91 +1,185 @@
 use super::*;
-use dname::Name;
+use crate::FileKind::{
+    BadClass, BadData, BadName, BadNumber, Memory, NoOwner, NoTtl, OpenText, UnknownDirective,
+    UnknownType,
+};
+use dname::{Heap, Name, NameError, Starved};
+use rdata::Record;
+use refusing::Refusing;
 use std::test::Fail;
 
-/// The line and kind of a text's first fault, both 0 where there is none.
-fn fault(rt: &HostRuntime, text: &str) -> Result<(usize, u8), Fail> {
-    let Ok(origin) = Name::from_text(rt.alloc(), "example") else {
-        return Ok((0, 99));
-    };
-    match read(rt.alloc(), &origin, text) {
-        Ok(_) => Ok((0, 0)),
-        Err(error) => Ok((error.line, error.kind.number())),
+mod texts;
+
+fn lines_of<A: Heap>(alloc: A, records: &[Record<A>]) -> Result<String<A>, Starved> {
+    let mut out = String::new(alloc);
+    for record in records {
+        put_record(&mut out, record)?;
+        out.push('\n')?;
     }
+    Ok(out)
 }
 
-// RFC 1035, section 5.3, with an address of RFC 3596, a text and a pointer; times as RFC 2308 has them.
+// Whether a text under the origin `example.` says this: its records printed, or the line and kind of its first fault.
+fn says<A: Heap>(
+    alloc: A,
+    text: &[u8],
+    wanted: Result<&str, (usize, FileKind)>,
+) -> Result<bool, NameError> {
+    let origin = Name::from_text(alloc, "example.")?;
+    Ok(match (read_block(alloc, &origin, text, 1), wanted) {
+        (Ok(records), Ok(lines)) => lines_of(alloc, records.as_slice())?.as_str() == lines,
+        (Err(fault), Err((line, kind))) => fault.line == line && fault.kind == kind,
+        _ => false,
+    })
+}
+// `head`, and then runs of these sizes, each of `byte` and behind `parting`.
+fn with_runs<A: Heap>(
+    alloc: A,
+    head: &str,
+    byte: &str,
+    parting: &str,
+    sizes: &[usize],
+) -> Result<String<A>, Starved> {
+    let mut text = String::from_str(alloc, head)?;
+    for size in sizes {
+        text.push_str(parting)?;
+        for _ in 0..*size {
+            text.push_str(byte)?;
+        }
+    }
+    Ok(text)
+}
+
+// The line and kind of a text's first fault under the origin `example.`, if it has one.
+fn fault_of<A: Heap>(alloc: A, text: &[u8]) -> Result<Option<(usize, FileKind)>, NameError> {
+    let origin = Name::from_text(alloc, "example.")?;
+    Ok(match read_block(alloc, &origin, text, 1) {
+        Ok(_) => None,
+        Err(fault) => Some((fault.line, fault.kind)),
+    })
+}
+
+// A label has at most 63 bytes; a name 255, of which `example.` takes 9; a string 255 after its escapes; data 65,535,
+// here 255 strings of 255 bytes and one of 254, each behind its length byte.
+#[test]
+fn greatest_sizes(rt: HostRuntime) -> Result<(), Fail> {
+    let rows: [(&str, &str, &str, &[usize], Option<(usize, FileKind)>); 11] = [
+        ("a 1 NS ", "b", "", &[63], None),
+        ("a 1 NS ", "\\098", "", &[63], None),
+        ("a 1 NS ", "b", "", &[64], Some((1, BadName))),
+        ("a 1 NS b", "b", ".", &[63, 63, 63, 51], None),
+        ("a 1 NS b", "b", ".", &[63, 63, 63, 52], Some((1, BadName))),
+        ("\nb", "b", ".", &[63, 63, 63, 52], Some((2, BadName))),
+        ("a 1 TXT ", "b", "\"", &[255, 0], None),
+        ("a 1 TXT ", "b", "\"", &[256, 0], Some((1, BadData))),
+        ("a 1 TXT ", "\\098", "", &[255], None),
+        ("a 1 TXT ", "\\\\", "", &[256], Some((1, BadData))),
+        ("a 1 TXT ", "b", " ", &[255; 256], Some((1, BadData))),
+    ];
+    for (head, byte, parting, sizes, wanted) in rows {
+        let text = with_runs(rt.alloc(), head, byte, parting, sizes)?;
+        let found = fault_of(rt.alloc(), text.as_bytes())?;
+        assert!(rt; found == wanted, "{head} {byte}");
+    }
+    let mut sizes = [255; 256];
+    sizes[100] = 254;
+    let text = with_runs(rt.alloc(), "a 1 TXT", "b", " ", &sizes)?;
+    assert!(rt; fault_of(rt.alloc(), text.as_bytes())? == None);
+    Ok(())
+}
+
+// A text in a larger one: lines count from its first; bytes need be no UTF-8.
+#[test]
+fn blocks(rt: HostRuntime) -> Result<(), Fail> {
+    let origin = Name::from_text(rt.alloc(), ".")?;
+    let found = read_block(rt.alloc(), &origin, b"a 1 A 192.0.2.1\nb 1 A x\n", 7);
+    assert!(rt;
+        matches!(
+            found,
+            Err(FileError {
+                line: 8,
+                kind: BadData
+            })
+        )
+    );
+    assert!(rt;
+        says(
+            rt.alloc(),
+            b"a 1 TXT \xff\x00\x7f \"\xc3\"",
+            Ok("a.example. 1 IN TXT \"\\255\\000\\127\" \"\\195\"\n")
+        )?
+    );
+    assert!(rt; says(rt.alloc(), b"\xff 1 A 192.0.2.1", Err((1, BadName)))?);
+    assert!(rt; says(rt.alloc(), b"a 1 A 192.0.2.1\xff", Err((1, BadData)))?);
+    assert!(rt; says(rt.alloc(), b"a 1 A\xff", Err((1, UnknownType)))?);
+    Ok(())
+}
+
+// Each kind's number, in the order of the rules.
+#[test]
+fn kinds_and_their_numbers(rt: HostRuntime) -> Result<(), Fail> {
+    let kinds = [
+        UnknownType,
+        BadName,
+        BadNumber,
+        NoTtl,
+        NoOwner,
+        OpenText,
+        UnknownDirective,
+        BadClass,
+        BadData,
+        Memory,
+    ];
+    let mut number = 1;
+    for kind in kinds {
+        assert_eq!(rt; kind.number(), number);
+        number = number.wrapping_add(1);
+    }
+    Ok(())
+}
+
+// A text of every type, and a faulty one that takes memory before its fault.
 const ZONE: &str =
-    "$TTL 3600\n@   IN  SOA     VENERA      Action\\.domains (\n  20     ; SERIAL\n  7200   ; REFRESH\n  600    ; RETRY\n  3600000; EXPIRE\n  60)    ; MINIMUM\n\n        NS      A.ISI.EDU.\n        NS      VENERA\n        MX      10      VENERA\n\nVENERA  A       10.1.0.52\n  5     A       128.9.0.32\n\t in 7 aaaa  2001:db8::1\n$ORIGIN sub\nalias   CNAME   @\nback 1 IN PTR venera.example.\nnote    TXT     \"a \\\"b\\\" c\" plain \\100\\;\n";
+    "$TTL 3600\n@ IN SOA VENERA Action\\.domains (\n 20 ; SERIAL\n 7200 600 3600000 60 )\n NS A.ISI.EDU.\n MX 10 VENERA\nVENERA A 10.1.0.52\n 5 AAAA 2001:db8::1\n$ORIGIN sub\nalias CNAME @\nback 1 IN PTR venera.example.\nnote TXT \"a \\\"b\\\" c\" plain \\100\\;\n";
 
-#[test]
-fn reads_every_type(rt: HostRuntime) -> Result<(), Fail> {
-    let origin = Name::from_text(rt.alloc(), "example");
-    assert!(rt; origin.is_ok());
-    if let Ok(origin) = origin {
-        let records = read(rt.alloc(), &origin, ZONE);
-        assert!(rt; records.is_ok());
-        if let Ok(records) = records {
-            let mut numbers = Vec::new(rt.alloc());
-            for record in records.as_slice() {
-                numbers.push((record.value.kind().number(), record.ttl))?;
-            }
-            assert_eq!(rt;
-                numbers.as_slice(),
-                [
-                    (6, 3600),
-                    (2, 3600),
-                    (2, 3600),
-                    (15, 3600),
-                    (1, 3600),
-                    (1, 5),
-                    (28, 7),
-                    (5, 3600),
-                    (12, 1),
-                    (16, 3600)
-                ]
-                .as_slice()
-            );
+const PRINTED: &str =
+    "$ORIGIN example.\nexample. 3600 IN SOA venera.example. action\\.domains.example. 20 7200 600 3600000 60\nexample. 3600 IN NS a.isi.edu.\nexample. 3600 IN MX 10 venera.example.\nvenera.example. 3600 IN A 10.1.0.52\nvenera.example. 5 IN AAAA 2001:db8:0:0:0:0:0:1\nalias.sub.example. 3600 IN CNAME sub.example.\nback.sub.example. 1 IN PTR venera.example.\nnote.sub.example. 3600 IN TXT \"a \\\"b\\\" c\" \"plain\" \"d;\"\n";
+
+const FAULTY: &str = "$ORIGIN a.b\n@ 1 TXT x \"y\" z\n 2 MX 5 c.d\n 3 SOA e f 1 2 3 4 x\n";
+
+// Whether a text under the origin `example.` is read and printed as `wanted`, or is refused by that fault; `None` where
+// memory lacks.
+fn comes_to<A: Heap>(alloc: A, text: &str, wanted: Result<&str, FileError>) -> Option<bool> {
+    let origin = Name::from_text(alloc, "example.").ok()?;
+    match (read(alloc, &origin, text), wanted) {
+        (Err(FileError { kind: Memory, .. }), _) => None,
+        (Err(found), Err(fault)) => Some(found == fault),
+        (Ok(records), Ok(printed)) => {
+            let out = print(alloc, &origin, records.as_slice()).ok()?;
+            Some(out.as_str() == printed)
         }
+        _ => Some(false),
     }
-    Ok(())
 }
 
+// With any one growth refused memory lacks; with none refused a text comes to what it stands for.
 #[test]
-fn names_the_first_fault(rt: HostRuntime) -> Result<(), Fail> {
-    assert_eq!(rt; fault(&rt, "")?, (0, 0));
-    assert_eq!(rt; fault(&rt, "a 1 IN HINFO x y\n")?, (1, 1));
-    assert_eq!(rt; fault(&rt, "a 1 2 A 1.2.3.4\n")?, (1, 1));
-    assert_eq!(rt; fault(&rt, "\na..b 1 A 1.2.3.4\n")?, (2, 2));
-    assert_eq!(rt; fault(&rt, "a 2147483648 A 1.2.3.4\n")?, (1, 3));
-    assert_eq!(rt; fault(&rt, "a 1 A 256.x.1.1\n")?, (1, 3));
-    assert_eq!(rt; fault(&rt, "; none\n\na A 1.2.3.4\n")?, (3, 4));
-    assert_eq!(rt; fault(&rt, " 1 A 1.2.3.4\n")?, (1, 5));
-    assert_eq!(rt; fault(&rt, "a 1 A 1.2.3.4\nb 1 TXT (\n\"x\"\n")?, (2, 6));
-    assert_eq!(rt; fault(&rt, "$INCLUDE f\n")?, (1, 7));
-    assert_eq!(rt; fault(&rt, "a 1 CH A 1.2.3.4\n")?, (1, 8));
-    assert_eq!(rt; fault(&rt, "a 1 A 0256.1.1.1\n")?, (1, 9));
-    assert_eq!(rt; fault(&rt, "a 1 A 1.2.3.4 5\n")?, (1, 9));
-    assert_eq!(rt; fault(&rt, "a 1 AAAA ::1.2.3.4\n")?, (1, 9));
-    Ok(())
-}
-
-#[test]
-fn prints_what_was_read(rt: HostRuntime) -> Result<(), Fail> {
-    let text = "$TTL 60\n@ SOA ns h ( 1 2 ; c\n  3 4 5 )\n  NS ns\na\\046b A 192.0.2.8\n";
-    let printed =
-        "$ORIGIN e.\ne. 60 IN SOA ns.e. h.e. 1 2 3 4 5\ne. 60 IN NS ns.e.\na\\.b.e. 60 IN A 192.0.2.8\n";
-    let origin = Name::from_text(rt.alloc(), "e.");
-    assert!(rt; origin.is_ok());
-    if let Ok(origin) = origin {
-        let records = read(rt.alloc(), &origin, text);
-        assert!(rt; records.is_ok());
-        if let Ok(records) = records {
-            let out = print(rt.alloc(), &origin, records.as_slice());
-            assert!(rt; out.is_ok());
-            if let Ok(out) = out {
-                assert_eq!(rt; out.as_str(), printed);
-            }
+fn refuses_each_growth_in_turn(rt: HostRuntime) -> Result<(), Fail> {
+    let faulty = FileError {
+        line: 4,
+        kind: BadData,
+    };
+    for (text, wanted) in [(ZONE, Ok(PRINTED)), (FAULTY, Err(faulty))] {
+        let heap = Refusing::new(rt.alloc());
+        assert!(rt; comes_to(&heap, text, wanted) == Some(true));
+        let growths = heap.growths();
+        assert!(rt; growths > 0);
+        for n in 0..growths {
+            heap.refuse_after(n);
+            assert!(rt; comes_to(&heap, text, wanted).is_none(), "growth {n}");
         }
+        heap.refuse_after(growths);
+        assert!(rt; comes_to(&heap, text, wanted) == Some(true));
     }
     Ok(())
 }

@@ -3,3 +3,4 @@ pub mod Fuel
 mod Heads
 pub mod PartsLaw
 pub mod LineLaw
+pub mod LinesLaw

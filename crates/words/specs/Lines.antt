@@ -1,7 +1,7 @@
--- Words written as a line, and the law that the line is read as them.
+-- Words written as lines, and the laws that the lines are read as them.
 use Rattle.std.specs.Prelude.{◌≡◌, ℕ, ◌+◌, ◌<◌, ◌==◌, Bool, true, false, ◌&&◌, not, List, [], ◌∷◌, ◌++◌, length}
 use Rattle.words.specs.Lexemes.{Word, plain, quoted, broken, ends_word}
-use Rattle.words.specs.Entries.{Text, lead, next_entry, with_word, text_from}
+use Rattle.words.specs.Entries.{Entry, margin, Text, lead, next_entry, with_word, text_from, entries_from}
 
 -- A word as it is written.
 abbrev pub written : Word → List ℕ
@@ -44,3 +44,21 @@ with_words (w ∷ ws) t = with_word w (with_words ws t)
 abbrev pub LineIsReadBack : Type 0
 LineIsReadBack = (line : ℕ) (ws : List Word) (rest : List ℕ) → AreWritable ws
     → text_from line false (line_of ws ++ rest) ≡ with_words ws (next_entry (line + 1) (lead rest) (text_from (line + 1) false rest))
+
+-- Lines one behind the other.
+abbrev pub lines_of : List (List Word) → List ℕ
+lines_of [] = []
+lines_of (ws ∷ wss) = line_of ws ++ lines_of wss
+
+abbrev pub AllWritable : List (List Word) → Type 0
+AllWritable [] = Unit {0}
+AllWritable (ws ∷ wss) = AreWritable ws × AllWritable wss
+
+-- An entry a line, from the line of this number on. Behind the last line's end stands one without words.
+abbrev pub entries_of : ℕ → List (List Word) → List Entry
+entries_of line [] = record { line = line; lead = margin; words = [] } ∷ []
+entries_of line (ws ∷ wss) = record { line = line; lead = margin; words = ws } ∷ entries_of (line + 1) wss
+
+-- A text of lines is read as these entries.
+abbrev pub LinesAreReadBack : Type 0
+LinesAreReadBack = (line : ℕ) (wss : List (List Word)) → AllWritable wss → entries_from line (lines_of wss) ≡ entries_of line wss

@@ -1,5 +1,5 @@
 //! Laws of the definitions.
-ghost use Rattle.words.specs.Lines.{LineIsReadBack};
+ghost use Rattle.words.specs.Lines.{LineIsReadBack, LinesAreReadBack};
 ghost use Rattle.words.specs.Parts.{PartsBothWays};
 
 /// The entries that the cursor shows are the text's parts by the rules of RFC 1035, section 5.1, and each text that
@@ -11,4 +11,9 @@ pub fn parts_both_ways()
 /// Words that are written as a line, with one space between them, are read as these words.
 pub fn line_is_read_back()
     ensures { LineIsReadBack }
+{}
+
+/// Lines of words that are written one behind the other are read as an entry each.
+pub fn lines_are_read_back()
+    ensures { LinesAreReadBack }
 {}
