@@ -1,28 +1,28 @@
 use super::*;
-use dname::{Name, Starved};
+use dname::{Heap, Name, Starved};
 use rdata::{Addr, CharacterString, RData, RType, Record, Records, Soa, Texts};
-use std::alloc::Global;
+use refusing::Refusing;
 use std::test::Fail;
 use zone::Zone;
 
-fn name(alloc: Global, text: &str) -> Result<Name, Starved> {
+fn name<A: Heap>(alloc: A, text: &str) -> Result<Name<A>, Starved> {
     match Name::from_text(alloc, text) {
         Ok(name) => Ok(name),
         Err(_) => Err(Starved),
     }
 }
 
-fn words(alloc: Global) -> Result<RData, Starved> {
+fn words<A: Heap>(alloc: A) -> Result<RData<A>, Starved> {
     let string = CharacterString::new(Vec::from_slice(alloc, b"words")?);
     Ok(RData::Txt(Texts::new(alloc, string)?))
 }
 
-fn put(
-    alloc: Global,
-    records: &mut Records,
+fn put<A: Heap>(
+    alloc: A,
+    records: &mut Records<A>,
     owner: &str,
     ttl: u16,
-    value: RData,
+    value: RData<A>,
 ) -> Result<(), Starved> {
     let owner = name(alloc, owner)?;
     records.push(Record {
@@ -33,7 +33,7 @@ fn put(
 }
 
 // The SOA and the server of a zone.
-fn top(alloc: Global, origin: &str) -> Result<Records, Starved> {
+fn top<A: Heap>(alloc: A, origin: &str) -> Result<Records<A>, Starved> {
     let mut records = Records::new(alloc);
     let soa = Soa {
         primary: name(alloc, "ns.example")?,
@@ -50,7 +50,7 @@ fn top(alloc: Global, origin: &str) -> Result<Records, Starved> {
     Ok(records)
 }
 
-fn zone(alloc: Global, origin: &str, records: Records) -> Result<Zone, Starved> {
+fn zone<A: Heap>(alloc: A, origin: &str, records: Records<A>) -> Result<Zone<A>, Starved> {
     match Zone::build(name(alloc, origin)?, records) {
         Ok(zone) => Ok(zone),
         Err(_) => Err(Starved),
@@ -58,7 +58,7 @@ fn zone(alloc: Global, origin: &str, records: Records) -> Result<Zone, Starved> 
 }
 
 // RFC 4592, section 2.2.1, in small: a wildcard, a name between owners and the origin, a cut, an alias.
-fn lab(alloc: Global) -> Result<Zone, Starved> {
+fn lab<A: Heap>(alloc: A) -> Result<Zone<A>, Starved> {
     let mut records = top(alloc, "lab.example")?;
     put(alloc, &mut records, "*.lab.example", 60, words(alloc)?)?;
     put(alloc, &mut records, "*.lab.example", 60, words(alloc)?)?;
@@ -73,7 +73,7 @@ fn lab(alloc: Global) -> Result<Zone, Starved> {
     zone(alloc, "lab.example", records)
 }
 
-fn catalog(alloc: Global) -> Result<Catalog, Starved> {
+fn catalog<A: Heap>(alloc: A) -> Result<Catalog<A>, Starved> {
     let mut zones = Vec::new(alloc);
     zones.push(zone(alloc, "example", top(alloc, "example")?)?)?;
     zones.push(lab(alloc)?)?;
@@ -84,12 +84,12 @@ fn catalog(alloc: Global) -> Result<Catalog, Starved> {
 }
 
 // The answer's kind, the name that it speaks of, and how many records and addresses it has.
-fn told(
-    alloc: Global,
-    zones: &Catalog,
+fn told<A: Heap>(
+    alloc: A,
+    zones: &Catalog<A>,
     asked: &str,
     kind: RType,
-) -> Result<(&'static str, String, usize, usize), Starved> {
+) -> Result<(&'static str, String<A>, usize, usize), Starved> {
     let asked = name(alloc, asked)?;
     match zones.look(alloc, &asked, kind)? {
         Local::Link(Link::Found(set)) => {
@@ -198,5 +198,27 @@ fn refuses_twins(rt: HostRuntime) -> Result<(), Fail> {
     if let Err(error) = refused {
         assert_eq!(rt; error, CatalogError::Twins);
     }
+    Ok(())
+}
+
+// What two zones say of a name beneath a wildcard, and of one beneath a cut.
+fn both_told<A: Heap>(alloc: A) -> Result<(usize, usize), Starved> {
+    let zones = catalog(alloc)?;
+    let (_, _, found, _) = told(alloc, &zones, "x.lab.example", RType::Txt)?;
+    let (_, _, _, glue) = told(alloc, &zones, "x.sub.lab.example", RType::A)?;
+    Ok((found, glue))
+}
+
+#[test]
+fn each_growth_is_refused_in_turn(rt: HostRuntime) -> Result<(), Fail> {
+    let heap = Refusing::new(rt.alloc());
+    assert!(rt; matches!(both_told(&heap), Ok((1, 1))));
+    let growths = heap.growths();
+    for n in 0..growths {
+        heap.refuse_after(n);
+        assert!(rt; both_told(&heap).is_err(), "growth {n}");
+    }
+    heap.refuse_after(growths);
+    assert!(rt; matches!(both_told(&heap), Ok((1, 1))));
     Ok(())
 }

@@ -23,3 +23,10 @@ pub use laws::{decoding_is_message, encoding_is_read_back, reading_is_spelling};
 pub use message::{Message, Question, Questions};
 pub use reader::{decode, question_spelling};
 pub use spelling::Spelling;
+
+#[cfg(test)]
+mod fault_tests;
+#[cfg(test)]
+mod growth_tests;
+#[cfg(test)]
+mod tests;

@@ -1,6 +1,7 @@
 use crate::{Zone, ZoneError};
 use dname::{Heap, Name, NameError};
 use rdata::{Addr, RData, Record, Records, Soa};
+use refusing::Refusing;
 use std::test::Fail;
 
 // The data of a row, in few words.
@@ -200,5 +201,35 @@ fn denials_have_the_lesser_ttl(rt: HostRuntime) -> Result<(), Fail> {
         let built = zone_of(rt.alloc(), &rows)?;
         assert!(rt; matches!(&built, Ok(zone) if zone.denial().ttl == wanted));
     }
+    Ok(())
+}
+
+// All kinds of sets that the rules keep: aliases, cuts, TTLs.
+const FULL: [Row; 6] = [
+    SOA,
+    NS,
+    CUT,
+    ("ns.sub.example.com", 60, Said::Address(1)),
+    ("a.example.com", 60, Said::Alias("b")),
+    ("*.example.com", 60, Said::Exchange),
+];
+
+#[test]
+fn each_growth_is_refused_in_turn(rt: HostRuntime) -> Result<(), Fail> {
+    let heap = Refusing::new(rt.alloc());
+    assert!(rt; matches!(zone_of(&heap, &FULL), Ok(Ok(_))));
+    let growths = heap.growths();
+    for n in 0..growths {
+        heap.refuse_after(n);
+        assert!(rt;
+            matches!(
+                zone_of(&heap, &FULL),
+                Err(NameError::Memory) | Ok(Err(ZoneError::Memory))
+            ),
+            "growth {n}"
+        );
+    }
+    heap.refuse_after(growths);
+    assert!(rt; matches!(zone_of(&heap, &FULL), Ok(Ok(_))));
     Ok(())
 }
