@@ -12,10 +12,14 @@ abbrev pub ask_app : App
 ask_app = with_rule (with_rule (with_rule (with_rule (new_app (codes "ask")) (word_rule (codes "origin"))) (word_rule (codes "file")))
     (word_rule (codes "name"))) (word_rule (codes "type"))
 
+-- `check ORIGIN FILE`, and `dump ORIGIN FILE`
+abbrev pub file_app : Text → App
+file_app name = with_rule (with_rule (new_app name) (word_rule (codes "origin"))) (word_rule (codes "file"))
+
 -- The line without its subcommands: one of them has to stand.
 abbrev pub bare_app : App
 bare_app = let a = new_app (codes "resolverd") in record a { top = record a.top { no_binary_name = true; subcommand_required = true } }
 
 -- The whole line.
 abbrev pub line_app : App
-line_app = with_subcommand bare_app ask_app.top
+line_app = with_subcommand (with_subcommand (with_subcommand bare_app ask_app.top) (file_app (codes "check")).top) (file_app (codes "dump")).top

@@ -2,13 +2,19 @@
 ghost use Rattle.std.specs.Prelude.{◌≡◌, IfOk, true, false, codes};
 ghost use Rattle.clap.specs.Words.{app_of, rule_of};
 ghost use Rattle.clap.specs.declared.builder.command.Command.TheViews.{out-Command};
-ghost use Rattle.commandline.specs.Grammar.{ask_app, line_app, word_rule};
+ghost use Rattle.commandline.specs.Grammar.{ask_app, file_app, line_app, word_rule};
 
 use clap::{Arg, ArgAction};
 use std::alloc::{AllocError, Global};
 
 /// What stands below the help: the numbers of faults and statuses in words.
-pub static NUMBERS: &str = "One line on standard error says what went wrong.
+pub static NUMBERS: &str = "For example, with the file examples/lab.zone:
+
+  resolverd ask lab.example. examples/lab.zone x.lab.example. TXT
+  resolverd check lab.example. examples/lab.zone
+  resolverd dump lab.example. examples/lab.zone
+
+One line on standard error says what went wrong.
 
   error: FILE:LINE: file K   the master file: 1 unknown type, 2 bad name, 3 bad number, 4 no TTL, 5 no owner,
                              6 open parenthesis or quote, 7 directive not served, 8 bad class, 9 bad data
@@ -44,6 +50,21 @@ fn ask_line<'a>(alloc: Global) -> Result<clap::Command<'a>, AllocError>
         .arg(word(alloc, "type"))
 }
 
+// `check ORIGIN FILE`, or `dump ORIGIN FILE`
+fn file_line<'a>(
+    alloc: Global,
+    name: &'a str,
+    about: &'a str,
+) -> Result<clap::Command<'a>, AllocError>
+    ensures app { IfOk result (λ c. app_of c ≡ file_app name.entry.now) }
+    ensures local { IfOk result (λ c. (out-Command c).has_globals ≡ false) }
+{
+    clap::Command::new(alloc, name)
+        .about(about)
+        .arg(word(alloc, "origin"))?
+        .arg(word(alloc, "file"))
+}
+
 /// The whole line, after the program's name.
 pub fn line<'a>(alloc: Global) -> Result<clap::Command<'a>, AllocError>
     ensures app { IfOk result (λ c. app_of c ≡ line_app) }
@@ -52,5 +73,15 @@ pub fn line<'a>(alloc: Global) -> Result<clap::Command<'a>, AllocError>
         .about("A recursive DNS resolver")
         .no_binary_name(true)
         .subcommand_required(true)
-        .subcommand(ask_line(alloc)?)
+        .subcommand(ask_line(alloc)?)?
+        .subcommand(file_line(
+            alloc,
+            "check",
+            "Reads a zone file and says how many records it has",
+        )?)?
+        .subcommand(file_line(
+            alloc,
+            "dump",
+            "Prints the records of a zone file, one a line",
+        )?)
 }

@@ -1,7 +1,7 @@
 //! The subcommands, read from what `clap` matched: a function and an arm for each.
-ghost use Rattle.std.specs.Prelude.{◌≡◌, IfOk, IfErr, Some, None, string_bytes};
+ghost use Rattle.std.specs.Prelude.{◌≡◌, IfOk, IfErr, Some, None, codes, string_bytes};
 ghost use Rattle.clap.specs.Words.{found_of, first_of, rows_of, subcommand_rows_of};
-ghost use Rattle.commandline.specs.Says.{Asks, Says};
+ghost use Rattle.commandline.specs.Says.{IsNamed, Says};
 ghost use Rattle.commandline.specs.declared.fault.LineFault.TheVariants.{Words};
 ghost use Rattle.commandline.specs.declared.subcommands.Command.{Command};
 
@@ -23,6 +23,20 @@ pub enum Command {
         /// The type that is asked for, as a word.
         kind: String,
     },
+    /// `check ORIGIN FILE`: says how many records a zone file has.
+    Check {
+        /// The zone's origin.
+        origin: String,
+        /// The path of the zone's master file.
+        file: String,
+    },
+    /// `dump ORIGIN FILE`: prints the records of a master file.
+    Dump {
+        /// The origin that the file begins with.
+        origin: String,
+        /// The path of the master file.
+        file: String,
+    },
 }
 
 // The word that stands for `id`.
@@ -37,8 +51,8 @@ fn text_of(alloc: Global, found: &ArgMatches<'_>, id: &str) -> Result<String, Li
 }
 
 fn read_ask(alloc: Global, found: &ArgMatches<'_>) -> Result<Command, LineFault>
-    ensures ok { IfOk result (Asks (rows_of (found_of found.now))) }
-    ensures refused { IfErr result (λ e. e ≡ Words → (command : Command) → Asks (rows_of (found_of found.now)) command → ⊥) }
+    ensures ok { IfOk result (IsNamed (codes "ask") (rows_of (found_of found.now))) }
+    ensures refused { IfErr result (λ e. e ≡ Words → (command : Command) → IsNamed (codes "ask") (rows_of (found_of found.now)) command → ⊥) }
 {
     let origin = text_of(alloc, found, "origin")?;
     let file = text_of(alloc, found, "file")?;
@@ -52,6 +66,24 @@ fn read_ask(alloc: Global, found: &ArgMatches<'_>) -> Result<Command, LineFault>
     })
 }
 
+fn read_check(alloc: Global, found: &ArgMatches<'_>) -> Result<Command, LineFault>
+    ensures ok { IfOk result (IsNamed (codes "check") (rows_of (found_of found.now))) }
+    ensures refused { IfErr result (λ e. e ≡ Words → (command : Command) → IsNamed (codes "check") (rows_of (found_of found.now)) command → ⊥) }
+{
+    let origin = text_of(alloc, found, "origin")?;
+    let file = text_of(alloc, found, "file")?;
+    Ok(Command::Check { origin, file })
+}
+
+fn read_dump(alloc: Global, found: &ArgMatches<'_>) -> Result<Command, LineFault>
+    ensures ok { IfOk result (IsNamed (codes "dump") (rows_of (found_of found.now))) }
+    ensures refused { IfErr result (λ e. e ≡ Words → (command : Command) → IsNamed (codes "dump") (rows_of (found_of found.now)) command → ⊥) }
+{
+    let origin = text_of(alloc, found, "origin")?;
+    let file = text_of(alloc, found, "file")?;
+    Ok(Command::Dump { origin, file })
+}
+
 /// The subcommand that the line names, with its words.
 pub fn read_subcommand(alloc: Global, matches: &ArgMatches<'_>) -> Result<Command, LineFault>
     ensures ok { IfOk result (Says (subcommand_rows_of matches.now)) }
@@ -59,6 +91,8 @@ pub fn read_subcommand(alloc: Global, matches: &ArgMatches<'_>) -> Result<Comman
 {
     match matches.subcommand() {
         Some(("ask", found)) => read_ask(alloc, found),
+        Some(("check", found)) => read_check(alloc, found),
+        Some(("dump", found)) => read_dump(alloc, found),
         _ => Err(LineFault::Words),
     }
 }

@@ -35,6 +35,24 @@ fn ask_takes_four_words(rt: HostRuntime) -> Result<(), Fail> {
     Ok(())
 }
 
+#[test]
+fn check_and_dump_take_two_words(rt: HostRuntime) -> Result<(), Fail> {
+    let line = words(rt.alloc(), &["check", "lab.example.", "lab.zone"])?;
+    let Ok(Command::Check { origin, file }) = read_words(rt.alloc(), line.as_slice()) else {
+        panic!(rt; "the line is refused");
+    };
+    assert_eq!(rt;
+        (origin.as_str(), file.as_str()),
+        ("lab.example.", "lab.zone")
+    );
+    let line = words(rt.alloc(), &["dump", ".", "root.zone"])?;
+    let Ok(Command::Dump { origin, file }) = read_words(rt.alloc(), line.as_slice()) else {
+        panic!(rt; "the line is refused");
+    };
+    assert_eq!(rt; (origin.as_str(), file.as_str()), (".", "root.zone"));
+    Ok(())
+}
+
 fn number_of(rt: &impl Abort, line: &Result<Command, LineFault>) -> u8 {
     match line {
         Ok(_) => panic!(rt; "the line is taken"),
@@ -44,16 +62,9 @@ fn number_of(rt: &impl Abort, line: &Result<Command, LineFault>) -> u8 {
 
 #[test]
 fn other_lines_are_refused(rt: HostRuntime) -> Result<(), Fail> {
-    let missing = words(
-        rt.alloc(),
-        &["ask", "lab.example.", "lab.zone", "x.lab.example."],
-    )?;
-    assert_eq!(rt;
-        number_of(&rt, &read_words(rt.alloc(), missing.as_slice())),
-        1
-    );
-    let unknown = words(
-        rt.alloc(),
+    let lines: [&[&str]; 10] = [
+        &[],
+        &["--help"],
         &[
             "answer",
             "lab.example.",
@@ -61,18 +72,35 @@ fn other_lines_are_refused(rt: HostRuntime) -> Result<(), Fail> {
             "x.lab.example.",
             "TXT",
         ],
-    )?;
-    assert_eq!(rt;
-        number_of(&rt, &read_words(rt.alloc(), unknown.as_slice())),
-        1
-    );
-    let nothing = words(rt.alloc(), &[])?;
-    assert_eq!(rt;
-        number_of(&rt, &read_words(rt.alloc(), nothing.as_slice())),
-        1
-    );
-    let help = words(rt.alloc(), &["--help"])?;
-    assert_eq!(rt; number_of(&rt, &read_words(rt.alloc(), help.as_slice())), 1);
+        &["ask", "lab.example.", "lab.zone", "x.lab.example."],
+        &[
+            "ask",
+            "lab.example.",
+            "lab.zone",
+            "x.lab.example.",
+            "TXT",
+            "more",
+        ],
+        &[
+            "ask",
+            "--fast",
+            "lab.example.",
+            "lab.zone",
+            "x.lab.example.",
+            "TXT",
+        ],
+        &["check", "lab.example."],
+        &["check", "lab.example.", "lab.zone", "more"],
+        &["dump"],
+        &["dump", "lab.example.", "lab.zone", "more"],
+    ];
+    for line in &lines {
+        let refused = words(rt.alloc(), *line)?;
+        assert_eq!(rt;
+            number_of(&rt, &read_words(rt.alloc(), refused.as_slice())),
+            1
+        );
+    }
     Ok(())
 }
 
