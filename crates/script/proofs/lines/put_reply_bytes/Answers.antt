@@ -12,9 +12,9 @@ pub returns-in-Ok : goal.returns-in-Ok
 returns-in-Ok g c =
     on_ok_weaker c.put_reply.result (λ printed m is. printed
     ∙ ap (λ (n : Message). string_bytes c.args.out.now ++ reply_text c.args.client n c.args.cause)
-    (one_read c.in-Ok.message m (message_of c.args.bytes.now) c.in-Ok.ensures is)) c.put_reply.ensures
+    (one_read c.in-Ok.message m (message_of c.args.bytes.now) c.in-Ok.ensures.exact is)) c.put_reply.ensures
 
 pub returns-in-Err : goal.returns-in-Err
 returns-in-Err g c m is =
     let other : c.in-Err.field-0 ≡ Memory → ⊥ = search rules in
-    absurd (none_read c.in-Err.field-0 m (message_of c.args.bytes.now) other c.in-Err.ensures is)
+    absurd (none_read c.in-Err.field-0 m (message_of c.args.bytes.now) other c.in-Err.ensures.exact is)
