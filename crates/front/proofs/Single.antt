@@ -1,46 +1,39 @@
 -- What bytes ask, and what local zones answer, is one thing.
-use Rattle.std.proofs.Common.{◌≡◌, ◌∙◌, sym, ap, ap₂, subst, inl, inr, arith, zero, suc, ℕ, ◌+◌, ◌<◌, ◌≤◌, ◌⊎◌, true, Bool, Result, Ok, Err, List, [], ◌∷◌, length, refl}
+use Rattle.std.proofs.Common.{◌≡◌, ◌∙◌, sym, ap, ap₂, subst, inl, inr, arith, ℕ, ◌≤◌, true, List, [], ◌∷◌, length, refl}
 use Rattle.rdata.specs.Records.{Record}
 use Rattle.zone.specs.Links as said
 use Rattle.zone.specs.Look as looked
 use Rattle.zone.specs.Look.{Local}
 use Rattle.layout.specs.Messages.{Message, Question}
-use Rattle.wire.specs.Entries.{message_of, spelling_of}
-use Rattle.wire.specs.declared.error.WireError.{WireError}
-use Rattle.authority.specs.declared.cause.Cause.TheVariants.{Chain}
+use Rattle.layout.proofs.Reading.{spelling_one}
+use Rattle.layout.proofs.Single.{message_one}
 use Rattle.front.specs.Openings.{Opening, opening_of}
-use Rattle.front.specs.Queries.{Heard, nothing_heard, other_heard, one_heard, IsHeard, IsDropped, IsRead, IsAsked, by_heard, by_question}
-use Rattle.front.specs.Chains.{Leads, IsEndAt, IsEndOf, IsChain, IsLong, FollowsOn, AnswersFrom, AnswersLocally, target_of}
+use Rattle.front.specs.Queries.{Heard, nothing_heard, other_heard, one_heard, IsHeard, IsAsked, by_heard, by_question}
+use Rattle.front.specs.Chains.{Leads, IsEndAt, IsChain, IsLong, FollowsOn, AnswersFrom, AnswersLocally, target_of}
 use Rattle.front.specs.declared.queries.Asked.{Asked}
 use Rattle.front.specs.declared.queries.End.{End}
 use Rattle.front.specs.declared.queries.Outcome.{Outcome}
-use Rattle.front.specs.declared.queries.Outcome.TheVariants.{Answer, Fail}
+use Rattle.front.specs.declared.queries.Outcome.TheVariants.{Answer}
 
 -- ---- queries
 
 one_of_list : (q r : Question) → q ∷ [] ≡ r ∷ [] → q ≡ r
 one_of_list q r e = cc
 
-one_ok : {X : Type 0} (x y : X) (r : Result X WireError) → r ≡ Ok x → r ≡ Ok y → x ≡ y
-one_ok x y r h k = cc
-
-ok_or_err : {X Z : Type 0} (x : X) (e : WireError) (r : Result X WireError) → r ≡ Ok x → r ≡ Err e → Z
-ok_or_err x e r h k = cc
-
 heard_once : {A : Type 0} (bytes : List ℕ) (s : Opening) (g h : Heard) → IsHeard bytes g → IsHeard bytes h → by_heard {A = A} s g ≡ by_heard s h
 heard_once bytes s nothing_heard nothing_heard x y = refl
 heard_once bytes s nothing_heard (other_heard m) x y = refl
-heard_once bytes s nothing_heard (one_heard m q letters) x y = ok_or_err m x.0 (message_of bytes) y.0 x.1
+heard_once bytes s nothing_heard (one_heard m q letters) x y = absurd (x m y.0)
 heard_once bytes s (other_heard m) nothing_heard x y = refl
 heard_once bytes s (other_heard m) (other_heard n) x y = refl
 heard_once bytes s (other_heard m) (one_heard n q letters) x y =
-    absurd (x.1 (ap (λ (k : Message). length k.questions) (one_ok m n (message_of bytes) x.0 y.0) ∙ ap length y.1))
-heard_once bytes s (one_heard m q letters) nothing_heard x y = ok_or_err m y.0 (message_of bytes) x.0 y.1
+    absurd (x.1 (ap (λ (k : Message). length k.questions) (message_one bytes m n x.0 y.0) ∙ ap length y.1))
+heard_once bytes s (one_heard m q letters) nothing_heard x y = absurd (y m x.0)
 heard_once bytes s (one_heard m q letters) (other_heard n) x y =
-    absurd (y.1 (ap (λ (k : Message). length k.questions) (one_ok n m (message_of bytes) y.0 x.0) ∙ ap length x.1))
+    absurd (y.1 (ap (λ (k : Message). length k.questions) (message_one bytes n m y.0 x.0) ∙ ap length x.1))
 heard_once bytes s (one_heard m q letters) (one_heard n r spelt) x y =
-    ap₂ (by_question s) (one_of_list q r (sym x.1 ∙ ap (λ (k : Message). k.questions) (one_ok m n (message_of bytes) x.0 y.0) ∙ y.1))
-    (one_ok letters spelt (spelling_of bytes 12) x.2 y.2)
+    ap₂ (by_question s) (one_of_list q r (sym x.1 ∙ ap (λ (k : Message). k.questions) (message_one bytes m n x.0 y.0) ∙ y.1))
+    (spelling_one bytes 12 letters spelt x.2.0 y.2.0 x.2.1 y.2.1).0
 
 pub asked_once : {A : Type 0} (bytes : List ℕ) (a b : Asked A) → IsAsked bytes a → IsAsked bytes b → a ≡ b
 asked_once bytes a b (inl x) (inl y) = x.1 ∙ sym y.1

@@ -1,13 +1,11 @@
 -- What the bytes from a client ask (RFC 1035, sections 4.1.1 and 7.3).
-use Rattle.std.specs.Prelude.{◌≡◌, ℕ, ◌+◌, ◌*◌, ◌/◌, ◌%◌, ◌<◌, ◌≤◌, ◌⊎◌, Bool, ◌&&◌, cond, nat_eq, Option, Some, None, Ok, Err, List, [], ◌∷◌, length, slice_index}
+use Rattle.std.specs.Prelude.{◌≡◌, ℕ, ◌<◌, ◌≤◌, ◌⊎◌, Bool, ◌&&◌, cond, nat_eq, Some, None, List, [], ◌∷◌, length, slice_index}
 use Rattle.rdata.specs.Types.{is_served}
 use Rattle.rdata.specs.declared.rtype.RType.{RType}
 use Rattle.rdata.specs.declared.rtype.RType.TheVariants as kind
-use Rattle.layout.specs.Messages.{Message, Question, internet}
-use Rattle.wire.specs.Entries.{message_of, spelling_of}
-use Rattle.wire.specs.declared.error.WireError.{WireError}
+use Rattle.layout.specs.Messages.{Message, Question, internet, IsMessage}
+use Rattle.layout.specs.Names.{SpeltAt}
 use Rattle.front.specs.Openings.{Opening, opening_of}
-use Rattle.front.specs.declared.queries.Refusal.{Refusal}
 use Rattle.front.specs.declared.queries.Refusal.TheVariants.{FormErr, NotImp}
 use Rattle.front.specs.declared.queries.Query.{Query as Asking}
 use Rattle.front.specs.declared.queries.Asked.{Asked}
@@ -21,9 +19,9 @@ pub data Heard : Type 0 where
   one_heard : Message → Question → List (List ℕ) → Heard
 
 abbrev pub IsHeard : List ℕ → Heard → Type 0
-IsHeard bytes nothing_heard = (e : WireError) × (message_of bytes ≡ Err e)
-IsHeard bytes (other_heard m) = (message_of bytes ≡ Ok m) × (length m.questions ≡ 1 → ⊥)
-IsHeard bytes (one_heard m q letters) = (message_of bytes ≡ Ok m) × (m.questions ≡ q ∷ []) × (spelling_of bytes 12 ≡ Ok letters)
+IsHeard bytes nothing_heard = (m : Message) → IsMessage bytes m → ⊥
+IsHeard bytes (other_heard m) = IsMessage bytes m × (length m.questions ≡ 1 → ⊥)
+IsHeard bytes (one_heard m q letters) = IsMessage bytes m × (m.questions ≡ q ∷ []) × ((end : ℕ) × SpeltAt bytes 12 letters end)
 
 -- The type of a number that is served.
 abbrev pub kind_with : ℕ → RType

@@ -1,11 +1,10 @@
 -- The lines of a reply.
-use Rattle.std.specs.Prelude.{◌≡◌, ℕ, Bool, cond, nat_eq, Option, Some, None, Ok, List, [], ◌++◌, codes, decimal}
+use Rattle.std.specs.Prelude.{◌≡◌, ℕ, Bool, cond, nat_eq, Option, Some, None, List, [], ◌++◌, codes, decimal}
 use Rattle.std.specs.List.{flat_map}
 use Rattle.dname.specs.Text.{name_text}
 use Rattle.rdata.specs.Records.{Record}
 use Rattle.rdata.specs.Text.{data_text}
-use Rattle.layout.specs.Messages.{Header, Message}
-use Rattle.wire.specs.Entries.{message_of}
+use Rattle.layout.specs.Messages.{Header, Message, IsMessage}
 use Rattle.authority.specs.Causes.{cause_number}
 use Rattle.authority.specs.declared.cause.Cause.{Cause}
 
@@ -42,4 +41,4 @@ reply_text client m cause =
 
 -- The lines of the reply that bytes are stand behind the text before.
 abbrev pub ArePrinted : List ℕ → ℕ → Option Cause → List ℕ → List ℕ → Type 0
-ArePrinted bytes client cause before printed = (m : Message) → message_of bytes ≡ Ok m → printed ≡ before ++ reply_text client m cause
+ArePrinted bytes client cause before printed = (m : Message) → IsMessage bytes m → printed ≡ before ++ reply_text client m cause

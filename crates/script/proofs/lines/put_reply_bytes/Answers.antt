@@ -1,20 +1,19 @@
--- Bytes are read as one message at most.
-use Rattle.std.proofs.Common.{rules, ◌≡◌, ◌∙◌, ap, ◌++◌, string_bytes}
+-- Bytes are one message at most.
+use Rattle.std.proofs.Common.{rules, ◌≡◌, ◌∙◌, ap, ⊎_elim, ◌++◌, string_bytes}
 use Rattle.std.proofs.lemmas.Result.{on_ok_weaker}
 use Rattle.layout.specs.Messages.{Message}
-use Rattle.wire.specs.Entries.{message_of}
+use Rattle.layout.proofs.Single.{message_one}
 use Rattle.wire.specs.declared.error.WireError.TheVariants.{Memory}
 use Rattle.script.specs.Lines.{reply_text}
-use Rattle.script.proofs.Refused.{one_read, none_read}
 use Rattle.script.proofs.lines.put_reply_bytes.Goals as goal
 
 pub returns-in-Ok : goal.returns-in-Ok
 returns-in-Ok g c =
     on_ok_weaker c.put_reply.result (λ printed m is. printed
     ∙ ap (λ (n : Message). string_bytes c.args.out.now ++ reply_text c.args.client n c.args.cause)
-    (one_read c.in-Ok.message m (message_of c.args.bytes.now) c.in-Ok.ensures is)) c.put_reply.ensures
+    (message_one c.args.bytes.now c.in-Ok.message m c.in-Ok.ensures.read is)) c.put_reply.ensures
 
 pub returns-in-Err : goal.returns-in-Err
 returns-in-Err g c m is =
     let other : c.in-Err.field-0 ≡ Memory → ⊥ = search rules in
-    absurd (none_read c.in-Err.field-0 m (message_of c.args.bytes.now) other c.in-Err.ensures is)
+    ⊎_elim (λ e. absurd (other e)) (λ none. absurd (none m is)) c.in-Err.ensures.refused
