@@ -1,0 +1,31 @@
+use Rattle.std.proofs.Common.{◌≡◌, sym, ap, ◌∙◌}
+use Rattle.lru.specs.LruCache.{lru_cache, promoted}
+use Rattle.cache.specs.Keys.{same_key}
+use Rattle.rdata.specs.Types.{type_number}
+use Rattle.cache.specs.Cached.{under, answer}
+use Rattle.cache.proofs.Steps.{hit_is_held, moved_some, moved_none, moved_members}
+use Rattle.cache.proofs.cache.Cache.look.Goals as goal
+use Rattle.cache.proofs.cache.Cache.look.Goals.{then-is_some, else-is_some}
+
+pub returns-clause-held : goal.returns-clause-held
+returns-clause-held g c =
+    let found : under c.find.new.key c.in_ok-hit.hit ≡ answer c.args.name.now (type_number c.args.kind) c.args.now c.args.self.now.entries =
+    c.in_ok-hit.ensures ∙ ap (λ q. answer q (type_number c.args.kind) c.args.now c.args.self.now.entries) c.in_ok-clone.ensures.cases in
+    hit_is_held c.args.name.now (type_number c.args.kind) c.args.now c.args.self.now.entries c.find.new.key c.in_ok-hit.hit found
+
+pub returns-clause-ok : goal.returns-clause-ok
+returns-clause-ok g c =
+    let found : under c.find.new.key c.in_ok-hit.hit ≡ answer c.args.name.now (type_number c.args.kind) c.args.now c.args.self.now.entries =
+    c.in_ok-hit.ensures ∙ ap (λ q. answer q (type_number c.args.kind) c.args.now c.args.self.now.entries) c.in_ok-clone.ensures.cases in
+    let before = c.args.self.now in
+    let after = c.if-is_some.self in
+    let at = answer c.args.name.now (type_number c.args.kind) c.args.now c.args.self.now.entries in
+    elim c.if-is_some.branch [
+      | then-is_some w ↦ moved_some before after c.find.new.key c.in_ok-hit.hit at found (sym c.is_some.ensures ∙ w.if-is_some.true)
+        (w.self-is ∙ (w.promote.ensures.entries ∙ ap (λ x. lru_cache (promoted (same_key c.find.new.key) x.entries) x.cap) c.self.view_is))
+      | else-is_some w ↦ moved_none before after c.find.new.key c.in_ok-hit.hit at found (sym c.is_some.ensures ∙ w.if-is_some.false) w.self-is
+    ]
+
+pub returns-clause-members : goal.returns-clause-members
+returns-clause-members g c =
+    moved_members c.args.self.now c.if-is_some.self (answer c.args.name.now (type_number c.args.kind) c.args.now c.args.self.now.entries) (returns-clause-ok g c)

@@ -1,0 +1,125 @@
+-- What a cache of links gives for a question, and what it holds after each call.
+use Rattle.std.specs.Prelude.{◌≡◌, ◌≢◌, ℕ, ◌+◌, ◌-◌, ◌*◌, Bool, true, false, cond, nat_lt, nat_eq, ◌⊎◌, Option, Some, None, option_map, List, [], ◌∷◌, drop, Contains}
+use Rattle.std.specs.Map.{lookup, remove_entry}
+use Rattle.zone.specs.Links.{Link, Found, Alias, NoData, NxDomain}
+use Rattle.zone.specs.Zones.{cname_type}
+use Rattle.recency.specs.Orders.{kept, used, MayGo}
+use Rattle.cache.specs.Keys.{Key, same_key, kind_key, error_key, key_for}
+
+-- A link as it is kept: its time to live in seconds, and the moment since which it is kept, in milliseconds.
+pub record Hit : Type 0 where
+  pub link : Link
+  pub ttl : ℕ
+  pub since : ℕ
+
+abbrev pub as_kept : Link → ℕ → ℕ → Hit
+as_kept l ttl now = record { link = l; ttl = ttl; since = now }
+
+-- Younger than its time to live. A link that was kept in what is now the future has age 0.
+abbrev pub is_live : ℕ → Hit → Bool
+is_live now h = nat_lt (now - h.since) (1000 * h.ttl)
+
+-- The answer for the type under which a link stands: an alias is a set of one CNAME record there.
+abbrev pub as_set : Link → Link
+as_set (Found rs) = Found rs
+as_set (Alias r) = Found (r ∷ [])
+as_set (NoData soa) = NoData soa
+as_set (NxDomain soa) = NxDomain soa
+
+-- The answer for another type: a CNAME record is an alias, and the want of one is nothing.
+abbrev pub as_alias : Link → Option Link
+as_alias (Found []) = None
+as_alias (Found (r ∷ rs)) = Some (Alias r)
+as_alias (Alias r) = Some (Alias r)
+as_alias (NoData soa) = None
+as_alias (NxDomain soa) = None
+
+abbrev pub with_link : Hit → Option Link → Option Hit
+with_link h None = None
+with_link h (Some l) = Some (record { link = l; ttl = h.ttl; since = h.since })
+
+abbrev pub live_from : ℕ → Option Hit → Option Hit
+live_from now None = None
+live_from now (Some h) = cond (is_live now h) (Some h) None
+
+abbrev pub set_from : Option Hit → Option Hit
+set_from None = None
+set_from (Some h) = with_link h (Some (as_set h.link))
+
+abbrev pub alias_from : Option Hit → Option Hit
+alias_from None = None
+alias_from (Some h) = with_link h (as_alias h.link)
+
+-- What is kept under the key and lives.
+abbrev pub live_at : ℕ → Key → List (Key × Hit) → Option Hit
+live_at now k es = live_from now (lookup (same_key k) es)
+
+abbrev pub set_at : ℕ → Key → List (Key × Hit) → Option Hit
+set_at now k es = set_from (live_at now k es)
+
+abbrev pub alias_at : ℕ → Key → List (Key × Hit) → Option Hit
+alias_at now k es = alias_from (live_at now k es)
+
+abbrev pub under : Key → Option Hit → Option (Key × Hit)
+under k None = None
+under k (Some h) = Some (k, h)
+
+abbrev pub or_else : Option (Key × Hit) → Option (Key × Hit) → Option (Key × Hit)
+or_else None later = later
+or_else (Some hit) later = Some hit
+
+-- The answer and the key under which it stands: the name's error, then the asked type, then, for a type
+-- other than CNAME, the alias. The first that lives answers.
+abbrev pub answer : List (List ℕ) → ℕ → ℕ → List (Key × Hit) → Option (Key × Hit)
+answer q t now es =
+    or_else (under (error_key q) (set_at now (error_key q) es))
+    (or_else (under (kind_key q t) (set_at now (kind_key q t) es))
+    (cond (nat_eq t cname_type) None (under (kind_key q cname_type) (alias_at now (kind_key q cname_type) es))))
+
+abbrev pub hit_of : Option (Key × Hit) → Option Hit
+hit_of None = None
+hit_of (Some a) = Some a.1
+
+abbrev pub moved : Option (Key × Hit) → List (Key × Hit) → List (Key × Hit)
+moved None es = es
+moved (Some a) es = used same_key a.0 es
+
+-- The entry that answers goes first.
+abbrev pub after_look : List (List ℕ) → ℕ → ℕ → List (Key × Hit) → List (Key × Hit)
+after_look q t now es = moved (answer q t now es) es
+
+abbrev pub is_error : Link → Bool
+is_error (Found rs) = false
+is_error (Alias r) = false
+is_error (NoData soa) = false
+is_error (NxDomain soa) = true
+
+-- A link other than a name error says that the name exists: its name error goes.
+abbrev pub swept : List (List ℕ) → Link → List (Key × Hit) → List (Key × Hit)
+swept q l es = cond (is_error l) es (remove_entry (same_key (error_key q)) es)
+
+-- The link goes first under its key; with TTL 0 it is not kept, and what stood under its key goes.
+abbrev pub stored : ℕ → Key → Hit → List (Key × Hit) → List (Key × Hit)
+stored cap k h es = cond (nat_eq h.ttl 0) (remove_entry (same_key k) es) (kept same_key cap k h es)
+
+abbrev pub after_keep : ℕ → List (List ℕ) → ℕ → Hit → List (Key × Hit) → List (Key × Hit)
+after_keep cap q t h es = swept q h.link (stored cap (key_for q t h.link) h es)
+
+-- ---- the same by members
+
+-- The entry that is new after `keep`.
+abbrev pub IsKept : List (List ℕ) → ℕ → Hit → Key × Hit → Type 0
+IsKept q t h e = (e ≡ (key_for q t h.link, h)) × (h.ttl ≢ 0)
+
+-- What may be gone after `keep`: what stood under the key, the name's error where a link other than that is
+-- kept, and what stood past the capacity where the key is new.
+abbrev pub IsGone : ℕ → List (List ℕ) → ℕ → Hit → List (Key × Hit) → Key × Hit → Type 0
+IsGone cap q t h es e = ((e.0 ≡ error_key q) × (is_error h.link ≡ false)) ⊎ MayGo same_key cap (key_for q t h.link) es e
+
+-- How an entry answers a question: as it stands under the name's error or the asked type, or as an alias.
+abbrev pub Answers : List (List ℕ) → ℕ → Key → Link → Link → Type 0
+Answers q t k l given = ((k ≡ error_key q) × (given ≡ as_set l)) ⊎ (((k ≡ kind_key q t) × (given ≡ as_set l)) ⊎ ((k ≡ kind_key q cname_type) × (t ≢ cname_type) × (as_alias l ≡ Some given)))
+
+-- A hit is an entry that is there and lives, with its own time to live and moment.
+abbrev pub IsHeld : List (List ℕ) → ℕ → ℕ → List (Key × Hit) → Hit → Type 0
+IsHeld q t now es h = (k : Key) × (e : Hit) × Contains es (k, e) × (is_live now e ≡ true) × Answers q t k e.link h.link × (h.ttl ≡ e.ttl) × (h.since ≡ e.since)

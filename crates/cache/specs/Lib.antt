@@ -1,0 +1,4 @@
+pub mod Cached
+pub mod Keys
+pub mod Kinds
+pub mod Laws

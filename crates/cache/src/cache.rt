@@ -1,0 +1,174 @@
+ghost use Rattle.std.specs.Prelude.{◌≡◌, ◌≢◌, ◌<◌, ◌≤◌, [], IfOk, OnOk, OnErr, IfSome, Contains};
+ghost use Rattle.lru.specs.LruCache.{lru_cache};
+ghost use Rattle.rdata.specs.Types.{type_number};
+ghost use Rattle.authority.specs.Answers.{link_view};
+ghost use Rattle.recency.specs.Orders.{KeepsOnly, LosesOnly, HasSame};
+ghost use Rattle.cache.specs.Keys.{key_for, error_key};
+ghost use Rattle.cache.specs.Cached.{as_kept, is_error, set_at, alias_at, under, answer, hit_of, after_look, swept, stored, after_keep, IsKept, IsGone, IsHeld};
+
+use crate::hit::Hit;
+use crate::key::{Key, Slot};
+use authority::Link;
+use dname::{Heap, Name, Starved};
+use lru::LruCache;
+use rdata::RType;
+use std::alloc::{Allocator, Global};
+use std::hash::BuildHasher;
+use std::marker::Model;
+use std::num::NonZeroUsize;
+
+/// Links that are kept. Contracts see the entries, the most recently used first, and the capacity. An entry
+/// whose time is over stays until it is replaced or pushed out.
+#[derive(Drop)]
+pub struct Cache<S: BuildHasher + Drop, A: Allocator = Global> {
+    entries: LruCache<Key<A>, Hit<A>, S, A>,
+}
+
+impl<S: BuildHasher + Drop, A: Allocator> Model for Cache<S, A> {
+    ghost use Rattle.lru.specs.LruCache.{LruCache as Entries};
+    ghost use Rattle.cache.specs.Keys.{Key as Keyed};
+    ghost use Rattle.cache.specs.Cached.{Hit as Kept};
+
+    ghost Value = { Entries Keyed Kept };
+
+    ghost view = { λ c. c.entries };
+}
+
+fn denies<A: Allocator>(link: &Link<A>) -> bool
+    ensures { result ≡ is_error (link_view link.now) }
+{
+    matches!(link, Link::NxDomain(_))
+}
+
+impl<S: BuildHasher + Drop, A: Heap> Cache<S, A> {
+    /// An empty cache, with room for `cap` links, 1 to 1,000,000, which is taken as they come.
+    pub fn new(alloc: A, cap: usize, hasher: S) -> Result<Cache<S, A>, Starved>
+        requires some { 0 < cap }
+        requires few { cap ≤ 1000000 }
+        ensures { IfOk result (λ c. c ≡ lru_cache [] cap) }
+    {
+        let mut entries = LruCache::unbounded_with_hasher(alloc, hasher)?;
+        if let Some(cap) = NonZeroUsize::new(cap) {
+            entries.resize(cap);
+        }
+        Ok(Cache { entries })
+    }
+
+    /// Keeps the link for this name and type from the moment `now`, in milliseconds, for `ttl` seconds. A
+    /// link with TTL 0 is not kept, and replaces what was kept. Want of memory changes nothing.
+    pub fn keep(
+        &mut self,
+        name: &Name<A>,
+        kind: RType,
+        link: &Link<A>,
+        ttl: u32,
+        now: u64,
+    ) -> Result<(), Starved>
+        ensures ok { OnOk result (self.new ≡ lru_cache (after_keep self.old.cap name.now (type_number kind) (as_kept (link_view link.now) ttl now) self.old.entries) self.old.cap) }
+        ensures err { OnErr result (self.new ≡ self.old) }
+        ensures there { OnOk result (ttl ≢ 0 → Contains self.new.entries (key_for name.now (type_number kind) (link_view link.now), as_kept (link_view link.now) ttl now)) }
+        ensures only { KeepsOnly self.old.entries (IsKept name.now (type_number kind) (as_kept (link_view link.now) ttl now)) self.new.entries }
+        ensures gone { LosesOnly self.old.entries (IsGone self.old.cap name.now (type_number kind) (as_kept (link_view link.now) ttl now) self.old.entries) self.new.entries }
+    {
+        let error = Key {
+            name: name.clone()?,
+            slot: Slot::NameError,
+        };
+        let key = Key {
+            name: name.clone()?,
+            slot: Slot::for_link(kind, link),
+        };
+        let hit = Hit {
+            link: link.clone()?,
+            ttl,
+            since: now,
+        };
+        self.store(key, hit)?;
+        self.sweep(&error, link);
+        Ok(())
+    }
+
+    fn store(&mut self, key: Key<A>, hit: Hit<A>) -> Result<(), Starved>
+        ensures ok { OnOk result (self.new ≡ lru_cache (stored self.old.cap key hit self.old.entries) self.old.cap) }
+        ensures err { OnErr result (self.new ≡ self.old) }
+    {
+        if hit.ttl == 0 {
+            drop(self.entries.pop(&key));
+            return Ok(());
+        }
+        drop(self.entries.put(key, hit)?);
+        Ok(())
+    }
+
+    fn sweep(&mut self, error: &Key<A>, link: &Link<A>)
+        requires { error.now ≡ error_key error.now.name }
+        ensures { self.new ≡ lru_cache (swept error.now.name (link_view link.now) self.old.entries) self.old.cap }
+    {
+        if !denies(link) {
+            drop(self.entries.pop(error));
+        }
+    }
+
+    /// What is kept for this name and type at the moment `now`, in milliseconds: the name's error, the link
+    /// of that type, or for a type other than CNAME the alias. The first that lives answers and becomes the
+    /// most recently used. An alias answers a question for CNAME as a set.
+    pub fn look(
+        &mut self,
+        name: &Name<A>,
+        kind: RType,
+        now: u64,
+    ) -> Result<Option<Hit<A>>, Starved>
+        ensures value { IfOk result (λ h. h ≡ hit_of (answer name.now (type_number kind) now self.old.entries)) }
+        ensures ok { OnOk result (self.new ≡ lru_cache (after_look name.now (type_number kind) now self.old.entries) self.old.cap) }
+        ensures err { OnErr result (self.new ≡ self.old) }
+        ensures held { IfOk result (λ h. IfSome h (IsHeld name.now (type_number kind) now self.old.entries)) }
+        ensures members { HasSame self.old.entries self.new.entries }
+    {
+        let mut key = Key {
+            name: name.clone()?,
+            slot: Slot::NameError,
+        };
+        let hit = self.find(&mut key, kind, now)?;
+        if hit.is_some() {
+            self.entries.promote(&key);
+        }
+        Ok(hit)
+    }
+
+    // The answer for the key's name and this type; the key becomes the one that answered.
+    fn find(&self, key: &mut Key<A>, kind: RType, now: u64) -> Result<Option<Hit<A>>, Starved>
+        ensures { IfOk result (λ h. under key.new h ≡ answer key.old.name (type_number kind) now self.now.entries) }
+    {
+        key.slot = Slot::NameError;
+        if let Some(hit) = self.set_at(key, now)? {
+            return Ok(Some(hit));
+        }
+        key.slot = Slot::Of(kind);
+        if let Some(hit) = self.set_at(key, now)? {
+            return Ok(Some(hit));
+        }
+        if kind.number() == RType::Cname.number() {
+            return Ok(None);
+        }
+        key.slot = Slot::Of(RType::Cname);
+        Ok(self.alias_at(key, now)?)
+    }
+
+    fn set_at(&self, key: &Key<A>, now: u64) -> Result<Option<Hit<A>>, Starved>
+        ensures { IfOk result (λ h. h ≡ set_at now key.now self.now.entries) }
+    {
+        match self.entries.peek(key) {
+            Some(hit) if hit.is_live(now) => Ok(Some(hit.as_set(*self.entries.allocator())?)),
+            _ => Ok(None),
+        }
+    }
+
+    fn alias_at(&self, key: &Key<A>, now: u64) -> Result<Option<Hit<A>>, Starved>
+        ensures { IfOk result (λ h. h ≡ alias_at now key.now self.now.entries) }
+    {
+        match self.entries.peek(key) {
+            Some(hit) if hit.is_live(now) => Ok(hit.as_alias()?),
+            _ => Ok(None),
+        }
+    }
+}

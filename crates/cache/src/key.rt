@@ -1,0 +1,94 @@
+ghost use Rattle.std.specs.Prelude.{◌≡◌, true, ◌++◌};
+ghost use Rattle.cache.specs.Keys.{same_slot, same_key, slot_number, slot_for};
+ghost use Rattle.rdata.specs.Types.{type_number};
+ghost use Rattle.cache.specs.Kinds.{slot_view};
+ghost use Rattle.cache.specs.Laws.{same_key_per, same_key_equiv, same_key_fed, fed_key};
+ghost use Rattle.authority.specs.Answers.{link_view};
+
+use authority::Link;
+use dname::Name;
+use rdata::RType;
+use std::alloc::{Allocator, Global};
+use std::cmp::Eq;
+use std::hash::{Hash, Hasher};
+use std::marker::Model;
+
+/// What a link speaks of: a type, or the name itself.
+#[derive(Clone, Copy)]
+pub enum Slot {
+    Of(RType),
+    NameError,
+}
+
+impl Slot {
+    // Where the link for a question of this type goes.
+    pub(crate) fn for_link<A: Allocator>(kind: RType, link: &Link<A>) -> Slot
+        ensures { slot_view result ≡ slot_for (type_number kind) (link_view link.now) }
+    {
+        match link {
+            Link::Found(_) | Link::NoData(_) => Slot::Of(kind),
+            Link::Alias(_) => Slot::Of(RType::Cname),
+            Link::NxDomain(_) => Slot::NameError,
+        }
+    }
+
+    fn number(self) -> u16
+        ensures { result ≡ slot_number (slot_view self) }
+    {
+        match self {
+            Slot::Of(kind) => kind.number(),
+            Slot::NameError => 0,
+        }
+    }
+
+    fn is(self, other: Slot) -> bool
+        ensures { result ≡ same_slot (slot_view self) (slot_view other) }
+    {
+        match (self, other) {
+            (Slot::Of(kind), Slot::Of(its)) => kind.number() == its.number(),
+            (Slot::NameError, Slot::NameError) => true,
+            _ => false,
+        }
+    }
+}
+
+/// A name and what is kept of it.
+#[derive(Drop)]
+pub struct Key<A: Allocator = Global> {
+    pub name: Name<A>,
+    pub slot: Slot,
+}
+
+impl<A: Allocator> Model for Key<A> {
+    ghost use Rattle.cache.specs.Keys.{Key as Keyed};
+    ghost use Rattle.cache.specs.Kinds.{slot_view};
+
+    ghost Value = { Keyed };
+
+    ghost view = { λ k. record { name = k.name; slot = slot_view k.slot } };
+}
+
+impl<A: Allocator> PartialEq for Key<A> {
+    ghost eq = { same_key };
+
+    ghost laws = { same_key_per };
+
+    fn eq(&self, other: &Key<A>) -> bool {
+        self.name == other.name && self.slot.is(other.slot)
+    }
+}
+
+impl<A: Allocator> Eq for Key<A> {
+    ghost laws = { same_key_equiv };
+}
+
+impl<A: Allocator> Hash for Key<A> {
+    ghost hash_input = { fed_key };
+
+    ghost respects_eq = { same_key_fed };
+
+    fn hash<H: Hasher>(&self, state: &mut H) {
+        self.name.hash(state);
+        self.slot.number().hash(state);
+    }
+}

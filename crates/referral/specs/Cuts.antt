@@ -1,0 +1,88 @@
+-- Delegations that are kept: which servers are named for a zone and beneath it (RFC 1034, section 5.3.3).
+use Rattle.std.specs.Prelude.{◌≡◌, ◌≢◌, ℕ, ◌-◌, ◌*◌, ◌≤◌, Bool, true, cond, nat_lt, nat_eq, ◌⊎◌, Option, Some, None, List, [], ◌∷◌, length, Contains}
+use Rattle.std.specs.Map.{lookup, remove_entry}
+use Rattle.dname.specs.Labels.{same_name, IsAtOrUnder}
+use Rattle.rdata.specs.declared.addr.Addr.{Addr}
+use Rattle.recency.specs.Orders.{kept, used, MayGo}
+
+-- A zone's name, the names of its servers and the addresses that are known of them.
+pub record Cut : Type 0 where
+  pub owner : List (List ℕ)
+  pub names : List (List (List ℕ))
+  pub addresses : List Addr
+
+-- A cut as it is kept: its time to live in seconds, and the moment since which it is kept, in milliseconds.
+pub record Known : Type 0 where
+  pub cut : Cut
+  pub ttl : ℕ
+  pub since : ℕ
+
+abbrev pub as_kept : Cut → ℕ → ℕ → Known
+as_kept c ttl now = record { cut = c; ttl = ttl; since = now }
+
+-- Younger than its time to live. A cut that was kept in what is now the future has age 0.
+abbrev pub is_live : ℕ → Known → Bool
+is_live now k = nat_lt (now - k.since) (1000 * k.ttl)
+
+abbrev pub live_from : ℕ → Option Known → Option Known
+live_from now None = None
+live_from now (Some k) = cond (is_live now k) (Some k) None
+
+-- What is kept of this very name and lives.
+abbrev pub live_at : ℕ → List (List ℕ) → List (List (List ℕ) × Known) → Option Known
+live_at now n es = live_from now (lookup (same_name n) es)
+
+abbrev pub under : List (List ℕ) → Option Known → Option (List (List ℕ) × Known)
+under n None = None
+under n (Some k) = Some (n, k)
+
+abbrev pub or_else : Option (List (List ℕ) × Known) → Option (List (List ℕ) × Known) → Option (List (List ℕ) × Known)
+or_else None later = later
+or_else (Some found) later = Some found
+
+-- The first of the name and the names above it of which a cut lives, and that cut.
+abbrev pub nearest : List (List ℕ) → ℕ → List (List (List ℕ) × Known) → Option (List (List ℕ) × Known)
+nearest [] now es = None
+nearest (l ∷ ls) now es = or_else (under (l ∷ ls) (live_at now (l ∷ ls) es)) (nearest ls now es)
+
+abbrev pub cut_of : Option (List (List ℕ) × Known) → Option Cut
+cut_of None = None
+cut_of (Some found) = Some (found.1).cut
+
+abbrev pub moved : Option (List (List ℕ) × Known) → List (List (List ℕ) × Known) → List (List (List ℕ) × Known)
+moved None es = es
+moved (Some found) es = used same_name found.0 es
+
+-- The cut that is found goes first.
+abbrev pub after_best : List (List ℕ) → ℕ → List (List (List ℕ) × Known) → List (List (List ℕ) × Known)
+after_best q now es = moved (nearest q now es) es
+
+-- The cut goes first under its name; with TTL 0 it is not kept, and what stood under its name goes.
+abbrev pub after_keep : ℕ → Known → List (List (List ℕ) × Known) → List (List (List ℕ) × Known)
+after_keep cap k es = cond (nat_eq k.ttl 0) (remove_entry (same_name (k.cut).owner) es) (kept same_name cap (k.cut).owner k es)
+
+-- ---- the same in other words
+
+-- A cut of this name is kept and lives.
+abbrev pub Lives : ℕ → List (List (List ℕ) × Known) → List (List ℕ) → Known → Type 0
+Lives now es n k = (lookup (same_name n) es ≡ Some k) × (is_live now k ≡ true)
+
+-- The deepest cut that lives and that the name is at or under.
+pub record IsDeepest (q : List (List ℕ)) (now : ℕ) (es : List (List (List ℕ) × Known)) (n : List (List ℕ)) (k : Known) : Type 0 where
+  pub there : Contains es (n, k)
+  pub lives : Lives now es n k
+  pub over : IsAtOrUnder q n
+  pub deepest : (m : List (List ℕ)) (j : Known) → Lives now es m j → IsAtOrUnder q m → length m ≤ length n
+
+-- What is found is the deepest cut, and nothing is found where no cut over the name lives.
+abbrev pub IsBest : List (List ℕ) → ℕ → List (List (List ℕ) × Known) → Option Cut → Type 0
+IsBest q now es None = (m : List (List ℕ)) (j : Known) → m ≢ [] → Lives now es m j → IsAtOrUnder q m → ⊥
+IsBest q now es (Some c) = (n : List (List ℕ)) × (k : Known) × IsDeepest q now es n k × (k.cut ≡ c)
+
+-- The entry that is new after `keep`.
+abbrev pub IsKept : Known → List (List ℕ) × Known → Type 0
+IsKept k e = (e ≡ ((k.cut).owner, k)) × (k.ttl ≢ 0)
+
+-- What may be gone after `keep`: what stood under the name, and what stood past the capacity where the name is new.
+abbrev pub IsGone : ℕ → Known → List (List (List ℕ) × Known) → List (List ℕ) × Known → Type 0
+IsGone cap k es e = MayGo same_name cap (k.cut).owner es e

@@ -1,0 +1,110 @@
+ghost use Rattle.std.specs.Prelude.{◌≡◌, ◌≢◌, ◌<◌, ◌≤◌, [], IfOk, OnOk, OnErr, Contains};
+ghost use Rattle.lru.specs.LruCache.{lru_cache};
+ghost use Rattle.recency.specs.Orders.{KeepsOnly, LosesOnly, HasSame};
+ghost use Rattle.referral.specs.Cuts.{as_kept, live_at, under, nearest, cut_of, after_best, after_keep, IsBest, IsKept, IsGone};
+
+use crate::cut::{Cut, Known};
+use dname::{Heap, Name, Starved};
+use lru::LruCache;
+use std::alloc::{Allocator, Global};
+use std::hash::BuildHasher;
+use std::marker::Model;
+use std::num::NonZeroUsize;
+
+/// Cuts that are kept. Contracts see the entries, the most recently used first, and the capacity. An entry
+/// whose time is over stays until it is replaced or pushed out.
+#[derive(Drop)]
+pub struct Delegations<S: BuildHasher + Drop, A: Allocator = Global> {
+    entries: LruCache<Name<A>, Known<A>, S, A>,
+}
+
+impl<S: BuildHasher + Drop, A: Allocator> Model for Delegations<S, A> {
+    ghost use Rattle.std.specs.Prelude.{List, ℕ};
+    ghost use Rattle.lru.specs.LruCache.{LruCache as Entries};
+    ghost use Rattle.referral.specs.Cuts.{Known as Kept};
+
+    ghost Value = { Entries (List (List ℕ)) Kept };
+
+    ghost view = { λ d. d.entries };
+}
+
+impl<S: BuildHasher + Drop, A: Heap> Delegations<S, A> {
+    /// No cuts, with room for `cap` of them, 1 to 1,000,000, which is taken as they come.
+    pub fn new(alloc: A, cap: usize, hasher: S) -> Result<Delegations<S, A>, Starved>
+        requires some { 0 < cap }
+        requires few { cap ≤ 1000000 }
+        ensures { IfOk result (λ d. d ≡ lru_cache [] cap) }
+    {
+        let mut entries = LruCache::unbounded_with_hasher(alloc, hasher)?;
+        if let Some(cap) = NonZeroUsize::new(cap) {
+            entries.resize(cap);
+        }
+        Ok(Delegations { entries })
+    }
+
+    /// Keeps the cut from the moment `now`, in milliseconds, for `ttl` seconds. A cut with TTL 0 is not
+    /// kept, and what was kept of its name goes. Want of memory changes nothing.
+    pub fn keep(&mut self, cut: &Cut<A>, ttl: u32, now: u64) -> Result<(), Starved>
+        ensures ok { OnOk result (self.new ≡ lru_cache (after_keep self.old.cap (as_kept cut.now ttl now) self.old.entries) self.old.cap) }
+        ensures err { OnErr result (self.new ≡ self.old) }
+        ensures there { OnOk result (ttl ≢ 0 → Contains self.new.entries (cut.now.owner, as_kept cut.now ttl now)) }
+        ensures only { KeepsOnly self.old.entries (IsKept (as_kept cut.now ttl now)) self.new.entries }
+        ensures gone { LosesOnly self.old.entries (IsGone self.old.cap (as_kept cut.now ttl now) self.old.entries) self.new.entries }
+    {
+        if ttl == 0 {
+            drop(self.entries.pop(&cut.at));
+            return Ok(());
+        }
+        let at = cut.at.clone()?;
+        let known = Known {
+            cut: cut.clone()?,
+            ttl,
+            since: now,
+        };
+        drop(self.entries.put(at, known)?);
+        Ok(())
+    }
+
+    /// The deepest cut that lives at the moment `now`, in milliseconds, and that the name is at or under. It
+    /// becomes the most recently used.
+    pub fn best(&mut self, name: &Name<A>, now: u64) -> Result<Option<Cut<A>>, Starved>
+        ensures value { IfOk result (λ c. c ≡ cut_of (nearest name.now now self.old.entries)) }
+        ensures relation { IfOk result (IsBest name.now now self.old.entries) }
+        ensures ok { OnOk result (self.new ≡ lru_cache (after_best name.now now self.old.entries) self.old.cap) }
+        ensures err { OnErr result (self.new ≡ self.old) }
+        ensures members { HasSame self.old.entries self.new.entries }
+    {
+        let mut at = name.clone()?;
+        match self.find(&mut at, now)? {
+            Some(known) => {
+                self.entries.promote(&at);
+                Ok(Some(known.cut))
+            }
+            None => Ok(None),
+        }
+    }
+
+    // The nearest cut that lives; the name becomes the cut's.
+    fn find(&self, at: &mut Name<A>, now: u64) -> Result<Option<Known<A>>, Starved>
+        ensures { IfOk result (λ k. under at.new k ≡ nearest at.old now self.now.entries) }
+    {
+        loop {
+            at.is_well_formed();
+            if let Some(known) = self.live_at(at, now)? {
+                return Ok(Some(known));
+            }
+            if !at.ascend() {
+                return Ok(None);
+            }
+        }
+    }
+
+    fn live_at(&self, at: &Name<A>, now: u64) -> Result<Option<Known<A>>, Starved>
+        ensures { IfOk result (λ k. k ≡ live_at now at.now self.now.entries) }
+    {
+        match self.entries.peek(at) {
+            Some(known) if known.is_live(now) => Ok(Some(known.clone()?)),
+            _ => Ok(None),
+        }
+    }
+}

@@ -1,0 +1,11 @@
+//! Delegations that were learnt: the servers of a zone, for as long as their time to live says (RFC 1034,
+//! sections 4.2.1 and 5.3.3).
+#![tactic(auto)]
+
+mod cut;
+mod delegations;
+mod lists;
+
+pub use cut::{Cut, Known};
+pub use delegations::Delegations;
+pub use lists::{Addrs, Names};
