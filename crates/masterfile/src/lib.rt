@@ -9,6 +9,7 @@ mod files;
 mod laws;
 mod numbers;
 mod printed;
+mod sound;
 mod strings;
 
 pub use faults::{FileError, FileKind};
