@@ -12,6 +12,9 @@ use Rattle.referral.proofs.Exact.{same_name_exact}
 abbrev Entries : Type 0
 Entries = List (List (List ℕ) × Known)
 
+abbrev no_entries : Entries
+no_entries = []
+
 -- ---- which cut is found
 
 looked_there : (n : List (List ℕ)) (es : Entries) (k : Known) → lookup (same_name n) es ≡ Some k → Contains es (n, k)
@@ -196,12 +199,12 @@ module _ (c d : LruCache (List (List ℕ)) Known) (k : Known) (is : d ≡ lru_ca
 
 -- ---- a new store
 
+none_taken : (m : ℕ) → take m no_entries ≡ no_entries
+none_taken zero = refl
+none_taken (suc m) = refl
+
 pub resized : (c d : LruCache (List (List ℕ)) Known) (most m n : ℕ) → c ≡ lru_cache [] most → d ≡ lru_cache (take m c.entries) m → m ≡ n → d ≡ lru_cache [] n
-resized c d most m n empty is same = is ∙ ((λ i. lru_cache (take m (empty i).entries) m) ∙ by m same)
-  where
-    by : (m : ℕ) → m ≡ n → lru_cache (take m []) m ≡ lru_cache [] n
-    by zero e = ap (lru_cache []) e
-    by (suc m) e = ap (lru_cache []) e
+resized c d most m n empty is same = is ∙ (ap (λ x. lru_cache (take m x.entries) m) empty ∙ (ap (λ es. lru_cache es m) (none_taken m) ∙ ap (λ k. lru_cache no_entries k) same))
 
 pub never_zero : (n : ℕ) → 0 < n → n ≡ 0 → ⊥
 never_zero n h e = omega arith
