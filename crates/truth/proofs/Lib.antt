@@ -1,0 +1,3 @@
+pub mod Charges
+pub mod OneTruth
+pub mod Sames

@@ -1,0 +1,5 @@
+use Rattle.truth.proofs.Charges.{charge_uncut, one_charge}
+use Rattle.truth.proofs.laws.charge_law.Goals as goal
+
+pub returns : goal.returns
+returns c = record { uncut = charge_uncut; one = one_charge }

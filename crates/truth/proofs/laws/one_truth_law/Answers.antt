@@ -1,0 +1,5 @@
+use Rattle.truth.proofs.OneTruth.{one_true_link, one_truth}
+use Rattle.truth.proofs.laws.one_truth_law.Goals as goal
+
+pub returns : goal.returns
+returns c = record { link = one_true_link; truth = one_truth }

@@ -1,0 +1,31 @@
+-- The laws about worlds that the functions of this crate state.
+use Rattle.std.specs.Prelude.{◌≡◌, ℕ, List}
+use Rattle.dname.specs.Labels.{Name}
+use Rattle.rdata.specs.Records.{Record}
+use Rattle.zone.specs.Zones.{Zone, IsUncut}
+use Rattle.zone.specs.Links.{Link}
+use Rattle.zone.specs.Same.{SameLink}
+use Rattle.authority.specs.Catalogs.{IsInCharge}
+use Rattle.truth.specs.Worlds.{World, IsWorld}
+use Rattle.truth.specs.Truths.{IsTrueLink, Truth, SameList}
+
+-- No cut of the zone in charge of a name stands over the name.
+abbrev pub ChargeIsUncut : Type 0
+ChargeIsUncut = (W : World) (q : Name) (z : Zone) → IsWorld W → IsInCharge W.zones q z → IsUncut z q
+
+-- One zone is in charge of a name.
+abbrev pub OneInCharge : Type 0
+OneInCharge = (W : World) (q : Name) (y z : Zone) → IsWorld W → IsInCharge W.zones q y → IsInCharge W.zones q z → y ≡ z
+
+-- A question has one link in a world, but for TTLs, order and repeats.
+abbrev pub OneTrueLink : Type 0
+OneTrueLink = (W : World) (q : Name) (t : ℕ) (k l : Link) → IsWorld W → IsTrueLink W q t k → IsTrueLink W q t l → SameLink k l
+
+-- The same aliases in order, and the same end.
+pub record IsSameTruth (c : List Record) (k : Link) (d : List Record) (l : Link) : Type 0 where
+  pub chain : SameList c d
+  pub last : SameLink k l
+
+-- A question has one truth at most.
+abbrev pub OneTruth : Type 0
+OneTruth = (W : World) (q : Name) (t : ℕ) (c d : List Record) (k l : Link) → IsWorld W → Truth W q t c k → Truth W q t d l → IsSameTruth c k d l

@@ -1,0 +1,17 @@
+//! Laws of what is true in a world: functions that do nothing, whose clauses are proved.
+
+ghost use Rattle.truth.specs.Laws.{ChargeIsUncut, OneInCharge, OneTrueLink, OneTruth};
+
+/// In a well formed world no cut of the zone in charge of a name stands over it, and one zone is in charge
+/// (RFC 1034, sections 4.2 and 4.3.2, step 2).
+pub fn charge_law()
+    ensures uncut { ChargeIsUncut }
+    ensures one { OneInCharge }
+{}
+
+/// A question has one link in a well formed world, and one truth at most: but for TTLs, order and repeats
+/// its aliases and its end are one (RFC 1034, sections 3.6.2 and 4.3.2; RFC 2181, sections 5 and 10.1).
+pub fn one_truth_law()
+    ensures link { OneTrueLink }
+    ensures truth { OneTruth }
+{}

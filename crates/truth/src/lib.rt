@@ -1,0 +1,7 @@
+//! What is true in a world of zones, servers and hints (RFC 1034): definitions, in `specs`, and the laws
+//! that they keep. Nothing here runs.
+#![tactic(auto)]
+
+mod laws;
+
+pub use laws::{charge_law, one_truth_law};
