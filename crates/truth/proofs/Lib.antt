@@ -1,3 +1,4 @@
 pub mod Charges
+pub mod OneReply
 pub mod OneTruth
 pub mod Sames

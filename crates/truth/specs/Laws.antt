@@ -1,13 +1,15 @@
 -- The laws about worlds that the functions of this crate state.
-use Rattle.std.specs.Prelude.{◌≡◌, ℕ, List}
+use Rattle.std.specs.Prelude.{◌≡◌, ℕ, false, List}
 use Rattle.dname.specs.Labels.{Name}
 use Rattle.rdata.specs.Records.{Record}
 use Rattle.zone.specs.Zones.{Zone, IsUncut}
 use Rattle.zone.specs.Links.{Link}
 use Rattle.zone.specs.Same.{SameLink}
 use Rattle.authority.specs.Catalogs.{IsInCharge}
+use Rattle.layout.specs.Messages.{Message, IsMessage}
 use Rattle.truth.specs.Worlds.{World, IsWorld}
 use Rattle.truth.specs.Truths.{IsTrueLink, Truth, SameList}
+use Rattle.truth.specs.Replies.{IsRight, IsSameReply}
 
 -- No cut of the zone in charge of a name stands over the name.
 abbrev pub ChargeIsUncut : Type 0
@@ -29,3 +31,8 @@ pub record IsSameTruth (c : List Record) (k : Link) (d : List Record) (l : Link)
 -- A question has one truth at most.
 abbrev pub OneTruth : Type 0
 OneTruth = (W : World) (q : Name) (t : ℕ) (c d : List Record) (k l : Link) → IsWorld W → Truth W q t c k → Truth W q t d l → IsSameTruth c k d l
+
+-- Two right replies to one question that are not cut are the same.
+abbrev pub OneReply : Type 0
+OneReply = (W : World) (q : Name) (t : ℕ) (a b : List ℕ) (m n : Message) → IsWorld W → IsRight W q t a → IsRight W q t b → IsMessage a m → IsMessage b n
+    → m.header.tc ≡ false → n.header.tc ≡ false → IsSameReply m n

@@ -1,3 +1,4 @@
 pub mod Laws
+pub mod Replies
 pub mod Truths
 pub mod Worlds

@@ -1,6 +1,6 @@
 //! Laws of what is true in a world: functions that do nothing, whose clauses are proved.
 
-ghost use Rattle.truth.specs.Laws.{ChargeIsUncut, OneInCharge, OneTrueLink, OneTruth};
+ghost use Rattle.truth.specs.Laws.{ChargeIsUncut, OneInCharge, OneTrueLink, OneTruth, OneReply};
 
 /// In a well formed world no cut of the zone in charge of a name stands over it, and one zone is in charge
 /// (RFC 1034, sections 4.2 and 4.3.2, step 2).
@@ -14,4 +14,11 @@ pub fn charge_law()
 pub fn one_truth_law()
     ensures link { OneTrueLink }
     ensures truth { OneTruth }
+{}
+
+/// A right reply is right for one truth only: in a well formed world two right replies to one question that
+/// are not cut have the same RCODE, the same aliases in order, the same records behind them, as many, and
+/// the same authority, TTLs aside.
+pub fn one_reply_law()
+    ensures { OneReply }
 {}
