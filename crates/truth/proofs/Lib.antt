@@ -1,4 +1,6 @@
 pub mod Charges
+pub mod Honest
+pub mod Nearest
 pub mod OneReply
 pub mod OneTruth
 pub mod Sames

@@ -7,9 +7,12 @@ use Rattle.zone.specs.Links.{Link}
 use Rattle.zone.specs.Same.{SameLink}
 use Rattle.authority.specs.Catalogs.{IsInCharge}
 use Rattle.layout.specs.Messages.{Message, IsMessage}
-use Rattle.truth.specs.Worlds.{World, IsWorld}
+use Rattle.truth.specs.Worlds.{Address, World, IsWorld}
 use Rattle.truth.specs.Truths.{IsTrueLink, Truth, SameList}
 use Rattle.truth.specs.Replies.{IsRight, IsSameReply}
+use Rattle.truth.specs.Serving.{MayServe}
+use Rattle.truth.specs.Reading.{IsAnswer}
+use Rattle.truth.specs.Frames.{MayAsk}
 
 -- No cut of the zone in charge of a name stands over the name.
 abbrev pub ChargeIsUncut : Type 0
@@ -36,3 +39,7 @@ OneTruth = (W : World) (q : Name) (t : ℕ) (c d : List Record) (k l : Link) →
 abbrev pub OneReply : Type 0
 OneReply = (W : World) (q : Name) (t : ℕ) (a b : List ℕ) (m n : Message) → IsWorld W → IsRight W q t a → IsRight W q t b → IsMessage a m → IsMessage b n
     → m.header.tc ≡ false → n.header.tc ≡ false → IsSameReply m n
+
+-- An honest answer of a server that may be asked is the world's link.
+abbrev pub HonestAnswer : Type 0
+HonestAnswer = (W : World) (a : Address) (f q : Name) (t : ℕ) (m : Message) (l : Link) → IsWorld W → MayAsk W a f q → MayServe W a q t m → IsAnswer f q t m l → IsTrueLink W q t l

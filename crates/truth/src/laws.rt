@@ -1,6 +1,6 @@
 //! Laws of what is true in a world: functions that do nothing, whose clauses are proved.
 
-ghost use Rattle.truth.specs.Laws.{ChargeIsUncut, OneInCharge, OneTrueLink, OneTruth, OneReply};
+ghost use Rattle.truth.specs.Laws.{ChargeIsUncut, OneInCharge, OneTrueLink, OneTruth, OneReply, HonestAnswer};
 
 /// In a well formed world no cut of the zone in charge of a name stands over it, and one zone is in charge
 /// (RFC 1034, sections 4.2 and 4.3.2, step 2).
@@ -21,4 +21,10 @@ pub fn one_truth_law()
 /// the same authority, TTLs aside.
 pub fn one_reply_law()
     ensures { OneReply }
+{}
+
+/// What a server that may be asked honestly answers is true: the link that its message is taken for is the
+/// world's link of the question, TTLs, order and repeats aside.
+pub fn honest_answer_law()
+    ensures { HonestAnswer }
 {}

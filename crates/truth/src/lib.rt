@@ -4,4 +4,4 @@
 
 mod laws;
 
-pub use laws::{charge_law, one_reply_law, one_truth_law};
+pub use laws::{charge_law, honest_answer_law, one_reply_law, one_truth_law};
