@@ -82,13 +82,13 @@ pub nx_domain_type : (z : Zone) (q : Name) (t : ℕ) (r : Record) → Shows z q 
 nx_domain_type z q t r h = let (x, link, e) = nx_domain_shown z q t r h in denial_type z r x e link.says.2.2
 
 -- What a server gives is read as what it shows.
-found_in : (z : Zone) (q : Name) (t : ℕ) (m : Message) (set : List Record) → Gives z q t m (Found set) → (r : Record) × IsIn m.answer q t r
+pub found_in : (z : Zone) (q : Name) (t : ℕ) (m : Message) (set : List Record) → Gives z q t m (Found set) → (r : Record) × IsIn m.answer q t r
 found_in z q t m set (aa, code, owned, shown) =
     let (r, n) = found_member z q t set shown in
     let (stands, owner) = owned.1 r n in
     (r, (stands, owner, found_types z q t set r shown n))
 
-alias_in : (z : Zone) (q : Name) (t : ℕ) (m : Message) (r : Record) → Gives z q t m (Alias r) → IsIn m.answer q cname_type r
+pub alias_in : (z : Zone) (q : Name) (t : ℕ) (m : Message) (r : Record) → Gives z q t m (Alias r) → IsIn m.answer q cname_type r
 alias_in z q t m r (aa, code, stands, only, shown) = let is = alias_is z q t r shown in (stands, is.owner, is.kind)
 
 nothing_in : (rs : List Record) (q : Name) (t : ℕ) (r : Record) → rs ≡ [] → IsIn rs q t r → ⊥

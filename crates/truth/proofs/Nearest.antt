@@ -31,7 +31,7 @@ above_longer q a b h k lt = elim (over_one q a b h k) [
   | inr u ↦ absurd (let short = under_length b a u in omega (arith, short, lt))
 ]
 
-beneath_length : (a b : Name) → IsBeneath a b → length b < length a
+pub beneath_length : (a b : Name) → IsBeneath a b → length b < length a
 beneath_length a b h = elim (decided (length a) (length b)) [
   | inl le ↦ (let longer = under_length a b h.0 in absurd (h.1 (same_over a a b ([], refl) h.0 (omega (arith, le, longer)))))
   | inr lt ↦ lt

@@ -1,9 +1,9 @@
 -- The laws about worlds that the functions of this crate state.
-use Rattle.std.specs.Prelude.{◌≡◌, ℕ, false, List}
+use Rattle.std.specs.Prelude.{◌≡◌, ◌≢◌, ℕ, false, List, [], ◌∷◌, Contains}
 use Rattle.dname.specs.Labels.{Name}
 use Rattle.rdata.specs.Records.{Record}
-use Rattle.zone.specs.Zones.{Zone, IsUncut}
-use Rattle.zone.specs.Links.{Link}
+use Rattle.zone.specs.Zones.{Zone, IsUncut, cname_type}
+use Rattle.zone.specs.Links.{Link, Found, Alias, NxDomain}
 use Rattle.zone.specs.Same.{SameLink}
 use Rattle.authority.specs.Catalogs.{IsInCharge}
 use Rattle.layout.specs.Messages.{Message, IsMessage}
@@ -11,8 +11,8 @@ use Rattle.truth.specs.Worlds.{Address, World, IsWorld}
 use Rattle.truth.specs.Truths.{IsTrueLink, Truth, SameList}
 use Rattle.truth.specs.Replies.{IsRight, IsSameReply}
 use Rattle.truth.specs.Serving.{MayServe}
-use Rattle.truth.specs.Reading.{IsAnswer}
-use Rattle.truth.specs.Frames.{MayAsk}
+use Rattle.truth.specs.Reading.{IsAnswer, IsReferralTo}
+use Rattle.truth.specs.Frames.{MayAsk, IsGood}
 
 -- No cut of the zone in charge of a name stands over the name.
 abbrev pub ChargeIsUncut : Type 0
@@ -43,3 +43,21 @@ OneReply = (W : World) (q : Name) (t : ℕ) (a b : List ℕ) (m n : Message) →
 -- An honest answer of a server that may be asked is the world's link.
 abbrev pub HonestAnswer : Type 0
 HonestAnswer = (W : World) (a : Address) (f q : Name) (t : ℕ) (m : Message) (l : Link) → IsWorld W → MayAsk W a f q → MayServe W a q t m → IsAnswer f q t m l → IsTrueLink W q t l
+
+-- What an honest referral of such a server gives may be kept and used.
+abbrev pub HonestReferral : Type 0
+HonestReferral = (W : World) (a : Address) (f q : Name) (t : ℕ) (m : Message) (c : Name) → IsWorld W → MayAsk W a f q → MayServe W a q t m → IsReferralTo f q t m c → IsGood W f q m c
+
+-- What is true of a name for one type serves for others: a name error for all types; an alias for all but
+-- CNAME, and for CNAME as the set that is found; a CNAME that was found as the alias for all other types.
+abbrev pub ErrorForAll : Type 0
+ErrorForAll = (W : World) (q : Name) (t u : ℕ) (soa : Record) → IsTrueLink W q t (NxDomain soa) → IsTrueLink W q u (NxDomain soa)
+
+abbrev pub AliasForAll : Type 0
+AliasForAll = (W : World) (q : Name) (t u : ℕ) (r : Record) → IsWorld W → IsTrueLink W q t (Alias r) → u ≢ cname_type → IsTrueLink W q u (Alias r)
+
+abbrev pub FoundAsAlias : Type 0
+FoundAsAlias = (W : World) (q : Name) (u : ℕ) (set : List Record) (r : Record) → IsWorld W → IsTrueLink W q cname_type (Found set) → Contains set r → u ≢ cname_type → IsTrueLink W q u (Alias r)
+
+abbrev pub AliasAsFound : Type 0
+AliasAsFound = (W : World) (q : Name) (t : ℕ) (r : Record) → IsWorld W → IsTrueLink W q t (Alias r) → IsTrueLink W q cname_type (Found (r ∷ []))

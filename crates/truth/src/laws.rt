@@ -1,6 +1,6 @@
 //! Laws of what is true in a world: functions that do nothing, whose clauses are proved.
 
-ghost use Rattle.truth.specs.Laws.{ChargeIsUncut, OneInCharge, OneTrueLink, OneTruth, OneReply, HonestAnswer};
+ghost use Rattle.truth.specs.Laws.{ChargeIsUncut, OneInCharge, OneTrueLink, OneTruth, OneReply, HonestAnswer, HonestReferral, ErrorForAll, AliasForAll, FoundAsAlias, AliasAsFound};
 
 /// In a well formed world no cut of the zone in charge of a name stands over it, and one zone is in charge
 /// (RFC 1034, sections 4.2 and 4.3.2, step 2).
@@ -27,4 +27,21 @@ pub fn one_reply_law()
 /// world's link of the question, TTLs, order and repeats aside.
 pub fn honest_answer_law()
     ensures { HonestAnswer }
+{}
+
+/// What a server that may be asked honestly refers to may be followed: the names that are taken from its
+/// message are names of servers of the cut, each address that is taken serves the cut, and each server of
+/// the cut may be asked for the same name.
+pub fn honest_referral_law()
+    ensures { HonestReferral }
+{}
+
+/// What is true of a name for one type serves questions of other types: a name error all of them (RFC 2308,
+/// section 5), an alias all but those for CNAME, and those as the set that is found; a CNAME that was found
+/// serves all others as an alias (RFC 1034, section 3.6.2).
+pub fn entry_law()
+    ensures error { ErrorForAll }
+    ensures alias { AliasForAll }
+    ensures found { FoundAsAlias }
+    ensures set { AliasAsFound }
 {}

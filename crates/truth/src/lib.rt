@@ -4,4 +4,6 @@
 
 mod laws;
 
-pub use laws::{charge_law, honest_answer_law, one_reply_law, one_truth_law};
+pub use laws::{
+    charge_law, entry_law, honest_answer_law, honest_referral_law, one_reply_law, one_truth_law,
+};
