@@ -1,5 +1,6 @@
 pub mod Charges
 pub mod Entries
+pub mod Grown
 pub mod Honest
 pub mod Nearest
 pub mod OneReply

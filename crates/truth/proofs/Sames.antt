@@ -82,3 +82,6 @@ nx_domain_shown z q t r (Found xs, h, e) = absurd (omega (arith, e.kinds))
 nx_domain_shown z q t r (Alias x, h, e) = absurd (omega (arith, e.kinds))
 nx_domain_shown z q t r (NoData x, h, e) = absurd (omega (arith, e.kinds))
 nx_domain_shown z q t r (NxDomain x, h, e) = (x, h, one_same r x e.records)
+
+pub link_itself : (l : Link) → SameLink l l
+link_itself l = record { kinds = refl; records = (λ r m. has_itself (records_of l) r m, λ r m. has_itself (records_of l) r m) }

@@ -1,6 +1,8 @@
 -- When a server may be asked, and what keeps it so.
 use Rattle.std.specs.Prelude.{◌≡◌, ℕ, ◌≤◌, ◌⊎◌, ◌↔◌, List, length, Contains}
 use Rattle.dname.specs.Labels.{Name, IsAtOrUnder}
+use Rattle.rdata.specs.Data.{Ns, Ipv4}
+use Rattle.rdata.specs.Records.{Record}
 use Rattle.zone.specs.Zones.{Zone}
 use Rattle.layout.specs.Messages.{Message}
 use Rattle.truth.specs.Worlds.{Address, World, Serves, IsServerName}
@@ -49,3 +51,25 @@ pub record IsFrame (W : World) (q : Name) (f : Frame) : Type 0 where
   pub unshadowed : IsUnshadowed W f.zone q
   pub servers : (n : Name) → Contains f.names n → IsServerName W f.zone n
   pub serve : (a : Address) → Contains f.addresses a → Serves W a f.zone
+
+-- The frame with one address more.
+pub record IsGrown (f : Frame) (a : Address) (g : Frame) : Type 0 where
+  pub zone : g.zone ≡ f.zone
+  pub names : g.names ≡ f.names
+  pub addresses : (b : Address) → Contains g.addresses b → Contains f.addresses b ⊎ (b ≡ a)
+
+-- A frame as it starts.
+abbrev pub frame_at : Name → List Name → List Address → Frame
+frame_at zone names addresses = record { zone = zone; names = names; addresses = addresses }
+
+-- These names are targets of these NS records; these addresses stand in these A records.
+abbrev pub AreTargets : List Name → List Record → Type 0
+AreTargets names servers = (n : Name) → Contains names n → (r : Record) × Contains servers r × (r.value ≡ Ns n)
+
+abbrev pub AreAddresses : List Address → List Record → Type 0
+AreAddresses addresses glue = (a : Address) → Contains addresses a → (r : Record) × Contains glue r × (r.value ≡ Ipv4 a)
+
+-- These names and addresses are taken from a referral to the cut c under the zone f.
+pub record AreTaken (f : Name) (m : Message) (c : Name) (names : List Name) (addresses : List Address) : Type 0 where
+  pub names_from : (n : Name) → Contains names n → NamesServer m c n
+  pub addresses_from : (a : Address) → Contains addresses a → GivesAddress f m c a

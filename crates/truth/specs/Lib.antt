@@ -1,3 +1,4 @@
+pub mod FrameLaws
 pub mod Frames
 pub mod Laws
 pub mod Reading

@@ -1,5 +1,6 @@
 //! Laws of what is true in a world: functions that do nothing, whose clauses are proved.
 
+ghost use Rattle.truth.specs.FrameLaws.{LocalIsTrue, HintsStart, CutStarts, KeptStarts, KeptBelowStarts, ReferralKept, ReferralStarts, AddressAdds, FrameAsks};
 ghost use Rattle.truth.specs.Laws.{ChargeIsUncut, OneInCharge, OneTrueLink, OneTruth, OneReply, HonestAnswer, HonestReferral, ErrorForAll, AliasForAll, FoundAsAlias, AliasAsFound};
 
 /// In a well formed world no cut of the zone in charge of a name stands over it, and one zone is in charge
@@ -44,4 +45,27 @@ pub fn entry_law()
     ensures alias { AliasForAll }
     ensures found { FoundAsAlias }
     ensures set { AliasAsFound }
+{}
+
+/// What the zones that the resolver holds say of a question is true (RFC 1034, section 5.3.3, step 1).
+pub fn local_law()
+    ensures { LocalIsTrue }
+{}
+
+/// Each way in which a frame starts or grows keeps that its servers may be asked for its name (RFC 1034,
+/// section 5.3.3, steps 2 and 4b): hints, a cut of a held zone, a kept delegation, an honest referral, an
+/// address that was looked up for one of its servers.
+pub fn frame_law()
+    ensures hints { HintsStart }
+    ensures cut { CutStarts }
+    ensures kept { KeptStarts }
+    ensures kept_below { KeptBelowStarts }
+    ensures referral { ReferralStarts }
+    ensures address { AddressAdds }
+    ensures asks { FrameAsks }
+{}
+
+/// What is taken from an honest referral may be kept as a delegation.
+pub fn delegation_law()
+    ensures { ReferralKept }
 {}

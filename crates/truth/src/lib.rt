@@ -5,5 +5,6 @@
 mod laws;
 
 pub use laws::{
-    charge_law, entry_law, honest_answer_law, honest_referral_law, one_reply_law, one_truth_law,
+    charge_law, delegation_law, entry_law, frame_law, honest_answer_law, honest_referral_law,
+    local_law, one_reply_law, one_truth_law,
 };
