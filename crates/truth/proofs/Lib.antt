@@ -7,3 +7,4 @@ pub mod OneReply
 pub mod OneTruth
 pub mod Referred
 pub mod Sames
+pub mod SomeTruth

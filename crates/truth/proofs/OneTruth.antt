@@ -27,13 +27,13 @@ one_true_link W q t k l w (y, a, h) (z, b, m) =
     one_shown W q t z k l w b (subst (λ (x : Zone). Shows x q t k) (one_charge W q y z w a b) h) m
 
 -- An end is no alias.
-no_alias : (k : Link) (r : Record) → IsEnd k → SameLink k (Alias r) → ⊥
+pub no_alias : (k : Link) (r : Record) → IsEnd k → SameLink k (Alias r) → ⊥
 no_alias (Found xs) r e h = absurd (omega (arith, h.kinds))
 no_alias (Alias x) r e h = e
 no_alias (NoData x) r e h = absurd (omega (arith, h.kinds))
 no_alias (NxDomain x) r e h = absurd (omega (arith, h.kinds))
 
-one_target : (m n : Name) → Cname m ≡ Cname n → m ≡ n
+pub one_target : (m n : Name) → Cname m ≡ Cname n → m ≡ n
 one_target m n e = cc
 
 -- Two chains that end are one, and so are their last names.

@@ -1,20 +1,31 @@
 //! Laws of what is true in a world: functions that do nothing, whose clauses are proved.
 
 ghost use Rattle.truth.specs.FrameLaws.{LocalIsTrue, HintsStart, CutStarts, KeptStarts, KeptBelowStarts, ReferralKept, ReferralStarts, AddressAdds, FrameAsks};
-ghost use Rattle.truth.specs.Laws.{ChargeIsUncut, OneInCharge, OneTrueLink, OneTruth, OneReply, HonestAnswer, HonestReferral, ErrorForAll, AliasForAll, FoundAsAlias, AliasAsFound};
+ghost use Rattle.truth.specs.Laws.{ChargeIsUncut, SomeInCharge, OneInCharge, SomeTrueLink, OneTrueLink, OneTruth, NineHaveNone, CnameIsPlain, ChainGrows, OneReply, HonestAnswer, HonestReferral, ErrorForAll, AliasForAll, FoundAsAlias, AliasAsFound};
 
-/// In a well formed world no cut of the zone in charge of a name stands over it, and one zone is in charge
-/// (RFC 1034, sections 4.2 and 4.3.2, step 2).
+/// In a well formed world no cut of the zone in charge of a name stands over it, each name has a zone in
+/// charge, and one alone (RFC 1034, sections 4.2 and 4.3.2, step 2).
 pub fn charge_law()
     ensures uncut { ChargeIsUncut }
+    ensures some { SomeInCharge }
     ensures one { OneInCharge }
 {}
 
-/// A question has one link in a well formed world, and one truth at most: but for TTLs, order and repeats
-/// its aliases and its end are one (RFC 1034, sections 3.6.2 and 4.3.2; RFC 2181, sections 5 and 10.1).
+/// A question has a link in a well formed world and one alone, and one truth at most: but for TTLs, order
+/// and repeats its aliases and its end are one (RFC 1034, sections 3.6.2 and 4.3.2; RFC 2181, sections 5 and
+/// 10.1).
 pub fn one_truth_law()
+    ensures some { SomeTrueLink }
     ensures link { OneTrueLink }
     ensures truth { OneTruth }
+{}
+
+/// Chains of aliases: one grows by the alias at its end; nine aliases have no truth; where CNAME is asked
+/// for none is followed (RFC 1034, section 3.6.2).
+pub fn chain_law()
+    ensures grows { ChainGrows }
+    ensures nine { NineHaveNone }
+    ensures plain { CnameIsPlain }
 {}
 
 /// A right reply is right for one truth only: in a well formed world two right replies to one question that
