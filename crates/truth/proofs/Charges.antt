@@ -1,13 +1,12 @@
 -- Who is in charge of a name.
-use Rattle.std.proofs.Common.{◌≡◌, ◌≢◌, ◌≤◌, ◌<◌, ℕ, zero, suc, ◌⊎◌, inl, inr, ⊎_elim, List, [], ◌∷◌, length, refl, sym, ◌∙◌, ap, subst, arith}
+use Rattle.std.proofs.Common.{◌≡◌, ◌≤◌, ⊎_elim, List, [], ◌∷◌, length, sym, ◌∙◌, ap, subst, arith}
 use Rattle.std.specs.Prelude.{Contains}
-use Rattle.dname.specs.Labels.{Name, root, IsName, AreLabels, IsAtOrUnder}
-use Rattle.rdata.specs.Records.{Record}
-use Rattle.zone.specs.Zones.{Zone, At, IsCut, IsUncut, IsBeneath, ns_type}
+use Rattle.dname.specs.Labels.{Name, IsAtOrUnder}
+use Rattle.zone.specs.Zones.{Zone, At, IsCut, IsUncut, ns_type}
 use Rattle.zone.specs.Ruled.{IsZone}
-use Rattle.zone.proofs.LawLists.{none_in, in_cases, over_one, under_under, under_length, same_over}
+use Rattle.zone.proofs.LawLists.{none_in, in_cases, under_length, same_over}
 use Rattle.authority.specs.Catalogs.{IsInCharge}
-use Rattle.truth.specs.Worlds.{World, IsOrigin, IsParent, Parted, IsWorld}
+use Rattle.truth.specs.Worlds.{World, Parted, IsWorld}
 
 -- One zone has an origin.
 pub one_origin : (zs : List Zone) (y z : Zone) → Parted zs → Contains zs y → Contains zs z → y.origin ≡ z.origin → y ≡ z

@@ -1,16 +1,15 @@
 -- What is true of a name for one type says what is true for others.
-use Rattle.std.proofs.Common.{◌≡◌, ◌≢◌, ℕ, inl, inr, List, [], ◌∷◌, refl, sym, ◌∙◌, ap, subst, arith}
+use Rattle.std.proofs.Common.{◌≡◌, ◌≢◌, ℕ, List, [], ◌∷◌, refl, sym, ◌∙◌, ap, subst}
 use Rattle.std.specs.Prelude.{Contains}
 use Rattle.dname.specs.Labels.{Name}
 use Rattle.rdata.specs.Data.{type_of}
 use Rattle.rdata.specs.Records.{Record}
 use Rattle.zone.specs.Zones.{Zone, At, cname_type}
-use Rattle.zone.specs.Links.{Link, Found, Alias, NoData, NxDomain, IsFrom, HasNone, Distinct, Says, IsLink}
+use Rattle.zone.specs.Links.{Found, Alias, NxDomain, IsFrom, HasNone, Says}
 use Rattle.zone.specs.Ruled.{IsZone}
-use Rattle.zone.specs.Same.{Same, SameSet, SameLink}
 use Rattle.zone.proofs.LawLists.{none_in, first_in}
 use Rattle.truth.specs.Worlds.{World, IsWorld}
-use Rattle.truth.specs.Truths.{Shows, IsTrueLink}
+use Rattle.truth.specs.Truths.{IsTrueLink}
 use Rattle.truth.proofs.Sames.{only_in, same_one, found_shown, alias_shown, nx_domain_shown}
 
 -- A name error holds for all types.

@@ -1,26 +1,24 @@
 -- Each way in which a frame starts or grows keeps what is so of it.
-use Rattle.std.proofs.Common.{◌≡◌, ◌≢◌, ◌≤◌, ℕ, ◌⊎◌, ◌↔◌, inl, inr, List, [], ◌∷◌, length, refl, sym, ◌∙◌, ap, subst, arith}
+use Rattle.std.proofs.Common.{◌≡◌, ℕ, inl, inr, List, [], ◌∷◌, refl, sym, ◌∙◌, ap, subst}
 use Rattle.std.specs.Prelude.{Contains}
-use Rattle.dname.specs.Labels.{Name, root, IsName, AreLabels, IsLabel, IsAtOrUnder}
-use Rattle.rdata.specs.Data.{Ns, Ipv4, type_of}
+use Rattle.dname.specs.Labels.{Name, root, IsName, AreLabels, IsAtOrUnder}
+use Rattle.rdata.specs.Data.{Ns, Ipv4}
 use Rattle.rdata.specs.Records.{Record}
-use Rattle.zone.specs.Zones.{Zone, At, IsCut, IsCutOver, IsBeneath, a_type, ns_type}
+use Rattle.zone.specs.Zones.{Zone, IsCutOver, IsBeneath, a_type}
 use Rattle.zone.specs.Links.{Link, Found, IsLink}
-use Rattle.zone.specs.Look.{Local, Linked, Cut, NotHere}
-use Rattle.zone.specs.Referrals.{IsGlue, IsReferral}
-use Rattle.zone.specs.Ruled.{IsZone}
-use Rattle.zone.specs.Same.{Same}
-use Rattle.zone.proofs.LawLists.{none_in, over_one, under_length}
+use Rattle.zone.specs.Look.{Linked, Cut, NotHere}
+use Rattle.zone.specs.Referrals.{IsReferral}
+use Rattle.zone.proofs.LawLists.{none_in, under_length}
 use Rattle.layout.specs.Messages.{Message}
 use Rattle.authority.specs.Catalogs.{IsInCharge, IsLooked}
-use Rattle.truth.specs.Worlds.{Address, World, Serves, IsServerName, IsAddressOf, IsWorld}
-use Rattle.truth.specs.Truths.{Shows, IsTrueLink}
+use Rattle.truth.specs.Worlds.{Address, World, Serves, IsServerName, IsWorld}
+use Rattle.truth.specs.Truths.{IsTrueLink}
 use Rattle.truth.specs.Serving.{MayServe}
-use Rattle.truth.specs.Reading.{IsReferralTo, NamesServer, GivesAddress}
-use Rattle.truth.specs.Frames.{IsHeld, AreHeld, IsUnshadowed, MayAsk, IsDelegation, IsGood, Frame, IsFrame, IsGrown, frame_at, AreTargets, AreAddresses, AreTaken}
+use Rattle.truth.specs.Reading.{IsReferralTo}
+use Rattle.truth.specs.Frames.{IsHeld, AreHeld, IsUnshadowed, MayAsk, IsDelegation, Frame, IsFrame, IsGrown, frame_at, AreTargets, AreAddresses, AreTaken}
 use Rattle.truth.proofs.Sames.{link_itself, found_shown}
 use Rattle.truth.proofs.Charges.{cut_inside}
-use Rattle.truth.proofs.Nearest.{in_charge, beneath_length}
+use Rattle.truth.proofs.Nearest.{in_charge}
 use Rattle.truth.proofs.Referred.{deeper, honest_referral}
 
 -- What the zones at hand give, by kind.

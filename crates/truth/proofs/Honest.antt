@@ -1,21 +1,21 @@
 -- An honest answer of a server that may be asked is the world's link.
-use Rattle.std.proofs.Common.{◌≡◌, ◌≢◌, ◌≤◌, ℕ, true, false, ◌⊎◌, inl, inr, List, [], ◌∷◌, ◌++◌, length, refl, sym, ◌∙◌, ap, subst, arith}
+use Rattle.std.proofs.Common.{◌≡◌, ◌≢◌, ◌≤◌, ℕ, true, false, inl, inr, List, [], ◌∷◌, ◌++◌, length, refl, sym, ◌∙◌, ap, subst, arith}
 use Rattle.std.specs.Prelude.{Contains}
 use Rattle.dname.specs.Labels.{Name, IsAtOrUnder}
 use Rattle.rdata.specs.Data.{type_of}
 use Rattle.rdata.specs.Records.{Record}
 use Rattle.zone.specs.Zones.{Zone, At, IsUncut, cname_type, soa_type}
-use Rattle.zone.specs.Links.{Link, Found, Alias, NoData, NxDomain, IsFrom, HasNone, IsDenial, lessened, IsLink}
-use Rattle.zone.specs.Same.{Same, Has, SameSet, SameLink}
+use Rattle.zone.specs.Links.{Link, Found, Alias, NoData, NxDomain, IsFrom, IsDenial, IsLink}
+use Rattle.zone.specs.Same.{Same, SameSet, SameLink}
 use Rattle.zone.proofs.LawLists.{none_in, first_in, later_in}
 use Rattle.layout.specs.Messages.{Header, Message}
 use Rattle.authority.specs.Catalogs.{IsInCharge}
 use Rattle.truth.specs.Worlds.{Address, World, Serves, IsWorld}
 use Rattle.truth.specs.Truths.{Shows, IsTrueLink}
-use Rattle.truth.specs.Serving.{AnswersFrom, Refers, Gives, Tells, IsCutDown, MayServe}
-use Rattle.truth.specs.Reading.{IsIn, HasNo, IsFirst, IsFirstOf, IsDenied, Reads, IsAnswer}
-use Rattle.truth.specs.Frames.{IsUnshadowed, MayAsk}
-use Rattle.truth.proofs.Sames.{only_in, same_back, same_on, same_one, same_type, has_same, set_back, set_on, link_on, found_shown, alias_shown, no_data_shown, nx_domain_shown}
+use Rattle.truth.specs.Serving.{AnswersFrom, Gives, Tells, MayServe}
+use Rattle.truth.specs.Reading.{IsIn, IsFirst, IsFirstOf, IsDenied, Reads, IsAnswer}
+use Rattle.truth.specs.Frames.{MayAsk}
+use Rattle.truth.proofs.Sames.{only_in, same_on, same_one, same_type, link_on, found_shown, alias_shown, no_data_shown, nx_domain_shown}
 use Rattle.truth.proofs.Nearest.{in_charge}
 
 -- The record in the middle of a list stands in it.

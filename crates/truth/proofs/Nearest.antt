@@ -1,7 +1,7 @@
 -- A zone that is in charge of a name because no zone that the resolver holds lies beneath it.
-use Rattle.std.proofs.Common.{◌≡◌, ◌≢◌, ◌≤◌, ◌<◌, ℕ, zero, suc, ◌⊎◌, inl, inr, List, [], ◌∷◌, length, refl, sym, ◌∙◌, ap, subst, arith}
+use Rattle.std.proofs.Common.{◌≤◌, ◌<◌, ℕ, zero, suc, ◌⊎◌, inl, inr, [], ◌∷◌, length, refl, ap, subst, arith}
 use Rattle.std.specs.Prelude.{Contains}
-use Rattle.dname.specs.Labels.{Name, root, IsName, AreLabels, IsAtOrUnder}
+use Rattle.dname.specs.Labels.{Name, IsName, AreLabels, IsAtOrUnder}
 use Rattle.zone.specs.Zones.{Zone, IsCut, IsUncut, IsBeneath}
 use Rattle.zone.proofs.LawLists.{over_one, under_under, under_length, same_over}
 use Rattle.authority.specs.Catalogs.{IsInCharge}

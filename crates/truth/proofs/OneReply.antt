@@ -1,5 +1,5 @@
 -- Two right replies to one question are the same.
-use Rattle.std.proofs.Common.{◌≡◌, ◌≤◌, ℕ, zero, suc, ◌+◌, true, false, inl, inr, List, [], ◌∷◌, ◌++◌, length, length-append, refl, sym, ◌∙◌, ap, subst, arith}
+use Rattle.std.proofs.Common.{◌≡◌, ◌≤◌, ℕ, true, false, inl, inr, List, [], ◌∷◌, ◌++◌, length, length-append, sym, ◌∙◌, ap, subst, arith}
 use Rattle.std.specs.Prelude.{Contains}
 use Rattle.dname.specs.Labels.{Name}
 use Rattle.rdata.specs.Records.{Record}
@@ -9,8 +9,7 @@ use Rattle.zone.proofs.LawLists.{none_in, first_in, later_in, in_cases}
 use Rattle.layout.specs.Messages.{Message, IsMessage}
 use Rattle.layout.proofs.Single.{message_one}
 use Rattle.truth.specs.Worlds.{World, IsWorld}
-use Rattle.truth.specs.Truths.{Truth, SameList}
-use Rattle.truth.specs.Replies.{IsBare, IsWhole, IsRight, Once, Ends, IsSameReply}
+use Rattle.truth.specs.Replies.{IsWhole, IsRight, Once, Ends, IsSameReply}
 use Rattle.truth.specs.Laws.{IsSameTruth}
 use Rattle.truth.proofs.Sames.{same_back, same_on}
 use Rattle.truth.proofs.OneTruth.{one_truth}
@@ -47,9 +46,9 @@ no_more (r ∷ rs) ss once all =
     let (s, m, e) = all r (first_in r rs) in
     let (front, back, whole) = split_at ss s m in
     let rest = no_more rs (front ++ back) once.1 (λ x n.
-      let (y, k, f) = all x (later_in r x rs n) in
-      let apart : Same y s → ⊥ = λ g. once.0 (x, n, same_on r s x e (same_back x s (same_on x y s f g))) in
-      (y, beside front back s y (subst (λ (ws : List Record). Contains ws y) whole k) apart, f)) in
+    let (y, k, f) = all x (later_in r x rs n) in
+    let apart : Same y s → ⊥ = λ g. once.0 (x, n, same_on r s x e (same_back x s (same_on x y s f g))) in
+    (y, beside front back s y (subst (λ (ws : List Record). Contains ws y) whole k) apart, f)) in
     omega (arith, ap length whole, length-append front (s ∷ back), length-append front back, rest)
 
 same_count : (rs ss : List Record) → Once rs → Once ss → SameSet rs ss → length rs ≡ length ss

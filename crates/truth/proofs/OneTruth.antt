@@ -1,10 +1,10 @@
 -- A question has one truth.
-use Rattle.std.proofs.Common.{◌≡◌, ℕ, List, [], ◌∷◌, refl, sym, ◌∙◌, ap, subst, arith}
+use Rattle.std.proofs.Common.{◌≡◌, ℕ, List, [], ◌∷◌, sym, ◌∙◌, subst, arith}
 use Rattle.dname.specs.Labels.{Name}
-use Rattle.rdata.specs.Data.{Datum, Cname}
+use Rattle.rdata.specs.Data.{Cname}
 use Rattle.rdata.specs.Records.{Record}
 use Rattle.zone.specs.Zones.{Zone}
-use Rattle.zone.specs.Links.{Link, Found, Alias, NoData, NxDomain, IsLink}
+use Rattle.zone.specs.Links.{Link, Found, Alias, NoData, NxDomain}
 use Rattle.zone.specs.Same.{Same, SameLink}
 use Rattle.zone.proofs.LawOne.{one_link}
 use Rattle.zone.proofs.LawZones.{one_soa, one_alias_name}

@@ -1,17 +1,16 @@
 -- An honest referral names servers of its cut, its addresses serve it, and each may be asked.
-use Rattle.std.proofs.Common.{◌≡◌, ◌≢◌, ◌≤◌, ℕ, ◌⊎◌, inl, inr, List, [], ◌∷◌, length, refl, sym, ◌∙◌, ap, subst, arith}
+use Rattle.std.proofs.Common.{◌≡◌, ◌≤◌, ℕ, inl, inr, List, [], ◌∷◌, length, sym, ◌∙◌, subst, arith}
 use Rattle.std.specs.Prelude.{Contains}
-use Rattle.dname.specs.Labels.{Name, IsAtOrUnder}
-use Rattle.rdata.specs.Data.{Ns, Ipv4, type_of}
+use Rattle.dname.specs.Labels.{Name}
+use Rattle.rdata.specs.Data.{Ipv4}
 use Rattle.rdata.specs.Records.{Record}
-use Rattle.zone.specs.Zones.{Zone, At, IsCut, IsCutOver, ns_type, cname_type, soa_type}
+use Rattle.zone.specs.Zones.{Zone, At, IsCut, ns_type}
 use Rattle.zone.specs.Links.{Link, Found, Alias, NoData, NxDomain}
-use Rattle.zone.specs.Same.{Same, Has}
 use Rattle.zone.proofs.LawLists.{first_in}
 use Rattle.layout.specs.Messages.{Message}
-use Rattle.truth.specs.Worlds.{Address, World, Serves, IsServerName, IsAddressOf, IsWorld}
+use Rattle.truth.specs.Worlds.{Address, World, IsServerName, IsAddressOf, IsWorld}
 use Rattle.truth.specs.Serving.{AnswersFrom, Refers, Gives, Tells, MayServe}
-use Rattle.truth.specs.Reading.{IsIn, IsFirst, IsReferralTo, NamesServer, GivesAddress}
+use Rattle.truth.specs.Reading.{IsReferralTo, NamesServer}
 use Rattle.truth.specs.Frames.{IsUnshadowed, MayAsk, IsGood}
 use Rattle.truth.proofs.Honest.{first_stands, found_in, alias_in, no_data_type, nx_domain_type, told_whole}
 use Rattle.truth.proofs.Nearest.{beneath_length}
@@ -58,13 +57,14 @@ honest_referral W a f q t m c w may serve h = by_told (told_whole W a q t m serv
     good z from cut refers = record {
       names = λ n names. named W a m c n z from.stands cut refers names;
       addresses = λ b gives. let (n, r, names, inside, stands, owner, value) = gives in
-      w.servers c n b (named W a m c n z from.stands cut refers names) (addressed W a m c z n r b refers stands owner value);
+          w.servers c n b (named W a m c n z from.stands cut refers names) (addressed W a m c z n r b refers stands owner value);
       asks = λ b serves. record {
         serves = serves;
         over = h.over;
         unshadowed = deeper W f c q may.unshadowed (let longer = beneath_length c f h.beneath in omega (arith, longer));
       };
     }
+
     by_told : Tells W a q t m → IsGood W f q m c
     by_told (z, from, inl (d, over, refers)) =
         let e : d ≡ c = taken_cut W a f q t m c d z h refers in

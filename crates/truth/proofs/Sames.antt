@@ -6,7 +6,7 @@ use Rattle.rdata.specs.Data.{type_of}
 use Rattle.rdata.specs.Records.{Record}
 use Rattle.zone.specs.Zones.{Zone}
 use Rattle.zone.specs.Links.{Link, Found, Alias, NoData, NxDomain, IsLink}
-use Rattle.zone.specs.Same.{Same, Has, SameSet, SameLink, kind, records_of}
+use Rattle.zone.specs.Same.{Same, Has, SameSet, SameLink, records_of}
 use Rattle.zone.proofs.LawLists.{none_in, first_in, in_cases}
 use Rattle.truth.specs.Truths.{Shows}
 

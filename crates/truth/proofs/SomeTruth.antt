@@ -1,14 +1,14 @@
 -- Each question has a link, and how chains of aliases grow and end.
-use Rattle.std.proofs.Common.{◌≡◌, ◌≢◌, ◌≤◌, ℕ, ◌⊎◌, inl, inr, Some, None, List, [], ◌∷◌, ◌++◌, length, refl, sym, ◌∙◌, ap, subst, arith}
+use Rattle.std.proofs.Common.{◌≡◌, ◌≤◌, ℕ, inl, inr, List, [], ◌∷◌, ◌++◌, length, refl, sym, ◌∙◌, ap, subst, arith}
 use Rattle.std.specs.Prelude.{Contains}
 use Rattle.dname.specs.Labels.{Name, IsName, IsAtOrUnder}
 use Rattle.rdata.specs.Data.{Cname}
 use Rattle.rdata.specs.Records.{Record}
 use Rattle.zone.specs.Zones.{Zone, cname_type}
-use Rattle.zone.specs.Links.{Link, Alias, IsLink}
+use Rattle.zone.specs.Links.{Link, Alias}
 use Rattle.zone.specs.Look.{link_by}
 use Rattle.zone.specs.Ruled.{IsZone, IsNamed}
-use Rattle.zone.specs.Same.{Same, SameLink}
+use Rattle.zone.specs.Same.{Same}
 use Rattle.zone.proofs.LawExists.{some_or_none}
 use Rattle.zone.proofs.LawLists.{under_length}
 use Rattle.zone.proofs.LawLink.{link_law}

@@ -1,5 +1,5 @@
 -- When a server may be asked, and what keeps it so.
-use Rattle.std.specs.Prelude.{◌≡◌, ℕ, ◌≤◌, ◌⊎◌, ◌↔◌, List, length, Contains}
+use Rattle.std.specs.Prelude.{◌≡◌, ◌≤◌, ◌⊎◌, ◌↔◌, List, length, Contains}
 use Rattle.dname.specs.Labels.{Name, IsAtOrUnder}
 use Rattle.rdata.specs.Data.{Ns, Ipv4}
 use Rattle.rdata.specs.Records.{Record}

@@ -4,7 +4,7 @@ use Rattle.dname.specs.Labels.{Name}
 use Rattle.rdata.specs.Records.{Record}
 use Rattle.zone.specs.Links.{Link, Found, Alias, NoData, NxDomain}
 use Rattle.zone.specs.Same.{Has, SameSet}
-use Rattle.layout.specs.Messages.{Message, Question, IsMessage, internet}
+use Rattle.layout.specs.Messages.{Message, IsMessage, internet}
 use Rattle.truth.specs.Worlds.{World}
 use Rattle.truth.specs.Truths.{Truth, SameList}
 

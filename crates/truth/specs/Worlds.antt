@@ -1,7 +1,7 @@
 -- A world: the zones there are, who serves them, which of them the resolver itself holds, and where it
 -- begins (RFC 1034, sections 2.4, 4.1 and 4.2).
 use Rattle.std.specs.Prelude.{◌≡◌, ◌≢◌, ℕ, ◌≤◌, ◌⊎◌, List, [], ◌∷◌, length, Contains}
-use Rattle.dname.specs.Labels.{Name, root, IsName, IsAtOrUnder}
+use Rattle.dname.specs.Labels.{Name, root, IsName}
 use Rattle.rdata.specs.Data.{Ipv4, Ns}
 use Rattle.rdata.specs.Records.{Record}
 use Rattle.zone.specs.Zones.{Zone, At, IsCut, IsBeneath, a_type, ns_type}
