@@ -1,17 +1,16 @@
 -- The small world is well formed.
-use Rattle.std.proofs.Common.{◌≡◌, ◌≢◌, ◌≤◌, ◌<◌, ℕ, ◌⊎◌, inl, inr, None, List, [], ◌∷◌, length, refl, sym, ◌∙◌, ap, subst, arith}
+use Rattle.std.proofs.Common.{◌≡◌, ◌≢◌, ◌≤◌, ◌⊎◌, inl, inr, List, [], ◌∷◌, length, refl, sym, ◌∙◌, ap, subst, arith}
 use Rattle.std.specs.Prelude.{Contains}
-use Rattle.dname.specs.Labels.{Name, root, IsLabel, IsName, IsAtOrUnder}
-use Rattle.rdata.specs.Data.{Datum, Ipv4, Ns, Cname, Soa, type_of}
+use Rattle.dname.specs.Labels.{Name, root, IsLabel, IsName}
+use Rattle.rdata.specs.Data.{Ipv4, Ns, type_of}
 use Rattle.rdata.specs.Records.{Record}
 use Rattle.zone.specs.Zones.{Zone, At, IsCut, IsBeneath, a_type, ns_type}
-use Rattle.zone.specs.Links.{Link, Found, IsFrom, IsLink}
+use Rattle.zone.specs.Links.{IsFrom}
 use Rattle.zone.specs.Ruled.{IsZone, IsNamed}
 use Rattle.zone.proofs.LawRules.{zone_is}
 use Rattle.zone.proofs.LawLists.{none_in, first_in, later_in, in_cases}
-use Rattle.truth.specs.Worlds.{Address, Host, World, Serves, IsOrigin, IsParent, IsServerName, IsAddressOf, Parted, IsWorld}
-use Rattle.truth.specs.Sample.{server_name, lower_name, alias_name, host_name, server_address, soa_data, entry, root_zone, lower_zone, sample_host, sample, SampleStands}
-use Rattle.truth.proofs.Sames.{only_in}
+use Rattle.truth.specs.Worlds.{Address, Host, Serves, IsOrigin, IsParent, IsAddressOf, IsWorld}
+use Rattle.truth.specs.Sample.{server_name, lower_name, server_address, soa_data, entry, root_zone, lower_zone, sample_host, sample, SampleStands}
 
 -- Each member of a list that is written out.
 abbrev Each : {X : Type 0} → (X → Type 0) → List X → Type 0
@@ -109,13 +108,16 @@ apart e = omega (arith, ap length e)
 sample_cut : IsCut root_zone lower_name
 sample_cut = (
   apart,
-  (entry lower_name (Ns server_name), record {
-    stands = later_in (entry root soa_data) (entry lower_name (Ns server_name)) (entry root (Ns server_name) ∷ entry server_name (Ipv4 server_address) ∷ entry lower_name (Ns server_name) ∷ [])
-        (later_in (entry root (Ns server_name)) (entry lower_name (Ns server_name)) (entry server_name (Ipv4 server_address) ∷ entry lower_name (Ns server_name) ∷ [])
-        (later_in (entry server_name (Ipv4 server_address)) (entry lower_name (Ns server_name)) (entry lower_name (Ns server_name) ∷ []) (first_in (entry lower_name (Ns server_name)) [])));
-    owner = refl;
-    kind = refl;
-  }),
+  (
+    entry lower_name (Ns server_name),
+    record {
+      stands = later_in (entry root soa_data) (entry lower_name (Ns server_name)) (entry root (Ns server_name) ∷ entry server_name (Ipv4 server_address) ∷ entry lower_name (Ns server_name) ∷ [])
+          (later_in (entry root (Ns server_name)) (entry lower_name (Ns server_name)) (entry server_name (Ipv4 server_address) ∷ entry lower_name (Ns server_name) ∷ [])
+          (later_in (entry server_name (Ipv4 server_address)) (entry lower_name (Ns server_name)) (entry lower_name (Ns server_name) ∷ []) (first_in (entry lower_name (Ns server_name)) [])));
+      owner = refl;
+      kind = refl;
+    },
+  ),
 )
 
 lower_parent : IsParent sample lower_name root_zone
@@ -143,7 +145,7 @@ sample_world = record {
   cuts = λ z c m cut. (lower_zone, lower_there, sym (cut_is z m c cut));
   delegated = both IsDelegated (inl refl) (inr (inr (root_zone, lower_parent, sample_cut)));
   servers = λ c n a named address. let (z, r, m, cut, at, e) = named in
-  subst (λ (b : Address). Serves sample b c) (sym (address_is n a address)) (subst (Serves sample server_address) (sym (cut_is z m c cut)) serves_lower);
+      subst (λ (b : Address). Serves sample b c) (sym (address_is n a address)) (subst (Serves sample server_address) (sym (cut_is z m c cut)) serves_lower);
   hosts = origins;
   hints = λ a m. elim (in_cases server_address a [] m) [
     | inl e ↦ subst (λ (b : Address). Serves sample b root) e serves_root

@@ -1,5 +1,5 @@
 -- A small world that is well formed: a root zone, a zone that it cuts off, one server of both, and a hint.
-use Rattle.std.specs.Prelude.{◌≡◌, ℕ, List, [], ◌∷◌, Contains}
+use Rattle.std.specs.Prelude.{[], ◌∷◌}
 use Rattle.dname.specs.Labels.{Name, root}
 use Rattle.rdata.specs.Data.{Datum, Ipv4, Ns, Cname, Soa}
 use Rattle.rdata.specs.Records.{Record}
