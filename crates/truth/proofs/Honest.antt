@@ -1,5 +1,5 @@
 -- An honest answer of a server that may be asked is the world's link.
-use Rattle.std.proofs.Common.{◌≡◌, ◌≢◌, ◌≤◌, ℕ, true, false, inl, inr, List, [], ◌∷◌, ◌++◌, length, refl, sym, ◌∙◌, ap, subst, arith}
+use Rattle.std.proofs.Common.{◌≡◌, ◌≢◌, ℕ, true, false, inl, inr, List, [], ◌∷◌, ◌++◌, length, refl, sym, ◌∙◌, ap, subst, arith}
 use Rattle.std.specs.Prelude.{Contains}
 use Rattle.dname.specs.Labels.{Name, IsAtOrUnder}
 use Rattle.rdata.specs.Data.{type_of}
@@ -148,7 +148,7 @@ shows_given z q t m (NxDomain r) g = g.4
 serving_charge : (W : World) (a : Address) (f q : Name) (z : Zone) → IsWorld W → MayAsk W a f q → AnswersFrom W a q z → IsUncut z q → IsInCharge W.zones q z
 serving_charge W a f q z w may from uncut =
     let (y, m, e) = w.hosts a f may.serves in
-    let long : length y.origin ≤ length z.origin = from.longest y m (subst (λ (n : Name). Serves W a n) (sym e) may.serves) (subst (λ (n : Name). IsAtOrUnder q n) (sym e) may.over) in
+    let long = from.longest y m (subst (λ (n : Name). Serves W a n) (sym e) may.serves) (subst (λ (n : Name). IsAtOrUnder q n) (sym e) may.over) in
     in_charge W q z w from.stands from.over uncut (λ x held over. let short = may.unshadowed x held over in omega (arith, ap length e, long, short))
 
 -- A message that is not cut is told whole.

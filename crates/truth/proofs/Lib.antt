@@ -7,4 +7,5 @@ pub mod OneReply
 pub mod OneTruth
 pub mod Referred
 pub mod Sames
+pub mod Samples
 pub mod SomeTruth

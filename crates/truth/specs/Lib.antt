@@ -3,6 +3,7 @@ pub mod Frames
 pub mod Laws
 pub mod Reading
 pub mod Replies
+pub mod Sample
 pub mod Serving
 pub mod Truths
 pub mod Worlds

@@ -2,6 +2,7 @@
 
 ghost use Rattle.truth.specs.FrameLaws.{LocalIsTrue, HintsStart, CutStarts, KeptStarts, KeptBelowStarts, ReferralKept, ReferralStarts, AddressAdds, FrameAsks};
 ghost use Rattle.truth.specs.Laws.{ChargeIsUncut, SomeInCharge, OneInCharge, SomeTrueLink, OneTrueLink, OneTruth, NineHaveNone, CnameIsPlain, ChainGrows, OneReply, HonestAnswer, HonestReferral, ErrorForAll, AliasForAll, FoundAsAlias, AliasAsFound};
+ghost use Rattle.truth.specs.Sample.{SampleStands};
 
 /// In a well formed world no cut of the zone in charge of a name stands over it, each name has a zone in
 /// charge, and one alone (RFC 1034, sections 4.2 and 4.3.2, step 2).
@@ -79,4 +80,9 @@ pub fn frame_law()
 /// What is taken from an honest referral may be kept as a delegation.
 pub fn delegation_law()
     ensures { ReferralKept }
+{}
+
+/// The premises of these laws can be met: a small world with a cut is well formed.
+pub fn sample_law()
+    ensures { SampleStands }
 {}
