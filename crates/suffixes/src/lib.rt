@@ -5,3 +5,6 @@ mod earlier;
 mod walk;
 
 pub use earlier::{Found, Suffixes};
+
+#[cfg(test)]
+mod tests;
