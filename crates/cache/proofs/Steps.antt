@@ -49,6 +49,7 @@ module _ (q : List (List ℕ)) (t now : ℕ) (es : List (Key × Hit)) where
           given : (o : Option Link) → as_alias h.link ≡ o → is_live now h ≡ true → AreHeld (under k (with_link h o))
           given None a l = tt
           given (Some x) a l = (k, h, looked_there k es h e, l, answers h.link x a, refl, refl)
+
           live : (b : Bool) → is_live now h ≡ b → AreHeld (under k (alias_from (cond b (Some h) None)))
           live true l = given (as_alias h.link) refl l
           live false l = tt

@@ -112,12 +112,7 @@ impl<S: BuildHasher + Drop, A: Heap> Cache<S, A> {
     /// What is kept for this name and type at the moment `now`, in milliseconds: the name's error, the link
     /// of that type, or for a type other than CNAME the alias. The first that lives answers and becomes the
     /// most recently used. An alias answers a question for CNAME as a set.
-    pub fn look(
-        &mut self,
-        name: &Name<A>,
-        kind: RType,
-        now: u64,
-    ) -> Result<Option<Hit<A>>, Starved>
+    pub fn look(&mut self, name: &Name<A>, kind: RType, now: u64) -> Result<Option<Hit<A>>, Starved>
         ensures value { IfOk result (λ h. h ≡ hit_of (answer name.now (type_number kind) now self.old.entries)) }
         ensures ok { OnOk result (self.new ≡ lru_cache (after_look name.now (type_number kind) now self.old.entries) self.old.cap) }
         ensures err { OnErr result (self.new ≡ self.old) }

@@ -11,3 +11,6 @@ pub use hit::Hit;
 // A crate can name a cache in a contract only if the types of its fields are exported.
 #[doc(hidden)]
 pub use key::{Key, Slot};
+
+#[cfg(test)]
+mod tests;

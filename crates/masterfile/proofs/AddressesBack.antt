@@ -1,6 +1,5 @@
 -- Addresses, as they are printed, are read as these addresses.
-use Rattle.std.proofs.Common.{◌≡◌, ℕ, suc, ◌+◌, ◌*◌, ◌/◌, ◌%◌, ◌^◌, ◌<◌, ◌≤◌, ◌==◌, Bool, true, false, ◌||◌, cond, Result, Ok, Err, Some, List, [], ◌∷◌, ◌++◌, length, get_or, codes, decimal, refl, sym, ap, subst, ◌∙◌, append_assoc, length-append, arith, inl, inr}
-use Rattle.std.proofs.lemmas.List.{append-nil}
+use Rattle.std.proofs.Common.{◌≡◌, ℕ, suc, ◌+◌, ◌*◌, ◌/◌, ◌%◌, ◌<◌, ◌≤◌, ◌==◌, Bool, true, false, ◌||◌, Result, Ok, List, [], ◌∷◌, ◌++◌, length, get_or, codes, decimal, refl, sym, ap, subst, ◌∙◌, append_assoc, arith, inl, inr}
 use Rattle.std.proofs.lemmas.Bool.Decides.{nat_tests}
 use Rattle.std.proofs.lemmas.Fmt.{decimal_nonempty, digits_is_IsNumeral}
 use Rattle.std.specs.Char.{digit_value}
@@ -15,7 +14,6 @@ use Rattle.rdata.specs.Text.{ipv4_text, ipv6_text, group_text, next_group_text}
 use Rattle.words.specs.Lexemes.{ends_word}
 use Rattle.words.specs.Lines.{is_plain}
 use Rattle.masterfile.specs.declared.faults.FileKind.{FileKind}
-use Rattle.masterfile.specs.Faults.{◌>>=◌}
 use Rattle.masterfile.specs.Addresses.{fields, octet, octets, ipv4_of, has_dot, ipv6_of}
 use Rattle.masterfile.proofs.Ipv6Lemmas.{ipv6_read}
 use Rattle.masterfile.proofs.PlainWords.{plain_append, plain_byte, eight_joined}

@@ -17,3 +17,4 @@ mod AddressesBack
 mod StringsBack
 mod RecordsBack
 pub mod ReadBack
+pub mod KeptRecords

@@ -1,15 +1,15 @@
 -- The text of a name is one plain word, and is read as that name under every origin.
-use Rattle.std.proofs.Common.{◌≡◌, ℕ, ◌+◌, ◌<◌, ◌≤◌, Bool, true, false, nat_eq, Result, Ok, Err, List, [], ◌∷◌, ◌++◌, length, refl, sym, ap, ◌∙◌, append_assoc, length-append, arith}
+use Rattle.std.proofs.Common.{◌≡◌, ℕ, ◌<◌, true, false, nat_eq, Ok, List, [], ◌∷◌, ◌++◌, length, refl, sym, ap, ◌∙◌, append_assoc, arith}
 use Rattle.std.proofs.lemmas.List.{append-nil}
 use Rattle.std.proofs.lemmas.Bool.Decides.{nat_tests}
 use Rattle.std.specs.Cmp.Lexicographic.{pointwise}
 use Rattle.dname.specs.Labels.{root, folded, folded_label, folded_labels, AreFolded, AreLabels, IsName}
-use Rattle.dname.specs.Text.{Token, Dot, Byte, Bad, tokens, name_under, byte_text, label_text, labels_text, or_dot, name_text}
-use Rattle.dname.specs.Spelling.{Spells, first_part, later_parts, parts, Writes, root_alone, absolute, AreBytes}
+use Rattle.dname.specs.Text.{Token, Dot, Byte, tokens, name_under, byte_text, label_text, labels_text, or_dot, name_text}
+use Rattle.dname.specs.Spelling.{first_part, later_parts, parts, Writes, absolute, AreBytes}
 use Rattle.dname.proofs.Spellings.{NoBad, spells}
 use Rattle.dname.proofs.ReadNames.{both_ways}
 use Rattle.words.specs.Lines.{is_plain}
-use Rattle.masterfile.specs.Fields.{name_of, or_bad_name}
+use Rattle.masterfile.specs.Fields.{name_of}
 use Rattle.masterfile.specs.Entries.{begins_directive}
 use Rattle.masterfile.proofs.PlainWords.{plain_append}
 

@@ -1,19 +1,16 @@
 -- The text of records is read as these records.
-use Rattle.std.proofs.Common.{◌≡◌, ℕ, ◌+◌, ◌<◌, true, false, Option, Some, None, Result, Ok, Err, List, [], ◌∷◌, ◌++◌, length, map, codes, flat_map, refl, sym, ap, ◌∙◌, append_assoc, arith}
+use Rattle.std.proofs.Common.{◌≡◌, ℕ, ◌+◌, Some, None, Ok, List, [], ◌∷◌, ◌++◌, codes, flat_map, refl, sym, ap, ◌∙◌, append_assoc, arith}
 use Rattle.dname.specs.Labels.{IsName}
 use Rattle.dname.specs.Text.{name_text}
 use Rattle.rdata.specs.Records.{Record}
 use Rattle.words.specs.Lexemes.{Word, plain}
-use Rattle.words.specs.Entries.{Entry, margin, entries_from}
+use Rattle.words.specs.Entries.{Entry, margin}
 use Rattle.words.specs.Lines.{line_of, lines_of, AreWritable, AllWritable, entries_of}
 use Rattle.words.proofs.LinesLaw.{lines_are_read}
-use Rattle.masterfile.specs.declared.faults.FileKind.{FileKind}
-use Rattle.masterfile.specs.declared.faults.FileError.{FileError}
-use Rattle.masterfile.specs.Faults.{onto}
 use Rattle.masterfile.specs.Entries.{Context, entry_in}
-use Rattle.masterfile.specs.Files.{start, after_entry, read_from, read_text}
+use Rattle.masterfile.specs.Files.{start, read_from, read_text}
 use Rattle.masterfile.specs.Printed.{line_text, file_text}
-use Rattle.masterfile.specs.ReadBack.{IsSound, AreSound, IsReadAs, PrintedIsReadBack}
+use Rattle.masterfile.specs.ReadBack.{AreSound, IsReadAs, PrintedIsReadBack}
 use Rattle.masterfile.proofs.NamesBack.{name_back, name_plain, name_some}
 use Rattle.masterfile.proofs.RecordsBack.{record_words, record_line, record_writable, record_back, next_context}
 

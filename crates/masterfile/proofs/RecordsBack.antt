@@ -1,28 +1,26 @@
 -- A printed record is a line of words that say this record in every context.
-use Rattle.std.proofs.Common.{◌≡◌, ℕ, ◌+◌, ◌^◌, ◌<◌, ◌≤◌, Bool, true, false, Option, Some, None, Result, Ok, Err, List, [], ◌∷◌, ◌++◌, length, codes, decimal, flat_map, refl, sym, ap, ◌∙◌, append_assoc, arith}
+use Rattle.std.proofs.Common.{◌≡◌, ℕ, ◌^◌, ◌<◌, ◌≤◌, false, Some, None, Ok, List, [], ◌∷◌, ◌++◌, codes, decimal, flat_map, refl, sym, ap, ◌∙◌, append_assoc, arith}
 use Rattle.std.proofs.lemmas.List.{append-nil}
 use Rattle.std.proofs.lemmas.Fmt.{decimal_nonempty}
 use Rattle.dname.specs.Labels.{IsName}
 use Rattle.dname.specs.Text.{name_text}
 use Rattle.rdata.specs.Data.{Authority, Datum, Ipv4, Ns, Cname, Soa, Ptr, Mx, Txt, Ipv6}
 use Rattle.rdata.specs.Records.{Record, greatest_ttl}
-use Rattle.rdata.specs.Text.{ipv4_text, ipv6_text, glyph, quoted as quoted_text, spaced_name, spaced_number, spaced_string, data_text}
+use Rattle.rdata.specs.Text.{ipv4_text, ipv6_text, spaced_name, spaced_number, spaced_string, data_text}
 use Rattle.rdata.specs.Types.{type_word}
 use Rattle.rdata.specs.declared.rtype.RType.{RType}
 use Rattle.rdata.specs.declared.rtype.RType.TheVariants as rtype
-use Rattle.words.specs.Lexemes.{Word, plain, quoted, broken}
-use Rattle.words.specs.Entries.{Lead, margin}
+use Rattle.words.specs.Lexemes.{Word, plain}
+use Rattle.words.specs.Entries.{margin}
 use Rattle.words.specs.Lines.{written, line_of, IsWritable, AreWritable}
-use Rattle.masterfile.specs.declared.faults.FileKind.{FileKind}
-use Rattle.masterfile.specs.Faults.{◌>>=◌}
 use Rattle.masterfile.specs.Fields.{type_named, take_data, greatest_16, greatest_32}
-use Rattle.masterfile.specs.Entries.{Context, Head, take_head, entry_in}
-use Rattle.masterfile.specs.Printed.{record_text, line_text}
+use Rattle.masterfile.specs.Entries.{Context, take_head, entry_in}
+use Rattle.masterfile.specs.Printed.{line_text}
 use Rattle.masterfile.specs.ReadBack.{IsAuthority, IsSoundData, IsSound}
 use Rattle.masterfile.proofs.PlainWords.{eight_joined}
 use Rattle.masterfile.proofs.NumbersBack.{decimal_digits, decimal_number, digits_plain, number_back}
 use Rattle.masterfile.proofs.NamesBack.{name_back, name_plain, name_some, name_no_directive}
-use Rattle.masterfile.proofs.AddressesBack.{IsRead, ipv4_is_read, ipv6_is_read}
+use Rattle.masterfile.proofs.AddressesBack.{ipv4_is_read, ipv6_is_read}
 use Rattle.masterfile.proofs.StringsBack.{string_words, strings_back, strings_writable}
 
 -- ---- the words of a record

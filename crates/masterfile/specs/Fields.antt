@@ -1,11 +1,11 @@
 -- The fields of an entry: each is read from the entry's words that are left, and leaves the words behind it.
 use Rattle.std.specs.Prelude.{ℕ, Bool, cond, nat_eq, Option, Some, None, Result, Ok, Err, List, [], ◌∷◌, map}
 use Rattle.std.specs.Cmp.Lexicographic.{pointwise}
-use Rattle.dname.specs.Labels.{folded}
 use Rattle.dname.specs.Text.{name_under}
 use Rattle.dname.specs.declared.text.NameError.{NameError}
 use Rattle.rdata.specs.Data.{Datum, Ipv4, Ns, Cname, Soa, Ptr, Mx, Txt, Ipv6, Authority}
-use Rattle.rdata.specs.Types.{type_word}
+pub use Rattle.rdata.specs.Types.{same_word, find_type, served_types}
+unfoldable pub use Rattle.rdata.specs.Types.{type_named}
 use Rattle.rdata.specs.declared.rtype.RType.{RType}
 use Rattle.rdata.specs.declared.rtype.RType.TheVariants as rtype
 use Rattle.words.specs.Lexemes.{Word, plain, quoted, broken}
@@ -15,10 +15,6 @@ use Rattle.masterfile.specs.Faults.{◌>>=◌}
 use Rattle.masterfile.specs.Numbers.{number_of}
 use Rattle.masterfile.specs.Addresses.{ipv4_of, ipv6_of}
 use Rattle.masterfile.specs.Strings.{take_strings}
-
--- Words are compared without regard to case.
-abbrev pub same_word : List ℕ → List ℕ → Bool
-same_word a b = pointwise nat_eq (map folded a) (map folded b)
 
 -- The next word, where it has no quotes.
 abbrev pub plain_word : List Word → Result (List ℕ × List Word) FileKind
@@ -59,16 +55,6 @@ unless (Some kind) x = Err kind
 -- Nothing may be left.
 abbrev pub take_end : {X : Type 0} → X → List Word → Result X FileKind
 take_end x ws = unless (left_over ws) x
-
-abbrev pub find_type : List ℕ → List RType → Option RType
-find_type w [] = None
-find_type w (t ∷ ts) = cond (same_word w (type_word t)) (Some t) (find_type w ts)
-
-abbrev pub served_types : List RType
-served_types = rtype.A ∷ rtype.Ns ∷ rtype.Cname ∷ rtype.Soa ∷ rtype.Ptr ∷ rtype.Mx ∷ rtype.Txt ∷ rtype.Aaaa ∷ []
-
-unfoldable pub type_named : List ℕ → Option RType
-type_named w = find_type w served_types
 
 -- The greatest numbers of 16 and of 32 bits.
 abbrev pub greatest_16 : ℕ

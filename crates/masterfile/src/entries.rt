@@ -9,12 +9,10 @@ ghost use Rattle.masterfile.specs.Files.{start};
 ghost use Rattle.masterfile.specs.Given.{GivesHead, GivesEntry, GivesContext};
 
 use crate::faults::FileKind;
-use crate::fields::{
-    end, is_same_word, name, name_of_word, number_field, plain, rdata, type_of_word,
-};
+use crate::fields::{end, name, name_of_word, number_field, plain, rdata};
 use crate::numbers::{is_number, number};
 use dname::{Heap, Name};
-use rdata::{RType, Record};
+use rdata::{RType, Record, is_same_word};
 use std::alloc::{Allocator, Global};
 use std::marker::Model;
 use words::{Lead, Word, Words};
@@ -94,7 +92,7 @@ fn read_head(first: &[u8], words: &mut Words<'_>) -> Result<Head, FileKind>
                 FileKind::BadClass
             });
         } else {
-            let kind = type_of_word(word).ok_or(FileKind::UnknownType)?;
+            let kind = RType::from_word(word).ok_or(FileKind::UnknownType)?;
             return Ok(Head { ttl, kind });
         }
     }

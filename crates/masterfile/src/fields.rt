@@ -6,7 +6,7 @@ ghost use Rattle.masterfile.specs.Faults.{FaultIn};
 ghost use Rattle.masterfile.specs.Addresses.{ipv4_of, ipv6_of};
 ghost use Rattle.masterfile.specs.Strings.{string_word, take_strings};
 ghost use Rattle.masterfile.specs.Given.{GivesRest, ReadsRest, same};
-ghost use Rattle.masterfile.specs.Fields.{same_word, plain_word, name_of, left_over, take_by, take_name, take_number, take_end, type_named, take_authority, take_exchange, take_data};
+ghost use Rattle.masterfile.specs.Fields.{plain_word, name_of, left_over, take_by, take_name, take_number, take_end, take_authority, take_exchange, take_data};
 
 use crate::addresses::{ipv4, ipv6};
 use crate::faults::FileKind;
@@ -15,39 +15,6 @@ use crate::strings::string;
 use dname::{Heap, Name, NameError};
 use rdata::{Addr, CharacterString, RData, RType, Soa, Texts};
 use words::{Word, Words};
-
-/// Whether two words are the same without regard to case.
-pub(crate) fn is_same_word(word: &[u8], other: &[u8]) -> bool
-    ensures { result ≡ same_word word.now other.now }
-{
-    match (word, other) {
-        ([], []) => true,
-        ([a, word @ ..], [b, other @ ..]) => a.eq_ignore_ascii_case(b) && is_same_word(word, other),
-        _ => false,
-    }
-}
-
-/// The type that a word names.
-#[tactic(auto, unfolding(crate::specs::Fields::type_named))]
-pub fn type_of_word(word: &[u8]) -> Option<RType>
-    ensures { result ≡ type_named word.now }
-{
-    for kind in [
-        RType::A,
-        RType::Ns,
-        RType::Cname,
-        RType::Soa,
-        RType::Ptr,
-        RType::Mx,
-        RType::Txt,
-        RType::Aaaa,
-    ] {
-        if is_same_word(word, kind.word().as_bytes()) {
-            return Some(kind);
-        }
-    }
-    None
-}
 
 /// The next word, which may have no quotes.
 pub(crate) fn plain<'a>(words: &mut Words<'a>) -> Result<&'a [u8], FileKind>

@@ -9,10 +9,10 @@ mod files;
 mod laws;
 mod numbers;
 mod printed;
+mod sound;
 mod strings;
 
 pub use faults::{FileError, FileKind};
-pub use fields::type_of_word;
 pub use files::{read, read_block};
 pub use laws::{printed_is_read_back, reads_both_ways};
 pub use printed::{print, put_record};

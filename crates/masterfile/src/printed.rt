@@ -1,28 +1,31 @@
 //! Records printed.
 ghost use Rattle.std.specs.Prelude.{◌≡◌, ◌++◌, IfOk, OnOk, string_bytes};
-ghost use Rattle.dname.specs.Labels.{IsName};
 ghost use Rattle.masterfile.specs.Printed.{record_text, line_text, file_text};
-ghost use Rattle.masterfile.specs.ReadBack.{AreSound, IsReadAs};
+ghost use Rattle.masterfile.specs.ReadBack.{FitMessages, IsReadAs};
 
+use crate::sound::record_is_sound;
 use dname::{Heap, Name, Starved, put_name};
 use rdata::{Record, put_data};
 use std::alloc::Allocator;
 
 /// The records as a zone text: a line `$ORIGIN NAME`, then a line `OWNER TTL IN TYPE DATA` a record, with one space
-/// between words and every name absolute. It is read back as these records, where no TXT is over 65,535 bytes.
+/// between words and every name absolute. It is read back as these records, where no TXT is over 65,535
+/// bytes in a message.
 pub fn print<A: Heap, B: Allocator>(
     alloc: A,
     origin: &Name<B>,
     records: &[Record<B>],
 ) -> Result<String<A>, Starved>
     ensures text { IfOk result (λ s. string_bytes s ≡ file_text origin.now records.now) }
-    ensures back { IfOk result (λ s. IsName origin.now → AreSound records.now → IsReadAs (string_bytes s) records.now) }
+    ensures back { IfOk result (λ s. FitMessages records.now → IsReadAs (string_bytes s) records.now) }
 {
+    origin.is_well_formed();
     let mut out = String::new(alloc);
     out.push_str("$ORIGIN ")?;
     put_name(&mut out, origin)?;
     out.push('\n')?;
     for record in records {
+        record_is_sound(record);
         put_line(&mut out, record)?;
     }
     Ok(out)

@@ -1,5 +1,5 @@
 -- What the steps of a store of cuts leave, and which cut is found.
-use Rattle.std.proofs.Common.{◌≡◌, ◌≢◌, ℕ, suc, ◌+◌, ◌-◌, ◌≤◌, Bool, true, false, cond, nat_eq, ◌⊎◌, inl, inr, List, [], ◌∷◌, ◌++◌, length, Contains, Option, Some, None, refl, sym, ap, ◌∙◌, subst, arith, eqb-true, eq-eqb, ne_eqb, length-append}
+use Rattle.std.proofs.Common.{◌≡◌, ◌≢◌, ℕ, zero, suc, ◌+◌, ◌-◌, ◌≤◌, ◌<◌, take, Bool, true, false, cond, nat_eq, ◌⊎◌, inl, inr, List, [], ◌∷◌, ◌++◌, length, Contains, Option, Some, None, refl, sym, ap, ◌∙◌, subst, arith, eqb-true, eq-eqb, ne_eqb, length-append}
 use Rattle.std.specs.Map.{lookup, remove_entry}
 use Rattle.lru.specs.LruCache.{LruCache, lru_cache, put_entries, promoted}
 use Rattle.lru.proofs.CallerLemmas.{Contains-lookup, Contains-remove_entry}
@@ -11,6 +11,9 @@ use Rattle.referral.proofs.Exact.{same_name_exact}
 
 abbrev Entries : Type 0
 Entries = List (List (List ℕ) × Known)
+
+abbrev no_entries : Entries
+no_entries = []
 
 -- ---- which cut is found
 
@@ -72,7 +75,7 @@ some_or_none e = cc
 nearest_above : (l : List ℕ) (ls : List (List ℕ)) (now : ℕ) (es : Entries) (o : Option (List (List ℕ) × Known)) → live_at now (l ∷ ls) es ≡ None
     → IsNearest ls now es o → IsNearest (l ∷ ls) now es o
 unfolding IsNearest
-nearest_above l ls now es None none h m j some lives over = elim (up_or_here l ls m over) [
+nearest_above l ls now es None none h = λ m j some lives over. elim (up_or_here l ls m over) [
   | inl e ↦ some_or_none (sym (lives_to now m es j lives) ∙ (ap (λ n. live_at now n es) e ∙ none))
   | inr up ↦ h m j some lives up
 ]
@@ -88,7 +91,7 @@ nearest_above l ls now es (Some found) none h = record {
 
 is_nearest : (q : List (List ℕ)) (now : ℕ) (es : Entries) → IsNearest q now es (nearest q now es)
 unfolding IsNearest
-is_nearest [] now es m j some lives over = some (up_of_nil m over)
+is_nearest [] now es = λ m j some lives over. some (up_of_nil m over)
 is_nearest (l ∷ ls) now es = step l ls now es (is_nearest ls now es) (live_at now (l ∷ ls) es) refl
   where
     step : (l : List ℕ) (ls : List (List ℕ)) (now : ℕ) (es : Entries) → IsNearest ls now es (nearest ls now es) → (o : Option Known) → live_at now (l ∷ ls) es ≡ o
@@ -97,12 +100,19 @@ is_nearest (l ∷ ls) now es = step l ls now es (is_nearest ls now es) (live_at 
     step l ls now es above (Some k) e = nearest_here l ls now es k e
 
 -- what is found is the deepest
-pub cut_is_best : (q : List (List ℕ)) (now : ℕ) (es : Entries) → IsBest q now es (cut_of (nearest q now es))
+cut_is_best : (q : List (List ℕ)) (now : ℕ) (es : Entries) → IsBest q now es (cut_of (nearest q now es))
+unfolding IsNearest
 cut_is_best q now es = by (nearest q now es) (is_nearest q now es)
   where
     by : (o : Option (List (List ℕ) × Known)) → IsNearest q now es o → IsBest q now es (cut_of o)
     by None h = h
     by (Some found) h = (found.0, found.1, h, refl)
+
+pub best_some : (q n : List (List ℕ)) (now : ℕ) (es : Entries) (k : Known) → under n (Some k) ≡ nearest q now es → IsBest q now es (Some k.cut)
+best_some q n now es k found = subst (λ o. IsBest q now es (cut_of o)) (sym found) (cut_is_best q now es)
+
+pub best_none : (q : List (List ℕ)) (now : ℕ) (es : Entries) → None ≡ nearest q now es → IsBest q now es None
+best_none q now es found = subst (λ o. IsBest q now es (cut_of o)) (sym found) (cut_is_best q now es)
 
 -- ---- the walk to the root
 
@@ -186,3 +196,15 @@ module _ (c d : LruCache (List (List ℕ)) Known) (k : Known) (is : d ≡ lru_ca
 
   pub keep_gone : LosesOnly c.entries (IsGone c.cap k c.entries) d.entries
   keep_gone = subst (λ x. LosesOnly c.entries (IsGone c.cap k c.entries) x.entries) (sym is) (after_gone c.cap k c.entries)
+
+-- ---- a new store
+
+none_taken : (m : ℕ) → take m no_entries ≡ no_entries
+none_taken zero = refl
+none_taken (suc m) = refl
+
+pub resized : (c d : LruCache (List (List ℕ)) Known) (most m n : ℕ) → c ≡ lru_cache [] most → d ≡ lru_cache (take m c.entries) m → m ≡ n → d ≡ lru_cache [] n
+resized c d most m n empty is same = is ∙ (ap (λ x. lru_cache (take m x.entries) m) empty ∙ (ap (λ es. lru_cache es m) (none_taken m) ∙ ap (λ k. lru_cache no_entries k) same))
+
+pub never_zero : (n : ℕ) → 0 < n → n ≡ 0 → ⊥
+never_zero n h e = omega arith

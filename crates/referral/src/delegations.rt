@@ -51,16 +51,25 @@ impl<S: BuildHasher + Drop, A: Heap> Delegations<S, A> {
         ensures only { KeepsOnly self.old.entries (IsKept (as_kept cut.now ttl now)) self.new.entries }
         ensures gone { LosesOnly self.old.entries (IsGone self.old.cap (as_kept cut.now ttl now) self.old.entries) self.new.entries }
     {
-        if ttl == 0 {
-            drop(self.entries.pop(&cut.at));
-            return Ok(());
-        }
         let at = cut.at.clone()?;
         let known = Known {
             cut: cut.clone()?,
             ttl,
             since: now,
         };
+        self.store(at, known)?;
+        Ok(())
+    }
+
+    fn store(&mut self, at: Name<A>, known: Known<A>) -> Result<(), Starved>
+        requires { at ≡ (known.cut).owner }
+        ensures ok { OnOk result (self.new ≡ lru_cache (after_keep self.old.cap known self.old.entries) self.old.cap) }
+        ensures err { OnErr result (self.new ≡ self.old) }
+    {
+        if known.ttl == 0 {
+            drop(self.entries.pop(&at));
+            return Ok(());
+        }
         drop(self.entries.put(at, known)?);
         Ok(())
     }

@@ -9,3 +9,6 @@ mod lists;
 pub use cut::{Cut, Known};
 pub use delegations::Delegations;
 pub use lists::{Addrs, Names};
+
+#[cfg(test)]
+mod tests;

@@ -22,7 +22,7 @@ returns-clause-ok g c =
     let at = answer c.args.name.now (type_number c.args.kind) c.args.now c.args.self.now.entries in
     elim c.if-is_some.branch [
       | then-is_some w ↦ moved_some before after c.find.new.key c.in_ok-hit.hit at found (sym c.is_some.ensures ∙ w.if-is_some.true)
-        (w.self-is ∙ (w.promote.ensures.entries ∙ ap (λ x. lru_cache (promoted (same_key c.find.new.key) x.entries) x.cap) c.self.view_is))
+          (w.self-is ∙ (w.promote.ensures.entries ∙ ap (λ x. lru_cache (promoted (same_key c.find.new.key) x.entries) x.cap) c.self.view_is))
       | else-is_some w ↦ moved_none before after c.find.new.key c.in_ok-hit.hit at found (sym c.is_some.ensures ∙ w.if-is_some.false) w.self-is
     ]
 

@@ -1,0 +1,71 @@
+//! Records as they are kept are within the bounds of a zone text: laws on values, for `print`.
+ghost use Rattle.std.specs.Prelude.{◌≤◌};
+ghost use Rattle.dname.specs.Labels.{IsName};
+ghost use Rattle.dname.specs.Spelling.{AreBytes};
+ghost use Rattle.rdata.specs.Kept.{datum};
+ghost use Rattle.masterfile.specs.Fields.{greatest_16, greatest_32};
+ghost use Rattle.masterfile.specs.ReadBack.{AreCharacterStrings, IsAuthority, FitsMessage, IsSoundData, IsSound};
+
+use dname::Name;
+use rdata::{CharacterString, RData, Record, Soa};
+use std::alloc::Allocator;
+
+/// A record's parts are within their bounds, where its TXT, if it is one, fits a message.
+pub(crate) fn record_is_sound<A: Allocator>(record: &Record<A>)
+    ensures { FitsMessage «record».now.value → IsSound «record».now }
+{
+    record.owner.is_well_formed();
+    data_is_sound(&record.value);
+}
+
+fn data_is_sound<A: Allocator>(value: &RData<A>)
+    ensures { FitsMessage (datum value.now) → IsSoundData (datum value.now) }
+{
+    match value {
+        RData::A(address) => are_bytes(&address.0),
+        RData::Ns(name) => name.is_well_formed(),
+        RData::Cname(name) => name.is_well_formed(),
+        RData::Soa(soa) => authority_is_sound(soa),
+        RData::Ptr(name) => name.is_well_formed(),
+        RData::Mx(preference, name) => exchange_is_sound(*preference, name),
+        RData::Txt(texts) => are_strings(texts.strings()),
+        RData::Aaaa(address) => are_bytes(address),
+    }
+}
+
+fn exchange_is_sound<A: Allocator>(preference: u16, name: &Name<A>)
+    ensures { (preference ≤ greatest_16) × IsName name.now }
+{
+    name.is_well_formed();
+}
+
+fn authority_is_sound<A: Allocator>(soa: &Soa<A>)
+    ensures { IsAuthority soa.now }
+{
+    soa.primary.is_well_formed();
+    soa.mailbox.is_well_formed();
+    number_is_sound(soa.serial);
+    number_is_sound(soa.refresh);
+    number_is_sound(soa.retry);
+    number_is_sound(soa.expire);
+    number_is_sound(soa.minimum);
+}
+
+fn number_is_sound(number: u32)
+    ensures { number ≤ greatest_32 }
+{}
+
+fn are_strings<A: Allocator>(strings: &[CharacterString<A>])
+    ensures { AreCharacterStrings strings.now }
+{
+    for string in strings {
+        are_bytes(string.bytes());
+    }
+}
+
+#[tactic(auto, using(crate::proofs::KeptRecords::bytes_by))]
+fn are_bytes(bytes: &[u8])
+    ensures { AreBytes bytes.now }
+{
+    let _ = bytes.len();
+}

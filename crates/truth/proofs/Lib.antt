@@ -1,0 +1,10 @@
+pub mod Charges
+pub mod Entries
+pub mod Grown
+pub mod Honest
+pub mod Nearest
+pub mod OneReply
+pub mod OneTruth
+pub mod Referred
+pub mod Sames
+pub mod SomeTruth
