@@ -3,6 +3,7 @@
 //! printed.
 #![tactic(auto)]
 
+mod links;
 mod messages;
 mod names;
 mod work;

@@ -1,7 +1,7 @@
 //! The kinds of work.
 ghost use Rattle.std.specs.Prelude.{◌<◌};
 
-use crate::{messages, names, zones};
+use crate::{links, messages, names, zones};
 use anyhow::Result;
 use std::fmt;
 use std::rt::Runtime;
@@ -23,12 +23,19 @@ pub enum Work {
     /// A record of a master file; so many records are one file.
     ReadZone,
     /// A record of a zone; so many records are one zone.
-    BuildZone,
-    /// A look-up in a zone of a thousand records.
-    LookUp,
+    BuildThousand,
+    BuildTenThousand,
+    BuildHundredThousand,
+    /// A look-up in a zone of so many records.
+    LookThousand,
+    LookTenThousand,
+    LookHundredThousand,
+    /// A link kept in a cache, each for another name; and found again.
+    KeepLink,
+    FindLink,
 }
 
-pub const ALL: [Work; 13] = [
+pub const ALL: [Work; 19] = [
     Work::ReadName,
     Work::WriteName,
     Work::HashName,
@@ -40,8 +47,14 @@ pub const ALL: [Work; 13] = [
     Work::DecodeTwenty,
     Work::EncodeTwenty,
     Work::ReadZone,
-    Work::BuildZone,
-    Work::LookUp,
+    Work::BuildThousand,
+    Work::BuildTenThousand,
+    Work::BuildHundredThousand,
+    Work::LookThousand,
+    Work::LookTenThousand,
+    Work::LookHundredThousand,
+    Work::KeepLink,
+    Work::FindLink,
 ];
 
 /// What came out of work, as a number, and how long it took.
@@ -65,8 +78,14 @@ impl fmt::Display for Work {
             Work::DecodeTwenty => "reply of 20 addresses decoded",
             Work::EncodeTwenty => "reply of 20 addresses encoded",
             Work::ReadZone => "record of a zone file read",
-            Work::BuildZone => "record of a zone built in",
-            Work::LookUp => "name looked up among 1,000",
+            Work::BuildThousand => "record of 1,000 built into a zone",
+            Work::BuildTenThousand => "record of 10,000 built into a zone",
+            Work::BuildHundredThousand => "record of 100,000 built into a zone",
+            Work::LookThousand => "name looked up among 1,000",
+            Work::LookTenThousand => "name looked up among 10,000",
+            Work::LookHundredThousand => "name looked up among 100,000",
+            Work::KeepLink => "link kept",
+            Work::FindLink => "link found",
         })
     }
 }
@@ -80,8 +99,12 @@ impl Work {
             Work::ReadName | Work::WriteName => 2_000_000,
             Work::HashName | Work::CompareNames | Work::TestUnder => 10_000_000,
             Work::DecodeReply | Work::EncodeReply => 1_000_000,
-            Work::DecodeTwenty | Work::EncodeTwenty | Work::ReadZone | Work::BuildZone => 100_000,
-            Work::MakeSet | Work::LookUp => 10_000,
+            Work::KeepLink | Work::FindLink => 1_000_000,
+            Work::DecodeTwenty | Work::EncodeTwenty => 100_000,
+            Work::ReadZone | Work::BuildHundredThousand => 100_000,
+            Work::MakeSet | Work::BuildTenThousand | Work::LookThousand => 10_000,
+            Work::BuildThousand | Work::LookTenThousand => 1_000,
+            Work::LookHundredThousand => 100,
         }
     }
 
@@ -89,8 +112,14 @@ impl Work {
     pub fn run<R: Runtime + AllocGlobal>(self, rt: &R, rounds: u64) -> Result<Done> {
         match self {
             Work::ReadZone => zones::read(rt, rounds),
-            Work::BuildZone => zones::build(rt, rounds),
-            Work::LookUp => zones::look(rt, rounds),
+            Work::BuildThousand | Work::BuildTenThousand | Work::BuildHundredThousand => {
+                zones::build(rt, rounds)
+            }
+            Work::LookThousand => zones::look(rt, 1_000, rounds),
+            Work::LookTenThousand => zones::look(rt, 10_000, rounds),
+            Work::LookHundredThousand => zones::look(rt, 100_000, rounds),
+            Work::KeepLink => links::keep(rt, rounds),
+            Work::FindLink => links::find(rt, rounds),
             _ => {
                 let start = Instant::now(rt)?;
                 let sum = self.times(rt, rounds)?;
@@ -114,7 +143,7 @@ impl Work {
             Work::EncodeReply => Ok(messages::encode_reply(alloc, rounds)?),
             Work::DecodeTwenty => Ok(messages::decode_twenty(alloc, rounds)?),
             Work::EncodeTwenty => Ok(messages::encode_twenty(alloc, rounds)?),
-            Work::ReadZone | Work::BuildZone | Work::LookUp => Ok(0),
+            _ => Ok(0),
         }
     }
 }

@@ -67,10 +67,10 @@ pub fn build<R: Runtime + AllocGlobal>(rt: &R, rounds: u64) -> Result<Done> {
     })
 }
 
-pub fn look<R: Runtime + AllocGlobal>(rt: &R, rounds: u64) -> Result<Done> {
+pub fn look<R: Runtime + AllocGlobal>(rt: &R, size: u64, rounds: u64) -> Result<Done> {
     let alloc = rt.alloc();
     let mut zones = Vec::new(alloc);
-    zones.push(zone(alloc, 1_000)?)?;
+    zones.push(zone(alloc, size)?)?;
     let catalog = Catalog::new(zones).map_err(|_| Starved)?;
     let asked = name(alloc, "host500.lab.example.")?;
     let start = Instant::now(rt)?;
