@@ -3,15 +3,17 @@
 //! printed.
 #![tactic(auto)]
 
+mod links;
+mod messages;
 mod names;
 mod work;
+mod zones;
 
 use crate::work::{ALL, Work};
 use anyhow::Result;
 use std::env;
 use std::io::Write;
 use std::rt::Runtime;
-use std::time::Instant;
 
 fn main(rt: HostRuntime) -> Result<()> {
     let measures = env::args(&rt)?
@@ -30,20 +32,16 @@ fn main(rt: HostRuntime) -> Result<()> {
 
 // A few times: the sum of what came out.
 fn sample<R: Runtime + AllocGlobal>(rt: &R, work: Work) -> Result<()> {
-    let sum = work.times(rt.alloc(), 3)?;
-    println!(rt; "{work}: {sum}")?;
+    let done = work.run(rt, 3)?;
+    println!(rt; "{work}: {}", done.sum)?;
     Ok(())
 }
 
 // Often: nanoseconds a time.
 fn measure<R: Runtime + AllocGlobal>(rt: &R, work: Work) -> Result<()> {
     let rounds = work.rounds();
-    let start = Instant::now(rt)?;
-    let sum = work.times(rt.alloc(), rounds)?;
-    let taken = start.elapsed(rt)?;
-    println!(rt;
-        "{work}: {} ns (sum {sum})",
-        taken.as_nanos() / u128::from(rounds)
-    )?;
+    let done = work.run(rt, rounds)?;
+    let each = done.taken.as_nanos() / u128::from(rounds);
+    println!(rt; "{work}: {each} ns (sum {})", done.sum)?;
     Ok(())
 }

@@ -1,10 +1,11 @@
 //! The kinds of work.
 ghost use Rattle.std.specs.Prelude.{◌<◌};
 
-use crate::names;
+use crate::{links, messages, names, zones};
 use anyhow::Result;
-use std::alloc::Global;
 use std::fmt;
+use std::rt::Runtime;
+use std::time::{Duration, Instant};
 
 /// A kind of work.
 #[derive(Clone, Copy)]
@@ -15,16 +16,53 @@ pub enum Work {
     CompareNames,
     TestUnder,
     MakeSet,
+    DecodeReply,
+    EncodeReply,
+    DecodeTwenty,
+    EncodeTwenty,
+    /// A record of a master file; so many records are one file.
+    ReadZone,
+    /// A record of a zone; so many records are one zone.
+    BuildThousand,
+    BuildTenThousand,
+    BuildHundredThousand,
+    /// A look-up in a zone of so many records.
+    LookThousand,
+    LookTenThousand,
+    LookHundredThousand,
+    /// A link kept in a cache, each for another name; and found again.
+    KeepLink,
+    FindLink,
 }
 
-pub const ALL: [Work; 6] = [
+pub const ALL: [Work; 19] = [
     Work::ReadName,
     Work::WriteName,
     Work::HashName,
     Work::CompareNames,
     Work::TestUnder,
     Work::MakeSet,
+    Work::DecodeReply,
+    Work::EncodeReply,
+    Work::DecodeTwenty,
+    Work::EncodeTwenty,
+    Work::ReadZone,
+    Work::BuildThousand,
+    Work::BuildTenThousand,
+    Work::BuildHundredThousand,
+    Work::LookThousand,
+    Work::LookTenThousand,
+    Work::LookHundredThousand,
+    Work::KeepLink,
+    Work::FindLink,
 ];
+
+/// What came out of work, as a number, and how long it took.
+#[derive(Clone, Copy)]
+pub struct Done {
+    pub sum: u64,
+    pub taken: Duration,
+}
 
 impl fmt::Display for Work {
     fn fmt<W: fmt::Write>(&self, f: &mut fmt::Formatter<W>) -> fmt::Result {
@@ -35,6 +73,19 @@ impl fmt::Display for Work {
             Work::CompareNames => "names compared",
             Work::TestUnder => "name at or under another",
             Work::MakeSet => "100 records made a set",
+            Work::DecodeReply => "reply of 45 bytes decoded",
+            Work::EncodeReply => "reply of 45 bytes encoded",
+            Work::DecodeTwenty => "reply of 20 addresses decoded",
+            Work::EncodeTwenty => "reply of 20 addresses encoded",
+            Work::ReadZone => "record of a zone file read",
+            Work::BuildThousand => "record of 1,000 built into a zone",
+            Work::BuildTenThousand => "record of 10,000 built into a zone",
+            Work::BuildHundredThousand => "record of 100,000 built into a zone",
+            Work::LookThousand => "name looked up among 1,000",
+            Work::LookTenThousand => "name looked up among 10,000",
+            Work::LookHundredThousand => "name looked up among 100,000",
+            Work::KeepLink => "link kept",
+            Work::FindLink => "link found",
         })
     }
 }
@@ -47,12 +98,40 @@ impl Work {
         match self {
             Work::ReadName | Work::WriteName => 2_000_000,
             Work::HashName | Work::CompareNames | Work::TestUnder => 10_000_000,
-            Work::MakeSet => 10_000,
+            Work::DecodeReply | Work::EncodeReply => 1_000_000,
+            Work::KeepLink | Work::FindLink => 1_000_000,
+            Work::DecodeTwenty | Work::EncodeTwenty => 100_000,
+            Work::ReadZone | Work::BuildHundredThousand => 100_000,
+            Work::MakeSet | Work::BuildTenThousand | Work::LookThousand => 10_000,
+            Work::BuildThousand | Work::LookTenThousand => 1_000,
+            Work::LookHundredThousand => 100,
         }
     }
 
-    /// Does it so often; the sum of what comes out.
-    pub fn times(self, alloc: Global, rounds: u64) -> Result<u64> {
+    /// Does it so often.
+    pub fn run<R: Runtime + AllocGlobal>(self, rt: &R, rounds: u64) -> Result<Done> {
+        match self {
+            Work::ReadZone => zones::read(rt, rounds),
+            Work::BuildThousand | Work::BuildTenThousand | Work::BuildHundredThousand => {
+                zones::build(rt, rounds)
+            }
+            Work::LookThousand => zones::look(rt, 1_000, rounds),
+            Work::LookTenThousand => zones::look(rt, 10_000, rounds),
+            Work::LookHundredThousand => zones::look(rt, 100_000, rounds),
+            Work::KeepLink => links::keep(rt, rounds),
+            Work::FindLink => links::find(rt, rounds),
+            _ => {
+                let start = Instant::now(rt)?;
+                let sum = self.times(rt, rounds)?;
+                let taken = start.elapsed(rt)?;
+                Ok(Done { sum, taken })
+            }
+        }
+    }
+
+    // The sum of work that needs little to begin with.
+    fn times<R: Runtime + AllocGlobal>(self, rt: &R, rounds: u64) -> Result<u64> {
+        let alloc = rt.alloc();
         match self {
             Work::ReadName => Ok(names::read(alloc, rounds)?),
             Work::WriteName => Ok(names::write(alloc, rounds)?),
@@ -60,6 +139,11 @@ impl Work {
             Work::CompareNames => Ok(names::compare(alloc, rounds)?),
             Work::TestUnder => Ok(names::test_under(alloc, rounds)?),
             Work::MakeSet => Ok(names::make_set(alloc, rounds)?),
+            Work::DecodeReply => Ok(messages::decode_reply(alloc, rounds)?),
+            Work::EncodeReply => Ok(messages::encode_reply(alloc, rounds)?),
+            Work::DecodeTwenty => Ok(messages::decode_twenty(alloc, rounds)?),
+            Work::EncodeTwenty => Ok(messages::encode_twenty(alloc, rounds)?),
+            _ => Ok(0),
         }
     }
 }

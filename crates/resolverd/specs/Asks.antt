@@ -1,7 +1,7 @@
 -- Why a query gets no reply.
 use Rattle.std.specs.Prelude.{◌≡◌, ◌⊎◌, ℕ, List, Option, None, Ok, Err}
 use Rattle.dname.specs.Text.{name_of_text}
-use Rattle.masterfile.specs.Fields.{type_named}
+use Rattle.rdata.specs.Types.{type_named}
 use Rattle.resolverd.specs.Zones.{HoldsNoZone}
 use Rattle.resolverd.specs.declared.fault.Fault.{Fault}
 use Rattle.resolverd.specs.declared.fault.Fault.TheVariants.{File, Zone, Unreadable, BadName, BadType, Memory, Output}

@@ -1,5 +1,7 @@
 pub mod Asks
+pub mod Exchanges
 pub mod Faults
+pub mod Files
 pub mod Runs
 pub mod Texts
 pub mod Zones

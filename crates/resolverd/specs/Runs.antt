@@ -2,8 +2,10 @@
 use Rattle.std.specs.Prelude.{◌≡◌, ℕ, List, ◌++◌, ◌⊎◌, Option, Result, Ok, Err, codes, string_bytes}
 use Rattle.std.specs.Io.KnownBytes.{Appends}
 use Rattle.commandline.specs.declared.subcommands.Command.{Command}
-use Rattle.commandline.specs.declared.subcommands.Command.TheVariants.{Ask}
+use Rattle.commandline.specs.declared.subcommands.Command.TheVariants.{Ask, Check, Dump}
 use Rattle.resolverd.specs.Asks.{IsRefused}
+use Rattle.resolverd.specs.Exchanges.{PrintsAnswer}
+use Rattle.resolverd.specs.Files.{CountsRecords, PrintsRecords, IsNoZone, IsNoFile}
 use Rattle.resolverd.specs.declared.fault.Fault.{Fault}
 use Rattle.resolverd.specs.Faults.{fault_text, status_of}
 
@@ -29,14 +31,22 @@ abbrev pub Ended : Result (List ℕ) Fault → Option (List ℕ) → Option (Lis
 Ended (Ok text) out out2 err err2 n = IsPrinted text 0 out out2 err err2 n
 Ended (Err f) out out2 err err2 n = IsReported f err err2 n × (out2 ≡ out)
 
--- What is not done has one of these faults.
-abbrev pub IsAllowed : (Fault → Type 0) → Result (List ℕ) Fault → Type 0
-IsAllowed faults (Ok text) = Unit {0}
-IsAllowed faults (Err f) = faults f
+-- What is done printed one of these texts, and what is not has one of these faults.
+abbrev pub IsAllowed : (List ℕ → Type 0) → (Fault → Type 0) → Result (List ℕ) Fault → Type 0
+IsAllowed texts faults (Ok text) = texts text
+IsAllowed texts faults (Err f) = faults f
 
-abbrev pub IsRun : (Fault → Type 0) → Option (List ℕ) → Option (List ℕ) → Option (List ℕ) → Option (List ℕ) → ℕ → Type 0
-IsRun faults out out2 err err2 n = (done : Result (List ℕ) Fault) × IsAllowed faults done × Ended done out out2 err err2 n
+abbrev pub IsRun : (List ℕ → Type 0) → (Fault → Type 0) → Option (List ℕ) → Option (List ℕ) → Option (List ℕ) → Option (List ℕ) → ℕ → Type 0
+IsRun texts faults out out2 err err2 n = (done : Result (List ℕ) Fault) × IsAllowed texts faults done × Ended done out out2 err err2 n
 
--- The faults of a command, over what is known to stand at a path.
+-- The texts that a command can print, over what is known to stand at a path.
+abbrev pub texts_of : (List ℕ → Option (Option (List ℕ))) → Command → List ℕ → Type 0
+texts_of held (Ask origin file name kind) text = PrintsAnswer (held (string_bytes file)) (string_bytes origin) (string_bytes name) (string_bytes kind) text
+texts_of held (Check origin file) text = CountsRecords (held (string_bytes file)) (string_bytes origin) text
+texts_of held (Dump origin file) text = PrintsRecords (held (string_bytes file)) (string_bytes origin) text
+
+-- The faults of a command, over the same.
 abbrev pub faults_of : (List ℕ → Option (Option (List ℕ))) → Command → Fault → Type 0
-faults_of held (Ask origin file name kind) = IsRefused (held (string_bytes file)) (string_bytes origin) (string_bytes name) (string_bytes kind)
+faults_of held (Ask origin file name kind) f = IsRefused (held (string_bytes file)) (string_bytes origin) (string_bytes name) (string_bytes kind) f
+faults_of held (Check origin file) f = IsNoZone (held (string_bytes file)) (string_bytes origin) f
+faults_of held (Dump origin file) f = IsNoFile (held (string_bytes file)) (string_bytes origin) f

@@ -1,6 +1,7 @@
 //! `ask`: one query, to one zone.
-ghost use Rattle.std.specs.Prelude.{◌≡◌, [], ◌∷◌, IfOk, IfErr};
+ghost use Rattle.std.specs.Prelude.{◌≡◌, [], ◌∷◌, IfOk, IfErr, string_bytes};
 ghost use Rattle.resolverd.specs.Asks.{IsRefused};
+ghost use Rattle.resolverd.specs.Exchanges.{PrintsAnswer};
 
 use crate::exchange::exchange;
 use crate::fault::Fault;
@@ -8,7 +9,7 @@ use crate::texts::Texts;
 use crate::zones::read_zone;
 use authority::{Catalog, CatalogError};
 use dname::{Name, Starved};
-use masterfile::type_of_word;
+use rdata::RType;
 use std::alloc::Global;
 use zone::Zone;
 
@@ -22,11 +23,12 @@ pub fn ask<'a, T: Texts>(
     name: &str,
     kind: &str,
 ) -> Result<String, Fault<'a>>
-    ensures { IfErr result (IsRefused (T.held texts.old file.entry.now) origin.now name.now kind.now) }
+    ensures ok { IfOk result (λ s. PrintsAnswer (T.held texts.old file.entry.now) origin.now name.now kind.now (string_bytes s)) }
+    ensures err { IfErr result (IsRefused (T.held texts.old file.entry.now) origin.now name.now kind.now) }
 {
     let origin = Name::from_text(alloc, origin)?;
     let name = Name::from_text(alloc, name)?;
-    let kind = type_of_word(kind.as_bytes()).ok_or(Fault::BadType)?;
+    let kind = RType::from_word(kind.as_bytes()).ok_or(Fault::BadType)?;
     let zone = read_zone(alloc, texts, origin, file)?;
     let catalog = catalog_of(alloc, zone)?;
     Ok(exchange(alloc, &catalog, name, kind)?)

@@ -1,4 +1,9 @@
 //! A query and its reply, as bytes.
+ghost use Rattle.std.specs.Prelude.{◌≡◌, [], IfOk, string_bytes};
+ghost use Rattle.rdata.specs.Types.{type_number};
+ghost use Rattle.layout.specs.Messages.{encoding};
+ghost use Rattle.script.specs.Lines.{ArePrinted};
+ghost use Rattle.resolverd.specs.Exchanges.{query_for, AreLinesOf, AreLines};
 
 use authority::{Catalog, Cause};
 use dname::{Name, Starved};
@@ -8,8 +13,8 @@ use script::put_reply_bytes;
 use std::alloc::Global;
 use wire::{Header, Message, Question, Questions, encode};
 
-// The number of the client in the printed reply, and the ID of its query.
-const CLIENT: u16 = 1;
+// The number of the client in the printed reply.
+const CLIENT: u64 = 1;
 
 // The class IN (RFC 1035, section 3.2.4).
 const INTERNET: u16 = 1;
@@ -24,17 +29,45 @@ pub fn exchange(
     catalog: &Catalog,
     name: Name,
     kind: RType,
-) -> Result<String, Starved> {
+) -> Result<String, Starved>
+    ensures { IfOk result (λ s. AreLines catalog.now name (type_number kind) (string_bytes s)) }
+{
     let query = query_bytes(alloc, name, kind)?;
-    let mut out = String::new(alloc);
-    if let Some((reply, cause)) = reply_to(alloc, catalog, &query)? {
-        put_reply_bytes(alloc, &mut out, u64::from(CLIENT), &reply, cause)?;
+    let asked = read_query(alloc, &query)?;
+    Ok(lines_of(alloc, catalog, asked)?)
+}
+
+// The lines of the reply to what was asked over UDP.
+fn lines_of(alloc: Global, catalog: &Catalog, asked: Asked) -> Result<String, Starved>
+    ensures { IfOk result (λ s. AreLinesOf catalog.now asked (string_bytes s)) }
+{
+    match asked {
+        Asked::Drop => Ok(String::new(alloc)),
+        Asked::Refuse(refusal, start, echo) => {
+            let reply = refusal_bytes(alloc, refusal, start, echo.as_ref())?;
+            Ok(printed(alloc, &reply, None)?)
+        }
+        Asked::Query(query) => {
+            let outcome = answer_local(alloc, &query, catalog)?;
+            let (reply, cause) = reply_bytes(alloc, &query, &outcome, Via::Udp)?;
+            Ok(printed(alloc, &reply, cause)?)
+        }
     }
+}
+
+// The lines of a reply's bytes.
+fn printed(alloc: Global, reply: &[u8], cause: Option<Cause>) -> Result<String, Starved>
+    ensures { IfOk result (λ s. ArePrinted reply.now 1 cause [] (string_bytes s)) }
+{
+    let mut out = String::new(alloc);
+    put_reply_bytes(alloc, &mut out, CLIENT, reply, cause)?;
     Ok(out)
 }
 
 // The bytes of the query.
-fn query_bytes(alloc: Global, name: Name, kind: RType) -> Result<Vec<u8>, Starved> {
+fn query_bytes(alloc: Global, name: Name, kind: RType) -> Result<Vec<u8>, Starved>
+    ensures { IfOk result (λ v. v.items ≡ encoding (query_for name (type_number kind))) }
+{
     let mut questions = Questions::new(alloc);
     questions.push(Question {
         name,
@@ -49,12 +82,17 @@ fn query_bytes(alloc: Global, name: Name, kind: RType) -> Result<Vec<u8>, Starve
         additional: Records::new(alloc),
     };
     // A header and one question have at most 271 bytes: only memory can be refused.
-    encode(alloc, &query, UDP_LIMIT).map_err(|_| Starved)
+    match encode(alloc, &query, UDP_LIMIT) {
+        Ok(bytes) => Ok(bytes),
+        Err(_) => Err(Starved),
+    }
 }
 
-fn query_header() -> Header {
+fn query_header() -> Header
+    ensures { result ≡ (query_for [] 0).header }
+{
     Header {
-        id: CLIENT,
+        id: 1,
         qr: false,
         opcode: 0,
         aa: false,
@@ -63,25 +101,5 @@ fn query_header() -> Header {
         ra: false,
         z: 0,
         rcode: 0,
-    }
-}
-
-// The bytes of the reply that local zones give to a client's bytes over UDP, if they are owed one, and the
-// cause of a failure.
-fn reply_to(
-    alloc: Global,
-    catalog: &Catalog,
-    bytes: &[u8],
-) -> Result<Option<(Vec<u8>, Option<Cause>)>, Starved> {
-    match read_query(alloc, bytes)? {
-        Asked::Drop => Ok(None),
-        Asked::Refuse(refusal, start, echo) => {
-            let reply = refusal_bytes(alloc, refusal, start, echo.as_ref())?;
-            Ok(Some((reply, None)))
-        }
-        Asked::Query(query) => {
-            let outcome = answer_local(alloc, &query, catalog)?;
-            Ok(Some(reply_bytes(alloc, &query, &outcome, Via::Udp)?))
-        }
     }
 }

@@ -4,6 +4,7 @@
 mod ask;
 mod exchange;
 mod fault;
+mod files;
 mod run;
 mod texts;
 mod zones;

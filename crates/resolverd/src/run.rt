@@ -2,10 +2,11 @@
 ghost use Rattle.std.specs.Prelude.{string_bytes};
 ghost use Rattle.std.specs.Bool.{OnTrue};
 ghost use Rattle.std.specs.Io.KnownBytes.{Appends};
-ghost use Rattle.resolverd.specs.Runs.{Ended, IsPrinted, IsReported, IsRun, faults_of, shown};
+ghost use Rattle.resolverd.specs.Runs.{Ended, IsPrinted, IsReported, IsRun, faults_of, shown, texts_of};
 
 use crate::ask::ask;
 use crate::fault::Fault;
+use crate::files::{check, dump};
 use crate::texts::Texts;
 use commandline::{Command, LineFault, help_text, read_words};
 use std::alloc::Global;
@@ -49,23 +50,28 @@ pub fn run_command<T: Texts, O: Write, E: Write>(
     out: &mut O,
     err: &mut E,
 ) -> u8
-    ensures { IsRun (faults_of (T.held texts.old) command.now) (O.contents out.old) (O.contents out.new) (E.contents err.old) (E.contents err.new) result }
+    ensures { IsRun (texts_of (T.held texts.old) command.now) (faults_of (T.held texts.old) command.now) (O.contents out.old) (O.contents out.new) (E.contents err.old) (E.contents err.new) result }
 {
-    let Command::Ask {
-        origin,
-        file,
-        name,
-        kind,
-    } = command;
-    let done = ask(
-        alloc,
-        texts,
-        origin.as_str(),
-        file.as_str(),
-        name.as_str(),
-        kind.as_str(),
-    );
-    finish(&done, out, err)
+    match command {
+        Command::Ask {
+            origin,
+            file,
+            name,
+            kind,
+        } => {
+            let (origin, file) = (origin.as_str(), file.as_str());
+            let done = ask(alloc, texts, origin, file, name.as_str(), kind.as_str());
+            finish(&done, out, err)
+        }
+        Command::Check { origin, file } => {
+            let done = check(alloc, texts, origin.as_str(), file.as_str());
+            finish(&done, out, err)
+        }
+        Command::Dump { origin, file } => {
+            let done = dump(alloc, texts, origin.as_str(), file.as_str());
+            finish(&done, out, err)
+        }
+    }
 }
 
 // Prints what came out, and gives the exit status.

@@ -81,6 +81,31 @@ fn ask_line(
 }
 
 // What a command must write and end with.
+fn see(
+    rt: &impl Abort,
+    alloc: Global,
+    held: Held,
+    command: &Command,
+    want: (u8, &str, &str),
+) -> Result<(), Fail> {
+    let mut source = held;
+    let mut out = Page::new(alloc, WIDE);
+    let mut err = Page::new(alloc, WIDE);
+    let status = run_command(alloc, command, &mut source, &mut out, &mut err);
+    let (code, printed, fault) = want;
+    assert!(rt;
+        out.bytes.as_slice() == printed.as_bytes(),
+        "output for {printed}"
+    );
+    assert!(rt;
+        err.bytes.as_slice() == fault.as_bytes(),
+        "fault for {fault}"
+    );
+    assert_eq!(rt; status, code);
+    Ok(())
+}
+
+// The same of `ask`.
 fn check(
     rt: &impl Abort,
     alloc: Global,
@@ -90,20 +115,75 @@ fn check(
 ) -> Result<(), Fail> {
     let [origin, file, name, kind] = line;
     let command = ask_line(alloc, origin, file, name, kind)?;
-    let mut source = held;
-    let mut out = Page::new(alloc, WIDE);
-    let mut err = Page::new(alloc, WIDE);
-    let status = run_command(alloc, &command, &mut source, &mut out, &mut err);
-    let (code, printed, fault) = want;
-    assert!(rt;
-        out.bytes.as_slice() == printed.as_bytes(),
-        "output at {name} {kind}"
-    );
-    assert!(rt;
-        err.bytes.as_slice() == fault.as_bytes(),
-        "fault at {name} {kind}"
-    );
-    assert_eq!(rt; status, code, "at {name} {kind}");
+    see(rt, alloc, held, &command, want)
+}
+
+fn check_line(alloc: Global, origin: &str) -> Result<Command, AllocError> {
+    Ok(Command::Check {
+        origin: String::from_str(alloc, origin)?,
+        file: String::from_str(alloc, "lab.zone")?,
+    })
+}
+
+fn dump_line(alloc: Global, origin: &str) -> Result<Command, AllocError> {
+    Ok(Command::Dump {
+        origin: String::from_str(alloc, origin)?,
+        file: String::from_str(alloc, "lab.zone")?,
+    })
+}
+
+// The example with other data at a cut.
+static AT_A_CUT: &str = "$TTL 300\n@ SOA ns h 1 2 3 4 60\n@ NS ns\nx NS n\nx TXT \"t\"\n";
+
+#[test]
+fn records_are_counted(rt: HostRuntime) -> Result<(), Fail> {
+    let command = check_line(rt.alloc(), "lab.example.")?;
+    for (held, want) in [
+        (Held::Text(LAB), (0, "ok 4 records\n", "")),
+        (Held::Text(AT_A_CUT), (1, "", "error: lab.zone: zone 6\n")),
+        (Held::Text(""), (1, "", "error: lab.zone: zone 1\n")),
+        (
+            Held::Text("\n\nx\n"),
+            (1, "", "error: lab.zone:3: file 9\n"),
+        ),
+        (Held::Nothing, (4, "", "error: lab.zone: unreadable\n")),
+        (Held::Starved, (3, "", "error: memory\n")),
+    ] {
+        see(&rt, rt.alloc(), held, &command, want)?;
+    }
+    let command = check_line(rt.alloc(), "lab..example.")?;
+    see(
+        &rt,
+        rt.alloc(),
+        Held::Text(LAB),
+        &command,
+        (1, "", "error: name 1\n"),
+    )
+}
+
+#[test]
+fn records_are_printed(rt: HostRuntime) -> Result<(), Fail> {
+    let command = dump_line(rt.alloc(), "lab.example.")?;
+    let head =
+        "$ORIGIN lab.example.\nlab.example. 300 IN SOA ns.lab.example. h.lab.example. 1 2 3 4 60\nlab.example. 300 IN NS ns.lab.example.\n";
+    let lab = format!(in rt.alloc();
+        "{head}*.lab.example. 300 IN TXT \"wild\"\na.b.lab.example. 300 IN A 192.0.2.7\n"
+    )?;
+    let cut = format!(in rt.alloc();
+        "{head}x.lab.example. 300 IN NS n.lab.example.\nx.lab.example. 300 IN TXT \"t\"\n"
+    )?;
+    for (held, want) in [
+        (Held::Text(LAB), (0, lab.as_str(), "")),
+        (Held::Text(AT_A_CUT), (0, cut.as_str(), "")),
+        (Held::Text(""), (0, "$ORIGIN lab.example.\n", "")),
+        (
+            Held::Text("@ SOA ns h 1 2 3 4 5"),
+            (1, "", "error: lab.zone:1: file 4\n"),
+        ),
+        (Held::Nothing, (4, "", "error: lab.zone: unreadable\n")),
+    ] {
+        see(&rt, rt.alloc(), held, &command, want)?;
+    }
     Ok(())
 }
 

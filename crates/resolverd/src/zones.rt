@@ -1,12 +1,30 @@
-//! Zones, read from texts.
+//! Records and zones, read from texts.
 ghost use Rattle.std.specs.Prelude.{IfOk, IfErr};
-ghost use Rattle.resolverd.specs.Zones.{HoldsZone, HoldsNoZone};
+ghost use Rattle.resolverd.specs.Zones.{HoldsRecords, HoldsNoRecords, HoldsZone, HoldsNoZone};
 
 use crate::fault::Fault;
 use crate::texts::Texts;
 use dname::Name;
+use rdata::Records;
 use std::alloc::Global;
 use zone::Zone;
+
+/// The records in the text at a path, which begins under that origin.
+pub fn read_records<'a, T: Texts>(
+    alloc: Global,
+    texts: &mut T,
+    origin: &Name,
+    file: &'a str,
+) -> Result<Records, Fault<'a>>
+    ensures ok { IfOk result (HoldsRecords (T.held texts.old file.entry.now) origin.now) }
+    ensures err { IfErr result (HoldsNoRecords (T.held texts.old file.entry.now) origin.now) }
+{
+    let text = texts.text(alloc, file)?.ok_or(Fault::Unreadable(file))?;
+    match masterfile::read(alloc, origin, text.as_str()) {
+        Ok(records) => Ok(records),
+        Err(error) => Err(Fault::of_file(file, error)),
+    }
+}
 
 /// The zone of that origin in the text at a path.
 pub fn read_zone<'a, T: Texts>(
@@ -18,11 +36,7 @@ pub fn read_zone<'a, T: Texts>(
     ensures ok { IfOk result (HoldsZone (T.held texts.old file.entry.now) origin) }
     ensures err { IfErr result (HoldsNoZone (T.held texts.old file.entry.now) origin) }
 {
-    let text = texts.text(alloc, file)?.ok_or(Fault::Unreadable(file))?;
-    let records = match masterfile::read(alloc, &origin, text.as_str()) {
-        Ok(records) => records,
-        Err(error) => return Err(Fault::of_file(file, error)),
-    };
+    let records = read_records(alloc, texts, &origin, file)?;
     match Zone::build(origin, records) {
         Ok(zone) => Ok(zone),
         Err(error) => Err(Fault::of_zone(file, error)),

@@ -1,0 +1,87 @@
+//! Work on a cache of links.
+use crate::work::Done;
+use anyhow::Result;
+use authority::Link;
+use cache::Cache;
+use dname::{Name, Starved};
+use lru::DefaultHasher;
+use rdata::{Addr, RData, RType, Record, Records};
+use std::alloc::Global;
+use std::hash::BuildHasherDefault;
+use std::rt::Runtime;
+use std::time::Instant;
+
+const ROOM: usize = 1_000_000;
+
+fn host(alloc: Global, number: u64) -> Result<Name, Starved> {
+    let text = format!(in alloc; "www{number}.sub.example.com.")?;
+    Name::from_text(alloc, text.as_str()).map_err(|_| Starved)
+}
+
+fn hosts(alloc: Global, count: u64) -> Result<Vec<Name>, Starved> {
+    let mut names = Vec::new(alloc);
+    for number in 0..count {
+        names.push(host(alloc, number)?)?;
+    }
+    Ok(names)
+}
+
+fn link_of(alloc: Global, owner: &Name) -> Result<Link, Starved> {
+    let mut set = Records::new(alloc);
+    set.push(Record {
+        owner: owner.clone()?,
+        ttl: 300,
+        value: RData::A(Addr([192, 0, 2, 1])),
+    })?;
+    Ok(Link::Found(set))
+}
+
+fn links(alloc: Global, names: &[Name]) -> Result<Vec<Link>, Starved> {
+    let mut links = Vec::new(alloc);
+    for name in names {
+        links.push(link_of(alloc, name)?)?;
+    }
+    Ok(links)
+}
+
+fn fill(cache: &mut Cache<DefaultHasher>, names: &[Name], links: &[Link]) -> Result<u64, Starved> {
+    let mut sum = 0u64;
+    for (name, link) in names.iter().zip(links) {
+        cache.keep(name, RType::A, link, 300, 0)?;
+        sum = sum.wrapping_add(1);
+    }
+    Ok(sum)
+}
+
+fn find_all(cache: &mut Cache<DefaultHasher>, names: &[Name]) -> Result<u64, Starved> {
+    let mut sum = 0u64;
+    for name in names {
+        if cache.look(name, RType::A, 1_000)?.is_some() {
+            sum = sum.wrapping_add(1);
+        }
+    }
+    Ok(sum)
+}
+
+pub fn keep<R: Runtime + AllocGlobal>(rt: &R, rounds: u64) -> Result<Done> {
+    let alloc = rt.alloc();
+    let names = hosts(alloc, rounds)?;
+    let links = links(alloc, &names)?;
+    let mut cache = Cache::new(alloc, ROOM, BuildHasherDefault::new())?;
+    let start = Instant::now(rt)?;
+    let sum = fill(&mut cache, &names, &links)?;
+    let taken = start.elapsed(rt)?;
+    Ok(Done { sum, taken })
+}
+
+pub fn find<R: Runtime + AllocGlobal>(rt: &R, rounds: u64) -> Result<Done> {
+    let alloc = rt.alloc();
+    let names = hosts(alloc, rounds)?;
+    let links = links(alloc, &names)?;
+    let mut cache = Cache::new(alloc, ROOM, BuildHasherDefault::new())?;
+    fill(&mut cache, &names, &links)?;
+    let start = Instant::now(rt)?;
+    let sum = find_all(&mut cache, &names)?;
+    let taken = start.elapsed(rt)?;
+    Ok(Done { sum, taken })
+}
