@@ -1,5 +1,5 @@
 -- Equality of addresses is exact.
-use Rattle.std.proofs.Common.{◌≡◌, ℕ, true, List, refl, ap}
+use Rattle.std.proofs.Common.{◌≡◌, true, refl}
 use Rattle.std.specs.Cmp.Lexicographic.{bytes_decides}
 use Rattle.rdata.specs.declared.addr.Addr.{Addr}
 use Rattle.recency.specs.Orders.{IsExact}

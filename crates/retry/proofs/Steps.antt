@@ -1,5 +1,5 @@
 -- What the steps of a store of penalties leave.
-use Rattle.std.proofs.Common.{◌≡◌, ℕ, zero, suc, ◌-◌, ◌+◌, ◌/◌, ◌≤◌, Bool, true, false, cond, min, List, [], ◌∷◌, take, Contains, ◌⊎◌, inl, inr, Option, Some, None, IsSome, refl, sym, ap, ◌∙◌, subst, arith}
+use Rattle.std.proofs.Common.{◌≡◌, ℕ, zero, suc, ◌-◌, ◌/◌, ◌≤◌, Bool, true, false, cond, List, [], ◌∷◌, take, inl, inr, Option, Some, None, IsSome, sym, ap, ◌∙◌, subst, arith}
 use Rattle.std.specs.Option.{unwrap_or}
 use Rattle.std.specs.Map.{lookup, remove_entry, set_value}
 use Rattle.lru.specs.LruCache.{LruCache, lru_cache, put_entries, promoted}
@@ -8,7 +8,7 @@ use Rattle.lru.proofs.CallerLemmas.{Contains-remove_entry}
 use Rattle.rdata.specs.declared.addr.Addr.{Addr}
 use Rattle.recency.specs.Orders.{kept, kept_from, KeepsOnly, LosesOnly, MayGo}
 use Rattle.recency.proofs.Kept.{put_is_kept, kept_only, kept_gone, set_promoted, removed_gone}
-use Rattle.retry.specs.Penalties.{same_addr, penalty, raised, timed_out, answered, answered_from, AreAtMost}
+use Rattle.retry.specs.Penalties.{same_addr, raised, timed_out, answered, answered_from, AreAtMost}
 use Rattle.retry.proofs.Exact.{same_addr_exact}
 
 pub looked_most : (n : ℕ) (test : Addr → Bool) (es : List (Addr × ℕ)) → AreAtMost n es → unwrap_or (lookup test es) 0 ≤ n

@@ -1,5 +1,5 @@
 -- In which order the addresses of servers are asked: the least penalty first, and the same order again.
-use Rattle.std.specs.Prelude.{◌≡◌, ℕ, zero, suc, ◌+◌, ◌≤◌, Bool, cond, nat_eq, nat_le, Option, Some, None, List, [], ◌∷◌, ◌++◌, length, filter, slice_get, is_some}
+use Rattle.std.specs.Prelude.{◌≡◌, ℕ, zero, suc, ◌+◌, cond, nat_eq, nat_le, Option, List, ◌++◌, length, filter, slice_get, is_some}
 use Rattle.std.specs.List.Sorted.{IsNonDecreasingBy}
 use Rattle.rdata.specs.declared.addr.Addr.{Addr}
 

@@ -1,4 +1,4 @@
-use Rattle.std.proofs.Common.{rules, ◌≡◌, sym, ap, subst}
+use Rattle.std.proofs.Common.{◌≡◌, sym, ap, subst}
 use Rattle.lru.specs.LruCache.{lru_cache}
 use Rattle.retry.specs.Penalties.{answered, AreAtMost}
 use Rattle.retry.proofs.Steps.{halved_is, missed_is, answered_only, answered_gone, answered_most}
