@@ -8,7 +8,7 @@ use std::marker::Model;
 /// Names in order. Contracts see their list.
 #[derive(Drop)]
 pub struct Names<A: Allocator = Global> {
-    items: Vec<Name<A>, A>,
+    names: Vec<Name<A>, A>,
 }
 
 impl<A: Allocator> Model for Names<A> {
@@ -16,7 +16,7 @@ impl<A: Allocator> Model for Names<A> {
 
     ghost Value = { List (List (List ℕ)) };
 
-    ghost view = { λ n. n.items.items };
+    ghost view = { λ n. n.names.items };
 }
 
 fn copies<A: Heap>(alloc: A, names: &[Name<A>]) -> Result<Vec<Name<A>, A>, AllocError>
@@ -33,8 +33,8 @@ impl<A: Heap> Clone for Names<A> {
     ghost is_clone = { λ x y. y ≡ x };
 
     fn clone(&self) -> Result<Names<A>, AllocError> {
-        let items = copies(*self.items.allocator(), &self.items)?;
-        Ok(Names { items })
+        let names = copies(*self.names.allocator(), &self.names)?;
+        Ok(Names { names })
     }
 }
 
@@ -44,7 +44,7 @@ impl<A: Heap> Names<A> {
         ensures { result ≡ [] }
     {
         Names {
-            items: Vec::new(alloc),
+            names: Vec::new(alloc),
         }
     }
 
@@ -53,7 +53,7 @@ impl<A: Heap> Names<A> {
         ensures ok { OnOk result (self.new ≡ self.old ++ added ∷ []) }
         ensures err { OnErr result (self.new ≡ self.old) }
     {
-        self.items.push(added)?;
+        self.names.push(added)?;
         Ok(())
     }
 }
@@ -63,14 +63,14 @@ impl<A: Allocator> Names<A> {
     pub fn as_slice(&self) -> &[Name<A>]
         ensures { result.now ≡ self.now }
     {
-        &self.items
+        self.names.as_slice()
     }
 }
 
 /// Addresses in order. Contracts see their list.
 #[derive(Drop)]
 pub struct Addrs<A: Allocator = Global> {
-    items: Vec<Addr, A>,
+    addresses: Vec<Addr, A>,
 }
 
 impl<A: Allocator> Model for Addrs<A> {
@@ -79,15 +79,15 @@ impl<A: Allocator> Model for Addrs<A> {
 
     ghost Value = { List Address };
 
-    ghost view = { λ a. a.items.items };
+    ghost view = { λ a. a.addresses.items };
 }
 
 impl<A: Heap> Clone for Addrs<A> {
     ghost is_clone = { λ x y. y ≡ x };
 
     fn clone(&self) -> Result<Addrs<A>, AllocError> {
-        let items = Vec::from_slice(*self.items.allocator(), &self.items)?;
-        Ok(Addrs { items })
+        let addresses = Vec::from_slice(*self.addresses.allocator(), &self.addresses)?;
+        Ok(Addrs { addresses })
     }
 }
 
@@ -97,7 +97,7 @@ impl<A: Heap> Addrs<A> {
         ensures { result ≡ [] }
     {
         Addrs {
-            items: Vec::new(alloc),
+            addresses: Vec::new(alloc),
         }
     }
 
@@ -106,7 +106,7 @@ impl<A: Heap> Addrs<A> {
         ensures ok { OnOk result (self.new ≡ self.old ++ added ∷ []) }
         ensures err { OnErr result (self.new ≡ self.old) }
     {
-        self.items.push(added)?;
+        self.addresses.push(added)?;
         Ok(())
     }
 }
@@ -116,6 +116,6 @@ impl<A: Allocator> Addrs<A> {
     pub fn as_slice(&self) -> &[Addr]
         ensures { result.now ≡ self.now }
     {
-        &self.items
+        self.addresses.as_slice()
     }
 }
