@@ -1,4 +1,4 @@
-ghost use Rattle.std.specs.Prelude.{◌≡◌, ℕ, ◌+◌, ◌≤◌, ◌<◌, ◌↔◌, List, [], ◌∷◌, ◌++◌, length, true, false, None, Some, IsTrue, IfOk, MatchOption};
+ghost use Rattle.std.specs.Prelude.{◌≡◌, ℕ, ◌+◌, ◌≤◌, ◌<◌, ◌↔◌, List, [], ◌∷◌, ◌++◌, length, true, false, None, Some, IsTrue, IfOk, IfSome, MatchOption};
 ghost use Rattle.std.specs.Bool.{OnTrue, OnFalse};
 ghost use Rattle.std.specs.Hash as fed;
 ghost use Rattle.dname.specs.Labels.{wire, root, star, same_name, is_under, parent_of, IsAtOrUnder, IsName};
@@ -141,9 +141,10 @@ impl<A: Allocator> Name<A> {
         self.bytes[0] == 0
     }
 
-    /// The first label and the wire form behind it; none at the root.
+    /// The first label, in lower case; none at the root.
     pub fn first(&self) -> Option<&[u8]>
-        ensures { MatchOption result (self.now ≡ root) (λ l. (ls : List (List ℕ)) × (self.now ≡ l.now ∷ ls)) }
+        ensures label { MatchOption result (self.now ≡ root) (λ l. (ls : List (List ℕ)) × (self.now ≡ l.now ∷ ls)) }
+        ensures some { IfSome result (λ l. 0 < length l.now) }
     {
         match next(&self.bytes) {
             None => None,
