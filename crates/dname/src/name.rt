@@ -6,7 +6,7 @@ ghost use Rattle.dname.specs.Wire.{labels_of, IsNameWire};
 ghost use Rattle.dname.specs.Laws.{same_name_per, same_name_equiv, same_name_fed};
 
 use crate::memory::{Heap, Starved};
-use crate::walk::{next, tail};
+use crate::walk::{has_end, next};
 use std::alloc::{AllocError, Allocator, Global};
 use std::cmp::Eq;
 use std::hash::{Hash, Hasher};
@@ -157,7 +157,7 @@ impl<A: Allocator> Name<A> {
         ensures relation { IsTrue result ↔ IsAtOrUnder self.now other.now }
         ensures test { result ≡ is_under self.now other.now }
     {
-        tail(&self.bytes, other.bytes.len()) == other.bytes.as_slice()
+        has_end(&self.bytes, &other.bytes)
     }
 
     /// Makes the name its parent, in place and without memory; false, and no change, at the root.
