@@ -1,5 +1,6 @@
 //! Work on a cache of links.
-use crate::work::Done;
+use crate::resident::resident;
+use crate::work::{Counted, Done};
 use anyhow::Result;
 use authority::Link;
 use cache::Cache;
@@ -67,11 +68,16 @@ pub fn keep<R: Runtime + AllocGlobal>(rt: &R, rounds: u64) -> Result<Done> {
     let alloc = rt.alloc();
     let names = hosts(alloc, rounds)?;
     let links = links(alloc, &names)?;
+    let before = resident(rt);
     let mut cache = Cache::new(alloc, ROOM, BuildHasherDefault::new())?;
     let start = Instant::now(rt)?;
     let sum = fill(&mut cache, &names, &links)?;
     let taken = start.elapsed(rt)?;
-    Ok(Done { sum, taken })
+    Ok(Done {
+        sum,
+        taken,
+        counted: Counted::Resident(resident(rt).saturating_sub(before)),
+    })
 }
 
 pub fn find<R: Runtime + AllocGlobal>(rt: &R, rounds: u64) -> Result<Done> {
@@ -83,5 +89,9 @@ pub fn find<R: Runtime + AllocGlobal>(rt: &R, rounds: u64) -> Result<Done> {
     let start = Instant::now(rt)?;
     let sum = find_all(&mut cache, &names)?;
     let taken = start.elapsed(rt)?;
-    Ok(Done { sum, taken })
+    Ok(Done {
+        sum,
+        taken,
+        counted: Counted::Nothing,
+    })
 }

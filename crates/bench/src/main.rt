@@ -6,10 +6,11 @@
 mod links;
 mod messages;
 mod names;
+mod resident;
 mod work;
 mod zones;
 
-use crate::work::{ALL, ON_MESSAGES, Work};
+use crate::work::{ALL, Counted, ON_MESSAGES, Work};
 use anyhow::Result;
 use std::env;
 use std::io::Write;
@@ -45,6 +46,18 @@ fn measure<R: Runtime + AllocGlobal>(rt: &R, work: Work) -> Result<()> {
     let rounds = work.rounds();
     let done = work.run(rt, rounds)?;
     let each = done.taken.as_nanos() / u128::from(rounds);
-    println!(rt; "{work}: {each} ns (sum {})", done.sum)?;
+    let often = 1_000_000_000 / each.max(1);
+    print!(rt; "{work}: {each} ns, {often} a second")?;
+    match done.counted {
+        Counted::Nothing => {}
+        Counted::Text(bytes) => {
+            let speed = u128::from(bytes) * 1_000 / done.taken.as_nanos().max(1);
+            print!(rt; ", {speed} MB/s")?;
+        }
+        Counted::Resident(bytes) => {
+            print!(rt; ", {} bytes of memory each", bytes / rounds)?;
+        }
+    }
+    println!(rt; " (sum {})", done.sum)?;
     Ok(())
 }

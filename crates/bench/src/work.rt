@@ -68,11 +68,22 @@ pub const ON_MESSAGES: [Work; 4] = [
     Work::EncodeTwenty,
 ];
 
-/// What came out of work, as a number, and how long it took.
+/// What was counted beside the time.
+#[derive(Clone, Copy)]
+pub enum Counted {
+    Nothing,
+    /// The bytes of a text that was read.
+    Text(u64),
+    /// The bytes of resident memory that were taken.
+    Resident(u64),
+}
+
+/// What came out of work, as a number, how long it took, and what was counted.
 #[derive(Clone, Copy)]
 pub struct Done {
     pub sum: u64,
     pub taken: Duration,
+    pub counted: Counted,
 }
 
 impl fmt::Display for Work {
@@ -135,7 +146,11 @@ impl Work {
                 let start = Instant::now(rt)?;
                 let sum = self.times(rt, rounds)?;
                 let taken = start.elapsed(rt)?;
-                Ok(Done { sum, taken })
+                Ok(Done {
+                    sum,
+                    taken,
+                    counted: Counted::Nothing,
+                })
             }
         }
     }

@@ -1,5 +1,5 @@
 //! Work on zones.
-use crate::work::Done;
+use crate::work::{Counted, Done};
 use anyhow::Result;
 use authority::{Catalog, Local};
 use dname::{Name, Starved};
@@ -51,6 +51,7 @@ pub fn read<R: Runtime + AllocGlobal>(rt: &R, rounds: u64) -> Result<Done> {
     Ok(Done {
         sum: low(found.len()),
         taken,
+        counted: Counted::Text(text.len() as u64),
     })
 }
 
@@ -64,6 +65,7 @@ pub fn build<R: Runtime + AllocGlobal>(rt: &R, rounds: u64) -> Result<Done> {
     Ok(Done {
         sum: low(built.records().len()),
         taken,
+        counted: Counted::Nothing,
     })
 }
 
@@ -81,5 +83,9 @@ pub fn look<R: Runtime + AllocGlobal>(rt: &R, size: u64, rounds: u64) -> Result<
         }
     }
     let taken = start.elapsed(rt)?;
-    Ok(Done { sum, taken })
+    Ok(Done {
+        sum,
+        taken,
+        counted: Counted::Nothing,
+    })
 }
