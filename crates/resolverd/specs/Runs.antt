@@ -40,10 +40,10 @@ abbrev pub IsRun : (List ℕ → Type 0) → (Fault → Type 0) → Option (List
 IsRun texts faults out out2 err err2 n = (done : Result (List ℕ) Fault) × IsAllowed texts faults done × Ended done out out2 err err2 n
 
 -- The texts that a command can print, over what is known to stand at a path.
-abbrev pub texts_of : (List ℕ → Option (Option (List ℕ))) → Command → List ℕ → Type 0
-texts_of held (Ask origin file name kind) text = PrintsAnswer (held (string_bytes file)) (string_bytes origin) (string_bytes name) (string_bytes kind) text
-texts_of held (Check origin file) text = CountsRecords (held (string_bytes file)) (string_bytes origin) text
-texts_of held (Dump origin file) text = PrintsRecords (held (string_bytes file)) (string_bytes origin) text
+abbrev pub texts_of : (A : Type 0) → (List ℕ → Option (Option (List ℕ))) → Command → List ℕ → Type 0
+texts_of A held (Ask origin file name kind) text = PrintsAnswer A (held (string_bytes file)) (string_bytes origin) (string_bytes name) (string_bytes kind) text
+texts_of A held (Check origin file) text = CountsRecords (held (string_bytes file)) (string_bytes origin) text
+texts_of A held (Dump origin file) text = PrintsRecords (held (string_bytes file)) (string_bytes origin) text
 
 -- The faults of a command, over the same.
 abbrev pub faults_of : (List ℕ → Option (Option (List ℕ))) → Command → Fault → Type 0

@@ -9,7 +9,8 @@ use crate::fault::Fault;
 use crate::files::{check, dump};
 use crate::texts::Texts;
 use commandline::{Command, LineFault, help_text, read_words};
-use std::alloc::Global;
+use dname::Heap;
+use std::alloc::{Allocator, Global};
 use std::io::Write;
 
 /// Does what the words after the program's name ask, and gives the exit status. Words that name no command
@@ -43,14 +44,14 @@ pub fn refuse_line<O: Write, E: Write>(
 /// Does a command and gives the exit status: 0 done, 1 input refused, 3 no memory, 4 an unreadable file or
 /// failed output. Of a command that fails nothing is printed but the line of its fault, unless the output
 /// itself fails.
-pub fn run_command<T: Texts, O: Write, E: Write>(
-    alloc: Global,
+pub fn run_command<A: Heap, T: Texts, O: Write, E: Write>(
+    alloc: A,
     command: &Command,
     texts: &mut T,
     out: &mut O,
     err: &mut E,
 ) -> u8
-    ensures { IsRun (texts_of (T.held texts.old) command.now) (faults_of (T.held texts.old) command.now) (O.contents out.old) (O.contents out.new) (E.contents err.old) (E.contents err.new) result }
+    ensures { IsRun (texts_of A (T.held texts.old) command.now) (faults_of (T.held texts.old) command.now) (O.contents out.old) (O.contents out.new) (E.contents err.old) (E.contents err.new) result }
 {
     match command {
         Command::Ask {
@@ -75,7 +76,11 @@ pub fn run_command<T: Texts, O: Write, E: Write>(
 }
 
 // Prints what came out, and gives the exit status.
-fn finish<O: Write, E: Write>(done: &Result<String, Fault<'_>>, out: &mut O, err: &mut E) -> u8
+fn finish<A: Allocator, O: Write, E: Write>(
+    done: &Result<String<A>, Fault<'_>>,
+    out: &mut O,
+    err: &mut E,
+) -> u8
     ensures { Ended (shown string_bytes done.now) (O.contents out.old) (O.contents out.new) (E.contents err.old) (E.contents err.new) result }
 {
     match done {
@@ -93,7 +98,12 @@ fn explain<O: Write, E: Write>(alloc: Global, out: &mut O, err: &mut E) -> u8 {
 }
 
 // Prints a text, and gives the status, unless the output fails.
-fn put<O: Write, E: Write>(text: &String, status: u8, out: &mut O, err: &mut E) -> u8
+fn put<A: Allocator, O: Write, E: Write>(
+    text: &String<A>,
+    status: u8,
+    out: &mut O,
+    err: &mut E,
+) -> u8
     ensures { IsPrinted (string_bytes text.now) status (O.contents out.old) (O.contents out.new) (E.contents err.old) (E.contents err.new) result }
 {
     if written(text, out) {
@@ -105,7 +115,7 @@ fn put<O: Write, E: Write>(text: &String, status: u8, out: &mut O, err: &mut E) 
 }
 
 // Whether a text was written whole.
-fn written<O: Write>(text: &String, out: &mut O) -> bool
+fn written<A: Allocator, O: Write>(text: &String<A>, out: &mut O) -> bool
     ensures { OnTrue result (Appends (O.contents out.old) (O.contents out.new) (string_bytes text.now)) }
 {
     out.write_all(text.as_bytes()).is_ok() && out.flush().is_ok()
