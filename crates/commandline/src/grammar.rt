@@ -24,7 +24,8 @@ One line on standard error says what went wrong.
   error: FILE: unreadable    the file is missing or is not UTF-8
   error: name K              a name: 1 empty label, 2 label over 63 bytes, 3 name over 255 bytes, 4 bad escape
   error: type                a type that is not served
-  error: memory, error: output
+  error: memory              no memory was left
+  error: output              what was to be printed could not be written
 
 The exit status is 0 where all went well, 1 for a fault in what was read, 2 for the command line,
 3 for want of memory, and 4 for an unreadable file or failed output.";

@@ -1,8 +1,9 @@
 //! Commands, done: output to one writer, a fault's line to the other, and the exit status.
-ghost use Rattle.std.specs.Prelude.{string_bytes};
+ghost use Rattle.std.specs.Prelude.{map, string_bytes};
 ghost use Rattle.std.specs.Bool.{OnTrue};
 ghost use Rattle.std.specs.Io.KnownBytes.{Appends};
-ghost use Rattle.resolverd.specs.Runs.{Ended, IsPrinted, IsReported, IsRun, faults_of, shown, texts_of};
+ghost use Rattle.std.specs.declared.alloc.Global.{Global};
+ghost use Rattle.resolverd.specs.Runs.{Ended, IsExplained, IsLineDone, IsPrinted, IsRefusedLine, IsReported, IsRun, faults_of, shown, texts_of};
 
 use crate::ask::ask;
 use crate::fault::Fault;
@@ -21,7 +22,9 @@ pub fn run_words<T: Texts, O: Write, E: Write>(
     texts: &mut T,
     out: &mut O,
     err: &mut E,
-) -> u8 {
+) -> u8
+    ensures { IsLineDone Global (map string_bytes words.now) (T.held texts.old) (O.contents out.old) (O.contents out.new) (E.contents err.old) (E.contents err.new) result }
+{
     match read_words(alloc, words) {
         Ok(command) => run_command(alloc, &command, texts, out, err),
         Err(fault) => refuse_line(alloc, fault, out, err),
@@ -34,7 +37,9 @@ pub fn refuse_line<O: Write, E: Write>(
     fault: LineFault,
     out: &mut O,
     err: &mut E,
-) -> u8 {
+) -> u8
+    ensures { IsRefusedLine fault (O.contents out.old) (O.contents out.new) (E.contents err.old) (E.contents err.new) result }
+{
     match fault {
         LineFault::Words => explain(alloc, out, err),
         LineFault::Memory => report(&Fault::Memory, err),
@@ -90,7 +95,9 @@ fn finish<A: Allocator, O: Write, E: Write>(
 }
 
 // Prints the help text, and gives the status of a line that names no command.
-fn explain<O: Write, E: Write>(alloc: Global, out: &mut O, err: &mut E) -> u8 {
+fn explain<O: Write, E: Write>(alloc: Global, out: &mut O, err: &mut E) -> u8
+    ensures { IsExplained (O.contents out.old) (O.contents out.new) (E.contents err.old) (E.contents err.new) result }
+{
     match help_text(alloc) {
         Ok(text) => put(&text, 2, out, err),
         Err(_) => report(&Fault::Memory, err),
