@@ -23,7 +23,7 @@ One line on standard error says what went wrong.
                              7 a * inside an owner, 8 NS or SOA at a wildcard, 9 a wildcard beneath a cut
   error: FILE: unreadable    the file is missing or is not UTF-8
   error: name K              a name: 1 empty label, 2 label over 63 bytes, 3 name over 255 bytes, 4 bad escape
-  error: type                a type that is not served
+  error: type                another type than A, NS, CNAME, SOA, PTR, MX, TXT and AAAA
   error: memory              no memory was left
   error: output              what was to be printed could not be written
 
@@ -44,7 +44,7 @@ fn ask_line<'a>(alloc: Global) -> Result<clap::Command<'a>, AllocError>
     ensures local { IfOk result (λ c. (out-Command c).has_globals ≡ false) }
 {
     clap::Command::new(alloc, "ask")
-        .about("Answers one query from one zone file")
+        .about("ORIGIN FILE NAME TYPE: answers one query from one zone file")
         .arg(word(alloc, "origin"))?
         .arg(word(alloc, "file"))?
         .arg(word(alloc, "name"))?
@@ -78,11 +78,11 @@ pub fn line<'a>(alloc: Global) -> Result<clap::Command<'a>, AllocError>
         .subcommand(file_line(
             alloc,
             "check",
-            "Reads a zone file and says how many records it has",
+            "ORIGIN FILE: reads a zone file and says how many records it has",
         )?)?
         .subcommand(file_line(
             alloc,
             "dump",
-            "Prints the records of a zone file, one a line",
+            "ORIGIN FILE: prints the records of a zone file, one a line",
         )?)
 }
