@@ -1,6 +1,6 @@
 //! `bench`: how long the calls of the libraries take. Without words each kind of work is done a few times and its
 //! sum printed, the same each time; with the word `measure` it is done often, and nanoseconds for one time are
-//! printed.
+//! printed. Last stands how often one message read or written asks for memory.
 #![tactic(auto)]
 
 mod links;
@@ -10,7 +10,7 @@ mod resident;
 mod work;
 mod zones;
 
-use crate::work::{ALL, Counted, Work};
+use crate::work::{ALL, Counted, ON_MESSAGES, Work};
 use anyhow::Result;
 use std::env;
 use std::io::Write;
@@ -27,6 +27,9 @@ fn main(rt: HostRuntime) -> Result<()> {
         } else {
             sample(&rt, work)?;
         }
+    }
+    for work in ON_MESSAGES {
+        println!(rt; "{work}: {} growths of memory", work.growths(&rt)?)?;
     }
     Ok(())
 }

@@ -1,7 +1,6 @@
 //! Work on messages.
-use dname::Name;
+use dname::{Heap, Name};
 use rdata::{Addr, RData, Record};
-use std::alloc::Global;
 use wire::{Message, WireError, decode, encode};
 
 // The address of www.example., as a local zone gives it.
@@ -14,7 +13,7 @@ fn low(size: usize) -> u64 {
     (size % 65_536) as u64
 }
 
-fn decoded(alloc: Global, bytes: &[u8], rounds: u64) -> Result<u64, WireError> {
+fn decoded<A: Heap>(alloc: A, bytes: &[u8], rounds: u64) -> Result<u64, WireError> {
     let mut sum = 0u64;
     for _ in 0..rounds {
         sum = sum.wrapping_add(low(decode(alloc, bytes)?.answer.len()));
@@ -22,7 +21,7 @@ fn decoded(alloc: Global, bytes: &[u8], rounds: u64) -> Result<u64, WireError> {
     Ok(sum)
 }
 
-fn encoded(alloc: Global, reply: &Message, rounds: u64) -> Result<u64, WireError> {
+fn encoded<A: Heap>(alloc: A, reply: &Message<A>, rounds: u64) -> Result<u64, WireError> {
     let mut sum = 0u64;
     for _ in 0..rounds {
         sum = sum.wrapping_add(low(encode(alloc, reply, LIMIT)?.len()));
@@ -31,7 +30,7 @@ fn encoded(alloc: Global, reply: &Message, rounds: u64) -> Result<u64, WireError
 }
 
 // The same reply with nineteen addresses more.
-fn twenty(alloc: Global) -> Result<Message, WireError> {
+fn twenty<A: Heap>(alloc: A) -> Result<Message<A>, WireError> {
     let mut reply = decode(alloc, REPLY)?;
     for last in 2..21u8 {
         let Ok(owner) = Name::from_text(alloc, "www.example.") else {
@@ -46,19 +45,19 @@ fn twenty(alloc: Global) -> Result<Message, WireError> {
     Ok(reply)
 }
 
-pub fn decode_reply(alloc: Global, rounds: u64) -> Result<u64, WireError> {
+pub fn decode_reply<A: Heap>(alloc: A, rounds: u64) -> Result<u64, WireError> {
     decoded(alloc, REPLY, rounds)
 }
 
-pub fn encode_reply(alloc: Global, rounds: u64) -> Result<u64, WireError> {
+pub fn encode_reply<A: Heap>(alloc: A, rounds: u64) -> Result<u64, WireError> {
     encoded(alloc, &decode(alloc, REPLY)?, rounds)
 }
 
-pub fn decode_twenty(alloc: Global, rounds: u64) -> Result<u64, WireError> {
+pub fn decode_twenty<A: Heap>(alloc: A, rounds: u64) -> Result<u64, WireError> {
     let bytes = encode(alloc, &twenty(alloc)?, LIMIT)?;
     decoded(alloc, &bytes, rounds)
 }
 
-pub fn encode_twenty(alloc: Global, rounds: u64) -> Result<u64, WireError> {
+pub fn encode_twenty<A: Heap>(alloc: A, rounds: u64) -> Result<u64, WireError> {
     encoded(alloc, &twenty(alloc)?, rounds)
 }

@@ -3,9 +3,12 @@ ghost use Rattle.std.specs.Prelude.{◌<◌};
 
 use crate::{links, messages, names, zones};
 use anyhow::Result;
+use dname::Heap;
+use refusing::Refusing;
 use std::fmt;
 use std::rt::Runtime;
 use std::time::{Duration, Instant};
+use wire::WireError;
 
 /// A kind of work.
 #[derive(Clone, Copy)]
@@ -55,6 +58,14 @@ pub const ALL: [Work; 19] = [
     Work::LookHundredThousand,
     Work::KeepLink,
     Work::FindLink,
+];
+
+/// Work on messages.
+pub const ON_MESSAGES: [Work; 4] = [
+    Work::DecodeReply,
+    Work::EncodeReply,
+    Work::DecodeTwenty,
+    Work::EncodeTwenty,
 ];
 
 /// What was counted beside the time.
@@ -154,11 +165,27 @@ impl Work {
             Work::CompareNames => Ok(names::compare(alloc, rounds)?),
             Work::TestUnder => Ok(names::test_under(alloc, rounds)?),
             Work::MakeSet => Ok(names::make_set(alloc, rounds)?),
-            Work::DecodeReply => Ok(messages::decode_reply(alloc, rounds)?),
-            Work::EncodeReply => Ok(messages::encode_reply(alloc, rounds)?),
-            Work::DecodeTwenty => Ok(messages::decode_twenty(alloc, rounds)?),
-            Work::EncodeTwenty => Ok(messages::encode_twenty(alloc, rounds)?),
+            _ => Ok(self.on_messages(alloc, rounds)?),
+        }
+    }
+
+    // The sum of work on messages.
+    fn on_messages<A: Heap>(self, alloc: A, rounds: u64) -> Result<u64, WireError> {
+        match self {
+            Work::DecodeReply => messages::decode_reply(alloc, rounds),
+            Work::EncodeReply => messages::encode_reply(alloc, rounds),
+            Work::DecodeTwenty => messages::decode_twenty(alloc, rounds),
+            Work::EncodeTwenty => messages::encode_twenty(alloc, rounds),
             _ => Ok(0),
         }
+    }
+
+    /// How often memory is asked for when work on a message is done once.
+    pub fn growths<R: Runtime + AllocGlobal>(self, rt: &R) -> Result<u64> {
+        let before = Refusing::new(rt.alloc());
+        self.on_messages(&before, 0)?;
+        let once = Refusing::new(rt.alloc());
+        self.on_messages(&once, 1)?;
+        Ok(once.growths().saturating_sub(before.growths()))
     }
 }

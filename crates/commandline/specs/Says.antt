@@ -1,6 +1,7 @@
--- Which command a line's matches name.
-use Rattle.std.specs.Prelude.{◌≡◌, Option, Some, List, codes, string_bytes}
-use Rattle.clap.specs.Words.{Row, Text, first_of}
+-- Which command a line's matches name, and which one the words of the line do.
+use Rattle.std.specs.Prelude.{◌≡◌, true, Option, Some, List, codes, string_bytes}
+use Rattle.clap.specs.Words.{Row, Text, first_of, subcommand_of, takes}
+use Rattle.commandline.specs.Grammar.{line_app}
 use Rattle.commandline.specs.declared.subcommands.Command.{Command}
 use Rattle.commandline.specs.declared.subcommands.Command.TheVariants.{Ask, Check, Dump}
 
@@ -24,3 +25,11 @@ IsNamed name rows command = (name ≡ word_of command) × HaveWords rows command
 -- The subcommand that was met, by its name and rows, says this command.
 abbrev pub Says : Option (Text × List Row) → Command → Type 0
 Says met command = (rows : List Row) × (met ≡ Some (word_of command, rows)) × HaveWords rows command
+
+-- The words after the program's name are this command.
+abbrev pub Names : List Text → Command → Type 0
+Names words command = Says (subcommand_of line_app words) command
+
+-- The line's grammar does not take the words, or they are no command.
+abbrev pub NamesNothing : List Text → Type 0
+NamesNothing words = takes line_app words ≡ true → (command : Command) → Names words command → ⊥

@@ -23,8 +23,9 @@ One line on standard error says what went wrong.
                              7 a * inside an owner, 8 NS or SOA at a wildcard, 9 a wildcard beneath a cut
   error: FILE: unreadable    the file is missing or is not UTF-8
   error: name K              a name: 1 empty label, 2 label over 63 bytes, 3 name over 255 bytes, 4 bad escape
-  error: type                a type that is not served
-  error: memory, error: output
+  error: type                another type than A, NS, CNAME, SOA, PTR, MX, TXT and AAAA
+  error: memory              no memory was left
+  error: output              what was to be printed could not be written
 
 The exit status is 0 where all went well, 1 for a fault in what was read, 2 for the command line,
 3 for want of memory, and 4 for an unreadable file or failed output.";
@@ -43,7 +44,7 @@ fn ask_line<'a>(alloc: Global) -> Result<clap::Command<'a>, AllocError>
     ensures local { IfOk result (λ c. (out-Command c).has_globals ≡ false) }
 {
     clap::Command::new(alloc, "ask")
-        .about("Answers one query from one zone file")
+        .about("ORIGIN FILE NAME TYPE: answers one query from one zone file")
         .arg(word(alloc, "origin"))?
         .arg(word(alloc, "file"))?
         .arg(word(alloc, "name"))?
@@ -77,11 +78,11 @@ pub fn line<'a>(alloc: Global) -> Result<clap::Command<'a>, AllocError>
         .subcommand(file_line(
             alloc,
             "check",
-            "Reads a zone file and says how many records it has",
+            "ORIGIN FILE: reads a zone file and says how many records it has",
         )?)?
         .subcommand(file_line(
             alloc,
             "dump",
-            "Prints the records of a zone file, one a line",
+            "ORIGIN FILE: prints the records of a zone file, one a line",
         )?)
 }

@@ -3,12 +3,9 @@
 //! It is a library of its own, so that no other crate's check has to read `clap`.
 #![tactic(auto)]
 
-ghost use Rattle.std.specs.Prelude.{◌≡◌, IfOk, IfErr, true, map, string_bytes};
-ghost use Rattle.clap.specs.Words.{subcommand_of, takes};
-ghost use Rattle.commandline.specs.Grammar.{line_app};
-ghost use Rattle.commandline.specs.Says.{Says};
+ghost use Rattle.std.specs.Prelude.{◌≡◌, IfOk, IfErr, map, string_bytes};
+ghost use Rattle.commandline.specs.Says.{Names, NamesNothing};
 ghost use Rattle.commandline.specs.declared.fault.LineFault.TheVariants.{Words, Memory};
-ghost use Rattle.commandline.specs.declared.subcommands.Command.{Command};
 
 mod fault;
 mod grammar;
@@ -22,9 +19,8 @@ pub use subcommands::Command;
 ///
 /// A call for help is `LineFault::Words`, as every line that names no command.
 pub fn read_words(alloc: Global, words: &[String]) -> Result<Command, LineFault>
-    ensures ok { IfOk result (Says (subcommand_of line_app (map string_bytes words.now))) }
-    ensures refused { IfErr result (λ e. e ≡ Words → takes line_app (map string_bytes words.now) ≡ true
-        → (command : Command) → Says (subcommand_of line_app (map string_bytes words.now)) command → ⊥) }
+    ensures ok { IfOk result (Names (map string_bytes words.now)) }
+    ensures refused { IfErr result (λ e. e ≡ Words → NamesNothing (map string_bytes words.now)) }
 {
     let line = grammar::line(alloc)?;
     let matches = line.try_get_matches_from(words)?;

@@ -105,9 +105,23 @@ fn other_lines_are_refused(rt: HostRuntime) -> Result<(), Fail> {
 }
 
 #[test]
-fn help_names_the_subcommand(rt: HostRuntime) -> Result<(), Fail> {
-    let text = help_text(rt.alloc()).ok().ok_or("no help")?;
-    assert!(rt; text.as_str().contains("ask"));
-    assert!(rt; text.as_str().contains("unreadable"));
+fn help_explains_commands_and_numbers(rt: HostRuntime) -> Result<(), Fail> {
+    let help = help_text(rt.alloc()).ok().ok_or("no help")?;
+    for text in [
+        "ORIGIN FILE NAME TYPE",
+        "resolverd ask lab.example. ",
+        "resolverd check lab.example. ",
+        "resolverd dump lab.example. ",
+        "8 bad class, 9 bad data",
+        "9 a wildcard beneath a cut",
+        "unreadable",
+        "4 bad escape",
+        "AAAA",
+        "error: memory",
+        "error: output",
+        "2 for the command line",
+    ] {
+        assert!(rt; help.as_str().contains(text), "{text}");
+    }
     Ok(())
 }

@@ -1,10 +1,14 @@
 -- `is_under`, the test, decides `IsAtOrUnder`, and may be made from the first label on by length.
-use Rattle.std.proofs.Common.{◌≡◌, ℕ, ◌<◌, ◌≤◌, ◌≢◌, Bool, true, false, ◌||◌, List, [], ◌∷◌, ◌++◌, length, refl, sym, ◌∙◌, ap, subst, arith, length-append}
-use Rattle.std.specs.Cmp.Lexicographic.{pointwise, unequal}
+use Rattle.std.proofs.Common.{◌≡◌, ℕ, ◌<◌, ◌≤◌, ◌≢◌, ◌-◌, Bool, true, false, ◌||◌, List, [], ◌∷◌, ◌++◌, length, take, drop, refl, sym, ◌∙◌, ap, subst, arith, length-append, append_assoc, eqb-true, eq-eqb}
+use Rattle.std.proofs.Math.Seq.{drop-append_seam}
+use Rattle.std.proofs.lemmas.Bool.Decides.{same_from_decides, Decides-eqb}
+use Rattle.std.proofs.lemmas.Slice.Eq.{ends_is}
+use Rattle.std.specs.Cmp.Lexicographic.{pointwise, unequal, bytes_decides}
 use Rattle.std.specs.Prelude.{nat_eq, IsTrue}
 use Rattle.dname.specs.Labels.{wire, root, same_name, is_under, IsAtOrUnder}
 use Rattle.dname.specs.Wire.{labels_of, IsWire, IsSplit}
 use Rattle.dname.specs.Laws.{same_name-exact, same_name-equal}
+use Rattle.dname.proofs.Drafts.{wire-append}
 
 same_name-long : (a b : List (List ℕ)) → length (wire a) ≢ length (wire b) → same_name a b ≡ false
 same_name-long a b h = unequal nat_eq (wire a) (wire b) h
@@ -71,6 +75,46 @@ under_bytes tail other n same ht ho le eu es =
     let short : length (wire (labels_of tail)) ≤ length (wire (labels_of other)) = omega (arith, ap length ht.bytes, ap length ho.bytes) in
     es ∙ (ap (λ (x : List ℕ). pointwise nat_eq x other) (sym ht.bytes) ∙ (ap (λ (x : List ℕ). pointwise nat_eq (wire (labels_of tail)) x) (sym ho.bytes)
     ∙ (sym (under_end (labels_of tail) (labels_of other) short) ∙ sym eu)))
+
+-- What stands behind a label of an end is an end.
+pub end_step : (whole bs label rest : List ℕ) → ((front : List ℕ) × (whole ≡ front ++ bs)) → IsSplit bs label rest → (front : List ℕ) × (whole ≡ front ++ rest)
+end_step whole bs label rest h s =
+    (h.0 ++ length label ∷ label, h.1 ∙ (ap (λ (x : List ℕ). h.0 ++ x) s.bytes ∙ sym (append_assoc h.0 (length label ∷ label) rest)))
+
+same_ends : (f g x y : List ℕ) → f ++ x ≡ g ++ y → length x ≡ length y → x ≡ y
+same_ends f g x y e h =
+    let size : length f ≡ length g = omega (arith, ap length e, length-append f x, length-append g y) in
+    sym (drop-append_seam f x) ∙ (ap (drop (length f)) e ∙ (ap (λ (n : ℕ). drop n (g ++ y)) size ∙ drop-append_seam g y))
+
+-- Bytes that end in the other name's: the end that is no longer is that name exactly where it has its size.
+end_same : (bytes tail other : List ℕ) (ends : Bool) → ((front : List ℕ) × (bytes ≡ front ++ tail)) → ends ≡ pointwise nat_eq other (drop (length bytes - length other) bytes) → ends ≡ true
+    → nat_eq (length tail) (length other) ≡ pointwise nat_eq tail other
+end_same bytes tail other ends h e t =
+    let k = ends_is Decides-eqb bytes other ends e in
+    same_from_decides (nat_eq (length tail) (length other)) (pointwise nat_eq tail other)
+    ((λ u. same_ends h.0 (take (length bytes - length other) bytes) tail other (sym h.1 ∙ k.0 t) (eqb-true (length tail) (length other) u)), (λ s. eq-eqb (length tail) (length other) (ap length s)))
+    (bytes_decides tail other)
+
+pub under_end_size : (bytes tail other : List ℕ) (ends : Bool) → ((front : List ℕ) × (bytes ≡ front ++ tail)) → ends ≡ pointwise nat_eq other (drop (length bytes - length other) bytes) → ends ≡ true
+    → IsWire tail → IsWire other → length tail ≤ length other → is_under (labels_of bytes) (labels_of other) ≡ is_under (labels_of tail) (labels_of other)
+    → nat_eq (length tail) (length other) ≡ is_under (labels_of bytes) (labels_of other)
+under_end_size bytes tail other ends h e t ht ho le eu =
+    under_bytes tail other (labels_of bytes) (nat_eq (length tail) (length other)) ht ho le eu (end_same bytes tail other ends h e t)
+
+-- A name beneath another ends in its bytes.
+under_ends : (bytes other : List ℕ) → IsWire bytes → IsWire other → IsAtOrUnder (labels_of bytes) (labels_of other) → (front : List ℕ) × (bytes ≡ front ++ other)
+under_ends bytes other hb ho u =
+    (wire u.0, sym hb.bytes ∙ (ap wire u.1 ∙ (wire-append u.0 (labels_of other) ∙ ap (λ (x : List ℕ). wire u.0 ++ x) ho.bytes)))
+
+false_both : (x y : Bool) → x ≡ false → (y ≡ true → x ≡ true) → x ≡ y
+false_both x true f h = h refl
+false_both x false f h = f
+
+pub no_end : (bytes other : List ℕ) (ends : Bool) → IsWire bytes → IsWire other → ends ≡ pointwise nat_eq other (drop (length bytes - length other) bytes) → ends ≡ false
+    → ends ≡ is_under (labels_of bytes) (labels_of other)
+no_end bytes other ends hb ho e f =
+    false_both ends (is_under (labels_of bytes) (labels_of other)) f
+    (λ t. let u = under_ends bytes other hb ho (under_is (labels_of bytes) (labels_of other) t) in (ends_is Decides-eqb bytes other ends e).1 u.0 u.1)
 
 -- What the test's answer says.
 pub relation_of : (a b : List (List ℕ)) (same : Bool) → same ≡ is_under a b → (IsTrue same → IsAtOrUnder a b) × (IsAtOrUnder a b → IsTrue same)

@@ -1,5 +1,5 @@
 -- Names in text (RFC 1035, section 5.1): labels parted by dots, with escapes.
-use Rattle.std.specs.Prelude.{◌≡◌, ℕ, zero, suc, ◌+◌, ◌-◌, ◌*◌, ◌/◌, ◌%◌, Bool, ◌&&◌, ◌||◌, cond, nat_eq, nat_le, Result, Ok, Err, List, [], ◌∷◌, ◌++◌, length}
+use Rattle.std.specs.Prelude.{◌≡◌, ℕ, zero, suc, ◌+◌, ◌-◌, ◌*◌, ◌/◌, ◌%◌, Bool, ◌&&◌, ◌||◌, cond, nat_eq, nat_le, Result, Ok, Err, List, [], ◌∷◌, ◌++◌, length, codes}
 use Rattle.std.specs.Cmp.Lexicographic.{pointwise}
 use Rattle.dname.specs.Labels.{root, wire, IsName}
 use Rattle.dname.specs.Draft.{Draft, empty_draft, pushed, shut}
@@ -14,6 +14,13 @@ fault_number LongLabel = 2
 fault_number LongName = 3
 fault_number BadByte = 4
 fault_number Memory = 5
+
+abbrev pub fault_text : NameError → List ℕ
+fault_text EmptyLabel = codes "empty label"
+fault_text LongLabel = codes "label over 63 bytes"
+fault_text LongName = codes "name over 255 bytes"
+fault_text BadByte = codes "bad escape or byte"
+fault_text Memory = codes "out of memory"
 
 -- What stands at a place of a text: a dot that parts labels, a byte of a label, or neither of them.
 pub data Token : Type 0 where

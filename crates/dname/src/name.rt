@@ -1,4 +1,4 @@
-ghost use Rattle.std.specs.Prelude.{◌≡◌, ℕ, ◌+◌, ◌≤◌, ◌<◌, ◌↔◌, List, [], ◌∷◌, ◌++◌, length, true, false, None, Some, IsTrue, IfOk, MatchOption};
+ghost use Rattle.std.specs.Prelude.{◌≡◌, ℕ, ◌+◌, ◌≤◌, ◌<◌, ◌↔◌, List, [], ◌∷◌, ◌++◌, length, true, false, None, Some, IsTrue, IfOk, IfSome, MatchOption};
 ghost use Rattle.std.specs.Bool.{OnTrue, OnFalse};
 ghost use Rattle.std.specs.Hash as fed;
 ghost use Rattle.dname.specs.Labels.{wire, root, star, same_name, is_under, parent_of, IsAtOrUnder, IsName};
@@ -6,7 +6,7 @@ ghost use Rattle.dname.specs.Wire.{labels_of, IsNameWire};
 ghost use Rattle.dname.specs.Laws.{same_name_per, same_name_equiv, same_name_fed};
 
 use crate::memory::{Heap, Starved};
-use crate::walk::{next, tail};
+use crate::walk::{has_end, next};
 use std::alloc::{AllocError, Allocator, Global};
 use std::cmp::Eq;
 use std::hash::{Hash, Hasher};
@@ -141,9 +141,10 @@ impl<A: Allocator> Name<A> {
         self.bytes[0] == 0
     }
 
-    /// The first label and the wire form behind it; none at the root.
+    /// The first label, in lower case; none at the root.
     pub fn first(&self) -> Option<&[u8]>
-        ensures { MatchOption result (self.now ≡ root) (λ l. (ls : List (List ℕ)) × (self.now ≡ l.now ∷ ls)) }
+        ensures label { MatchOption result (self.now ≡ root) (λ l. (ls : List (List ℕ)) × (self.now ≡ l.now ∷ ls)) }
+        ensures some { IfSome result (λ l. 0 < length l.now) }
     {
         match next(&self.bytes) {
             None => None,
@@ -156,7 +157,7 @@ impl<A: Allocator> Name<A> {
         ensures relation { IsTrue result ↔ IsAtOrUnder self.now other.now }
         ensures test { result ≡ is_under self.now other.now }
     {
-        tail(&self.bytes, other.bytes.len()) == other.bytes.as_slice()
+        has_end(&self.bytes, &other.bytes)
     }
 
     /// Makes the name its parent, in place and without memory; false, and no change, at the root.

@@ -1,8 +1,8 @@
 //! Names in text (RFC 1035, section 5.1).
 
-ghost use Rattle.std.specs.Prelude.{◌≡◌, ◌<◌, ◌≤◌, [], ◌∷◌, ◌++◌, length, string_bytes, Ok, OnOk, IfOk, MatchOption, MatchResult};
+ghost use Rattle.std.specs.Prelude.{◌≡◌, ◌<◌, ◌≤◌, [], ◌∷◌, ◌++◌, length, string_bytes, Some, Ok, OnOk, IfOk, MatchOption, MatchResult};
 ghost use Rattle.dname.specs.Tokens.{token_of};
-ghost use Rattle.dname.specs.Text.{tokens, tokens_behind, escaped_token, spelled, with_origin, name_under, name_of_text, IsFault, fault_of, byte_text, label_text, name_text, fault_number, TextIsReadBack};
+ghost use Rattle.dname.specs.Text.{tokens, tokens_behind, escaped_token, spelled, with_origin, name_under, name_of_text, IsFault, fault_of, byte_text, label_text, name_text, fault_number, fault_text, TextIsReadBack};
 ghost use Rattle.dname.specs.Draft.{empty_draft};
 ghost use Rattle.dname.specs.Spelling.{TextWritesName, FirstFaultCounts};
 ghost use Rattle.dname.specs.Wire.{labels_of, IsNameWire};
@@ -45,6 +45,8 @@ impl NameError {
 }
 
 impl fmt::Display for NameError {
+    ghost output = { λ e. Some (fault_text e) };
+
     fn fmt<W: fmt::Write>(&self, f: &mut fmt::Formatter<W>) -> fmt::Result {
         match self {
             NameError::EmptyLabel => write!(f, "empty label"),

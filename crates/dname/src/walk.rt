@@ -1,4 +1,4 @@
-ghost use Rattle.std.specs.Prelude.{◌≡◌, ℕ, ◌≤◌, ◌<◌, List, length, MatchOption};
+ghost use Rattle.std.specs.Prelude.{◌≡◌, ℕ, ◌≤◌, ◌<◌, ◌++◌, List, length, MatchOption};
 ghost use Rattle.dname.specs.Labels.{root, wire, is_under};
 ghost use Rattle.dname.specs.Wire.{labels_of, IsWire, IsSplit};
 
@@ -16,11 +16,12 @@ pub fn next(bytes: &[u8]) -> Option<(&[u8], &[u8])>
 }
 
 // The longest end of a name that has at most `size` bytes: the one end that can equal a name of that size.
-pub fn tail(bytes: &[u8], size: usize) -> &[u8]
+fn tail(bytes: &[u8], size: usize) -> &[u8]
     requires wire { IsWire bytes.now }
     requires some { 0 < size }
     ensures wire { IsWire result.now }
     ensures short { length result.now ≤ size }
+    ensures end { (front : List ℕ) × (bytes.now ≡ front ++ result.now) }
     ensures under { (n : List (List ℕ)) → length (wire n) ≡ size → is_under (labels_of bytes.now) n ≡ is_under (labels_of result.now) n }
 {
     let mut rest = bytes;
@@ -31,4 +32,14 @@ pub fn tail(bytes: &[u8], size: usize) -> &[u8]
         rest = after;
     }
     rest
+}
+
+// Whether the labels of `other` are the end of those of `bytes`. Its bytes are compared first: where they differ,
+// as they mostly do, no label is passed.
+pub fn has_end(bytes: &[u8], other: &[u8]) -> bool
+    requires wire { IsWire bytes.now }
+    requires other { IsWire other.now }
+    ensures { result ≡ is_under (labels_of bytes.now) (labels_of other.now) }
+{
+    bytes.ends_with(other) && tail(bytes, other.len()).len() == other.len()
 }

@@ -17,3 +17,6 @@ pub use queries::{Asked, End, Outcome, Query, Refusal, Via};
 pub use read::read_query;
 pub use reply::{refusal_bytes, reply_bytes};
 pub use start::Start;
+
+#[cfg(test)]
+mod tests;

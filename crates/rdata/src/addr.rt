@@ -1,3 +1,6 @@
+ghost use Rattle.std.specs.Prelude.{Some};
+ghost use Rattle.rdata.specs.Text.{ipv4_text};
+
 use std::fmt;
 
 /// An IPv4 address: its four bytes, the first one first.
@@ -5,6 +8,8 @@ use std::fmt;
 pub struct Addr(pub [u8; 4]);
 
 impl fmt::Display for Addr {
+    ghost output = { λ a. Some (ipv4_text a.0) };
+
     fn fmt<W: fmt::Write>(&self, f: &mut fmt::Formatter<W>) -> fmt::Result {
         let [a, b, c, d] = self.0;
         write!(f, "{a}.{b}.{c}.{d}")

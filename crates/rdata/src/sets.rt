@@ -62,10 +62,11 @@ fn with_ttl<A: Heap>(source: &Record<A>, ttl: u32) -> Result<Record<A>, Starved>
     })
 }
 
+// Data first: in a set they differ, and the owners are the same.
 fn is_repeat<A: Allocator>(kept: &Record<A>, added: &Record<A>) -> bool
     ensures { result ≡ is_repeat kept.now added.now }
 {
-    kept.owner == added.owner && kept.value.is_same(&added.value)
+    kept.value.is_same(&added.value) && kept.owner == added.owner
 }
 
 fn has<A: Allocator>(set: &[Record<A>], added: &Record<A>) -> bool

@@ -1,6 +1,5 @@
 -- What comes of a query to local zones, as printed lines.
 use Rattle.std.specs.Prelude.{◌≡◌, ℕ, false, Option, None, Some, Ok, List, [], ◌∷◌}
-use Rattle.std.specs.declared.alloc.Global.{Global}
 use Rattle.dname.specs.Text.{name_of_text}
 use Rattle.rdata.specs.Types.{type_number, type_named}
 use Rattle.rdata.specs.declared.rtype.RType.{RType}
@@ -28,17 +27,17 @@ query_for name kind = record {
 }
 
 -- The lines of the reply over UDP to what was asked: the one that local zones give to a query.
-abbrev pub AreLinesOf : List Zone → Asked Global → List ℕ → Type 0
+abbrev pub AreLinesOf : {A : Type 0} → List Zone → Asked A → List ℕ → Type 0
 AreLinesOf zones Drop text = text ≡ []
 AreLinesOf zones (Refuse refusal start echo) text = ArePrinted (encoding (refusal_reply refusal start echo)) 1 None [] text
-AreLinesOf zones (Query q) text = (o : Outcome Global) × AnswersLocally (λ n. looked zones n (type_number q.kind)) q.name o
+AreLinesOf {A} zones (Query q) text = (o : Outcome A) × AnswersLocally (λ n. looked zones n (type_number q.kind)) q.name o
     × ArePrinted (encoding (reply_of Udp q o).0) 1 (reply_of Udp q o).1 [] text
 
--- The lines of the reply to the bytes of that query.
-abbrev pub AreLines : List Zone → List (List ℕ) → ℕ → List ℕ → Type 0
-AreLines zones name kind text = (asked : Asked Global) × IsAsked (encoding (query_for name kind)) asked × AreLinesOf zones asked text
+-- The lines of the reply to the bytes of that query. `A` is the memory in which it is read and answered.
+abbrev pub AreLines : (A : Type 0) → List Zone → List (List ℕ) → ℕ → List ℕ → Type 0
+AreLines A zones name kind text = (asked : Asked A) × IsAsked (encoding (query_for name kind)) asked × AreLinesOf zones asked text
 
 -- What the zone in the file answers to the query that the words name.
-abbrev pub PrintsAnswer : Option (Option (List ℕ)) → List ℕ → List ℕ → List ℕ → List ℕ → Type 0
-PrintsAnswer known origin name kind text = (o : List (List ℕ)) × (n : List (List ℕ)) × (t : RType) × (zone : Zone)
-    × (name_of_text origin ≡ Ok o) × (name_of_text name ≡ Ok n) × (type_named kind ≡ Some t) × HoldsZone known o zone × AreLines (zone ∷ []) n (type_number t) text
+abbrev pub PrintsAnswer : (A : Type 0) → Option (Option (List ℕ)) → List ℕ → List ℕ → List ℕ → List ℕ → Type 0
+PrintsAnswer A known origin name kind text = (o : List (List ℕ)) × (n : List (List ℕ)) × (t : RType) × (zone : Zone)
+    × (name_of_text origin ≡ Ok o) × (name_of_text name ≡ Ok n) × (type_named kind ≡ Some t) × HoldsZone known o zone × AreLines A (zone ∷ []) n (type_number t) text

@@ -1,12 +1,16 @@
 -- What a command leaves behind.
 use Rattle.std.specs.Prelude.{◌≡◌, ℕ, List, ◌++◌, ◌⊎◌, Option, Result, Ok, Err, codes, string_bytes}
 use Rattle.std.specs.Io.KnownBytes.{Appends}
+use Rattle.commandline.specs.Says.{Names, NamesNothing}
+use Rattle.commandline.specs.declared.fault.LineFault.{LineFault}
+use Rattle.commandline.specs.declared.fault.LineFault.TheVariants.{Words, Memory as line_memory}
 use Rattle.commandline.specs.declared.subcommands.Command.{Command}
 use Rattle.commandline.specs.declared.subcommands.Command.TheVariants.{Ask, Check, Dump}
 use Rattle.resolverd.specs.Asks.{IsRefused}
 use Rattle.resolverd.specs.Exchanges.{PrintsAnswer}
 use Rattle.resolverd.specs.Files.{CountsRecords, PrintsRecords, IsNoZone, IsNoFile}
 use Rattle.resolverd.specs.declared.fault.Fault.{Fault}
+use Rattle.resolverd.specs.declared.fault.Fault.TheVariants.{Memory}
 use Rattle.resolverd.specs.Faults.{fault_text, status_of}
 
 -- The line of a fault.
@@ -40,13 +44,29 @@ abbrev pub IsRun : (List ℕ → Type 0) → (Fault → Type 0) → Option (List
 IsRun texts faults out out2 err err2 n = (done : Result (List ℕ) Fault) × IsAllowed texts faults done × Ended done out out2 err err2 n
 
 -- The texts that a command can print, over what is known to stand at a path.
-abbrev pub texts_of : (List ℕ → Option (Option (List ℕ))) → Command → List ℕ → Type 0
-texts_of held (Ask origin file name kind) text = PrintsAnswer (held (string_bytes file)) (string_bytes origin) (string_bytes name) (string_bytes kind) text
-texts_of held (Check origin file) text = CountsRecords (held (string_bytes file)) (string_bytes origin) text
-texts_of held (Dump origin file) text = PrintsRecords (held (string_bytes file)) (string_bytes origin) text
+abbrev pub texts_of : (A : Type 0) → (List ℕ → Option (Option (List ℕ))) → Command → List ℕ → Type 0
+texts_of A held (Ask origin file name kind) text = PrintsAnswer A (held (string_bytes file)) (string_bytes origin) (string_bytes name) (string_bytes kind) text
+texts_of A held (Check origin file) text = CountsRecords (held (string_bytes file)) (string_bytes origin) text
+texts_of A held (Dump origin file) text = PrintsRecords (held (string_bytes file)) (string_bytes origin) text
 
 -- The faults of a command, over the same.
 abbrev pub faults_of : (List ℕ → Option (Option (List ℕ))) → Command → Fault → Type 0
 faults_of held (Ask origin file name kind) f = IsRefused (held (string_bytes file)) (string_bytes origin) (string_bytes name) (string_bytes kind) f
 faults_of held (Check origin file) f = IsNoZone (held (string_bytes file)) (string_bytes origin) f
 faults_of held (Dump origin file) f = IsNoFile (held (string_bytes file)) (string_bytes origin) f
+
+-- The help text was printed, or no memory was left for it.
+abbrev pub IsExplained : Option (List ℕ) → Option (List ℕ) → Option (List ℕ) → Option (List ℕ) → ℕ → Type 0
+IsExplained out out2 err err2 n = ((help : List ℕ) × IsPrinted help 2 out out2 err err2 n) ⊎ Ended (Err Memory) out out2 err err2 n
+
+-- Words that name no command were answered.
+abbrev pub IsRefusedLine : LineFault → Option (List ℕ) → Option (List ℕ) → Option (List ℕ) → Option (List ℕ) → ℕ → Type 0
+IsRefusedLine Words out out2 err err2 n = IsExplained out out2 err err2 n
+IsRefusedLine line_memory out out2 err err2 n = Ended (Err Memory) out out2 err err2 n
+
+-- The command that the words name was done, over what is known to stand at a path; where they name none the line was refused.
+-- Want of memory may refuse any line.
+abbrev pub IsLineDone : (A : Type 0) → List (List ℕ) → (List ℕ → Option (Option (List ℕ))) → Option (List ℕ) → Option (List ℕ) → Option (List ℕ) → Option (List ℕ) → ℕ → Type 0
+IsLineDone A words held out out2 err err2 n =
+    ((command : Command) × Names words command × IsRun (texts_of A held command) (faults_of held command) out out2 err err2 n)
+    ⊎ ((fault : LineFault) × (fault ≡ Words → NamesNothing words) × IsRefusedLine fault out out2 err err2 n)

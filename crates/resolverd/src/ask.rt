@@ -8,22 +8,21 @@ use crate::fault::Fault;
 use crate::texts::Texts;
 use crate::zones::read_zone;
 use authority::{Catalog, CatalogError};
-use dname::{Name, Starved};
+use dname::{Heap, Name, Starved};
 use rdata::RType;
-use std::alloc::Global;
 use zone::Zone;
 
 /// The lines of the reply that the zone in a file gives to a query for a name and a type: one over UDP, with
 /// RD clear. The words are read in this order: the origin, the name, the type; then the file.
-pub fn ask<'a, T: Texts>(
-    alloc: Global,
+pub fn ask<'a, A: Heap, T: Texts>(
+    alloc: A,
     texts: &mut T,
     origin: &str,
     file: &'a str,
     name: &str,
     kind: &str,
-) -> Result<String, Fault<'a>>
-    ensures ok { IfOk result (λ s. PrintsAnswer (T.held texts.old file.entry.now) origin.now name.now kind.now (string_bytes s)) }
+) -> Result<String<A>, Fault<'a>>
+    ensures ok { IfOk result (λ s. PrintsAnswer A (T.held texts.old file.entry.now) origin.now name.now kind.now (string_bytes s)) }
     ensures err { IfErr result (IsRefused (T.held texts.old file.entry.now) origin.now name.now kind.now) }
 {
     let origin = Name::from_text(alloc, origin)?;
@@ -35,7 +34,7 @@ pub fn ask<'a, T: Texts>(
 }
 
 // The catalog of one zone.
-fn catalog_of(alloc: Global, zone: Zone) -> Result<Catalog, Starved>
+fn catalog_of<A: Heap>(alloc: A, zone: Zone<A>) -> Result<Catalog<A>, Starved>
     ensures { IfOk result (λ c. c ≡ zone ∷ []) }
 {
     let mut zones = Vec::new(alloc);

@@ -6,11 +6,10 @@ ghost use Rattle.script.specs.Lines.{ArePrinted};
 ghost use Rattle.resolverd.specs.Exchanges.{query_for, AreLinesOf, AreLines};
 
 use authority::{Catalog, Cause};
-use dname::{Name, Starved};
+use dname::{Heap, Name, Starved};
 use front::{Asked, Via, answer_local, read_query, refusal_bytes, reply_bytes};
 use rdata::{RType, Records};
 use script::put_reply_bytes;
-use std::alloc::Global;
 use wire::{Header, Message, Question, Questions, encode};
 
 // The number of the client in the printed reply.
@@ -24,13 +23,13 @@ const UDP_LIMIT: usize = 512;
 
 /// The lines of the reply to a query: its bytes are written, read and answered, and the bytes of the reply
 /// are read again.
-pub fn exchange(
-    alloc: Global,
-    catalog: &Catalog,
-    name: Name,
+pub fn exchange<A: Heap>(
+    alloc: A,
+    catalog: &Catalog<A>,
+    name: Name<A>,
     kind: RType,
-) -> Result<String, Starved>
-    ensures { IfOk result (λ s. AreLines catalog.now name (type_number kind) (string_bytes s)) }
+) -> Result<String<A>, Starved>
+    ensures { IfOk result (λ s. AreLines A catalog.now name (type_number kind) (string_bytes s)) }
 {
     let query = query_bytes(alloc, name, kind)?;
     let asked = read_query(alloc, &query)?;
@@ -38,7 +37,7 @@ pub fn exchange(
 }
 
 // The lines of the reply to what was asked over UDP.
-fn lines_of(alloc: Global, catalog: &Catalog, asked: Asked) -> Result<String, Starved>
+fn lines_of<A: Heap>(alloc: A, catalog: &Catalog<A>, asked: Asked<A>) -> Result<String<A>, Starved>
     ensures { IfOk result (λ s. AreLinesOf catalog.now asked (string_bytes s)) }
 {
     match asked {
@@ -56,7 +55,7 @@ fn lines_of(alloc: Global, catalog: &Catalog, asked: Asked) -> Result<String, St
 }
 
 // The lines of a reply's bytes.
-fn printed(alloc: Global, reply: &[u8], cause: Option<Cause>) -> Result<String, Starved>
+fn printed<A: Heap>(alloc: A, reply: &[u8], cause: Option<Cause>) -> Result<String<A>, Starved>
     ensures { IfOk result (λ s. ArePrinted reply.now 1 cause [] (string_bytes s)) }
 {
     let mut out = String::new(alloc);
@@ -65,7 +64,7 @@ fn printed(alloc: Global, reply: &[u8], cause: Option<Cause>) -> Result<String, 
 }
 
 // The bytes of the query.
-fn query_bytes(alloc: Global, name: Name, kind: RType) -> Result<Vec<u8>, Starved>
+fn query_bytes<A: Heap>(alloc: A, name: Name<A>, kind: RType) -> Result<Vec<u8, A>, Starved>
     ensures { IfOk result (λ v. v.items ≡ encoding (query_for name (type_number kind))) }
 {
     let mut questions = Questions::new(alloc);

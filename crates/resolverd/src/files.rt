@@ -5,16 +5,15 @@ ghost use Rattle.resolverd.specs.Files.{CountsRecords, PrintsRecords, IsNoZone, 
 use crate::fault::Fault;
 use crate::texts::Texts;
 use crate::zones::{read_records, read_zone};
-use dname::{Name, Starved};
-use std::alloc::Global;
+use dname::{Heap, Name, Starved};
 
 /// `ok N records`, where the text at a path is a zone of that origin.
-pub fn check<'a, T: Texts>(
-    alloc: Global,
+pub fn check<'a, A: Heap, T: Texts>(
+    alloc: A,
     texts: &mut T,
     origin: &str,
     file: &'a str,
-) -> Result<String, Fault<'a>>
+) -> Result<String<A>, Fault<'a>>
     ensures ok { IfOk result (λ s. CountsRecords (T.held texts.old file.entry.now) origin.now (string_bytes s)) }
     ensures err { IfErr result (IsNoZone (T.held texts.old file.entry.now) origin.now) }
 {
@@ -23,19 +22,19 @@ pub fn check<'a, T: Texts>(
     Ok(count_line(alloc, zone.records().len())?)
 }
 
-fn count_line(alloc: Global, count: usize) -> Result<String, Starved>
+fn count_line<A: Heap>(alloc: A, count: usize) -> Result<String<A>, Starved>
     ensures { IfOk result (λ s. string_bytes s ≡ codes "ok " ++ (decimal count ++ codes " records\n")) }
 {
     Ok(format!(in alloc; "ok {count} records\n")?)
 }
 
 /// The records in the text at a path, printed as a master file: a line for the origin, then one a record.
-pub fn dump<'a, T: Texts>(
-    alloc: Global,
+pub fn dump<'a, A: Heap, T: Texts>(
+    alloc: A,
     texts: &mut T,
     origin: &str,
     file: &'a str,
-) -> Result<String, Fault<'a>>
+) -> Result<String<A>, Fault<'a>>
     ensures ok { IfOk result (λ s. PrintsRecords (T.held texts.old file.entry.now) origin.now (string_bytes s)) }
     ensures err { IfErr result (IsNoFile (T.held texts.old file.entry.now) origin.now) }
 {

@@ -1,15 +1,17 @@
 //! Commands, done: output to one writer, a fault's line to the other, and the exit status.
-ghost use Rattle.std.specs.Prelude.{string_bytes};
+ghost use Rattle.std.specs.Prelude.{map, string_bytes};
 ghost use Rattle.std.specs.Bool.{OnTrue};
 ghost use Rattle.std.specs.Io.KnownBytes.{Appends};
-ghost use Rattle.resolverd.specs.Runs.{Ended, IsPrinted, IsReported, IsRun, faults_of, shown, texts_of};
+ghost use Rattle.std.specs.declared.alloc.Global.{Global};
+ghost use Rattle.resolverd.specs.Runs.{Ended, IsExplained, IsLineDone, IsPrinted, IsRefusedLine, IsReported, IsRun, faults_of, shown, texts_of};
 
 use crate::ask::ask;
 use crate::fault::Fault;
 use crate::files::{check, dump};
 use crate::texts::Texts;
 use commandline::{Command, LineFault, help_text, read_words};
-use std::alloc::Global;
+use dname::Heap;
+use std::alloc::{Allocator, Global};
 use std::io::Write;
 
 /// Does what the words after the program's name ask, and gives the exit status. Words that name no command
@@ -20,7 +22,9 @@ pub fn run_words<T: Texts, O: Write, E: Write>(
     texts: &mut T,
     out: &mut O,
     err: &mut E,
-) -> u8 {
+) -> u8
+    ensures { IsLineDone Global (map string_bytes words.now) (T.held texts.old) (O.contents out.old) (O.contents out.new) (E.contents err.old) (E.contents err.new) result }
+{
     match read_words(alloc, words) {
         Ok(command) => run_command(alloc, &command, texts, out, err),
         Err(fault) => refuse_line(alloc, fault, out, err),
@@ -33,7 +37,9 @@ pub fn refuse_line<O: Write, E: Write>(
     fault: LineFault,
     out: &mut O,
     err: &mut E,
-) -> u8 {
+) -> u8
+    ensures { IsRefusedLine fault (O.contents out.old) (O.contents out.new) (E.contents err.old) (E.contents err.new) result }
+{
     match fault {
         LineFault::Words => explain(alloc, out, err),
         LineFault::Memory => report(&Fault::Memory, err),
@@ -43,14 +49,14 @@ pub fn refuse_line<O: Write, E: Write>(
 /// Does a command and gives the exit status: 0 done, 1 input refused, 3 no memory, 4 an unreadable file or
 /// failed output. Of a command that fails nothing is printed but the line of its fault, unless the output
 /// itself fails.
-pub fn run_command<T: Texts, O: Write, E: Write>(
-    alloc: Global,
+pub fn run_command<A: Heap, T: Texts, O: Write, E: Write>(
+    alloc: A,
     command: &Command,
     texts: &mut T,
     out: &mut O,
     err: &mut E,
 ) -> u8
-    ensures { IsRun (texts_of (T.held texts.old) command.now) (faults_of (T.held texts.old) command.now) (O.contents out.old) (O.contents out.new) (E.contents err.old) (E.contents err.new) result }
+    ensures { IsRun (texts_of A (T.held texts.old) command.now) (faults_of (T.held texts.old) command.now) (O.contents out.old) (O.contents out.new) (E.contents err.old) (E.contents err.new) result }
 {
     match command {
         Command::Ask {
@@ -75,7 +81,11 @@ pub fn run_command<T: Texts, O: Write, E: Write>(
 }
 
 // Prints what came out, and gives the exit status.
-fn finish<O: Write, E: Write>(done: &Result<String, Fault<'_>>, out: &mut O, err: &mut E) -> u8
+fn finish<A: Allocator, O: Write, E: Write>(
+    done: &Result<String<A>, Fault<'_>>,
+    out: &mut O,
+    err: &mut E,
+) -> u8
     ensures { Ended (shown string_bytes done.now) (O.contents out.old) (O.contents out.new) (E.contents err.old) (E.contents err.new) result }
 {
     match done {
@@ -85,7 +95,9 @@ fn finish<O: Write, E: Write>(done: &Result<String, Fault<'_>>, out: &mut O, err
 }
 
 // Prints the help text, and gives the status of a line that names no command.
-fn explain<O: Write, E: Write>(alloc: Global, out: &mut O, err: &mut E) -> u8 {
+fn explain<O: Write, E: Write>(alloc: Global, out: &mut O, err: &mut E) -> u8
+    ensures { IsExplained (O.contents out.old) (O.contents out.new) (E.contents err.old) (E.contents err.new) result }
+{
     match help_text(alloc) {
         Ok(text) => put(&text, 2, out, err),
         Err(_) => report(&Fault::Memory, err),
@@ -93,7 +105,12 @@ fn explain<O: Write, E: Write>(alloc: Global, out: &mut O, err: &mut E) -> u8 {
 }
 
 // Prints a text, and gives the status, unless the output fails.
-fn put<O: Write, E: Write>(text: &String, status: u8, out: &mut O, err: &mut E) -> u8
+fn put<A: Allocator, O: Write, E: Write>(
+    text: &String<A>,
+    status: u8,
+    out: &mut O,
+    err: &mut E,
+) -> u8
     ensures { IsPrinted (string_bytes text.now) status (O.contents out.old) (O.contents out.new) (E.contents err.old) (E.contents err.new) result }
 {
     if written(text, out) {
@@ -105,7 +122,7 @@ fn put<O: Write, E: Write>(text: &String, status: u8, out: &mut O, err: &mut E) 
 }
 
 // Whether a text was written whole.
-fn written<O: Write>(text: &String, out: &mut O) -> bool
+fn written<A: Allocator, O: Write>(text: &String<A>, out: &mut O) -> bool
     ensures { OnTrue result (Appends (O.contents out.old) (O.contents out.new) (string_bytes text.now)) }
 {
     out.write_all(text.as_bytes()).is_ok() && out.flush().is_ok()

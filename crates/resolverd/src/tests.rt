@@ -3,7 +3,8 @@
 use crate::run::{refuse_line, run_command, run_words};
 use crate::texts::Texts;
 use commandline::{Command, LineFault};
-use dname::Starved;
+use dname::{Heap, Starved};
+use refusing::Refusing;
 use std::alloc::{AllocError, Global};
 use std::io;
 use std::io::{ErrorKind, Write};
@@ -21,7 +22,7 @@ enum Held {
 }
 
 impl Texts for Held {
-    fn text(&mut self, alloc: Global, path: &str) -> Result<Option<String>, Starved> {
+    fn text<A: Heap>(&mut self, alloc: A, path: &str) -> Result<Option<String<A>>, Starved> {
         match *self {
             Held::Text(text) if path == "lab.zone" => Ok(Some(String::from_str(alloc, text)?)),
             Held::Text(_) | Held::Nothing => Ok(None),
@@ -80,6 +81,25 @@ fn ask_line(
     })
 }
 
+// Whether a command that is done in this memory ends with a status, an output and the line of a fault. The pages
+// take other memory.
+fn ends<A: Heap>(
+    alloc: A,
+    pages: Global,
+    held: Held,
+    command: &Command,
+    want: (u8, &str, &str),
+) -> bool {
+    let mut source = held;
+    let mut out = Page::new(pages, WIDE);
+    let mut err = Page::new(pages, WIDE);
+    let status = run_command(alloc, command, &mut source, &mut out, &mut err);
+    let (code, printed, fault) = want;
+    status == code
+        && out.bytes.as_slice() == printed.as_bytes()
+        && err.bytes.as_slice() == fault.as_bytes()
+}
+
 // What a command must write and end with.
 fn see(
     rt: &impl Abort,
@@ -88,20 +108,11 @@ fn see(
     command: &Command,
     want: (u8, &str, &str),
 ) -> Result<(), Fail> {
-    let mut source = held;
-    let mut out = Page::new(alloc, WIDE);
-    let mut err = Page::new(alloc, WIDE);
-    let status = run_command(alloc, command, &mut source, &mut out, &mut err);
     let (code, printed, fault) = want;
     assert!(rt;
-        out.bytes.as_slice() == printed.as_bytes(),
-        "output for {printed}"
+        ends(alloc, alloc, held, command, want),
+        "status {code}, output {printed}, fault {fault}"
     );
-    assert!(rt;
-        err.bytes.as_slice() == fault.as_bytes(),
-        "fault for {fault}"
-    );
-    assert_eq!(rt; status, code);
     Ok(())
 }
 
@@ -161,20 +172,18 @@ fn records_are_counted(rt: HostRuntime) -> Result<(), Fail> {
     )
 }
 
+static PRINTED: &str =
+    "$ORIGIN lab.example.\nlab.example. 300 IN SOA ns.lab.example. h.lab.example. 1 2 3 4 60\nlab.example. 300 IN NS ns.lab.example.\n*.lab.example. 300 IN TXT \"wild\"\na.b.lab.example. 300 IN A 192.0.2.7\n";
+
+static PRINTED_CUT: &str =
+    "$ORIGIN lab.example.\nlab.example. 300 IN SOA ns.lab.example. h.lab.example. 1 2 3 4 60\nlab.example. 300 IN NS ns.lab.example.\nx.lab.example. 300 IN NS n.lab.example.\nx.lab.example. 300 IN TXT \"t\"\n";
+
 #[test]
 fn records_are_printed(rt: HostRuntime) -> Result<(), Fail> {
     let command = dump_line(rt.alloc(), "lab.example.")?;
-    let head =
-        "$ORIGIN lab.example.\nlab.example. 300 IN SOA ns.lab.example. h.lab.example. 1 2 3 4 60\nlab.example. 300 IN NS ns.lab.example.\n";
-    let lab = format!(in rt.alloc();
-        "{head}*.lab.example. 300 IN TXT \"wild\"\na.b.lab.example. 300 IN A 192.0.2.7\n"
-    )?;
-    let cut = format!(in rt.alloc();
-        "{head}x.lab.example. 300 IN NS n.lab.example.\nx.lab.example. 300 IN TXT \"t\"\n"
-    )?;
     for (held, want) in [
-        (Held::Text(LAB), (0, lab.as_str(), "")),
-        (Held::Text(AT_A_CUT), (0, cut.as_str(), "")),
+        (Held::Text(LAB), (0, PRINTED, "")),
+        (Held::Text(AT_A_CUT), (0, PRINTED_CUT, "")),
         (Held::Text(""), (0, "$ORIGIN lab.example.\n", "")),
         (
             Held::Text("@ SOA ns h 1 2 3 4 5"),
@@ -205,6 +214,68 @@ fn a_zone_answers(rt: HostRuntime) -> Result<(), Fail> {
         let line = ["lab.example.", "lab.zone", name, kind];
         check(&rt, rt.alloc(), Held::Text(LAB), line, (0, want, ""))?;
     }
+    Ok(())
+}
+
+// Nine aliases, one that leads to itself, one that leads to a cut, and the cut.
+static ALIASES: &str =
+    "$TTL 60\n@ SOA ns h 1 2 3 4 5\n@ NS ns\nc0 CNAME c1\nc1 CNAME c2\nc2 CNAME c3\nc3 CNAME c4\nc4 CNAME c5\nc5 CNAME c6\nc6 CNAME c7\nc7 CNAME c8\nc8 CNAME c9\nc9 A 192.0.2.1\nl CNAME l\nout CNAME a.sub\nsub NS n.sub\nn.sub A 192.0.2.2\n";
+
+static EIGHT: &str =
+    "reply 1 NOERROR aa\n  an c1.e. 60 CNAME c2.e.\n  an c2.e. 60 CNAME c3.e.\n  an c3.e. 60 CNAME c4.e.\n  an c4.e. 60 CNAME c5.e.\n  an c5.e. 60 CNAME c6.e.\n  an c6.e. 60 CNAME c7.e.\n  an c7.e. 60 CNAME c8.e.\n  an c8.e. 60 CNAME c9.e.\n  an c9.e. 60 A 192.0.2.1\n";
+
+#[test]
+fn aliases_and_cuts_are_followed(rt: HostRuntime) -> Result<(), Fail> {
+    for (name, want) in [
+        ("c1.e.", EIGHT),
+        ("c0.e.", "reply 1 SERVFAIL cause 3\n"),
+        ("l.e.", "reply 1 SERVFAIL cause 3\n"),
+        (
+            "out.e.",
+            "reply 1 NOERROR aa\n  an out.e. 60 CNAME a.sub.e.\n",
+        ),
+        (
+            "a.sub.e.",
+            "reply 1 NOERROR\n  ns sub.e. 60 NS n.sub.e.\n  ar n.sub.e. 60 A 192.0.2.2\n",
+        ),
+    ] {
+        let line = ["e.", "lab.zone", name, "A"];
+        check(&rt, rt.alloc(), Held::Text(ALIASES), line, (0, want, ""))?;
+    }
+    Ok(())
+}
+
+// Counts the growths of a command over the example that ends well, and refuses each in turn: memory lacks then, and
+// nothing else is printed.
+fn starve(rt: &impl Abort, pages: Global, command: &Command, printed: &str) {
+    let heap = Refusing::new(pages);
+    let held = Held::Text(LAB);
+    assert!(rt; ends(&heap, pages, held, command, (0, printed, "")));
+    let growths = heap.growths();
+    assert!(rt; growths > 8);
+    for n in 0..growths {
+        heap.refuse_after(n);
+        let want = (3, "", "error: memory\n");
+        assert!(rt; ends(&heap, pages, held, command, want), "growth {n}");
+    }
+}
+
+#[test]
+fn each_growth_of_check_and_dump_is_refused(rt: HostRuntime) -> Result<(), Fail> {
+    let alloc = rt.alloc();
+    let command = check_line(alloc, "lab.example.")?;
+    starve(&rt, alloc, &command, "ok 4 records\n");
+    let command = dump_line(alloc, "lab.example.")?;
+    starve(&rt, alloc, &command, PRINTED);
+    Ok(())
+}
+
+#[test]
+fn each_growth_of_ask_is_refused(rt: HostRuntime) -> Result<(), Fail> {
+    let alloc = rt.alloc();
+    let command = ask_line(alloc, "lab.example.", "lab.zone", "x.lab.example.", "TXT")?;
+    let printed = "reply 1 NOERROR aa\n  an x.lab.example. 300 TXT \"wild\"\n";
+    starve(&rt, alloc, &command, printed);
     Ok(())
 }
 
@@ -261,16 +332,22 @@ fn another_path_is_unreadable(rt: HostRuntime) -> Result<(), Fail> {
 }
 
 #[test]
-fn output_may_fail(rt: HostRuntime) -> Result<(), Fail> {
+fn output_may_fail_at_each_byte(rt: HostRuntime) -> Result<(), Fail> {
     let alloc = rt.alloc();
-    let command = ask_line(alloc, "lab.example.", "lab.zone", "www.other.", "A")?;
-    let mut source = Held::Text(LAB);
-    let mut out = Page::new(alloc, 4);
-    let mut err = Page::new(alloc, WIDE);
-    let status = run_command(alloc, &command, &mut source, &mut out, &mut err);
-    assert_eq!(rt; status, 4);
-    assert!(rt; out.bytes.as_slice() == "repl".as_bytes());
-    assert!(rt; err.bytes.as_slice() == "error: output\n".as_bytes());
+    let command = check_line(alloc, "lab.example.")?;
+    let printed = b"ok 4 records\n";
+    for room in 0..printed.len() {
+        let mut source = Held::Text(LAB);
+        let mut out = Page::new(alloc, room);
+        let mut err = Page::new(alloc, WIDE);
+        let status = run_command(alloc, &command, &mut source, &mut out, &mut err);
+        assert_eq!(rt; status, 4, "after {room} bytes");
+        assert!(rt;
+            out.bytes.as_slice() == &printed[..room],
+            "after {room} bytes"
+        );
+        assert!(rt; err.bytes.as_slice() == "error: output\n".as_bytes());
+    }
     Ok(())
 }
 
@@ -288,18 +365,48 @@ fn a_fault_line_may_fail(rt: HostRuntime) -> Result<(), Fail> {
     Ok(())
 }
 
+fn words_of(alloc: Global, texts: &[&str]) -> Result<Vec<String>, AllocError> {
+    let mut words = Vec::new(alloc);
+    for text in texts {
+        words.push(String::from_str(alloc, text)?)?;
+    }
+    Ok(words)
+}
+
+#[test]
+fn a_line_is_read_and_done(rt: HostRuntime) -> Result<(), Fail> {
+    let alloc = rt.alloc();
+    let words = words_of(alloc, &["check", "lab.example.", "lab.zone"])?;
+    let mut source = Held::Text(LAB);
+    let mut out = Page::new(alloc, WIDE);
+    let mut err = Page::new(alloc, WIDE);
+    let status = run_words(alloc, &words, &mut source, &mut out, &mut err);
+    assert_eq!(rt; status, 0);
+    assert!(rt; out.bytes.as_slice() == "ok 4 records\n".as_bytes());
+    assert!(rt; err.bytes.is_empty());
+    Ok(())
+}
+
 #[test]
 fn lines_without_a_command_get_help(rt: HostRuntime) -> Result<(), Fail> {
     let alloc = rt.alloc();
-    for word in ["--help", "answer"] {
-        let words = vec![in alloc; String::from_str(alloc, word)?]?;
+    let lines: [&[&str]; 6] = [
+        &[],
+        &["--help"],
+        &["answer"],
+        &["check", "lab.example."],
+        &["dump", "lab.example.", "lab.zone", "more"],
+        &["ask", "lab.example.", "lab.zone", "x.lab.example."],
+    ];
+    for line in &lines {
+        let words = words_of(alloc, *line)?;
         let mut source = Held::Text(LAB);
         let mut out = Page::new(alloc, WIDE);
         let mut err = Page::new(alloc, WIDE);
         let status = run_words(alloc, &words, &mut source, &mut out, &mut err);
-        assert_eq!(rt; status, 2, "at {word}");
-        assert!(rt; !out.bytes.is_empty(), "at {word}");
-        assert!(rt; err.bytes.is_empty(), "at {word}");
+        assert_eq!(rt; status, 2);
+        assert!(rt; out.bytes.starts_with(b"A recursive DNS resolver\n"));
+        assert!(rt; err.bytes.is_empty());
     }
     Ok(())
 }

@@ -3,11 +3,10 @@ ghost use Rattle.std.specs.Prelude.{ℕ, List, Option, None, IfOk, string_bytes}
 ghost use Rattle.std.specs.Option.{option_map};
 ghost use Rattle.resolverd.specs.Texts.{MayHold};
 
-use dname::Starved;
-use std::alloc::Global;
-use std::fs;
+use dname::{Heap, Starved};
 use std::io::ErrorKind;
 use std::rt::Files;
+use std::{fs, io};
 
 /// A source of texts.
 pub trait Texts {
@@ -15,7 +14,7 @@ pub trait Texts {
     ghost held: { Self → List ℕ → Option (Option (List ℕ)) } = { λ _ _. None };
 
     /// The text at a path; none where it can't be read or is not UTF-8.
-    fn text(&mut self, alloc: Global, path: &str) -> Result<Option<String>, Starved>
+    fn text<A: Heap>(&mut self, alloc: A, path: &str) -> Result<Option<String<A>>, Starved>
         ensures { IfOk result (λ text. MayHold (held self.old path.now) (option_map string_bytes text)) };
 }
 
@@ -25,16 +24,16 @@ pub struct Disk<'a, R> {
     runtime: &'a R,
 }
 
-impl<'a, R: Files + AllocGlobal> Disk<'a, R> {
+impl<'a, R: Files> Disk<'a, R> {
     /// Those that this runtime opens.
     pub fn new(runtime: &'a R) -> Disk<'a, R> {
         Disk { runtime }
     }
 }
 
-impl<R: Files + AllocGlobal> Texts for Disk<'_, R> {
-    fn text(&mut self, _alloc: Global, path: &str) -> Result<Option<String>, Starved> {
-        match fs::read_to_string(self.runtime, path) {
+impl<R: Files> Texts for Disk<'_, R> {
+    fn text<A: Heap>(&mut self, alloc: A, path: &str) -> Result<Option<String<A>>, Starved> {
+        match read_file(alloc, self.runtime, path) {
             Ok(text) => Ok(Some(text)),
             Err(error) => match error.kind() {
                 ErrorKind::OutOfMemory => Err(Starved),
@@ -42,4 +41,9 @@ impl<R: Files + AllocGlobal> Texts for Disk<'_, R> {
             },
         }
     }
+}
+
+// The text of a file.
+fn read_file<A: Heap, R: Files>(alloc: A, runtime: &R, path: &str) -> io::Result<String<A>> {
+    io::read_to_string(alloc, fs::open(runtime, path)?)
 }

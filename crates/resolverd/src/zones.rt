@@ -4,18 +4,17 @@ ghost use Rattle.resolverd.specs.Zones.{HoldsRecords, HoldsNoRecords, HoldsZone,
 
 use crate::fault::Fault;
 use crate::texts::Texts;
-use dname::Name;
+use dname::{Heap, Name};
 use rdata::Records;
-use std::alloc::Global;
 use zone::Zone;
 
 /// The records in the text at a path, which begins under that origin.
-pub fn read_records<'a, T: Texts>(
-    alloc: Global,
+pub fn read_records<'a, A: Heap, T: Texts>(
+    alloc: A,
     texts: &mut T,
-    origin: &Name,
+    origin: &Name<A>,
     file: &'a str,
-) -> Result<Records, Fault<'a>>
+) -> Result<Records<A>, Fault<'a>>
     ensures ok { IfOk result (HoldsRecords (T.held texts.old file.entry.now) origin.now) }
     ensures err { IfErr result (HoldsNoRecords (T.held texts.old file.entry.now) origin.now) }
 {
@@ -27,12 +26,12 @@ pub fn read_records<'a, T: Texts>(
 }
 
 /// The zone of that origin in the text at a path.
-pub fn read_zone<'a, T: Texts>(
-    alloc: Global,
+pub fn read_zone<'a, A: Heap, T: Texts>(
+    alloc: A,
     texts: &mut T,
-    origin: Name,
+    origin: Name<A>,
     file: &'a str,
-) -> Result<Zone, Fault<'a>>
+) -> Result<Zone<A>, Fault<'a>>
     ensures ok { IfOk result (HoldsZone (T.held texts.old file.entry.now) origin) }
     ensures err { IfErr result (HoldsNoZone (T.held texts.old file.entry.now) origin) }
 {

@@ -4,7 +4,7 @@ ghost use Rattle.std.specs.Prelude.{◌<◌};
 use crate::put_reply;
 use authority::Cause;
 use dname::Name;
-use rdata::{Addr, RData, Record, Records, Soa};
+use rdata::{Addr, RData, Record, Records};
 use std::alloc::Global;
 use std::test::Fail;
 use wire::{Header, Message, Questions};
@@ -35,38 +35,27 @@ fn reply(alloc: Global, aa: bool, tc: bool, rcode: u8) -> Message
     }
 }
 
+fn address(alloc: Global, owner: &str) -> Result<Record, Fail> {
+    let owner = name(alloc, owner)?;
+    Ok(Record {
+        owner,
+        ttl: 5,
+        value: RData::A(Addr([192, 0, 2, 1])),
+    })
+}
+
 #[test]
 fn records_stand_in_their_sections(rt: HostRuntime) -> Result<(), Fail> {
     let alloc = rt.alloc();
     let mut message = reply(alloc, true, false, 3);
-    message.answer.push(Record {
-        owner: name(alloc, "app.example")?,
-        ttl: 3600,
-        value: RData::Cname(name(alloc, "gone.example")?),
-    })?;
-    message.authority.push(Record {
-        owner: name(alloc, "example")?,
-        ttl: 60,
-        value: RData::Soa(Soa {
-            primary: name(alloc, "ns.example")?,
-            mailbox: name(alloc, "h.example")?,
-            serial: 1,
-            refresh: 2,
-            retry: 3,
-            expire: 4,
-            minimum: 60,
-        }),
-    })?;
-    message.additional.push(Record {
-        owner: name(alloc, "ns.example")?,
-        ttl: 5,
-        value: RData::A(Addr([192, 0, 2, 1])),
-    })?;
+    message.additional.push(address(alloc, "c")?)?;
+    message.answer.push(address(alloc, "a")?)?;
+    message.authority.push(address(alloc, "b")?)?;
     let mut out = String::new(alloc);
     put_reply(&mut out, 1, &message, None)?;
     assert_eq!(rt;
         out.as_str(),
-        "reply 1 NXDOMAIN aa\n  an app.example. 3600 CNAME gone.example.\n  ns example. 60 SOA ns.example. h.example. 1 2 3 4 60\n  ar ns.example. 5 A 192.0.2.1\n"
+        "reply 1 NXDOMAIN aa\n  an a. 5 A 192.0.2.1\n  ns b. 5 A 192.0.2.1\n  ar c. 5 A 192.0.2.1\n"
     );
     Ok(())
 }

@@ -1,14 +1,18 @@
 -- One step of a search among notes, and of a walk over a name.
-use Rattle.std.proofs.Common.{◌≡◌, ℕ, zero, suc, ◌+◌, ◌-◌, ◌<◌, ◌≤◌, Bool, true, false, List, [], ◌∷◌, ◌++◌, length, drop, get_or, Option, Some, None, refl, sym, ◌∙◌, ap, subst, arith, add-one, drop-cons, append_assoc, length-append}
+use Rattle.std.proofs.Common.{◌≡◌, ℕ, zero, suc, ◌+◌, ◌-◌, ◌<◌, ◌≤◌, Bool, true, false, List, [], ◌∷◌, ◌++◌, length, take, drop, get_or, Option, Some, None, refl, sym, ◌∙◌, ap, subst, arith, add-one, drop-cons, append_assoc, length-append}
 use Rattle.std.specs.Prelude.{if◌then◌else◌, nat_lt}
 use Rattle.std.proofs.lemmas.Bool.Decides.{nat_tests}
-use Rattle.std.proofs.lemmas.List.{append-nil}
+use Rattle.std.proofs.lemmas.List.{append-nil, map-append, take-append-le, drop-append-le, drop-drop, drop_all, length-drop}
+use Rattle.std.proofs.lemmas.List.Elements.{All-nil, All-cons, All-head, All-tail, All-same, All-append, All-get_or}
+use Rattle.std.proofs.Math.Seq.{drop-append_seam, take-length}
 use Rattle.dname.specs.Labels.{same_name, root, wire, AreLabels, IsName}
 use Rattle.dname.specs.Wire.{labels_of, IsWire, IsSplit}
 use Rattle.dname.specs.Laws.{labels_of-wire}
 use Rattle.dname.proofs.Split.{wire_is}
 use Rattle.layout.specs.Packing.{Note, find, noted}
 use Rattle.suffixes.specs.declared.earlier.Found.{Found}
+use Rattle.suffixes.specs.declared.earlier.Noted.{Noted}
+use Rattle.suffixes.specs.Kept.{kept_bytes, note_of, notes_of, IsKept, AreKept}
 use Rattle.suffixes.specs.Longest.{one_more, here_or, longest, first_notes}
 
 abbrev pub or_else : Option ℕ → Option ℕ → Option ℕ
@@ -22,26 +26,37 @@ find_head x later name = by (same_name x.suffix name)
     by true = refl
     by false = refl
 
--- The notes from an index on, searched.
-pub find_step : (notes : List Note) (i : ℕ) (x : Note) (name : List (List ℕ)) → i < length notes → x ≡ get_or notes i x
-    → find (drop i notes) name ≡ or_else (find (x ∷ []) name) (find (drop (i + 1) notes) name)
-find_step notes i x name h e =
+-- What is searched for among the notes from an index on, whose bytes are kept.
+pub record Searching (names : List ℕ) (notes : List Noted) (i : ℕ) (name : List (List ℕ)) (whole : Option ℕ) : Type 0 where
+  pub kept : AreKept names notes
+  pub so_far : find (notes_of names (drop i notes)) name ≡ whole
+
+find_step : (names : List ℕ) (notes : List Noted) (i : ℕ) (x : Noted) (name : List (List ℕ)) → i < length notes → x ≡ get_or notes i x
+    → find (notes_of names (drop i notes)) name ≡ or_else (find (note_of names x ∷ []) name) (find (notes_of names (drop (i + 1) notes)) name)
+find_step names notes i x name h e =
     let d : drop i notes ≡ x ∷ drop (i + 1) notes = drop-cons notes i x h ∙ (ap (λ y. y ∷ drop (suc i) notes) (sym e) ∙ ap (λ n. x ∷ drop n notes) (sym (add-one i))) in
-    ap (λ ns. find ns name) d ∙ find_head x (drop (i + 1) notes) name
+    ap (λ ns. find (notes_of names ns) name) d ∙ find_head (note_of names x) (notes_of names (drop (i + 1) notes)) name
 
-pub find_found : (notes : List Note) (i p : ℕ) (x : Note) (name : List (List ℕ)) (o whole : Option ℕ) → find (drop i notes) name ≡ whole → i < length notes → x ≡ get_or notes i x
-    → o ≡ find (x ∷ []) name → o ≡ Some p → Some p ≡ whole
-find_found notes i p x name o whole so_far h e is some =
-    let s = find_step notes i x name h e in
-    let k : find (x ∷ []) name ≡ Some p = sym is ∙ some in
-    sym (ap (λ y. or_else y (find (drop (i + 1) notes) name)) k) ∙ (sym s ∙ so_far)
+pub searching_kept : (names : List ℕ) (notes : List Noted) (i : ℕ) (x : Noted) (name : List (List ℕ)) (whole : Option ℕ) → Searching names notes i name whole
+    → i < length notes → x ≡ get_or notes i x → IsKept names x
+searching_kept names notes i x name whole h l e = subst (λ (y : Noted). IsKept names y) (sym e) (All-get_or (IsKept names) notes i x l h.kept)
 
-pub find_passed : (notes : List Note) (i : ℕ) (x : Note) (name : List (List ℕ)) (o whole : Option ℕ) → find (drop i notes) name ≡ whole → i < length notes → x ≡ get_or notes i x
-    → o ≡ find (x ∷ []) name → o ≡ None → find (drop (i + 1) notes) name ≡ whole
-find_passed notes i x name o whole so_far h e is none =
-    let s = find_step notes i x name h e in
-    let k : find (x ∷ []) name ≡ None = sym is ∙ none in
-    sym (ap (λ y. or_else y (find (drop (i + 1) notes) name)) k) ∙ (sym s ∙ so_far)
+pub searching_found : (names : List ℕ) (notes : List Noted) (i p : ℕ) (x : Noted) (name : List (List ℕ)) (o whole : Option ℕ) → Searching names notes i name whole
+    → i < length notes → x ≡ get_or notes i x → o ≡ find (note_of names x ∷ []) name → o ≡ Some p → Some p ≡ whole
+searching_found names notes i p x name o whole h l e is some =
+    let s = find_step names notes i x name l e in
+    let k : find (note_of names x ∷ []) name ≡ Some p = sym is ∙ some in
+    sym (ap (λ y. or_else y (find (notes_of names (drop (i + 1) notes)) name)) k) ∙ (sym s ∙ h.so_far)
+
+pub searching_on : (names : List ℕ) (notes : List Noted) (i : ℕ) (x : Noted) (name : List (List ℕ)) (o whole : Option ℕ) → Searching names notes i name whole
+    → i < length notes → x ≡ get_or notes i x → o ≡ find (note_of names x ∷ []) name → o ≡ None → Searching names notes (i + 1) name whole
+searching_on names notes i x name o whole h l e is none =
+    let s = find_step names notes i x name l e in
+    let k : find (note_of names x ∷ []) name ≡ None = sym is ∙ none in
+    record { kept = h.kept; so_far = sym (ap (λ y. or_else y (find (notes_of names (drop (i + 1) notes)) name)) k) ∙ (sym s ∙ h.so_far) }
+
+pub searching_ends : (names : List ℕ) (notes : List Noted) (i : ℕ) (name : List (List ℕ)) (whole : Option ℕ) → Searching names notes i name whole → length notes ≤ i → None ≡ whole
+searching_ends names notes i name whole h l = sym (ap (λ ns. find (notes_of names ns) name) (drop_all i notes l)) ∙ h.so_far
 
 -- ---- a walk over a name
 
@@ -147,15 +162,56 @@ walk_ends notes name rest labels bytes h e = sym (h.so_far ∙ ap (λ x. moved l
 
 -- ---- notes put one by one
 
-pub record Noting (old now : List Note) (written at i place : ℕ) (name : List (List ℕ)) (rest : List ℕ) : Type 0 where
-  pub form : IsWire rest
-  pub so_far : now ++ first_notes (written - i) place (labels_of rest) ≡ old ++ first_notes written at name
+kept_longer : (names more : List ℕ) (n : Noted) → n.start + n.size ≤ length names → kept_bytes (names ++ more) n ≡ kept_bytes names n
+kept_longer names more n h =
+    let a : drop n.start (names ++ more) ≡ drop n.start names ++ more = drop-append-le n.start names more (omega arith) in
+    let b : n.size ≤ length (drop n.start names) = omega (arith, length-drop n.start names) in
+    ap (take n.size) a ∙ take-append-le n.size (drop n.start names) more b
 
-pub noting_begins : (old : List Note) (written at : ℕ) (name : List (List ℕ)) (w : List ℕ) → IsName name → w ≡ wire name → Noting old old written at 0 at name w
-noting_begins old written at name w h e =
-    let labels = name_labels name w e in
+is_kept_longer : (names more : List ℕ) (n : Noted) → IsKept names n → IsKept (names ++ more) n
+is_kept_longer names more n h =
+    let fits = h.fits in
+    let reach = h.reach in
+    record {
+      fits = omega (arith, length-append names more);
+      wire = subst (λ (x : List ℕ). IsWire x) (sym (kept_longer names more n h.fits)) h.wire;
+      reach = reach;
+    }
+
+-- A name that is kept behind the others changes nothing of what was noted.
+pub are_kept_longer : (names more : List ℕ) (notes : List Noted) → AreKept names notes → AreKept (names ++ more) notes
+are_kept_longer names more [] h = All-nil (IsKept (names ++ more))
+are_kept_longer names more (n ∷ notes) h =
+    All-cons (IsKept (names ++ more)) n notes (is_kept_longer names more n (All-head (IsKept names) n notes h)) (are_kept_longer names more notes (All-tail (IsKept names) n notes h))
+
+pub notes_longer : (names more : List ℕ) (notes : List Noted) → AreKept names notes → notes_of (names ++ more) notes ≡ notes_of names notes
+notes_longer names more [] h = refl
+notes_longer names more (n ∷ notes) h =
+    let first = All-head (IsKept names) n notes h in
+    let here : note_of (names ++ more) n ≡ note_of names n = ap (λ x. record { suffix = labels_of x; place = n.place }) (kept_longer names more n first.fits) in
+    λ i. here i ∷ notes_longer names more notes (All-tail (IsKept names) n notes h) i
+
+-- The labels of the last name that are yet to be noted, and the notes so far.
+pub record Noting (names : List ℕ) (old now : List Noted) (start written at i place : ℕ) (rest : List ℕ) : Type 0 where
+  pub form : IsWire rest
+  pub within : length rest ≤ length names
+  pub last : drop (length names - length rest) names ≡ rest
+  pub kept : AreKept names now
+  pub so_far : notes_of names now ++ first_notes (written - i) place (labels_of rest) ≡ notes_of names old ++ first_notes written at (labels_of (drop start names))
+
+pub noting_begins : (names : List ℕ) (old : List Noted) (start written at : ℕ) (rest : List ℕ) → start ≤ length names → IsWire (drop start names) → AreKept names old
+    → rest ≡ drop start names → Noting names old old start written at 0 at rest
+noting_begins names old start written at rest h w k e =
+    let size : length rest + start ≡ length names = omega (arith, ap length e, length-drop start names) in
+    let from : length names - length rest ≡ start = omega arith in
     let n : written - 0 ≡ written = omega arith in
-    record { form = name_is_wire name w h e; so_far = λ i. old ++ first_notes (n i) at (labels i) }
+    record {
+      form = subst (λ (x : List ℕ). IsWire x) (sym e) w;
+      within = omega arith;
+      last = ap (λ m. drop m names) from ∙ sym e;
+      kept = k;
+      so_far = λ i. notes_of names old ++ first_notes (n i) at (labels_of (e i));
+    }
 
 first_root : (k at : ℕ) → first_notes k at root ≡ []
 first_root zero at = refl
@@ -179,39 +235,81 @@ first_near k at l (m ∷ ls) h near =
     let b : nat_lt at 16384 ≡ true = grind (arith, nat_tests) in
     noted_by at (l ∷ m ∷ ls) (first_notes k (at + 1 + length l) (m ∷ ls)) true b
 
+pub first_none : (at : ℕ) (name : List (List ℕ)) → first_notes 0 at name ≡ []
+first_none at name = refl
+
+pub first_out : (k at : ℕ) (name : List (List ℕ)) → 16384 ≤ at → first_notes k at name ≡ []
+first_out zero at name h = refl
+first_out (suc k) at [] h = refl
+first_out (suc k) at (l ∷ ls) h = first_far (suc k) at l ls h
+
 -- Nothing more is noted.
-pub noting_ends : (old now : List Note) (written at i place : ℕ) (name : List (List ℕ)) (rest : List ℕ) → Noting old now written at i place name rest
-    → labels_of rest ≡ root → now ≡ old ++ first_notes written at name
-noting_ends old now written at i place name rest h e =
-    let none : first_notes (written - i) place (labels_of rest) ≡ [] = ap (first_notes (written - i) place) e ∙ first_root (written - i) place in
-    sym (append-nil now) ∙ (sym (ap (λ x. now ++ x) none) ∙ h.so_far)
+noting_done : (names : List ℕ) (old now : List Noted) (start written at i place : ℕ) (rest : List ℕ) → Noting names old now start written at i place rest
+    → first_notes (written - i) place (labels_of rest) ≡ [] → notes_of names now ≡ notes_of names old ++ first_notes written at (labels_of (drop start names))
+noting_done names old now start written at i place rest h none =
+    sym (append-nil (notes_of names now)) ∙ (sym (ap (λ x. notes_of names now ++ x) none) ∙ h.so_far)
 
-pub noting_far : (old now : List Note) (written at i place : ℕ) (name : List (List ℕ)) (rest label after : List ℕ) → Noting old now written at i place name rest
-    → IsSplit rest label after → 16384 ≤ place → now ≡ old ++ first_notes written at name
-noting_far old now written at i place name rest label after h s far =
-    let none : first_notes (written - i) place (labels_of rest) ≡ [] = ap (first_notes (written - i) place) s.labels ∙ first_far (written - i) place label (labels_of after) far in
-    sym (append-nil now) ∙ (sym (ap (λ x. now ++ x) none) ∙ h.so_far)
+pub noting_ends : (names : List ℕ) (old now : List Noted) (start written at i place : ℕ) (rest : List ℕ) → Noting names old now start written at i place rest
+    → labels_of rest ≡ root → notes_of names now ≡ notes_of names old ++ first_notes written at (labels_of (drop start names))
+noting_ends names old now start written at i place rest h e =
+    noting_done names old now start written at i place rest h (ap (first_notes (written - i) place) e ∙ first_root (written - i) place)
 
-pub noting_all : (old now : List Note) (written at i place : ℕ) (name : List (List ℕ)) (rest : List ℕ) → Noting old now written at i place name rest
-    → written ≤ i → now ≡ old ++ first_notes written at name
-noting_all old now written at i place name rest h e =
+pub noting_far : (names : List ℕ) (old now : List Noted) (start written at i place : ℕ) (rest label after : List ℕ) → Noting names old now start written at i place rest
+    → IsSplit rest label after → 16384 ≤ place → notes_of names now ≡ notes_of names old ++ first_notes written at (labels_of (drop start names))
+noting_far names old now start written at i place rest label after h s far =
+    noting_done names old now start written at i place rest h (ap (first_notes (written - i) place) s.labels ∙ first_far (written - i) place label (labels_of after) far)
+
+pub noting_all : (names : List ℕ) (old now : List Noted) (start written at i place : ℕ) (rest : List ℕ) → Noting names old now start written at i place rest
+    → written ≤ i → notes_of names now ≡ notes_of names old ++ first_notes written at (labels_of (drop start names))
+noting_all names old now start written at i place rest h e =
     let n : written - i ≡ 0 = omega arith in
-    sym (append-nil now) ∙ (sym (ap (λ k. now ++ first_notes k place (labels_of rest)) n) ∙ h.so_far)
+    noting_done names old now start written at i place rest h (ap (λ k. first_notes k place (labels_of rest)) n)
 
-pub noting_on : (old now new : List Note) (written at i place : ℕ) (name : List (List ℕ)) (rest label after : List ℕ) → Noting old now written at i place name rest
-    → IsSplit rest label after → place < 16384 → i < written → new ≡ now ++ record { suffix = labels_of rest; place = place } ∷ []
-    → Noting old new written at (i + 1) (place + (1 + length label)) name after
-noting_on old now new written at i place name rest label after h s near less put =
+behind : (rest label after : List ℕ) → IsSplit rest label after → drop (suc (length label)) rest ≡ after
+behind rest label after s = ap (drop (suc (length label))) s.bytes ∙ drop-append_seam label after
+
+-- The end of the names that an entry of this size from this start on holds.
+kept_last : (names rest : List ℕ) (n : Noted) → drop (length names - length rest) names ≡ rest → n.start ≡ length names - length rest → n.size ≡ length rest
+    → kept_bytes names n ≡ rest
+kept_last names rest n last s z = (λ i. take (z i) (drop (s i) names)) ∙ (ap (take (length rest)) last ∙ take-length rest)
+
+pub noting_on : (names : List ℕ) (old now new : List Noted) (start written at i place : ℕ) (rest label after : List ℕ) (n : Noted) → Noting names old now start written at i place rest
+    → IsSplit rest label after → place < 16384 → i < written → new ≡ now ++ n ∷ [] → n.start ≡ length names - length rest → n.size ≡ length rest → n.place ≡ place
+    → Noting names old new start written at (i + 1) (place + (1 + length label)) after
+noting_on names old now new start written at i place rest label after n h s near less put starts size placed =
     let left : written - i ≡ suc (written - (i + 1)) = omega arith in
     let form = s.wire in
+    let within = h.within in
+    let bytes = s.size in
     let next : place + 1 + length label ≡ place + (1 + length label) = omega arith in
+    let kept : kept_bytes names n ≡ rest = kept_last names rest n h.last starts size in
+    let is : IsKept names n = record { fits = omega arith; wire = subst (λ (x : List ℕ). IsWire x) (sym kept) h.form; reach = omega arith } in
     let note : Note = record { suffix = label ∷ labels_of after; place = place } in
     let later = first_notes (written - (i + 1)) (place + (1 + length label)) (labels_of after) in
     let step : first_notes (written - i) place (labels_of rest) ≡ note ∷ later =
     (λ j. first_notes (left j) place (s.labels j)) ∙ (first_near (written - (i + 1)) place label (labels_of after) form.labels near
     ∙ ap (λ n. note ∷ first_notes (written - (i + 1)) n (labels_of after)) next) in
-    let new_is : new ≡ now ++ note ∷ [] = put ∙ ap (λ x. now ++ record { suffix = x; place = place } ∷ []) s.labels in
+    let same : note_of names n ≡ note = λ j. record { suffix = (ap labels_of kept ∙ s.labels) j; place = placed j } in
+    let new_is : notes_of names new ≡ notes_of names now ++ note ∷ [] =
+    ap (notes_of names) put ∙ (map-append (note_of names) now (n ∷ []) ∙ ap (λ x. notes_of names now ++ x ∷ []) same) in
+    let from : length names - length after ≡ (length names - length rest) + suc (length label) = omega arith in
     record {
       form = form;
-      so_far = ap (λ x. x ++ later) new_is ∙ (append_assoc now (note ∷ []) later ∙ (sym (ap (λ x. now ++ x) step) ∙ h.so_far));
+      within = omega arith;
+      last = ap (λ m. drop m names) from ∙ (sym (drop-drop (suc (length label)) (length names - length rest) names) ∙ (ap (drop (suc (length label))) h.last ∙ behind rest label after s));
+      kept = All-same (IsKept names) new (now ++ n ∷ []) put (All-append (IsKept names) now (n ∷ []) h.kept (All-cons (IsKept names) n [] is (All-nil (IsKept names))));
+      so_far = ap (λ x. x ++ later) new_is ∙ (append_assoc (notes_of names now) (note ∷ []) later ∙ (sym (ap (λ x. notes_of names now ++ x) step) ∙ h.so_far));
     }
+
+-- The last name that is kept, from its start on.
+pub last_name : (old names w : List ℕ) (start : ℕ) → names ≡ old ++ w → start ≡ length old → drop start names ≡ w
+last_name old names w start e s = (λ i. drop (s i) (e i)) ∙ drop-append_seam old w
+
+-- The notes of the last name, behind those that there were.
+pub noted_behind : (before names w : List ℕ) (old new : List Noted) (was : List Note) (start written at : ℕ) (name : List (List ℕ)) → names ≡ before ++ w → w ≡ wire name
+    → start ≡ length before → AreKept before old → notes_of before old ≡ was → notes_of names new ≡ notes_of names old ++ first_notes written at (labels_of (drop start names))
+    → notes_of names new ≡ was ++ first_notes written at name
+noted_behind before names w old new was start written at name e form s kept view is =
+    let same : notes_of names old ≡ was = ap (λ x. notes_of x old) e ∙ (notes_longer before w old kept ∙ view) in
+    let last : labels_of (drop start names) ≡ name = ap labels_of (last_name before names w start e s) ∙ name_labels name w form in
+    is ∙ (λ i. same i ++ first_notes written at (last i))

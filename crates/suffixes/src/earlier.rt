@@ -1,7 +1,8 @@
-ghost use Rattle.std.specs.Prelude.{◌≡◌, ℕ, ◌<◌, ◌++◌, [], ◌∷◌, length, IfSome, OnOk, OnErr};
+ghost use Rattle.std.specs.Prelude.{◌≡◌, ℕ, ◌<◌, ◌≤◌, ◌++◌, [], ◌∷◌, length, drop, IfSome, OnOk};
 ghost use Rattle.dname.specs.Labels.{wire};
 ghost use Rattle.dname.specs.Wire.{labels_of, IsWire};
 ghost use Rattle.layout.specs.Packing.{find};
+ghost use Rattle.suffixes.specs.Kept.{note_of, notes_of, IsKept, AreKept};
 ghost use Rattle.suffixes.specs.Longest.{longest, first_notes};
 
 use crate::walk::next;
@@ -22,54 +23,84 @@ pub struct Found {
     pub place: u16,
 }
 
-// A suffix in wire form, never the root, and where it was written.
-#[derive(Drop)]
-pub struct Noted<A: Allocator = Global> {
-    suffix: Vec<u8, A>,
+// A suffix, never the root: its bytes among those of the names, and where it was written.
+#[derive(Clone, Copy)]
+pub struct Noted {
+    start: usize,
+    size: usize,
     place: u16,
-}
-
-impl<A: Allocator> Model for Noted<A> {
-    ghost use Rattle.std.specs.Prelude.{◌<◌};
-    ghost use Rattle.dname.specs.Wire.{labels_of, IsWire};
-    ghost use Rattle.layout.specs.Packing.{Note};
-
-    ghost Value = { Note };
-
-    ghost view = { λ n. record { suffix = labels_of n.suffix.items; place = n.place } };
-
-    ghost invariant = { λ n. IsWire n.suffix.items × (n.place < 16384) };
 }
 
 /// The suffixes of the names that a message has so far. Contracts see them with their places, in the order
 /// in which they were written.
 #[derive(Drop)]
 pub struct Suffixes<A: Allocator = Global> {
-    notes: Vec<Noted<A>, A>,
+    // The names in wire form, one behind the other: the suffixes of a name are ends of it and share its bytes.
+    names: Vec<u8, A>,
+    notes: Vec<Noted, A>,
 }
 
 impl<A: Allocator> Model for Suffixes<A> {
     ghost use Rattle.std.specs.Prelude.{List};
     ghost use Rattle.layout.specs.Packing.{Note};
+    ghost use Rattle.suffixes.specs.Kept.{notes_of, AreKept};
 
     ghost Value = { List Note };
 
-    ghost view = { λ s. s.notes.items };
+    ghost view = { λ s. notes_of s.names.items s.notes.items };
+
+    ghost invariant = { λ s. AreKept s.names.items s.notes.items };
 }
 
-impl<A: Allocator> Noted<A> {
+impl Noted {
     // Its place, where it has this suffix.
-    fn place_of(&self, suffix: &[u8]) -> Option<u16>
-        requires { IsWire suffix.now }
-        ensures is { result ≡ find (self.now ∷ []) (labels_of suffix.now) }
+    fn place_of(&self, names: &[u8], suffix: &[u8]) -> Option<u16>
+        requires kept { IsKept names.now self.now }
+        requires wire { IsWire suffix.now }
+        ensures is { result ≡ find (note_of names.now self.now ∷ []) (labels_of suffix.now) }
         ensures reach { IfSome result (λ place. place < 16384) }
     {
-        if self.suffix.as_slice() == suffix {
+        if self.size == suffix.len() && &names[self.start..self.start + self.size] == suffix {
             Some(self.place)
         } else {
             None
         }
     }
+}
+
+// Notes the suffixes that begin with the first `written` labels of the name in wire form that is kept from
+// `start` on and stands at `at`, each with the place of its first label, as far as a pointer can reach.
+fn note_labels<A: Allocator>(
+    notes: &mut Vec<Noted, A>,
+    names: &[u8],
+    start: usize,
+    written: usize,
+    at: usize,
+) -> Result<(), Starved>
+    requires starts { start ≤ length names.now }
+    requires wire { IsWire (drop start names.now) }
+    requires kept { AreKept names.now notes.old.items }
+    ensures kept { AreKept names.now notes.new.items }
+    ensures ok { OnOk result (notes_of names.now notes.new.items ≡ notes_of names.now notes.old.items ++ first_notes written at (labels_of (drop start names.now))) }
+{
+    let (_, mut rest) = names.split_at(start);
+    let mut place = at;
+    for _ in 0..written {
+        let Some((label, after)) = next(rest) else {
+            return Ok(());
+        };
+        if place >= POINTER_LIMIT {
+            return Ok(());
+        }
+        notes.push(Noted {
+            start: names.len() - rest.len(),
+            size: rest.len(),
+            place: place as u16,
+        })?;
+        place += 1 + label.len();
+        rest = after;
+    }
+    Ok(())
 }
 
 impl<A: Heap> Suffixes<A> {
@@ -78,19 +109,9 @@ impl<A: Heap> Suffixes<A> {
         ensures { result ≡ [] }
     {
         Suffixes {
+            names: Vec::new(alloc),
             notes: Vec::new(alloc),
         }
-    }
-
-    fn put(&mut self, suffix: &[u8], place: u16) -> Result<(), Starved>
-        requires wire { IsWire suffix.now }
-        requires reach { place < 16384 }
-        ensures ok { OnOk result (self.new ≡ self.old ++ record { suffix = labels_of suffix.now; place = place } ∷ []) }
-        ensures err { OnErr result (self.new ≡ self.old) }
-    {
-        let suffix = Vec::from_slice(*self.notes.allocator(), suffix)?;
-        self.notes.push(Noted { suffix, place })?;
-        Ok(())
     }
 
     /// Notes the suffixes that begin with the first `written` labels of a name that stands at `at`, each
@@ -99,20 +120,13 @@ impl<A: Heap> Suffixes<A> {
     pub fn note(&mut self, name: &Name<A>, written: usize, at: usize) -> Result<(), Starved>
         ensures { OnOk result (self.new ≡ self.old ++ first_notes written at name.now) }
     {
-        name.is_well_formed();
-        let mut rest = name.wire();
-        let mut place = at;
-        for _ in 0..written {
-            let Some((label, after)) = next(rest) else {
-                return Ok(());
-            };
-            if place >= POINTER_LIMIT {
-                return Ok(());
-            }
-            self.put(rest, place as u16)?;
-            place += 1 + label.len();
-            rest = after;
+        if written == 0 || at >= POINTER_LIMIT {
+            return Ok(());
         }
+        name.is_well_formed();
+        let start = self.names.len();
+        self.names.extend_from_slice(name.wire())?;
+        note_labels(&mut self.notes, &self.names, start, written, at)?;
         Ok(())
     }
 }
@@ -125,7 +139,7 @@ impl<A: Allocator> Suffixes<A> {
         ensures reach { IfSome result (λ place. place < 16384) }
     {
         for note in &self.notes {
-            if let Some(place) = note.place_of(suffix) {
+            if let Some(place) = note.place_of(&self.names, suffix) {
                 return Some(place);
             }
         }

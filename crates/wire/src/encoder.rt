@@ -31,7 +31,7 @@ pub fn encode<A: Heap>(alloc: A, m: &Message<A>, limit: usize) -> Result<Vec<u8,
     ensures ok { IfOk result (λ v. (v.items ≡ encoding m.now) × (length (encoding m.now) ≤ limit)) }
     ensures err { IfErr result (λ e. RefusesText e (encoding m.now) limit) }
 {
-    let mut writer = Writer::new(alloc);
+    let mut writer = Writer::new(alloc)?;
     writer.put_header(
         m.header,
         Tally {
@@ -87,7 +87,7 @@ pub fn encode_draft<A: Heap>(
     ensures ok { let m = drafted draft.now.header (asked_by (λ s. s.now) draft.now.question) draft.now.first.now draft.now.second.now draft.now.authority.now draft.now.additional.now in IfOk result (λ v. (v.items ≡ encoding m) × (length (encoding m) ≤ limit)) }
     ensures err { let m = drafted draft.now.header (asked_by (λ s. s.now) draft.now.question) draft.now.first.now draft.now.second.now draft.now.authority.now draft.now.additional.now in IfErr result (λ e. RefusesText e (encoding m) limit) }
 {
-    let mut writer = Writer::new(alloc);
+    let mut writer = Writer::new(alloc)?;
     writer.put_header(
         draft.header,
         Tally {

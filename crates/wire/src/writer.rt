@@ -19,6 +19,9 @@ use std::alloc::{Allocator, Global};
 use std::marker::Model;
 use suffixes::Suffixes;
 
+// Bytes of a message over UDP at most (RFC 1035, section 4.2.1): one growth serves a message up to them.
+const COMMON_SIZE: usize = 512;
+
 // How many questions and records a header announces.
 #[derive(Clone, Copy)]
 pub struct Tally {
@@ -52,14 +55,14 @@ fn pointer_to(place: u16) -> [u8; 2]
 }
 
 impl<A: Heap> Writer<A> {
-    // Nothing written yet; takes no memory.
-    pub fn new(alloc: A) -> Writer<A>
-        ensures { result ≡ empty }
+    // Nothing written yet, with room for most messages.
+    pub fn new(alloc: A) -> Result<Writer<A>, Starved>
+        ensures { IfOk result (λ w. w ≡ empty) }
     {
-        Writer {
-            bytes: Vec::new(alloc),
+        Ok(Writer {
+            bytes: Vec::with_capacity(alloc, COMMON_SIZE)?,
             names: Suffixes::new(alloc),
-        }
+        })
     }
 
     #[tactic(auto, using(crate::proofs::Writing::plain_put))]

@@ -1,4 +1,4 @@
-use Rattle.std.proofs.Common.{◌≡◌, ℕ, List, length}
+use Rattle.std.proofs.Common.{◌≡◌, ◌++◌, ℕ, List, length}
 use Rattle.dname.specs.Labels.{wire, is_under}
 use Rattle.dname.specs.Wire.{labels_of, IsWire}
 use Rattle.dname.proofs.walk.tail.Given as goal
@@ -6,6 +6,7 @@ use Rattle.dname.proofs.walk.tail.Given as goal
 abbrev pub invariant-loop-after : goal.invariant-loop-after
 invariant-loop-after l = record {
   form : IsWire l.rest;
+  end : (front : List ℕ) × (l.initial.rest ≡ front ++ l.rest);
   under : (n : List (List ℕ)) → length (wire n) ≡ l.size → is_under (labels_of l.initial.rest) n ≡ is_under (labels_of l.rest) n;
 }
 

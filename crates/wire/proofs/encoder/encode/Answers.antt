@@ -8,8 +8,8 @@ use Rattle.wire.proofs.encoder.encode.Goals as goal
 pub returns-clause-ok : goal.returns-clause-ok
 returns-clause-ok g c =
     let text = message_text (record { header = c.m.inside.header; questions = c.m.inside.questions; answer = c.m.inside.answer; authority = c.m.inside.authority; additional = c.m.inside.additional })
-    c.new-writer.result c.put_header.new.self c.put_questions.new.self c.put_records.new.self c.put_records-2.new.self c.put_records-3.new.self
-    c.len.result c.len-2.result c.len-3.result c.len-4.result c.new-writer.ensures c.in_ok-put_header.ensures c.len.ensures c.len-2.ensures c.len-3.ensures c.len-4.ensures
+    c.in_ok-writer.writer c.put_header.new.self c.put_questions.new.self c.put_records.new.self c.put_records-2.new.self c.put_records-3.new.self
+    c.len.result c.len-2.result c.len-3.result c.len-4.result c.in_ok-writer.ensures c.in_ok-put_header.ensures c.len.ensures c.len-2.ensures c.len-3.ensures c.len-4.ensures
     (c.in_ok-put_questions.ensures ∙ ap (λ x. after c.put_header.new.self (flat_map question_pieces x)) c.as_slice.ensures)
     (c.in_ok-put_records.ensures ∙ ap (λ x. after c.put_questions.new.self (flat_map record_pieces x)) c.as_slice-2.ensures)
     (c.in_ok-put_records-2.ensures ∙ ap (λ x. after c.put_records.new.self (flat_map record_pieces x)) c.as_slice-3.ensures)
@@ -20,8 +20,8 @@ returns-clause-ok g c =
 pub returns-clause-err : goal.returns-clause-err
 returns-clause-err g c =
     let text = message_text (record { header = c.m.inside.header; questions = c.m.inside.questions; answer = c.m.inside.answer; authority = c.m.inside.authority; additional = c.m.inside.additional })
-    c.new-writer.result c.put_header.new.self c.put_questions.new.self c.put_records.new.self c.put_records-2.new.self c.put_records-3.new.self
-    c.len.result c.len-2.result c.len-3.result c.len-4.result c.new-writer.ensures c.in_ok-put_header.ensures c.len.ensures c.len-2.ensures c.len-3.ensures c.len-4.ensures
+    c.in_ok-writer.writer c.put_header.new.self c.put_questions.new.self c.put_records.new.self c.put_records-2.new.self c.put_records-3.new.self
+    c.len.result c.len-2.result c.len-3.result c.len-4.result c.in_ok-writer.ensures c.in_ok-put_header.ensures c.len.ensures c.len-2.ensures c.len-3.ensures c.len-4.ensures
     (c.in_ok-put_questions.ensures ∙ ap (λ x. after c.put_header.new.self (flat_map question_pieces x)) c.as_slice.ensures)
     (c.in_ok-put_records.ensures ∙ ap (λ x. after c.put_questions.new.self (flat_map record_pieces x)) c.as_slice-2.ensures)
     (c.in_ok-put_records-2.ensures ∙ ap (λ x. after c.put_records.new.self (flat_map record_pieces x)) c.as_slice-3.ensures)

@@ -1,9 +1,15 @@
-use Rattle.suffixes.proofs.Steps.{noting_begins, noting_on}
+use Rattle.std.proofs.Common.{◌≡◌, ◌++◌, ◌∙◌, length, rules}
+use Rattle.suffixes.proofs.Steps.{last_name, name_is_wire, noted_behind}
 use Rattle.suffixes.proofs.earlier.Suffixes.note.Goals as goal
 
-pub loop-init : goal.loop-init
-loop-init g c = noting_begins c.args.self.now c.args.written c.args.at c.args.name.now c.wire-rest.result.now c.is_well_formed.ensures c.wire-rest.ensures
+pub note_labels-requires-clause-wire : goal.note_labels-requires-clause-wire
+note_labels-requires-clause-wire g c =
+    let names : c.deref.result.now ≡ c.self.inside.names.items ++ c.wire.result.now = c.deref.ensures.value ∙ c.in_ok-extend_from_slice.ensures.items in
+    let start : c.len-start.result ≡ length c.self.inside.names.items = search rules in
+    name_is_wire c.args.name.now _ c.is_well_formed.ensures (last_name c.self.inside.names.items _ _ _ names start ∙ c.wire.ensures)
 
-pub loop-preserved : goal.loop-preserved
-loop-preserved g c = noting_on c.args.self.now c.loop.self c.put.new.self c.args.written c.args.at c.loop.counter c.loop.place c.args.name.now c.loop.rest.now
-    c.in-Some.label.now c.in-Some.after.now c.loop.invariant c.in-Some.ensures c.if-place-ge-POINTER_LIMIT.false c.loop-test.true c.in_ok-put.ensures.ok
+pub returns : goal.returns
+returns g c =
+    let names : c.deref.result.now ≡ c.self.inside.names.items ++ c.wire.result.now = c.deref.ensures.value ∙ c.in_ok-extend_from_slice.ensures.items in
+    let start : c.len-start.result ≡ length c.self.inside.names.items = search rules in
+    rw (← c.deref.ensures.value) (noted_behind c.self.inside.names.items _ c.wire.result.now _ _ _ _ _ _ _ names c.wire.ensures start c.self.invariant c.self.view_is c.in_ok-note_labels.ensures.ok)
