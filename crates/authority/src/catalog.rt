@@ -146,6 +146,14 @@ impl<A: Heap> Catalog<A> {
         Ok(Catalog { zones })
     }
 
+    /// Its zones, as they were given: no two have one origin.
+    pub fn zones(&self) -> &[Zone<A>]
+        ensures value { result.now ≡ self.now }
+        ensures apart { has_twins self.now ≡ false }
+    {
+        &self.zones
+    }
+
     /// What the zone with the longest origin over the name says of it (RFC 1034, section 4.3.2).
     pub fn look(&self, alloc: A, name: &Name<A>, kind: RType) -> Result<Local<A>, Starved>
         ensures value { IfOk result (λ l. local_view l ≡ looked self.now name.now (type_number kind)) }

@@ -1,0 +1,4 @@
+pub mod Decided
+pub mod Members
+pub mod Refused
+pub mod Worlds

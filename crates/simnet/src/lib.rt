@@ -1,0 +1,15 @@
+//! Worlds of zones, servers and hints that stand in for the network (RFC 1034, sections 2.4 and 4.2).
+#![tactic(auto)]
+
+mod fault;
+mod rules;
+mod servers;
+mod world;
+
+pub use fault::WorldError;
+pub use world::{Host, World};
+
+#[cfg(test)]
+mod fixtures;
+#[cfg(test)]
+mod tests;

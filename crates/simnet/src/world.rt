@@ -1,0 +1,117 @@
+ghost use Rattle.std.specs.Prelude.{◌≡◌, MatchResult};
+ghost use Rattle.dname.specs.Labels.{root};
+ghost use Rattle.truth.specs.Worlds.{IsWorld};
+ghost use Rattle.simnet.specs.Kept.{world_with};
+ghost use Rattle.simnet.specs.Refusals.{IsRefused};
+
+use crate::fault::WorldError;
+use crate::rules::{has_loose_cuts, has_origin, has_undelegated, zones_keep_rules};
+use crate::servers::{has_bad_hint, has_idle_host, has_lame_cuts, lacks_start};
+use authority::{Catalog, CatalogError};
+use dname::{Heap, Name};
+use rdata::Addr;
+use std::alloc::{Allocator, Global};
+use std::marker::Model;
+use zone::Zone;
+
+/// A server: its address, and the origins of the zones that it serves. A world may have several of one
+/// address, which then serve together.
+#[derive(Drop)]
+pub struct Host<A: Allocator = Global> {
+    pub address: Addr,
+    pub origins: Vec<Name<A>, A>,
+}
+
+impl<A: Allocator> Model for Host<A> {
+    ghost use Rattle.truth.specs.Worlds.{Host};
+    ghost use Rattle.simnet.specs.Kept.{host_with};
+
+    ghost Value = { Host };
+
+    ghost view = { λ h. host_with h.address.0 h.origins.items };
+}
+
+/// A well formed world (RFC 1034, sections 4.2 and 5.3.2): it keeps all rules of `WorldError`. Contracts
+/// see its zones, servers, local names and hints.
+#[derive(Drop)]
+pub struct World<A: Allocator = Global> {
+    catalog: Catalog<A>,
+    hosts: Vec<Host<A>, A>,
+    hints: Vec<Addr, A>,
+    locals: Vec<Name<A>, A>,
+}
+
+impl<A: Allocator> Model for World<A> {
+    ghost use Rattle.truth.specs.Worlds.{World, IsWorld};
+    ghost use Rattle.simnet.specs.Kept.{world_with};
+
+    ghost Value = { World };
+
+    ghost view = { λ w. world_with w.catalog w.hosts.items w.hints.items w.locals.items };
+
+    ghost invariant = { λ w. IsWorld (world_with w.catalog w.hosts.items w.hints.items w.locals.items) };
+}
+
+// The rules after that of different origins, in their order.
+fn check_rules<A: Heap>(
+    catalog: &Catalog<A>,
+    hosts: &[Host<A>],
+    hints: &[Addr],
+    locals: &[Name<A>],
+    top: &Name<A>,
+) -> Result<(), WorldError>
+    requires { top.now ≡ root }
+    ensures { MatchResult result (λ _. IsWorld (world_with catalog.now hosts.now hints.now locals.now)) (λ e. IsRefused (world_with catalog.now hosts.now hints.now locals.now) e) }
+{
+    let zones = catalog.zones();
+    zones_keep_rules(zones);
+    if !has_origin(zones, top) {
+        return Err(WorldError::NoRoot);
+    }
+    if has_loose_cuts(zones, zones) {
+        return Err(WorldError::LooseCut);
+    }
+    if has_undelegated(zones, zones, locals, top) {
+        return Err(WorldError::Undelegated);
+    }
+    if has_idle_host(hosts, zones) {
+        return Err(WorldError::Lame);
+    }
+    if has_lame_cuts(catalog, zones, hosts)? {
+        return Err(WorldError::Lame);
+    }
+    if has_bad_hint(hints, hosts, top) {
+        return Err(WorldError::NoStart);
+    }
+    if lacks_start(hints, locals, top) {
+        return Err(WorldError::NoStart);
+    }
+    Ok(())
+}
+
+impl<A: Heap> World<A> {
+    /// The world of these zones, servers, hints and local names. Refused where it breaks a rule, by the first
+    /// in the order 7, 1, 2, 3, 4, 5, or where a growth is refused.
+    pub fn check(
+        zones: Vec<Zone<A>, A>,
+        hosts: Vec<Host<A>, A>,
+        hints: Vec<Addr, A>,
+        locals: Vec<Name<A>, A>,
+    ) -> Result<World<A>, WorldError>
+        ensures { MatchResult result (λ w. (w ≡ world_with zones.items hosts.items hints.items locals.items) × IsWorld (world_with zones.items hosts.items hints.items locals.items)) (λ e. IsRefused (world_with zones.items hosts.items hints.items locals.items) e) }
+    {
+        let top = Name::root(*zones.allocator())?;
+        let catalog = match Catalog::new(zones) {
+            Ok(catalog) => catalog,
+            Err(CatalogError::Twins) => return Err(WorldError::Twins),
+            Err(CatalogError::Memory) => return Err(WorldError::Memory),
+        };
+        check_rules(&catalog, &hosts, &hints, &locals, &top)?;
+        Ok(World {
+            catalog,
+            hosts,
+            hints,
+            locals,
+        })
+    }
+}
