@@ -77,6 +77,6 @@ impl From<NameError> for LineKind {
 /// The first line of a text that is refused, counted from 1, and what is wrong with it.
 #[derive(Clone, Copy, Debug, PartialEq, Eq)]
 pub struct LineError {
-    pub line: usize,
+    pub line: u32,
     pub kind: LineKind,
 }

@@ -1,16 +1,21 @@
 //! Texts in and lines out.
 #![tactic(auto)]
 
+mod build;
 mod fault;
 mod lines;
 mod words;
+mod world_fault;
 mod worlds;
 
 pub use fault::{LineError, LineKind};
 pub use lines::{put_reply, put_reply_bytes};
-pub use worlds::{Block, Server, WorldText, read_world};
+pub use world_fault::WorldFault;
+pub use worlds::{Block, WorldText, read_world};
 
 #[cfg(test)]
 mod tests;
 #[cfg(test)]
 mod world_tests;
+#[cfg(test)]
+mod build_tests;

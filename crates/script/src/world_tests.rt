@@ -8,7 +8,7 @@ const TEXT: &str =
     "; a world\n\nzone .\n. 60 IN SOA r. h. 1 2 3 4 60\n\nend\n\tlocal\tcorp.example \nend\nzone b.\n; c\n end\nend.\nend\nhost 192.0.2.1 . b.\nhint 192.0.2.1\nhost 192.0.2.2 b.\nhost 192.0.2.1 corp.example.";
 
 // Whether the text is refused at this line with this number.
-fn is_refused<A: Heap>(alloc: A, text: &str, line: usize, number: u8) -> bool {
+fn is_refused<A: Heap>(alloc: A, text: &str, line: u32, number: u8) -> bool {
     match read_world(alloc, text) {
         Ok(_) => false,
         Err(error) => error.line == line && error.kind.number() == number,
@@ -19,7 +19,7 @@ fn is_refused<A: Heap>(alloc: A, text: &str, line: usize, number: u8) -> bool {
 fn has_block<A: Heap>(
     world: &WorldText<'_, A>,
     place: usize,
-    line: usize,
+    line: u32,
     is_local: bool,
     text: &[u8],
 ) -> bool {
@@ -31,9 +31,9 @@ fn has_block<A: Heap>(
 
 // Whether the server of this place serves so many zones.
 fn serves<A: Heap>(world: &WorldText<'_, A>, place: usize, count: usize) -> bool {
-    match world.servers.get(place) {
+    match world.hosts.get(place) {
         None => false,
-        Some(server) => server.origins.len() == count,
+        Some(host) => host.origins.len() == count,
     }
 }
 
@@ -56,7 +56,7 @@ fn a_second_line_of_one_server_adds_to_it(rt: HostRuntime) -> Result<(), Fail> {
     match read_world(rt.alloc(), TEXT) {
         Err(_) => assert!(rt; false, "the text is a world's"),
         Ok(world) => {
-            assert_eq!(rt; world.servers.len(), 2);
+            assert_eq!(rt; world.hosts.len(), 2);
             assert!(rt; serves(&world, 0, 3));
             assert!(rt; serves(&world, 1, 1));
             assert_eq!(rt; world.hints.len(), 1);

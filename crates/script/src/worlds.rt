@@ -7,7 +7,9 @@ use crate::fault::{LineError, LineKind};
 use crate::words::{BLANKS, LineWords};
 use dname::{Heap, Name};
 use rdata::Addr;
+use simnet::Host;
 use std::alloc::{Allocator, Global};
+use std::marker::Model;
 
 /// A zone's block in a world text.
 #[derive(Drop)]
@@ -16,23 +18,24 @@ pub struct Block<'t, A: Allocator = Global> {
     /// Whether the resolver itself serves the zone.
     pub is_local: bool,
     /// The line that opens the block, counted from 1.
-    pub line: usize,
+    pub line: u32,
     /// The master file text between that line and the line `end`.
     pub text: &'t [u8],
 }
 
-/// A server and the origins of the zones that it serves.
-#[derive(Drop)]
-pub struct Server<A: Allocator = Global> {
-    pub address: Addr,
-    pub origins: Vec<Name<A>, A>,
+impl<'t, A: Allocator> Model for Block<'t, A> {
+    ghost use Rattle.script.specs.WorldTexts.{Block as Opened};
+
+    ghost Value = { Opened };
+
+    ghost view = { λ b. record { origin = b.origin; is_local = b.is_local; line = b.line; text = b.text.now } };
 }
 
 /// What the lines of a world text say, in their order; the lines of one server are one.
 #[derive(Drop)]
 pub struct WorldText<'t, A: Allocator = Global> {
     pub blocks: Vec<Block<'t, A>, A>,
-    pub servers: Vec<Server<A>, A>,
+    pub hosts: Vec<Host<A>, A>,
     pub hints: Vec<Addr, A>,
 }
 
@@ -41,7 +44,7 @@ pub struct WorldText<'t, A: Allocator = Global> {
 struct Opening<A: Allocator> {
     origin: Name<A>,
     is_local: bool,
-    line: usize,
+    line: u32,
     start: usize,
 }
 
@@ -55,16 +58,18 @@ struct Reader<'t, A: Allocator> {
     world: WorldText<'t, A>,
 }
 
-/// The blocks, servers and hints of a world text. Refused by its first bad line; a block without `end` at the line
+/// The blocks, hosts and hints of a world text. Refused by its first bad line; a block without `end` at the line
 /// that opens it.
 pub fn read_world<'t, A: Heap>(alloc: A, text: &'t str) -> Result<WorldText<'t, A>, LineError> {
     let mut reader = Reader::new(alloc, text);
-    let mut number = 0usize;
+    let mut number = 0u32;
     for line in text.split('\n') {
         number = number.saturating_add(1);
         match reader.take(alloc, number, line) {
             Ok(()) => {}
-            Err(kind) => return Err(LineError { line: number, kind }),
+            Err(kind) => {
+                return Err(LineError { line: number, kind });
+            }
         }
     }
     let Reader { opening, world, .. } = reader;
@@ -86,14 +91,14 @@ impl<'t, A: Heap> Reader<'t, A> {
             opening: None,
             world: WorldText {
                 blocks: Vec::new(alloc),
-                servers: Vec::new(alloc),
+                hosts: Vec::new(alloc),
                 hints: Vec::new(alloc),
             },
         }
     }
 
     // One line more.
-    fn take(&mut self, alloc: A, number: usize, line: &'t str) -> Result<(), LineKind> {
+    fn take(&mut self, alloc: A, number: u32, line: &'t str) -> Result<(), LineKind> {
         self.at = self.next;
         self.next = self.at.saturating_add(line.len()).saturating_add(1);
         if self.opening.is_none() {
@@ -120,7 +125,7 @@ impl<'t, A: Heap> Reader<'t, A> {
     }
 
     // A line outside of blocks.
-    fn statement(&mut self, alloc: A, number: usize, line: &'t str) -> Result<(), LineKind> {
+    fn statement(&mut self, alloc: A, number: u32, line: &'t str) -> Result<(), LineKind> {
         if line.starts_with(';') {
             return Ok(());
         }
@@ -138,7 +143,7 @@ impl<'t, A: Heap> Reader<'t, A> {
     fn open(
         &mut self,
         alloc: A,
-        line: usize,
+        line: u32,
         mut words: LineWords<'t>,
         is_local: bool,
     ) -> Result<(), LineKind> {
@@ -171,13 +176,9 @@ impl<'t, A: Heap> WorldText<'t, A> {
 
     // A second line of one address adds to the first.
     fn add(&mut self, address: Addr, mut origins: Vec<Name<A>, A>) -> Result<(), LineKind> {
-        match self
-            .servers
-            .iter_mut()
-            .find(|server| server.address == address)
-        {
-            Some(server) => server.origins.append(&mut origins)?,
-            None => self.servers.push(Server { address, origins })?,
+        match self.hosts.iter_mut().find(|host| host.address == address) {
+            Some(host) => host.origins.append(&mut origins)?,
+            None => self.hosts.push(Host { address, origins })?,
         }
         Ok(())
     }

@@ -1,0 +1,7 @@
+use Rattle.std.proofs.Common.{◌≡◌, ◌+◌, ◌∷◌, [], ◌++◌, map, IfOk, OnOk, ℕ, ◌-◌, ◌*◌, ◌<◌, ◌≤◌, length, take}
+use Rattle.simnet.specs.Kept.{addresses}
+use Rattle.script.specs.WorldTexts.{IsBuilt, AreBuilt, locals_of}
+use Rattle.script.proofs.build.locals.Given as goal
+
+abbrev pub invariant-loop-block : goal.invariant-loop-block
+invariant-loop-block g l = l.locals.items ≡ locals_of (take l.block-index l.blocks)

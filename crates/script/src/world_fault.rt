@@ -1,0 +1,84 @@
+//! Why a world text stands for no world.
+use crate::fault::{LineError, LineKind};
+use dname::Starved;
+use masterfile::{FileError, FileKind};
+use simnet::WorldError;
+use std::alloc::{AllocError, AllocFailed};
+use std::fmt;
+use zone::ZoneError;
+
+/// Why a world text stands for no world: the first of its lines, its blocks and its rules that is refused.
+#[derive(Clone, Copy, Debug, PartialEq, Eq)]
+pub enum WorldFault {
+    /// A line outside of blocks.
+    Line(LineError),
+    /// A block is no master file: the line in the whole text, and what is wrong there.
+    File(FileError),
+    /// A block is no zone: the line that opens it, and the zone's rule.
+    Zone(u32, ZoneError),
+    /// The zones and servers are no world.
+    World(WorldError),
+    /// A growth was refused.
+    Memory,
+}
+
+impl fmt::Display for WorldFault {
+    fn fmt<W: fmt::Write>(&self, f: &mut fmt::Formatter<W>) -> fmt::Result {
+        match self {
+            WorldFault::Line(error) => write!(f, "line {}: {}", error.line, error.kind),
+            WorldFault::File(error) => {
+                write!(f, "line {}: file {}", error.line, error.kind.number())
+            }
+            WorldFault::Zone(line, error) => write!(f, "line {line}: {error}"),
+            WorldFault::World(error) => write!(f, "{error}"),
+            WorldFault::Memory => write!(f, "out of memory"),
+        }
+    }
+}
+
+impl std::error::Error for WorldFault {}
+
+impl From<LineError> for WorldFault {
+    fn from(error: LineError) -> WorldFault {
+        match error.kind {
+            LineKind::Memory => WorldFault::Memory,
+            _ => WorldFault::Line(error),
+        }
+    }
+}
+
+impl From<FileError> for WorldFault {
+    fn from(error: FileError) -> WorldFault {
+        match error.kind {
+            FileKind::Memory => WorldFault::Memory,
+            _ => WorldFault::File(error),
+        }
+    }
+}
+
+impl From<WorldError> for WorldFault {
+    fn from(error: WorldError) -> WorldFault {
+        match error {
+            WorldError::Memory => WorldFault::Memory,
+            _ => WorldFault::World(error),
+        }
+    }
+}
+
+impl From<Starved> for WorldFault {
+    fn from(_error: Starved) -> WorldFault {
+        WorldFault::Memory
+    }
+}
+
+impl From<AllocError> for WorldFault {
+    fn from(_error: AllocError) -> WorldFault {
+        WorldFault::Memory
+    }
+}
+
+impl<T: Drop> From<AllocFailed<T>> for WorldFault {
+    fn from(_error: AllocFailed<T>) -> WorldFault {
+        WorldFault::Memory
+    }
+}
