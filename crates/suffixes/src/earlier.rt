@@ -1,4 +1,4 @@
-ghost use Rattle.std.specs.Prelude.{◌≡◌, ℕ, ◌<◌, ◌≤◌, ◌++◌, [], ◌∷◌, length, drop, IfSome, OnOk};
+ghost use Rattle.std.specs.Prelude.{◌≡◌, ℕ, ◌<◌, ◌≤◌, ◌++◌, [], ◌∷◌, length, drop, IfOk, IfSome, OnOk};
 ghost use Rattle.dname.specs.Labels.{wire};
 ghost use Rattle.dname.specs.Wire.{labels_of, IsWire};
 ghost use Rattle.layout.specs.Packing.{find};
@@ -12,6 +12,10 @@ use std::marker::Model;
 
 // Places from here on are out of a pointer's reach (RFC 1035, section 4.1.4).
 const POINTER_LIMIT: usize = 16_384;
+
+// Room at first: any one name (RFC 1035, section 2.3.4), and the suffixes of a few names.
+const COMMON_BYTES: usize = 255;
+const COMMON_NOTES: usize = 16;
 
 /// The longest suffix of a name that was written before.
 #[derive(Clone, Copy, Debug)]
@@ -104,14 +108,14 @@ fn note_labels<A: Allocator>(
 }
 
 impl<A: Heap> Suffixes<A> {
-    /// No names yet; takes no memory.
-    pub fn new(alloc: A) -> Suffixes<A>
-        ensures { result ≡ [] }
+    /// No names yet, with room for a few: two growths serve most messages.
+    pub fn new(alloc: A) -> Result<Suffixes<A>, Starved>
+        ensures { IfOk result (λ s. s ≡ []) }
     {
-        Suffixes {
-            names: Vec::new(alloc),
-            notes: Vec::new(alloc),
-        }
+        Ok(Suffixes {
+            names: Vec::with_capacity(alloc, COMMON_BYTES)?,
+            notes: Vec::with_capacity(alloc, COMMON_NOTES)?,
+        })
     }
 
     /// Notes the suffixes that begin with the first `written` labels of a name that stands at `at`, each

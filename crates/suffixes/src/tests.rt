@@ -30,7 +30,7 @@ fn found<A: Heap>(
 // RFC 1035, section 4.1.4: F.ISI.ARPA at 20, FOO.F.ISI.ARPA at 40, ARPA at 64 and the root.
 #[test]
 fn the_example_of_the_standard(rt: HostRuntime) -> Result<(), Fail> {
-    let mut names = Suffixes::new(rt.alloc());
+    let mut names = Suffixes::new(rt.alloc())?;
     assert_eq!(rt; found(&names, rt.alloc(), "F.ISI.ARPA")?, None);
     note(&mut names, rt.alloc(), "F.ISI.ARPA", 3, 20)?;
     assert_eq!(rt;
@@ -47,7 +47,7 @@ fn the_example_of_the_standard(rt: HostRuntime) -> Result<(), Fail> {
 // What was noted of the example: each suffix at the place of its first label, none at 64.
 #[test]
 fn suffixes_of_the_example(rt: HostRuntime) -> Result<(), Fail> {
-    let mut names = Suffixes::new(rt.alloc());
+    let mut names = Suffixes::new(rt.alloc())?;
     for (text, written, at) in [
         ("F.ISI.ARPA", 3, 20),
         ("FOO.F.ISI.ARPA", 1, 40),
@@ -79,7 +79,7 @@ fn places_out_of_reach(rt: HostRuntime) -> Result<(), Fail> {
         (16_382, Some((0, 0, 16_382)), None),
     ];
     for (at, whole, rest) in rows {
-        let mut names = Suffixes::new(rt.alloc());
+        let mut names = Suffixes::new(rt.alloc())?;
         note(&mut names, rt.alloc(), "a.b", 2, at)?;
         assert_eq!(rt; found(&names, rt.alloc(), "a.b")?, whole, "{at}");
         assert_eq!(rt; found(&names, rt.alloc(), "b")?, rest, "{at}");
@@ -90,7 +90,7 @@ fn places_out_of_reach(rt: HostRuntime) -> Result<(), Fail> {
 // A question's name is written in full, so a suffix can stand twice: the first place counts.
 #[test]
 fn the_earliest_among_equals(rt: HostRuntime) -> Result<(), Fail> {
-    let mut names = Suffixes::new(rt.alloc());
+    let mut names = Suffixes::new(rt.alloc())?;
     note(&mut names, rt.alloc(), "a.example", 2, 12)?;
     note(&mut names, rt.alloc(), "b.example", 2, 40)?;
     assert_eq!(rt; found(&names, rt.alloc(), "c.example")?, Some((1, 2, 14)));
@@ -98,7 +98,7 @@ fn the_earliest_among_equals(rt: HostRuntime) -> Result<(), Fail> {
 }
 
 fn example_place<A: Heap>(alloc: A) -> Result<Option<(usize, usize, u16)>, NameError> {
-    let mut names = Suffixes::new(alloc);
+    let mut names = Suffixes::new(alloc)?;
     note(&mut names, alloc, "f.isi.arpa", 3, 20)?;
     note(&mut names, alloc, "foo.f.isi.arpa", 1, 40)?;
     found(&names, alloc, "x.foo.f.isi.arpa")

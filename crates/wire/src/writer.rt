@@ -61,7 +61,7 @@ impl<A: Heap> Writer<A> {
     {
         Ok(Writer {
             bytes: Vec::with_capacity(alloc, COMMON_SIZE)?,
-            names: Suffixes::new(alloc),
+            names: Suffixes::new(alloc)?,
         })
     }
 
