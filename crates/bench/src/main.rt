@@ -8,6 +8,7 @@ mod messages;
 mod names;
 mod resident;
 mod work;
+mod worlds;
 mod zones;
 
 use crate::work::{ALL, Counted, ON_MESSAGES, Work};

@@ -1,7 +1,7 @@
 //! The kinds of work.
 ghost use Rattle.std.specs.Prelude.{◌<◌};
 
-use crate::{links, messages, names, zones};
+use crate::{links, messages, names, worlds, zones};
 use anyhow::Result;
 use dname::Heap;
 use refusing::Refusing;
@@ -33,12 +33,14 @@ pub enum Work {
     LookThousand,
     LookTenThousand,
     LookHundredThousand,
+    /// A zone of a world, of ten records; so many zones are one world.
+    CheckWorld,
     /// A link kept in a cache, each for another name; and found again.
     KeepLink,
     FindLink,
 }
 
-pub const ALL: [Work; 19] = [
+pub const ALL: [Work; 20] = [
     Work::ReadName,
     Work::WriteName,
     Work::HashName,
@@ -56,6 +58,7 @@ pub const ALL: [Work; 19] = [
     Work::LookThousand,
     Work::LookTenThousand,
     Work::LookHundredThousand,
+    Work::CheckWorld,
     Work::KeepLink,
     Work::FindLink,
 ];
@@ -106,6 +109,7 @@ impl fmt::Display for Work {
             Work::LookThousand => "name looked up among 1,000",
             Work::LookTenThousand => "name looked up among 10,000",
             Work::LookHundredThousand => "name looked up among 100,000",
+            Work::CheckWorld => "zone of a world of 1,000 checked",
             Work::KeepLink => "link kept",
             Work::FindLink => "link found",
         })
@@ -125,7 +129,7 @@ impl Work {
             Work::DecodeTwenty | Work::EncodeTwenty => 100_000,
             Work::ReadZone | Work::BuildHundredThousand => 100_000,
             Work::MakeSet | Work::BuildTenThousand | Work::LookThousand => 10_000,
-            Work::BuildThousand | Work::LookTenThousand => 1_000,
+            Work::BuildThousand | Work::LookTenThousand | Work::CheckWorld => 1_000,
             Work::LookHundredThousand => 100,
         }
     }
@@ -140,6 +144,7 @@ impl Work {
             Work::LookThousand => zones::look(rt, 1_000, rounds),
             Work::LookTenThousand => zones::look(rt, 10_000, rounds),
             Work::LookHundredThousand => zones::look(rt, 100_000, rounds),
+            Work::CheckWorld => worlds::check(rt, rounds),
             Work::KeepLink => links::keep(rt, rounds),
             Work::FindLink => links::find(rt, rounds),
             _ => {
