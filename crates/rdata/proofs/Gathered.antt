@@ -1,10 +1,9 @@
 -- A walk that keeps what is new makes the set.
 use Rattle.std.proofs.Common.{◌≡◌, ℕ, ◌+◌, ◌<◌, ◌≤◌, Bool, true, false, ◌&&◌, ◌||◌, not, cond, List, [], ◌∷◌, ◌++◌, length, take, take_all, get_or, map, filter, fold, append-nil, append_assoc, refl, sym, ◌∙◌, ap}
 use Rattle.std.proofs.lemmas.List.{take_more}
-use Rattle.std.proofs.lemmas.Bool.{and_parts, and_from}
-use Rattle.std.specs.List.{list_any}
+use Rattle.std.proofs.lemmas.Bool.{and_parts}
 use Rattle.dname.specs.Labels.{same_name}
-use Rattle.dname.specs.Laws.{same_name-exact, same_name-refl}
+use Rattle.dname.specs.Laws.{same_name-exact}
 use Rattle.rdata.specs.Data.{same_data}
 use Rattle.rdata.specs.Records.{Record}
 use Rattle.rdata.specs.Sets.{is_repeat, once, lowest_ttl, with_ttl, one_set}

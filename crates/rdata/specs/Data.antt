@@ -1,7 +1,7 @@
 -- RDATA of the served types as plain values (RFC 1035, sections 3.3 and 3.4; AAAA: RFC 3596, section 2.2).
-use Rattle.std.specs.Prelude.{◌≡◌, ℕ, ◌<◌, ◌≤◌, Bool, true, false, ◌&&◌, nat_eq, List, [], ◌∷◌, length}
+use Rattle.std.specs.Prelude.{ℕ, Bool, false, ◌&&◌, nat_eq, List}
 use Rattle.std.specs.Cmp.Lexicographic.{pointwise}
-use Rattle.dname.specs.Labels.{Name, same_name}
+use Rattle.dname.specs.Labels.{same_name}
 
 -- What an SOA record says (RFC 1035, section 3.3.13): times in seconds.
 pub record Authority : Type 0 where

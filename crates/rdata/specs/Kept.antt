@@ -1,5 +1,4 @@
 -- RDATA as it is kept, seen as a plain value.
-use Rattle.std.specs.Prelude.{◌≡◌, ℕ, ◌<◌, ◌≤◌, List, [], ◌∷◌, length}
 use Rattle.rdata.specs.Data.{Datum, Ipv4, Ns, Cname, Soa, Ptr, Mx, Txt, Ipv6}
 use Rattle.rdata.specs.declared.data.RData.{RData}
 use Rattle.rdata.specs.declared.data.RData.TheVariants as kept

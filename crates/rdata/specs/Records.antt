@@ -1,7 +1,7 @@
 -- Resource records and their sets as plain values (RFC 1035, section 3.2.1; RFC 2181, section 5).
-use Rattle.std.specs.Prelude.{◌≡◌, ℕ, ◌≤◌, Bool, true, false, ◌&&◌, ◌||◌, cond, nat_eq, min, List, [], ◌∷◌, ◌++◌, map}
+use Rattle.std.specs.Prelude.{ℕ, Bool, ◌&&◌, nat_eq, List}
 use Rattle.dname.specs.Labels.{same_name}
-use Rattle.rdata.specs.Data.{Datum, type_of, same_data}
+use Rattle.rdata.specs.Data.{Datum, type_of}
 
 -- A record: its owner's labels, its time to live in seconds, its data.
 pub record Record : Type 0 where

@@ -1,5 +1,5 @@
 -- The served record types: their numbers (RFC 1035, section 3.2.2; AAAA: RFC 3596, section 2.1) and words.
-use Rattle.std.specs.Prelude.{◌≡◌, ℕ, Bool, ◌||◌, cond, nat_eq, Option, Some, None, List, [], ◌∷◌, codes, map}
+use Rattle.std.specs.Prelude.{ℕ, Bool, ◌||◌, cond, nat_eq, Option, Some, None, List, [], ◌∷◌, codes, map}
 use Rattle.std.specs.Cmp.Lexicographic.{pointwise}
 use Rattle.dname.specs.Labels.{folded}
 use Rattle.rdata.specs.declared.rtype.RType.{RType}

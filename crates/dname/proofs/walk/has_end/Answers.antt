@@ -1,5 +1,4 @@
 use Rattle.dname.proofs.Under.{under_end_size, no_end}
-use Rattle.dname.specs.Labels.{is_under}
 use Rattle.dname.specs.Wire.{labels_of}
 use Rattle.std.proofs.Common.{ap, length}
 use Rattle.dname.proofs.walk.has_end.Goals as goal

@@ -1,4 +1,3 @@
-use Rattle.std.proofs.Common.{arith}
 use Rattle.rdata.proofs.Copies.{copied_more}
 use Rattle.rdata.proofs.records.copies.Goals as goal
 
