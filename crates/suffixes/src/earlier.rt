@@ -13,8 +13,10 @@ use std::marker::Model;
 // Places from here on are out of a pointer's reach (RFC 1035, section 4.1.4).
 const POINTER_LIMIT: usize = 16_384;
 
-// Room at first: any one name (RFC 1035, section 2.3.4), and the suffixes of a few names.
+// Room at first for any one name (RFC 1035, section 2.3.4).
 const COMMON_BYTES: usize = 255;
+
+// Room at first for the suffixes of a few names.
 const COMMON_NOTES: usize = 16;
 
 /// The longest suffix of a name that was written before.
