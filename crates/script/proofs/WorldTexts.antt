@@ -19,7 +19,7 @@ pub built_step : (bs : List Block) (zs new : List Zone) (i : ℕ) (b : Block) (z
     → AreBuilt (take i bs) zs → IsBuilt b z → new ≡ zs ++ z ∷ [] → AreBuilt (take (i + 1) bs) new
 built_step bs zs new i b z lt e old h en =
     subst (λ (l : List Block). AreBuilt l new) (taken bs i b lt e)
-        (subst (λ (n : List Zone). AreBuilt (take i bs ++ b ∷ []) n) (sym en) (built_more (take i bs) zs b z old h))
+    (subst (λ (n : List Zone). AreBuilt (take i bs ++ b ∷ []) n) (sym en) (built_more (take i bs) zs b z old h))
 
 local_head : (t : Bool) (x y : Name) (ns : List Name) → cond t (x ∷ (ns ++ y ∷ [])) (ns ++ y ∷ []) ≡ cond t (x ∷ ns) ns ++ y ∷ []
 local_head true x y ns = refl

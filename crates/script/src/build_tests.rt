@@ -7,7 +7,8 @@ use simnet::WorldError;
 use std::test::Fail;
 use zone::ZoneError;
 
-const ROOT: &str = "zone .\n. 60 IN SOA r. h. 1 2 3 4 60\n. 60 IN NS ns.\nend\nhost 192.0.2.1 .\nhint 192.0.2.1\n";
+const ROOT: &str =
+    "zone .\n. 60 IN SOA r. h. 1 2 3 4 60\n. 60 IN NS ns.\nend\nhost 192.0.2.1 .\nhint 192.0.2.1\n";
 
 fn built<A: Heap>(alloc: A, text: &str) -> Result<(), WorldFault> {
     drop(read_world(alloc, text)?.build(alloc)?);

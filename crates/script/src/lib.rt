@@ -3,8 +3,8 @@
 
 mod build;
 mod fault;
+mod line;
 mod lines;
-mod words;
 mod world_fault;
 mod worlds;
 
@@ -14,8 +14,8 @@ pub use world_fault::WorldFault;
 pub use worlds::{Block, WorldText, read_world};
 
 #[cfg(test)]
+mod build_tests;
+#[cfg(test)]
 mod tests;
 #[cfg(test)]
 mod world_tests;
-#[cfg(test)]
-mod build_tests;

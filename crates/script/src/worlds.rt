@@ -4,7 +4,7 @@
 //! `host ADDRESS ORIGIN ..` names a server and the zones that it serves, `hint ADDRESS` a server of the root. Outside
 //! of blocks, blank lines and lines that begin with `;` are skipped. Words are parted by spaces and tabs.
 use crate::fault::{LineError, LineKind};
-use crate::words::{BLANKS, LineWords};
+use crate::line::{BLANKS, LineWords};
 use dname::{Heap, Name};
 use rdata::Addr;
 use simnet::Host;

@@ -12,7 +12,7 @@ loop-block-preserved g c =
       | then-block+in_ok-clone+in_ok-push w ↦ local_step c.args.blocks.now c.loop-block.locals.items c.if-block.locals.items c.loop-block.block-index
           c.block-item.result c.loop-block-test.true c.block-item.is (ap (λ (b : Block). b.is_local) (sym c.block.view_is) ∙ w.if-block.true) c.loop-block.invariant
           (ap (λ v. v.items) w.locals-is ∙ (w.in_ok-push.ensures.items
-            ∙ ap (λ (n : Name). c.loop-block.locals.items ++ n ∷ []) (w.in_ok-clone.ensures.cases ∙ ap (λ (b : Block). b.origin) c.block.view_is)))
+          ∙ ap (λ (n : Name). c.loop-block.locals.items ++ n ∷ []) (w.in_ok-clone.ensures.cases ∙ ap (λ (b : Block). b.origin) c.block.view_is)))
       | else-block w ↦ remote_step c.args.blocks.now c.loop-block.locals.items c.if-block.locals.items c.loop-block.block-index
           c.block-item.result c.loop-block-test.true c.block-item.is (ap (λ (b : Block). b.is_local) (sym c.block.view_is) ∙ w.if-block.false) c.loop-block.invariant (ap (λ v. v.items) w.locals-is)
     ]

@@ -16,4 +16,4 @@ loop-block-preserved g c =
 pub returns : goal.returns
 returns g c =
     subst (λ (bs : List Block). AreBuilt bs c.loop-block.zones.items)
-        (take_all c.loop-block.block-index c.args.blocks.now c.loop-block-test.false) c.loop-block.invariant
+    (take_all c.loop-block.block-index c.args.blocks.now c.loop-block-test.false) c.loop-block.invariant
