@@ -1,5 +1,5 @@
 -- Replies (RFC 1035, sections 4.1.1 and 4.2.1).
-use Rattle.std.specs.Prelude.{◌≡◌, ℕ, ◌<◌, Bool, true, false, nat_lt, if◌then◌else◌, Option, Some, None, List, [], ◌∷◌, ◌++◌, length}
+use Rattle.std.specs.Prelude.{ℕ, Bool, true, false, nat_lt, if◌then◌else◌, Option, Some, None, List, [], ◌∷◌, ◌++◌, length}
 use Rattle.rdata.specs.Records.{Record}
 use Rattle.layout.specs.Messages.{Header, Question, Message, encoding}
 use Rattle.wire.specs.Drafts.{asked_alone}
@@ -10,7 +10,7 @@ use Rattle.front.specs.declared.queries.Refusal.{Refusal}
 use Rattle.front.specs.declared.queries.Refusal.TheVariants.{FormErr, NotImp}
 use Rattle.front.specs.declared.queries.Query.{Query}
 use Rattle.front.specs.declared.queries.End.{End}
-use Rattle.front.specs.declared.queries.End.TheVariants.{Found, NoData, NxDomain, Outside}
+use Rattle.front.specs.declared.queries.End.TheVariants.{Found, NoData, NxDomain}
 use Rattle.front.specs.declared.queries.Outcome.{Outcome}
 use Rattle.front.specs.declared.queries.Outcome.TheVariants.{Answer, Referral, Refused, Fail}
 use Rattle.front.specs.declared.queries.Via.{Via}

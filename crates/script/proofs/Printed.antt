@@ -1,5 +1,5 @@
 -- Texts one behind the other.
-use Rattle.std.proofs.Common.{◌≡◌, ◌∙◌, sym, ap, subst, ℕ, ◌+◌, ◌<◌, Option, List, [], ◌∷◌, ◌++◌, take, length, get_or, append_assoc, codes, refl}
+use Rattle.std.proofs.Common.{◌≡◌, ◌∙◌, sym, ap, subst, ℕ, ◌+◌, ◌<◌, Option, List, [], ◌∷◌, ◌++◌, take, length, get_or, append_assoc, codes}
 use Rattle.std.specs.List.{flat_map}
 use Rattle.std.proofs.lemmas.List.{take_more, flat_map_more}
 use Rattle.rdata.specs.Records.{Record}

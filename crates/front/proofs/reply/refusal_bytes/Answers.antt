@@ -1,5 +1,5 @@
 -- A refusal has no records.
-use Rattle.std.proofs.Common.{◌≡◌, ◌∙◌, ap, option_copied, false, ℕ}
+use Rattle.std.proofs.Common.{◌∙◌, ap, option_copied, false, ℕ}
 use Rattle.std.proofs.lemmas.Result.{IfOk-weaker}
 use Rattle.layout.specs.Messages.{encoding}
 use Rattle.wire.specs.Drafts.{asked_alone}

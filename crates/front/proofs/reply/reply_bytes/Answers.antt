@@ -1,6 +1,5 @@
 -- The short reply where the whole one does not fit.
-use Rattle.std.proofs.Common.{rules, ◌≡◌, ◌∙◌, sym, ap, arith, ◌<◌, ◌≤◌, Option, Some, length}
-use Rattle.dname.specs.Labels.{wire}
+use Rattle.std.proofs.Common.{rules, ◌∙◌, sym, ap, arith, ◌<◌, ◌≤◌, Option, Some, length}
 use Rattle.layout.specs.Messages.{Message, encoding}
 use Rattle.authority.specs.declared.cause.Cause.{Cause}
 use Rattle.front.specs.Replies.{reply_of, cut_reply}

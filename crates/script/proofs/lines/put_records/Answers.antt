@@ -1,5 +1,4 @@
 -- One record more.
-use Rattle.std.proofs.Common.{rules}
 use Rattle.script.specs.Lines.{record_line}
 use Rattle.script.proofs.Printed.{printed_more}
 use Rattle.script.proofs.lines.put_records.Goals as goal

@@ -1,5 +1,5 @@
 -- The message's fields are those of its view.
-use Rattle.std.proofs.Common.{◌≡◌, ◌∙◌, ap, ◌++◌, codes, string_bytes, List}
+use Rattle.std.proofs.Common.{◌∙◌, ap, ◌++◌, codes, string_bytes, List}
 use Rattle.std.specs.List.{flat_map}
 use Rattle.std.proofs.lemmas.Result.{on_ok_weaker}
 use Rattle.rdata.specs.Records.{Record}
