@@ -1,4 +1,6 @@
 pub mod Decided
+pub mod Judged
 pub mod Members
 pub mod Refused
+pub mod Replied
 pub mod Worlds

@@ -2,14 +2,18 @@
 #![tactic(auto)]
 
 mod fault;
+mod judging;
 mod rules;
 mod servers;
 mod world;
 
 pub use fault::WorldError;
+pub use judging::judge;
 pub use world::{Host, World};
 
 #[cfg(test)]
 mod fixtures;
+#[cfg(test)]
+mod judge_tests;
 #[cfg(test)]
 mod tests;

@@ -1,15 +1,18 @@
-ghost use Rattle.std.specs.Prelude.{◌≡◌, MatchResult};
+ghost use Rattle.std.specs.Prelude.{◌≡◌, IfOk, MatchResult};
 ghost use Rattle.dname.specs.Labels.{root};
+ghost use Rattle.rdata.specs.Types.{type_number};
+ghost use Rattle.authority.specs.Answers.{link_view};
 ghost use Rattle.truth.specs.Worlds.{IsWorld};
+ghost use Rattle.truth.specs.Truths.{IsTrueLink};
 ghost use Rattle.simnet.specs.Kept.{world_with};
 ghost use Rattle.simnet.specs.Refusals.{IsRefused};
 
 use crate::fault::WorldError;
 use crate::rules::{has_loose_cuts, has_origin, has_undelegated, zones_keep_rules};
 use crate::servers::{has_bad_hint, has_idle_host, has_lame_cuts, lacks_start};
-use authority::{Catalog, CatalogError};
-use dname::{Heap, Name};
-use rdata::Addr;
+use authority::{Catalog, CatalogError, Link, Local};
+use dname::{Heap, Name, Starved};
+use rdata::{Addr, RType};
 use std::alloc::{Allocator, Global};
 use std::marker::Model;
 use zone::Zone;
@@ -113,5 +116,29 @@ impl<A: Heap> World<A> {
             hints,
             locals,
         })
+    }
+}
+
+impl<A: Allocator> World<A> {
+    /// A law: each world is well formed. Costs nothing.
+    pub fn is_well_formed(&self)
+        ensures { IsWorld self.now }
+    {
+        let _ = &self.hosts;
+    }
+}
+
+impl<A: Heap> World<A> {
+    /// The world's link of a question: what the zone in charge of the name says of it (RFC 1034, section
+    /// 4.3.2).
+    pub fn link(&self, name: &Name<A>, kind: RType) -> Result<Link<A>, Starved>
+        ensures { IfOk result (λ l. IsTrueLink self.now name.now (type_number kind) (link_view l)) }
+    {
+        self.is_well_formed();
+        name.is_well_formed();
+        match self.catalog.look(name.allocator(), name, kind)? {
+            Local::Link(link) => Ok(link),
+            Local::Cut(_, _, _) | Local::NotHere => unreachable!(),
+        }
     }
 }
