@@ -1,10 +1,9 @@
 -- A reply is right exactly where each of its aliases, and then its end, is the world's.
-use Rattle.std.proofs.Common.{◌≡◌, ◌≢◌, ◌≤◌, ◌<◌, IsTrue, ◌+◌, ◌-◌, ℕ, zero, suc, inl, inr, Bool, true, false, ◌&&◌, not, nat_eq, List, [], ◌∷◌, ◌++◌, length, take, drop, get_or, refl, sym, ◌∙◌, ap, subst, arith}
+use Rattle.std.proofs.Common.{◌≡◌, ◌≢◌, ◌≤◌, ◌<◌, IsTrue, ◌-◌, ℕ, inl, inr, Bool, true, false, ◌&&◌, not, nat_eq, List, [], ◌∷◌, ◌++◌, length, take, drop, get_or, refl, sym, ◌∙◌, ap, subst, arith}
 use Rattle.std.specs.Prelude.{Contains}
-use Rattle.std.specs.List.{list_any}
 use Rattle.std.proofs.Math.Seq.{take-length}
 use Rattle.std.proofs.lemmas.Bool.{eqb-true, eq-eqb}
-use Rattle.dname.specs.Labels.{Name, IsName, same_name}
+use Rattle.dname.specs.Labels.{Name, IsName}
 use Rattle.rdata.specs.Data.{Datum, Cname, same_data}
 use Rattle.rdata.specs.Records.{Record}
 use Rattle.rdata.proofs.Exact.{same_data-exact, same_data-refl}
@@ -12,16 +11,16 @@ use Rattle.zone.specs.Links.{Link, Found, Alias, NoData, NxDomain}
 use Rattle.zone.specs.Same.{Same, Has, SameSet, SameLink}
 use Rattle.zone.specs.Zones.{IsCutOver}
 use Rattle.zone.specs.Look.{Linked, Cut, NotHere}
-use Rattle.authority.specs.Catalogs.{IsInCharge, IsLooked}
+use Rattle.authority.specs.Catalogs.{IsLooked}
 use Rattle.truth.specs.Worlds.{World, IsWorld}
 use Rattle.truth.specs.Truths.{IsTrueLink, IsEnd, Leads}
 use Rattle.truth.specs.Replies.{Ends, Once}
 use Rattle.truth.proofs.Charges.{charge_uncut}
 use Rattle.truth.proofs.SomeTruth.{some_charge}
-use Rattle.truth.proofs.Sames.{link_itself, link_back, link_on, one_same, same_one, set_back}
+use Rattle.truth.proofs.Sames.{link_itself, link_on, one_same, same_one}
 use Rattle.truth.proofs.OneTruth.{one_true_link, no_alias}
 use Rattle.simnet.specs.Judging.{IsRest, is_same, has, lacks_some, once, is_set, is_only, is_none}
-use Rattle.simnet.proofs.Decided.{Yes, No, fails, yes_and, yes_not, no_not, yes_un, yes_any, no_any, yes_as, yes_same}
+use Rattle.simnet.proofs.Decided.{Yes, fails, yes_and, yes_not, no_not, yes_un, yes_any, no_any, yes_as, yes_same}
 
 -- Tests of records.
 yes_data : (d e : Datum) → Yes (same_data d e) (d ≡ e)

@@ -1,7 +1,7 @@
 -- The right message, and the right bytes.
-use Rattle.std.proofs.Common.{◌≡◌, ℕ, inl, inr, IsTrue, Bool, true, false, not, ◌&&◌, nat_eq, List, [], ◌∷◌, refl, sym, ◌∙◌, ap, subst}
+use Rattle.std.proofs.Common.{◌≡◌, ℕ, inl, inr, IsTrue, Bool, true, false, not, List, [], ◌∷◌, refl, sym, ◌∙◌, ap, subst}
 use Rattle.std.proofs.lemmas.Bool.{both_ways}
-use Rattle.dname.specs.Labels.{Name, same_name}
+use Rattle.dname.specs.Labels.{Name}
 use Rattle.layout.specs.Messages.{Question, Message, IsMessage, internet}
 use Rattle.layout.proofs.Single.{message_one}
 use Rattle.truth.specs.Worlds.{World}

@@ -1,28 +1,28 @@
 -- The tests of a world's rules, and the rules.
-use Rattle.std.proofs.Common.{◌≡◌, ◌≢◌, ◌≤◌, ℕ, ◌⊎◌, ⊎_elim, inl, inr, Bool, true, false, ◌||◌, not, nat_eq, nat_lt, Option, Some, None, List, [], ◌∷◌, ◌++◌, length, refl, sym, ◌∙◌, ap, subst, arith}
+use Rattle.std.proofs.Common.{◌≡◌, ◌≢◌, ◌≤◌, ℕ, ◌⊎◌, ⊎_elim, inl, inr, false, not, nat_eq, Option, Some, None, List, [], ◌∷◌, ◌++◌, length, refl, sym, ◌∙◌, ap, subst, arith}
 use Rattle.std.specs.Prelude.{Contains}
 use Rattle.std.specs.List.{list_any}
 use Rattle.std.specs.Cmp.Lexicographic.{pointwise, bytes_decides}
 use Rattle.std.proofs.lemmas.Bool.{eqb-true, eq-eqb}
-use Rattle.dname.specs.Labels.{Name, root, same_name, AreLabels, IsName, IsAtOrUnder}
+use Rattle.dname.specs.Labels.{Name, root, AreLabels, IsName}
 use Rattle.rdata.specs.Data.{Datum, Ipv4, Ns, Cname, Soa, Ptr, Mx, Txt, Ipv6, type_of}
 use Rattle.rdata.specs.Records.{Record}
 use Rattle.zone.specs.Zones.{Zone, At, IsCut, IsBeneath, a_type, ns_type}
-use Rattle.zone.specs.Links.{Link, Found, Alias, NoData, NxDomain, IsLink}
-use Rattle.zone.specs.Look.{Local, Linked, Cut, NotHere, is_type, is_owned, owns, denial_of}
+use Rattle.zone.specs.Links.{Found, Alias, NoData, NxDomain}
+use Rattle.zone.specs.Look.{Local, Linked, Cut, NotHere, is_type, owns}
 use Rattle.zone.specs.Ruled.{IsZone, IsNamed}
 use Rattle.zone.specs.Same.{SameLink}
-use Rattle.zone.proofs.LawLists.{none_in, first_in, later_in, in_cases}
+use Rattle.zone.proofs.LawLists.{none_in, first_in}
 use Rattle.zone.proofs.LawZones.{has_denial as some_denial}
 use Rattle.authority.specs.Catalogs.{IsInCharge, IsLooked, AreNamed, has_twins, zone_over, looked, looked_in}
 use Rattle.authority.specs.OneAnswer.{SameLocal}
 use Rattle.authority.proofs.Ascents.{looked_by}
 use Rattle.authority.proofs.Charges.{charge_is, looked_here, looked_nowhere}
 use Rattle.authority.proofs.OneAnswers.{one_answer}
-use Rattle.truth.specs.Worlds.{Address, Host, World, Serves, IsOrigin, IsParent, IsServerName, IsAddressOf, Parted, IsWorld}
-use Rattle.simnet.specs.Rules.{has_name, has_origin, serves_at, serves, makes_cut, is_loose, has_loose_cut, has_loose_cuts, is_above, is_between, delegates, is_placed, has_undelegated, is_missed, some_missed, is_missed_at, zone_misses, link_misses, look_misses, target_misses, is_lame, has_lame_cut, has_lame_cuts, serves_nothing, has_idle_host, has_bad_hint, lacks_start}
-use Rattle.simnet.specs.Refusals.{AreZones, HasCutZones, IsDelegated, IsServed, IsStarted}
-use Rattle.simnet.proofs.Decided.{Yes, No, fails, breaks, no_not, yes_not, yes_un, no_un, yes_and, no_and, yes_or, no_or, yes_any, no_any, no_as, yes_as, yes_same, yes_under, no_less}
+use Rattle.truth.specs.Worlds.{Address, Host, World, Serves, IsOrigin, IsParent, IsServerName, IsAddressOf, Parted}
+use Rattle.simnet.specs.Rules.{has_name, has_origin, serves, makes_cut, has_loose_cuts, is_above, is_between, delegates, has_undelegated, is_missed, zone_misses, look_misses, target_misses, has_lame_cuts, has_idle_host, has_bad_hint, lacks_start}
+use Rattle.simnet.specs.Refusals.{AreZones, HasCutZones, IsDelegated}
+use Rattle.simnet.proofs.Decided.{Yes, No, no_not, yes_not, yes_un, no_un, yes_and, no_and, yes_or, no_or, yes_any, no_any, no_as, yes_as, yes_same, yes_under, no_less}
 
 -- Names, origins, servers.
 yes_name : (n : Name) (ns : List Name) → Yes (has_name n ns) (Contains ns n)

@@ -1,6 +1,5 @@
 use Rattle.std.proofs.Common.{◌≡◌, ⊎_elim, rules}
 use Rattle.rdata.specs.Types.{type_number}
-use Rattle.wire.specs.declared.error.WireError.{WireError}
 use Rattle.wire.specs.declared.error.WireError.TheVariants.{Memory}
 use Rattle.simnet.proofs.Replied.{right_bytes, no_message}
 use Rattle.simnet.proofs.judging.judge.Goals as goal

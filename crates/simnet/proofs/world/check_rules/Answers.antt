@@ -1,11 +1,10 @@
-use Rattle.std.proofs.Common.{◌≡◌, sym, ◌∙◌, ap, subst, Bool, true, false, List}
-use Rattle.dname.specs.Labels.{Name, root}
+use Rattle.std.proofs.Common.{sym, ◌∙◌, ap, subst, List}
+use Rattle.dname.specs.Labels.{Name}
 use Rattle.zone.specs.Zones.{Zone}
-use Rattle.truth.specs.Worlds.{World}
 use Rattle.simnet.specs.Kept.{world_with}
-use Rattle.simnet.specs.Rules.{has_origin, has_loose_cuts, has_undelegated, has_lame_cuts, has_idle_host, has_bad_hint, lacks_start}
+use Rattle.simnet.specs.Rules.{has_origin, has_loose_cuts, has_undelegated, has_lame_cuts, has_idle_host}
 use Rattle.simnet.specs.Refusals.{AreZones}
-use Rattle.simnet.proofs.Refused.{Parts, Rooted, CutOff, Placed, Housed, Served, Hinted, no_root, loose, undelegated, idle, lame, bad_hint, no_start, well_formed}
+use Rattle.simnet.proofs.Refused.{no_root, loose, undelegated, idle, lame, bad_hint, no_start, well_formed}
 use Rattle.simnet.proofs.world.check_rules.Goals as goal
 
 pub returns-then-not-has_origin : goal.returns-then-not-has_origin

@@ -1,6 +1,5 @@
-use Rattle.std.proofs.Common.{◌≡◌, ⊎_elim, inl, inr, subst}
+use Rattle.std.proofs.Common.{inl, inr, subst}
 use Rattle.rdata.specs.Types.{type_number}
-use Rattle.zone.specs.Look.{Local as Looked}
 use Rattle.authority.specs.Answers.{link_view, local_view}
 use Rattle.authority.specs.Catalogs.{IsLooked}
 use Rattle.truth.specs.Worlds.{World}
