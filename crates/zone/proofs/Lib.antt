@@ -10,3 +10,4 @@ pub mod LawRules
 pub mod LawTests
 pub mod LawZones
 pub mod Members
+pub mod LawNames

@@ -1,11 +1,11 @@
 //! Laws of the definitions that contracts cite: functions that do nothing, whose clauses are proved.
 
-ghost use Rattle.std.specs.Prelude.{◌≡◌, ◌≢◌, ◌↔◌, ℕ, List, [], Some, None, true};
+ghost use Rattle.std.specs.Prelude.{◌≡◌, ◌≢◌, ◌↔◌, ◌∷◌, ℕ, List, [], Some, None, true, Contains};
 ghost use Rattle.std.specs.List.{list_any};
-ghost use Rattle.dname.specs.Labels.{is_under, IsAtOrUnder};
+ghost use Rattle.dname.specs.Labels.{is_under, star, IsAtOrUnder};
 ghost use Rattle.rdata.specs.Records.{Record};
-ghost use Rattle.zone.specs.Zones.{Zone, IsUncut, IsCutOver, Exists, IsEncloser};
-ghost use Rattle.zone.specs.Links.{Link, IsLink};
+ghost use Rattle.zone.specs.Zones.{Zone, At, IsCut, IsUncut, IsCutOver, Exists, IsEncloser, cname_type};
+ghost use Rattle.zone.specs.Links.{Link, Found, Alias, NxDomain, IsSource, IsEmpty, IsLink};
 ghost use Rattle.zone.specs.Look.{cut_of, exists, closest, link_by, local_by, denial_of};
 ghost use Rattle.zone.specs.Referrals.{IsLocal};
 ghost use Rattle.zone.specs.Faults.{fault_of};
@@ -50,6 +50,25 @@ pub fn link_law()
 pub fn local_law()
     ensures { (z : Zone) (q : List (List ℕ)) (t : ℕ) (soa : Record) → IsNamed z → HasSoaAtOrigin z → HasOneTtl z → denial_of z ≡ Some soa
         → IsAtOrUnder q z.origin → IsLocal z q t (local_by soa z q t) }
+{}
+
+/// A name that exists is answered by its own records, never by a wildcard's (RFC 1034, section 4.3.3).
+pub fn own_records_law()
+    ensures source { (z : Zone) (q s : List (List ℕ)) → Exists z q → IsSource z q s → s ≡ q }
+    ensures found { (z : Zone) (q : List (List ℕ)) (t : ℕ) (set : List Record) (r : Record) → Exists z q → IsLink z q t (Found set) → Contains set r → At z q t r }
+    ensures alias { (z : Zone) (q : List (List ℕ)) (t : ℕ) (r : Record) → Exists z q → IsLink z q t (Alias r) → At z q cname_type r }
+{}
+
+/// A name error stands only where nothing at or under the name exists, and no wildcard has records right
+/// under its closest encloser (RFC 1034, section 4.3.2, step 3c).
+pub fn name_error_law()
+    ensures nothing { (z : Zone) (q n : List (List ℕ)) (t : ℕ) (soa : Record) → IsLink z q t (NxDomain soa) → IsAtOrUnder n q → Exists z n → ⊥ }
+    ensures wildcard { (z : Zone) (q e : List (List ℕ)) (t : ℕ) (soa : Record) → IsLink z q t (NxDomain soa) → IsEncloser z q e → IsEmpty z (star ∷ e) }
+{}
+
+/// A name at or beneath a cut has no link: the zone refers to the cut (RFC 1034, section 4.3.2, step 3b).
+pub fn delegated_name_law()
+    ensures { (z : Zone) (q c : List (List ℕ)) (t : ℕ) (l : Link) → IsCut z c → IsAtOrUnder q c → IsLink z q t l → ⊥ }
 {}
 
 /// A question has one link but for TTLs, order and repeats (RFC 2181, sections 5 and 10.1), and the

@@ -16,7 +16,7 @@ mod zone;
 
 pub use fault::ZoneError;
 pub use laws::{
-    cut_law, encloser_law, existence_law, link_law, local_law, one_link_law, zone_keeps_rules,
-    zone_law,
+    cut_law, delegated_name_law, encloser_law, existence_law, link_law, local_law, name_error_law,
+    one_link_law, own_records_law, zone_keeps_rules, zone_law,
 };
 pub use zone::Zone;
