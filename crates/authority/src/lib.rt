@@ -10,7 +10,7 @@ mod plain;
 pub use answer::{Link, Local};
 pub use catalog::{Catalog, CatalogError};
 pub use cause::Cause;
-pub use laws::one_answer_law;
+pub use laws::{one_answer_law, some_answer_law};
 
 #[cfg(test)]
 mod tests;
