@@ -97,6 +97,10 @@ fold_last : (t : ℕ) (kept xs : List Record) (r : Record) → fold (add_once t)
 fold_last t kept [] r = refl
 fold_last t kept (x ∷ xs) r = fold_last t (add_once t kept x) xs r
 
+pub gathered_last : (t : ℕ) (xs : List Record) (r : Record) → gathered t (xs ++ r ∷ []) ≡ add_once t (gathered t xs) r
+unfolding gathered
+gathered_last t xs r = fold_last t [] xs r
+
 pub gathered_more : (t : ℕ) (rs old new : List Record) (i : ℕ) (r : Record) → i < length rs → r ≡ get_or rs i r → old ≡ gathered t (take i rs)
     → new ≡ add_once t old r → new ≡ gathered t (take (i + 1) rs)
 unfolding gathered

@@ -1,4 +1,5 @@
 pub mod Copies
 pub mod Exact
 pub mod Gathered
+pub mod Selected
 pub mod Words

@@ -16,7 +16,7 @@ pub use data::RData;
 pub use laws::{same_data_law, word_names_type_law};
 pub use records::{Record, Records};
 pub use rtype::{RType, is_same_word};
-pub use sets::{dedup_set, same_set};
+pub use sets::{dedup_set, lowest_ttl, same_set, set_at};
 pub use soa::Soa;
 pub use text::{put_data, put_ipv4};
 pub use texts::{CharacterString, Texts};

@@ -1,11 +1,14 @@
 //! Records made one set (RFC 2181, sections 5 and 5.2).
-ghost use Rattle.std.specs.Prelude.{◌≡◌, ◌≤◌, IfOk, OnOk};
+ghost use Rattle.std.specs.Prelude.{◌≡◌, ◌≤◌, cond, min, IfOk, OnOk};
 ghost use Rattle.rdata.specs.Gathering.{has, add_once};
 ghost use Rattle.rdata.specs.Records.{same_set, greatest_ttl};
+ghost use Rattle.rdata.specs.Selected.{is_at, records_at};
 ghost use Rattle.rdata.specs.Sets.{is_repeat, lowest_ttl, with_ttl, one_set};
+ghost use Rattle.rdata.specs.Types.{type_number};
 
 use crate::records::{Record, Records};
-use dname::{Heap, Starved};
+use crate::rtype::RType;
+use dname::{Heap, Name, Starved};
 use std::alloc::Allocator;
 
 /// Whether both are of one set: same owner, same type (RFC 2181, section 5).
@@ -28,6 +31,69 @@ pub fn dedup_set<A: Heap>(alloc: A, records: &[Record<A>]) -> Result<Records<A>,
     Ok(set)
 }
 
+/// The records of that owner and type as one set: the first of equal ones, in order, all with the lowest TTL
+/// of theirs (RFC 2181, sections 5 and 5.2).
+pub fn set_at<A: Heap>(
+    alloc: A,
+    records: &[Record<A>],
+    owner: &Name<A>,
+    kind: RType,
+) -> Result<Records<A>, Starved>
+    ensures { IfOk result (λ set. set ≡ one_set (records_at owner.now (type_number kind) records.now)) }
+{
+    let ttl = lowest_ttl_at(records, owner, kind);
+    let mut set = Records::new(alloc);
+    for added in records {
+        put_chosen(&mut set, added, ttl, is_at(added, owner, kind))?;
+    }
+    Ok(set)
+}
+
+fn is_at<A: Allocator>(tested: &Record<A>, owner: &Name<A>, kind: RType) -> bool
+    ensures { result ≡ is_at owner.now (type_number kind) tested.now }
+{
+    tested.owner == *owner && tested.value.kind().number() == kind.number()
+}
+
+// The lowest TTL of the records of that owner and type.
+fn lowest_ttl_at<A: Allocator>(records: &[Record<A>], owner: &Name<A>, kind: RType) -> u32
+    ensures value { result ≡ lowest_ttl (records_at owner.now (type_number kind) records.now) }
+    ensures most { result ≤ greatest_ttl }
+{
+    let mut lowest = 2_147_483_647;
+    for tested in records {
+        lowest = lower_by(lowest, tested, is_at(tested, owner, kind));
+    }
+    lowest
+}
+
+// The lower one of a TTL and that of a record, where it is chosen.
+fn lower_by<A: Allocator>(lowest: u32, tested: &Record<A>, chosen: bool) -> u32
+    ensures { result ≡ cond chosen (min tested.now.ttl lowest) lowest }
+{
+    if chosen {
+        tested.ttl.min(lowest)
+    } else {
+        lowest
+    }
+}
+
+// One record more, where it is chosen and new.
+fn put_chosen<A: Heap>(
+    set: &mut Records<A>,
+    added: &Record<A>,
+    ttl: u32,
+    chosen: bool,
+) -> Result<(), Starved>
+    requires { ttl ≤ greatest_ttl }
+    ensures { OnOk result (set.new ≡ cond chosen (add_once ttl set.old added.now) set.old) }
+{
+    if chosen {
+        put_once(set, added, ttl)?;
+    }
+    Ok(())
+}
+
 // One record more, where it is new.
 fn put_once<A: Heap>(set: &mut Records<A>, added: &Record<A>, ttl: u32) -> Result<(), Starved>
     requires { ttl ≤ greatest_ttl }
@@ -40,8 +106,8 @@ fn put_once<A: Heap>(set: &mut Records<A>, added: &Record<A>, ttl: u32) -> Resul
     Ok(())
 }
 
-// The lowest TTL in seconds; of no records the greatest that there is.
-fn lowest_ttl<A: Allocator>(records: &[Record<A>]) -> u32
+/// The lowest TTL in seconds; of no records the greatest that there is (RFC 2181, sections 5.2 and 8).
+pub fn lowest_ttl<A: Allocator>(records: &[Record<A>]) -> u32
     ensures value { result ≡ lowest_ttl records.now }
     ensures most { result ≤ greatest_ttl }
 {

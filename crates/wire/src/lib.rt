@@ -14,6 +14,7 @@ mod records;
 mod served;
 mod spelling;
 mod values;
+mod via;
 mod writer;
 
 pub use encoder::{Draft, encode, encode_draft};
@@ -23,6 +24,7 @@ pub use laws::{decoding_is_message, encoding_is_read_back, reading_is_spelling};
 pub use message::{Message, Question, Questions};
 pub use reader::{decode, question_spelling};
 pub use spelling::Spelling;
+pub use via::Via;
 
 #[cfg(test)]
 mod fault_tests;

@@ -1,0 +1,6 @@
+use Rattle.std.proofs.Common.{◌≡◌, take}
+use Rattle.classify.specs.Classes.{addresses_of}
+use Rattle.classify.proofs.table.addresses_of.Given as goal
+
+abbrev pub invariant-loop-added : goal.invariant-loop-added
+invariant-loop-added g l = l.addresses ≡ addresses_of l.zone l.servers (take l.added-index l.additional)

@@ -1,0 +1,21 @@
+-- Classes, seen as the plain values of their definition.
+use Rattle.std.specs.Prelude.{ℕ}
+use Rattle.authority.specs.Answers.{link_view}
+use Rattle.classify.specs.Classes as plain
+use Rattle.classify.specs.declared.class.Failure.{Failure}
+use Rattle.classify.specs.declared.class.Failure.TheVariants as failure
+use Rattle.classify.specs.declared.class.Class.{Class}
+use Rattle.classify.specs.declared.class.Class.TheVariants as class
+
+abbrev pub failure_number : Failure → ℕ
+failure_number failure.BadCode = 1
+failure_number failure.NoAuthority = 2
+failure_number failure.Empty = 3
+failure_number failure.Foreign = 4
+failure_number failure.CutShort = 5
+
+abbrev pub class_view : {A : Type 0} → Class A → plain.Class
+class_view (class.Answer l) = plain.Answer (link_view l)
+class_view (class.Referral r) = plain.Referral r.at r.servers r.addresses r.ttl
+class_view class.Cut = plain.Cut
+class_view (class.Failed f) = plain.Failed f

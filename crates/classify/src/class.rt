@@ -1,0 +1,61 @@
+ghost use Rattle.std.specs.Prelude.{◌≡◌};
+ghost use Rattle.classify.specs.Views.{failure_number};
+
+use authority::Link;
+use dname::Name;
+use rdata::Records;
+use std::alloc::{Allocator, Global};
+
+/// Why a reply is of no use.
+#[derive(Clone, Copy, Debug, PartialEq, Eq)]
+pub enum Failure {
+    /// An RCODE other than 0 and 3, or 3 beside records of the name and the type (RFC 1035, section 4.1.1).
+    BadCode,
+    /// An answer without the bit AA: of a server that does not hold the zone.
+    NoAuthority,
+    /// Nothing of use in it.
+    Empty,
+    /// A denial or a referral of another zone.
+    Foreign,
+    /// Cut short, and over TCP (RFC 2181, section 9).
+    CutShort,
+}
+
+impl Failure {
+    /// Its number, 1 to 5.
+    pub fn number(self) -> u8
+        ensures { result ≡ failure_number self }
+    {
+        match self {
+            Failure::BadCode => 1,
+            Failure::NoAuthority => 2,
+            Failure::Empty => 3,
+            Failure::Foreign => 4,
+            Failure::CutShort => 5,
+        }
+    }
+}
+
+/// A referral to a zone beneath the one that was asked (RFC 1034, section 4.3.2, step 3b).
+#[derive(Drop)]
+pub struct Referral<A: Allocator = Global> {
+    /// The zone's name.
+    pub at: Name<A>,
+    /// Its NS set.
+    pub servers: Records<A>,
+    /// The A records of its servers that are taken, in the order of the message.
+    pub addresses: Records<A>,
+    /// The lowest TTL of all these, in seconds.
+    pub ttl: u32,
+}
+
+/// What a reply is used for.
+#[derive(Drop)]
+pub enum Class<A: Allocator = Global> {
+    /// What it says of the name and the type.
+    Answer(Link<A>),
+    Referral(Referral<A>),
+    /// Cut short on UDP: to be asked for again over TCP.
+    Cut,
+    Failed(Failure),
+}

@@ -1,0 +1,8 @@
+//! What replies from servers are used for (RFC 1034, section 5.3.3; RFC 2308; RFC 2181, section 5.4.1).
+#![tactic(auto)]
+
+mod class;
+mod table;
+
+pub use class::{Class, Failure, Referral};
+pub use table::classify;

@@ -1,0 +1,295 @@
+ghost use Rattle.std.specs.Prelude.{◌≡◌, ◌||◌, ◌++◌, [], ◌∷◌, cond, nat_eq, IfOk, OnOk};
+ghost use Rattle.std.specs.List.{list_any};
+ghost use Rattle.std.specs.Option.{option_copied};
+ghost use Rattle.rdata.specs.Kept.{datum};
+ghost use Rattle.rdata.specs.Selected.{records_at};
+ghost use Rattle.rdata.specs.Sets.{one_set};
+ghost use Rattle.rdata.specs.Types.{type_number};
+ghost use Rattle.zone.specs.Zones.{ns_type, cname_type, soa_type};
+ghost use Rattle.zone.specs.Look.{is_type};
+ghost use Rattle.authority.specs.Answers.{link_view};
+ghost use Rattle.classify.specs.Classes.{first_of, answer_by, names_server, is_taken, addresses_of, refer_by, leads_down, by_servers, denial_by, denies, by_denial, by_alias, by_set, by_code, cut_over, class_of};
+ghost use Rattle.classify.specs.Views.{class_view};
+
+use crate::class::{Class, Failure, Referral};
+use authority::Link;
+use dname::{Heap, Name, Starved};
+use rdata::{RData, RType, Record, Records, lowest_ttl, set_at};
+use std::alloc::Allocator;
+use wire::{Message, Via};
+
+/// What a reply to the question for this name and type is used for, which came this way from a server of the
+/// zone: the first line that fits of
+/// - TC set: to be asked for again over TCP; of no use where it came over TCP;
+/// - an RCODE other than 0 and 3: of no use;
+/// - records of the name and the type: the set, each record once and all with the lowest TTL;
+/// - a CNAME of the name: the alias, the first of several with the lowest TTL, with RCODE 0 and 3 alike;
+/// - RCODE 3 or an SOA: the denial by the first SOA, which is over the name and at or under the zone;
+/// - an NS record: the referral to its owner, strictly under the zone and over the name;
+/// - nothing of these: of no use.
+/// Answers and denials are used with the bit AA alone.
+pub fn classify<A: Heap>(
+    alloc: A,
+    zone: &Name<A>,
+    name: &Name<A>,
+    kind: RType,
+    via: Via,
+    message: &Message<A>,
+) -> Result<Class<A>, Starved>
+    ensures { IfOk result (λ c. class_view c ≡ class_of zone.now name.now (type_number kind) via message.now) }
+{
+    if message.header.tc {
+        return Ok(cut_over(via));
+    }
+    Ok(by_code(alloc, zone, name, kind, message)?)
+}
+
+// What was cut short is asked for again over TCP.
+fn cut_over<A: Allocator>(via: Via) -> Class<A>
+    ensures { class_view result ≡ cut_over via }
+{
+    match via {
+        Via::Udp => Class::Cut,
+        Via::Tcp => Class::Failed(Failure::CutShort),
+    }
+}
+
+// A whole message.
+fn by_code<A: Heap>(
+    alloc: A,
+    zone: &Name<A>,
+    name: &Name<A>,
+    kind: RType,
+    message: &Message<A>,
+) -> Result<Class<A>, Starved>
+    ensures { IfOk result (λ c. class_view c ≡ by_code zone.now name.now (type_number kind) message.now) }
+{
+    if !is_told(message) {
+        return Ok(Class::Failed(Failure::BadCode));
+    }
+    let set = set_at(alloc, message.answer.as_slice(), name, kind)?;
+    Ok(by_set(alloc, zone, name, message, set)?)
+}
+
+// Whether the RCODE tells something of the name: that it is there, or not.
+fn is_told<A: Allocator>(message: &Message<A>) -> bool
+    ensures { result ≡ (nat_eq message.now.header.rcode 0 || nat_eq message.now.header.rcode 3) }
+{
+    message.header.rcode == 0 || message.header.rcode == 3
+}
+
+fn is_name_error<A: Allocator>(message: &Message<A>) -> bool
+    ensures { result ≡ nat_eq message.now.header.rcode 3 }
+{
+    message.header.rcode == 3
+}
+
+// By the records of the name and the type.
+fn by_set<A: Heap>(
+    alloc: A,
+    zone: &Name<A>,
+    name: &Name<A>,
+    message: &Message<A>,
+    set: Records<A>,
+) -> Result<Class<A>, Starved>
+    ensures { IfOk result (λ c. class_view c ≡ by_set zone.now name.now message.now set) }
+{
+    if set.is_empty() {
+        return Ok(by_alias(alloc, zone, name, message)?);
+    }
+    if is_name_error(message) {
+        return Ok(Class::Failed(Failure::BadCode));
+    }
+    Ok(answer_by(message, Link::Found(set)))
+}
+
+// By the aliases of the name.
+fn by_alias<A: Heap>(
+    alloc: A,
+    zone: &Name<A>,
+    name: &Name<A>,
+    message: &Message<A>,
+) -> Result<Class<A>, Starved>
+    ensures { IfOk result (λ c. class_view c ≡ by_alias zone.now name.now message.now (one_set (records_at name.now cname_type message.now.answer))) }
+{
+    let aliases = set_at(alloc, message.answer.as_slice(), name, RType::Cname)?;
+    Ok(by_first_alias(alloc, zone, name, message, aliases.as_slice())?)
+}
+
+fn by_first_alias<A: Heap>(
+    alloc: A,
+    zone: &Name<A>,
+    name: &Name<A>,
+    message: &Message<A>,
+    aliases: &[Record<A>],
+) -> Result<Class<A>, Starved>
+    ensures { IfOk result (λ c. class_view c ≡ by_alias zone.now name.now message.now aliases.now) }
+{
+    match aliases {
+        [first, ..] => Ok(answer_by(message, Link::Alias(first.clone()?))),
+        [] => Ok(by_denial(alloc, zone, name, message)?),
+    }
+}
+
+// By the first SOA.
+fn by_denial<A: Heap>(
+    alloc: A,
+    zone: &Name<A>,
+    name: &Name<A>,
+    message: &Message<A>,
+) -> Result<Class<A>, Starved>
+    ensures { IfOk result (λ c. class_view c ≡ by_denial zone.now name.now message.now (first_of soa_type message.now.authority)) }
+{
+    match first_of(message.authority.as_slice(), RType::Soa) {
+        Some(soa) if denies(zone, name, &soa.owner) => {
+            Ok(answer_by(message, denial_by(message.header.rcode, soa.clone()?)))
+        }
+        Some(_) => Ok(Class::Failed(Failure::Foreign)),
+        None if is_name_error(message) => Ok(Class::Failed(Failure::Empty)),
+        None => Ok(by_servers(alloc, zone, name, message)?),
+    }
+}
+
+// By the first NS record.
+fn by_servers<A: Heap>(
+    alloc: A,
+    zone: &Name<A>,
+    name: &Name<A>,
+    message: &Message<A>,
+) -> Result<Class<A>, Starved>
+    ensures { IfOk result (λ c. class_view c ≡ by_servers zone.now name.now message.now (first_of ns_type message.now.authority)) }
+{
+    match first_of(message.authority.as_slice(), RType::Ns) {
+        Some(first) if leads_down(zone, name, &first.owner) => {
+            let servers = set_at(alloc, message.authority.as_slice(), &first.owner, RType::Ns)?;
+            Ok(refer(alloc, zone, first.owner.clone()?, servers, message)?)
+        }
+        Some(_) => Ok(Class::Failed(Failure::Foreign)),
+        None => Ok(Class::Failed(Failure::Empty)),
+    }
+}
+
+// The referral to these servers.
+fn refer<A: Heap>(
+    alloc: A,
+    zone: &Name<A>,
+    at: Name<A>,
+    servers: Records<A>,
+    message: &Message<A>,
+) -> Result<Class<A>, Starved>
+    ensures { IfOk result (λ c. class_view c ≡ refer_by zone.now at servers message.now) }
+{
+    let addresses = addresses_of(
+        alloc,
+        zone,
+        servers.as_slice(),
+        message.additional.as_slice(),
+    )?;
+    let ttl = lowest_ttl(servers.as_slice()).min(lowest_ttl(addresses.as_slice()));
+    Ok(Class::Referral(Referral {
+        at,
+        servers,
+        addresses,
+        ttl,
+    }))
+}
+
+// Only what a server says with authority is an answer.
+fn answer_by<A: Allocator>(message: &Message<A>, link: Link<A>) -> Class<A>
+    ensures { class_view result ≡ answer_by message.now (link_view link) }
+{
+    if message.header.aa {
+        Class::Answer(link)
+    } else {
+        Class::Failed(Failure::NoAuthority)
+    }
+}
+
+fn denial_by<A: Allocator>(rcode: u8, soa: Record<A>) -> Link<A>
+    ensures { link_view result ≡ denial_by rcode soa }
+{
+    if rcode == 3 {
+        Link::NxDomain(soa)
+    } else {
+        Link::NoData(soa)
+    }
+}
+
+// The first record of the type.
+fn first_of<A: Allocator>(records: &[Record<A>], kind: RType) -> Option<&Record<A>>
+    ensures { option_copied result ≡ first_of (type_number kind) records.now }
+{
+    records.iter().find(|tested| is_kind(tested, kind))
+}
+
+fn is_kind<A: Allocator>(tested: &Record<A>, kind: RType) -> bool
+    ensures { result ≡ is_type (type_number kind) tested.now }
+{
+    tested.value.kind().number() == kind.number()
+}
+
+// Whether a zone of that origin may deny the name to one that asked a server of `zone`.
+fn denies<A: Allocator>(zone: &Name<A>, name: &Name<A>, origin: &Name<A>) -> bool
+    ensures { result ≡ denies zone.now name.now origin.now }
+{
+    name.is_at_or_under(origin) && origin.is_at_or_under(zone)
+}
+
+// Whether a cut is strictly under the zone and over the name.
+fn leads_down<A: Allocator>(zone: &Name<A>, name: &Name<A>, cut: &Name<A>) -> bool
+    ensures { result ≡ leads_down zone.now name.now cut.now }
+{
+    cut.is_at_or_under(zone) && *cut != *zone && name.is_at_or_under(cut)
+}
+
+// The A records of the servers that stand at or under the zone.
+fn addresses_of<A: Heap>(
+    alloc: A,
+    zone: &Name<A>,
+    servers: &[Record<A>],
+    additional: &[Record<A>],
+) -> Result<Records<A>, Starved>
+    ensures { IfOk result (λ rs. rs ≡ addresses_of zone.now servers.now additional.now) }
+{
+    let mut addresses = Records::new(alloc);
+    for added in additional {
+        put_chosen(&mut addresses, added, is_taken(added, zone, servers))?;
+    }
+    Ok(addresses)
+}
+
+// One record more, where it is chosen.
+fn put_chosen<A: Heap>(
+    records: &mut Records<A>,
+    added: &Record<A>,
+    chosen: bool,
+) -> Result<(), Starved>
+    ensures { OnOk result (records.new ≡ cond chosen (records.old ++ added.now ∷ []) records.old) }
+{
+    if chosen {
+        records.push(added.clone()?)?;
+    }
+    Ok(())
+}
+
+fn is_taken<A: Allocator>(added: &Record<A>, zone: &Name<A>, servers: &[Record<A>]) -> bool
+    ensures { result ≡ is_taken zone.now servers.now added.now }
+{
+    is_kind(added, RType::A) && added.owner.is_at_or_under(zone) && is_named(&added.owner, servers)
+}
+
+// Whether one of the NS records names the server.
+fn is_named<A: Allocator>(name: &Name<A>, servers: &[Record<A>]) -> bool
+    ensures { result ≡ list_any (λ s. names_server name.now s.value) servers.now }
+{
+    servers.iter().any(|server| names(&server.value, name))
+}
+
+fn names<A: Allocator>(value: &RData<A>, name: &Name<A>) -> bool
+    ensures { result ≡ names_server name.now (datum value.now) }
+{
+    match value {
+        RData::Ns(target) => *target == *name,
+        _ => false,
+    }
+}
