@@ -3,6 +3,7 @@ pub mod Rows
 pub mod Whole
 pub mod Writing
 pub mod Bytes
+pub mod Fitting
 pub mod Heading
 pub mod NamesRead
 pub mod DataRead

@@ -1,6 +1,7 @@
 ghost use Rattle.std.specs.Prelude.{◌≡◌, ◌≤◌, ◌<◌, ◌+◌, ◌%◌, length, flat_map, OnOk, IfOk, IfErr};
+ghost use Rattle.std.specs.List.{AllByRecursion};
 ghost use Rattle.layout.specs.Pieces.{after};
-ghost use Rattle.layout.specs.Messages.{encoding, question_pieces};
+ghost use Rattle.layout.specs.Messages.{encoding, question_pieces, IsQuestion, IsMessage, folded_message};
 ghost use Rattle.wire.specs.Drafts.{RefusesText, drafted, asked_alone, asked_by};
 
 use crate::error::WireError;
@@ -24,11 +25,12 @@ pub struct Draft<'a, A: Allocator = Global> {
     pub additional: &'a [Record<A>],
 }
 
-/// The encoding of a message (RFC 1035, section 4), names compressed. Refused where it is longer than
-/// `limit`, or where a growth is refused.
+/// The encoding of a message (RFC 1035, section 4), names compressed: bytes that are this message, its
+/// questions' names in lower case. Refused where it is longer than `limit`, or where a growth is refused.
 pub fn encode<A: Heap>(alloc: A, m: &Message<A>, limit: usize) -> Result<Vec<u8, A>, WireError>
     requires { limit ≤ 65535 }
     ensures ok { IfOk result (λ v. (v.items ≡ encoding m.now) × (length (encoding m.now) ≤ limit)) }
+    ensures message { IfOk result (λ v. IsMessage v.items (folded_message m.now)) }
     ensures err { IfErr result (λ e. RefusesText e (encoding m.now) limit) }
 {
     let mut writer = Writer::new(alloc)?;
@@ -69,7 +71,8 @@ fn put_alone<A: Heap>(
     writer: &mut Writer<A>,
     question: &Option<(&Spelling<A>, u16, u16)>,
 ) -> Result<(), Starved>
-    ensures { OnOk result (writer.new ≡ after writer.old (flat_map question_pieces (asked_alone (asked_by (λ s. s.now) question.now)))) }
+    ensures written { OnOk result (writer.new ≡ after writer.old (flat_map question_pieces (asked_alone (asked_by (λ s. s.now) question.now)))) }
+    ensures fits { OnOk result (AllByRecursion IsQuestion (asked_alone (asked_by (λ s. s.now) question.now))) }
 {
     match question {
         None => Ok(()),
@@ -77,7 +80,8 @@ fn put_alone<A: Heap>(
     }
 }
 
-/// The encoding of the message of these parts, its question in its own letters. Refused as `encode` is.
+/// The encoding of the message of these parts, its question in its own letters: bytes that are this message,
+/// that name in lower case. Refused as `encode` is.
 pub fn encode_draft<A: Heap>(
     alloc: A,
     draft: &Draft<'_, A>,
@@ -85,6 +89,7 @@ pub fn encode_draft<A: Heap>(
 ) -> Result<Vec<u8, A>, WireError>
     requires { limit ≤ 65535 }
     ensures ok { let m = drafted draft.now.header (asked_by (λ s. s.now) draft.now.question) draft.now.first.now draft.now.second.now draft.now.authority.now draft.now.additional.now in IfOk result (λ v. (v.items ≡ encoding m) × (length (encoding m) ≤ limit)) }
+    ensures message { let m = drafted draft.now.header (asked_by (λ s. s.now) draft.now.question) draft.now.first.now draft.now.second.now draft.now.authority.now draft.now.additional.now in IfOk result (λ v. IsMessage v.items (folded_message m)) }
     ensures err { let m = drafted draft.now.header (asked_by (λ s. s.now) draft.now.question) draft.now.first.now draft.now.second.now draft.now.authority.now draft.now.additional.now in IfErr result (λ e. RefusesText e (encoding m) limit) }
 {
     let mut writer = Writer::new(alloc)?;

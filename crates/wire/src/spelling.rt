@@ -1,6 +1,7 @@
 ghost use Rattle.std.specs.Prelude.{◌≡◌, ◌≤◌, length};
 ghost use Rattle.dname.specs.Labels.{wire, folded_labels};
 ghost use Rattle.dname.specs.Wire.{labels_of};
+ghost use Rattle.layout.specs.Messages.{IsSpelling};
 ghost use Rattle.wire.specs.Spellings.{IsSpelt};
 
 use dname::Name;
@@ -44,6 +45,13 @@ impl<A: Allocator> Spelling<A> {
         ensures short { length result.now ≤ 255 }
     {
         &self.bytes
+    }
+
+    // Every spelling is labels of 1 to 63 bytes and the root's, at most 255 bytes in all.
+    pub(crate) fn is_well_formed(&self)
+        ensures { IsSpelling self.now }
+    {
+        let _ = self.bytes.len();
     }
 
     /// The name in lower case.

@@ -1,10 +1,12 @@
 ghost use Rattle.std.specs.Prelude.{◌≡◌, ℕ, ◌+◌, ◌<◌, ◌≤◌, ◌++◌, [], ◌∷◌, length, OnOk, IfOk, IfErr, flat_map};
 ghost use Rattle.std.specs.Int.{bytes_high_first};
+ghost use Rattle.std.specs.List.{AllByRecursion};
+ghost use Rattle.dname.specs.Labels.{IsName};
 ghost use Rattle.rdata.specs.Data as plain;
 ghost use Rattle.rdata.specs.Kept.{datum};
 ghost use Rattle.layout.specs.Pieces.{put_flat, put_flats, put, after, empty, plain_bytes, packed_name, asked_name, sized_group};
 ghost use Rattle.layout.specs.Packing.{pointer};
-ghost use Rattle.layout.specs.Messages.{data_flats, record_pieces, question_pieces, header_pieces, strings_bytes};
+ghost use Rattle.layout.specs.Messages.{data_flats, record_pieces, question_pieces, header_pieces, strings_bytes, FitsRdata, AreNamesOf, IsSpelling, IsHeader, IsQuestion, IsRecord};
 ghost use Rattle.wire.specs.Drafts.{counts_by};
 
 use crate::error::WireError;
@@ -31,7 +33,8 @@ pub struct Tally {
     pub additional: usize,
 }
 
-// A message that is being written. Contracts see its bytes and the notes of its names.
+// A message that is being written. Contracts see its bytes and the notes of its names. What is put fits its
+// bits by its type's own bounds (the clauses `fits`), so the bytes are read back as the message.
 #[derive(Drop)]
 pub struct Writer<A: Allocator = Global> {
     bytes: Vec<u8, A>,
@@ -100,7 +103,8 @@ impl<A: Heap> Writer<A> {
 
     // A name, compressed (RFC 1035, section 4.1.4).
     fn put_name(&mut self, name: &Name<A>) -> Result<(), Starved>
-        ensures { OnOk result (self.new ≡ put_flat self.old (packed_name name.now)) }
+        ensures written { OnOk result (self.new ≡ put_flat self.old (packed_name name.now)) }
+        ensures named { IsName name.now }
     {
         name.is_well_formed();
         let at = self.bytes.len();
@@ -120,7 +124,8 @@ impl<A: Heap> Writer<A> {
 
     // A question's name, in full.
     fn put_asked(&mut self, name: &Name<A>) -> Result<(), Starved>
-        ensures { OnOk result (self.new ≡ put_flat self.old (asked_name name.now)) }
+        ensures written { OnOk result (self.new ≡ put_flat self.old (asked_name name.now)) }
+        ensures named { IsName name.now }
     {
         name.is_well_formed();
         let at = self.bytes.len();
@@ -130,8 +135,10 @@ impl<A: Heap> Writer<A> {
 
     // A question's name, in full and in its own letters.
     fn put_spelling(&mut self, spelling: &Spelling<A>) -> Result<(), Starved>
-        ensures { OnOk result (self.new ≡ put_flat self.old (asked_name spelling.now)) }
+        ensures written { OnOk result (self.new ≡ put_flat self.old (asked_name spelling.now)) }
+        ensures spelt { IsSpelling spelling.now }
     {
+        spelling.is_well_formed();
         let name = spelling.name();
         name.is_well_formed();
         let at = self.bytes.len();
@@ -141,7 +148,8 @@ impl<A: Heap> Writer<A> {
 
     // RDATA without its length.
     fn put_data(&mut self, value: &RData<A>) -> Result<(), Starved>
-        ensures { OnOk result (self.new ≡ put_flats self.old (data_flats (datum value.now))) }
+        ensures written { OnOk result (self.new ≡ put_flats self.old (data_flats (datum value.now))) }
+        ensures fits { OnOk result (FitsRdata (datum value.now) × AreNamesOf (datum value.now)) }
     {
         match value {
             RData::A(address) => self.put_bytes(&address.0),
@@ -159,7 +167,8 @@ impl<A: Heap> Writer<A> {
     }
 
     fn put_soa(&mut self, soa: &Soa<A>) -> Result<(), Starved>
-        ensures { OnOk result (self.new ≡ put_flats self.old (data_flats (plain.Soa soa.now))) }
+        ensures written { OnOk result (self.new ≡ put_flats self.old (data_flats (plain.Soa soa.now))) }
+        ensures fits { OnOk result (FitsRdata (plain.Soa soa.now) × AreNamesOf (plain.Soa soa.now)) }
     {
         self.put_name(&soa.primary)?;
         self.put_name(&soa.mailbox)?;
@@ -171,7 +180,8 @@ impl<A: Heap> Writer<A> {
     }
 
     fn put_texts(&mut self, texts: &Texts<A>) -> Result<(), Starved>
-        ensures { OnOk result (self.new ≡ put_flat self.old (plain_bytes (strings_bytes texts.now))) }
+        ensures written { OnOk result (self.new ≡ put_flat self.old (plain_bytes (strings_bytes texts.now))) }
+        ensures fits { OnOk result (FitsRdata (plain.Txt texts.now)) }
     {
         for string in texts.strings() {
             let bytes = string.bytes();
@@ -183,7 +193,8 @@ impl<A: Heap> Writer<A> {
 
     // RDATA behind its length.
     fn put_group(&mut self, value: &RData<A>) -> Result<(), Starved>
-        ensures { OnOk result (self.new ≡ put self.old (sized_group (data_flats (datum value.now)))) }
+        ensures written { OnOk result (self.new ≡ put self.old (sized_group (data_flats (datum value.now)))) }
+        ensures fits { OnOk result (FitsRdata (datum value.now) × AreNamesOf (datum value.now)) }
     {
         let at = self.bytes.len();
         self.put_bytes(&[0, 0])?;
@@ -196,7 +207,8 @@ impl<A: Heap> Writer<A> {
 
     #[tactic(auto, unfolding(layout::specs::Pieces::put))]
     fn put_record(&mut self, added: &Record<A>) -> Result<(), Starved>
-        ensures { OnOk result (self.new ≡ after self.old (record_pieces added.now)) }
+        ensures written { OnOk result (self.new ≡ after self.old (record_pieces added.now)) }
+        ensures fits { OnOk result (IsRecord added.now) }
     {
         self.put_name(&added.owner)?;
         self.put_two(added.value.kind().number())?;
@@ -205,9 +217,10 @@ impl<A: Heap> Writer<A> {
         self.put_group(&added.value)
     }
 
-    /// The records in order.
+    /// The records in order. The walk over them finds that each fits its bits and that its names are names.
     pub fn put_records(&mut self, records: &[Record<A>]) -> Result<(), Starved>
-        ensures { OnOk result (self.new ≡ after self.old (flat_map record_pieces records.now)) }
+        ensures written { OnOk result (self.new ≡ after self.old (flat_map record_pieces records.now)) }
+        ensures fits { OnOk result (AllByRecursion IsRecord records.now) }
     {
         for added in records {
             self.put_record(added)?;
@@ -215,18 +228,20 @@ impl<A: Heap> Writer<A> {
         Ok(())
     }
 
-    #[tactic(auto, unfolding(layout::specs::Pieces::put))]
+    #[tactic(auto, using(crate::proofs::Fitting::spelling_of_name), unfolding(layout::specs::Pieces::put))]
     fn put_question(&mut self, question: &Question<A>) -> Result<(), Starved>
-        ensures { OnOk result (self.new ≡ after self.old (question_pieces question.now)) }
+        ensures written { OnOk result (self.new ≡ after self.old (question_pieces question.now)) }
+        ensures fits { OnOk result (IsQuestion question.now) }
     {
         self.put_asked(&question.name)?;
         self.put_two(question.qtype)?;
         self.put_two(question.qclass)
     }
 
-    /// The questions in order.
+    /// The questions in order. The walk over them finds that each fits its bits.
     pub fn put_questions(&mut self, questions: &[Question<A>]) -> Result<(), Starved>
-        ensures { OnOk result (self.new ≡ after self.old (flat_map question_pieces questions.now)) }
+        ensures written { OnOk result (self.new ≡ after self.old (flat_map question_pieces questions.now)) }
+        ensures fits { OnOk result (AllByRecursion IsQuestion questions.now) }
     {
         for question in questions {
             self.put_question(question)?;
@@ -242,7 +257,8 @@ impl<A: Heap> Writer<A> {
         qtype: u16,
         qclass: u16,
     ) -> Result<(), Starved>
-        ensures { OnOk result (self.new ≡ after self.old (question_pieces (record { name = spelling.now; qtype = qtype; qclass = qclass }))) }
+        ensures written { OnOk result (self.new ≡ after self.old (question_pieces (record { name = spelling.now; qtype = qtype; qclass = qclass }))) }
+        ensures fits { OnOk result (IsQuestion (record { name = spelling.now; qtype = qtype; qclass = qclass })) }
     {
         self.put_spelling(spelling)?;
         self.put_two(qtype)?;
@@ -252,7 +268,8 @@ impl<A: Heap> Writer<A> {
     #[tactic(auto, unfolding(layout::specs::Pieces::put))]
     /// A header with its counts.
     pub fn put_header(&mut self, header: Header, counts: Tally) -> Result<(), Starved>
-        ensures { OnOk result (self.new ≡ after self.old (header_pieces header (counts_by counts))) }
+        ensures written { OnOk result (self.new ≡ after self.old (header_pieces header (counts_by counts))) }
+        ensures fits { OnOk result (IsHeader header) }
     {
         let high = u8::from(header.qr) * 128
             + header.opcode * 8

@@ -1,8 +1,10 @@
 use Rattle.std.proofs.Common.{◌≡◌, take}
 use Rattle.std.specs.Prelude.{flat_map}
+use Rattle.std.specs.List.{AllByRecursion}
 use Rattle.layout.specs.Pieces.{after}
-use Rattle.layout.specs.Messages.{record_pieces}
+use Rattle.layout.specs.Messages.{record_pieces, IsRecord}
 use Rattle.wire.proofs.writer.Writer.put_records.Given as goal
 
 abbrev pub invariant-loop-added : goal.invariant-loop-added
-invariant-loop-added g l = l.self ≡ after l.initial.self (flat_map record_pieces (take l.added-index l.records))
+invariant-loop-added g l =
+    (l.self ≡ after l.initial.self (flat_map record_pieces (take l.added-index l.records))) × AllByRecursion IsRecord (take l.added-index l.records)

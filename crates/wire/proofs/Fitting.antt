@@ -1,0 +1,37 @@
+-- What is written fits its bits, so that it is the message that is read back.
+use Rattle.std.proofs.Common.{◌≡◌, ℕ, ◌+◌, ◌<◌, ◌≤◌, List, [], ◌∷◌, ◌++◌, length, take, get_or, Result, Ok, Err, sym, ◌∙◌, ap, subst, arith}
+use Rattle.std.proofs.lemmas.List.{take_more}
+use Rattle.std.specs.Prelude.{IfOk}
+use Rattle.std.specs.List.{AllByRecursion}
+use Rattle.dname.specs.Labels.{AreLabels, IsName}
+use Rattle.layout.specs.Messages.{AreSpelled, IsSpelling, Message, IsWritable, IsMessage, encoding, folded_message}
+use Rattle.layout.proofs.Whole.{encoding_holds}
+use Rattle.wire.specs.declared.error.WireError.{WireError}
+
+pub all_both : {X : Type 0} (P : X → Type 0) (xs ys : List X) → AllByRecursion P xs → AllByRecursion P ys → AllByRecursion P (xs ++ ys)
+all_both P [] ys h k = k
+all_both P (x ∷ xs) ys (first, rest) k = (first, all_both P xs ys rest k)
+
+-- One element more of a list that is walked.
+pub all_more : {X : Type 0} (P : X → Type 0) (xs : List X) (i : ℕ) (x : X) → AllByRecursion P (take i xs) → i < length xs → x ≡ get_or xs i x → P x
+    → AllByRecursion P (take (i + 1) xs)
+all_more P xs i x h less e p =
+    let more : take (i + 1) xs ≡ take i xs ++ x ∷ [] = take_more xs i x less ∙ ap (λ y. take i xs ++ y ∷ []) (sym e) in
+    subst (AllByRecursion P) (sym more) (all_both P (take i xs) (x ∷ []) h (p, tt))
+
+-- A name is a spelling: its own, in lower case.
+pub spelling_of_name : (name : List (List ℕ)) → IsName name → IsSpelling name
+spelling_of_name name h = record { spelled = labels name h.labels; short = h.short }
+  where
+    labels : (ls : List (List ℕ)) → AreLabels ls → AreSpelled ls
+    labels [] k = k
+    labels (l ∷ []) k = k
+    labels (l ∷ m ∷ rest) (first, others) = (first.nonempty, first.short, labels (m ∷ rest) others)
+
+-- A text within the limit is the message that was written.
+pub message_ok : {X : Type 0} (items : X → List ℕ) (r : Result X WireError) (m : Message) (limit : ℕ) → limit ≤ 65535 → IsWritable m
+    → IfOk r (λ v. (items v ≡ encoding m) × (length (encoding m) ≤ limit)) → IfOk r (λ v. IsMessage (items v) (folded_message m))
+message_ok items (Ok v) m limit few is h =
+    let short : length (encoding m) ≤ 65535 = omega (arith, h.1, few) in
+    subst (λ (x : List ℕ). IsMessage x (folded_message m)) (sym h.0) (encoding_holds m is short)
+message_ok items (Err x) m limit few is h = h
