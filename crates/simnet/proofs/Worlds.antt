@@ -34,7 +34,7 @@ yes_origin n zs = yes_any (λ z. yes_same z.origin n) zs
 yes_bytes : (a b : List ℕ) → Yes (pointwise nat_eq a b) (a ≡ b)
 yes_bytes a b = record { so = (bytes_decides a b).0; test = (bytes_decides a b).1 }
 
-yes_serves : (a : Address) (o : Name) (hs : List Host) → Yes (serves a o hs) ((h : Host) × Contains hs h × (h.address ≡ a) × Contains h.origins o)
+pub yes_serves : (a : Address) (o : Name) (hs : List Host) → Yes (serves a o hs) ((h : Host) × Contains hs h × (h.address ≡ a) × Contains h.origins o)
 yes_serves a o hs = yes_as (λ p. (p.0, p.1, p.2.0, p.2.1)) (λ p. (p.0, p.1, (p.2, p.3))) (yes_any (λ h. yes_and (yes_bytes h.address a) (yes_name o h.origins)) hs)
 
 yes_type : (t : ℕ) (r : Record) → Yes (is_type t r) (type_of r.value ≡ t)

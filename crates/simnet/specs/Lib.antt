@@ -1,3 +1,4 @@
+pub mod Hosting
 pub mod Judging
 pub mod Kept
 pub mod Refusals
