@@ -1,5 +1,6 @@
 pub mod Ascents
 pub mod Charges
+pub mod Chosen
 pub mod OneAnswers
 pub mod Picks
 pub mod SomeAnswers

@@ -1,5 +1,5 @@
 -- Which of several zones answers for a name, and what it gives.
-use Rattle.std.specs.Prelude.{◌≡◌, ◌≢◌, ℕ, ◌≤◌, Bool, false, ◌||◌, Option, Some, None, ◌⊎◌, List, [], ◌∷◌, length, find, Contains}
+use Rattle.std.specs.Prelude.{◌≡◌, ◌≢◌, ℕ, ◌≤◌, Bool, true, false, ◌||◌, Option, Some, None, ◌⊎◌, List, [], ◌∷◌, length, find, filter, Contains}
 use Rattle.std.specs.List.{list_any}
 use Rattle.dname.specs.Labels.{same_name, IsAtOrUnder}
 use Rattle.rdata.specs.Records.{Record}
@@ -41,6 +41,22 @@ looked_in q t (Some z) = said_by_zone q t z (denial_of z)
 
 abbrev pub looked : List Zone → List (List ℕ) → ℕ → Local
 looked zs q t = looked_in q t (zone_over zs q)
+
+-- Those zones whose origins are listed: the ones that a server answers from, of all that there are.
+abbrev pub has_origin_in : List (List (List ℕ)) → Zone → Bool
+has_origin_in origins z = list_any (λ (n : List (List ℕ)). same_name z.origin n) origins
+
+abbrev pub among : List (List (List ℕ)) → List Zone → List Zone
+among origins zs = filter (has_origin_in origins) zs
+
+-- Where there is no list, all zones.
+abbrev pub is_chosen : Option (List (List (List ℕ))) → Zone → Bool
+is_chosen None z = true
+is_chosen (Some origins) z = has_origin_in origins z
+
+abbrev pub chosen : Option (List (List (List ℕ))) → List Zone → List Zone
+chosen None zs = zs
+chosen (Some origins) zs = among origins zs
 
 -- Two zones have one origin.
 abbrev pub has_twins : List Zone → Bool

@@ -1,10 +1,10 @@
-ghost use Rattle.std.specs.Prelude.{◌≡◌, ◌||◌, ℕ, Some, None, find, IfOk, MatchResult, true, false};
+ghost use Rattle.std.specs.Prelude.{◌≡◌, ◌&&◌, ◌||◌, ℕ, Some, None, find, IfOk, MatchResult, true, false};
 ghost use Rattle.std.specs.List.{list_any};
 ghost use Rattle.std.specs.Option.{option_copied};
 ghost use Rattle.dname.specs.Labels.{same_name};
 ghost use Rattle.rdata.specs.Types.{type_number};
 ghost use Rattle.authority.specs.Answers.{local_view};
-ghost use Rattle.authority.specs.Catalogs.{zone_at, zone_over, looked, has_twins, AreNamed, IsLooked};
+ghost use Rattle.authority.specs.Catalogs.{zone_over, looked, among, is_chosen, has_origin_in, chosen, has_twins, AreNamed, IsLooked};
 ghost use Rattle.authority.specs.CatalogFaults.{catalog_fault_number, CatalogRefuses};
 
 use crate::answer::Local;
@@ -72,11 +72,37 @@ fn is_at<A: Allocator>(zone: &Zone<A>, name: &Name<A>) -> bool
     *zone.origin() == *name
 }
 
-// The zone of that origin.
-fn zone_at<'a, A: Allocator>(zones: &'a [Zone<A>], name: &Name<A>) -> Option<&'a Zone<A>>
-    ensures { option_copied result ≡ zone_at name.now zones.now }
+fn has_origin_in<A: Allocator>(zone: &Zone<A>, origins: &[Name<A>]) -> bool
+    ensures { result ≡ has_origin_in origins.now zone.now }
 {
-    zones.iter().find(|zone| is_at(zone, name))
+    origins.iter().any(|origin| is_at(zone, origin))
+}
+
+// Whether the zone's origin is listed. Without a list, each is.
+fn is_chosen<A: Allocator>(zone: &Zone<A>, listed: Option<&[Name<A>]>) -> bool
+    ensures { result ≡ is_chosen (option_copied listed.entry) zone.now }
+{
+    match listed {
+        None => true,
+        Some(origins) => has_origin_in(zone, origins),
+    }
+}
+
+fn is_chosen_at<A: Allocator>(zone: &Zone<A>, listed: Option<&[Name<A>]>, name: &Name<A>) -> bool
+    ensures { result ≡ (same_name zone.now.origin name.now && is_chosen (option_copied listed.entry) zone.now) }
+{
+    is_at(zone, name) && is_chosen(zone, listed)
+}
+
+// The zone of that origin, if it is listed.
+fn zone_at<'a, A: Allocator>(
+    zones: &'a [Zone<A>],
+    listed: Option<&[Name<A>]>,
+    name: &Name<A>,
+) -> Option<&'a Zone<A>>
+    ensures { option_copied result ≡ find (λ z. same_name z.origin name.now && is_chosen (option_copied listed.entry) z) zones.now }
+{
+    zones.iter().find(|zone| is_chosen_at(zone, listed, name))
 }
 
 fn has_zone_at<A: Allocator>(zones: &[Zone<A>], name: &Name<A>) -> bool
@@ -114,20 +140,21 @@ fn have_named_origins<A: Allocator>(zones: &[Zone<A>])
     }
 }
 
-// The zone with the longest origin over the name.
+// The zone with the longest origin over the name, of those that are listed.
 fn zone_over<'a, A: Heap>(
     zones: &'a [Zone<A>],
+    listed: Option<&[Name<A>]>,
     name: &Name<A>,
 ) -> Result<Option<&'a Zone<A>>, Starved>
-    ensures { IfOk result (λ z. option_copied z ≡ zone_over zones.now name.now) }
+    ensures { IfOk result (λ z. option_copied z ≡ zone_over (chosen (option_copied listed.entry) zones.now) name.now) }
 {
     name.is_well_formed();
     let mut up = name.clone()?;
-    if let Some(found) = zone_at(zones, &up) {
+    if let Some(found) = zone_at(zones, listed, &up) {
         return Ok(Some(found));
     }
     'up: while up.ascend() {
-        if let Some(found) = zone_at(zones, &up) {
+        if let Some(found) = zone_at(zones, listed, &up) {
             return Ok(Some(found));
         }
     }
@@ -159,7 +186,36 @@ impl<A: Heap> Catalog<A> {
         ensures value { IfOk result (λ l. local_view l ≡ looked self.now name.now (type_number kind)) }
         ensures relation { IfOk result (λ l. IsLooked self.now name.now (type_number kind) (local_view l)) }
     {
-        match zone_over(&self.zones, name)? {
+        self.look_through(alloc, None, name, kind)
+    }
+
+    /// The same of those zones alone whose origins are listed: what a server of these zones says. Origins
+    /// without a zone mean nothing.
+    pub fn look_among(
+        &self,
+        alloc: A,
+        origins: &[Name<A>],
+        name: &Name<A>,
+        kind: RType,
+    ) -> Result<Local<A>, Starved>
+        ensures value { IfOk result (λ l. local_view l ≡ looked (among origins.now self.now) name.now (type_number kind)) }
+        ensures relation { IfOk result (λ l. IsLooked (among origins.now self.now) name.now (type_number kind) (local_view l)) }
+    {
+        self.look_through(alloc, Some(origins), name, kind)
+    }
+
+    // Without a list, of all zones.
+    fn look_through<'a>(
+        &'a self,
+        alloc: A,
+        listed: Option<&'a [Name<A>]>,
+        name: &Name<A>,
+        kind: RType,
+    ) -> Result<Local<A>, Starved>
+        ensures value { IfOk result (λ l. local_view l ≡ looked (chosen (option_copied listed.entry) self.now) name.now (type_number kind)) }
+        ensures relation { IfOk result (λ l. IsLooked (chosen (option_copied listed.entry) self.now) name.now (type_number kind) (local_view l)) }
+    {
+        match zone_over(&self.zones, listed, name)? {
             None => Ok(Local::NotHere),
             Some(zone) => {
                 zone_keeps_rules(zone);

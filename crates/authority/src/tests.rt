@@ -91,7 +91,14 @@ fn told<A: Heap>(
     kind: RType,
 ) -> Result<(&'static str, String<A>, usize, usize), Starved> {
     let asked = name(alloc, asked)?;
-    match zones.look(alloc, &asked, kind)? {
+    described(alloc, zones.look(alloc, &asked, kind)?)
+}
+
+fn described<A: Heap>(
+    alloc: A,
+    said: Local<A>,
+) -> Result<(&'static str, String<A>, usize, usize), Starved> {
+    match said {
         Local::Link(Link::Found(set)) => {
             let owner = match set.as_slice() {
                 [first, ..] => first.owner.to_text()?,
@@ -183,6 +190,54 @@ fn answers_from_the_longest_origin(rt: HostRuntime) -> Result<(), Fail> {
     Ok(())
 }
 
+// The same of the zones whose origins are listed.
+fn told_among<A: Heap>(
+    alloc: A,
+    zones: &Catalog<A>,
+    listed: &[&str],
+    asked: &str,
+) -> Result<(&'static str, String<A>, usize, usize), Starved> {
+    let mut origins = Vec::new(alloc);
+    for origin in listed {
+        origins.push(name(alloc, origin)?)?;
+    }
+    let asked = name(alloc, asked)?;
+    described(
+        alloc,
+        zones.look_among(alloc, &origins, &asked, RType::Txt)?,
+    )
+}
+
+#[test]
+fn answers_from_listed_zones_alone(rt: HostRuntime) -> Result<(), Fail> {
+    let zones = catalog(rt.alloc())?;
+    for (listed, asked, answer, owner) in [
+        (
+            ["example", "lab.example"].as_slice(),
+            "x.lab.example",
+            "found",
+            "x.lab.example.",
+        ),
+        (&["lab.example"], "x.lab.example", "found", "x.lab.example."),
+        // The shorter origin, where the longer one is not listed.
+        (&["example"], "x.lab.example", "no name", "example."),
+        // Listed, but not over the name; without a zone; none at all.
+        (&["lab.example"], "x.example", "not here", ""),
+        (
+            &["test", "b.lab.example"],
+            "a.b.lab.example",
+            "not here",
+            "",
+        ),
+        (&[], "x.lab.example", "not here", ""),
+    ] {
+        let (word, name, _, _) = told_among(rt.alloc(), &zones, listed, asked)?;
+        assert_eq!(rt; word, answer, "for {asked}");
+        assert_eq!(rt; name.as_str(), owner, "for {asked}");
+    }
+    Ok(())
+}
+
 #[test]
 fn refuses_twins(rt: HostRuntime) -> Result<(), Fail> {
     let mut zones = Vec::new(rt.alloc());
@@ -206,6 +261,7 @@ fn both_told<A: Heap>(alloc: A) -> Result<(usize, usize), Starved> {
     let zones = catalog(alloc)?;
     let (_, _, found, _) = told(alloc, &zones, "x.lab.example", RType::Txt)?;
     let (_, _, _, glue) = told(alloc, &zones, "x.sub.lab.example", RType::A)?;
+    told_among(alloc, &zones, &["example"], "x.lab.example")?;
     Ok((found, glue))
 }
 

@@ -11,7 +11,7 @@ use crate::queries::{End, Outcome, Query};
 use authority::{Catalog, Cause, Link, Local};
 use dname::{Heap, Name, Starved};
 use rdata::{RData, RType, Record, Records};
-use std::alloc::Allocator;
+use std::alloc::{Allocator, Global};
 
 // The aliases that a chain may have.
 const MOST: usize = 8;
@@ -46,41 +46,47 @@ fn follow<A: Heap>(
     let mut aliases = Records::new(alloc);
     let mut found = Local::Link(first);
     'aliases: loop {
-        let step = step_at(alloc, found)?;
+        let step = Step::of(alloc, found)?;
         match step {
             Step::Ended(end) => return Ok(Outcome::Answer(true, aliases, end)),
             Step::Onward(alias) => {
                 if aliases.len() == MOST {
                     return Ok(Outcome::Fail(Cause::Chain));
                 }
-                found = catalog.look(alloc, target(&alias), kind)?;
+                found = catalog.look(alloc, alias_target(&alias), kind)?;
                 aliases.push(alias)?;
             }
         }
     }
 }
 
-// What a look-up means for a chain: one alias more, or its end.
+/// What a look-up means for a chain.
 #[derive(Drop)]
-enum Step<A: Allocator> {
+pub enum Step<A: Allocator = Global> {
+    /// One alias more.
     Onward(Record<A>),
+    /// Its end.
     Ended(End<A>),
 }
 
-fn step_at<A: Heap>(alloc: A, found: Local<A>) -> Result<Step<A>, Starved>
-    ensures { IfOk result (IsStep (local_view found)) }
-{
-    match found {
-        Local::Link(Link::Alias(alias)) => Ok(Step::Onward(alias)),
-        Local::Link(Link::Found(set)) => Ok(Step::Ended(End::Found(set))),
-        Local::Link(Link::NoData(soa)) => Ok(Step::Ended(End::NoData(alone(alloc, soa)?))),
-        Local::Link(Link::NxDomain(soa)) => Ok(Step::Ended(End::NxDomain(alone(alloc, soa)?))),
-        Local::Cut(_, _, _) | Local::NotHere => Ok(Step::Ended(End::Outside)),
+impl<A: Heap> Step<A> {
+    /// The step that this look-up is: a link other than an alias ends a chain, and so does a cut or a name of
+    /// which nothing is said.
+    pub fn of(alloc: A, found: Local<A>) -> Result<Step<A>, Starved>
+        ensures { IfOk result (IsStep (local_view found)) }
+    {
+        match found {
+            Local::Link(Link::Alias(alias)) => Ok(Step::Onward(alias)),
+            Local::Link(Link::Found(set)) => Ok(Step::Ended(End::Found(set))),
+            Local::Link(Link::NoData(soa)) => Ok(Step::Ended(End::NoData(alone(alloc, soa)?))),
+            Local::Link(Link::NxDomain(soa)) => Ok(Step::Ended(End::NxDomain(alone(alloc, soa)?))),
+            Local::Cut(_, _, _) | Local::NotHere => Ok(Step::Ended(End::Outside)),
+        }
     }
 }
 
-// The name that an alias leads to.
-fn target<A: Allocator>(alias: &Record<A>) -> &Name<A>
+/// The name that an alias leads to; of another record, its owner.
+pub fn alias_target<A: Allocator>(alias: &Record<A>) -> &Name<A>
     ensures { result.now ≡ target_of alias.now }
 {
     match &alias.value {

@@ -11,8 +11,9 @@ mod reply;
 mod start;
 
 pub use echo::Echo;
-pub use follow::answer_local;
+pub use follow::{Step, alias_target, answer_local};
 pub use laws::{local_answer_is_one, reading_is_one};
+pub use parts::Parts;
 pub use queries::{Asked, End, Outcome, Query, Refusal, Via};
 pub use read::read_query;
 pub use reply::{refusal_bytes, reply_bytes};

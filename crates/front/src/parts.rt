@@ -14,6 +14,7 @@ use wire::{Draft, Header, Spelling, WireError, encode_draft};
 #[derive(Drop)]
 pub struct Parts<'a, A: Allocator = Global> {
     pub header: Header,
+    /// The one question, if there is one.
     pub question: Option<&'a Echo<A>>,
     /// The answer is `first` and then `second`.
     pub first: &'a [Record<A>],
@@ -32,36 +33,35 @@ impl<'a, A: Allocator> Model for Parts<'a, A> {
     ghost view = { λ p. record { header = p.header; questions = asked_alone (option_copied p.question); answer = p.first.now ++ p.second.now; authority = p.authority.now; additional = p.additional.now } };
 }
 
-// The bytes of a message; none where they are more than the limit.
-pub fn encoded<A: Heap>(
-    alloc: A,
-    parts: &Parts<'_, A>,
-    limit: usize,
-) -> Result<Option<Vec<u8, A>>, Starved>
-    requires { limit ≤ 65535 }
-    ensures { IfOk result (λ o. MatchOption o (limit < length (encoding parts.now)) (λ v. (v.items ≡ encoding parts.now) × (length v.items ≤ limit))) }
-{
-    let draft = Draft {
-        header: parts.header,
-        question: asked(parts.question),
-        first: parts.first,
-        second: parts.second,
-        authority: parts.authority,
-        additional: parts.additional,
-    };
-    let written = encode_draft(alloc, &draft, limit);
-    let Draft {
-        header: _,
-        question: _,
-        first: _,
-        second: _,
-        authority: _,
-        additional: _,
-    } = draft;
-    match written {
-        Ok(bytes) => Ok(Some(bytes)),
-        Err(WireError::OverLimit) => Ok(None),
-        Err(_) => Err(Starved),
+impl<A: Heap> Parts<'_, A> {
+    /// The bytes of the message, in its one encoding; none where they are more than `limit`, which is at most
+    /// 65,535 (RFC 1035, sections 4.1 and 4.2).
+    pub fn encode(&self, alloc: A, limit: usize) -> Result<Option<Vec<u8, A>>, Starved>
+        requires { limit ≤ 65535 }
+        ensures { IfOk result (λ o. MatchOption o (limit < length (encoding self.now)) (λ v. (v.items ≡ encoding self.now) × (length v.items ≤ limit))) }
+    {
+        let draft = Draft {
+            header: self.header,
+            question: asked(self.question),
+            first: self.first,
+            second: self.second,
+            authority: self.authority,
+            additional: self.additional,
+        };
+        let written = encode_draft(alloc, &draft, limit);
+        let Draft {
+            header: _,
+            question: _,
+            first: _,
+            second: _,
+            authority: _,
+            additional: _,
+        } = draft;
+        match written {
+            Ok(bytes) => Ok(Some(bytes)),
+            Err(WireError::OverLimit) => Ok(None),
+            Err(_) => Err(Starved),
+        }
     }
 }
 

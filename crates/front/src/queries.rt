@@ -1,12 +1,12 @@
 //! What a client asks, and what it is to be answered.
-ghost use Rattle.std.specs.Prelude.{◌≡◌};
-ghost use Rattle.front.specs.Replies.{refusal_rcode};
+ghost use Rattle.std.specs.Prelude.{◌≡◌, ◌<◌};
+ghost use Rattle.front.specs.Replies.{refusal_rcode, end_rcode, found_in, denied_by};
 
 use crate::echo::Echo;
 use crate::start::Start;
 use authority::Cause;
 use dname::Name;
-use rdata::{RType, Records};
+use rdata::{RType, Record, Records};
 use std::alloc::{Allocator, Global};
 
 /// Why a query is refused before it is looked at.
@@ -70,6 +70,39 @@ pub enum End<A: Allocator = Global> {
     NxDomain(Records<A>),
     /// At a name of which nothing is said here.
     Outside,
+}
+
+impl<A: Allocator> End<A> {
+    /// The RCODE of a reply that ends so: 3 for a name error, else 0 (RFC 2308, section 2).
+    pub fn rcode(&self) -> u8
+        ensures is { result ≡ end_rcode self.now }
+        ensures fits { result < 16 }
+    {
+        match self {
+            End::NxDomain(_) => 3,
+            _ => 0,
+        }
+    }
+
+    /// The records that stand behind the aliases in the answer.
+    pub fn found(&self) -> &[Record<A>]
+        ensures { result.now ≡ found_in self.now }
+    {
+        match self {
+            End::Found(set) => set.as_slice(),
+            _ => &[],
+        }
+    }
+
+    /// The SOA of a denial, for the authority section (RFC 2308, section 2).
+    pub fn denial(&self) -> &[Record<A>]
+        ensures { result.now ≡ denied_by self.now }
+    {
+        match self {
+            End::NoData(soa) | End::NxDomain(soa) => soa.as_slice(),
+            _ => &[],
+        }
+    }
 }
 
 /// What a query is to be answered.

@@ -3,15 +3,14 @@ ghost use Rattle.std.specs.Prelude.{◌≡◌, false, ◌≤◌, ◌<◌, [], �
 ghost use Rattle.dname.specs.Labels.{wire};
 ghost use Rattle.wire.specs.Drafts.{asked_alone};
 ghost use Rattle.layout.specs.Messages.{encoding};
-ghost use Rattle.front.specs.Replies.{reply_header, whole_reply, cut_reply, bare, reply_of, limit_of, failure_of, refusal_reply, end_rcode, found_in, denied_by};
+ghost use Rattle.front.specs.Replies.{reply_header, whole_reply, cut_reply, bare, reply_of, limit_of, failure_of, refusal_reply};
 
 use crate::echo::Echo;
-use crate::parts::{Parts, encoded};
-use crate::queries::{End, Outcome, Query, Refusal, Via};
+use crate::parts::Parts;
+use crate::queries::{Outcome, Query, Refusal, Via};
 use crate::start::Start;
 use authority::Cause;
 use dname::{Heap, Starved};
-use rdata::Record;
 use std::alloc::Allocator;
 use wire::Header;
 
@@ -30,14 +29,14 @@ pub fn reply_bytes<A: Heap>(
     let cause = cause_in(outcome);
     let whole = draft_of(query, outcome);
     match via {
-        Via::Udp => match encoded(alloc, &whole, 512)? {
+        Via::Udp => match whole.encode(alloc, 512)? {
             Some(bytes) => Ok((bytes, cause)),
             None => {
                 is_short(Some(&query.echo));
                 Ok((short_bytes(alloc, &cut(&whole), 512)?, cause))
             }
         },
-        Via::Tcp => match encoded(alloc, &whole, 65_535)? {
+        Via::Tcp => match whole.encode(alloc, 65_535)? {
             Some(bytes) => Ok((bytes, cause)),
             None => {
                 is_short(Some(&query.echo));
@@ -70,7 +69,7 @@ fn short_bytes<A: Heap>(alloc: A, parts: &Parts<'_, A>, limit: usize) -> Result<
     ensures bytes { IfOk result (λ r. r.items ≡ encoding parts.now) }
     ensures short { IfOk result (λ r. length r.items ≤ limit) }
 {
-    match encoded(alloc, parts, limit)? {
+    match parts.encode(alloc, limit)? {
         Some(bytes) => Ok(bytes),
         None => unreachable!(),
     }
@@ -148,11 +147,11 @@ fn draft_of<'a, A: Allocator>(query: &'a Query<A>, outcome: &'a Outcome<A>) -> P
 {
     match outcome {
         Outcome::Answer(aa, aliases, end) => Parts {
-            header: header(query.start, *aa, false, rcode_at(end)),
+            header: header(query.start, *aa, false, end.rcode()),
             question: Some(&query.echo),
             first: aliases.as_slice(),
-            second: found_at(end),
-            authority: denial_at(end),
+            second: end.found(),
+            authority: end.denial(),
             additional: &[],
         },
         Outcome::Referral(ns, glue) => Parts {
@@ -165,33 +164,5 @@ fn draft_of<'a, A: Allocator>(query: &'a Query<A>, outcome: &'a Outcome<A>) -> P
         },
         Outcome::Refused => empty_draft(query.start, Some(&query.echo), 5),
         Outcome::Fail(_) => empty_draft(query.start, Some(&query.echo), 2),
-    }
-}
-
-fn rcode_at<A: Allocator>(end: &End<A>) -> u8
-    ensures is { result ≡ end_rcode end.now }
-    ensures fits { result < 16 }
-{
-    match end {
-        End::NxDomain(_) => 3,
-        _ => 0,
-    }
-}
-
-fn found_at<A: Allocator>(end: &End<A>) -> &[Record<A>]
-    ensures { result.now ≡ found_in end.now }
-{
-    match end {
-        End::Found(set) => set.as_slice(),
-        _ => &[],
-    }
-}
-
-fn denial_at<A: Allocator>(end: &End<A>) -> &[Record<A>]
-    ensures { result.now ≡ denied_by end.now }
-{
-    match end {
-        End::NoData(soa) | End::NxDomain(soa) => soa.as_slice(),
-        _ => &[],
     }
 }
