@@ -7,8 +7,8 @@ use Rattle.authority.specs.declared.cause.Cause.TheVariants.{Large}
 use Rattle.front.specs.Replies.{whole_reply, cut_reply, bare, failure_of, limit_of, reply_of}
 use Rattle.front.specs.declared.queries.Query.{Query}
 use Rattle.front.specs.declared.queries.Outcome.{Outcome}
-use Rattle.front.specs.declared.queries.Via.{Via}
-use Rattle.front.specs.declared.queries.Via.TheVariants.{Udp, Tcp}
+use Rattle.wire.specs.declared.via.Via.{Via}
+use Rattle.wire.specs.declared.via.Via.TheVariants.{Udp, Tcp}
 
 fits : {X : Type 0} (n l : ℕ) (x y : X) → l ≤ n → (if nat_lt n l then x else y) ≡ y
 fits n l x y short = rw (le-ltb n l short) refl

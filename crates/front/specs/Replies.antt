@@ -13,8 +13,8 @@ use Rattle.front.specs.declared.queries.End.{End}
 use Rattle.front.specs.declared.queries.End.TheVariants.{Found, NoData, NxDomain}
 use Rattle.front.specs.declared.queries.Outcome.{Outcome}
 use Rattle.front.specs.declared.queries.Outcome.TheVariants.{Answer, Referral, Refused, Fail}
-use Rattle.front.specs.declared.queries.Via.{Via}
-use Rattle.front.specs.declared.queries.Via.TheVariants.{Udp, Tcp}
+use Rattle.wire.specs.declared.via.Via.{Via}
+use Rattle.wire.specs.declared.via.Via.TheVariants.{Udp, Tcp}
 
 abbrev pub refusal_rcode : Refusal → ℕ
 refusal_rcode FormErr = 1

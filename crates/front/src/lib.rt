@@ -14,10 +14,11 @@ pub use echo::Echo;
 pub use follow::{Step, alias_target, answer_local};
 pub use laws::{local_answer_is_one, reading_is_one};
 pub use parts::Parts;
-pub use queries::{Asked, End, Outcome, Query, Refusal, Via};
+pub use queries::{Asked, End, Outcome, Query, Refusal};
 pub use read::read_query;
 pub use reply::{refusal_bytes, reply_bytes};
 pub use start::Start;
+pub use wire::Via;
 
 #[cfg(test)]
 mod tests;

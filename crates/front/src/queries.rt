@@ -52,13 +52,6 @@ pub enum Asked<A: Allocator = Global> {
     Query(Query<A>),
 }
 
-/// How a client's bytes came, and its reply goes.
-#[derive(Clone, Copy, Debug, PartialEq, Eq)]
-pub enum Via {
-    Udp,
-    Tcp,
-}
-
 /// Where a chain of aliases ends.
 #[derive(Drop)]
 pub enum End<A: Allocator = Global> {

@@ -7,12 +7,12 @@ ghost use Rattle.front.specs.Replies.{reply_header, whole_reply, cut_reply, bare
 
 use crate::echo::Echo;
 use crate::parts::Parts;
-use crate::queries::{Outcome, Query, Refusal, Via};
+use crate::queries::{Outcome, Query, Refusal};
 use crate::start::Start;
 use authority::Cause;
 use dname::{Heap, Starved};
 use std::alloc::Allocator;
-use wire::Header;
+use wire::{Header, Via};
 
 /// The bytes of the reply, and the cause of a SERVFAIL. A reply over 512 bytes on UDP keeps header and
 /// question, with TC set; one over 65,535 bytes on TCP is a SERVFAIL.

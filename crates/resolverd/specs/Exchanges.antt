@@ -12,7 +12,7 @@ use Rattle.front.specs.Replies.{refusal_reply, reply_of}
 use Rattle.front.specs.declared.queries.Asked.{Asked}
 use Rattle.front.specs.declared.queries.Asked.TheVariants.{Drop, Refuse, Query}
 use Rattle.front.specs.declared.queries.Outcome.{Outcome}
-use Rattle.front.specs.declared.queries.Via.TheVariants.{Udp}
+use Rattle.wire.specs.declared.via.Via.TheVariants.{Udp}
 use Rattle.script.specs.Lines.{ArePrinted}
 use Rattle.resolverd.specs.Zones.{HoldsZone}
 

@@ -3,7 +3,7 @@ use Rattle.std.proofs.Common.{rules, ◌∙◌, sym, ap, arith, ◌<◌, ◌≤�
 use Rattle.layout.specs.Messages.{Message, encoding}
 use Rattle.authority.specs.declared.cause.Cause.{Cause}
 use Rattle.front.specs.Replies.{reply_of, cut_reply}
-use Rattle.front.specs.declared.queries.Via.{Via}
+use Rattle.wire.specs.declared.via.Via.{Via}
 use Rattle.front.proofs.Limits.{reply_cut, reply_fails}
 use Rattle.front.proofs.Short.{cut_fits, bare_fits}
 use Rattle.front.proofs.reply.reply_bytes.Goals as goal
