@@ -1,3 +1,4 @@
+pub mod Bounds
 pub mod Hearing
 pub mod Limits
 pub mod Following

@@ -1,9 +1,11 @@
 //! Messages that are written from parts.
-ghost use Rattle.std.specs.Prelude.{◌≡◌, ◌≤◌, ◌<◌, IfOk, MatchOption, length, option_copied};
-ghost use Rattle.layout.specs.Messages.{encoding};
+ghost use Rattle.std.specs.Prelude.{◌≡◌, ◌≤◌, ◌<◌, IfOk, IfSome, MatchOption, length, option_copied};
+ghost use Rattle.std.specs.List.{AllByRecursion};
+ghost use Rattle.layout.specs.Messages.{encoding, IsSpelling, IsWritable};
 ghost use Rattle.wire.specs.Drafts.{asked_by};
 
 use crate::echo::Echo;
+use crate::writable::{header_is_writable, records_are_writable};
 use dname::{Heap, Starved};
 use rdata::Record;
 use std::alloc::{Allocator, Global};
@@ -63,6 +65,36 @@ impl<A: Heap> Parts<'_, A> {
             Err(_) => Err(Starved),
         }
     }
+}
+
+impl<A: Allocator> Parts<'_, A> {
+    /// A law: the message can be written, where the letters of its question are a name's. Costs nothing.
+    pub fn is_writable(&self)
+        ensures { AllByRecursion (λ q. IsSpelling q.name) self.now.questions → IsWritable self.now }
+    {
+        header_is_writable(self.header);
+        question_is_writable(self.question);
+        records_are_writable(self.first);
+        records_are_writable(self.second);
+        records_are_writable(self.authority);
+        records_are_writable(self.additional);
+    }
+}
+
+fn question_is_writable<A: Allocator>(echo: Option<&Echo<A>>)
+    ensures { IfSome (option_copied echo.entry) (λ q. (q.qtype < 65536) × (q.qclass < 65536)) }
+{
+    if let Some(echo) = echo {
+        echo_is_writable(echo);
+    }
+}
+
+// The type and the class of a question have 16 bits.
+fn echo_is_writable<A: Allocator>(echo: &Echo<A>)
+    ensures { (echo.now.qtype < 65536) × (echo.now.qclass < 65536) }
+{
+    let _kind = echo.qtype;
+    let _class = echo.qclass;
 }
 
 fn asked<'a, A: Allocator>(echo: Option<&'a Echo<A>>) -> Option<(&'a Spelling<A>, u16, u16)>

@@ -3,7 +3,7 @@
 use crate::WorldError;
 use crate::world::{Host, World};
 use dname::{Heap, Name, Starved};
-use rdata::Addr;
+use rdata::{Addr, Records};
 use zone::Zone;
 
 // A line of a world: a zone or a local zone with its origin and master text; a server by the last byte of
@@ -132,6 +132,14 @@ fn zone<A: Heap>(alloc: A, origin: &str, text: &str) -> Result<Zone<A>, Starved>
     };
     match Zone::build(origin, records) {
         Ok(zone) => Ok(zone),
+        Err(_) => Err(Starved),
+    }
+}
+
+// The records of a section, each with its owner and data in full.
+pub fn section<A: Heap>(alloc: A, text: &str) -> Result<Records<A>, Starved> {
+    match masterfile::read(alloc, &name(alloc, ".")?, text) {
+        Ok(records) => Ok(records),
         Err(_) => Err(Starved),
     }
 }

@@ -1,7 +1,7 @@
-use crate::fixtures::{Line, name, world};
+use crate::fixtures::{Line, name, section, world};
 use crate::{World, judge};
 use dname::{Heap, Starved};
-use rdata::{RType, Records};
+use rdata::RType;
 use refusing::Refusing;
 use std::test::Fail;
 use wire::{Header, Message, Question, Questions, encode};
@@ -29,13 +29,6 @@ struct Reply {
     answer: &'static str,
     authority: &'static str,
     additional: &'static str,
-}
-
-fn section<A: Heap>(alloc: A, text: &str) -> Result<Records<A>, Starved> {
-    match masterfile::read(alloc, &name(alloc, ".")?, text) {
-        Ok(records) => Ok(records),
-        Err(_) => Err(Starved),
-    }
 }
 
 fn header(tc: bool, rcode: u8) -> Header {

@@ -126,6 +126,18 @@ impl<A: Allocator> World<A> {
     {
         let _ = &self.hosts;
     }
+
+    pub(crate) fn catalog(&self) -> &Catalog<A>
+        ensures { result.now ≡ self.now.zones }
+    {
+        &self.catalog
+    }
+
+    pub(crate) fn hosts(&self) -> &[Host<A>]
+        ensures { result.now ≡ self.now.hosts }
+    {
+        &self.hosts
+    }
 }
 
 impl<A: Heap> World<A> {
