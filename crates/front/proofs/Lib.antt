@@ -1,4 +1,3 @@
-pub mod Bounds
 pub mod Hearing
 pub mod Limits
 pub mod Following

@@ -9,7 +9,6 @@ mod queries;
 mod read;
 mod reply;
 mod start;
-mod writable;
 
 pub use echo::Echo;
 pub use follow::{Step, alias_target, answer_local};

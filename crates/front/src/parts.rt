@@ -1,11 +1,9 @@
 //! Messages that are written from parts.
 ghost use Rattle.std.specs.Prelude.{◌≡◌, ◌≤◌, ◌<◌, IfOk, IfSome, MatchOption, length, option_copied};
-ghost use Rattle.std.specs.List.{AllByRecursion};
-ghost use Rattle.layout.specs.Messages.{encoding, IsSpelling, IsWritable};
+ghost use Rattle.layout.specs.Messages.{IsMessage, encoding, folded_message};
 ghost use Rattle.wire.specs.Drafts.{asked_by};
 
 use crate::echo::Echo;
-use crate::writable::{header_is_writable, records_are_writable};
 use dname::{Heap, Starved};
 use rdata::Record;
 use std::alloc::{Allocator, Global};
@@ -37,10 +35,11 @@ impl<'a, A: Allocator> Model for Parts<'a, A> {
 
 impl<A: Heap> Parts<'_, A> {
     /// The bytes of the message, in its one encoding; none where they are more than `limit`, which is at most
-    /// 65,535 (RFC 1035, sections 4.1 and 4.2).
+    /// 65,535 (RFC 1035, sections 4.1 and 4.2). They are read back as the message, its question in lower case.
     pub fn encode(&self, alloc: A, limit: usize) -> Result<Option<Vec<u8, A>>, Starved>
         requires { limit ≤ 65535 }
-        ensures { IfOk result (λ o. MatchOption o (limit < length (encoding self.now)) (λ v. (v.items ≡ encoding self.now) × (length v.items ≤ limit))) }
+        ensures bytes { IfOk result (λ o. MatchOption o (limit < length (encoding self.now)) (λ v. (v.items ≡ encoding self.now) × (length v.items ≤ limit))) }
+        ensures message { IfOk result (λ o. IfSome o (λ v. IsMessage v.items (folded_message self.now))) }
     {
         let draft = Draft {
             header: self.header,
@@ -65,36 +64,6 @@ impl<A: Heap> Parts<'_, A> {
             Err(_) => Err(Starved),
         }
     }
-}
-
-impl<A: Allocator> Parts<'_, A> {
-    /// A law: the message can be written, where the letters of its question are a name's. Costs nothing.
-    pub fn is_writable(&self)
-        ensures { AllByRecursion (λ q. IsSpelling q.name) self.now.questions → IsWritable self.now }
-    {
-        header_is_writable(self.header);
-        question_is_writable(self.question);
-        records_are_writable(self.first);
-        records_are_writable(self.second);
-        records_are_writable(self.authority);
-        records_are_writable(self.additional);
-    }
-}
-
-fn question_is_writable<A: Allocator>(echo: Option<&Echo<A>>)
-    ensures { IfSome (option_copied echo.entry) (λ q. (q.qtype < 65536) × (q.qclass < 65536)) }
-{
-    if let Some(echo) = echo {
-        echo_is_writable(echo);
-    }
-}
-
-// The type and the class of a question have 16 bits.
-fn echo_is_writable<A: Allocator>(echo: &Echo<A>)
-    ensures { (echo.now.qtype < 65536) × (echo.now.qclass < 65536) }
-{
-    let _kind = echo.qtype;
-    let _class = echo.qclass;
 }
 
 fn asked<'a, A: Allocator>(echo: Option<&'a Echo<A>>) -> Option<(&'a Spelling<A>, u16, u16)>

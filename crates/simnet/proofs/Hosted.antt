@@ -1,10 +1,10 @@
 -- What a server replies is what it may serve.
 use Rattle.std.proofs.Common.{◌≡◌, ◌≢◌, ◌≤◌, ◌<◌, ℕ, ◌⊎◌, ⊎_elim, inl, inr, true, Option, Some, None, List, [], ◌∷◌, ◌++◌, length, refl, sym, ◌∙◌, ap, subst, arith}
-use Rattle.std.specs.Prelude.{Contains}
+use Rattle.std.specs.Prelude.{Contains, IfSome}
 use Rattle.dname.specs.Labels.{Name, IsAtOrUnder}
 use Rattle.rdata.specs.Records.{Record}
 use Rattle.rdata.specs.Types.{type_number}
-use Rattle.layout.specs.Messages.{Message, folded_message}
+use Rattle.layout.specs.Messages.{Message, IsMessage, folded_message}
 use Rattle.zone.specs.Zones.{Zone}
 use Rattle.zone.specs.Links.{Link, Found, Alias, NoData, NxDomain, IsFrom, IsLink, Says}
 use Rattle.zone.specs.Look.{Local, Linked, Cut, NotHere}
@@ -17,10 +17,13 @@ use Rattle.truth.specs.Serving.{AnswersFrom, IsServersAddress, Refers, AreOwned,
 use Rattle.truth.proofs.Sames.{has_itself, link_itself}
 use Rattle.front.specs.Chains.{Leads, IsEndAt, IsEndOf, target_of}
 use Rattle.front.specs.Replies.{end_rcode, found_in, denied_by}
+use Rattle.front.specs.Laws.{OneReading}
+use Rattle.front.specs.Queries.{IsAsked}
+use Rattle.front.specs.declared.queries.Asked.TheVariants as asked
 use Rattle.front.specs.declared.queries.Query.{Query as Asking}
 use Rattle.front.specs.declared.queries.End.{End}
 use Rattle.front.specs.declared.queries.End.TheVariants as end
-use Rattle.simnet.specs.Hosting.{served, says, IsFollowed, referral_to, answer_to, IsReplyBy}
+use Rattle.simnet.specs.Hosting.{served, says, IsFollowed, referral_to, answer_to, IsReplyBy, IsHonestReply}
 use Rattle.simnet.specs.Refusals.{AreZones}
 use Rattle.simnet.specs.Rules.{serves}
 use Rattle.simnet.proofs.Worlds.{yes_serves, looked_is}
@@ -213,3 +216,21 @@ folded_tells W a q t m (z, from, inr (l, gives)) = (z, from, inr (l, folded_give
 pub reply_is_honest : {A : Type 0} (W : World) (a : Address) (q : Asking A) (m : Message) → IsWorld W
     → IsReplyBy (says W a (type_number q.kind)) q (says W a (type_number q.kind) q.name) (Some m) → MayServe W a q.name (type_number q.kind) (folded_message m)
 reply_is_honest W a q m w h = inl (folded_tells W a q.name (type_number q.kind) m (tells W a (type_number q.kind) q w (says W a (type_number q.kind) q.name) m refl h))
+
+-- The same of the bytes that are sent, if any are.
+pub sent_is_honest : {A V : Type 0} (W : World) (a : Address) (q : Asking A) (look : Name → Local) (l : Local) (m : Message) (items : V → List ℕ) (sent : Option V) → IsWorld W
+    → look ≡ says W a (type_number q.kind) → l ≡ look q.name → IsReplyBy look q l (Some m) → IfSome sent (λ v. IsMessage (items v) (folded_message m))
+    → IfSome sent (λ v. (n : Message) × IsMessage (items v) n × MayServe W a q.name (type_number q.kind) n)
+sent_is_honest W a q look l m items None w same is by written = tt
+sent_is_honest W a q look l m items (Some v) w same is by written =
+    (folded_message m, written, reply_is_honest W a q m w (subst (λ (f : Name → Local). IsReplyBy f q (f q.name) (Some m)) same (subst (λ (k : Local). IsReplyBy look q k (Some m)) is by)))
+
+-- Bytes ask one thing at most.
+same_query : {A : Type 0} (p q : Asking A) → asked.Query p ≡ asked.Query q → p ≡ q
+same_query p q e = cc
+
+pub one_query : {A V : Type 0} (W : World) (a : Address) (bytes : List ℕ) (items : V → List ℕ) (sent : Option V) (q : Asking A) → OneReading A → IsAsked bytes (asked.Query q)
+    → IfSome sent (λ v. (m : Message) × IsMessage (items v) m × MayServe W a q.name (type_number q.kind) m) → IfSome sent (λ v. IsHonestReply A W a bytes (items v))
+one_query W a bytes items None q one reads honest = tt
+one_query W a bytes items (Some v) q one reads honest = λ p other.
+    subst (λ x. (m : Message) × IsMessage (items v) m × MayServe W a x.name (type_number x.kind) m) (same_query q p (one bytes (asked.Query q) (asked.Query p) reads other)) honest
