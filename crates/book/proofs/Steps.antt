@@ -4,10 +4,9 @@ use Rattle.std.proofs.lemmas.List.{take_all, take-take, reverse-append, reverse-
 use Rattle.std.proofs.lemmas.List.Elements.{filter-append}
 use Rattle.std.proofs.lemmas.Grind.{get_or-set_at}
 use Rattle.std.proofs.lemmas.Bool.Decides.{eqb_tells}
-use Rattle.circular_buffer.specs.Buffer.{Buffer, buffer}
 use Rattle.dname.specs.declared.memory.Starved.{Starved}
 use Rattle.book.specs.Histories.{Line, line, lines_of, count_of, Leads}
-use Rattle.book.specs.Books.{Page, page, Seat, seat, Owns, Reached, IsHistory, Adds, Stands}
+use Rattle.book.specs.Books.{Page, Seat, seat, Reached, IsHistory, Adds, Stands}
 
 take_again : {X : Type 0} → (k : ℕ) (x : X) (xs : List X) → take k (x ∷ take k xs) ≡ take k (x ∷ xs)
 take_again zero x xs = refl
@@ -79,16 +78,7 @@ module _ {S E O : Type 0} (moves : S → E → Result O Starved → S → Type 0
         counts = λ w small. f.counts w small ∙ sym (ap (count_of w) all ∙ count_reverse w r.lines);
       }
 
-  -- what `put` writes down adds a line
-  pub written : (p p' : Page S E O) (t t' : Seat) (kept : E) (out : Result O Starved) (s : S) (ring : Buffer (Line E O))
-      → p ≡ p' → t ≡ t' → Owns p' t' → moves p.state kept out s
-      → ring ≡ buffer (take p.keep (line t.worker t.count kept out ∷ p.tail)) p.keep
-      → (t.worker < length p.counts)
-      × Adds moves p (line t.worker t.count kept out) (page s (p.entries + 1) (set p.counts t.worker (t.count + 1)) ring.items ring.capacity)
-  written p p' t t' kept out s ring here this owns step is =
-      let owned : Owns p t = subst (λ u. Owns p u) (sym this) (subst (λ b. Owns b t') (sym here) owns) in
-      (owned.0, record { step = step; number = owned.1; entries = refl; counts = refl; tail = ap (λ r. r.items) is; keep = ap (λ r. r.capacity) is })
-
+  -- the same after `put`, whose book and ticket are seen as they were before it
   pub stood : (p p' q : Page S E O) (t t' : Seat) (event kept : E) (out : Result O Starved) → p ≡ p' → t ≡ t' → kept ≡ event
       → Adds moves p (line t.worker t.count kept out) q → Stands moves p' t' event q (seat t.worker (t.count + 1))
   stood p p' q t t' event kept out here this same adds =
