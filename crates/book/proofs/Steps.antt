@@ -1,0 +1,91 @@
+-- A book with one more line, and a book whose whole history is handed out.
+use Rattle.std.proofs.Common.{◌≡◌, ℕ, zero, suc, ◌+◌, ◌<◌, ◌≤◌, true, false, cond, eqb, Result, List, [], ◌∷◌, ◌++◌, reverse, length, take, get_or, set, refl, sym, ap, ◌∙◌, subst, inl, inr, arith, length-append, OnErr, Ok, Err}
+use Rattle.std.proofs.lemmas.List.{take_all, take-take, reverse-append, reverse-reverse, length-reverse, length-set, get_or-set_other}
+use Rattle.std.proofs.lemmas.List.Elements.{filter-append}
+use Rattle.std.proofs.lemmas.Grind.{get_or-set_at}
+use Rattle.std.proofs.lemmas.Bool.Decides.{eqb_tells}
+use Rattle.dname.specs.declared.memory.Starved.{Starved}
+use Rattle.book.specs.Histories.{Line, line, lines_of, count_of, Leads}
+use Rattle.book.specs.Books.{Page, Seat, seat, Reached, IsHistory, Adds, Stands}
+
+take_again : {X : Type 0} → (k : ℕ) (x : X) (xs : List X) → take k (x ∷ take k xs) ≡ take k (x ∷ xs)
+take_again zero x xs = refl
+take_again (suc k) x xs = ap (λ l. x ∷ l) (take-take k (suc k) xs (omega arith))
+
+module _ {E O : Type 0} where
+  count_same : (e : Line E O) (w : ℕ) (es : List (Line E O)) → eqb e.worker w ≡ true → count_of w (e ∷ es) ≡ count_of w es + 1
+  count_same e w es h = ap (λ b. length (cond b (e ∷ lines_of w es) (lines_of w es))) h ∙ omega arith
+
+  count_other : (e : Line E O) (w : ℕ) (es : List (Line E O)) → eqb e.worker w ≡ false → count_of w (e ∷ es) ≡ count_of w es
+  count_other e w es h = ap (λ b. length (cond b (e ∷ lines_of w es) (lines_of w es))) h
+
+  counts_on : (cs : List ℕ) (e : Line E O) (es : List (Line E O)) → e.worker < length cs → e.number ≡ count_of e.worker es
+      → ((w : ℕ) → w < length cs → get_or cs w 0 ≡ count_of w es)
+      → (w : ℕ) → w < length cs → get_or (set cs e.worker (e.number + 1)) w 0 ≡ count_of w (e ∷ es)
+  counts_on cs e es inside number all w small = elim (eqb_tells e.worker w) [
+    | inl same ↦ get_or-set_at cs e.worker w (e.number + 1) 0 (sym same.1) inside
+        ∙ ap (λ n. n + 1) (number ∙ ap (λ v. count_of v es) same.1) ∙ sym (count_same e w es same.0)
+    | inr other ↦ get_or-set_other cs e.worker w (e.number + 1) 0 (λ h. other.1 (sym h)) ∙ all w small ∙ sym (count_other e w es other.0)
+  ]
+
+  count_end : (e : Line E O) (w : ℕ) (es : List (Line E O)) → count_of w (es ++ e ∷ []) ≡ count_of w (e ∷ es)
+  count_end e w es = ap length (filter-append (λ (l : Line E O). eqb l.worker w) es (e ∷ []))
+      ∙ length-append (lines_of w es) (lines_of w (e ∷ [])) ∙ elim (eqb_tells e.worker w) [
+        | inl same ↦ ap (λ n. count_of w es + n) (count_same e w [] same.0) ∙ sym (count_same e w es same.0)
+        | inr other ↦ ap (λ n. count_of w es + n) (count_other e w [] other.0) ∙ omega arith ∙ sym (count_other e w es other.0)
+      ]
+
+  count_cons : (w : ℕ) (e : Line E O) (es ds : List (Line E O)) → count_of w es ≡ count_of w ds → count_of w (e ∷ es) ≡ count_of w (e ∷ ds)
+  count_cons w e es ds h = elim (eqb_tells e.worker w) [
+    | inl same ↦ count_same e w es same.0 ∙ ap (λ n. n + 1) h ∙ sym (count_same e w ds same.0)
+    | inr other ↦ count_other e w es other.0 ∙ h ∙ sym (count_other e w ds other.0)
+  ]
+
+  count_reverse : (w : ℕ) (es : List (Line E O)) → count_of w (reverse es) ≡ count_of w es
+  count_reverse w [] = refl
+  count_reverse w (e ∷ es) = ap (count_of w) (reverse-append (e ∷ []) es) ∙ count_end e w (reverse es) ∙ count_cons w e (reverse es) es (count_reverse w es)
+
+module _ {S E O : Type 0} (moves : S → E → Result O Starved → S → Type 0) (begins : S → Type 0) where
+  -- one more line
+  pub grown : (p q : Page S E O) (e : Line E O) → Reached moves begins p → e.worker < length p.counts → Adds moves p e q → Reached moves begins q
+  grown p q e r inside a =
+      let f = r.fits in
+      let long : length q.counts ≡ length p.counts = ap length a.counts ∙ length-set p.counts e.worker (e.number + 1) in
+      let number : e.number ≡ count_of e.worker r.lines = a.number ∙ f.counts e.worker inside in
+      let legal : Leads moves (length p.counts) r.start (e ∷ r.lines) q.state = (p.state, f.legal, a.step, inside, number) in
+      record {
+        start = r.start;
+        begun = r.begun;
+        lines = e ∷ r.lines;
+        fits = record {
+          legal = subst (λ n. Leads moves n r.start (e ∷ r.lines) q.state) (sym long) legal;
+          entries = a.entries ∙ ap (λ n. n + 1) f.entries ∙ omega arith;
+          counts = λ w small. ap (λ cs. get_or cs w 0) a.counts ∙ counts_on p.counts e r.lines inside number f.counts w (subst (λ n. w < n) long small);
+          tail = a.tail ∙ ap (λ l. take p.keep (e ∷ l)) f.tail ∙ take_again p.keep e r.lines ∙ ap (λ k. take k (e ∷ r.lines)) (sym a.keep);
+        };
+      }
+
+  -- nothing is forgotten, so that the last lines are all of them
+  pub told : (p : Page S E O) (h : List (Line E O)) → Reached moves begins p → p.entries ≤ p.keep → h ≡ reverse p.tail → IsHistory moves begins p h
+  told p h r few is =
+      let f = r.fits in
+      let all : h ≡ reverse r.lines = is ∙ ap reverse (f.tail ∙ take_all p.keep r.lines (subst (λ n. n ≤ p.keep) f.entries few)) in
+      record {
+        start = r.start;
+        begun = r.begun;
+        legal = subst (λ l. Leads moves (length p.counts) r.start l p.state) (sym (ap reverse all ∙ reverse-reverse r.lines)) f.legal;
+        entries = f.entries ∙ sym (ap length all ∙ length-reverse r.lines);
+        counts = λ w small. f.counts w small ∙ sym (ap (count_of w) all ∙ count_reverse w r.lines);
+      }
+
+  -- the same after `put`, whose book and ticket are seen as they were before it
+  pub stood : (p p' q : Page S E O) (t t' : Seat) (event kept : E) (out : Result O Starved) → p ≡ p' → t ≡ t' → kept ≡ event
+      → Adds moves p (line t.worker t.count kept out) q → Stands moves p' t' event q (seat t.worker (t.count + 1))
+  stood p p' q t t' event kept out here this same adds =
+      let u = seat t.worker (t.count + 1) in
+      let stands : Stands moves p t event q u = record { entry = line t.worker t.count kept out; takes = record { worker = refl; number = refl; event_is = same; adds = adds; ticket = refl } } in
+      subst (λ b. Stands moves b t' event q u) here (subst (λ v. Stands moves p v event q u) this stands)
+
+pub on_err : {T E P : Type 0} (r : Result T E) → P → OnErr r P
+on_err (Ok x) h = tt
+on_err (Err e) h = h

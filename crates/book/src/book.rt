@@ -1,0 +1,173 @@
+ghost use Rattle.std.specs.Prelude.{◌≡◌, ◌<◌, ◌≤◌, ◌↔◌, ◌⊎◌, [], reverse, replicate, length, IfOk, OnErr, IsTrue, option_copied, slice_get};
+ghost use Rattle.book.specs.Books.{page, seats, Owns, Reached, IsHistory, Takes, Stands};
+
+use crate::entry::{Entry, copy_out};
+use crate::machine::Machine;
+use crate::ticket::{Ticket, issue};
+use circular_buffer::HeapCircularBuffer;
+use dname::{Heap, Starved};
+use std::alloc::{Allocator, Global};
+use std::marker::Model;
+use std::sync::ledger;
+use std::sync::ledger::{Blank, Ledger, Share};
+
+/// The state of a machine that several workers drive, how many entries each has, and the last entries. One
+/// history of the machine led to all of it, whoever looks and whenever. `L` names the ledger, by which the
+/// book's tickets are its own.
+#[derive(Drop)]
+pub struct Book<M: Machine, L: Ledger, A: Allocator = Global> {
+    state: M::State,
+    entries: u64,
+    counts: Vec<u64, A>,
+    tail: HeapCircularBuffer<Entry<M>, A>,
+    shares: ledger::Book<L>,
+}
+
+impl<M: Machine, L: Ledger, A: Allocator> Model for Book<M, L, A> {
+    ghost use Rattle.std.specs.Prelude.{◌≡◌};
+    ghost use Rattle.book.specs.Books.{Page, page, Reached};
+
+    ghost Value = { Page M.State M.Event M.Out };
+
+    ghost view = { λ b. page b.state b.entries b.counts.items b.tail.items b.tail.capacity };
+
+    ghost invariant = { λ b. (b.shares.total ≡ b.entries) × Reached M.moves M.begins (page b.state b.entries b.counts.items b.tail.items b.tail.capacity) };
+}
+
+impl<M: Machine, L: Ledger, A: Heap> Book<M, L, A> {
+    /// A book without entries, and a ticket for each worker in order. It keeps at most `keep` entries, for
+    /// which it takes the room at once. `blank` is the new ledger that `L` names, with a part for each worker.
+    pub fn new(
+        alloc: A,
+        blank: Blank,
+        start: M::State,
+        workers: usize,
+        keep: usize,
+    ) -> Result<(Book<M, L, A>, Vec<Ticket<L>, A>), Starved>
+        requires name { blank.name ≡ L.name }
+        requires parts { (blank.parts ≡ L.parts) × (blank.parts ≡ workers) }
+        requires begins { M.begins start }
+        requires some { (0 < workers) × (0 < keep) }
+        ensures book { IfOk result (λ r. r.0 ≡ page start 0 (replicate workers 0) [] keep) }
+        ensures tickets { IfOk result (λ r. r.1.items ≡ seats workers) }
+    {
+        let counts = vec![in alloc; 0; workers]?;
+        let tail = HeapCircularBuffer::with_capacity(alloc, keep)?;
+        let (shares, all) = blank.open::<L>();
+        let tickets = issue(alloc, all, workers)?;
+        let book = Book {
+            state: start,
+            entries: 0,
+            counts,
+            tail,
+            shares,
+        };
+        Ok((book, tickets))
+    }
+}
+
+impl<M: Machine, L: Ledger, A: Allocator> Book<M, L, A> {
+    /// The machine takes one step on `event`, as the worker of `ticket`, and the entry is written; the answer
+    /// is a copy of it. Where the copy of the event that the book keeps is refused, or a count is at its end
+    /// (18,446,744,073,709,551,615), nothing changes. Where the caller's copy of what came out is refused, the
+    /// entry stands; the ticket's count has risen then, and in no other refusal.
+    pub fn put(&mut self, ticket: &mut Ticket<L>, event: M::Event) -> Result<Entry<M>, Starved>
+        requires { Owns self.old ticket.old }
+        ensures ok { IfOk result (λ e. Takes M.moves self.old ticket.old event e self.new ticket.new) }
+        ensures err { OnErr result (((self.new ≡ self.old) × (ticket.new ≡ ticket.old)) ⊎ Stands M.moves self.old ticket.old event self.new ticket.new) }
+    {
+        let kept = M::copy_event(&event)?;
+        let worker = ticket.worker;
+        let number = ticket.count;
+        if number == u64::MAX || self.entries == u64::MAX {
+            return Err(Starved);
+        }
+        let out = M::step(&mut self.state, &event);
+        let answer = copy_out::<M>(&out);
+        self.tail.push_front(Entry::new(worker, number, kept, out));
+        self.counts[worker] = number + 1;
+        self.entries += 1;
+        self.shares.add(&mut ticket.share, 1);
+        ticket.count = number + 1;
+        Ok(Entry::new(worker, number, event, answer?))
+    }
+
+    /// Whether the ticket is for one of the book's workers and has its count.
+    pub fn owns(&self, ticket: &Ticket<L>) -> bool
+        ensures { IsTrue result ↔ Owns self.now ticket.now }
+    {
+        self.counts
+            .get(ticket.worker)
+            .is_some_and(|count| *count == ticket.count)
+    }
+
+    /// The machine's state.
+    pub fn state(&self) -> &M::State
+        ensures { result.now ≡ self.now.state }
+    {
+        &self.state
+    }
+
+    /// How many entries there are in all, also those that are no longer kept.
+    pub fn entries(&self) -> u64
+        ensures { result ≡ self.now.entries }
+    {
+        self.entries
+    }
+
+    /// How many entries each worker has.
+    pub fn counts(&self) -> &[u64]
+        ensures { result.now ≡ self.now.counts }
+    {
+        &self.counts
+    }
+
+    /// The entry after which `back` more were written; `None` where there is none or it is no longer kept.
+    pub fn recent(&self, back: usize) -> Option<&Entry<M>>
+        ensures { option_copied result ≡ slice_get self.now.tail back }
+    {
+        self.tail.get(back)
+    }
+
+    /// Whether every entry is still kept.
+    pub fn is_whole(&self) -> bool
+        ensures { IsTrue result ↔ (self.now.entries ≤ self.now.keep) }
+    {
+        self.entries <= self.tail.capacity() as u64
+    }
+
+    /// One history of the machine led to this book.
+    pub fn is_reached(&self)
+        ensures { Reached M.moves M.begins self.now }
+    {
+        let _ = &self.entries;
+    }
+
+    /// A share with every part of the ledger, as the shares of all tickets together make one, has the number
+    /// of entries.
+    pub fn audit(&mut self, all: &mut Share<L>) -> u64
+        requires { all.old.parts ≡ L.parts }
+        ensures entries { result ≡ self.old.entries }
+        ensures amount { result ≡ all.old.amount }
+        ensures unchanged { self.new ≡ self.old }
+        ensures kept { (all.new.parts ≡ all.old.parts) × (all.new.amount ≡ all.old.amount) }
+    {
+        let entries = self.entries;
+        self.shares.audit(all);
+        entries
+    }
+
+    /// The whole history, the oldest entry first.
+    pub fn into_history<B: Heap>(self, alloc: B) -> Result<Vec<Entry<M>, B>, Starved>
+        requires { self.entries ≤ self.keep }
+        ensures whole { IfOk result (λ v. IsHistory M.moves M.begins self v.items) }
+        ensures tail { IfOk result (λ v. v.items ≡ reverse self.tail) }
+    {
+        let mut history = Vec::with_capacity(alloc, self.tail.len())?;
+        for entry in self.tail {
+            history.push(entry)?;
+        }
+        history.reverse();
+        Ok(history)
+    }
+}

@@ -1,0 +1,45 @@
+ghost use Rattle.std.specs.Prelude.{◌≡◌, ◌↔◌, IfOk, IsTrue};
+
+use dname::Starved;
+
+/// A machine that one thread could run alone: it has a state, and each step takes an event and gives what
+/// comes out.
+pub trait Machine {
+    /// What a step reads and changes.
+    type State: Drop + Send;
+
+    /// What a step is given.
+    type Event: Drop + Send;
+
+    /// What comes out of a step.
+    type Out: Drop + Send;
+
+    ghost use Rattle.std.specs.Prelude.{Result};
+    ghost use Rattle.dname.specs.declared.memory.Starved.{Starved};
+
+    /// What a step may do: the old state, the event, what comes out, or want of memory, and the new state.
+    ghost moves: { Self.State → Self.Event → Result Self.Out Starved → Self.State → Type 0 };
+
+    /// What the state may be before the first step.
+    ghost begins: { Self.State → Type 0 };
+
+    /// One step. Where it wants memory the state may have changed, as `moves` says.
+    fn step(state: &mut Self::State, event: &Self::Event) -> Result<Self::Out, Starved>
+        ensures { moves state.old event.now result state.new };
+
+    /// An equal event.
+    fn copy_event(event: &Self::Event) -> Result<Self::Event, Starved>
+        ensures { IfOk result (λ e. e ≡ event.now) };
+
+    /// An equal outcome.
+    fn copy_out(out: &Self::Out) -> Result<Self::Out, Starved>
+        ensures { IfOk result (λ o. o ≡ out.now) };
+
+    /// Whether two events are equal.
+    fn same_event(a: &Self::Event, b: &Self::Event) -> bool
+        ensures { IsTrue result ↔ (a.now ≡ b.now) };
+
+    /// Whether two outcomes are equal.
+    fn same_out(a: &Self::Out, b: &Self::Out) -> bool
+        ensures { IsTrue result ↔ (a.now ≡ b.now) };
+}

@@ -1,0 +1,84 @@
+ghost use Rattle.std.specs.Prelude.{◌≡◌, IfOk};
+ghost use Rattle.book.specs.Books.{seat, seats};
+
+use dname::{Heap, Starved};
+use std::marker::Model;
+use std::sync::ledger::{Ledger, Share};
+
+/// The right to put events as one worker. It cannot be copied, and its count is its share of the book's
+/// entries, which `Book::put` alone raises.
+#[derive(Drop)]
+pub struct Ticket<L: Ledger> {
+    pub(crate) worker: usize,
+    pub(crate) count: u64,
+    pub(crate) share: Share<L>,
+}
+
+impl<L: Ledger> Model for Ticket<L> {
+    ghost use Rattle.std.specs.Prelude.{◌≡◌};
+    ghost use Rattle.book.specs.Books.{Seat, seat};
+
+    ghost Value = { Seat };
+
+    ghost view = { λ t. seat t.worker t.count };
+
+    ghost invariant = { λ t. (t.share.parts ≡ 1) × (t.share.amount ≡ t.count) };
+}
+
+impl<L: Ledger> Ticket<L> {
+    fn fresh(worker: usize, share: Share<L>) -> Ticket<L>
+        requires { (share.parts ≡ 1) × (share.amount ≡ 0) }
+        ensures { result ≡ seat worker 0 }
+    {
+        Ticket {
+            worker,
+            count: 0,
+            share,
+        }
+    }
+
+    /// The worker, counted from 0.
+    pub fn worker(&self) -> usize
+        ensures { result ≡ self.now.worker }
+    {
+        self.worker
+    }
+
+    /// How many entries this worker has.
+    pub fn count(&self) -> u64
+        ensures { result ≡ self.now.count }
+    {
+        self.count
+    }
+
+    /// The ticket's share of the ledger: one part, with the worker's count.
+    pub fn into_share(self) -> Share<L>
+        ensures parts { result.parts ≡ 1 }
+        ensures amount { result.amount ≡ self.count }
+    {
+        let Ticket {
+            worker: _,
+            count: _,
+            share,
+        } = self;
+        share
+    }
+}
+
+/// A ticket for each worker, cut from a share with a part for each.
+pub(crate) fn issue<L: Ledger, A: Heap>(
+    alloc: A,
+    all: Share<L>,
+    workers: usize,
+) -> Result<Vec<Ticket<L>, A>, Starved>
+    requires parts { all.parts ≡ workers }
+    requires amount { all.amount ≡ 0 }
+    ensures { IfOk result (λ v. v.items ≡ seats workers) }
+{
+    let mut all = all;
+    let mut tickets = Vec::with_capacity(alloc, workers)?;
+    for worker in 0..workers {
+        tickets.push(Ticket::fresh(worker, all.split_off(1, 0)))?;
+    }
+    Ok(tickets)
+}
