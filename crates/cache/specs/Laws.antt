@@ -1,5 +1,5 @@
 -- Laws of keys' equality and hash.
-use Rattle.std.specs.Prelude.{◌≡◌, ℕ, Bool, true, false, ◌&&◌, nat_eq, List, ◌++◌}
+use Rattle.std.specs.Prelude.{◌≡◌, true, ◌&&◌, ◌++◌}
 use Rattle.std.proofs.Common.{refl, ap, subst, eqb-true, eq-eqb}
 use Rattle.std.specs.Cmp.{IsPartialEquivalence, IsEquivalence, partial_equiv_from_equiv, decided, first_so, second_so}
 use Rattle.std.specs.Hash as fed
