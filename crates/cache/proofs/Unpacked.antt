@@ -1,6 +1,7 @@
 -- What the steps on links as they lie in memory are on the links that they stand for.
-use Rattle.std.proofs.Common.{◌≡◌, ℕ, Bool, true, false, cond, List, Option, Some, None, sym, ap, ◌∙◌}
+use Rattle.std.proofs.Common.{◌≡◌, ℕ, ◌+◌, ◌<◌, Bool, true, false, cond, List, [], ◌∷◌, ◌++◌, map, take, length, get_or, Option, Some, None, sym, ap, ◌∙◌}
 use Rattle.std.specs.Prelude.{option_map}
+use Rattle.std.proofs.lemmas.List.{take_more, map_push}
 use Rattle.std.specs.Map.{lookup, remove_entry}
 use Rattle.lru.specs.LruCache.{LruCache, lru_cache, put_entries, promoted}
 use Rattle.dname.specs.Labels.{same_name}
@@ -16,6 +17,12 @@ use Rattle.cache.specs.Laws.{same_key_exact}
 -- A record of the key's name is known without its owner.
 pub owned_is : (q : List (List ℕ)) (r : Record) (u : Unowned) → same_name r.owner q ≡ true → u.ttl ≡ r.ttl → u.value ≡ r.value → owned q u ≡ r
 owned_is q r u e t v = λ i. record { owner = sym (same_name-exact r.owner q e) i; ttl = t i; value = v i }
+
+-- One record more, in a loop.
+pub stripped_more : {X Y : Type 0} (f : X → Y) (xs : List Y) (old new : List X) (i : ℕ) (x : X) (y : Y) → i < length xs → map f old ≡ take i xs → new ≡ old ++ x ∷ [] → f x ≡ y → y ≡ get_or xs i y
+    → map f new ≡ take (i + 1) xs
+stripped_more {X} {Y} f xs old new i x y lt eo en ex ey =
+    ap (map f) en ∙ (map_push f old x ∙ (ap (λ (l : List Y). l ++ f x ∷ []) eo ∙ (ap (λ (z : Y). take i xs ++ z ∷ []) (ex ∙ ey) ∙ sym (take_more xs i y lt))))
 
 abbrev at : Key → Packed → Hit
 at k p = hit_of_packed k.name p

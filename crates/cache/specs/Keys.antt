@@ -22,11 +22,6 @@ same_slot NameError NameError = true
 abbrev pub same_key : Key → Key → Bool
 same_key a b = same_name a.name b.name && same_slot a.slot b.slot
 
--- The number of a slot: its type's, and 0 for the name, since no record type has that number.
-abbrev pub slot_number : Slot → ℕ
-slot_number (Kind t) = t
-slot_number NameError = 0
-
 abbrev pub kind_key : List (List ℕ) → ℕ → Key
 kind_key q t = record { name = q; slot = Kind t }
 

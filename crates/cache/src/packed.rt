@@ -1,4 +1,4 @@
-ghost use Rattle.std.specs.Prelude.{◌≡◌, ℕ, List, IfOk, IfSome, Some, option_map};
+ghost use Rattle.std.specs.Prelude.{◌≡◌, ℕ, List, map, IfOk, IfSome, Some, option_map};
 ghost use Rattle.authority.specs.Answers.{link_view};
 ghost use Rattle.cache.specs.Cached.{is_live, as_set, as_alias, with_link, as_kept};
 ghost use Rattle.cache.specs.Packed.{owned, link_of, hit_of_packed};
@@ -8,7 +8,7 @@ use crate::data::PackedData;
 use crate::hit::{Hit, alias_of, is_young, set_of, set_of_one};
 use authority::Link;
 use dname::{Heap, Name, Starved};
-use rdata::Record;
+use rdata::{Record, Records};
 use std::alloc::{Allocator, Global};
 use std::marker::Model;
 
@@ -59,11 +59,42 @@ impl<A: Heap> Unowned<A> {
     }
 }
 
+// The records, if this name owns them all.
+fn without_owner<A: Heap>(
+    alloc: A,
+    name: &Name<A>,
+    records: &[Record<A>],
+) -> Result<Option<Vec<Unowned<A>, A>>, Starved>
+    ensures { IfOk result (λ us. IfSome us (λ us. map (owned name.now) us.items ≡ records.now)) }
+{
+    let mut all = Vec::with_capacity(alloc, records.len())?;
+    for source in records {
+        match Unowned::of(alloc, name, source)? {
+            Some(added) => all.push(added)?,
+            None => return Ok(None),
+        }
+    }
+    Ok(Some(all))
+}
+
+// The records of this owner.
+fn with_owner<A: Heap>(alloc: A, name: &Name<A>, all: &[Unowned<A>]) -> Result<Records<A>, Starved>
+    ensures { IfOk result (λ rs. rs ≡ map (owned name.now) all.now) }
+{
+    let mut records = Records::new(alloc);
+    for source in all {
+        records.push(source.owned(name)?)?;
+    }
+    Ok(records)
+}
+
 /// A link as it lies in memory.
 #[derive(Drop)]
 pub enum Form<A: Allocator = Global> {
     /// A set of one record, which the key's name owns.
     One(Unowned<A>),
+    /// Any set whose records the key's name owns.
+    Many(Vec<Unowned<A>, A>),
     /// An alias of the key's name.
     Alias(Unowned<A>),
     /// Any link.
@@ -76,10 +107,12 @@ impl<A: Heap> Form<A> {
     {
         match link {
             Link::Found(records) => {
-                if let [record] = records.as_slice() {
-                    if let Some(one) = Unowned::of(alloc, name, record)? {
+                if let [only] = records.as_slice() {
+                    if let Some(one) = Unowned::of(alloc, name, only)? {
                         return Ok(Form::One(one));
                     }
+                } else if let Some(all) = without_owner(alloc, name, records.as_slice())? {
+                    return Ok(Form::Many(all));
                 }
             }
             Link::Alias(record) => {
@@ -98,6 +131,7 @@ impl<A: Heap> Form<A> {
     {
         match self {
             Form::One(record) | Form::Alias(record) => Ok(set_of_one(alloc, record.owned(name)?)?),
+            Form::Many(all) => Ok(Link::Found(with_owner(alloc, name, all)?)),
             Form::Whole(link) => Ok(set_of(alloc, link)?),
         }
     }
@@ -108,6 +142,10 @@ impl<A: Heap> Form<A> {
     {
         match self {
             Form::One(record) | Form::Alias(record) => Ok(Some(Link::Alias(record.owned(name)?))),
+            Form::Many(all) => match all.first() {
+                Some(record) => Ok(Some(Link::Alias(record.owned(name)?))),
+                None => Ok(None),
+            },
             Form::Whole(link) => Ok(alias_of(link)?),
         }
     }
