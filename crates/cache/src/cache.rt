@@ -107,7 +107,7 @@ impl<S: BuildHasher + Drop, A: Heap> Cache<S, A> {
         ensures ok { OnOk result (self.new ≡ lru_cache (stored self.old.cap key (hit_of_packed key.name packed) self.old.entries) self.old.cap) }
         ensures err { OnErr result (self.new ≡ self.old) }
     {
-        if packed.ttl == 0 {
+        if packed.ttl() == 0 {
             drop(self.entries.pop(&key));
             return Ok(());
         }

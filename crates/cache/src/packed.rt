@@ -156,7 +156,7 @@ impl<A: Heap> Form<A> {
 pub struct Packed<A: Allocator = Global> {
     form: Form<A>,
     since: u64,
-    pub(crate) ttl: u32,
+    ttl: u32,
 }
 
 impl<A: Allocator> Model for Packed<A> {
@@ -214,6 +214,13 @@ impl<A: Heap> Packed<A> {
 }
 
 impl<A: Allocator> Packed<A> {
+    // Its time to live in seconds.
+    pub(crate) fn ttl(&self) -> u32
+        ensures { result ≡ self.now.ttl }
+    {
+        self.ttl
+    }
+
     // Whether it is younger than its time to live at this moment, under any name.
     pub(crate) fn is_live(&self, now: u64) -> bool
         ensures { (q : List (List ℕ)) → result ≡ is_live now (hit_of_packed q self.now) }
