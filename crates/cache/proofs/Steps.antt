@@ -1,14 +1,14 @@
 -- What the steps of a cache leave.
-use Rattle.std.proofs.Common.{◌≡◌, ◌≢◌, ℕ, ◌-◌, Bool, true, false, cond, nat_eq, ◌⊎◌, inl, inr, List, [], ◌∷◌, Contains, Option, Some, None, is_some, refl, sym, ap, ◌∙◌, subst, eqb-true, eq-eqb}
+use Rattle.std.proofs.Common.{◌≡◌, ◌≢◌, ℕ, Bool, true, false, cond, nat_eq, ◌⊎◌, inl, inr, List, Contains, Option, Some, None, is_some, refl, sym, ap, ◌∙◌, subst, eqb-true, eq-eqb}
 use Rattle.std.specs.Prelude.{IfSome}
 use Rattle.std.specs.Map.{lookup, remove_entry}
 use Rattle.lru.specs.LruCache.{LruCache, lru_cache, put_entries, promoted}
 use Rattle.lru.proofs.CallerLemmas.{Contains-lookup, Contains-remove_entry}
 use Rattle.zone.specs.Links.{Link, Found, Alias, NoData, NxDomain}
 use Rattle.zone.specs.Zones.{cname_type}
-use Rattle.recency.specs.Orders.{kept, used, KeepsOnly, LosesOnly, HasSame, MayGo}
+use Rattle.recency.specs.Orders.{kept, KeepsOnly, LosesOnly, HasSame, MayGo}
 use Rattle.recency.proofs.Kept.{put_is_kept, promoted_is_used, kept_there, kept_only, kept_gone, removed_gone, used_members}
-use Rattle.cache.specs.Keys.{Slot, Kind, NameError, Key, same_key, kind_key, error_key, key_for, slot_for}
+use Rattle.cache.specs.Keys.{Kind, NameError, Key, same_key, kind_key, error_key, key_for}
 use Rattle.cache.specs.Cached.{Hit, as_set, as_alias, with_link, live_from, set_from, alias_from, set_at, alias_at, is_live, under, or_else, answer, moved, is_error, swept, stored, after_keep, IsKept, IsGone, Answers, IsHeld}
 use Rattle.cache.specs.Laws.{same_key_exact}
 
@@ -94,11 +94,16 @@ moved_members c d a e = subst (λ x. HasSame c.entries x.entries) (sym e) (moved
 
 -- ---- links that are kept
 
-pub put_stored : (b c d : LruCache Key Hit) (k : Key) (h : Hit) → b ≡ c → nat_eq h.ttl 0 ≡ false → d ≡ lru_cache (put_entries same_key b k h) b.cap
-    → d ≡ lru_cache (stored c.cap k h c.entries) c.cap
-put_stored b c d k h view some is =
-    is ∙ (ap (λ x. lru_cache (put_entries same_key x k h) x.cap) view ∙ (ap (λ es. lru_cache es c.cap) (put_is_kept same_key same_key_exact k c.cap h c.entries)
-    ∙ ap (λ x. lru_cache (cond x (remove_entry (same_key k) c.entries) (kept same_key c.cap k h c.entries)) c.cap) (sym some)))
+pub put_stored : (c : LruCache Key Hit) (k : Key) (h : Hit) → nat_eq h.ttl 0 ≡ false → lru_cache (put_entries same_key c k h) c.cap ≡ lru_cache (stored c.cap k h c.entries) c.cap
+put_stored c k h some =
+    ap (λ es. lru_cache es c.cap) (put_is_kept same_key same_key_exact k c.cap h c.entries
+    ∙ ap (λ x. cond x (remove_entry (same_key k) c.entries) (kept same_key c.cap k h c.entries)) (sym some))
+
+pub removed_stored : (cap : ℕ) (k : Key) (h : Hit) (es : List (Key × Hit)) → nat_eq h.ttl 0 ≡ true → remove_entry (same_key k) es ≡ stored cap k h es
+removed_stored cap k h es none = ap (λ x. cond x (remove_entry (same_key k) es) (kept same_key cap k h es)) (sym none)
+
+pub swept_is : (q : List (List ℕ)) (l : Link) (es : List (Key × Hit)) → is_error l ≡ false → remove_entry (same_key (error_key q)) es ≡ swept q l es
+swept_is q l es e = ap (λ x. cond x es (remove_entry (same_key (error_key q)) es)) (sym e)
 
 module _ (cap : ℕ) (k : Key) (h : Hit) (es : List (Key × Hit)) where
   not_zero : nat_eq h.ttl 0 ≡ false → h.ttl ≢ 0

@@ -1,5 +1,5 @@
 -- What a cache of links gives for a question, and what it holds after each call.
-use Rattle.std.specs.Prelude.{◌≡◌, ◌≢◌, ℕ, ◌+◌, ◌-◌, ◌*◌, Bool, true, false, cond, nat_lt, nat_eq, ◌⊎◌, Option, Some, None, option_map, List, [], ◌∷◌, drop, Contains}
+use Rattle.std.specs.Prelude.{◌≡◌, ◌≢◌, ℕ, ◌-◌, ◌*◌, Bool, true, false, cond, nat_lt, nat_eq, ◌⊎◌, Option, Some, None, List, [], ◌∷◌, Contains}
 use Rattle.std.specs.Map.{lookup, remove_entry}
 use Rattle.zone.specs.Links.{Link, Found, Alias, NoData, NxDomain}
 use Rattle.zone.specs.Zones.{cname_type}

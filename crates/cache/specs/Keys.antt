@@ -1,5 +1,5 @@
 -- Under which keys links are kept: a name, and a record type or the name's absence.
-use Rattle.std.specs.Prelude.{◌≡◌, ℕ, Bool, true, false, ◌&&◌, nat_eq, List, [], ◌∷◌}
+use Rattle.std.specs.Prelude.{ℕ, Bool, true, false, ◌&&◌, nat_eq, List}
 use Rattle.dname.specs.Labels.{same_name}
 use Rattle.zone.specs.Links.{Link, Found, Alias, NoData, NxDomain}
 use Rattle.zone.specs.Zones.{cname_type}
@@ -21,11 +21,6 @@ same_slot NameError NameError = true
 
 abbrev pub same_key : Key → Key → Bool
 same_key a b = same_name a.name b.name && same_slot a.slot b.slot
-
--- The number of a slot: its type's, and 0 for the name, since no record type has that number.
-abbrev pub slot_number : Slot → ℕ
-slot_number (Kind t) = t
-slot_number NameError = 0
 
 abbrev pub kind_key : List (List ℕ) → ℕ → Key
 kind_key q t = record { name = q; slot = Kind t }

@@ -1,5 +1,4 @@
 -- Slots as they are kept, seen as plain values.
-use Rattle.std.specs.Prelude.{◌≡◌, ℕ}
 use Rattle.rdata.specs.Types.{type_number}
 use Rattle.cache.specs.declared.key.Slot.{Slot}
 use Rattle.cache.specs.declared.key.Slot.TheVariants as kept

@@ -1,4 +1,6 @@
 pub mod Cached
+pub mod Forms
 pub mod Keys
 pub mod Kinds
 pub mod Laws
+pub mod Packed

@@ -1,13 +1,15 @@
-ghost use Rattle.std.specs.Prelude.{◌≡◌, ◌≢◌, ◌<◌, ◌≤◌, [], IfOk, OnOk, OnErr, IfSome, Contains};
+ghost use Rattle.std.specs.Prelude.{◌≡◌, ◌≢◌, ◌<◌, ◌≤◌, [], IfOk, OnOk, OnErr, IfSome, Contains, option_map, option_copied};
 ghost use Rattle.lru.specs.LruCache.{lru_cache};
 ghost use Rattle.rdata.specs.Types.{type_number};
 ghost use Rattle.authority.specs.Answers.{link_view};
 ghost use Rattle.recency.specs.Orders.{KeepsOnly, LosesOnly, HasSame};
 ghost use Rattle.cache.specs.Keys.{key_for, error_key};
-ghost use Rattle.cache.specs.Cached.{as_kept, is_error, set_at, alias_at, under, answer, hit_of, after_look, swept, stored, after_keep, IsKept, IsGone, IsHeld};
+ghost use Rattle.cache.specs.Cached.{as_kept, is_error, live_at, set_at, alias_at, under, answer, hit_of, after_look, swept, stored, after_keep, IsKept, IsGone, IsHeld};
+ghost use Rattle.cache.specs.Packed.{hit_of_packed};
 
 use crate::hit::Hit;
 use crate::key::{Key, Slot};
+use crate::packed::Packed;
 use authority::Link;
 use dname::{Heap, Name, Starved};
 use lru::LruCache;
@@ -21,7 +23,7 @@ use std::num::NonZeroUsize;
 /// whose time is over stays until it is replaced or pushed out.
 #[derive(Drop)]
 pub struct Cache<S: BuildHasher + Drop, A: Allocator = Global> {
-    entries: LruCache<Key<A>, Hit<A>, S, A>,
+    entries: LruCache<Key<A>, Packed<A>, S, A>,
 }
 
 impl<S: BuildHasher + Drop, A: Allocator> Model for Cache<S, A> {
@@ -31,7 +33,26 @@ impl<S: BuildHasher + Drop, A: Allocator> Model for Cache<S, A> {
 
     ghost Value = { Entries Keyed Kept };
 
-    ghost view = { λ c. c.entries };
+    ghost use Rattle.lru.specs.LruCache.{lru_cache};
+    ghost use Rattle.cache.specs.Packed.{unpacked};
+
+    ghost view = { λ c. lru_cache (unpacked c.entries.entries) c.entries.cap };
+}
+
+// No entries, and room for so many, which is taken as they come.
+fn no_entries<S: BuildHasher + Drop, A: Heap>(
+    alloc: A,
+    cap: usize,
+    hasher: S,
+) -> Result<LruCache<Key<A>, Packed<A>, S, A>, Starved>
+    requires { 0 < cap }
+    ensures { IfOk result (λ e. e ≡ lru_cache [] cap) }
+{
+    let mut entries = LruCache::unbounded_with_hasher(alloc, hasher)?;
+    if let Some(cap) = NonZeroUsize::new(cap) {
+        entries.resize(cap);
+    }
+    Ok(entries)
 }
 
 fn denies<A: Allocator>(link: &Link<A>) -> bool
@@ -47,11 +68,9 @@ impl<S: BuildHasher + Drop, A: Heap> Cache<S, A> {
         requires few { cap ≤ 1000000 }
         ensures { IfOk result (λ c. c ≡ lru_cache [] cap) }
     {
-        let mut entries = LruCache::unbounded_with_hasher(alloc, hasher)?;
-        if let Some(cap) = NonZeroUsize::new(cap) {
-            entries.resize(cap);
-        }
-        Ok(Cache { entries })
+        Ok(Cache {
+            entries: no_entries(alloc, cap, hasher)?,
+        })
     }
 
     /// Keeps the link for this name and type from the moment `now`, in milliseconds, for `ttl` seconds. A
@@ -78,25 +97,21 @@ impl<S: BuildHasher + Drop, A: Heap> Cache<S, A> {
             name: name.clone()?,
             slot: Slot::for_link(kind, link),
         };
-        let hit = Hit {
-            link: link.clone()?,
-            ttl,
-            since: now,
-        };
-        self.store(key, hit)?;
+        let packed = Packed::of(*self.entries.allocator(), name, link, ttl, now)?;
+        self.store(key, packed)?;
         self.sweep(&error, link);
         Ok(())
     }
 
-    fn store(&mut self, key: Key<A>, hit: Hit<A>) -> Result<(), Starved>
-        ensures ok { OnOk result (self.new ≡ lru_cache (stored self.old.cap key hit self.old.entries) self.old.cap) }
+    fn store(&mut self, key: Key<A>, packed: Packed<A>) -> Result<(), Starved>
+        ensures ok { OnOk result (self.new ≡ lru_cache (stored self.old.cap key (hit_of_packed key.name packed) self.old.entries) self.old.cap) }
         ensures err { OnErr result (self.new ≡ self.old) }
     {
-        if hit.ttl == 0 {
+        if packed.ttl() == 0 {
             drop(self.entries.pop(&key));
             return Ok(());
         }
-        drop(self.entries.put(key, hit)?);
+        drop(self.entries.put(key, packed)?);
         Ok(())
     }
 
@@ -152,18 +167,28 @@ impl<S: BuildHasher + Drop, A: Heap> Cache<S, A> {
     fn set_at(&self, key: &Key<A>, now: u64) -> Result<Option<Hit<A>>, Starved>
         ensures { IfOk result (λ h. h ≡ set_at now key.now self.now.entries) }
     {
-        match self.entries.peek(key) {
-            Some(hit) if hit.is_live(now) => Ok(Some(hit.as_set(*self.entries.allocator())?)),
-            _ => Ok(None),
+        match self.live_at(key, now) {
+            Some(kept) => Ok(Some(kept.as_set(*self.entries.allocator(), &key.name)?)),
+            None => Ok(None),
         }
     }
 
     fn alias_at(&self, key: &Key<A>, now: u64) -> Result<Option<Hit<A>>, Starved>
         ensures { IfOk result (λ h. h ≡ alias_at now key.now self.now.entries) }
     {
+        match self.live_at(key, now) {
+            Some(kept) => Ok(kept.as_alias(&key.name)?),
+            None => Ok(None),
+        }
+    }
+
+    // What is kept under the key and lives.
+    fn live_at(&self, key: &Key<A>, now: u64) -> Option<&Packed<A>>
+        ensures { option_map (hit_of_packed key.now.name) (option_copied result) ≡ live_at now key.now self.now.entries }
+    {
         match self.entries.peek(key) {
-            Some(hit) if hit.is_live(now) => Ok(hit.as_alias()?),
-            _ => Ok(None),
+            Some(kept) if kept.is_live(now) => Some(kept),
+            _ => None,
         }
     }
 }

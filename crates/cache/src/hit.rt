@@ -1,10 +1,11 @@
-ghost use Rattle.std.specs.Prelude.{◌≡◌, IfOk, Some, option_map};
+ghost use Rattle.std.specs.Prelude.{◌≡◌, ◌-◌, ◌*◌, nat_lt, [], ◌∷◌, IfOk, option_map};
+ghost use Rattle.zone.specs.Links.{Found};
 ghost use Rattle.authority.specs.Answers.{link_view};
-ghost use Rattle.cache.specs.Cached.{is_live, as_set, as_alias, with_link};
+ghost use Rattle.cache.specs.Cached.{is_live, as_set, as_alias};
 
 use authority::Link;
 use dname::{Heap, Starved};
-use rdata::Records;
+use rdata::{Record, Records};
 use std::alloc::{AllocError, Allocator, Global};
 use std::marker::Model;
 
@@ -44,26 +45,37 @@ impl<A: Allocator> Hit<A> {
     pub fn is_live(&self, now: u64) -> bool
         ensures { result ≡ is_live now self.now }
     {
-        now.saturating_sub(self.since) < 1_000 * u64::from(self.ttl)
+        is_young(self.ttl, self.since, now)
     }
 }
 
+// Whether what is kept since that moment, in milliseconds, is younger than so many seconds.
+pub(crate) fn is_young(ttl: u32, since: u64, now: u64) -> bool
+    ensures { result ≡ nat_lt (now - since) (1000 * ttl) }
+{
+    now.saturating_sub(since) < 1_000 * u64::from(ttl)
+}
+
+pub(crate) fn set_of_one<A: Heap>(alloc: A, only: Record<A>) -> Result<Link<A>, Starved>
+    ensures { IfOk result (λ l. link_view l ≡ Found (only ∷ [])) }
+{
+    let mut records = Records::new(alloc);
+    records.push(only)?;
+    Ok(Link::Found(records))
+}
+
 // The link as the answer for the type under which it stands.
-fn set_of<A: Heap>(alloc: A, link: &Link<A>) -> Result<Link<A>, Starved>
+pub(crate) fn set_of<A: Heap>(alloc: A, link: &Link<A>) -> Result<Link<A>, Starved>
     ensures { IfOk result (λ l. link_view l ≡ as_set (link_view link.now)) }
 {
     match link {
-        Link::Alias(record) => {
-            let mut records = Records::new(alloc);
-            records.push(record.clone()?)?;
-            Ok(Link::Found(records))
-        }
+        Link::Alias(record) => Ok(set_of_one(alloc, record.clone()?)?),
         _ => Ok(link.clone()?),
     }
 }
 
 // The link as an alias, for another type.
-fn alias_of<A: Heap>(link: &Link<A>) -> Result<Option<Link<A>>, Starved>
+pub(crate) fn alias_of<A: Heap>(link: &Link<A>) -> Result<Option<Link<A>>, Starved>
     ensures { IfOk result (λ l. option_map link_view l ≡ as_alias (link_view link.now)) }
 {
     match link {
@@ -73,32 +85,5 @@ fn alias_of<A: Heap>(link: &Link<A>) -> Result<Option<Link<A>>, Starved>
         },
         Link::Alias(record) => Ok(Some(Link::Alias(record.clone()?))),
         Link::NoData(_) | Link::NxDomain(_) => Ok(None),
-    }
-}
-
-impl<A: Heap> Hit<A> {
-    // The hit as the answer for the type under which it stands.
-    pub(crate) fn as_set(&self, alloc: A) -> Result<Hit<A>, Starved>
-        ensures { IfOk result (λ h. Some h ≡ with_link self.now (Some (as_set self.now.link))) }
-    {
-        Ok(Hit {
-            link: set_of(alloc, &self.link)?,
-            ttl: self.ttl,
-            since: self.since,
-        })
-    }
-
-    // The hit as an alias, for another type.
-    pub(crate) fn as_alias(&self) -> Result<Option<Hit<A>>, Starved>
-        ensures { IfOk result (λ h. h ≡ with_link self.now (as_alias self.now.link)) }
-    {
-        match alias_of(&self.link)? {
-            Some(link) => Ok(Some(Hit {
-                link,
-                ttl: self.ttl,
-                since: self.since,
-            })),
-            None => Ok(None),
-        }
     }
 }

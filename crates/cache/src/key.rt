@@ -1,5 +1,5 @@
-ghost use Rattle.std.specs.Prelude.{◌≡◌, true, ◌++◌};
-ghost use Rattle.cache.specs.Keys.{same_slot, same_key, slot_number, slot_for};
+ghost use Rattle.std.specs.Prelude.{◌≡◌, true};
+ghost use Rattle.cache.specs.Keys.{same_slot, same_key, slot_for};
 ghost use Rattle.rdata.specs.Types.{type_number};
 ghost use Rattle.cache.specs.Kinds.{slot_view};
 ghost use Rattle.cache.specs.Laws.{same_key_per, same_key_equiv, same_key_fed, fed_key};
@@ -29,15 +29,6 @@ impl Slot {
             Link::Found(_) | Link::NoData(_) => Slot::Of(kind),
             Link::Alias(_) => Slot::Of(RType::Cname),
             Link::NxDomain(_) => Slot::NameError,
-        }
-    }
-
-    fn number(self) -> u16
-        ensures { result ≡ slot_number (slot_view self) }
-    {
-        match self {
-            Slot::Of(kind) => kind.number(),
-            Slot::NameError => 0,
         }
     }
 
@@ -74,7 +65,7 @@ impl<A: Allocator> PartialEq for Key<A> {
     ghost laws = { same_key_per };
 
     fn eq(&self, other: &Key<A>) -> bool {
-        self.name == other.name && self.slot.is(other.slot)
+        self.slot.is(other.slot) && self.name == other.name
     }
 }
 
@@ -89,6 +80,5 @@ impl<A: Allocator> Hash for Key<A> {
 
     fn hash<H: Hasher>(&self, state: &mut H) {
         self.name.hash(state);
-        self.slot.number().hash(state);
     }
 }

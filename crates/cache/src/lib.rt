@@ -3,14 +3,20 @@
 #![tactic(auto)]
 
 mod cache;
+mod data;
 mod hit;
 mod key;
+mod packed;
 
 pub use cache::Cache;
 pub use hit::Hit;
 // A crate can name a cache in a contract only if the types of its fields are exported.
 #[doc(hidden)]
+pub use data::PackedData;
+#[doc(hidden)]
 pub use key::{Key, Slot};
+#[doc(hidden)]
+pub use packed::{Form, Packed, Unowned};
 
 #[cfg(test)]
 mod tests;

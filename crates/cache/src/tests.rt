@@ -22,6 +22,8 @@ fn name<A: Heap>(alloc: A, text: &str) -> Result<Name<A>, Starved> {
 #[derive(Clone, Copy)]
 enum Shape {
     Address,
+    TwoAddresses,
+    AddressOfAnother,
     Target,
     Alias,
     NoData,
@@ -35,6 +37,18 @@ fn set<A: Heap>(alloc: A, owner: &Name<A>, value: RData<A>) -> Result<Link<A>, S
         ttl: 300,
         value,
     })?;
+    Ok(Link::Found(records))
+}
+
+fn two_addresses<A: Heap>(alloc: A, owner: &Name<A>) -> Result<Link<A>, Starved> {
+    let mut records = Records::new(alloc);
+    for last in 1..3u8 {
+        records.push(Record {
+            owner: owner.clone()?,
+            ttl: 300,
+            value: RData::A(Addr([192, 0, 2, last])),
+        })?;
+    }
     Ok(Link::Found(records))
 }
 
@@ -58,6 +72,11 @@ fn soa<A: Heap>(owner: &Name<A>) -> Result<Record<A>, Starved> {
 fn link<A: Heap>(alloc: A, owner: &Name<A>, shape: Shape) -> Result<Link<A>, Starved> {
     match shape {
         Shape::Address => Ok(set(alloc, owner, RData::A(Addr([192, 0, 2, 1])))?),
+        Shape::TwoAddresses => Ok(two_addresses(alloc, owner)?),
+        Shape::AddressOfAnother => {
+            let another = name(alloc, "another")?;
+            Ok(set(alloc, &another, RData::A(Addr([192, 0, 2, 1])))?)
+        }
         Shape::Target => Ok(set(alloc, owner, RData::Cname(owner.clone()?))?),
         Shape::Alias => Ok(Link::Alias(Record {
             owner: owner.clone()?,
@@ -217,27 +236,49 @@ fn each_growth_refused_in_turn(rt: HostRuntime) -> Result<(), Fail> {
     Ok(())
 }
 
-// Each of the eight growths of a `keep` is refused in turn, those of the name and the link that are made for
-// it among them, and what was kept before still answers.
+#[test]
+fn sets_come_back(rt: HostRuntime) -> Result<(), Fail> {
+    let cache = Cache::new(rt.alloc(), 9, hasher())?;
+    let mut kept = Kept {
+        alloc: rt.alloc(),
+        cache,
+    };
+    kept.keep("a", RType::A, Shape::TwoAddresses, 10, 0)?;
+    kept.keep("b", RType::A, Shape::AddressOfAnother, 10, 0)?;
+    assert!(rt; kept.seen("a", RType::A, 0)? == Some(("set", 10, 0)));
+    assert!(rt; kept.seen("b", RType::A, 0)? == Some(("set of one", 10, 0)));
+    Ok(())
+}
+
+// Each growth of a `keep` is refused in turn, those of the name and the link that are made for it among
+// them, and what was kept before still answers.
 #[test]
 fn a_refused_link_changes_nothing(rt: HostRuntime) -> Result<(), Fail> {
     let heap = Refusing::new(rt.alloc());
-    let cache = Cache::new(&heap, 2, hasher())?;
-    let mut kept = Kept {
-        alloc: &heap,
-        cache,
-    };
-    kept.keep("a", RType::A, Shape::NameError, 60, 0)?;
-    for n in 0..8 {
-        heap.refuse_after(n);
-        assert!(rt;
-            kept.keep("a", RType::A, Shape::Address, 10, 0).is_err(),
-            "growth {n}"
-        );
-        assert!(rt;
-            kept.seen("a", RType::A, 0)? == Some(("name error", 60, 0)),
-            "growth {n}"
-        );
+    for (shape, growths) in [
+        (Shape::Address, 6),
+        (Shape::TwoAddresses, 8),
+        (Shape::NoData, 11),
+    ] {
+        let cache = Cache::new(&heap, 2, hasher())?;
+        let mut kept = Kept {
+            alloc: &heap,
+            cache,
+        };
+        kept.keep("a", RType::A, Shape::NameError, 60, 0)?;
+        for n in 0..growths {
+            heap.refuse_after(n);
+            assert!(rt;
+                kept.keep("a", RType::A, shape, 10, 0).is_err(),
+                "growth {n}"
+            );
+            assert!(rt;
+                kept.seen("a", RType::A, 0)? == Some(("name error", 60, 0)),
+                "growth {n}"
+            );
+        }
+        kept.keep("a", RType::A, shape, 10, 0)?;
+        assert!(rt; kept.seen("a", RType::A, 0)? != Some(("name error", 60, 0)));
     }
     Ok(())
 }

@@ -9,14 +9,14 @@ use Rattle.lru.proofs.CallerLemmas.{Contains-take, Contains-lookup_entry, Contai
 use Rattle.recency.specs.Orders.{IsExact, kept, kept_from, used, used_from, KeepsOnly, LosesOnly, HasSame, MayGo}
 
 -- Either answer of a test.
-by_test : {P : Type 0} (b : Bool) → (b ≡ true → P) → (b ≡ false → P) → P
+pub by_test : {P : Type 0} (b : Bool) → (b ≡ true → P) → (b ≡ false → P) → P
 by_test true p q = p refl
 by_test false p q = q refl
 
-first_of : {A : Type 0} {b : Bool} (x y : A) → b ≡ true → cond b x y ≡ x
+pub first_of : {A : Type 0} {b : Bool} (x y : A) → b ≡ true → cond b x y ≡ x
 first_of x y e = ap (λ c. cond c x y) e
 
-second_of : {A : Type 0} {b : Bool} (x y : A) → b ≡ false → cond b x y ≡ y
+pub second_of : {A : Type 0} {b : Bool} (x y : A) → b ≡ false → cond b x y ≡ y
 second_of x y e = ap (λ c. cond c x y) e
 
 module _ {K V : Type 0} (same : K → K → Bool) (k : K) where

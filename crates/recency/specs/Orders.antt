@@ -1,5 +1,5 @@
 -- Lists of entries by their last use, the most recent one first, where equality of keys is exact.
-use Rattle.std.specs.Prelude.{◌≡◌, ℕ, ◌-◌, Bool, true, ◌⊎◌, Option, Some, None, List, ◌∷◌, take, drop, Contains}
+use Rattle.std.specs.Prelude.{◌≡◌, ℕ, ◌-◌, Bool, true, ◌⊎◌, Option, Some, None, List, ◌∷◌, map, take, drop, Contains}
 use Rattle.std.specs.Map.{lookup, remove_entry}
 
 -- A test of keys that passes for equal keys alone, and for all of them.
@@ -41,3 +41,8 @@ module _ {K V : Type 0} (same : K → K → Bool) where
   -- What goes where k is kept with a new value: its own entry, and where it had none what stood past the capacity.
   abbrev pub MayGo : ℕ → K → List (K × V) → K × V → Type 0
   MayGo cap k es e = (e.0 ≡ k) ⊎ ((lookup (same k) es ≡ None) × Contains (drop (cap - 1) es) e)
+
+module _ {K V W : Type 0} (f : K → V → W) where
+  -- The same entries, each with what f makes of its key and its value.
+  abbrev pub mapped : List (K × V) → List (K × W)
+  mapped es = map (λ e. (e.0, f e.0 e.1)) es

@@ -1,9 +1,9 @@
 //! Laws of lists of entries: functions that do nothing, whose clauses are proved.
 
-ghost use Rattle.std.specs.Prelude.{◌≡◌, ℕ, ◌≤◌, ◌⊎◌, Bool, false, List, Some, None, length, Contains};
+ghost use Rattle.std.specs.Prelude.{◌≡◌, ℕ, ◌≤◌, ◌⊎◌, Bool, false, List, Some, None, option_map, length, Contains};
 ghost use Rattle.std.specs.Map.{lookup, remove_entry};
 ghost use Rattle.lru.specs.LruCache.{lru_cache, put_entries, promoted};
-ghost use Rattle.recency.specs.Orders.{IsExact, kept, used, KeepsOnly, LosesOnly, HasSame, MayGo};
+ghost use Rattle.recency.specs.Orders.{IsExact, kept, used, mapped, KeepsOnly, LosesOnly, HasSame, MayGo};
 
 /// What `put` leaves: the entry put, first; nothing else is new; and what goes is the old entry of its key,
 /// or what stood past the capacity where the key had none. A look-up then finds it, and of any other key
@@ -30,4 +30,13 @@ pub fn removed_law<K, V>()
     ensures only { (test : K → Bool) (es : List (K × V)) (e : K × V) → Contains (remove_entry test es) e → Contains es e }
     ensures gone { (same : K → K → Bool) (k : K) (es : List (K × V)) → IsExact same → LosesOnly es (λ e. e.0 ≡ k) (remove_entry (same k) es) }
     ensures others { (same : K → K → Bool) (k j : K) (es : List (K × V)) → IsExact same → same j k ≡ false → lookup (same j) (remove_entry (same k) es) ≡ lookup (same j) es }
+{}
+
+/// Entries with other values, which may be made of their keys too, are looked up, kept, used and removed
+/// alike.
+pub fn mapped_law<K, V, W>()
+    ensures found { (f : K → V → W) (same : K → K → Bool) (k : K) (es : List (K × V)) → IsExact same → lookup (same k) (mapped f es) ≡ option_map (f k) (lookup (same k) es) }
+    ensures kept { (f : K → V → W) (same : K → K → Bool) (cap : ℕ) (k : K) (v : V) (es : List (K × V)) → IsExact same → kept same cap k (f k v) (mapped f es) ≡ mapped f (kept same cap k v es) }
+    ensures used { (f : K → V → W) (same : K → K → Bool) (k : K) (es : List (K × V)) → IsExact same → used same k (mapped f es) ≡ mapped f (used same k es) }
+    ensures removed { (f : K → V → W) (test : K → Bool) (es : List (K × V)) → remove_entry test (mapped f es) ≡ mapped f (remove_entry test es) }
 {}

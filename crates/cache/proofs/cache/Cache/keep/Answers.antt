@@ -1,4 +1,4 @@
-use Rattle.std.proofs.Common.{rules, ◌≡◌}
+use Rattle.std.proofs.Common.{rules}
 use Rattle.rdata.specs.Types.{type_number}
 use Rattle.authority.specs.Answers.{link_view}
 use Rattle.cache.specs.Cached.{as_kept}

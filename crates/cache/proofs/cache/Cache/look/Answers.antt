@@ -1,9 +1,8 @@
 use Rattle.std.proofs.Common.{◌≡◌, sym, ap, ◌∙◌}
-use Rattle.lru.specs.LruCache.{lru_cache, promoted}
-use Rattle.cache.specs.Keys.{same_key}
 use Rattle.rdata.specs.Types.{type_number}
 use Rattle.cache.specs.Cached.{under, answer}
 use Rattle.cache.proofs.Steps.{hit_is_held, moved_some, moved_none, moved_members}
+use Rattle.cache.proofs.Unpacked.{promoted_shows}
 use Rattle.cache.proofs.cache.Cache.look.Goals as goal
 use Rattle.cache.proofs.cache.Cache.look.Goals.{then-is_some, else-is_some}
 
@@ -22,7 +21,7 @@ returns-clause-ok g c =
     let at = answer c.args.name.now (type_number c.args.kind) c.args.now c.args.self.now.entries in
     elim c.if-is_some.branch [
       | then-is_some w ↦ moved_some before after c.find.new.key c.in_ok-hit.hit at found (sym c.is_some.ensures ∙ w.if-is_some.true)
-          (w.self-is ∙ (w.promote.ensures.entries ∙ ap (λ x. lru_cache (promoted (same_key c.find.new.key) x.entries) x.cap) c.self.view_is))
+          (w.self-is ∙ promoted_shows c.args.self.now c.self.inside.entries c.self.view_is c.find.new.key w.promote.new.self w.promote.ensures.entries)
       | else-is_some w ↦ moved_none before after c.find.new.key c.in_ok-hit.hit at found (sym c.is_some.ensures ∙ w.if-is_some.false) w.self-is
     ]
 
