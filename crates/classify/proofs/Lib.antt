@@ -1,1 +1,4 @@
+pub mod Firsts
+pub mod Readings
+pub mod Roots
 pub mod Sets

@@ -2,7 +2,9 @@
 #![tactic(auto)]
 
 mod class;
+mod laws;
 mod table;
 
 pub use class::{Class, Failure, Referral};
+pub use laws::{answer_law, referral_law, root_law};
 pub use table::classify;

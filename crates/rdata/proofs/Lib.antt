@@ -2,4 +2,5 @@ pub mod Copies
 pub mod Exact
 pub mod Gathered
 pub mod Selected
+pub mod SetMembers
 pub mod Words

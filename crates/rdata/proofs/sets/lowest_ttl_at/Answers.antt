@@ -1,7 +1,6 @@
-use Rattle.std.proofs.Common.{◌≤◌, length, take, take_all, filter, sym, ◌∙◌, ap, subst}
-use Rattle.rdata.specs.Records.{Record, greatest_ttl}
+use Rattle.std.proofs.Common.{◌≤◌, take, sym, subst}
+use Rattle.rdata.specs.Records.{greatest_ttl}
 use Rattle.rdata.specs.Selected.{is_at, records_at}
-use Rattle.rdata.specs.Sets.{lowest_ttl}
 use Rattle.rdata.specs.Types.{type_number}
 use Rattle.rdata.proofs.Selected.{lowest_more, lowest_fits}
 use Rattle.rdata.proofs.sets.lowest_ttl_at.Goals as goal

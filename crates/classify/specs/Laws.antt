@@ -1,0 +1,42 @@
+-- The laws that the functions of this crate state.
+use Rattle.std.specs.Prelude.{◌≡◌, ℕ, List, Contains}
+use Rattle.dname.specs.Labels.{Name, root, IsAtOrUnder}
+use Rattle.rdata.specs.Data.{Ipv4, Ns}
+use Rattle.rdata.specs.Records.{Record}
+use Rattle.layout.specs.Messages.{Message}
+use Rattle.zone.specs.Zones.{ns_type}
+use Rattle.zone.specs.Links.{Link}
+use Rattle.zone.specs.Same.{Has}
+use Rattle.wire.specs.declared.via.Via.{Via}
+use Rattle.truth.specs.Worlds.{Address}
+use Rattle.truth.specs.Reading.{IsIn, IsAnswer, IsReferralTo, NamesServer, GivesAddress}
+use Rattle.classify.specs.Classes.{Answer, Referral, class_of}
+
+-- The servers of a referral: its message names each of them, and none is left out, TTLs aside.
+pub record AreServers (m : Message) (c : Name) (servers : List Record) : Type 0 where
+  pub owner : (r : Record) → Contains servers r → r.owner ≡ c
+  pub named : (r : Record) → Contains servers r → (n : Name) × (r.value ≡ Ns n) × NamesServer m c n
+  pub all : (r : Record) → IsIn m.authority c ns_type r → Has servers r
+
+-- The addresses of a referral: its message gives each of them, and none is left out.
+pub record AreAddresses (f : Name) (m : Message) (c : Name) (addresses : List Record) : Type 0 where
+  pub given : (r : Record) → Contains addresses r → (a : Address) × (r.value ≡ Ipv4 a) × GivesAddress f m c a
+  pub all : (r : Record) (a : Address) → Contains m.additional r → r.value ≡ Ipv4 a → NamesServer m c r.owner → IsAtOrUnder r.owner f → Contains addresses r
+
+-- What is used as an answer is one.
+abbrev pub AnswerIsRead : Type 0
+AnswerIsRead = (f q : Name) (t : ℕ) (via : Via) (m : Message) (l : Link) → class_of f q t via m ≡ Answer l → IsAnswer f q t m l
+
+-- What is followed as a referral is one, and what is taken from it is what it says.
+abbrev pub ReferralIsRead : Type 0
+ReferralIsRead = (f q : Name) (t : ℕ) (via : Via) (m : Message) (c : Name) (servers addresses : List Record) (ttl : ℕ) → class_of f q t via m ≡ Referral c servers addresses ttl
+    → IsReferralTo f q t m c × AreServers m c servers × AreAddresses f m c addresses
+
+-- Every owner of authority records ends with the root's label.
+abbrev pub EndInRoot : Message → Type 0
+EndInRoot m = (r : Record) → Contains m.authority r → IsAtOrUnder r.owner root
+
+-- An answer of a zone's server is the same answer of a root server. A referral is not: which addresses are
+-- taken depends on the zone.
+abbrev pub AnswerIsOfRoot : Type 0
+AnswerIsOfRoot = (f q : Name) (t : ℕ) (via : Via) (m : Message) (l : Link) → EndInRoot m → class_of f q t via m ≡ Answer l → class_of root q t via m ≡ Answer l
