@@ -78,7 +78,7 @@ module _ {S E O : Type 0} (moves : S → E → Result O Starved → S → Type 0
         counts = λ w small. f.counts w small ∙ sym (ap (count_of w) all ∙ count_reverse w r.lines);
       }
 
-  -- the same after `put`, whose book and ticket are seen as they were before it
+  -- one more line, told of the book and the ticket as they were handed in
   pub stood : (p p' q : Page S E O) (t t' : Seat) (event kept : E) (out : Result O Starved) → p ≡ p' → t ≡ t' → kept ≡ event
       → Adds moves p (line t.worker t.count kept out) q → Stands moves p' t' event q (seat t.worker (t.count + 1))
   stood p p' q t t' event kept out here this same adds =

@@ -12,6 +12,7 @@ pub record Page (S E O : Type 0) : Type 0 where
   pub tail : List (Line E O)
   pub keep : ℕ
 
+-- A page of these five.
 abbrev pub page : {S E O : Type 0} → S → ℕ → List ℕ → List (Line E O) → ℕ → Page S E O
 page s n cs es k = record { state = s; entries = n; counts = cs; tail = es; keep = k }
 
@@ -20,6 +21,7 @@ pub record Seat : Type 0 where
   pub worker : ℕ
   pub count : ℕ
 
+-- A seat of these two.
 abbrev pub seat : ℕ → ℕ → Seat
 seat w n = record { worker = w; count = n }
 

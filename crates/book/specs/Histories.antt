@@ -11,6 +11,7 @@ pub record Line (E O : Type 0) : Type 0 where
   pub event : E
   pub out : Result O Starved
 
+-- A line of these four.
 abbrev pub line : {E O : Type 0} → ℕ → ℕ → E → Result O Starved → Line E O
 line w n e r = record { worker = w; number = n; event = e; out = r }
 
@@ -18,6 +19,7 @@ line w n e r = record { worker = w; number = n; event = e; out = r }
 abbrev pub lines_of : {E O : Type 0} → ℕ → List (Line E O) → List (Line E O)
 lines_of w es = filter (λ e. eqb e.worker w) es
 
+-- How many lines a worker has.
 abbrev pub count_of : {E O : Type 0} → ℕ → List (Line E O) → ℕ
 count_of w es = length (lines_of w es)
 
