@@ -39,11 +39,12 @@ module _ (c : LruCache Key Hit) (e : LruCache Key Packed) (view : shown e ≡ c)
       ap (λ x. live_at now k x.entries) (sym view)
       ∙ ap (live_from now) (looked_mapped at same_key same_key_exact k e.entries ∙ ap (option_map (hit_of_packed k.name)) found)
 
-  pub live_found : (now : ℕ) (k : Key) (p : Packed) → lookup (same_key k) e.entries ≡ Some p → is_live now (at k p) ≡ true → Some (at k p) ≡ live_at now k c.entries
-  live_found now k p found live = sym (live_is now k (Some p) found ∙ ap (λ b. cond b (Some (at k p)) None) live)
+  -- The answer r of the test of age decides.
+  pub live_found : (now : ℕ) (k : Key) (p : Packed) (r : Bool) → lookup (same_key k) e.entries ≡ Some p → r ≡ is_live now (at k p) → r ≡ true → Some (at k p) ≡ live_at now k c.entries
+  live_found now k p r found is live = sym (live_is now k (Some p) found ∙ ap (λ b. cond b (Some (at k p)) None) (sym is ∙ live))
 
-  pub dead_found : (now : ℕ) (k : Key) (p : Packed) → lookup (same_key k) e.entries ≡ Some p → is_live now (at k p) ≡ false → None ≡ live_at now k c.entries
-  dead_found now k p found dead = sym (live_is now k (Some p) found ∙ ap (λ b. cond b (Some (at k p)) None) dead)
+  pub dead_found : (now : ℕ) (k : Key) (p : Packed) (r : Bool) → lookup (same_key k) e.entries ≡ Some p → r ≡ is_live now (at k p) → r ≡ false → None ≡ live_at now k c.entries
+  dead_found now k p r found is dead = sym (live_is now k (Some p) found ∙ ap (λ b. cond b (Some (at k p)) None) (sym is ∙ dead))
 
   pub none_found : (now : ℕ) (k : Key) → lookup (same_key k) e.entries ≡ None → None ≡ live_at now k c.entries
   none_found now k found = sym (live_is now k None found)

@@ -1,8 +1,6 @@
-use Rattle.std.proofs.Common.{rules, ◌≡◌, ◌∙◌, sym, true, false, Some, None}
+use Rattle.std.proofs.Common.{rules, ◌≡◌, Some, None}
 use Rattle.std.specs.Map.{lookup}
 use Rattle.cache.specs.Keys.{same_key}
-use Rattle.cache.specs.Cached.{is_live}
-use Rattle.cache.specs.Packed.{hit_of_packed}
 use Rattle.cache.proofs.Unpacked.{live_found, dead_found, none_found}
 use Rattle.cache.proofs.cache.Cache.live_at.Goals as goal
 use Rattle.cache.proofs.cache.Cache.live_at.Goals.{in_default-via-in-Some+else-is_live, in_default-via-in_default}
@@ -10,15 +8,13 @@ use Rattle.cache.proofs.cache.Cache.live_at.Goals.{in_default-via-in-Some+else-i
 pub returns-in-Some : goal.returns-in-Some
 returns-in-Some g c =
     let found : lookup (same_key c.args.key.now) c.self.inside.entries.entries ≡ Some c.in-Some.kept.now = search rules in
-    let live : is_live c.args.now (hit_of_packed c.args.key.now.name c.in-Some.kept.now) ≡ true = sym (c.is_live.ensures c.args.key.now.name) ∙ c.if-is_live.true in
-    live_found c.args.self.now c.self.inside.entries c.self.view_is c.args.now c.args.key.now c.in-Some.kept.now found live
+    live_found c.args.self.now c.self.inside.entries c.self.view_is c.args.now c.args.key.now c.in-Some.kept.now c.is_live.result found (c.is_live.ensures c.args.key.now.name) c.if-is_live.true
 
 pub returns-in_default : goal.returns-in_default
 returns-in_default g c = elim c.in_default.branch [
   | in_default-via-in-Some+else-is_live w ↦
       let found : lookup (same_key c.args.key.now) c.self.inside.entries.entries ≡ Some w.in-Some.kept.now = search rules in
-      let dead : is_live c.args.now (hit_of_packed c.args.key.now.name w.in-Some.kept.now) ≡ false = sym (w.is_live.ensures c.args.key.now.name) ∙ w.if-is_live.false in
-      dead_found c.args.self.now c.self.inside.entries c.self.view_is c.args.now c.args.key.now w.in-Some.kept.now found dead
+      dead_found c.args.self.now c.self.inside.entries c.self.view_is c.args.now c.args.key.now w.in-Some.kept.now w.is_live.result found (w.is_live.ensures c.args.key.now.name) w.if-is_live.false
   | in_default-via-in_default w ↦
       let found : lookup (same_key c.args.key.now) c.self.inside.entries.entries ≡ None = search rules in
       none_found c.args.self.now c.self.inside.entries c.self.view_is c.args.now c.args.key.now found
