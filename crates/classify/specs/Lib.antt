@@ -1,3 +1,4 @@
 pub mod Classes
 pub mod Laws
+pub mod Lifetimes
 pub mod Views

@@ -3,8 +3,10 @@
 
 mod class;
 mod laws;
+mod lifetimes;
 mod table;
 
 pub use class::{Class, Failure, Referral};
 pub use laws::{answer_law, referral_law, root_law};
+pub use lifetimes::{LONGEST, LONGEST_DENIAL, lifetime, received, received_law};
 pub use table::classify;

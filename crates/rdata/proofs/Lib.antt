@@ -1,3 +1,4 @@
+pub mod Capped
 pub mod Copies
 pub mod Exact
 pub mod Gathered

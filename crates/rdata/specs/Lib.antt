@@ -1,3 +1,4 @@
+pub mod Caps
 pub mod Data
 pub mod Gathering
 pub mod Kept

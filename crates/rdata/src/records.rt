@@ -1,4 +1,5 @@
-ghost use Rattle.std.specs.Prelude.{◌≡◌, ◌≤◌, [], ◌∷◌, ◌++◌, length, IfOk, OnOk, OnErr, ◌↔◌, IsTrue};
+ghost use Rattle.std.specs.Prelude.{◌≡◌, ◌≤◌, [], ◌∷◌, ◌++◌, length, map, IfOk, OnOk, OnErr, ◌↔◌, IsTrue};
+ghost use Rattle.rdata.specs.Caps.{capped};
 
 use crate::data::RData;
 use dname::{Heap, Name, Starved};
@@ -53,6 +54,14 @@ fn copies<A: Heap>(alloc: A, records: &[Record<A>]) -> Result<Vec<Record<A>, A>,
     Ok(items)
 }
 
+fn cap_all<A: Allocator>(records: &mut [Record<A>], most: u32)
+    ensures { records.new ≡ map (capped most) records.old }
+{
+    for record in records.iter_mut() {
+        record.ttl = record.ttl.min(most);
+    }
+}
+
 /// Records in order. Contracts see their list.
 #[derive(Drop)]
 pub struct Records<A: Allocator = Global> {
@@ -101,6 +110,14 @@ impl<A: Allocator> Records<A> {
         ensures { IsTrue result ↔ (self.now ≡ []) }
     {
         self.items.is_empty()
+    }
+
+    /// Gives each record a TTL of at most so many seconds: its own one, or that where its own is longer
+    /// (RFC 2181, section 8).
+    pub fn cap_ttl(&mut self, most: u32)
+        ensures { self.new ≡ map (capped most) self.old }
+    {
+        cap_all(&mut self.items, most);
     }
 
     /// The records in order.

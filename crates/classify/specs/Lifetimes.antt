@@ -1,0 +1,42 @@
+-- How long what a server says of a name and a type is kept (RFC 2181, section 8; RFC 2308, sections 3 and 5).
+use Rattle.std.specs.Prelude.{ℕ, ◌≤◌, List, [], ◌∷◌, map}
+use Rattle.rdata.specs.Records.{Record}
+use Rattle.rdata.specs.Caps.{capped}
+use Rattle.rdata.specs.Sets.{lowest_ttl}
+use Rattle.zone.specs.Links.{Link, Found, Alias, NoData, NxDomain, lessened}
+use Rattle.zone.specs.Same.{SameLink}
+
+-- A week, and three hours, in seconds.
+abbrev pub longest : ℕ
+longest = 604800
+
+abbrev pub longest_denial : ℕ
+longest_denial = 10800
+
+abbrev pub received_denial : Record → Record
+received_denial soa = capped longest_denial (lessened soa)
+
+-- A link as it is kept and sent.
+abbrev pub received : Link → Link
+received (Found rs) = Found (map (capped longest) rs)
+received (Alias r) = Alias (capped longest r)
+received (NoData soa) = NoData (received_denial soa)
+received (NxDomain soa) = NxDomain (received_denial soa)
+
+-- The lowest TTL of its records; of no records 0.
+abbrev pub shortest : List Record → ℕ
+shortest [] = 0
+shortest (r ∷ rs) = lowest_ttl (r ∷ rs)
+
+abbrev pub lifetime_of : Link → ℕ
+lifetime_of (Found rs) = shortest rs
+lifetime_of (Alias r) = r.ttl
+lifetime_of (NoData soa) = soa.ttl
+lifetime_of (NxDomain soa) = soa.ttl
+
+-- What is received differs from what was said in TTLs alone, and is kept for a week at most.
+abbrev pub ReceivedIsSame : Type 0
+ReceivedIsSame = (l : Link) → SameLink (received l) l
+
+abbrev pub ReceivedIsShort : Type 0
+ReceivedIsShort = (l : Link) → lifetime_of (received l) ≤ longest

@@ -1,0 +1,90 @@
+//! How long what a server says is kept (RFC 2181, section 8; RFC 2308, sections 3 and 5).
+ghost use Rattle.std.specs.Prelude.{◌≡◌};
+ghost use Rattle.rdata.specs.Caps.{capped};
+ghost use Rattle.rdata.specs.Kept.{datum};
+ghost use Rattle.zone.specs.Links.{counted, denial_ttl};
+ghost use Rattle.authority.specs.Answers.{link_view};
+ghost use Rattle.classify.specs.Lifetimes.{received, received_denial, shortest, lifetime_of, ReceivedIsSame, ReceivedIsShort};
+
+use authority::Link;
+use dname::Heap;
+use rdata::{RData, Record, lowest_ttl};
+use std::alloc::Allocator;
+
+/// The most seconds for which records are kept: a week.
+pub const LONGEST: u32 = 604_800;
+/// The most seconds for which a denial is kept: three hours (RFC 2308, section 5).
+pub const LONGEST_DENIAL: u32 = 10_800;
+
+/// What a server said as it is kept and sent; takes no memory. The TTL of a record is a week at most; that
+/// of a denial's SOA the lesser of it and its MINIMUM, and three hours at most (RFC 2308, sections 3 and 5).
+pub fn received<A: Heap>(link: Link<A>) -> Link<A>
+    ensures { link_view result ≡ received (link_view link) }
+{
+    match link {
+        Link::Found(mut records) => {
+            records.cap_ttl(LONGEST);
+            Link::Found(records)
+        }
+        Link::Alias(record) => Link::Alias(capped(record, LONGEST)),
+        Link::NoData(soa) => Link::NoData(received_denial(soa)),
+        Link::NxDomain(soa) => Link::NxDomain(received_denial(soa)),
+    }
+}
+
+fn capped<A: Allocator>(mut kept: Record<A>, most: u32) -> Record<A>
+    ensures { result ≡ capped most kept }
+{
+    kept.ttl = kept.ttl.min(most);
+    kept
+}
+
+fn received_denial<A: Allocator>(mut soa: Record<A>) -> Record<A>
+    ensures { result ≡ received_denial soa }
+{
+    soa.ttl = denial_ttl(soa.ttl, &soa.value).min(LONGEST_DENIAL);
+    soa
+}
+
+// The TTL of a denial: the lesser of its SOA's TTL and MINIMUM.
+fn denial_ttl<A: Allocator>(ttl: u32, value: &RData<A>) -> u32
+    ensures { result ≡ denial_ttl ttl (datum value.now) }
+{
+    match value {
+        RData::Soa(soa) => ttl.min(counted(soa.minimum)),
+        _ => ttl,
+    }
+}
+
+// A MINIMUM with its top bit set counts as 0 (RFC 2181, section 8).
+fn counted(minimum: u32) -> u32
+    ensures { result ≡ counted minimum }
+{
+    if minimum < 2_147_483_648 { minimum } else { 0 }
+}
+
+/// For how many seconds a link is kept: the TTL of its record, of several the lowest, of none 0
+/// (RFC 2181, section 5.2).
+pub fn lifetime<A: Allocator>(link: &Link<A>) -> u32
+    ensures { result ≡ lifetime_of (link_view link.now) }
+{
+    match link {
+        Link::Found(records) => shortest(records.as_slice()),
+        Link::Alias(record) | Link::NoData(record) | Link::NxDomain(record) => record.ttl,
+    }
+}
+
+fn shortest<A: Allocator>(records: &[Record<A>]) -> u32
+    ensures { result ≡ shortest records.now }
+{
+    match records {
+        [] => 0,
+        _ => lowest_ttl(records),
+    }
+}
+
+/// What is received differs from what was said in TTLs alone, and is kept for a week at most.
+pub fn received_law()
+    ensures same { ReceivedIsSame }
+    ensures short { ReceivedIsShort }
+{}
