@@ -5,11 +5,16 @@ use Rattle.dname.specs.Labels.{same_name, IsAtOrUnder}
 use Rattle.rdata.specs.declared.addr.Addr.{Addr}
 use Rattle.recency.specs.Orders.{kept, used, MayGo}
 
+-- An address of a server, and the server's name: the root's where the name is not known, as of hints.
+pub record ServerAddress : Type 0 where
+  pub name : List (List ℕ)
+  pub address : Addr
+
 -- A zone's name, the names of its servers and the addresses that are known of them.
 pub record Cut : Type 0 where
   pub owner : List (List ℕ)
   pub names : List (List (List ℕ))
-  pub addresses : List Addr
+  pub addresses : List ServerAddress
 
 -- A cut as it is kept: its time to live in seconds, and the moment since which it is kept, in milliseconds.
 pub record Known : Type 0 where

@@ -1,17 +1,17 @@
 ghost use Rattle.std.specs.Prelude.{◌≡◌};
 ghost use Rattle.referral.specs.Cuts.{is_live};
 
-use crate::lists::{Addrs, Names};
+use crate::lists::{Addresses, Names};
 use dname::{Heap, Name};
 use std::alloc::{AllocError, Allocator, Global};
 use std::marker::Model;
 
-/// A zone's name, the names of its servers and the addresses that are known of them, in the order of asking.
+/// A zone's name, the names of its servers and the addresses that are known of them.
 #[derive(Drop)]
 pub struct Cut<A: Allocator = Global> {
     pub at: Name<A>,
     pub names: Names<A>,
-    pub addresses: Addrs<A>,
+    pub addresses: Addresses<A>,
 }
 
 impl<A: Allocator> Model for Cut<A> {

@@ -8,7 +8,7 @@ mod lists;
 
 pub use cut::{Cut, Known};
 pub use delegations::Delegations;
-pub use lists::{Addrs, Names};
+pub use lists::{Addresses, Names, ServerAddress};
 
 #[cfg(test)]
 mod tests;

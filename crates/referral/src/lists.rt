@@ -67,42 +67,81 @@ impl<A: Allocator> Names<A> {
     }
 }
 
-/// Addresses in order. Contracts see their list.
+/// An address of a server, and the server's name: the root's where the name is not known, as of hints.
 #[derive(Drop)]
-pub struct Addrs<A: Allocator = Global> {
-    addresses: Vec<Addr, A>,
+pub struct ServerAddress<A: Allocator = Global> {
+    pub name: Name<A>,
+    pub address: Addr,
 }
 
-impl<A: Allocator> Model for Addrs<A> {
-    ghost use Rattle.std.specs.Prelude.{List};
-    ghost use Rattle.rdata.specs.declared.addr.Addr.{Addr as Address};
+impl<A: Allocator> Model for ServerAddress<A> {
+    ghost use Rattle.referral.specs.Cuts.{ServerAddress as Listed};
 
-    ghost Value = { List Address };
+    ghost Value = { Listed };
+
+    ghost view = { λ s. record { name = s.name; address = s.address } };
+}
+
+impl<A: Heap> Clone for ServerAddress<A> {
+    ghost is_clone = { λ x y. y ≡ x };
+
+    fn clone(&self) -> Result<ServerAddress<A>, AllocError> {
+        Ok(ServerAddress {
+            name: self.name.clone()?,
+            address: self.address,
+        })
+    }
+}
+
+/// Addresses of servers in order, each with the server's name. Contracts see their list.
+#[derive(Drop)]
+pub struct Addresses<A: Allocator = Global> {
+    addresses: Vec<ServerAddress<A>, A>,
+}
+
+impl<A: Allocator> Model for Addresses<A> {
+    ghost use Rattle.std.specs.Prelude.{List};
+    ghost use Rattle.referral.specs.Cuts.{ServerAddress as Listed};
+
+    ghost Value = { List Listed };
 
     ghost view = { λ a. a.addresses.items };
 }
 
-impl<A: Heap> Clone for Addrs<A> {
+fn address_copies<A: Heap>(
+    alloc: A,
+    addresses: &[ServerAddress<A>],
+) -> Result<Vec<ServerAddress<A>, A>, AllocError>
+    ensures { IfOk result (λ v. v.items ≡ addresses.now) }
+{
+    let mut items = Vec::with_capacity(alloc, addresses.len())?;
+    for address in addresses {
+        items.push(address.clone()?)?;
+    }
+    Ok(items)
+}
+
+impl<A: Heap> Clone for Addresses<A> {
     ghost is_clone = { λ x y. y ≡ x };
 
-    fn clone(&self) -> Result<Addrs<A>, AllocError> {
-        let addresses = Vec::from_slice(*self.addresses.allocator(), &self.addresses)?;
-        Ok(Addrs { addresses })
+    fn clone(&self) -> Result<Addresses<A>, AllocError> {
+        let addresses = address_copies(*self.addresses.allocator(), &self.addresses)?;
+        Ok(Addresses { addresses })
     }
 }
 
-impl<A: Heap> Addrs<A> {
+impl<A: Heap> Addresses<A> {
     /// No addresses; takes no memory.
-    pub fn new(alloc: A) -> Addrs<A>
+    pub fn new(alloc: A) -> Addresses<A>
         ensures { result ≡ [] }
     {
-        Addrs {
+        Addresses {
             addresses: Vec::new(alloc),
         }
     }
 
     /// One address more, at the end.
-    pub fn push(&mut self, added: Addr) -> Result<(), Starved>
+    pub fn push(&mut self, added: ServerAddress<A>) -> Result<(), Starved>
         ensures ok { OnOk result (self.new ≡ self.old ++ added ∷ []) }
         ensures err { OnErr result (self.new ≡ self.old) }
     {
@@ -111,9 +150,9 @@ impl<A: Heap> Addrs<A> {
     }
 }
 
-impl<A: Allocator> Addrs<A> {
+impl<A: Allocator> Addresses<A> {
     /// The addresses in order.
-    pub fn as_slice(&self) -> &[Addr]
+    pub fn as_slice(&self) -> &[ServerAddress<A>]
         ensures { result.now ≡ self.now }
     {
         self.addresses.as_slice()

@@ -21,8 +21,11 @@ fn name<A: Heap>(alloc: A, text: &str) -> Result<Name<A>, Starved> {
 fn cut<A: Heap>(alloc: A, at: &str, last: u8) -> Result<Cut<A>, Starved> {
     let mut names = Names::new(alloc);
     names.push(name(alloc, "ns.example")?)?;
-    let mut addresses = Addrs::new(alloc);
-    addresses.push(Addr([192, 0, 2, last]))?;
+    let mut addresses = Addresses::new(alloc);
+    addresses.push(ServerAddress {
+        name: name(alloc, "ns.example")?,
+        address: Addr([192, 0, 2, last]),
+    })?;
     Ok(Cut {
         at: name(alloc, at)?,
         names,
@@ -53,9 +56,9 @@ impl<A: Heap> Kept<A> {
     }
 }
 
-fn last_byte(addresses: &[Addr]) -> Option<u8> {
+fn last_byte<A: Heap>(addresses: &[ServerAddress<A>]) -> Option<u8> {
     match addresses {
-        [Addr([_, _, _, last])] => Some(*last),
+        [server] => Some(server.address.0[3]),
         _ => None,
     }
 }

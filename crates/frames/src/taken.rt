@@ -1,0 +1,85 @@
+ghost use Rattle.std.specs.Prelude.{◌≡◌, ◌&&◌, not, filter, map, take, IfOk};
+ghost use Rattle.std.specs.List.{list_any};
+ghost use Rattle.dname.specs.Labels.{Name as Labels, same_name};
+ghost use Rattle.rdata.specs.declared.addr.Addr.{Addr as Address};
+ghost use Rattle.referral.specs.Cuts.{ServerAddress as Listed};
+ghost use Rattle.frames.specs.Frames.{has_address, each_once, most_taken};
+
+use dname::{Heap, Name, Starved};
+use rdata::Addr;
+use referral::{Names, ServerAddress};
+use std::alloc::Allocator;
+
+// The most names, and the most addresses, that are taken of a cut.
+const MOST_TAKEN: usize = 16;
+
+fn has_address(addresses: &[Addr], sought: Addr) -> bool
+    ensures { result ≡ has_address addresses.now sought }
+{
+    addresses.iter().any(|address| sought == *address)
+}
+
+/// The first addresses of servers, each once.
+pub(crate) fn taken_addresses<A: Heap>(
+    alloc: A,
+    servers: &[ServerAddress<A>],
+) -> Result<Vec<Addr, A>, Starved>
+    ensures { IfOk result (λ v. v.items ≡ take most_taken (each_once (map (λ (s : Listed). s.address) servers.now))) }
+{
+    let mut taken = Vec::new(alloc);
+    for server in servers {
+        if taken.len() < MOST_TAKEN && !has_address(&taken, server.address) {
+            taken.push(server.address)?;
+        }
+    }
+    Ok(taken)
+}
+
+/// The first names, as many as are taken.
+pub(crate) fn first_names<A: Allocator>(names: &[Name<A>]) -> &[Name<A>]
+    ensures { result.now ≡ take most_taken names.now }
+{
+    &names[..names.len().min(MOST_TAKEN)]
+}
+
+// Whether an address of this server was taken.
+fn is_known<A: Allocator>(servers: &[ServerAddress<A>], taken: &[Addr], name: &Name<A>) -> bool
+    ensures { result ≡ list_any (λ (s : Listed). same_name s.name name.now && has_address taken.now s.address) servers.now }
+{
+    servers.iter().any(|server| server.name == *name && has_address(taken, server.address))
+}
+
+/// The names without those of which an address was taken.
+pub(crate) fn unknown_names<A: Heap>(
+    alloc: A,
+    names: &[Name<A>],
+    servers: &[ServerAddress<A>],
+    taken: &[Addr],
+) -> Result<Names<A>, Starved>
+    ensures { IfOk result (λ v. v ≡ filter (λ (n : Labels). not (list_any (λ (s : Listed). same_name s.name n && has_address taken.now s.address) servers.now)) names.now) }
+{
+    let mut unknown = Names::new(alloc);
+    for name in names {
+        if !is_known(servers, taken, name) {
+            unknown.push(name.clone()?)?;
+        }
+    }
+    Ok(unknown)
+}
+
+/// Those found that are not known, each once.
+pub(crate) fn fresh_addresses<A: Heap>(
+    alloc: A,
+    known: &[Addr],
+    found: &[Addr],
+) -> Result<Vec<Addr, A>, Starved>
+    ensures { IfOk result (λ v. v.items ≡ filter (λ (a : Address). not (has_address known.now a)) (each_once found.now)) }
+{
+    let mut fresh = Vec::new(alloc);
+    for address in found {
+        if !has_address(known, *address) && !has_address(&fresh, *address) {
+            fresh.push(*address)?;
+        }
+    }
+    Ok(fresh)
+}
