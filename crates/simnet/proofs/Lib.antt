@@ -1,5 +1,4 @@
 pub mod Decided
-pub mod Following
 pub mod Hosted
 pub mod Judged
 pub mod Members

@@ -1,5 +1,7 @@
 -- The zones that a server serves, by their gathered origins, and what it replies from them.
-use Rattle.std.proofs.Common.{◌≡◌, ℕ, Bool, true, false, Option, List, refl, sym, ◌∙◌, ap, subst}
+use Rattle.std.proofs.Common.{◌≡◌, ℕ, ◌+◌, ◌<◌, Bool, true, false, ◌||◌, Option, List, [], ◌∷◌, length, take, get_or, refl, sym, ◌∙◌, ap, subst}
+use Rattle.std.proofs.lemmas.List.{take_more}
+use Rattle.std.proofs.lemmas.List.Folds.{list_any-append}
 use Rattle.std.specs.Prelude.{filter}
 use Rattle.std.specs.List.{list_any}
 use Rattle.dname.specs.Labels.{Name, same_name}
@@ -13,7 +15,21 @@ use Rattle.truth.specs.Worlds.{Address, Host, World}
 use Rattle.front.specs.declared.queries.Query.{Query as Asking}
 use Rattle.front.specs.declared.queries.Asked.TheVariants.{Query}
 use Rattle.simnet.specs.Hosting.{served, says, IsReplyBy, IsSent, IsReplyFrom}
-use Rattle.simnet.specs.Rules.{has_name, serves}
+use Rattle.simnet.specs.Rules.{has_name, serves_at, serves}
+
+or_false : (b : Bool) → (b || false) ≡ b
+or_false true = refl
+or_false false = refl
+
+-- One server more.
+pub served_more : (a : Address) (n : Name) (hs : List Host) (i : ℕ) (h : Host) (old new : Bool) → i < length hs → h ≡ get_or hs i h → old ≡ serves a n (take i hs)
+    → new ≡ (old || serves_at a n h) → new ≡ serves a n (take (i + 1) hs)
+served_more a n hs i h old new lt is eo en =
+    let more : serves a n (take (i + 1) hs) ≡ (serves a n (take i hs) || serves_at a n (get_or hs i h)) =
+    ap (serves a n) (take_more hs i h lt)
+    ∙ (list_any-append (serves_at a n) (take i hs) (get_or hs i h ∷ [])
+    ∙ ap (λ (b : Bool). serves a n (take i hs) || b) (or_false (serves_at a n (get_or hs i h)))) in
+    en ∙ (ap (λ (b : Bool). b || serves_at a n h) eo ∙ (ap (λ (k : Host). serves a n (take i hs) || serves_at a n k) is ∙ sym more))
 
 -- The zones of those origins are the ones that the server serves.
 one_test : (b c : Bool) → (b ≡ true → c ≡ true) → (c ≡ true → b ≡ true) → b ≡ c
