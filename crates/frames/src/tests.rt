@@ -198,9 +198,10 @@ fn a_refused_growth_changes_no_frame(rt: HostRuntime) -> Result<(), Fail> {
     heap.refuse_after(0);
     assert!(rt; frame.next_name(&failed).is_err());
     assert!(rt; gives(&mut frame, &failed, Some(&b))?);
+    let found = [addr(2), addr(3), addr(4), addr(5)];
     for n in 0..3 {
         heap.refuse_after(n);
-        assert!(rt; frame.add(&[addr(2)], &penalties).is_err());
+        assert!(rt; frame.add(&found, &penalties).is_err());
         assert!(rt; frame.addresses() == [addr(1)].as_slice());
     }
     assert!(rt; asks(&mut frame, &[addr(1), addr(1)]));
