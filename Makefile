@@ -5,7 +5,7 @@ PROGRAM = crates/resolverd
 # The words of the example: which zone, its file, and what is asked.
 QUESTION = ask lab.example. $(CURDIR)/examples/lab.zone x.lab.example. TXT
 
-.PHONY: ask test try install
+.PHONY: ask test turned try install
 
 # Proves and builds the program and all below it, and answers one query.
 ask:
@@ -14,6 +14,11 @@ ask:
 # The gate: every proof, every edit that must fail, every test and every run.
 test:
 	rt ci
+
+# Tries the edits of single functions, which the gate leaves out: of all crates, or with SINCE=COMMIT of those that
+# differ from that commit's.
+turned:
+	tools/turned $(if $(SINCE),--since $(SINCE))
 
 # The same query without any proof, by an instrumented build: for use while the code changes.
 try:
