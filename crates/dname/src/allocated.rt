@@ -1,4 +1,4 @@
-use crate::memory::Heap;
+use memory::Heap;
 use crate::name::Name;
 
 impl<A: Heap> Name<A> {

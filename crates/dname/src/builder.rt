@@ -2,7 +2,7 @@ ghost use Rattle.std.specs.Prelude.{◌≡◌, ◌+◌, ◌≤◌, ◌<◌, List
 ghost use Rattle.dname.specs.Labels.{wire, folded, folded_label};
 ghost use Rattle.dname.specs.Draft.{empty_draft, Refuses, pushed, shut, labelled};
 
-use crate::memory::{Heap, Starved};
+use memory::{Heap, Starved};
 use crate::name::Name;
 use std::alloc::{AllocError, AllocFailed, Allocator, Global};
 use std::marker::Model;

@@ -1,10 +1,8 @@
-//! Domain names (RFC 1034, section 3.1): label by label, in text and in the bytes of messages, and the
-//! words for want of memory that every crate shares.
+//! Domain names (RFC 1034, section 3.1): label by label, in text and in the bytes of messages.
 #![tactic(auto)]
 
 mod allocated;
 mod builder;
-mod memory;
 mod name;
 mod order;
 mod stars;

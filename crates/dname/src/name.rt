@@ -5,7 +5,7 @@ ghost use Rattle.dname.specs.Labels.{wire, root, star, same_name, is_under, pare
 ghost use Rattle.dname.specs.Wire.{labels_of, IsNameWire};
 ghost use Rattle.dname.specs.Laws.{same_name_per, same_name_equiv, same_name_fed};
 
-use crate::memory::{Heap, Starved};
+use memory::{Heap, Starved};
 use crate::walk::{has_end, next};
 use std::alloc::{AllocError, Allocator, Global};
 use std::cmp::Eq;

@@ -8,7 +8,7 @@ ghost use Rattle.dname.specs.Spelling.{TextWritesName, FirstFaultCounts};
 ghost use Rattle.dname.specs.Wire.{labels_of, IsNameWire};
 
 use crate::builder::{Builder, Overflow};
-use crate::memory::{Heap, Starved};
+use memory::{Heap, Starved};
 use crate::name::Name;
 use crate::walk::next;
 use std::alloc::{AllocError, Allocator};
