@@ -4,6 +4,7 @@
 mod addr;
 mod data;
 mod laws;
+mod order;
 mod records;
 mod rtype;
 mod sets;
@@ -23,5 +24,7 @@ pub use texts::{CharacterString, Texts};
 
 #[cfg(test)]
 mod growth_tests;
+#[cfg(test)]
+mod long_tests;
 #[cfg(test)]
 mod tests;

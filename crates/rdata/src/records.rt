@@ -1,7 +1,10 @@
-ghost use Rattle.std.specs.Prelude.{◌≡◌, ◌≤◌, [], ◌∷◌, ◌++◌, length, map, IfOk, OnOk, OnErr, ◌↔◌, IsTrue};
+ghost use Rattle.std.specs.Prelude.{◌≡◌, ◌≤◌, [], ◌∷◌, ◌++◌, length, map, IfOk, OnOk, OnErr, ◌↔◌, IsTrue, nat_eq};
 ghost use Rattle.rdata.specs.Caps.{capped};
+ghost use Rattle.rdata.specs.Data.{type_of};
+ghost use Rattle.rdata.specs.Types.{type_number};
 
 use crate::data::RData;
+use crate::rtype::RType;
 use dname::{Heap, Name, Starved};
 use std::alloc::{AllocError, Allocator, Global};
 use std::marker::Model;
@@ -28,6 +31,15 @@ impl<A: Allocator> Model for Record<A> {
     ghost view = { λ r. record { owner = r.owner; ttl = r.ttl; value = datum r.value } };
 
     ghost invariant = { λ r. r.ttl ≤ greatest_ttl };
+}
+
+impl<A: Allocator> Record<A> {
+    /// Whether it is of that type.
+    pub fn is(&self, kind: RType) -> bool
+        ensures { result ≡ nat_eq (type_of self.now.value) (type_number kind) }
+    {
+        self.value.kind() == kind
+    }
 }
 
 impl<A: Heap> Clone for Record<A> {
