@@ -21,4 +21,6 @@ pub use start::Start;
 pub use wire::Via;
 
 #[cfg(test)]
+mod exchange_tests;
+#[cfg(test)]
 mod tests;
