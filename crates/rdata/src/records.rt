@@ -6,11 +6,14 @@ use dname::{Heap, Name, Starved};
 use std::alloc::{AllocError, Allocator, Global};
 use std::marker::Model;
 
+/// The greatest TTL, in seconds (RFC 2181, section 8).
+pub const GREATEST_TTL: u32 = 2_147_483_647;
+
 /// A resource record of class IN (RFC 1035, section 3.2.1).
 #[derive(Drop)]
 pub struct Record<A: Allocator = Global> {
     pub owner: Name<A>,
-    /// Time to live in seconds, at most 2,147,483,647 (RFC 2181, section 8).
+    /// Time to live in seconds, at most `GREATEST_TTL` (RFC 2181, section 8).
     pub ttl: u32,
     pub value: RData<A>,
 }
@@ -25,11 +28,6 @@ impl<A: Allocator> Model for Record<A> {
     ghost view = { λ r. record { owner = r.owner; ttl = r.ttl; value = datum r.value } };
 
     ghost invariant = { λ r. r.ttl ≤ greatest_ttl };
-}
-
-impl<A: Allocator> Record<A> {
-    /// The greatest TTL, in seconds (RFC 2181, section 8).
-    pub const GREATEST_TTL: u32 = 2_147_483_647;
 }
 
 impl<A: Heap> Clone for Record<A> {

@@ -6,7 +6,7 @@ ghost use Rattle.rdata.specs.Selected.{is_at, records_at};
 ghost use Rattle.rdata.specs.Sets.{is_repeat, lowest_ttl, with_ttl, one_set};
 ghost use Rattle.rdata.specs.Types.{type_number};
 
-use crate::records::{Record, Records};
+use crate::records::{GREATEST_TTL, Record, Records};
 use crate::rtype::RType;
 use dname::{Heap, Name, Starved};
 use std::alloc::Allocator;
@@ -60,7 +60,7 @@ fn lowest_ttl_at<A: Allocator>(records: &[Record<A>], owner: &Name<A>, kind: RTy
     ensures value { result ≡ lowest_ttl (records_at owner.now (type_number kind) records.now) }
     ensures most { result ≤ greatest_ttl }
 {
-    let mut lowest = 2_147_483_647;
+    let mut lowest = GREATEST_TTL;
     for tested in records {
         lowest = lower_by(lowest, tested, is_at(tested, owner, kind));
     }
@@ -112,7 +112,7 @@ pub fn lowest_ttl<A: Allocator>(records: &[Record<A>]) -> u32
     ensures most { result ≤ greatest_ttl }
 {
     match records {
-        [] => 2_147_483_647,
+        [] => GREATEST_TTL,
         [first, rest @ ..] => first.ttl.min(lowest_ttl(rest)),
     }
 }
