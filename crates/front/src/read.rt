@@ -1,5 +1,5 @@
 //! A client's bytes, read.
-ghost use Rattle.std.specs.Prelude.{◌≡◌, ℕ, ◌≤◌, ◌<◌, IfOk, length, slice_index};
+ghost use Rattle.std.specs.Prelude.{◌≡◌, ℕ, ◌≤◌, ◌<◌, IfOk, IsOk, length, slice_index};
 ghost use Rattle.front.specs.Openings.{opening_of};
 ghost use Rattle.front.specs.Queries.{IsAsked, by_question};
 
@@ -7,14 +7,16 @@ use crate::echo::Echo;
 use crate::queries::{Asked, Query, Refusal};
 use crate::start::Start;
 use dname::{Heap, Starved};
-use rdata::RType;
+use rdata::{INTERNET, RType};
 use wire::{Question, Spelling, WireError, decode, question_spelling};
 
 /// What the bytes from a client ask, in this order: under 12 bytes or QR set, nothing; no message, or other
 /// than one question, a format error; another operation than a query, a class other than IN or a type that
-/// is not served, not implemented; else a query.
+/// is not served, not implemented; else a query. Under 12 bytes and a reply take no memory.
 pub fn read_query<A: Heap>(alloc: A, bytes: &[u8]) -> Result<Asked<A>, Starved>
-    ensures { IfOk result (IsAsked bytes.now) }
+    ensures asked { IfOk result (IsAsked bytes.now) }
+    ensures dropped { length bytes.now < 12 → IsOk result }
+    ensures replies { 128 ≤ slice_index bytes.now 2 → IsOk result }
 {
     if bytes.len() < 12 || bytes[2] >= 128 {
         return Ok(Asked::Drop);
@@ -61,7 +63,7 @@ fn sort_question<A: Heap>(start: Start, question: Question<A>, spelling: Spellin
         qclass,
     };
     match RType::from_number(qtype) {
-        Some(kind) if start.opcode() == 0 && qclass == 1 => Asked::Query(Query {
+        Some(kind) if start.opcode() == 0 && qclass == INTERNET => Asked::Query(Query {
             start,
             name,
             kind,

@@ -2,8 +2,9 @@
 ghost use Rattle.std.specs.Prelude.{◌≡◌, false, ◌≤◌, ◌<◌, [], ◌∷◌, IfOk, IfSome, length, option_copied};
 ghost use Rattle.dname.specs.Labels.{wire};
 ghost use Rattle.wire.specs.Drafts.{asked_alone};
-ghost use Rattle.layout.specs.Messages.{encoding};
-ghost use Rattle.front.specs.Replies.{reply_header, whole_reply, cut_reply, bare, reply_of, limit_of, failure_of, refusal_reply};
+ghost use Rattle.layout.specs.Messages.{IsMessage, encoding, folded_message};
+ghost use Rattle.front.specs.Replies.{reply_header, whole_reply, cut_reply, bare, reply_of, failure_of, refusal_reply};
+ghost use Rattle.wire.specs.Limits.{limit_of};
 
 use crate::echo::Echo;
 use crate::parts::Parts;
@@ -12,10 +13,11 @@ use crate::start::Start;
 use authority::Cause;
 use dname::{Heap, Starved};
 use std::alloc::Allocator;
-use wire::{Header, Via};
+use wire::{Header, TCP_LIMIT, UDP_LIMIT, Via};
 
 /// The bytes of the reply, and the cause of a SERVFAIL. A reply over 512 bytes on UDP keeps header and
-/// question, with TC set; one over 65,535 bytes on TCP is a SERVFAIL.
+/// question, with TC set; one over 65,535 bytes on TCP is a SERVFAIL. The bytes are read back as the reply, its
+/// question in lower case.
 pub fn reply_bytes<A: Heap>(
     alloc: A,
     query: &Query<A>,
@@ -23,32 +25,33 @@ pub fn reply_bytes<A: Heap>(
     via: Via,
 ) -> Result<(Vec<u8, A>, Option<Cause>), Starved>
     ensures bytes { IfOk result (λ r. r.0.items ≡ encoding (reply_of via query.now outcome.now).0) }
+    ensures message { IfOk result (λ r. IsMessage r.0.items (folded_message (reply_of via query.now outcome.now).0)) }
     ensures cause { IfOk result (λ r. r.1 ≡ (reply_of via query.now outcome.now).1) }
     ensures short { IfOk result (λ r. length r.0.items ≤ limit_of via) }
 {
     let cause = cause_in(outcome);
     let whole = draft_of(query, outcome);
     match via {
-        Via::Udp => match whole.encode(alloc, 512)? {
+        Via::Udp => match whole.encode(alloc, UDP_LIMIT)? {
             Some(bytes) => Ok((bytes, cause)),
             None => {
                 is_short(Some(&query.echo));
-                Ok((short_bytes(alloc, &cut(&whole), 512)?, cause))
+                Ok((short_bytes(alloc, &cut(&whole), UDP_LIMIT)?, cause))
             }
         },
-        Via::Tcp => match whole.encode(alloc, 65_535)? {
+        Via::Tcp => match whole.encode(alloc, TCP_LIMIT)? {
             Some(bytes) => Ok((bytes, cause)),
             None => {
                 is_short(Some(&query.echo));
                 let failure = empty_draft(query.start, Some(&query.echo), 2);
-                Ok((short_bytes(alloc, &failure, 65_535)?, Some(Cause::Large)))
+                Ok((short_bytes(alloc, &failure, TCP_LIMIT)?, Some(Cause::Large)))
             }
         },
     }
 }
 
 /// The bytes of the reply to a query that is refused before it is looked at: header, and the question if it
-/// was read.
+/// was read. They are read back as that reply, its question in lower case.
 pub fn refusal_bytes<A: Heap>(
     alloc: A,
     refusal: Refusal,
@@ -56,17 +59,19 @@ pub fn refusal_bytes<A: Heap>(
     echo: Option<&Echo<A>>,
 ) -> Result<Vec<u8, A>, Starved>
     ensures bytes { IfOk result (λ r. r.items ≡ encoding (refusal_reply refusal start (option_copied echo.entry))) }
-    ensures short { IfOk result (λ r. length r.items ≤ 512) }
+    ensures message { IfOk result (λ r. IsMessage r.items (folded_message (refusal_reply refusal start (option_copied echo.entry)))) }
+    ensures short { IfOk result (λ r. length r.items ≤ UDP_LIMIT) }
 {
     is_short(echo);
-    short_bytes(alloc, &empty_draft(start, echo, refusal.rcode()), 512)
+    short_bytes(alloc, &empty_draft(start, echo, refusal.rcode()), UDP_LIMIT)
 }
 
 // The bytes of a message that is short enough for its limit.
 fn short_bytes<A: Heap>(alloc: A, parts: &Parts<'_, A>, limit: usize) -> Result<Vec<u8, A>, Starved>
-    requires limit { limit ≤ 65535 }
+    requires limit { limit ≤ TCP_LIMIT }
     requires fits { length (encoding parts.now) ≤ limit }
     ensures bytes { IfOk result (λ r. r.items ≡ encoding parts.now) }
+    ensures message { IfOk result (λ r. IsMessage r.items (folded_message parts.now)) }
     ensures short { IfOk result (λ r. length r.items ≤ limit) }
 {
     match parts.encode(alloc, limit)? {

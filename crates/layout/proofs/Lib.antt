@@ -1,3 +1,4 @@
+pub mod Served
 pub mod Reading
 pub mod Growing
 pub mod Standing
@@ -5,3 +6,4 @@ pub mod Written
 pub mod Whole
 pub mod Letters
 pub mod Single
+pub mod Roots
