@@ -1,16 +1,18 @@
 -- What a plan has: each address whose penalty is at most 8, as often as it was given, in the order of penalties.
 use Rattle.std.proofs.Common.{◌≡◌, ℕ, zero, suc, ◌*◌, ◌≤◌, ◌<◌, Bool, true, false, cond, nat_eq, inl, inr, List, [], ◌∷◌, ◌++◌, length, filter, get_or, Contains, refl, sym, ap, ◌∙◌, subst, arith, eq-eqb, eqb-true, ne_eqb, eq-or-lt_of_le, length-append}
+use Rattle.std.specs.List.{IsDistinct}
 use Rattle.std.specs.List.Sorted.{IsNonDecreasingBy}
 use Rattle.std.proofs.lemmas.Bool.{cases_lt}
 use Rattle.std.proofs.lemmas.List.{append-nil}
 use Rattle.std.proofs.lemmas.List.Elements.{Contains-append_left, Contains-append_right, Contains-append_cases, Contains-get_or, filter-append}
-use Rattle.lru.proofs.Splits.{Contains-head, Contains-tail}
+use Rattle.std.proofs.lemmas.Map.Keys.{IsDistinct-tail}
+use Rattle.lru.proofs.Splits.{Contains-head, Contains-tail, Contains-cons, Contains-nil}
 use Rattle.rdata.specs.declared.addr.Addr.{Addr}
 use Rattle.retry.specs.Penalties.{same_addr}
 use Rattle.retry.specs.Plans.{with_penalty, with_penalties_to, by_penalty, IsByPenalty}
 use Rattle.retry.proofs.Exact.{same_addr_exact}
 use Rattle.frames.specs.Members.{times}
-use Rattle.frames.proofs.Members.{by_test, first_of, second_of, true_or_false, filter_from, filter_there}
+use Rattle.frames.proofs.Members.{by_test, first_of, second_of, true_or_false, filter_from, filter_there, distinct_apart}
 
 -- ---- filters
 
@@ -148,3 +150,24 @@ module _ (level : Addr → ℕ) where
       let both = ap length (filter-append (same_addr a) (by_penalty level given) (by_penalty level given)) in
       let sum = length-append (filter (same_addr a) (by_penalty level given)) (filter (same_addr a) (by_penalty level given)) in
       omega arith
+
+-- An address of a list in which none stands twice stands there once.
+pub once_times : (xs : List Addr) (a : Addr) → IsDistinct same_addr xs → Contains xs a → times a xs ≡ 1
+once_times [] a d c = absurd (Contains-nil a c)
+once_times (x ∷ xs) a d c = by_test (same_addr a x)
+    (λ e. ap length (first_of (x ∷ filter (same_addr a) xs) (filter (same_addr a) xs) e) ∙ ap (λ (l : List Addr). length (x ∷ l)) (filter_none (same_addr a) xs (apart (same_addr_exact.equal a x e))))
+    (λ e. ap length (second_of (x ∷ filter (same_addr a) xs) (filter (same_addr a) xs) e) ∙ once_times xs a (IsDistinct-tail same_addr x xs d) (later e))
+  where
+    apart : a ≡ x → (y : Addr) → Contains xs y → same_addr a y ≡ false
+    apart is y m = ap (λ (z : Addr). same_addr z y) is ∙ distinct_apart x xs y d m
+
+    later : same_addr a x ≡ false → Contains xs a
+    later e = elim (Contains-cons x xs a c) [
+      | inl is ↦ true_or_false (subst (λ (z : Addr). same_addr z x ≡ true) is (same_addr_exact.refl x)) e
+      | inr m ↦ m
+    ]
+
+-- So a plan of such a list asks it twice.
+pub asked_twice : (level : Addr → ℕ) (given : List Addr) (a : Addr) → IsDistinct same_addr given → Contains given a → level a ≤ 8
+    → times a (by_penalty level given ++ by_penalty level given) ≡ 2
+asked_twice level given a d c le = let two = twice_each level given a le in let one = once_times given a d c in omega arith

@@ -131,8 +131,8 @@ impl<A: Allocator> Frame<A> {
         &self.zone
     }
 
-    /// The servers whose addresses were not known at the start.
-    pub fn names(&self) -> &[Name<A>]
+    /// The servers of which no address was known at the start.
+    pub fn unknown_names(&self) -> &[Name<A>]
         ensures { result.now ≡ (self.now).names }
     {
         self.names.as_slice()

@@ -14,6 +14,7 @@ ghost use Rattle.frames.specs.Members.{AreAmong, times};
 /// What a frame is opened with: addresses and names of the cut, at most 16 of each, no address twice, and
 /// no name of which an address is known. None is left out: each address of the cut is taken while there are
 /// fewer than 16, and of the first 16 names each is taken or known, by an address of its own that is taken.
+/// In the two rounds of its plan each address whose penalty is at most 8 stands twice.
 pub fn opened_law()
     ensures addresses { (level : Addr → ℕ) (nesting : ℕ) (c : Cut) (a : Addr) → Contains (opened level nesting c).addresses a → (s : ServerAddress) × Contains c.addresses s × (s.address ≡ a) }
     ensures names { (level : Addr → ℕ) (nesting : ℕ) (c : Cut) (n : Name) → Contains (opened level nesting c).names n → Contains c.names n × (is_known c n ≡ false) }
@@ -22,6 +23,7 @@ pub fn opened_law()
     ensures once { (level : Addr → ℕ) (nesting : ℕ) (c : Cut) → IsDistinct same_addr (opened level nesting c).addresses }
     ensures all_addresses { (level : Addr → ℕ) (nesting : ℕ) (c : Cut) (s : ServerAddress) → Contains c.addresses s → Contains (opened level nesting c).addresses s.address ⊎ (length (opened level nesting c).addresses ≡ 16) }
     ensures all_names { (level : Addr → ℕ) (nesting : ℕ) (c : Cut) (n : Name) → Contains (take 16 c.names) n → Contains (opened level nesting c).names n ⊎ (is_known c n ≡ true) }
+    ensures twice { (level : Addr → ℕ) (nesting : ℕ) (c : Cut) (a : Addr) → Contains (opened level nesting c).addresses a → level a ≤ 8 → times a ((opened level nesting c).plan.order ++ (opened level nesting c).plan.order) ≡ 2 }
     ensures known { (level : Addr → ℕ) (nesting : ℕ) (c : Cut) (n : Name) → is_known c n ≡ true → (s : ServerAddress) × Contains c.addresses s × (s.name ≡ n) × Contains (opened level nesting c).addresses s.address }
 {}
 

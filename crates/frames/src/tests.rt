@@ -6,6 +6,7 @@ use referral::{Addresses, Cut, Names, ServerAddress};
 use refusing::Refusing;
 use retry::Penalties;
 use std::hash::BuildHasherDefault;
+use std::num::NonZeroUsize;
 use std::test::Fail;
 
 fn addr(last: u8) -> Addr {
@@ -39,12 +40,13 @@ fn locate<A: Heap>(cut: &mut Cut<A>, alloc: A, server: &str, last: u8) -> Result
     cut.addresses.push(ServerAddress { name, address })
 }
 
+fn no_penalties<A: Heap>(alloc: A) -> Result<Penalties<DefaultHasher, A>, Starved> {
+    let room = NonZeroUsize::new(100).ok_or(Starved)?;
+    Penalties::new(alloc, room, BuildHasherDefault::new())
+}
+
 fn start<A: Heap>(alloc: A, cut: &Cut<A>, nesting: u8) -> Result<Frame<A>, Starved> {
-    let penalties: Penalties<DefaultHasher, A> = Penalties::new(
-        alloc,
-        100,
-        BuildHasherDefault::new(),
-    )?;
+    let penalties = no_penalties(alloc)?;
     Frame::start(alloc, cut, nesting, &penalties)
 }
 
@@ -74,8 +76,8 @@ fn is_last<A: Heap>(names: &[Name<A>], alloc: A, expected: &str) -> Result<bool,
 fn sixteen_of_seventeen_names_are_taken(rt: HostRuntime) -> Result<(), Fail> {
     let cut = seventeen(rt.alloc())?;
     let frame = start(rt.alloc(), &cut, 2)?;
-    assert_eq!(rt; frame.names().len(), 16);
-    assert!(rt; is_last(frame.names(), rt.alloc(), "p.net")?);
+    assert_eq!(rt; frame.unknown_names().len(), 16);
+    assert!(rt; is_last(frame.unknown_names(), rt.alloc(), "p.net")?);
     assert_eq!(rt; frame.nesting(), 2);
     Ok(())
 }
@@ -112,7 +114,7 @@ fn servers_of_taken_addresses_are_known(rt: HostRuntime) -> Result<(), Fail> {
     let cut = late_address(rt.alloc())?;
     let frame = start(rt.alloc(), &cut, 0)?;
     assert_eq!(rt; frame.addresses().len(), 16);
-    assert_eq!(rt; frame.names().len(), 1);
+    assert_eq!(rt; frame.unknown_names().len(), 1);
     Ok(())
 }
 
@@ -183,11 +185,7 @@ fn by_penalties<A: Heap>(alloc: A) -> Result<Frame<A>, Starved> {
     locate(&mut cut, alloc, "a.net", 1)?;
     locate(&mut cut, alloc, "b.net", 2)?;
     locate(&mut cut, alloc, "c.net", 1)?;
-    let mut penalties: Penalties<DefaultHasher, A> = Penalties::new(
-        alloc,
-        100,
-        BuildHasherDefault::new(),
-    )?;
+    let mut penalties = no_penalties(alloc)?;
     penalties.timed_out(addr(1))?;
     Frame::start(alloc, &cut, 0, &penalties)
 }
@@ -205,11 +203,7 @@ fn addresses_are_asked_by_their_penalties(rt: HostRuntime) -> Result<(), Fail> {
 }
 
 fn add<A: Heap>(frame: &mut Frame<A>, alloc: A, found: &[Addr]) -> Result<bool, Starved> {
-    let penalties: Penalties<DefaultHasher, A> = Penalties::new(
-        alloc,
-        100,
-        BuildHasherDefault::new(),
-    )?;
+    let penalties = no_penalties(alloc)?;
     frame.add(found, &penalties)
 }
 

@@ -1,6 +1,7 @@
 use Rattle.std.proofs.Common.{map}
 use Rattle.referral.specs.Cuts.{ServerAddress}
-use Rattle.frames.specs.Frames.{each_once}
+use Rattle.frames.specs.Frames.{each_once, taken_addresses}
+use Rattle.frames.proofs.Plans.{asked_twice}
 use Rattle.frames.proofs.Steps.{taken_from, unknown_from, few_taken, few_unknown, taken_distinct, all_taken, all_unknown, known_taken}
 use Rattle.frames.proofs.laws.opened_law.Goals as goal
 
@@ -13,5 +14,6 @@ returns c = record {
   once = λ level nesting cut. taken_distinct cut;
   all_addresses = λ level nesting cut s. all_taken cut s;
   all_names = λ level nesting cut n. all_unknown cut n;
+  twice = λ level nesting cut a c. asked_twice level (taken_addresses cut) a (taken_distinct cut) c;
   known = λ level nesting cut n. known_taken cut n;
 }
