@@ -1,6 +1,7 @@
-ghost use Rattle.std.specs.Prelude.{◌≡◌, ◌<◌, ◌≤◌, [], IfOk, OnOk, OnErr, IsOk, IsSome};
+ghost use Rattle.std.specs.Prelude.{◌≡◌, ◌≤◌, [], IfOk, OnOk, OnErr, IsOk, IsSome};
 ghost use Rattle.std.specs.Map.{lookup};
-ghost use Rattle.lru.specs.LruCache.{lru_cache};
+ghost use Rattle.std.specs.NonZero.{non_zero_usize_get};
+ghost use Rattle.lru.specs.LruCache.{lru_cache, IsValid};
 ghost use Rattle.recency.specs.Orders.{KeepsOnly, LosesOnly, MayGo};
 ghost use Rattle.retry.specs.Penalties.{same_addr, penalty, raised, timed_out, answered, AreAtMost};
 
@@ -33,16 +34,12 @@ impl<S: BuildHasher + Drop, A: Allocator> Model for Penalties<S, A> {
 }
 
 impl<S: BuildHasher + Drop, A: Heap> Penalties<S, A> {
-    /// No penalties, with room for those of `cap` addresses, 1 to 1,000,000, which is taken as they come.
-    pub fn new(alloc: A, cap: usize, hasher: S) -> Result<Penalties<S, A>, Starved>
-        requires some { 0 < cap }
-        requires few { cap ≤ 1000000 }
-        ensures { IfOk result (λ p. p ≡ lru_cache [] cap) }
+    /// No penalties, with room for those of `cap` addresses, which is taken as they come.
+    pub fn new(alloc: A, cap: NonZeroUsize, hasher: S) -> Result<Penalties<S, A>, Starved>
+        ensures { IfOk result (λ p. p ≡ lru_cache [] (non_zero_usize_get cap)) }
     {
         let mut levels = LruCache::unbounded_with_hasher(alloc, hasher)?;
-        if let Some(cap) = NonZeroUsize::new(cap) {
-            levels.resize(cap);
-        }
+        levels.resize(cap);
         Ok(Penalties { levels })
     }
 
@@ -70,9 +67,11 @@ impl<S: BuildHasher + Drop, A: Allocator> Penalties<S, A> {
         self.levels.peek(&addr).copied().unwrap_or(0)
     }
 
-    /// Every penalty that is kept is at most 8.
+    /// Every penalty that is kept is at most 8; no two are of one address, and there are no more of them than
+    /// the capacity.
     pub fn is_well_formed(&self)
-        ensures { AreAtMost 8 self.now.entries }
+        ensures most { AreAtMost 8 self.now.entries }
+        ensures valid { IsValid same_addr self.now }
     {
         let _ = self.levels.len();
     }

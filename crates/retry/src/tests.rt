@@ -4,6 +4,7 @@ use lru::DefaultHasher;
 use rdata::Addr;
 use refusing::Refusing;
 use std::hash::BuildHasherDefault;
+use std::num::NonZeroUsize;
 use std::test::Fail;
 
 const X: Addr = Addr([192, 0, 2, 1]);
@@ -14,6 +15,10 @@ const Z: Addr = Addr([192, 0, 2, 3]);
 
 fn hasher() -> DefaultHasher {
     BuildHasherDefault::new()
+}
+
+fn room(addresses: usize) -> Result<NonZeroUsize, Starved> {
+    NonZeroUsize::new(addresses).ok_or(Starved)
 }
 
 // What a plan of these addresses gives, and how long each is waited for.
@@ -43,7 +48,7 @@ fn rounds(first: Addr, second: Addr) -> [(Addr, u32); 4] {
 
 #[test]
 fn penalties_decide_the_order_of_two_rounds(rt: HostRuntime) -> Result<(), Fail> {
-    let mut penalties = Penalties::new(rt.alloc(), 10, hasher())?;
+    let mut penalties = Penalties::new(rt.alloc(), room(10)?, hasher())?;
     let both = [X, Y];
     assert!(rt; asked(rt.alloc(), &both, &penalties)?.as_slice() == rounds(X, Y).as_slice());
     penalties.timed_out(X)?;
@@ -58,7 +63,7 @@ fn penalties_decide_the_order_of_two_rounds(rt: HostRuntime) -> Result<(), Fail>
 
 #[test]
 fn penalties_stop_at_eight(rt: HostRuntime) -> Result<(), Fail> {
-    let mut penalties = Penalties::new(rt.alloc(), 10, hasher())?;
+    let mut penalties = Penalties::new(rt.alloc(), room(10)?, hasher())?;
     for level in [2, 4, 6, 8, 8] {
         penalties.timed_out(X)?;
         assert_eq!(rt; penalties.of(X), level);
@@ -70,7 +75,7 @@ fn penalties_stop_at_eight(rt: HostRuntime) -> Result<(), Fail> {
 // Two entries: the one that was used least goes, and one that fell to 0 still counts.
 #[test]
 fn the_least_used_penalty_goes(rt: HostRuntime) -> Result<(), Fail> {
-    let mut penalties = Penalties::new(rt.alloc(), 2, hasher())?;
+    let mut penalties = Penalties::new(rt.alloc(), room(2)?, hasher())?;
     penalties.timed_out(X)?;
     penalties.timed_out(Y)?;
     penalties.answered(X);
@@ -86,7 +91,7 @@ fn the_least_used_penalty_goes(rt: HostRuntime) -> Result<(), Fail> {
 }
 
 fn play<A: Heap>(alloc: A) -> Result<bool, Starved> {
-    let mut penalties = Penalties::new(alloc, 2, hasher())?;
+    let mut penalties = Penalties::new(alloc, room(2)?, hasher())?;
     penalties.timed_out(X)?;
     penalties.timed_out(Y)?;
     penalties.timed_out(X)?;
@@ -110,7 +115,7 @@ fn each_growth_refused_in_turn(rt: HostRuntime) -> Result<(), Fail> {
 #[test]
 fn a_refused_penalty_changes_nothing(rt: HostRuntime) -> Result<(), Fail> {
     let heap = Refusing::new(rt.alloc());
-    let mut penalties = Penalties::new(&heap, 2, hasher())?;
+    let mut penalties = Penalties::new(&heap, room(2)?, hasher())?;
     penalties.timed_out(X)?;
     heap.refuse_after(0);
     assert!(rt; penalties.timed_out(X).is_ok());
