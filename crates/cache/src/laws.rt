@@ -1,5 +1,6 @@
 //! Laws of a cache's entries: functions that do nothing, whose clauses are proved.
 
+ghost use Rattle.cache.specs.Given.{NothingIsMissed, MissGivesNothing, GivenLives, FirstIsGiven, KeptIsGiven, LookStaysValid, KeepStaysValid};
 ghost use Rattle.cache.specs.Members.{LookKeepsMembers, KeepBringsOne, KeptIsThere, KeepLosesFew, GivenIsHeld};
 
 /// Which entries a look-up and a keep leave. A look-up changes their order alone, and what it gives is one of
@@ -11,4 +12,17 @@ pub fn members_law()
     ensures there { KeptIsThere }
     ensures gone { KeepLosesFew }
     ensures held { GivenIsHeld }
+{}
+
+/// What a look-up gives. What is given lives; nothing is given exactly where nothing that is kept answers;
+/// the link that lives and answers first is given, and so is what was just kept. Each call leaves entries of
+/// different keys, and no more than there is room for.
+pub fn given_law()
+    ensures missed { NothingIsMissed }
+    ensures miss { MissGivesNothing }
+    ensures lives { GivenLives }
+    ensures first { FirstIsGiven }
+    ensures kept { KeptIsGiven }
+    ensures looked_valid { LookStaysValid }
+    ensures kept_valid { KeepStaysValid }
 {}
