@@ -5,10 +5,15 @@ use lru::DefaultHasher;
 use rdata::{Addr, RData, RType, Record, Records, Soa};
 use refusing::Refusing;
 use std::hash::BuildHasherDefault;
+use std::num::NonZeroUsize;
 use std::test::Fail;
 
 fn hasher() -> DefaultHasher {
     BuildHasherDefault::new()
+}
+
+fn room(links: usize) -> Result<NonZeroUsize, Starved> {
+    NonZeroUsize::new(links).ok_or(Starved)
 }
 
 fn name<A: Heap>(alloc: A, text: &str) -> Result<Name<A>, Starved> {
@@ -136,7 +141,7 @@ fn word<A: Heap>(link: &Link<A>) -> &'static str {
 
 #[test]
 fn the_least_used_link_goes(rt: HostRuntime) -> Result<(), Fail> {
-    let cache = Cache::new(rt.alloc(), 2, hasher())?;
+    let cache = Cache::new(rt.alloc(), room(2)?, hasher())?;
     let mut kept = Kept {
         alloc: rt.alloc(),
         cache,
@@ -153,7 +158,7 @@ fn the_least_used_link_goes(rt: HostRuntime) -> Result<(), Fail> {
 
 #[test]
 fn a_link_removes_the_names_error(rt: HostRuntime) -> Result<(), Fail> {
-    let cache = Cache::new(rt.alloc(), 9, hasher())?;
+    let cache = Cache::new(rt.alloc(), room(9)?, hasher())?;
     let mut kept = Kept {
         alloc: rt.alloc(),
         cache,
@@ -171,7 +176,7 @@ fn a_link_removes_the_names_error(rt: HostRuntime) -> Result<(), Fail> {
 
 #[test]
 fn an_alias_answers_every_type(rt: HostRuntime) -> Result<(), Fail> {
-    let cache = Cache::new(rt.alloc(), 9, hasher())?;
+    let cache = Cache::new(rt.alloc(), room(9)?, hasher())?;
     let mut kept = Kept {
         alloc: rt.alloc(),
         cache,
@@ -188,7 +193,7 @@ fn an_alias_answers_every_type(rt: HostRuntime) -> Result<(), Fail> {
 
 #[test]
 fn the_want_of_an_alias_is_none(rt: HostRuntime) -> Result<(), Fail> {
-    let cache = Cache::new(rt.alloc(), 9, hasher())?;
+    let cache = Cache::new(rt.alloc(), room(9)?, hasher())?;
     let mut kept = Kept {
         alloc: rt.alloc(),
         cache,
@@ -201,7 +206,7 @@ fn the_want_of_an_alias_is_none(rt: HostRuntime) -> Result<(), Fail> {
 
 #[test]
 fn a_clock_that_goes_back_gives_age_zero(rt: HostRuntime) -> Result<(), Fail> {
-    let cache = Cache::new(rt.alloc(), 9, hasher())?;
+    let cache = Cache::new(rt.alloc(), room(9)?, hasher())?;
     let mut kept = Kept {
         alloc: rt.alloc(),
         cache,
@@ -215,7 +220,7 @@ fn a_clock_that_goes_back_gives_age_zero(rt: HostRuntime) -> Result<(), Fail> {
 
 // Keeps an alias, and is told of it for its own type.
 fn play<A: Heap>(alloc: A) -> Result<bool, Starved> {
-    let cache = Cache::new(alloc, 2, hasher())?;
+    let cache = Cache::new(alloc, room(2)?, hasher())?;
     let mut kept = Kept { alloc, cache };
     kept.keep("a", RType::A, Shape::Alias, 10, 0)?;
     kept.keep("a", RType::A, Shape::NoData, 0, 0)?;
@@ -238,7 +243,7 @@ fn each_growth_refused_in_turn(rt: HostRuntime) -> Result<(), Fail> {
 
 #[test]
 fn sets_come_back(rt: HostRuntime) -> Result<(), Fail> {
-    let cache = Cache::new(rt.alloc(), 9, hasher())?;
+    let cache = Cache::new(rt.alloc(), room(9)?, hasher())?;
     let mut kept = Kept {
         alloc: rt.alloc(),
         cache,
@@ -260,7 +265,7 @@ fn a_refused_link_changes_nothing(rt: HostRuntime) -> Result<(), Fail> {
         (Shape::TwoAddresses, 8),
         (Shape::NoData, 11),
     ] {
-        let cache = Cache::new(&heap, 2, hasher())?;
+        let cache = Cache::new(&heap, room(2)?, hasher())?;
         let mut kept = Kept {
             alloc: &heap,
             cache,
