@@ -1,7 +1,8 @@
 -- What a cache of links gives for a question, and what it holds after each call.
-use Rattle.std.specs.Prelude.{◌≡◌, ◌≢◌, ℕ, ◌-◌, ◌*◌, Bool, true, false, cond, nat_lt, nat_eq, ◌⊎◌, Option, Some, None, List, [], ◌∷◌, Contains}
+use Rattle.std.specs.Prelude.{◌≡◌, ◌≢◌, ℕ, ◌-◌, ◌*◌, ◌/◌, Bool, true, false, cond, nat_lt, nat_eq, ◌⊎◌, Option, Some, None, List, [], ◌∷◌, map, Contains}
 use Rattle.std.specs.Map.{lookup, remove_entry}
 use Rattle.rdata.specs.Records.{Record}
+use Rattle.rdata.specs.Sets.{with_ttl}
 use Rattle.zone.specs.Links.{Link, Found, Alias, NoData, NxDomain}
 use Rattle.zone.specs.Zones.{cname_type}
 use Rattle.recency.specs.Orders.{kept, used, MayGo}
@@ -19,6 +20,21 @@ as_kept l ttl now = record { link = l; ttl = ttl; since = now }
 -- Younger than its time to live. A link that was kept in what is now the future has age 0.
 abbrev pub is_live : ℕ → Hit → Bool
 is_live now h = nat_lt (now - h.since) (1000 * h.ttl)
+
+-- The link with this TTL on each record.
+abbrev pub retimed : ℕ → Link → Link
+retimed ttl (Found rs) = Found (map (with_ttl ttl) rs)
+retimed ttl (Alias r) = Alias (with_ttl ttl r)
+retimed ttl (NoData soa) = NoData (with_ttl ttl soa)
+retimed ttl (NxDomain soa) = NxDomain (with_ttl ttl soa)
+
+-- The seconds that are left of a link's time to live, its age in whole seconds; 0 where that is over.
+abbrev pub left_of : ℕ → Hit → ℕ
+left_of now h = h.ttl - (now - h.since) / 1000
+
+-- The link as it is sent (RFC 1035, section 6.1.3).
+abbrev pub aged : ℕ → Hit → Link
+aged now h = retimed (left_of now h) h.link
 
 -- The answer for the type under which a link stands: an alias is a set of one CNAME record there.
 abbrev pub as_set : Link → Link

@@ -1,3 +1,4 @@
+pub mod Aging
 pub mod Cached
 pub mod Forms
 pub mod Given

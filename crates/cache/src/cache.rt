@@ -1,6 +1,7 @@
-ghost use Rattle.std.specs.Prelude.{◌≡◌, ◌≢◌, [], IfOk, OnOk, OnErr, IfSome, IfNone, Contains, option_map, option_copied};
+ghost use Rattle.std.specs.Prelude.{◌≡◌, ◌≢◌, ◌≤◌, [], IfOk, OnOk, OnErr, IfSome, IfNone, Contains, option_map, option_copied};
 ghost use Rattle.std.specs.NonZero.{non_zero_usize_get};
 ghost use Rattle.lru.specs.LruCache.{lru_cache, IsValid};
+ghost use Rattle.rdata.specs.Records.{greatest_ttl};
 ghost use Rattle.rdata.specs.Types.{type_number};
 ghost use Rattle.authority.specs.Answers.{link_view};
 ghost use Rattle.recency.specs.Orders.{KeepsOnly, LosesOnly, HasSame};
@@ -77,8 +78,9 @@ impl<S: BuildHasher + Drop, A: Heap> Cache<S, A> {
         let _ = self.entries.len();
     }
 
-    /// Keeps the link for this name and type from the moment `now`, in milliseconds, for `ttl` seconds. A
-    /// link with TTL 0 is not kept, and replaces what was kept. Want of memory changes nothing.
+    /// Keeps the link for this name and type from the moment `now`, in milliseconds, for `ttl` seconds, at
+    /// most 2,147,483,647 (RFC 2181, section 8). A link with TTL 0 is not kept, and replaces what was kept.
+    /// Want of memory changes nothing.
     pub fn keep(
         &mut self,
         name: &Name<A>,
@@ -87,6 +89,7 @@ impl<S: BuildHasher + Drop, A: Heap> Cache<S, A> {
         ttl: u32,
         now: u64,
     ) -> Result<(), Starved>
+        requires { ttl ≤ greatest_ttl }
         ensures ok { OnOk result (self.new ≡ lru_cache (after_keep self.old.cap name.now (type_number kind) (as_kept (link_view link.now) ttl now) self.old.entries) self.old.cap) }
         ensures err { OnErr result (self.new ≡ self.old) }
         ensures there { OnOk result (ttl ≢ 0 → Contains self.new.entries (key_for name.now (type_number kind) (link_view link.now), as_kept (link_view link.now) ttl now)) }

@@ -1,5 +1,6 @@
 //! Laws of a cache's entries: functions that do nothing, whose clauses are proved.
 
+ghost use Rattle.cache.specs.Aging.{AgedIsSame, LiveIsLeft, LeftIsLess, NewIsWhole};
 ghost use Rattle.cache.specs.Given.{NothingIsMissed, MissGivesNothing, GivenLives, FirstIsGiven, KeptIsGiven, LookStaysValid, KeepStaysValid};
 ghost use Rattle.cache.specs.Members.{LookKeepsMembers, KeepBringsOne, KeptIsThere, KeepLosesFew, GivenIsHeld};
 
@@ -25,4 +26,13 @@ pub fn given_law()
     ensures kept { KeptIsGiven }
     ensures looked_valid { LookStaysValid }
     ensures kept_valid { KeepStaysValid }
+{}
+
+/// What age changes: TTLs alone, so that what is true stays true; a link that lives has a second left at
+/// least, and never more than it was kept with.
+pub fn aging_law()
+    ensures same { AgedIsSame }
+    ensures live { LiveIsLeft }
+    ensures less { LeftIsLess }
+    ensures new { NewIsWhole }
 {}

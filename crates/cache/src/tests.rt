@@ -1,3 +1,6 @@
+ghost use Rattle.std.specs.Prelude.{◌≤◌};
+ghost use Rattle.rdata.specs.Records.{greatest_ttl};
+
 use super::*;
 use authority::Link;
 use dname::{Heap, Name, Starved};
@@ -108,7 +111,9 @@ impl<A: Heap> Kept<A> {
         shape: Shape,
         ttl: u32,
         now: u64,
-    ) -> Result<(), Starved> {
+    ) -> Result<(), Starved>
+        requires { ttl ≤ greatest_ttl }
+    {
         let owner = name(self.alloc, text)?;
         let link = link(self.alloc, &owner, shape)?;
         self.cache.keep(&owner, kind, &link, ttl, now)
@@ -215,6 +220,46 @@ fn a_clock_that_goes_back_gives_age_zero(rt: HostRuntime) -> Result<(), Fail> {
     assert!(rt; kept.seen("a", RType::A, 0)? == Some(("set of one", 10, 50_000)));
     assert!(rt; kept.seen("a", RType::A, 59_999)? == Some(("set of one", 10, 50_000)));
     assert!(rt; kept.seen("a", RType::A, 60_000)?.is_none());
+    Ok(())
+}
+
+// The TTLs of two addresses that are found at one moment and sent at another.
+fn sent_ttls(
+    cache: &mut Cache<DefaultHasher>,
+    owner: &Name,
+    found: u64,
+    sent: u64,
+) -> Result<Option<(u32, u32)>, Starved> {
+    let Some(hit) = cache.look(owner, RType::A, found)? else {
+        return Ok(None);
+    };
+    match hit.into_link(sent) {
+        Link::Found(records) => match records.as_slice() {
+            [first, second] => Ok(Some((first.ttl, second.ttl))),
+            _ => Ok(None),
+        },
+        _ => Ok(None),
+    }
+}
+
+#[test]
+fn ttls_count_down_by_whole_seconds(rt: HostRuntime) -> Result<(), Fail> {
+    let owner = name(rt.alloc(), "a")?;
+    let mut cache = Cache::new(rt.alloc(), room(2)?, hasher())?;
+    cache.keep(
+        &owner,
+        RType::A,
+        &two_addresses(rt.alloc(), &owner)?,
+        60,
+        1_000,
+    )?;
+    for (now, left) in [(0, 60), (1_999, 60), (2_000, 59), (60_999, 1)] {
+        assert!(rt;
+            sent_ttls(&mut cache, &owner, now, now)? == Some((left, left)),
+            "at {now}"
+        );
+    }
+    assert!(rt; sent_ttls(&mut cache, &owner, 1_000, 90_000)? == Some((0, 0)));
     Ok(())
 }
 
