@@ -125,6 +125,20 @@ fn the_first_refusal_answers(rt: HostRuntime) -> Result<(), Fail> {
 }
 
 #[test]
+fn a_hundred_thousand_hints_are_tested(rt: HostRuntime) -> Result<(), Fail> {
+    let mut lines = Vec::new(rt.alloc());
+    lines.push(LONE)?;
+    lines.push(Line::Host(1, "."))?;
+    for _ in 0..100_000 {
+        lines.push(Line::Hint(1))?;
+    }
+    assert!(rt; matches!(world(rt.alloc(), &lines)?, Ok(_)));
+    lines.push(Line::Hint(2))?;
+    assert!(rt; matches!(world(rt.alloc(), &lines)?, Err(WorldError::NoStart)));
+    Ok(())
+}
+
+#[test]
 fn refusals_have_numbers(rt: HostRuntime) -> Result<(), Fail> {
     let rows = [
         (WorldError::NoRoot, 1),

@@ -8,7 +8,7 @@ ghost use Rattle.simnet.specs.Kept.{world_with};
 ghost use Rattle.simnet.specs.Refusals.{IsRefused};
 
 use crate::fault::WorldError;
-use crate::rules::{has_loose_cuts, has_origin, has_undelegated, zones_keep_rules};
+use crate::rules::{has_loose_cuts, has_origin, has_undelegated};
 use crate::servers::{has_bad_hint, has_idle_host, has_lame_cuts, lacks_start};
 use authority::{Catalog, CatalogError, Link, Local};
 use dname::{Heap, Name, Starved};
@@ -67,7 +67,6 @@ fn check_rules<A: Heap>(
     ensures { MatchResult result (λ _. IsWorld (world_with catalog.now hosts.now hints.now locals.now)) (λ e. IsRefused (world_with catalog.now hosts.now hints.now locals.now) e) }
 {
     let zones = catalog.zones();
-    zones_keep_rules(zones);
     if !has_origin(zones, top) {
         return Err(WorldError::NoRoot);
     }
