@@ -5,7 +5,7 @@ use Rattle.std.proofs.lemmas.List.{take_more, flat_map_more}
 use Rattle.rdata.specs.Records.{Record}
 use Rattle.layout.specs.Messages.{Header, Question, Message}
 use Rattle.authority.specs.declared.cause.Cause.{Cause}
-use Rattle.script.specs.Lines.{head_line, record_line, reply_text}
+use Rattle.lines.specs.Lines.{head_line, record_line, reply_text}
 
 -- One item more is printed.
 pub printed_more : {X : Type 0} (f : X → List ℕ) (xs : List X) (i : ℕ) (x : X) (before printed longer : List ℕ) → i < length xs → x ≡ get_or xs i x

@@ -39,6 +39,10 @@ reply_text client m cause =
     head_line client m.header cause ++ flat_map (record_line (codes "an")) m.answer ++ flat_map (record_line (codes "ns")) m.authority
     ++ flat_map (record_line (codes "ar")) m.additional
 
--- The lines of the reply that bytes are stand behind the text before.
+-- The bytes are a message, and its lines stand behind the text before.
 abbrev pub ArePrinted : List ℕ → ℕ → Option Cause → List ℕ → List ℕ → Type 0
-ArePrinted bytes client cause before printed = (m : Message) → IsMessage bytes m → printed ≡ before ++ reply_text client m cause
+ArePrinted bytes client cause before printed = (m : Message) × IsMessage bytes m × (printed ≡ before ++ reply_text client m cause)
+
+-- The bytes are no message, and nothing stands behind the text before.
+abbrev pub AreNone : List ℕ → List ℕ → List ℕ → Type 0
+AreNone bytes before printed = ((m : Message) → IsMessage bytes m → ⊥) × (printed ≡ before)

@@ -1,7 +1,7 @@
-//! The program's output lines.
-ghost use Rattle.std.specs.Prelude.{◌≡◌, ◌++◌, OnOk, string_bytes};
+//! A reply as lines.
+ghost use Rattle.std.specs.Prelude.{◌≡◌, ◌⊎◌, ◌++◌, OnOk, string_bytes};
 ghost use Rattle.std.specs.List.{flat_map};
-ghost use Rattle.script.specs.Lines.{ArePrinted, cause_words, flag_word, head_line, rcode_word, record_line, reply_text};
+ghost use Rattle.lines.specs.Lines.{AreNone, ArePrinted, cause_words, flag_word, head_line, rcode_word, record_line, reply_text};
 
 use authority::Cause;
 use dname::{Heap, Starved, put_name};
@@ -26,7 +26,8 @@ pub fn put_reply<A: Allocator, B: Allocator>(
     put_records(out, "ar", message.additional.as_slice())
 }
 
-/// The same from the reply's bytes. Nothing is appended where they are no message.
+/// The same from the reply's bytes. Nothing is appended where they are no message. Where memory is refused, a part
+/// of the lines stands.
 pub fn put_reply_bytes<A: Heap, B: Allocator>(
     alloc: A,
     out: &mut String<B>,
@@ -34,7 +35,7 @@ pub fn put_reply_bytes<A: Heap, B: Allocator>(
     bytes: &[u8],
     cause: Option<Cause>,
 ) -> Result<(), Starved>
-    ensures { OnOk result (ArePrinted bytes.now client cause (string_bytes out.old) (string_bytes out.new)) }
+    ensures { OnOk result (ArePrinted bytes.now client cause (string_bytes out.old) (string_bytes out.new) ⊎ AreNone bytes.now (string_bytes out.old) (string_bytes out.new)) }
 {
     match decode(alloc, bytes) {
         Ok(message) => put_reply(out, client, &message, cause),

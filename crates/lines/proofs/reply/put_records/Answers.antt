@@ -1,7 +1,7 @@
 -- One record more.
-use Rattle.script.specs.Lines.{record_line}
-use Rattle.script.proofs.Printed.{printed_more}
-use Rattle.script.proofs.lines.put_records.Goals as goal
+use Rattle.lines.specs.Lines.{record_line}
+use Rattle.lines.proofs.Printed.{printed_more}
+use Rattle.lines.proofs.reply.put_records.Goals as goal
 
 pub loop-printed-preserved : goal.loop-printed-preserved
 loop-printed-preserved g c =

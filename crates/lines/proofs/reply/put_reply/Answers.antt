@@ -3,9 +3,9 @@ use Rattle.std.proofs.Common.{◌∙◌, ap, ◌++◌, codes, string_bytes, List
 use Rattle.std.specs.List.{flat_map}
 use Rattle.std.proofs.lemmas.Result.{on_ok_weaker}
 use Rattle.rdata.specs.Records.{Record}
-use Rattle.script.specs.Lines.{record_line}
-use Rattle.script.proofs.Printed.{whole_printed}
-use Rattle.script.proofs.lines.put_reply.Goals as goal
+use Rattle.lines.specs.Lines.{record_line}
+use Rattle.lines.proofs.Printed.{whole_printed}
+use Rattle.lines.proofs.reply.put_reply.Goals as goal
 
 pub returns : goal.returns
 returns g c =
