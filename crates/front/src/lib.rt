@@ -12,7 +12,7 @@ mod start;
 
 pub use echo::Echo;
 pub use follow::{Step, alias_target, answer_local};
-pub use laws::{local_answer_is_one, reading_is_one};
+pub use laws::{echo_is_question, local_answer_is_one, reading_is_one};
 pub use parts::Parts;
 pub use queries::{Asked, End, Outcome, Query, Refusal};
 pub use read::read_query;
@@ -20,5 +20,7 @@ pub use reply::{refusal_bytes, reply_bytes};
 pub use start::Start;
 pub use wire::Via;
 
+#[cfg(test)]
+mod exchange_tests;
 #[cfg(test)]
 mod tests;

@@ -1,5 +1,5 @@
 //! A client's bytes, read.
-ghost use Rattle.std.specs.Prelude.{◌≡◌, ℕ, ◌≤◌, ◌<◌, IfOk, length, slice_index};
+ghost use Rattle.std.specs.Prelude.{◌≡◌, ℕ, ◌≤◌, ◌<◌, IfOk, IsOk, length, slice_index};
 ghost use Rattle.front.specs.Openings.{opening_of};
 ghost use Rattle.front.specs.Queries.{IsAsked, by_question};
 
@@ -12,9 +12,11 @@ use wire::{Question, Spelling, WireError, decode, question_spelling};
 
 /// What the bytes from a client ask, in this order: under 12 bytes or QR set, nothing; no message, or other
 /// than one question, a format error; another operation than a query, a class other than IN or a type that
-/// is not served, not implemented; else a query.
+/// is not served, not implemented; else a query. Under 12 bytes and a reply take no memory.
 pub fn read_query<A: Heap>(alloc: A, bytes: &[u8]) -> Result<Asked<A>, Starved>
-    ensures { IfOk result (IsAsked bytes.now) }
+    ensures asked { IfOk result (IsAsked bytes.now) }
+    ensures dropped { length bytes.now < 12 → IsOk result }
+    ensures replies { 128 ≤ slice_index bytes.now 2 → IsOk result }
 {
     if bytes.len() < 12 || bytes[2] >= 128 {
         return Ok(Asked::Drop);

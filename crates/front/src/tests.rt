@@ -2,6 +2,7 @@
 ghost use Rattle.std.specs.Prelude.{◌≤◌};
 
 use super::*;
+use authority::Cause;
 use dname::{Heap, Starved};
 use rdata::{CharacterString, RData, Record, Records, Texts};
 use std::test::Fail;
@@ -57,37 +58,79 @@ fn what_is_not_served_is_refused(rt: HostRuntime) -> Result<(), Fail> {
 // t.example. TXT, with ID 9 and RD set.
 const QUERY: &[u8] = b"\0\x09\x01\0\0\x01\0\0\0\0\0\0\x01t\x07example\0\0\x10\0\x01";
 
-// What a client of that query is given where the name has one record of two strings, of 255 bytes and of so many.
-fn reply<A: Heap>(alloc: A, second: usize, via: Via) -> Result<Vec<u8, A>, Starved>
-    requires { second ≤ 255 }
-{
+// What a client of that query is given where the name has this set, and the cause of a SERVFAIL.
+fn reply<A: Heap>(
+    alloc: A,
+    set: Records<A>,
+    via: Via,
+) -> Result<(Vec<u8, A>, Option<Cause>), Starved> {
     let Asked::Query(query) = read_query(alloc, QUERY)? else {
         return Err(Starved);
     };
+    let outcome = Outcome::Answer(true, Records::new(alloc), End::Found(set));
+    reply_bytes(alloc, &query, &outcome, via)
+}
+
+// A TXT record of so many strings of 255 bytes, and one of `last` bytes.
+fn put_text<A: Heap>(
+    alloc: A,
+    set: &mut Records<A>,
+    strings: usize,
+    last: usize,
+) -> Result<(), Starved>
+    requires { last ≤ 255 }
+{
     let letters = [b'a'; 255];
-    let first = CharacterString::new(Vec::from_slice(alloc, &letters)?);
-    let mut strings = Texts::new(alloc, first)?;
-    let second = Vec::from_slice(alloc, &letters[..second])?;
-    strings.push(CharacterString::new(second))?;
-    let mut set = Records::new(alloc);
+    let last = CharacterString::new(Vec::from_slice(alloc, &letters[..last])?);
+    let mut texts = Texts::new(alloc, last)?;
+    for _ in 0..strings {
+        texts.push(CharacterString::new(Vec::from_slice(alloc, &letters)?))?;
+    }
+    let Asked::Query(query) = read_query(alloc, QUERY)? else {
+        return Err(Starved);
+    };
     set.push(Record {
         owner: query.name.copied(alloc)?,
         ttl: 300,
-        value: RData::Txt(strings),
-    })?;
-    let outcome = Outcome::Answer(true, Records::new(alloc), End::Found(set));
-    let (bytes, _) = reply_bytes(alloc, &query, &outcome, via)?;
+        value: RData::Txt(texts),
+    })
+}
+
+// The reply where the name has one TXT record, of two strings.
+fn reply_of_one<A: Heap>(alloc: A, second: usize, via: Via) -> Result<Vec<u8, A>, Starved>
+    requires { second ≤ 255 }
+{
+    let mut set = Records::new(alloc);
+    put_text(alloc, &mut set, 1, second)?;
+    let (bytes, _) = reply(alloc, set, via)?;
     Ok(bytes)
 }
 
 #[test]
 fn a_reply_over_512_bytes_is_cut_on_udp(rt: HostRuntime) -> Result<(), Fail> {
     let alloc = rt.alloc();
-    let whole = reply(alloc, 216, Via::Udp)?;
+    let whole = reply_of_one(alloc, 216, Via::Udp)?;
     assert_eq!(rt; whole.len(), 512);
-    let cut = reply(alloc, 217, Via::Udp)?;
+    let cut = reply_of_one(alloc, 217, Via::Udp)?;
     assert_eq!(rt; cut.len(), 27);
     assert!(rt; cut.starts_with(b"\0\x09\x87\x80\0\x01\0\0\0\0\0\0"));
-    assert_eq!(rt; reply(alloc, 217, Via::Tcp)?.len(), 513);
+    assert_eq!(rt; reply_of_one(alloc, 217, Via::Tcp)?.len(), 513);
+    Ok(())
+}
+
+// RDATA of 3,500 bytes, twenty times: 13 strings of 255 bytes and one of 171, each behind its length.
+#[test]
+fn a_reply_over_65535_bytes_is_a_failure_on_tcp(rt: HostRuntime) -> Result<(), Fail> {
+    let alloc = rt.alloc();
+    let mut set = Records::new(alloc);
+    for _ in 0..20 {
+        put_text(alloc, &mut set, 13, 171)?;
+    }
+    let (bytes, cause) = reply(alloc, set, Via::Tcp)?;
+    assert_eq!(rt; cause, Some(Cause::Large));
+    assert!(rt;
+        bytes.as_slice()
+            == b"\0\x09\x81\x82\0\x01\0\0\0\0\0\0\x01t\x07example\0\0\x10\0\x01".as_slice()
+    );
     Ok(())
 }

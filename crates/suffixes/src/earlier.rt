@@ -1,4 +1,4 @@
-ghost use Rattle.std.specs.Prelude.{◌≡◌, ℕ, ◌<◌, ◌≤◌, ◌++◌, [], ◌∷◌, length, drop, IfOk, IfSome, OnOk};
+ghost use Rattle.std.specs.Prelude.{◌≡◌, ℕ, ◌<◌, ◌≤◌, ◌++◌, [], ◌∷◌, length, drop, IfOk, IfSome, OnOk, OnErr, vec_len, vec_capacity, min, ◌+◌};
 ghost use Rattle.dname.specs.Labels.{wire};
 ghost use Rattle.dname.specs.Wire.{labels_of, IsWire};
 ghost use Rattle.layout.specs.Packing.{find};
@@ -75,38 +75,39 @@ impl Noted {
 }
 
 // Notes the suffixes that begin with the first `written` labels of the name in wire form that is kept from
-// `start` on and stands at `at`, each with the place of its first label, as far as a pointer can reach.
+// `start` on and stands at `at`, each with the place of its first label, as far as a pointer can reach. There
+// is room for them.
 fn note_labels<A: Allocator>(
     notes: &mut Vec<Noted, A>,
     names: &[u8],
     start: usize,
     written: usize,
     at: usize,
-) -> Result<(), Starved>
+)
     requires starts { start ≤ length names.now }
     requires wire { IsWire (drop start names.now) }
     requires kept { AreKept names.now notes.old.items }
+    requires room { vec_len notes.old + min written (length (drop start names.now)) ≤ vec_capacity notes.old }
     ensures kept { AreKept names.now notes.new.items }
-    ensures ok { OnOk result (notes_of names.now notes.new.items ≡ notes_of names.now notes.old.items ++ first_notes written at (labels_of (drop start names.now))) }
+    ensures noted { notes_of names.now notes.new.items ≡ notes_of names.now notes.old.items ++ first_notes written at (labels_of (drop start names.now)) }
 {
     let (_, mut rest) = names.split_at(start);
     let mut place = at;
     for _ in 0..written {
         let Some((label, after)) = next(rest) else {
-            return Ok(());
+            return;
         };
         if place >= POINTER_LIMIT {
-            return Ok(());
+            return;
         }
-        notes.push(Noted {
+        notes.push_reserved(Noted {
             start: names.len() - rest.len(),
             size: rest.len(),
             place: place as u16,
-        })?;
+        });
         place += 1 + label.len();
         rest = after;
     }
-    Ok(())
 }
 
 impl<A: Heap> Suffixes<A> {
@@ -121,18 +122,20 @@ impl<A: Heap> Suffixes<A> {
     }
 
     /// Notes the suffixes that begin with the first `written` labels of a name that stands at `at`, each
-    /// with the place of its first label, as far as a pointer can reach. After a refusal some of them are
-    /// noted.
+    /// with the place of its first label, as far as a pointer can reach. After a refusal nothing is noted.
     pub fn note(&mut self, name: &Name<A>, written: usize, at: usize) -> Result<(), Starved>
-        ensures { OnOk result (self.new ≡ self.old ++ first_notes written at name.now) }
+        ensures ok { OnOk result (self.new ≡ self.old ++ first_notes written at name.now) }
+        ensures err { OnErr result (self.new ≡ self.old) }
     {
         if written == 0 || at >= POINTER_LIMIT {
             return Ok(());
         }
         name.is_well_formed();
+        let bytes = name.wire();
         let start = self.names.len();
-        self.names.extend_from_slice(name.wire())?;
-        note_labels(&mut self.notes, &self.names, start, written, at)?;
+        self.notes.reserve(written.min(bytes.len()))?;
+        self.names.extend_from_slice(bytes)?;
+        note_labels(&mut self.notes, &self.names, start, written, at);
         Ok(())
     }
 }

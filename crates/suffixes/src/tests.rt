@@ -120,3 +120,29 @@ fn each_growth_is_refused_in_turn(rt: HostRuntime) -> Result<(), Fail> {
     }
     Ok(())
 }
+
+// Fifteen suffixes and 255 bytes are there: a name of eight labels more takes a growth for its notes, and one
+// for its bytes.
+#[test]
+fn a_refused_note_changes_nothing(rt: HostRuntime) -> Result<(), Fail> {
+    let heap = Refusing::new(rt.alloc());
+    let mut names = Suffixes::new(&heap)?;
+    let first = Name::from_text(&heap, "a.b.c.d.e.f.g.h")?;
+    for _ in 0..15 {
+        names.note(&first, 1, 12)?;
+    }
+    let other = Name::from_text(&heap, "s.t.u.v.w.x.y.z")?;
+    for n in 0..2 {
+        heap.refuse_after(n);
+        assert!(rt; names.note(&other, 8, 40).is_err(), "growth {n}");
+        assert_eq!(rt;
+            names.longest(&first).map(|f| f.place),
+            Some(12),
+            "growth {n}"
+        );
+        assert!(rt; names.longest(&other).is_none(), "growth {n}");
+    }
+    names.note(&other, 8, 40)?;
+    assert_eq!(rt; names.longest(&other).map(|f| f.place), Some(40));
+    Ok(())
+}

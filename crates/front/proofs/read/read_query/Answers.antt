@@ -5,13 +5,13 @@ use Rattle.wire.specs.declared.error.WireError.TheVariants.{Memory}
 use Rattle.front.proofs.Hearing.{other_reason, other_read, one_read, one_is_spelt}
 use Rattle.front.proofs.read.read_query.Goals as goal
 
-pub returns-in_default : goal.returns-in_default
-returns-in_default g c =
+pub returns-in_default-clause-asked : goal.returns-in_default-clause-asked
+returns-in_default-clause-asked g c =
     other_read _ c.in-Ok.message _ _ c.if-bytes-lt12.false c.if-bytes-ge128.false c.in-Ok.ensures.read (sym (ap (λ (m : Message). m.questions) c.message.view_is))
     c.in_default.ensures c.start_at-start.ensures
 
-pub returns-in-Ok-question_spelling : goal.returns-in-Ok-question_spelling
-returns-in-Ok-question_spelling g c =
+pub returns-in-Ok-question_spelling-clause-asked : goal.returns-in-Ok-question_spelling-clause-asked
+returns-in-Ok-question_spelling-clause-asked g c =
     one_read _ c.in-Ok.message c.in-Some.question _ _ _ c.if-bytes-lt12.false c.if-bytes-ge128.false c.in-Ok.ensures.read
     (sym (ap (λ (m : Message). m.questions) c.message.view_is) ∙ c.in-Some.ensures) c.in-Ok-question_spelling.ensures.read c.start_at-start.ensures c.sort_question.ensures
 

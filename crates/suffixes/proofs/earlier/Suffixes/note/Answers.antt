@@ -4,12 +4,12 @@ use Rattle.suffixes.proofs.earlier.Suffixes.note.Goals as goal
 
 pub note_labels-requires-clause-wire : goal.note_labels-requires-clause-wire
 note_labels-requires-clause-wire g c =
-    let names : c.deref.result.now ≡ c.self.inside.names.items ++ c.wire.result.now = c.deref.ensures.value ∙ c.in_ok-extend_from_slice.ensures.items in
+    let names : c.deref.result.now ≡ c.self.inside.names.items ++ c.wire-bytes.result.now = c.deref.ensures.value ∙ c.in_ok-extend_from_slice.ensures.items in
     let start : c.len-start.result ≡ length c.self.inside.names.items = search rules in
-    name_is_wire c.args.name.now _ c.is_well_formed.ensures (last_name c.self.inside.names.items _ _ _ names start ∙ c.wire.ensures)
+    name_is_wire c.args.name.now _ c.is_well_formed.ensures (last_name c.self.inside.names.items _ _ _ names start ∙ c.wire-bytes.ensures)
 
-pub returns : goal.returns
-returns g c =
-    let names : c.deref.result.now ≡ c.self.inside.names.items ++ c.wire.result.now = c.deref.ensures.value ∙ c.in_ok-extend_from_slice.ensures.items in
+pub returns-clause-ok : goal.returns-clause-ok
+returns-clause-ok g c =
+    let names : c.deref.result.now ≡ c.self.inside.names.items ++ c.wire-bytes.result.now = c.deref.ensures.value ∙ c.in_ok-extend_from_slice.ensures.items in
     let start : c.len-start.result ≡ length c.self.inside.names.items = search rules in
-    rw (← c.deref.ensures.value) (noted_behind c.self.inside.names.items _ c.wire.result.now _ _ _ _ _ _ _ names c.wire.ensures start c.self.invariant c.self.view_is c.in_ok-note_labels.ensures.ok)
+    rw (← c.deref.ensures.value) (noted_behind c.self.inside.names.items _ c.wire-bytes.result.now _ _ _ _ _ _ _ names c.wire-bytes.ensures start c.self.invariant c.self.view_is (rw c.reserve.ensures.items at c.note_labels.ensures.noted))
