@@ -25,7 +25,7 @@ use Rattle.simnet.specs.Refusals.{HasCutZones, IsDelegated}
 use Rattle.simnet.proofs.Decided.{Yes, No, no_not, yes_not, yes_un, no_un, yes_and, no_and, yes_or, no_or, yes_any, no_any, no_as, yes_as, yes_same, yes_under, no_less}
 
 -- Names, origins, servers.
-yes_name : (n : Name) (ns : List Name) → Yes (has_name n ns) (Contains ns n)
+pub yes_name : (n : Name) (ns : List Name) → Yes (has_name n ns) (Contains ns n)
 yes_name n ns = yes_as (λ p. subst (λ (m : Name). Contains ns m) p.2 p.1) (λ h. (n, h, refl)) (yes_any (λ m. yes_same m n) ns)
 
 pub yes_origin : (n : Name) (zs : List Zone) → Yes (has_origin n zs) ((z : Zone) × Contains zs z × (z.origin ≡ n))
