@@ -4,7 +4,7 @@ use Rattle.std.proofs.lemmas.List.{take_all, take-take, reverse-append, reverse-
 use Rattle.std.proofs.lemmas.List.Elements.{filter-append}
 use Rattle.std.proofs.lemmas.Grind.{get_or-set_at}
 use Rattle.std.proofs.lemmas.Bool.Decides.{eqb_tells}
-use Rattle.dname.specs.declared.memory.Starved.{Starved}
+use Rattle.memory.specs.declared.Starved.{Starved}
 use Rattle.book.specs.Histories.{Line, line, lines_of, count_of, Leads}
 use Rattle.book.specs.Books.{Page, Seat, seat, Reached, IsHistory, Adds, Stands}
 

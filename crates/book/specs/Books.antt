@@ -1,6 +1,6 @@
 -- What a book shows of the one history that its workers share, and what one call of `put` does to it.
 use Rattle.std.specs.Prelude.{◌≡◌, ℕ, zero, suc, ◌+◌, ◌<◌, Result, List, [], ◌∷◌, ◌++◌, reverse, length, take, slice_index_or, slice_set}
-use Rattle.dname.specs.declared.memory.Starved.{Starved}
+use Rattle.memory.specs.declared.Starved.{Starved}
 use Rattle.book.specs.Histories.{Line, count_of, Leads}
 
 -- What contracts see of a book: the machine's state, how many lines there are in all, how many each worker

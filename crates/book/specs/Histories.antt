@@ -1,7 +1,7 @@
 -- One history: the lines that a machine's workers wrote one after another, and the state that they lead to.
 use Rattle.std.specs.Prelude.{◌≡◌, ℕ, ◌<◌, eqb, Result, List, [], ◌∷◌, length}
 use Rattle.std.specs.List.{filter}
-use Rattle.dname.specs.declared.memory.Starved.{Starved}
+use Rattle.memory.specs.declared.Starved.{Starved}
 
 -- A step that was taken: by which worker, how many steps this worker had taken before, on which event, and
 -- what came out; `Err` where the step was refused memory.

@@ -5,7 +5,7 @@ use crate::entry::{Entry, copy_out};
 use crate::machine::Machine;
 use crate::ticket::{Ticket, issue};
 use circular_buffer::HeapCircularBuffer;
-use dname::{Heap, Starved};
+use memory::{Heap, Starved};
 use std::alloc::{Allocator, Global};
 use std::marker::Model;
 use std::sync::ledger;

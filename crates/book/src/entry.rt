@@ -2,7 +2,7 @@ ghost use Rattle.std.specs.Prelude.{◌≡◌, ◌↔◌, IfOk, IsTrue};
 ghost use Rattle.book.specs.Histories.{line, IsLast};
 
 use crate::machine::Machine;
-use dname::Starved;
+use memory::Starved;
 use std::marker::Model;
 
 /// One step that was taken: by which worker, on which event, and what came out. Only `Book::put` makes one,

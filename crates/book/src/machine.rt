@@ -1,6 +1,6 @@
 ghost use Rattle.std.specs.Prelude.{◌≡◌, ◌↔◌, IfOk, IsTrue};
 
-use dname::Starved;
+use memory::Starved;
 
 /// A machine that one thread could run alone: it has a state, and each step takes an event and gives what
 /// comes out.
@@ -15,7 +15,7 @@ pub trait Machine {
     type Out: Drop + Send;
 
     ghost use Rattle.std.specs.Prelude.{Result};
-    ghost use Rattle.dname.specs.declared.memory.Starved.{Starved};
+    ghost use Rattle.memory.specs.declared.Starved.{Starved};
 
     /// What a step may do: the old state, the event, what comes out, or want of memory, and the new state.
     ghost moves: { Self.State → Self.Event → Result Self.Out Starved → Self.State → Type 0 };

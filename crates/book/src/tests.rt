@@ -1,7 +1,7 @@
 ghost use Rattle.std.specs.Prelude.{◌≡◌, ◌<◌};
 
 use super::*;
-use dname::{Heap, Starved};
+use memory::{Heap, Starved};
 use refusing::Refusing;
 use std::alloc::{Allocator, Global};
 use std::marker::Brand;

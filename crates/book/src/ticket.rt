@@ -1,7 +1,7 @@
 ghost use Rattle.std.specs.Prelude.{◌≡◌, IfOk};
 ghost use Rattle.book.specs.Books.{seat, seats};
 
-use dname::{Heap, Starved};
+use memory::{Heap, Starved};
 use std::marker::Model;
 use std::sync::ledger::{Ledger, Share};
 

@@ -1,5 +1,5 @@
-use crate::memory::Heap;
 use crate::name::Name;
+use memory::Heap;
 
 impl<A: Heap> Name<A> {
     /// The allocator that the name was made with.

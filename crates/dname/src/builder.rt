@@ -2,8 +2,8 @@ ghost use Rattle.std.specs.Prelude.{◌≡◌, ◌+◌, ◌≤◌, ◌<◌, List
 ghost use Rattle.dname.specs.Labels.{wire, folded, folded_label};
 ghost use Rattle.dname.specs.Draft.{empty_draft, Refuses, pushed, shut, labelled};
 
-use crate::memory::{Heap, Starved};
 use crate::name::Name;
+use memory::{Heap, Starved};
 use std::alloc::{AllocError, AllocFailed, Allocator, Global};
 use std::marker::Model;
 
@@ -77,15 +77,17 @@ fn fold(byte: u8) -> u8
     }
 }
 
-// All or nothing.
-fn put_folded<A: Allocator>(out: &mut Vec<u8, A>, label: &[u8]) -> Result<(), AllocError>
-    ensures ok { OnOk result (out.new.items ≡ out.old.items ++ folded_label label.now) }
+// Appends the label in lower case, and a zero behind it; all or nothing.
+fn put_closed<A: Allocator>(out: &mut Vec<u8, A>, label: &[u8]) -> Result<(), AllocError>
+    requires { length label.now < 64 }
+    ensures ok { OnOk result (out.new.items ≡ out.old.items ++ folded_label label.now ++ 0 ∷ []) }
     ensures err { OnErr result (out.new.items ≡ out.old.items) }
 {
-    out.reserve(label.len())?;
+    out.reserve(label.len() + 1)?;
     for byte in label {
         out.push_reserved(fold(*byte));
     }
+    out.push_reserved(0);
     Ok(())
 }
 
@@ -134,19 +136,20 @@ impl<A: Heap> Builder<A> {
         Ok(())
     }
 
-    /// Writes a whole label, in lower case. Refused where the name would be too long or a growth is
-    /// refused: the draft then has the label's bytes open, or nothing of it.
+    /// Writes a whole label, in lower case. Refused, and nothing changed, where the name would be too long or
+    /// a growth is refused.
     pub fn push_label(&mut self, label: &[u8]) -> Result<(), Overflow>
         requires shut { self.old.opened ≡ [] }
         requires some { 0 < length label.now }
         requires short { length label.now < 64 }
-        ensures { MatchResult result (λ _. labelled self.old label.now ≡ Ok self.new) (λ e. Refuses e (labelled self.old label.now)) }
+        ensures { MatchResult result (λ _. labelled self.old label.now ≡ Ok self.new) (λ e. Refuses e (labelled self.old label.now) × (self.new ≡ self.old)) }
     {
         if self.bytes.len() + label.len() >= 255 {
             return Err(Overflow::LongName);
         }
-        put_folded(&mut self.bytes, label)?;
-        self.close()?;
+        put_closed(&mut self.bytes, label)?;
+        self.bytes[self.start] = label.len() as u8;
+        self.start = self.bytes.len() - 1;
         Ok(())
     }
 

@@ -5,8 +5,8 @@ ghost use Rattle.dname.specs.Labels.{wire, root, star, same_name, is_under, pare
 ghost use Rattle.dname.specs.Wire.{labels_of, IsNameWire};
 ghost use Rattle.dname.specs.Laws.{same_name_per, same_name_equiv, same_name_fed};
 
-use crate::memory::{Heap, Starved};
-use crate::walk::{has_end, next};
+use crate::walk::{has_end, next_label};
+use memory::{Heap, Starved};
 use std::alloc::{AllocError, Allocator, Global};
 use std::cmp::Eq;
 use std::hash::{Hash, Hasher};
@@ -95,7 +95,7 @@ impl<A: Heap> Name<A> {
     pub fn parent(&self) -> Result<Option<Name<A>>, Starved>
         ensures { IfOk result (λ p. p ≡ parent_of self.now) }
     {
-        match next(&self.bytes) {
+        match next_label(&self.bytes) {
             None => Ok(None),
             Some((_, rest)) => {
                 let bytes = Vec::from_slice(*self.bytes.allocator(), rest)?;
@@ -112,7 +112,7 @@ impl<A: Allocator> Name<A> {
     {
         let mut count = 0;
         let mut rest = self.bytes.as_slice();
-        while let Some((_, after)) = next(rest) {
+        while let Some((_, after)) = next_label(rest) {
             count += 1;
             rest = after;
         }
@@ -146,7 +146,7 @@ impl<A: Allocator> Name<A> {
         ensures label { MatchOption result (self.now ≡ root) (λ l. (ls : List (List ℕ)) × (self.now ≡ l.now ∷ ls)) }
         ensures some { IfSome result (λ l. 0 < length l.now) }
     {
-        match next(&self.bytes) {
+        match next_label(&self.bytes) {
             None => None,
             Some((label, _)) => Some(label),
         }
@@ -166,7 +166,7 @@ impl<A: Allocator> Name<A> {
         ensures root { OnFalse result ((self.old ≡ root) × (self.new ≡ self.old)) }
     {
         let size = self.bytes.len();
-        let Some((_, rest)) = next(&self.bytes) else {
+        let Some((_, rest)) = next_label(&self.bytes) else {
             return false;
         };
         let left = rest.len();

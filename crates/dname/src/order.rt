@@ -7,7 +7,7 @@ ghost use Rattle.dname.specs.Wire.{labels_of, IsWire};
 ghost use Rattle.dname.specs.Order.{name_cmp, name_cmp_total, name_cmp_ties, name_cmp_partial};
 
 use crate::name::Name;
-use crate::walk::next;
+use crate::walk::next_label;
 use std::alloc::Allocator;
 use std::cmp::Ordering;
 
@@ -20,7 +20,7 @@ fn behind(bytes: &[u8], count: usize) -> &[u8]
 {
     let mut rest = bytes;
     for _ in 0..count {
-        if let Some((_, after)) = next(rest) {
+        if let Some((_, after)) = next_label(rest) {
             rest = after;
         }
     }
@@ -52,7 +52,10 @@ impl<A: Allocator> Ord for Name<A> {
         let mut others = behind(&other.bytes, theirs.saturating_sub(mine));
         let mut order = mine.cmp(&theirs);
         // From the first label on, so that the one nearest to the root decides.
-        while let (Some((label, after)), Some((its, after_its))) = (next(rest), next(others)) {
+        while let (Some((label, after)), Some((its, after_its))) = (
+            next_label(rest),
+            next_label(others),
+        ) {
             order = label.cmp(its).then(order);
             rest = after;
             others = after_its;

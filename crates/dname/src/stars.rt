@@ -2,7 +2,7 @@ ghost use Rattle.std.specs.Prelude.{◌≡◌};
 ghost use Rattle.dname.specs.Stars.{is_wildcard, has_inner_star};
 
 use crate::name::Name;
-use crate::walk::next;
+use crate::walk::next_label;
 use std::alloc::Allocator;
 
 impl<A: Allocator> Name<A> {
@@ -10,7 +10,7 @@ impl<A: Allocator> Name<A> {
     pub fn is_wildcard(&self) -> bool
         ensures { result ≡ is_wildcard self.now }
     {
-        match next(&self.bytes) {
+        match next_label(&self.bytes) {
             None => false,
             Some((label, _)) => label == b"*".as_slice(),
         }
@@ -20,11 +20,11 @@ impl<A: Allocator> Name<A> {
     pub fn has_inner_star(&self) -> bool
         ensures { result ≡ has_inner_star self.now }
     {
-        let Some((_, behind)) = next(&self.bytes) else {
+        let Some((_, behind)) = next_label(&self.bytes) else {
             return false;
         };
         let mut rest = behind;
-        while let Some((label, after)) = next(rest) {
+        while let Some((label, after)) = next_label(rest) {
             if label == b"*".as_slice() {
                 return true;
             }

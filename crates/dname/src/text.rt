@@ -8,9 +8,9 @@ ghost use Rattle.dname.specs.Spelling.{TextWritesName, FirstFaultCounts};
 ghost use Rattle.dname.specs.Wire.{labels_of, IsNameWire};
 
 use crate::builder::{Builder, Overflow};
-use crate::memory::{Heap, Starved};
 use crate::name::Name;
-use crate::walk::next;
+use crate::walk::next_label;
+use memory::{Heap, Starved};
 use std::alloc::{AllocError, Allocator};
 use std::fmt;
 
@@ -108,7 +108,7 @@ pub fn put_name<A: Allocator, B: Allocator>(
         return Ok(());
     }
     let mut rest = name.bytes.as_slice();
-    while let Some((label, after)) = next(rest) {
+    while let Some((label, after)) = next_label(rest) {
         put_label(out, label)?;
         out.push('.')?;
         rest = after;

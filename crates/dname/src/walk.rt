@@ -2,8 +2,9 @@ ghost use Rattle.std.specs.Prelude.{◌≡◌, ℕ, ◌≤◌, ◌<◌, ◌++◌
 ghost use Rattle.dname.specs.Labels.{root, wire, is_under};
 ghost use Rattle.dname.specs.Wire.{labels_of, IsWire, IsSplit};
 
-// The one walk over a name in wire form: its first label and the wire form behind it, none at the root.
-pub fn next(bytes: &[u8]) -> Option<(&[u8], &[u8])>
+/// The first label of a name in wire form and the wire form behind it; none at the root (RFC 1035,
+/// section 3.1). A walk over a name's labels is a loop of these calls.
+pub fn next_label(bytes: &[u8]) -> Option<(&[u8], &[u8])>
     requires { IsWire bytes.now }
     ensures { MatchOption result (labels_of bytes.now ≡ root) (λ p. IsSplit bytes.now p.0.now p.1.now) }
 {
@@ -25,7 +26,7 @@ fn tail(bytes: &[u8], size: usize) -> &[u8]
     ensures under { (n : List (List ℕ)) → length (wire n) ≡ size → is_under (labels_of bytes.now) n ≡ is_under (labels_of result.now) n }
 {
     let mut rest = bytes;
-    while let Some((_, after)) = next(rest) {
+    while let Some((_, after)) = next_label(rest) {
         if rest.len() <= size {
             return rest;
         }

@@ -52,7 +52,7 @@ swapped true false c = refl
 swapped false true c = refl
 swapped false false c = refl
 
-any_last : (kept : List Record) (t : ℕ) (r s : Record) → has (kept ++ with_ttl t r ∷ []) s ≡ (is_repeat r s || has kept s)
+pub any_last : (kept : List Record) (t : ℕ) (r s : Record) → has (kept ++ with_ttl t r ∷ []) s ≡ (is_repeat r s || has kept s)
 any_last [] t r s = refl
 any_last (k ∷ kept) t r s = ap (λ (b : Bool). is_repeat k s || b) (any_last kept t r s) ∙ swapped (is_repeat k s) (is_repeat r s) (has kept s)
 

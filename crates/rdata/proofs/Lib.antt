@@ -1,6 +1,7 @@
 pub mod Capped
 pub mod Copies
 pub mod Exact
+pub mod Found
 pub mod Gathered
 pub mod Selected
 pub mod SetMembers

@@ -10,6 +10,15 @@ use Rattle.rdata.proofs.Gathered.{gathered_last, gathered_once}
 one_later : (rs : List Record) (i : ℕ) (r : Record) → i < length rs → r ≡ get_or rs i r → take (i + 1) rs ≡ take i rs ++ r ∷ []
 one_later rs i r lt at_i = take_more rs i r lt ∙ ap (λ (x : Record). take i rs ++ x ∷ []) (sym at_i)
 
+-- The lowest TTL.
+lowest_later : (xs : List Record) (r : Record) → lowest_ttl (xs ++ r ∷ []) ≡ min r.ttl (lowest_ttl xs)
+lowest_later [] r = refl
+lowest_later (x ∷ xs) r = let e = lowest_later xs r in omega (arith, e)
+
+pub lowest_step : (rs : List Record) (old new i : ℕ) (r : Record) → i < length rs → r ≡ get_or rs i r → old ≡ lowest_ttl (take i rs) → new ≡ min r.ttl old → new ≡ lowest_ttl (take (i + 1) rs)
+lowest_step rs old new i r lt at_i eo en =
+    en ∙ (ap (λ n. min r.ttl n) eo ∙ (sym (lowest_later (take i rs) r) ∙ ap lowest_ttl (sym (one_later rs i r lt at_i))))
+
 module _ (p : Record → Bool) where
   filter_later : (xs : List Record) (r : Record) (b : Bool) → b ≡ p r → filter p (xs ++ r ∷ []) ≡ cond b (filter p xs ++ r ∷ []) (filter p xs)
   filter_later xs r true e = filter-append p xs (r ∷ []) ∙ ap (λ (c : Bool). filter p xs ++ cond c (r ∷ []) []) (sym e)
@@ -47,10 +56,6 @@ module _ (p : Record → Bool) where
   kept_whole rs set i ei es = es ∙ ap (filter p) (take_all i rs ei)
 
   -- The lowest TTL of what is chosen.
-  lowest_later : (xs : List Record) (r : Record) → lowest_ttl (xs ++ r ∷ []) ≡ min r.ttl (lowest_ttl xs)
-  lowest_later [] r = refl
-  lowest_later (x ∷ xs) r = let e = lowest_later xs r in omega (arith, e)
-
   lowest_choice : (xs : List Record) (r : Record) (b : Bool) → cond b (min r.ttl (lowest_ttl xs)) (lowest_ttl xs) ≡ lowest_ttl (cond b (xs ++ r ∷ []) xs)
   lowest_choice xs r true = sym (lowest_later xs r)
   lowest_choice xs r false = refl

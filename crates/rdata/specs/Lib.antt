@@ -2,6 +2,8 @@ pub mod Caps
 pub mod Data
 pub mod Gathering
 pub mod Kept
+pub mod Later
+pub mod Order
 pub mod Records
 pub mod Selected
 pub mod Sets

@@ -1,5 +1,5 @@
 -- The served record types: their numbers (RFC 1035, section 3.2.2; AAAA: RFC 3596, section 2.1) and words.
-use Rattle.std.specs.Prelude.{ℕ, Bool, ◌||◌, cond, nat_eq, Option, Some, None, List, [], ◌∷◌, codes, map}
+use Rattle.std.specs.Prelude.{ℕ, Bool, cond, nat_eq, Option, Some, None, is_some, List, [], ◌∷◌, codes, map}
 use Rattle.std.specs.Cmp.Lexicographic.{pointwise}
 use Rattle.dname.specs.Labels.{folded}
 use Rattle.rdata.specs.declared.rtype.RType.{RType}
@@ -25,16 +25,24 @@ type_word Mx = codes "MX"
 type_word Txt = codes "TXT"
 type_word Aaaa = codes "AAAA"
 
+abbrev pub served_types : List RType
+served_types = A ∷ Ns ∷ Cname ∷ Soa ∷ Ptr ∷ Mx ∷ Txt ∷ Aaaa ∷ []
+
+abbrev pub find_number : ℕ → List RType → Option RType
+find_number n [] = None
+find_number n (t ∷ ts) = cond (nat_eq n (type_number t)) (Some t) (find_number n ts)
+
+-- The type of a number; none where it is not served.
+abbrev pub type_by : ℕ → Option RType
+type_by n = find_number n served_types
+
 -- The numbers that are served.
 abbrev pub is_served : ℕ → Bool
-is_served n = nat_eq n 1 || nat_eq n 2 || nat_eq n 5 || nat_eq n 6 || nat_eq n 12 || nat_eq n 15 || nat_eq n 16 || nat_eq n 28
+is_served n = is_some (type_by n)
 
 -- Words are compared without regard to case.
 abbrev pub same_word : List ℕ → List ℕ → Bool
 same_word a b = pointwise nat_eq (map folded a) (map folded b)
-
-abbrev pub served_types : List RType
-served_types = A ∷ Ns ∷ Cname ∷ Soa ∷ Ptr ∷ Mx ∷ Txt ∷ Aaaa ∷ []
 
 abbrev pub find_type : List ℕ → List RType → Option RType
 find_type w [] = None

@@ -2,7 +2,7 @@
 
 ghost use Rattle.std.specs.Prelude.{◌≡◌, true, Some};
 ghost use Rattle.rdata.specs.Data.{Datum, same_data};
-ghost use Rattle.rdata.specs.Types.{type_word, type_named};
+ghost use Rattle.rdata.specs.Types.{type_number, type_by, type_word, type_named};
 ghost use Rattle.rdata.specs.declared.rtype.RType.{RType};
 
 /// The test for the same data finds equal data and no other.
@@ -14,4 +14,9 @@ pub fn same_data_law()
 /// Each type is named by its word.
 pub fn word_names_type_law()
     ensures { (t : RType) → type_named (type_word t) ≡ Some t }
+{}
+
+/// Each type is the one of its number.
+pub fn number_names_type_law()
+    ensures { (t : RType) → type_by (type_number t) ≡ Some t }
 {}

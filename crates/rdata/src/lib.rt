@@ -4,6 +4,7 @@
 mod addr;
 mod data;
 mod laws;
+mod order;
 mod records;
 mod rtype;
 mod sets;
@@ -13,9 +14,9 @@ mod texts;
 
 pub use addr::Addr;
 pub use data::RData;
-pub use laws::{same_data_law, word_names_type_law};
-pub use records::{Record, Records};
-pub use rtype::{RType, is_same_word};
+pub use laws::{number_names_type_law, same_data_law, word_names_type_law};
+pub use records::{GREATEST_TTL, Record, Records};
+pub use rtype::{INTERNET, RType, is_same_word};
 pub use sets::{dedup_set, lowest_ttl, same_set, set_at};
 pub use soa::Soa;
 pub use text::{put_data, put_ipv4};
@@ -23,5 +24,7 @@ pub use texts::{CharacterString, Texts};
 
 #[cfg(test)]
 mod growth_tests;
+#[cfg(test)]
+mod long_tests;
 #[cfg(test)]
 mod tests;

@@ -1,16 +1,22 @@
-ghost use Rattle.std.specs.Prelude.{◌≡◌, ◌≤◌, [], ◌∷◌, ◌++◌, length, map, IfOk, OnOk, OnErr, ◌↔◌, IsTrue};
+ghost use Rattle.std.specs.Prelude.{◌≡◌, ◌≤◌, [], ◌∷◌, ◌++◌, length, map, IfOk, OnOk, OnErr, ◌↔◌, IsTrue, nat_eq};
 ghost use Rattle.rdata.specs.Caps.{capped};
+ghost use Rattle.rdata.specs.Data.{type_of};
+ghost use Rattle.rdata.specs.Types.{type_number};
 
 use crate::data::RData;
+use crate::rtype::RType;
 use dname::{Heap, Name, Starved};
 use std::alloc::{AllocError, Allocator, Global};
 use std::marker::Model;
+
+/// The greatest TTL, in seconds (RFC 2181, section 8).
+pub const GREATEST_TTL: u32 = 2_147_483_647;
 
 /// A resource record of class IN (RFC 1035, section 3.2.1).
 #[derive(Drop)]
 pub struct Record<A: Allocator = Global> {
     pub owner: Name<A>,
-    /// Time to live in seconds, at most 2,147,483,647 (RFC 2181, section 8).
+    /// Time to live in seconds, at most `GREATEST_TTL` (RFC 2181, section 8).
     pub ttl: u32,
     pub value: RData<A>,
 }
@@ -28,8 +34,12 @@ impl<A: Allocator> Model for Record<A> {
 }
 
 impl<A: Allocator> Record<A> {
-    /// The greatest TTL, in seconds (RFC 2181, section 8).
-    pub const GREATEST_TTL: u32 = 2_147_483_647;
+    /// Whether it is of that type.
+    pub fn is(&self, kind: RType) -> bool
+        ensures { result ≡ nat_eq (type_of self.now.value) (type_number kind) }
+    {
+        self.value.kind() == kind
+    }
 }
 
 impl<A: Heap> Clone for Record<A> {

@@ -1,7 +1,10 @@
 ghost use Rattle.std.specs.Prelude.{◌≡◌, ◌↔◌, IsTrue, IsSome, IfSome, Some};
-ghost use Rattle.rdata.specs.Types.{type_number, type_word, is_served, same_word, type_named};
+ghost use Rattle.rdata.specs.Types.{type_number, type_word, type_by, is_served, same_word, type_named};
 
 use std::fmt;
+
+/// The class of every record, IN (RFC 1035, section 3.2.4).
+pub const INTERNET: u16 = 1;
 
 /// A served record type (RFC 1035, section 3.2.2; AAAA: RFC 3596).
 #[derive(Clone, Copy, Debug, PartialEq, Eq, Hash)]
@@ -35,6 +38,7 @@ impl RType {
 
     /// The type of a number; none where it is not served.
     pub fn from_number(number: u16) -> Option<RType>
+        ensures exact { result ≡ type_by number }
         ensures served { IsSome result ↔ IsTrue (is_served number) }
         ensures value { IfSome result (λ t. type_number t ≡ number) }
     {

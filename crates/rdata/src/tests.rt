@@ -157,3 +157,53 @@ fn records_of_one_set(rt: HostRuntime) -> Result<(), Fail> {
     assert!(rt; !same_set(&one, &elsewhere));
     Ok(())
 }
+
+// RFC 2181, sections 5 and 5.2: one owner, one type, one TTL, no record twice.
+#[test]
+fn the_set_of_an_owner_and_type(rt: HostRuntime) -> Result<(), Fail> {
+    let mut records = four(rt.alloc())?;
+    records.push(address(rt.alloc(), "b.example", 5, 4)?)?;
+    records.push(Record {
+        owner: name(rt.alloc(), "a.example")?,
+        ttl: 5,
+        value: RData::Ns(name(rt.alloc(), "ns.example")?),
+    })?;
+    let owner = name(rt.alloc(), "a.example")?;
+    let set = set_at(rt.alloc(), records.as_slice(), &owner, RType::A)?;
+    assert_eq!(rt; set.len(), 3);
+    for (made, last) in set.as_slice().iter().zip([1, 2, 3]) {
+        assert_eq!(rt; made.ttl, 60);
+        assert!(rt; made.is(RType::A));
+        assert!(rt; made.value == RData::A(Addr([192, 0, 2, last])));
+    }
+    let none = set_at(rt.alloc(), records.as_slice(), &owner, RType::Mx)?;
+    assert!(rt; none.is_empty());
+    Ok(())
+}
+
+// RFC 2181, section 8.
+#[test]
+fn lowest_and_capped(rt: HostRuntime) -> Result<(), Fail> {
+    let none: Records = Records::new(rt.alloc());
+    assert_eq!(rt; lowest_ttl(none.as_slice()), 2_147_483_647);
+    let mut records = four(rt.alloc())?;
+    assert_eq!(rt; lowest_ttl(records.as_slice()), 60);
+    records.cap_ttl(90);
+    for (capped, ttl) in records.as_slice().iter().zip([90, 60, 90, 90]) {
+        assert_eq!(rt; capped.ttl, ttl);
+    }
+    Ok(())
+}
+
+#[test]
+fn data_in_order(rt: HostRuntime) -> Result<(), Fail> {
+    let lowest = RData::A(Addr([192, 0, 2, 1]));
+    let next = RData::Mx(10, name(rt.alloc(), "b.example")?);
+    let last = RData::Mx(20, name(rt.alloc(), "a.example")?);
+    assert!(rt; lowest < next);
+    assert!(rt; next < last);
+    let soa = RData::Soa(soa(rt.alloc())?);
+    assert_eq!(rt; soa.cmp(&soa.clone()?), std::cmp::Ordering::Equal);
+    assert!(rt; soa < next);
+    Ok(())
+}

@@ -1,5 +1,6 @@
 ghost use Rattle.std.specs.Prelude.{◌≡◌, ◌≤◌, ◌<◌, [], ◌∷◌, ◌++◌, length, nat_eq, IfOk, OnOk, OnErr};
-ghost use Rattle.std.specs.Cmp.Lexicographic.{pointwise};
+ghost use Rattle.std.specs.Cmp.{partial_equiv_from_equiv};
+ghost use Rattle.std.specs.Cmp.Lexicographic.{pointwise, nat_list_eq_equiv};
 
 use dname::{Heap, Starved};
 use std::alloc::{AllocError, AllocFailed, Allocator, Global};
@@ -38,6 +39,16 @@ impl<A: Allocator> CharacterString<A> {
         ensures short { length self.now ≤ 255 }
     {
         &self.bytes
+    }
+}
+
+impl<A: Allocator> PartialEq for CharacterString<A> {
+    ghost eq = { pointwise nat_eq };
+
+    ghost laws = { partial_equiv_from_equiv nat_list_eq_equiv };
+
+    fn eq(&self, other: &CharacterString<A>) -> bool {
+        self.bytes.as_slice() == other.bytes.as_slice()
     }
 }
 
@@ -109,23 +120,11 @@ impl<A: Heap> Clone for Texts<A> {
     }
 }
 
-// Whether the strings are the same, one by one.
-fn are_same<A: Allocator>(a: &[CharacterString<A>], b: &[CharacterString<A>]) -> bool
-    ensures { result ≡ pointwise (pointwise nat_eq) a.now b.now }
-{
-    match (a, b) {
-        ([], []) => true,
-        ([x, xs @ ..], [y, ys @ ..]) => x.bytes.as_slice() == y.bytes.as_slice()
-            && are_same(xs, ys),
-        _ => false,
-    }
-}
-
 impl<A: Allocator> Texts<A> {
     /// Whether both have the same strings.
     pub fn is_same(&self, other: &Texts<A>) -> bool
         ensures { result ≡ pointwise (pointwise nat_eq) self.now other.now }
     {
-        are_same(&self.strings, &other.strings)
+        self.strings.as_slice() == other.strings.as_slice()
     }
 }

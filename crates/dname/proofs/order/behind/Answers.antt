@@ -26,7 +26,7 @@ moved {k = k} {all = all} h e = subst (λ (x : List ℕ). Passed x k all) (sym e
 pub loop-preserved : goal.loop-preserved
 loop-preserved c =
     let now : Passed c.loop.rest.now c.loop.counter (labels_of c.args.bytes.now) = record { form = c.loop.invariant.form; labels = c.loop.invariant.labels; left = c.loop.invariant.left } in
-    let h : Passed c.match-next.rest.now (c.loop.counter + 1) (labels_of c.args.bytes.now) = elim c.match-next.branch [
+    let h : Passed c.match-next_label.rest.now (c.loop.counter + 1) (labels_of c.args.bytes.now) = elim c.match-next_label.branch [
       | in-Some w ↦ moved (passed _ _ _ _ _ now (w.in-Some.ensures {u = tt})) (ap (λ (r : Bor (List ℕ)). r.now) w.rest-is)
       | in_default w ↦ absurd (none_left _ _ _ _ now (w.in_default.ensures {u = tt}) c.loop-test.true c.requires.fewer)
     ] in

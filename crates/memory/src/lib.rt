@@ -1,3 +1,7 @@
+//! Want of memory: the error that every crate answers where a growth is refused, and the bound on the
+//! allocators that they take.
+#![tactic(auto)]
+
 ghost use Rattle.std.specs.Prelude.{◌≡◌, Some, codes};
 
 use std::alloc::{AllocError, AllocFailed, Allocator};
@@ -42,3 +46,6 @@ impl<T: Drop> From<AllocFailed<T>> for Starved {
 pub trait Heap: Allocator + Copy {}
 
 impl<A: Allocator + Copy> Heap for A {}
+
+#[cfg(test)]
+mod tests;

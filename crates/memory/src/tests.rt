@@ -1,0 +1,31 @@
+use super::*;
+use refusing::Refusing;
+use std::test::Fail;
+
+fn two_bytes<A: Heap>(alloc: A) -> Result<Vec<u8, A>, Starved> {
+    let mut bytes = Vec::with_capacity(alloc, 1)?;
+    bytes.push(1)?;
+    bytes.push(2)?;
+    Ok(bytes)
+}
+
+#[test]
+fn a_refused_growth_is_want_of_memory(rt: HostRuntime) -> Result<(), Fail> {
+    let heap = Refusing::new(rt.alloc());
+    assert_eq!(rt; two_bytes(&heap)?.as_slice(), [1, 2].as_slice());
+    for n in [0, 1] {
+        heap.refuse_after(n);
+        assert!(rt; matches!(two_bytes(&heap), Err(Starved)), "growth {n}");
+    }
+    Ok(())
+}
+
+#[test]
+fn want_of_memory_in_words(rt: HostRuntime) -> Result<(), Fail> {
+    assert_eq!(rt;
+        format!(in rt.alloc(); "{Starved}")?.as_str(),
+        "out of memory"
+    );
+    assert_eq!(rt; Starved.number(), 1);
+    Ok(())
+}
