@@ -1,14 +1,11 @@
 -- The way up from a name to the root.
-use Rattle.std.specs.List.{list_any}
-use Rattle.std.proofs.Math.Seq.{take-length}
-use Rattle.dname.specs.Labels.{same_name}
-use Rattle.std.proofs.Common.{◌≡◌, ℕ, suc, ◌≤◌, ◌-◌, Bool, true, false, ◌||◌, cond, Option, Some, None, List, [], ◌∷◌, length, take, drop, get_or, refl, sym, ◌∙◌, ap, arith}
+use Rattle.std.proofs.Common.{◌≡◌, ℕ, suc, ◌≤◌, Bool, true, false, cond, Option, Some, None, List, [], ◌∷◌, length, refl, sym, ◌∙◌, ap, arith}
 use Rattle.dname.specs.Labels.{star, root, parent_of, AreLabels}
 use Rattle.rdata.specs.Records.{Record}
 use Rattle.zone.specs.Zones.{Zone}
 use Rattle.zone.specs.Links.{Link}
 use Rattle.zone.specs.Look.{is_cut, cut_of, or_else, climbed, said_wild, at, local_by, denial_of}
-use Rattle.authority.specs.Catalogs.{first_zone, zone_at, zone_over, said_by_zone, looked_in, looked, has_twins}
+use Rattle.authority.specs.Catalogs.{first_zone, zone_at, zone_over, said_by_zone, looked_in, looked}
 use Rattle.authority.specs.Climb.{above, has_under}
 
 -- What an ascent does to the labels.
@@ -98,26 +95,3 @@ zone_last zs n q e h = ap (λ (x : List (List ℕ)). zone_over zs (above x)) (sy
 -- What the zone in charge says.
 pub looked_by : (zs : List Zone) (q : List (List ℕ)) (t : ℕ) (z : Zone) (soa : Record) → Some z ≡ zone_over zs q → denial_of z ≡ Some soa → local_by soa z q t ≡ looked zs q t
 looked_by zs q t z soa e d = ap (said_by_zone q t z) (sym d) ∙ ap (looked_in q t) e
-
--- The first zone's twins, and those among the others.
-pub rest_is : (x : Zone) (xs others : List Zone) → others ≡ take (length (x ∷ xs) - 1) (drop 1 (x ∷ xs)) → others ≡ xs
-rest_is x xs others e = let size : length (x ∷ xs) - 1 ≡ length xs = omega arith in e ∙ (ap (λ (n : ℕ). take n xs) size ∙ take-length xs)
-
-pub twins_by : (zs : List Zone) (z : Zone) (others : List Zone) (b : Bool) → 1 ≤ length zs → z ≡ get_or zs 0 z → others ≡ take (length zs - 1) (drop 1 zs)
-    → b ≡ list_any (λ (y : Zone). same_name y.origin z.origin) others → has_twins zs ≡ (b || has_twins others)
-twins_by [] z others b h e r eb = absurd (omega arith)
-twins_by (x ∷ xs) z others b h e r eb =
-    let rest : others ≡ xs = rest_is x xs others r in
-    let same : b ≡ list_any (λ (y : Zone). same_name y.origin x.origin) xs = eb ∙ (ap (λ (o : List Zone). list_any (λ (y : Zone). same_name y.origin z.origin) o) rest ∙ ap (λ (w : Zone). list_any (λ (y : Zone). same_name y.origin w.origin) xs) e) in
-    ap (λ (c : Bool). c || has_twins xs) (sym same) ∙ ap (λ (o : List Zone). b || has_twins o) (sym rest)
-
-pub twins_here : (zs : List Zone) (z : Zone) (b : Bool) → 1 ≤ length zs → z ≡ get_or zs 0 z → b ≡ list_any (λ (y : Zone). same_name y.origin z.origin) (take (length zs - 1) (drop 1 zs)) → b ≡ true → b ≡ has_twins zs
-twins_here zs z b h e eb t =
-    let others : List Zone = take (length zs - 1) (drop 1 zs) in
-    t ∙ sym (twins_by zs z others b h e refl eb ∙ ap (λ (c : Bool). c || has_twins others) t)
-
-pub twins_behind : (zs : List Zone) (z : Zone) (b c : Bool) → 1 ≤ length zs → z ≡ get_or zs 0 z → b ≡ list_any (λ (y : Zone). same_name y.origin z.origin) (take (length zs - 1) (drop 1 zs)) → b ≡ false
-    → c ≡ has_twins (take (length zs - 1) (drop 1 zs)) → c ≡ has_twins zs
-twins_behind zs z b c h e eb f ec =
-    let others : List Zone = take (length zs - 1) (drop 1 zs) in
-    ec ∙ sym (twins_by zs z others b h e refl eb ∙ ap (λ (x : Bool). x || has_twins others) f)

@@ -1,8 +1,8 @@
 -- The zone in charge of a name, and what it says.
-use Rattle.std.proofs.Common.{◌≡◌, ◌≢◌, ℕ, ◌≤◌, ◌-◌, ⊎_elim, inl, inr, Bool, true, false, cond, Option, Some, None, List, [], ◌∷◌, length, take, drop, get_or, refl, sym, ◌∙◌, ap, subst, arith}
+use Rattle.std.proofs.Common.{◌≡◌, ◌≢◌, ℕ, ◌≤◌, ⊎_elim, inl, inr, Bool, true, false, cond, Option, Some, None, List, [], ◌∷◌, length, refl, sym, ◌∙◌, ap, subst}
 use Rattle.std.specs.Prelude.{Contains, find}
 use Rattle.std.proofs.lemmas.Bool.{both_ways}
-use Rattle.dname.specs.Labels.{same_name, IsAtOrUnder, AreLabels}
+use Rattle.dname.specs.Labels.{same_name, IsAtOrUnder, AreLabels, IsName}
 use Rattle.dname.specs.Laws.{same_name-exact, same_name-equal}
 use Rattle.rdata.specs.Records.{Record}
 use Rattle.zone.specs.Zones.{Zone}
@@ -11,8 +11,7 @@ use Rattle.zone.specs.Look.{NotHere, local_by, denial_of}
 use Rattle.zone.proofs.LawLists.{none_in, in_cases, find_of, at_itself, one_under, under_cases, under_length}
 use Rattle.zone.proofs.LawReferral.{local_law}
 use Rattle.zone.proofs.LawZones.{soa_at_origin}
-use Rattle.authority.specs.Catalogs.{IsInCharge, IsLooked, first_zone, zone_at, zone_over, AreNamed}
-use Rattle.authority.proofs.Ascents.{rest_is}
+use Rattle.authority.specs.Catalogs.{IsInCharge, IsLooked, first_zone, zone_at, zone_over, AreNamed, AreZones}
 
 -- The zone of an origin.
 zone_at_is : (n : List (List ℕ)) (zs : List Zone) (z : Zone) → zone_at n zs ≡ Some z → Contains zs z × (z.origin ≡ n)
@@ -80,9 +79,9 @@ labelled : (n : List (List ℕ)) → AreLabels n → n ≢ []
 labelled [] h e = h
 labelled (l ∷ ls) h e = absurd (cc)
 
-pub all_named : (zs : List Zone) (z : Zone) (n : List (List ℕ)) → 1 ≤ length zs → z ≡ get_or zs 0 z → n ≡ z.origin → AreLabels n → AreNamed (take (length zs - 1) (drop 1 zs)) → AreNamed zs
-all_named [] z n h e eo labels rest = absurd (omega arith)
-all_named (x ∷ xs) z n h e eo labels rest =
-    let others : AreNamed xs = subst (λ (ys : List Zone). AreNamed ys) (rest_is x xs (take (length (x ∷ xs) - 1) (drop 1 (x ∷ xs))) refl) rest in
-    let first : x.origin ≢ [] = λ p. labelled n labels (eo ∙ (ap (λ (y : Zone). y.origin) e ∙ p)) in
-    λ y m. ⊎_elim (λ p. λ k. first (ap (λ (w : Zone). w.origin) p ∙ k)) (λ c. others y c) (in_cases x y xs m)
+-- The origin of a zone that keeps the rules is a name.
+pub zones_named : (zs : List Zone) → AreZones zs → AreNamed zs
+zones_named zs all z m e = let k = all z m in named z.origin k.1 e
+  where
+    named : (n : List (List ℕ)) → IsName n → n ≡ [] → ⊥
+    named n k e = labelled n k.labels e

@@ -1,6 +1,6 @@
 -- The zones that are looked through: all, or those whose origins are listed.
 use Rattle.std.proofs.Common.{◌≡◌, ◌∙◌, sym, ap, refl, ℕ, Bool, true, false, ◌&&◌, cond, Option, Some, None, List, [], ◌∷◌}
-use Rattle.std.specs.Prelude.{Contains, find, filter}
+use Rattle.std.specs.Prelude.{find, filter}
 use Rattle.dname.specs.Labels.{same_name}
 use Rattle.zone.specs.Zones.{Zone}
 use Rattle.zone.proofs.LawLists.{filter_of}

@@ -4,3 +4,4 @@ pub mod Chosen
 pub mod OneAnswers
 pub mod Picks
 pub mod SomeAnswers
+pub mod Twins

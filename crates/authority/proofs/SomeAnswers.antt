@@ -2,7 +2,6 @@
 use Rattle.std.proofs.Common.{◌≡◌, ℕ, Option, Some, None, List, refl}
 use Rattle.std.specs.Prelude.{Contains}
 use Rattle.dname.specs.Labels.{IsAtOrUnder}
-use Rattle.rdata.specs.Records.{Record}
 use Rattle.zone.specs.Zones.{Zone}
 use Rattle.zone.specs.Ruled.{IsNamed, IsZone}
 use Rattle.zone.specs.Look.{Local, local_by}

@@ -1,11 +1,12 @@
 -- Which of several zones answers for a name, and what it gives.
 use Rattle.std.specs.Prelude.{◌≡◌, ◌≢◌, ℕ, ◌≤◌, Bool, true, false, ◌||◌, Option, Some, None, ◌⊎◌, List, [], ◌∷◌, length, find, filter, Contains}
 use Rattle.std.specs.List.{list_any}
-use Rattle.dname.specs.Labels.{same_name, IsAtOrUnder}
+use Rattle.dname.specs.Labels.{same_name, IsAtOrUnder, IsName}
 use Rattle.rdata.specs.Records.{Record}
 use Rattle.zone.specs.Zones.{Zone}
 use Rattle.zone.specs.Look.{Local, NotHere, local_by, denial_of}
 use Rattle.zone.specs.Referrals.{IsLocal}
+use Rattle.zone.specs.Ruled.{IsZone}
 
 -- The zone in charge of a name: the one with the longest origin that the name is at or under (RFC 1034,
 -- section 4.3.2, step 2).
@@ -67,7 +68,11 @@ has_twins (z ∷ zs) = list_any (λ (y : Zone). same_name y.origin z.origin) zs 
 abbrev pub AreNamed : List Zone → Type 0
 AreNamed zs = (z : Zone) → Contains zs z → z.origin ≢ []
 
+-- Each zone keeps the rules of a zone, and its origin is a name: every zone that is built does.
+abbrev pub AreZones : List Zone → Type 0
+AreZones zs = (z : Zone) → Contains zs z → IsZone z × IsName z.origin
+
 -- How a catalog's zones are kept.
 pub record IsCatalog (zs : List Zone) : Type 0 where
   pub apart : has_twins zs ≡ false
-  pub named : AreNamed zs
+  pub sound : AreZones zs

@@ -1,18 +1,20 @@
-ghost use Rattle.std.specs.Prelude.{◌≡◌, ◌&&◌, ◌||◌, ℕ, Some, None, find, IfOk, MatchResult, true, false};
-ghost use Rattle.std.specs.List.{list_any};
+ghost use Rattle.std.specs.Prelude.{◌≡◌, ◌&&◌, ◌||◌, ℕ, List, Some, None, find, IfOk, OnOk, MatchResult, true, false, not};
+ghost use Rattle.std.specs.HashSet as bag;
 ghost use Rattle.std.specs.Option.{option_copied};
 ghost use Rattle.dname.specs.Labels.{same_name};
 ghost use Rattle.rdata.specs.Types.{type_number};
 ghost use Rattle.authority.specs.Answers.{local_view};
-ghost use Rattle.authority.specs.Catalogs.{zone_over, looked, among, is_chosen, has_origin_in, chosen, has_twins, AreNamed, IsLooked};
+ghost use Rattle.authority.specs.Catalogs.{zone_over, looked, among, is_chosen, has_origin_in, chosen, has_twins, AreZones, IsCatalog, IsLooked};
 ghost use Rattle.authority.specs.CatalogFaults.{catalog_fault_number, CatalogRefuses};
 
 use crate::answer::Local;
 use crate::plain::look_in;
 use dname::{Heap, Name, Starved};
 use rdata::RType;
-use std::alloc::{Allocator, Global};
+use std::alloc::{AllocError, Allocator, Global};
+use std::collections::HashSet;
 use std::fmt;
+use std::hash::{BuildHasherDefault, FoldHasher};
 use std::marker::Model;
 use zone::{Zone, zone_keeps_rules};
 
@@ -47,6 +49,16 @@ impl fmt::Display for CatalogError {
 }
 
 impl std::error::Error for CatalogError {}
+
+impl From<Starved> for CatalogError {
+    ghost use Rattle.authority.specs.declared.catalog.CatalogError.TheVariants.{Memory};
+
+    ghost from_gives = { λ _ e. e ≡ Memory };
+
+    fn from(_error: Starved) -> CatalogError {
+        CatalogError::Memory
+    }
+}
 
 /// Zones of different origins. Contracts see their list.
 #[derive(Drop)]
@@ -105,39 +117,30 @@ fn zone_at<'a, A: Allocator>(
     zones.iter().find(|zone| is_chosen_at(zone, listed, name))
 }
 
-fn has_zone_at<A: Allocator>(zones: &[Zone<A>], name: &Name<A>) -> bool
-    ensures { result ≡ list_any (λ z. same_name z.origin name.now) zones.now }
+// The origins of zones.
+type Origins<A> = HashSet<Name<A>, BuildHasherDefault<FoldHasher>, A>;
+
+// Keeps the zone's origin; false where it was kept before.
+fn note_origin<A: Heap>(origins: &mut Origins<A>, zone: &Zone<A>) -> Result<bool, Starved>
+    ensures fresh { IfOk result (λ b. b ≡ not (bag.contains same_name origins.old zone.now.origin)) }
+    ensures kept { OnOk result ((q : List (List ℕ)) → bag.contains same_name origins.new q ≡ (bag.contains same_name origins.old q || same_name zone.now.origin q)) }
 {
-    zones.iter().any(|zone| is_at(zone, name))
+    Ok(origins.insert(zone.origin().clone()?)?)
 }
 
-fn has_twin_of<A: Allocator>(zone: &Zone<A>, others: &[Zone<A>]) -> bool
-    ensures { result ≡ list_any (λ z. same_name z.origin zone.now.origin) others.now }
+// Whether zones are a catalog: no two have one origin.
+fn check_origins<A: Heap>(alloc: A, zones: &[Zone<A>]) -> Result<(), CatalogError>
+    ensures { MatchResult result (λ _. IsCatalog zones.now) (λ e. CatalogRefuses e (has_twins zones.now)) }
 {
-    has_zone_at(others, zone.origin())
-}
-
-// Whether two zones have one origin.
-fn has_twins<A: Allocator>(zones: &[Zone<A>]) -> bool
-    ensures { result ≡ has_twins zones.now }
-{
-    match zones {
-        [] => false,
-        [first, rest @ ..] => has_twin_of(first, rest) || has_twins(rest),
-    }
-}
-
-// A law: each origin has a label.
-fn have_named_origins<A: Allocator>(zones: &[Zone<A>])
-    ensures { AreNamed zones.now }
-{
-    match zones {
-        [] => {}
-        [first, rest @ ..] => {
-            first.origin().is_well_formed();
-            have_named_origins(rest)
+    let mut origins = HashSet::new(alloc);
+    for zone in zones {
+        zone_keeps_rules(zone);
+        zone.origin().is_well_formed();
+        if !note_origin(&mut origins, zone)? {
+            return Err(CatalogError::Twins);
         }
     }
+    Ok(())
 }
 
 // The zone with the longest origin over the name, of those that are listed.
@@ -166,17 +169,15 @@ impl<A: Heap> Catalog<A> {
     pub fn new(zones: Vec<Zone<A>, A>) -> Result<Catalog<A>, CatalogError>
         ensures { MatchResult result (λ c. (c ≡ zones.items) × (has_twins zones.items ≡ false)) (λ e. CatalogRefuses e (has_twins zones.items)) }
     {
-        if has_twins(&zones) {
-            return Err(CatalogError::Twins);
-        }
-        have_named_origins(&zones);
+        check_origins(*zones.allocator(), &zones)?;
         Ok(Catalog { zones })
     }
 
-    /// Its zones, as they were given: no two have one origin.
+    /// Its zones, as they were given: no two have one origin, and each keeps the rules of a zone.
     pub fn zones(&self) -> &[Zone<A>]
         ensures value { result.now ≡ self.now }
         ensures apart { has_twins self.now ≡ false }
+        ensures sound { AreZones self.now }
     {
         &self.zones
     }

@@ -256,6 +256,31 @@ fn refuses_twins(rt: HostRuntime) -> Result<(), Fail> {
     Ok(())
 }
 
+// Zones of so many origins.
+fn many_zones<A: Heap>(alloc: A, count: u32) -> Result<Vec<Zone<A>, A>, Starved> {
+    let mut zones = Vec::new(alloc);
+    for n in 0..count {
+        let origin = format!(in alloc; "zone-{n}.example")?;
+        zones.push(zone(alloc, origin.as_str(), top(alloc, origin.as_str())?)?)?;
+    }
+    Ok(zones)
+}
+
+// Whether ten thousand zones are a catalog, and with one of them twice at its ends refused.
+fn tells_twins<A: Heap>(alloc: A) -> Result<bool, Starved> {
+    let parted = Catalog::new(many_zones(alloc, 10_000)?).is_ok();
+    let mut zones = many_zones(alloc, 10_000)?;
+    zones.push(zone(alloc, "ZONE-0.example", top(alloc, "zone-0.example")?)?)?;
+    let refused = Catalog::new(zones);
+    Ok(parted && matches!(refused, Err(CatalogError::Twins)))
+}
+
+#[test]
+fn ten_thousand_zones_are_a_catalog(rt: HostRuntime) -> Result<(), Fail> {
+    assert!(rt; matches!(tells_twins(rt.alloc()), Ok(true)));
+    Ok(())
+}
+
 // What two zones say of a name beneath a wildcard, and of one beneath a cut.
 fn both_told<A: Heap>(alloc: A) -> Result<(usize, usize), Starved> {
     let zones = catalog(alloc)?;

@@ -7,12 +7,20 @@ ghost use Rattle.commandline.specs.Grammar.{ask_app, file_app, line_app, word_ru
 use clap::{Arg, ArgAction};
 use std::alloc::{AllocError, Global};
 
-/// What stands below the help: the numbers of faults and statuses in words.
+/// What stands below the help: the lines of a reply, and the numbers of faults and statuses in words.
 pub static NUMBERS: &str = "For example, with the file examples/lab.zone:
 
   resolverd ask lab.example. examples/lab.zone x.lab.example. TXT
   resolverd check lab.example. examples/lab.zone
   resolverd dump lab.example. examples/lab.zone
+
+A reply is printed as a line for its header and one for each of its records.
+
+  reply 1 RCODE              the reply to the query: NOERROR, SERVFAIL, NXDOMAIN or REFUSED, and behind it
+    aa                       the zone is the authority for the name
+    tc                       the reply was over 512 bytes, and its records were left out
+    cause 3                  SERVFAIL, since more than eight aliases stand one behind the other
+  an OWNER TTL TYPE DATA     a record of the answer section; ns of the authority section, ar of the additional one
 
 One line on standard error says what went wrong.
 
@@ -71,7 +79,7 @@ pub fn line<'a>(alloc: Global) -> Result<clap::Command<'a>, AllocError>
     ensures app { IfOk result (λ c. app_of c ≡ line_app) }
 {
     clap::Command::new(alloc, "resolverd")
-        .about("A recursive DNS resolver")
+        .about("Answers DNS queries from a zone file, checks zone files and prints their records")
         .no_binary_name(true)
         .subcommand_required(true)
         .subcommand(ask_line(alloc)?)?

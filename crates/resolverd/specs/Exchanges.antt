@@ -3,7 +3,7 @@ use Rattle.std.specs.Prelude.{◌≡◌, ℕ, false, Option, None, Some, Ok, Lis
 use Rattle.dname.specs.Text.{name_of_text}
 use Rattle.rdata.specs.Types.{type_number, type_named}
 use Rattle.rdata.specs.declared.rtype.RType.{RType}
-use Rattle.layout.specs.Messages.{Message, encoding, internet}
+use Rattle.layout.specs.Messages.{Message, IsMessage, encoding, internet}
 use Rattle.zone.specs.Zones.{Zone}
 use Rattle.authority.specs.Catalogs.{looked}
 use Rattle.front.specs.Chains.{AnswersLocally}
@@ -13,7 +13,7 @@ use Rattle.front.specs.declared.queries.Asked.{Asked}
 use Rattle.front.specs.declared.queries.Asked.TheVariants.{Drop, Refuse, Query}
 use Rattle.front.specs.declared.queries.Outcome.{Outcome}
 use Rattle.wire.specs.declared.via.Via.TheVariants.{Udp}
-use Rattle.script.specs.Lines.{ArePrinted}
+use Rattle.lines.specs.Lines.{ArePrinted}
 use Rattle.resolverd.specs.Zones.{HoldsZone}
 
 -- The query for a name and a type: ID 1, RD clear.
@@ -25,6 +25,10 @@ query_for name kind = record {
   authority = [];
   additional = [];
 }
+
+-- The bytes are a message.
+abbrev pub AreMessage : List ℕ → Type 0
+AreMessage bytes = (m : Message) × IsMessage bytes m
 
 -- The lines of the reply over UDP to what was asked: the one that local zones give to a query.
 abbrev pub AreLinesOf : {A : Type 0} → List Zone → Asked A → List ℕ → Type 0

@@ -2,14 +2,14 @@
 ghost use Rattle.std.specs.Prelude.{◌≡◌, [], IfOk, string_bytes};
 ghost use Rattle.rdata.specs.Types.{type_number};
 ghost use Rattle.layout.specs.Messages.{encoding};
-ghost use Rattle.script.specs.Lines.{ArePrinted};
-ghost use Rattle.resolverd.specs.Exchanges.{query_for, AreLinesOf, AreLines};
+ghost use Rattle.lines.specs.Lines.{ArePrinted};
+ghost use Rattle.resolverd.specs.Exchanges.{query_for, AreMessage, AreLinesOf, AreLines};
 
 use authority::{Catalog, Cause};
 use dname::{Heap, Name, Starved};
 use front::{Asked, Via, answer_local, read_query, refusal_bytes, reply_bytes};
+use lines::put_reply_bytes;
 use rdata::{RType, Records};
-use script::put_reply_bytes;
 use wire::{Header, Message, Question, Questions, encode};
 
 // The number of the client in the printed reply.
@@ -54,8 +54,9 @@ fn lines_of<A: Heap>(alloc: A, catalog: &Catalog<A>, asked: Asked<A>) -> Result<
     }
 }
 
-// The lines of a reply's bytes.
+// The lines of a reply's bytes, which are a message.
 fn printed<A: Heap>(alloc: A, reply: &[u8], cause: Option<Cause>) -> Result<String<A>, Starved>
+    requires { AreMessage reply.now }
     ensures { IfOk result (λ s. ArePrinted reply.now 1 cause [] (string_bytes s)) }
 {
     let mut out = String::new(alloc);

@@ -1,21 +1,17 @@
-//! Texts in and lines out.
+//! Texts in.
 #![tactic(auto)]
 
 mod build;
 mod fault;
 mod line;
-mod lines;
 mod world_fault;
 mod worlds;
 
 pub use fault::{LineError, LineKind};
-pub use lines::{put_reply, put_reply_bytes};
 pub use world_fault::WorldFault;
 pub use worlds::{Block, WorldText, read_world};
 
 #[cfg(test)]
 mod build_tests;
-#[cfg(test)]
-mod tests;
 #[cfg(test)]
 mod world_tests;

@@ -1,7 +1,7 @@
 -- What a server replies is what it may serve.
-use Rattle.std.proofs.Common.{◌≡◌, ◌≢◌, ◌≤◌, ◌<◌, ℕ, ◌⊎◌, ⊎_elim, inl, inr, true, Option, Some, None, List, [], ◌∷◌, ◌++◌, length, refl, sym, ◌∙◌, ap, subst, arith}
+use Rattle.std.proofs.Common.{◌≡◌, ℕ, ◌⊎◌, ⊎_elim, inl, inr, Option, Some, None, List, [], ◌∷◌, ◌++◌, refl, sym, ◌∙◌, ap, subst, arith}
 use Rattle.std.specs.Prelude.{Contains, IfSome}
-use Rattle.dname.specs.Labels.{Name, IsAtOrUnder}
+use Rattle.dname.specs.Labels.{Name}
 use Rattle.rdata.specs.Records.{Record}
 use Rattle.rdata.specs.Types.{type_number}
 use Rattle.layout.specs.Messages.{Message, IsMessage, folded_message}
@@ -11,12 +11,12 @@ use Rattle.zone.specs.Look.{Local, Linked, Cut, NotHere}
 use Rattle.zone.specs.Referrals.{IsReferral, IsGlue}
 use Rattle.zone.specs.Same.{Same}
 use Rattle.zone.proofs.LawLists.{none_in, first_in, later_in, in_cases, filter_of, filter_in}
-use Rattle.authority.specs.Catalogs.{IsInCharge, IsLooked}
+use Rattle.authority.specs.Catalogs.{IsInCharge, IsLooked, AreZones}
 use Rattle.truth.specs.Worlds.{Address, World, Serves, IsWorld}
-use Rattle.truth.specs.Serving.{AnswersFrom, IsServersAddress, Refers, AreOwned, Gives, Tells, MayServe}
+use Rattle.truth.specs.Serving.{AnswersFrom, IsServersAddress, Refers, Gives, Tells, MayServe}
 use Rattle.truth.proofs.Sames.{has_itself, link_itself}
 use Rattle.front.specs.Chains.{Leads, IsEndAt, IsEndOf, target_of}
-use Rattle.front.specs.Replies.{end_rcode, found_in, denied_by}
+use Rattle.front.specs.Replies.{end_rcode, found_in}
 use Rattle.front.specs.Laws.{OneReading}
 use Rattle.front.specs.Queries.{IsAsked}
 use Rattle.front.specs.declared.queries.Asked.TheVariants as asked
@@ -24,7 +24,6 @@ use Rattle.front.specs.declared.queries.Query.{Query as Asking}
 use Rattle.front.specs.declared.queries.End.{End}
 use Rattle.front.specs.declared.queries.End.TheVariants as end
 use Rattle.simnet.specs.Hosting.{served, says, IsFollowed, referral_to, answer_to, IsReplyBy, IsHonestReply}
-use Rattle.simnet.specs.Refusals.{AreZones}
 use Rattle.simnet.specs.Rules.{serves}
 use Rattle.simnet.proofs.Worlds.{yes_serves, looked_is}
 

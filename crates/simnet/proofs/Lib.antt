@@ -1,4 +1,5 @@
 pub mod Decided
+pub mod Held
 pub mod Hosted
 pub mod Judged
 pub mod Members

@@ -1,21 +1,8 @@
--- Members of a list of zones.
-use Rattle.std.proofs.Common.{◌≡◌, ℕ, ◌+◌, ◌-◌, ◌<◌, ◌≤◌, ⊎_elim, Bool, false, List, [], ◌∷◌, ◌++◌, length, take, drop, get_or, refl, sym, ◌∙◌, ap, subst, arith}
+-- Tests of the members of a list.
+use Rattle.std.proofs.Common.{◌≡◌, ℕ, ◌+◌, ◌<◌, Bool, false, List, [], ◌∷◌, ◌++◌, length, take, get_or, refl, sym, ◌∙◌, ap, subst}
 use Rattle.std.specs.List.{list_any}
 use Rattle.std.proofs.lemmas.Bool.{or_parts, or_from}
 use Rattle.std.proofs.lemmas.List.{take_more}
-use Rattle.dname.specs.Labels.{Name, IsName}
-use Rattle.zone.specs.Zones.{Zone}
-use Rattle.zone.specs.Ruled.{IsZone}
-use Rattle.zone.proofs.LawLists.{in_cases}
-use Rattle.authority.proofs.Ascents.{rest_is}
-use Rattle.simnet.specs.Refusals.{AreZones}
-
-pub all_zones : (zs : List Zone) (z : Zone) (n : Name) → 1 ≤ length zs → z ≡ get_or zs 0 z → n ≡ z.origin → IsZone z → IsName n → AreZones (take (length zs - 1) (drop 1 zs)) → AreZones zs
-all_zones [] z n h e eo rules name rest = absurd (omega arith)
-all_zones (x ∷ xs) z n h e eo rules name rest =
-    let others : AreZones xs = subst (λ (ys : List Zone). AreZones ys) (rest_is x xs (take (length (x ∷ xs) - 1) (drop 1 (x ∷ xs))) refl) rest in
-    let first : IsZone z × IsName z.origin = (rules, subst IsName eo name) in
-    λ y m. ⊎_elim (λ p. subst (λ (w : Zone). IsZone w × IsName w.origin) (e ∙ p) first) (λ c. others y c) (in_cases x y xs m)
 
 -- No member passes a test, one more member on.
 any_push : {X : Type 0} (p : X → Bool) (xs : List X) (x : X) → list_any p xs ≡ false → p x ≡ false → list_any p (xs ++ x ∷ []) ≡ false

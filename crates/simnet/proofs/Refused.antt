@@ -1,10 +1,10 @@
 -- What is so where the tests of a world's rules come out, one after the other.
 use Rattle.std.proofs.Common.{◌≡◌, true, false}
 use Rattle.dname.specs.Labels.{root}
-use Rattle.authority.specs.Catalogs.{has_twins}
+use Rattle.authority.specs.Catalogs.{has_twins, AreZones}
 use Rattle.truth.specs.Worlds.{World, Parted, IsOrigin, IsWorld}
 use Rattle.simnet.specs.Rules.{has_origin, has_loose_cuts, has_undelegated, has_lame_cuts, has_idle_host, has_bad_hint, lacks_start}
-use Rattle.simnet.specs.Refusals.{AreZones, HasCutZones, IsDelegated, IsServed, IsStarted, IsRefused}
+use Rattle.simnet.specs.Refusals.{HasCutZones, IsDelegated, IsServed, IsStarted, IsRefused}
 use Rattle.simnet.specs.declared.fault.WorldError.TheVariants.{NoRoot, LooseCut, Undelegated, Lame, NoStart, Twins}
 use Rattle.simnet.proofs.Decided.{Yes, No, fails, breaks}
 use Rattle.simnet.proofs.Worlds.{parted_is, yes_origin, cuts_are, placed_are, servers_are, hosts_are, hints_are, start_is}

@@ -14,18 +14,18 @@ use Rattle.zone.specs.Ruled.{IsZone, IsNamed}
 use Rattle.zone.specs.Same.{SameLink}
 use Rattle.zone.proofs.LawLists.{none_in, first_in}
 use Rattle.zone.proofs.LawZones.{has_denial as some_denial}
-use Rattle.authority.specs.Catalogs.{IsInCharge, IsLooked, AreNamed, has_twins, zone_over, looked, looked_in}
+use Rattle.authority.specs.Catalogs.{IsInCharge, IsLooked, AreNamed, has_twins, zone_over, looked, looked_in, AreZones}
 use Rattle.authority.specs.OneAnswer.{SameLocal}
 use Rattle.authority.proofs.Ascents.{looked_by}
 use Rattle.authority.proofs.Charges.{charge_is, looked_here, looked_nowhere}
 use Rattle.authority.proofs.OneAnswers.{one_answer}
 use Rattle.truth.specs.Worlds.{Address, Host, World, Serves, IsOrigin, IsParent, IsServerName, IsAddressOf, Parted}
 use Rattle.simnet.specs.Rules.{has_name, has_origin, serves, makes_cut, has_loose_cuts, is_above, is_between, delegates, has_undelegated, is_missed, zone_misses, look_misses, target_misses, has_lame_cuts, has_idle_host, has_bad_hint, lacks_start}
-use Rattle.simnet.specs.Refusals.{AreZones, HasCutZones, IsDelegated}
+use Rattle.simnet.specs.Refusals.{HasCutZones, IsDelegated}
 use Rattle.simnet.proofs.Decided.{Yes, No, no_not, yes_not, yes_un, no_un, yes_and, no_and, yes_or, no_or, yes_any, no_any, no_as, yes_as, yes_same, yes_under, no_less}
 
 -- Names, origins, servers.
-yes_name : (n : Name) (ns : List Name) → Yes (has_name n ns) (Contains ns n)
+pub yes_name : (n : Name) (ns : List Name) → Yes (has_name n ns) (Contains ns n)
 yes_name n ns = yes_as (λ p. subst (λ (m : Name). Contains ns m) p.2 p.1) (λ h. (n, h, refl)) (yes_any (λ m. yes_same m n) ns)
 
 pub yes_origin : (n : Name) (zs : List Zone) → Yes (has_origin n zs) ((z : Zone) × Contains zs z × (z.origin ≡ n))

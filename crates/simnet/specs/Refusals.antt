@@ -1,16 +1,11 @@
 -- Why zones, servers, hints and local names are no world: the rules of a world by name, the refusals'
 -- numbers, and the refusal that answers.
-use Rattle.std.specs.Prelude.{◌≡◌, ℕ, ◌⊎◌, List, Contains}
-use Rattle.dname.specs.Labels.{Name, root, IsName}
+use Rattle.std.specs.Prelude.{◌≡◌, ℕ, ◌⊎◌, Contains}
+use Rattle.dname.specs.Labels.{Name, root}
 use Rattle.zone.specs.Zones.{Zone, IsCut}
-use Rattle.zone.specs.Ruled.{IsZone}
 use Rattle.truth.specs.Worlds.{Address, World, Serves, IsOrigin, IsParent, IsServerName, IsAddressOf, Parted}
 use Rattle.simnet.specs.declared.fault.WorldError.{WorldError}
 use Rattle.simnet.specs.declared.fault.WorldError.TheVariants.{NoRoot, LooseCut, Undelegated, Lame, NoStart, Memory, Twins}
-
--- Each zone keeps the rules of a zone, and its origin is a name: every zone that is built does.
-abbrev pub AreZones : List Zone → Type 0
-AreZones zs = (z : Zone) → Contains zs z → IsZone z × IsName z.origin
 
 -- The rules of `IsWorld` that a refusal stands for. What a zone cuts off is a zone (RFC 1034, section 4.2).
 abbrev pub HasCutZones : World → Type 0

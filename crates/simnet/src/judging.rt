@@ -43,10 +43,12 @@ fn lacks_some<A: Allocator>(records: &[Record<A>], wanted: &[Record<A>]) -> bool
 fn is_once<A: Allocator>(records: &[Record<A>]) -> bool
     ensures { result ≡ once records.now }
 {
-    match records {
-        [] => true,
-        [first, rest @ ..] => !has(rest, first) && is_once(rest),
+    for (place, record) in records.iter().enumerate() {
+        if has(&records[place + 1..], record) {
+            return false;
+        }
     }
+    true
 }
 
 // Whether the records are the set, in any order, each once.

@@ -5,26 +5,11 @@ ghost use Rattle.dname.specs.Labels.{root, same_name};
 ghost use Rattle.zone.specs.Zones.{ns_type};
 ghost use Rattle.zone.specs.Look.{is_type, is_owned, owns};
 ghost use Rattle.simnet.specs.Rules.{has_name, has_origin, makes_cut, is_loose, has_loose_cut, has_loose_cuts, is_above, is_between, delegates, is_placed, has_undelegated};
-ghost use Rattle.simnet.specs.Refusals.{AreZones};
 
 use dname::Name;
 use rdata::{RType, Record};
 use std::alloc::Allocator;
-use zone::{Zone, zone_keeps_rules};
-
-// A law: each zone keeps its rules.
-pub fn zones_keep_rules<A: Allocator>(zones: &[Zone<A>])
-    ensures { AreZones zones.now }
-{
-    match zones {
-        [] => {}
-        [first, rest @ ..] => {
-            zone_keeps_rules(first);
-            first.origin().is_well_formed();
-            zones_keep_rules(rest)
-        }
-    }
-}
+use zone::Zone;
 
 pub fn has_name<A: Allocator>(names: &[Name<A>], name: &Name<A>) -> bool
     ensures { result ≡ has_name name.now names.now }

@@ -239,22 +239,17 @@ pub fn has_idle_host<A: Allocator>(hosts: &[Host<A>], zones: &[Zone<A>]) -> bool
     hosts.iter().any(|host| serves_nothing(host, zones))
 }
 
-fn is_bad_hint<A: Allocator>(address: Addr, hosts: &[Host<A>], top: &Name<A>) -> bool
-    requires { top.now ≡ root }
-    ensures { result ≡ not (serves address.0 root hosts.now) }
-{
-    !serves(hosts, address, top)
-}
-
 // Whether a hint does not serve the root.
 pub fn has_bad_hint<A: Allocator>(hints: &[Addr], hosts: &[Host<A>], top: &Name<A>) -> bool
     requires { top.now ≡ root }
     ensures { result ≡ has_bad_hint hosts.now (addresses hints.now) }
 {
-    match hints {
-        [] => false,
-        [first, rest @ ..] => is_bad_hint(*first, hosts, top) || has_bad_hint(rest, hosts, top),
+    for hint in hints {
+        if !serves(hosts, *hint, top) {
+            return true;
+        }
     }
+    false
 }
 
 // Whether there is no hint and the root is not local.

@@ -3,7 +3,7 @@ use crate::fixtures::{
     CIRCULAR_SERVERS_WORLD, CORP, DARK, EXAMPLE, LAB, Line, NESTED_SERVERS_WORLD, ROOT,
     SMALL_WORLD, world,
 };
-use dname::Starved;
+use dname::{Heap, Starved};
 use refusing::Refusing;
 use std::test::Fail;
 
@@ -121,6 +121,53 @@ fn the_first_refusal_answers(rt: HostRuntime) -> Result<(), Fail> {
         let checked = world(rt.alloc(), *lines)?;
         assert!(rt; matches!(checked, Err(found) if found == *fault), "{fault}");
     }
+    Ok(())
+}
+
+// How many zones a world holds itself, the labels of the first one's origin, and how many hints there are.
+fn lent<A: Heap>(alloc: A, lines: &[Line]) -> Result<(usize, usize, usize), Starved> {
+    match world(alloc, lines)? {
+        Ok(world) => {
+            let held = world.held()?;
+            let labels = match held.as_slice() {
+                [first, ..] => first.origin().labels(),
+                [] => 0,
+            };
+            Ok((held.len(), labels, world.hints().len()))
+        }
+        Err(_) => Err(Starved),
+    }
+}
+
+#[test]
+fn local_zones_and_hints_are_lent(rt: HostRuntime) -> Result<(), Fail> {
+    let heap = Refusing::new(rt.alloc());
+    assert!(rt; matches!(lent(&heap, &SMALL_WORLD), Ok((1, 2, 1))));
+    let growths = heap.growths();
+    for n in 0..growths {
+        heap.refuse_after(n);
+        assert!(rt; lent(&heap, &SMALL_WORLD).is_err(), "growth {n}");
+    }
+    assert!(rt;
+        matches!(
+            lent(rt.alloc(), &[LONE, Line::Host(1, "."), Line::Hint(1)]),
+            Ok((0, 0, 1))
+        )
+    );
+    Ok(())
+}
+
+#[test]
+fn a_hundred_thousand_hints_are_tested(rt: HostRuntime) -> Result<(), Fail> {
+    let mut lines = Vec::new(rt.alloc());
+    lines.push(LONE)?;
+    lines.push(Line::Host(1, "."))?;
+    for _ in 0..100_000 {
+        lines.push(Line::Hint(1))?;
+    }
+    assert!(rt; matches!(world(rt.alloc(), &lines)?, Ok(_)));
+    lines.push(Line::Hint(2))?;
+    assert!(rt; matches!(world(rt.alloc(), &lines)?, Err(WorldError::NoStart)));
     Ok(())
 }
 

@@ -1,14 +1,16 @@
-ghost use Rattle.std.specs.Prelude.{◌≡◌, IfOk, MatchResult};
+ghost use Rattle.std.specs.Prelude.{◌≡◌, IfOk, MatchResult, filter};
 ghost use Rattle.dname.specs.Labels.{root};
 ghost use Rattle.rdata.specs.Types.{type_number};
 ghost use Rattle.authority.specs.Answers.{link_view};
+ghost use Rattle.truth.specs.Frames.{AreHeld};
 ghost use Rattle.truth.specs.Worlds.{IsWorld};
 ghost use Rattle.truth.specs.Truths.{IsTrueLink};
-ghost use Rattle.simnet.specs.Kept.{world_with};
+ghost use Rattle.simnet.specs.Kept.{addresses, world_with};
 ghost use Rattle.simnet.specs.Refusals.{IsRefused};
+ghost use Rattle.simnet.specs.Rules.{has_name};
 
 use crate::fault::WorldError;
-use crate::rules::{has_loose_cuts, has_origin, has_undelegated, zones_keep_rules};
+use crate::rules::{has_loose_cuts, has_name, has_origin, has_undelegated};
 use crate::servers::{has_bad_hint, has_idle_host, has_lame_cuts, lacks_start};
 use authority::{Catalog, CatalogError, Link, Local};
 use dname::{Heap, Name, Starved};
@@ -67,7 +69,6 @@ fn check_rules<A: Heap>(
     ensures { MatchResult result (λ _. IsWorld (world_with catalog.now hosts.now hints.now locals.now)) (λ e. IsRefused (world_with catalog.now hosts.now hints.now locals.now) e) }
 {
     let zones = catalog.zones();
-    zones_keep_rules(zones);
     if !has_origin(zones, top) {
         return Err(WorldError::NoRoot);
     }
@@ -119,6 +120,24 @@ impl<A: Heap> World<A> {
     }
 }
 
+// Those of the zones whose origins are local.
+fn held_zones<A: Heap>(
+    alloc: A,
+    zones: &[Zone<A>],
+    locals: &[Name<A>],
+) -> Result<Vec<Zone<A>, A>, Starved>
+    ensures { IfOk result (λ v. v.items ≡ filter (λ z. has_name z.origin locals.now) zones.now) }
+{
+    let mut held = Vec::new(alloc);
+    for zone in zones {
+        if !has_name(locals, zone.origin()) {
+            continue;
+        }
+        held.push(zone.clone()?)?;
+    }
+    Ok(held)
+}
+
 impl<A: Allocator> World<A> {
     /// A law: each world is well formed. Costs nothing.
     pub fn is_well_formed(&self)
@@ -127,10 +146,23 @@ impl<A: Allocator> World<A> {
         let _ = &self.hosts;
     }
 
+    /// Its hints: addresses of servers of the root.
+    pub fn hints(&self) -> &[Addr]
+        ensures { addresses result.now ≡ self.now.hints }
+    {
+        &self.hints
+    }
+
     pub(crate) fn catalog(&self) -> &Catalog<A>
         ensures { result.now ≡ self.now.zones }
     {
         &self.catalog
+    }
+
+    fn locals(&self) -> &[Name<A>]
+        ensures { result.now ≡ self.now.locals }
+    {
+        &self.locals
     }
 
     pub(crate) fn hosts(&self) -> &[Host<A>]
@@ -141,6 +173,14 @@ impl<A: Allocator> World<A> {
 }
 
 impl<A: Heap> World<A> {
+    /// The zones that the resolver itself holds: those whose origins are local.
+    pub fn held(&self) -> Result<Vec<Zone<A>, A>, Starved>
+        ensures { IfOk result (λ v. AreHeld self.now v.items) }
+    {
+        let zones = self.catalog().zones();
+        Ok(held_zones(*self.hosts.allocator(), zones, self.locals())?)
+    }
+
     /// The world's link of a question: what the zone in charge of the name says of it (RFC 1034, section
     /// 4.3.2).
     pub fn link(&self, name: &Name<A>, kind: RType) -> Result<Link<A>, Starved>

@@ -233,3 +233,29 @@ fn each_growth_is_refused_in_turn(rt: HostRuntime) -> Result<(), Fail> {
     assert!(rt; matches!(zone_of(&heap, &FULL), Ok(Ok(_))));
     Ok(())
 }
+
+// A zone of these records, copied. One that is refused counts as want of memory.
+fn copy_of<A: Heap>(alloc: A, rows: &[Row]) -> Result<Zone<A>, NameError> {
+    match zone_of(alloc, rows)? {
+        Ok(zone) => Ok(zone.clone()?),
+        Err(_) => Err(NameError::Memory),
+    }
+}
+
+#[test]
+fn copies_are_whole(rt: HostRuntime) -> Result<(), Fail> {
+    let heap = Refusing::new(rt.alloc());
+    let copy = copy_of(&heap, &FULL)?;
+    assert_eq!(rt; copy.records().len(), 6);
+    assert_eq!(rt; copy.origin().labels(), 2);
+    assert_eq!(rt; copy.denial().ttl, 60);
+    let growths = heap.growths();
+    for n in 0..growths {
+        heap.refuse_after(n);
+        assert!(rt;
+            matches!(copy_of(&heap, &FULL), Err(NameError::Memory)),
+            "growth {n}"
+        );
+    }
+    Ok(())
+}

@@ -8,7 +8,7 @@ use crate::fault::ZoneError;
 use crate::rules::check;
 use dname::{Heap, Name};
 use rdata::{Record, Records};
-use std::alloc::{Allocator, Global};
+use std::alloc::{AllocError, Allocator, Global};
 use std::marker::Model;
 
 /// A zone (RFC 1034, section 4.2): its records meet all rules of `ZoneError`. Contracts see its origin
@@ -30,6 +30,18 @@ impl<A: Allocator> Model for Zone<A> {
     ghost view = { λ z. zone_with z.origin z.records };
 
     ghost invariant = { λ z. IsKept (zone_with z.origin z.records) z.denial };
+}
+
+impl<A: Heap> Clone for Zone<A> {
+    ghost is_clone = { λ x y. y ≡ x };
+
+    fn clone(&self) -> Result<Zone<A>, AllocError> {
+        Ok(Zone {
+            origin: self.origin.clone()?,
+            records: self.records.clone()?,
+            denial: self.denial.clone()?,
+        })
+    }
 }
 
 impl<A: Heap> Zone<A> {

@@ -1,4 +1,4 @@
-use Rattle.std.proofs.Common.{◌≡◌, ◌∙◌, sym, ap, subst, refl, ℕ, List, Some, None, option_map}
+use Rattle.std.proofs.Common.{◌≡◌, ◌∙◌, sym, ap, subst, refl, Some, None, option_map}
 use Rattle.dname.specs.Labels.{Name}
 use Rattle.rdata.specs.Types.{type_number}
 use Rattle.zone.specs.Look.{Local, Linked}

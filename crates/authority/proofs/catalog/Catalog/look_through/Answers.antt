@@ -3,9 +3,9 @@ use Rattle.std.specs.Option.{option_copied}
 use Rattle.rdata.specs.Types.{type_number}
 use Rattle.zone.specs.Zones.{Zone}
 use Rattle.zone.specs.Look.{Local, local_by}
-use Rattle.authority.specs.Catalogs.{zone_over, chosen, IsLooked, AreNamed}
+use Rattle.authority.specs.Catalogs.{zone_over, chosen, IsLooked, AreZones}
 use Rattle.authority.proofs.Ascents.{looked_by}
-use Rattle.authority.proofs.Charges.{looked_here, looked_nowhere}
+use Rattle.authority.proofs.Charges.{looked_here, looked_nowhere, zones_named}
 use Rattle.authority.proofs.Chosen.{chosen_named}
 use Rattle.authority.proofs.catalog.Catalog.look_through.Goals as goal
 
@@ -31,4 +31,4 @@ pub returns-in-None-clause-relation : goal.returns-in-None-clause-relation
 returns-in-None-clause-relation g c =
     let nobody : None ≡ zone_over (chosen (option_copied c.args.listed) c.args.self.now) c.args.name.now =
     sym (ap option_copied c.in-None.is) ∙ (c.in_ok-zone_over.ensures ∙ ap (λ (zs : List Zone). zone_over (chosen (option_copied c.args.listed) zs) c.args.name.now) (c.deref.ensures.value ∙ c.self.view_is)) in
-    looked_nowhere (chosen (option_copied c.args.listed) c.args.self.now) c.args.name.now (type_number c.args.kind) (chosen_named (option_copied c.args.listed) c.args.self.now (subst (λ (zs : List Zone). AreNamed zs) c.self.view_is c.self.invariant.named)) nobody
+    looked_nowhere (chosen (option_copied c.args.listed) c.args.self.now) c.args.name.now (type_number c.args.kind) (chosen_named (option_copied c.args.listed) c.args.self.now (zones_named c.args.self.now (subst AreZones c.self.view_is c.self.invariant.sound))) nobody

@@ -1,8 +1,0 @@
--- The records so far are written.
-use Rattle.std.proofs.Common.{◌≡◌, ◌++◌, take, string_bytes}
-use Rattle.std.specs.List.{flat_map}
-use Rattle.script.specs.Lines.{record_line}
-use Rattle.script.proofs.lines.put_records.Given as goal
-
-abbrev pub invariant-loop-printed : goal.invariant-loop-printed
-invariant-loop-printed g l = string_bytes l.out ≡ string_bytes l.initial.out ++ flat_map (record_line l.section) (take l.printed-index l.records)
