@@ -1,0 +1,7 @@
+pub mod Entries
+pub mod Lists
+pub mod Lower
+pub mod Points
+pub mod Replies
+pub mod Servers
+pub mod Sound

@@ -1,0 +1,396 @@
+-- What is true of a run's stores and open queries stays true in each step, and so its replies are right.
+use Rattle.std.proofs.Common.{◌≡◌, ◌≢◌, ℕ, ◌+◌, true, false, Option, Some, None, List, [], ◌∷◌, inl, inr, refl, sym, ◌∙◌, ap, subst, arith}
+use Rattle.std.specs.Prelude.{Contains}
+use Rattle.zone.proofs.LawLists.{none_in, first_in}
+use Rattle.dname.specs.Labels.{Name}
+use Rattle.rdata.specs.Types.{type_number}
+use Rattle.rdata.specs.declared.addr.Addr.{Addr}
+use Rattle.layout.specs.Messages.{Message, folded_question}
+use Rattle.authority.specs.declared.cause.Cause.{Cause}
+use Rattle.authority.specs.declared.cause.Cause.TheVariants as cause
+use Rattle.wire.specs.declared.via.Via.{Via}
+use Rattle.front.specs.Queries.{IsAsked}
+use Rattle.front.specs.Laws.{question_of}
+use Rattle.front.proofs.Echoes.{echo_is_question}
+use Rattle.front.specs.declared.queries.Asked.{Asked}
+use Rattle.front.specs.declared.queries.Asked.TheVariants as heard
+use Rattle.front.specs.declared.queries.Outcome.{Outcome}
+use Rattle.front.specs.declared.queries.Outcome.TheVariants as outcome
+use Rattle.truth.specs.Worlds.{World, IsWorld}
+use Rattle.truth.specs.Serving.{MayServe}
+use Rattle.truth.specs.Frames.{MayAsk}
+use Rattle.front.specs.Replies.{reply_of}
+use Rattle.resolution.specs.Jobs.{Stores, Job, bytes_of, Input, Start, Next, Ask, AskTcp, Done, Fail}
+use Rattle.resolution.specs.Rules.{Stops}
+use Rattle.runs.specs.States.{Event, Client, Datagram, TcpReply, TcpFailed, Tick, Action, Reply, MoreDue, Served, Nobody, Own, Query, Turn, Plain, Asker, asker, recursive, job_for, Path, ByUdp, ByTcp, Asking, IsFor, Open, open_query, Site, State, moved}
+use Rattle.runs.specs.Messages.{AreWritten, sending, IsSent, Brings, outcome_of, IsRefusal}
+use Rattle.runs.specs.Steps.{AreOthers, Ends, Waits, Comes, IsAsking, IsOpened, at_once, crowded, admitted, Resolves, IsHandled, IsInput, IsIgnored, Hears, IsLate, IsFollowed, IsTicked, IsLeft, IsTurn}
+use Rattle.runs.specs.Runs.{Run, Earlier, Always, GivesOut, Asks, Accepts, Came}
+use Rattle.runs.proofs.Clocks.{clock_of_run}
+use Rattle.right.specs.Headline.{IsHonest, IsHomeIn, IsRightReply, IsServedFor, RepliesAreRight}
+use Rattle.right.proofs.Lists.{front_in, both_cases, only_one}
+use Rattle.right.proofs.Points.{IsTrueJob, AreTrue, IsTrueInput, IsTold, AsksTruly, IsTrueNext, advances_true, stops_true}
+use Rattle.right.proofs.Replies.{fail_right, chain_right}
+
+-- ---- what is true of a run
+
+-- An open query: its client asked it earlier, its work is true, and its open ask is of a server that may be asked.
+pub record IsTrueOpen (W : World) (port : ℕ) (run : List Turn) (q : Open) : Type 0 where
+  pub echo : folded_question ((q.asker).query).echo ≡ question_of (q.asker).query
+  pub came : Earlier (Came (Query q.number) q.asker) run
+  pub job : IsTrueJob W ((q.asker).query).name (type_number ((q.asker).query).kind) q.job
+  pub ask : Asks port q.number q.ask run
+  pub asks : AsksTruly W (q.ask).server (q.ask).name (q.ask).kind q.job
+
+pub record IsSound (W : World) (port : ℕ) (run : List Turn) (s : State) : Type 0 where
+  pub stores : AreTrue W s.stores
+  pub queries : (q : Open) → Contains s.queries q → IsTrueOpen W port run q
+
+-- ---- actions
+
+no_reply_sent : {P : Type 0} (port : ℕ) (a : Asking) (path : Path) (bytes sent : List ℕ) (client : ℕ) (way : Via) (c : Option Cause) → sending port a path sent ≡ Reply client way bytes c → P
+no_reply_sent port a (ByUdp sock) bytes sent client way c e = cc
+no_reply_sent port a (ByTcp number) bytes sent client way c e = cc
+
+more_is_no_reply : {P : Type 0} (client : ℕ) (way : Via) (bytes : List ℕ) (c : Option Cause) → MoreDue ≡ Reply client way bytes c → P
+more_is_no_reply client way bytes c e = cc
+
+reply_parts : {c d : ℕ} {v w : Via} {x y : List ℕ} {e f : Option Cause} → Reply c v x e ≡ Reply d w y f → (c ≡ d) × (v ≡ w) × (x ≡ y)
+reply_parts h = (cc, cc, cc)
+
+own_not_query : {P : Type 0} (k : ℕ) → Own ≡ Query k → P
+own_not_query k e = cc
+
+nobody_not_query : {P : Type 0} (k : ℕ) → Nobody ≡ Query k → P
+nobody_not_query k e = cc
+
+one_query : (k n : ℕ) → Query k ≡ Query n → k ≡ n
+one_query k n e = cc
+
+false_not_true : {P : Type 0} → false ≡ true → P
+false_not_true e = cc
+
+-- The only action of a step.
+only_action : (out : List Action) (x y : Action) → out ≡ x ∷ [] → Contains out y → x ≡ y
+only_action out x y is m = only_one x y (subst (λ (l : List Action). Contains l y) is m)
+
+no_action : {P : Type 0} (out : List Action) (y : Action) → out ≡ [] → Contains out y → P
+no_action out y is m = absurd (none_in y (subst (λ (l : List Action). Contains l y) is m))
+
+there : (out : List Action) (x : Action) → out ≡ x ∷ [] → Contains out x
+there out x is = subst (λ (l : List Action). Contains l x) (sym is) (first_in x [])
+
+-- ---- one step
+
+module _ (W : World) (w : IsWorld W) (site : Site) (ours : IsHomeIn W site.home) (t : Turn) (past : List Turn) (s : State) (at : s.site ≡ site) (sound : IsSound W site.port past s)
+    (honest : (k : ℕ) (a : Asking) (m : Message) → Accepts site.port k a m t past → MayServe W (a.server).0 a.name a.kind m) where
+  -- No query but k is served.
+  abbrev Only : ℕ → Type 0
+  Only k = (n : ℕ) → n ≢ k → t.served ≢ Query n
+
+  only_query : (k : ℕ) → t.served ≡ Query k → Only k
+  only_query k is n other e = other (one_query n k (sym e ∙ is))
+
+  only_own : (k : ℕ) → t.served ≡ Own → Only k
+  only_own k is n other e = own_not_query n (sym is ∙ e)
+
+  goes_on : (q : Open) → Contains s.queries q → t.served ≢ Query q.number → IsTrueOpen W site.port (t ∷ past) q
+  goes_on q m other = let h = sound.queries q m in record { echo = h.echo; came = inr h.came; job = h.job; ask = inr (other, h.ask); asks = h.asks }
+
+  -- Where nothing changed.
+  same_sound : (new : State) → new ≡ s → ((n : ℕ) → t.served ≢ Query n) → IsSound W site.port (t ∷ past) new
+  same_sound new is none = subst (IsSound W site.port (t ∷ past)) (sym is) (record { stores = sound.stores; queries = λ q m. goes_on q m (none q.number) })
+
+  others_sound : (k : ℕ) (new : State) → Only k → AreOthers k s.queries new.queries → (q : Open) → Contains new.queries q → IsTrueOpen W site.port (t ∷ past) q
+  others_sound k new only others q m = let (old, other) = others.only q m in goes_on q old (only q.number other)
+
+  ends_sound : (who : Asker) (k : ℕ) (o : Outcome Plain) (stores : Stores) (out : List Action) (new : State) → Only k → AreTrue W stores → Ends s who k o stores out new → IsSound W site.port (t ∷ past) new
+  ends_sound who k o stores out new only all ends = record {
+    stores = subst (AreTrue W) (sym (ap (λ (x : State). x.stores) ends.state)) all;
+    queries = others_sound k new only ends.queries;
+  }
+
+  waits_sound : (who : Asker) (k opened asked due : ℕ) (job : Job) (ask : Asking) (server : Addr) (n : Name) (u : ℕ) (stores : Stores) (out : List Action) (new : State)
+      → t.served ≡ Query k → ((a : Action) → Contains out a → GivesOut t.out a)
+      → folded_question (who.query).echo ≡ question_of who.query → Earlier (Came (Query k) who) (t ∷ past) → AsksTruly W server n u job
+      → IsTrueJob W (who.query).name (type_number (who.query).kind) job → AreTrue W stores → IsFor server n u ask
+      → Waits s (open_query k who job ask due) opened asked stores out new → IsSound W site.port (t ∷ past) new
+  waits_sound who k opened asked due job ask server n u stores out new served out_in echo came asks true_job all for waits = record {
+    stores = subst (AreTrue W) (sym (ap (λ (x : State). x.stores) waits.state)) all;
+    queries = λ q m. elim ((waits.queries).only q m) as (λ x. IsTrueOpen W site.port (t ∷ past) q) [
+      | inl same ↦ subst (IsTrueOpen W site.port (t ∷ past)) (sym same) here
+      | inr other ↦ goes_on q other.0 (only_query k served q.number other.1)
+    ];
+  }
+    where
+      here : IsTrueOpen W site.port (t ∷ past) (open_query k who job ask due)
+      here = record {
+        echo = echo;
+        came = came;
+        job = true_job;
+        ask = inl (served, (waits.action, out_in waits.action (there out waits.action waits.out_is), subst (λ (x : Site). IsSent x.port ask waits.action) at waits.sent));
+        asks = record {
+          search = asks.search;
+          rest = asks.rest;
+          searches = asks.searches;
+          name = for.name ∙ asks.name;
+          kind = for.kind ∙ asks.kind;
+          may = subst (λ (x : Addr). MayAsk W (bytes_of x) ((asks.search).frame).zone (asks.search).name) (sym for.server) asks.may;
+        };
+      }
+
+  comes_sound : (who : Asker) (k opened : ℕ) (next : Next) (job : Job) (stores : Stores) (out : List Action) (new : State) → Only k → (IsAsking next → t.served ≡ Query k)
+      → ((a : Action) → Contains out a → GivesOut t.out a)
+      → folded_question (who.query).echo ≡ question_of who.query → (t.served ≡ Query k → Earlier (Came (Query k) who) (t ∷ past))
+      → IsTrueNext W (who.query).name (type_number (who.query).kind) next job → AreTrue W stores → Comes s who k opened next job stores out new → IsSound W site.port (t ∷ past) new
+  comes_sound who k opened (Ask server n u) job stores out new only served out_in echo came (asks, true_job) all h =
+      waits_sound who k opened _ _ job h.ask server n u stores out new (served tt) out_in echo (came (served tt)) asks true_job all h.for h.waits
+  comes_sound who k opened (AskTcp server n u) job stores out new only served out_in echo came (asks, true_job) all h =
+      waits_sound who k opened _ _ job h.ask server n u stores out new (served tt) out_in echo (came (served tt)) asks true_job all h.for h.waits
+  comes_sound who k opened (Done chain last) job stores out new only served out_in echo came ends all h = ends_sound who k _ stores out new only all h
+  comes_sound who k opened (Fail c) job stores out new only served out_in echo came ends all h = ends_sound who k _ stores out new only all h
+
+  -- ---- replies
+
+  -- A reply to this client that is right for its query.
+  abbrev IsRightTo : Asker → ℕ → Via → List ℕ → Type 0
+  IsRightTo who client way bytes = (who.client ≡ client) × (who.way ≡ way) × IsRightReply W way (who.query).name (type_number (who.query).kind) bytes
+
+  ends_right : (who : Asker) (k : ℕ) (o : Outcome Plain) (stores : Stores) (out : List Action) (new : State)
+      → ((bytes : List ℕ) → AreWritten bytes (reply_of who.way who.query o).0 → IsRightReply W who.way (who.query).name (type_number (who.query).kind) bytes)
+      → Ends s who k o stores out new → (client : ℕ) (way : Via) (bytes : List ℕ) (c : Option Cause) → Contains out (Reply client way bytes c) → IsRightTo who client way bytes
+  ends_right who k o stores out new right ends client way bytes c m =
+      let (written, are, is) = ends.reply in
+      let (one, two, three) = reply_parts (sym is ∙ only_action out ends.action (Reply client way bytes c) ends.out_is m) in
+      (one, two, subst (λ (x : Via × List ℕ). IsRightReply W x.0 (who.query).name (type_number (who.query).kind) x.1) (λ i. (two i, three i)) (right written are))
+
+  fail_ends : (who : Asker) (k : ℕ) (why : Cause) (stores : Stores) (out : List Action) (new : State) → folded_question (who.query).echo ≡ question_of who.query
+      → Ends s who k (outcome.Fail why) stores out new → (client : ℕ) (way : Via) (bytes : List ℕ) (c : Option Cause) → Contains out (Reply client way bytes c) → IsRightTo who client way bytes
+  fail_ends who k why stores out new echo ends = ends_right who k (outcome.Fail why) stores out new (λ bytes written. inl (fail_right W who.query echo who.way why bytes written)) ends
+
+  comes_right : (who : Asker) (k opened : ℕ) (next : Next) (job : Job) (stores : Stores) (out : List Action) (new : State) → folded_question (who.query).echo ≡ question_of who.query
+      → IsTrueNext W (who.query).name (type_number (who.query).kind) next job → Comes s who k opened next job stores out new
+      → (client : ℕ) (way : Via) (bytes : List ℕ) (c : Option Cause) → Contains out (Reply client way bytes c) → (IsAsking next → ⊥) × IsRightTo who client way bytes
+  comes_right who k opened (Ask server n u) job stores out new echo is h client way bytes c m =
+      let (sent, are, sending_is) = (h.waits).sent in
+      no_reply_sent (s.site).port h.ask (h.ask).path bytes sent client way c (sym sending_is ∙ only_action out (h.waits).action (Reply client way bytes c) (h.waits).out_is m)
+  comes_right who k opened (AskTcp server n u) job stores out new echo is h client way bytes c m =
+      let (sent, are, sending_is) = (h.waits).sent in
+      no_reply_sent (s.site).port h.ask (h.ask).path bytes sent client way c (sym sending_is ∙ only_action out (h.waits).action (Reply client way bytes c) (h.waits).out_is m)
+  comes_right who k opened (Done chain last) job stores out new echo is h client way bytes c m =
+      (λ none. none, ends_right who k (outcome_of s.clock chain last) stores out new (λ b written. chain_right W who.query echo s.clock chain last is who.way b written) h client way bytes c m)
+  comes_right who k opened (Fail why) job stores out new echo is h client way bytes c m = (λ none. none, fail_ends who k why stores out new echo h client way bytes c m)
+
+  -- ---- an open query that is served
+
+  brought : (q : Open) (m : Message) → Contains s.queries q → t.served ≡ Query q.number → Brings (s.site).port q.ask t.event m → IsTold W (q.ask).server m (q.job).searches
+  brought q m stands served brings =
+      let h = sound.queries q stands in
+      let serve = honest q.number q.ask m (record { served = served; ask = h.ask; brings = subst (λ (x : Site). Brings x.port q.ask t.event m) at brings }) in
+      let asks = h.asks in
+      subst (IsTold W (q.ask).server m) (sym asks.searches)
+      (asks.may, subst (λ (x : Name × ℕ). MayServe W (bytes_of (q.ask).server) x.0 x.1 m) (λ i. (asks.name i, asks.kind i)) serve)
+
+  told_true : (q : Open) (event : Event) (input : Input) → t.event ≡ event → Contains s.queries q → t.served ≡ Query q.number → IsInput s event q input → IsTrueInput W q.job input
+  told_true q (Client now client way bytes) input is stands served none = absurd none
+  told_true q (Datagram now sock from bytes) input is stands served (m, brings, e) =
+      subst (IsTrueInput W q.job) (sym e) (brought q m stands served (subst (λ (x : Event). Brings (s.site).port q.ask x m) (sym is) brings))
+  told_true q (TcpReply now number bytes) input is stands served (inl (m, brings, e)) =
+      subst (IsTrueInput W q.job) (sym e) (brought q m stands served (subst (λ (x : Event). Brings (s.site).port q.ask x m) (sym is) brings))
+  told_true q (TcpReply now number bytes) input is stands served (inr (of, unfit, e)) = subst (IsTrueInput W q.job) (sym e) tt
+  told_true q (TcpFailed now number) input is stands served (of, e) = subst (IsTrueInput W q.job) (sym e) tt
+  told_true q (Tick now) input is stands served (first, early, e) = subst (IsTrueInput W q.job) (sym e) tt
+
+  home_here : IsHomeIn W (s.site).home
+  home_here = subst (λ (x : Site). IsHomeIn W x.home) (sym at) ours
+
+  -- What a step makes: a sound state, and right replies.
+  abbrev IsFine : List Action → State → Type 0
+  IsFine out new = IsSound W site.port (t ∷ past) new
+      × ((client : ℕ) (way : Via) (bytes : List ℕ) (c : Option Cause) → Contains out (Reply client way bytes c)
+      → (who : Asker) × (who.client ≡ client) × (who.way ≡ way) × IsServedFor who t past × (recursive who.query ≡ true → IsRightReply W way (who.query).name (type_number (who.query).kind) bytes))
+
+  hears_fine : (event : Event) (out : List Action) (new : State) → t.event ≡ event → ((a : Action) → Contains out a → GivesOut t.out a) → Hears s event t.served out new → IsFine out new
+  hears_fine event out new is out_in h =
+      let q = h.query in
+      let served = h.served_is in
+      let stands = (h.serves).stands in
+      let open_true = sound.queries q stands in
+      let told = told_true q event h.input is stands served h.brings in
+      let both = advances_true W w (s.site).home home_here s.clock ((q.asker).query).name (type_number ((q.asker).query).kind) h.input q.job s.stores (h.serves).next (h.serves).job (h.serves).stores
+      told open_true.job sound.stores (h.serves).advances in (
+        comes_sound q.asker q.number s.opened (h.serves).next (h.serves).job (h.serves).stores out new (only_query q.number served) (λ asks. served) out_in open_true.echo
+            (λ e. inr open_true.came) both.0 both.1 (h.serves).comes,
+        λ client way bytes c m.
+            let (over, (one, two, right)) = comes_right q.asker q.number s.opened (h.serves).next (h.serves).job (h.serves).stores out new open_true.echo both.0 (h.serves).comes client way bytes c m in
+            (q.asker, one, two, inr (q.number, served, open_true.came), λ rd. right),
+      )
+
+  late_fine : (out : List Action) (new : State) → IsLate s t.served out new → IsFine out new
+  late_fine out new h =
+      let q = h.query in
+      let open_true = sound.queries q (h.due).stands in (
+        ends_sound q.asker q.number _ s.stores out new (only_query q.number h.served_is) sound.stores h.ends,
+        λ client way bytes c m.
+            let (one, two, right) = fail_ends q.asker q.number cause.Deadline s.stores out new open_true.echo h.ends client way bytes c m in
+            (q.asker, one, two, inr (q.number, h.served_is, open_true.came), λ rd. right),
+      )
+
+  ignored_fine : (event : Event) (out : List Action) (new : State) → IsIgnored s event t.served out new → IsFine out new
+  ignored_fine event out new h = (
+    same_sound new h.state (λ n e. nobody_not_query n (sym h.served_is ∙ e)),
+    λ client way bytes c m. no_action out (Reply client way bytes c) h.out_is m,
+  )
+
+  -- ---- a client's query
+
+  resolved_fine : (who : Asker) (out : List Action) (new : State) → folded_question (who.query).echo ≡ question_of who.query → ((k : Served) → t.served ≡ k → Came k who t past)
+      → ((a : Action) → Contains out a → GivesOut t.out a) → Resolves s who t.served out new → IsFine out new
+  resolved_fine who out new echo came out_in h = by h.opened
+    where
+      start : IsTrueJob W (who.query).name (type_number (who.query).kind) (job_for s.clock who.query)
+      start = record { kind = refl; leads = refl; few = omega arith; searches = tt }
+
+      both : IsTrueNext W (who.query).name (type_number (who.query).kind) h.next h.job × AreTrue W h.stores
+      both = advances_true W w (s.site).home home_here s.clock (who.query).name (type_number (who.query).kind) Start (job_for s.clock who.query) s.stores h.next h.job h.stores refl start sound.stores h.advances
+
+      by : IsOpened s who h.next h.job h.stores t.served out new → IsFine out new
+      by (at_once served over comes) = (
+        comes_sound who s.opened s.opened h.next h.job h.stores out new (only_own s.opened served) (λ asks. absurd (over asks)) out_in echo (λ e. own_not_query s.opened (sym served ∙ e)) both.0 both.1 comes,
+        λ client way bytes c m.
+            let (none, (one, two, right)) = comes_right who s.opened s.opened h.next h.job h.stores out new echo both.0 comes client way bytes c m in
+            (who, one, two, inl (came Own served), λ rd. right),
+      )
+      by (crowded served asks many ends) = (
+        ends_sound who s.opened _ h.stores out new (only_own s.opened served) both.1 ends,
+        λ client way bytes c m.
+            let (one, two, right) = fail_ends who s.opened cause.TooManyOpen h.stores out new echo ends client way bytes c m in
+            (who, one, two, inl (came Own served), λ rd. right),
+      )
+      by (admitted served asks few comes) = (
+        comes_sound who s.opened (s.opened + 1) h.next h.job h.stores out new (only_query s.opened served) (λ a. served) out_in echo (λ e. inl (came (Query s.opened) served)) both.0 both.1 comes,
+        λ client way bytes c m. absurd ((comes_right who s.opened (s.opened + 1) h.next h.job h.stores out new echo both.0 comes client way bytes c m).0 asks),
+      )
+
+  -- Want of memory.
+  left_sound : (k : ℕ) (IsOnTheWay : Stores → Type 0) (new : State) → Only k → ((stores : Stores) → IsOnTheWay stores → AreTrue W stores) → IsLeft s k IsOnTheWay new → IsSound W site.port (t ∷ past) new
+  left_sound k IsOnTheWay new only way h = record {
+    stores = elim h.stores as (λ x. AreTrue W new.stores) [ inl same ↦ subst (AreTrue W) (sym same) sound.stores | inr on ↦ way new.stores on ];
+    queries = others_sound k new only h.queries;
+  }
+
+  meant_sound : (event : Event) (q : Open) (new : State) → t.event ≡ event → Contains s.queries q → t.served ≡ Query q.number
+      → IsLeft s q.number (λ stores. (input : Input) × IsInput s event q input × Stops input s.clock q.job s.stores stores) new → IsSound W site.port (t ∷ past) new
+  meant_sound event q new is stands served left = left_sound q.number _ new (only_query q.number served)
+      (λ stores on. stops_true W w (s.site).home home_here s.clock on.0 q.job s.stores stores (told_true q event on.0 is stands served on.1) sound.stores on.2) left
+
+  -- What the start of any work leaves: `Stops` reads nothing of the job then.
+  start_stops : (j : Job) (stores : Stores) → Stops Start s.clock j s.stores stores → AreTrue W stores
+  start_stops j stores stops = stops_true W w (s.site).home home_here s.clock Start (record j { searches = [] }) s.stores stores refl sound.stores
+      (record { cache = stops.cache; delegations = stops.delegations; penalties = stops.penalties; cache_cap = stops.cache_cap; delegations_cap = stops.delegations_cap; penalties_cap = stops.penalties_cap })
+
+  -- ---- the step
+
+  abbrev IsDone : State → Type 0
+  IsDone new = IsSound W site.port (t ∷ past) new × RepliesAreRight W t past
+
+  fine_done : (out : List Action) (new : State) → t.out ≡ Some out → IsFine out new → IsDone new
+  fine_done out new is fine = (fine.0, λ client way bytes c gives. inr (fine.1 client way bytes c (subst (λ (o : Option (List Action)). GivesOut o (Reply client way bytes c)) is gives)))
+
+  in_out : (out : List Action) → t.out ≡ Some out → (a : Action) → Contains out a → GivesOut t.out a
+  in_out out is a m = subst (λ (o : Option (List Action)). GivesOut o a) (sym is) m
+
+  starved_done : (new : State) → t.out ≡ None → IsSound W site.port (t ∷ past) new → IsDone new
+  starved_done new is h = (h, λ client way bytes c gives. absurd (subst (λ (o : Option (List Action)). GivesOut o (Reply client way bytes c)) is gives))
+
+  handled_done : (now client : ℕ) (way : Via) (bytes : List ℕ) (asked : Asked Plain) (out : List Action) (new : State) → t.event ≡ Client now client way bytes → t.out ≡ Some out
+      → IsAsked {A = Plain} bytes asked → IsHandled s client way asked t.served out new → IsDone new
+  handled_done now client way bytes heard.Drop out new event is reads (served, none, same) = fine_done out new is (
+    same_sound new same (λ n e. own_not_query n (sym served ∙ e)),
+    λ c v b x m. no_action out (Reply c v b x) none m,
+  )
+  handled_done now client way bytes (heard.Refuse refusal start echo) out new event is reads (served, (action, refused, only), same) = (
+    same_sound new same (λ n e. own_not_query n (sym served ∙ e)),
+    λ c v b x gives.
+        let m = subst (λ (o : Option (List Action)). GivesOut o (Reply c v b x)) is gives in
+        inl (record {
+          moment = now;
+          client = client;
+          way = way;
+          bytes = bytes;
+          refusal = refusal;
+          start = start;
+          echo = echo;
+          event = event;
+          reads = reads;
+          reply = subst (IsRefusal client way refusal start echo) (only_action out action (Reply c v b x) only m) refused;
+        }),
+  )
+  handled_done now client way bytes (heard.Query q) out new event is reads (inl (rd, h)) = fine_done out new is (
+    same_sound new h.state (λ n e. own_not_query n (sym h.served_is ∙ e)),
+    λ c v b x m.
+        let (written, are, sent) = h.reply in
+        let (one, two, three) = reply_parts (sym sent ∙ only_action out h.action (Reply c v b x) h.out_is m) in
+        (asker client way q, one, two, inl (record { is_served = h.served_is; moment = now; bytes = bytes; event = event; reads = reads }), λ yes. false_not_true (sym rd ∙ yes)),
+  )
+  handled_done now client way bytes (heard.Query q) out new event is reads (inr (rd, h)) =
+      fine_done out new is (resolved_fine (asker client way q) out new (echo_is_question bytes q reads).echo
+      (λ k served. record { is_served = served; moment = now; bytes = bytes; event = event; reads = reads }) (in_out out is) h)
+
+  followed : (first out : List Action) (new : State) → IsFollowed first out new → ((a : Action) → Contains first a → Contains out a)
+      × ((client : ℕ) (way : Via) (bytes : List ℕ) (c : Option Cause) → Contains out (Reply client way bytes c) → Contains first (Reply client way bytes c))
+  followed first out new (inl (is, due)) = (
+    λ a m. subst (λ (l : List Action). Contains l a) (sym is) (front_in first (MoreDue ∷ []) a m),
+    λ client way bytes c m. elim (both_cases first (MoreDue ∷ []) (Reply client way bytes c) (subst (λ (l : List Action). Contains l (Reply client way bytes c)) is m)) as (λ x. Contains first (Reply client way bytes c)) [
+      | inl here ↦ here
+      | inr more ↦ more_is_no_reply client way bytes c (only_one MoreDue (Reply client way bytes c) more)
+    ],
+  )
+  followed first out new (inr (is, none)) = (λ a m. subst (λ (l : List Action). Contains l a) (sym is) m, λ client way bytes c m. subst (λ (l : List Action). Contains l (Reply client way bytes c)) is m)
+
+  ticked_done : (now : ℕ) (out : List Action) (new : State) → t.event ≡ Tick now → t.out ≡ Some out → IsTicked s now t.served out new → IsDone new
+  ticked_done now out new event is (inl h) = fine_done out new is (ignored_fine (Tick now) out new h)
+  ticked_done now out new event is (inr (first, h, more)) =
+      let incl = followed first out new more in
+      let fine = elim h as (λ x. IsFine first new) [ inl late ↦ late_fine first new late | inr hears ↦ hears_fine (Tick now) first new event (λ a m. in_out out is a (incl.0 a m)) hears ] in
+      fine_done out new is (fine.0, λ client way bytes c m. fine.1 client way bytes c (incl.1 client way bytes c m))
+
+  turn_done : (event : Event) (out : Option (List Action)) (new : State) → t.event ≡ event → t.out ≡ out → IsTurn s event t.served out new → IsDone new
+  turn_done (Client now client way bytes) None new event is (served, left) =
+      starved_done new is (left_sound s.opened _ new (only_own s.opened served) (λ stores on. start_stops on.0 stores on.1) left)
+  turn_done (Datagram now sock from bytes) None new event is (q, stands, served, meant, left) = starved_done new is (meant_sound _ q new event stands served left)
+  turn_done (TcpReply now number bytes) None new event is (q, stands, served, meant, left) = starved_done new is (meant_sound _ q new event stands served left)
+  turn_done (TcpFailed now number) None new event is (q, stands, served, meant, left) = starved_done new is (meant_sound _ q new event stands served left)
+  turn_done (Tick now) None new event is (q, stands, served, meant, left) = starved_done new is (meant_sound _ q new event stands served left)
+  turn_done (Client now client way bytes) (Some out) new event is (asked, reads, h) = handled_done now client way bytes asked out new event is reads h
+  turn_done (Datagram now sock from bytes) (Some out) new event is (inl h) = fine_done out new is (ignored_fine _ out new h)
+  turn_done (Datagram now sock from bytes) (Some out) new event is (inr h) = fine_done out new is (hears_fine _ out new event (in_out out is) h)
+  turn_done (TcpReply now number bytes) (Some out) new event is (inl h) = fine_done out new is (ignored_fine _ out new h)
+  turn_done (TcpReply now number bytes) (Some out) new event is (inr h) = fine_done out new is (hears_fine _ out new event (in_out out is) h)
+  turn_done (TcpFailed now number) (Some out) new event is (inl h) = fine_done out new is (ignored_fine _ out new h)
+  turn_done (TcpFailed now number) (Some out) new event is (inr h) = fine_done out new is (hears_fine _ out new event (in_out out is) h)
+  turn_done (Tick now) (Some out) new event is h = ticked_done now out new event is h
+
+-- ---- runs
+
+pub sound_run : (W : World) (site : Site) (run : List Turn) (s : State) → IsWorld W → IsHomeIn W site.home → Run site run s → IsHonest W site.port run
+    → IsSound W site.port run s × Always (RepliesAreRight W) run
+sound_run W site [] s w ours new honest = (
+  record {
+    stores = record {
+      cache = λ k h m. absurd (none_in (k, h) (subst (λ (es : _). Contains es (k, h)) new.cache m));
+      cuts = λ n k m. absurd (none_in (n, k) (subst (λ (es : _). Contains es (n, k)) new.delegations m));
+    };
+    queries = λ q m. absurd (none_in q (subst (λ (qs : List Open). Contains qs q) new.queries m));
+  },
+  tt,
+)
+sound_run W site (t ∷ past) s w ours (old, legal, step) honest =
+    let (sound, right) = sound_run W site past old w ours legal honest.1 in
+    let here = (clock_of_run site past old legal).1 in
+    let again : IsSound W site.port past (moved old t.event) = record { stores = sound.stores; queries = sound.queries } in
+    let done = turn_done W w site ours t past (moved old t.event) here again honest.0 t.event t.out s refl refl step.turn in
+    (done.0, (done.1, right))
+
+pub every_reply_is_right : (W : World) (site : Site) (run : List Turn) (s : State) → IsWorld W → IsHomeIn W site.home → Run site run s → IsHonest W site.port run → Always (RepliesAreRight W) run
+every_reply_is_right W site run s w ours legal honest = (sound_run W site run s w ours legal honest).1
