@@ -1,0 +1,256 @@
+-- What the work on one query is made of (RFC 1034, section 5.3.3): what the resolver holds, the links that
+-- were taken so far, the searches for servers that are under way, what comes in and what goes out. Moments
+-- are milliseconds, times to live seconds.
+use Rattle.std.specs.Prelude.{◌≡◌, ℕ, ◌+◌, ◌-◌, ◌*◌, ◌/◌, ◌<◌, ◌≤◌, ◌⊎◌, Bool, true, false, nat_le, min, Option, Some, None, List, [], ◌∷◌, ◌++◌, length, map, Contains}
+use Rattle.std.specs.List.{flat_map}
+use Rattle.dname.specs.Labels.{Name, root}
+use Rattle.rdata.specs.Data.{Datum, Ipv4, Ns, Cname, Soa, Ptr, Mx, Txt, Ipv6}
+use Rattle.rdata.specs.Records.{Record}
+use Rattle.rdata.specs.Sets.{with_ttl}
+use Rattle.rdata.specs.declared.addr.Addr.{Addr}
+use Rattle.zone.specs.Zones.{Zone}
+use Rattle.zone.specs.Links.{Link, Found, Alias, NoData, NxDomain}
+use Rattle.authority.specs.declared.cause.Cause.{Cause}
+use Rattle.layout.specs.Messages.{Message}
+use Rattle.wire.specs.declared.via.Via.{Via}
+use Rattle.classify.specs.Lifetimes.{received, lifetime_of, longest}
+use Rattle.retry.specs.Penalties.{penalty, answered, timed_out}
+use Rattle.retry.specs.Plans.{advanced, wait_of}
+use Rattle.referral.specs.Cuts.{ServerAddress, Cut, Known}
+use Rattle.referral.specs.Cuts as referral
+use Rattle.cache.specs.Keys.{Key}
+use Rattle.cache.specs.Cached.{Hit}
+use Rattle.cache.specs.Cached as cache
+use Rattle.frames.specs.Frames.{Frame, FailedName}
+
+-- ---- what the resolver holds
+
+-- The zones that it holds itself, and addresses of servers of the root (RFC 1034, section 5.3.2, SBELT).
+pub record Home : Type 0 where
+  pub zones : List Zone
+  pub hints : List Addr
+
+-- What it learnt: links, delegations, and penalties of servers that did not answer; each with how many
+-- entries it may have. The most recently used entry stands first.
+pub record Stores : Type 0 where
+  pub cache : List (Key × Hit)
+  pub cache_cap : ℕ
+  pub delegations : List (Name × Known)
+  pub delegations_cap : ℕ
+  pub penalties : List (Addr × ℕ)
+  pub penalties_cap : ℕ
+
+abbrev pub level_of : Stores → Addr → ℕ
+level_of stores a = penalty a stores.penalties
+
+-- A server answered, whatever it said; a server did not.
+abbrev pub with_answer : Stores → Addr → Stores
+with_answer stores server = record stores { penalties = answered server stores.penalties }
+
+abbrev pub with_timeout : Stores → Addr → Stores
+with_timeout stores server = record stores { penalties = timed_out server stores.penalties_cap stores.penalties }
+
+-- ---- links that were taken
+
+-- Where a link comes from: the zones at hand, the cache, or a message that was accepted for this very query.
+-- The latter two with the time to live that the link had, and the moment since which it is known.
+pub data Origin : Type 0 where
+  Local : Origin
+  Cached : ℕ → ℕ → Origin
+  Accepted : ℕ → ℕ → Origin
+
+-- A link and the name that it is of.
+pub record Taken : Type 0 where
+  pub name : Name
+  pub link : Link
+  pub origin : Origin
+
+abbrev pub local_link : Name → Link → Taken
+local_link n l = record { name = n; link = l; origin = Local }
+
+abbrev pub kept_link : Name → Hit → Taken
+kept_link n h = record { name = n; link = h.link; origin = Cached h.ttl h.since }
+
+-- What a message says is kept and sent within the limits on times to live.
+abbrev pub received_link : Name → Link → ℕ → Taken
+received_link n l now = record { name = n; link = received l; origin = Accepted (lifetime_of (received l)) now }
+
+-- A link from the cache that has reached its time to live by now. Others never are so: what was accepted for
+-- this query may be used once, whatever its time to live (RFC 1034, section 3.6).
+abbrev pub has_ended : ℕ → Origin → Bool
+has_ended now Local = false
+has_ended now (Cached ttl since) = nat_le (1000 * ttl) (now - since)
+has_ended now (Accepted ttl since) = false
+
+abbrev pub is_dead : ℕ → Taken → Bool
+is_dead now l = has_ended now l.origin
+
+abbrev pub IsDead : ℕ → Taken → Type 0
+IsDead now l = is_dead now l ≡ true
+
+abbrev pub AreFresh : ℕ → List Taken → Type 0
+AreFresh now [] = Unit {0}
+AreFresh now (l ∷ ls) = (is_dead now l ≡ false) × AreFresh now ls
+
+-- The link that ends a chain, and one that leads on.
+abbrev pub IsEnding : Link → Type 0
+IsEnding (Found set) = Unit {0}
+IsEnding (Alias r) = ⊥
+IsEnding (NoData soa) = Unit {0}
+IsEnding (NxDomain soa) = Unit {0}
+
+-- A link with this time to live in all its records.
+abbrev pub retimed : ℕ → Link → Link
+retimed ttl (Found rs) = Found (map (with_ttl ttl) rs)
+retimed ttl (Alias r) = Alias (with_ttl ttl r)
+retimed ttl (NoData soa) = NoData (with_ttl ttl soa)
+retimed ttl (NxDomain soa) = NxDomain (with_ttl ttl soa)
+
+-- A link as it goes out: a local one as it is, others with what is left of their time to live.
+abbrev pub sent_from : ℕ → Origin → Link → Link
+sent_from now Local l = l
+sent_from now (Cached ttl since) l = retimed (ttl - (now - since) / 1000) l
+sent_from now (Accepted ttl since) l = retimed (ttl - (now - since) / 1000) l
+
+abbrev pub sent : ℕ → Taken → Link
+sent now l = sent_from now l.origin l.link
+
+-- ---- cuts: where servers are named
+
+-- The targets of NS records, and the IPv4 addresses in records, each with its owner.
+abbrev pub target_names : Datum → List Name
+target_names (Ns n) = n ∷ []
+target_names _ = []
+
+abbrev pub targets_of : List Record → List Name
+targets_of ns = flat_map (λ (r : Record). target_names r.value) ns
+
+abbrev pub ipv4_of : Datum → List (List ℕ)
+ipv4_of (Ipv4 bytes) = bytes ∷ []
+ipv4_of _ = []
+
+abbrev pub rows_of : List Record → List (Name × List ℕ)
+rows_of rs = flat_map (λ (r : Record). map (λ (bytes : List ℕ). (r.owner, bytes)) (ipv4_of r.value)) rs
+
+abbrev pub row_of : ServerAddress → Name × List ℕ
+row_of s = (s.name, (s.address).0)
+
+-- The cut that an NS set and glue make: its servers' names, and the A records among the glue.
+pub record IsCutOf (at : Name) (ns glue : List Record) (c : Cut) : Type 0 where
+  pub owner : c.owner ≡ at
+  pub names : c.names ≡ targets_of ns
+  pub addresses : map row_of c.addresses ≡ rows_of glue
+
+-- The root, with the hints: addresses of which no name is known.
+abbrev pub hinted : Addr → ServerAddress
+hinted a = record { name = root; address = a }
+
+abbrev pub root_cut : Home → Cut
+root_cut home = record { owner = root; names = []; addresses = map hinted home.hints }
+
+abbrev pub IsRootCut : Home → Cut → Type 0
+IsRootCut home c = c ≡ root_cut home
+
+-- The addresses that a set of A records gives.
+abbrev pub bytes_of : Addr → List ℕ
+bytes_of a = a.0
+
+abbrev pub AreAddressesOf : List Record → List Addr → Type 0
+AreAddressesOf set found = map bytes_of found ≡ flat_map (λ (r : Record). ipv4_of r.value) set
+
+-- ---- one query's work
+
+-- What is sought of the servers of a frame: this name and type.
+pub record Search : Type 0 where
+  pub name : Name
+  pub kind : ℕ
+  pub frame : Frame
+
+abbrev pub search_at : Name → ℕ → Frame → Search
+search_at n t f = record { name = n; kind = t; frame = f }
+
+-- `name` and `kind`: what is sought now. `chain`: the aliases that led there. `searches`: for that name, and
+-- for addresses of servers, the innermost first. `failed`: servers' names that were looked up in vain.
+-- `asks`: how many were sent. `deadline`: the moment past which nothing more is sent.
+pub record Job : Type 0 where
+  pub name : Name
+  pub kind : ℕ
+  pub chain : List Taken
+  pub searches : List Search
+  pub failed : List FailedName
+  pub asks : ℕ
+  pub deadline : ℕ
+
+-- A query has ten seconds.
+abbrev pub job_at : Name → ℕ → ℕ → Job
+job_at n t now = record { name = n; kind = t; chain = []; searches = []; failed = []; asks = 0; deadline = now + 10000 }
+
+abbrev pub marked : List FailedName → Name → ℕ → List FailedName
+marked failed n nesting = record { name = n; nesting = nesting } ∷ failed
+
+-- What comes in: the query itself; the message that was accepted for its ask of a server; the end of the wait
+-- for one; the failure of an ask over TCP.
+pub data Input : Type 0 where
+  Start : Input
+  Told : Via → Addr → Message → Input
+  TimedOut : Addr → Input
+  TcpFailed : Addr → Input
+
+-- What goes out: an ask of a server for a name and a type, by UDP or by TCP; the aliases and the end of a
+-- whole chain; a failure.
+pub data Next : Type 0 where
+  Ask : Addr → Name → ℕ → Next
+  AskTcp : Addr → Name → ℕ → Next
+  Done : List Taken → Taken → Next
+  Fail : Cause → Next
+
+-- An ask may be sent before the deadline, and where fewer than 40 were.
+pub record MaySend (now : ℕ) (j : Job) : Type 0 where
+  pub early : now < j.deadline
+  pub few : j.asks < 40
+
+-- How long the answer of the innermost search's server is waited for.
+abbrev pub wait_in : List Search → ℕ
+wait_in [] = 1000
+wait_in (s ∷ rest) = wait_of (s.frame).plan
+
+abbrev pub wait_of_job : Job → ℕ
+wait_of_job j = wait_in j.searches
+
+-- The search after its plan's next address was given out, and the job after an ask.
+abbrev pub with_frame : Search → Frame → Search
+with_frame s f = record s { frame = f }
+
+abbrev pub given : Search → Search
+given s = with_frame s (record s.frame { plan = advanced (s.frame).plan })
+
+abbrev pub asked : Job → Search → List Search → Job
+asked j s rest = record j { searches = given s ∷ rest; asks = j.asks + 1 }
+
+abbrev pub asked_again : Job → Job
+asked_again j = record j { asks = j.asks + 1 }
+
+-- ---- a job at work
+
+-- What is due: to find what is known of the name; to use a link for the name; to ask servers; to ask a server
+-- again over TCP.
+pub data Task : Type 0 where
+  Seek : Task
+  Take : Taken → Task
+  Go : Task
+  Again : Addr → Task
+
+pub record Point : Type 0 where
+  pub task : Task
+  pub job : Job
+  pub stores : Stores
+
+abbrev pub point : Task → Job → Stores → Point
+point task job stores = record { task = task; job = job; stores = stores }
+
+-- What is kept of a message: a link; a delegation.
+abbrev pub hit_from : Link → ℕ → Hit
+hit_from l now = cache.as_kept (received l) (lifetime_of (received l)) now
+
+abbrev pub cut_from : Cut → ℕ → ℕ → Known
+cut_from c ttl now = referral.as_kept c (min ttl longest) now

@@ -1,0 +1,252 @@
+-- The rules by which a query is resolved (RFC 1034, section 5.3.3), each as one small step over exact values:
+-- how what comes in is taken up (`Enters`), the seven rules (`Rule`), and what goes out where none of them
+-- applies (`Leaves`).
+use Rattle.std.specs.Prelude.{◌≡◌, ◌≢◌, ℕ, zero, suc, ◌+◌, ◌<◌, ◌≤◌, ◌⊎◌, true, false, Option, Some, None, List, [], ◌∷◌, ◌++◌, length, Contains}
+use Rattle.dname.specs.Labels.{Name, IsName}
+use Rattle.rdata.specs.Records.{Record}
+use Rattle.rdata.specs.declared.addr.Addr.{Addr}
+use Rattle.zone.specs.Zones.{IsBeneath, a_type}
+use Rattle.zone.specs.Links as said
+use Rattle.zone.specs.Links.{Link}
+use Rattle.zone.specs.Look as local
+use Rattle.authority.specs.Catalogs.{IsLooked, looked}
+use Rattle.authority.specs.declared.cause.Cause.{Cause}
+use Rattle.authority.specs.declared.cause.Cause.TheVariants as cause
+use Rattle.classify.specs.Classes as class
+use Rattle.classify.specs.Classes.{class_of}
+use Rattle.front.specs.Chains.{target_of}
+use Rattle.recency.specs.Orders.{KeepsOnly}
+use Rattle.retry.specs.Penalties.{answered, timed_out}
+use Rattle.retry.specs.Plans.{upcoming}
+use Rattle.referral.specs.Cuts.{Cut, Known, IsBest, after_best}
+use Rattle.referral.specs.Cuts as referral
+use Rattle.cache.specs.Keys.{Key}
+use Rattle.cache.specs.Cached.{Hit, answer, hit_of, after_look, IsHeld}
+use Rattle.cache.specs.Cached as cache
+use Rattle.frames.specs.Frames.{Frame, FailedName, opened, next_name, after_name, after_add}
+use Rattle.resolution.specs.Jobs.{Home, Stores, level_of, with_answer, with_timeout, Taken, local_link, kept_link, received_link, IsDead, AreFresh, IsEnding, IsCutOf, IsRootCut, AreAddressesOf, Search, search_at, with_frame, Job, marked, Input, Start, Told, TimedOut, TcpFailed, Next, Ask, AskTcp, Done, Fail, MaySend, asked, asked_again, Task, Seek, Take, Go, Again, Point, point, hit_from, cut_from}
+
+-- ---- what is known without asking
+
+-- What the zones at hand say of a question. Where they say a cut, or nothing, it is remote.
+abbrev pub Says : Home → Name → ℕ → local.Local → Type 0
+Says home n t what = (looked home.zones n t ≡ what) × IsLooked home.zones n t what
+
+abbrev pub IsRemote : Home → Name → ℕ → Type 0
+IsRemote home n t = ((c : Name) × (ns : List Record) × (glue : List Record) × Says home n t (local.Cut c ns glue)) ⊎ Says home n t local.NotHere
+
+-- A remote question that the cache answers.
+pub record Hits (home : Home) (now : ℕ) (n : Name) (t : ℕ) (old : Stores) (l : Taken) (hit : Hit) (new : Stores) : Type 0 where
+  pub remote : IsRemote home n t
+  pub found : hit_of (answer n t now old.cache) ≡ Some hit
+  pub held : IsHeld n t now old.cache hit
+  pub link : l ≡ kept_link n hit
+  pub stores : new ≡ record old { cache = after_look n t now old.cache }
+
+-- The zones at hand come first, then the cache.
+pub record Finds (home : Home) (now : ℕ) (n : Name) (t : ℕ) (old : Stores) (l : Taken) (new : Stores) : Type 0 where
+  pub is :
+      ((k : Link) × Says home n t (local.Linked k) × (l ≡ local_link n k) × (new ≡ old))
+      ⊎ ((hit : Hit) × Hits home now n t old l hit new)
+
+-- Where servers are sought first: at the cut that the zones at hand name, or at a deeper one that is kept;
+-- where they say nothing, at the best one that is kept, or at the root.
+abbrev pub Begins : Home → Name → local.Local → Option Cut → Cut → Type 0
+Begins home n (local.Linked l) best c = ⊥
+Begins home n (local.Cut at ns glue) None c = IsCutOf at ns glue c
+Begins home n (local.Cut at ns glue) (Some k) c = (IsBeneath k.owner at × (c ≡ k)) ⊎ ((IsBeneath k.owner at → ⊥) × IsCutOf at ns glue c)
+Begins home n local.NotHere None c = IsRootCut home c
+Begins home n local.NotHere (Some k) c = c ≡ k
+
+-- A question that neither zones at hand nor the cache answer, and the cut where its servers are sought.
+pub record Misses (home : Home) (now : ℕ) (n : Name) (t : ℕ) (old : Stores) (c : Cut) (new : Stores) : Type 0 where
+  pub name : IsName n
+  pub what : local.Local
+  pub says : Says home n t what
+  pub miss : hit_of (answer n t now old.cache) ≡ None
+  pub best : Option Cut
+  pub is_best : IsBest n now old.delegations best
+  pub begins : Begins home n what best c
+  pub stores : new ≡ record old { delegations = after_best n now old.delegations }
+
+-- ---- a server's name
+
+-- What is found for a server's name: the addresses of a set, those not yet known to be asked next; any other
+-- link says that the name has none, in this query for good. `before` is the search that wanted them.
+pub record HearsOf (stores : Stores) (n : Name) (l : Link) (before : Search) (failed : List FailedName) (after : Search) (marks : List FailedName) : Type 0 where
+  pub is :
+      ((set : List Record) × (found : List Addr) × (l ≡ said.Found set) × AreAddressesOf set found
+      × (after ≡ with_frame before (after_add (level_of stores) before.frame found)) × (marks ≡ failed))
+      ⊎ (((set : List Record) → l ≢ said.Found set) × (after ≡ before) × (marks ≡ marked failed n 0))
+
+-- The search after the turn of a server's name.
+abbrev pub turned : List FailedName → Search → Search
+turned failed s = with_frame s (after_name failed s.frame)
+
+-- All known addresses of this search's servers were asked, and this server's name has its turn.
+pub record IsTurnOf (j : Job) (s : Search) (rest : List Search) (n : Name) : Type 0 where
+  pub searches : j.searches ≡ s ∷ rest
+  pub asked_all : upcoming (s.frame).plan ≡ None
+  pub turn : next_name j.failed s.frame ≡ Some n
+
+-- All addresses were asked, and no name is left.
+pub record IsUsedUp (j : Job) (s : Search) (rest : List Search) : Type 0 where
+  pub searches : j.searches ≡ s ∷ rest
+  pub asked_all : upcoming (s.frame).plan ≡ None
+  pub none_left : next_name j.failed s.frame ≡ None
+
+-- ---- the rules
+
+pub data Rule (home : Home) (now : ℕ) (a b : Point) : Type 0 where
+  -- What is known of the name is used.
+  takes : (l : Taken) → a.task ≡ Seek → Finds home now (a.job).name (a.job).kind a.stores l b.stores → b.task ≡ Take l → b.job ≡ a.job → Rule home now a b
+  -- Where nothing is, servers are asked for it.
+  asks : (c : Cut) → a.task ≡ Seek → Misses home now (a.job).name (a.job).kind a.stores c b.stores → b.task ≡ Go
+      → b.job ≡ record a.job { searches = search_at (a.job).name (a.job).kind (opened (level_of b.stores) 0 c) ∷ [] } → Rule home now a b
+  -- An alias joins the chain, and its target is sought: up to eight of them.
+  follows : (l : Taken) (r : Record) → a.task ≡ Take l → l.link ≡ said.Alias r → length (a.job).chain < 8 → b.task ≡ Seek
+      → b.job ≡ record a.job { chain = (a.job).chain ++ l ∷ []; name = target_of r } → b.stores ≡ a.stores → Rule home now a b
+  -- The chain has its end, and a link from the cache ran out meanwhile: its name is sought again.
+  restarts : (l d : Taken) (front back : List Taken) → a.task ≡ Take l → IsEnding l.link → (a.job).chain ++ l ∷ [] ≡ front ++ d ∷ back → AreFresh now front → IsDead now d
+      → b.task ≡ Seek → b.job ≡ record a.job { chain = front; name = d.name; searches = [] } → b.stores ≡ a.stores → Rule home now a b
+  -- A server's name of which something is known.
+  hears : (before after : Search) (rest : List Search) (n : Name) (l : Taken) (marks : List FailedName) → a.task ≡ Go → IsTurnOf a.job before rest n
+      → Finds home now n a_type a.stores l b.stores → HearsOf b.stores n l.link (turned (a.job).failed before) (a.job).failed after marks → b.task ≡ Go
+      → b.job ≡ record a.job { searches = after ∷ rest; failed = marks } → Rule home now a b
+  -- A server's name of which nothing is known: its address is sought, one nesting deeper.
+  descends : (s : Search) (rest : List Search) (n : Name) (c : Cut) → a.task ≡ Go → IsTurnOf a.job s rest n → Misses home now n a_type a.stores c b.stores → b.task ≡ Go
+      → b.job ≡ record a.job { searches = search_at n a_type (opened (level_of b.stores) ((s.frame).nesting + 1) c) ∷ turned (a.job).failed s ∷ rest } → Rule home now a b
+  -- The search for a server's address has no server left: back to the search around it.
+  gives_up : (s around : Search) (rest : List Search) → a.task ≡ Go → IsUsedUp a.job s (around ∷ rest) → b.task ≡ Go
+      → b.job ≡ record a.job { searches = around ∷ rest; failed = marked (a.job).failed s.name (s.frame).nesting } → b.stores ≡ a.stores → Rule home now a b
+
+-- So many rules, one after another.
+abbrev pub Rules : Home → ℕ → ℕ → Point → Point → Type 0
+Rules home now zero a b = b ≡ a
+Rules home now (suc n) a b = (mid : Point) × Rules home now n a mid × Rule home now mid b
+
+-- ---- what comes in
+
+-- A link that was accepted for the innermost search is kept. For the query's own name it is taken; for a
+-- server's name it is what the search around hears.
+pub record Learnt (now : ℕ) (s : Search) (l : Link) (old new : Stores) : Type 0 where
+  pub stores : new ≡ record old { cache = cache.after_keep old.cache_cap s.name s.kind (hit_from l now) old.cache }
+
+abbrev pub IsAnswered : ℕ → Search → List Search → Link → Job → Stores → Point → Type 0
+IsAnswered now s [] l j stores p =
+    (p.task ≡ Take (received_link s.name l now)) × (p.job ≡ record j { searches = [] }) × Learnt now s l stores p.stores
+IsAnswered now s (around ∷ rest) l j stores p =
+    (after : Search) × (marks : List FailedName) × (p.task ≡ Go) × Learnt now s l stores p.stores
+    × HearsOf p.stores s.name (received_link s.name l now).link around j.failed after marks
+    × (p.job ≡ record j { searches = after ∷ rest; failed = marks })
+
+-- A referral is kept, and the search begins anew at its cut.
+pub record IsReferred (now : ℕ) (s : Search) (rest : List Search) (at : Name) (ns glue : List Record) (ttl : ℕ) (j : Job) (stores : Stores) (p : Point) : Type 0 where
+  pub cut : Cut
+  pub is_cut : IsCutOf at ns glue cut
+  pub task : p.task ≡ Go
+  pub job : p.job ≡ record j { searches = with_frame s (opened (level_of stores) (s.frame).nesting cut) ∷ rest }
+  pub stored : p.stores ≡ record stores { delegations = referral.after_keep stores.delegations_cap (cut_from cut ttl now) stores.delegations }
+
+-- What is done with an accepted message, by its class under the zone whose server was asked.
+abbrev pub ByClass : ℕ → Addr → Search → List Search → class.Class → Job → Stores → Point → Type 0
+ByClass now server s rest (class.Answer l) j stores p = IsAnswered now s rest l j stores p
+ByClass now server s rest (class.Referral at ns glue ttl) j stores p = IsReferred now s rest at ns glue ttl j stores p
+ByClass now server s rest class.Cut j stores p = p ≡ point (Again server) j stores
+ByClass now server s rest (class.Failed f) j stores p = p ≡ point Go j stores
+
+-- How what comes in is taken up. A server that answered loses half its penalty, one that did not gains some.
+-- A job without a search has nothing that an answer could be for.
+abbrev pub Enters : ℕ → Input → Job → Stores → Point → Type 0
+Enters now Start j stores p = p ≡ point Seek j stores
+Enters now (Told via server m) j stores p =
+    ((j.searches ≡ []) × (p ≡ point Go j (with_answer stores server)))
+    ⊎ ((s : Search) × (rest : List Search) × (j.searches ≡ s ∷ rest)
+    × ByClass now server s rest (class_of (s.frame).zone s.name s.kind via m) j (with_answer stores server) p)
+Enters now (TimedOut server) j stores p = p ≡ point Go j (with_timeout stores server)
+Enters now (TcpFailed server) j stores p = p ≡ point Go j (with_timeout stores server)
+
+-- ---- what goes out
+
+-- The next server of the innermost search's plan, one of the addresses that are known.
+pub record IsDue (p : Point) (server : Addr) (s : Search) (rest : List Search) : Type 0 where
+  pub task : p.task ≡ Go
+  pub searches : (p.job).searches ≡ s ∷ rest
+  pub next : upcoming (s.frame).plan ≡ Some server
+  pub known : Contains (s.frame).addresses server
+
+-- The server that cut its reply short is asked again, over TCP.
+pub record IsDueAgain (p : Point) (server : Addr) (s : Search) (rest : List Search) : Type 0 where
+  pub task : p.task ≡ Again server
+  pub searches : (p.job).searches ≡ s ∷ rest
+
+-- Nothing more is sent from the deadline on, or after 40 asks.
+abbrev pub IsRefused : ℕ → Job → Cause → Type 0
+IsRefused now j c = ((c ≡ cause.Deadline) × (j.deadline ≤ now)) ⊎ ((c ≡ cause.Sends) × (now < j.deadline) × (40 ≤ j.asks))
+
+pub data Leaves (home : Home) (now : ℕ) (p : Point) (next : Next) (job : Job) (stores : Stores) : Type 0 where
+  -- A server is asked.
+  sends : (server : Addr) (s : Search) (rest : List Search) → IsDue p server s rest → MaySend now p.job → next ≡ Ask server s.name s.kind → job ≡ asked p.job s rest
+      → stores ≡ p.stores → Leaves home now p next job stores
+  sends_again : (server : Addr) (s : Search) (rest : List Search) → IsDueAgain p server s rest → MaySend now p.job → next ≡ AskTcp server s.name s.kind
+      → job ≡ asked_again p.job → stores ≡ p.stores → Leaves home now p next job stores
+  -- A server would have to be asked, and may not.
+  refuses : (c : Cause) (server : Addr) (s : Search) (rest : List Search) → IsDue p server s rest ⊎ IsDueAgain p server s rest → IsRefused now p.job c → next ≡ Fail c
+      → stores ≡ p.stores → Leaves home now p next job stores
+  -- No server is left for the query's own name.
+  spent : (s : Search) → p.task ≡ Go → IsUsedUp p.job s [] → next ≡ Fail cause.NoServer → stores ≡ p.stores → Leaves home now p next job stores
+  -- Servers are to be asked, and nothing is sought of them: this does not come about.
+  nowhere : (p.task ≡ Go) ⊎ ((server : Addr) × (p.task ≡ Again server)) → (p.job).searches ≡ [] → next ≡ Fail cause.NoServer → stores ≡ p.stores → Leaves home now p next job stores
+  -- A ninth alias.
+  too_long : (l : Taken) (r : Record) → p.task ≡ Take l → l.link ≡ said.Alias r → 8 ≤ length (p.job).chain → next ≡ Fail cause.Chain → stores ≡ p.stores
+      → Leaves home now p next job stores
+  -- The whole chain, of which nothing has run out.
+  done : (l : Taken) → p.task ≡ Take l → IsEnding l.link → AreFresh now ((p.job).chain ++ l ∷ []) → next ≡ Done (p.job).chain l → stores ≡ p.stores
+      → Leaves home now p next job stores
+
+-- ---- one call
+
+-- What one input makes of a job, and of the stores, and what goes out.
+pub record Advances (home : Home) (now : ℕ) (input : Input) (old : Job) (stores : Stores) (next : Next) (new : Job) (after : Stores) : Type 0 where
+  pub first : Point
+  pub count : ℕ
+  pub last : Point
+  pub enters : Enters now input old stores first
+  pub rules : Rules home now count first last
+  pub leaves : Leaves home now last next new after
+
+-- The class of an accepted message, and the search that it is for.
+abbrev pub IsClass : Job → Input → Search → class.Class → Type 0
+IsClass j Start s c = ⊥
+IsClass j (Told via server m) s c = ((rest : List Search) × (j.searches ≡ s ∷ rest)) × (class_of (s.frame).zone s.name s.kind via m ≡ c)
+IsClass j (TimedOut server) s c = ⊥
+IsClass j (TcpFailed server) s c = ⊥
+
+-- The server whose answer, or want of one, is the input.
+abbrev pub server_of : Input → Option Addr
+server_of Start = None
+server_of (Told via server m) = Some server
+server_of (TimedOut server) = Some server
+server_of (TcpFailed server) = Some server
+
+-- What such a message may add to the stores.
+abbrev pub IsTakenEntry : Job → Input → ℕ → Key × Hit → Type 0
+IsTakenEntry j input now e = (s : Search) × (l : Link) × IsClass j input s (class.Answer l) × cache.IsKept s.name s.kind (hit_from l now) e
+
+abbrev pub IsTakenCut : Job → Input → ℕ → Name × Known → Type 0
+IsTakenCut j input now e =
+    (s : Search) × (at : Name) × (ns : List Record) × (glue : List Record) × (ttl : ℕ) × (c : Cut)
+    × IsClass j input s (class.Referral at ns glue ttl) × IsCutOf at ns glue c × referral.IsKept (cut_from c ttl now) e
+
+-- What stands where memory was wanting on the way: what was accepted may be kept or not, entries may be in
+-- another order or gone, the penalty may be written or not. Nothing else is new.
+pub record Stops (input : Input) (now : ℕ) (old : Job) (stores after : Stores) : Type 0 where
+  pub cache : KeepsOnly stores.cache (IsTakenEntry old input now) after.cache
+  pub delegations : KeepsOnly stores.delegations (IsTakenCut old input now) after.delegations
+  pub penalties :
+      (after.penalties ≡ stores.penalties)
+      ⊎ ((server : Addr) × (server_of input ≡ Some server)
+      × ((after.penalties ≡ answered server stores.penalties) ⊎ (after.penalties ≡ timed_out server stores.penalties_cap stores.penalties)))
+  pub cache_cap : after.cache_cap ≡ stores.cache_cap
+  pub delegations_cap : after.delegations_cap ≡ stores.delegations_cap
+  pub penalties_cap : after.penalties_cap ≡ stores.penalties_cap
