@@ -3,3 +3,7 @@ pub mod Plans
 pub mod Names
 pub mod Stores
 pub mod Searches
+pub mod Told
+pub mod Points
+pub mod Lower
+pub mod Chains

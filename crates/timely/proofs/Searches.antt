@@ -2,7 +2,7 @@
 use Rattle.std.proofs.Common.{◌≡◌, ℕ, zero, suc, ◌+◌, ◌-◌, ◌≤◌, ◌<◌, ◌⊎◌, inl, inr, Bool, true, false, ◌||◌, ◌&&◌, nat_le, nat_eq, Option, Some, None, List, [], ◌∷◌, ◌++◌, length, take, slice_get, Contains, refl, sym, ap, ◌∙◌, subst, arith, add-one, leb-true}
 use Rattle.std.specs.List.{list_any}
 use Rattle.std.proofs.lemmas.Bool.{cases_lt, and_parts}
-use Rattle.std.proofs.lemmas.List.Elements.{Contains-append_cases}
+use Rattle.std.proofs.lemmas.List.Elements.{Contains-append_cases, Contains-append_left, Contains-append_right}
 use Rattle.lru.proofs.Splits.{Contains-head, Contains-tail, Contains-cons, Contains-nil}
 use Rattle.dname.specs.Labels.{Name, root, same_name, is_under, IsAtOrUnder}
 use Rattle.dname.specs.Laws.{same_name-exact}
@@ -17,10 +17,10 @@ use Rattle.referral.specs.Cuts.{Cut}
 use Rattle.frames.specs.Frames.{Frame, FailedName, taken_addresses, unknown_names, opened, has_failed, is_skipped, next_place, next_name, after_name, fresh_addresses, after_add}
 use Rattle.frames.specs.Members.{AreAmong}
 use Rattle.frames.proofs.Places.{name_turn}
-use Rattle.frames.proofs.Steps.{added_kept, added_there}
 use Rattle.resolution.specs.Jobs.{Home, AreAddressesOf, Search, search_at, with_frame, marked}
 use Rattle.resolution.specs.Rules.{turned}
-use Rattle.timely.specs.Stub.{Turn, Earlier}
+use Rattle.runs.specs.States.{Turn}
+use Rattle.runs.specs.Runs.{Earlier}
 use Rattle.timely.specs.Spent.{Twice, EndsBadly, HasFailed, IsFound, HasNoAddress, IsStart, IsOver, IsOfNoUse, AreUsedUp, IsBeyond}
 use Rattle.timely.proofs.Lists.{some_is, Followed, none_followed, all_twice, taken_more}
 use Rattle.timely.proofs.Plans.{in_plan}
@@ -211,33 +211,40 @@ module _ (port : ℕ) (home : Home) (k : ℕ) (run : List Turn) where
     same_tried [] = refl
     same_tried (b ∷ more) = refl
 
-    pub adds : (set : List Record) (found : List Addr) → IsFound port home run n set → AreAddressesOf set found → IsIdle (with_frame w (after_add level w.frame (fresh_addresses w.frame found)))
-    adds set found is are = record {
+    pub kept_on : (fresh : List Addr) (a : Addr) → Contains (w.frame).addresses a → Contains (after_add level w.frame fresh).addresses a
+    kept_on [] a c = c
+    kept_on (b ∷ more) a c = Contains-append_left (w.frame).addresses (b ∷ more) a c
+
+    pub all_there : (fresh : List Addr) (a : Addr) → Contains fresh a → Contains (after_add level w.frame fresh).addresses a
+    all_there [] a c = absurd (Contains-nil a c)
+    all_there (b ∷ more) a c = Contains-append_right (w.frame).addresses (b ∷ more) a c
+
+    pub adds : (set : List Record) (found fresh : List Addr) → ((a : Addr) → Contains found a → Contains (after_add level w.frame fresh).addresses a)
+        → IsFound port home run n set → AreAddressesOf set found → IsIdle (with_frame w (after_add level w.frame fresh))
+    adds set found fresh there is are = record {
       cut = h.cut;
       stands = record {
         start = h.stands.start;
         over = h.stands.over;
         zone = same_zone fresh ∙ h.stands.zone;
         names = same_names fresh ∙ h.stands.names;
-        addresses = λ a c. kept a (h.stands.addresses a c);
+        addresses = λ a c. kept_on fresh a (h.stands.addresses a c);
       };
       settled = λ x c. settle x (taken_more h.place (w.frame).names x (subst (λ (l : List Name). Contains (take (suc h.place) l) x) (same_names fresh)
           (subst (λ (m : ℕ). Contains (take m (after_add level w.frame fresh).names) x) (same_tried fresh ∙ h.tried) c)));
       asked = added_asked fresh;
     }
       where
-        fresh : List Addr
-        fresh = fresh_addresses w.frame found
-
-        kept : (a : Addr) → Contains (w.frame).addresses a → Contains (after_add level w.frame (fresh_addresses w.frame found)).addresses a
-        kept = added_kept level w.frame found
-
         settle : (x : Name) → Contains (take h.place (w.frame).names) x ⊎ (slice_get (w.frame).names h.place ≡ Some x)
-            → IsOfNoUse port home run h.cut.owner (Contains (after_add level w.frame (fresh_addresses w.frame found)).addresses) (IsBeyond port home run k (3 - (after_add level w.frame (fresh_addresses w.frame found)).nesting)) x
-        settle x (inl d) = use_with port home run h.cut.owner (Contains (w.frame).addresses) (Contains (after_add level w.frame (fresh_addresses w.frame found)).addresses)
-            (IsBeyond port home run k (3 - (w.frame).nesting)) (IsBeyond port home run k (3 - (after_add level w.frame (fresh_addresses w.frame found)).nesting)) x kept
-            (subst (λ (d : ℕ). IsBeyond port home run k (3 - d) x) (sym (same_nesting (fresh_addresses w.frame found)))) (h.settled x d)
-        settle x (inr e) = inr (inl (set, found, subst (λ (y : Name). IsFound port home run y set) (some_is (sym h.at ∙ e)) is, are, added_there level w.frame found))
+            → IsOfNoUse port home run h.cut.owner (Contains (after_add level w.frame fresh).addresses) (IsBeyond port home run k (3 - (after_add level w.frame fresh).nesting)) x
+        settle x (inl d) = use_with port home run h.cut.owner (Contains (w.frame).addresses) (Contains (after_add level w.frame fresh).addresses)
+            (IsBeyond port home run k (3 - (w.frame).nesting)) (IsBeyond port home run k (3 - (after_add level w.frame fresh).nesting)) x (kept_on fresh)
+            (subst (λ (d : ℕ). IsBeyond port home run k (3 - d) x) (sym (same_nesting fresh))) (h.settled x d)
+        settle x (inr e) = inr (inl (set, found, subst (λ (y : Name). IsFound port home run y set) (some_is (sym h.at ∙ e)) is, are, there))
+
+    -- Its nesting, name and kind stay.
+    pub nesting_stays : (fresh : List Addr) → (after_add level w.frame fresh).nesting ≡ (w.frame).nesting
+    nesting_stays fresh = same_nesting fresh
 
   -- ---- a search with no server left
 

@@ -34,7 +34,7 @@ answering_name q t k l given (inr (inl h)) = ap (λ (x : Key). x.name) h.0
 answering_name q t k l given (inr (inr h)) = ap (λ (x : Key). x.name) h.0
 
 -- What holds of each entry under its name and type holds of a hit's.
-pub AreKept : (Name → ℕ → Hit → Type 0) → List (Key × Hit) → Type 0
+abbrev pub AreKept : (Name → ℕ → Hit → Type 0) → List (Key × Hit) → Type 0
 AreKept P es = (k : Key) (e : Hit) → Contains es (k, e) → (n : Name) × (u : ℕ) × (k ≡ key_for n u e.link) × P n u e
 
 pub record Tells (P : Name → ℕ → Hit → Type 0) (q : Name) (t now : ℕ) (h : Hit) : Type 0 where
@@ -47,7 +47,6 @@ pub record Tells (P : Name → ℕ → Hit → Type 0) (q : Name) (t now : ℕ) 
   pub since : h.since ≡ entry.since
 
 pub hit_tells : (P : Name → ℕ → Hit → Type 0) (q : Name) (t now : ℕ) (es : List (Key × Hit)) (h : Hit) → AreKept P es → hit_of (answer q t now es) ≡ Some h → Tells P q t now h
-unfolding AreKept
 hit_tells P q t now es h told is =
     let (k, e, there, lives, answers, ttl, since) = hit_held q t now es h is in
     let (n, u, key, kept) = told k e there in

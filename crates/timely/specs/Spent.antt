@@ -15,9 +15,12 @@ use Rattle.classify.specs.declared.class.Failure.{Failure}
 use Rattle.classify.specs.Lifetimes.{received}
 use Rattle.referral.specs.Cuts.{Cut}
 use Rattle.frames.specs.Frames.{taken_addresses, unknown_names}
+use Rattle.front.specs.Chains.{target_of}
 use Rattle.resolution.specs.Jobs.{Home, IsCutOf, IsRootCut, AreAddressesOf}
 use Rattle.resolution.specs.Rules.{Says}
-use Rattle.timely.specs.Stub.{Turn, Event, Tick, TcpReply, TcpFailed, Action, Query, Path, ByUdp, ByTcp, Asking, via_of, IsSent, Brings, GivesOut, Earlier, Asks}
+use Rattle.runs.specs.States.{Turn, Event, Tick, TcpReply, TcpFailed, Action, Query, Path, ByUdp, ByTcp, Asking, IsFor, via_of}
+use Rattle.runs.specs.Messages.{IsSent, Brings}
+use Rattle.runs.specs.Runs.{GivesOut, Earlier, Asks}
 
 -- Two steps of the run are so.
 abbrev pub Twice : (Turn → List Turn → Type 0) → List Turn → Type 0
@@ -28,12 +31,6 @@ Twice P run = Earlier (λ turn past. P turn past × Earlier P past) run
 abbrev pub IsUdp : Path → Type 0
 IsUdp (ByUdp sock) = Unit {0}
 IsUdp (ByTcp number) = ⊥
-
--- An ask of this server for this name and type.
-pub record IsFor (a : Addr) (n : Name) (t : ℕ) (ask : Asking) : Type 0 where
-  pub server : ask.server ≡ a
-  pub name : ask.name ≡ n
-  pub kind : ask.kind ≡ t
 
 -- This step brings a reply that was cut short to the query's open ask over UDP of that server.
 pub record IsCutShort (port k : ℕ) (a : Addr) (n : Name) (t : ℕ) (turn : Turn) (past : List Turn) : Type 0 where
@@ -50,7 +47,7 @@ pub record IsCutShort (port k : ℕ) (a : Addr) (n : Name) (t : ℕ) (turn : Tur
 abbrev pub Repeats : ℕ → ℕ → Asking → List Turn → Type 0
 Repeats port k ask [] = ⊥
 Repeats port k ask (turn ∷ past) =
-    ((turn.served ≡ Query k) × ((action : Action) × GivesOut turn.out action × IsSent port ask ask.path action) × IsCutShort port k ask.server ask.name ask.kind turn past)
+    ((turn.served ≡ Query k) × ((action : Action) × GivesOut turn.out action × IsSent port ask action) × IsCutShort port k ask.server ask.name ask.kind turn past)
     ⊎ ((turn.served ≢ Query k) × Repeats port k ask past)
 
 abbrev pub AsksBy : ℕ → ℕ → Asking → Path → List Turn → Type 0
@@ -107,6 +104,18 @@ abbrev pub HasNoAddress : ℕ → Home → List Turn → Name → Type 0
 HasNoAddress port home run n =
     ((l : Link) × Says home n a_type (local.Linked l) × IsNotFound l)
     ⊎ ((t : ℕ) × (l : Link) × Earlier (Takes port n t l) run × TellsOfNone t l)
+
+-- The name is an alias for the type t by this record: by the zones at hand, or by an answer; a CNAME that was
+-- asked for is an alias for every other type.
+abbrev pub IsAliasOf : ℕ → Home → List Turn → Name → ℕ → Record → Type 0
+IsAliasOf port home run n t r =
+    Says home n t (local.Linked (Alias r))
+    ⊎ ((v : ℕ) × (l : Link) × Earlier (Takes port n v l) run × ((l ≡ Alias r) ⊎ ((v ≡ cname_type) × ((rs : List Record) × (l ≡ Found (r ∷ rs))))))
+
+-- These aliases lead from a name to another.
+abbrev pub AreLeading : ℕ → Home → List Turn → ℕ → Name → List Record → Name → Type 0
+AreLeading port home run t from [] to = to ≡ from
+AreLeading port home run t from (r ∷ rs) to = IsAliasOf port home run from t r × AreLeading port home run t (target_of r) rs to
 
 -- ---- where a search for servers starts
 
