@@ -3,4 +3,5 @@ pub mod Forms
 pub mod Keys
 pub mod Kinds
 pub mod Laws
+pub mod Members
 pub mod Packed

@@ -1,2 +1,3 @@
 pub mod Exact
+pub mod Members
 pub mod Steps

@@ -1,12 +1,12 @@
 -- What the steps of a store of cuts leave, and which cut is found.
-use Rattle.std.proofs.Common.{◌≡◌, ◌≢◌, ℕ, zero, suc, ◌+◌, ◌-◌, ◌≤◌, ◌<◌, take, Bool, true, false, cond, nat_eq, ◌⊎◌, inl, inr, List, [], ◌∷◌, ◌++◌, length, Contains, Option, Some, None, refl, sym, ap, ◌∙◌, subst, arith, eqb-true, eq-eqb, ne_eqb, length-append}
+use Rattle.std.proofs.Common.{◌≡◌, ◌≢◌, ℕ, zero, suc, ◌≤◌, ◌<◌, take, Bool, true, false, cond, nat_eq, ◌⊎◌, inl, inr, List, [], ◌∷◌, ◌++◌, length, Contains, Option, Some, None, refl, sym, ap, ◌∙◌, subst, arith, eqb-true, eq-eqb, ne_eqb, length-append}
 use Rattle.std.specs.Map.{lookup, remove_entry}
 use Rattle.lru.specs.LruCache.{LruCache, lru_cache, put_entries, promoted}
 use Rattle.lru.proofs.CallerLemmas.{Contains-lookup, Contains-remove_entry}
-use Rattle.dname.specs.Labels.{same_name, root, parent_of, AreLabels, IsName, IsAtOrUnder}
-use Rattle.recency.specs.Orders.{kept, used, KeepsOnly, LosesOnly, HasSame, MayGo}
+use Rattle.dname.specs.Labels.{same_name, root, parent_of, IsName, IsAtOrUnder}
+use Rattle.recency.specs.Orders.{kept, KeepsOnly, LosesOnly, HasSame}
 use Rattle.recency.proofs.Kept.{put_is_kept, promoted_is_used, kept_there, kept_only, kept_gone, removed_gone, used_members}
-use Rattle.referral.specs.Cuts.{Cut, Known, is_live, live_from, live_at, under, or_else, nearest, cut_of, moved, after_keep, Lives, IsDeepest, IsBest, IsKept, IsGone}
+use Rattle.referral.specs.Cuts.{Known, is_live, live_from, live_at, under, or_else, nearest, cut_of, moved, after_keep, Lives, IsDeepest, IsBest, IsKept, IsGone}
 use Rattle.referral.proofs.Exact.{same_name_exact}
 
 abbrev Entries : Type 0
@@ -101,7 +101,7 @@ is_nearest (l ∷ ls) now es = step l ls now es (is_nearest ls now es) (live_at 
     step l ls now es above (Some k) e = nearest_here l ls now es k e
 
 -- what is found is the deepest
-cut_is_best : (q : List (List ℕ)) (now : ℕ) (es : Entries) → IsBest q now es (cut_of (nearest q now es))
+pub cut_is_best : (q : List (List ℕ)) (now : ℕ) (es : Entries) → IsBest q now es (cut_of (nearest q now es))
 unfolding IsNearest
 cut_is_best q now es = by (nearest q now es) (is_nearest q now es)
   where
@@ -146,7 +146,7 @@ pub moved_some : (c d : LruCache (List (List ℕ)) Known) (n : List (List ℕ)) 
 moved_some c d n k a found is =
     is ∙ (ap (λ es. lru_cache es c.cap) (promoted_is_used same_name same_name_exact n c.entries) ∙ ap (λ x. lru_cache (moved x c.entries) c.cap) found)
 
-moved_same : (a : Option (List (List ℕ) × Known)) (es : Entries) → HasSame es (moved a es)
+pub moved_same : (a : Option (List (List ℕ) × Known)) (es : Entries) → HasSame es (moved a es)
 moved_same None es = (λ e c. c, λ e c. c)
 moved_same (Some a) es = used_members same_name same_name_exact a.0 es
 
@@ -167,21 +167,21 @@ module _ (cap : ℕ) (k : Known) (es : Entries) where
   not_zero : nat_eq k.ttl 0 ≡ false → k.ttl ≢ 0
   not_zero e is = let same = eq-eqb k.ttl 0 is in absurd (cc)
 
-  after_only : KeepsOnly es (IsKept k) (after_keep cap k es)
+  pub after_only : KeepsOnly es (IsKept k) (after_keep cap k es)
   after_only e = by (nat_eq k.ttl 0) refl
     where
       by : (b : Bool) → nat_eq k.ttl 0 ≡ b → Contains (cond b (remove_entry (same_name (k.cut).owner) es) (kept same_name cap (k.cut).owner k es)) e → Contains es e ⊎ IsKept k e
       by true z c = inl (Contains-remove_entry (same_name (k.cut).owner) es e c)
       by false z c = elim (kept_only same_name (k.cut).owner cap k es e c) [ inl d ↦ inl d | inr is ↦ inr (is, not_zero z) ]
 
-  after_gone : LosesOnly es (IsGone cap k es) (after_keep cap k es)
+  pub after_gone : LosesOnly es (IsGone cap k es) (after_keep cap k es)
   after_gone e c = by (nat_eq k.ttl 0)
     where
       by : (b : Bool) → Contains (cond b (remove_entry (same_name (k.cut).owner) es) (kept same_name cap (k.cut).owner k es)) e ⊎ IsGone cap k es e
       by true = elim (removed_gone same_name same_name_exact (k.cut).owner es e c) [ inl d ↦ inl d | inr is ↦ inr (inl is) ]
       by false = kept_gone same_name same_name_exact (k.cut).owner cap k es e c
 
-  after_there : k.ttl ≢ 0 → Contains (after_keep cap k es) ((k.cut).owner, k)
+  pub after_there : k.ttl ≢ 0 → Contains (after_keep cap k es) ((k.cut).owner, k)
   after_there some = by (nat_eq k.ttl 0) refl
     where
       by : (b : Bool) → nat_eq k.ttl 0 ≡ b → Contains (cond b (remove_entry (same_name (k.cut).owner) es) (kept same_name cap (k.cut).owner k es)) ((k.cut).owner, k)

@@ -1,5 +1,5 @@
 -- Delegations that are kept: which servers are named for a zone and beneath it (RFC 1034, section 5.3.3).
-use Rattle.std.specs.Prelude.{◌≡◌, ◌≢◌, ℕ, ◌-◌, ◌*◌, ◌≤◌, Bool, true, cond, nat_lt, nat_eq, ◌⊎◌, Option, Some, None, List, [], ◌∷◌, length, Contains}
+use Rattle.std.specs.Prelude.{◌≡◌, ◌≢◌, ℕ, ◌-◌, ◌*◌, ◌≤◌, Bool, true, cond, nat_lt, nat_eq, Option, Some, None, List, [], ◌∷◌, length, Contains}
 use Rattle.std.specs.Map.{lookup, remove_entry}
 use Rattle.dname.specs.Labels.{same_name, IsAtOrUnder}
 use Rattle.rdata.specs.declared.addr.Addr.{Addr}

@@ -4,10 +4,12 @@
 
 mod cut;
 mod delegations;
+mod laws;
 mod lists;
 
 pub use cut::{Cut, Known};
 pub use delegations::Delegations;
+pub use laws::members_law;
 pub use lists::{Addresses, Names, ServerAddress};
 
 #[cfg(test)]

@@ -1,10 +1,10 @@
 -- What the work on one query is made of (RFC 1034, section 5.3.3): what the resolver holds, the links that
 -- were taken so far, the searches for servers that are under way, what comes in and what goes out. Moments
 -- are milliseconds, times to live seconds.
-use Rattle.std.specs.Prelude.{◌≡◌, ℕ, ◌+◌, ◌-◌, ◌*◌, ◌/◌, ◌<◌, ◌≤◌, ◌⊎◌, Bool, true, false, nat_le, min, Option, Some, None, List, [], ◌∷◌, ◌++◌, length, map, Contains}
+use Rattle.std.specs.Prelude.{◌≡◌, ℕ, ◌+◌, ◌-◌, ◌*◌, ◌/◌, ◌<◌, Bool, true, false, nat_le, min, List, [], ◌∷◌, map}
 use Rattle.std.specs.List.{flat_map}
 use Rattle.dname.specs.Labels.{Name, root}
-use Rattle.rdata.specs.Data.{Datum, Ipv4, Ns, Cname, Soa, Ptr, Mx, Txt, Ipv6}
+use Rattle.rdata.specs.Data.{Datum, Ipv4, Ns}
 use Rattle.rdata.specs.Records.{Record}
 use Rattle.rdata.specs.Sets.{with_ttl}
 use Rattle.rdata.specs.declared.addr.Addr.{Addr}

@@ -1,7 +1,7 @@
 -- The rules by which a query is resolved (RFC 1034, section 5.3.3), each as one small step over exact values:
 -- how what comes in is taken up (`Enters`), the seven rules (`Rule`), and what goes out where none of them
 -- applies (`Leaves`).
-use Rattle.std.specs.Prelude.{◌≡◌, ◌≢◌, ℕ, zero, suc, ◌+◌, ◌<◌, ◌≤◌, ◌⊎◌, true, false, Option, Some, None, List, [], ◌∷◌, ◌++◌, length, Contains}
+use Rattle.std.specs.Prelude.{◌≡◌, ◌≢◌, ℕ, zero, suc, ◌+◌, ◌<◌, ◌≤◌, ◌⊎◌, Option, Some, None, List, [], ◌∷◌, ◌++◌, length, Contains}
 use Rattle.dname.specs.Labels.{Name, IsName}
 use Rattle.rdata.specs.Records.{Record}
 use Rattle.rdata.specs.declared.addr.Addr.{Addr}
@@ -23,8 +23,8 @@ use Rattle.referral.specs.Cuts as referral
 use Rattle.cache.specs.Keys.{Key}
 use Rattle.cache.specs.Cached.{Hit, answer, hit_of, after_look, IsHeld}
 use Rattle.cache.specs.Cached as cache
-use Rattle.frames.specs.Frames.{Frame, FailedName, opened, next_name, after_name, after_add}
-use Rattle.resolution.specs.Jobs.{Home, Stores, level_of, with_answer, with_timeout, Taken, local_link, kept_link, received_link, IsDead, AreFresh, IsEnding, IsCutOf, IsRootCut, AreAddressesOf, Search, search_at, with_frame, Job, marked, Input, Start, Told, TimedOut, TcpFailed, Next, Ask, AskTcp, Done, Fail, MaySend, asked, asked_again, Task, Seek, Take, Go, Again, Point, point, hit_from, cut_from}
+use Rattle.frames.specs.Frames.{FailedName, opened, next_name, after_name, after_add, fresh_addresses}
+use Rattle.resolution.specs.Jobs.{Home, Stores, level_of, with_answer, with_timeout, Taken, local_link, kept_link, received_link, IsDead, AreFresh, IsEnding, IsCutOf, IsRootCut, AreAddressesOf, Search, search_at, with_frame, Job, marked, Input, Start, Told, TimedOut, TcpFailed, Next, Ask, AskTcp, Done, Fail, MaySend, asked, asked_again, Seek, Take, Go, Again, Point, point, hit_from, cut_from}
 
 -- ---- what is known without asking
 
@@ -76,7 +76,7 @@ pub record Misses (home : Home) (now : ℕ) (n : Name) (t : ℕ) (old : Stores) 
 pub record HearsOf (stores : Stores) (n : Name) (l : Link) (before : Search) (failed : List FailedName) (after : Search) (marks : List FailedName) : Type 0 where
   pub is :
       ((set : List Record) × (found : List Addr) × (l ≡ said.Found set) × AreAddressesOf set found
-      × (after ≡ with_frame before (after_add (level_of stores) before.frame found)) × (marks ≡ failed))
+      × (after ≡ with_frame before (after_add (level_of stores) before.frame (fresh_addresses before.frame found))) × (marks ≡ failed))
       ⊎ (((set : List Record) → l ≢ said.Found set) × (after ≡ before) × (marks ≡ marked failed n 0))
 
 -- The search after the turn of a server's name.

@@ -1,4 +1,4 @@
-use Rattle.std.proofs.Common.{◌≡◌, Some, None, sym, ap, ◌∙◌, subst}
+use Rattle.std.proofs.Common.{◌≡◌, Some, sym, ap, ◌∙◌, subst}
 use Rattle.lru.specs.LruCache.{lru_cache, promoted}
 use Rattle.dname.specs.Labels.{same_name}
 use Rattle.referral.specs.Cuts.{under, nearest, IsBest}

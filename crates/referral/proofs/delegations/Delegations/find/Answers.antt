@@ -1,4 +1,4 @@
-use Rattle.std.proofs.Common.{◌≡◌, sym, ◌∙◌}
+use Rattle.std.proofs.Common.{sym, ◌∙◌}
 use Rattle.referral.proofs.Steps.{found_here}
 use Rattle.referral.proofs.delegations.Delegations.find.Goals as goal
 

@@ -1,5 +1,4 @@
-use Rattle.std.proofs.Common.{◌≡◌, ◌∙◌, ap, take, []}
-use Rattle.lru.specs.LruCache.{lru_cache}
+use Rattle.std.proofs.Common.{◌∙◌}
 use Rattle.referral.proofs.Steps.{resized, never_zero}
 use Rattle.referral.proofs.delegations.Delegations.new.Goals as goal
 use Rattle.referral.proofs.delegations.Delegations.new.Goals.{in-Some, in_default}

@@ -1,0 +1,24 @@
+-- The laws of members that the functions of this crate state: which entries a look-up and a keep leave.
+use Rattle.std.specs.Prelude.{◌≢◌, ℕ, List, Contains}
+use Rattle.recency.specs.Orders.{KeepsOnly, LosesOnly, HasSame}
+use Rattle.referral.specs.Cuts.{Known, nearest, cut_of, after_best, after_keep, IsBest, IsKept, IsGone}
+
+-- A look-up brings nothing and takes nothing.
+abbrev pub BestKeepsMembers : Type 0
+BestKeepsMembers = (q : List (List ℕ)) (now : ℕ) (es : List (List (List ℕ) × Known)) → HasSame es (after_best q now es)
+
+-- What is new after a keep is the entry of the cut that is kept.
+abbrev pub KeepBringsOne : Type 0
+KeepBringsOne = (cap : ℕ) (k : Known) (es : List (List (List ℕ) × Known)) → KeepsOnly es (IsKept k) (after_keep cap k es)
+
+-- That entry is there, unless its TTL is 0.
+abbrev pub KeptIsThere : Type 0
+KeptIsThere = (cap : ℕ) (k : Known) (es : List (List (List ℕ) × Known)) → k.ttl ≢ 0 → Contains (after_keep cap k es) ((k.cut).owner, k)
+
+-- What goes with a keep: the old entry of the name, and what stood past the capacity.
+abbrev pub KeepLosesFew : Type 0
+KeepLosesFew = (cap : ℕ) (k : Known) (es : List (List (List ℕ) × Known)) → LosesOnly es (IsGone cap k es) (after_keep cap k es)
+
+-- What is found is the deepest cut that lives over the name.
+abbrev pub FoundIsBest : Type 0
+FoundIsBest = (q : List (List ℕ)) (now : ℕ) (es : List (List (List ℕ) × Known)) → IsBest q now es (cut_of (nearest q now es))

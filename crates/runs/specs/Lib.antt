@@ -1,0 +1,5 @@
+pub mod Laws
+pub mod Messages
+pub mod Runs
+pub mod States
+pub mod Steps
