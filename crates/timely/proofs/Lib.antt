@@ -7,3 +7,5 @@ pub mod Told
 pub mod Points
 pub mod Lower
 pub mod Chains
+pub mod Later
+pub mod Enters

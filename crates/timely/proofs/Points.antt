@@ -10,12 +10,13 @@ use Rattle.zone.specs.Look as local
 use Rattle.authority.specs.Catalogs.{IsLooked}
 use Rattle.retry.specs.Plans.{upcoming}
 use Rattle.referral.specs.Cuts.{Cut, Known, IsBest}
-use Rattle.frames.specs.Frames.{Frame, FailedName, opened, after_name, after_add}
+use Rattle.frames.specs.Frames.{Frame, FailedName, opened, after_name, fresh_addresses, after_add}
+use Rattle.frames.proofs.Steps.{added_there}
 use Rattle.resolution.specs.Jobs.{Home, Stores, level_of, Taken, IsCutOf, IsRootCut, AreAddressesOf, Search, search_at, with_frame, Job, marked, Task, Seek, Take, Go, Again, Point}
 use Rattle.resolution.specs.Rules.{Says, Finds, Begins, Misses, HearsOf, turned, IsTurnOf, IsUsedUp, Rule, takes, asks, follows, restarts, hears, descends, gives_up, Rules}
 use Rattle.runs.specs.States.{Turn}
 use Rattle.timely.specs.Spent.{HasNoAddress, IsFound, IsStart, IsOver, IsBeyond}
-use Rattle.timely.proofs.Searches.{IsIdle, IsAsking, IsWaiting, AreAround, IsMarked, AreMarked, idle_at, waits, goes_on, adds, all_there, nesting_stays, used_up, marked_up}
+use Rattle.timely.proofs.Searches.{IsIdle, IsAsking, IsWaiting, AreAround, IsMarked, AreMarked, idle_at, waits, goes_on, adds, nesting_stays, used_up, marked_up}
 use Rattle.timely.proofs.Told.{AreTold, low_level, found_told, found_set, found_none, missed_told, local_start}
 
 -- A cut that the zones at hand say is over the name.
@@ -89,9 +90,9 @@ module _ (port : ℕ) (home : Home) (k : ℕ) (run : List Turn) (Cuts : Addr →
       → IsIdle port home k run after × AreMarked port home k run marks × (after.name ≡ w.name) × (after.kind ≡ w.kind) × ((after.frame).nesting ≡ (w.frame).nesting)
   heard stores n l w after failed marks told sets nones waiting marked h = elim h.is [
     | inl (set, found, is, are, new, marks_is) ↦
-      let idle = adds port home k run (level_of stores) (low_level port home run stores told) w n waiting set found found (all_there port home k run (level_of stores) (low_level port home run stores told) w n waiting found) (sets set is) are in
+      let idle = adds port home k run (level_of stores) (low_level port home run stores told) w n waiting set found (fresh_addresses w.frame found) (added_there (level_of stores) w.frame found) (sets set is) are in
       (subst (IsIdle port home k run) (sym new) idle, subst (AreMarked port home k run) (sym marks_is) marked, ap (λ (x : Search). x.name) new, ap (λ (x : Search). x.kind) new,
-      ap (λ (x : Search). (x.frame).nesting) new ∙ nesting_stays port home k run (level_of stores) (low_level port home run stores told) w n waiting found)
+      ap (λ (x : Search). (x.frame).nesting) new ∙ nesting_stays port home k run (level_of stores) (low_level port home run stores told) w n waiting (fresh_addresses w.frame found))
     | inr (none, new, marks_is) ↦
       (subst (IsIdle port home k run) (sym new) (goes_on port home k run w n waiting (λ z. inr (inr (inl (nones none))))),
       subst (AreMarked port home k run) (sym marks_is) (more_marks failed n 0 marked (inl (nones none))), ap (λ (x : Search). x.name) new, ap (λ (x : Search). x.kind) new,

@@ -215,10 +215,6 @@ module _ (port : ℕ) (home : Home) (k : ℕ) (run : List Turn) where
     kept_on [] a c = c
     kept_on (b ∷ more) a c = Contains-append_left (w.frame).addresses (b ∷ more) a c
 
-    pub all_there : (fresh : List Addr) (a : Addr) → Contains fresh a → Contains (after_add level w.frame fresh).addresses a
-    all_there [] a c = absurd (Contains-nil a c)
-    all_there (b ∷ more) a c = Contains-append_right (w.frame).addresses (b ∷ more) a c
-
     pub adds : (set : List Record) (found fresh : List Addr) → ((a : Addr) → Contains found a → Contains (after_add level w.frame fresh).addresses a)
         → IsFound port home run n set → AreAddressesOf set found → IsIdle (with_frame w (after_add level w.frame fresh))
     adds set found fresh there is are = record {

@@ -69,5 +69,5 @@ best_from q now es e c = (delegations.moved_members (lru_cache es 0) (lru_cache 
 pub best_to : (q : Name) (now : ℕ) (es : List (Name × Known)) (e : Name × Known) → Contains es e → Contains (cuts.after_best q now es) e
 best_to q now es e c = (delegations.moved_members (lru_cache es 0) (lru_cache (cuts.after_best q now es) 0) (cuts.nearest q now es) refl).1 e c
 
-pub cut_from : (cap : ℕ) (k : Known) (es : List (Name × Known)) (e : Name × Known) → Contains (cuts.after_keep cap k es) e → Contains es e ⊎ cuts.IsKept k e
-cut_from cap k es e c = delegations.keep_only (lru_cache es cap) (lru_cache (cuts.after_keep cap k es) cap) k refl e c
+pub cut_kept_from : (cap : ℕ) (k : Known) (es : List (Name × Known)) (e : Name × Known) → Contains (cuts.after_keep cap k es) e → Contains es e ⊎ cuts.IsKept k e
+cut_kept_from cap k es e c = delegations.keep_only (lru_cache es cap) (lru_cache (cuts.after_keep cap k es) cap) k refl e c
