@@ -17,7 +17,7 @@ module _ (port : ℕ) (home : Home) (run : List Turn) (t : ℕ) where
   LeadsOn from [] to = to ≡ from
   LeadsOn from (l ∷ ls) to = (l.name ≡ from) × ((r : Record) × (l.link ≡ Alias r) × IsAliasOf port home run from t r × LeadsOn (target_of r) ls to)
 
-  leads_more : (from : Name) (chain : List Taken) (to : Name) (l : Taken) (r : Record) → LeadsOn from chain to → l.name ≡ to → l.link ≡ Alias r → IsAliasOf port home run to t r
+  pub leads_more : (from : Name) (chain : List Taken) (to : Name) (l : Taken) (r : Record) → LeadsOn from chain to → l.name ≡ to → l.link ≡ Alias r → IsAliasOf port home run to t r
       → LeadsOn from (chain ++ l ∷ []) (target_of r)
   leads_more from [] to l r h name is alias = (name ∙ h, (r, is, subst (λ (n : Name). IsAliasOf port home run n t r) h alias, refl))
   leads_more from (x ∷ xs) to l r (n, (q, e, a, more)) name is alias = (n, (q, e, a, leads_more (target_of q) xs to l r more name is alias))

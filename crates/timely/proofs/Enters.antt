@@ -21,7 +21,8 @@ use Rattle.cache.specs.Keys.{Key, key_for}
 use Rattle.cache.specs.Cached.{Hit, IsKept}
 use Rattle.frames.specs.Frames.{FailedName, opened}
 use Rattle.resolution.specs.Jobs.{Home, Stores, level_of, with_answer, with_timeout, Taken, received_link, IsCutOf, Search, search_at, with_frame, Job, Input, Start, Told, TimedOut, TcpFailed, Task, Seek, Take, Go, Again, Point, point, hit_from, cut_from}
-use Rattle.resolution.specs.Rules.{HearsOf, Learnt, IsAnswered, IsReferred, ByClass, Enters}
+use Rattle.retry.specs.Penalties.{AreAtMost, answered, timed_out}
+use Rattle.resolution.specs.Rules.{HearsOf, Learnt, IsAnswered, IsReferred, ByClass, Enters, server_of, IsTakenEntry, IsTakenCut, Stops}
 use Rattle.runs.specs.States.{Turn, Event, Client, Datagram, TcpReply, Tick, Query, Path, ByUdp, ByTcp, Asking, IsFor, via_of}
 use Rattle.runs.specs.States as states
 use Rattle.runs.specs.Messages.{Brings}
@@ -94,7 +95,7 @@ module _ (port : ℕ) (home : Home) (k : ℕ) (turn : Turn) (past : List Turn) (
       taken_now : (l : Link) → class_of (s.frame).zone s.name s.kind (via_of ask.path) m ≡ class.Answer l → Takes port s.name s.kind (received l) turn past
       taken_now l is = (k, ask, m, l, served, asked, top.1, top.2, brings, of_root (s.frame).zone s.name s.kind (via_of ask.path) m l (brought_ends port ask turn.event m brings) is, refl)
 
-      fresh_entry : (l : Link) → class_of (s.frame).zone s.name s.kind (via_of ask.path) m ≡ class.Answer l → (x : Key × Hit) → IsKept s.name s.kind (hit_from l now) x
+      pub fresh_entry : (l : Link) → class_of (s.frame).zone s.name s.kind (via_of ask.path) m ≡ class.Answer l → (x : Key × Hit) → IsKept s.name s.kind (hit_from l now) x
           → (n : Name) × (u : ℕ) × (x.0 ≡ key_for n u (x.1).link) × Earlier (Takes port n u (x.1).link) (turn ∷ past)
       fresh_entry l is x new =
           let hit : x.1 ≡ hit_from l now = ap (λ y. y.1) new.0 in
@@ -130,7 +131,14 @@ module _ (port : ℕ) (home : Home) (k : ℕ) (turn : Turn) (past : List Turn) (
               (waiting_later port home turn past k o s.name waiting) (around_later port home turn past k j.name j.kind o.name o.kind (o.frame).nesting os further) marks_now hears_of task job
 
       -- A referral.
-      fresh_cut : (c : Cut) (ttl : ℕ) → IsStart port home (turn ∷ past) c → (x : Name × Known) → referral.IsKept (cut_from c ttl now) x → (x.0 ≡ ((x.1).cut).owner) × IsStart port home (turn ∷ past) (x.1).cut
+      pub referred_start : (at : Name) (ns glue : List Record) (ttl : ℕ) (c : Cut) → class_of (s.frame).zone s.name s.kind (via_of ask.path) m ≡ class.Referral at ns glue ttl → IsCutOf at ns glue c → IsStart port home (turn ∷ past) c
+      referred_start at ns glue ttl c is is_cut =
+          inr ((top.0).cut, (top.0).stands.start, (k, ask, m, at, ns, glue, ttl, served, asked, brings,
+          subst (λ (n : Name). class_of (top.0).cut.owner n ask.kind (via_of ask.path) m ≡ class.Referral at ns glue ttl) (sym top.1)
+          (subst (λ (t : ℕ). class_of (top.0).cut.owner s.name t (via_of ask.path) m ≡ class.Referral at ns glue ttl) (sym top.2)
+          (subst (λ (z : Name). class_of z s.name s.kind (via_of ask.path) m ≡ class.Referral at ns glue ttl) (top.0).stands.zone is)), is_cut))
+
+      pub fresh_cut : (c : Cut) (ttl : ℕ) → IsStart port home (turn ∷ past) c → (x : Name × Known) → referral.IsKept (cut_from c ttl now) x → (x.0 ≡ ((x.1).cut).owner) × IsStart port home (turn ∷ past) (x.1).cut
       fresh_cut c ttl start x new =
           let kept : x.1 ≡ cut_from c ttl now = ap (λ y. y.1) new.0 in
           (ap (λ y. y.0) new.0 ∙ ap (λ (y : Known). (y.cut).owner) (sym kept), subst (λ (y : Known). IsStart port home (turn ∷ past) y.cut) (sym kept) start)
@@ -138,11 +146,7 @@ module _ (port : ℕ) (home : Home) (k : ℕ) (turn : Turn) (past : List Turn) (
       pub referral_enters : (at : Name) (ns glue : List Record) (ttl : ℕ) → class_of (s.frame).zone s.name s.kind (via_of ask.path) m ≡ class.Referral at ns glue ttl
           → IsReferred now s rest at ns glue ttl j stores p → Sound p
       referral_enters at ns glue ttl is h =
-          let start : IsStart port home (turn ∷ past) h.cut =
-          inr ((top.0).cut, (top.0).stands.start, (k, ask, m, at, ns, glue, ttl, served, asked, brings,
-          subst (λ (n : Name). class_of (top.0).cut.owner n ask.kind (via_of ask.path) m ≡ class.Referral at ns glue ttl) (sym top.1)
-          (subst (λ (t : ℕ). class_of (top.0).cut.owner s.name t (via_of ask.path) m ≡ class.Referral at ns glue ttl) (sym top.2)
-          (subst (λ (z : Name). class_of z s.name s.kind (via_of ask.path) m ≡ class.Referral at ns glue ttl) (top.0).stands.zone is)), h.is_cut)) in
+          let start = referred_start at ns glue ttl h.cut is h.is_cut in
           let over : IsOver h.cut s.name = inr (subst (IsAtOrUnder s.name) (sym h.is_cut.owner) ((referral_read (s.frame).zone s.name s.kind m (via_of ask.path) at ns glue ttl is).0.over)) in
           put_now p Go _ h.task h.job (subst (AreTold port home (turn ∷ past)) (sym h.stored) (record {
             links = (told_later port home turn past stores told).links;
@@ -228,3 +232,43 @@ module _ (port : ℕ) (home : Home) (k : ℕ) (turn : Turn) (past : List Turn) (
       with_top (Sound p) j top (λ s rest searches h around. goes_further s rest now j (with_timeout stores server) p (timed_told past stores server told) marks h around (λ c zone. bad c.owner) searches e)
   enters_sound now (TcpFailed server) j stores p told marks top (server_is, bad) e =
       with_top (Sound p) j top (λ s rest searches h around. goes_further s rest now j (with_timeout stores server) p (timed_told past stores server told) marks h around (λ c zone. bad c.owner) searches e)
+
+  -- ---- what the stores hold where memory was wanting on the way
+
+  stopped_penalties : (input : Input) (stores : Stores) (low : AreAtMost 8 stores.penalties) (new : List (Addr × ℕ))
+      → (new ≡ stores.penalties) ⊎ ((server : Addr) × (server_of input ≡ Some server) × ((new ≡ answered server stores.penalties) ⊎ (new ≡ timed_out server stores.penalties_cap stores.penalties))) → AreAtMost 8 new
+  stopped_penalties input stores low new (inl e) = subst (AreAtMost 8) (sym e) low
+  stopped_penalties input stores low new (inr (server, is, inl e)) = subst (AreAtMost 8) (sym e) (answered_low server stores.penalties low)
+  stopped_penalties input stores low new (inr (server, is, inr e)) = subst (AreAtMost 8) (sym e) (timed_out_low server stores.penalties_cap stores.penalties low)
+
+  module _ (now : ℕ) (j : Job) (stores : Stores) (told : AreTold port home past stores) (marks : AreMarked port home k past j.failed)
+      (top : OnTop port home k past CutNow j.name j.kind j.searches IsAskingAs) where
+    taken_entry : (input : Input) → IsInputNow input → (x : Key × Hit) → IsTakenEntry j input now x → (n : Name) × (u : ℕ) × (x.0 ≡ key_for n u (x.1).link) × Earlier (Takes port n u (x.1).link) (turn ∷ past)
+    taken_entry Start is x (s, l, c, kept) = absurd c
+    taken_entry (Told way server m) (via_is, server_is, brings) x (s, l, ((rest, searches), is), kept) =
+        let h = subst (λ (l : List Search). OnTop port home k past CutNow j.name j.kind l IsAskingAs) searches top in
+        fresh_entry s rest now j stores (point Go j stores) told marks h.0 h.1 m brings l (subst (λ (w : Via). class_of (s.frame).zone s.name s.kind w m ≡ class.Answer l) via_is is) x kept
+    taken_entry (TimedOut server) is x (s, l, c, kept) = absurd c
+    taken_entry (TcpFailed server) is x (s, l, c, kept) = absurd c
+
+    taken_cut : (input : Input) → IsInputNow input → (x : Name × Known) → IsTakenCut j input now x → (x.0 ≡ ((x.1).cut).owner) × IsStart port home (turn ∷ past) (x.1).cut
+    taken_cut Start is x (s, at, ns, glue, ttl, c, none, is_cut, kept) = absurd none
+    taken_cut (Told way server m) (via_is, server_is, brings) x (s, at, ns, glue, ttl, c, ((rest, searches), is), is_cut, kept) =
+        let h = subst (λ (l : List Search). OnTop port home k past CutNow j.name j.kind l IsAskingAs) searches top in
+        let class_is = subst (λ (w : Via). class_of (s.frame).zone s.name s.kind w m ≡ class.Referral at ns glue ttl) via_is is in
+        fresh_cut s rest now j stores (point Go j stores) told marks h.0 h.1 m brings c ttl (referred_start s rest now j stores (point Go j stores) told marks h.0 h.1 m brings at ns glue ttl c class_is is_cut) x kept
+    taken_cut (TimedOut server) is x (s, at, ns, glue, ttl, c, none, is_cut, kept) = absurd none
+    taken_cut (TcpFailed server) is x (s, at, ns, glue, ttl, c, none, is_cut, kept) = absurd none
+
+    pub stops_told : (input : Input) (after : Stores) → IsInputNow input → Stops input now j stores after → AreTold port home (turn ∷ past) after
+    stops_told input after is h = record {
+      links = λ key e c. elim (h.cache (key, e) c) [
+        | inl d ↦ (told_later port home turn past stores told).links key e d
+        | inr new ↦ taken_entry input is (key, e) new
+      ];
+      cuts = λ n e c. elim (h.delegations (n, e) c) [
+        | inl d ↦ (told_later port home turn past stores told).cuts n e d
+        | inr new ↦ taken_cut input is (n, e) new
+      ];
+      low = stopped_penalties input stores told.low after.penalties h.penalties;
+    }

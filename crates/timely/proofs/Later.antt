@@ -8,14 +8,16 @@ use Rattle.zone.specs.Links.{Link, Found, Alias}
 use Rattle.front.specs.Chains.{target_of}
 use Rattle.referral.specs.Cuts.{Cut}
 use Rattle.frames.specs.Frames.{FailedName}
-use Rattle.resolution.specs.Jobs.{Home, Stores, Taken, Search}
+use Rattle.resolution.specs.Jobs.{Home, Stores, Taken, Search, Job}
 use Rattle.runs.specs.States.{Turn}
 use Rattle.runs.specs.Runs.{Earlier}
 use Rattle.timely.specs.Spent.{Takes, EndsBadly, HasFailed, IsFound, HasNoAddress, IsAliasOf, IsStart, IsOfNoUse, AreUsedUp, IsBeyond}
 use Rattle.timely.proofs.Lists.{wider_followed}
 use Rattle.timely.proofs.Searches.{use_with, Stands, AreSettled, AreAsked, IsAsking, IsWaiting, AreAround, IsMarked, AreMarked}
 use Rattle.timely.proofs.Told.{AreTold}
+use Rattle.timely.proofs.Points.{OnTop}
 use Rattle.timely.proofs.Chains.{LeadsOn}
+use Rattle.timely.proofs.Leaving.{IsWaitingFor}
 
 module _ (port : ℕ) (home : Home) (turn : Turn) (past : List Turn) where
   found_later : (n : Name) (set : List Record) → IsFound port home past n set → IsFound port home (turn ∷ past) n set
@@ -97,3 +99,18 @@ module _ (port : ℕ) (home : Home) (turn : Turn) (past : List Turn) where
 
     pub marks_later : (fs : List FailedName) → AreMarked port home k past fs → AreMarked port home k (turn ∷ past) fs
     marks_later fs h f c = marked_later f (h f c)
+
+  -- An open query's work.
+  pub work_later : (k t : ℕ) (from : Name) (server : Addr) (n : Name) (u : ℕ) (j : Job) → IsWaitingFor port home past k t from server n u j → IsWaitingFor port home (turn ∷ past) k t from server n u j
+  work_later k t from server n u j h = record {
+    top = by j.searches h.top;
+    marks = marks_later k j.failed h.marks;
+    kind = h.kind;
+    leads = leads_later t from j.chain j.name h.leads;
+    few = h.few;
+  }
+    where
+      by : (l : List Search) → OnTop port home k past (λ a n t. Unit {0}) j.name j.kind l (λ s. IsAsking port home k past s server × (n ≡ s.name) × (u ≡ s.kind))
+          → OnTop port home k (turn ∷ past) (λ a n t. Unit {0}) j.name j.kind l (λ s. IsAsking port home k (turn ∷ past) s server × (n ≡ s.name) × (u ≡ s.kind))
+      by [] h = absurd h
+      by (s ∷ rest) ((asking, name, kind), around) = ((asking_later k s server asking, name, kind), around_later k j.name j.kind s.name s.kind (s.frame).nesting rest around)

@@ -9,3 +9,4 @@ pub mod Lower
 pub mod Chains
 pub mod Later
 pub mod Enters
+pub mod Leaving
