@@ -92,7 +92,7 @@ module _ (port : ℕ) (home : Home) (k : ℕ) (turn : Turn) (past : List Turn) (
 
     module _ (m : Message) (brings : Brings port ask turn.event m) where
       -- An answer.
-      taken_now : (l : Link) → class_of (s.frame).zone s.name s.kind (via_of ask.path) m ≡ class.Answer l → Takes port s.name s.kind (received l) turn past
+      pub taken_now : (l : Link) → class_of (s.frame).zone s.name s.kind (via_of ask.path) m ≡ class.Answer l → Takes port s.name s.kind (received l) turn past
       taken_now l is = (k, ask, m, l, served, asked, top.1, top.2, brings, of_root (s.frame).zone s.name s.kind (via_of ask.path) m l (brought_ends port ask turn.event m brings) is, refl)
 
       pub fresh_entry : (l : Link) → class_of (s.frame).zone s.name s.kind (via_of ask.path) m ≡ class.Answer l → (x : Key × Hit) → IsKept s.name s.kind (hit_from l now) x

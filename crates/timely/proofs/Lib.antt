@@ -10,3 +10,4 @@ pub mod Chains
 pub mod Later
 pub mod Enters
 pub mod Leaving
+pub mod States
