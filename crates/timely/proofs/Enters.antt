@@ -51,8 +51,8 @@ module _ (port : ℕ) (home : Home) (k : ℕ) (turn : Turn) (past : List Turn) (
       let ended : EndsBadly port k h.cut.owner s.name s.kind ask.server turn past = (ask, served, asked, record { server = refl; name = name; kind = kind }, bad h.cut h.stands.zone) in
       let later = asked_later port home turn past k s h.cut h.ended h.asked in
       let more = more_followed (λ a. Earlier (EndsBadly port k h.cut.owner s.name s.kind a) past) (λ a. HasFailed port past k h.cut.owner s.name s.kind a)
-          (λ a. Earlier (EndsBadly port k h.cut.owner s.name s.kind a) (turn ∷ past)) (λ a. HasFailed port (turn ∷ past) k h.cut.owner s.name s.kind a)
-          ((s.frame).plan).order h.ended ask.server h.at (λ a e. inr e) (λ a e. inr e) (inl ended) (λ e. inl (ended, e)) h.asked.followed in
+      (λ a. Earlier (EndsBadly port k h.cut.owner s.name s.kind a) (turn ∷ past)) (λ a. HasFailed port (turn ∷ past) k h.cut.owner s.name s.kind a)
+      ((s.frame).plan).order h.ended ask.server h.at (λ a e. inr e) (λ a e. inr e) (inl ended) (λ e. inl (ended, e)) h.asked.followed in
       record {
         cut = h.cut;
         stands = stands_later port home turn past k s h.cut h.stands;
@@ -133,10 +133,26 @@ module _ (port : ℕ) (home : Home) (k : ℕ) (turn : Turn) (past : List Turn) (
       -- A referral.
       pub referred_start : (at : Name) (ns glue : List Record) (ttl : ℕ) (c : Cut) → class_of (s.frame).zone s.name s.kind (via_of ask.path) m ≡ class.Referral at ns glue ttl → IsCutOf at ns glue c → IsStart port home (turn ∷ past) c
       referred_start at ns glue ttl c is is_cut =
-          inr ((top.0).cut, (top.0).stands.start, (k, ask, m, at, ns, glue, ttl, served, asked, brings,
-          subst (λ (n : Name). class_of (top.0).cut.owner n ask.kind (via_of ask.path) m ≡ class.Referral at ns glue ttl) (sym top.1)
-          (subst (λ (t : ℕ). class_of (top.0).cut.owner s.name t (via_of ask.path) m ≡ class.Referral at ns glue ttl) (sym top.2)
-          (subst (λ (z : Name). class_of z s.name s.kind (via_of ask.path) m ≡ class.Referral at ns glue ttl) (top.0).stands.zone is)), is_cut))
+          inr (
+            (top.0).cut,
+            (top.0).stands.start,
+            (
+              k,
+              ask,
+              m,
+              at,
+              ns,
+              glue,
+              ttl,
+              served,
+              asked,
+              brings,
+              subst (λ (n : Name). class_of (top.0).cut.owner n ask.kind (via_of ask.path) m ≡ class.Referral at ns glue ttl) (sym top.1)
+                  (subst (λ (t : ℕ). class_of (top.0).cut.owner s.name t (via_of ask.path) m ≡ class.Referral at ns glue ttl) (sym top.2)
+                  (subst (λ (z : Name). class_of z s.name s.kind (via_of ask.path) m ≡ class.Referral at ns glue ttl) (top.0).stands.zone is)),
+              is_cut,
+            ),
+          )
 
       pub fresh_cut : (c : Cut) (ttl : ℕ) → IsStart port home (turn ∷ past) c → (x : Name × Known) → referral.IsKept (cut_from c ttl now) x → (x.0 ≡ ((x.1).cut).owner) × IsStart port home (turn ∷ past) (x.1).cut
       fresh_cut c ttl start x new =
@@ -166,8 +182,10 @@ module _ (port : ℕ) (home : Home) (k : ℕ) (turn : Turn) (past : List Turn) (
           subst Sound (sym e) (record {
             told = told_later port home turn past stores told;
             marks = marks_now;
-            stands = subst (λ (l : List Search). OnTop port home k (turn ∷ past) CutNow j.name j.kind l (λ s. IsAsking port home k (turn ∷ past) s ask.server × CutNow ask.server s.name s.kind)) (sym searches)
-                ((asking_later port home turn past k s ask.server top.0, record {
+            stands = subst (λ (l : List Search). OnTop port home k (turn ∷ past) CutNow j.name j.kind l (λ s. IsAsking port home k (turn ∷ past) s ask.server × CutNow ask.server s.name s.kind)) (sym searches) (
+              (
+                asking_later port home turn past k s ask.server top.0,
+                record {
                   ask = ask;
                   udp = path;
                   asked = open_udp ask.path path asked;
@@ -175,7 +193,10 @@ module _ (port : ℕ) (home : Home) (k : ℕ) (turn : Turn) (past : List Turn) (
                   message = m;
                   brings = brings;
                   cut = udp.1;
-                }), around_now);
+                },
+              ),
+              around_now,
+            );
           })
         where
           udp_of : (path : Path) → via_of path ≡ via.Udp → IsUdp path
@@ -190,10 +211,14 @@ module _ (port : ℕ) (home : Home) (k : ℕ) (turn : Turn) (past : List Turn) (
       class_enters (class.Answer l) is searches h = answer_enters l is h
       class_enters (class.Referral at ns glue ttl) is searches h = referral_enters at ns glue ttl is h
       class_enters class.Cut is searches h = cut_enters is searches h
-      class_enters (class.Failed f) is searches h = goes_further (λ c zone. inr (inr (m, f, brings,
-          subst (λ (n : Name). class_of c.owner n ask.kind (via_of ask.path) m ≡ class.Failed f) (sym top.1)
-          (subst (λ (t : ℕ). class_of c.owner s.name t (via_of ask.path) m ≡ class.Failed f) (sym top.2)
-          (subst (λ (z : Name). class_of z s.name s.kind (via_of ask.path) m ≡ class.Failed f) zone is))))) searches h
+      class_enters (class.Failed f) is searches h = goes_further (λ c zone. inr (inr (
+        m,
+        f,
+        brings,
+        subst (λ (n : Name). class_of c.owner n ask.kind (via_of ask.path) m ≡ class.Failed f) (sym top.1)
+            (subst (λ (t : ℕ). class_of c.owner s.name t (via_of ask.path) m ≡ class.Failed f) (sym top.2)
+            (subst (λ (z : Name). class_of z s.name s.kind (via_of ask.path) m ≡ class.Failed f) zone is)),
+      ))) searches h
 
   -- What the event is for this ask.
   abbrev pub IsInputNow : Input → Type 0
@@ -223,10 +248,10 @@ module _ (port : ℕ) (home : Home) (k : ℕ) (turn : Turn) (past : List Turn) (
   enters_sound now (Told way server m) j stores p told marks top (via_is, server_is, brings) e = elim e [
     | inl (none, at) ↦ absurd (subst (λ (l : List Search). OnTop port home k past CutNow j.name j.kind l IsAskingAs) none top)
     | inr (s, rest, searches, by) ↦
-      let h = subst (λ (l : List Search). OnTop port home k past CutNow j.name j.kind l IsAskingAs) searches top in
-      class_enters s rest now j (with_answer stores server) p (answered_told past stores server told) marks h.0 h.1 m brings (class_of (s.frame).zone s.name s.kind (via_of ask.path) m) refl searches
-      (subst (λ (w : Via). ByClass now ask.server s rest (class_of (s.frame).zone s.name s.kind w m) j (with_answer stores server) p) via_is
-      (subst (λ (a : Addr). ByClass now a s rest (class_of (s.frame).zone s.name s.kind way m) j (with_answer stores server) p) server_is by))
+        let h = subst (λ (l : List Search). OnTop port home k past CutNow j.name j.kind l IsAskingAs) searches top in
+        class_enters s rest now j (with_answer stores server) p (answered_told past stores server told) marks h.0 h.1 m brings (class_of (s.frame).zone s.name s.kind (via_of ask.path) m) refl searches
+        (subst (λ (w : Via). ByClass now ask.server s rest (class_of (s.frame).zone s.name s.kind w m) j (with_answer stores server) p) via_is
+        (subst (λ (a : Addr). ByClass now a s rest (class_of (s.frame).zone s.name s.kind way m) j (with_answer stores server) p) server_is by))
   ]
   enters_sound now (TimedOut server) j stores p told marks top (server_is, bad) e =
       with_top (Sound p) j top (λ s rest searches h around. goes_further s rest now j (with_timeout stores server) p (timed_told past stores server told) marks h around (λ c zone. bad c.owner) searches e)

@@ -80,12 +80,24 @@ module _ (port : ℕ) (home : Home) (turn : Turn) (past : List Turn) where
 
     pub asking_later : (s : Search) (a : Addr) → IsAsking port home k past s a → IsAsking port home k (turn ∷ past) s a
     asking_later s a h = record {
-      cut = h.cut; ended = h.ended; stands = stands_later s h.cut h.stands; settled = settled_later s h.cut (s.frame).tried h.settled; given = h.given; at = h.at; asked = asked_later s h.cut h.ended h.asked;
+      cut = h.cut;
+      ended = h.ended;
+      stands = stands_later s h.cut h.stands;
+      settled = settled_later s h.cut (s.frame).tried h.settled;
+      given = h.given;
+      at = h.at;
+      asked = asked_later s h.cut h.ended h.asked;
     }
 
     pub waiting_later : (s : Search) (x : Name) → IsWaiting port home k past s x → IsWaiting port home k (turn ∷ past) s x
     waiting_later s x h = record {
-      cut = h.cut; place = h.place; stands = stands_later s h.cut h.stands; tried = h.tried; at = h.at; settled = settled_later s h.cut h.place h.settled; asked_all = h.asked_all;
+      cut = h.cut;
+      place = h.place;
+      stands = stands_later s h.cut h.stands;
+      tried = h.tried;
+      at = h.at;
+      settled = settled_later s h.cut h.place h.settled;
+      asked_all = h.asked_all;
       asked = asked_later s h.cut ((s.frame).plan).given h.asked;
     }
 

@@ -79,11 +79,18 @@ module _ (port : ℕ) (home : Home) (run : List Turn) (k : ℕ) (t : ℕ) (from 
       let (idle, (name, kind, depth)) = at_go p sound te s [] up.searches in
       let (c, used) = used_up port home k run (p.job).failed s sound.marks idle up.asked_all up.none_left in
       let (rs, len, leads) = led port home run t from (p.job).chain (p.job).name reached.leads in
-      let few : length rs ≤ 8 = subst (λ (m : ℕ). m ≤ 8) (sym len) reached.few in
-      ((p.job).name, rs, few, leads, (c,
-      subst (λ (n : Name). AreUsedUp port home run k n t (IsBeyond port home run k 3) c) name
-      (subst (λ (u : ℕ). AreUsedUp port home run k s.name u (IsBeyond port home run k 3) c) (kind ∙ reached.kind)
-      (subst (λ (d : ℕ). AreUsedUp port home run k s.name s.kind (IsBeyond port home run k (3 - d)) c) depth used))))
+      let few : length rs ≤ 8 = subst (λ (m : ℕ). m ≤ 8) (sym len) reached.few in (
+        (p.job).name,
+        rs,
+        few,
+        leads,
+        (
+          c,
+          subst (λ (n : Name). AreUsedUp port home run k n t (IsBeyond port home run k 3) c) name
+              (subst (λ (u : ℕ). AreUsedUp port home run k s.name u (IsBeyond port home run k 3) c) (kind ∙ reached.kind)
+              (subst (λ (d : ℕ). AreUsedUp port home run k s.name s.kind (IsBeyond port home run k (3 - d)) c) depth used)),
+        ),
+      )
 
   -- A ninth alias.
   all_long : (p : Point) (l : Taken) (r : Record) → IsReached port home run t from p.task p.job → p.task ≡ Take l → l.link ≡ Alias r → 8 ≤ length (p.job).chain → EndsLong port home run k t from
@@ -102,24 +109,31 @@ module _ (port : ℕ) (home : Home) (run : List Turn) (k : ℕ) (t : ℕ) (from 
   pub leaves_tell : (now : ℕ) (p : Point) (next : Next) (job : Job) (stores : Stores) → IsSound port home k run Cuts p → IsReached port home run t from p.task p.job → Leaves home now p next job stores
       → GoesOut next job × AreTold port home run stores
   leaves_tell now p next job stores sound reached (sends server s rest due may is to same) =
-      let (idle, around) = at_go p sound due.task s rest due.searches in
-      (subst (λ (x : Next). GoesOut x job) (sym is) (record {
-        top = subst (λ (x : Job). OnTop port home k run Cuts x.name x.kind x.searches (λ z. IsAsking port home k run z server × (s.name ≡ z.name) × (s.kind ≡ z.kind))) (sym to) ((asks_next s server idle due.next, refl, refl), around);
-        marks = subst (λ (x : Job). AreMarked port home k run x.failed) (sym to) sound.marks;
-        kind = ap (λ (x : Job). x.kind) to ∙ reached.kind;
-        leads = subst (λ (x : Job). LeadsOn port home run t from x.chain x.name) (sym to) reached.leads;
-        few = subst (λ (x : Job). length x.chain ≤ 8) (sym to) reached.few;
-      }), subst (AreTold port home run) (sym same) sound.told)
+      let (idle, around) = at_go p sound due.task s rest due.searches in (
+        subst (λ (x : Next). GoesOut x job) (sym is) (record {
+          top = subst (λ (x : Job). OnTop port home k run Cuts x.name x.kind x.searches (λ z. IsAsking port home k run z server × (s.name ≡ z.name) × (s.kind ≡ z.kind))) (sym to) ((asks_next s server idle due.next, refl, refl), around);
+          marks = subst (λ (x : Job). AreMarked port home k run x.failed) (sym to) sound.marks;
+          kind = ap (λ (x : Job). x.kind) to ∙ reached.kind;
+          leads = subst (λ (x : Job). LeadsOn port home run t from x.chain x.name) (sym to) reached.leads;
+          few = subst (λ (x : Job). length x.chain ≤ 8) (sym to) reached.few;
+        }),
+        subst (AreTold port home run) (sym same) sound.told,
+      )
   leaves_tell now p next job stores sound reached (sends_again server s rest due may is to same) =
-      let (asking, around) = at_again p server sound due.task s rest due.searches in
-      (subst (λ (x : Next). GoesOut x job) (sym is) (record {
-        top = subst (λ (x : Job). OnTop port home k run Cuts x.name x.kind x.searches (λ z. IsAsking port home k run z server × (s.name ≡ z.name) × (s.kind ≡ z.kind))) (sym to)
-            (subst (λ (l : List Search). OnTop port home k run Cuts (p.job).name (p.job).kind l (λ z. IsAsking port home k run z server × (s.name ≡ z.name) × (s.kind ≡ z.kind))) (sym due.searches) ((asking.0, refl, refl), around));
-        marks = subst (λ (x : Job). AreMarked port home k run x.failed) (sym to) sound.marks;
-        kind = ap (λ (x : Job). x.kind) to ∙ reached.kind;
-        leads = subst (λ (x : Job). LeadsOn port home run t from x.chain x.name) (sym to) reached.leads;
-        few = subst (λ (x : Job). length x.chain ≤ 8) (sym to) reached.few;
-      }, asking.1), subst (AreTold port home run) (sym same) sound.told)
+      let (asking, around) = at_again p server sound due.task s rest due.searches in (
+        subst (λ (x : Next). GoesOut x job) (sym is) (
+          record {
+            top = subst (λ (x : Job). OnTop port home k run Cuts x.name x.kind x.searches (λ z. IsAsking port home k run z server × (s.name ≡ z.name) × (s.kind ≡ z.kind))) (sym to)
+                (subst (λ (l : List Search). OnTop port home k run Cuts (p.job).name (p.job).kind l (λ z. IsAsking port home k run z server × (s.name ≡ z.name) × (s.kind ≡ z.kind))) (sym due.searches) ((asking.0, refl, refl), around));
+            marks = subst (λ (x : Job). AreMarked port home k run x.failed) (sym to) sound.marks;
+            kind = ap (λ (x : Job). x.kind) to ∙ reached.kind;
+            leads = subst (λ (x : Job). LeadsOn port home run t from x.chain x.name) (sym to) reached.leads;
+            few = subst (λ (x : Job). length x.chain ≤ 8) (sym to) reached.few;
+          },
+          asking.1,
+        ),
+        subst (AreTold port home run) (sym same) sound.told,
+      )
   leaves_tell now p next job stores sound reached (refuses c server s rest due may is same) =
       (subst (λ (x : Next). GoesOut x job) (sym is) (refused now p.job c may), subst (AreTold port home run) (sym same) sound.told)
   leaves_tell now p next job stores sound reached (spent s te up is same) =

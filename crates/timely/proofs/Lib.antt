@@ -11,3 +11,4 @@ pub mod Later
 pub mod Enters
 pub mod Leaving
 pub mod States
+pub mod Turns

@@ -90,13 +90,20 @@ module _ (port : ℕ) (home : Home) (k : ℕ) (run : List Turn) (Cuts : Addr →
       → IsIdle port home k run after × AreMarked port home k run marks × (after.name ≡ w.name) × (after.kind ≡ w.kind) × ((after.frame).nesting ≡ (w.frame).nesting)
   heard stores n l w after failed marks told sets nones waiting marked h = elim h.is [
     | inl (set, found, is, are, new, marks_is) ↦
-      let idle = adds port home k run (level_of stores) (low_level port home run stores told) w n waiting set found (fresh_addresses w.frame found) (added_there (level_of stores) w.frame found) (sets set is) are in
-      (subst (IsIdle port home k run) (sym new) idle, subst (AreMarked port home k run) (sym marks_is) marked, ap (λ (x : Search). x.name) new, ap (λ (x : Search). x.kind) new,
-      ap (λ (x : Search). (x.frame).nesting) new ∙ nesting_stays port home k run (level_of stores) (low_level port home run stores told) w n waiting (fresh_addresses w.frame found))
-    | inr (none, new, marks_is) ↦
-      (subst (IsIdle port home k run) (sym new) (goes_on port home k run w n waiting (λ z. inr (inr (inl (nones none))))),
-      subst (AreMarked port home k run) (sym marks_is) (more_marks failed n 0 marked (inl (nones none))), ap (λ (x : Search). x.name) new, ap (λ (x : Search). x.kind) new,
-      ap (λ (x : Search). (x.frame).nesting) new)
+        let idle = adds port home k run (level_of stores) (low_level port home run stores told) w n waiting set found (fresh_addresses w.frame found) (added_there (level_of stores) w.frame found) (sets set is) are in (
+          subst (IsIdle port home k run) (sym new) idle,
+          subst (AreMarked port home k run) (sym marks_is) marked,
+          ap (λ (x : Search). x.name) new,
+          ap (λ (x : Search). x.kind) new,
+          ap (λ (x : Search). (x.frame).nesting) new ∙ nesting_stays port home k run (level_of stores) (low_level port home run stores told) w n waiting (fresh_addresses w.frame found),
+        )
+    | inr (none, new, marks_is) ↦ (
+      subst (IsIdle port home k run) (sym new) (goes_on port home k run w n waiting (λ z. inr (inr (inl (nones none))))),
+      subst (AreMarked port home k run) (sym marks_is) (more_marks failed n 0 marked (inl (nones none))),
+      ap (λ (x : Search). x.name) new,
+      ap (λ (x : Search). x.kind) new,
+      ap (λ (x : Search). (x.frame).nesting) new,
+    )
   ]
 
   around_stays : (name : Name) (kind : ℕ) (rest : List Search) (m n : Name) (t u d e : ℕ) → m ≡ n → t ≡ u → d ≡ e → AreAround port home k run name kind n u e rest → AreAround port home k run name kind m t d rest
@@ -132,9 +139,10 @@ module _ (port : ℕ) (home : Home) (k : ℕ) (run : List Turn) (Cuts : Addr →
       let here = at_go a h task s rest turn.searches in
       let told = missed_told port home run now n a_type a.stores b.stores c h.told misses in
       let start = missed_start port home run now n a_type a.stores b.stores c h.told misses in
-      put b Go _ to job told h.marks
-      (idle_at port home k run (level_of b.stores) (low_level port home run b.stores told) ((s.frame).nesting + 1) c n a_type start.0 start.1,
-      (refl, add-one (s.frame).nesting, waits port home k run (a.job).failed s n h.marks here.0 turn.asked_all turn.turn, here.1))
+      put b Go _ to job told h.marks (
+        idle_at port home k run (level_of b.stores) (low_level port home run b.stores told) ((s.frame).nesting + 1) c n a_type start.0 start.1,
+        (refl, add-one (s.frame).nesting, waits port home k run (a.job).failed s n h.marks here.0 turn.asked_all turn.turn, here.1),
+      )
   rule_keeps now a b h (gives_up s around rest task up to job stores) =
       let here = at_go a h task s (around ∷ rest) up.searches in
       let (kind, nesting, waiting, further) = here.1 in

@@ -246,17 +246,20 @@ module _ (port : ℕ) (home : Home) (k : ℕ) (run : List Turn) where
 
   pub used_up : (fs : List FailedName) (s : Search) → AreMarked fs → IsIdle s → upcoming (s.frame).plan ≡ None → next_name fs s.frame ≡ None
       → (c : Cut) × AreUsedUp port home run k s.name s.kind (IsBeyond port home run k (3 - (s.frame).nesting)) c
-  used_up fs s marks idle asked_all none_left = (idle.cut, record {
-    start = idle.stands.start;
-    over = idle.stands.over;
-    addresses = λ a h. failed a (idle.stands.addresses a h);
-    names = λ x h. use_with port home run idle.cut.owner (Contains (s.frame).addresses) (HasFailed port run k idle.cut.owner s.name s.kind)
-        (IsBeyond port home run k (3 - (s.frame).nesting)) (IsBeyond port home run k (3 - (s.frame).nesting)) x failed (λ b. b)
-        (elim (all_passed fs s.frame none_left x (subst (λ (l : List Name). Contains l x) (sym idle.stands.names) h)) [
-          | inl d ↦ idle.settled x d
-          | inr e ↦ skipped_use fs s idle.cut.owner x marks idle.stands.zone e
-        ]);
-  })
+  used_up fs s marks idle asked_all none_left = (
+    idle.cut,
+    record {
+      start = idle.stands.start;
+      over = idle.stands.over;
+      addresses = λ a h. failed a (idle.stands.addresses a h);
+      names = λ x h. use_with port home run idle.cut.owner (Contains (s.frame).addresses) (HasFailed port run k idle.cut.owner s.name s.kind)
+          (IsBeyond port home run k (3 - (s.frame).nesting)) (IsBeyond port home run k (3 - (s.frame).nesting)) x failed (λ b. b)
+          (elim (all_passed fs s.frame none_left x (subst (λ (l : List Name). Contains l x) (sym idle.stands.names) h)) [
+            | inl d ↦ idle.settled x d
+            | inr e ↦ skipped_use fs s idle.cut.owner x marks idle.stands.zone e
+          ]);
+    },
+  )
     where
       failed : (a : Addr) → Contains (s.frame).addresses a → HasFailed port run k idle.cut.owner s.name s.kind a
       failed = all_failed s idle.cut asked_all idle.asked

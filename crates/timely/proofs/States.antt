@@ -15,7 +15,7 @@ use Rattle.lru.proofs.Splits.{Contains-nil}
 use Rattle.recency.specs.Orders.{KeepsOnly}
 use Rattle.resolution.specs.Jobs.{Home, Stores, with_answer, Taken, received_link, Search, Job, job_at, Input, Start, Told, TimedOut, TcpFailed, Next, Ask, AskTcp, Done, Fail, Task, Seek, Take, Go, Again, Point, point}
 use Rattle.resolution.specs.Rules.{IsAnswered, ByClass, Enters, Rules, Advances, IsTakenEntry, IsTakenCut, Stops}
-use Rattle.runs.specs.States.{Event, Client, Datagram, TcpReply, Tick, Action, Reply, Send, TcpAsk, MoreDue, Turn, Served, Nobody, Own, Query, Plain, Asker, job_for, Path, ByUdp, ByTcp, Asking, IsFor, via_of, Open, open_query, Site, State}
+use Rattle.runs.specs.States.{Event, Client, Datagram, TcpReply, Tick, Action, Reply, Send, TcpAsk, MoreDue, Turn, Served, Nobody, Own, Query, Plain, Asker, recursive, job_for, Path, ByUdp, ByTcp, Asking, IsFor, via_of, Open, open_query, Site, State}
 use Rattle.runs.specs.States as states
 use Rattle.runs.specs.Messages.{IsSent, Brings}
 use Rattle.runs.specs.Runs.{Earlier, Asks, GivesOut, Came, asks_in, is_for, asks_of}
@@ -37,6 +37,7 @@ module _ (port : ℕ) (home : Home) where
   -- An open query: it came, its ask is open, and its work stands.
   pub record IsOpenSound (run : List Turn) (q : Open) : Type 0 where
     pub came : Earlier (Came (Query q.number) q.asker) run
+    pub wanted : recursive (q.asker).query ≡ true
     pub asked : IsOpenAsk port q.number q.ask run
     pub work : IsWaitingFor port home run q.number (type_number ((q.asker).query).kind) ((q.asker).query).name (q.ask).server (q.ask).name (q.ask).kind q.job
 
@@ -55,6 +56,7 @@ module _ (port : ℕ) (home : Home) where
   pub open_later : (turn : Turn) (past : List Turn) (q : Open) → turn.served ≢ Query q.number → IsOpenSound past q → IsOpenSound (turn ∷ past) q
   open_later turn past q other h = record {
     came = inr h.came;
+    wanted = h.wanted;
     asked = asks_later turn past q.number q.ask (q.ask).path other h.asked;
     work = work_later port home turn past q.number (type_number ((q.asker).query).kind) ((q.asker).query).name (q.ask).server (q.ask).name (q.ask).kind q.job h.work;
   }
@@ -94,7 +96,7 @@ module _ (port : ℕ) (home : Home) where
 
 module _ (port : ℕ) (home : Home) (k : ℕ) (turn : Turn) (past : List Turn) (ask : Asking) (served : turn.served ≡ Query k) (asked : IsOpenAsk port k ask past)
     (t : ℕ) (from : Name) (j : Job) (stores : Stores) (told : AreTold port home past stores) (work : IsWaitingFor port home past k t from ask.server ask.name ask.kind j) where
-  abbrev CutNow : Addr → Name → ℕ → Type 0
+  abbrev pub CutNow : Addr → Name → ℕ → Type 0
   CutNow a n u = IsCutShort port k a n u turn past
 
   -- The chain as it was.
@@ -141,7 +143,7 @@ module _ (port : ℕ) (home : Home) (k : ℕ) (turn : Turn) (past : List Turn) (
   enters_reach now (Told way server m) old p (via_is, server_is, brings) h = elim h [
     | inl (none, at) ↦ same_chain p Go j (ap (λ (x : Point). x.task) at) (ap (λ (x : Point). x.job) at) refl refl refl tt
     | inr (s, rest, searches, by) ↦ by_class now s rest server m (class_of (s.frame).zone s.name s.kind (via_of ask.path) m) (with_answer old server) p searches brings refl
-      (subst (λ (w : Via). ByClass now server s rest (class_of (s.frame).zone s.name s.kind w m) j (with_answer old server) p) via_is by)
+        (subst (λ (w : Via). ByClass now server s rest (class_of (s.frame).zone s.name s.kind w m) j (with_answer old server) p) via_is by)
   ]
   enters_reach now (TimedOut server) old p is h = same_chain p Go j (ap (λ (x : Point). x.task) h) (ap (λ (x : Point). x.job) h) refl refl refl tt
   enters_reach now (TcpFailed server) old p is h = same_chain p Go j (ap (λ (x : Point). x.task) h) (ap (λ (x : Point). x.job) h) refl refl refl tt
@@ -166,7 +168,7 @@ module _ (port : ℕ) (home : Home) (run : List Turn) (k : ℕ) (t : ℕ) (from 
   start_tells now deadline j stores next new after told a =
       let sound : IsSound port home k run Cuts a.first = subst (IsSound port home k run Cuts) (sym a.enters) (record { told = told; marks = λ f c. absurd (Contains-nil f c); stands = tt }) in
       let reached : IsReached port home run t from a.first.task a.first.job = subst (λ (p : Point). IsReached port home run t from p.task p.job) (sym a.enters)
-          (record { kind = refl; leads = refl; few = zero_least; link = tt }) in
+      (record { kind = refl; leads = refl; few = zero_least; link = tt }) in
       let (last, reach) = rules_reach port home run t k Cuts now a.count from a.first a.last sound reached a.rules in
       leaves_tell port home run k t from Cuts now a.last next new after last reach a.leaves
     where

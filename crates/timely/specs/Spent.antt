@@ -66,7 +66,7 @@ abbrev pub IsBad : ℕ → Name → Asking → Event → Type 0
 IsBad port z ask event =
     ((now : ℕ) × (event ≡ Tick now))
     ⊎ (((now : ℕ) × (number : ℕ) × (ask.path ≡ ByTcp number)
-        × ((event ≡ TcpFailed now number) ⊎ ((bytes : List ℕ) × (event ≡ TcpReply now number bytes) × ((m : Message) → Brings port ask event m → ⊥))))
+    × ((event ≡ TcpFailed now number) ⊎ ((bytes : List ℕ) × (event ≡ TcpReply now number bytes) × ((m : Message) → Brings port ask event m → ⊥))))
     ⊎ ((m : Message) × (f : Failure) × Brings port ask event m × (class_of z ask.name ask.kind (via_of ask.path) m ≡ class.Failed f)))
 
 -- In this step an ask of the address for the name and type ends so.
