@@ -1,0 +1,3 @@
+pub mod Spent
+pub mod Replies
+pub mod Failures
