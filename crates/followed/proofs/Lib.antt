@@ -1,0 +1,4 @@
+pub mod Answered
+pub mod Calls
+pub mod Lists
+pub mod Opened
