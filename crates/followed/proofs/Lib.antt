@@ -2,3 +2,5 @@ pub mod Answered
 pub mod Calls
 pub mod Lists
 pub mod Opened
+pub mod Steps
+pub mod Stores

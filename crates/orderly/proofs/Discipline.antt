@@ -44,7 +44,7 @@ handled_fresh s client way (heard.Query q) k out new (inr (rd, h)) = by h.opened
     by (admitted is asks few comes) = same_number is
 
 -- The number of a client's query is new.
-fresh_number : (s : State) (now client : ℕ) (way : Via) (bytes : List ℕ) (k : ℕ) (out : Option (List Action)) (new : State) → IsTurn s (Client now client way bytes) (Query k) out new → k ≡ s.opened
+pub fresh_number : (s : State) (now client : ℕ) (way : Via) (bytes : List ℕ) (k : ℕ) (out : Option (List Action)) (new : State) → IsTurn s (Client now client way bytes) (Query k) out new → k ≡ s.opened
 fresh_number s now client way bytes k None new h = let e = h.0 in absurd (cc)
 fresh_number s now client way bytes k (Some out) new (asked, reads, h) = handled_fresh s client way asked k out new h
 
