@@ -1,0 +1,6 @@
+pub mod Answered
+pub mod Calls
+pub mod Lists
+pub mod Opened
+pub mod Steps
+pub mod Stores

@@ -1,0 +1,11 @@
+use Rattle.followed.proofs.Steps.{lost_is_asked_on, cut_is_asked_again, referral_is_asked, answer_is_replied, alias_is_kept}
+use Rattle.followed.proofs.laws.runs_law.Goals as goal
+
+pub returns : goal.returns
+returns c = record {
+  lost = lost_is_asked_on;
+  cut = cut_is_asked_again;
+  referral = referral_is_asked;
+  answer = answer_is_replied;
+  alias = alias_is_kept;
+}

@@ -1,0 +1,6 @@
+use Rattle.orderly.proofs.Discipline.{more_at_ticks}
+use Rattle.orderly.proofs.Due.{due_in_order}
+use Rattle.orderly.proofs.laws.due_law.Goals as goal
+
+pub returns : goal.returns
+returns c = record { order = due_in_order; ticks = more_at_ticks }

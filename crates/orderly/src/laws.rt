@@ -1,0 +1,29 @@
+//! One reply and one open ask: functions that do nothing, whose clauses are proved.
+
+ghost use Rattle.orderly.specs.Laws.{OneAction, MoreDueAtTicks, NeverAgain, OneReply, OneComing, OpenByRun, FewAsks, OneLine, OthersStay, DueInOrder};
+
+/// Over every run, whatever comes: a step that serves a query gives one reply or one ask of it, and bytes
+/// that are no query are dropped; a query has one Client step, one reply at most and 40 asks at most, and is
+/// never served again when it is over; the open queries are those whose last step sent an ask, which is
+/// their one open ask; no two open asks over UDP agree in socket, server and ID (RFC 5452, section 4).
+pub fn discipline_law()
+    ensures action { OneAction }
+    ensures coming { OneComing }
+    ensures reply { OneReply }
+    ensures never_again { NeverAgain }
+    ensures waits { OpenByRun }
+    ensures asks { FewAsks }
+    ensures line { OneLine }
+{}
+
+/// An event changes no open query but the one that it serves.
+pub fn isolation_law()
+    ensures { OthersStay }
+{}
+
+/// A tick serves the query that is due first, the older one among equals, and answers it where its time is
+/// up; word that another query is due is given at ticks alone, and exactly where one is.
+pub fn due_law()
+    ensures order { DueInOrder }
+    ensures ticks { MoreDueAtTicks }
+{}
