@@ -1,4 +1,5 @@
 pub mod Exact
+pub mod Making
 pub mod Members
 pub mod Named
 pub mod Shown

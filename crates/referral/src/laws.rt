@@ -1,5 +1,6 @@
 //! Laws of the entries of kept cuts: functions that do nothing, whose clauses are proved.
 
+ghost use Rattle.referral.specs.Made.{NamesAreTargets, TargetsAreNames, AddressesAreGlue, GlueIsAddresses};
 ghost use Rattle.referral.specs.Members.{BestKeepsMembers, KeepBringsOne, KeptIsThere, KeepLosesFew, FoundIsBest, BestStaysNamed, KeepStaysNamed, FoundIsOver, BestStaysValid, KeepStaysValid};
 
 /// Which entries a look-up and a keep leave. A look-up changes their order alone, and finds the deepest cut
@@ -21,4 +22,13 @@ pub fn named_law()
     ensures over { FoundIsOver }
     ensures best_valid { BestStaysValid }
     ensures kept_valid { KeepStaysValid }
+{}
+
+/// What a cut that is made of records has: the targets of its NS records and no other names, and the
+/// addresses in A records and no others, each with its owner.
+pub fn made_law()
+    ensures names { NamesAreTargets }
+    ensures targets { TargetsAreNames }
+    ensures addresses { AddressesAreGlue }
+    ensures glue { GlueIsAddresses }
 {}

@@ -6,10 +6,11 @@ mod cut;
 mod delegations;
 mod laws;
 mod lists;
+mod made;
 
 pub use cut::Cut;
 pub use delegations::Delegations;
-pub use laws::{members_law, named_law};
+pub use laws::{made_law, members_law, named_law};
 pub use lists::{Addresses, Names, ServerAddress};
 // A crate can name a store in a contract only if the types of its fields are exported.
 #[doc(hidden)]

@@ -1,7 +1,7 @@
 use super::*;
 use dname::{Heap, Name, Starved};
 use lru::DefaultHasher;
-use rdata::Addr;
+use rdata::{Addr, RData, Record};
 use refusing::Refusing;
 use std::hash::BuildHasherDefault;
 use std::num::NonZeroUsize;
@@ -121,6 +121,43 @@ fn play<A: Heap>(alloc: A) -> Result<bool, Starved> {
     let mut kept = Kept { alloc, delegations };
     kept.keep("example", 1, 60)?;
     Ok(kept.best("www.example", 0)? == Some(1))
+}
+
+fn record<A: Heap>(alloc: A, owner: &str, value: RData<A>) -> Result<Record<A>, Starved> {
+    Ok(Record {
+        owner: name(alloc, owner)?,
+        ttl: 300,
+        value,
+    })
+}
+
+// The delegation of a zone to two servers, of which one has an address of each kind.
+#[test]
+fn a_cut_is_made_of_records(rt: HostRuntime) -> Result<(), Fail> {
+    let alloc = rt.alloc();
+    let servers = [
+        record(alloc, "example", RData::Ns(name(alloc, "ns1.example")?))?,
+        record(alloc, "example", RData::Ns(name(alloc, "ns2.other")?))?,
+    ];
+    let glue = [
+        record(alloc, "ns1.example", RData::Aaaa([0; 16]))?,
+        record(alloc, "ns1.example", RData::A(Addr([192, 0, 2, 1])))?,
+    ];
+    let cut = Cut::of_records(alloc, name(alloc, "example")?, &servers, &glue)?;
+    assert!(rt; cut.at == name(alloc, "example")?);
+    let expected = name(alloc, "ns2.other")?;
+    assert!(rt; matches!(cut.names.as_slice(), [_, second] if *second == expected));
+    assert!(rt; last_byte(cut.addresses.as_slice()) == Some(1));
+    Ok(())
+}
+
+#[test]
+fn hints_make_a_cut_at_the_root(rt: HostRuntime) -> Result<(), Fail> {
+    let cut = Cut::of_hints(rt.alloc(), &[Addr([198, 41, 0, 4])])?;
+    assert!(rt; cut.at == Name::root(rt.alloc())?);
+    assert!(rt; cut.names.as_slice().is_empty());
+    assert!(rt; last_byte(cut.addresses.as_slice()) == Some(4));
+    Ok(())
 }
 
 #[test]
