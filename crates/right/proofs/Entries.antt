@@ -11,6 +11,10 @@ use Rattle.zone.specs.Same.{Same, Has, SameSet, SameLink}
 use Rattle.zone.specs.Look.{Linked}
 use Rattle.zone.proofs.LawLists.{none_in, first_in, map_of, map_in}
 use Rattle.authority.specs.Catalogs.{IsLooked}
+use Rattle.layout.specs.Messages.{Message}
+use Rattle.wire.specs.declared.via.Via.{Via}
+use Rattle.classify.specs.Classes.{Answer, class_of}
+use Rattle.classify.proofs.Uses.{found_once}
 use Rattle.classify.specs.Lifetimes.{longest, received}
 use Rattle.classify.proofs.Shortened.{received_same}
 use Rattle.cache.specs.Keys.{Kind, NameError, Key, key_for}
@@ -24,13 +28,21 @@ use Rattle.truth.proofs.Entries.{error_for_all, alias_for_all, found_as_alias, a
 use Rattle.truth.proofs.Sames.{same_back, same_on}
 use Rattle.truth.proofs.Grown.{local_is_true}
 use Rattle.truth.proofs.Stays.{same_is_true, held_once}
-use Rattle.resolution.specs.Jobs.{retimed, Origin, Local, Cached, Accepted, sent_from}
+use Rattle.cache.specs.Cached.{retimed}
+use Rattle.resolution.specs.Jobs.{Origin, Local, Cached, Accepted, sent_from}
 
 abbrev pub IsOnce : Link → Type 0
 IsOnce (Found set) = Once set
 IsOnce (Alias r) = Unit {0}
 IsOnce (NoData soa) = Unit {0}
 IsOnce (NxDomain soa) = Unit {0}
+
+-- A set that is read from a message has each record once.
+pub class_once : (f q : Name) (t : ℕ) (via : Via) (m : Message) (l : Link) → class_of f q t via m ≡ Answer l → IsOnce l
+class_once f q t via m (Found set) e = found_once f q t m via set e
+class_once f q t via m (Alias r) e = tt
+class_once f q t via m (NoData r) e = tt
+class_once f q t via m (NxDomain r) e = tt
 
 -- The world's link of a question, each record once.
 pub record IsGood (W : World) (n : Name) (t : ℕ) (l : Link) : Type 0 where
@@ -51,7 +63,7 @@ module _ (f : Record → Record) (same : (r : Record) → Same (f r) r) where
       let (x, mx, fx) = map_of f rs s m in
       (x, mx, same_on r (f r) x (same_back (f r) r (same r)) (same_on (f r) s x is (subst (λ (y : Record). Same y x) fx (same x))))
 
-  pub once_mapped : (rs : List Record) → Once rs → Once (map f rs)
+  once_mapped : (rs : List Record) → Once rs → Once (map f rs)
   once_mapped [] h = tt
   once_mapped (r ∷ rs) h = (λ has. h.0 (has_unmapped rs r has), once_mapped rs h.1)
 
@@ -61,7 +73,7 @@ module _ (f : Record → Record) (same : (r : Record) → Same (f r) r) where
 capped_same : (r : Record) → Same (capped longest r) r
 capped_same r = (refl, refl)
 
-pub ttl_same : (ttl : ℕ) (r : Record) → Same (with_ttl ttl r) r
+ttl_same : (ttl : ℕ) (r : Record) → Same (with_ttl ttl r) r
 ttl_same ttl r = (refl, refl)
 
 retimed_same : (ttl : ℕ) (l : Link) → SameLink (retimed ttl l) l

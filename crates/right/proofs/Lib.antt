@@ -1,6 +1,5 @@
 pub mod Entries
 pub mod Lists
-pub mod Lower
 pub mod Points
 pub mod Replies
 pub mod Servers

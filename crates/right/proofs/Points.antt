@@ -27,9 +27,8 @@ use Rattle.resolution.specs.Jobs.{Home, Stores, level_of, with_answer, Taken, Is
 use Rattle.resolution.specs.Rules.{Hits, Finds, Misses, HearsOf, turned, Rule, takes, asks, follows, restarts, hears, descends, gives_up, Rules, ByClass, Enters, Leaves, sends, sends_again, refuses, spent, nowhere, too_long, done, Advances, IsTakenEntry, IsTakenCut, Stops}
 use Rattle.right.specs.Headline.{IsHomeIn}
 use Rattle.right.proofs.Lists.{longer}
-use Rattle.right.proofs.Entries.{IsGood, received_good, local_good, IsTrueEntry, AreTrueEntries, kept_true, new_true, hit_good}
+use Rattle.right.proofs.Entries.{class_once, IsGood, received_good, local_good, IsTrueEntry, AreTrueEntries, kept_true, new_true, hit_good}
 use Rattle.right.proofs.Servers.{AreTrueCuts, IsTrueCut, IsTrueFrame, opened_true, misses_true, referral_cut, referral_begins, cut_kept_true, new_cut, cuts_used_true, added_true, asks_true}
-use Rattle.right.proofs.Lower.{class_once}
 
 -- ---- what is true
 

@@ -25,7 +25,8 @@ use Rattle.truth.specs.Reading.{IsReferralTo, NamesServer, GivesAddress}
 use Rattle.truth.specs.Frames.{AreHeld, MayAsk, IsDelegation, IsFrame, IsGrown, frame_at, AreTargets, AreTaken}
 use Rattle.truth.specs.Frames as truth
 use Rattle.truth.proofs.Grown.{hints_start, cut_starts, kept_starts, kept_below_starts, referral_kept, referral_starts, address_adds, frame_asks}
-use Rattle.resolution.specs.Jobs.{Home, Stores, target_names, ipv4_of, row_of, IsCutOf, hinted, root_cut, bytes_of, AreAddressesOf, cut_from}
+use Rattle.classify.specs.Targets.{target_of as target_names}
+use Rattle.resolution.specs.Jobs.{Home, Stores, ipv4_of, row_of, IsCutOf, hinted, root_cut, bytes_of, AreAddressesOf, cut_from}
 use Rattle.resolution.specs.Rules.{Begins, Misses}
 use Rattle.right.specs.Headline.{IsHomeIn}
 use Rattle.right.proofs.Lists.{flat_from, only_one}
