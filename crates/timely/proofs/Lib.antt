@@ -12,3 +12,5 @@ pub mod Enters
 pub mod Leaving
 pub mod States
 pub mod Turns
+pub mod Timed
+pub mod Sent
