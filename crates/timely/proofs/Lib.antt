@@ -14,3 +14,4 @@ pub mod States
 pub mod Turns
 pub mod Timed
 pub mod Sent
+pub mod Learnt
