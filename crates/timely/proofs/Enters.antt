@@ -37,7 +37,7 @@ use Rattle.timely.proofs.Points.{OnTop, StandsBy, IsSound, put, heard_at}
 use Rattle.timely.proofs.Later.{told_later, stands_later, settled_later, asked_later, asking_later, waiting_later, around_later, marks_later}
 
 -- A message that is brought is read from its bytes.
-brought_ends : (port : ℕ) (ask : Asking) (event : Event) (m : Message) → Brings port ask event m → EndInRoot m
+pub brought_ends : (port : ℕ) (ask : Asking) (event : Event) (m : Message) → Brings port ask event m → EndInRoot m
 brought_ends port ask (Client now client way bytes) m b = absurd b
 brought_ends port ask (Datagram now sock from bytes) m b = (names_end_in_root bytes m b.2).authority
 brought_ends port ask (TcpReply now number bytes) m b = (names_end_in_root bytes m b.1).authority

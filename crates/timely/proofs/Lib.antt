@@ -12,3 +12,6 @@ pub mod Enters
 pub mod Leaving
 pub mod States
 pub mod Turns
+pub mod Timed
+pub mod Sent
+pub mod Learnt

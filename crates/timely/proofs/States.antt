@@ -112,7 +112,7 @@ module _ (port : ℕ) (home : Home) (k : ℕ) (turn : Turn) (past : List Turn) (
   }))
 
   -- The innermost search of the open query.
-  top_at : (s : Search) (rest : List Search) → j.searches ≡ s ∷ rest
+  pub top_at : (s : Search) (rest : List Search) → j.searches ≡ s ∷ rest
       → (IsAsking port home k past s ask.server × (ask.name ≡ s.name) × (ask.kind ≡ s.kind)) × AreAround port home k past j.name j.kind s.name s.kind (s.frame).nesting rest
   top_at s rest e = subst (λ (l : List Search). OnTop port home k past (λ a n u. Unit {0}) j.name j.kind l (λ s. IsAsking port home k past s ask.server × (ask.name ≡ s.name) × (ask.kind ≡ s.kind))) e work.top
 
@@ -138,7 +138,7 @@ module _ (port : ℕ) (home : Home) (k : ℕ) (turn : Turn) (past : List Turn) (
   by_class now s rest server m class.Cut old p searches brings is h = same_chain p (Again server) j (ap (λ (x : Point). x.task) h) (ap (λ (x : Point). x.job) h) refl refl refl tt
   by_class now s rest server m (class.Failed f) old p searches brings is h = same_chain p Go j (ap (λ (x : Point). x.task) h) (ap (λ (x : Point). x.job) h) refl refl refl tt
 
-  enters_reach : (now : ℕ) (input : Input) (old : Stores) (p : Point) → IsInputNow port home k turn past ask served asked input → Enters now input j old p → ReachedBy p
+  pub enters_reach : (now : ℕ) (input : Input) (old : Stores) (p : Point) → IsInputNow port home k turn past ask served asked input → Enters now input j old p → ReachedBy p
   enters_reach now Start old p is h = absurd is
   enters_reach now (Told way server m) old p (via_is, server_is, brings) h = elim h [
     | inl (none, at) ↦ same_chain p Go j (ap (λ (x : Point). x.task) at) (ap (λ (x : Point). x.job) at) refl refl refl tt

@@ -1,3 +1,5 @@
 pub mod Spent
 pub mod Replies
 pub mod Failures
+pub mod Timely
+pub mod Caused
