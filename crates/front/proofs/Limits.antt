@@ -4,7 +4,8 @@ use Rattle.std.proofs.lemmas.Bool.{lt-ltb, le-ltb}
 use Rattle.layout.specs.Messages.{Message, IsMessage, encoding, folded_message}
 use Rattle.authority.specs.declared.cause.Cause.{Cause}
 use Rattle.authority.specs.declared.cause.Cause.TheVariants.{Large}
-use Rattle.front.specs.Replies.{whole_reply, cut_reply, bare, failure_of, limit_of, reply_of}
+use Rattle.front.specs.Replies.{whole_reply, cut_reply, bare, failure_of, reply_of}
+use Rattle.wire.specs.Limits.{limit_of}
 use Rattle.front.specs.declared.queries.Query.{Query}
 use Rattle.front.specs.declared.queries.Outcome.{Outcome}
 use Rattle.wire.specs.declared.via.Via.{Via}

@@ -1,9 +1,7 @@
 -- What the bytes from a client ask (RFC 1035, sections 4.1.1 and 7.3).
-use Rattle.std.specs.Prelude.{◌≡◌, ℕ, ◌<◌, ◌≤◌, ◌⊎◌, Bool, ◌&&◌, cond, nat_eq, Some, None, List, [], ◌∷◌, length, slice_index}
-use Rattle.rdata.specs.Types.{is_served}
+use Rattle.std.specs.Prelude.{◌≡◌, ℕ, ◌<◌, ◌≤◌, ◌⊎◌, cond, nat_eq, Option, Some, None, List, [], ◌∷◌, length, slice_index}
 use Rattle.rdata.specs.declared.rtype.RType.{RType}
-use Rattle.rdata.specs.declared.rtype.RType.TheVariants as kind
-use Rattle.layout.specs.Messages.{Message, Question, internet, IsMessage}
+use Rattle.layout.specs.Messages.{Message, Question, served_type, IsMessage}
 use Rattle.layout.specs.Names.{SpeltAt}
 use Rattle.front.specs.Openings.{Opening, opening_of}
 use Rattle.front.specs.declared.queries.Refusal.TheVariants.{FormErr, NotImp}
@@ -23,25 +21,23 @@ IsHeard bytes nothing_heard = (m : Message) → IsMessage bytes m → ⊥
 IsHeard bytes (other_heard m) = IsMessage bytes m × (length m.questions ≡ 1 → ⊥)
 IsHeard bytes (one_heard m q letters) = IsMessage bytes m × (m.questions ≡ q ∷ []) × ((end : ℕ) × SpeltAt bytes 12 letters end)
 
--- The type of a number that is served.
-abbrev pub kind_with : ℕ → RType
-kind_with n = cond (nat_eq n 1) kind.A (cond (nat_eq n 2) kind.Ns (cond (nat_eq n 5) kind.Cname (cond (nat_eq n 6) kind.Soa
-    (cond (nat_eq n 12) kind.Ptr (cond (nat_eq n 15) kind.Mx (cond (nat_eq n 16) kind.Txt kind.Aaaa))))))
-
--- A query of operation 0, class IN and a served type.
-abbrev pub is_answerable : Opening → Question → Bool
-is_answerable s q = nat_eq s.opcode 0 && nat_eq q.qclass internet && is_served q.qtype
+-- The type of a query that can be answered: of operation 0, class IN and a served type.
+abbrev pub answerable_type : Opening → Question → Option RType
+answerable_type s q = cond (nat_eq s.opcode 0) (served_type q.qtype q.qclass) None
 
 -- The question in these letters.
 abbrev pub in_letters : Question → List (List ℕ) → Question
 in_letters q letters = record { name = letters; qtype = q.qtype; qclass = q.qclass }
 
-abbrev pub query_of : {A : Type 0} → Opening → Question → List (List ℕ) → Asking A
-query_of s q letters = record { start = s; name = q.name; kind = kind_with q.qtype; echo = in_letters q letters }
+abbrev pub query_of : {A : Type 0} → Opening → Question → List (List ℕ) → RType → Asking A
+query_of s q letters kind = record { start = s; name = q.name; kind = kind; echo = in_letters q letters }
+
+abbrev pub by_type : {A : Type 0} → Opening → Question → List (List ℕ) → Option RType → Asked A
+by_type s q letters None = Refuse NotImp s (Some (in_letters q letters))
+by_type s q letters (Some kind) = Query (query_of s q letters kind)
 
 abbrev pub by_question : {A : Type 0} → Opening → Question → List (List ℕ) → Asked A
-by_question s q letters =
-    cond (is_answerable s q) (Query (query_of s q letters)) (Refuse NotImp s (Some (in_letters q letters)))
+by_question s q letters = by_type s q letters (answerable_type s q)
 
 abbrev pub by_heard : {A : Type 0} → Opening → Heard → Asked A
 by_heard s nothing_heard = Refuse FormErr s None

@@ -13,6 +13,7 @@ use Rattle.front.specs.declared.queries.End.{End}
 use Rattle.front.specs.declared.queries.End.TheVariants.{Found, NoData, NxDomain}
 use Rattle.front.specs.declared.queries.Outcome.{Outcome}
 use Rattle.front.specs.declared.queries.Outcome.TheVariants.{Answer, Referral, Refused, Fail}
+pub use Rattle.wire.specs.Limits.{limit_of}
 use Rattle.wire.specs.declared.via.Via.{Via}
 use Rattle.wire.specs.declared.via.Via.TheVariants.{Udp, Tcp}
 
@@ -91,17 +92,12 @@ abbrev pub failure_of : {A : Type 0} → Outcome A → Option Cause
 failure_of (Fail cause) = Some cause
 failure_of _ = None
 
--- The bytes that a reply may have.
-abbrev pub limit_of : Via → ℕ
-limit_of Udp = 512
-limit_of Tcp = 65535
-
 -- The reply that goes out, and the cause of a SERVFAIL: one that is too long is cut on UDP, and on TCP a
 -- SERVFAIL goes in its place.
 abbrev pub reply_of : {A : Type 0} → Via → Query A → Outcome A → Message × Option Cause
-reply_of Udp q o = if nat_lt 512 (length (encoding (whole_reply q o))) then (cut_reply (whole_reply q o), failure_of o)
+reply_of Udp q o = if nat_lt (limit_of Udp) (length (encoding (whole_reply q o))) then (cut_reply (whole_reply q o), failure_of o)
     else (whole_reply q o, failure_of o)
-reply_of Tcp q o = if nat_lt 65535 (length (encoding (whole_reply q o))) then (bare q.start (q.echo ∷ []) false 2, Some Large)
+reply_of Tcp q o = if nat_lt (limit_of Tcp) (length (encoding (whole_reply q o))) then (bare q.start (q.echo ∷ []) false 2, Some Large)
     else (whole_reply q o, failure_of o)
 
 -- The reply to a query that is refused before it is looked at.

@@ -8,7 +8,7 @@ use dname::{Heap, Starved};
 use rdata::Record;
 use std::alloc::{Allocator, Global};
 use std::marker::Model;
-use wire::{Draft, Header, Spelling, WireError, encode_draft};
+use wire::{Draft, Header, Spelling, TCP_LIMIT, WireError, encode_draft};
 
 /// A reply that is lent part by part: no record is cloned for it. Contracts see the message.
 #[derive(Drop)]
@@ -37,7 +37,7 @@ impl<A: Heap> Parts<'_, A> {
     /// The bytes of the message, in its one encoding; none where they are more than `limit`, which is at most
     /// 65,535 (RFC 1035, sections 4.1 and 4.2). They are read back as the message, its question in lower case.
     pub fn encode(&self, alloc: A, limit: usize) -> Result<Option<Vec<u8, A>>, Starved>
-        requires { limit ≤ 65535 }
+        requires { limit ≤ TCP_LIMIT }
         ensures bytes { IfOk result (λ o. MatchOption o (limit < length (encoding self.now)) (λ v. (v.items ≡ encoding self.now) × (length v.items ≤ limit))) }
         ensures message { IfOk result (λ o. IfSome o (λ v. IsMessage v.items (folded_message self.now))) }
     {

@@ -7,7 +7,7 @@ use crate::echo::Echo;
 use crate::queries::{Asked, Query, Refusal};
 use crate::start::Start;
 use dname::{Heap, Starved};
-use rdata::RType;
+use rdata::{INTERNET, RType};
 use wire::{Question, Spelling, WireError, decode, question_spelling};
 
 /// What the bytes from a client ask, in this order: under 12 bytes or QR set, nothing; no message, or other
@@ -63,7 +63,7 @@ fn sort_question<A: Heap>(start: Start, question: Question<A>, spelling: Spellin
         qclass,
     };
     match RType::from_number(qtype) {
-        Some(kind) if start.opcode() == 0 && qclass == 1 => Asked::Query(Query {
+        Some(kind) if start.opcode() == 0 && qclass == INTERNET => Asked::Query(Query {
             start,
             name,
             kind,

@@ -3,7 +3,8 @@ ghost use Rattle.std.specs.Prelude.{◌≡◌, false, ◌≤◌, ◌<◌, [], �
 ghost use Rattle.dname.specs.Labels.{wire};
 ghost use Rattle.wire.specs.Drafts.{asked_alone};
 ghost use Rattle.layout.specs.Messages.{IsMessage, encoding, folded_message};
-ghost use Rattle.front.specs.Replies.{reply_header, whole_reply, cut_reply, bare, reply_of, limit_of, failure_of, refusal_reply};
+ghost use Rattle.front.specs.Replies.{reply_header, whole_reply, cut_reply, bare, reply_of, failure_of, refusal_reply};
+ghost use Rattle.wire.specs.Limits.{limit_of};
 
 use crate::echo::Echo;
 use crate::parts::Parts;
@@ -12,7 +13,7 @@ use crate::start::Start;
 use authority::Cause;
 use dname::{Heap, Starved};
 use std::alloc::Allocator;
-use wire::{Header, Via};
+use wire::{Header, TCP_LIMIT, UDP_LIMIT, Via};
 
 /// The bytes of the reply, and the cause of a SERVFAIL. A reply over 512 bytes on UDP keeps header and
 /// question, with TC set; one over 65,535 bytes on TCP is a SERVFAIL. The bytes are read back as the reply, its
@@ -31,19 +32,19 @@ pub fn reply_bytes<A: Heap>(
     let cause = cause_in(outcome);
     let whole = draft_of(query, outcome);
     match via {
-        Via::Udp => match whole.encode(alloc, 512)? {
+        Via::Udp => match whole.encode(alloc, UDP_LIMIT)? {
             Some(bytes) => Ok((bytes, cause)),
             None => {
                 is_short(Some(&query.echo));
-                Ok((short_bytes(alloc, &cut(&whole), 512)?, cause))
+                Ok((short_bytes(alloc, &cut(&whole), UDP_LIMIT)?, cause))
             }
         },
-        Via::Tcp => match whole.encode(alloc, 65_535)? {
+        Via::Tcp => match whole.encode(alloc, TCP_LIMIT)? {
             Some(bytes) => Ok((bytes, cause)),
             None => {
                 is_short(Some(&query.echo));
                 let failure = empty_draft(query.start, Some(&query.echo), 2);
-                Ok((short_bytes(alloc, &failure, 65_535)?, Some(Cause::Large)))
+                Ok((short_bytes(alloc, &failure, TCP_LIMIT)?, Some(Cause::Large)))
             }
         },
     }
@@ -59,15 +60,15 @@ pub fn refusal_bytes<A: Heap>(
 ) -> Result<Vec<u8, A>, Starved>
     ensures bytes { IfOk result (λ r. r.items ≡ encoding (refusal_reply refusal start (option_copied echo.entry))) }
     ensures message { IfOk result (λ r. IsMessage r.items (folded_message (refusal_reply refusal start (option_copied echo.entry)))) }
-    ensures short { IfOk result (λ r. length r.items ≤ 512) }
+    ensures short { IfOk result (λ r. length r.items ≤ UDP_LIMIT) }
 {
     is_short(echo);
-    short_bytes(alloc, &empty_draft(start, echo, refusal.rcode()), 512)
+    short_bytes(alloc, &empty_draft(start, echo, refusal.rcode()), UDP_LIMIT)
 }
 
 // The bytes of a message that is short enough for its limit.
 fn short_bytes<A: Heap>(alloc: A, parts: &Parts<'_, A>, limit: usize) -> Result<Vec<u8, A>, Starved>
-    requires limit { limit ≤ 65535 }
+    requires limit { limit ≤ TCP_LIMIT }
     requires fits { length (encoding parts.now) ≤ limit }
     ensures bytes { IfOk result (λ r. r.items ≡ encoding parts.now) }
     ensures message { IfOk result (λ r. IsMessage r.items (folded_message parts.now)) }

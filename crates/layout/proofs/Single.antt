@@ -8,7 +8,8 @@ use Rattle.rdata.specs.Records.{Record}
 use Rattle.layout.specs.Names.{NameAt}
 use Rattle.layout.specs.Pieces.{Flat, plain_bytes}
 use Rattle.layout.specs.Places.{IsAt, FlatsAt, PiecesAt}
-use Rattle.layout.specs.Messages.{Header, Question, Message, bit, high_flags, low_flags, IsHeader, strings_bytes, data_flats, internet, any_record_pieces, FitsRdata, is_served, ttl_of, QuestionAt, QuestionsAt, RecordAt, SkippedAt, SectionAt, none_left, kept_first, skipped_first, IsMessage}
+use Rattle.layout.specs.Messages.{Header, Question, Message, bit, high_flags, low_flags, IsHeader, strings_bytes, data_flats, internet, any_record_pieces, FitsRdata, served_type, ttl_of, QuestionAt, QuestionsAt, RecordAt, SkippedAt, SectionAt, none_left, kept_first, skipped_first, IsMessage}
+use Rattle.layout.proofs.Served.{data_kept}
 use Rattle.layout.proofs.Reading.{one_reading}
 use Rattle.layout.proofs.Standing.{wire-onto}
 
@@ -200,16 +201,6 @@ kind_small (Mx p a) = omega arith
 kind_small (Txt a) = omega arith
 kind_small (Ipv6 a) = omega arith
 
-kind_served : (d : Datum) → is_served (type_of d) internet ≡ true
-kind_served (Ipv4 a) = refl
-kind_served (Ns a) = refl
-kind_served (Cname a) = refl
-kind_served (Soa a) = refl
-kind_served (Ptr a) = refl
-kind_served (Mx p a) = refl
-kind_served (Txt a) = refl
-kind_served (Ipv6 a) = refl
-
 record_one : (bytes : List ℕ) (at place : ℕ) (r s : Record) (x y : ℕ) → RecordAt bytes at r x → RecordAt bytes place s y → place ≡ at → (r ≡ s) × (x ≡ y)
 record_one bytes at place r s x y h i same =
     let rows = rows_agree bytes at place x y r.owner s.owner (type_of r.value) (type_of s.value) internet internet h.ttl i.ttl (data_flats r.value) (data_flats s.value)
@@ -231,11 +222,7 @@ not_skipped : (bytes : List ℕ) (at place : ℕ) (r : Record) (x y : ℕ) → R
 not_skipped bytes at place r x y h i same =
     let rows = rows_agree bytes at place x y r.owner i.owner (type_of r.value) i.kind internet i.class h.ttl i.ttl (data_flats r.value) (plain_bytes i.rdata ∷ [])
     h.stands i.stands same (kind_small r.value) i.fits_kind (omega arith) i.fits_class in
-    let yes = kind_served r.value in
-    let no = i.other in
-    let kind = rows.kind in
-    let class = rows.class in
-    cc
+    data_kept r.value ((λ j. served_type (rows.kind j) (rows.class j)) ∙ i.other)
 
 skipped_one : (bytes : List ℕ) (at place x y : ℕ) → SkippedAt bytes at x → SkippedAt bytes place y → place ≡ at → x ≡ y
 skipped_one bytes at place x y h i same =

@@ -1,7 +1,9 @@
 -- Messages (RFC 1035, section 4): as plain values, as rows of pieces, and which bytes are which message.
-use Rattle.std.specs.Prelude.{◌≡◌, ℕ, ◌+◌, ◌*◌, ◌^◌, ◌<◌, ◌≤◌, Bool, false, ◌&&◌, ◌||◌, cond, nat_eq, nat_lt, if◌then◌else◌, List, [], ◌∷◌, ◌++◌, length, map, flat_map}
+use Rattle.std.specs.Prelude.{◌≡◌, ℕ, ◌+◌, ◌*◌, ◌^◌, ◌<◌, ◌≤◌, Bool, cond, nat_eq, nat_lt, if◌then◌else◌, Option, None, List, [], ◌∷◌, ◌++◌, length, map, flat_map}
 use Rattle.std.specs.List.{AllByRecursion}
 use Rattle.dname.specs.Labels.{folded_labels, wire, IsName}
+use Rattle.rdata.specs.Types.{type_by}
+use Rattle.rdata.specs.declared.rtype.RType.{RType}
 use Rattle.rdata.specs.Data.{Datum, Ipv4, Ns, Cname, Soa, Ptr, Mx, Txt, Ipv6, type_of}
 use Rattle.rdata.specs.Records.{Record, greatest_ttl}
 use Rattle.layout.specs.Names.{NameAt}
@@ -141,13 +143,10 @@ FitsRdata (Mx preference name) = preference < 65536
 FitsRdata (Txt strings) = (0 < length strings) × AllByRecursion (λ s. length s < 256) strings
 FitsRdata (Ipv6 address) = length address ≡ 16
 
--- Types of which the data are read; those of other types are skipped.
-abbrev pub is_served_type : ℕ → Bool
-is_served_type n =
-    nat_eq n 1 || nat_eq n 2 || nat_eq n 5 || nat_eq n 6 || nat_eq n 12 || nat_eq n 15 || nat_eq n 16 || nat_eq n 28
-
-abbrev pub is_served : ℕ → ℕ → Bool
-is_served kind class = nat_eq class internet && is_served_type kind
+-- The type of a record that is kept, by the numbers of its type and class: a served one in class IN. Others are
+-- skipped.
+abbrev pub served_type : ℕ → ℕ → Option RType
+served_type kind class = if nat_eq class internet then type_by kind else None
 
 -- A TTL with its top bit set is 0 (RFC 2181, section 8).
 abbrev pub ttl_of : ℕ → ℕ
@@ -182,7 +181,7 @@ pub record SkippedAt (bytes : List ℕ) (at end : ℕ) : Type 0 where
   pub rdata : List ℕ
   pub fits_kind : kind < 65536
   pub fits_class : class < 65536
-  pub other : is_served kind class ≡ false
+  pub other : served_type kind class ≡ None
   pub stands : PiecesAt bytes at (any_record_pieces owner kind class ttl (plain_bytes rdata ∷ [])) end
 
 -- `SectionAt bytes at count records end`: from `at` to `end` stand as many records as counted; those of

@@ -5,8 +5,7 @@ ghost use Rattle.layout.specs.Packing.{find};
 ghost use Rattle.suffixes.specs.Kept.{note_of, notes_of, IsKept, AreKept};
 ghost use Rattle.suffixes.specs.Longest.{longest, first_notes};
 
-use crate::walk::next;
-use dname::{Heap, Name, Starved};
+use dname::{Heap, Name, Starved, next_label};
 use std::alloc::{Allocator, Global};
 use std::marker::Model;
 
@@ -94,7 +93,7 @@ fn note_labels<A: Allocator>(
     let (_, mut rest) = names.split_at(start);
     let mut place = at;
     for _ in 0..written {
-        let Some((label, after)) = next(rest) else {
+        let Some((label, after)) = next_label(rest) else {
             return;
         };
         if place >= POINTER_LIMIT {
@@ -165,7 +164,7 @@ impl<A: Allocator> Suffixes<A> {
         let mut rest = name.wire();
         let mut labels = 0;
         let mut bytes = 0;
-        while let Some((label, after)) = next(rest) {
+        while let Some((label, after)) = next_label(rest) {
             if let Some(place) = self.find(rest) {
                 return Some(Found {
                     labels,

@@ -2,7 +2,6 @@
 #![tactic(auto)]
 
 mod earlier;
-mod walk;
 
 pub use earlier::{Found, Suffixes};
 

@@ -1,20 +1,19 @@
 -- Records, questions and sections that stand at a place are those that are read there.
-use Rattle.std.proofs.Common.{◌≡◌, ℕ, zero, suc, ◌+◌, ◌<◌, ◌≤◌, Bool, true, false, ◌||◌, ◌&&◌, List, [], ◌∷◌, length, Option, Some, None, Ok, Err, IfOk, refl, sym, ◌∙◌, ap, subst, arith}
-use Rattle.std.specs.Prelude.{nat_eq, nat_lt, if◌then◌else◌, slice_range}
+use Rattle.std.proofs.Common.{◌≡◌, ℕ, zero, suc, ◌+◌, ◌<◌, ◌≤◌, false, List, [], ◌∷◌, length, Option, Some, None, Ok, Err, IfOk, refl, sym, ◌∙◌, ap, subst, arith}
+use Rattle.std.specs.Prelude.{nat_lt, slice_range}
 use Rattle.std.proofs.lemmas.Bool.Decides.{nat_tests}
 use Rattle.rdata.specs.Data.{Datum, Ipv4, Ns, Cname, Soa, Ptr, Mx, Txt, Ipv6, type_of}
 use Rattle.rdata.specs.Records.{Record}
 use Rattle.rdata.specs.Types.{type_number}
 use Rattle.rdata.specs.declared.rtype.RType.{RType}
-use Rattle.rdata.specs.declared.rtype.RType.TheVariants as served
 use Rattle.layout.specs.Names.{NameAt}
 use Rattle.layout.specs.Pieces.{Flat, plain_bytes}
 use Rattle.layout.specs.Places.{FlatsAt, PiecesAt}
-use Rattle.layout.specs.Messages.{Question, data_flats, internet, any_record_pieces, is_served, ttl_of, QuestionAt, QuestionsAt, RecordAt, SkippedAt, SectionAt, none_left, kept_first, skipped_first}
+use Rattle.layout.specs.Messages.{Question, data_flats, internet, any_record_pieces, served_type, ttl_of, QuestionAt, QuestionsAt, RecordAt, SkippedAt, SectionAt, none_left, kept_first, skipped_first}
 use Rattle.wire.specs.declared.error.WireError.TheVariants.{Short}
 use Rattle.wire.specs.Numbers.{two_at, four_at}
 use Rattle.wire.specs.Parts.{message_faults, name_at}
-use Rattle.wire.specs.Served.{type_by, served_type}
+use Rattle.layout.proofs.Served.{served_numbers}
 use Rattle.wire.specs.Values.{value_at}
 use Rattle.wire.specs.Results.{and_then}
 use Rattle.wire.specs.Entries.{kept_value, entry_kept, entry_sized, entry_behind, entry_at, with_kept, section_from, question_behind, question_at, with_question, questions_from}
@@ -25,57 +24,16 @@ use Rattle.wire.proofs.DataRead.{IsValue, value_stands, value_read, kind_of, dat
 -- ---- served types
 
 -- What a type and a class are, by what they are read as.
-abbrev AreServed : ℕ → ℕ → Bool → Option RType → Type 0
-AreServed kind class test None = test ≡ false
-AreServed kind class test (Some t) = (kind ≡ type_number t) × (class ≡ 1)
+abbrev AreServed : ℕ → ℕ → Option RType → Type 0
+AreServed kind class None = served_type kind class ≡ None
+AreServed kind class (Some t) = (kind ≡ type_number t) × (class ≡ internet)
 
-type_is : (kind class : ℕ) (a b c d e f g h : Bool) → class ≡ 1 → (a ≡ true → kind ≡ 1) → (b ≡ true → kind ≡ 2) → (c ≡ true → kind ≡ 5) → (d ≡ true → kind ≡ 6)
-    → (e ≡ true → kind ≡ 12) → (f ≡ true → kind ≡ 15) → (g ≡ true → kind ≡ 16) → (h ≡ true → kind ≡ 28)
-    → AreServed kind class (a || b || c || d || e || f || g || h)
-    (if a then Some served.A else (if b then Some served.Ns else (if c then Some served.Cname else (if d then Some served.Soa else (if e then Some served.Ptr
-    else (if f then Some served.Mx else (if g then Some served.Txt else (if h then Some served.Aaaa else None))))))))
-type_is kind class true b c d e f g h one p q r s t u v w = (p refl, one)
-type_is kind class false true c d e f g h one p q r s t u v w = (q refl, one)
-type_is kind class false false true d e f g h one p q r s t u v w = (r refl, one)
-type_is kind class false false false true e f g h one p q r s t u v w = (s refl, one)
-type_is kind class false false false false true f g h one p q r s t u v w = (t refl, one)
-type_is kind class false false false false false true g h one p q r s t u v w = (u refl, one)
-type_is kind class false false false false false false true h one p q r s t u v w = (v refl, one)
-type_is kind class false false false false false false false true one p q r s t u v w = (w refl, one)
-type_is kind class false false false false false false false false one p q r s t u v w = refl
-
-equal : (a b : ℕ) → nat_eq a b ≡ true → a ≡ b
-equal a b h = grind (arith, nat_tests)
-
-served_is : (kind class : ℕ) → AreServed kind class (is_served kind class) (served_type kind class)
-served_is kind class = by (nat_eq class 1) (equal class 1)
+served_is : (kind class : ℕ) → AreServed kind class (served_type kind class)
+served_is kind class = by (served_type kind class) refl
   where
-    by : (b : Bool) → (b ≡ true → class ≡ 1)
-        → AreServed kind class (b && (nat_eq kind 1 || nat_eq kind 2 || nat_eq kind 5 || nat_eq kind 6 || nat_eq kind 12 || nat_eq kind 15 || nat_eq kind 16 || nat_eq kind 28)) (if b then type_by kind else None)
-    by true h = type_is kind class (nat_eq kind 1) (nat_eq kind 2) (nat_eq kind 5) (nat_eq kind 6) (nat_eq kind 12) (nat_eq kind 15) (nat_eq kind 16) (nat_eq kind 28) (h refl)
-        (equal kind 1) (equal kind 2) (equal kind 5) (equal kind 6) (equal kind 12) (equal kind 15) (equal kind 16) (equal kind 28)
-    by false h = refl
-
-number_served : (t : RType) → is_served (type_number t) 1 ≡ true
-number_served served.A = refl
-number_served served.Ns = refl
-number_served served.Cname = refl
-number_served served.Soa = refl
-number_served served.Ptr = refl
-number_served served.Mx = refl
-number_served served.Txt = refl
-number_served served.Aaaa = refl
-
-other_type : (kind class : ℕ) → is_served kind class ≡ false → served_type kind class ≡ None
-other_type kind class h = by (served_type kind class) (served_is kind class)
-  where
-    by : (o : Option RType) → AreServed kind class (is_served kind class) o → o ≡ None
-    by None k = refl
-    by (Some t) k =
-        let number = k.0 in
-        let one = k.1 in
-        let yes : is_served kind class ≡ true = (λ i. is_served (number i) (one i)) ∙ number_served t in
-        cc
+    by : (o : Option RType) → served_type kind class ≡ o → AreServed kind class o
+    by None h = h
+    by (Some t) h = served_numbers kind class t h
 
 data_served : (d : Datum) → served_type (type_of d) internet ≡ Some (kind_of d)
 data_served (Ipv4 a) = refl
@@ -140,7 +98,7 @@ IsEntry bytes at (Some r, end) = RecordAt bytes at r end
 
 kept_stands : (bytes : List ℕ) (at : ℕ) (owner : List (List ℕ)) (mid : ℕ) → AreSmall bytes → NameAt bytes at owner mid
     → mid + 10 + two_at bytes (mid + 8) ≤ length bytes → (found : Option RType)
-    → AreServed (two_at bytes mid) (two_at bytes (mid + 2)) (is_served (two_at bytes mid) (two_at bytes (mid + 2))) found
+    → AreServed (two_at bytes mid) (two_at bytes (mid + 2)) found
     → IfOk (entry_kept found bytes owner (four_at bytes (mid + 4)) (mid + 10) (mid + 10 + two_at bytes (mid + 8))) (IsEntry bytes at)
 kept_stands bytes at owner mid small name fits None other =
     let size = two_at bytes (mid + 8) in
@@ -239,7 +197,7 @@ skipped_read bytes at end h =
     let last = group.stands.1.last in
     let close = group.stands.2 in
     let row = row_read bytes at h.owner h.kind h.class h.ttl (plain_bytes h.rdata ∷ []) end p h.fits_kind h.fits_class (omega arith) in
-    row ∙ ap (λ o. entry_kept o bytes h.owner (four_at bytes (p.0 + 4)) (p.0 + 10) end) (other_type h.kind h.class h.other)
+    row ∙ ap (λ o. entry_kept o bytes h.owner (four_at bytes (p.0 + 4)) (p.0 + 10) end) h.other
 
 -- ---- sections
 

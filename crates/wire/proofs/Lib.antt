@@ -8,4 +8,5 @@ pub mod Heading
 pub mod NamesRead
 pub mod DataRead
 pub mod EntriesRead
+pub mod Skipping
 pub mod MessagesRead

@@ -91,7 +91,7 @@ pub record Walk (bytes : List ℕ) (faults : Faults) (limit : ℕ) (whole : Spel
   pub taken : room + length (wire front) ≡ 255
   pub so_far : whole ≡ resumed front end (spelt_from fuel bytes faults stop border start place room)
 
-unfueled : (fuel : ℕ) (bytes : List ℕ) (faults : Faults) (stop : ℕ) (border : WireError) (start place room : ℕ) → 0 < fuel
+pub unfueled : (fuel : ℕ) (bytes : List ℕ) (faults : Faults) (stop : ℕ) (border : WireError) (start place room : ℕ) → 0 < fuel
     → spelt_from fuel bytes faults stop border start place room
     ≡ and_then (part_at bytes stop border faults.bad_label place) (followed (spelt_from (fuel - 1) bytes faults) bytes faults stop border start place room)
 unfueled zero bytes faults stop border start place room h = absurd (omega arith)

@@ -1,12 +1,13 @@
 pub mod Errors
+pub mod Limits
 pub mod Numbers
 pub mod Heads
 pub mod Results
 pub mod Parts
 pub mod Shapes
-pub mod Served
 pub mod Values
 pub mod Entries
+pub mod Skips
 pub mod Drafts
 pub mod Spellings
 pub mod Laws

@@ -8,6 +8,7 @@ use crate::error::WireError;
 use crate::header::Header;
 use crate::message::Message;
 use crate::spelling::Spelling;
+use crate::via::TCP_LIMIT;
 use crate::writer::{Tally, Writer};
 use dname::{Heap, Starved};
 use rdata::Record;
@@ -28,7 +29,7 @@ pub struct Draft<'a, A: Allocator = Global> {
 /// The encoding of a message (RFC 1035, section 4), names compressed: bytes that are this message, its
 /// questions' names in lower case. Refused where it is longer than `limit`, or where a growth is refused.
 pub fn encode<A: Heap>(alloc: A, m: &Message<A>, limit: usize) -> Result<Vec<u8, A>, WireError>
-    requires { limit ≤ 65535 }
+    requires { limit ≤ TCP_LIMIT }
     ensures ok { IfOk result (λ v. (v.items ≡ encoding m.now) × (length (encoding m.now) ≤ limit)) }
     ensures message { IfOk result (λ v. IsMessage v.items (folded_message m.now)) }
     ensures err { IfErr result (λ e. RefusesText e (encoding m.now) limit) }
@@ -87,7 +88,7 @@ pub fn encode_draft<A: Heap>(
     draft: &Draft<'_, A>,
     limit: usize,
 ) -> Result<Vec<u8, A>, WireError>
-    requires { limit ≤ 65535 }
+    requires { limit ≤ TCP_LIMIT }
     ensures ok { let m = drafted draft.now.header (asked_by (λ s. s.now) draft.now.question) draft.now.first.now draft.now.second.now draft.now.authority.now draft.now.additional.now in IfOk result (λ v. (v.items ≡ encoding m) × (length (encoding m) ≤ limit)) }
     ensures message { let m = drafted draft.now.header (asked_by (λ s. s.now) draft.now.question) draft.now.first.now draft.now.second.now draft.now.authority.now draft.now.additional.now in IfOk result (λ v. IsMessage v.items (folded_message m)) }
     ensures err { let m = drafted draft.now.header (asked_by (λ s. s.now) draft.now.question) draft.now.first.now draft.now.second.now draft.now.authority.now draft.now.additional.now in IfErr result (λ e. RefusesText e (encoding m) limit) }

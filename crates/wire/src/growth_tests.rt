@@ -45,3 +45,14 @@ fn each_growth_of_a_spelling_is_refused(rt: HostRuntime) -> Result<(), Fail> {
     }
     Ok(())
 }
+
+// Two records of a type that is not served: one owner in full, one by a pointer to it.
+#[test]
+fn skipped_records_take_no_memory(rt: HostRuntime) -> Result<(), Fail> {
+    let bytes =
+        b"\0\x01\x80\0\0\0\0\x02\0\0\0\0\x01a\x07example\0\0\x63\0\x01\0\0\0\x01\0\x01x\xc0\x0c\0\x63\0\x01\0\0\0\x01\0\0";
+    let heap = Refusing::new(rt.alloc());
+    assert!(rt; decode(&heap, bytes)?.answer.is_empty());
+    assert_eq!(rt; heap.growths(), 0);
+    Ok(())
+}

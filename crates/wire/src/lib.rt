@@ -24,7 +24,7 @@ pub use laws::{decoding_is_message, encoding_is_read_back, reading_is_spelling};
 pub use message::{Message, Question, Questions};
 pub use reader::{decode, question_spelling};
 pub use spelling::Spelling;
-pub use via::Via;
+pub use via::{TCP_LIMIT, UDP_LIMIT, Via};
 
 #[cfg(test)]
 mod fault_tests;

@@ -1,9 +1,10 @@
 ghost use Rattle.std.specs.Prelude.{◌≡◌, ℕ, ◌≤◌, ◌<◌, ◌+◌, List, [], Ok, length, IfOk, OnOk};
 ghost use Rattle.dname.specs.Labels.{wire};
 ghost use Rattle.dname.specs.Draft.{labelled};
-ghost use Rattle.wire.specs.Parts.{spelt_at, name_at};
+ghost use Rattle.wire.specs.Parts.{message_faults, spelt_at, name_at};
 ghost use Rattle.wire.specs.Entries.{spelling_of};
-ghost use Rattle.wire.specs.Results.{Gives};
+ghost use Rattle.wire.specs.Results.{Gives, and_then};
+ghost use Rattle.wire.specs.Skips.{end_alone};
 
 use crate::error::WireError;
 use crate::parts::{Faults, Part, part_at};
@@ -69,6 +70,46 @@ pub fn name_at<A: Heap>(
                 start = target;
                 stop = bytes.len();
                 border = WireError::Short;
+                place = target;
+            }
+        }
+    }
+}
+
+// The end of the name at a place of a message: whether one stands there, as `name_at` decides it. None is built.
+pub fn name_end(bytes: &[u8], at: usize) -> Result<usize, WireError>
+    ensures is { result ≡ and_then (name_at bytes.now message_faults (length bytes.now) at) end_alone }
+    ensures within { IfOk result (λ end. end ≤ length bytes.now) }
+{
+    let mut start = at;
+    let mut place = at;
+    let mut room = 255;
+    let mut end = None;
+    'parts: loop {
+        match part_at(
+            bytes,
+            bytes.len(),
+            WireError::Short,
+            WireError::BadLabel,
+            place,
+        )? {
+            Part::End => return Ok(end.unwrap_or(place + 1)),
+            Part::Label(size) => {
+                if room < size + 2 {
+                    return Err(WireError::NameTooLong);
+                }
+                if bytes.len() - place - 1 < size {
+                    return Err(WireError::Short);
+                }
+                place += 1 + size;
+                room -= size + 1;
+            }
+            Part::Pointer(target) => {
+                if target >= start {
+                    return Err(WireError::PointerNotEarlier);
+                }
+                end = end.or(Some(place + 2));
+                start = target;
                 place = target;
             }
         }

@@ -1,39 +1,75 @@
-ghost use Rattle.std.specs.Prelude.{◌≡◌, ℕ, ◌≤◌, ◌+◌, List, Option, length, option_to_list, ◌++◌, OnOk};
+ghost use Rattle.std.specs.Prelude.{◌≡◌, ℕ, ◌≤◌, ◌+◌, List, Option, length, option_to_list, ◌++◌, OnOk, IsOk, IsTrue, Ok, None};
 ghost use Rattle.rdata.specs.Records as plain;
 ghost use Rattle.layout.specs.Messages as layouts;
 ghost use Rattle.layout.specs.Messages.{ttl_of};
 ghost use Rattle.wire.specs.Entries.{entry_at, section_from, question_at, questions_from};
 ghost use Rattle.wire.specs.Results.{Gives};
+ghost use Rattle.wire.specs.Skips.{IsSkipping};
 
 use crate::error::WireError;
 use crate::fields::{four_at, two_at};
 use crate::message::{Question, Questions};
-use crate::names::name_at;
+use crate::names::{name_at, name_end};
 use crate::parts::Faults;
 use crate::served::served_type;
 use crate::values::value_at;
 use dname::{Heap, Starved};
-use rdata::{Record, Records};
+use rdata::{GREATEST_TTL, Record, Records};
 
-// The greatest TTL: one with its top bit set is read as 0 (RFC 2181, section 8).
-const GREATEST_TTL: u32 = 2_147_483_647;
-
+// A TTL as it is read: one with its top bit set is 0 (RFC 2181, section 8).
 fn ttl_of(ttl: u32) -> u32
     ensures is { result ≡ ttl_of ttl }
-    ensures within { result ≤ 2147483647 }
+    ensures within { result ≤ GREATEST_TTL }
 {
     if ttl > GREATEST_TTL { 0 } else { ttl }
 }
 
-// The record at a place, where it is one that is kept, and its end.
+// Whether a pointer stands there, and behind it a served type and class IN: so begins the usual record. It is
+// kept if it is one at all.
+fn begins_usual(bytes: &[u8], at: usize) -> bool
+    ensures { IsTrue result → (end : ℕ) → entry_at bytes.now at ≡ Ok (None, end) → ⊥ }
+{
+    if bytes.len() < 12 || at > bytes.len() - 12 || bytes[at] < 192 {
+        return false;
+    }
+    served_type(two_at(bytes, at + 2), two_at(bytes, at + 4)).is_some()
+}
+
+// The end of the record at a place, where it is one that is skipped: its owner is walked, and takes no memory.
+fn skipped_end(bytes: &[u8], at: usize) -> Result<Option<usize>, WireError>
+    ensures { IsSkipping result (entry_at bytes.now at) }
+{
+    if begins_usual(bytes, at) {
+        return Ok(None);
+    }
+    let past = name_end(bytes, at)?;
+    if bytes.len() - past < 10 {
+        return Err(WireError::Short);
+    }
+    let size = usize::from(two_at(bytes, past + 8));
+    let start = past + 10;
+    if bytes.len() - start < size {
+        return Err(WireError::Short);
+    }
+    match served_type(two_at(bytes, past), two_at(bytes, past + 2)) {
+        None => Ok(Some(start + size)),
+        Some(_) => Ok(None),
+    }
+}
+
+// The record at a place, where it is one that is kept, and its end. One that is skipped takes no memory.
 #[tactic(auto, using(crate::proofs::Walks::fails_with), unfolding(crate::specs::Entries::entry_at))]
 fn entry_at<A: Heap>(
     alloc: A,
     bytes: &[u8],
     at: usize,
 ) -> Result<(Option<Record<A>>, usize), WireError>
-    ensures { Gives {Y = Option plain.Record × ℕ} (λ x. (x.0, x.1)) result (entry_at bytes.now at) }
+    ensures is { Gives {Y = Option plain.Record × ℕ} (λ x. (x.0, x.1)) result (entry_at bytes.now at) }
+    ensures skipped { (end : ℕ) → entry_at bytes.now at ≡ Ok (None, end) → IsOk result }
 {
+    if let Some(end) = skipped_end(bytes, at)? {
+        return Ok((None, end));
+    }
     let (owner, at) = name_at(alloc, bytes, Faults::in_message(), bytes.len(), at)?;
     if bytes.len() - at < 10 {
         return Err(WireError::Short);

@@ -12,17 +12,14 @@ ghost use Rattle.wire.specs.Drafts.{counts_by};
 use crate::error::WireError;
 use crate::header::Header;
 use crate::message::Question;
-use crate::served::INTERNET;
 use crate::spelling::Spelling;
+use crate::via::UDP_LIMIT;
 use byteorder::{BigEndian, ByteOrder};
 use dname::{Heap, Name, Starved};
-use rdata::{RData, Record, Soa, Texts};
+use rdata::{INTERNET, RData, Record, Soa, Texts};
 use std::alloc::{Allocator, Global};
 use std::marker::Model;
 use suffixes::Suffixes;
-
-// Bytes of a message over UDP at most (RFC 1035, section 4.2.1): one growth serves a message up to them.
-const COMMON_SIZE: usize = 512;
 
 // How many questions and records a header announces.
 #[derive(Clone, Copy)]
@@ -58,12 +55,12 @@ fn pointer_to(place: u16) -> [u8; 2]
 }
 
 impl<A: Heap> Writer<A> {
-    // Nothing written yet, with room for most messages.
+    // Nothing written yet: one growth serves a message that fits a datagram.
     pub fn new(alloc: A) -> Result<Writer<A>, Starved>
         ensures { IfOk result (λ w. w ≡ empty) }
     {
         Ok(Writer {
-            bytes: Vec::with_capacity(alloc, COMMON_SIZE)?,
+            bytes: Vec::with_capacity(alloc, UDP_LIMIT)?,
             names: Suffixes::new(alloc)?,
         })
     }

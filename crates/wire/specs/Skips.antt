@@ -1,0 +1,14 @@
+-- Records that are read without their owners' names.
+use Rattle.std.specs.Prelude.{◌≡◌, ℕ, Option, Some, None, Result, Ok, Err, List}
+use Rattle.rdata.specs.Records.{Record}
+use Rattle.wire.specs.declared.error.WireError.{WireError}
+
+-- The end of what lies at a name's place.
+abbrev pub end_alone : List (List ℕ) × ℕ → Result ℕ WireError
+end_alone (name, end) = Ok end
+
+-- A refusal is the record's, an end is that of a record that is skipped, and with none the record is not skipped.
+abbrev pub IsSkipping : Result (Option ℕ) WireError → Result (Option Record × ℕ) WireError → Type 0
+IsSkipping (Err e) read = read ≡ Err e
+IsSkipping (Ok (Some end)) read = read ≡ Ok (None, end)
+IsSkipping (Ok None) read = (end : ℕ) → read ≡ Ok (None, end) → ⊥
