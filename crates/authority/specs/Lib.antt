@@ -4,3 +4,4 @@ pub mod Catalogs
 pub mod Causes
 pub mod Climb
 pub mod OneAnswer
+pub mod Seen

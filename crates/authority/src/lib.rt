@@ -4,6 +4,7 @@
 mod answer;
 mod catalog;
 mod cause;
+mod gather;
 mod laws;
 mod plain;
 

@@ -12,6 +12,7 @@ ghost use Rattle.authority.specs.Answers.{link_view, local_view};
 ghost use Rattle.authority.specs.Climb.{target, is_picked, picked, has_data, has_glue, has_under};
 
 use crate::answer::{Link, Local};
+use crate::gather::{gathered, owned_by};
 use dname::{Heap, Name, Starved};
 use rdata::{RData, RType, Record, Records};
 use std::alloc::Allocator;
@@ -34,7 +35,12 @@ fn is_kind<A: Allocator>(added: &Record<A>, kind: RType) -> bool
 }
 
 // Whether it stands there and has the type.
-fn answers<A: Allocator>(added: &Record<A>, name: &Name<A>, wild: bool, kind: RType) -> bool
+pub(crate) fn answers<A: Allocator>(
+    added: &Record<A>,
+    name: &Name<A>,
+    wild: bool,
+    kind: RType,
+) -> bool
     ensures { result ≡ is_picked (target wild name.now) (type_number kind) added.now }
 {
     stands(added, name, wild) && is_kind(added, kind)
@@ -79,73 +85,6 @@ fn first_of<'a, A: Allocator>(
     records
         .iter()
         .find(|added| answers(added, name, wild, kind))
-}
-
-fn has_value<A: Allocator>(kept: &Record<A>, value: &RData<A>) -> bool
-    ensures { result ≡ same_data kept.now.value (datum value.now) }
-{
-    kept.value.is_same(value)
-}
-
-// Whether the set has that data.
-fn has<A: Allocator>(set: &[Record<A>], value: &RData<A>) -> bool
-    ensures { result ≡ has_data (datum value.now) set.now }
-{
-    set.iter().any(|kept| has_value(kept, value))
-}
-
-fn owned_by<A: Heap>(owner: &Name<A>, added: &Record<A>) -> Result<Record<A>, Starved>
-    ensures { IfOk result (λ r. r ≡ with_owner owner.now added.now) }
-{
-    Ok(Record {
-        owner: owner.clone()?,
-        ttl: added.ttl,
-        value: added.value.clone()?,
-    })
-}
-
-// One record more with that owner, where its data is new.
-fn put_new<A: Heap>(set: &mut Records<A>, owner: &Name<A>, added: &Record<A>) -> Result<(), Starved>
-    ensures { OnOk result (set.new ≡ add_new set.old (with_owner owner.now added.now)) }
-{
-    if has(set.as_slice(), &added.value) {
-        return Ok(());
-    }
-    set.push(owned_by(owner, added)?)?;
-    Ok(())
-}
-
-// The same of a record that may have another type or name.
-fn put_picked<A: Heap>(
-    set: &mut Records<A>,
-    owner: &Name<A>,
-    added: &Record<A>,
-    picked: bool,
-) -> Result<(), Starved>
-    ensures { OnOk result (set.new ≡ cond picked (add_new set.old (with_owner owner.now added.now)) set.old) }
-{
-    if picked {
-        put_new(set, owner, added)?;
-    }
-    Ok(())
-}
-
-// The set of a type there, each record once, with `owner` as owner.
-fn gathered<A: Heap>(
-    alloc: A,
-    records: &[Record<A>],
-    owner: &Name<A>,
-    kind: RType,
-    name: &Name<A>,
-    wild: bool,
-) -> Result<Records<A>, Starved>
-    ensures { IfOk result (λ set. set ≡ firsts (map (with_owner owner.now) (picked (target wild name.now) (type_number kind) records.now))) }
-{
-    let mut set = Records::new(alloc);
-    for added in records {
-        put_picked(&mut set, owner, added, answers(added, name, wild, kind))?;
-    }
-    Ok(set)
 }
 
 // An alias there, with `owner` as owner, or the denial.

@@ -279,6 +279,40 @@ fn each_growth_of_ask_is_refused(rt: HostRuntime) -> Result<(), Fail> {
     Ok(())
 }
 
+// A text that is made while the test runs, at every path.
+#[derive(Clone, Copy)]
+struct Made<'a>(&'a str);
+
+impl Texts for Made<'_> {
+    fn text<A: Heap>(&mut self, alloc: A, _path: &str) -> Result<Option<String<A>>, Starved> {
+        Ok(Some(String::from_str(alloc, self.0)?))
+    }
+}
+
+// So many addresses of one owner, behind the records of a zone's top.
+fn many_addresses(alloc: Global, count: u32) -> Result<String, AllocError> {
+    let mut text = String::from_str(alloc, "$TTL 300\n@ SOA ns h 1 2 3 4 60\n@ NS ns\n")?;
+    for n in 0..count {
+        let (high, low) = (n / 256 % 256, n % 256);
+        write!(&mut text, "x A 10.1.{high}.{low}\n")?;
+    }
+    Ok(text)
+}
+
+#[test]
+fn a_long_set_is_answered(rt: HostRuntime) -> Result<(), Fail> {
+    let alloc = rt.alloc();
+    let text = many_addresses(alloc, 60_000)?;
+    let command = ask_line(alloc, "lab.example.", "lab.zone", "x.lab.example.", "A")?;
+    let mut source = Made(text.as_str());
+    let mut out = Page::new(alloc, WIDE);
+    let mut err = Page::new(alloc, WIDE);
+    let status = run_command(alloc, &command, &mut source, &mut out, &mut err);
+    assert_eq!(rt; status, 0);
+    assert!(rt; out.bytes.as_slice() == "reply 1 NOERROR aa tc\n".as_bytes());
+    Ok(())
+}
+
 #[test]
 fn words_are_read_before_the_file(rt: HostRuntime) -> Result<(), Fail> {
     for (line, want) in [
