@@ -83,14 +83,14 @@ pub record Refuses (action : Action) (t : Turn) : Type 0 where
   pub reads : IsAsked {A = Plain} bytes (heard.Refuse refusal start echo)
   pub reply : IsRefusal client way refusal start echo action
 
--- Each reply of a step goes to the client whose query the step serves, and is right where that query is
--- recursive; or it refuses bytes that are none.
+-- A reply of a step goes to the client whose query the step serves, or refuses bytes that are none; and to
+-- every recursive query that the step serves it is right.
+pub record IsRightAnswer (W : World) (t : Turn) (past : List Turn) (client : ℕ) (way : Via) (bytes : List ℕ) (c : Option Cause) : Type 0 where
+  pub to : Refuses (Reply client way bytes c) t ⊎ ((who : Asker) × (who.client ≡ client) × (who.way ≡ way) × IsServedFor who t past)
+  pub right : (who : Asker) → IsServedFor who t past → recursive who.query ≡ true → IsRightReply W who.way (who.query).name (type_number (who.query).kind) bytes
+
 abbrev pub RepliesAreRight : World → Turn → List Turn → Type 0
-RepliesAreRight W t past =
-    (client : ℕ) (way : Via) (bytes : List ℕ) (c : Option Cause) → GivesOut t.out (Reply client way bytes c)
-    → Refuses (Reply client way bytes c) t
-    ⊎ ((who : Asker) × (who.client ≡ client) × (who.way ≡ way) × IsServedFor who t past
-    × (recursive who.query ≡ true → IsRightReply W way (who.query).name (type_number (who.query).kind) bytes))
+RepliesAreRight W t past = (client : ℕ) (way : Via) (bytes : List ℕ) (c : Option Cause) → GivesOut t.out (Reply client way bytes c) → IsRightAnswer W t past client way bytes c
 
 -- Every reply is right.
 abbrev pub Headline : Type 0
