@@ -3,4 +3,4 @@
 
 mod laws;
 
-pub use laws::held_law;
+pub use laws::{held_law, kept_law};

@@ -1,0 +1,34 @@
+-- What a cache of links goes through: links that are kept, and look-ups that find one.
+use Rattle.std.specs.Prelude.{◌≡◌, ℕ, Option, Some, None, List, [], ◌∷◌, IsSome}
+use Rattle.dname.specs.Labels.{Name}
+use Rattle.cache.specs.Keys.{Key}
+use Rattle.cache.specs.Cached.{Hit, answer, moved, after_keep}
+
+-- A question of a name and a type.
+pub record Question : Type 0 where
+  pub name : Name
+  pub kind : ℕ
+
+abbrev pub question : Name → ℕ → Question
+question n t = record { name = n; kind = t }
+
+-- A link that was accepted as the answer to a question, as it is kept.
+pub record Accepted : Type 0 where
+  pub name : Name
+  pub kind : ℕ
+  pub hit : Hit
+
+-- The entries after these look-ups, each of which found something.
+abbrev pub AreHits : ℕ → List Question → List (Key × Hit) → List (Key × Hit) → Type 0
+AreHits now [] old new = new ≡ old
+AreHits now (a ∷ more) old new = IsSome (answer a.name a.kind now old) × AreHits now more (moved (answer a.name a.kind now old) old) new
+
+-- The entries after a link was kept, if one was.
+abbrev pub took : ℕ → Option Accepted → List (Key × Hit) → List (Key × Hit)
+took cap None es = es
+took cap (Some a) es = after_keep cap a.name a.kind a.hit es
+
+-- How many links were kept.
+abbrev pub is_kept : Option Accepted → ℕ
+is_kept None = 0
+is_kept (Some a) = 1
