@@ -1,7 +1,8 @@
 //! How long what a server says is kept (RFC 2181, section 8; RFC 2308, sections 3 and 5).
-ghost use Rattle.std.specs.Prelude.{◌≡◌};
+ghost use Rattle.std.specs.Prelude.{◌≡◌, ◌≤◌};
 ghost use Rattle.rdata.specs.Caps.{capped};
 ghost use Rattle.rdata.specs.Kept.{datum};
+ghost use Rattle.rdata.specs.Records.{greatest_ttl};
 ghost use Rattle.zone.specs.Links.{counted, denial_ttl};
 ghost use Rattle.authority.specs.Answers.{link_view};
 ghost use Rattle.classify.specs.Lifetimes.{received, received_denial, shortest, lifetime_of, ReceivedIsSame, ReceivedIsShort};
@@ -66,7 +67,8 @@ fn counted(minimum: u32) -> u32
 /// For how many seconds a link is kept: the TTL of its record, of several the lowest, of none 0
 /// (RFC 2181, section 5.2).
 pub fn lifetime<A: Allocator>(link: &Link<A>) -> u32
-    ensures { result ≡ lifetime_of (link_view link.now) }
+    ensures value { result ≡ lifetime_of (link_view link.now) }
+    ensures most { result ≤ greatest_ttl }
 {
     match link {
         Link::Found(records) => shortest(records.as_slice()),
@@ -75,7 +77,8 @@ pub fn lifetime<A: Allocator>(link: &Link<A>) -> u32
 }
 
 fn shortest<A: Allocator>(records: &[Record<A>]) -> u32
-    ensures { result ≡ shortest records.now }
+    ensures value { result ≡ shortest records.now }
+    ensures most { result ≤ greatest_ttl }
 {
     match records {
         [] => 0,
