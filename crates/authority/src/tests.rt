@@ -281,6 +281,28 @@ fn ten_thousand_zones_are_a_catalog(rt: HostRuntime) -> Result<(), Fail> {
     Ok(())
 }
 
+// How many of forty addresses, each of them twice, a zone has at a name.
+fn found_twice<A: Heap>(alloc: A) -> Result<usize, Starved> {
+    let mut records = top(alloc, "example")?;
+    for n in 0..80_u8 {
+        let address = RData::A(Addr([192, 0, 2, n % 40]));
+        put(alloc, &mut records, "many.example", 60, address)?;
+    }
+    let mut zones = Vec::new(alloc);
+    zones.push(zone(alloc, "example", records)?)?;
+    let Ok(zones) = Catalog::new(zones) else {
+        return Err(Starved);
+    };
+    let (_, _, found, _) = told(alloc, &zones, "many.example", RType::A)?;
+    Ok(found)
+}
+
+#[test]
+fn repeats_are_found_in_long_sets(rt: HostRuntime) -> Result<(), Fail> {
+    assert!(rt; matches!(found_twice(rt.alloc()), Ok(40)));
+    Ok(())
+}
+
 // What two zones say of a name beneath a wildcard, and of one beneath a cut.
 fn both_told<A: Heap>(alloc: A) -> Result<(usize, usize), Starved> {
     let zones = catalog(alloc)?;
