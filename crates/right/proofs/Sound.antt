@@ -1,7 +1,6 @@
 -- What is true of a run's stores and open queries stays true in each step, and so its replies are right.
-use Rattle.std.proofs.Common.{◌≡◌, ◌≢◌, ℕ, ◌+◌, ◌<◌, true, false, Option, Some, None, List, [], ◌∷◌, inl, inr, refl, sym, ◌∙◌, ap, subst, arith}
+use Rattle.std.proofs.Common.{◌≡◌, ◌≢◌, ℕ, ◌+◌, ◌<◌, Option, Some, None, List, [], ◌∷◌, inl, inr, refl, sym, ◌∙◌, ap, subst, arith}
 use Rattle.std.specs.Prelude.{Contains}
-use Rattle.zone.proofs.LawLists.{none_in, first_in}
 use Rattle.dname.specs.Labels.{Name}
 use Rattle.rdata.specs.Types.{type_number}
 use Rattle.rdata.specs.declared.addr.Addr.{Addr}
@@ -27,79 +26,16 @@ use Rattle.truth.specs.Frames.{MayAsk}
 use Rattle.front.specs.Replies.{reply_of}
 use Rattle.resolution.specs.Jobs.{wait_of_job, Stores, Job, bytes_of, Input, Start, Next, Ask, AskTcp, Done, Fail}
 use Rattle.resolution.specs.Rules.{Stops}
-use Rattle.runs.specs.States.{Event, Client, Datagram, TcpReply, TcpFailed, Tick, Action, Reply, MoreDue, Served, Nobody, Own, Query, Turn, Plain, Asker, asker, recursive, job_for, Path, ByUdp, ByTcp, Asking, IsFor, Open, open_query, Site, State, moved}
-use Rattle.runs.specs.Messages.{AreWritten, sending, IsSent, Brings, outcome_of, IsRefusal}
+use Rattle.runs.specs.States.{Event, Client, Datagram, TcpReply, TcpFailed, Tick, Action, Reply, MoreDue, Served, Nobody, Own, Query, Turn, Plain, Asker, asker, recursive, job_for, Asking, IsFor, Open, open_query, Site, State}
+use Rattle.runs.specs.Messages.{AreWritten, IsSent, Brings, outcome_of, IsRefusal}
 use Rattle.runs.specs.Steps.{AreOthers, Ends, Waits, Comes, IsAsking, IsOpened, at_once, crowded, admitted, Resolves, IsHandled, IsInput, IsIgnored, Hears, IsLate, IsFollowed, IsTicked, IsLeft, IsTurn}
-use Rattle.runs.specs.Runs.{Run, Earlier, Always, GivesOut, Asks, Accepts, Came}
-use Rattle.runs.proofs.Clocks.{clock_of_run}
-use Rattle.right.specs.Headline.{IsHonest, IsHomeIn, IsRightReply, IsServedFor, IsRightAnswer, RepliesAreRight}
+use Rattle.runs.specs.Runs.{Earlier, GivesOut, Accepts, Came}
+use Rattle.right.specs.Headline.{IsHomeIn, IsRightReply, IsServedFor, IsRightAnswer, RepliesAreRight}
+use Rattle.right.proofs.Actions.{IsNoClient, IsNoQuery, false_not_true, more_is_no_reply, no_action, no_reply_sent, nobody_not_query, one_query, only_action, own_not_query, reply_parts, there}
 use Rattle.right.proofs.Lists.{front_in, both_cases, only_one}
 use Rattle.right.proofs.Points.{IsTrueJob, AreTrue, IsTrueInput, IsTold, AsksTruly, IsTrueNext, advances_true, stops_true}
 use Rattle.right.proofs.Replies.{fail_right, chain_right}
-
--- ---- what is true of a run
-
--- An open query: its client asked it earlier, its work is true, and its open ask is of a server that may be asked.
-pub record IsTrueOpen (W : World) (port : ℕ) (run : List Turn) (q : Open) : Type 0 where
-  pub echo : folded_question ((q.asker).query).echo ≡ question_of (q.asker).query
-  pub came : Earlier (Came (Query q.number) q.asker) run
-  pub only : (who : Asker) → Earlier (Came (Query q.number) who) run → who ≡ q.asker
-  pub job : IsTrueJob W ((q.asker).query).name (type_number ((q.asker).query).kind) q.job
-  pub ask : Asks port q.number q.ask run
-  pub asks : AsksTruly W (q.ask).server (q.ask).name (q.ask).kind q.job
-
-pub record IsSound (W : World) (port : ℕ) (run : List Turn) (s : State) : Type 0 where
-  pub stores : AreTrue W s.stores
-  pub queries : (q : Open) → Contains s.queries q → IsTrueOpen W port run q
-  pub numbers : (k : ℕ) (who : Asker) → Earlier (Came (Query k) who) run → k < s.opened
-
--- ---- actions
-
-no_reply_sent : {P : Type 0} (port : ℕ) (a : Asking) (path : Path) (bytes sent : List ℕ) (client : ℕ) (way : Via) (c : Option Cause) → sending port a path sent ≡ Reply client way bytes c → P
-no_reply_sent port a (ByUdp sock) bytes sent client way c e = cc
-no_reply_sent port a (ByTcp number) bytes sent client way c e = cc
-
-more_is_no_reply : {P : Type 0} (client : ℕ) (way : Via) (bytes : List ℕ) (c : Option Cause) → MoreDue ≡ Reply client way bytes c → P
-more_is_no_reply client way bytes c e = cc
-
-reply_parts : {c d : ℕ} {v w : Via} {x y : List ℕ} {e f : Option Cause} → Reply c v x e ≡ Reply d w y f → (c ≡ d) × (v ≡ w) × (x ≡ y)
-reply_parts h = (cc, cc, cc)
-
-own_not_query : {P : Type 0} (k : ℕ) → Own ≡ Query k → P
-own_not_query k e = cc
-
-nobody_not_query : {P : Type 0} (k : ℕ) → Nobody ≡ Query k → P
-nobody_not_query k e = cc
-
-one_query : (k n : ℕ) → Query k ≡ Query n → k ≡ n
-one_query k n e = cc
-
-false_not_true : {P : Type 0} → false ≡ true → P
-false_not_true e = cc
-
--- The only action of a step.
-only_action : (out : List Action) (x y : Action) → out ≡ x ∷ [] → Contains out y → x ≡ y
-only_action out x y is m = only_one x y (subst (λ (l : List Action). Contains l y) is m)
-
-no_action : {P : Type 0} (out : List Action) (y : Action) → out ≡ [] → Contains out y → P
-no_action out y is m = absurd (none_in y (subst (λ (l : List Action). Contains l y) is m))
-
-there : (out : List Action) (x : Action) → out ≡ x ∷ [] → Contains out x
-there out x is = subst (λ (l : List Action). Contains l x) (sym is) (first_in x [])
-
-abbrev IsNoQuery : Asked Plain → Type 0
-IsNoQuery heard.Drop = Unit {0}
-IsNoQuery (heard.Refuse refusal start echo) = Unit {0}
-IsNoQuery (heard.Query q) = ⊥
-
-abbrev IsNoClient : Event → Type 0
-IsNoClient (Client now client way bytes) = ⊥
-IsNoClient (Datagram now sock from bytes) = Unit {0}
-IsNoClient (TcpReply now number bytes) = Unit {0}
-IsNoClient (TcpFailed now number) = Unit {0}
-IsNoClient (Tick now) = Unit {0}
-
--- ---- one step
+use Rattle.right.proofs.Opens.{IsTrueOpen, IsSound}
 
 module _ (W : World) (w : IsWorld W) (site : Site) (ours : IsHomeIn W site.home) (t : Turn) (past : List Turn) (s : State) (at : s.site ≡ site) (sound : IsSound W site.port past s)
     (honest : (k : ℕ) (a : Asking) (m : Message) → Accepts site.port k a m t past → MayServe W (a.server).0 a.name a.kind m) where
@@ -495,7 +431,7 @@ module _ (W : World) (w : IsWorld W) (site : Site) (ours : IsHomeIn W site.home)
       let fine = elim h as (λ x. IsFine first new) [ inl late ↦ late_fine now first new event late | inr hears ↦ hears_fine (Tick now) first new event (λ a m. in_out out is a (incl.0 a m)) hears ] in
       fine_done out new is (fine.0, λ client way bytes c m. fine.1 client way bytes c (incl.1 client way bytes c m))
 
-  turn_done : (event : Event) (out : Option (List Action)) (new : State) → t.event ≡ event → t.out ≡ out → IsTurn s event t.served out new → IsDone new
+  pub turn_done : (event : Event) (out : Option (List Action)) (new : State) → t.event ≡ event → t.out ≡ out → IsTurn s event t.served out new → IsDone new
   turn_done (Client now client way bytes) None new event is (served, left) =
       starved_done new is (left_sound s.opened _ new (only_own s.opened served) (own_none served) (λ stores on. start_stops on.0 stores on.1) left)
   turn_done (Datagram now sock from bytes) None new event is (q, stands, served, meant, left) = starved_done new is (meant_sound _ q new event tt stands served left)
@@ -510,28 +446,3 @@ module _ (W : World) (w : IsWorld W) (site : Site) (ours : IsHomeIn W site.home)
   turn_done (TcpFailed now number) (Some out) new event is (inl h) = fine_done out new is (ignored_fine _ out new h)
   turn_done (TcpFailed now number) (Some out) new event is (inr h) = fine_done out new is (hears_fine _ out new event (in_out out is) h)
   turn_done (Tick now) (Some out) new event is h = ticked_done now out new event is h
-
--- ---- runs
-
-pub sound_run : (W : World) (site : Site) (run : List Turn) (s : State) → IsWorld W → IsHomeIn W site.home → Run site run s → IsHonest W site.port run
-    → IsSound W site.port run s × Always (RepliesAreRight W) run
-sound_run W site [] s w ours new honest = (
-  record {
-    stores = record {
-      cache = λ k h m. absurd (none_in (k, h) (subst (λ (es : _). Contains es (k, h)) new.cache m));
-      cuts = λ n k m. absurd (none_in (n, k) (subst (λ (es : _). Contains es (n, k)) new.delegations m));
-    };
-    queries = λ q m. absurd (none_in q (subst (λ (qs : List Open). Contains qs q) new.queries m));
-    numbers = λ k who none. absurd none;
-  },
-  tt,
-)
-sound_run W site (t ∷ past) s w ours (old, legal, step) honest =
-    let (sound, right) = sound_run W site past old w ours legal honest.1 in
-    let here = (clock_of_run site past old legal).1 in
-    let again : IsSound W site.port past (moved old t.event) = record { stores = sound.stores; queries = sound.queries; numbers = sound.numbers } in
-    let done = turn_done W w site ours t past (moved old t.event) here again honest.0 t.event t.out s refl refl step.turn in
-    (done.0, (done.1, right))
-
-pub every_reply_is_right : (W : World) (site : Site) (run : List Turn) (s : State) → IsWorld W → IsHomeIn W site.home → Run site run s → IsHonest W site.port run → Always (RepliesAreRight W) run
-every_reply_is_right W site run s w ours legal honest = (sound_run W site run s w ours legal honest).1

@@ -1,7 +1,7 @@
 -- The theorem: every reply is right. In a well formed world whose local zones and hints are the resolver's, and
 -- in every run in which servers say only what they may, each reply to a recursive query is a SERVFAIL, or is cut
 -- as it should be, or says the whole truth of the question and nothing else.
-use Rattle.std.specs.Prelude.{◌≡◌, ℕ, ◌<◌, ◌⊎◌, true, Option, List, [], length, Contains}
+use Rattle.std.specs.Prelude.{◌≡◌, ◌∷◌, ℕ, ◌<◌, ◌⊎◌, true, Option, List, [], length, Contains}
 use Rattle.dname.specs.Labels.{Name}
 use Rattle.rdata.specs.Types.{type_number}
 use Rattle.rdata.specs.declared.addr.Addr.{Addr}
@@ -92,6 +92,7 @@ pub record IsRightAnswer (W : World) (t : Turn) (past : List Turn) (client : ℕ
 abbrev pub RepliesAreRight : World → Turn → List Turn → Type 0
 RepliesAreRight W t past = (client : ℕ) (way : Via) (bytes : List ℕ) (c : Option Cause) → GivesOut t.out (Reply client way bytes c) → IsRightAnswer W t past client way bytes c
 
--- Every reply is right.
+-- Every reply is right up to which servers were honest, whatever they say later.
 abbrev pub Headline : Type 0
-Headline = (W : World) (site : Site) (run : List Turn) (s : State) → IsWorld W → IsHomeIn W site.home → Run site run s → IsHonest W site.port run → Always (RepliesAreRight W) run
+Headline = (W : World) (site : Site) (run : List Turn) (s : State) → IsWorld W → IsHomeIn W site.home → Run site run s
+    → Always (λ t past. IsHonest W site.port (t ∷ past) → RepliesAreRight W t past) run

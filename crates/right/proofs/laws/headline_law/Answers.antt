@@ -1,4 +1,4 @@
-use Rattle.right.proofs.Sound.{every_reply_is_right}
+use Rattle.right.proofs.Every.{every_reply_is_right}
 use Rattle.right.proofs.laws.headline_law.Goals as goal
 
 pub returns : goal.returns
