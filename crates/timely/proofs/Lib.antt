@@ -11,7 +11,8 @@ pub mod Later
 pub mod Enters
 pub mod Leaving
 pub mod States
-pub mod Turns
 pub mod Timed
 pub mod Sent
 pub mod Learnt
+pub mod Turns
+pub mod Failing

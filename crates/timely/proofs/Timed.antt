@@ -120,9 +120,17 @@ module _ (port : ℕ) (home : Home) (run : List Turn) (k t : ℕ) (Mine : Type 0
     where
       by_hit : (hit : Hit) → IsRemote home n t → Tells (IsLearnt port home run) n t now hit → IsKnownAs n (Cached hit.ttl hit.since) hit.link
       by_hit hit remote tells =
-          let (by, said, learnt, link, ttl) = tells.kept in
-          (remote, (by, tells.kind, said, subst (λ (m : ℕ). Earlier (Learns port by n tells.kind said m) run) (sym tells.since) learnt,
-          subst (λ (x : Link). Answers n t (key_for n tells.kind x) x hit.link) link tells.answers, tells.ttl ∙ ttl))
+          let (by, said, learnt, link, ttl) = tells.kept in (
+            remote,
+            (
+              by,
+              tells.kind,
+              said,
+              subst (λ (m : ℕ). Earlier (Learns port by n tells.kind said m) run) (sym tells.since) learnt,
+              subst (λ (x : Link). Answers n t (key_for n tells.kind x) x hit.link) link tells.answers,
+              tells.ttl ∙ ttl,
+            ),
+          )
 
   -- Where CNAME is asked for, no link is an alias.
   pub known_plain : (n : Name) (o : Origin) (l : Link) (r : Record) → t ≡ cname_type → l ≡ Alias r → IsKnownAs n o l → ⊥
@@ -205,3 +213,29 @@ module _ (port : ℕ) (home : Home) (run : List Turn) (k t : ℕ) (Mine : Type 0
   pub rules_timed : (d m now n : ℕ) (a b : Point) → IsTimed d m a → Rules home now n a b → IsTimed d m b
   rules_timed d m now zero a b h is = subst (IsTimed d m) (sym is) h
   rules_timed d m now (suc n) a b h (mid, before, last) = rule_timed d m now mid b (rules_timed d m now n a mid h before) last
+
+-- ---- later
+
+module _ (port : ℕ) (home : Home) (turn : Turn) (past : List Turn) where
+  pub timed_later : (stores : Stores) → AreTimed port home past stores → AreTimed port home (turn ∷ past) stores
+  timed_later stores h k e c = let (n, u, key, (by, said, learnt, link, ttl)) = h k e c in (n, u, key, (by, said, inr learnt, link, ttl))
+
+  module _ (k t : ℕ) (Old New : Type 0) (f : Old → New) where
+    known_as_later : (n : Name) (o : Origin) (l : Link) → IsKnownAs port home past k t Old n o l → IsKnownAs port home (turn ∷ past) k t New n o l
+    known_as_later n Local l h = h
+    known_as_later n (Cached ttl since) l (remote, (by, u, said, learnt, answers, life)) = (remote, (by, u, said, inr learnt, answers, life))
+    known_as_later n (Accepted ttl since) l (remote, mine, (said, learnt, is, life)) = (remote, f mine, (said, inr learnt, is, life))
+
+    pub known_later : (ls : List Taken) → AreKnown port home past k t Old ls → AreKnown port home (turn ∷ past) k t New ls
+    known_later [] h = tt
+    known_later (l ∷ ls) h = (known_as_later l.name l.origin l.link h.0, known_later ls h.1)
+
+-- The query served no more counts.
+pub known_for_good : (port : ℕ) (home : Home) (run : List Turn) (k t : ℕ) (Old : Type 0) (ls : List Taken) → AreKnown port home run k t Old ls → AreKnown port home run k t (Unit {0}) ls
+known_for_good port home run k t Old [] h = tt
+known_for_good port home run k t Old (l ∷ ls) h = (by l.name l.origin l.link h.0, known_for_good port home run k t Old ls h.1)
+  where
+    by : (n : Name) (o : Origin) (l : Link) → IsKnownAs port home run k t Old n o l → IsKnownAs port home run k t (Unit {0}) n o l
+    by n Local l h = h
+    by n (Cached ttl since) l h = h
+    by n (Accepted ttl since) l (remote, mine, more) = (remote, tt, more)
