@@ -146,7 +146,7 @@ module _ (q : List (List ℕ)) (l : Link) (es : List (Key × Hit)) where
       by false z = elim (removed_gone same_key same_key_exact (error_key q) es e c) [ inl d ↦ inl d | inr is ↦ inr (is, z) ]
 
 -- A link other than a name error stands under a type.
-apart_from_error : (q : List (List ℕ)) (t : ℕ) (l : Link) → is_error l ≡ false → key_for q t l ≡ error_key q → ⊥
+pub apart_from_error : (q : List (List ℕ)) (t : ℕ) (l : Link) → is_error l ≡ false → key_for q t l ≡ error_key q → ⊥
 apart_from_error q t (Found rs) z e = let s : Kind t ≡ NameError = ap (λ k. k.slot) e in cc
 apart_from_error q t (Alias r) z e = let s : Kind cname_type ≡ NameError = ap (λ k. k.slot) e in cc
 apart_from_error q t (NoData soa) z e = let s : Kind t ≡ NameError = ap (λ k. k.slot) e in cc

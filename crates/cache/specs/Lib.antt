@@ -1,5 +1,7 @@
+pub mod Aging
 pub mod Cached
 pub mod Forms
+pub mod Given
 pub mod Keys
 pub mod Kinds
 pub mod Laws

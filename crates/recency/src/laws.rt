@@ -57,8 +57,9 @@ pub fn keys_law<K, V>()
 {}
 
 /// Entries with other values, which may be made of their keys too, are looked up, kept, used and removed
-/// alike.
+/// alike, and have the same keys.
 pub fn mapped_law<K, V, W>()
+    ensures valid { (f : K → V → W) (same : K → K → Bool) (cap : ℕ) (es : List (K × V)) → IsValid same (lru_cache es cap) → IsValid same (lru_cache (mapped f es) cap) }
     ensures found { (f : K → V → W) (same : K → K → Bool) (k : K) (es : List (K × V)) → IsExact same → lookup (same k) (mapped f es) ≡ option_map (f k) (lookup (same k) es) }
     ensures kept { (f : K → V → W) (same : K → K → Bool) (cap : ℕ) (k : K) (v : V) (es : List (K × V)) → IsExact same → kept same cap k (f k v) (mapped f es) ≡ mapped f (kept same cap k v es) }
     ensures used { (f : K → V → W) (same : K → K → Bool) (k : K) (es : List (K × V)) → IsExact same → used same k (mapped f es) ≡ mapped f (used same k es) }

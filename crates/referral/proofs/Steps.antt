@@ -1,12 +1,12 @@
 -- What the steps of a store of cuts leave, and which cut is found.
-use Rattle.std.proofs.Common.{◌≡◌, ◌≢◌, ℕ, zero, suc, ◌≤◌, ◌<◌, take, Bool, true, false, cond, nat_eq, ◌⊎◌, inl, inr, List, [], ◌∷◌, ◌++◌, length, Contains, Option, Some, None, refl, sym, ap, ◌∙◌, subst, arith, eqb-true, eq-eqb, ne_eqb, length-append}
+use Rattle.std.proofs.Common.{◌≡◌, ◌≢◌, ℕ, suc, ◌≤◌, Bool, true, false, cond, nat_eq, ◌⊎◌, inl, inr, List, [], ◌∷◌, ◌++◌, length, Contains, Option, Some, None, refl, sym, ap, ◌∙◌, subst, arith, eqb-true, eq-eqb, length-append}
 use Rattle.std.specs.Map.{lookup, remove_entry}
-use Rattle.lru.specs.LruCache.{LruCache, lru_cache, put_entries, promoted}
+use Rattle.lru.specs.LruCache.{LruCache, lru_cache, promoted}
 use Rattle.lru.proofs.CallerLemmas.{Contains-lookup, Contains-remove_entry}
 use Rattle.dname.specs.Labels.{same_name, root, parent_of, IsName, IsAtOrUnder}
 use Rattle.recency.specs.Orders.{kept, KeepsOnly, LosesOnly, HasSame}
-use Rattle.recency.proofs.Kept.{put_is_kept, promoted_is_used, kept_there, kept_only, kept_gone, removed_gone, used_members}
-use Rattle.referral.specs.Cuts.{Known, is_live, live_from, live_at, under, or_else, nearest, cut_of, moved, after_keep, Lives, IsDeepest, IsBest, IsKept, IsGone}
+use Rattle.recency.proofs.Kept.{promoted_is_used, kept_there, kept_only, kept_gone, removed_gone, used_members}
+use Rattle.referral.specs.Cuts.{Cut, Known, is_live, live_from, live_at, under, or_else, nearest, cut_of, moved, after_keep, Lives, IsDeepest, IsBest, IsKept, IsGone}
 use Rattle.referral.proofs.Exact.{same_name_exact}
 
 abbrev Entries : Type 0
@@ -112,6 +112,12 @@ cut_is_best q now es = by (nearest q now es) (is_nearest q now es)
 pub best_some : (q n : List (List ℕ)) (now : ℕ) (es : Entries) (k : Known) → under n (Some k) ≡ nearest q now es → IsBest q now es (Some k.cut)
 best_some q n now es k found = subst (λ o. IsBest q now es (cut_of o)) (sym found) (cut_is_best q now es)
 
+pub best_over : (q n : List (List ℕ)) (now : ℕ) (es : Entries) (k : Known) → under n (Some k) ≡ nearest q now es → (c : Cut) → c ≡ record { owner = n; names = (k.cut).names; addresses = (k.cut).addresses } → IsAtOrUnder q c.owner
+unfolding IsNearest
+best_over q n now es k found c is =
+    let deepest : IsDeepest q now es n k = subst (IsNearest q now es) (sym found) (is_nearest q now es) in
+    subst (λ (x : Cut). IsAtOrUnder q x.owner) (sym is) deepest.over
+
 pub best_none : (q : List (List ℕ)) (now : ℕ) (es : Entries) → None ≡ nearest q now es → IsBest q now es None
 best_none q now es found = subst (λ o. IsBest q now es (cut_of o)) (sym found) (cut_is_best q now es)
 
@@ -155,14 +161,6 @@ moved_members c d a e = subst (λ x. HasSame c.entries x.entries) (sym e) (moved
 
 -- ---- cuts that are kept
 
-pub put_kept : (b c d : LruCache (List (List ℕ)) Known) (n : List (List ℕ)) (k : Known) → b ≡ c → n ≡ (k.cut).owner → (k.ttl ≡ 0 → ⊥) → d ≡ lru_cache (put_entries same_name b n k) b.cap
-    → d ≡ lru_cache (after_keep c.cap k c.entries) c.cap
-put_kept b c d n k view name some is =
-    let test : nat_eq k.ttl 0 ≡ false = ne_eqb k.ttl 0 some in
-    is ∙ (ap (λ x. lru_cache (put_entries same_name x n k) x.cap) view ∙ (ap (λ es. lru_cache es c.cap) (put_is_kept same_name same_name_exact n c.cap k c.entries)
-    ∙ (ap (λ x. lru_cache (kept same_name c.cap x k c.entries) c.cap) name
-    ∙ ap (λ x. lru_cache (cond x (remove_entry (same_name (k.cut).owner) c.entries) (kept same_name c.cap (k.cut).owner k c.entries)) c.cap) (sym test))))
-
 module _ (cap : ℕ) (k : Known) (es : Entries) where
   not_zero : nat_eq k.ttl 0 ≡ false → k.ttl ≢ 0
   not_zero e is = let same = eq-eqb k.ttl 0 is in absurd (cc)
@@ -197,15 +195,3 @@ module _ (c d : LruCache (List (List ℕ)) Known) (k : Known) (is : d ≡ lru_ca
 
   pub keep_gone : LosesOnly c.entries (IsGone c.cap k c.entries) d.entries
   keep_gone = subst (λ x. LosesOnly c.entries (IsGone c.cap k c.entries) x.entries) (sym is) (after_gone c.cap k c.entries)
-
--- ---- a new store
-
-none_taken : (m : ℕ) → take m no_entries ≡ no_entries
-none_taken zero = refl
-none_taken (suc m) = refl
-
-pub resized : (c d : LruCache (List (List ℕ)) Known) (most m n : ℕ) → c ≡ lru_cache [] most → d ≡ lru_cache (take m c.entries) m → m ≡ n → d ≡ lru_cache [] n
-resized c d most m n empty is same = is ∙ (ap (λ x. lru_cache (take m x.entries) m) empty ∙ (ap (λ es. lru_cache es m) (none_taken m) ∙ ap (λ k. lru_cache no_entries k) same))
-
-pub never_zero : (n : ℕ) → 0 < n → n ≡ 0 → ⊥
-never_zero n h e = omega arith

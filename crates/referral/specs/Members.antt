@@ -1,7 +1,9 @@
 -- The laws of members that the functions of this crate state: which entries a look-up and a keep leave.
-use Rattle.std.specs.Prelude.{◌≢◌, ℕ, List, Contains}
+use Rattle.std.specs.Prelude.{◌≡◌, ◌≢◌, ℕ, List, Some, Contains}
+use Rattle.lru.specs.LruCache.{lru_cache, IsValid}
+use Rattle.dname.specs.Labels.{same_name, IsAtOrUnder}
 use Rattle.recency.specs.Orders.{KeepsOnly, LosesOnly, HasSame}
-use Rattle.referral.specs.Cuts.{Known, nearest, cut_of, after_best, after_keep, IsBest, IsKept, IsGone}
+use Rattle.referral.specs.Cuts.{Cut, Known, AreNamed, nearest, cut_of, after_best, after_keep, IsBest, IsKept, IsGone}
 
 -- A look-up brings nothing and takes nothing.
 abbrev pub BestKeepsMembers : Type 0
@@ -22,3 +24,21 @@ KeepLosesFew = (cap : ℕ) (k : Known) (es : List (List (List ℕ) × Known)) �
 -- What is found is the deepest cut that lives over the name.
 abbrev pub FoundIsBest : Type 0
 FoundIsBest = (q : List (List ℕ)) (now : ℕ) (es : List (List (List ℕ) × Known)) → IsBest q now es (cut_of (nearest q now es))
+
+-- Each entry stands under the owner of its cut, after each call.
+abbrev pub BestStaysNamed : Type 0
+BestStaysNamed = (q : List (List ℕ)) (now : ℕ) (es : List (List (List ℕ) × Known)) → AreNamed es → AreNamed (after_best q now es)
+
+abbrev pub KeepStaysNamed : Type 0
+KeepStaysNamed = (cap : ℕ) (k : Known) (es : List (List (List ℕ) × Known)) → AreNamed es → AreNamed (after_keep cap k es)
+
+-- So the cut that is found is over the name.
+abbrev pub FoundIsOver : Type 0
+FoundIsOver = (q : List (List ℕ)) (now : ℕ) (es : List (List (List ℕ) × Known)) (c : Cut) → AreNamed es → cut_of (nearest q now es) ≡ Some c → IsAtOrUnder q c.owner
+
+-- No two entries have one name, and there are no more of them than the capacity, after each call.
+abbrev pub BestStaysValid : Type 0
+BestStaysValid = (cap : ℕ) (q : List (List ℕ)) (now : ℕ) (es : List (List (List ℕ) × Known)) → IsValid same_name (lru_cache es cap) → IsValid same_name (lru_cache (after_best q now es) cap)
+
+abbrev pub KeepStaysValid : Type 0
+KeepStaysValid = (cap : ℕ) (k : Known) (es : List (List (List ℕ) × Known)) → IsValid same_name (lru_cache es cap) → IsValid same_name (lru_cache (after_keep cap k es) cap)

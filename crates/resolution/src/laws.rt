@@ -1,6 +1,6 @@
 //! Laws of the rules: functions that do nothing, whose clauses are proved.
 
-ghost use Rattle.resolution.specs.Laws.{RulesEnd, ReceivedServes};
+ghost use Rattle.resolution.specs.Laws.{RulesEnd, ReceivedServes, AdvancesStop};
 
 /// The rules end: whatever comes in, only so many of them can follow one another before an ask goes out or the
 /// query is over (RFC 1034, section 5.3.3).
@@ -11,4 +11,10 @@ pub fn end_law()
 /// What was accepted for a query serves that query, whatever its time to live.
 pub fn received_law()
     ensures { ReceivedServes }
+{}
+
+/// What a whole call leaves in the stores is among what may stand where memory was wanting on the way: beside
+/// what was accepted nothing is new.
+pub fn stores_law()
+    ensures { AdvancesStop }
 {}
