@@ -11,7 +11,8 @@ use Rattle.authority.specs.declared.cause.Cause.{Cause}
 use Rattle.authority.specs.declared.cause.Cause.TheVariants.{TooManyOpen, Deadline, Chain, Sends, NoServer, Large}
 use Rattle.classify.specs.Lifetimes.{received, lifetime_of}
 use Rattle.front.specs.Chains.{target_of, IsEndOf}
-use Rattle.resolution.specs.Jobs.{Home, Stores, Origin, Local, Cached, Accepted, Taken, has_ended, is_dead, AreFresh, IsEnding, retimed, sent_from, sent, Job, Next, Ask, AskTcp, Done, Fail, Task, Seek, Take, Go, Again, Point}
+use Rattle.cache.specs.Cached.{retimed}
+use Rattle.resolution.specs.Jobs.{Home, Stores, Origin, Local, Cached, Accepted, Taken, has_ended, is_dead, AreFresh, IsEnding, sent_from, sent, Job, Next, Ask, AskTcp, Done, Fail, Task, Seek, Take, Go, Again, Point}
 use Rattle.resolution.specs.Rules.{Says, IsRemote, IsDue, IsDueAgain, IsRefused, IsUsedUp, Leaves, sends, sends_again, refuses, spent, nowhere, too_long, done}
 use Rattle.runs.specs.States.{Turn, Query}
 use Rattle.runs.specs.Messages.{is_from_here, is_local_first, alias_in, aliases_of, end_in}

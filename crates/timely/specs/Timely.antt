@@ -13,9 +13,10 @@ use Rattle.classify.specs.Classes.{class_of}
 use Rattle.classify.specs.Lifetimes.{received, lifetime_of}
 use Rattle.cache.specs.Keys.{key_for}
 use Rattle.cache.specs.Cached as cache
+use Rattle.cache.specs.Cached.{retimed}
 use Rattle.front.specs.Chains.{target_of, IsEndOf}
 use Rattle.front.specs.declared.queries.End.{End}
-use Rattle.resolution.specs.Jobs.{Home, retimed}
+use Rattle.resolution.specs.Jobs.{Home}
 use Rattle.resolution.specs.Rules.{Says, IsRemote}
 use Rattle.runs.specs.States.{Query, Turn, Plain, Asker, Asking, via_of}
 use Rattle.runs.specs.Runs.{Earlier, clock_of, Accepts}
