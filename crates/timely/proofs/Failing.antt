@@ -1,12 +1,10 @@
 -- A failure for want of servers is one of those whose cause stands in the run.
-use Rattle.std.proofs.Common.{◌≡◌, ℕ, ◌⊎◌, inl, inr, List, [], ◌∷◌, subst}
-use Rattle.authority.specs.declared.cause.Cause.TheVariants.{NoServer}
+use Rattle.std.proofs.Common.{ℕ, inl, inr, List, [], ◌∷◌, subst}
 use Rattle.front.specs.declared.queries.Outcome.{Outcome}
-use Rattle.front.specs.declared.queries.Outcome.TheVariants.{Fail}
 use Rattle.resolution.specs.Jobs.{Home}
-use Rattle.runs.specs.States.{Turn, Plain, Asker, Action, Site, State}
-use Rattle.runs.specs.Runs.{Run, Always}
-use Rattle.timely.specs.Replies.{Refuses, Answers, RepliesAre}
+use Rattle.runs.specs.States.{Turn, Plain, Asker}
+use Rattle.runs.specs.Runs.{Always}
+use Rattle.timely.specs.Replies.{RepliesAre}
 use Rattle.timely.specs.Failures.{IsSpentFor, EveryFailureIsSpent}
 use Rattle.timely.specs.Caused.{IsExplained}
 use Rattle.timely.proofs.Turns.{run_explained}

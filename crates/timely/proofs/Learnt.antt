@@ -1,33 +1,31 @@
 -- One call, by the clock: what is accepted in this step is known since now.
-use Rattle.std.proofs.Common.{◌≡◌, ◌≢◌, ℕ, zero, suc, ◌+◌, ◌≤◌, ◌<◌, ◌⊎◌, inl, inr, Option, Some, None, List, [], ◌∷◌, ◌++◌, length, Contains, refl, sym, ap, ◌∙◌, subst, arith}
+use Rattle.std.proofs.Common.{◌≡◌, ℕ, ◌+◌, ◌≤◌, inl, inr, List, [], ◌∷◌, refl, sym, ap, ◌∙◌, subst, arith}
 use Rattle.lru.proofs.Splits.{Contains-nil}
-use Rattle.dname.specs.Labels.{Name, root}
-use Rattle.rdata.specs.Records.{Record}
+use Rattle.dname.specs.Labels.{Name}
 use Rattle.rdata.specs.declared.addr.Addr.{Addr}
 use Rattle.zone.specs.Zones.{cname_type}
-use Rattle.zone.specs.Links.{Link, Alias}
+use Rattle.zone.specs.Links.{Link}
 use Rattle.layout.specs.Messages.{Message}
 use Rattle.wire.specs.declared.via.Via.{Via}
 use Rattle.classify.specs.Classes as class
 use Rattle.classify.specs.Classes.{class_of}
-use Rattle.classify.specs.Lifetimes.{received, lifetime_of}
 use Rattle.classify.proofs.Roots.{of_root}
 use Rattle.cache.specs.Keys.{Key, key_for}
 use Rattle.cache.specs.Cached.{Hit, IsKept}
-use Rattle.resolution.specs.Jobs.{Home, Stores, with_answer, with_timeout, Origin, Local, Cached, Accepted, Taken, received_link, Search, Job, job_at, Input, Start, Told, TimedOut, TcpFailed, Next, Task, Seek, Take, Go, Again, Point, point, hit_from}
-use Rattle.resolution.specs.Rules.{IsRemote, Learnt, IsAnswered, ByClass, Enters, Rules, Advances, IsTakenEntry, Stops}
+use Rattle.resolution.specs.Jobs.{Home, Stores, with_answer, with_timeout, received_link, Search, Job, job_at, Input, Start, Told, TimedOut, TcpFailed, Next, Task, Take, Go, Again, Point, point, hit_from}
+use Rattle.resolution.specs.Rules.{IsRemote, Learnt, ByClass, Enters, Advances, IsTakenEntry, Stops}
 use Rattle.runs.specs.States.{Turn, Query, Path, ByUdp, ByTcp, Asking, via_of}
 use Rattle.runs.specs.Messages.{Brings}
 use Rattle.runs.specs.Runs.{Earlier, Asks, clock_of}
-use Rattle.timely.specs.Spent.{IsCutShort, Repeats, AsksBy, IsOpenAsk}
+use Rattle.timely.specs.Spent.{Repeats, AsksBy, IsOpenAsk}
 use Rattle.timely.specs.Timely.{Learns}
-use Rattle.timely.proofs.Stores.{AreKept, kept_from}
+use Rattle.timely.proofs.Stores.{kept_from}
 use Rattle.timely.proofs.Told.{AreTold}
 use Rattle.timely.proofs.Chains.{IsReached, rules_reach}
 use Rattle.timely.proofs.Points.{IsSound}
 use Rattle.timely.proofs.Leaving.{IsWaitingFor}
 use Rattle.timely.proofs.Enters.{brought_ends, IsInputNow, enters_sound}
-use Rattle.timely.proofs.Timed.{IsLearnt, AreTimed, IsKnownAs, IsKnown, AreKnown, KnownBy, IsTimed, timed_at, rules_timed, timed_later, known_later, known_for_good}
+use Rattle.timely.proofs.Timed.{IsLearnt, AreTimed, AreKnown, KnownBy, IsTimed, timed_at, rules_timed, timed_later, known_later}
 use Rattle.timely.proofs.Sent.{GoesTimely, leaves_timed}
 use Rattle.timely.proofs.States.{CutNow, top_at, enters_reach}
 

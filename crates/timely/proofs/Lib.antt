@@ -1,11 +1,8 @@
 pub mod Lists
-pub mod Plans
-pub mod Names
 pub mod Stores
 pub mod Searches
 pub mod Told
 pub mod Points
-pub mod Lower
 pub mod Chains
 pub mod Later
 pub mod Enters

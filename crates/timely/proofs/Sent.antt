@@ -1,9 +1,8 @@
 -- A whole chain goes out within its time; what goes out at the last point, by the clock and the count of asks.
-use Rattle.std.proofs.Common.{◌≡◌, ◌≢◌, ℕ, zero, suc, ◌+◌, ◌-◌, ◌*◌, ◌/◌, ◌≤◌, ◌<◌, ◌⊎◌, inl, inr, Bool, true, false, nat_le, List, [], ◌∷◌, ◌++◌, length, refl, sym, ap, ◌∙◌, subst}
+use Rattle.std.proofs.Common.{◌≡◌, ℕ, suc, ◌+◌, ◌-◌, ◌*◌, ◌/◌, ◌≤◌, ◌<◌, ◌⊎◌, inl, inr, Bool, true, false, List, [], ◌∷◌, ◌++◌, length, refl, sym, ap, ◌∙◌, subst}
 use Rattle.std.proofs.lemmas.Bool.{leb-false}
 use Rattle.dname.specs.Labels.{Name}
 use Rattle.rdata.specs.Records.{Record}
-use Rattle.rdata.specs.declared.addr.Addr.{Addr}
 use Rattle.zone.specs.Zones.{cname_type}
 use Rattle.zone.specs.Links.{Link, Found, Alias, NoData, NxDomain}
 use Rattle.zone.specs.Look as local
@@ -12,12 +11,12 @@ use Rattle.authority.specs.declared.cause.Cause.TheVariants.{TooManyOpen, Deadli
 use Rattle.classify.specs.Lifetimes.{received, lifetime_of}
 use Rattle.front.specs.Chains.{target_of, IsEndOf}
 use Rattle.cache.specs.Cached.{retimed}
-use Rattle.resolution.specs.Jobs.{Home, Stores, Origin, Local, Cached, Accepted, Taken, has_ended, is_dead, AreFresh, IsEnding, sent_from, sent, Job, Next, Ask, AskTcp, Done, Fail, Task, Seek, Take, Go, Again, Point}
-use Rattle.resolution.specs.Rules.{Says, IsRemote, IsDue, IsDueAgain, IsRefused, IsUsedUp, Leaves, sends, sends_again, refuses, spent, nowhere, too_long, done}
+use Rattle.resolution.specs.Jobs.{Home, Stores, Origin, Local, Cached, Accepted, Taken, has_ended, AreFresh, IsEnding, sent_from, sent, Job, Next, Ask, AskTcp, Done, Fail, Task, Take, Go, Again, Point}
+use Rattle.resolution.specs.Rules.{Says, IsRemote, IsRefused, Leaves, sends, sends_again, refuses, spent, nowhere, too_long, done}
 use Rattle.runs.specs.States.{Turn, Query}
 use Rattle.runs.specs.Messages.{is_from_here, is_local_first, alias_in, aliases_of, end_in}
-use Rattle.runs.specs.Runs.{Earlier, clock_of}
-use Rattle.timely.specs.Timely.{Learns, Fits, IsInTime, IsTimelyLink, IsTimelyChain, IsTimely}
+use Rattle.runs.specs.Runs.{clock_of}
+use Rattle.timely.specs.Timely.{IsTimelyLink, IsTimelyChain, IsTimely}
 use Rattle.timely.proofs.Chains.{LeadsOn, IsOfName, IsReached}
 use Rattle.timely.proofs.Timed.{AreTimed, IsKnownAs, IsKnown, AreKnown, KnownBy, IsTimed}
 

@@ -1,11 +1,10 @@
 -- What stands of a state at the run that led to it.
-use Rattle.std.proofs.Common.{◌≡◌, ◌≢◌, ℕ, zero, suc, ◌+◌, ◌≤◌, ◌<◌, ◌⊎◌, inl, inr, Bool, true, false, cond, nat_eq, Option, Some, None, List, [], ◌∷◌, length, Contains, refl, sym, ap, ◌∙◌, subst, arith, ne_eqb}
+use Rattle.std.proofs.Common.{◌≡◌, ◌≢◌, ℕ, ◌+◌, ◌≤◌, ◌<◌, inl, inr, Bool, true, false, cond, Option, List, [], ◌∷◌, length, Contains, refl, sym, ap, ◌∙◌, subst, arith, ne_eqb}
 use Rattle.dname.specs.Labels.{Name}
-use Rattle.rdata.specs.Records.{Record}
 use Rattle.rdata.specs.Types.{type_number}
 use Rattle.rdata.specs.declared.addr.Addr.{Addr}
 use Rattle.zone.specs.Zones.{cname_type}
-use Rattle.zone.specs.Links.{Link, Alias}
+use Rattle.zone.specs.Links.{Link}
 use Rattle.retry.specs.Penalties.{AreAtMost}
 use Rattle.classify.specs.Classes as class
 use Rattle.classify.specs.Classes.{class_of}
@@ -14,21 +13,21 @@ use Rattle.layout.specs.Messages.{Message}
 use Rattle.wire.specs.declared.via.Via.{Via}
 use Rattle.lru.proofs.Splits.{Contains-nil}
 use Rattle.recency.specs.Orders.{KeepsOnly}
-use Rattle.resolution.specs.Jobs.{Home, Stores, with_answer, Taken, received_link, Search, Job, job_at, Input, Start, Told, TimedOut, TcpFailed, Next, Ask, AskTcp, Done, Fail, Task, Seek, Take, Go, Again, Point, point}
-use Rattle.resolution.specs.Rules.{IsRemote, IsAnswered, ByClass, Enters, Rules, Advances, IsTakenEntry, IsTakenCut, Stops}
+use Rattle.resolution.specs.Jobs.{Home, Stores, with_answer, Taken, received_link, Search, Job, job_at, Input, Start, Told, TimedOut, TcpFailed, Next, Task, Take, Go, Again, Point, point}
+use Rattle.resolution.specs.Rules.{IsRemote, ByClass, Enters, Advances, IsTakenEntry, IsTakenCut, Stops}
 use Rattle.runs.specs.States.{Event, Client, Datagram, TcpReply, Tick, Action, Reply, Send, TcpAsk, MoreDue, Turn, Served, Nobody, Own, Query, Plain, Asker, recursive, job_for, Path, ByUdp, ByTcp, Asking, IsFor, via_of, Open, open_query, Site, State}
 use Rattle.runs.specs.States as states
-use Rattle.runs.specs.Messages.{IsSent, Brings}
-use Rattle.runs.specs.Runs.{Earlier, Asks, GivesOut, Came, clock_of, asks_in, is_for, asks_of}
-use Rattle.runs.specs.Steps.{IsInput, WaitsByUdp, WaitsByTcp}
-use Rattle.timely.specs.Spent.{IsCutShort, Repeats, AsksBy, IsOpenAsk, IsBad, Takes, IsAliasOf}
-use Rattle.timely.proofs.Searches.{AreMarked, IsAsking, AreAround}
+use Rattle.runs.specs.Messages.{Brings}
+use Rattle.runs.specs.Runs.{Earlier, Came, clock_of, asks_in, is_for, asks_of}
+use Rattle.runs.specs.Steps.{IsInput}
+use Rattle.timely.specs.Spent.{IsCutShort, AsksBy, IsOpenAsk, Takes}
+use Rattle.timely.proofs.Searches.{IsAsking, AreAround}
 use Rattle.timely.proofs.Told.{AreTold}
 use Rattle.timely.proofs.Timed.{AreTimed, AreKnown, timed_later, known_later}
-use Rattle.timely.proofs.Points.{OnTop, StandsBy, IsSound}
+use Rattle.timely.proofs.Points.{OnTop, IsSound}
 use Rattle.timely.proofs.Chains.{LeadsOn, IsOfName, IsReached, rules_reach}
 use Rattle.timely.proofs.Leaving.{IsWaitingFor, GoesOut as Leads, leaves_tell}
-use Rattle.timely.proofs.Later.{told_later, work_later, marks_later, leads_later}
+use Rattle.timely.proofs.Later.{told_later, work_later, leads_later}
 use Rattle.timely.proofs.Enters.{IsInputNow, taken_now, enters_sound, stops_told}
 use Rattle.timely.proofs.Lists.{some_or_none}
 

@@ -1,27 +1,21 @@
 -- Which links a chain is made of, and since when they are known; that the rules keep it so.
-use Rattle.std.proofs.Common.{◌≡◌, ◌≢◌, ℕ, zero, suc, ◌+◌, ◌≤◌, ◌⊎◌, inl, inr, Option, Some, None, List, [], ◌∷◌, ◌++◌, Contains, refl, sym, ap, ◌∙◌, subst}
-use Rattle.lru.proofs.Splits.{Contains-head, Contains-tail}
-use Rattle.std.proofs.lemmas.List.Elements.{Contains-append_right}
+use Rattle.std.proofs.Common.{◌≡◌, ℕ, zero, suc, inl, inr, List, [], ◌∷◌, ◌++◌, refl, sym, ap, ◌∙◌, subst}
 use Rattle.dname.specs.Labels.{Name, root}
 use Rattle.rdata.specs.Records.{Record}
 use Rattle.zone.specs.Zones.{a_type, cname_type}
-use Rattle.zone.specs.Links as links
 use Rattle.zone.specs.Links.{Link, Found, Alias, NoData, NxDomain}
 use Rattle.zone.specs.Look as local
 use Rattle.authority.specs.Catalogs.{IsLooked}
-use Rattle.truth.specs.Reading.{IsFirstOf}
-use Rattle.classify.specs.Classes as class
-use Rattle.classify.specs.Classes.{class_of}
 use Rattle.classify.specs.Lifetimes.{received, lifetime_of}
-use Rattle.classify.proofs.Readings.{answer_read}
+use Rattle.classify.proofs.Uses.{no_alias_class}
 use Rattle.referral.specs.Cuts.{Cut}
 use Rattle.cache.specs.Keys.{Key, key_for}
 use Rattle.cache.specs.Cached.{Hit, Answers}
-use Rattle.resolution.specs.Jobs.{Home, Stores, Origin, Local, Cached, Accepted, Taken, IsEnding, Job, Task, Seek, Take, Go, Again, Point}
-use Rattle.resolution.specs.Rules.{Says, IsRemote, Hits, Finds, Begins, Misses, Rule, takes, asks, follows, restarts, hears, descends, gives_up, Rules}
+use Rattle.resolution.specs.Jobs.{Home, Stores, Origin, Local, Cached, Accepted, Taken, Job, Task, Seek, Take, Go, Again, Point}
+use Rattle.resolution.specs.Rules.{Says, IsRemote, Finds, Begins, Misses, Rule, takes, asks, follows, restarts, hears, descends, gives_up, Rules}
 use Rattle.runs.specs.States.{Turn, via_of}
 use Rattle.runs.specs.Runs.{Earlier}
-use Rattle.timely.specs.Timely.{Learns, Fits}
+use Rattle.timely.specs.Timely.{Learns}
 use Rattle.timely.proofs.Stores.{AreKept, Tells, hit_tells, looked_from}
 
 -- Some step of the run is such, of which something follows.
@@ -54,10 +48,7 @@ said_plain : (port by : ℕ) (n : Name) (said : Link) (since : ℕ) (r : Record)
 said_plain port by n (Found rs) since r turn past e h = cc
 said_plain port by n (NoData soa) since r turn past e h = cc
 said_plain port by n (NxDomain soa) since r turn past e h = cc
-said_plain port by n (Alias q) since r turn past e h =
-    let read = answer_read root n cname_type h.message (via_of (h.ask).path) (Alias q) h.is in
-    let (code, none, (s, first, same)) = read.reads in
-    none s (subst (λ (l : List Record). Contains l s) (sym first.is) (Contains-append_right first.front (s ∷ first.back) s (Contains-head s first.back)), first.owner, first.kind)
+said_plain port by n (Alias q) since r turn past e h = no_alias_class root n (via_of (h.ask).path) h.message q h.is
 
 -- ---- links of which it is known since when they are known
 

@@ -1,5 +1,5 @@
 -- Each step keeps what stands of the state, and each of its replies has its cause.
-use Rattle.std.proofs.Common.{◌≡◌, ◌≢◌, ℕ, zero, suc, ◌+◌, ◌≤◌, ◌<◌, ◌⊎◌, inl, inr, Bool, true, false, cond, max, Option, Some, None, List, [], ◌∷◌, ◌++◌, length, Contains, refl, sym, ap, ◌∙◌, subst, arith, eq-eqb}
+use Rattle.std.proofs.Common.{◌≡◌, ◌≢◌, ℕ, suc, ◌+◌, ◌≤◌, ◌<◌, ◌⊎◌, inl, inr, Bool, true, false, cond, max, Option, Some, None, List, [], ◌∷◌, ◌++◌, length, Contains, refl, sym, ap, ◌∙◌, subst, arith, eq-eqb}
 use Rattle.std.proofs.lemmas.List.Elements.{Contains-append_cases, Contains-append_left}
 use Rattle.lru.proofs.Splits.{Contains-head, Contains-tail, Contains-cons, Contains-nil}
 use Rattle.dname.specs.Labels.{Name}
@@ -13,13 +13,13 @@ use Rattle.front.specs.declared.queries.Asked.{Asked}
 use Rattle.front.specs.declared.queries.Asked.TheVariants as heard
 use Rattle.front.specs.declared.queries.Outcome.{Outcome}
 use Rattle.front.specs.declared.queries.Outcome.TheVariants as outcome
-use Rattle.resolution.specs.Jobs.{Home, Stores, Taken, Job, Input, Start, Next, Ask, AskTcp, Done, Fail}
-use Rattle.resolution.specs.Rules.{Advances, Stops}
+use Rattle.resolution.specs.Jobs.{Home, Stores, Job, Input, Start, Next, Ask, AskTcp, Done, Fail}
+use Rattle.resolution.specs.Rules.{Stops}
 use Rattle.runs.specs.States.{Event, Client, Datagram, TcpReply, Tick, Action, Reply, Send, TcpAsk, MoreDue, Turn, Served, Nobody, Own, Query, Plain, Asker, asker, recursive, job_for, Path, ByUdp, ByTcp, Asking, IsFor, Open, open_query, AreApart, moment, Site, State, IsNew, moved}
 use Rattle.runs.specs.States as states
-use Rattle.runs.specs.Messages.{sending, IsSent, outcome_of, IsReply, IsRefusal}
+use Rattle.runs.specs.Messages.{sending, IsSent, IsReply, IsRefusal}
 use Rattle.runs.specs.Runs.{Run, Always, Earlier, Asks, GivesOut, Came, clock_of, is_ask, asks_among, asks_in, is_for, asks_of}
-use Rattle.runs.specs.Steps.{AreOthers, AreWith, Ends, Waits, WaitsByUdp, WaitsByTcp, Comes, Serves, IsAsking, IsOpened, at_once, crowded, admitted, Resolves, AnswersAtHand, IsHandled, IsInput, IsIgnored, Hears, IsLate, IsFollowed, IsTicked, IsLeft, IsStarved, IsTurn, Step}
+use Rattle.runs.specs.Steps.{AreOthers, AreWith, Ends, Waits, WaitsByUdp, WaitsByTcp, Comes, IsAsking, IsOpened, at_once, crowded, admitted, Resolves, IsHandled, IsInput, IsIgnored, Hears, IsLate, IsFollowed, IsTicked, IsLeft, IsStarved, IsTurn}
 use Rattle.runs.proofs.Clocks.{clock_of_run}
 use Rattle.retry.specs.Penalties.{AreAtMost}
 use Rattle.referral.specs.Cuts.{Known}
@@ -27,17 +27,13 @@ use Rattle.cache.specs.Keys.{Key}
 use Rattle.cache.specs.Cached.{Hit}
 use Rattle.timely.specs.Spent.{IsCutShort, AsksBy, IsOpenAsk}
 use Rattle.timely.specs.Replies.{IsServedFor, Refuses, Answers, RepliesAre}
-use Rattle.timely.specs.Failures.{IsNumber, HasNoServer}
-use Rattle.timely.specs.Timely.{IsTimely}
 use Rattle.timely.specs.Caused.{AreDistinct, AreCrowded, IsPastDeadline, IsExplained as IsResult}
-use Rattle.timely.proofs.Lists.{some_is}
 use Rattle.timely.proofs.Leaving.{IsWaitingFor, FailsFor, GoesOut as Leads}
 use Rattle.timely.proofs.Sent.{IsOpenFor, FailsAt, GoesTimely}
 use Rattle.timely.proofs.Timed.{known_for_good, timed_later}
 use Rattle.timely.proofs.Later.{told_later}
 use Rattle.timely.proofs.Learnt.{open_asks, call_timed, stop_timed, start_timed, start_stop_timed}
-use Rattle.timely.proofs.Enters.{IsInputNow}
-use Rattle.timely.proofs.States.{turn_of, AreHeld, held_later, IsBorn, IsOpenSound, IsExplained, open_later, unasked_later, other_number, is_input, CutNow, call_tells, stop_tells, start_tells, start_stops}
+use Rattle.timely.proofs.States.{turn_of, AreHeld, held_later, IsBorn, IsOpenSound, IsExplained, open_later, unasked_later, other_number, is_input, call_tells, stop_tells, start_tells, start_stops}
 
 alone : {X : Type 0} (a b : X) → Contains (a ∷ []) b → a ≡ b
 alone a b c = elim (Contains-cons a [] b c) [ inl e ↦ e | inr d ↦ absurd (Contains-nil b d) ]

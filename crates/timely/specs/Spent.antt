@@ -1,7 +1,7 @@
 -- When all servers of a name are used up (RFC 1034, section 5.3.3, step 3; RFC 1035, section 7.2): which
 -- servers there are to begin with, which of them were asked twice in vain, and which of their names have no
 -- address. All of it stands in the run: nothing is said of what the resolver remembers.
-use Rattle.std.specs.Prelude.{◌≡◌, ◌≢◌, ℕ, zero, suc, ◌+◌, ◌-◌, ◌≤◌, ◌⊎◌, true, List, [], ◌∷◌, length, Contains}
+use Rattle.std.specs.Prelude.{◌≡◌, ◌≢◌, ℕ, zero, suc, ◌-◌, ◌⊎◌, true, List, [], ◌∷◌, Contains}
 use Rattle.dname.specs.Labels.{Name, root, IsAtOrUnder}
 use Rattle.rdata.specs.Records.{Record}
 use Rattle.rdata.specs.declared.addr.Addr.{Addr}
