@@ -7,7 +7,7 @@ use Rattle.runs.specs.Runs.{Always}
 use Rattle.timely.specs.Replies.{RepliesAre}
 use Rattle.timely.specs.Failures.{IsSpentFor, EveryFailureIsSpent}
 use Rattle.timely.specs.Caused.{IsExplained}
-use Rattle.timely.proofs.Turns.{run_explained}
+use Rattle.timely.proofs.Runs.{run_explained}
 
 spent_so : (port : ℕ) (home : Home) (who : Asker) (o : Outcome Plain) (turn : Turn) (past : List Turn) → IsExplained port home who o turn past → IsSpentFor port home who o turn past
 spent_so port home who o turn past h e = subst (λ (x : Outcome Plain). IsExplained port home who x turn past) e h

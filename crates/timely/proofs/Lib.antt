@@ -11,5 +11,8 @@ pub mod States
 pub mod Timed
 pub mod Sent
 pub mod Learnt
+pub mod Opens
+pub mod Answered
 pub mod Turns
+pub mod Runs
 pub mod Failing

@@ -1,4 +1,4 @@
-use Rattle.timely.proofs.Turns.{run_explained}
+use Rattle.timely.proofs.Runs.{run_explained}
 use Rattle.timely.proofs.laws.timely_law.Goals as goal
 
 pub returns : goal.returns
