@@ -25,8 +25,8 @@ use Rattle.resolution.specs.Rules.{Learnt, IsAnswered, IsReferred, ByClass, Ente
 use Rattle.runs.specs.States.{Turn, Event, Client, Datagram, TcpReply, Tick, Query, Path, ByUdp, ByTcp, Asking, IsFor, via_of}
 use Rattle.runs.specs.States as states
 use Rattle.runs.specs.Messages.{Brings}
-use Rattle.runs.specs.Runs.{Earlier, Asks}
-use Rattle.timely.specs.Spent.{IsUdp, IsCutShort, AsksBy, IsOpenAsk, IsBad, EndsBadly, HasFailed, Takes, TellsOfNone, IsStart, IsOver}
+use Rattle.runs.specs.Runs.{Asks, Earlier, clock_of}
+use Rattle.timely.specs.Spent.{AsksBy, EndsBadly, HasFailed, IsBad, IsCutShort, IsOpenAsk, IsOver, IsStart, IsUdp, Repeats, Takes, TellsOfNone}
 use Rattle.timely.proofs.Lists.{more_followed}
 use Rattle.timely.proofs.Stores.{kept_from, cut_kept_from}
 use Rattle.retry.proofs.Steps.{timed_out_low, answered_low}
@@ -42,6 +42,17 @@ brought_ends port ask (Datagram now sock from bytes) m b = (names_end_in_root by
 brought_ends port ask (TcpReply now number bytes) m b = (names_end_in_root bytes m b.1).authority
 brought_ends port ask (states.TcpFailed now number) m b = absurd b
 brought_ends port ask (Tick now) m b = absurd b
+
+-- ---- the ask over TCP is an open ask
+
+pub open_asks : (port k : ℕ) (ask : Asking) (path : Path) (run : List Turn) → AsksBy port k ask path run → Asks port k ask run
+open_asks port k ask (ByUdp sock) run h = h
+open_asks port k ask (ByTcp number) run h = by run h
+  where
+    by : (run : List Turn) → Repeats port k ask run → Asks port k ask run
+    by [] h = absurd h
+    by (turn ∷ past) (inl (served, sent, cut)) = inl (served, sent)
+    by (turn ∷ past) (inr (other, more)) = inr (other, by past more)
 
 module _ (port : ℕ) (home : Home) (k : ℕ) (turn : Turn) (past : List Turn) (ask : Asking) (served : turn.served ≡ Query k) (asked : IsOpenAsk port k ask past) where
   -- The asked server said nothing of use: the search goes on.
@@ -92,7 +103,21 @@ module _ (port : ℕ) (home : Home) (k : ℕ) (turn : Turn) (past : List Turn) (
     module _ (m : Message) (brings : Brings port ask turn.event m) where
       -- An answer.
       pub taken_now : (l : Link) → class_of (s.frame).zone s.name s.kind (via_of ask.path) m ≡ class.Answer l → Takes port s.name s.kind (received l) turn past
-      taken_now l is = (k, ask, m, l, served, asked, top.1, top.2, brings, of_root (s.frame).zone s.name s.kind (via_of ask.path) m l (brought_ends port ask turn.event m brings) is, refl)
+      taken_now l is = (
+        k,
+        l,
+        clock_of (turn ∷ past),
+        record {
+          ask = ask;
+          message = m;
+          accepts = record { served = served; ask = open_asks port k ask ask.path past asked; brings = brings };
+          name = top.1;
+          kind = top.2;
+          is = of_root (s.frame).zone s.name s.kind (via_of ask.path) m l (brought_ends port ask turn.event m brings) is;
+          moment = refl;
+        },
+        refl,
+      )
 
       pub fresh_entry : (l : Link) → class_of (s.frame).zone s.name s.kind (via_of ask.path) m ≡ class.Answer l → (x : Key × Hit) → IsKept s.name s.kind (hit_from l now) x
           → (n : Name) × (u : ℕ) × (x.0 ≡ key_for n u (x.1).link) × Earlier (Takes port n u (x.1).link) (turn ∷ past)
@@ -143,9 +168,7 @@ module _ (port : ℕ) (home : Home) (k : ℕ) (turn : Turn) (past : List Turn) (
               ns,
               glue,
               ttl,
-              served,
-              asked,
-              brings,
+              record { served = served; ask = open_asks port k ask ask.path past asked; brings = brings },
               subst (λ (n : Name). class_of (top.0).cut.owner n ask.kind (via_of ask.path) m ≡ class.Referral at ns glue ttl) (sym top.1)
                   (subst (λ (t : ℕ). class_of (top.0).cut.owner s.name t (via_of ask.path) m ≡ class.Referral at ns glue ttl) (sym top.2)
                   (subst (λ (z : Name). class_of z s.name s.kind (via_of ask.path) m ≡ class.Referral at ns glue ttl) (top.0).stands.zone is)),

@@ -14,31 +14,20 @@ use Rattle.cache.specs.Keys.{Key, key_for}
 use Rattle.cache.specs.Cached.{Hit, IsKept}
 use Rattle.resolution.specs.Jobs.{Home, Stores, with_answer, with_timeout, received_link, Search, Job, job_at, Input, Start, Told, TimedOut, TcpFailed, Next, Task, Take, Go, Again, Point, point, hit_from}
 use Rattle.resolution.specs.Rules.{IsRemote, Learnt, ByClass, Enters, Advances, IsTakenEntry, Stops}
-use Rattle.runs.specs.States.{Turn, Query, Path, ByUdp, ByTcp, Asking, via_of}
+use Rattle.runs.specs.States.{Turn, Query, Asking, via_of}
 use Rattle.runs.specs.Messages.{Brings}
-use Rattle.runs.specs.Runs.{Earlier, Asks, clock_of}
-use Rattle.timely.specs.Spent.{Repeats, AsksBy, IsOpenAsk}
+use Rattle.runs.specs.Runs.{Earlier, clock_of}
+use Rattle.timely.specs.Spent.{IsOpenAsk}
 use Rattle.timely.specs.Timely.{Learns}
 use Rattle.timely.proofs.Stores.{kept_from}
 use Rattle.timely.proofs.Told.{AreTold}
 use Rattle.timely.proofs.Chains.{IsReached, rules_reach}
 use Rattle.timely.proofs.Points.{IsSound}
 use Rattle.timely.proofs.Leaving.{IsWaitingFor}
-use Rattle.timely.proofs.Enters.{brought_ends, IsInputNow, enters_sound}
+use Rattle.timely.proofs.Enters.{open_asks, brought_ends, IsInputNow, enters_sound}
 use Rattle.timely.proofs.Timed.{IsLearnt, AreTimed, AreKnown, KnownBy, IsTimed, timed_at, rules_timed, timed_later, known_later}
 use Rattle.timely.proofs.Sent.{GoesTimely, leaves_timed}
 use Rattle.timely.proofs.States.{CutNow, top_at, enters_reach}
-
--- ---- the ask over TCP is an open ask
-
-pub open_asks : (port k : ℕ) (ask : Asking) (path : Path) (run : List Turn) → AsksBy port k ask path run → Asks port k ask run
-open_asks port k ask (ByUdp sock) run h = h
-open_asks port k ask (ByTcp number) run h = by run h
-  where
-    by : (run : List Turn) → Repeats port k ask run → Asks port k ask run
-    by [] h = absurd h
-    by (turn ∷ past) (inl (served, sent, cut)) = inl (served, sent)
-    by (turn ∷ past) (inr (other, more)) = inr (other, by past more)
 
 module _ (port : ℕ) (home : Home) (k : ℕ) (turn : Turn) (past : List Turn) (ask : Asking) (served : turn.served ≡ Query k) (asked : IsOpenAsk port k ask past)
     (t : ℕ) (from : Name) (j : Job) (stores : Stores) (told : AreTold port home past stores) (work : IsWaitingFor port home past k t from ask.server ask.name ask.kind j)

@@ -12,9 +12,10 @@ use Rattle.runs.specs.Runs.{Asks, GivesOut, Came, clock_of, asks_among, asks_in,
 use Rattle.runs.specs.Steps.{Ends, Comes, IsAsking, IsOpened, at_once, crowded, admitted, Resolves, IsInput, IsIgnored, Hears, IsLate, IsLeft}
 use Rattle.timely.specs.Spent.{IsCutShort}
 use Rattle.timely.specs.Caused.{AreCrowded, IsPastDeadline, IsExplained as IsResult}
+use Rattle.timely.proofs.Enters.{open_asks}
 use Rattle.timely.proofs.Leaving.{FailsFor, GoesOut as Leads}
 use Rattle.timely.proofs.Sent.{FailsAt, GoesTimely}
-use Rattle.timely.proofs.Learnt.{open_asks, call_timed, stop_timed, start_timed}
+use Rattle.timely.proofs.Learnt.{call_timed, stop_timed, start_timed}
 use Rattle.timely.proofs.States.{AreHeld, held_later, IsExplained, other_number, is_input, call_tells, stop_tells, start_tells}
 use Rattle.timely.proofs.Opens.{all_distinct, as_many, by_tcp, by_udp, earlier_map, ended, ends_so, not_nobody, not_own, not_same, number_of, numbers_of, same_state}
 use Rattle.timely.proofs.Answered.{AreAnswered, ends_answered, none_answered, waits_answered}
