@@ -1,11 +1,11 @@
 -- What comes in for an open query: its ask ends for nothing, or an answer or a referral is taken.
-use Rattle.std.proofs.Common.{◌≡◌, ◌≢◌, ℕ, zero, suc, ◌+◌, ◌-◌, ◌≤◌, ◌⊎◌, inl, inr, true, Option, Some, None, List, [], ◌∷◌, ◌++◌, Contains, refl, sym, ap, ◌∙◌, subst}
-use Rattle.dname.specs.Labels.{Name, root, IsAtOrUnder}
+use Rattle.std.proofs.Common.{◌≡◌, ◌≢◌, ℕ, ◌⊎◌, inl, inr, Some, List, [], ◌∷◌, refl, sym, ap, ◌∙◌, subst}
+use Rattle.dname.specs.Labels.{Name, IsAtOrUnder}
 use Rattle.rdata.specs.Records.{Record}
 use Rattle.rdata.specs.declared.addr.Addr.{Addr}
 use Rattle.zone.specs.Zones.{a_type}
 use Rattle.zone.specs.Links.{Link, Found, Alias, NoData, NxDomain}
-use Rattle.layout.specs.Messages.{Message, IsMessage}
+use Rattle.layout.specs.Messages.{Message}
 use Rattle.layout.proofs.Roots.{names_end_in_root}
 use Rattle.wire.specs.declared.via.Via.{Via}
 use Rattle.wire.specs.declared.via.Via.TheVariants as via
@@ -13,25 +13,24 @@ use Rattle.classify.specs.Classes as class
 use Rattle.classify.specs.Classes.{class_of}
 use Rattle.classify.specs.Lifetimes.{received}
 use Rattle.classify.specs.Laws.{EndInRoot}
-use Rattle.classify.proofs.Readings.{referral_read}
+use Rattle.classify.proofs.Uses.{referral_over, cut_is}
 use Rattle.classify.proofs.Roots.{of_root}
 use Rattle.referral.specs.Cuts.{Cut, Known}
 use Rattle.referral.specs.Cuts as referral
 use Rattle.cache.specs.Keys.{Key, key_for}
 use Rattle.cache.specs.Cached.{Hit, IsKept}
-use Rattle.frames.specs.Frames.{FailedName, opened}
-use Rattle.resolution.specs.Jobs.{Home, Stores, level_of, with_answer, with_timeout, Taken, received_link, IsCutOf, Search, search_at, with_frame, Job, Input, Start, Told, TimedOut, TcpFailed, Task, Seek, Take, Go, Again, Point, point, hit_from, cut_from}
+use Rattle.resolution.specs.Jobs.{Home, Stores, level_of, with_answer, with_timeout, IsCutOf, Search, Job, Input, Start, Told, TimedOut, TcpFailed, Task, Go, Again, Point, point, hit_from, cut_from}
 use Rattle.retry.specs.Penalties.{AreAtMost, answered, timed_out}
-use Rattle.resolution.specs.Rules.{HearsOf, Learnt, IsAnswered, IsReferred, ByClass, Enters, server_of, IsTakenEntry, IsTakenCut, Stops}
+use Rattle.resolution.specs.Rules.{Learnt, IsAnswered, IsReferred, ByClass, Enters, server_of, IsTakenEntry, IsTakenCut, Stops}
 use Rattle.runs.specs.States.{Turn, Event, Client, Datagram, TcpReply, Tick, Query, Path, ByUdp, ByTcp, Asking, IsFor, via_of}
 use Rattle.runs.specs.States as states
 use Rattle.runs.specs.Messages.{Brings}
-use Rattle.runs.specs.Runs.{Earlier, Asks}
-use Rattle.timely.specs.Spent.{IsUdp, IsCutShort, AsksBy, IsOpenAsk, IsBad, EndsBadly, HasFailed, Takes, IsFound, TellsOfNone, HasNoAddress, Refers, IsStart, IsOver}
+use Rattle.runs.specs.Runs.{Asks, Earlier, clock_of}
+use Rattle.timely.specs.Spent.{AsksBy, EndsBadly, HasFailed, IsBad, IsCutShort, IsOpenAsk, IsOver, IsStart, IsUdp, Repeats, Takes, TellsOfNone}
 use Rattle.timely.proofs.Lists.{more_followed}
 use Rattle.timely.proofs.Stores.{kept_from, cut_kept_from}
-use Rattle.timely.proofs.Lower.{timed_out_low, answered_low, cut_is_udp}
-use Rattle.timely.proofs.Searches.{Stands, AreSettled, AreAsked, IsIdle, IsAsking, IsWaiting, AreAround, AreMarked, idle_at}
+use Rattle.retry.proofs.Steps.{timed_out_low, answered_low}
+use Rattle.timely.proofs.Searches.{AreAsked, IsIdle, IsAsking, AreAround, AreMarked, idle_at}
 use Rattle.timely.proofs.Told.{AreTold, low_level}
 use Rattle.timely.proofs.Points.{OnTop, StandsBy, IsSound, put, heard_at}
 use Rattle.timely.proofs.Later.{told_later, stands_later, settled_later, asked_later, asking_later, waiting_later, around_later, marks_later}
@@ -43,6 +42,17 @@ brought_ends port ask (Datagram now sock from bytes) m b = (names_end_in_root by
 brought_ends port ask (TcpReply now number bytes) m b = (names_end_in_root bytes m b.1).authority
 brought_ends port ask (states.TcpFailed now number) m b = absurd b
 brought_ends port ask (Tick now) m b = absurd b
+
+-- ---- the ask over TCP is an open ask
+
+pub open_asks : (port k : ℕ) (ask : Asking) (path : Path) (run : List Turn) → AsksBy port k ask path run → Asks port k ask run
+open_asks port k ask (ByUdp sock) run h = h
+open_asks port k ask (ByTcp number) run h = by run h
+  where
+    by : (run : List Turn) → Repeats port k ask run → Asks port k ask run
+    by [] h = absurd h
+    by (turn ∷ past) (inl (served, sent, cut)) = inl (served, sent)
+    by (turn ∷ past) (inr (other, more)) = inr (other, by past more)
 
 module _ (port : ℕ) (home : Home) (k : ℕ) (turn : Turn) (past : List Turn) (ask : Asking) (served : turn.served ≡ Query k) (asked : IsOpenAsk port k ask past) where
   -- The asked server said nothing of use: the search goes on.
@@ -93,7 +103,21 @@ module _ (port : ℕ) (home : Home) (k : ℕ) (turn : Turn) (past : List Turn) (
     module _ (m : Message) (brings : Brings port ask turn.event m) where
       -- An answer.
       pub taken_now : (l : Link) → class_of (s.frame).zone s.name s.kind (via_of ask.path) m ≡ class.Answer l → Takes port s.name s.kind (received l) turn past
-      taken_now l is = (k, ask, m, l, served, asked, top.1, top.2, brings, of_root (s.frame).zone s.name s.kind (via_of ask.path) m l (brought_ends port ask turn.event m brings) is, refl)
+      taken_now l is = (
+        k,
+        l,
+        clock_of (turn ∷ past),
+        record {
+          ask = ask;
+          message = m;
+          accepts = record { served = served; ask = open_asks port k ask ask.path past asked; brings = brings };
+          name = top.1;
+          kind = top.2;
+          is = of_root (s.frame).zone s.name s.kind (via_of ask.path) m l (brought_ends port ask turn.event m brings) is;
+          moment = refl;
+        },
+        refl,
+      )
 
       pub fresh_entry : (l : Link) → class_of (s.frame).zone s.name s.kind (via_of ask.path) m ≡ class.Answer l → (x : Key × Hit) → IsKept s.name s.kind (hit_from l now) x
           → (n : Name) × (u : ℕ) × (x.0 ≡ key_for n u (x.1).link) × Earlier (Takes port n u (x.1).link) (turn ∷ past)
@@ -144,9 +168,7 @@ module _ (port : ℕ) (home : Home) (k : ℕ) (turn : Turn) (past : List Turn) (
               ns,
               glue,
               ttl,
-              served,
-              asked,
-              brings,
+              record { served = served; ask = open_asks port k ask ask.path past asked; brings = brings },
               subst (λ (n : Name). class_of (top.0).cut.owner n ask.kind (via_of ask.path) m ≡ class.Referral at ns glue ttl) (sym top.1)
                   (subst (λ (t : ℕ). class_of (top.0).cut.owner s.name t (via_of ask.path) m ≡ class.Referral at ns glue ttl) (sym top.2)
                   (subst (λ (z : Name). class_of z s.name s.kind (via_of ask.path) m ≡ class.Referral at ns glue ttl) (top.0).stands.zone is)),
@@ -163,7 +185,7 @@ module _ (port : ℕ) (home : Home) (k : ℕ) (turn : Turn) (past : List Turn) (
           → IsReferred now s rest at ns glue ttl j stores p → Sound p
       referral_enters at ns glue ttl is h =
           let start = referred_start at ns glue ttl h.cut is h.is_cut in
-          let over : IsOver h.cut s.name = inr (subst (IsAtOrUnder s.name) (sym h.is_cut.owner) ((referral_read (s.frame).zone s.name s.kind m (via_of ask.path) at ns glue ttl is).0.over)) in
+          let over : IsOver h.cut s.name = inr (subst (IsAtOrUnder s.name) (sym h.is_cut.owner) (referral_over (s.frame).zone s.name s.kind m (via_of ask.path) at ns glue ttl is)) in
           put_now p Go _ h.task h.job (subst (AreTold port home (turn ∷ past)) (sym h.stored) (record {
             links = (told_later port home turn past stores told).links;
             cuts = λ n e c. elim (cut_kept_from stores.delegations_cap (cut_from h.cut ttl now) stores.delegations (n, e) c) [
@@ -177,7 +199,7 @@ module _ (port : ℕ) (home : Home) (k : ℕ) (turn : Turn) (past : List Turn) (
       -- A reply that was cut short.
       pub cut_enters : class_of (s.frame).zone s.name s.kind (via_of ask.path) m ≡ class.Cut → j.searches ≡ s ∷ rest → p ≡ point (Again ask.server) j stores → Sound p
       cut_enters is searches e =
-          let udp = cut_is_udp (s.frame).zone s.name s.kind m (via_of ask.path) is in
+          let udp = cut_is (s.frame).zone s.name s.kind m (via_of ask.path) is in
           let path = udp_of ask.path udp.0 in
           subst Sound (sym e) (record {
             told = told_later port home turn past stores told;

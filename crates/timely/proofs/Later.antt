@@ -1,19 +1,18 @@
 -- What stood in the run stands in the longer run.
-use Rattle.std.proofs.Common.{◌≡◌, ℕ, zero, suc, ◌+◌, ◌-◌, ◌≤◌, ◌⊎◌, inl, inr, Option, Some, None, List, [], ◌∷◌, ◌++◌, take, Contains, refl, sym, ap, ◌∙◌, subst}
+use Rattle.std.proofs.Common.{◌≡◌, ℕ, zero, suc, ◌-◌, inl, inr, List, [], ◌∷◌, Contains}
 use Rattle.dname.specs.Labels.{Name}
 use Rattle.rdata.specs.Records.{Record}
 use Rattle.rdata.specs.declared.addr.Addr.{Addr}
 use Rattle.zone.specs.Zones.{a_type}
-use Rattle.zone.specs.Links.{Link, Found, Alias}
 use Rattle.front.specs.Chains.{target_of}
 use Rattle.referral.specs.Cuts.{Cut}
 use Rattle.frames.specs.Frames.{FailedName}
 use Rattle.resolution.specs.Jobs.{Home, Stores, Taken, Search, Job}
 use Rattle.runs.specs.States.{Turn}
 use Rattle.runs.specs.Runs.{Earlier}
-use Rattle.timely.specs.Spent.{Takes, EndsBadly, HasFailed, IsFound, HasNoAddress, IsAliasOf, IsStart, IsOfNoUse, AreUsedUp, IsBeyond}
+use Rattle.timely.specs.Spent.{EndsBadly, HasFailed, IsFound, HasNoAddress, IsAliasOf, IsOfNoUse, AreUsedUp, IsBeyond}
 use Rattle.timely.proofs.Lists.{wider_followed}
-use Rattle.timely.proofs.Searches.{use_with, Stands, AreSettled, AreAsked, IsAsking, IsWaiting, AreAround, IsMarked, AreMarked}
+use Rattle.timely.proofs.Searches.{Stands, AreSettled, AreAsked, IsAsking, IsWaiting, AreAround, IsMarked, AreMarked}
 use Rattle.timely.proofs.Told.{AreTold}
 use Rattle.timely.proofs.Points.{OnTop}
 use Rattle.timely.proofs.Chains.{LeadsOn}

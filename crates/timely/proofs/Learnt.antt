@@ -1,72 +1,33 @@
 -- One call, by the clock: what is accepted in this step is known since now.
-use Rattle.std.proofs.Common.{◌≡◌, ◌≢◌, ℕ, zero, suc, ◌+◌, ◌≤◌, ◌<◌, ◌⊎◌, inl, inr, Option, Some, None, List, [], ◌∷◌, ◌++◌, length, Contains, refl, sym, ap, ◌∙◌, subst, arith}
+use Rattle.std.proofs.Common.{◌≡◌, ℕ, ◌+◌, ◌≤◌, inl, inr, List, [], ◌∷◌, refl, sym, ap, ◌∙◌, subst, arith}
 use Rattle.lru.proofs.Splits.{Contains-nil}
-use Rattle.dname.specs.Labels.{Name, root}
-use Rattle.rdata.specs.Records.{Record}
+use Rattle.dname.specs.Labels.{Name}
 use Rattle.rdata.specs.declared.addr.Addr.{Addr}
 use Rattle.zone.specs.Zones.{cname_type}
-use Rattle.zone.specs.Links.{Link, Alias}
+use Rattle.zone.specs.Links.{Link}
 use Rattle.layout.specs.Messages.{Message}
 use Rattle.wire.specs.declared.via.Via.{Via}
 use Rattle.classify.specs.Classes as class
 use Rattle.classify.specs.Classes.{class_of}
-use Rattle.classify.specs.Lifetimes.{received, lifetime_of}
 use Rattle.classify.proofs.Roots.{of_root}
 use Rattle.cache.specs.Keys.{Key, key_for}
 use Rattle.cache.specs.Cached.{Hit, IsKept}
-use Rattle.resolution.specs.Jobs.{Home, Stores, with_answer, with_timeout, Origin, Local, Cached, Accepted, Taken, received_link, Search, Job, job_at, Input, Start, Told, TimedOut, TcpFailed, Next, Task, Seek, Take, Go, Again, Point, point, hit_from}
-use Rattle.resolution.specs.Rules.{IsRemote, Learnt, IsAnswered, ByClass, Enters, Rules, Advances, IsTakenEntry, Stops}
-use Rattle.runs.specs.States.{Turn, Query, Path, ByUdp, ByTcp, Asking, via_of}
+use Rattle.resolution.specs.Jobs.{Home, Stores, with_answer, with_timeout, received_link, Search, Job, job_at, Input, Start, Told, TimedOut, TcpFailed, Next, Task, Take, Go, Again, Point, point, hit_from}
+use Rattle.resolution.specs.Rules.{IsRemote, Learnt, ByClass, Enters, Advances, IsTakenEntry, Stops}
+use Rattle.runs.specs.States.{Turn, Query, Asking, via_of}
 use Rattle.runs.specs.Messages.{Brings}
-use Rattle.runs.specs.Runs.{Earlier, Asks, clock_of}
-use Rattle.timely.specs.Spent.{IsCutShort, Repeats, AsksBy, IsOpenAsk}
+use Rattle.runs.specs.Runs.{Earlier, clock_of}
+use Rattle.timely.specs.Spent.{IsOpenAsk}
 use Rattle.timely.specs.Timely.{Learns}
-use Rattle.timely.proofs.Stores.{AreKept, kept_from}
+use Rattle.timely.proofs.Stores.{kept_from}
 use Rattle.timely.proofs.Told.{AreTold}
 use Rattle.timely.proofs.Chains.{IsReached, rules_reach}
 use Rattle.timely.proofs.Points.{IsSound}
 use Rattle.timely.proofs.Leaving.{IsWaitingFor}
-use Rattle.timely.proofs.Enters.{brought_ends, IsInputNow, enters_sound}
-use Rattle.timely.proofs.Timed.{IsLearnt, AreTimed, IsKnownAs, IsKnown, AreKnown, KnownBy, IsTimed, timed_at, rules_timed}
+use Rattle.timely.proofs.Enters.{open_asks, brought_ends, IsInputNow, enters_sound}
+use Rattle.timely.proofs.Timed.{IsLearnt, AreTimed, AreKnown, KnownBy, IsTimed, timed_at, rules_timed, timed_later, known_later}
 use Rattle.timely.proofs.Sent.{GoesTimely, leaves_timed}
 use Rattle.timely.proofs.States.{CutNow, top_at, enters_reach}
-
--- ---- later
-
-module _ (port : ℕ) (home : Home) (turn : Turn) (past : List Turn) where
-  pub timed_later : (stores : Stores) → AreTimed port home past stores → AreTimed port home (turn ∷ past) stores
-  timed_later stores h k e c = let (n, u, key, (by, said, learnt, link, ttl)) = h k e c in (n, u, key, (by, said, inr learnt, link, ttl))
-
-  module _ (k t : ℕ) (Old New : Type 0) (f : Old → New) where
-    known_as_later : (n : Name) (o : Origin) (l : Link) → IsKnownAs port home past k t Old n o l → IsKnownAs port home (turn ∷ past) k t New n o l
-    known_as_later n Local l h = h
-    known_as_later n (Cached ttl since) l (remote, (by, u, said, learnt, answers, life)) = (remote, (by, u, said, inr learnt, answers, life))
-    known_as_later n (Accepted ttl since) l (remote, mine, (said, learnt, is, life)) = (remote, f mine, (said, inr learnt, is, life))
-
-    pub known_later : (ls : List Taken) → AreKnown port home past k t Old ls → AreKnown port home (turn ∷ past) k t New ls
-    known_later [] h = tt
-    known_later (l ∷ ls) h = (known_as_later l.name l.origin l.link h.0, known_later ls h.1)
-
--- The query served no more counts.
-pub known_for_good : (port : ℕ) (home : Home) (run : List Turn) (k t : ℕ) (Old : Type 0) (ls : List Taken) → AreKnown port home run k t Old ls → AreKnown port home run k t (Unit {0}) ls
-known_for_good port home run k t Old [] h = tt
-known_for_good port home run k t Old (l ∷ ls) h = (by l.name l.origin l.link h.0, known_for_good port home run k t Old ls h.1)
-  where
-    by : (n : Name) (o : Origin) (l : Link) → IsKnownAs port home run k t Old n o l → IsKnownAs port home run k t (Unit {0}) n o l
-    by n Local l h = h
-    by n (Cached ttl since) l h = h
-    by n (Accepted ttl since) l (remote, mine, more) = (remote, tt, more)
-
--- ---- the ask over TCP is an open ask
-
-pub open_asks : (port k : ℕ) (ask : Asking) (path : Path) (run : List Turn) → AsksBy port k ask path run → Asks port k ask run
-open_asks port k ask (ByUdp sock) run h = h
-open_asks port k ask (ByTcp number) run h = by run h
-  where
-    by : (run : List Turn) → Repeats port k ask run → Asks port k ask run
-    by [] h = absurd h
-    by (turn ∷ past) (inl (served, sent, cut)) = inl (served, sent)
-    by (turn ∷ past) (inr (other, more)) = inr (other, by past more)
 
 module _ (port : ℕ) (home : Home) (k : ℕ) (turn : Turn) (past : List Turn) (ask : Asking) (served : turn.served ≡ Query k) (asked : IsOpenAsk port k ask past)
     (t : ℕ) (from : Name) (j : Job) (stores : Stores) (told : AreTold port home past stores) (work : IsWaitingFor port home past k t from ask.server ask.name ask.kind j)
@@ -96,9 +57,12 @@ module _ (port : ℕ) (home : Home) (k : ℕ) (turn : Turn) (past : List Turn) (
       → class_of (s.frame).zone s.name s.kind (via_of ask.path) m ≡ class.Answer l → (x : Key × Hit) → IsKept s.name s.kind (hit_from l now) x
       → (n : Name) × (u : ℕ) × (x.0 ≡ key_for n u (x.1).link) × IsLearnt port home (turn ∷ past) n u x.1
   fresh_learnt s rest m l searches brings is x new =
-      let hit : x.1 ≡ hit_from l now = ap (λ y. y.1) new.0 in
-      (s.name, s.kind, ap (λ y. y.0) new.0 ∙ ap (λ (y : Hit). key_for s.name s.kind y.link) (sym hit),
-      subst (IsLearnt port home (turn ∷ past) s.name s.kind) (sym hit) (k, l, inl (learns s rest m l searches brings is), refl, refl))
+      let hit : x.1 ≡ hit_from l now = ap (λ y. y.1) new.0 in (
+        s.name,
+        s.kind,
+        ap (λ y. y.0) new.0 ∙ ap (λ (y : Hit). key_for s.name s.kind y.link) (sym hit),
+        subst (IsLearnt port home (turn ∷ past) s.name s.kind) (sym hit) (k, l, inl (learns s rest m l searches brings is), refl, refl),
+      )
 
   learnt_timed : (s : Search) (rest : List Search) (m : Message) (l : Link) (old new : Stores) → AreTimed port home past old → j.searches ≡ s ∷ rest → Brings port ask turn.event m
       → class_of (s.frame).zone s.name s.kind (via_of ask.path) m ≡ class.Answer l → Learnt now s l old new → AreTimed port home (turn ∷ past) new
@@ -122,9 +86,11 @@ module _ (port : ℕ) (home : Home) (k : ℕ) (turn : Turn) (past : List Turn) (
   by_class s [] server m (class.Answer l) old p h searches brings is (task, job, learnt) =
       let top = top_at port home k turn past ask served asked t from j stores told work s [] searches in
       let kind : s.kind ≡ t = top.1.1 ∙ work.kind in
-      going p (Take (received_link s.name l now)) (record j { searches = [] }) task job (learnt_timed s [] m l old p.stores h searches brings is learnt)
-      (subst (λ (n : Name). IsRemote home n t) (sym top.1.0) (subst (IsRemote home j.name) work.kind remote), served,
-      (l, subst (λ (u : ℕ). Earlier (Learns port k s.name u l now) (turn ∷ past)) kind (inl (learns s [] m l searches brings is)), refl, refl)) refl refl refl refl
+      going p (Take (received_link s.name l now)) (record j { searches = [] }) task job (learnt_timed s [] m l old p.stores h searches brings is learnt) (
+        subst (λ (n : Name). IsRemote home n t) (sym top.1.0) (subst (IsRemote home j.name) work.kind remote),
+        served,
+        (l, subst (λ (u : ℕ). Earlier (Learns port k s.name u l now) (turn ∷ past)) kind (inl (learns s [] m l searches brings is)), refl, refl),
+      ) refl refl refl refl
   by_class s (around ∷ rest) server m (class.Answer l) old p h searches brings is (after, marks, task, learnt, hears_of, job) =
       going p Go (record j { searches = after ∷ rest; failed = marks }) task job (learnt_timed s (around ∷ rest) m l old p.stores h searches brings is learnt) remote refl refl refl refl
   by_class s rest server m (class.Referral at ns glue ttl) old p h searches brings is e =
@@ -142,7 +108,7 @@ module _ (port : ℕ) (home : Home) (k : ℕ) (turn : Turn) (past : List Turn) (
   enters_timed (Told way server m) p (via_is, server_is, brings) h = elim h [
     | inl (none, at) ↦ still p (with_answer stores server) timed at
     | inr (s, rest, searches, by) ↦ by_class s rest server m (class_of (s.frame).zone s.name s.kind (via_of ask.path) m) (with_answer stores server) p timed searches brings refl
-      (subst (λ (w : Via). ByClass now server s rest (class_of (s.frame).zone s.name s.kind w m) j (with_answer stores server) p) via_is by)
+        (subst (λ (w : Via). ByClass now server s rest (class_of (s.frame).zone s.name s.kind w m) j (with_answer stores server) p) via_is by)
   ]
   enters_timed (TimedOut server) p is h = still p (with_timeout stores server) timed h
   enters_timed (TcpFailed server) p is h = still p (with_timeout stores server) timed h
@@ -183,10 +149,10 @@ module _ (port : ℕ) (home : Home) (turn : Turn) (past : List Turn) (k t now : 
   start_timed deadline stores next new after told timed a =
       let sound : IsSound port home k (turn ∷ past) (λ a n u. Unit {0}) a.first = subst (IsSound port home k (turn ∷ past) (λ a n u. Unit {0})) (sym a.enters) (record { told = told; marks = λ f c. absurd (Contains-nil f c); stands = tt }) in
       let reached : IsReached port home (turn ∷ past) t from a.first.task a.first.job = subst (λ (p : Point). IsReached port home (turn ∷ past) t from p.task p.job) (sym a.enters)
-          (record { kind = refl; leads = refl; few = zero_least; link = tt }) in
+      (record { kind = refl; leads = refl; few = zero_least; link = tt }) in
       let (last_sound, reach) = rules_reach port home (turn ∷ past) t k (λ a n u. Unit {0}) now a.count from a.first a.last sound reached a.rules in
       let first : IsTimed port home (turn ∷ past) k t ⊥ (deadline + 10000) 0 a.first = subst (IsTimed port home (turn ∷ past) k t ⊥ (deadline + 10000) 0) (sym a.enters)
-          (record { stores = timed; chain = tt; task = tt; plain = λ c. refl; kind = refl; deadline_is = refl; sent_is = refl }) in
+      (record { stores = timed; chain = tt; task = tt; plain = λ c. refl; kind = refl; deadline_is = refl; sent_is = refl }) in
       let last = rules_timed port home (turn ∷ past) k t ⊥ (deadline + 10000) 0 now a.count a.first a.last first a.rules in
       leaves_timed port home turn past k t now clock ⊥ (λ e. absurd e) from (deadline + 10000) 0 a.last next new after last reach a.leaves
     where

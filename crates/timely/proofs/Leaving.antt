@@ -1,21 +1,18 @@
 -- What goes out at the last point: an ask of the next server, or a failure whose cause stands in the run.
-use Rattle.std.proofs.Common.{◌≡◌, ◌≢◌, ℕ, zero, suc, ◌+◌, ◌-◌, ◌≤◌, ◌⊎◌, inl, inr, Bool, true, false, cond, Option, Some, None, is_some, List, [], ◌∷◌, ◌++◌, length, slice_get, Contains, refl, sym, ap, ◌∙◌, subst, arith, add-one, length-append}
+use Rattle.std.proofs.Common.{◌≡◌, ℕ, suc, ◌+◌, ◌-◌, ◌≤◌, inl, inr, cond, Option, Some, is_some, List, [], ◌∷◌, ◌++◌, length, refl, sym, ap, ◌∙◌, subst, arith, add-one, length-append}
 use Rattle.dname.specs.Labels.{Name}
 use Rattle.rdata.specs.Records.{Record}
 use Rattle.rdata.specs.declared.addr.Addr.{Addr}
-use Rattle.zone.specs.Zones.{a_type}
-use Rattle.zone.specs.Links.{Link, Alias}
+use Rattle.zone.specs.Links.{Alias}
 use Rattle.front.specs.Chains.{target_of}
 use Rattle.authority.specs.declared.cause.Cause.{Cause}
 use Rattle.authority.specs.declared.cause.Cause.TheVariants.{TooManyOpen, Deadline, Chain, Sends, NoServer, Large}
 use Rattle.retry.specs.Plans.{Plan, upcoming, advanced}
-use Rattle.referral.specs.Cuts.{Cut}
-use Rattle.frames.specs.Frames.{Frame}
-use Rattle.resolution.specs.Jobs.{Home, Stores, Taken, Search, with_frame, Job, Next, Ask, AskTcp, Done, Fail, given, asked, asked_again, Task, Seek, Take, Go, Again, Point}
-use Rattle.resolution.specs.Rules.{IsDue, IsDueAgain, IsRefused, IsUsedUp, Leaves, sends, sends_again, refuses, spent, nowhere, too_long, done}
+use Rattle.resolution.specs.Jobs.{Home, Stores, Taken, Search, Job, Next, Ask, AskTcp, Done, Fail, given, Task, Take, Go, Again, Point}
+use Rattle.resolution.specs.Rules.{IsRefused, IsUsedUp, Leaves, sends, sends_again, refuses, spent, nowhere, too_long, done}
 use Rattle.runs.specs.States.{Turn}
 use Rattle.timely.specs.Spent.{AreLeading, IsBeyond, AreUsedUp, IsSpent}
-use Rattle.timely.proofs.Searches.{Stands, AreSettled, AreAsked, IsIdle, IsAsking, IsWaiting, AreAround, AreMarked, used_up}
+use Rattle.timely.proofs.Searches.{IsIdle, IsAsking, AreAround, AreMarked, used_up}
 use Rattle.timely.proofs.Told.{AreTold}
 use Rattle.timely.proofs.Points.{OnTop, StandsBy, IsSound}
 use Rattle.timely.proofs.Chains.{LeadsOn, IsReached, IsOfName, leads_more, led}

@@ -1,19 +1,18 @@
 -- What stands at each point of the work on a query, and that the rules keep it.
-use Rattle.std.proofs.Common.{◌≡◌, ◌≢◌, ℕ, zero, suc, ◌+◌, ◌-◌, ◌≤◌, ◌⊎◌, inl, inr, Option, Some, None, List, [], ◌∷◌, Contains, refl, sym, ap, ◌∙◌, subst, arith, add-one}
+use Rattle.std.proofs.Common.{◌≡◌, ◌≢◌, ℕ, zero, suc, ◌+◌, ◌-◌, inl, inr, Option, Some, None, List, [], ◌∷◌, refl, sym, ap, ◌∙◌, subst, arith, add-one}
 use Rattle.lru.proofs.Splits.{Contains-cons}
-use Rattle.dname.specs.Labels.{Name, root, IsAtOrUnder}
+use Rattle.dname.specs.Labels.{Name, IsAtOrUnder}
 use Rattle.rdata.specs.Records.{Record}
 use Rattle.rdata.specs.declared.addr.Addr.{Addr}
-use Rattle.zone.specs.Zones.{a_type, IsBeneath}
+use Rattle.zone.specs.Zones.{a_type}
 use Rattle.zone.specs.Links.{Link, Found}
 use Rattle.zone.specs.Look as local
 use Rattle.authority.specs.Catalogs.{IsLooked}
-use Rattle.retry.specs.Plans.{upcoming}
-use Rattle.referral.specs.Cuts.{Cut, Known, IsBest}
-use Rattle.frames.specs.Frames.{Frame, FailedName, opened, after_name, fresh_addresses, after_add}
+use Rattle.referral.specs.Cuts.{Cut, IsBest}
+use Rattle.frames.specs.Frames.{FailedName, fresh_addresses}
 use Rattle.frames.proofs.Steps.{added_there}
-use Rattle.resolution.specs.Jobs.{Home, Stores, level_of, Taken, IsCutOf, IsRootCut, AreAddressesOf, Search, search_at, with_frame, Job, marked, Task, Seek, Take, Go, Again, Point}
-use Rattle.resolution.specs.Rules.{Says, Finds, Begins, Misses, HearsOf, turned, IsTurnOf, IsUsedUp, Rule, takes, asks, follows, restarts, hears, descends, gives_up, Rules}
+use Rattle.resolution.specs.Jobs.{Home, Stores, level_of, IsCutOf, IsRootCut, Search, Job, marked, Task, Seek, Take, Go, Again, Point}
+use Rattle.resolution.specs.Rules.{Says, Begins, Misses, HearsOf, turned, Rule, takes, asks, follows, restarts, hears, descends, gives_up, Rules}
 use Rattle.runs.specs.States.{Turn}
 use Rattle.timely.specs.Spent.{HasNoAddress, IsFound, IsStart, IsOver, IsBeyond}
 use Rattle.timely.proofs.Searches.{IsIdle, IsAsking, IsWaiting, AreAround, IsMarked, AreMarked, idle_at, waits, goes_on, adds, nesting_stays, used_up, marked_up}

@@ -1,30 +1,26 @@
 -- What stands of a query's searches at a run, and how the rules keep it.
-use Rattle.std.proofs.Common.{◌≡◌, ℕ, zero, suc, ◌+◌, ◌-◌, ◌≤◌, ◌<◌, ◌⊎◌, inl, inr, Bool, true, false, ◌||◌, ◌&&◌, nat_le, nat_eq, Option, Some, None, List, [], ◌∷◌, ◌++◌, length, take, slice_get, Contains, refl, sym, ap, ◌∙◌, subst, arith, add-one, leb-true}
-use Rattle.std.specs.List.{list_any}
-use Rattle.std.proofs.lemmas.Bool.{cases_lt, and_parts}
-use Rattle.std.proofs.lemmas.List.Elements.{Contains-append_cases, Contains-append_left, Contains-append_right}
-use Rattle.lru.proofs.Splits.{Contains-head, Contains-tail, Contains-cons, Contains-nil}
-use Rattle.dname.specs.Labels.{Name, root, same_name, is_under, IsAtOrUnder}
-use Rattle.dname.specs.Laws.{same_name-exact}
-use Rattle.dname.proofs.Under.{under_is}
+use Rattle.std.proofs.Common.{◌≡◌, ℕ, zero, suc, ◌-◌, ◌≤◌, ◌<◌, ◌⊎◌, inl, inr, Some, None, List, [], ◌∷◌, ◌++◌, take, drop, slice_get, Contains, refl, sym, ◌∙◌, subst, arith, add-one}
+use Rattle.std.proofs.lemmas.Bool.{cases_lt}
+use Rattle.std.proofs.lemmas.List.{take-append-drop}
+use Rattle.std.proofs.lemmas.List.Elements.{Contains-append_cases, Contains-append_left}
+use Rattle.lru.proofs.Splits.{Contains-nil}
+use Rattle.dname.specs.Labels.{Name, IsAtOrUnder}
 use Rattle.rdata.specs.Records.{Record}
 use Rattle.rdata.specs.declared.addr.Addr.{Addr}
 use Rattle.zone.specs.Zones.{a_type}
-use Rattle.zone.specs.Links.{Link, Found, Alias, NoData, NxDomain}
-use Rattle.zone.proofs.LawLists.{any_of}
-use Rattle.retry.specs.Plans.{Plan, planned, upcoming}
+use Rattle.retry.specs.Plans.{upcoming}
 use Rattle.referral.specs.Cuts.{Cut}
-use Rattle.frames.specs.Frames.{Frame, FailedName, taken_addresses, unknown_names, opened, has_failed, is_skipped, next_place, next_name, after_name, fresh_addresses, after_add}
+use Rattle.frames.specs.Frames.{Frame, FailedName, taken_addresses, unknown_names, opened, IsPassedOver, next_place, next_name, after_add}
 use Rattle.frames.specs.Members.{AreAmong}
+use Rattle.frames.proofs.Passed.{passed, spent}
 use Rattle.frames.proofs.Places.{name_turn}
-use Rattle.resolution.specs.Jobs.{Home, AreAddressesOf, Search, search_at, with_frame, marked}
+use Rattle.frames.proofs.Plans.{in_plan}
+use Rattle.resolution.specs.Jobs.{Home, AreAddressesOf, Search, search_at, with_frame}
 use Rattle.resolution.specs.Rules.{turned}
 use Rattle.runs.specs.States.{Turn}
 use Rattle.runs.specs.Runs.{Earlier}
-use Rattle.timely.specs.Spent.{Twice, EndsBadly, HasFailed, IsFound, HasNoAddress, IsStart, IsOver, IsOfNoUse, AreUsedUp, IsBeyond}
+use Rattle.timely.specs.Spent.{EndsBadly, HasFailed, IsFound, HasNoAddress, IsStart, IsOver, IsOfNoUse, AreUsedUp, IsBeyond}
 use Rattle.timely.proofs.Lists.{some_is, Followed, none_followed, all_twice, taken_more}
-use Rattle.timely.proofs.Plans.{in_plan}
-use Rattle.timely.proofs.Names.{passed, all_passed}
 
 -- Fewer look-ups within one another need no more.
 module _ (port : ℕ) (home : Home) (run : List Turn) where
@@ -113,7 +109,7 @@ module _ (port : ℕ) (home : Home) (k : ℕ) (run : List Turn) where
     cut = c;
     stands = record { start = start; over = over; zone = refl; names = refl; addresses = λ a h. h };
     settled = λ x h. absurd (Contains-nil x h);
-    asked = record { followed = none_followed _ _ _; others = λ a h. inl (in_plan level (taken_addresses c) a (low a) h) };
+    asked = record { followed = none_followed _ _ _; others = λ a h. inl (in_plan level (taken_addresses c) a h (low a)) };
   }
 
   -- ---- all of a search's known servers were asked
@@ -125,32 +121,23 @@ module _ (port : ℕ) (home : Home) (k : ℕ) (run : List Turn) where
       | inr f ↦ f
     ]
 
-  failed_from : (fs : List FailedName) (x : Name) (d : ℕ) → has_failed fs x d ≡ true → (f : FailedName) × Contains fs f × (f.name ≡ x) × (f.nesting ≤ d)
-  failed_from fs x d e =
-      let (f, there, is) = any_of (λ (f : FailedName). same_name f.name x && nat_le f.nesting d) fs e in
-      let p = and_parts (same_name f.name x) (nat_le f.nesting d) is in
-      (f, there, same_name-exact f.name x p.0, leb-true f.nesting d p.1)
-
-  -- What is skipped is of no use.
-  skipped_use : (fs : List FailedName) (s : Search) (z : Name) (x : Name) → AreMarked fs → (s.frame).zone ≡ z → is_skipped fs s.frame x ≡ true
+  -- What is passed over is of no use.
+  passed_use : (fs : List FailedName) (s : Search) (z : Name) (x : Name) → AreMarked fs → (s.frame).zone ≡ z → IsPassedOver fs s.frame x
       → IsOfNoUse port home run z (Contains (s.frame).addresses) (IsBeyond port home run k (3 - (s.frame).nesting)) x
-  skipped_use fs s z x marks zone e = by (is_under x (s.frame).zone) (nat_le 3 (s.frame).nesting) (has_failed fs x ((s.frame).nesting + 1)) refl refl refl e
-    where
-      by : (b d f : Bool) → is_under x (s.frame).zone ≡ b → nat_le 3 (s.frame).nesting ≡ d → has_failed fs x ((s.frame).nesting + 1) ≡ f → (b || d || f) ≡ true
-          → IsOfNoUse port home run z (Contains (s.frame).addresses) (IsBeyond port home run k (3 - (s.frame).nesting)) x
-      by true d f eb ed ef h = inl (subst (IsAtOrUnder x) zone (under_is x (s.frame).zone eb))
-      by false true f eb ed ef h =
-          let deep = leb-true 3 (s.frame).nesting ed in
-          let none : 0 ≡ 3 - (s.frame).nesting = omega arith in
-          inr (inr (inr (subst (λ (d : ℕ). IsBeyond port home run k d x) none tt)))
-      by false false true eb ed ef h =
-          let (f, there, is, le) = failed_from fs x ((s.frame).nesting + 1) ef in
-          let less : 3 - (s.frame).nesting ≤ 4 - f.nesting = omega arith in
-          elim (marks f there) [
-            | inl none ↦ inr (inr (inl (subst (HasNoAddress port home run) is none)))
-            | inr b ↦ inr (inr (inr (subst (IsBeyond port home run k (3 - (s.frame).nesting)) is (beyond_to port home run k (3 - (s.frame).nesting) (4 - f.nesting) f.name less b))))
-          ]
-      by false false false eb ed ef h = absurd (cc)
+  passed_use fs s z x marks zone (inl under) = inl (subst (IsAtOrUnder x) zone under)
+  passed_use fs s z x marks zone (inr (inl deep)) = let none : 0 ≡ 3 - (s.frame).nesting = omega arith in inr (inr (inr (subst (λ (d : ℕ). IsBeyond port home run k d x) none tt)))
+  passed_use fs s z x marks zone (inr (inr (f, there, is, le))) =
+      let less : 3 - (s.frame).nesting ≤ 4 - f.nesting = omega arith in
+      elim (marks f there) [
+        | inl none ↦ inr (inr (inl (subst (HasNoAddress port home run) is none)))
+        | inr b ↦ inr (inr (inr (subst (IsBeyond port home run k (3 - (s.frame).nesting)) is (beyond_to port home run k (3 - (s.frame).nesting) (4 - f.nesting) f.name less b))))
+      ]
+
+  all_passed : (fs : List FailedName) (f : Frame) → next_name fs f ≡ None → (x : Name) → Contains f.names x → Contains (take f.tried f.names) x ⊎ IsPassedOver fs f x
+  all_passed fs f none x c = elim (Contains-append_cases (take f.tried f.names) (drop f.tried f.names) x (subst (λ (l : List Name). Contains l x) (sym (take-append-drop f.tried f.names)) c)) [
+    | inl d ↦ inl d
+    | inr d ↦ inr (spent fs f x none d)
+  ]
 
   -- ---- a server's name has its turn
 
@@ -163,7 +150,7 @@ module _ (port : ℕ) (home : Home) (k : ℕ) (run : List Turn) where
         stands = record { start = idle.stands.start; over = idle.stands.over; zone = idle.stands.zone; names = idle.stands.names; addresses = idle.stands.addresses };
         tried = turn.1 ∙ add-one (next_place fs s.frame);
         at = next;
-        settled = λ x h. elim (passed fs s.frame x h) [ inl d ↦ idle.settled x d | inr e ↦ skipped_use fs s idle.cut.owner x marks idle.stands.zone e ];
+        settled = λ x h. elim (passed fs s.frame x h) [ inl d ↦ idle.settled x d | inr e ↦ passed_use fs s idle.cut.owner x marks idle.stands.zone e ];
         asked_all = asked_all;
         asked = record { followed = idle.asked.followed; others = idle.asked.others };
       }
@@ -191,7 +178,7 @@ module _ (port : ℕ) (home : Home) (k : ℕ) (run : List Turn) where
       followed = none_followed _ _ _;
       others = λ a c. elim (Contains-append_cases (w.frame).addresses (b ∷ more) a c) [
         | inl d ↦ inr (all_failed w h.cut h.asked_all h.asked a d)
-        | inr d ↦ inl (in_plan level (b ∷ more) a (low a) d)
+        | inr d ↦ inl (in_plan level (b ∷ more) a d (low a))
       ];
     }
 
@@ -256,7 +243,7 @@ module _ (port : ℕ) (home : Home) (k : ℕ) (run : List Turn) where
           (IsBeyond port home run k (3 - (s.frame).nesting)) (IsBeyond port home run k (3 - (s.frame).nesting)) x failed (λ b. b)
           (elim (all_passed fs s.frame none_left x (subst (λ (l : List Name). Contains l x) (sym idle.stands.names) h)) [
             | inl d ↦ idle.settled x d
-            | inr e ↦ skipped_use fs s idle.cut.owner x marks idle.stands.zone e
+            | inr e ↦ passed_use fs s idle.cut.owner x marks idle.stands.zone e
           ]);
     },
   )

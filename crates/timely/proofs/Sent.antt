@@ -1,9 +1,8 @@
 -- A whole chain goes out within its time; what goes out at the last point, by the clock and the count of asks.
-use Rattle.std.proofs.Common.{◌≡◌, ◌≢◌, ℕ, zero, suc, ◌+◌, ◌-◌, ◌*◌, ◌/◌, ◌≤◌, ◌<◌, ◌⊎◌, inl, inr, Bool, true, false, nat_le, List, [], ◌∷◌, ◌++◌, length, refl, sym, ap, ◌∙◌, subst}
+use Rattle.std.proofs.Common.{◌≡◌, ℕ, suc, ◌+◌, ◌-◌, ◌*◌, ◌/◌, ◌≤◌, ◌<◌, ◌⊎◌, inl, inr, Bool, true, false, List, [], ◌∷◌, ◌++◌, length, refl, sym, ap, ◌∙◌, subst}
 use Rattle.std.proofs.lemmas.Bool.{leb-false}
 use Rattle.dname.specs.Labels.{Name}
 use Rattle.rdata.specs.Records.{Record}
-use Rattle.rdata.specs.declared.addr.Addr.{Addr}
 use Rattle.zone.specs.Zones.{cname_type}
 use Rattle.zone.specs.Links.{Link, Found, Alias, NoData, NxDomain}
 use Rattle.zone.specs.Look as local
@@ -11,12 +10,13 @@ use Rattle.authority.specs.declared.cause.Cause.{Cause}
 use Rattle.authority.specs.declared.cause.Cause.TheVariants.{TooManyOpen, Deadline, Chain, Sends, NoServer, Large}
 use Rattle.classify.specs.Lifetimes.{received, lifetime_of}
 use Rattle.front.specs.Chains.{target_of, IsEndOf}
-use Rattle.resolution.specs.Jobs.{Home, Stores, Origin, Local, Cached, Accepted, Taken, has_ended, is_dead, AreFresh, IsEnding, retimed, sent_from, sent, Job, Next, Ask, AskTcp, Done, Fail, Task, Seek, Take, Go, Again, Point}
-use Rattle.resolution.specs.Rules.{Says, IsRemote, IsDue, IsDueAgain, IsRefused, IsUsedUp, Leaves, sends, sends_again, refuses, spent, nowhere, too_long, done}
+use Rattle.cache.specs.Cached.{retimed}
+use Rattle.resolution.specs.Jobs.{Home, Stores, Origin, Local, Cached, Accepted, Taken, has_ended, AreFresh, IsEnding, sent_from, sent, Job, Next, Ask, AskTcp, Done, Fail, Task, Take, Go, Again, Point}
+use Rattle.resolution.specs.Rules.{Says, IsRemote, IsRefused, Leaves, sends, sends_again, refuses, spent, nowhere, too_long, done}
 use Rattle.runs.specs.States.{Turn, Query}
 use Rattle.runs.specs.Messages.{is_from_here, is_local_first, alias_in, aliases_of, end_in}
-use Rattle.runs.specs.Runs.{Earlier, clock_of}
-use Rattle.timely.specs.Timely.{Learns, Fits, IsInTime, IsTimelyLink, IsTimelyChain, IsTimely}
+use Rattle.runs.specs.Runs.{clock_of}
+use Rattle.timely.specs.Timely.{IsTimelyLink, IsTimelyChain, IsTimely}
 use Rattle.timely.proofs.Chains.{LeadsOn, IsOfName, IsReached}
 use Rattle.timely.proofs.Timed.{AreTimed, IsKnownAs, IsKnown, AreKnown, KnownBy, IsTimed}
 
@@ -47,28 +47,34 @@ module _ (port : ℕ) (home : Home) (turn : Turn) (past : List Turn) (k t now : 
 
   timely_as : (n : Name) (o : Origin) (l : Link) → has_ended now o ≡ false → IsKnownAs port home (turn ∷ past) k t Mine n o l → IsTimelyLink port home turn past n t (sent_from now o l)
   timely_as n Local l fresh h = inl h
-  timely_as n (Cached ttl since) l fresh (remote, (by, u, said, learnt, answers, life)) = inr (remote, record {
-    by = by;
-    kind = u;
-    said = said;
-    since = since;
-    learnt = learnt;
-    given = l;
-    fits = inr answers;
-    is = left_of ttl (lifetime_of (received said)) since l life;
-    in_time = inl (subst (λ (m : ℕ). m - since < 1000 * lifetime_of (received said)) clock (subst (λ (x : ℕ). now - since < 1000 * x) life (leb-false (1000 * ttl) (now - since) fresh)));
-  })
-  timely_as n (Accepted ttl since) l fresh (remote, own, (said, learnt, is, life)) = inr (remote, record {
-    by = k;
-    kind = t;
-    said = said;
-    since = since;
-    learnt = learnt;
-    given = l;
-    fits = inl (refl, is);
-    is = left_of ttl (lifetime_of (received said)) since l life;
-    in_time = inr (mine own);
-  })
+  timely_as n (Cached ttl since) l fresh (remote, (by, u, said, learnt, answers, life)) = inr (
+    remote,
+    record {
+      by = by;
+      kind = u;
+      said = said;
+      since = since;
+      learnt = learnt;
+      given = l;
+      fits = inr answers;
+      is = left_of ttl (lifetime_of (received said)) since l life;
+      in_time = inl (subst (λ (m : ℕ). m - since < 1000 * lifetime_of (received said)) clock (subst (λ (x : ℕ). now - since < 1000 * x) life (leb-false (1000 * ttl) (now - since) fresh)));
+    },
+  )
+  timely_as n (Accepted ttl since) l fresh (remote, own, (said, learnt, is, life)) = inr (
+    remote,
+    record {
+      by = k;
+      kind = t;
+      said = said;
+      since = since;
+      learnt = learnt;
+      given = l;
+      fits = inl (refl, is);
+      is = left_of ttl (lifetime_of (received said)) since l life;
+      in_time = inr (mine own);
+    },
+  )
 
   -- The aliases' records go out in order.
   timely_chain : (from : Name) (chain : List Taken) (to : Name) (last : Taken) → LeadsOn port home (turn ∷ past) t from chain to → last.name ≡ to → AreKnown port home (turn ∷ past) k t Mine chain
@@ -155,12 +161,16 @@ module _ (port : ℕ) (home : Home) (turn : Turn) (past : List Turn) (k t now : 
 
   pub leaves_timed : (from : Name) (d m : ℕ) (p : Point) (next : Next) (job : Job) (stores : Stores) → IsTimed port home (turn ∷ past) k t Mine d m p → IsReached port home (turn ∷ past) t from p.task p.job
       → Leaves home now p next job stores → GoesTimely from d m next job × AreTimed port home (turn ∷ past) stores
-  leaves_timed from d m p next job stores h reached (sends server s rest due may is to same) =
-      (subst (λ (x : Next). GoesTimely from d m x job) (sym is) (asks_on d m p job h (at_task d m p Go h due.task) may.few (ap (λ (x : Job). x.chain) to) (ap (λ (x : Job). x.name) to) (ap (λ (x : Job). x.kind) to)
-      (ap (λ (x : Job). x.deadline) to) (ap (λ (x : Job). x.asks) to)), subst (AreTimed port home (turn ∷ past)) (sym same) h.stores)
-  leaves_timed from d m p next job stores h reached (sends_again server s rest due may is to same) =
-      (subst (λ (x : Next). GoesTimely from d m x job) (sym is) (asks_on d m p job h (at_task d m p (Again server) h due.task) may.few (ap (λ (x : Job). x.chain) to) (ap (λ (x : Job). x.name) to) (ap (λ (x : Job). x.kind) to)
-      (ap (λ (x : Job). x.deadline) to) (ap (λ (x : Job). x.asks) to)), subst (AreTimed port home (turn ∷ past)) (sym same) h.stores)
+  leaves_timed from d m p next job stores h reached (sends server s rest due may is to same) = (
+    subst (λ (x : Next). GoesTimely from d m x job) (sym is) (asks_on d m p job h (at_task d m p Go h due.task) may.few (ap (λ (x : Job). x.chain) to) (ap (λ (x : Job). x.name) to) (ap (λ (x : Job). x.kind) to)
+        (ap (λ (x : Job). x.deadline) to) (ap (λ (x : Job). x.asks) to)),
+    subst (AreTimed port home (turn ∷ past)) (sym same) h.stores,
+  )
+  leaves_timed from d m p next job stores h reached (sends_again server s rest due may is to same) = (
+    subst (λ (x : Next). GoesTimely from d m x job) (sym is) (asks_on d m p job h (at_task d m p (Again server) h due.task) may.few (ap (λ (x : Job). x.chain) to) (ap (λ (x : Job). x.name) to) (ap (λ (x : Job). x.kind) to)
+        (ap (λ (x : Job). x.deadline) to) (ap (λ (x : Job). x.asks) to)),
+    subst (AreTimed port home (turn ∷ past)) (sym same) h.stores,
+  )
   leaves_timed from d m p next job stores h reached (refuses c server s rest due may is same) =
       (subst (λ (x : Next). GoesTimely from d m x job) (sym is) (refused c may), subst (AreTimed port home (turn ∷ past)) (sym same) h.stores)
     where
@@ -171,6 +181,7 @@ module _ (port : ℕ) (home : Home) (turn : Turn) (past : List Turn) (k t now : 
   leaves_timed from d m p next job stores h reached (nowhere te none is same) = (subst (λ (x : Next). GoesTimely from d m x job) (sym is) tt, subst (AreTimed port home (turn ∷ past)) (sym same) h.stores)
   leaves_timed from d m p next job stores h reached (too_long l r te alias long is same) = (subst (λ (x : Next). GoesTimely from d m x job) (sym is) tt, subst (AreTimed port home (turn ∷ past)) (sym same) h.stores)
   leaves_timed from d m p next job stores h reached (done l te ending fresh is same) =
-      let name = (subst (λ (y : Task). IsOfName port home (turn ∷ past) t (p.job).name y) te reached.link).0 in
-      (subst (λ (x : Next). GoesTimely from d m x job) (sym is) (timely from (p.job).chain (p.job).name l reached.leads name reached.few h.plain h.chain (at_task d m p (Take l) h te) fresh ending),
-      subst (AreTimed port home (turn ∷ past)) (sym same) h.stores)
+      let name = (subst (λ (y : Task). IsOfName port home (turn ∷ past) t (p.job).name y) te reached.link).0 in (
+        subst (λ (x : Next). GoesTimely from d m x job) (sym is) (timely from (p.job).chain (p.job).name l reached.leads name reached.few h.plain h.chain (at_task d m p (Take l) h te) fresh ending),
+        subst (AreTimed port home (turn ∷ past)) (sym same) h.stores,
+      )

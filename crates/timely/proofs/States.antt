@@ -1,10 +1,10 @@
 -- What stands of a state at the run that led to it.
-use Rattle.std.proofs.Common.{◌≡◌, ◌≢◌, ℕ, zero, suc, ◌+◌, ◌≤◌, ◌<◌, ◌⊎◌, inl, inr, Bool, true, false, cond, nat_eq, Option, Some, None, List, [], ◌∷◌, length, Contains, refl, sym, ap, ◌∙◌, subst, arith, ne_eqb}
+use Rattle.std.proofs.Common.{◌≡◌, ◌≢◌, ℕ, ◌+◌, ◌≤◌, ◌<◌, inl, inr, Bool, true, false, cond, Option, List, [], ◌∷◌, length, Contains, refl, sym, ap, ◌∙◌, subst, arith, ne_eqb}
 use Rattle.dname.specs.Labels.{Name}
-use Rattle.rdata.specs.Records.{Record}
 use Rattle.rdata.specs.Types.{type_number}
 use Rattle.rdata.specs.declared.addr.Addr.{Addr}
-use Rattle.zone.specs.Links.{Link, Alias}
+use Rattle.zone.specs.Zones.{cname_type}
+use Rattle.zone.specs.Links.{Link}
 use Rattle.retry.specs.Penalties.{AreAtMost}
 use Rattle.classify.specs.Classes as class
 use Rattle.classify.specs.Classes.{class_of}
@@ -13,20 +13,21 @@ use Rattle.layout.specs.Messages.{Message}
 use Rattle.wire.specs.declared.via.Via.{Via}
 use Rattle.lru.proofs.Splits.{Contains-nil}
 use Rattle.recency.specs.Orders.{KeepsOnly}
-use Rattle.resolution.specs.Jobs.{Home, Stores, with_answer, Taken, received_link, Search, Job, job_at, Input, Start, Told, TimedOut, TcpFailed, Next, Ask, AskTcp, Done, Fail, Task, Seek, Take, Go, Again, Point, point}
-use Rattle.resolution.specs.Rules.{IsAnswered, ByClass, Enters, Rules, Advances, IsTakenEntry, IsTakenCut, Stops}
+use Rattle.resolution.specs.Jobs.{Home, Stores, with_answer, Taken, received_link, Search, Job, job_at, Input, Start, Told, TimedOut, TcpFailed, Next, Task, Take, Go, Again, Point, point}
+use Rattle.resolution.specs.Rules.{IsRemote, ByClass, Enters, Advances, IsTakenEntry, IsTakenCut, Stops}
 use Rattle.runs.specs.States.{Event, Client, Datagram, TcpReply, Tick, Action, Reply, Send, TcpAsk, MoreDue, Turn, Served, Nobody, Own, Query, Plain, Asker, recursive, job_for, Path, ByUdp, ByTcp, Asking, IsFor, via_of, Open, open_query, Site, State}
 use Rattle.runs.specs.States as states
-use Rattle.runs.specs.Messages.{IsSent, Brings}
-use Rattle.runs.specs.Runs.{Earlier, Asks, GivesOut, Came, asks_in, is_for, asks_of}
-use Rattle.runs.specs.Steps.{IsInput, WaitsByUdp, WaitsByTcp}
-use Rattle.timely.specs.Spent.{IsCutShort, Repeats, AsksBy, IsOpenAsk, IsBad, Takes, IsAliasOf}
-use Rattle.timely.proofs.Searches.{AreMarked, IsAsking, AreAround}
+use Rattle.runs.specs.Messages.{Brings}
+use Rattle.runs.specs.Runs.{Earlier, Came, clock_of, asks_in, is_for, asks_of}
+use Rattle.runs.specs.Steps.{IsInput}
+use Rattle.timely.specs.Spent.{IsCutShort, AsksBy, IsOpenAsk, Takes}
+use Rattle.timely.proofs.Searches.{IsAsking, AreAround}
 use Rattle.timely.proofs.Told.{AreTold}
-use Rattle.timely.proofs.Points.{OnTop, StandsBy, IsSound}
+use Rattle.timely.proofs.Timed.{AreTimed, AreKnown, timed_later, known_later}
+use Rattle.timely.proofs.Points.{OnTop, IsSound}
 use Rattle.timely.proofs.Chains.{LeadsOn, IsOfName, IsReached, rules_reach}
 use Rattle.timely.proofs.Leaving.{IsWaitingFor, GoesOut as Leads, leaves_tell}
-use Rattle.timely.proofs.Later.{told_later, work_later, marks_later, leads_later}
+use Rattle.timely.proofs.Later.{told_later, work_later, leads_later}
 use Rattle.timely.proofs.Enters.{IsInputNow, taken_now, enters_sound, stops_told}
 use Rattle.timely.proofs.Lists.{some_or_none}
 
@@ -34,15 +35,32 @@ abbrev pub turn_of : Event → Served → Option (List Action) → Turn
 turn_of event served out = record { event = event; served = served; out = out }
 
 module _ (port : ℕ) (home : Home) where
+  -- What the stores hold was accepted, and it is known when.
+  abbrev pub AreHeld : List Turn → Stores → Type 0
+  AreHeld run stores = AreTold port home run stores × AreTimed port home run stores
+
+  pub held_later : (turn : Turn) (past : List Turn) (stores : Stores) → AreHeld past stores → AreHeld (turn ∷ past) stores
+  held_later turn past stores h = (told_later port home turn past stores h.0, timed_later port home turn past stores h.1)
+
+  -- A query came ten seconds before its deadline.
+  abbrev pub IsBorn : ℕ → Asker → ℕ → List Turn → Type 0
+  IsBorn k who deadline run = Earlier (λ came before. Came (Query k) who came before × (deadline ≡ clock_of (came ∷ before) + 10000)) run
+
   -- An open query: it came, its ask is open, and its work stands.
   pub record IsOpenSound (run : List Turn) (q : Open) : Type 0 where
     pub came : Earlier (Came (Query q.number) q.asker) run
+    pub born : IsBorn q.number q.asker (q.job).deadline run
     pub wanted : recursive (q.asker).query ≡ true
     pub asked : IsOpenAsk port q.number q.ask run
     pub work : IsWaitingFor port home run q.number (type_number ((q.asker).query).kind) ((q.asker).query).name (q.ask).server (q.ask).name (q.ask).kind q.job
+    pub known : AreKnown port home run q.number (type_number ((q.asker).query).kind) (Unit {0}) (q.job).chain
+    pub remote : IsRemote home (q.job).name (q.job).kind
+    pub plain : type_number ((q.asker).query).kind ≡ cname_type → (q.job).chain ≡ []
+    pub asks : (q.job).asks ≡ asks_of q.number run
+    pub few : asks_of q.number run ≤ 40
 
   pub record IsExplained (run : List Turn) (s : State) : Type 0 where
-    pub told : AreTold port home run s.stores
+    pub told : AreHeld run s.stores
     pub queries : (q : Open) → Contains s.queries q → IsOpenSound run q
     pub below : (q : Open) → Contains s.queries q → q.number < s.opened
     pub unasked : (k : ℕ) → s.opened ≤ k → asks_of k run ≡ 0
@@ -53,12 +71,29 @@ module _ (port : ℕ) (home : Home) where
   asks_later turn past k ask (ByUdp sock) other h = inr (other, h)
   asks_later turn past k ask (ByTcp number) other h = inr (other, h)
 
+  pub not_for : (k : ℕ) (served : Served) → served ≢ Query k → is_for k served ≡ false
+  not_for k Nobody other = refl
+  not_for k Own other = refl
+  not_for k (Query n) other = ne_eqb n k (λ e. absurd (other (ap Query e)))
+
+  none_more : (b : Bool) (n m : ℕ) → b ≡ false → cond b n 0 + m ≡ m
+  none_more b n m e = let first : cond b n 0 ≡ 0 = ap (λ (c : Bool). cond c n 0) e in omega arith
+
+  pub asks_stay : (turn : Turn) (past : List Turn) (k : ℕ) → is_for k turn.served ≡ false → asks_of k (turn ∷ past) ≡ asks_of k past
+  asks_stay turn past k e = none_more (is_for k turn.served) (asks_in turn.out) (asks_of k past) e
+
   pub open_later : (turn : Turn) (past : List Turn) (q : Open) → turn.served ≢ Query q.number → IsOpenSound past q → IsOpenSound (turn ∷ past) q
   open_later turn past q other h = record {
     came = inr h.came;
+    born = inr h.born;
     wanted = h.wanted;
     asked = asks_later turn past q.number q.ask (q.ask).path other h.asked;
     work = work_later port home turn past q.number (type_number ((q.asker).query).kind) ((q.asker).query).name (q.ask).server (q.ask).name (q.ask).kind q.job h.work;
+    known = known_later port home turn past q.number (type_number ((q.asker).query).kind) (Unit {0}) (Unit {0}) (λ u. u) (q.job).chain h.known;
+    remote = h.remote;
+    plain = h.plain;
+    asks = h.asks ∙ sym (asks_stay turn past q.number (not_for q.number turn.served other));
+    few = subst (λ (n : ℕ). n ≤ 40) (sym (asks_stay turn past q.number (not_for q.number turn.served other))) h.few;
   }
 
   none_asked : (b : Bool) (n m : ℕ) → b ≡ false → m ≡ 0 → cond b n 0 + m ≡ 0

@@ -1,27 +1,21 @@
 -- Which links a chain is made of, and since when they are known; that the rules keep it so.
-use Rattle.std.proofs.Common.{◌≡◌, ◌≢◌, ℕ, zero, suc, ◌+◌, ◌≤◌, ◌⊎◌, inl, inr, Option, Some, None, List, [], ◌∷◌, ◌++◌, Contains, refl, sym, ap, ◌∙◌, subst}
-use Rattle.lru.proofs.Splits.{Contains-head, Contains-tail}
-use Rattle.std.proofs.lemmas.List.Elements.{Contains-append_right}
+use Rattle.std.proofs.Common.{◌≡◌, ℕ, zero, suc, inl, inr, List, [], ◌∷◌, ◌++◌, refl, sym, ap, ◌∙◌, subst}
 use Rattle.dname.specs.Labels.{Name, root}
 use Rattle.rdata.specs.Records.{Record}
 use Rattle.zone.specs.Zones.{a_type, cname_type}
-use Rattle.zone.specs.Links as links
 use Rattle.zone.specs.Links.{Link, Found, Alias, NoData, NxDomain}
 use Rattle.zone.specs.Look as local
 use Rattle.authority.specs.Catalogs.{IsLooked}
-use Rattle.truth.specs.Reading.{IsFirstOf}
-use Rattle.classify.specs.Classes as class
-use Rattle.classify.specs.Classes.{class_of}
 use Rattle.classify.specs.Lifetimes.{received, lifetime_of}
-use Rattle.classify.proofs.Readings.{answer_read}
+use Rattle.classify.proofs.Uses.{no_alias_class}
 use Rattle.referral.specs.Cuts.{Cut}
 use Rattle.cache.specs.Keys.{Key, key_for}
 use Rattle.cache.specs.Cached.{Hit, Answers}
-use Rattle.resolution.specs.Jobs.{Home, Stores, Origin, Local, Cached, Accepted, Taken, IsEnding, Job, Task, Seek, Take, Go, Again, Point}
-use Rattle.resolution.specs.Rules.{Says, IsRemote, Hits, Finds, Begins, Misses, Rule, takes, asks, follows, restarts, hears, descends, gives_up, Rules}
+use Rattle.resolution.specs.Jobs.{Home, Stores, Origin, Local, Cached, Accepted, Taken, Job, Task, Seek, Take, Go, Again, Point}
+use Rattle.resolution.specs.Rules.{Says, IsRemote, Finds, Begins, Misses, Rule, takes, asks, follows, restarts, hears, descends, gives_up, Rules}
 use Rattle.runs.specs.States.{Turn, via_of}
 use Rattle.runs.specs.Runs.{Earlier}
-use Rattle.timely.specs.Timely.{Learns, Fits}
+use Rattle.timely.specs.Timely.{Learns}
 use Rattle.timely.proofs.Stores.{AreKept, Tells, hit_tells, looked_from}
 
 -- Some step of the run is such, of which something follows.
@@ -54,10 +48,7 @@ said_plain : (port by : ℕ) (n : Name) (said : Link) (since : ℕ) (r : Record)
 said_plain port by n (Found rs) since r turn past e h = cc
 said_plain port by n (NoData soa) since r turn past e h = cc
 said_plain port by n (NxDomain soa) since r turn past e h = cc
-said_plain port by n (Alias q) since r turn past e h =
-    let read = answer_read root n cname_type h.message (via_of (h.ask).path) (Alias q) h.is in
-    let (code, none, (s, first, same)) = read.reads in
-    none s (subst (λ (l : List Record). Contains l s) (sym first.is) (Contains-append_right first.front (s ∷ first.back) s (Contains-head s first.back)), first.owner, first.kind)
+said_plain port by n (Alias q) since r turn past e h = no_alias_class root n (via_of (h.ask).path) h.message q h.is
 
 -- ---- links of which it is known since when they are known
 
@@ -120,9 +111,17 @@ module _ (port : ℕ) (home : Home) (run : List Turn) (k t : ℕ) (Mine : Type 0
     where
       by_hit : (hit : Hit) → IsRemote home n t → Tells (IsLearnt port home run) n t now hit → IsKnownAs n (Cached hit.ttl hit.since) hit.link
       by_hit hit remote tells =
-          let (by, said, learnt, link, ttl) = tells.kept in
-          (remote, (by, tells.kind, said, subst (λ (m : ℕ). Earlier (Learns port by n tells.kind said m) run) (sym tells.since) learnt,
-          subst (λ (x : Link). Answers n t (key_for n tells.kind x) x hit.link) link tells.answers, tells.ttl ∙ ttl))
+          let (by, said, learnt, link, ttl) = tells.kept in (
+            remote,
+            (
+              by,
+              tells.kind,
+              said,
+              subst (λ (m : ℕ). Earlier (Learns port by n tells.kind said m) run) (sym tells.since) learnt,
+              subst (λ (x : Link). Answers n t (key_for n tells.kind x) x hit.link) link tells.answers,
+              tells.ttl ∙ ttl,
+            ),
+          )
 
   -- Where CNAME is asked for, no link is an alias.
   pub known_plain : (n : Name) (o : Origin) (l : Link) (r : Record) → t ≡ cname_type → l ≡ Alias r → IsKnownAs n o l → ⊥
@@ -205,3 +204,29 @@ module _ (port : ℕ) (home : Home) (run : List Turn) (k t : ℕ) (Mine : Type 0
   pub rules_timed : (d m now n : ℕ) (a b : Point) → IsTimed d m a → Rules home now n a b → IsTimed d m b
   rules_timed d m now zero a b h is = subst (IsTimed d m) (sym is) h
   rules_timed d m now (suc n) a b h (mid, before, last) = rule_timed d m now mid b (rules_timed d m now n a mid h before) last
+
+-- ---- later
+
+module _ (port : ℕ) (home : Home) (turn : Turn) (past : List Turn) where
+  pub timed_later : (stores : Stores) → AreTimed port home past stores → AreTimed port home (turn ∷ past) stores
+  timed_later stores h k e c = let (n, u, key, (by, said, learnt, link, ttl)) = h k e c in (n, u, key, (by, said, inr learnt, link, ttl))
+
+  module _ (k t : ℕ) (Old New : Type 0) (f : Old → New) where
+    known_as_later : (n : Name) (o : Origin) (l : Link) → IsKnownAs port home past k t Old n o l → IsKnownAs port home (turn ∷ past) k t New n o l
+    known_as_later n Local l h = h
+    known_as_later n (Cached ttl since) l (remote, (by, u, said, learnt, answers, life)) = (remote, (by, u, said, inr learnt, answers, life))
+    known_as_later n (Accepted ttl since) l (remote, mine, (said, learnt, is, life)) = (remote, f mine, (said, inr learnt, is, life))
+
+    pub known_later : (ls : List Taken) → AreKnown port home past k t Old ls → AreKnown port home (turn ∷ past) k t New ls
+    known_later [] h = tt
+    known_later (l ∷ ls) h = (known_as_later l.name l.origin l.link h.0, known_later ls h.1)
+
+-- The query served no more counts.
+pub known_for_good : (port : ℕ) (home : Home) (run : List Turn) (k t : ℕ) (Old : Type 0) (ls : List Taken) → AreKnown port home run k t Old ls → AreKnown port home run k t (Unit {0}) ls
+known_for_good port home run k t Old [] h = tt
+known_for_good port home run k t Old (l ∷ ls) h = (by l.name l.origin l.link h.0, known_for_good port home run k t Old ls h.1)
+  where
+    by : (n : Name) (o : Origin) (l : Link) → IsKnownAs port home run k t Old n o l → IsKnownAs port home run k t (Unit {0}) n o l
+    by n Local l h = h
+    by n (Cached ttl since) l h = h
+    by n (Accepted ttl since) l (remote, mine, more) = (remote, tt, more)

@@ -1,22 +1,21 @@
 -- What stands in the stores was once accepted, and what the zones at hand and the stores tell of a name.
-use Rattle.std.proofs.Common.{◌≡◌, ◌≢◌, ℕ, ◌≤◌, ◌⊎◌, inl, inr, Option, Some, None, List, [], ◌∷◌, Contains, refl, sym, ap, ◌∙◌, subst, arith}
-use Rattle.dname.specs.Labels.{Name, root, IsAtOrUnder}
+use Rattle.std.proofs.Common.{◌≡◌, ℕ, ◌≤◌, ◌⊎◌, inl, inr, Some, List, [], ◌∷◌, Contains, sym, ap, ◌∙◌, subst, arith}
+use Rattle.dname.specs.Labels.{Name}
 use Rattle.rdata.specs.Records.{Record}
 use Rattle.rdata.specs.declared.addr.Addr.{Addr}
 use Rattle.zone.specs.Zones.{a_type, cname_type}
 use Rattle.zone.specs.Links.{Link, Found, Alias, NoData, NxDomain}
 use Rattle.zone.specs.Look as local
-use Rattle.authority.specs.Catalogs.{IsLooked}
 use Rattle.retry.specs.Penalties.{AreAtMost, same_addr}
 use Rattle.retry.proofs.Steps.{looked_most}
-use Rattle.referral.specs.Cuts.{Cut, Known, IsBest, after_best}
-use Rattle.cache.specs.Keys.{Key, Slot, Kind, NameError, kind_key, error_key, key_for, slot_for}
-use Rattle.cache.specs.Cached.{Hit, as_set, as_alias, Answers, after_look}
+use Rattle.referral.specs.Cuts.{Cut, Known}
+use Rattle.cache.specs.Keys.{Key, Kind, NameError, key_for}
+use Rattle.cache.specs.Cached.{Hit, Answers}
 use Rattle.resolution.specs.Jobs.{Home, Stores, level_of, Taken, IsCutOf}
-use Rattle.resolution.specs.Rules.{Says, Hits, Finds, Begins, Misses}
+use Rattle.resolution.specs.Rules.{Says, Hits, Finds, Misses}
 use Rattle.runs.specs.States.{Turn}
 use Rattle.runs.specs.Runs.{Earlier}
-use Rattle.timely.specs.Spent.{Takes, IsFound, TellsOfNone, IsNotFound, HasNoAddress, IsAliasOf, IsStart, IsOver}
+use Rattle.timely.specs.Spent.{Takes, IsFound, TellsOfNone, IsNotFound, HasNoAddress, IsAliasOf, IsStart}
 use Rattle.timely.proofs.Stores.{AreKept, Tells, hit_tells, looked_from, best_from}
 
 -- ---- what an entry that answers says of its own link

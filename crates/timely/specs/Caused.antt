@@ -1,5 +1,5 @@
 -- Why a query fails: each cause of a SERVFAIL stands in the run.
-use Rattle.std.specs.Prelude.{◌≡◌, ◌≢◌, ℕ, ◌+◌, ◌≤◌, ◌⊎◌, Bool, List, [], ◌∷◌, length, Contains}
+use Rattle.std.specs.Prelude.{◌≡◌, ℕ, ◌+◌, ◌≤◌, List, [], ◌∷◌, length, Contains}
 use Rattle.dname.specs.Labels.{Name}
 use Rattle.rdata.specs.Records.{Record}
 use Rattle.rdata.specs.Types.{type_number}

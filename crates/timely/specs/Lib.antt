@@ -1,5 +1,5 @@
+pub mod Timely
 pub mod Spent
 pub mod Replies
 pub mod Failures
-pub mod Timely
 pub mod Caused

@@ -1,6 +1,5 @@
 -- Whom the replies of a step go to, and for what.
-use Rattle.std.specs.Prelude.{◌≡◌, ℕ, ◌⊎◌, true, false, Option, List, Contains}
-use Rattle.dname.specs.Labels.{Name}
+use Rattle.std.specs.Prelude.{◌≡◌, ℕ, ◌⊎◌, true, false, Option, List}
 use Rattle.rdata.specs.Types.{type_number}
 use Rattle.layout.specs.Messages.{Question}
 use Rattle.authority.specs.Catalogs.{looked}

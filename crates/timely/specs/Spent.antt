@@ -1,7 +1,7 @@
 -- When all servers of a name are used up (RFC 1034, section 5.3.3, step 3; RFC 1035, section 7.2): which
 -- servers there are to begin with, which of them were asked twice in vain, and which of their names have no
 -- address. All of it stands in the run: nothing is said of what the resolver remembers.
-use Rattle.std.specs.Prelude.{◌≡◌, ◌≢◌, ℕ, zero, suc, ◌+◌, ◌-◌, ◌≤◌, ◌⊎◌, true, List, [], ◌∷◌, length, Contains}
+use Rattle.std.specs.Prelude.{◌≡◌, ◌≢◌, ℕ, zero, suc, ◌-◌, ◌⊎◌, true, List, [], ◌∷◌, Contains}
 use Rattle.dname.specs.Labels.{Name, root, IsAtOrUnder}
 use Rattle.rdata.specs.Records.{Record}
 use Rattle.rdata.specs.declared.addr.Addr.{Addr}
@@ -20,7 +20,8 @@ use Rattle.resolution.specs.Jobs.{Home, IsCutOf, IsRootCut, AreAddressesOf}
 use Rattle.resolution.specs.Rules.{Says}
 use Rattle.runs.specs.States.{Turn, Event, Tick, TcpReply, TcpFailed, Action, Query, Path, ByUdp, ByTcp, Asking, IsFor, via_of}
 use Rattle.runs.specs.Messages.{IsSent, Brings}
-use Rattle.runs.specs.Runs.{GivesOut, Earlier, Asks}
+use Rattle.runs.specs.Runs.{GivesOut, Earlier, Asks, Accepts}
+use Rattle.timely.specs.Timely.{Learns}
 
 -- Two steps of the run are so.
 abbrev pub Twice : (Turn → List Turn → Type 0) → List Turn → Type 0
@@ -81,9 +82,7 @@ HasFailed port run k z n t a = Twice (EndsBadly port k z n t a) run
 
 -- In this step an answer was accepted for the name and type that gives this link.
 abbrev pub Takes : ℕ → Name → ℕ → Link → Turn → List Turn → Type 0
-Takes port n t l turn past =
-    (k : ℕ) × (ask : Asking) × (m : Message) × (said : Link) × (turn.served ≡ Query k) × IsOpenAsk port k ask past × (ask.name ≡ n) × (ask.kind ≡ t)
-    × Brings port ask turn.event m × (class_of root n t (via_of ask.path) m ≡ class.Answer said) × (l ≡ received said)
+Takes port n t l turn past = (by : ℕ) × (said : Link) × (since : ℕ) × Learns port by n t said since turn past × (l ≡ received said)
 
 -- The name has this set of A records: by the zones at hand, or by an answer.
 abbrev pub IsFound : ℕ → Home → List Turn → Name → List Record → Type 0
@@ -123,8 +122,7 @@ AreLeading port home run t from (r ∷ rs) to = IsAliasOf port home run from t r
 abbrev pub Refers : ℕ → Name → Cut → Turn → List Turn → Type 0
 Refers port z c turn past =
     (k : ℕ) × (ask : Asking) × (m : Message) × (at : Name) × (ns : List Record) × (glue : List Record) × (ttl : ℕ)
-    × (turn.served ≡ Query k) × IsOpenAsk port k ask past × Brings port ask turn.event m
-    × (class_of z ask.name ask.kind (via_of ask.path) m ≡ class.Referral at ns glue ttl) × IsCutOf at ns glue c
+    × Accepts port k ask m turn past × (class_of z ask.name ask.kind (via_of ask.path) m ≡ class.Referral at ns glue ttl) × IsCutOf at ns glue c
 
 -- The hints; a cut of a zone at hand; a cut that a server of such a start referred to. The zone whose server
 -- was asked decides which addresses of a referral are taken.

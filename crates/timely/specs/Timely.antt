@@ -3,7 +3,6 @@
 use Rattle.std.specs.Prelude.{◌≡◌, ℕ, ◌-◌, ◌*◌, ◌/◌, ◌<◌, ◌≤◌, ◌⊎◌, Bool, true, false, List, [], ◌∷◌, length}
 use Rattle.dname.specs.Labels.{Name, root}
 use Rattle.rdata.specs.Records.{Record}
-use Rattle.rdata.specs.Types.{type_number}
 use Rattle.layout.specs.Messages.{Message}
 use Rattle.zone.specs.Zones.{cname_type}
 use Rattle.zone.specs.Links.{Link, Alias}
@@ -13,11 +12,12 @@ use Rattle.classify.specs.Classes.{class_of}
 use Rattle.classify.specs.Lifetimes.{received, lifetime_of}
 use Rattle.cache.specs.Keys.{key_for}
 use Rattle.cache.specs.Cached as cache
+use Rattle.cache.specs.Cached.{retimed}
 use Rattle.front.specs.Chains.{target_of, IsEndOf}
 use Rattle.front.specs.declared.queries.End.{End}
-use Rattle.resolution.specs.Jobs.{Home, retimed}
+use Rattle.resolution.specs.Jobs.{Home}
 use Rattle.resolution.specs.Rules.{Says, IsRemote}
-use Rattle.runs.specs.States.{Query, Turn, Plain, Asker, Asking, via_of}
+use Rattle.runs.specs.States.{Query, Turn, Plain, Asking, via_of}
 use Rattle.runs.specs.Runs.{Earlier, clock_of, Accepts}
 
 -- In this step a message is accepted for the query with this number that answers the name and type with this

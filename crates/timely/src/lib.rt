@@ -5,4 +5,4 @@
 
 mod laws;
 
-pub use laws::every_failure_is_spent;
+pub use laws::{every_failure_is_spent, timely_law};

@@ -1,5 +1,5 @@
-use Rattle.timely.proofs.Turns.{run_explained}
+use Rattle.timely.proofs.Failing.{every_failure}
 use Rattle.timely.proofs.laws.every_failure_is_spent.Goals as goal
 
 pub returns : goal.returns
-returns c = λ site run s legal. (run_explained site run s legal).1
+returns c = every_failure
