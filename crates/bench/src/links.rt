@@ -9,10 +9,14 @@ use lru::DefaultHasher;
 use rdata::{Addr, RData, RType, Record, Records};
 use std::alloc::Global;
 use std::hash::BuildHasherDefault;
+use std::num::NonZeroUsize;
 use std::rt::Runtime;
 use std::time::Instant;
 
-const ROOM: usize = 1_000_000;
+// Room for a million links.
+fn room() -> Result<NonZeroUsize, Starved> {
+    NonZeroUsize::new(1_000_000).ok_or(Starved)
+}
 
 fn host(alloc: Global, number: u64) -> Result<Name, Starved> {
     let text = format!(in alloc; "www{number}.sub.example.com.")?;
@@ -69,7 +73,7 @@ pub fn keep<R: Runtime + AllocGlobal>(rt: &R, rounds: u64) -> Result<Done> {
     let names = hosts(alloc, rounds)?;
     let links = links(alloc, &names)?;
     let before = resident(rt);
-    let mut cache = Cache::new(alloc, ROOM, BuildHasherDefault::new())?;
+    let mut cache = Cache::new(alloc, room()?, BuildHasherDefault::new())?;
     let start = Instant::now(rt)?;
     let sum = fill(&mut cache, &names, &links)?;
     let taken = start.elapsed(rt)?;
@@ -84,7 +88,7 @@ pub fn find<R: Runtime + AllocGlobal>(rt: &R, rounds: u64) -> Result<Done> {
     let alloc = rt.alloc();
     let names = hosts(alloc, rounds)?;
     let links = links(alloc, &names)?;
-    let mut cache = Cache::new(alloc, ROOM, BuildHasherDefault::new())?;
+    let mut cache = Cache::new(alloc, room()?, BuildHasherDefault::new())?;
     fill(&mut cache, &names, &links)?;
     let start = Instant::now(rt)?;
     let sum = find_all(&mut cache, &names)?;

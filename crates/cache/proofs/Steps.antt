@@ -20,7 +20,7 @@ looked_there k es h e =
     subst (λ j. Contains es (j, h)) (sym (same_key_exact.equal k found.0 found.2)) found.1
 
 module _ (q : List (List ℕ)) (t now : ℕ) (es : List (Key × Hit)) where
-  abbrev AreHeld : Option (Key × Hit) → Type 0
+  abbrev pub AreHeld : Option (Key × Hit) → Type 0
   AreHeld None = Unit {0}
   AreHeld (Some a) = IsHeld q t now es a.1
 
@@ -61,7 +61,7 @@ module _ (q : List (List ℕ)) (t now : ℕ) (es : List (Key × Hit)) where
       apart : t ≢ cname_type
       apart is = let same = eq-eqb t cname_type is in absurd (cc)
 
-  answers_held : AreHeld (answer q t now es)
+  pub answers_held : AreHeld (answer q t now es)
   answers_held = either_held _ _ (set_held (error_key q) (λ l. inl (refl, refl)))
       (either_held _ _ (set_held (kind_key q t) (λ l. inr (inl (refl, refl)))) (alias_where (nat_eq t cname_type) refl))
 
@@ -85,7 +85,7 @@ module _ (c d : LruCache Key Hit) (k : Key) (h : Option Hit) (a : Option (Key ×
       by None e = refl
       by (Some h) e = cc
 
-moved_same : (a : Option (Key × Hit)) (es : List (Key × Hit)) → HasSame es (moved a es)
+pub moved_same : (a : Option (Key × Hit)) (es : List (Key × Hit)) → HasSame es (moved a es)
 moved_same None es = (λ e c. c, λ e c. c)
 moved_same (Some a) es = used_members same_key same_key_exact a.0 es
 
@@ -146,14 +146,14 @@ module _ (q : List (List ℕ)) (l : Link) (es : List (Key × Hit)) where
       by false z = elim (removed_gone same_key same_key_exact (error_key q) es e c) [ inl d ↦ inl d | inr is ↦ inr (is, z) ]
 
 -- A link other than a name error stands under a type.
-apart_from_error : (q : List (List ℕ)) (t : ℕ) (l : Link) → is_error l ≡ false → key_for q t l ≡ error_key q → ⊥
+pub apart_from_error : (q : List (List ℕ)) (t : ℕ) (l : Link) → is_error l ≡ false → key_for q t l ≡ error_key q → ⊥
 apart_from_error q t (Found rs) z e = let s : Kind t ≡ NameError = ap (λ k. k.slot) e in cc
 apart_from_error q t (Alias r) z e = let s : Kind cname_type ≡ NameError = ap (λ k. k.slot) e in cc
 apart_from_error q t (NoData soa) z e = let s : Kind t ≡ NameError = ap (λ k. k.slot) e in cc
 apart_from_error q t (NxDomain soa) z e = cc
 
 module _ (cap : ℕ) (q : List (List ℕ)) (t : ℕ) (h : Hit) (es : List (Key × Hit)) where
-  after_there : h.ttl ≢ 0 → Contains (after_keep cap q t h es) (key_for q t h.link, h)
+  pub after_there : h.ttl ≢ 0 → Contains (after_keep cap q t h es) (key_for q t h.link, h)
   after_there some =
       let k = key_for q t h.link in
       elim (swept_gone q h.link (stored cap k h es) (k, h) (stored_there cap k h es some)) [
@@ -161,10 +161,10 @@ module _ (cap : ℕ) (q : List (List ℕ)) (t : ℕ) (h : Hit) (es : List (Key �
         | inr e ↦ absurd (apart_from_error q t h.link e.1 e.0)
       ]
 
-  after_only : KeepsOnly es (IsKept q t h) (after_keep cap q t h es)
+  pub after_only : KeepsOnly es (IsKept q t h) (after_keep cap q t h es)
   after_only e c = let k = key_for q t h.link in stored_only cap k h es e (swept_only q h.link (stored cap k h es) e c)
 
-  after_gone : LosesOnly es (IsGone cap q t h es) (after_keep cap q t h es)
+  pub after_gone : LosesOnly es (IsGone cap q t h es) (after_keep cap q t h es)
   after_gone e c =
       let k = key_for q t h.link in
       elim (stored_gone cap k h es e c) [

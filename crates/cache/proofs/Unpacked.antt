@@ -1,14 +1,14 @@
 -- What the steps on links as they lie in memory are on the links that they stand for.
-use Rattle.std.proofs.Common.{◌≡◌, ℕ, ◌+◌, ◌<◌, Bool, true, false, cond, List, [], ◌∷◌, ◌++◌, map, take, length, get_or, Option, Some, None, sym, ap, ◌∙◌}
+use Rattle.std.proofs.Common.{◌≡◌, ℕ, ◌+◌, ◌<◌, Bool, true, false, cond, List, [], ◌∷◌, ◌++◌, map, take, length, get_or, Option, Some, None, sym, ap, ◌∙◌, subst}
 use Rattle.std.specs.Prelude.{option_map}
 use Rattle.std.proofs.lemmas.List.{take_more, map_push}
 use Rattle.std.specs.Map.{lookup, remove_entry}
-use Rattle.lru.specs.LruCache.{LruCache, lru_cache, put_entries, promoted}
+use Rattle.lru.specs.LruCache.{LruCache, lru_cache, IsValid, put_entries, promoted}
 use Rattle.dname.specs.Labels.{same_name}
 use Rattle.dname.specs.Laws.{same_name-exact}
 use Rattle.rdata.specs.Records.{Record}
 use Rattle.recency.proofs.Kept.{put_is_kept, promoted_is_used}
-use Rattle.recency.proofs.Mapped.{looked_mapped, kept_mapped, used_mapped, removed_mapped}
+use Rattle.recency.proofs.Mapped.{valid_mapped, looked_mapped, kept_mapped, used_mapped, removed_mapped}
 use Rattle.cache.specs.Keys.{Key, same_key}
 use Rattle.cache.specs.Cached.{Hit, is_live, live_from, live_at}
 use Rattle.cache.specs.Packed.{Unowned, Packed, owned, hit_of_packed, unpacked}
@@ -34,6 +34,9 @@ pub shown_as : (e : LruCache Key Packed) (es : List (Key × Packed)) (n : ℕ) �
 shown_as e es n is = ap shown is
 
 module _ (c : LruCache Key Hit) (e : LruCache Key Packed) (view : shown e ≡ c) where
+  pub valid_shows : IsValid same_key e → IsValid same_key c
+  valid_shows h = subst (IsValid same_key) view (valid_mapped at same_key e.cap e.entries h)
+
   pub live_is : (now : ℕ) (k : Key) (o : Option Packed) → lookup (same_key k) e.entries ≡ o → live_at now k c.entries ≡ live_from now (option_map (hit_of_packed k.name) o)
   live_is now k o found =
       ap (λ x. live_at now k x.entries) (sym view)

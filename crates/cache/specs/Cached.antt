@@ -1,6 +1,8 @@
 -- What a cache of links gives for a question, and what it holds after each call.
-use Rattle.std.specs.Prelude.{◌≡◌, ◌≢◌, ℕ, ◌-◌, ◌*◌, Bool, true, false, cond, nat_lt, nat_eq, ◌⊎◌, Option, Some, None, List, [], ◌∷◌, Contains}
+use Rattle.std.specs.Prelude.{◌≡◌, ◌≢◌, ℕ, ◌-◌, ◌*◌, ◌/◌, Bool, true, false, cond, nat_lt, nat_eq, ◌⊎◌, Option, Some, None, List, [], ◌∷◌, map, Contains}
 use Rattle.std.specs.Map.{lookup, remove_entry}
+use Rattle.rdata.specs.Records.{Record}
+use Rattle.rdata.specs.Sets.{with_ttl}
 use Rattle.zone.specs.Links.{Link, Found, Alias, NoData, NxDomain}
 use Rattle.zone.specs.Zones.{cname_type}
 use Rattle.recency.specs.Orders.{kept, used, MayGo}
@@ -18,6 +20,21 @@ as_kept l ttl now = record { link = l; ttl = ttl; since = now }
 -- Younger than its time to live. A link that was kept in what is now the future has age 0.
 abbrev pub is_live : ℕ → Hit → Bool
 is_live now h = nat_lt (now - h.since) (1000 * h.ttl)
+
+-- The link with this TTL on each record.
+abbrev pub retimed : ℕ → Link → Link
+retimed ttl (Found rs) = Found (map (with_ttl ttl) rs)
+retimed ttl (Alias r) = Alias (with_ttl ttl r)
+retimed ttl (NoData soa) = NoData (with_ttl ttl soa)
+retimed ttl (NxDomain soa) = NxDomain (with_ttl ttl soa)
+
+-- The seconds that are left of a link's time to live, its age in whole seconds; 0 where that is over.
+abbrev pub left_of : ℕ → Hit → ℕ
+left_of now h = h.ttl - (now - h.since) / 1000
+
+-- The link as it is sent (RFC 1035, section 6.1.3).
+abbrev pub aged : ℕ → Hit → Link
+aged now h = retimed (left_of now h) h.link
 
 -- The answer for the type under which a link stands: an alias is a set of one CNAME record there.
 abbrev pub as_set : Link → Link
@@ -80,6 +97,29 @@ abbrev pub hit_of : Option (Key × Hit) → Option Hit
 hit_of None = None
 hit_of (Some a) = Some a.1
 
+-- A question, and the names above its name of which an error denies it too.
+pub record Asked : Type 0 where
+  pub name : List (List ℕ)
+  pub kind : ℕ
+  pub above : List (List (List ℕ))
+
+-- No name above is tried.
+abbrev pub alone : List (List ℕ) → ℕ → Asked
+alone q t = record { name = q; kind = t; above = [] }
+
+-- The error of the first of these names of which one lives.
+abbrev pub error_above : List (List (List ℕ)) → ℕ → List (Key × Hit) → Option (Key × Hit)
+error_above [] now es = None
+error_above (n ∷ ns) now es = or_else (under (error_key n) (set_at now (error_key n) es)) (error_above ns now es)
+
+abbrev pub or_above : List (List (List ℕ)) → ℕ → List (Key × Hit) → Option (Key × Hit) → Option (Key × Hit)
+or_above [] now es found = found
+or_above (n ∷ ns) now es found = or_else found (error_above (n ∷ ns) now es)
+
+-- What is given for a question: what stands at the name itself goes before the errors above it.
+abbrev pub lent : Asked → ℕ → List (Key × Hit) → Option (Key × Hit)
+lent a now es = or_above a.above now es (answer a.name a.kind now es)
+
 abbrev pub moved : Option (Key × Hit) → List (Key × Hit) → List (Key × Hit)
 moved None es = es
 moved (Some a) es = used same_key a.0 es
@@ -123,3 +163,21 @@ Answers q t k l given = ((k ≡ error_key q) × (given ≡ as_set l)) ⊎ (((k �
 -- A hit is an entry that is there and lives, with its own time to live and moment.
 abbrev pub IsHeld : List (List ℕ) → ℕ → ℕ → List (Key × Hit) → Hit → Type 0
 IsHeld q t now es h = (k : Key) × (e : Hit) × Contains es (k, e) × (is_live now e ≡ true) × Answers q t k e.link h.link × (h.ttl ≡ e.ttl) × (h.since ≡ e.since)
+
+-- An entry of this key is kept and lives.
+abbrev pub Lives : ℕ → List (Key × Hit) → Key → Hit → Type 0
+Lives now es k h = (lookup (same_key k) es ≡ Some h) × (is_live now h ≡ true)
+
+-- Nothing that is kept answers: no error of the name lives, nothing under the type, and no CNAME that is an
+-- alias for another type.
+pub record IsMiss (q : List (List ℕ)) (t now : ℕ) (es : List (Key × Hit)) : Type 0 where
+  pub error : (h : Hit) → Lives now es (error_key q) h → ⊥
+  pub own : (h : Hit) → Lives now es (kind_key q t) h → ⊥
+  pub alias : (h : Hit) (l : Link) → t ≢ cname_type → Lives now es (kind_key q cname_type) h → as_alias h.link ≡ Some l → ⊥
+
+-- The link lives under its key and answers first: no error of the name lives beside another link; and an
+-- alias is asked for a type other than CNAME, under which nothing lives.
+pub record ComesFirst (q : List (List ℕ)) (t now : ℕ) (es : List (Key × Hit)) (h : Hit) : Type 0 where
+  pub lives : Lives now es (key_for q t h.link) h
+  pub exists : is_error h.link ≡ false → (e : Hit) → Lives now es (error_key q) e → ⊥
+  pub other : (r : Record) → h.link ≡ Alias r → (t ≢ cname_type) × ((e : Hit) → Lives now es (kind_key q t) e → ⊥)

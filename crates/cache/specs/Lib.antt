@@ -1,6 +1,9 @@
+pub mod Aging
 pub mod Cached
 pub mod Forms
+pub mod Given
 pub mod Keys
 pub mod Kinds
 pub mod Laws
+pub mod Members
 pub mod Packed

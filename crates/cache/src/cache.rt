@@ -1,10 +1,12 @@
-ghost use Rattle.std.specs.Prelude.{◌≡◌, ◌≢◌, ◌<◌, ◌≤◌, [], IfOk, OnOk, OnErr, IfSome, Contains, option_map, option_copied};
-ghost use Rattle.lru.specs.LruCache.{lru_cache};
+ghost use Rattle.std.specs.Prelude.{◌≡◌, ◌≢◌, ◌≤◌, [], IfOk, OnOk, OnErr, IfSome, IfNone, Contains, option_map, option_copied};
+ghost use Rattle.std.specs.NonZero.{non_zero_usize_get};
+ghost use Rattle.lru.specs.LruCache.{lru_cache, IsValid};
+ghost use Rattle.rdata.specs.Records.{greatest_ttl};
 ghost use Rattle.rdata.specs.Types.{type_number};
 ghost use Rattle.authority.specs.Answers.{link_view};
 ghost use Rattle.recency.specs.Orders.{KeepsOnly, LosesOnly, HasSame};
-ghost use Rattle.cache.specs.Keys.{key_for, error_key};
-ghost use Rattle.cache.specs.Cached.{as_kept, is_error, live_at, set_at, alias_at, under, answer, hit_of, after_look, swept, stored, after_keep, IsKept, IsGone, IsHeld};
+ghost use Rattle.cache.specs.Keys.{same_key, key_for, error_key};
+ghost use Rattle.cache.specs.Cached.{as_kept, is_error, live_at, set_at, alias_at, under, answer, alone, hit_of, lent, moved, swept, stored, after_keep, IsKept, IsGone, IsHeld, IsMiss};
 ghost use Rattle.cache.specs.Packed.{hit_of_packed};
 
 use crate::hit::Hit;
@@ -33,7 +35,8 @@ impl<S: BuildHasher + Drop, A: Allocator> Model for Cache<S, A> {
 
     ghost Value = { Entries Keyed Kept };
 
-    ghost use Rattle.lru.specs.LruCache.{lru_cache};
+    ghost use Rattle.std.specs.NonZero.{non_zero_usize_get};
+    ghost use Rattle.lru.specs.LruCache.{lru_cache, IsValid};
     ghost use Rattle.cache.specs.Packed.{unpacked};
 
     ghost view = { λ c. lru_cache (unpacked c.entries.entries) c.entries.cap };
@@ -42,16 +45,13 @@ impl<S: BuildHasher + Drop, A: Allocator> Model for Cache<S, A> {
 // No entries, and room for so many, which is taken as they come.
 fn no_entries<S: BuildHasher + Drop, A: Heap>(
     alloc: A,
-    cap: usize,
+    cap: NonZeroUsize,
     hasher: S,
 ) -> Result<LruCache<Key<A>, Packed<A>, S, A>, Starved>
-    requires { 0 < cap }
-    ensures { IfOk result (λ e. e ≡ lru_cache [] cap) }
+    ensures { IfOk result (λ e. e ≡ lru_cache [] (non_zero_usize_get cap)) }
 {
     let mut entries = LruCache::unbounded_with_hasher(alloc, hasher)?;
-    if let Some(cap) = NonZeroUsize::new(cap) {
-        entries.resize(cap);
-    }
+    entries.resize(cap);
     Ok(entries)
 }
 
@@ -62,19 +62,25 @@ fn denies<A: Allocator>(link: &Link<A>) -> bool
 }
 
 impl<S: BuildHasher + Drop, A: Heap> Cache<S, A> {
-    /// An empty cache, with room for `cap` links, 1 to 1,000,000, which is taken as they come.
-    pub fn new(alloc: A, cap: usize, hasher: S) -> Result<Cache<S, A>, Starved>
-        requires some { 0 < cap }
-        requires few { cap ≤ 1000000 }
-        ensures { IfOk result (λ c. c ≡ lru_cache [] cap) }
+    /// An empty cache, with room for `cap` links, which is taken as they come.
+    pub fn new(alloc: A, cap: NonZeroUsize, hasher: S) -> Result<Cache<S, A>, Starved>
+        ensures { IfOk result (λ c. c ≡ lru_cache [] (non_zero_usize_get cap)) }
     {
         Ok(Cache {
             entries: no_entries(alloc, cap, hasher)?,
         })
     }
 
-    /// Keeps the link for this name and type from the moment `now`, in milliseconds, for `ttl` seconds. A
-    /// link with TTL 0 is not kept, and replaces what was kept. Want of memory changes nothing.
+    /// No two entries have one key, and there are no more of them than the capacity.
+    pub fn is_well_formed(&self)
+        ensures { IsValid same_key self.now }
+    {
+        let _ = self.entries.len();
+    }
+
+    /// Keeps the link for this name and type from the moment `now`, in milliseconds, for `ttl` seconds, at
+    /// most 2,147,483,647 (RFC 2181, section 8). A link with TTL 0 is not kept, and replaces what was kept.
+    /// Want of memory changes nothing.
     pub fn keep(
         &mut self,
         name: &Name<A>,
@@ -83,6 +89,7 @@ impl<S: BuildHasher + Drop, A: Heap> Cache<S, A> {
         ttl: u32,
         now: u64,
     ) -> Result<(), Starved>
+        requires { ttl ≤ greatest_ttl }
         ensures ok { OnOk result (self.new ≡ lru_cache (after_keep self.old.cap name.now (type_number kind) (as_kept (link_view link.now) ttl now) self.old.entries) self.old.cap) }
         ensures err { OnErr result (self.new ≡ self.old) }
         ensures there { OnOk result (ttl ≢ 0 → Contains self.new.entries (key_for name.now (type_number kind) (link_view link.now), as_kept (link_view link.now) ttl now)) }
@@ -128,10 +135,11 @@ impl<S: BuildHasher + Drop, A: Heap> Cache<S, A> {
     /// of that type, or for a type other than CNAME the alias. The first that lives answers and becomes the
     /// most recently used. An alias answers a question for CNAME as a set.
     pub fn look(&mut self, name: &Name<A>, kind: RType, now: u64) -> Result<Option<Hit<A>>, Starved>
-        ensures value { IfOk result (λ h. h ≡ hit_of (answer name.now (type_number kind) now self.old.entries)) }
-        ensures ok { OnOk result (self.new ≡ lru_cache (after_look name.now (type_number kind) now self.old.entries) self.old.cap) }
+        ensures value { IfOk result (λ h. h ≡ hit_of (lent (alone name.now (type_number kind)) now self.old.entries)) }
+        ensures ok { OnOk result (self.new ≡ lru_cache (moved (lent (alone name.now (type_number kind)) now self.old.entries) self.old.entries) self.old.cap) }
         ensures err { OnErr result (self.new ≡ self.old) }
         ensures held { IfOk result (λ h. IfSome h (IsHeld name.now (type_number kind) now self.old.entries)) }
+        ensures missed { IfOk result (λ h. IfNone h (IsMiss name.now (type_number kind) now self.old.entries)) }
         ensures members { HasSame self.old.entries self.new.entries }
     {
         let mut key = Key {

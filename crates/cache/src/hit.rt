@@ -1,7 +1,9 @@
-ghost use Rattle.std.specs.Prelude.{◌≡◌, ◌-◌, ◌*◌, nat_lt, [], ◌∷◌, IfOk, option_map};
+ghost use Rattle.std.specs.Prelude.{◌≡◌, ◌-◌, ◌*◌, ◌≤◌, nat_lt, [], ◌∷◌, IfOk, option_map};
+ghost use Rattle.rdata.specs.Records.{greatest_ttl};
+ghost use Rattle.rdata.specs.Sets.{with_ttl};
 ghost use Rattle.zone.specs.Links.{Found};
 ghost use Rattle.authority.specs.Answers.{link_view};
-ghost use Rattle.cache.specs.Cached.{is_live, as_set, as_alias};
+ghost use Rattle.cache.specs.Cached.{is_live, as_set, as_alias, retimed, left_of, aged};
 
 use authority::Link;
 use dname::{Heap, Starved};
@@ -13,7 +15,7 @@ use std::marker::Model;
 #[derive(Drop)]
 pub struct Hit<A: Allocator = Global> {
     pub link: Link<A>,
-    /// Its time to live in seconds, as it was kept.
+    /// Its time to live in seconds, as it was kept, at most 2,147,483,647 (RFC 2181, section 8).
     pub ttl: u32,
     /// The moment since which it is kept, in milliseconds.
     pub since: u64,
@@ -26,6 +28,11 @@ impl<A: Allocator> Model for Hit<A> {
     ghost Value = { Kept };
 
     ghost view = { λ h. record { link = link_view h.link; ttl = h.ttl; since = h.since } };
+
+    ghost use Rattle.std.specs.Prelude.{◌≤◌};
+    ghost use Rattle.rdata.specs.Records.{greatest_ttl};
+
+    ghost invariant = { λ h. h.ttl ≤ greatest_ttl };
 }
 
 impl<A: Heap> Clone for Hit<A> {
@@ -47,6 +54,48 @@ impl<A: Allocator> Hit<A> {
     {
         is_young(self.ttl, self.since, now)
     }
+
+    /// How many seconds are left of its time to live at this moment; 0 where that is over.
+    pub fn left(&self, now: u64) -> u32
+        ensures value { result ≡ left_of now self.now }
+        ensures most { result ≤ greatest_ttl }
+    {
+        let age = now.saturating_sub(self.since) / 1_000;
+        u64::from(self.ttl).saturating_sub(age) as u32
+    }
+
+    /// The link as it is sent at this moment: each record has as many seconds as are left (RFC 1035,
+    /// section 6.1.3). Takes no memory.
+    pub fn into_link(self, now: u64) -> Link<A>
+        ensures { link_view result ≡ aged now self }
+    {
+        let ttl = self.left(now);
+        retimed(self.link, ttl)
+    }
+}
+
+/// The link with this TTL, in seconds, on each record; takes no memory.
+pub fn retimed<A: Allocator>(link: Link<A>, ttl: u32) -> Link<A>
+    requires { ttl ≤ greatest_ttl }
+    ensures { link_view result ≡ retimed ttl (link_view link) }
+{
+    match link {
+        Link::Found(mut records) => {
+            records.set_ttl(ttl);
+            Link::Found(records)
+        }
+        Link::Alias(record) => Link::Alias(with_ttl(record, ttl)),
+        Link::NoData(soa) => Link::NoData(with_ttl(soa, ttl)),
+        Link::NxDomain(soa) => Link::NxDomain(with_ttl(soa, ttl)),
+    }
+}
+
+fn with_ttl<A: Allocator>(mut timed: Record<A>, ttl: u32) -> Record<A>
+    requires { ttl ≤ greatest_ttl }
+    ensures { result ≡ with_ttl ttl timed }
+{
+    timed.ttl = ttl;
+    timed
 }
 
 // Whether what is kept since that moment, in milliseconds, is younger than so many seconds.

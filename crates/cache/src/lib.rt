@@ -6,10 +6,12 @@ mod cache;
 mod data;
 mod hit;
 mod key;
+mod laws;
 mod packed;
 
 pub use cache::Cache;
-pub use hit::Hit;
+pub use hit::{Hit, retimed};
+pub use laws::{aging_law, given_law, members_law};
 // A crate can name a cache in a contract only if the types of its fields are exported.
 #[doc(hidden)]
 pub use data::PackedData;

@@ -1,4 +1,5 @@
-ghost use Rattle.std.specs.Prelude.{◌≡◌, ℕ, List, map, IfOk, IfSome, Some, option_map};
+ghost use Rattle.std.specs.Prelude.{◌≡◌, ◌≤◌, ℕ, List, map, IfOk, IfSome, Some, option_map};
+ghost use Rattle.rdata.specs.Records.{greatest_ttl};
 ghost use Rattle.authority.specs.Answers.{link_view};
 ghost use Rattle.cache.specs.Cached.{is_live, as_set, as_alias, with_link, as_kept};
 ghost use Rattle.cache.specs.Packed.{owned, link_of, hit_of_packed};
@@ -167,6 +168,11 @@ impl<A: Allocator> Model for Packed<A> {
     ghost use Rattle.cache.specs.Forms.{form_view};
 
     ghost view = { λ p. record { form = form_view p.form; ttl = p.ttl; since = p.since } };
+
+    ghost use Rattle.std.specs.Prelude.{◌≤◌};
+    ghost use Rattle.rdata.specs.Records.{greatest_ttl};
+
+    ghost invariant = { λ p. p.ttl ≤ greatest_ttl };
 }
 
 impl<A: Heap> Packed<A> {
@@ -178,6 +184,7 @@ impl<A: Heap> Packed<A> {
         ttl: u32,
         since: u64,
     ) -> Result<Packed<A>, Starved>
+        requires { ttl ≤ greatest_ttl }
         ensures { IfOk result (λ p. hit_of_packed name.now p ≡ as_kept (link_view link.now) ttl since) }
     {
         Ok(Packed {

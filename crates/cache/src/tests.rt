@@ -1,3 +1,6 @@
+ghost use Rattle.std.specs.Prelude.{◌≤◌};
+ghost use Rattle.rdata.specs.Records.{greatest_ttl};
+
 use super::*;
 use authority::Link;
 use dname::{Heap, Name, Starved};
@@ -5,10 +8,15 @@ use lru::DefaultHasher;
 use rdata::{Addr, RData, RType, Record, Records, Soa};
 use refusing::Refusing;
 use std::hash::BuildHasherDefault;
+use std::num::NonZeroUsize;
 use std::test::Fail;
 
 fn hasher() -> DefaultHasher {
     BuildHasherDefault::new()
+}
+
+fn room(links: usize) -> Result<NonZeroUsize, Starved> {
+    NonZeroUsize::new(links).ok_or(Starved)
 }
 
 fn name<A: Heap>(alloc: A, text: &str) -> Result<Name<A>, Starved> {
@@ -103,7 +111,9 @@ impl<A: Heap> Kept<A> {
         shape: Shape,
         ttl: u32,
         now: u64,
-    ) -> Result<(), Starved> {
+    ) -> Result<(), Starved>
+        requires { ttl ≤ greatest_ttl }
+    {
         let owner = name(self.alloc, text)?;
         let link = link(self.alloc, &owner, shape)?;
         self.cache.keep(&owner, kind, &link, ttl, now)
@@ -136,7 +146,7 @@ fn word<A: Heap>(link: &Link<A>) -> &'static str {
 
 #[test]
 fn the_least_used_link_goes(rt: HostRuntime) -> Result<(), Fail> {
-    let cache = Cache::new(rt.alloc(), 2, hasher())?;
+    let cache = Cache::new(rt.alloc(), room(2)?, hasher())?;
     let mut kept = Kept {
         alloc: rt.alloc(),
         cache,
@@ -153,7 +163,7 @@ fn the_least_used_link_goes(rt: HostRuntime) -> Result<(), Fail> {
 
 #[test]
 fn a_link_removes_the_names_error(rt: HostRuntime) -> Result<(), Fail> {
-    let cache = Cache::new(rt.alloc(), 9, hasher())?;
+    let cache = Cache::new(rt.alloc(), room(9)?, hasher())?;
     let mut kept = Kept {
         alloc: rt.alloc(),
         cache,
@@ -171,7 +181,7 @@ fn a_link_removes_the_names_error(rt: HostRuntime) -> Result<(), Fail> {
 
 #[test]
 fn an_alias_answers_every_type(rt: HostRuntime) -> Result<(), Fail> {
-    let cache = Cache::new(rt.alloc(), 9, hasher())?;
+    let cache = Cache::new(rt.alloc(), room(9)?, hasher())?;
     let mut kept = Kept {
         alloc: rt.alloc(),
         cache,
@@ -188,7 +198,7 @@ fn an_alias_answers_every_type(rt: HostRuntime) -> Result<(), Fail> {
 
 #[test]
 fn the_want_of_an_alias_is_none(rt: HostRuntime) -> Result<(), Fail> {
-    let cache = Cache::new(rt.alloc(), 9, hasher())?;
+    let cache = Cache::new(rt.alloc(), room(9)?, hasher())?;
     let mut kept = Kept {
         alloc: rt.alloc(),
         cache,
@@ -201,7 +211,7 @@ fn the_want_of_an_alias_is_none(rt: HostRuntime) -> Result<(), Fail> {
 
 #[test]
 fn a_clock_that_goes_back_gives_age_zero(rt: HostRuntime) -> Result<(), Fail> {
-    let cache = Cache::new(rt.alloc(), 9, hasher())?;
+    let cache = Cache::new(rt.alloc(), room(9)?, hasher())?;
     let mut kept = Kept {
         alloc: rt.alloc(),
         cache,
@@ -213,9 +223,49 @@ fn a_clock_that_goes_back_gives_age_zero(rt: HostRuntime) -> Result<(), Fail> {
     Ok(())
 }
 
+// The TTLs of two addresses that are found at one moment and sent at another.
+fn sent_ttls(
+    cache: &mut Cache<DefaultHasher>,
+    owner: &Name,
+    found: u64,
+    sent: u64,
+) -> Result<Option<(u32, u32)>, Starved> {
+    let Some(hit) = cache.look(owner, RType::A, found)? else {
+        return Ok(None);
+    };
+    match hit.into_link(sent) {
+        Link::Found(records) => match records.as_slice() {
+            [first, second] => Ok(Some((first.ttl, second.ttl))),
+            _ => Ok(None),
+        },
+        _ => Ok(None),
+    }
+}
+
+#[test]
+fn ttls_count_down_by_whole_seconds(rt: HostRuntime) -> Result<(), Fail> {
+    let owner = name(rt.alloc(), "a")?;
+    let mut cache = Cache::new(rt.alloc(), room(2)?, hasher())?;
+    cache.keep(
+        &owner,
+        RType::A,
+        &two_addresses(rt.alloc(), &owner)?,
+        60,
+        1_000,
+    )?;
+    for (now, left) in [(0, 60), (1_999, 60), (2_000, 59), (60_999, 1)] {
+        assert!(rt;
+            sent_ttls(&mut cache, &owner, now, now)? == Some((left, left)),
+            "at {now}"
+        );
+    }
+    assert!(rt; sent_ttls(&mut cache, &owner, 1_000, 90_000)? == Some((0, 0)));
+    Ok(())
+}
+
 // Keeps an alias, and is told of it for its own type.
 fn play<A: Heap>(alloc: A) -> Result<bool, Starved> {
-    let cache = Cache::new(alloc, 2, hasher())?;
+    let cache = Cache::new(alloc, room(2)?, hasher())?;
     let mut kept = Kept { alloc, cache };
     kept.keep("a", RType::A, Shape::Alias, 10, 0)?;
     kept.keep("a", RType::A, Shape::NoData, 0, 0)?;
@@ -238,7 +288,7 @@ fn each_growth_refused_in_turn(rt: HostRuntime) -> Result<(), Fail> {
 
 #[test]
 fn sets_come_back(rt: HostRuntime) -> Result<(), Fail> {
-    let cache = Cache::new(rt.alloc(), 9, hasher())?;
+    let cache = Cache::new(rt.alloc(), room(9)?, hasher())?;
     let mut kept = Kept {
         alloc: rt.alloc(),
         cache,
@@ -260,7 +310,7 @@ fn a_refused_link_changes_nothing(rt: HostRuntime) -> Result<(), Fail> {
         (Shape::TwoAddresses, 8),
         (Shape::NoData, 11),
     ] {
-        let cache = Cache::new(&heap, 2, hasher())?;
+        let cache = Cache::new(&heap, room(2)?, hasher())?;
         let mut kept = Kept {
             alloc: &heap,
             cache,

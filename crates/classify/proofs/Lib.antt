@@ -1,5 +1,7 @@
 pub mod Firsts
 pub mod Readings
 pub mod Roots
+pub mod Servers
 pub mod Sets
 pub mod Shortened
+pub mod Uses

@@ -95,7 +95,7 @@ module _ (f q : Name) (t : ℕ) (m : Message) where
   abbrev pub Says : Class → Type 0
   Says (Answer l) = IsAnswer f q t m l
   Says (Referral c servers addresses ttl) = IsReferralTo f q t m c × AreServers m c servers × AreAddresses f m c addresses
-  Says Cut = Unit {0}
+  Says Cut = m.header.tc ≡ true
   Says (Failed e) = Unit {0}
 
   by_authority : (l : Link) (b : Bool) → m.header.aa ≡ b → m.header.tc ≡ false → Reads f q t m l → Says (cond b (Answer l) (Failed NoAuthority))
@@ -194,12 +194,12 @@ module _ (f q : Name) (t : ℕ) (m : Message) where
   coded tc true e = by_records tc (told_by (nat_eq m.header.rcode 0) (nat_eq m.header.rcode 3) refl refl e) (records_at q t m.answer) refl
   coded tc false e = tt
 
-  short : (via : Via) → Says (cut_over via)
-  short Udp = tt
-  short Tcp = tt
+  short : (via : Via) → m.header.tc ≡ true → Says (cut_over via)
+  short Udp e = e
+  short Tcp e = tt
 
   whole : (via : Via) (b : Bool) → m.header.tc ≡ b → Says (cond b (cut_over via) (by_code f q t m))
-  whole via true e = short via
+  whole via true e = short via e
   whole via false e = coded e (nat_eq m.header.rcode 0 || nat_eq m.header.rcode 3) refl
 
   pub says : (via : Via) → Says (class_of f q t via m)
@@ -211,3 +211,6 @@ module _ (f q : Name) (t : ℕ) (m : Message) where
   pub referral_read : (via : Via) (c : Name) (servers addresses : List Record) (ttl : ℕ) → class_of f q t via m ≡ Referral c servers addresses ttl
       → IsReferralTo f q t m c × AreServers m c servers × AreAddresses f m c addresses
   referral_read via c servers addresses ttl e = subst (λ (x : Class). Says x) e (says via)
+
+  pub cut_read : (via : Via) → class_of f q t via m ≡ Cut → m.header.tc ≡ true
+  cut_read via e = subst (λ (c : Class). Says c) e (says via)

@@ -1,16 +1,19 @@
 -- The laws that the functions of this crate state.
-use Rattle.std.specs.Prelude.{◌≡◌, ℕ, List, Contains}
+use Rattle.std.specs.Prelude.{◌≡◌, ◌↔◌, ℕ, min, true, List, Contains}
 use Rattle.dname.specs.Labels.{Name, root, IsAtOrUnder}
 use Rattle.rdata.specs.Data.{Ipv4, Ns}
 use Rattle.rdata.specs.Records.{Record}
+use Rattle.rdata.specs.Sets.{lowest_ttl}
 use Rattle.layout.specs.Messages.{Message}
-use Rattle.zone.specs.Zones.{ns_type}
-use Rattle.zone.specs.Links.{Link}
-use Rattle.zone.specs.Same.{Has}
+use Rattle.zone.specs.Zones.{ns_type, cname_type}
+use Rattle.zone.specs.Links.{Link, Found, Alias}
+use Rattle.zone.specs.Same.{Has, SameLink}
 use Rattle.wire.specs.declared.via.Via.{Via}
+use Rattle.wire.specs.declared.via.Via.TheVariants.{Udp}
 use Rattle.truth.specs.Worlds.{Address}
 use Rattle.truth.specs.Reading.{IsIn, IsAnswer, IsReferralTo, NamesServer, GivesAddress}
-use Rattle.classify.specs.Classes.{Answer, Referral, class_of}
+use Rattle.truth.specs.Replies.{Once}
+use Rattle.classify.specs.Classes.{Answer, Referral, Cut, class_of}
 
 -- The servers of a referral: its message names each of them, and none is left out, TTLs aside.
 pub record AreServers (m : Message) (c : Name) (servers : List Record) : Type 0 where
@@ -31,6 +34,36 @@ AnswerIsRead = (f q : Name) (t : ℕ) (via : Via) (m : Message) (l : Link) → c
 abbrev pub ReferralIsRead : Type 0
 ReferralIsRead = (f q : Name) (t : ℕ) (via : Via) (m : Message) (c : Name) (servers addresses : List Record) (ttl : ℕ) → class_of f q t via m ≡ Referral c servers addresses ttl
     → IsReferralTo f q t m c × AreServers m c servers × AreAddresses f m c addresses
+
+-- A referral that is followed leads over the name that was asked for.
+abbrev pub ReferralIsOver : Type 0
+ReferralIsOver = (f q : Name) (t : ℕ) (via : Via) (m : Message) (c : Name) (servers addresses : List Record) (ttl : ℕ) → class_of f q t via m ≡ Referral c servers addresses ttl → IsAtOrUnder q c
+
+-- Its TTL is the lowest of its servers' and its addresses' (RFC 2181, section 5.2).
+abbrev pub ReferralIsLowest : Type 0
+ReferralIsLowest = (f q : Name) (t : ℕ) (via : Via) (m : Message) (c : Name) (servers addresses : List Record) (ttl : ℕ) → class_of f q t via m ≡ Referral c servers addresses ttl
+    → ttl ≡ min (lowest_ttl servers) (lowest_ttl addresses)
+
+-- What is an answer is used as one, with the same link but for TTLs, order and repeats; what is a referral is
+-- followed.
+abbrev pub AnswerIsUsed : Type 0
+AnswerIsUsed = (f q : Name) (t : ℕ) (via : Via) (m : Message) (l : Link) → IsAnswer f q t m l → (k : Link) × (class_of f q t via m ≡ Answer k) × SameLink k l
+
+abbrev pub ReferralIsFollowed : Type 0
+ReferralIsFollowed = (f q : Name) (t : ℕ) (via : Via) (m : Message) (c : Name) → IsReferralTo f q t m c
+    → (servers : List Record) × (addresses : List Record) × (ttl : ℕ) × (class_of f q t via m ≡ Referral c servers addresses ttl)
+
+-- A set that is used has each record once, TTLs aside.
+abbrev pub FoundIsOnce : Type 0
+FoundIsOnce = (f q : Name) (t : ℕ) (via : Via) (m : Message) (set : List Record) → class_of f q t via m ≡ Answer (Found set) → Once set
+
+-- Where CNAME is asked for, an alias is found, and not followed.
+abbrev pub CnameIsFound : Type 0
+CnameIsFound = (f q : Name) (via : Via) (m : Message) (r : Record) → class_of f q cname_type via m ≡ Answer (Alias r) → ⊥
+
+-- What was cut short on UDP is asked for again over TCP, and nothing else is.
+abbrev pub CutIsShort : Type 0
+CutIsShort = (f q : Name) (t : ℕ) (via : Via) (m : Message) → (class_of f q t via m ≡ Cut) ↔ ((via ≡ Udp) × (m.header.tc ≡ true))
 
 -- Every owner of authority records ends with the root's label.
 abbrev pub EndInRoot : Message → Type 0

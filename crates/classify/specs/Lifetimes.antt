@@ -1,5 +1,5 @@
 -- How long what a server says of a name and a type is kept (RFC 2181, section 8; RFC 2308, sections 3 and 5).
-use Rattle.std.specs.Prelude.{ℕ, ◌≤◌, List, [], ◌∷◌, map}
+use Rattle.std.specs.Prelude.{ℕ, min, ◌≤◌, List, [], ◌∷◌, map}
 use Rattle.rdata.specs.Records.{Record}
 use Rattle.rdata.specs.Caps.{capped}
 use Rattle.rdata.specs.Sets.{lowest_ttl}
@@ -33,6 +33,10 @@ lifetime_of (Found rs) = shortest rs
 lifetime_of (Alias r) = r.ttl
 lifetime_of (NoData soa) = soa.ttl
 lifetime_of (NxDomain soa) = soa.ttl
+
+-- A referral whose lowest TTL is this is kept for as long, and for a week at most.
+abbrev pub referral_lifetime : ℕ → ℕ
+referral_lifetime ttl = min ttl longest
 
 -- What is received differs from what was said in TTLs alone, and is kept for a week at most.
 abbrev pub ReceivedIsSame : Type 0

@@ -1,6 +1,8 @@
 ghost use Rattle.std.specs.Prelude.{◌≡◌};
+ghost use Rattle.classify.specs.Lifetimes.{referral_lifetime};
 ghost use Rattle.classify.specs.Views.{failure_number};
 
+use crate::lifetimes::LONGEST;
 use authority::Link;
 use dname::Name;
 use rdata::Records;
@@ -47,6 +49,15 @@ pub struct Referral<A: Allocator = Global> {
     pub addresses: Records<A>,
     /// The lowest TTL of all these, in seconds.
     pub ttl: u32,
+}
+
+impl<A: Allocator> Referral<A> {
+    /// For how many seconds it is kept: its TTL, and a week at most (RFC 2181, sections 5.2 and 8).
+    pub fn lifetime(&self) -> u32
+        ensures { result ≡ referral_lifetime self.now.ttl }
+    {
+        self.ttl.min(LONGEST)
+    }
 }
 
 /// What a reply is used for.

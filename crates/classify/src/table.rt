@@ -1,20 +1,23 @@
-ghost use Rattle.std.specs.Prelude.{◌≡◌, ◌||◌, ◌++◌, [], ◌∷◌, cond, nat_eq, IfOk, OnOk};
-ghost use Rattle.std.specs.List.{list_any};
+ghost use Rattle.std.specs.Prelude.{◌≡◌, ◌&&◌, ◌||◌, ◌++◌, [], ◌∷◌, cond, nat_eq, IfOk, OnOk};
+ghost use Rattle.std.specs.List.Sorted.{IsSorted};
 ghost use Rattle.std.specs.Option.{option_copied};
-ghost use Rattle.rdata.specs.Kept.{datum};
+ghost use Rattle.dname.specs.Labels.{is_under};
+ghost use Rattle.dname.specs.Order.{name_cmp};
 ghost use Rattle.rdata.specs.Selected.{records_at};
 ghost use Rattle.rdata.specs.Sets.{one_set};
 ghost use Rattle.rdata.specs.Types.{type_number};
-ghost use Rattle.zone.specs.Zones.{ns_type, cname_type, soa_type};
+ghost use Rattle.zone.specs.Zones.{a_type, ns_type, cname_type, soa_type};
 ghost use Rattle.zone.specs.Look.{is_type};
 ghost use Rattle.authority.specs.Answers.{link_view};
-ghost use Rattle.classify.specs.Classes.{first_of, answer_by, names_server, is_taken, addresses_of, refer_by, leads_down, by_servers, denial_by, denies, by_denial, by_alias, by_set, by_code, cut_over, class_of};
+ghost use Rattle.classify.specs.Classes.{first_of, answer_by, addresses_of, refer_by, leads_down, by_servers, denial_by, denies, by_denial, by_alias, by_set, by_code, cut_over, class_of};
+ghost use Rattle.classify.specs.Targets.{is_one_of};
 ghost use Rattle.classify.specs.Views.{class_view};
 
 use crate::class::{Class, Failure, Referral};
+use crate::targets::{is_one_of, targets_of};
 use authority::Link;
 use dname::{Heap, Name, Starved};
-use rdata::{RData, RType, Record, Records, lowest_ttl, set_at};
+use rdata::{RType, Record, Records, lowest_ttl, set_at};
 use std::alloc::Allocator;
 use wire::{Message, Via};
 
@@ -242,7 +245,8 @@ fn leads_down<A: Allocator>(zone: &Name<A>, name: &Name<A>, cut: &Name<A>) -> bo
     cut.is_at_or_under(zone) && *cut != *zone && name.is_at_or_under(cut)
 }
 
-// The A records of the servers that stand at or under the zone.
+// The A records of the servers that stand at or under the zone. A message can hold thousands of both, so
+// the servers' names are sorted once.
 fn addresses_of<A: Heap>(
     alloc: A,
     zone: &Name<A>,
@@ -251,9 +255,10 @@ fn addresses_of<A: Heap>(
 ) -> Result<Records<A>, Starved>
     ensures { IfOk result (λ rs. rs ≡ addresses_of zone.now servers.now additional.now) }
 {
+    let targets = targets_of(alloc, servers)?;
     let mut addresses = Records::new(alloc);
     for added in additional {
-        put_chosen(&mut addresses, added, is_taken(added, zone, servers))?;
+        put_chosen(&mut addresses, added, is_taken(added, zone, &targets))?;
     }
     Ok(addresses)
 }
@@ -272,24 +277,9 @@ fn put_chosen<A: Heap>(
     Ok(())
 }
 
-fn is_taken<A: Allocator>(added: &Record<A>, zone: &Name<A>, servers: &[Record<A>]) -> bool
-    ensures { result ≡ is_taken zone.now servers.now added.now }
+fn is_taken<A: Allocator>(added: &Record<A>, zone: &Name<A>, targets: &[Name<A>]) -> bool
+    requires { IsSorted name_cmp targets.now }
+    ensures { result ≡ (is_type a_type added.now && is_under added.now.owner zone.now && is_one_of added.now.owner targets.now) }
 {
-    is_kind(added, RType::A) && added.owner.is_at_or_under(zone) && is_named(&added.owner, servers)
-}
-
-// Whether one of the NS records names the server.
-fn is_named<A: Allocator>(name: &Name<A>, servers: &[Record<A>]) -> bool
-    ensures { result ≡ list_any (λ s. names_server name.now s.value) servers.now }
-{
-    servers.iter().any(|server| names(&server.value, name))
-}
-
-fn names<A: Allocator>(value: &RData<A>, name: &Name<A>) -> bool
-    ensures { result ≡ names_server name.now (datum value.now) }
-{
-    match value {
-        RData::Ns(target) => *target == *name,
-        _ => false,
-    }
+    is_kind(added, RType::A) && added.owner.is_at_or_under(zone) && is_one_of(&added.owner, targets)
 }

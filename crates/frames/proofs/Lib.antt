@@ -1,4 +1,6 @@
 pub mod Members
 pub mod Once
+pub mod Passed
 pub mod Places
+pub mod Plans
 pub mod Steps

@@ -1,9 +1,9 @@
 -- Addresses, each once where it stands first: members, and one address more.
-use Rattle.std.proofs.Common.{◌≡◌, ℕ, ◌≤◌, ◌<◌, Bool, true, false, cond, not, ◌&&◌, ◌||◌, ◌⊎◌, inl, inr, List, [], ◌∷◌, ◌++◌, ◌+◌, length, take, filter, get_or, Contains, refl, sym, ap, ◌∙◌, subst, arith, length-append}
+use Rattle.std.proofs.Common.{◌≡◌, ℕ, ◌≤◌, ◌<◌, Bool, true, false, cond, not, ◌||◌, inl, inr, List, [], ◌∷◌, ◌++◌, ◌+◌, length, take, filter, get_or, Contains, refl, sym, ap, ◌∙◌, subst, arith, length-append}
 use Rattle.std.specs.List.{IsDistinct}
 use Rattle.std.proofs.lemmas.List.{append-nil, length-take, take_all, take_more, take-append-le}
 use Rattle.std.proofs.lemmas.List.Elements.{filter-append}
-use Rattle.lru.proofs.Splits.{Contains-head, Contains-tail, Contains-cons, Contains-nil}
+use Rattle.lru.proofs.Splits.{Contains-head, Contains-tail, Contains-cons}
 use Rattle.lru.proofs.CallerLemmas.{Contains-take}
 use Rattle.rdata.specs.declared.addr.Addr.{Addr}
 use Rattle.retry.specs.Penalties.{same_addr}

@@ -1,12 +1,14 @@
 -- What the steps of a frame leave.
 use Rattle.std.proofs.Common.{◌≡◌, ℕ, zero, suc, ◌+◌, ◌≤◌, ◌<◌, Bool, true, false, cond, not, ◌&&◌, nat_eq, ◌⊎◌, inl, inr, Option, Some, None, IfSome, List, [], ◌∷◌, ◌++◌, length, take, filter, map, get_or, slice_get, Contains, refl, sym, ap, ◌∙◌, subst, arith, eq-eqb}
 use Rattle.std.specs.List.{IsDistinct, list_any}
+use Rattle.std.proofs.lemmas.Bool.{and_parts}
 use Rattle.std.proofs.lemmas.List.{map-append, append-nil, take_more, length-take}
 use Rattle.std.proofs.lemmas.List.Elements.{Contains-append_left, Contains-append_right, Contains-append_cases, Contains-get_or, filter_more}
 use Rattle.std.proofs.lemmas.Option.{slice_get_within, get_or_from_slice_get}
 use Rattle.lru.proofs.Splits.{Contains-head, Contains-tail, Contains-cons, Contains-nil}
 use Rattle.lru.proofs.CallerLemmas.{Contains-take}
 use Rattle.dname.specs.Labels.{Name, same_name}
+use Rattle.dname.specs.Laws.{same_name-exact}
 use Rattle.rdata.specs.declared.addr.Addr.{Addr}
 use Rattle.recency.specs.Orders.{HasSame}
 use Rattle.referral.specs.Cuts.{Cut, ServerAddress}
@@ -14,7 +16,7 @@ use Rattle.retry.specs.Penalties.{same_addr}
 use Rattle.retry.specs.Plans.{Plan, with_penalty, with_penalties_to, by_penalty, planned, upcoming, IsByPenalty}
 use Rattle.frames.specs.Frames.{Frame, most_taken, has_address, each_once, taken_addresses, is_known, unknown_names, fresh_addresses, after_add, opened}
 use Rattle.frames.specs.Members.{AreAmong}
-use Rattle.frames.proofs.Members.{by_test, first_of, second_of, true_or_false, filter_from, filter_there, has_in, distinct_filter, distinct_take, distinct_both}
+use Rattle.frames.proofs.Members.{by_test, first_of, second_of, true_or_false, other_or, filter_from, filter_there, has_in, distinct_filter, distinct_take, distinct_both}
 use Rattle.frames.proofs.Once.{once_from, once_there, once_distinct, taken_full, taken_known, taken_new}
 
 -- ---- orders of asking
@@ -82,6 +84,44 @@ few_unknown c = let f = few_filtered (λ n. not (is_known c n)) (take most_taken
 pub taken_distinct : (c : Cut) → IsDistinct same_addr (taken_addresses c)
 taken_distinct c = distinct_take 16 (each_once (map (λ (s : ServerAddress). s.address) c.addresses)) (once_distinct (map (λ (s : ServerAddress). s.address) c.addresses))
 
+-- ---- all of what is taken of a cut
+
+take_or_full : {X : Type 0} (n : ℕ) (xs : List X) (x : X) → Contains xs x → Contains (take n xs) x ⊎ (length (take n xs) ≡ n)
+take_or_full zero xs x c = inr refl
+take_or_full (suc n) [] x c = absurd (Contains-nil x c)
+take_or_full {X} (suc n) (y ∷ xs) x c = elim (Contains-cons y xs x c) [
+  | inl is ↦ inl (subst (λ (z : X). Contains (y ∷ take n xs) z) is (Contains-head y (take n xs)))
+  | inr d ↦ elim (take_or_full n xs x d) [
+    | inl e ↦ inl (Contains-tail y (take n xs) x e)
+    | inr e ↦ inr (omega arith)
+  ]
+]
+
+in_mapped : (ss : List ServerAddress) (s : ServerAddress) → Contains ss s → Contains (map (λ (t : ServerAddress). t.address) ss) s.address
+in_mapped [] s c = absurd (Contains-nil s c)
+in_mapped (t ∷ ss) s c = elim (Contains-cons t ss s c) [
+  | inl is ↦ subst (λ (u : ServerAddress). Contains (map (λ (v : ServerAddress). v.address) (t ∷ ss)) u.address) is (Contains-head t.address (map (λ (v : ServerAddress). v.address) ss))
+  | inr d ↦ Contains-tail t.address (map (λ (v : ServerAddress). v.address) ss) s.address (in_mapped ss s d)
+]
+
+pub all_taken : (c : Cut) (s : ServerAddress) → Contains c.addresses s → Contains (taken_addresses c) s.address ⊎ (length (taken_addresses c) ≡ 16)
+all_taken c s h =
+    let all : List Addr = map (λ (t : ServerAddress). t.address) c.addresses in
+    take_or_full 16 (each_once all) s.address (once_there all s.address (in_mapped c.addresses s h))
+
+pub all_unknown : (c : Cut) (n : Name) → Contains (take most_taken c.names) n → Contains (unknown_names c) n ⊎ (is_known c n ≡ true)
+all_unknown c n h = by_test (is_known c n) (λ e. inr e) (λ e. inl (filter_there (λ m. not (is_known c m)) (take most_taken c.names) n h (ap not e)))
+
+named : (ss : List ServerAddress) (xs : List Addr) (n : Name) → list_any (λ (s : ServerAddress). same_name s.name n && has_address xs s.address) ss ≡ true
+    → (s : ServerAddress) × Contains ss s × (s.name ≡ n) × Contains xs s.address
+named [] xs n h = absurd (cc)
+named (s ∷ ss) xs n h = by_test (same_name s.name n && has_address xs s.address)
+    (λ e. let p = and_parts (same_name s.name n) (has_address xs s.address) e in (s, Contains-head s ss, same_name-exact s.name n p.0, has_in xs s.address p.1))
+    (λ e. let (t, c, same, m) = named ss xs n (sym (other_or (list_any (λ (u : ServerAddress). same_name u.name n && has_address xs u.address) ss) e) ∙ h) in (t, Contains-tail s ss t c, same, m))
+
+pub known_taken : (c : Cut) (n : Name) → is_known c n ≡ true → (s : ServerAddress) × Contains c.addresses s × (s.name ≡ n) × Contains (taken_addresses c) s.address
+known_taken c n h = named c.addresses (taken_addresses c) n h
+
 -- ---- a step over servers
 
 module _ (ss : List ServerAddress) (i : ℕ) (s : ServerAddress) (a : Addr) (lt : i < length ss) (is : s ≡ get_or ss i s) (at : a ≡ s.address)
@@ -134,6 +174,10 @@ opened_is level nesting c d ss xs seen of ns all first zone p cut servers taken 
 pub order_within : (level : Addr → ℕ) (of xs order : List Addr) → of ≡ xs → IsByPenalty level of order → AreAmong order xs
 order_within level of xs order e s = subst (AreAmong order) e (order_members level of order s).0
 
+-- The plan is the order by penalties of the addresses that stand in the frame.
+pub order_of : (level : Addr → ℕ) (of xs order : List Addr) → of ≡ xs → IsByPenalty level of order → IsByPenalty level xs order
+order_of level of xs order e s = subst (λ (l : List Addr). IsByPenalty level l order) e s
+
 -- ---- addresses that are added
 
 module _ (level : Addr → ℕ) (f : Frame) where
@@ -183,3 +227,9 @@ added_is level f g known found fresh of put new p same kept is some given made p
     by : (xs : List Addr) → 0 < length xs → record f { addresses = f.addresses ++ xs; plan = planned level xs } ≡ after_add level f xs
     by [] h = absurd (omega arith)
     by (a ∷ xs) h = refl
+
+pub added_order : (level : Addr → ℕ) (f g : Frame) (known found fresh of order : List Addr) → f ≡ g → known ≡ f.addresses
+    → fresh ≡ filter (λ (a : Addr). not (has_address known a)) (each_once found) → of ≡ fresh → IsByPenalty level of order → IsByPenalty level (fresh_addresses g found) order
+added_order level f g known found fresh of order same kept is given s =
+    let all : fresh ≡ fresh_addresses g found = is ∙ ap (λ (l : List Addr). filter (λ (a : Addr). not (has_address l a)) (each_once found)) (kept ∙ ap (λ (x : Frame). x.addresses) same) in
+    order_of level of (fresh_addresses g found) order (given ∙ all) s

@@ -1,9 +1,9 @@
 -- The servers of a zone that a query asks for one name: where they come from, in which order they are asked,
 -- and which of their names are looked up when all known addresses were asked (RFC 1034, section 5.3.3, steps
 -- 2 and 3; RFC 1035, section 7.2).
-use Rattle.std.specs.Prelude.{ℕ, ◌+◌, Bool, true, false, ◌&&◌, ◌||◌, not, cond, min, nat_eq, nat_le, Option, List, [], ◌∷◌, ◌++◌, map, filter, take, drop, length, slice_get}
+use Rattle.std.specs.Prelude.{◌≡◌, ℕ, ◌+◌, ◌≤◌, ◌⊎◌, Contains, Bool, ◌&&◌, ◌||◌, not, cond, min, nat_le, Option, List, [], ◌∷◌, ◌++◌, map, filter, take, drop, length, slice_get}
 use Rattle.std.specs.List.{list_any}
-use Rattle.dname.specs.Labels.{Name, same_name, is_under}
+use Rattle.dname.specs.Labels.{Name, same_name, is_under, IsAtOrUnder}
 use Rattle.rdata.specs.declared.addr.Addr.{Addr}
 use Rattle.retry.specs.Penalties.{same_addr}
 use Rattle.retry.specs.Plans.{Plan, planned}
@@ -69,6 +69,13 @@ has_failed fs n nesting = list_any (λ (f : FailedName). same_name f.name n && n
 -- nesting that its look-up would have, or at a lesser one.
 abbrev pub is_skipped : List FailedName → Frame → Name → Bool
 is_skipped fs f n = is_under n f.zone || nat_le deepest f.nesting || has_failed fs n (f.nesting + 1)
+
+-- The same in words: why a name is passed over (RFC 1034, section 5.3.3, step 2).
+abbrev pub HasFailed : List FailedName → Name → ℕ → Type 0
+HasFailed fs n nesting = (f : FailedName) × Contains fs f × (f.name ≡ n) × (f.nesting ≤ nesting)
+
+abbrev pub IsPassedOver : List FailedName → Frame → Name → Type 0
+IsPassedOver fs f n = IsAtOrUnder n f.zone ⊎ ((deepest ≤ f.nesting) ⊎ HasFailed fs n (f.nesting + 1))
 
 -- The place of the first name, from a place on, that is not skipped.
 abbrev pub place_from : (Name → Bool) → ℕ → List Name → ℕ

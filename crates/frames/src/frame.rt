@@ -1,6 +1,6 @@
-ghost use Rattle.std.specs.Prelude.{◌≡◌, ◌<◌, not, nat_lt, length, Contains, IfOk, IfSome, OnOk, OnErr};
+ghost use Rattle.std.specs.Prelude.{◌≡◌, ◌<◌, true, not, nat_lt, length, Contains, IfOk, IfSome, OnOk, OnErr};
 ghost use Rattle.retry.specs.Penalties.{penalty};
-ghost use Rattle.retry.specs.Plans.{upcoming, advanced, wait_of};
+ghost use Rattle.retry.specs.Plans.{IsByPenalty, upcoming, advanced, wait_of};
 ghost use Rattle.frames.specs.Frames.{opened, is_skipped, next_place, next_name, after_name, fresh_addresses, after_add};
 
 use crate::failed::Failed;
@@ -50,7 +50,8 @@ impl<A: Heap> Frame<A> {
         nesting: u8,
         penalties: &Penalties<S, B>,
     ) -> Result<Frame<A>, Starved>
-        ensures { IfOk result (λ f. f ≡ opened (λ a. penalty a penalties.now.entries) nesting cut.now) }
+        ensures value { IfOk result (λ f. f ≡ opened (λ a. penalty a penalties.now.entries) nesting cut.now) }
+        ensures order { IfOk result (λ f. IsByPenalty (λ a. penalty a penalties.now.entries) f.addresses f.plan.order) }
     {
         let servers = cut.addresses.as_slice();
         let addresses = taken_addresses(alloc, servers)?;
@@ -101,6 +102,7 @@ impl<A: Heap> Frame<A> {
         ensures ok { OnOk result (self.new ≡ after_add (λ a. penalty a penalties.now.entries) self.old (fresh_addresses self.old found.now)) }
         ensures err { OnErr result (self.new ≡ self.old) }
         ensures fresh { IfOk result (λ b. b ≡ nat_lt 0 (length (fresh_addresses self.old found.now))) }
+        ensures order { IfOk result (λ b. b ≡ true → IsByPenalty (λ a. penalty a penalties.now.entries) (fresh_addresses self.old found.now) (self.new).plan.order) }
     {
         let alloc = *self.addresses.allocator();
         let fresh = fresh_addresses(alloc, &self.addresses, found)?;

@@ -1,6 +1,6 @@
 //! Laws of frames: functions that do nothing, whose clauses are proved.
 
-ghost use Rattle.std.specs.Prelude.{◌≡◌, ℕ, ◌+◌, ◌≤◌, ◌<◌, ◌⊎◌, false, Some, List, length, slice_get, Contains};
+ghost use Rattle.std.specs.Prelude.{◌≡◌, ℕ, ◌+◌, ◌*◌, ◌≤◌, ◌<◌, ◌⊎◌, ◌++◌, true, false, Some, None, List, length, take, drop, Contains};
 ghost use Rattle.std.specs.List.{IsDistinct};
 ghost use Rattle.dname.specs.Labels.{Name, IsAtOrUnder};
 ghost use Rattle.rdata.specs.declared.addr.Addr.{Addr};
@@ -8,32 +8,44 @@ ghost use Rattle.recency.specs.Orders.{HasSame};
 ghost use Rattle.referral.specs.Cuts.{Cut, ServerAddress};
 ghost use Rattle.retry.specs.Penalties.{same_addr};
 ghost use Rattle.retry.specs.Plans.{planned, IsByPenalty};
-ghost use Rattle.frames.specs.Frames.{Frame, FailedName, opened, is_known, has_failed, next_place, next_name, after_name, fresh_addresses, after_add};
-ghost use Rattle.frames.specs.Members.{AreAmong};
+ghost use Rattle.frames.specs.Frames.{Frame, FailedName, opened, is_known, has_failed, IsPassedOver, next_place, next_name, after_name, fresh_addresses, after_add};
+ghost use Rattle.frames.specs.Members.{AreAmong, times};
 
 /// What a frame is opened with: addresses and names of the cut, at most 16 of each, no address twice, and
-/// no name of which an address is known.
+/// no name of which an address is known. None is left out: each address of the cut is taken while there are
+/// fewer than 16, and of the first 16 names each is taken or known, by an address of its own that is taken.
 pub fn opened_law()
     ensures addresses { (level : Addr → ℕ) (nesting : ℕ) (c : Cut) (a : Addr) → Contains (opened level nesting c).addresses a → (s : ServerAddress) × Contains c.addresses s × (s.address ≡ a) }
     ensures names { (level : Addr → ℕ) (nesting : ℕ) (c : Cut) (n : Name) → Contains (opened level nesting c).names n → Contains c.names n × (is_known c n ≡ false) }
     ensures few_addresses { (level : Addr → ℕ) (nesting : ℕ) (c : Cut) → length (opened level nesting c).addresses ≤ 16 }
     ensures few_names { (level : Addr → ℕ) (nesting : ℕ) (c : Cut) → length (opened level nesting c).names ≤ 16 }
     ensures once { (level : Addr → ℕ) (nesting : ℕ) (c : Cut) → IsDistinct same_addr (opened level nesting c).addresses }
+    ensures all_addresses { (level : Addr → ℕ) (nesting : ℕ) (c : Cut) (s : ServerAddress) → Contains c.addresses s → Contains (opened level nesting c).addresses s.address ⊎ (length (opened level nesting c).addresses ≡ 16) }
+    ensures all_names { (level : Addr → ℕ) (nesting : ℕ) (c : Cut) (n : Name) → Contains (take 16 c.names) n → Contains (opened level nesting c).names n ⊎ (is_known c n ≡ true) }
+    ensures known { (level : Addr → ℕ) (nesting : ℕ) (c : Cut) (n : Name) → is_known c n ≡ true → (s : ServerAddress) × Contains c.addresses s × (s.name ≡ n) × Contains (opened level nesting c).addresses s.address }
 {}
 
-/// A plan asks only the addresses that it was made of, and by penalties no address is left out.
+/// A plan asks only the addresses that it was made of, and by penalties no address is left out. One whose
+/// penalty is at most 8 is in it, and in its two rounds twice as often as it was given; where all penalties
+/// are at most 8, the plan is the order by penalties.
 pub fn order_law()
     ensures planned { (level : Addr → ℕ) (given : List Addr) → AreAmong (planned level given).order given }
     ensures members { (level : Addr → ℕ) (given order : List Addr) → IsByPenalty level given order → HasSame given order }
+    ensures complete { (level : Addr → ℕ) (given : List Addr) (a : Addr) → Contains given a → level a ≤ 8 → Contains (planned level given).order a }
+    ensures twice { (level : Addr → ℕ) (given : List Addr) (a : Addr) → level a ≤ 8 → times a ((planned level given).order ++ (planned level given).order) ≡ 2 * times a given }
+    ensures whole { (level : Addr → ℕ) (given : List Addr) → ((a : Addr) → Contains given a → level a ≤ 8) → IsByPenalty level given (planned level given).order }
 {}
 
 /// A name that is looked up is one of the frame's, is not at or under the zone, did not fail at its nesting
-/// or a lesser one, and is no deeper than 3; its turn is over afterwards.
+/// or a lesser one, and is no deeper than 3; its turn is over afterwards. A name before it that had no turn,
+/// and each that is left where none is looked up, is passed over for one of these reasons.
 pub fn next_name_law()
     ensures member { (fs : List FailedName) (f : Frame) (n : Name) → next_name fs f ≡ Some n → Contains f.names n }
     ensures outside { (fs : List FailedName) (f : Frame) (n : Name) → next_name fs f ≡ Some n → IsAtOrUnder n f.zone → ⊥ }
     ensures shallow { (fs : List FailedName) (f : Frame) (n : Name) → next_name fs f ≡ Some n → f.nesting < 3 }
     ensures untried { (fs : List FailedName) (f : Frame) (n : Name) → next_name fs f ≡ Some n → has_failed fs n (f.nesting + 1) ≡ false }
+    ensures passed { (fs : List FailedName) (f : Frame) (n : Name) → Contains (take (next_place fs f) f.names) n → Contains (take f.tried f.names) n ⊎ IsPassedOver fs f n }
+    ensures spent { (fs : List FailedName) (f : Frame) (n : Name) → next_name fs f ≡ None → Contains (drop f.tried f.names) n → IsPassedOver fs f n }
     ensures turn { (fs : List FailedName) (f : Frame) (n : Name) → next_name fs f ≡ Some n → (f.tried ≤ next_place fs f) × ((after_name fs f).tried ≡ next_place fs f + 1) }
 {}
 

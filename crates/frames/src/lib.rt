@@ -11,3 +11,6 @@ mod taken;
 pub use failed::Failed;
 pub use frame::Frame;
 pub use laws::{added_law, next_name_law, opened_law, order_law};
+
+#[cfg(test)]
+mod tests;

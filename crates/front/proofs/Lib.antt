@@ -3,3 +3,4 @@ pub mod Limits
 pub mod Following
 pub mod Single
 pub mod Short
+pub mod Echoes

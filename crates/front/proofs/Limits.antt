@@ -1,7 +1,7 @@
 -- Which reply goes out, by the length of the whole one.
-use Rattle.std.proofs.Common.{◌≡◌, ◌∙◌, sym, ap, subst, ℕ, ◌<◌, ◌≤◌, nat_lt, false, if◌then◌else◌, Option, Some, [], ◌∷◌, length, refl}
+use Rattle.std.proofs.Common.{◌≡◌, ◌∙◌, sym, ap, subst, ℕ, ◌<◌, ◌≤◌, nat_lt, false, if◌then◌else◌, Option, Some, List, [], ◌∷◌, length, refl}
 use Rattle.std.proofs.lemmas.Bool.{lt-ltb, le-ltb}
-use Rattle.layout.specs.Messages.{Message, encoding}
+use Rattle.layout.specs.Messages.{Message, IsMessage, encoding, folded_message}
 use Rattle.authority.specs.declared.cause.Cause.{Cause}
 use Rattle.authority.specs.declared.cause.Cause.TheVariants.{Large}
 use Rattle.front.specs.Replies.{whole_reply, cut_reply, bare, failure_of, limit_of, reply_of}
@@ -32,3 +32,10 @@ reply_cut q o m is long = over 512 (length (encoding (whole_reply q o))) _ _ (su
 pub reply_fails : {A : Type 0} (q : Query A) (o : Outcome A) (m : Message) → m ≡ whole_reply q o → 65535 < length (encoding m)
     → reply_of Tcp q o ≡ (bare q.start (q.echo ∷ []) false 2, Some Large)
 reply_fails q o m is long = over 65535 (length (encoding (whole_reply q o))) _ _ (subst (λ (n : Message). 65535 < length (encoding n)) is long)
+
+-- What is read back as a message is read back as the reply, where that message goes out.
+pub reply_read : {A : Type 0} (via way : Via) (q : Query A) (o : Outcome A) (m n : Message) (cause : Option Cause) (bytes : List ℕ) → via ≡ way → reply_of way q o ≡ (n, cause)
+    → m ≡ n → IsMessage bytes (folded_message m) → IsMessage bytes (folded_message (reply_of via q o).0)
+reply_read via way q o m n cause bytes on sent is read =
+    subst (λ (v : Via). IsMessage bytes (folded_message (reply_of v q o).0)) (sym on)
+    (subst (λ (r : Message × Option Cause). IsMessage bytes (folded_message r.0)) (sym sent) (subst (λ (k : Message). IsMessage bytes (folded_message k)) is read))

@@ -1,5 +1,5 @@
 //! Laws of the definitions: what they say is one thing.
-ghost use Rattle.front.specs.Laws.{OneReading, OneLocalAnswer};
+ghost use Rattle.front.specs.Laws.{OneReading, OneLocalAnswer, EchoIsQuestion};
 
 use std::alloc::Allocator;
 
@@ -11,4 +11,10 @@ pub fn reading_is_one<A: Allocator>(_alloc: A)
 /// Local zones give one answer to a query at most.
 pub fn local_answer_is_one<A: Allocator>(_alloc: A)
     ensures { OneLocalAnswer A }
+{}
+
+/// What a query repeats is the question that its bytes ask, in the client's own letters: in lower case its name
+/// is the query's, its type is the query's, and its class is IN.
+pub fn echo_is_question<A: Allocator>(_alloc: A)
+    ensures { EchoIsQuestion A }
 {}

@@ -12,7 +12,7 @@ mod start;
 
 pub use echo::Echo;
 pub use follow::{Step, alias_target, answer_local};
-pub use laws::{local_answer_is_one, reading_is_one};
+pub use laws::{echo_is_question, local_answer_is_one, reading_is_one};
 pub use parts::Parts;
 pub use queries::{Asked, End, Outcome, Query, Refusal};
 pub use read::read_query;

@@ -2,7 +2,7 @@
 ghost use Rattle.std.specs.Prelude.{◌≡◌, false, ◌≤◌, ◌<◌, [], ◌∷◌, IfOk, IfSome, length, option_copied};
 ghost use Rattle.dname.specs.Labels.{wire};
 ghost use Rattle.wire.specs.Drafts.{asked_alone};
-ghost use Rattle.layout.specs.Messages.{encoding};
+ghost use Rattle.layout.specs.Messages.{IsMessage, encoding, folded_message};
 ghost use Rattle.front.specs.Replies.{reply_header, whole_reply, cut_reply, bare, reply_of, limit_of, failure_of, refusal_reply};
 
 use crate::echo::Echo;
@@ -15,7 +15,8 @@ use std::alloc::Allocator;
 use wire::{Header, Via};
 
 /// The bytes of the reply, and the cause of a SERVFAIL. A reply over 512 bytes on UDP keeps header and
-/// question, with TC set; one over 65,535 bytes on TCP is a SERVFAIL.
+/// question, with TC set; one over 65,535 bytes on TCP is a SERVFAIL. The bytes are read back as the reply, its
+/// question in lower case.
 pub fn reply_bytes<A: Heap>(
     alloc: A,
     query: &Query<A>,
@@ -23,6 +24,7 @@ pub fn reply_bytes<A: Heap>(
     via: Via,
 ) -> Result<(Vec<u8, A>, Option<Cause>), Starved>
     ensures bytes { IfOk result (λ r. r.0.items ≡ encoding (reply_of via query.now outcome.now).0) }
+    ensures message { IfOk result (λ r. IsMessage r.0.items (folded_message (reply_of via query.now outcome.now).0)) }
     ensures cause { IfOk result (λ r. r.1 ≡ (reply_of via query.now outcome.now).1) }
     ensures short { IfOk result (λ r. length r.0.items ≤ limit_of via) }
 {
@@ -48,7 +50,7 @@ pub fn reply_bytes<A: Heap>(
 }
 
 /// The bytes of the reply to a query that is refused before it is looked at: header, and the question if it
-/// was read.
+/// was read. They are read back as that reply, its question in lower case.
 pub fn refusal_bytes<A: Heap>(
     alloc: A,
     refusal: Refusal,
@@ -56,6 +58,7 @@ pub fn refusal_bytes<A: Heap>(
     echo: Option<&Echo<A>>,
 ) -> Result<Vec<u8, A>, Starved>
     ensures bytes { IfOk result (λ r. r.items ≡ encoding (refusal_reply refusal start (option_copied echo.entry))) }
+    ensures message { IfOk result (λ r. IsMessage r.items (folded_message (refusal_reply refusal start (option_copied echo.entry)))) }
     ensures short { IfOk result (λ r. length r.items ≤ 512) }
 {
     is_short(echo);
@@ -67,6 +70,7 @@ fn short_bytes<A: Heap>(alloc: A, parts: &Parts<'_, A>, limit: usize) -> Result<
     requires limit { limit ≤ 65535 }
     requires fits { length (encoding parts.now) ≤ limit }
     ensures bytes { IfOk result (λ r. r.items ≡ encoding parts.now) }
+    ensures message { IfOk result (λ r. IsMessage r.items (folded_message parts.now)) }
     ensures short { IfOk result (λ r. length r.items ≤ limit) }
 {
     match parts.encode(alloc, limit)? {

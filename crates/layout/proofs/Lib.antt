@@ -5,3 +5,4 @@ pub mod Written
 pub mod Whole
 pub mod Letters
 pub mod Single
+pub mod Roots

@@ -1,6 +1,7 @@
 -- The laws about messages that the functions of this crate state.
-use Rattle.std.specs.Prelude.{◌≡◌, ℕ, ◌≤◌, List, [], ◌∷◌, ◌++◌, length}
-use Rattle.dname.specs.Labels.{folded_labels, wire}
+use Rattle.std.specs.Prelude.{◌≡◌, ℕ, ◌≤◌, List, [], ◌∷◌, ◌++◌, length, Contains}
+use Rattle.dname.specs.Labels.{root, folded_labels, wire, IsAtOrUnder}
+use Rattle.rdata.specs.Records.{Record}
 use Rattle.layout.specs.Names.{SpeltAt, NameAt}
 use Rattle.layout.specs.Messages.{Question, Message, IsWritable, IsMessage, encoding, folded_message}
 
@@ -40,3 +41,14 @@ LettersStayInQuestion =
 -- Bytes are one message at most.
 abbrev pub OneMessage : Type 0
 OneMessage = (bytes : List ℕ) (m n : Message) → IsMessage bytes m → IsMessage bytes n → m ≡ n
+
+-- Every name that is asked for and every owner of a record ends with the root's label.
+pub record AreUnderRoot (m : Message) : Type 0 where
+  pub questions : (q : Question) → Contains m.questions q → IsAtOrUnder q.name root
+  pub answer : (r : Record) → Contains m.answer r → IsAtOrUnder r.owner root
+  pub authority : (r : Record) → Contains m.authority r → IsAtOrUnder r.owner root
+  pub additional : (r : Record) → Contains m.additional r → IsAtOrUnder r.owner root
+
+-- The names of a message end with the root's label.
+abbrev pub NamesEndInRoot : Type 0
+NamesEndInRoot = (bytes : List ℕ) (m : Message) → IsMessage bytes m → AreUnderRoot m

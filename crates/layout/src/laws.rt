@@ -1,4 +1,4 @@
-ghost use Rattle.layout.specs.Laws.{OneName, OneSpelling, SpellingIsName, NameIsSpelt, EncodingIsMessage, LettersKeepLength, LettersStayInQuestion, OneMessage};
+ghost use Rattle.layout.specs.Laws.{OneName, OneSpelling, SpellingIsName, NameIsSpelt, EncodingIsMessage, LettersKeepLength, LettersStayInQuestion, OneMessage, NamesEndInRoot};
 
 /// At a place of a message stands one name at most (RFC 1035, section 4.1.4).
 pub fn one_name()
@@ -38,4 +38,10 @@ pub fn letters_stay_in_question()
 /// Bytes are one message at most (RFC 1035, section 4).
 pub fn one_message()
     ensures { OneMessage }
+{}
+
+/// In a message each name that is asked for and each owner of a record ends with the root's label (RFC 1035,
+/// section 3.1).
+pub fn names_end_in_root()
+    ensures { NamesEndInRoot }
 {}

@@ -5,6 +5,6 @@
 mod laws;
 
 pub use laws::{
-    encoding_is_message, letters_keep_length, letters_stay_in_question, name_is_spelt, one_message,
-    one_name, one_spelling, spelling_is_name,
+    encoding_is_message, letters_keep_length, letters_stay_in_question, name_is_spelt,
+    names_end_in_root, one_message, one_name, one_spelling, spelling_is_name,
 };

@@ -1,9 +1,10 @@
--- A walk that caps each TTL in its place.
+-- A walk that caps or sets each TTL in its place.
 use Rattle.std.proofs.Common.{◌≡◌, ℕ, ◌+◌, ◌<◌, ◌≤◌, min, List, ◌++◌, length, take, drop, take_all, get_or, slice_set, map, append-nil, ◌∙◌, ap}
 use Rattle.std.proofs.lemmas.List.{drop_all}
 use Rattle.std.proofs.lemmas.List.Edits.{map_over_more}
 use Rattle.rdata.specs.Records.{Record}
 use Rattle.rdata.specs.Caps.{capped}
+use Rattle.rdata.specs.Sets.{with_ttl}
 
 pub cap_more : (most : ℕ) (rs now : List Record) (i ttl : ℕ) (r s : Record) → i < length rs → now ≡ map (capped most) (take i rs) ++ drop i rs → r ≡ get_or now i r → s ≡ r
     → ttl ≡ min s.ttl most → slice_set now i (record { owner = s.owner; ttl = ttl; value = s.value }) ≡ map (capped most) (take (i + 1) rs) ++ drop (i + 1) rs
@@ -14,3 +15,12 @@ pub cap_whole : (most : ℕ) (rs now : List Record) (i : ℕ) → length rs ≤ 
 cap_whole most rs now i le walked =
     walked ∙ (ap (λ (xs : List Record). map (capped most) (take i rs) ++ xs) (drop_all i rs le)
     ∙ (append-nil (map (capped most) (take i rs)) ∙ ap (map (capped most)) (take_all i rs le)))
+
+pub set_more : (ttl : ℕ) (rs now : List Record) (i : ℕ) (r s : Record) → i < length rs → now ≡ map (with_ttl ttl) (take i rs) ++ drop i rs → r ≡ get_or now i r → s ≡ r
+    → slice_set now i (record { owner = s.owner; ttl = ttl; value = s.value }) ≡ map (with_ttl ttl) (take (i + 1) rs) ++ drop (i + 1) rs
+set_more ttl rs now i r s lt walked at_i is = ap (slice_set now i) (ap (with_ttl ttl) is) ∙ map_over_more (with_ttl ttl) rs now i r lt walked at_i
+
+pub set_whole : (ttl : ℕ) (rs now : List Record) (i : ℕ) → length rs ≤ i → now ≡ map (with_ttl ttl) (take i rs) ++ drop i rs → now ≡ map (with_ttl ttl) rs
+set_whole ttl rs now i le walked =
+    walked ∙ (ap (λ (xs : List Record). map (with_ttl ttl) (take i rs) ++ xs) (drop_all i rs le)
+    ∙ (append-nil (map (with_ttl ttl) (take i rs)) ∙ ap (map (with_ttl ttl)) (take_all i rs le)))

@@ -1,5 +1,7 @@
 ghost use Rattle.std.specs.Prelude.{◌≡◌, ◌≤◌, [], ◌∷◌, ◌++◌, length, map, IfOk, OnOk, OnErr, ◌↔◌, IsTrue};
 ghost use Rattle.rdata.specs.Caps.{capped};
+ghost use Rattle.rdata.specs.Records.{greatest_ttl};
+ghost use Rattle.rdata.specs.Sets.{with_ttl};
 
 use crate::data::RData;
 use dname::{Heap, Name, Starved};
@@ -62,6 +64,15 @@ fn cap_all<A: Allocator>(records: &mut [Record<A>], most: u32)
     }
 }
 
+fn set_all<A: Allocator>(records: &mut [Record<A>], ttl: u32)
+    requires { ttl ≤ greatest_ttl }
+    ensures { records.new ≡ map (with_ttl ttl) records.old }
+{
+    for record in records.iter_mut() {
+        record.ttl = ttl;
+    }
+}
+
 /// Records in order. Contracts see their list.
 #[derive(Drop)]
 pub struct Records<A: Allocator = Global> {
@@ -118,6 +129,14 @@ impl<A: Allocator> Records<A> {
         ensures { self.new ≡ map (capped most) self.old }
     {
         cap_all(&mut self.items, most);
+    }
+
+    /// Gives each record this TTL, in seconds.
+    pub fn set_ttl(&mut self, ttl: u32)
+        requires { ttl ≤ greatest_ttl }
+        ensures { self.new ≡ map (with_ttl ttl) self.old }
+    {
+        set_all(&mut self.items, ttl);
     }
 
     /// The records in order.

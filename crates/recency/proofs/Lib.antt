@@ -1,2 +1,4 @@
 pub mod Kept
+pub mod Keys
 pub mod Mapped
+pub mod Places

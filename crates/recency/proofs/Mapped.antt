@@ -1,8 +1,10 @@
 -- What `lru`'s words leave of entries, and of the same entries with other values.
-use Rattle.std.proofs.Common.{◌≡◌, ℕ, ◌-◌, Bool, List, [], ◌∷◌, Option, Some, None, refl, sym, ap, ◌∙◌}
+use Rattle.std.proofs.Common.{◌≡◌, ℕ, suc, ◌-◌, ◌≤◌, Bool, List, [], ◌∷◌, length, Option, Some, None, refl, sym, ap, ◌∙◌, subst}
 use Rattle.std.specs.Prelude.{option_map}
-use Rattle.std.specs.Map.{lookup, remove_entry}
+use Rattle.std.specs.List.{IsDistinct}
+use Rattle.std.specs.Map.{keys_of, lookup, remove_entry}
 use Rattle.std.proofs.lemmas.List.{take-map}
+use Rattle.lru.specs.LruCache.{lru_cache, IsValid}
 use Rattle.recency.proofs.Kept.{by_test, first_of, second_of}
 use Rattle.recency.specs.Orders.{IsExact, kept, kept_from, used, used_from, mapped}
 
@@ -13,6 +15,18 @@ module _ {K V W : Type 0} (f : K → V → W) where
       (λ y. first_of (mapped f es) ((e.0, f e.0 e.1) ∷ remove_entry test (mapped f es)) y ∙ ap (mapped f) (sym (first_of es (e ∷ remove_entry test es) y)))
       (λ n. second_of (mapped f es) ((e.0, f e.0 e.1) ∷ remove_entry test (mapped f es)) n
       ∙ (ap (λ (l : List (K × W)). (e.0, f e.0 e.1) ∷ l) (removed_mapped test es) ∙ ap (mapped f) (sym (second_of es (e ∷ remove_entry test es) n))))
+
+  pub keys_mapped : (es : List (K × V)) → keys_of (mapped f es) ≡ keys_of es
+  keys_mapped [] = refl
+  keys_mapped (e ∷ es) = ap (λ (l : List K). e.0 ∷ l) (keys_mapped es)
+
+  pub length_mapped : (es : List (K × V)) → length (mapped f es) ≡ length es
+  length_mapped [] = refl
+  length_mapped (e ∷ es) = ap suc (length_mapped es)
+
+  -- the same keys, and as many
+  pub valid_mapped : (same : K → K → Bool) (cap : ℕ) (es : List (K × V)) → IsValid same (lru_cache es cap) → IsValid same (lru_cache (mapped f es) cap)
+  valid_mapped same cap es h = (subst (IsDistinct same) (sym (keys_mapped es)) h.0, subst (λ n. n ≤ cap) (sym (length_mapped es)) h.1, h.2)
 
 module _ {K V W : Type 0} (f : K → V → W) (same : K → K → Bool) (x : IsExact same) (k : K) where
   pub looked_mapped : (es : List (K × V)) → lookup (same k) (mapped f es) ≡ option_map (f k) (lookup (same k) es)

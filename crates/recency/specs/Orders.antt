@@ -42,6 +42,11 @@ module _ {K V : Type 0} (same : K → K → Bool) where
   abbrev pub MayGo : ℕ → K → List (K × V) → K × V → Type 0
   MayGo cap k es e = (e.0 ≡ k) ⊎ ((lookup (same k) es ≡ None) × Contains (drop (cap - 1) es) e)
 
+module _ {K V : Type 0} (same : K → K → Bool) where
+  -- The entry of k with the value v stands among the first n.
+  abbrev pub IsWithin : ℕ → K → V → List (K × V) → Type 0
+  IsWithin n k v es = lookup (same k) (take n es) ≡ Some v
+
 module _ {K V W : Type 0} (f : K → V → W) where
   -- The same entries, each with what f makes of its key and its value.
   abbrev pub mapped : List (K × V) → List (K × W)

@@ -4,4 +4,4 @@
 
 mod laws;
 
-pub use laws::{kept_law, mapped_law, removed_law, used_law};
+pub use laws::{kept_law, keys_law, mapped_law, places_law, removed_law, used_law};

@@ -1,5 +1,4 @@
 -- Equality of names is exact.
-use Rattle.std.proofs.Common.{List, ℕ}
 use Rattle.dname.specs.Labels.{same_name}
 use Rattle.dname.specs.Laws.{same_name-exact, same_name-refl}
 use Rattle.recency.specs.Orders.{IsExact}

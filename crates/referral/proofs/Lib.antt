@@ -1,2 +1,5 @@
 pub mod Exact
+pub mod Members
+pub mod Named
+pub mod Shown
 pub mod Steps

@@ -1,11 +1,11 @@
 -- What the steps of a store of cuts leave, and which cut is found.
-use Rattle.std.proofs.Common.{◌≡◌, ◌≢◌, ℕ, zero, suc, ◌+◌, ◌-◌, ◌≤◌, ◌<◌, take, Bool, true, false, cond, nat_eq, ◌⊎◌, inl, inr, List, [], ◌∷◌, ◌++◌, length, Contains, Option, Some, None, refl, sym, ap, ◌∙◌, subst, arith, eqb-true, eq-eqb, ne_eqb, length-append}
+use Rattle.std.proofs.Common.{◌≡◌, ◌≢◌, ℕ, suc, ◌≤◌, Bool, true, false, cond, nat_eq, ◌⊎◌, inl, inr, List, [], ◌∷◌, ◌++◌, length, Contains, Option, Some, None, refl, sym, ap, ◌∙◌, subst, arith, eqb-true, eq-eqb, length-append}
 use Rattle.std.specs.Map.{lookup, remove_entry}
-use Rattle.lru.specs.LruCache.{LruCache, lru_cache, put_entries, promoted}
+use Rattle.lru.specs.LruCache.{LruCache, lru_cache, promoted}
 use Rattle.lru.proofs.CallerLemmas.{Contains-lookup, Contains-remove_entry}
-use Rattle.dname.specs.Labels.{same_name, root, parent_of, AreLabels, IsName, IsAtOrUnder}
-use Rattle.recency.specs.Orders.{kept, used, KeepsOnly, LosesOnly, HasSame, MayGo}
-use Rattle.recency.proofs.Kept.{put_is_kept, promoted_is_used, kept_there, kept_only, kept_gone, removed_gone, used_members}
+use Rattle.dname.specs.Labels.{same_name, root, parent_of, IsName, IsAtOrUnder}
+use Rattle.recency.specs.Orders.{kept, KeepsOnly, LosesOnly, HasSame}
+use Rattle.recency.proofs.Kept.{promoted_is_used, kept_there, kept_only, kept_gone, removed_gone, used_members}
 use Rattle.referral.specs.Cuts.{Cut, Known, is_live, live_from, live_at, under, or_else, nearest, cut_of, moved, after_keep, Lives, IsDeepest, IsBest, IsKept, IsGone}
 use Rattle.referral.proofs.Exact.{same_name_exact}
 
@@ -101,7 +101,7 @@ is_nearest (l ∷ ls) now es = step l ls now es (is_nearest ls now es) (live_at 
     step l ls now es above (Some k) e = nearest_here l ls now es k e
 
 -- what is found is the deepest
-cut_is_best : (q : List (List ℕ)) (now : ℕ) (es : Entries) → IsBest q now es (cut_of (nearest q now es))
+pub cut_is_best : (q : List (List ℕ)) (now : ℕ) (es : Entries) → IsBest q now es (cut_of (nearest q now es))
 unfolding IsNearest
 cut_is_best q now es = by (nearest q now es) (is_nearest q now es)
   where
@@ -111,6 +111,12 @@ cut_is_best q now es = by (nearest q now es) (is_nearest q now es)
 
 pub best_some : (q n : List (List ℕ)) (now : ℕ) (es : Entries) (k : Known) → under n (Some k) ≡ nearest q now es → IsBest q now es (Some k.cut)
 best_some q n now es k found = subst (λ o. IsBest q now es (cut_of o)) (sym found) (cut_is_best q now es)
+
+pub best_over : (q n : List (List ℕ)) (now : ℕ) (es : Entries) (k : Known) → under n (Some k) ≡ nearest q now es → (c : Cut) → c ≡ record { owner = n; names = (k.cut).names; addresses = (k.cut).addresses } → IsAtOrUnder q c.owner
+unfolding IsNearest
+best_over q n now es k found c is =
+    let deepest : IsDeepest q now es n k = subst (IsNearest q now es) (sym found) (is_nearest q now es) in
+    subst (λ (x : Cut). IsAtOrUnder q x.owner) (sym is) deepest.over
 
 pub best_none : (q : List (List ℕ)) (now : ℕ) (es : Entries) → None ≡ nearest q now es → IsBest q now es None
 best_none q now es found = subst (λ o. IsBest q now es (cut_of o)) (sym found) (cut_is_best q now es)
@@ -146,7 +152,7 @@ pub moved_some : (c d : LruCache (List (List ℕ)) Known) (n : List (List ℕ)) 
 moved_some c d n k a found is =
     is ∙ (ap (λ es. lru_cache es c.cap) (promoted_is_used same_name same_name_exact n c.entries) ∙ ap (λ x. lru_cache (moved x c.entries) c.cap) found)
 
-moved_same : (a : Option (List (List ℕ) × Known)) (es : Entries) → HasSame es (moved a es)
+pub moved_same : (a : Option (List (List ℕ) × Known)) (es : Entries) → HasSame es (moved a es)
 moved_same None es = (λ e c. c, λ e c. c)
 moved_same (Some a) es = used_members same_name same_name_exact a.0 es
 
@@ -155,33 +161,25 @@ moved_members c d a e = subst (λ x. HasSame c.entries x.entries) (sym e) (moved
 
 -- ---- cuts that are kept
 
-pub put_kept : (b c d : LruCache (List (List ℕ)) Known) (n : List (List ℕ)) (k : Known) → b ≡ c → n ≡ (k.cut).owner → (k.ttl ≡ 0 → ⊥) → d ≡ lru_cache (put_entries same_name b n k) b.cap
-    → d ≡ lru_cache (after_keep c.cap k c.entries) c.cap
-put_kept b c d n k view name some is =
-    let test : nat_eq k.ttl 0 ≡ false = ne_eqb k.ttl 0 some in
-    is ∙ (ap (λ x. lru_cache (put_entries same_name x n k) x.cap) view ∙ (ap (λ es. lru_cache es c.cap) (put_is_kept same_name same_name_exact n c.cap k c.entries)
-    ∙ (ap (λ x. lru_cache (kept same_name c.cap x k c.entries) c.cap) name
-    ∙ ap (λ x. lru_cache (cond x (remove_entry (same_name (k.cut).owner) c.entries) (kept same_name c.cap (k.cut).owner k c.entries)) c.cap) (sym test))))
-
 module _ (cap : ℕ) (k : Known) (es : Entries) where
   not_zero : nat_eq k.ttl 0 ≡ false → k.ttl ≢ 0
   not_zero e is = let same = eq-eqb k.ttl 0 is in absurd (cc)
 
-  after_only : KeepsOnly es (IsKept k) (after_keep cap k es)
+  pub after_only : KeepsOnly es (IsKept k) (after_keep cap k es)
   after_only e = by (nat_eq k.ttl 0) refl
     where
       by : (b : Bool) → nat_eq k.ttl 0 ≡ b → Contains (cond b (remove_entry (same_name (k.cut).owner) es) (kept same_name cap (k.cut).owner k es)) e → Contains es e ⊎ IsKept k e
       by true z c = inl (Contains-remove_entry (same_name (k.cut).owner) es e c)
       by false z c = elim (kept_only same_name (k.cut).owner cap k es e c) [ inl d ↦ inl d | inr is ↦ inr (is, not_zero z) ]
 
-  after_gone : LosesOnly es (IsGone cap k es) (after_keep cap k es)
+  pub after_gone : LosesOnly es (IsGone cap k es) (after_keep cap k es)
   after_gone e c = by (nat_eq k.ttl 0)
     where
       by : (b : Bool) → Contains (cond b (remove_entry (same_name (k.cut).owner) es) (kept same_name cap (k.cut).owner k es)) e ⊎ IsGone cap k es e
       by true = elim (removed_gone same_name same_name_exact (k.cut).owner es e c) [ inl d ↦ inl d | inr is ↦ inr (inl is) ]
       by false = kept_gone same_name same_name_exact (k.cut).owner cap k es e c
 
-  after_there : k.ttl ≢ 0 → Contains (after_keep cap k es) ((k.cut).owner, k)
+  pub after_there : k.ttl ≢ 0 → Contains (after_keep cap k es) ((k.cut).owner, k)
   after_there some = by (nat_eq k.ttl 0) refl
     where
       by : (b : Bool) → nat_eq k.ttl 0 ≡ b → Contains (cond b (remove_entry (same_name (k.cut).owner) es) (kept same_name cap (k.cut).owner k es)) ((k.cut).owner, k)
@@ -197,15 +195,3 @@ module _ (c d : LruCache (List (List ℕ)) Known) (k : Known) (is : d ≡ lru_ca
 
   pub keep_gone : LosesOnly c.entries (IsGone c.cap k c.entries) d.entries
   keep_gone = subst (λ x. LosesOnly c.entries (IsGone c.cap k c.entries) x.entries) (sym is) (after_gone c.cap k c.entries)
-
--- ---- a new store
-
-none_taken : (m : ℕ) → take m no_entries ≡ no_entries
-none_taken zero = refl
-none_taken (suc m) = refl
-
-pub resized : (c d : LruCache (List (List ℕ)) Known) (most m n : ℕ) → c ≡ lru_cache [] most → d ≡ lru_cache (take m c.entries) m → m ≡ n → d ≡ lru_cache [] n
-resized c d most m n empty is same = is ∙ (ap (λ x. lru_cache (take m x.entries) m) empty ∙ (ap (λ es. lru_cache es m) (none_taken m) ∙ ap (λ k. lru_cache no_entries k) same))
-
-pub never_zero : (n : ℕ) → 0 < n → n ≡ 0 → ⊥
-never_zero n h e = omega arith

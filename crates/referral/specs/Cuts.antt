@@ -1,9 +1,9 @@
 -- Delegations that are kept: which servers are named for a zone and beneath it (RFC 1034, section 5.3.3).
-use Rattle.std.specs.Prelude.{◌≡◌, ◌≢◌, ℕ, ◌-◌, ◌*◌, ◌≤◌, Bool, true, cond, nat_lt, nat_eq, ◌⊎◌, Option, Some, None, List, [], ◌∷◌, length, Contains}
+use Rattle.std.specs.Prelude.{◌≡◌, ◌≢◌, ℕ, ◌-◌, ◌*◌, ◌≤◌, Bool, true, cond, nat_lt, nat_eq, Option, Some, None, List, [], ◌∷◌, length, Contains}
 use Rattle.std.specs.Map.{lookup, remove_entry}
 use Rattle.dname.specs.Labels.{same_name, IsAtOrUnder}
 use Rattle.rdata.specs.declared.addr.Addr.{Addr}
-use Rattle.recency.specs.Orders.{kept, used, MayGo}
+use Rattle.recency.specs.Orders.{kept, used, mapped, MayGo}
 
 -- An address of a server, and the server's name: the root's where the name is not known, as of hints.
 pub record ServerAddress : Type 0 where
@@ -21,6 +21,23 @@ pub record Known : Type 0 where
   pub cut : Cut
   pub ttl : ℕ
   pub since : ℕ
+
+-- A cut as it lies in memory: its owner is the key under which it stands.
+pub record Servers : Type 0 where
+  pub names : List (List (List ℕ))
+  pub addresses : List ServerAddress
+  pub ttl : ℕ
+  pub since : ℕ
+
+abbrev pub known_of : List (List ℕ) → Servers → Known
+known_of n s = record { cut = record { owner = n; names = s.names; addresses = s.addresses }; ttl = s.ttl; since = s.since }
+
+abbrev pub shown : List (List (List ℕ) × Servers) → List (List (List ℕ) × Known)
+shown es = mapped known_of es
+
+-- Each entry stands under the owner of its cut.
+abbrev pub AreNamed : List (List (List ℕ) × Known) → Type 0
+AreNamed es = (e : List (List ℕ) × Known) → Contains es e → (e.1.cut).owner ≡ e.0
 
 abbrev pub as_kept : Cut → ℕ → ℕ → Known
 as_kept c ttl now = record { cut = c; ttl = ttl; since = now }

@@ -1,8 +1,8 @@
-ghost use Rattle.std.specs.Prelude.{◌≡◌};
-ghost use Rattle.referral.specs.Cuts.{is_live};
+ghost use Rattle.std.specs.Prelude.{◌≡◌, List, ℕ, IfOk};
+ghost use Rattle.referral.specs.Cuts.{is_live, as_kept, known_of};
 
 use crate::lists::{Addresses, Names};
-use dname::{Heap, Name};
+use dname::{Heap, Name, Starved};
 use std::alloc::{AllocError, Allocator, Global};
 use std::marker::Model;
 
@@ -34,41 +34,73 @@ impl<A: Heap> Clone for Cut<A> {
     }
 }
 
-/// A cut that is kept.
+/// The servers of a cut that is kept; its name is the key under which they are kept.
 #[derive(Drop)]
-pub struct Known<A: Allocator = Global> {
-    pub cut: Cut<A>,
-    /// Its time to live in seconds, as it was kept.
-    pub ttl: u32,
-    /// The moment since which it is kept, in milliseconds.
-    pub since: u64,
+pub struct Servers<A: Allocator = Global> {
+    names: Names<A>,
+    addresses: Addresses<A>,
+    ttl: u32,
+    since: u64,
 }
 
-impl<A: Allocator> Model for Known<A> {
-    ghost use Rattle.referral.specs.Cuts.{Known as Kept};
+impl<A: Allocator> Model for Servers<A> {
+    ghost use Rattle.referral.specs.Cuts.{Servers as Kept};
 
     ghost Value = { Kept };
 
-    ghost view = { λ k. record { cut = k.cut; ttl = k.ttl; since = k.since } };
+    ghost view = { λ s. record { names = s.names; addresses = s.addresses; ttl = s.ttl; since = s.since } };
 }
 
-impl<A: Heap> Clone for Known<A> {
+impl<A: Heap> Clone for Servers<A> {
     ghost is_clone = { λ x y. y ≡ x };
 
-    fn clone(&self) -> Result<Known<A>, AllocError> {
-        Ok(Known {
-            cut: self.cut.clone()?,
+    fn clone(&self) -> Result<Servers<A>, AllocError> {
+        Ok(Servers {
+            names: self.names.clone()?,
+            addresses: self.addresses.clone()?,
             ttl: self.ttl,
             since: self.since,
         })
     }
 }
 
-impl<A: Allocator> Known<A> {
-    /// Whether it is younger than its time to live at this moment.
-    pub fn is_live(&self, now: u64) -> bool
-        ensures { result ≡ is_live now self.now }
+impl<A: Heap> Servers<A> {
+    // The cut to be kept for so many seconds from the moment `since`, in milliseconds.
+    pub(crate) fn of(cut: &Cut<A>, ttl: u32, since: u64) -> Result<Servers<A>, Starved>
+        ensures { IfOk result (λ s. known_of (cut.now).owner s ≡ as_kept cut.now ttl since) }
+    {
+        Ok(Servers {
+            names: cut.names.clone()?,
+            addresses: cut.addresses.clone()?,
+            ttl,
+            since,
+        })
+    }
+}
+
+impl<A: Allocator> Servers<A> {
+    // Their time to live in seconds.
+    pub(crate) fn ttl(&self) -> u32
+        ensures { result ≡ (self.now).ttl }
+    {
+        self.ttl
+    }
+
+    // Whether they are younger than their time to live at this moment, under any name.
+    pub(crate) fn is_live(&self, now: u64) -> bool
+        ensures { (n : List (List ℕ)) → result ≡ is_live now (known_of n self.now) }
     {
         now.saturating_sub(self.since) < 1_000 * u64::from(self.ttl)
+    }
+
+    // The cut of this name.
+    pub(crate) fn into_cut(self, at: Name<A>) -> Cut<A>
+        ensures { result ≡ (known_of at self).cut }
+    {
+        Cut {
+            at,
+            names: self.names,
+            addresses: self.addresses,
+        }
     }
 }

@@ -1,9 +1,11 @@
-ghost use Rattle.std.specs.Prelude.{◌≡◌, ◌≢◌, ◌<◌, ◌≤◌, [], IfOk, OnOk, OnErr, Contains};
-ghost use Rattle.lru.specs.LruCache.{lru_cache};
+ghost use Rattle.std.specs.Prelude.{◌≡◌, ◌≢◌, [], IfOk, OnOk, OnErr, IfSome, Contains, option_map};
+ghost use Rattle.std.specs.NonZero.{non_zero_usize_get};
+ghost use Rattle.lru.specs.LruCache.{lru_cache, IsValid};
+ghost use Rattle.dname.specs.Labels.{same_name, IsAtOrUnder};
 ghost use Rattle.recency.specs.Orders.{KeepsOnly, LosesOnly, HasSame};
-ghost use Rattle.referral.specs.Cuts.{as_kept, live_at, under, nearest, cut_of, after_best, after_keep, IsBest, IsKept, IsGone};
+ghost use Rattle.referral.specs.Cuts.{as_kept, known_of, AreNamed, live_at, under, nearest, cut_of, after_best, after_keep, IsBest, IsKept, IsGone};
 
-use crate::cut::{Cut, Known};
+use crate::cut::{Cut, Servers};
 use dname::{Heap, Name, Starved};
 use lru::LruCache;
 use std::alloc::{Allocator, Global};
@@ -15,7 +17,7 @@ use std::num::NonZeroUsize;
 /// whose time is over stays until it is replaced or pushed out.
 #[derive(Drop)]
 pub struct Delegations<S: BuildHasher + Drop, A: Allocator = Global> {
-    entries: LruCache<Name<A>, Known<A>, S, A>,
+    entries: LruCache<Name<A>, Servers<A>, S, A>,
 }
 
 impl<S: BuildHasher + Drop, A: Allocator> Model for Delegations<S, A> {
@@ -25,21 +27,29 @@ impl<S: BuildHasher + Drop, A: Allocator> Model for Delegations<S, A> {
 
     ghost Value = { Entries (List (List ℕ)) Kept };
 
-    ghost view = { λ d. d.entries };
+    ghost use Rattle.lru.specs.LruCache.{lru_cache};
+    ghost use Rattle.referral.specs.Cuts.{shown};
+
+    ghost view = { λ d. lru_cache (shown d.entries.entries) d.entries.cap };
 }
 
 impl<S: BuildHasher + Drop, A: Heap> Delegations<S, A> {
-    /// No cuts, with room for `cap` of them, 1 to 1,000,000, which is taken as they come.
-    pub fn new(alloc: A, cap: usize, hasher: S) -> Result<Delegations<S, A>, Starved>
-        requires some { 0 < cap }
-        requires few { cap ≤ 1000000 }
-        ensures { IfOk result (λ d. d ≡ lru_cache [] cap) }
+    /// No cuts, with room for `cap` of them, which is taken as they come.
+    pub fn new(alloc: A, cap: NonZeroUsize, hasher: S) -> Result<Delegations<S, A>, Starved>
+        ensures { IfOk result (λ d. d ≡ lru_cache [] (non_zero_usize_get cap)) }
     {
         let mut entries = LruCache::unbounded_with_hasher(alloc, hasher)?;
-        if let Some(cap) = NonZeroUsize::new(cap) {
-            entries.resize(cap);
-        }
+        entries.resize(cap);
         Ok(Delegations { entries })
+    }
+
+    /// Each entry stands under the owner of its cut, no two under one, and there are no more of them than
+    /// the capacity.
+    pub fn is_well_formed(&self)
+        ensures named { AreNamed self.now.entries }
+        ensures valid { IsValid same_name self.now }
+    {
+        let _ = self.entries.len();
     }
 
     /// Keeps the cut from the moment `now`, in milliseconds, for `ttl` seconds. A cut with TTL 0 is not
@@ -52,25 +62,20 @@ impl<S: BuildHasher + Drop, A: Heap> Delegations<S, A> {
         ensures gone { LosesOnly self.old.entries (IsGone self.old.cap (as_kept cut.now ttl now) self.old.entries) self.new.entries }
     {
         let at = cut.at.clone()?;
-        let known = Known {
-            cut: cut.clone()?,
-            ttl,
-            since: now,
-        };
-        self.store(at, known)?;
+        let servers = Servers::of(cut, ttl, now)?;
+        self.store(at, servers)?;
         Ok(())
     }
 
-    fn store(&mut self, at: Name<A>, known: Known<A>) -> Result<(), Starved>
-        requires { at ≡ (known.cut).owner }
-        ensures ok { OnOk result (self.new ≡ lru_cache (after_keep self.old.cap known self.old.entries) self.old.cap) }
+    fn store(&mut self, at: Name<A>, servers: Servers<A>) -> Result<(), Starved>
+        ensures ok { OnOk result (self.new ≡ lru_cache (after_keep self.old.cap (known_of at servers) self.old.entries) self.old.cap) }
         ensures err { OnErr result (self.new ≡ self.old) }
     {
-        if known.ttl == 0 {
+        if servers.ttl() == 0 {
             drop(self.entries.pop(&at));
             return Ok(());
         }
-        drop(self.entries.put(at, known)?);
+        drop(self.entries.put(at, servers)?);
         Ok(())
     }
 
@@ -81,26 +86,27 @@ impl<S: BuildHasher + Drop, A: Heap> Delegations<S, A> {
         ensures relation { IfOk result (IsBest name.now now self.old.entries) }
         ensures ok { OnOk result (self.new ≡ lru_cache (after_best name.now now self.old.entries) self.old.cap) }
         ensures err { OnErr result (self.new ≡ self.old) }
+        ensures over { IfOk result (λ c. IfSome c (λ k. IsAtOrUnder name.now k.owner)) }
         ensures members { HasSame self.old.entries self.new.entries }
     {
         let mut at = name.clone()?;
         match self.find(&mut at, now)? {
-            Some(known) => {
+            Some(servers) => {
                 self.entries.promote(&at);
-                Ok(Some(known.cut))
+                Ok(Some(servers.into_cut(at)))
             }
             None => Ok(None),
         }
     }
 
-    // The nearest cut that lives; the name becomes the cut's.
-    fn find(&self, at: &mut Name<A>, now: u64) -> Result<Option<Known<A>>, Starved>
-        ensures { IfOk result (λ k. under at.new k ≡ nearest at.old now self.now.entries) }
+    // The servers of the nearest cut that lives; the name becomes the cut's.
+    fn find(&self, at: &mut Name<A>, now: u64) -> Result<Option<Servers<A>>, Starved>
+        ensures { IfOk result (λ s. under at.new (option_map (known_of at.new) s) ≡ nearest at.old now self.now.entries) }
     {
         loop {
             at.is_well_formed();
-            if let Some(known) = self.live_at(at, now)? {
-                return Ok(Some(known));
+            if let Some(servers) = self.live_at(at, now)? {
+                return Ok(Some(servers));
             }
             if !at.ascend() {
                 return Ok(None);
@@ -108,11 +114,11 @@ impl<S: BuildHasher + Drop, A: Heap> Delegations<S, A> {
         }
     }
 
-    fn live_at(&self, at: &Name<A>, now: u64) -> Result<Option<Known<A>>, Starved>
-        ensures { IfOk result (λ k. k ≡ live_at now at.now self.now.entries) }
+    fn live_at(&self, at: &Name<A>, now: u64) -> Result<Option<Servers<A>>, Starved>
+        ensures { IfOk result (λ s. option_map (known_of at.now) s ≡ live_at now at.now self.now.entries) }
     {
         match self.entries.peek(at) {
-            Some(known) if known.is_live(now) => Ok(Some(known.clone()?)),
+            Some(servers) if servers.is_live(now) => Ok(Some(servers.clone()?)),
             _ => Ok(None),
         }
     }

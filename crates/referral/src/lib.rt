@@ -4,11 +4,16 @@
 
 mod cut;
 mod delegations;
+mod laws;
 mod lists;
 
-pub use cut::{Cut, Known};
+pub use cut::Cut;
 pub use delegations::Delegations;
+pub use laws::{members_law, named_law};
 pub use lists::{Addresses, Names, ServerAddress};
+// A crate can name a store in a contract only if the types of its fields are exported.
+#[doc(hidden)]
+pub use cut::Servers;
 
 #[cfg(test)]
 mod tests;

@@ -4,10 +4,15 @@ use lru::DefaultHasher;
 use rdata::Addr;
 use refusing::Refusing;
 use std::hash::BuildHasherDefault;
+use std::num::NonZeroUsize;
 use std::test::Fail;
 
 fn hasher() -> DefaultHasher {
     BuildHasherDefault::new()
+}
+
+fn room(cuts: usize) -> Result<NonZeroUsize, Starved> {
+    NonZeroUsize::new(cuts).ok_or(Starved)
 }
 
 fn name<A: Heap>(alloc: A, text: &str) -> Result<Name<A>, Starved> {
@@ -65,7 +70,7 @@ fn last_byte<A: Heap>(addresses: &[ServerAddress<A>]) -> Option<u8> {
 
 #[test]
 fn the_deepest_live_cut_is_best(rt: HostRuntime) -> Result<(), Fail> {
-    let delegations = Delegations::new(rt.alloc(), 9, hasher())?;
+    let delegations = Delegations::new(rt.alloc(), room(9)?, hasher())?;
     let mut kept = Kept {
         alloc: rt.alloc(),
         delegations,
@@ -83,7 +88,7 @@ fn the_deepest_live_cut_is_best(rt: HostRuntime) -> Result<(), Fail> {
 
 #[test]
 fn ttl_zero_forgets_a_cut(rt: HostRuntime) -> Result<(), Fail> {
-    let delegations = Delegations::new(rt.alloc(), 9, hasher())?;
+    let delegations = Delegations::new(rt.alloc(), room(9)?, hasher())?;
     let mut kept = Kept {
         alloc: rt.alloc(),
         delegations,
@@ -97,7 +102,7 @@ fn ttl_zero_forgets_a_cut(rt: HostRuntime) -> Result<(), Fail> {
 
 #[test]
 fn the_least_used_cut_goes(rt: HostRuntime) -> Result<(), Fail> {
-    let delegations = Delegations::new(rt.alloc(), 2, hasher())?;
+    let delegations = Delegations::new(rt.alloc(), room(2)?, hasher())?;
     let mut kept = Kept {
         alloc: rt.alloc(),
         delegations,
@@ -112,7 +117,7 @@ fn the_least_used_cut_goes(rt: HostRuntime) -> Result<(), Fail> {
 }
 
 fn play<A: Heap>(alloc: A) -> Result<bool, Starved> {
-    let delegations = Delegations::new(alloc, 2, hasher())?;
+    let delegations = Delegations::new(alloc, room(2)?, hasher())?;
     let mut kept = Kept { alloc, delegations };
     kept.keep("example", 1, 60)?;
     Ok(kept.best("www.example", 0)? == Some(1))

@@ -1,25 +1,25 @@
 -- What the work on one query is made of (RFC 1034, section 5.3.3): what the resolver holds, the links that
 -- were taken so far, the searches for servers that are under way, what comes in and what goes out. Moments
 -- are milliseconds, times to live seconds.
-use Rattle.std.specs.Prelude.{◌≡◌, ℕ, ◌+◌, ◌-◌, ◌*◌, ◌/◌, ◌<◌, ◌≤◌, ◌⊎◌, Bool, true, false, nat_le, min, Option, Some, None, List, [], ◌∷◌, ◌++◌, length, map, Contains}
+use Rattle.std.specs.Prelude.{◌≡◌, ℕ, ◌+◌, ◌-◌, ◌*◌, ◌/◌, ◌<◌, Bool, true, false, nat_le, List, [], ◌∷◌, map}
 use Rattle.std.specs.List.{flat_map}
 use Rattle.dname.specs.Labels.{Name, root}
-use Rattle.rdata.specs.Data.{Datum, Ipv4, Ns, Cname, Soa, Ptr, Mx, Txt, Ipv6}
+use Rattle.rdata.specs.Data.{Datum, Ipv4}
 use Rattle.rdata.specs.Records.{Record}
-use Rattle.rdata.specs.Sets.{with_ttl}
 use Rattle.rdata.specs.declared.addr.Addr.{Addr}
 use Rattle.zone.specs.Zones.{Zone}
 use Rattle.zone.specs.Links.{Link, Found, Alias, NoData, NxDomain}
 use Rattle.authority.specs.declared.cause.Cause.{Cause}
 use Rattle.layout.specs.Messages.{Message}
 use Rattle.wire.specs.declared.via.Via.{Via}
-use Rattle.classify.specs.Lifetimes.{received, lifetime_of, longest}
+use Rattle.classify.specs.Lifetimes.{received, lifetime_of, referral_lifetime}
+use Rattle.classify.specs.Targets.{targets_of}
 use Rattle.retry.specs.Penalties.{penalty, answered, timed_out}
 use Rattle.retry.specs.Plans.{advanced, wait_of}
 use Rattle.referral.specs.Cuts.{ServerAddress, Cut, Known}
 use Rattle.referral.specs.Cuts as referral
 use Rattle.cache.specs.Keys.{Key}
-use Rattle.cache.specs.Cached.{Hit}
+use Rattle.cache.specs.Cached.{Hit, retimed}
 use Rattle.cache.specs.Cached as cache
 use Rattle.frames.specs.Frames.{Frame, FailedName}
 
@@ -99,13 +99,6 @@ IsEnding (Alias r) = ⊥
 IsEnding (NoData soa) = Unit {0}
 IsEnding (NxDomain soa) = Unit {0}
 
--- A link with this time to live in all its records.
-abbrev pub retimed : ℕ → Link → Link
-retimed ttl (Found rs) = Found (map (with_ttl ttl) rs)
-retimed ttl (Alias r) = Alias (with_ttl ttl r)
-retimed ttl (NoData soa) = NoData (with_ttl ttl soa)
-retimed ttl (NxDomain soa) = NxDomain (with_ttl ttl soa)
-
 -- A link as it goes out: a local one as it is, others with what is left of their time to live.
 abbrev pub sent_from : ℕ → Origin → Link → Link
 sent_from now Local l = l
@@ -117,14 +110,7 @@ sent now l = sent_from now l.origin l.link
 
 -- ---- cuts: where servers are named
 
--- The targets of NS records, and the IPv4 addresses in records, each with its owner.
-abbrev pub target_names : Datum → List Name
-target_names (Ns n) = n ∷ []
-target_names _ = []
-
-abbrev pub targets_of : List Record → List Name
-targets_of ns = flat_map (λ (r : Record). target_names r.value) ns
-
+-- The IPv4 addresses in records, each with its owner.
 abbrev pub ipv4_of : Datum → List (List ℕ)
 ipv4_of (Ipv4 bytes) = bytes ∷ []
 ipv4_of _ = []
@@ -253,4 +239,4 @@ abbrev pub hit_from : Link → ℕ → Hit
 hit_from l now = cache.as_kept (received l) (lifetime_of (received l)) now
 
 abbrev pub cut_from : Cut → ℕ → ℕ → Known
-cut_from c ttl now = referral.as_kept c (min ttl longest) now
+cut_from c ttl now = referral.as_kept c (referral_lifetime ttl) now

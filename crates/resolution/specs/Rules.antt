@@ -1,7 +1,7 @@
 -- The rules by which a query is resolved (RFC 1034, section 5.3.3), each as one small step over exact values:
 -- how what comes in is taken up (`Enters`), the seven rules (`Rule`), and what goes out where none of them
 -- applies (`Leaves`).
-use Rattle.std.specs.Prelude.{◌≡◌, ◌≢◌, ℕ, zero, suc, ◌+◌, ◌<◌, ◌≤◌, ◌⊎◌, true, false, Option, Some, None, List, [], ◌∷◌, ◌++◌, length, Contains}
+use Rattle.std.specs.Prelude.{◌≡◌, ◌≢◌, ℕ, zero, suc, ◌+◌, ◌<◌, ◌≤◌, ◌⊎◌, Option, Some, None, List, [], ◌∷◌, ◌++◌, length, Contains}
 use Rattle.dname.specs.Labels.{Name, IsName}
 use Rattle.rdata.specs.Records.{Record}
 use Rattle.rdata.specs.declared.addr.Addr.{Addr}
@@ -21,10 +21,10 @@ use Rattle.retry.specs.Plans.{upcoming}
 use Rattle.referral.specs.Cuts.{Cut, Known, IsBest, after_best}
 use Rattle.referral.specs.Cuts as referral
 use Rattle.cache.specs.Keys.{Key}
-use Rattle.cache.specs.Cached.{Hit, answer, hit_of, after_look, IsHeld}
+use Rattle.cache.specs.Cached.{Hit, alone, lent, hit_of, moved, IsHeld}
 use Rattle.cache.specs.Cached as cache
-use Rattle.frames.specs.Frames.{Frame, FailedName, opened, next_name, after_name, after_add, fresh_addresses}
-use Rattle.resolution.specs.Jobs.{Home, Stores, level_of, with_answer, with_timeout, Taken, local_link, kept_link, received_link, IsDead, AreFresh, IsEnding, IsCutOf, IsRootCut, AreAddressesOf, Search, search_at, with_frame, Job, marked, Input, Start, Told, TimedOut, TcpFailed, Next, Ask, AskTcp, Done, Fail, MaySend, asked, asked_again, Task, Seek, Take, Go, Again, Point, point, hit_from, cut_from}
+use Rattle.frames.specs.Frames.{FailedName, opened, next_name, after_name, after_add, fresh_addresses}
+use Rattle.resolution.specs.Jobs.{Home, Stores, level_of, with_answer, with_timeout, Taken, local_link, kept_link, received_link, IsDead, AreFresh, IsEnding, IsCutOf, IsRootCut, AreAddressesOf, Search, search_at, with_frame, Job, marked, Input, Start, Told, TimedOut, TcpFailed, Next, Ask, AskTcp, Done, Fail, MaySend, asked, asked_again, Seek, Take, Go, Again, Point, point, hit_from, cut_from}
 
 -- ---- what is known without asking
 
@@ -38,10 +38,10 @@ IsRemote home n t = ((c : Name) × (ns : List Record) × (glue : List Record) ×
 -- A remote question that the cache answers.
 pub record Hits (home : Home) (now : ℕ) (n : Name) (t : ℕ) (old : Stores) (l : Taken) (hit : Hit) (new : Stores) : Type 0 where
   pub remote : IsRemote home n t
-  pub found : hit_of (answer n t now old.cache) ≡ Some hit
+  pub found : hit_of (lent (alone n t) now old.cache) ≡ Some hit
   pub held : IsHeld n t now old.cache hit
   pub link : l ≡ kept_link n hit
-  pub stores : new ≡ record old { cache = after_look n t now old.cache }
+  pub stores : new ≡ record old { cache = moved (lent (alone n t) now old.cache) old.cache }
 
 -- The zones at hand come first, then the cache.
 pub record Finds (home : Home) (now : ℕ) (n : Name) (t : ℕ) (old : Stores) (l : Taken) (new : Stores) : Type 0 where
@@ -63,7 +63,7 @@ pub record Misses (home : Home) (now : ℕ) (n : Name) (t : ℕ) (old : Stores) 
   pub name : IsName n
   pub what : local.Local
   pub says : Says home n t what
-  pub miss : hit_of (answer n t now old.cache) ≡ None
+  pub miss : hit_of (lent (alone n t) now old.cache) ≡ None
   pub best : Option Cut
   pub is_best : IsBest n now old.delegations best
   pub begins : Begins home n what best c

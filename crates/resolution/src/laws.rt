@@ -1,11 +1,20 @@
 //! Laws of the rules: functions that do nothing, whose clauses are proved.
 
-ghost use Rattle.std.specs.Prelude.{◌≡◌, ℕ, false};
-ghost use Rattle.zone.specs.Links.{Link};
-ghost use Rattle.dname.specs.Labels.{Name};
-ghost use Rattle.resolution.specs.Jobs.{is_dead, received_link};
+ghost use Rattle.resolution.specs.Laws.{RulesEnd, ReceivedServes, AdvancesStop};
+
+/// The rules end: whatever comes in, only so many of them can follow one another before an ask goes out or the
+/// query is over (RFC 1034, section 5.3.3).
+pub fn end_law()
+    ensures { RulesEnd }
+{}
 
 /// What was accepted for a query serves that query, whatever its time to live.
 pub fn received_law()
-    ensures { (n : Name) (l : Link) (since now : ℕ) → is_dead now (received_link n l since) ≡ false }
+    ensures { ReceivedServes }
+{}
+
+/// What a whole call leaves in the stores is among what may stand where memory was wanting on the way: beside
+/// what was accepted nothing is new.
+pub fn stores_law()
+    ensures { AdvancesStop }
 {}

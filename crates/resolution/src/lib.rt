@@ -4,4 +4,4 @@
 
 mod laws;
 
-pub use laws::received_law;
+pub use laws::{end_law, received_law, stores_law};

@@ -8,7 +8,7 @@ use Rattle.lru.proofs.CallerLemmas.{Contains-remove_entry}
 use Rattle.rdata.specs.declared.addr.Addr.{Addr}
 use Rattle.recency.specs.Orders.{kept, kept_from, KeepsOnly, LosesOnly, MayGo}
 use Rattle.recency.proofs.Kept.{put_is_kept, kept_only, kept_gone, set_promoted, removed_gone}
-use Rattle.retry.specs.Penalties.{same_addr, raised, timed_out, answered, answered_from, AreAtMost}
+use Rattle.retry.specs.Penalties.{same_addr, penalty, raised, timed_out, answered, answered_from, AreAtMost}
 use Rattle.retry.proofs.Exact.{same_addr_exact}
 
 pub looked_most : (n : ℕ) (test : Addr → Bool) (es : List (Addr × ℕ)) → AreAtMost n es → unwrap_or (lookup test es) 0 ≤ n
@@ -32,7 +32,7 @@ removed_most n test (e ∷ es) h = by (test e.0) (removed_most n test es h.1)
     by true more = h.1
     by false more = (h.0, more)
 
-kept_most : (n cap p : ℕ) (a : Addr) (es : List (Addr × ℕ)) → p ≤ n → AreAtMost n es → AreAtMost n (kept same_addr cap a p es)
+pub kept_most : (n cap p : ℕ) (a : Addr) (es : List (Addr × ℕ)) → p ≤ n → AreAtMost n es → AreAtMost n (kept same_addr cap a p es)
 kept_most n cap p a es le h = by (lookup (same_addr a) es)
   where
     by : (o : Option ℕ) → AreAtMost n (kept_from same_addr o cap a p es)
@@ -88,7 +88,7 @@ answered_gone_from a es (Some p) e c = elim (removed_gone same_addr same_addr_ex
   | inr is ↦ inr is
 ]
 
-answered_most_from : (a : Addr) (es : List (Addr × ℕ)) (o : Option ℕ) → unwrap_or o 0 ≤ 8 → AreAtMost 8 es → AreAtMost 8 (answered_from o a es)
+pub answered_most_from : (a : Addr) (es : List (Addr × ℕ)) (o : Option ℕ) → unwrap_or o 0 ≤ 8 → AreAtMost 8 es → AreAtMost 8 (answered_from o a es)
 answered_most_from a es None le h = h
 answered_most_from a es (Some p) le h = let half : p / 2 ≤ 8 = omega arith in (half, removed_most 8 (same_addr a) es h)
 
@@ -101,3 +101,14 @@ module _ (c d : LruCache Addr ℕ) (a : Addr) (is : d ≡ lru_cache (answered a 
 
   pub answered_most : AreAtMost 8 c.entries → AreAtMost 8 d.entries
   answered_most h = subst (AreAtMost 8) (sym (ap (λ x. x.entries) is)) (answered_most_from a c.entries (lookup (same_addr a) c.entries) (looked_most 8 (same_addr a) c.entries h) h)
+
+-- ---- penalties stay at most 8
+
+pub level_low : (a : Addr) (es : List (Addr × ℕ)) → AreAtMost 8 es → penalty a es ≤ 8
+level_low a es h = looked_most 8 (same_addr a) es h
+
+pub timed_out_low : (a : Addr) (cap : ℕ) (es : List (Addr × ℕ)) → AreAtMost 8 es → AreAtMost 8 (timed_out a cap es)
+timed_out_low a cap es h = let le : raised a es ≤ 8 = omega arith in kept_most 8 cap (raised a es) a es le h
+
+pub answered_low : (a : Addr) (es : List (Addr × ℕ)) → AreAtMost 8 es → AreAtMost 8 (answered a es)
+answered_low a es h = answered_most_from a es (lookup (same_addr a) es) (level_low a es h) h

@@ -1,12 +1,12 @@
 -- The clock and the site of a run.
-use Rattle.std.proofs.Common.{◌≡◌, ℕ, max, inl, inr, Option, Some, None, List, [], ◌∷◌, refl, sym, ◌∙◌, ap}
+use Rattle.std.proofs.Common.{◌≡◌, ℕ, max, inl, inr, Option, Some, None, List, [], ◌∷◌, ◌∙◌, ap}
 use Rattle.wire.specs.declared.via.Via.{Via}
 use Rattle.front.specs.declared.queries.Asked.{Asked}
 use Rattle.front.specs.declared.queries.Asked.TheVariants as heard
 use Rattle.front.specs.declared.queries.Outcome.{Outcome}
 use Rattle.resolution.specs.Jobs.{Stores, Job, Next, Ask, AskTcp, Done, Fail}
 use Rattle.runs.specs.States.{Event, Client, Datagram, TcpReply, TcpFailed, Tick, Action, Served, Turn, Plain, Asker, Open, Site, State, moment, moved}
-use Rattle.runs.specs.Steps.{Ends, Waits, Comes, IsOpened, at_once, crowded, admitted, Resolves, IsHandled, IsIgnored, Hears, IsLate, IsTicked, IsLeft, IsTurn, Step}
+use Rattle.runs.specs.Steps.{Ends, Waits, Comes, IsOpened, at_once, crowded, admitted, IsHandled, Hears, IsTicked, IsLeft, IsTurn}
 use Rattle.runs.specs.Runs.{Run, clock_of}
 
 -- What a step leaves as it was.

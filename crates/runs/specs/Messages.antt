@@ -1,5 +1,5 @@
 -- Which bytes go out, and which come in for an ask.
-use Rattle.std.specs.Prelude.{◌≡◌, ℕ, ◌+◌, ◌*◌, true, false, Bool, Option, Some, None, List, [], ◌∷◌, ◌++◌, slice_index}
+use Rattle.std.specs.Prelude.{◌≡◌, ℕ, ◌+◌, ◌*◌, true, false, Bool, Option, None, List, [], ◌∷◌, ◌++◌, slice_index}
 use Rattle.dname.specs.Labels.{Name}
 use Rattle.rdata.specs.Records.{Record}
 use Rattle.layout.specs.Messages.{Header, Question, Message, internet, encoding, folded_message, IsMessage}
@@ -13,7 +13,7 @@ use Rattle.front.specs.declared.queries.Outcome.TheVariants.{Answer}
 use Rattle.front.specs.declared.queries.Refusal.{Refusal}
 use Rattle.wire.specs.declared.via.Via.{Via}
 use Rattle.resolution.specs.Jobs.{Origin, Local, Cached, Accepted, Taken, sent}
-use Rattle.runs.specs.States.{Endpoint, endpoint, Event, Client, Datagram, TcpReply, TcpFailed, Tick, Action, Reply, Send, TcpAsk, Plain, Asker, Path, ByUdp, ByTcp, Asking}
+use Rattle.runs.specs.States.{endpoint, Event, Client, Datagram, TcpReply, TcpFailed, Tick, Action, Reply, Send, TcpAsk, Plain, Asker, Path, ByUdp, ByTcp, Asking}
 
 -- The bytes are the one encoding of the message, and are read as it, names in lower case.
 abbrev pub AreWritten : List ℕ → Message → Type 0

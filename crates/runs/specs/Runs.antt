@@ -3,9 +3,7 @@ use Rattle.std.specs.Prelude.{◌≡◌, ◌≢◌, ℕ, ◌+◌, max, ◌⊎◌
 use Rattle.layout.specs.Messages.{Message}
 use Rattle.front.specs.Queries.{IsAsked}
 use Rattle.front.specs.declared.queries.Asked.TheVariants as heard
-use Rattle.front.specs.declared.queries.Query.{Query as Question}
-use Rattle.wire.specs.declared.via.Via.{Via}
-use Rattle.runs.specs.States.{Event, Client, moment, Action, Reply, Send, TcpAsk, MoreDue, Served, Nobody, Own, Query, Turn, Plain, Asker, Asking, Site, State, IsNew}
+use Rattle.runs.specs.States.{Client, moment, Action, Reply, Send, TcpAsk, MoreDue, Served, Nobody, Own, Query, Turn, Plain, Asker, Asking, Site, State, IsNew}
 use Rattle.runs.specs.Messages.{IsSent, Brings}
 use Rattle.runs.specs.Steps.{Step}
 

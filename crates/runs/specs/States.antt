@@ -1,5 +1,5 @@
 -- What the resolver is told and does, and its state between two steps. Moments are milliseconds.
-use Rattle.std.specs.Prelude.{◌≡◌, ◌≢◌, ℕ, ◌+◌, ◌*◌, ◌/◌, ◌%◌, min, max, Bool, false, Option, Some, None, List, [], ◌∷◌, Contains}
+use Rattle.std.specs.Prelude.{◌≡◌, ◌≢◌, ℕ, ◌/◌, ◌%◌, min, max, Bool, Option, List, [], ◌∷◌, Contains}
 use Rattle.dname.specs.Labels.{Name}
 use Rattle.rdata.specs.declared.addr.Addr.{Addr}
 use Rattle.rdata.specs.Types.{type_number}

@@ -12,13 +12,12 @@ use Rattle.front.specs.Queries.{IsAsked}
 use Rattle.front.specs.Chains.{AnswersLocally}
 use Rattle.front.specs.declared.queries.Asked.{Asked}
 use Rattle.front.specs.declared.queries.Asked.TheVariants as heard
-use Rattle.front.specs.declared.queries.Query.{Query as Question}
 use Rattle.front.specs.declared.queries.Outcome.{Outcome}
 use Rattle.front.specs.declared.queries.Outcome.TheVariants as outcome
 use Rattle.resolution.specs.Jobs.{Stores, Job, wait_of_job, Input, Start, Told, TimedOut, Next, Ask, AskTcp, Done, Fail}
 use Rattle.resolution.specs.Jobs as jobs
 use Rattle.resolution.specs.Rules.{Advances, Stops}
-use Rattle.runs.specs.States.{Endpoint, Event, Client, Datagram, TcpReply, TcpFailed, Tick, Action, MoreDue, Served, Nobody, Own, Query, Plain, Asker, asker, recursive, job_for, Path, ByUdp, ByTcp, via_of, Asking, IsFor, Open, open_query, due_moment, AreApart, State, moved, word_of, word_taken, low_half, socket_of, moment}
+use Rattle.runs.specs.States.{Endpoint, Event, Client, Datagram, TcpReply, TcpFailed, Tick, Action, MoreDue, Served, Nobody, Own, Query, Plain, Asker, asker, recursive, job_for, ByUdp, ByTcp, via_of, Asking, IsFor, Open, open_query, due_moment, AreApart, State, moved, word_of, word_taken, low_half, socket_of}
 use Rattle.runs.specs.Messages.{IsSent, Brings, id_in, outcome_of, IsReply, IsRefusal}
 
 -- ---- asks

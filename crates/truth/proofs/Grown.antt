@@ -22,7 +22,7 @@ use Rattle.truth.proofs.Nearest.{in_charge}
 use Rattle.truth.proofs.Referred.{deeper, honest_referral}
 
 -- What the zones at hand give, by kind.
-looked_link : (zs : List Zone) (q : Name) (t : ℕ) (l : Link) → IsLooked zs q t (Linked l) → (z : Zone) × IsInCharge zs q z × IsLink z q t l
+pub looked_link : (zs : List Zone) (q : Name) (t : ℕ) (l : Link) → IsLooked zs q t (Linked l) → (z : Zone) × IsInCharge zs q z × IsLink z q t l
 looked_link zs q t l (inl h) = h
 looked_link zs q t l (inr (none, e)) = cc
 

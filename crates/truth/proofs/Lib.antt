@@ -9,3 +9,4 @@ pub mod Referred
 pub mod Sames
 pub mod Samples
 pub mod SomeTruth
+pub mod Stays

@@ -100,23 +100,11 @@ one_end (NxDomain a) (NxDomain b) rs ss c d xs ys e h m = record {
   authority = moved xs ys (a ∷ []) (b ∷ []) h.2 m.2 e.records;
 }
 
-pub one_whole : (W : World) (q : Name) (t : ℕ) (m n : Message) → IsWorld W → IsWhole W q t m → IsWhole W q t n → IsSameReply m n
+pub one_whole : (W : World) (q : Name) (t : ℕ) (m n : Message) → IsWorld W → (a : IsWhole W q t m) (b : IsWhole W q t n) → IsSameReply W q t m n a b
 one_whole W q t m n w a b =
     let truth : IsSameTruth a.chain a.last b.chain b.last = one_truth W q t a.chain b.chain a.last b.last w a.truth b.truth in
     let end = one_end a.last b.last a.rest b.rest m.header.rcode n.header.rcode m.authority n.authority truth.last a.ends b.ends in
-    record {
-      rcode = end.rcode;
-      chain = a.chain;
-      rest = a.rest;
-      other_chain = b.chain;
-      other_rest = b.rest;
-      answer = a.answer;
-      other_answer = b.answer;
-      aliases = truth.chain;
-      set = end.set;
-      count = end.count;
-      authority = end.authority;
-    }
+    record { rcode = end.rcode; aliases = truth.chain; set = end.set; count = end.count; authority = end.authority }
 
 -- The message of right bytes is whole where it is not cut.
 uncut : (W : World) (q : Name) (t : ℕ) (bytes : List ℕ) (m : Message) → IsRight W q t bytes → IsMessage bytes m → m.header.tc ≡ false → IsWhole W q t m
@@ -126,5 +114,8 @@ uncut W q t bytes m (x, at, asked, inl bare) is tc =
 uncut W q t bytes m (x, at, asked, inr whole) is tc = subst (IsWhole W q t) (message_one bytes x m at is) whole
 
 pub one_reply : (W : World) (q : Name) (t : ℕ) (a b : List ℕ) (m n : Message) → IsWorld W → IsRight W q t a → IsRight W q t b → IsMessage a m → IsMessage b n
-    → m.header.tc ≡ false → n.header.tc ≡ false → IsSameReply m n
-one_reply W q t a b m n w h k is js tm tn = one_whole W q t m n w (uncut W q t a m h is tm) (uncut W q t b n k js tn)
+    → m.header.tc ≡ false → n.header.tc ≡ false → (x : IsWhole W q t m) × (y : IsWhole W q t n) × IsSameReply W q t m n x y
+one_reply W q t a b m n w h k is js tm tn =
+    let x = uncut W q t a m h is tm in
+    let y = uncut W q t b n k js tn in
+    (x, y, one_whole W q t m n w x y)

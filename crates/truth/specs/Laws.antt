@@ -4,16 +4,18 @@ use Rattle.dname.specs.Labels.{Name, IsName}
 use Rattle.rdata.specs.Data.{Cname}
 use Rattle.rdata.specs.Records.{Record}
 use Rattle.zone.specs.Zones.{Zone, IsUncut, cname_type}
-use Rattle.zone.specs.Links.{Link, Found, Alias, NxDomain}
+use Rattle.zone.specs.Links.{Link, Found, Alias, NxDomain, IsLink}
+use Rattle.zone.specs.Ruled.{IsZone}
 use Rattle.zone.specs.Same.{SameLink}
-use Rattle.authority.specs.Catalogs.{IsInCharge}
+use Rattle.zone.specs.Look.{Linked}
+use Rattle.authority.specs.Catalogs.{IsInCharge, IsLooked}
 use Rattle.layout.specs.Messages.{Message, IsMessage}
 use Rattle.truth.specs.Worlds.{Address, World, IsWorld}
 use Rattle.truth.specs.Truths.{IsTrueLink, Leads, Truth, SameList}
-use Rattle.truth.specs.Replies.{IsRight, IsSameReply}
+use Rattle.truth.specs.Replies.{Once, IsWhole, IsRight, IsSameReply}
 use Rattle.truth.specs.Serving.{MayServe}
 use Rattle.truth.specs.Reading.{IsAnswer, IsReferralTo}
-use Rattle.truth.specs.Frames.{MayAsk, IsGood}
+use Rattle.truth.specs.Frames.{AreHeld, MayAsk, IsGood}
 
 -- No cut of the zone in charge of a name stands over the name.
 abbrev pub ChargeIsUncut : Type 0
@@ -56,10 +58,14 @@ CnameIsPlain = (W : World) (q : Name) (c : List Record) (l : Link) → Truth W q
 abbrev pub ChainGrows : Type 0
 ChainGrows = (W : World) (t : ℕ) (from to n : Name) (chain : List Record) (r : Record) → Leads W t from chain to → IsTrueLink W to t (Alias r) → r.value ≡ Cname n → Leads W t from (chain ++ r ∷ []) n
 
--- Two right replies to one question that are not cut are the same.
+-- However two whole replies to one question are read, they say the same.
+abbrev pub OneWhole : Type 0
+OneWhole = (W : World) (q : Name) (t : ℕ) (m n : Message) → IsWorld W → (a : IsWhole W q t m) (b : IsWhole W q t n) → IsSameReply W q t m n a b
+
+-- Two right replies to one question that are not cut are whole, and say the same.
 abbrev pub OneReply : Type 0
 OneReply = (W : World) (q : Name) (t : ℕ) (a b : List ℕ) (m n : Message) → IsWorld W → IsRight W q t a → IsRight W q t b → IsMessage a m → IsMessage b n
-    → m.header.tc ≡ false → n.header.tc ≡ false → IsSameReply m n
+    → m.header.tc ≡ false → n.header.tc ≡ false → (x : IsWhole W q t m) × (y : IsWhole W q t n) × IsSameReply W q t m n x y
 
 -- An honest answer of a server that may be asked is the world's link.
 abbrev pub HonestAnswer : Type 0
@@ -82,3 +88,19 @@ FoundAsAlias = (W : World) (q : Name) (u : ℕ) (set : List Record) (r : Record)
 
 abbrev pub AliasAsFound : Type 0
 AliasAsFound = (W : World) (q : Name) (t : ℕ) (r : Record) → IsWorld W → IsTrueLink W q t (Alias r) → IsTrueLink W q cname_type (Found (r ∷ []))
+
+-- What differs from what is true in TTLs, order and repeats alone is true.
+abbrev pub SameIsTrue : Type 0
+SameIsTrue = (W : World) (q : Name) (t : ℕ) (k l : Link) → SameLink k l → IsTrueLink W q t l → IsTrueLink W q t k
+
+-- What is true stays true under whatever changes TTLs, order and repeats alone.
+abbrev pub StaysTrue : Type 0
+StaysTrue = (change : Link → Link) → ((l : Link) → SameLink (change l) l) → (W : World) (q : Name) (t : ℕ) (l : Link) → IsTrueLink W q t l → IsTrueLink W q t (change l)
+
+-- What a zone finds has each record once, whatever its TTL.
+abbrev pub FoundIsOnce : Type 0
+FoundIsOnce = (z : Zone) (q : Name) (t : ℕ) (set : List Record) → IsZone z → IsLink z q t (Found set) → Once set
+
+-- So has what the zones find that the resolver holds.
+abbrev pub HeldIsOnce : Type 0
+HeldIsOnce = (W : World) (zs : List Zone) (q : Name) (t : ℕ) (set : List Record) → IsWorld W → AreHeld W zs → IsLooked zs q t (Linked (Found set)) → Once set

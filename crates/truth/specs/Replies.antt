@@ -48,17 +48,11 @@ pub record IsWhole (W : World) (q : Name) (t : ℕ) (m : Message) : Type 0 where
 abbrev pub IsRight : World → Name → ℕ → List ℕ → Type 0
 IsRight W q t bytes = (m : Message) × IsMessage bytes m × IsReplyTo q t m × (IsBare m ⊎ IsWhole W q t m)
 
--- The same reply, TTLs aside: the same RCODE, the same aliases in order, the same records behind them, as
--- many and in any order, and the same authority.
-pub record IsSameReply (m n : Message) : Type 0 where
+-- Two whole replies say the same, TTLs aside: the same RCODE, the same aliases one by one in order, the same
+-- records behind them, as many and in any order, and the same authority.
+pub record IsSameReply (W : World) (q : Name) (t : ℕ) (m n : Message) (a : IsWhole W q t m) (b : IsWhole W q t n) : Type 0 where
   pub rcode : m.header.rcode ≡ n.header.rcode
-  pub chain : List Record
-  pub rest : List Record
-  pub other_chain : List Record
-  pub other_rest : List Record
-  pub answer : m.answer ≡ chain ++ rest
-  pub other_answer : n.answer ≡ other_chain ++ other_rest
-  pub aliases : SameList chain other_chain
-  pub set : SameSet rest other_rest
-  pub count : length rest ≡ length other_rest
+  pub aliases : SameList a.chain b.chain
+  pub set : SameSet a.rest b.rest
+  pub count : length a.rest ≡ length b.rest
   pub authority : SameSet m.authority n.authority

@@ -1,7 +1,7 @@
 //! Laws of what is true in a world: functions that do nothing, whose clauses are proved.
 
 ghost use Rattle.truth.specs.FrameLaws.{LocalIsTrue, HintsStart, CutStarts, KeptStarts, KeptBelowStarts, ReferralKept, ReferralStarts, AddressAdds, FrameAsks};
-ghost use Rattle.truth.specs.Laws.{ChargeIsUncut, SomeInCharge, OneInCharge, SomeTrueLink, OneTrueLink, OneTruth, NineHaveNone, CnameIsPlain, ChainGrows, OneReply, HonestAnswer, HonestReferral, ErrorForAll, AliasForAll, FoundAsAlias, AliasAsFound};
+ghost use Rattle.truth.specs.Laws.{ChargeIsUncut, SomeInCharge, OneInCharge, SomeTrueLink, OneTrueLink, OneTruth, NineHaveNone, CnameIsPlain, ChainGrows, OneWhole, OneReply, HonestAnswer, HonestReferral, ErrorForAll, AliasForAll, FoundAsAlias, AliasAsFound, SameIsTrue, StaysTrue, FoundIsOnce, HeldIsOnce};
 ghost use Rattle.truth.specs.Sample.{SampleStands};
 
 /// In a well formed world no cut of the zone in charge of a name stands over it, each name has a zone in
@@ -33,7 +33,20 @@ pub fn chain_law()
 /// are not cut have the same RCODE, the same aliases in order, the same records behind them, as many, and
 /// the same authority, TTLs aside.
 pub fn one_reply_law()
-    ensures { OneReply }
+    ensures whole { OneWhole }
+    ensures reply { OneReply }
+{}
+
+/// What is true stays true where TTLs, order and repeats alone are changed, as by a limit on TTLs or by age.
+pub fn same_law()
+    ensures link { SameIsTrue }
+    ensures change { StaysTrue }
+{}
+
+/// What a zone finds has each record once, TTLs aside, since a set has one TTL (RFC 2181, section 5.2).
+pub fn once_law()
+    ensures found { FoundIsOnce }
+    ensures held { HeldIsOnce }
 {}
 
 /// What a server that may be asked honestly answers is true: the link that its message is taken for is the

@@ -1,10 +1,11 @@
 -- The short reply where the whole one does not fit.
-use Rattle.std.proofs.Common.{rules, ◌∙◌, sym, ap, arith, ◌<◌, ◌≤◌, Option, Some, length}
+use Rattle.std.proofs.Common.{rules, ◌∙◌, sym, ap, refl, arith, ◌<◌, ◌≤◌, Option, Some, length}
 use Rattle.layout.specs.Messages.{Message, encoding}
 use Rattle.authority.specs.declared.cause.Cause.{Cause}
 use Rattle.front.specs.Replies.{reply_of, cut_reply}
 use Rattle.wire.specs.declared.via.Via.{Via}
-use Rattle.front.proofs.Limits.{reply_cut, reply_fails}
+use Rattle.wire.specs.declared.via.Via.TheVariants.{Udp, Tcp}
+use Rattle.front.proofs.Limits.{reply_fits, reply_cut, reply_fails, reply_read}
 use Rattle.front.proofs.Short.{cut_fits, bare_fits}
 use Rattle.front.proofs.reply.reply_bytes.Goals as goal
 
@@ -43,3 +44,29 @@ returns-in_ok-short_bytes-in-None-2-clause-cause g c =
     let long : 65535 < length (encoding c.draft_of-whole.result) = search rules in
     ap (λ (r : Message × Option Cause). r.1) (sym (reply_fails c.args.query.now c.args.outcome.now c.draft_of-whole.result c.draft_of-whole.ensures long))
     ∙ ap (λ (via : Via). (reply_of via c.args.query.now c.args.outcome.now).1) (sym c.in-Tcp.is)
+
+pub returns-in-Some-clause-message : goal.returns-in-Some-clause-message
+returns-in-Some-clause-message g c =
+    let short : length (encoding c.draft_of-whole.result) ≤ 512 = search rules in
+    reply_read c.args.via Udp c.args.query.now c.args.outcome.now c.draft_of-whole.result c.draft_of-whole.result _ _ c.in-Udp.is
+    (reply_fits Udp c.args.query.now c.args.outcome.now c.draft_of-whole.result c.draft_of-whole.ensures short) refl (rw c.in-Some.is at c.in_ok-bytes-in-Udp.ensures.message)
+
+pub returns-in_ok-short_bytes-in-None-clause-message : goal.returns-in_ok-short_bytes-in-None-clause-message
+returns-in_ok-short_bytes-in-None-clause-message g c =
+    let long : 512 < length (encoding c.draft_of-whole.result) = search rules in
+    reply_read c.args.via Udp c.args.query.now c.args.outcome.now c.cut.result _ _ _ c.in-Udp.is
+    (reply_cut c.args.query.now c.args.outcome.now c.draft_of-whole.result c.draft_of-whole.ensures long) (c.cut.ensures ∙ ap cut_reply c.draft_of-whole.ensures)
+    c.in_ok-short_bytes-in-None.ensures.message
+
+pub returns-in-Some-2-clause-message : goal.returns-in-Some-2-clause-message
+returns-in-Some-2-clause-message g c =
+    let short : length (encoding c.draft_of-whole.result) ≤ 65535 = search rules in
+    reply_read c.args.via Tcp c.args.query.now c.args.outcome.now c.draft_of-whole.result c.draft_of-whole.result _ _ c.in-Tcp.is
+    (reply_fits Tcp c.args.query.now c.args.outcome.now c.draft_of-whole.result c.draft_of-whole.ensures short) refl (rw c.in-Some-2.is at c.in_ok-bytes-in-Tcp.ensures.message)
+
+pub returns-in_ok-short_bytes-in-None-2-clause-message : goal.returns-in_ok-short_bytes-in-None-2-clause-message
+returns-in_ok-short_bytes-in-None-2-clause-message g c =
+    let long : 65535 < length (encoding c.draft_of-whole.result) = search rules in
+    reply_read c.args.via Tcp c.args.query.now c.args.outcome.now c.empty_draft-failure.result _ _ _ c.in-Tcp.is
+    (reply_fails c.args.query.now c.args.outcome.now c.draft_of-whole.result c.draft_of-whole.ensures long) c.empty_draft-failure.ensures
+    c.in_ok-short_bytes-in-None-2.ensures.message

@@ -2,6 +2,7 @@ use Rattle.std.proofs.Common.{◌≡◌, sym, ap, ◌∙◌}
 use Rattle.rdata.specs.Types.{type_number}
 use Rattle.cache.specs.Cached.{under, answer}
 use Rattle.cache.proofs.Steps.{hit_is_held, moved_some, moved_none, moved_members}
+use Rattle.cache.proofs.Given.{miss_is_missed}
 use Rattle.cache.proofs.Unpacked.{promoted_shows}
 use Rattle.cache.proofs.cache.Cache.look.Goals as goal
 use Rattle.cache.proofs.cache.Cache.look.Goals.{then-is_some, else-is_some}
@@ -11,6 +12,12 @@ returns-clause-held g c =
     let found : under c.find.new.key c.in_ok-hit.hit ≡ answer c.args.name.now (type_number c.args.kind) c.args.now c.args.self.now.entries =
     c.in_ok-hit.ensures ∙ ap (λ q. answer q (type_number c.args.kind) c.args.now c.args.self.now.entries) c.in_ok-clone.ensures.cases in
     hit_is_held c.args.name.now (type_number c.args.kind) c.args.now c.args.self.now.entries c.find.new.key c.in_ok-hit.hit found
+
+pub returns-clause-missed : goal.returns-clause-missed
+returns-clause-missed g c =
+    let found : under c.find.new.key c.in_ok-hit.hit ≡ answer c.args.name.now (type_number c.args.kind) c.args.now c.args.self.now.entries =
+    c.in_ok-hit.ensures ∙ ap (λ q. answer q (type_number c.args.kind) c.args.now c.args.self.now.entries) c.in_ok-clone.ensures.cases in
+    miss_is_missed c.args.name.now (type_number c.args.kind) c.args.now c.args.self.now.entries c.find.new.key c.in_ok-hit.hit found
 
 pub returns-clause-ok : goal.returns-clause-ok
 returns-clause-ok g c =

@@ -1,4 +1,4 @@
-use Rattle.std.proofs.Common.{IfSome, Contains, ap, subst}
+use Rattle.std.proofs.Common.{IfSome, Contains, subst}
 use Rattle.frames.proofs.Steps.{next_member}
 use Rattle.frames.proofs.frame.Frame.next_address.Goals as goal
 

@@ -1,4 +1,4 @@
-use Rattle.std.proofs.Common.{rules, ◌≡◌}
+use Rattle.std.proofs.Common.{rules}
 use Rattle.referral.specs.Cuts.{as_kept}
 use Rattle.referral.proofs.Steps.{keep_there, keep_only, keep_gone}
 use Rattle.referral.proofs.delegations.Delegations.keep.Goals as goal

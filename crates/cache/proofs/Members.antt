@@ -1,0 +1,26 @@
+-- Which entries a look-up and a keep leave, over plain lists.
+use Rattle.std.proofs.Common.{◌≡◌, ◌≢◌, ℕ, List, Contains, Option, Some, None, subst}
+use Rattle.recency.specs.Orders.{KeepsOnly, LosesOnly, HasSame}
+use Rattle.cache.specs.Keys.{Key, key_for}
+use Rattle.cache.specs.Cached.{Hit, answer, hit_of, after_look, after_keep, IsKept, IsGone, IsHeld}
+use Rattle.cache.proofs.Steps.{AreHeld, answers_held, moved_same, after_there, after_only, after_gone}
+
+pub looked_members : (q : List (List ℕ)) (t now : ℕ) (es : List (Key × Hit)) → HasSame es (after_look q t now es)
+looked_members q t now es = moved_same (answer q t now es) es
+
+pub kept_members : (cap : ℕ) (q : List (List ℕ)) (t : ℕ) (h : Hit) (es : List (Key × Hit)) → KeepsOnly es (IsKept q t h) (after_keep cap q t h es)
+kept_members cap q t h es = after_only cap q t h es
+
+pub kept_is_there : (cap : ℕ) (q : List (List ℕ)) (t : ℕ) (h : Hit) (es : List (Key × Hit)) → h.ttl ≢ 0 → Contains (after_keep cap q t h es) (key_for q t h.link, h)
+kept_is_there cap q t h es = after_there cap q t h es
+
+pub lost_members : (cap : ℕ) (q : List (List ℕ)) (t : ℕ) (h : Hit) (es : List (Key × Hit)) → LosesOnly es (IsGone cap q t h es) (after_keep cap q t h es)
+lost_members cap q t h es = after_gone cap q t h es
+
+-- what is given is there and lives
+pub given_held : (q : List (List ℕ)) (t now : ℕ) (es : List (Key × Hit)) (h : Hit) → hit_of (answer q t now es) ≡ Some h → IsHeld q t now es h
+given_held q t now es h is = by (answer q t now es) (answers_held q t now es) is
+  where
+    by : (a : Option (Key × Hit)) → AreHeld q t now es a → hit_of a ≡ Some h → IsHeld q t now es h
+    by None held e = cc
+    by (Some a) held e = let same : a.1 ≡ h = cc in subst (IsHeld q t now es) same held

@@ -1,0 +1,25 @@
+-- The laws of members that the functions of this crate state: which entries a look-up and a keep leave.
+use Rattle.std.specs.Prelude.{◌≡◌, ◌≢◌, ℕ, List, Some, Contains}
+use Rattle.recency.specs.Orders.{KeepsOnly, LosesOnly, HasSame}
+use Rattle.cache.specs.Keys.{Key, key_for}
+use Rattle.cache.specs.Cached.{Hit, answer, hit_of, after_look, after_keep, IsKept, IsGone, IsHeld}
+
+-- A look-up brings nothing and takes nothing.
+abbrev pub LookKeepsMembers : Type 0
+LookKeepsMembers = (q : List (List ℕ)) (t now : ℕ) (es : List (Key × Hit)) → HasSame es (after_look q t now es)
+
+-- What is new after a keep is the entry of the link that is kept.
+abbrev pub KeepBringsOne : Type 0
+KeepBringsOne = (cap : ℕ) (q : List (List ℕ)) (t : ℕ) (h : Hit) (es : List (Key × Hit)) → KeepsOnly es (IsKept q t h) (after_keep cap q t h es)
+
+-- That entry is there, unless its TTL is 0.
+abbrev pub KeptIsThere : Type 0
+KeptIsThere = (cap : ℕ) (q : List (List ℕ)) (t : ℕ) (h : Hit) (es : List (Key × Hit)) → h.ttl ≢ 0 → Contains (after_keep cap q t h es) (key_for q t h.link, h)
+
+-- What goes with a keep: the old entry of the key, the name's error, and what stood past the capacity.
+abbrev pub KeepLosesFew : Type 0
+KeepLosesFew = (cap : ℕ) (q : List (List ℕ)) (t : ℕ) (h : Hit) (es : List (Key × Hit)) → LosesOnly es (IsGone cap q t h es) (after_keep cap q t h es)
+
+-- What is given is held.
+abbrev pub GivenIsHeld : Type 0
+GivenIsHeld = (q : List (List ℕ)) (t now : ℕ) (es : List (Key × Hit)) (h : Hit) → hit_of (answer q t now es) ≡ Some h → IsHeld q t now es h

@@ -1,0 +1,22 @@
+-- The names that NS records give for servers.
+use Rattle.std.specs.Prelude.{Bool, List, [], ◌∷◌}
+use Rattle.std.specs.List.{list_any, flat_map}
+use Rattle.dname.specs.Labels.{Name, same_name}
+use Rattle.rdata.specs.Data.{Datum, Ipv4, Ns, Cname, Soa, Ptr, Mx, Txt, Ipv6}
+use Rattle.rdata.specs.Records.{Record}
+
+abbrev pub target_of : Datum → List Name
+target_of (Ipv4 a) = []
+target_of (Ns target) = target ∷ []
+target_of (Cname target) = []
+target_of (Soa s) = []
+target_of (Ptr target) = []
+target_of (Mx p target) = []
+target_of (Txt ts) = []
+target_of (Ipv6 a) = []
+
+abbrev pub targets_of : List Record → List Name
+targets_of rs = flat_map (λ (r : Record). target_of r.value) rs
+
+abbrev pub is_one_of : Name → List Name → Bool
+is_one_of n targets = list_any (λ (m : Name). same_name m n) targets

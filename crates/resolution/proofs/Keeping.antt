@@ -1,0 +1,147 @@
+-- What one call may bring into the stores: what was accepted, and nothing else.
+use Rattle.std.proofs.Common.{◌≡◌, ℕ, zero, suc, inl, inr, ◌⊎◌, List, [], ◌∷◌, refl, sym, ap, subst}
+use Rattle.std.specs.Prelude.{Contains}
+use Rattle.dname.specs.Labels.{Name}
+use Rattle.rdata.specs.declared.addr.Addr.{Addr}
+use Rattle.zone.specs.Links.{Link}
+use Rattle.layout.specs.Messages.{Message}
+use Rattle.wire.specs.declared.via.Via.{Via}
+use Rattle.classify.specs.Classes as class
+use Rattle.classify.specs.Classes.{class_of}
+use Rattle.recency.specs.Orders.{KeepsOnly, HasSame}
+use Rattle.referral.specs.Cuts.{Cut}
+use Rattle.referral.proofs.Members as cuts
+use Rattle.cache.specs.Cached.{Hit}
+use Rattle.cache.proofs.Members as cache
+use Rattle.resolution.specs.Jobs.{Home, Stores, with_answer, Taken, Search, Job, Input, Start, Told, TimedOut, TcpFailed, Next, Point, hit_from, cut_from}
+use Rattle.resolution.specs.Rules.{Finds, Hits, Misses, Rule, takes, asks, follows, restarts, hears, descends, gives_up, Rules, Learnt, ByClass, Enters, Leaves, sends, sends_again, refuses, spent, nowhere, too_long, done, Advances, IsTakenEntry, IsTakenCut, Stops}
+
+still_only : {X : Type 0} (old mid new : List X) (P : X → Type 0) → KeepsOnly old P mid → HasSame mid new → KeepsOnly old P new
+still_only old mid new P keeps same x m = keeps x (same.0 x m)
+
+module _ (input : Input) (now : ℕ) (j : Job) (stores : Stores) where
+  same_stops : (mid new : Stores) → new ≡ mid → Stops input now j stores mid → Stops input now j stores new
+  same_stops mid new is h = subst (Stops input now j stores) (sym is) h
+
+  finds_stops : (home : Home) (n : Name) (t : ℕ) (mid : Stores) (l : Taken) (new : Stores) → Finds home now n t mid l new → Stops input now j stores mid → Stops input now j stores new
+  finds_stops home n t mid l new finds h = elim finds.is as (λ x. Stops input now j stores new) [ inl x ↦ same_stops mid new x.3 h | inr x ↦ hit x.0 x.1 ]
+    where
+      hit : (e : Hit) → Hits home now n t mid l e new → Stops input now j stores new
+      hit e x = subst (Stops input now j stores) (sym x.stores) (record {
+        cache = still_only stores.cache mid.cache _ _ h.cache (cache.looked_members n t now mid.cache);
+        delegations = h.delegations;
+        penalties = h.penalties;
+        cache_cap = h.cache_cap;
+        delegations_cap = h.delegations_cap;
+        penalties_cap = h.penalties_cap;
+      })
+
+  misses_stops : (home : Home) (n : Name) (t : ℕ) (mid : Stores) (c : Cut) (new : Stores) → Misses home now n t mid c new → Stops input now j stores mid → Stops input now j stores new
+  misses_stops home n t mid c new misses h = subst (Stops input now j stores) (sym misses.stores) (record {
+    cache = h.cache;
+    delegations = still_only stores.delegations mid.delegations _ _ h.delegations (cuts.looked_members n now mid.delegations);
+    penalties = h.penalties;
+    cache_cap = h.cache_cap;
+    delegations_cap = h.delegations_cap;
+    penalties_cap = h.penalties_cap;
+  })
+
+  rule_stops : (home : Home) (a b : Point) → Rule home now a b → Stops input now j stores a.stores → Stops input now j stores b.stores
+  rule_stops home a b (takes l at finds to job) h = finds_stops home _ _ a.stores l b.stores finds h
+  rule_stops home a b (asks c at misses to job) h = misses_stops home _ _ a.stores c b.stores misses h
+  rule_stops home a b (follows l r at alias few to job is) h = same_stops a.stores b.stores is h
+  rule_stops home a b (restarts l d front back at ending split alive dead to job is) h = same_stops a.stores b.stores is h
+  rule_stops home a b (hears before after rest n l marks at turn finds heard to job) h = finds_stops home _ _ a.stores l b.stores finds h
+  rule_stops home a b (descends s rest n c at turn misses to job) h = misses_stops home _ _ a.stores c b.stores misses h
+  rule_stops home a b (gives_up s around rest at up to job is) h = same_stops a.stores b.stores is h
+
+  rules_stop : (home : Home) (n : ℕ) (a b : Point) → Rules home now n a b → Stops input now j stores a.stores → Stops input now j stores b.stores
+  rules_stop home zero a b is h = same_stops a.stores b.stores (ap (λ (p : Point). p.stores) is) h
+  rules_stop home (suc n) a b (mid, rules, rule) h = rule_stops home mid b rule (rules_stop home n a mid rules h)
+
+  leaves_stop : (home : Home) (p : Point) (next : Next) (job : Job) (after : Stores) → Leaves home now p next job after → Stops input now j stores p.stores → Stops input now j stores after
+  leaves_stop home p next job after (sends server s rest due may next_is job_is is) h = same_stops p.stores after is h
+  leaves_stop home p next job after (sends_again server s rest due may next_is job_is is) h = same_stops p.stores after is h
+  leaves_stop home p next job after (refuses c server s rest due refused next_is is) h = same_stops p.stores after is h
+  leaves_stop home p next job after (spent s at up next_is is) h = same_stops p.stores after is h
+  leaves_stop home p next job after (nowhere at free next_is is) h = same_stops p.stores after is h
+  leaves_stop home p next job after (too_long l r at alias many next_is is) h = same_stops p.stores after is h
+  leaves_stop home p next job after (done l at ending fresh next_is is) h = same_stops p.stores after is h
+
+-- What comes in.
+module _ (now : ℕ) (j : Job) (stores : Stores) where
+  answer_stops : (server : Addr) (via : Via) (m : Message) → Stops (Told via server m) now j stores (with_answer stores server)
+  answer_stops server via m = record {
+    cache = λ e there. inl there;
+    delegations = λ e there. inl there;
+    penalties = inr (server, refl, inl refl);
+    cache_cap = refl;
+    delegations_cap = refl;
+    penalties_cap = refl;
+  }
+
+  learnt_stops : (server : Addr) (via : Via) (m : Message) (s : Search) (rest : List Search) (l : Link) (new : Stores) → j.searches ≡ s ∷ rest
+      → class_of (s.frame).zone s.name s.kind via m ≡ class.Answer l → Learnt now s l (with_answer stores server) new → Stops (Told via server m) now j stores new
+  learnt_stops server via m s rest l new searches is learnt = subst (Stops (Told via server m) now j stores) (sym learnt.stores) (record {
+    cache = λ e there. elim (cache.kept_members stores.cache_cap s.name s.kind (hit_from l now) stores.cache e there) as (λ x. Contains stores.cache e ⊎ IsTakenEntry j (Told via server m) now e) [
+      | inl old ↦ inl old
+      | inr kept ↦ inr (s, l, ((rest, searches), is), kept)
+    ];
+    delegations = λ e there. inl there;
+    penalties = inr (server, refl, inl refl);
+    cache_cap = refl;
+    delegations_cap = refl;
+    penalties_cap = refl;
+  })
+
+  class_stops : (server : Addr) (via : Via) (m : Message) (s : Search) (rest : List Search) (c : class.Class) (p : Point) → j.searches ≡ s ∷ rest
+      → class_of (s.frame).zone s.name s.kind via m ≡ c → ByClass now server s rest c j (with_answer stores server) p → Stops (Told via server m) now j stores p.stores
+  class_stops server via m s [] (class.Answer l) p searches is (task, job, learnt) = learnt_stops server via m s [] l p.stores searches is learnt
+  class_stops server via m s (around ∷ rest) (class.Answer l) p searches is (after, marks, task, learnt, heard, job) = learnt_stops server via m s (around ∷ rest) l p.stores searches is learnt
+  class_stops server via m s rest (class.Referral at ns glue ttl) p searches is refers = subst (Stops (Told via server m) now j stores) (sym refers.stored) (record {
+    cache = λ e there. inl there;
+    delegations = λ e there. elim (cuts.kept_members stores.delegations_cap (cut_from refers.cut ttl now) stores.delegations e there) as (λ x. Contains stores.delegations e ⊎ IsTakenCut j (Told via server m) now e) [
+      | inl old ↦ inl old
+      | inr kept ↦ inr (s, at, ns, glue, ttl, refers.cut, ((rest, searches), is), refers.is_cut, kept)
+    ];
+    penalties = inr (server, refl, inl refl);
+    cache_cap = refl;
+    delegations_cap = refl;
+    penalties_cap = refl;
+  })
+  class_stops server via m s rest class.Cut p searches is same = subst (Stops (Told via server m) now j stores) (sym (ap (λ (x : Point). x.stores) same)) (answer_stops server via m)
+  class_stops server via m s rest (class.Failed f) p searches is same = subst (Stops (Told via server m) now j stores) (sym (ap (λ (x : Point). x.stores) same)) (answer_stops server via m)
+
+  pub enters_stop : (input : Input) (p : Point) → Enters now input j stores p → Stops input now j stores p.stores
+  enters_stop Start p is = subst (Stops Start now j stores) (sym (ap (λ (x : Point). x.stores) is)) (record {
+    cache = λ e there. inl there;
+    delegations = λ e there. inl there;
+    penalties = inl refl;
+    cache_cap = refl;
+    delegations_cap = refl;
+    penalties_cap = refl;
+  })
+  enters_stop (Told via server m) p (inl (free, is)) = subst (Stops (Told via server m) now j stores) (sym (ap (λ (x : Point). x.stores) is)) (answer_stops server via m)
+  enters_stop (Told via server m) p (inr (s, rest, searches, by)) = class_stops server via m s rest (class_of (s.frame).zone s.name s.kind via m) p searches refl by
+  enters_stop (TimedOut server) p is = subst (Stops (TimedOut server) now j stores) (sym (ap (λ (x : Point). x.stores) is)) (record {
+    cache = λ e there. inl there;
+    delegations = λ e there. inl there;
+    penalties = inr (server, refl, inr refl);
+    cache_cap = refl;
+    delegations_cap = refl;
+    penalties_cap = refl;
+  })
+  enters_stop (TcpFailed server) p is = subst (Stops (TcpFailed server) now j stores) (sym (ap (λ (x : Point). x.stores) is)) (record {
+    cache = λ e there. inl there;
+    delegations = λ e there. inl there;
+    penalties = inr (server, refl, inr refl);
+    cache_cap = refl;
+    delegations_cap = refl;
+    penalties_cap = refl;
+  })
+
+pub advances_stop : (home : Home) (now : ℕ) (input : Input) (old : Job) (stores : Stores) (next : Next) (new : Job) (after : Stores) → Advances home now input old stores next new after
+    → Stops input now old stores after
+advances_stop home now input old stores next new after h =
+    leaves_stop input now old stores home h.last next new after h.leaves
+    (rules_stop input now old stores home h.count h.first h.last h.rules (enters_stop now old stores input h.first h.enters))

@@ -1,0 +1,20 @@
+-- The laws that the functions of this crate state.
+use Rattle.std.specs.Prelude.{◌≡◌, ℕ, ◌≤◌, false}
+use Rattle.dname.specs.Labels.{Name}
+use Rattle.zone.specs.Links.{Link}
+use Rattle.resolution.specs.Jobs.{Home, Stores, is_dead, received_link, Job, Input, Next, Point}
+use Rattle.resolution.specs.Rules.{Rules, Enters, Advances, Stops}
+
+-- Whatever comes in, only so many rules can follow.
+abbrev pub RulesEnd : Type 0
+RulesEnd = (home : Home) (now : ℕ) (input : Input) (j : Job) (stores : Stores) (first : Point) → Enters now input j stores first
+    → (most : ℕ) × ((n : ℕ) (last : Point) → Rules home now n first last → n ≤ most)
+
+-- What was accepted for a query serves that query, whatever its time to live.
+abbrev pub ReceivedServes : Type 0
+ReceivedServes = (n : Name) (l : Link) (since now : ℕ) → is_dead now (received_link n l since) ≡ false
+
+-- What a whole call leaves is among what may stand where memory was wanting on the way.
+abbrev pub AdvancesStop : Type 0
+AdvancesStop = (home : Home) (now : ℕ) (input : Input) (old : Job) (stores : Stores) (next : Next) (new : Job) (after : Stores) → Advances home now input old stores next new after
+    → Stops input now old stores after

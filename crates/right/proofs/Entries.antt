@@ -1,0 +1,192 @@
+-- Links that are true of a name, in the cache and out of it.
+use Rattle.std.proofs.Common.{◌≡◌, ℕ, Some, None, List, [], ◌∷◌, map, inl, inr, refl, sym, ◌∙◌, ap, subst}
+use Rattle.std.specs.Prelude.{Contains}
+use Rattle.dname.specs.Labels.{Name}
+use Rattle.rdata.specs.Records.{Record}
+use Rattle.rdata.specs.Sets.{with_ttl}
+use Rattle.rdata.specs.Caps.{capped}
+use Rattle.zone.specs.Zones.{Zone, cname_type}
+use Rattle.zone.specs.Links.{Link, Found, Alias, NoData, NxDomain}
+use Rattle.zone.specs.Same.{Same, Has, SameSet, SameLink}
+use Rattle.zone.specs.Look.{Linked}
+use Rattle.zone.proofs.LawLists.{none_in, first_in, map_of, map_in}
+use Rattle.authority.specs.Catalogs.{IsLooked}
+use Rattle.layout.specs.Messages.{Message}
+use Rattle.wire.specs.declared.via.Via.{Via}
+use Rattle.classify.specs.Classes.{Answer, class_of}
+use Rattle.classify.proofs.Uses.{found_once}
+use Rattle.classify.specs.Lifetimes.{longest, received}
+use Rattle.classify.proofs.Shortened.{received_same}
+use Rattle.cache.specs.Keys.{Kind, NameError, Key, key_for}
+use Rattle.cache.specs.Cached.{Hit, after_keep, IsKept, Answers, IsHeld}
+use Rattle.cache.proofs.Members.{kept_members}
+use Rattle.truth.specs.Worlds.{World, IsWorld}
+use Rattle.truth.specs.Truths.{IsTrueLink}
+use Rattle.truth.specs.Replies.{Once}
+use Rattle.truth.specs.Frames.{AreHeld}
+use Rattle.truth.proofs.Entries.{error_for_all, alias_for_all, found_as_alias, alias_as_found}
+use Rattle.truth.proofs.Sames.{same_back, same_on}
+use Rattle.truth.proofs.Grown.{local_is_true}
+use Rattle.truth.proofs.Stays.{same_is_true, held_once}
+use Rattle.cache.specs.Cached.{retimed}
+use Rattle.resolution.specs.Jobs.{Origin, Local, Cached, Accepted, sent_from}
+
+abbrev pub IsOnce : Link → Type 0
+IsOnce (Found set) = Once set
+IsOnce (Alias r) = Unit {0}
+IsOnce (NoData soa) = Unit {0}
+IsOnce (NxDomain soa) = Unit {0}
+
+-- A set that is read from a message has each record once.
+pub class_once : (f q : Name) (t : ℕ) (via : Via) (m : Message) (l : Link) → class_of f q t via m ≡ Answer l → IsOnce l
+class_once f q t via m (Found set) e = found_once f q t m via set e
+class_once f q t via m (Alias r) e = tt
+class_once f q t via m (NoData r) e = tt
+class_once f q t via m (NxDomain r) e = tt
+
+-- The world's link of a question, each record once.
+pub record IsGood (W : World) (n : Name) (t : ℕ) (l : Link) : Type 0 where
+  pub is : IsTrueLink W n t l
+  pub once : IsOnce l
+
+-- ---- other TTLs
+
+module _ (f : Record → Record) (same : (r : Record) → Same (f r) r) where
+  set_mapped : (rs : List Record) → SameSet (map f rs) rs
+  set_mapped rs = (
+    λ r m. let (x, mx, is) = map_of f rs r m in (x, mx, subst (λ (y : Record). Same y x) is (same x)),
+    λ s m. (f s, map_in f rs s m, same_back (f s) s (same s)),
+  )
+
+  has_unmapped : (rs : List Record) (r : Record) → Has (map f rs) (f r) → Has rs r
+  has_unmapped rs r (s, m, is) =
+      let (x, mx, fx) = map_of f rs s m in
+      (x, mx, same_on r (f r) x (same_back (f r) r (same r)) (same_on (f r) s x is (subst (λ (y : Record). Same y x) fx (same x))))
+
+  once_mapped : (rs : List Record) → Once rs → Once (map f rs)
+  once_mapped [] h = tt
+  once_mapped (r ∷ rs) h = (λ has. h.0 (has_unmapped rs r has), once_mapped rs h.1)
+
+  one_mapped : (r : Record) → SameSet (f r ∷ []) (r ∷ [])
+  one_mapped r = set_mapped (r ∷ [])
+
+capped_same : (r : Record) → Same (capped longest r) r
+capped_same r = (refl, refl)
+
+ttl_same : (ttl : ℕ) (r : Record) → Same (with_ttl ttl r) r
+ttl_same ttl r = (refl, refl)
+
+retimed_same : (ttl : ℕ) (l : Link) → SameLink (retimed ttl l) l
+retimed_same ttl (Found rs) = record { kinds = refl; records = set_mapped (with_ttl ttl) (ttl_same ttl) rs }
+retimed_same ttl (Alias r) = record { kinds = refl; records = one_mapped (with_ttl ttl) (ttl_same ttl) r }
+retimed_same ttl (NoData r) = record { kinds = refl; records = one_mapped (with_ttl ttl) (ttl_same ttl) r }
+retimed_same ttl (NxDomain r) = record { kinds = refl; records = one_mapped (with_ttl ttl) (ttl_same ttl) r }
+
+retimed_once : (ttl : ℕ) (l : Link) → IsOnce l → IsOnce (retimed ttl l)
+retimed_once ttl (Found rs) h = once_mapped (with_ttl ttl) (ttl_same ttl) rs h
+retimed_once ttl (Alias r) h = tt
+retimed_once ttl (NoData r) h = tt
+retimed_once ttl (NxDomain r) h = tt
+
+received_once : (l : Link) → IsOnce l → IsOnce (received l)
+received_once (Found rs) h = once_mapped (capped longest) capped_same rs h
+received_once (Alias r) h = tt
+received_once (NoData r) h = tt
+received_once (NxDomain r) h = tt
+
+pub received_good : (W : World) (n : Name) (t : ℕ) (l : Link) → IsGood W n t l → IsGood W n t (received l)
+received_good W n t l h = record { is = same_is_true W n t (received l) l (received_same l) h.is; once = received_once l h.once }
+
+retimed_good : (W : World) (n : Name) (t ttl : ℕ) (l : Link) → IsGood W n t l → IsGood W n t (retimed ttl l)
+retimed_good W n t ttl l h = record { is = same_is_true W n t (retimed ttl l) l (retimed_same ttl l) h.is; once = retimed_once ttl l h.once }
+
+pub sent_good : (W : World) (n : Name) (t now : ℕ) (o : Origin) (l : Link) → IsGood W n t l → IsGood W n t (sent_from now o l)
+sent_good W n t now Local l h = h
+sent_good W n t now (Cached ttl since) l h = retimed_good W n t _ l h
+sent_good W n t now (Accepted ttl since) l h = retimed_good W n t _ l h
+
+-- ---- local links
+
+pub local_good : (W : World) (zs : List Zone) (n : Name) (t : ℕ) (l : Link) → IsWorld W → AreHeld W zs → IsLooked zs n t (Linked l) → IsGood W n t l
+local_good W zs n t l w held looked = record { is = local_is_true W zs n t l w held looked; once = once l looked }
+  where
+    once : (l : Link) → IsLooked zs n t (Linked l) → IsOnce l
+    once (Found set) h = held_once W zs n t set w held h
+    once (Alias r) h = tt
+    once (NoData r) h = tt
+    once (NxDomain r) h = tt
+
+-- ---- entries of the cache
+
+-- A true link under its key.
+abbrev pub IsTrueEntry : World → Key → Link → Type 0
+IsTrueEntry W k l = (n : Name) × (t : ℕ) × (k ≡ key_for n t l) × IsGood W n t l
+
+abbrev pub AreTrueEntries : World → List (Key × Hit) → Type 0
+AreTrueEntries W es = (k : Key) (h : Hit) → Contains es (k, h) → IsTrueEntry W k h.link
+
+pub new_true : (W : World) (q : Name) (t : ℕ) (h : Hit) (k : Key) (e : Hit) → IsGood W q t h.link → IsKept q t h (k, e) → IsTrueEntry W k e.link
+new_true W q t h k e good (is, some) =
+    subst (λ (x : Key × Hit). IsTrueEntry W x.0 (x.1).link) (sym is) (q, t, refl, good)
+
+pub kept_true : (W : World) (cap : ℕ) (q : Name) (t : ℕ) (h : Hit) (es : List (Key × Hit)) → AreTrueEntries W es → IsGood W q t h.link → AreTrueEntries W (after_keep cap q t h es)
+kept_true W cap q t h es all good k e m = elim (kept_members cap q t h es (k, e) m) as (λ x. IsTrueEntry W k e.link) [
+  | inl old ↦ all k e old
+  | inr new ↦ new_true W q t h k e good new
+]
+
+-- What an entry answers is true of the question.
+slot_of : {a b : Key} → a ≡ b → a.slot ≡ b.slot
+slot_of e = ap (λ (k : Key). k.slot) e
+
+name_of : {a b : Key} → a ≡ b → a.name ≡ b.name
+name_of e = ap (λ (k : Key). k.name) e
+
+one_kind : (a b : ℕ) → Kind a ≡ Kind b → a ≡ b
+one_kind a b e = cc
+
+kind_not_error : {P : Type 0} (a : ℕ) → Kind a ≡ NameError → P
+kind_not_error a e = cc
+
+error_not_kind : {P : Type 0} (a : ℕ) → NameError ≡ Kind a → P
+error_not_kind a e = cc
+
+none_not_some : {P X : Type 0} (x : X) → None ≡ Some x → P
+none_not_some x e = cc
+
+some_is : {X : Type 0} {x y : X} → Some x ≡ Some y → x ≡ y
+some_is e = cc
+
+at_question : (W : World) (n q : Name) (u t : ℕ) (l : Link) → n ≡ q → u ≡ t → IsGood W n u l → IsGood W q t l
+at_question W n q u t l same kind h = subst (λ (x : Name). IsGood W x t l) same (subst (λ (v : ℕ). IsGood W n v l) kind h)
+
+module _ (W : World) (w : IsWorld W) (q : Name) (t : ℕ) (k : Key) (given : Link) where
+  answers_true : (e : Link) → IsTrueEntry W k e → Answers q t k e given → IsGood W q t given
+  answers_true (Found rs) (n, u, key, good) (inl (at, is)) = kind_not_error u (slot_of (sym key ∙ at))
+  answers_true (Found rs) (n, u, key, good) (inr (inl (at, is))) =
+      subst (IsGood W q t) (sym is) (at_question W n q u t (Found rs) (name_of (sym key ∙ at)) (one_kind u t (slot_of (sym key ∙ at))) good)
+  answers_true (Found []) (n, u, key, good) (inr (inr (at, other, is))) = none_not_some given is
+  answers_true (Found (r ∷ rs)) (n, u, key, good) (inr (inr (at, other, is))) =
+      let here : IsGood W q cname_type (Found (r ∷ rs)) = at_question W n q u cname_type (Found (r ∷ rs)) (name_of (sym key ∙ at)) (one_kind u cname_type (slot_of (sym key ∙ at))) good in
+      subst (IsGood W q t) (some_is is) (record { is = found_as_alias W q t (r ∷ rs) r w here.is (first_in r rs) other; once = tt })
+  answers_true (Alias r) (n, u, key, good) (inl (at, is)) = kind_not_error cname_type (slot_of (sym key ∙ at))
+  answers_true (Alias r) (n, u, key, good) (inr (inl (at, is))) =
+      let asked : cname_type ≡ t = one_kind cname_type t (slot_of (sym key ∙ at)) in
+      let here : IsGood W q u (Alias r) = at_question W n q u u (Alias r) (name_of (sym key ∙ at)) refl good in
+      let set : IsTrueLink W q t (Found (r ∷ [])) = subst (λ (v : ℕ). IsTrueLink W q v (Found (r ∷ []))) asked (alias_as_found W q u r w here.is) in
+      subst (IsGood W q t) (sym is) (record { is = set; once = ((λ h. none_in h.0 h.1), tt) })
+  answers_true (Alias r) (n, u, key, good) (inr (inr (at, other, is))) =
+      let here : IsGood W q u (Alias r) = at_question W n q u u (Alias r) (name_of (sym key ∙ at)) refl good in
+      subst (IsGood W q t) (some_is is) (record { is = alias_for_all W q u t r w here.is other; once = tt })
+  answers_true (NoData r) (n, u, key, good) (inl (at, is)) = kind_not_error u (slot_of (sym key ∙ at))
+  answers_true (NoData r) (n, u, key, good) (inr (inl (at, is))) =
+      subst (IsGood W q t) (sym is) (at_question W n q u t (NoData r) (name_of (sym key ∙ at)) (one_kind u t (slot_of (sym key ∙ at))) good)
+  answers_true (NoData r) (n, u, key, good) (inr (inr (at, other, is))) = none_not_some given is
+  answers_true (NxDomain r) (n, u, key, good) (inl (at, is)) =
+      let here : IsGood W q u (NxDomain r) = at_question W n q u u (NxDomain r) (name_of (sym key ∙ at)) refl good in
+      subst (IsGood W q t) (sym is) (record { is = error_for_all W q u t r here.is; once = tt })
+  answers_true (NxDomain r) (n, u, key, good) (inr (inl (at, is))) = error_not_kind t (slot_of (sym key ∙ at))
+  answers_true (NxDomain r) (n, u, key, good) (inr (inr (at, other, is))) = error_not_kind cname_type (slot_of (sym key ∙ at))
+
+pub hit_good : (W : World) (q : Name) (t now : ℕ) (es : List (Key × Hit)) (h : Hit) → IsWorld W → AreTrueEntries W es → IsHeld q t now es h → IsGood W q t h.link
+hit_good W q t now es h w all (k, e, there, lives, answers, ttl, since) = answers_true W w q t k h.link e.link (all k e there) answers

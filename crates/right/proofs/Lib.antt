@@ -1,0 +1,9 @@
+pub mod Actions
+pub mod Entries
+pub mod Every
+pub mod Lists
+pub mod Opens
+pub mod Points
+pub mod Replies
+pub mod Servers
+pub mod Sound
