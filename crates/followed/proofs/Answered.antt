@@ -1,7 +1,6 @@
 -- An answer is used at once, an alias stays in the chain, a referral is followed.
 use Rattle.std.proofs.Common.{◌≡◌, ℕ, zero, suc, ◌≤◌, ◌<◌, ◌⊎◌, inl, inr, false, Some, List, [], ◌∷◌, ◌++◌, Contains, refl, sym, ap, ◌∙◌, subst}
 use Rattle.std.proofs.lemmas.List.Elements.{Contains-append_left, Contains-append_right}
-use Rattle.lru.specs.LruCache.{lru_cache}
 use Rattle.lru.proofs.Splits.{Contains-head}
 use Rattle.rdata.specs.Records.{Record}
 use Rattle.rdata.specs.declared.addr.Addr.{Addr}
@@ -9,15 +8,16 @@ use Rattle.zone.specs.Links.{Link, Found, Alias, NoData, NxDomain}
 use Rattle.authority.specs.declared.cause.Cause.{Cause}
 use Rattle.classify.specs.Classes as class
 use Rattle.classify.specs.Lifetimes.{received}
-use Rattle.retry.specs.Penalties.{same_addr, answered, AreAtMost}
+use Rattle.retry.specs.Penalties.{answered, AreAtMost}
 use Rattle.retry.specs.Plans.{upcoming}
-use Rattle.retry.proofs.Steps.{answered_most, looked_most}
+use Rattle.retry.proofs.Steps.{level_low, answered_low}
 use Rattle.referral.specs.Cuts.{Cut}
 use Rattle.frames.specs.Frames.{Frame, opened, taken_addresses}
 use Rattle.resolution.specs.Jobs.{Home, Stores, level_of, with_answer, with_frame, Taken, received_link, is_dead, AreFresh, IsEnding, IsCutOf, Search, Job, Next, Ask, Done, Fail, Take, Go, Point}
 use Rattle.resolution.specs.Rules.{Rule, takes, asks, follows, restarts, hears, descends, gives_up, Rules, IsDue, IsDueAgain, Leaves, sends, sends_again, refuses, spent, nowhere, too_long, done, IsReferred}
 use Rattle.followed.specs.Calls.{GoesOut, ReferralIsFollowed, AnswerIsUsed, HasLink, AliasStays}
-use Rattle.followed.proofs.Lists.{fresh_both, none_dead, found_fresh, some_upcoming, upcoming_in}
+use Rattle.resolution.proofs.Falls.{found_fresh}
+use Rattle.followed.proofs.Lists.{fresh_both, none_dead, some_upcoming, upcoming_in}
 use Rattle.followed.proofs.Calls.{no_rule, asks_next, heard}
 
 -- ---- referrals
@@ -37,9 +37,7 @@ module _ (home : Home) (now : ℕ) (p last : Point) (old : Job) (s : Search) (re
       (asks_next home now p (with_frame s f) rest (ap (λ (j : Job). j.searches) job) d task due count last next new after rules leaves)
 
 low_after : (stores : Stores) (server a : Addr) → AreAtMost 8 stores.penalties → level_of (with_answer stores server) a ≤ 8
-low_after stores server a low =
-    looked_most 8 (same_addr a) (answered server stores.penalties)
-    (answered_most (lru_cache stores.penalties 1) (lru_cache (answered server stores.penalties) 1) server refl low)
+low_after stores server a low = level_low a (answered server stores.penalties) (answered_low server stores.penalties low)
 
 pub referral_is_followed : ReferralIsFollowed
 referral_is_followed home now input old stores next new after s rest server at ns glue ttl call told =

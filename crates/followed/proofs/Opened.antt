@@ -1,7 +1,6 @@
 -- Rules change no penalty, and what they look up changes no start: a frame stands as it was opened.
 use Rattle.std.proofs.Common.{◌≡◌, ℕ, zero, suc, ◌+◌, ◌⊎◌, inl, inr, Option, Some, None, List, [], ◌∷◌, refl, sym, ap, ◌∙◌, subst}
 use Rattle.std.specs.Map.{lookup}
-use Rattle.lru.specs.LruCache.{lru_cache}
 use Rattle.dname.specs.Labels.{Name, same_name}
 use Rattle.rdata.specs.declared.addr.Addr.{Addr}
 use Rattle.zone.specs.Zones.{a_type}
@@ -12,7 +11,7 @@ use Rattle.retry.specs.Penalties.{penalty}
 use Rattle.retry.specs.Plans.{upcoming}
 use Rattle.referral.specs.Cuts.{Cut, Known, nearest, moved, Lives, IsBest}
 use Rattle.referral.proofs.Exact.{same_name_exact}
-use Rattle.referral.proofs.Steps.{moved_members}
+use Rattle.referral.proofs.Steps.{moved_same}
 use Rattle.cache.specs.Cached.{Hit}
 use Rattle.frames.specs.Frames.{opened}
 use Rattle.resolution.specs.Jobs.{Home, Stores, level_of, Taken, local_link, Search, search_at, Job, Next, Ask, Go, Point}
@@ -39,7 +38,7 @@ best_kept q now es a (Some c) (n, k, deepest, is) = (
   n,
   k,
   record {
-    there = (moved_members (lru_cache es 1) (lru_cache (moved a es) 1) a refl).1 (n, k) deepest.there;
+    there = (moved_same a es).1 (n, k) deepest.there;
     lives = (moved_looks a es n ∙ (deepest.lives).0, (deepest.lives).1);
     over = deepest.over;
     deepest = λ m j lives over. deepest.deepest m j (lives_before a now es m j lives) over;

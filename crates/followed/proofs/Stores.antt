@@ -1,7 +1,5 @@
 -- What a step does to the stores, and that no penalty is over 8 after any run.
-use Rattle.std.proofs.Common.{◌≡◌, ℕ, zero, suc, ◌-◌, ◌≤◌, ◌⊎◌, inl, inr, Bool, true, false, cond, Option, Some, None, List, [], ◌∷◌, take, refl, sym, ap, ◌∙◌, subst, arith}
-use Rattle.std.specs.Map.{lookup, remove_entry}
-use Rattle.lru.specs.LruCache.{lru_cache}
+use Rattle.std.proofs.Common.{◌≡◌, ℕ, ◌⊎◌, inl, inr, Option, Some, None, List, [], ◌∷◌, sym, ap, ◌∙◌, subst}
 use Rattle.rdata.specs.declared.addr.Addr.{Addr}
 use Rattle.zone.specs.Links.{Link}
 use Rattle.wire.specs.declared.via.Via.{Via}
@@ -9,9 +7,8 @@ use Rattle.front.specs.declared.queries.Asked.{Asked}
 use Rattle.front.specs.declared.queries.Asked.TheVariants as heard
 use Rattle.classify.specs.Classes as class
 use Rattle.classify.specs.Classes.{class_of}
-use Rattle.recency.specs.Orders.{kept_from}
-use Rattle.retry.specs.Penalties.{same_addr, raised, timed_out, answered, AreAtMost}
-use Rattle.retry.proofs.Steps.{answered_most}
+use Rattle.retry.specs.Penalties.{AreAtMost}
+use Rattle.retry.proofs.Steps.{timed_out_low, answered_low}
 use Rattle.resolution.specs.Jobs.{Stores, with_answer, with_timeout, Search, Job, Input, Start, Told, TimedOut, TcpFailed, Next, Ask, AskTcp, Done, Fail, Point}
 use Rattle.resolution.specs.Rules.{IsAnswered, ByClass, Enters, Advances, Stops}
 use Rattle.runs.specs.States.{Event, Client, Datagram, TcpReply, TcpFailed, Tick, Action, Served, Turn, Plain, Asker, Site, State, moved}
@@ -76,32 +73,6 @@ turn_stores s (Tick now) served (Some out) new (inr (first, inl h, followed)) = 
 turn_stores s (Tick now) served (Some out) new (inr (first, inr h, followed)) = hears_stores s (Tick now) served first new h
 
 -- ---- penalties
-
-taken_most : (n k : ℕ) (es : List (Addr × ℕ)) → AreAtMost n es → AreAtMost n (take k es)
-taken_most n zero es h = tt
-taken_most n (suc k) [] h = tt
-taken_most n (suc k) (e ∷ es) h = (h.0, taken_most n k es h.1)
-
-removed_most : (n : ℕ) (test : Addr → Bool) (es : List (Addr × ℕ)) → AreAtMost n es → AreAtMost n (remove_entry test es)
-removed_most n test [] h = tt
-removed_most n test (e ∷ es) h = by (test e.0) (removed_most n test es h.1)
-  where
-    by : (b : Bool) → AreAtMost n (remove_entry test es) → AreAtMost n (cond b es (e ∷ remove_entry test es))
-    by true more = h.1
-    by false more = (h.0, more)
-
-timed_out_low : (a : Addr) (cap : ℕ) (es : List (Addr × ℕ)) → AreAtMost 8 es → AreAtMost 8 (timed_out a cap es)
-timed_out_low a cap es h = by (lookup (same_addr a) es)
-  where
-    low : raised a es ≤ 8
-    low = omega arith
-
-    by : (o : Option ℕ) → AreAtMost 8 (kept_from same_addr o cap a (raised a es) es)
-    by None = (low, taken_most 8 (cap - 1) es h)
-    by (Some q) = (low, removed_most 8 (same_addr a) es h)
-
-answered_low : (a : Addr) (es : List (Addr × ℕ)) → AreAtMost 8 es → AreAtMost 8 (answered a es)
-answered_low a es h = answered_most (lru_cache es 1) (lru_cache (answered a es) 1) a refl h
 
 abbrev AreLow : Stores → Type 0
 AreLow stores = AreAtMost 8 stores.penalties

@@ -1,5 +1,5 @@
 -- What a step does to the cache, and that a kept link is found while it lives.
-use Rattle.std.proofs.Common.{◌≡◌, ◌≢◌, ℕ, zero, suc, ◌+◌, ◌<◌, ◌⊎◌, inl, inr, Option, Some, None, IsSome, List, [], ◌∷◌, ◌++◌, length, Contains, refl, sym, ap, ◌∙◌, subst, arith}
+use Rattle.std.proofs.Common.{◌≡◌, ◌≢◌, ℕ, zero, suc, ◌+◌, ◌<◌, ◌⊎◌, inl, inr, Option, Some, None, IsSome, List, [], ◌∷◌, ◌++◌, length, refl, sym, ap, ◌∙◌, subst, arith}
 use Rattle.dname.specs.Labels.{Name}
 use Rattle.rdata.specs.Records.{Record}
 use Rattle.rdata.specs.declared.addr.Addr.{Addr}
@@ -13,9 +13,7 @@ use Rattle.front.specs.declared.queries.Asked.TheVariants as heard
 use Rattle.classify.specs.Classes as class
 use Rattle.classify.specs.Classes.{class_of}
 use Rattle.classify.specs.Lifetimes.{received}
-use Rattle.classify.proofs.Readings.{answer_read}
-use Rattle.truth.specs.Reading.{IsAnswer}
-use Rattle.lru.proofs.Splits.{Contains-middle}
+use Rattle.classify.proofs.Uses.{no_alias_class}
 use Rattle.cache.specs.Keys.{Key, key_for}
 use Rattle.cache.specs.Cached.{Hit, answer, hit_of, moved}
 use Rattle.resolution.specs.Jobs.{Home, Stores, with_answer, Search, Taken, local_link, Job, Input, Start, Told, TimedOut, TcpFailed, Next, Point, hit_from}
@@ -230,10 +228,7 @@ no_alias : (f q : Name) (t : ℕ) (via : Via) (m : Message) (l : Link) (r : Reco
 no_alias f q t via m (Found rs) r e is = absurd (cc)
 no_alias f q t via m (NoData soa) r e is = absurd (cc)
 no_alias f q t via m (NxDomain soa) r e is = absurd (cc)
-no_alias f q t via m (Alias x) r e is = λ cname.
-    let answer : IsAnswer f q cname_type m (Alias x) = answer_read f q cname_type m via (Alias x) (ap (λ (u : ℕ). class_of f q u via m) (sym cname) ∙ e) in
-    let (told, nothing, (s, first, same)) = answer.reads in
-    nothing s (subst (λ (ys : List Record). Contains ys s) (sym first.is) (Contains-middle first.front s first.back), first.owner, first.kind)
+no_alias f q t via m (Alias x) r e is = λ cname. no_alias_class f q via m x (ap (λ (u : ℕ). class_of f q u via m) (sym cname) ∙ e)
 
 -- What was accepted as an alias was asked for by another type.
 abbrev IsPlain : Option Accepted → Type 0

@@ -1,6 +1,5 @@
 pub mod Entries
 pub mod Found
 pub mod Held
-pub mod Lower
 pub mod Near
 pub mod Walks

@@ -3,13 +3,13 @@ use Rattle.std.proofs.Common.{◌≡◌, ◌≢◌, ℕ, suc, ◌+◌, ◌≤◌
 use Rattle.std.specs.Map.{lookup, remove_entry}
 use Rattle.zone.specs.Links.{Link, Found, Alias, NoData, NxDomain}
 use Rattle.zone.specs.Zones.{cname_type}
-use Rattle.recency.specs.Orders.{kept}
+use Rattle.recency.specs.Orders.{kept, IsWithin}
 use Rattle.recency.proofs.Kept.{by_test}
 use Rattle.cache.specs.Keys.{Kind, NameError, Key, same_key, error_key, key_for}
 use Rattle.cache.specs.Cached.{Hit, answer, moved, is_error, stored, after_keep}
 use Rattle.cache.specs.Laws.{same_key_exact}
 use Rattle.kept.specs.Uses.{Question, AreHits}
-use Rattle.kept.proofs.Lower.{IsWithin, within_put, within_kept, within_used, within_removed, within_found}
+use Rattle.recency.proofs.Places.{within_put, within_kept, within_used, within_removed, within_found}
 
 -- Among the first n entries at most.
 abbrev pub IsNear : ℕ → Key → Hit → List (Key × Hit) → Type 0

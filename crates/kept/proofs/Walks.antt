@@ -13,7 +13,8 @@ use Rattle.cache.specs.Keys.{Key, same_key}
 use Rattle.cache.specs.Cached.{Hit, answer, hit_of}
 use Rattle.resolution.specs.Jobs.{Home, Stores, Taken, local_link, kept_link, is_dead, AreFresh, IsEnding, Job, Next, Done, Task, Seek, Take, Go, Again, Point}
 use Rattle.resolution.specs.Rules.{Says, IsRemote, Hits, Finds, Begins, Misses, Rule, takes, asks, follows, restarts, hears, descends, gives_up, Rules, Leaves, sends, sends_again, refuses, spent, nowhere, too_long, done}
-use Rattle.followed.proofs.Lists.{fresh_both, none_dead, found_fresh}
+use Rattle.resolution.proofs.Falls.{found_fresh}
+use Rattle.followed.proofs.Lists.{fresh_both, none_dead}
 use Rattle.kept.specs.Held.{Holds, IsHeldChain}
 use Rattle.kept.proofs.Entries.{moved_looks, same_answer}
 

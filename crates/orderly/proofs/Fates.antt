@@ -8,11 +8,12 @@ use Rattle.front.specs.declared.queries.Asked.TheVariants as heard
 use Rattle.front.specs.declared.queries.Outcome.{Outcome}
 use Rattle.retry.specs.Plans.{Plan, wait_of}
 use Rattle.resolution.specs.Jobs.{Stores, Search, Job, wait_in, wait_of_job, Input, Start, Next, Ask, AskTcp, Done, Fail}
-use Rattle.runs.specs.States.{Event, Client, Datagram, TcpReply, TcpFailed, Tick, Action, MoreDue, Served, Nobody, Own, Query, Plain, Asker, Path, ByUdp, ByTcp, Asking, Open, open_query, due_moment, job_for, State}
+use Rattle.runs.specs.States.{Event, Client, Datagram, TcpReply, TcpFailed, Tick, Action, MoreDue, Served, Nobody, Own, Query, Plain, Asker, Path, ByUdp, ByTcp, Asking, Open, open_query, due_moment, job_for, State, word_of, word_taken}
 use Rattle.runs.specs.Messages.{sending, IsSent, IsReply}
 use Rattle.runs.specs.Steps.{IsUdpAsk, AreOthers, AreWith, Ends, Comes, Serves, IsAsking, IsOpened, at_once, crowded, admitted, Resolves, IsHandled, IsIgnored, Hears, IsFollowed, IsTicked, IsLeft, IsTurn}
 use Rattle.runs.specs.Runs.{is_ask}
 use Rattle.orderly.specs.Laws.{is_reply, IsAlone, GivesOne, IsLine}
+use Rattle.orderly.specs.Words.{IsByWord}
 use Rattle.orderly.proofs.Asking.{OneMore, call_asks}
 
 -- A reply alone goes out.
@@ -41,16 +42,24 @@ IsFrom s after new =
 abbrev pub IsAlike : State → Open → Type 0
 IsAlike s after = (p : Open) (sock : ℕ) (server : Addr) (id : ℕ) → Contains s.queries p → p.number ≢ after.number → IsLine p sock server id → IsLine after sock server id → ⊥
 
+-- No word of the generator is taken, or where memory was wanting one was.
+abbrev pub KeepsWords : State → Option (List Action) → State → Type 0
+KeepsWords s out new = (new.generator ≡ s.generator) ⊎ ((out ≡ None) × (new.generator ≡ word_taken s.generator))
+
+-- A word is taken for an ask.
+abbrev pub TakesWord : State → Open → State → Type 0
+TakesWord s after new = (new.generator ≡ word_taken s.generator) × IsByWord s after.number after.ask (word_of s.generator)
+
 pub data Fate (s : State) (event : Event) (served : Served) (out : Option (List Action)) (new : State) : Type 0 where
   -- No query that was open is served.
   passes : (served ≡ Nobody) ⊎ (served ≡ Own) → ((actions : List Action) → out ≡ Some actions → GivesOne event served actions) → AreOthers s.opened s.queries new.queries
-      → new.opened ≡ s.opened → Fate s event served out new
+      → new.opened ≡ s.opened → KeepsWords s out new → Fate s event served out new
   -- An open query is over.
   ends : (q : Open) → Contains s.queries q → served ≡ Query q.number → AreOthers q.number s.queries new.queries → new.opened ≡ s.opened → (out ≡ None) ⊎ IsOneReply out
-      → Fate s event served out new
+      → KeepsWords s out new → Fate s event served out new
   -- A query waits for the answer to an ask.
   waits : (after : Open) → served ≡ Query after.number → AreWith after s.queries new.queries → IsFrom s after new → IsAlike s after → IsOneAsk (s.site).port after.ask out
-      → s.clock < due_moment after → Fate s event served out new
+      → s.clock < due_moment after → TakesWord s after new → Fate s event served out new
 
 abbrev pub AreBelow : State → Type 0
 AreBelow s = (q : Open) → Contains s.queries q → q.number < s.opened
@@ -78,7 +87,7 @@ unchanged s new below e = subst (λ (x : State). AreOthers s.opened s.queries x.
 
 ignored_fate : (s : State) (event : Event) (served : Served) (out : List Action) (new : State) → AreBelow s → IsIgnored s event served out new → Fate s event served (Some out) new
 ignored_fate s event served out new below h =
-    passes (inl h.served_is) gives (unchanged s new below h.state) (ap (λ (x : State). x.opened) h.state)
+    passes (inl h.served_is) gives (unchanged s new below h.state) (ap (λ (x : State). x.opened) h.state) (inl (ap (λ (x : State). x.generator) h.state))
   where
     gives : (actions : List Action) → Some out ≡ Some actions → GivesOne event served actions
     gives actions e = let is : actions ≡ [] = let o = h.out_is in cc in subst (λ (v : Served). GivesOne event v actions) (sym h.served_is) is
@@ -139,22 +148,22 @@ serves_fate s event served q input first out new is h behind = by h.next refl h.
         (inl (q, h.stands, refl, ap (λ (x : State). x.opened) w.state, more (subst IsAsking (sym e) tt)))
         (udp_alike s (open_query q.number q.asker h.job c.ask (s.clock + wait_of_job h.job)) c.goes)
         (record { actions = out; action = w.action; out_is = refl; alone = behind w.action w.out_is; sent = w.sent })
-        (later s.clock (wait_of_job h.job) q.job h.job (more (subst IsAsking (sym e) tt)) (some_wait_in (h.job).searches))
+        (later s.clock (wait_of_job h.job) q.job h.job (more (subst IsAsking (sym e) tt)) (some_wait_in (h.job).searches)) (ap (λ (x : State). x.generator) w.state, inl ((c.goes).sock, (c.goes).sock_is, (c.goes).path, (c.goes).id))
     by (AskTcp server n t) e c =
         let w = c.waits in
         waits (open_query q.number q.asker h.job c.ask (s.clock + 3000)) is w.queries
         (inl (q, h.stands, refl, ap (λ (x : State). x.opened) w.state, more (subst IsAsking (sym e) tt)))
         (tcp_alike s (open_query q.number q.asker h.job c.ask (s.clock + 3000)) s.asked (c.goes).path)
         (record { actions = out; action = w.action; out_is = refl; alone = behind w.action w.out_is; sent = w.sent })
-        (later s.clock 3000 q.job h.job (more (subst IsAsking (sym e) tt)) (omega arith))
-    by (Done chain last) e c = ends q h.stands is c.queries (ap (λ (x : State). x.opened) c.state) (inr (ended_reply s q.asker q.number _ h.stores first out new c behind))
-    by (Fail cause) e c = ends q h.stands is c.queries (ap (λ (x : State). x.opened) c.state) (inr (ended_reply s q.asker q.number _ h.stores first out new c behind))
+        (later s.clock 3000 q.job h.job (more (subst IsAsking (sym e) tt)) (omega arith)) (ap (λ (x : State). x.generator) w.state, inr (s.asked, (c.goes).path, (c.goes).id))
+    by (Done chain last) e c = ends q h.stands is c.queries (ap (λ (x : State). x.opened) c.state) (inr (ended_reply s q.asker q.number _ h.stores first out new c behind)) (inl (ap (λ (x : State). x.generator) c.state))
+    by (Fail cause) e c = ends q h.stands is c.queries (ap (λ (x : State). x.opened) c.state) (inr (ended_reply s q.asker q.number _ h.stores first out new c behind)) (inl (ap (λ (x : State). x.generator) c.state))
 
 -- ---- a client's query
 
 own_reply : (s : State) (event : Event) (served : Served) (who : Asker) (o : Outcome Plain) (stores : Stores) (out : List Action) (new : State) → served ≡ Own → Ends s who s.opened o stores out new
     → Fate s event served (Some out) new
-own_reply s event served who o stores out new is h = passes (inr is) gives h.queries (ap (λ (x : State). x.opened) h.state)
+own_reply s event served who o stores out new is h = passes (inr is) gives h.queries (ap (λ (x : State). x.opened) h.state) (inl (ap (λ (x : State). x.generator) h.state))
   where
     gives : (actions : List Action) → Some out ≡ Some actions → GivesOne event served actions
     gives actions e = let same : actions ≡ h.action ∷ [] = let f = h.out_is in cc in
@@ -177,12 +186,12 @@ opened_fate s event served who out new r = by r.opened
         let w = c.waits in
         waits (open_query s.opened who r.job c.ask (s.clock + wait_of_job r.job)) is w.queries (inr (refl, ap (λ (x : State). x.opened) w.state, (more (subst IsAsking (sym e) asking)).asks)) (udp_alike s (open_query s.opened who r.job c.ask (s.clock + wait_of_job r.job)) c.goes)
         (record { actions = out; action = w.action; out_is = refl; alone = inl w.out_is; sent = w.sent })
-        (later s.clock (wait_of_job r.job) (job_for s.clock who.query) r.job (more (subst IsAsking (sym e) asking)) (some_wait_in (r.job).searches))
+        (later s.clock (wait_of_job r.job) (job_for s.clock who.query) r.job (more (subst IsAsking (sym e) asking)) (some_wait_in (r.job).searches)) (ap (λ (x : State). x.generator) w.state, inl ((c.goes).sock, (c.goes).sock_is, (c.goes).path, (c.goes).id))
     new_one (AskTcp server n t) e asking is c =
         let w = c.waits in
         waits (open_query s.opened who r.job c.ask (s.clock + 3000)) is w.queries (inr (refl, ap (λ (x : State). x.opened) w.state, (more (subst IsAsking (sym e) asking)).asks)) (tcp_alike s (open_query s.opened who r.job c.ask (s.clock + 3000)) s.asked (c.goes).path)
         (record { actions = out; action = w.action; out_is = refl; alone = inl w.out_is; sent = w.sent })
-        (later s.clock 3000 (job_for s.clock who.query) r.job (more (subst IsAsking (sym e) asking)) (omega arith))
+        (later s.clock 3000 (job_for s.clock who.query) r.job (more (subst IsAsking (sym e) asking)) (omega arith)) (ap (λ (x : State). x.generator) w.state, inr (s.asked, (c.goes).path, (c.goes).id))
     new_one (Done chain last) e asking is c = absurd asking
     new_one (Fail cause) e asking is c = absurd asking
 
@@ -199,12 +208,12 @@ own_gives event served out is h actions e =
 client_fate : (s : State) (now client : ℕ) (way : Via) (bytes : List ℕ) (served : Served) (out : List Action) (new : State) (asked : Asked Plain) → AreBelow s → IsAsked bytes asked
     → IsHandled s client way asked served out new → Fate s (Client now client way bytes) served (Some out) new
 client_fate s now client way bytes served out new heard.Drop below reads (is, none, same) =
-    passes (inr is) (own_gives (Client now client way bytes) served out is (inl (reads, none))) (unchanged s new below same) (ap (λ (x : State). x.opened) same)
+    passes (inr is) (own_gives (Client now client way bytes) served out is (inl (reads, none))) (unchanged s new below same) (ap (λ (x : State). x.opened) same) (inl (ap (λ (x : State). x.generator) same))
 client_fate s now client way bytes served out new (heard.Refuse refusal start echo) below reads (is, (action, refuses, only), same) =
-    passes (inr is) (own_gives (Client now client way bytes) served out is (inr (action, ap is_reply refuses.2, only))) (unchanged s new below same) (ap (λ (x : State). x.opened) same)
+    passes (inr is) (own_gives (Client now client way bytes) served out is (inr (action, ap is_reply refuses.2, only))) (unchanged s new below same) (ap (λ (x : State). x.opened) same) (inl (ap (λ (x : State). x.generator) same))
 client_fate s now client way bytes served out new (heard.Query q) below reads (inl (rd, h)) =
     passes (inr h.served_is) (own_gives (Client now client way bytes) served out h.served_is (inr (h.action, reply_is _ h.result h.action h.reply, h.out_is))) (unchanged s new below h.state)
-    (ap (λ (x : State). x.opened) h.state)
+    (ap (λ (x : State). x.opened) h.state) (inl (ap (λ (x : State). x.generator) h.state))
 client_fate s now client way bytes served out new (heard.Query q) below reads (inr (rd, h)) = opened_fate s (Client now client way bytes) served _ out new h
 
 -- ---- other events
@@ -213,10 +222,18 @@ hears_fate : (s : State) (event : Event) (served : Served) (first out : List Act
 hears_fate s event served first out new h behind = serves_fate s event served h.query h.input first out new h.served_is h.serves behind
 
 left_own : (s : State) (event : Event) (served : Served) (P : Stores → Type 0) (new : State) → served ≡ Own → IsLeft s s.opened P new → Fate s event served None new
-left_own s event served P new is h = passes (inr is) (λ actions e. absurd (cc)) h.queries (ap (λ (x : State). x.opened) h.state)
+left_own s event served P new is h = passes (inr is) (λ actions e. absurd (cc)) h.queries (ap (λ (x : State). x.opened) h.state) (left_word h.generator)
+  where
+    left_word : (new.generator ≡ s.generator) ⊎ (new.generator ≡ word_taken s.generator) → KeepsWords s None new
+    left_word (inl e) = inl e
+    left_word (inr e) = inr (refl, e)
 
 left_open : (s : State) (event : Event) (served : Served) (q : Open) (P : Stores → Type 0) (new : State) → Contains s.queries q → served ≡ Query q.number → IsLeft s q.number P new → Fate s event served None new
-left_open s event served q P new there is h = ends q there is h.queries (ap (λ (x : State). x.opened) h.state) (inl refl)
+left_open s event served q P new there is h = ends q there is h.queries (ap (λ (x : State). x.opened) h.state) (inl refl) (left_word h.generator)
+  where
+    left_word : (new.generator ≡ s.generator) ⊎ (new.generator ≡ word_taken s.generator) → KeepsWords s None new
+    left_word (inl e) = inl e
+    left_word (inr e) = inr (refl, e)
 
 either_fate : (s : State) (event : Event) (served : Served) (out : List Action) (new : State) → AreBelow s → IsIgnored s event served out new ⊎ Hears s event served out new → Fate s event served (Some out) new
 either_fate s event served out new below (inl h) = ignored_fate s event served out new below h
@@ -227,7 +244,7 @@ ticked_fate s now served out new below (inl h) = ignored_fate s (Tick now) serve
 ticked_fate s now served out new below (inr (first, inl h, followed)) =
     let e = h.ends in
     ends h.query (h.due).stands h.served_is e.queries (ap (λ (x : State). x.opened) e.state)
-    (inr (ended_reply s _ _ _ s.stores first out new e (followed_behind first out new followed)))
+    (inr (ended_reply s _ _ _ s.stores first out new e (followed_behind first out new followed))) (inl (ap (λ (x : State). x.generator) e.state))
 ticked_fate s now served out new below (inr (first, inr h, followed)) = hears_fate s (Tick now) served first out new h (followed_behind first out new followed)
 
 pub turn_fate : (s : State) (event : Event) (served : Served) (out : Option (List Action)) (new : State) → AreBelow s → IsTurn s event served out new → Fate s event served out new

@@ -5,3 +5,4 @@ pub mod Fates
 pub mod Lists
 pub mod Orders
 pub mod Sent
+pub mod Words

@@ -3,7 +3,7 @@ use Rattle.std.proofs.Common.{◌≡◌, ◌≢◌, ℕ, ◌+◌, ◌≤◌, ◌
 use Rattle.lru.proofs.Splits.{Contains-head, Contains-cons, Contains-nil}
 use Rattle.recency.proofs.Kept.{by_test}
 use Rattle.rdata.specs.declared.addr.Addr.{Addr}
-use Rattle.runs.specs.States.{Action, Reply, Send, TcpAsk, MoreDue, Served, Query, Turn, Asker, Asking, Open, due_moment, AreApart, Site, State, moved}
+use Rattle.runs.specs.States.{Event, Action, Reply, Send, TcpAsk, MoreDue, Served, Nobody, Own, Query, Turn, Asker, Asking, Open, due_moment, AreApart, Site, State, moved}
 use Rattle.runs.specs.Messages.{IsSent}
 use Rattle.runs.specs.Steps.{Step}
 use Rattle.runs.specs.Runs.{Run, Earlier, GivesOut, Asks, Came, is_ask, asks_among, asks_in, is_for, asks_of}
@@ -48,14 +48,26 @@ count_alone : (action : Action) (out : List Action) (b : Bool) → is_ask action
 count_alone action out b e (inl is) = ap asks_among is ∙ plus_none (one_if (is_ask action)) (one_if b) (ap one_if e)
 count_alone action out b e (inr is) = ap asks_among is ∙ plus_none (one_if (is_ask action)) (one_if b) (ap one_if e)
 
-reply_counts : (out : Option (List Action)) → (out ≡ None) ⊎ IsOneReply out → asks_in out ≡ 0
+pub reply_counts : (out : Option (List Action)) → (out ≡ None) ⊎ IsOneReply out → asks_in out ≡ 0
 reply_counts out (inl e) = ap asks_in e
 reply_counts out (inr h) = ap asks_in h.out_is ∙ count_alone h.action h.actions false (reply_no_ask h.action h.reply) h.alone
 
 ask_counts : (port : ℕ) (a : Asking) (out : Option (List Action)) → IsOneAsk port a out → asks_in out ≡ 1
 ask_counts port a out h = ap asks_in h.out_is ∙ count_alone h.action h.actions true (ask_is port a h.action h.sent) h.alone
 
-ask_given : (port : ℕ) (a : Asking) (out : Option (List Action)) → (h : IsOneAsk port a out) → GivesOut out h.action
+-- Where no open query is served nothing goes out but a reply.
+pub own_counts : (event : Event) (served : Served) (out : Option (List Action)) → (served ≡ Nobody) ⊎ (served ≡ Own) → ((actions : List Action) → out ≡ Some actions → GivesOne event served actions) → asks_in out ≡ 0
+own_counts event served None is gives = refl
+own_counts event served (Some out) is gives = by served is (gives out refl)
+  where
+    by : (v : Served) → (v ≡ Nobody) ⊎ (v ≡ Own) → GivesOne event v out → asks_among out ≡ 0
+    by Nobody e none = ap asks_among none
+    by Own e (inl (dropped, none)) = ap asks_among none
+    by Own e (inr (action, reply, only)) = count_alone action out false (reply_no_ask action reply) (inl only)
+    by (Query k) (inl e) h = cc
+    by (Query k) (inr e) h = cc
+
+pub ask_given : (port : ℕ) (a : Asking) (out : Option (List Action)) → (h : IsOneAsk port a out) → GivesOut out h.action
 ask_given port a out h = subst (λ (o : Option (List Action)). GivesOut o h.action) (sym h.out_is) (alone_in h.action h.actions h.alone)
 
 given_is : (port : ℕ) (a : Asking) (out : Option (List Action)) → (h : IsOneAsk port a out) → (action : Action) → GivesOut out action → (action ≡ h.action) ⊎ (action ≡ MoreDue)
@@ -92,7 +104,7 @@ below_apart : (m n : ℕ) → m < n → m ≢ n
 below_apart m n lt e = absurd (omega arith)
 
 step_is : (port : ℕ) (t : Turn) (old new : State) → (old.site).port ≡ port → AreBelow old → Fate (moved old t.event) t.event t.served t.out new → IsStep port t old new
-step_is port t old new here below (passes none gives others opened) = record {
+step_is port t old new here below (passes none gives others opened words) = record {
   from_old = λ q c. inl ((others.only q c).0, unserved q.number);
   to_new = λ q c apart. others.stay q c (below_apart q.number old.opened (below q c));
   known = λ k e. absurd (unserved k e);
@@ -103,7 +115,7 @@ step_is port t old new here below (passes none gives others opened) = record {
   where
     unserved : (k : ℕ) → t.served ≡ Query k → ⊥
     unserved k e = elim none [ inl f ↦ cc | inr f ↦ cc ]
-step_is port t old new here below (ends p there served others opened out) = record {
+step_is port t old new here below (ends p there served others opened out words) = record {
   from_old = λ q c. let (d, apart) = others.only q c in inl (d, apart_numbers t p.number q.number served apart);
   to_new = λ q c apart. others.stay q c (λ is. apart (served ∙ ap Query (sym is)));
   known = λ k e. inl (p, there, same_number (sym served ∙ e));
@@ -117,7 +129,7 @@ step_is port t old new here below (ends p there served others opened out) = reco
     single actions e (inr h) =
         let same : h.actions ≡ actions = let f = h.out_is in cc in
         subst (λ (v : Served). GivesOne t.event v actions) (sym served) (h.action, inl h.reply, subst (IsAlone h.action) same h.alone)
-step_is port t old new here below (waits after served are from alike asked later) = record {
+step_is port t old new here below (waits after served are from alike asked later words) = record {
   from_old = λ q c. elim (are.only q c) [
     | inl is ↦ inr (subst (λ (x : Open). (t.served ≡ Query x.number) × IsOneAsk port x.ask t.out × IsFrom (moved old t.event) x new × IsAlike (moved old t.event) x × ((moved old t.event).clock < due_moment x)) (sym is) (served, one, from, alike, later))
     | inr d ↦ inl (d.0, apart_numbers t after.number q.number served d.1)

@@ -1,6 +1,7 @@
 //! One reply and one open ask: functions that do nothing, whose clauses are proved.
 
 ghost use Rattle.orderly.specs.Laws.{OneAction, MoreDueAtTicks, NeverAgain, OneReply, OneComing, OpenByRun, FewAsks, OneLine, OthersStay, DueInOrder};
+ghost use Rattle.orderly.specs.Words.{WordsInOrder};
 
 /// Over every run, whatever comes: a step that serves a query gives one reply or one ask of it, and bytes
 /// that are no query are dropped; a query has one Client step, one reply at most and 40 asks at most, and is
@@ -26,4 +27,10 @@ pub fn isolation_law()
 pub fn due_law()
     ensures order { DueInOrder }
     ensures ticks { MoreDueAtTicks }
+{}
+
+/// The socket and the ID of each ask are those of the first word of the seed's stream that no ask before it
+/// had, words aside that were taken where memory was wanting.
+pub fn words_law()
+    ensures { WordsInOrder }
 {}
