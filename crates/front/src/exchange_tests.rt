@@ -86,7 +86,7 @@ fn each_growth_of_an_answer_is_refused_in_turn(rt: HostRuntime) -> Result<(), Fa
     let catalog = catalog(&heap)?;
     let before = heap.growths();
     assert!(rt; answer(&heap, &catalog)?.as_slice() == REPLY);
-    let growths = heap.growths() - before;
+    let growths = heap.growths().saturating_sub(before);
     assert!(rt; growths > 4);
     for n in 0..growths {
         heap.refuse_after(n);
