@@ -86,3 +86,28 @@ fn each_growth_of_what_is_lent_is_refused(rt: HostRuntime) -> Result<(), Fail> {
     assert_eq!(rt; records(&heap)?.len(), 3);
     Ok(())
 }
+
+#[test]
+fn each_growth_of_a_long_set_is_refused(rt: HostRuntime) -> Result<(), Fail> {
+    let heap = Refusing::new(rt.alloc());
+    let mut lent = Records::new(&heap);
+    for last in 0..20u8 {
+        lent.push(Record {
+            owner: Name::root(&heap)?,
+            ttl: 60,
+            value: RData::A(Addr([192, 0, 2, last])),
+        })?;
+    }
+    let before = heap.growths();
+    assert_eq!(rt; dedup_set(&heap, lent.as_slice())?.len(), 20);
+    let growths = heap.growths().saturating_sub(before);
+    assert!(rt; growths > 20);
+    for n in 0..growths {
+        heap.refuse_after(n);
+        assert!(rt;
+            matches!(dedup_set(&heap, lent.as_slice()), Err(Starved)),
+            "growth {n}"
+        );
+    }
+    Ok(())
+}

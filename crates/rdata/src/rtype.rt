@@ -94,15 +94,11 @@ impl RType {
     }
 }
 
-/// Whether two words are the same without regard to case.
+/// Whether two words are the same without regard to case (RFC 1035, section 5.1).
 pub fn is_same_word(word: &[u8], other: &[u8]) -> bool
     ensures { result ≡ same_word word.now other.now }
 {
-    match (word, other) {
-        ([], []) => true,
-        ([a, word @ ..], [b, other @ ..]) => a.eq_ignore_ascii_case(b) && is_same_word(word, other),
-        _ => false,
-    }
+    word.eq_ignore_ascii_case(other)
 }
 
 impl fmt::Display for RType {
