@@ -1,13 +1,11 @@
 //! Work on messages.
 use dname::{Heap, Name};
 use rdata::{Addr, RData, Record};
-use wire::{Message, WireError, decode, encode};
+use wire::{Message, TCP_LIMIT, WireError, decode, encode};
 
 // The address of www.example., as a local zone gives it.
 const REPLY: &[u8] =
     b"\x124\x85\x80\0\x01\0\x01\0\0\0\0\x03www\x07example\0\0\x01\0\x01\xc0\x0c\0\x01\0\x01\0\0\x01\x2c\0\x04\xc0\0\x02\x01";
-
-const LIMIT: usize = 65_535;
 
 fn low(size: usize) -> u64 {
     (size % 65_536) as u64
@@ -24,7 +22,7 @@ fn decoded<A: Heap>(alloc: A, bytes: &[u8], rounds: u64) -> Result<u64, WireErro
 fn encoded<A: Heap>(alloc: A, reply: &Message<A>, rounds: u64) -> Result<u64, WireError> {
     let mut sum = 0u64;
     for _ in 0..rounds {
-        sum = sum.wrapping_add(low(encode(alloc, reply, LIMIT)?.len()));
+        sum = sum.wrapping_add(low(encode(alloc, reply, TCP_LIMIT)?.len()));
     }
     Ok(sum)
 }
@@ -54,7 +52,7 @@ pub fn encode_reply<A: Heap>(alloc: A, rounds: u64) -> Result<u64, WireError> {
 }
 
 pub fn decode_twenty<A: Heap>(alloc: A, rounds: u64) -> Result<u64, WireError> {
-    let bytes = encode(alloc, &twenty(alloc)?, LIMIT)?;
+    let bytes = encode(alloc, &twenty(alloc)?, TCP_LIMIT)?;
     decoded(alloc, &bytes, rounds)
 }
 

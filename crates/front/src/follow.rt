@@ -13,8 +13,8 @@ use dname::{Heap, Name, Starved};
 use rdata::{RData, RType, Record, Records};
 use std::alloc::{Allocator, Global};
 
-// The aliases that a chain may have.
-const MOST: usize = 8;
+/// The aliases that a chain may have, to which the end comes (RFC 1034, section 3.6.2, leaves the number open).
+pub const MOST_ALIASES: usize = 8;
 
 /// What local zones alone answer a query, one whose RD is clear: nothing where none is over the name, a
 /// referral at a cut, else the chain of aliases through local zones and what stands at its end. A ninth alias
@@ -50,7 +50,7 @@ fn follow<A: Heap>(
         match step {
             Step::Ended(end) => return Ok(Outcome::Answer(true, aliases, end)),
             Step::Onward(alias) => {
-                if aliases.len() == MOST {
+                if aliases.len() == MOST_ALIASES {
                     return Ok(Outcome::Fail(Cause::Chain));
                 }
                 found = catalog.look(alloc, alias_target(&alias), kind)?;

@@ -11,7 +11,7 @@ mod reply;
 mod start;
 
 pub use echo::Echo;
-pub use follow::{Step, alias_target, answer_local};
+pub use follow::{MOST_ALIASES, Step, alias_target, answer_local};
 pub use laws::{echo_is_question, local_answer_is_one, reading_is_one};
 pub use parts::Parts;
 pub use queries::{Asked, End, Outcome, Query, Refusal};

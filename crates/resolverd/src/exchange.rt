@@ -9,17 +9,11 @@ use authority::{Catalog, Cause};
 use dname::{Heap, Name, Starved};
 use front::{Asked, Via, answer_local, read_query, refusal_bytes, reply_bytes};
 use lines::put_reply_bytes;
-use rdata::{RType, Records};
-use wire::{Header, Message, Question, Questions, encode};
+use rdata::{INTERNET, RType, Records};
+use wire::{Header, Message, Question, Questions, UDP_LIMIT, encode};
 
 // The number of the client in the printed reply.
 const CLIENT: u64 = 1;
-
-// The class IN (RFC 1035, section 3.2.4).
-const INTERNET: u16 = 1;
-
-// The bytes that a message over UDP may have (RFC 1035, section 4.2.1).
-const UDP_LIMIT: usize = 512;
 
 /// The lines of the reply to a query: its bytes are written, read and answered, and the bytes of the reply
 /// are read again.

@@ -13,16 +13,12 @@ ghost use Rattle.simnet.specs.Hosting.{IsFollowed, host_header, referral_to, ans
 use crate::world::{Host, World};
 use authority::{Catalog, Link, Local};
 use dname::{Heap, Name, Starved};
-use front::{Asked, End, Parts, Query, Start, Step, alias_target, read_query, reading_is_one};
+use front::{
+    Asked, End, MOST_ALIASES, Parts, Query, Start, Step, alias_target, read_query, reading_is_one,
+};
 use rdata::{Addr, RType, Records};
 use std::alloc::Allocator;
-use wire::Header;
-
-// The aliases that a reply follows.
-const MOST: usize = 8;
-
-// The bytes that a reply may have (RFC 1035, section 4.2.2).
-const LIMIT: usize = 65_535;
+use wire::{Header, TCP_LIMIT};
 
 fn put_names<A: Heap>(names: &mut Vec<Name<A>, A>, more: &[Name<A>]) -> Result<(), Starved>
     ensures { OnOk result (names.new.items ≡ names.old.items ++ more.now) }
@@ -76,7 +72,7 @@ fn follow<A: Heap>(
 {
     let mut aliases = Records::new(alloc);
     let mut found = Local::Link(first);
-    'aliases: while aliases.len() < MOST {
+    'aliases: while aliases.len() < MOST_ALIASES {
         match Step::of(alloc, found)? {
             Step::Ended(end) => return Ok((aliases, end)),
             Step::Onward(alias) => {
@@ -144,7 +140,7 @@ fn sent<A: Heap>(alloc: A, reply: &Parts<'_, A>) -> Result<Option<Vec<u8, A>>, S
     ensures is { IfOk result (λ r. IsSent (Some reply.now) (option_map (λ v. v.items) r)) }
     ensures message { IfOk result (λ r. IfSome r (λ v. IsMessage v.items (folded_message reply.now))) }
 {
-    reply.encode(alloc, LIMIT)
+    reply.encode(alloc, TCP_LIMIT)
 }
 
 // What the server replies to a query.

@@ -11,12 +11,10 @@ ghost use Rattle.simnet.specs.Judging.{IsRest, IsRightMessage, is_reply_to, is_a
 use crate::world::World;
 use authority::Link;
 use dname::{Heap, Name, Starved};
+use front::MOST_ALIASES;
 use rdata::{RData, RType, Record};
 use std::alloc::Allocator;
 use wire::{Message, Question, WireError, decode};
-
-// The aliases that a chain may have.
-const MOST: usize = 8;
 
 // Whether both are one record but for the TTL.
 fn is_same<A: Allocator>(one: &Record<A>, other: &Record<A>) -> bool
@@ -241,7 +239,7 @@ fn is_right<A: Heap>(
         name,
         kind,
         answer(reply),
-        MOST,
+        MOST_ALIASES,
         code,
         authority(reply),
     )?)
