@@ -30,5 +30,10 @@ sound_run W site (t ∷ past) s w ours (old, legal, step) honest =
     let done = turn_done W w site ours t past (moved old t.event) here again honest.0 t.event t.out s refl refl step.turn in
     (done.0, (done.1, right))
 
-pub every_reply_is_right : (W : World) (site : Site) (run : List Turn) (s : State) → IsWorld W → IsHomeIn W site.home → Run site run s → IsHonest W site.port run → Always (RepliesAreRight W) run
-every_reply_is_right W site run s w ours legal honest = (sound_run W site run s w ours legal honest).1
+pub every_reply_is_right : (W : World) (site : Site) (run : List Turn) (s : State) → IsWorld W → IsHomeIn W site.home → Run site run s
+    → Always (λ t past. IsHonest W site.port (t ∷ past) → RepliesAreRight W t past) run
+every_reply_is_right W site [] s w ours legal = tt
+every_reply_is_right W site (t ∷ past) s w ours (old, legal, step) = (
+  λ honest. (sound_run W site (t ∷ past) s w ours (old, legal, step) honest).1.0,
+  every_reply_is_right W site past old w ours legal,
+)

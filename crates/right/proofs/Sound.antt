@@ -30,7 +30,8 @@ use Rattle.runs.specs.States.{Event, Client, Datagram, TcpReply, TcpFailed, Tick
 use Rattle.runs.specs.Messages.{AreWritten, IsSent, Brings, outcome_of, IsRefusal}
 use Rattle.runs.specs.Steps.{AreOthers, Ends, Waits, Comes, IsAsking, IsOpened, at_once, crowded, admitted, Resolves, IsHandled, IsInput, IsIgnored, Hears, IsLate, IsFollowed, IsTicked, IsLeft, IsTurn}
 use Rattle.runs.specs.Runs.{Earlier, GivesOut, Accepts, Came}
-use Rattle.right.specs.Headline.{IsHomeIn, IsRightReply, IsServedFor, IsRightAnswer, RepliesAreRight}
+use Rattle.runs.specs.Replies.{IsServedFor}
+use Rattle.right.specs.Headline.{IsHomeIn, IsRightReply, IsRightAnswer, RepliesAreRight}
 use Rattle.right.proofs.Actions.{IsNoClient, IsNoQuery, false_not_true, more_is_no_reply, no_action, no_reply_sent, nobody_not_query, one_query, only_action, own_not_query, reply_parts, there}
 use Rattle.right.proofs.Lists.{front_in, both_cases, only_one}
 use Rattle.right.proofs.Points.{IsTrueJob, AreTrue, IsTrueInput, IsTold, AsksTruly, IsTrueNext, advances_true, stops_true}

@@ -1,7 +1,7 @@
 -- The theorem: every reply is right. In a well formed world whose local zones and hints are the resolver's, and
 -- in every run in which servers say only what they may, each reply to a recursive query is a SERVFAIL, or is cut
 -- as it should be, or says the whole truth of the question and nothing else.
-use Rattle.std.specs.Prelude.{◌≡◌, ℕ, ◌<◌, ◌⊎◌, true, Option, List, [], length, Contains}
+use Rattle.std.specs.Prelude.{◌≡◌, ◌∷◌, ℕ, ◌<◌, ◌⊎◌, true, Option, List, [], length, Contains}
 use Rattle.dname.specs.Labels.{Name}
 use Rattle.rdata.specs.Types.{type_number}
 use Rattle.rdata.specs.declared.addr.Addr.{Addr}
@@ -9,19 +9,14 @@ use Rattle.layout.specs.Messages.{Message, IsMessage, encoding}
 use Rattle.authority.specs.declared.cause.Cause.{Cause}
 use Rattle.wire.specs.declared.via.Via.{Via}
 use Rattle.wire.specs.declared.via.Via.TheVariants.{Udp}
-use Rattle.front.specs.Queries.{IsAsked}
-use Rattle.front.specs.Openings.{Opening}
-use Rattle.front.specs.declared.queries.Refusal.{Refusal}
-use Rattle.front.specs.declared.queries.Asked.TheVariants as heard
-use Rattle.layout.specs.Messages.{Question}
 use Rattle.truth.specs.Worlds.{World, IsWorld}
 use Rattle.truth.specs.Serving.{MayServe}
 use Rattle.truth.specs.Frames.{AreHeld}
 use Rattle.truth.specs.Replies.{IsReplyTo, IsBare, IsWhole}
 use Rattle.resolution.specs.Jobs.{Home}
-use Rattle.runs.specs.States.{Client, Action, Reply, Own, Query, Turn, Plain, Asker, recursive, Asking, Site, State}
-use Rattle.runs.specs.Messages.{IsRefusal}
-use Rattle.runs.specs.Runs.{Run, Earlier, Always, GivesOut, Accepts, Came}
+use Rattle.runs.specs.States.{Reply, Turn, Asker, recursive, Asking, Site, State}
+use Rattle.runs.specs.Runs.{Run, Always, GivesOut, Accepts}
+use Rattle.runs.specs.Replies.{IsServedFor, Refuses}
 
 -- Every message that is accepted is one that the asked server may send to the question.
 abbrev pub IsHonest : World → ℕ → List Turn → Type 0
@@ -66,23 +61,6 @@ pub record IsCutShort (W : World) (way : Via) (q : Name) (t : ℕ) (bytes : List
 abbrev pub IsRightReply : World → Via → Name → ℕ → List ℕ → Type 0
 IsRightReply W way q t bytes = IsServfail q t bytes ⊎ IsCutShort W way q t bytes ⊎ IsRightWhole W q t bytes
 
--- A step serves the query that this client asked: in the step itself, or earlier, under its number.
-abbrev pub IsServedFor : Asker → Turn → List Turn → Type 0
-IsServedFor who t past = Came Own who t past ⊎ ((k : ℕ) × (t.served ≡ Query k) × Earlier (Came (Query k) who) past)
-
--- A step answers bytes that are no query to be answered: FORMERR or NOTIMP (RFC 1035, section 4.1.1).
-pub record Refuses (action : Action) (t : Turn) : Type 0 where
-  pub moment : ℕ
-  pub client : ℕ
-  pub way : Via
-  pub bytes : List ℕ
-  pub refusal : Refusal
-  pub start : Opening
-  pub echo : Option Question
-  pub event : t.event ≡ Client moment client way bytes
-  pub reads : IsAsked {A = Plain} bytes (heard.Refuse refusal start echo)
-  pub reply : IsRefusal client way refusal start echo action
-
 -- A reply of a step goes to the client whose query the step serves, or refuses bytes that are none; and to
 -- every recursive query that the step serves it is right.
 pub record IsRightAnswer (W : World) (t : Turn) (past : List Turn) (client : ℕ) (way : Via) (bytes : List ℕ) (c : Option Cause) : Type 0 where
@@ -92,6 +70,7 @@ pub record IsRightAnswer (W : World) (t : Turn) (past : List Turn) (client : ℕ
 abbrev pub RepliesAreRight : World → Turn → List Turn → Type 0
 RepliesAreRight W t past = (client : ℕ) (way : Via) (bytes : List ℕ) (c : Option Cause) → GivesOut t.out (Reply client way bytes c) → IsRightAnswer W t past client way bytes c
 
--- Every reply is right.
+-- Every reply is right up to which servers were honest, whatever they say later.
 abbrev pub Headline : Type 0
-Headline = (W : World) (site : Site) (run : List Turn) (s : State) → IsWorld W → IsHomeIn W site.home → Run site run s → IsHonest W site.port run → Always (RepliesAreRight W) run
+Headline = (W : World) (site : Site) (run : List Turn) (s : State) → IsWorld W → IsHomeIn W site.home → Run site run s
+    → Always (λ t past. IsHonest W site.port (t ∷ past) → RepliesAreRight W t past) run

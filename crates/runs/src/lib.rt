@@ -4,4 +4,4 @@
 
 mod laws;
 
-pub use laws::clock_law;
+pub use laws::{clock_law, heard_law};
