@@ -9,7 +9,8 @@ use Rattle.resolution.specs.Jobs.{Home, Stores}
 use Rattle.runs.specs.States.{Action, Reply, MoreDue, Turn, Plain, Asker, recursive, Open, State}
 use Rattle.runs.specs.Messages.{IsReply}
 use Rattle.runs.specs.Steps.{Ends, Waits, IsFollowed}
-use Rattle.timely.specs.Replies.{IsServedFor, Refuses, Answers}
+use Rattle.runs.specs.Replies.{IsServedFor, Refuses}
+use Rattle.timely.specs.Replies.{Answers}
 use Rattle.timely.proofs.Opens.{alone, no_reply}
 
 -- ---- replies

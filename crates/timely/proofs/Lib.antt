@@ -16,3 +16,4 @@ pub mod Answered
 pub mod Turns
 pub mod Runs
 pub mod Failing
+pub mod Twice

@@ -78,6 +78,15 @@ EndsBadly port k z n t a turn past = (ask : Asking) × (turn.served ≡ Query k)
 abbrev pub HasFailed : ℕ → List Turn → ℕ → Name → Name → ℕ → Addr → Type 0
 HasFailed port run k z n t a = Twice (EndsBadly port k z n t a) run
 
+-- In this step the address is asked for the name and type over UDP.
+abbrev pub SendsTo : ℕ → ℕ → Addr → Name → ℕ → Turn → List Turn → Type 0
+SendsTo port k a n t turn past =
+    (ask : Asking) × IsUdp ask.path × IsFor a n t ask × (turn.served ≡ Query k) × ((action : Action) × GivesOut turn.out action × IsSent port ask action)
+
+-- So two such ends are those of two asks over UDP: one that goes on over TCP ends once.
+abbrev pub FailedIsAskedTwice : Type 0
+FailedIsAskedTwice = (port k : ℕ) (z n : Name) (t : ℕ) (a : Addr) (run : List Turn) → HasFailed port run k z n t a → Twice (SendsTo port k a n t) run
+
 -- ---- what servers' names have
 
 -- In this step an answer was accepted for the name and type that gives this link.

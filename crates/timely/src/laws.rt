@@ -2,6 +2,7 @@
 
 ghost use Rattle.timely.specs.Caused.{RepliesAreTimely};
 ghost use Rattle.timely.specs.Failures.{EveryFailureIsSpent};
+ghost use Rattle.timely.specs.Spent.{FailedIsAskedTwice};
 
 /// Whatever comes, each reply goes to the client whose query is served and is that of an outcome. Without RD
 /// the zones at hand answer alone. With RD it is a chain of links that these zones have, or that were accepted
@@ -16,4 +17,10 @@ pub fn timely_law()
 /// addresses three deep (RFC 1034, section 5.3.3; RFC 1035, section 7.2). No premise on what comes.
 pub fn every_failure_is_spent()
     ensures { EveryFailureIsSpent }
+{}
+
+/// An address that was asked twice in vain was asked twice over UDP: an ask that goes on over TCP, after a
+/// reply that was cut short, ends once (RFC 1035, section 4.2.1).
+pub fn failed_is_asked_twice()
+    ensures { FailedIsAskedTwice }
 {}

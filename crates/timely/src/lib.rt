@@ -5,4 +5,4 @@
 
 mod laws;
 
-pub use laws::{every_failure_is_spent, timely_law};
+pub use laws::{every_failure_is_spent, failed_is_asked_twice, timely_law};
