@@ -1,2 +1,3 @@
 pub mod Laws
+pub mod Meant
 pub mod Words
