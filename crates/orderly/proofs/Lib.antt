@@ -6,4 +6,5 @@ pub mod Lists
 pub mod Meant
 pub mod Orders
 pub mod Sent
+pub mod Times
 pub mod Words

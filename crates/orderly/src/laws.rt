@@ -2,6 +2,7 @@
 
 ghost use Rattle.orderly.specs.Laws.{OneAction, MoreDueAtTicks, NeverAgain, OneReply, OneComing, OpenByRun, FewAsks, OneLine, OthersStay, DueInOrder};
 ghost use Rattle.orderly.specs.Meant.{NothingIsMissed, DatagramIsServed};
+ghost use Rattle.orderly.specs.Times.{NothingIsLate};
 ghost use Rattle.orderly.specs.Words.{WordsInOrder};
 
 /// Over every run, whatever comes: a step that serves a query gives one reply or one ask of it, and bytes
@@ -24,9 +25,11 @@ pub fn isolation_law()
 {}
 
 /// A tick serves the query that is due first, the older one among equals, and answers it where its time is
-/// up; word that another query is due is given at ticks alone, and exactly where one is.
+/// up; word that another query is due is given at ticks alone, and exactly where one is. Nothing is sent for a
+/// query once ten seconds have passed since it came, whatever comes.
 pub fn due_law()
     ensures order { DueInOrder }
+    ensures late { NothingIsLate }
     ensures ticks { MoreDueAtTicks }
 {}
 
