@@ -17,11 +17,11 @@ pub fn calls_law()
     ensures alias { AliasStays }
 {}
 
-/// The open ask of a query is for what its innermost search seeks. What a step does at once for the open query
-/// that it serves, over every run and whatever came before: an
-/// ask that ended in vain goes on to the plan's next address; a reply that was cut is asked for again over
-/// TCP; a referral of which an address is taken is followed; an answer that ends the chain is replied, and
-/// an alias stays in the chain. Only the query's deadline and its 40 asks stand before an ask.
+/// The open ask of a query is for what its innermost search seeks. What a step does at once for the open
+/// query that it serves, over every run and whatever came before: an ask that ended in vain goes on to the
+/// plan's next address; a reply that was cut is asked for again over TCP; a referral of which an address is
+/// taken is followed; an answer that ends the chain is replied, and an alias stays in the chain. Only the
+/// query's deadline and its 40 asks stand before an ask.
 pub fn runs_law()
     ensures ask { AskIsOfSearch }
     ensures lost { LostIsAskedOn }
