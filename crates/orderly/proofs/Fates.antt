@@ -38,6 +38,16 @@ IsFrom s after new =
     ((q : Open) × Contains s.queries q × (q.number ≡ after.number) × (new.opened ≡ s.opened) × OneMore s.clock q.job after.job)
     ⊎ ((after.number ≡ s.opened) × (new.opened ≡ s.opened + 1) × ((after.job).asks ≡ 1))
 
+-- A client's query came in this event.
+abbrev pub IsComing : Event → Type 0
+IsComing event = (moment : ℕ) × (who : Asker) × (bytes : List ℕ) × (event ≡ Client moment who.client who.way bytes) × IsAsked {A = Plain} bytes (heard.Query who.query)
+
+-- Its deadline is what it was, or ten seconds from now where it comes now.
+abbrev pub IsDated : State → Event → Open → Type 0
+IsDated s event after =
+    ((q : Open) × Contains s.queries q × (q.number ≡ after.number) × ((after.job).deadline ≡ (q.job).deadline))
+    ⊎ (IsComing event × ((after.job).deadline ≡ s.clock + 10000))
+
 -- No other open ask is like its ask.
 abbrev pub IsAlike : State → Open → Type 0
 IsAlike s after = (p : Open) (sock : ℕ) (server : Addr) (id : ℕ) → Contains s.queries p → p.number ≢ after.number → IsLine p sock server id → IsLine after sock server id → ⊥
@@ -59,7 +69,7 @@ pub data Fate (s : State) (event : Event) (served : Served) (out : Option (List 
       → KeepsWords s out new → Fate s event served out new
   -- A query waits for the answer to an ask.
   waits : (after : Open) → served ≡ Query after.number → AreWith after s.queries new.queries → IsFrom s after new → IsAlike s after → IsOneAsk (s.site).port after.ask out
-      → s.clock < due_moment after → TakesWord s after new → Fate s event served out new
+      → s.clock < due_moment after → TakesWord s after new → IsDated s event after → Fate s event served out new
 
 abbrev pub AreBelow : State → Type 0
 AreBelow s = (q : Open) → Contains s.queries q → q.number < s.opened
@@ -149,6 +159,7 @@ serves_fate s event served q input first out new is h behind = by h.next refl h.
         (udp_alike s (open_query q.number q.asker h.job c.ask (s.clock + wait_of_job h.job)) c.goes)
         (record { actions = out; action = w.action; out_is = refl; alone = behind w.action w.out_is; sent = w.sent })
         (later s.clock (wait_of_job h.job) q.job h.job (more (subst IsAsking (sym e) tt)) (some_wait_in (h.job).searches)) (ap (λ (x : State). x.generator) w.state, inl ((c.goes).sock, (c.goes).sock_is, (c.goes).path, (c.goes).id))
+        (inl (q, h.stands, refl, (more (subst IsAsking (sym e) tt)).deadline))
     by (AskTcp server n t) e c =
         let w = c.waits in
         waits (open_query q.number q.asker h.job c.ask (s.clock + 3000)) is w.queries
@@ -156,6 +167,7 @@ serves_fate s event served q input first out new is h behind = by h.next refl h.
         (tcp_alike s (open_query q.number q.asker h.job c.ask (s.clock + 3000)) s.asked (c.goes).path)
         (record { actions = out; action = w.action; out_is = refl; alone = behind w.action w.out_is; sent = w.sent })
         (later s.clock 3000 q.job h.job (more (subst IsAsking (sym e) tt)) (omega arith)) (ap (λ (x : State). x.generator) w.state, inr (s.asked, (c.goes).path, (c.goes).id))
+        (inl (q, h.stands, refl, (more (subst IsAsking (sym e) tt)).deadline))
     by (Done chain last) e c = ends q h.stands is c.queries (ap (λ (x : State). x.opened) c.state) (inr (ended_reply s q.asker q.number _ h.stores first out new c behind)) (inl (ap (λ (x : State). x.generator) c.state))
     by (Fail cause) e c = ends q h.stands is c.queries (ap (λ (x : State). x.opened) c.state) (inr (ended_reply s q.asker q.number _ h.stores first out new c behind)) (inl (ap (λ (x : State). x.generator) c.state))
 
@@ -169,8 +181,8 @@ own_reply s event served who o stores out new is h = passes (inr is) gives h.que
     gives actions e = let same : actions ≡ h.action ∷ [] = let f = h.out_is in cc in
         subst (λ (v : Served). GivesOne event v actions) (sym is) (inr (h.action, reply_is who o h.action h.reply, same))
 
-opened_fate : (s : State) (event : Event) (served : Served) (who : Asker) (out : List Action) (new : State) → Resolves s who served out new → Fate s event served (Some out) new
-opened_fate s event served who out new r = by r.opened
+opened_fate : (s : State) (event : Event) (served : Served) (who : Asker) (out : List Action) (new : State) → IsComing event → Resolves s who served out new → Fate s event served (Some out) new
+opened_fate s event served who out new came r = by r.opened
   where
     more : IsAsking r.next → OneMore s.clock (job_for s.clock who.query) r.job
     more asking = call_asks (s.site).home s.clock Start (job_for s.clock who.query) s.stores r.next r.job r.stores r.advances asking
@@ -187,11 +199,13 @@ opened_fate s event served who out new r = by r.opened
         waits (open_query s.opened who r.job c.ask (s.clock + wait_of_job r.job)) is w.queries (inr (refl, ap (λ (x : State). x.opened) w.state, (more (subst IsAsking (sym e) asking)).asks)) (udp_alike s (open_query s.opened who r.job c.ask (s.clock + wait_of_job r.job)) c.goes)
         (record { actions = out; action = w.action; out_is = refl; alone = inl w.out_is; sent = w.sent })
         (later s.clock (wait_of_job r.job) (job_for s.clock who.query) r.job (more (subst IsAsking (sym e) asking)) (some_wait_in (r.job).searches)) (ap (λ (x : State). x.generator) w.state, inl ((c.goes).sock, (c.goes).sock_is, (c.goes).path, (c.goes).id))
+        (inr (came, (more (subst IsAsking (sym e) asking)).deadline))
     new_one (AskTcp server n t) e asking is c =
         let w = c.waits in
         waits (open_query s.opened who r.job c.ask (s.clock + 3000)) is w.queries (inr (refl, ap (λ (x : State). x.opened) w.state, (more (subst IsAsking (sym e) asking)).asks)) (tcp_alike s (open_query s.opened who r.job c.ask (s.clock + 3000)) s.asked (c.goes).path)
         (record { actions = out; action = w.action; out_is = refl; alone = inl w.out_is; sent = w.sent })
         (later s.clock 3000 (job_for s.clock who.query) r.job (more (subst IsAsking (sym e) asking)) (omega arith)) (ap (λ (x : State). x.generator) w.state, inr (s.asked, (c.goes).path, (c.goes).id))
+        (inr (came, (more (subst IsAsking (sym e) asking)).deadline))
     new_one (Done chain last) e asking is c = absurd asking
     new_one (Fail cause) e asking is c = absurd asking
 
@@ -214,7 +228,7 @@ client_fate s now client way bytes served out new (heard.Refuse refusal start ec
 client_fate s now client way bytes served out new (heard.Query q) below reads (inl (rd, h)) =
     passes (inr h.served_is) (own_gives (Client now client way bytes) served out h.served_is (inr (h.action, reply_is _ h.result h.action h.reply, h.out_is))) (unchanged s new below h.state)
     (ap (λ (x : State). x.opened) h.state) (inl (ap (λ (x : State). x.generator) h.state))
-client_fate s now client way bytes served out new (heard.Query q) below reads (inr (rd, h)) = opened_fate s (Client now client way bytes) served _ out new h
+client_fate s now client way bytes served out new (heard.Query q) below reads (inr (rd, h)) = opened_fate s (Client now client way bytes) served (record { client = client; way = way; query = q }) out new (now, record { client = client; way = way; query = q }, bytes, refl, reads) h
 
 -- ---- other events
 

@@ -3,6 +3,8 @@ pub mod Discipline
 pub mod Due
 pub mod Fates
 pub mod Lists
+pub mod Meant
 pub mod Orders
 pub mod Sent
+pub mod Times
 pub mod Words

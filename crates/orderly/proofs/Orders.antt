@@ -11,7 +11,7 @@ use Rattle.runs.proofs.Clocks.{clock_of_run}
 use Rattle.orderly.specs.Laws.{is_reply, IsAlone, GivesOne, IsOver, Answers, IsLine}
 use Rattle.orderly.proofs.Lists.{one_number, same_number, is_for_it, is_for_other, is_for_true, no_ask_given}
 use Rattle.orderly.proofs.Sent.{one_sent}
-use Rattle.orderly.proofs.Fates.{IsOneReply, IsOneAsk, IsFrom, IsAlike, Fate, passes, ends, waits, AreBelow, ask_is, turn_fate}
+use Rattle.orderly.proofs.Fates.{IsOneReply, IsOneAsk, IsFrom, IsAlike, IsDated, Fate, passes, ends, waits, AreBelow, ask_is, turn_fate}
 
 -- ---- one action
 
@@ -73,7 +73,7 @@ ask_given port a out h = subst (λ (o : Option (List Action)). GivesOut o h.acti
 given_is : (port : ℕ) (a : Asking) (out : Option (List Action)) → (h : IsOneAsk port a out) → (action : Action) → GivesOut out action → (action ≡ h.action) ⊎ (action ≡ MoreDue)
 given_is port a out h action g = only_it h.action action h.actions h.alone (subst (λ (o : Option (List Action)). GivesOut o action) h.out_is g)
 
-none_given : (out : Option (List Action)) (action : Action) → asks_in out ≡ 0 → GivesOut out action → is_ask action ≡ true → ⊥
+pub none_given : (out : Option (List Action)) (action : Action) → asks_in out ≡ 0 → GivesOut out action → is_ask action ≡ true → ⊥
 none_given None action e g f = g
 none_given (Some out) action e g f = no_ask_given out action e g f
 
@@ -89,7 +89,7 @@ count_other k t past other = let e : cond (is_for k t.served) (asks_in t.out) 0 
 
 pub record IsStep (port : ℕ) (t : Turn) (old new : State) : Type 0 where
   pub from_old : (q : Open) → Contains new.queries q
-      → (Contains old.queries q × (t.served ≢ Query q.number)) ⊎ ((t.served ≡ Query q.number) × IsOneAsk port q.ask t.out × IsFrom (moved old t.event) q new × IsAlike (moved old t.event) q × ((moved old t.event).clock < due_moment q))
+      → (Contains old.queries q × (t.served ≢ Query q.number)) ⊎ ((t.served ≡ Query q.number) × IsOneAsk port q.ask t.out × IsFrom (moved old t.event) q new × IsAlike (moved old t.event) q × ((moved old t.event).clock < due_moment q) × IsDated (moved old t.event) t.event q)
   pub to_new : (q : Open) → Contains old.queries q → t.served ≢ Query q.number → Contains new.queries q
   pub known : (k : ℕ) → t.served ≡ Query k → ((q : Open) × Contains old.queries q × (q.number ≡ k)) ⊎ ((k ≡ old.opened) × (new.opened ≡ old.opened + 1))
   pub ends : (k : ℕ) → t.served ≡ Query k
@@ -129,9 +129,9 @@ step_is port t old new here below (ends p there served others opened out words) 
     single actions e (inr h) =
         let same : h.actions ≡ actions = let f = h.out_is in cc in
         subst (λ (v : Served). GivesOne t.event v actions) (sym served) (h.action, inl h.reply, subst (IsAlone h.action) same h.alone)
-step_is port t old new here below (waits after served are from alike asked later words) = record {
+step_is port t old new here below (waits after served are from alike asked later words dated) = record {
   from_old = λ q c. elim (are.only q c) [
-    | inl is ↦ inr (subst (λ (x : Open). (t.served ≡ Query x.number) × IsOneAsk port x.ask t.out × IsFrom (moved old t.event) x new × IsAlike (moved old t.event) x × ((moved old t.event).clock < due_moment x)) (sym is) (served, one, from, alike, later))
+    | inl is ↦ inr (subst (λ (x : Open). (t.served ≡ Query x.number) × IsOneAsk port x.ask t.out × IsFrom (moved old t.event) x new × IsAlike (moved old t.event) x × ((moved old t.event).clock < due_moment x) × IsDated (moved old t.event) t.event x) (sym is) (served, one, from, alike, later, dated))
     | inr d ↦ inl (d.0, apart_numbers t after.number q.number served d.1)
   ];
   to_new = λ q c apart. are.stay q c (λ is. apart (served ∙ ap Query (sym is)));
@@ -210,15 +210,15 @@ module _ (port : ℕ) (t : Turn) (past : List Turn) (old new : State) (apart : A
   new_counted : (q : Open) → Contains new.queries q → asks_of q.number (t ∷ past) ≡ (q.job).asks
   new_counted q c = by (step.from_old q c)
     where
-      by : (Contains old.queries q × (t.served ≢ Query q.number)) ⊎ ((t.served ≡ Query q.number) × IsOneAsk port q.ask t.out × IsFrom (moved old t.event) q new × IsAlike (moved old t.event) q × ((moved old t.event).clock < due_moment q))
+      by : (Contains old.queries q × (t.served ≢ Query q.number)) ⊎ ((t.served ≡ Query q.number) × IsOneAsk port q.ask t.out × IsFrom (moved old t.event) q new × IsAlike (moved old t.event) q × ((moved old t.event).clock < due_moment q) × IsDated (moved old t.event) t.event q)
           → asks_of q.number (t ∷ past) ≡ (q.job).asks
       by (inl (d, other)) = count_other q.number t past other ∙ before.counted q d
-      by (inr (served, one, inl (p, d, number, opened, more), alike, later)) =
+      by (inr (served, one, inl (p, d, number, opened, more), alike, later, dated)) =
           let count = count_it q.number t past served in
           let single = ask_counts port q.ask t.out one in
           let was : asks_of q.number past ≡ (p.job).asks = ap (λ (n : ℕ). asks_of n past) (sym number) ∙ before.counted p d in
           let now = more.asks in omega arith
-      by (inr (served, one, inr (number, opened, asks), alike, later)) =
+      by (inr (served, one, inr (number, opened, asks), alike, later, dated)) =
           let count = count_it q.number t past served in
           let single = ask_counts port q.ask t.out one in
           let was : asks_of q.number past ≡ 0 = ap (λ (n : ℕ). asks_of n past) number ∙ before.none old.opened (omega arith) in omega arith

@@ -22,7 +22,7 @@ keeps_draw start site old t new m was none (inr (starved, e)) = record { n = suc
 step_draw : (start : ChaCha) (site : Site) (old : State) (t : Turn) (new : State) (m : ℕ) → old.site ≡ site → old.generator ≡ drawn m start → Fate (moved old t.event) t.event t.served t.out new → OneDraw start site old t new m
 step_draw start site old t new m here was (passes none gives others opened words) = keeps_draw start site old t new m was (own_counts t.event t.served t.out none gives) words
 step_draw start site old t new m here was (ends q there served others opened out words) = keeps_draw start site old t new m was (reply_counts t.out out) words
-step_draw start site old t new m here was (waits after served are from alike asked later (e, by)) = record {
+step_draw start site old t new m here was (waits after served are from alike asked later (e, by) dated) = record {
   n = suc m;
   draws = inr (
     refl,

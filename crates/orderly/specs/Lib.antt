@@ -1,2 +1,4 @@
 pub mod Laws
+pub mod Meant
+pub mod Times
 pub mod Words

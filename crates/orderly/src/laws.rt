@@ -1,6 +1,8 @@
 //! One reply and one open ask: functions that do nothing, whose clauses are proved.
 
 ghost use Rattle.orderly.specs.Laws.{OneAction, MoreDueAtTicks, NeverAgain, OneReply, OneComing, OpenByRun, FewAsks, OneLine, OthersStay, DueInOrder};
+ghost use Rattle.orderly.specs.Meant.{NothingIsMissed, DatagramIsServed};
+ghost use Rattle.orderly.specs.Times.{NothingIsLate};
 ghost use Rattle.orderly.specs.Words.{WordsInOrder};
 
 /// Over every run, whatever comes: a step that serves a query gives one reply or one ask of it, and bytes
@@ -23,9 +25,11 @@ pub fn isolation_law()
 {}
 
 /// A tick serves the query that is due first, the older one among equals, and answers it where its time is
-/// up; word that another query is due is given at ticks alone, and exactly where one is.
+/// up; word that another query is due is given at ticks alone, and exactly where one is. Nothing is sent for a
+/// query once ten seconds have passed since it came, whatever comes.
 pub fn due_law()
     ensures order { DueInOrder }
+    ensures late { NothingIsLate }
     ensures ticks { MoreDueAtTicks }
 {}
 
@@ -33,4 +37,11 @@ pub fn due_law()
 /// had, words aside that were taken where memory was wanting.
 pub fn words_law()
     ensures { WordsInOrder }
+{}
+
+/// A datagram that an open ask accepts serves its query and no other, and a step that serves nobody brings
+/// nothing that an open ask accepts (RFC 5452, section 9.1).
+pub fn meant_law()
+    ensures datagram { DatagramIsServed }
+    ensures nobody { NothingIsMissed }
 {}

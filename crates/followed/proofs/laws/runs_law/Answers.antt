@@ -1,8 +1,10 @@
+use Rattle.followed.proofs.Searches.{ask_is_of_search}
 use Rattle.followed.proofs.Steps.{lost_is_asked_on, cut_is_asked_again, referral_is_asked, answer_is_replied, alias_is_kept}
 use Rattle.followed.proofs.laws.runs_law.Goals as goal
 
 pub returns : goal.returns
 returns c = record {
+  ask = ask_is_of_search;
   lost = lost_is_asked_on;
   cut = cut_is_asked_again;
   referral = referral_is_asked;
