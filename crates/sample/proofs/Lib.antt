@@ -1,0 +1,4 @@
+pub mod Course
+pub mod Place
+pub mod Steps
+pub mod Talk
