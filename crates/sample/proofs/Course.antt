@@ -1,7 +1,7 @@
 -- The states of the run and its three steps, whatever words the generator gives.
 use Rattle.std.proofs.Common.{◌≡◌, ℕ, ◌+◌, ◌<◌, ◌%◌, inl, inr, Some, None, List, [], ◌∷◌, refl, sym, ◌∙◌, ap, subst, arith}
 use Rattle.std.specs.Prelude.{Contains}
-use Rattle.dname.specs.Labels.{Name, root}
+use Rattle.dname.specs.Labels.{Name}
 use Rattle.rdata.specs.Data.{Ipv4}
 use Rattle.rdata.specs.declared.addr.Addr.{Addr}
 use Rattle.zone.proofs.LawLists.{none_in, first_in, in_cases}
@@ -14,11 +14,11 @@ use Rattle.resolution.specs.Jobs.{Stores, wait_of_job, Told, Ask, Done}
 use Rattle.runs.specs.States.{Endpoint, endpoint, Client, Datagram, Action, Reply, Send, Query, Turn, ByUdp, Asking, Open, open_query, State, IsNew, word_of, word_taken, low_half, socket_of}
 use Rattle.runs.specs.Messages.{question_for, IsSent, Brings}
 use Rattle.runs.specs.Steps.{IsUdpAsk, admitted, Step}
-use Rattle.runs.specs.Runs.{Asks, Came}
+use Rattle.runs.specs.Runs.{Asks, Came, Accepts}
 use Rattle.truth.specs.Serving.{MayServe}
-use Rattle.truth.specs.Sample.{lower_name, host_name, server_address, entry}
+use Rattle.truth.specs.Sample.{server_name, lower_name, host_name, server_address, entry}
 use Rattle.right.specs.Headline.{IsHonest, IsHomeIn}
-use Rattle.sample.specs.Stands.{AcceptsReferral, Answers, LawsStand}
+use Rattle.sample.specs.Stands.{FollowsReferral, Answers, LawsStand}
 use Rattle.sample.proofs.Talk.{question, servers, glue, ask_message, referral_message, answer_message, reply_message, client_bytes, ask_is, referral_is, answer_is, reply_is}
 use Rattle.sample.proofs.Place.{world, world_stands, root_address, may_refer, may_answer}
 use Rattle.sample.proofs.Steps.{root_server, lower_server, home, site, query, who, is_asked, stores0, job1, work1, stores2, job2, work2, stores3, job3, work3, last, is_reply}
@@ -226,11 +226,33 @@ module _ (g : ChaCha) where
   came : Came (Query 0) who turn1 []
   came = record { is_served = refl; moment = 0; bytes = client_bytes; event = refl; reads = is_asked }
 
-  referred : AcceptsReferral 53 0 turn2 (turn1 ∷ [])
-  referred = (ask_by g root_server, referral_message (id_by g), record { served = refl; ask = asks1; brings = step2_brings }, (root, lower_name, servers, glue, 300, refl))
-    where
-      step2_brings : Brings 53 (ask_by g root_server) turn2.event (referral_message (id_by g))
-      step2_brings = (refl, refl, referral_is (id_by g) (id_fits g), record { qr = refl; opcode = refl; id = refl; question = refl })
+  accepted : Accepts 53 0 (ask_by g root_server) (referral_message (id_by g)) turn2 (turn1 ∷ [])
+  accepted = record {
+    served = refl;
+    ask = asks1;
+    brings = (refl, refl, referral_is (id_by g) (id_fits g), record { qr = refl; opcode = refl; id = refl; question = refl });
+  }
+
+  followed : FollowsReferral 53 0 turn2 (turn1 ∷ [])
+  followed = record {
+    ask = ask_by g root_server;
+    message = referral_message (id_by g);
+    accepts = accepted;
+    cut = lower_name;
+    servers = servers;
+    addresses = glue;
+    ttl = 300;
+    refers = refl;
+    next = ask_by next_g lower_server;
+    action = sending_by next_g lower_server;
+    gives = first_in (sending_by next_g lower_server) [];
+    sent = is_sent next_g lower_server;
+    name = refl;
+    kind = refl;
+    address = entry server_name (Ipv4 server_address);
+    stands = first_in (entry server_name (Ipv4 server_address)) [];
+    value = refl;
+  }
 
   answered : Answers 0 who turn3 (turn2 ∷ turn1 ∷ [])
   answered = record {
@@ -275,7 +297,7 @@ module _ (g : ChaCha) where
     run,
     state3,
     record { world = world_stands; home = at_home; leads = (state2, (state1, (state0, is_new seed by_seed, step1), step2), step3); honest = honest },
-    (0, who, refl, came, referred, answered),
+    (0, who, refl, came, followed, answered),
   )
 
 pub laws_stand_here : LawsStand

@@ -1,20 +1,36 @@
 -- The premises of the laws over runs can be met, by a run in which a referral is followed and a query answered.
 use Rattle.std.specs.Prelude.{◌≡◌, ℕ, true, None, List, [], ◌∷◌, Contains}
-use Rattle.dname.specs.Labels.{Name}
+use Rattle.dname.specs.Labels.{Name, root}
+use Rattle.rdata.specs.Data.{Ipv4}
 use Rattle.rdata.specs.Records.{Record}
 use Rattle.layout.specs.Messages.{Message, IsMessage}
 use Rattle.classify.specs.Classes.{Referral, class_of}
 use Rattle.truth.specs.Worlds.{World, IsWorld}
-use Rattle.runs.specs.States.{Reply, Query, Turn, Asker, recursive, Asking, Site, State, via_of}
+use Rattle.runs.specs.States.{Action, Reply, Query, Turn, Asker, recursive, Asking, Site, State, via_of}
+use Rattle.runs.specs.Messages.{IsSent}
 use Rattle.runs.specs.Runs.{Run, GivesOut, Accepts, Came}
 use Rattle.right.specs.Headline.{IsHonest, IsHomeIn}
 
--- A step accepts a referral for the open ask of query k (RFC 1034, section 4.3.2, step 3b).
-abbrev pub AcceptsReferral : ℕ → ℕ → Turn → List Turn → Type 0
-AcceptsReferral port k t past =
-    (a : Asking) × (m : Message) × Accepts port k a m t past
-    × ((zone : Name) × (at : Name) × (ns : List Record) × (glue : List Record) × (ttl : ℕ)
-    × (class_of zone a.name a.kind (via_of a.path) m ≡ Referral at ns glue ttl))
+-- A step accepts a referral for the open ask of query k, and asks a server whose address the referral gives
+-- the same question (RFC 1034, sections 4.3.2, step 3b, and 5.3.3, step 4b).
+pub record FollowsReferral (port k : ℕ) (t : Turn) (past : List Turn) : Type 0 where
+  pub ask : Asking
+  pub message : Message
+  pub accepts : Accepts port k ask message t past
+  pub cut : Name
+  pub servers : List Record
+  pub addresses : List Record
+  pub ttl : ℕ
+  pub refers : class_of root ask.name ask.kind (via_of ask.path) message ≡ Referral cut servers addresses ttl
+  pub next : Asking
+  pub action : Action
+  pub gives : GivesOut t.out action
+  pub sent : IsSent port next action
+  pub name : next.name ≡ ask.name
+  pub kind : next.kind ≡ ask.kind
+  pub address : Record
+  pub stands : Contains addresses address
+  pub value : address.value ≡ Ipv4 (next.server).0
 
 -- A step replies to query k with a record in the answer, and without an error (RFC 1035, section 4.1.1).
 pub record Answers (k : ℕ) (who : Asker) (t : Turn) (past : List Turn) : Type 0 where
@@ -27,10 +43,10 @@ pub record Answers (k : ℕ) (who : Asker) (t : Turn) (past : List Turn) : Type 
   pub first : Record
   pub answer : Contains message.answer first
 
--- Of three steps the first is a recursive query's, the second accepts a referral for it, the third answers it.
+-- Of three steps the first is a recursive query's, the second follows a referral for it, the third answers it.
 abbrev pub IsAnsweredByReferral : ℕ → List Turn → Type 0
 IsAnsweredByReferral port (third ∷ second ∷ first ∷ []) =
-    (k : ℕ) × (who : Asker) × (recursive who.query ≡ true) × Came (Query k) who first [] × AcceptsReferral port k second (first ∷ [])
+    (k : ℕ) × (who : Asker) × (recursive who.query ≡ true) × Came (Query k) who first [] × FollowsReferral port k second (first ∷ [])
     × Answers k who third (second ∷ first ∷ [])
 IsAnsweredByReferral port _ = ⊥
 
@@ -42,6 +58,6 @@ pub record AreMet (W : World) (site : Site) (run : List Turn) (s : State) : Type
   pub leads : Run site run s
   pub honest : IsHonest W site.port run
 
--- It is met by a run of three steps that is not empty of what the laws speak of.
+-- It is met by a run in which a referral is followed and an answer given: the laws are not empty.
 abbrev pub LawsStand : Type 0
 LawsStand = (W : World) × (site : Site) × (run : List Turn) × (s : State) × AreMet W site run s × IsAnsweredByReferral site.port run
