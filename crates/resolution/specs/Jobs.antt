@@ -54,36 +54,36 @@ with_timeout stores server = record stores { penalties = timed_out server stores
 
 -- Where a link comes from: the zones at hand, the cache, or a message that was accepted for this very query.
 -- The latter two with the time to live that the link had, and the moment since which it is known.
-pub data Origin : Type 0 where
-  Local : Origin
-  Cached : ℕ → ℕ → Origin
-  Accepted : ℕ → ℕ → Origin
+pub data Source : Type 0 where
+  Local : Source
+  Cached : ℕ → ℕ → Source
+  Accepted : ℕ → ℕ → Source
 
 -- A link and the name that it is of.
 pub record Taken : Type 0 where
   pub name : Name
   pub link : Link
-  pub origin : Origin
+  pub source : Source
 
 abbrev pub local_link : Name → Link → Taken
-local_link n l = record { name = n; link = l; origin = Local }
+local_link n l = record { name = n; link = l; source = Local }
 
 abbrev pub kept_link : Name → Hit → Taken
-kept_link n h = record { name = n; link = h.link; origin = Cached h.ttl h.since }
+kept_link n h = record { name = n; link = h.link; source = Cached h.ttl h.since }
 
 -- What a message says is kept and sent within the limits on times to live.
 abbrev pub received_link : Name → Link → ℕ → Taken
-received_link n l now = record { name = n; link = received l; origin = Accepted (lifetime_of (received l)) now }
+received_link n l now = record { name = n; link = received l; source = Accepted (lifetime_of (received l)) now }
 
 -- A link from the cache that has reached its time to live by now. Others never are so: what was accepted for
 -- this query may be used once, whatever its time to live (RFC 1034, section 3.6).
-abbrev pub has_ended : ℕ → Origin → Bool
+abbrev pub has_ended : ℕ → Source → Bool
 has_ended now Local = false
 has_ended now (Cached ttl since) = nat_le (1000 * ttl) (now - since)
 has_ended now (Accepted ttl since) = false
 
 abbrev pub is_dead : ℕ → Taken → Bool
-is_dead now l = has_ended now l.origin
+is_dead now l = has_ended now l.source
 
 abbrev pub IsDead : ℕ → Taken → Type 0
 IsDead now l = is_dead now l ≡ true
@@ -100,13 +100,13 @@ IsEnding (NoData soa) = Unit {0}
 IsEnding (NxDomain soa) = Unit {0}
 
 -- A link as it goes out: a local one as it is, others with what is left of their time to live.
-abbrev pub sent_from : ℕ → Origin → Link → Link
+abbrev pub sent_from : ℕ → Source → Link → Link
 sent_from now Local l = l
 sent_from now (Cached ttl since) l = retimed (ttl - (now - since) / 1000) l
 sent_from now (Accepted ttl since) l = retimed (ttl - (now - since) / 1000) l
 
 abbrev pub sent : ℕ → Taken → Link
-sent now l = sent_from now l.origin l.link
+sent now l = sent_from now l.source l.link
 
 -- ---- cuts: where servers are named
 

@@ -29,7 +29,7 @@ use Rattle.truth.proofs.Sames.{same_back, same_on}
 use Rattle.truth.proofs.Grown.{local_is_true}
 use Rattle.truth.proofs.Stays.{same_is_true, held_once}
 use Rattle.cache.specs.Cached.{retimed}
-use Rattle.resolution.specs.Jobs.{Origin, Local, Cached, Accepted, sent_from}
+use Rattle.resolution.specs.Jobs.{Source, Local, Cached, Accepted, sent_from}
 
 abbrev pub IsOnce : Link → Type 0
 IsOnce (Found set) = Once set
@@ -100,7 +100,7 @@ received_good W n t l h = record { is = same_is_true W n t (received l) l (recei
 retimed_good : (W : World) (n : Name) (t ttl : ℕ) (l : Link) → IsGood W n t l → IsGood W n t (retimed ttl l)
 retimed_good W n t ttl l h = record { is = same_is_true W n t (retimed ttl l) l (retimed_same ttl l) h.is; once = retimed_once ttl l h.once }
 
-pub sent_good : (W : World) (n : Name) (t now : ℕ) (o : Origin) (l : Link) → IsGood W n t l → IsGood W n t (sent_from now o l)
+pub sent_good : (W : World) (n : Name) (t now : ℕ) (o : Source) (l : Link) → IsGood W n t l → IsGood W n t (sent_from now o l)
 sent_good W n t now Local l h = h
 sent_good W n t now (Cached ttl since) l h = retimed_good W n t _ l h
 sent_good W n t now (Accepted ttl since) l h = retimed_good W n t _ l h

@@ -22,7 +22,7 @@ use Rattle.truth.specs.Worlds.{World}
 use Rattle.truth.specs.Truths.{IsEnd, Leads, Truth}
 use Rattle.truth.specs.Replies.{IsReplyTo, Ends, IsWhole}
 use Rattle.truth.proofs.Honest.{alias_is, IsShown}
-use Rattle.resolution.specs.Jobs.{Origin, Local, Cached, Accepted, Taken, IsEnding, sent_from, sent}
+use Rattle.resolution.specs.Jobs.{Source, Local, Cached, Accepted, Taken, IsEnding, sent_from, sent}
 use Rattle.runs.specs.States.{Plain}
 use Rattle.runs.specs.Messages.{AreWritten, alias_in, aliases_of, end_in, outcome_of}
 use Rattle.right.specs.Headline.{IsServfail, IsRightWhole, IsRightReply}
@@ -32,7 +32,7 @@ use Rattle.right.proofs.Points.{AreLeading, EndsTruly}
 -- ---- chains
 
 -- An alias as it goes out.
-sent_alias : (now : ℕ) (o : Origin) (r : Record) → (s : Record) × (sent_from now o (Alias r) ≡ Alias s) × Same s r
+sent_alias : (now : ℕ) (o : Source) (r : Record) → (s : Record) × (sent_from now o (Alias r) ≡ Alias s) × Same s r
 sent_alias now Local r = (r, refl, (refl, refl))
 sent_alias now (Cached ttl since) r = (_, refl, (refl, refl))
 sent_alias now (Accepted ttl since) r = (_, refl, (refl, refl))
@@ -50,17 +50,17 @@ cname_of (Ipv6 a) h = absurd (omega (arith, h))
 true_leads : (W : World) (t now : ℕ) (from to : Name) (ls : List Taken) → AreLeading W t from ls to → Leads W t from (aliases_of now ls) to × (length (aliases_of now ls) ≡ length ls)
 true_leads W t now from to [] leads = (leads, refl)
 true_leads W t now from to (l ∷ ls) (name, (r, alias, good, more)) =
-    let (s, is, same) = sent_alias now l.origin r in
-    let here : IsGood W from t (Alias s) = subst (IsGood W from t) is (sent_good W from t now l.origin (Alias r) good) in
+    let (s, is, same) = sent_alias now l.source r in
+    let here : IsGood W from t (Alias s) = subst (IsGood W from t) is (sent_good W from t now l.source (Alias r) good) in
     let shown : IsShown from t s = alias_is here.is.0 from t s here.is.2 in
     let (n, value) = cname_of s.value shown.kind in
     let target : target_of r ≡ n = ap (target_in r.owner) (sym same.1 ∙ value) in
     let rest = true_leads W t now (target_of r) to ls more in
-    let whole : sent now l ≡ Alias s = ap (sent_from now l.origin) alias ∙ is in
+    let whole : sent now l ≡ Alias s = ap (sent_from now l.source) alias ∙ is in
     subst (λ (k : Link). Leads W t from (alias_in k ++ aliases_of now ls) to × (length (alias_in k ++ aliases_of now ls) ≡ suc (length ls))) (sym whole)
     ((here.is, (n, value, subst (λ (m : Name). Leads W t m (aliases_of now ls) to) target rest.0)), ap suc rest.1)
 
-ending_sent : (now : ℕ) (o : Origin) (l : Link) → IsEnding l → IsEnding (sent_from now o l)
+ending_sent : (now : ℕ) (o : Source) (l : Link) → IsEnding l → IsEnding (sent_from now o l)
 ending_sent now Local l h = h
 ending_sent now (Cached ttl since) (Found rs) h = tt
 ending_sent now (Cached ttl since) (Alias r) h = h
@@ -92,8 +92,8 @@ chain_truth W q t now chain l h =
       to = h.to;
       leads = leads.0;
       few = omega (arith, long, few);
-      link = (sent_good W h.to t now l.origin l.link h.good).is;
-      ends = ending_ends (sent now l) (ending_sent now l.origin l.link h.ending);
+      link = (sent_good W h.to t now l.source l.link h.good).is;
+      ends = ending_ends (sent now l) (ending_sent now l.source l.link h.ending);
     }
 
 -- ---- replies
@@ -140,7 +140,7 @@ module _ (W : World) (q : Question Plain) (echo : folded_question q.echo ≡ que
       last = sent now l;
       truth = chain_truth W q.name (type_number q.kind) now chain l ends;
       answer = refl;
-      ends = link_ends (sent now l) (ending_sent now l.origin l.link ends.ending) (sent_good W ends.to (type_number q.kind) now l.origin l.link ends.good).once;
+      ends = link_ends (sent now l) (ending_sent now l.source l.link ends.ending) (sent_good W ends.to (type_number q.kind) now l.source l.link ends.good).once;
       additional = refl;
     }
 

@@ -12,7 +12,7 @@ use Rattle.front.specs.declared.queries.Outcome.{Outcome}
 use Rattle.front.specs.declared.queries.Outcome.TheVariants.{Answer}
 use Rattle.front.specs.declared.queries.Refusal.{Refusal}
 use Rattle.wire.specs.declared.via.Via.{Via}
-use Rattle.resolution.specs.Jobs.{Origin, Local, Cached, Accepted, Taken, sent}
+use Rattle.resolution.specs.Jobs.{Source, Local, Cached, Accepted, Taken, sent}
 use Rattle.runs.specs.States.{endpoint, Event, Client, Datagram, TcpReply, TcpFailed, Tick, Action, Reply, Send, TcpAsk, Plain, Asker, Path, ByUdp, ByTcp, Asking}
 
 -- The bytes are the one encoding of the message, and are read as it, names in lower case.
@@ -68,14 +68,14 @@ id_in bytes = 256 * slice_index bytes 0 + slice_index bytes 1
 -- ---- replies
 
 -- AA is set where the asked name's own link is local.
-abbrev pub is_from_here : Origin → Bool
+abbrev pub is_from_here : Source → Bool
 is_from_here Local = true
 is_from_here (Cached ttl since) = false
 is_from_here (Accepted ttl since) = false
 
 abbrev pub is_local_first : List Taken → Taken → Bool
-is_local_first [] last = is_from_here last.origin
-is_local_first (l ∷ ls) last = is_from_here l.origin
+is_local_first [] last = is_from_here last.source
+is_local_first (l ∷ ls) last = is_from_here l.source
 
 -- The records of a chain's aliases as they go out, and its end.
 abbrev pub alias_in : Link → List Record

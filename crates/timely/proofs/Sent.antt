@@ -11,7 +11,7 @@ use Rattle.authority.specs.declared.cause.Cause.TheVariants.{TooManyOpen, Deadli
 use Rattle.classify.specs.Lifetimes.{received, lifetime_of}
 use Rattle.front.specs.Chains.{target_of, IsEndOf}
 use Rattle.cache.specs.Cached.{retimed}
-use Rattle.resolution.specs.Jobs.{Home, Stores, Origin, Local, Cached, Accepted, Taken, has_ended, AreFresh, IsEnding, sent_from, sent, Job, Next, Ask, AskTcp, Done, Fail, Task, Take, Go, Again, Point}
+use Rattle.resolution.specs.Jobs.{Home, Stores, Source, Local, Cached, Accepted, Taken, has_ended, AreFresh, IsEnding, sent_from, sent, Job, Next, Ask, AskTcp, Done, Fail, Task, Take, Go, Again, Point}
 use Rattle.resolution.specs.Rules.{Says, IsRemote, IsRefused, Leaves, sends, sends_again, refuses, spent, nowhere, too_long, done}
 use Rattle.runs.specs.States.{Turn, Query}
 use Rattle.runs.specs.Messages.{is_from_here, is_local_first, alias_in, aliases_of, end_in}
@@ -21,13 +21,13 @@ use Rattle.timely.proofs.Chains.{LeadsOn, IsOfName, IsReached}
 use Rattle.timely.proofs.Timed.{AreTimed, IsKnownAs, IsKnown, AreKnown, KnownBy, IsTimed}
 
 -- An alias as it goes out leads where it led.
-sent_alias : (now : ℕ) (o : Origin) (r : Record) → (q : Record) × (sent_from now o (Alias r) ≡ Alias q) × (target_of q ≡ target_of r)
+sent_alias : (now : ℕ) (o : Source) (r : Record) → (q : Record) × (sent_from now o (Alias r) ≡ Alias q) × (target_of q ≡ target_of r)
 sent_alias now Local r = (r, refl, refl)
 sent_alias now (Cached ttl since) r = (_, refl, refl)
 sent_alias now (Accepted ttl since) r = (_, refl, refl)
 
 -- An end as it goes out is one.
-sent_end : (now : ℕ) (o : Origin) (l : Link) → IsEnding l → IsEndOf (sent_from now o l) (end_in (sent_from now o l))
+sent_end : (now : ℕ) (o : Source) (l : Link) → IsEnding l → IsEndOf (sent_from now o l) (end_in (sent_from now o l))
 sent_end now Local (Found rs) h = refl
 sent_end now Local (Alias r) h = absurd h
 sent_end now Local (NoData soa) h = refl
@@ -45,7 +45,7 @@ module _ (port : ℕ) (home : Home) (turn : Turn) (past : List Turn) (k t now : 
   left_of : (ttl life since : ℕ) (l : Link) → ttl ≡ life → retimed (ttl - (now - since) / 1000) l ≡ retimed (life - (clock_of (turn ∷ past) - since) / 1000) l
   left_of ttl life since l e = λ i. retimed (e i - (clock i - since) / 1000) l
 
-  timely_as : (n : Name) (o : Origin) (l : Link) → has_ended now o ≡ false → IsKnownAs port home (turn ∷ past) k t Mine n o l → IsTimelyLink port home turn past n t (sent_from now o l)
+  timely_as : (n : Name) (o : Source) (l : Link) → has_ended now o ≡ false → IsKnownAs port home (turn ∷ past) k t Mine n o l → IsTimelyLink port home turn past n t (sent_from now o l)
   timely_as n Local l fresh h = inl h
   timely_as n (Cached ttl since) l fresh (remote, (by, u, said, learnt, answers, life)) = inr (
     remote,
@@ -80,11 +80,11 @@ module _ (port : ℕ) (home : Home) (turn : Turn) (past : List Turn) (k t now : 
   timely_chain : (from : Name) (chain : List Taken) (to : Name) (last : Taken) → LeadsOn port home (turn ∷ past) t from chain to → last.name ≡ to → AreKnown port home (turn ∷ past) k t Mine chain
       → IsKnown port home (turn ∷ past) k t Mine last → AreFresh now (chain ++ last ∷ []) → IsEnding last.link → IsTimelyChain port home turn past t from (aliases_of now chain) (end_in (sent now last))
   timely_chain from [] to last leads name known is fresh ending =
-      (sent now last, subst (λ (n : Name). IsTimelyLink port home turn past n t (sent now last)) (name ∙ leads) (timely_as last.name last.origin last.link fresh.0 is), sent_end now last.origin last.link ending)
+      (sent now last, subst (λ (n : Name). IsTimelyLink port home turn past n t (sent now last)) (name ∙ leads) (timely_as last.name last.source last.link fresh.0 is), sent_end now last.source last.link ending)
   timely_chain from (x ∷ xs) to last (name, (r, link, alias, more)) at known is fresh ending =
-      let (q, out, target) = sent_alias now x.origin r in
-      let goes : sent now x ≡ Alias q = ap (sent_from now x.origin) link ∙ out in
-      let first = subst (λ (n : Name). IsTimelyLink port home turn past n t (sent now x)) name (timely_as x.name x.origin x.link fresh.0 known.0) in
+      let (q, out, target) = sent_alias now x.source r in
+      let goes : sent now x ≡ Alias q = ap (sent_from now x.source) link ∙ out in
+      let first = subst (λ (n : Name). IsTimelyLink port home turn past n t (sent now x)) name (timely_as x.name x.source x.link fresh.0 known.0) in
       let rest = timely_chain (target_of r) xs to last more at known.1 is fresh.1 ending in
       subst (λ (rs : List Record). IsTimelyChain port home turn past t from (rs ++ aliases_of now xs) (end_in (sent now last))) (sym (ap alias_in goes))
       (subst (IsTimelyLink port home turn past from t) goes first, subst (λ (n : Name). IsTimelyChain port home turn past t n (aliases_of now xs) (end_in (sent now last))) (sym target) rest)
@@ -92,13 +92,13 @@ module _ (port : ℕ) (home : Home) (turn : Turn) (past : List Turn) (k t now : 
   as_many : (from : Name) (chain : List Taken) (to : Name) → LeadsOn port home (turn ∷ past) t from chain to → length (aliases_of now chain) ≡ length chain
   as_many from [] to leads = refl
   as_many from (x ∷ xs) to (name, (r, link, alias, more)) =
-      let (q, out, target) = sent_alias now x.origin r in
-      ap (λ (rs : List Record). length (rs ++ aliases_of now xs)) (ap alias_in (ap (sent_from now x.origin) link ∙ out)) ∙ ap suc (as_many (target_of r) xs to more)
+      let (q, out, target) = sent_alias now x.source r in
+      ap (λ (rs : List Record). length (rs ++ aliases_of now xs)) (ap alias_in (ap (sent_from now x.source) link ∙ out)) ∙ ap suc (as_many (target_of r) xs to more)
 
   Authority : Name → Bool → Type 0
   Authority n aa = ((aa ≡ true) × ((l : Link) × Says home n t (local.Linked l))) ⊎ ((aa ≡ false) × IsRemote home n t)
 
-  from_here : (n : Name) (o : Origin) (l : Link) → IsKnownAs port home (turn ∷ past) k t Mine n o l → Authority n (is_from_here o)
+  from_here : (n : Name) (o : Source) (l : Link) → IsKnownAs port home (turn ∷ past) k t Mine n o l → Authority n (is_from_here o)
   unfolding Authority
   from_here n Local l h = inl (refl, (l, h))
   from_here n (Cached ttl since) l h = inr (refl, h.0)
@@ -106,8 +106,8 @@ module _ (port : ℕ) (home : Home) (turn : Turn) (past : List Turn) (k t now : 
 
   first_here : (from : Name) (chain : List Taken) (to : Name) (last : Taken) → LeadsOn port home (turn ∷ past) t from chain to → last.name ≡ to → AreKnown port home (turn ∷ past) k t Mine chain
       → IsKnown port home (turn ∷ past) k t Mine last → Authority from (is_local_first chain last)
-  first_here from [] to last leads name known is = subst (λ (n : Name). Authority n (is_from_here last.origin)) (name ∙ leads) (from_here last.name last.origin last.link is)
-  first_here from (x ∷ xs) to last (name, more) at known is = subst (λ (n : Name). Authority n (is_from_here x.origin)) name (from_here x.name x.origin x.link known.0)
+  first_here from [] to last leads name known is = subst (λ (n : Name). Authority n (is_from_here last.source)) (name ∙ leads) (from_here last.name last.source last.link is)
+  first_here from (x ∷ xs) to last (name, more) at known is = subst (λ (n : Name). Authority n (is_from_here x.source)) name (from_here x.name x.source x.link known.0)
 
   pub timely : (from : Name) (chain : List Taken) (to : Name) (last : Taken) → LeadsOn port home (turn ∷ past) t from chain to → last.name ≡ to → length chain ≤ 8 → (t ≡ cname_type → chain ≡ [])
       → AreKnown port home (turn ∷ past) k t Mine chain → IsKnown port home (turn ∷ past) k t Mine last → AreFresh now (chain ++ last ∷ []) → IsEnding last.link

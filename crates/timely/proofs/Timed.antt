@@ -11,7 +11,7 @@ use Rattle.classify.proofs.Uses.{no_alias_class}
 use Rattle.referral.specs.Cuts.{Cut}
 use Rattle.cache.specs.Keys.{Key, key_for}
 use Rattle.cache.specs.Cached.{Hit, Answers}
-use Rattle.resolution.specs.Jobs.{Home, Stores, Origin, Local, Cached, Accepted, Taken, Job, Task, Seek, Take, Go, Again, Point}
+use Rattle.resolution.specs.Jobs.{Home, Stores, Source, Local, Cached, Accepted, Taken, Job, Task, Seek, Take, Go, Again, Point}
 use Rattle.resolution.specs.Rules.{Says, IsRemote, Finds, Begins, Misses, Rule, takes, asks, follows, restarts, hears, descends, gives_up, Rules}
 use Rattle.runs.specs.States.{Turn, via_of}
 use Rattle.runs.specs.Runs.{Earlier}
@@ -78,14 +78,14 @@ module _ (port : ℕ) (home : Home) (run : List Turn) where
 
 module _ (port : ℕ) (home : Home) (run : List Turn) (k t : ℕ) (Mine : Type 0) where
   -- A link of a chain for the type t, by where it comes from. `Mine`: the query with this number is served.
-  abbrev pub IsKnownAs : Name → Origin → Link → Type 0
+  abbrev pub IsKnownAs : Name → Source → Link → Type 0
   IsKnownAs n Local l = Says home n t (local.Linked l)
   IsKnownAs n (Cached ttl since) l =
       IsRemote home n t × ((by : ℕ) × (u : ℕ) × (said : Link) × Earlier (Learns port by n u said since) run × Answers n t (key_for n u (received said)) (received said) l × (ttl ≡ lifetime_of (received said)))
   IsKnownAs n (Accepted ttl since) l = IsRemote home n t × Mine × ((said : Link) × Earlier (Learns port k n t said since) run × (l ≡ received said) × (ttl ≡ lifetime_of (received said)))
 
   abbrev pub IsKnown : Taken → Type 0
-  IsKnown l = IsKnownAs l.name l.origin l.link
+  IsKnown l = IsKnownAs l.name l.source l.link
 
   abbrev pub AreKnown : List Taken → Type 0
   AreKnown [] = Unit {0}
@@ -99,7 +99,7 @@ module _ (port : ℕ) (home : Home) (run : List Turn) (k t : ℕ) (Mine : Type 0
   known_front [] back h = tt
   known_front (x ∷ front) back h = (h.0, known_front front back h.1)
 
-  known_local : (n : Name) (l : Taken) (link : Link) → l ≡ record { name = n; link = link; origin = Local } → Says home n t (local.Linked link) → IsKnown l
+  known_local : (n : Name) (l : Taken) (link : Link) → l ≡ record { name = n; link = link; source = Local } → Says home n t (local.Linked link) → IsKnown l
   known_local n l link e says = subst IsKnown (sym e) says
 
   pub found_known : (now : ℕ) (n : Name) (u : ℕ) (old new : Stores) (l : Taken) → u ≡ t → AreTimed port home run old → Finds home now n u old l new → IsKnown l
@@ -124,7 +124,7 @@ module _ (port : ℕ) (home : Home) (run : List Turn) (k t : ℕ) (Mine : Type 0
           )
 
   -- Where CNAME is asked for, no link is an alias.
-  pub known_plain : (n : Name) (o : Origin) (l : Link) (r : Record) → t ≡ cname_type → l ≡ Alias r → IsKnownAs n o l → ⊥
+  pub known_plain : (n : Name) (o : Source) (l : Link) (r : Record) → t ≡ cname_type → l ≡ Alias r → IsKnownAs n o l → ⊥
   known_plain n Local l r c e h = local_plain home n r (subst (λ (u : ℕ). Says home n u (local.Linked (Alias r))) c (subst (λ (x : Link). Says home n t (local.Linked x)) e h))
   known_plain n (Cached ttl since) l r c e (remote, (by, u, said, learnt, answers, life)) =
       answers_plain n (key_for n u (received said)) (received said) r (subst (λ (v : ℕ). Answers n v (key_for n u (received said)) (received said) (Alias r)) c
@@ -189,7 +189,7 @@ module _ (port : ℕ) (home : Home) (run : List Turn) (k t : ℕ) (Mine : Type 0
   rule_timed d m now a b h (follows l r task is few to job stores) =
       let known = at_take d m a l h task in
       timed_at d m b Seek _ to job (subst (AreTimed port home run) (sym stores) h.stores) (known_more (a.job).chain l h.chain known) tt
-      (λ c. absurd (known_plain l.name l.origin l.link r c is known)) h.kind h.deadline_is h.sent_is
+      (λ c. absurd (known_plain l.name l.source l.link r c is known)) h.kind h.deadline_is h.sent_is
   rule_timed d m now a b h (restarts l x front back task ending is fresh dead to job stores) =
       timed_at d m b Seek _ to job (subst (AreTimed port home run) (sym stores) h.stores)
       (known_front front (x ∷ back) (subst AreKnown is (known_more (a.job).chain l h.chain (at_take d m a l h task)))) tt
@@ -212,21 +212,21 @@ module _ (port : ℕ) (home : Home) (turn : Turn) (past : List Turn) where
   timed_later stores h k e c = let (n, u, key, (by, said, learnt, link, ttl)) = h k e c in (n, u, key, (by, said, inr learnt, link, ttl))
 
   module _ (k t : ℕ) (Old New : Type 0) (f : Old → New) where
-    known_as_later : (n : Name) (o : Origin) (l : Link) → IsKnownAs port home past k t Old n o l → IsKnownAs port home (turn ∷ past) k t New n o l
+    known_as_later : (n : Name) (o : Source) (l : Link) → IsKnownAs port home past k t Old n o l → IsKnownAs port home (turn ∷ past) k t New n o l
     known_as_later n Local l h = h
     known_as_later n (Cached ttl since) l (remote, (by, u, said, learnt, answers, life)) = (remote, (by, u, said, inr learnt, answers, life))
     known_as_later n (Accepted ttl since) l (remote, mine, (said, learnt, is, life)) = (remote, f mine, (said, inr learnt, is, life))
 
     pub known_later : (ls : List Taken) → AreKnown port home past k t Old ls → AreKnown port home (turn ∷ past) k t New ls
     known_later [] h = tt
-    known_later (l ∷ ls) h = (known_as_later l.name l.origin l.link h.0, known_later ls h.1)
+    known_later (l ∷ ls) h = (known_as_later l.name l.source l.link h.0, known_later ls h.1)
 
 -- The query served no more counts.
 pub known_for_good : (port : ℕ) (home : Home) (run : List Turn) (k t : ℕ) (Old : Type 0) (ls : List Taken) → AreKnown port home run k t Old ls → AreKnown port home run k t (Unit {0}) ls
 known_for_good port home run k t Old [] h = tt
-known_for_good port home run k t Old (l ∷ ls) h = (by l.name l.origin l.link h.0, known_for_good port home run k t Old ls h.1)
+known_for_good port home run k t Old (l ∷ ls) h = (by l.name l.source l.link h.0, known_for_good port home run k t Old ls h.1)
   where
-    by : (n : Name) (o : Origin) (l : Link) → IsKnownAs port home run k t Old n o l → IsKnownAs port home run k t (Unit {0}) n o l
+    by : (n : Name) (o : Source) (l : Link) → IsKnownAs port home run k t Old n o l → IsKnownAs port home run k t (Unit {0}) n o l
     by n Local l h = h
     by n (Cached ttl since) l h = h
     by n (Accepted ttl since) l (remote, mine, more) = (remote, tt, more)
