@@ -11,6 +11,9 @@ mod work;
 mod worlds;
 mod zones;
 
+#[cfg(test)]
+mod tests;
+
 use crate::work::{ALL, Counted, ON_MESSAGES, Work};
 use anyhow::Result;
 use std::env;
