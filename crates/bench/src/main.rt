@@ -11,14 +11,14 @@ mod work;
 mod worlds;
 mod zones;
 
-#[cfg(test)]
-mod tests;
-
 use crate::work::{ALL, Counted, ON_MESSAGES, Work};
 use anyhow::Result;
 use std::env;
 use std::io::Write;
 use std::rt::Runtime;
+
+#[cfg(test)]
+mod tests;
 
 fn main(rt: HostRuntime) -> Result<()> {
     let measures = env::args(&rt)?

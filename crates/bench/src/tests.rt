@@ -56,6 +56,9 @@ fn texts_of_32_000_strings_go_through(rt: HostRuntime) -> Result<(), Fail> {
     let set = set_of(rt.alloc(), &bytes)?;
     let kept = cached(rt.alloc(), set)?;
     assert_eq!(rt; kept.len(), 1);
-    assert_eq!(rt; printed(rt.alloc(), kept.as_slice())?.len(), 13 + 32_000 * 3);
+    assert_eq!(rt;
+        printed(rt.alloc(), kept.as_slice())?.len(),
+        13 + 32_000 * 3
+    );
     Ok(())
 }

@@ -1,6 +1,6 @@
 -- What a frame can use of a cut. A referral may list thousands of servers; of these a frame takes sixteen
 -- names and sixteen addresses, and what is kept for it is no more than these need.
-use Rattle.std.specs.Prelude.{ℕ, Bool, ◌&&◌, Option, Some, None, List, [], ◌∷◌, ◌++◌, find, take}
+use Rattle.std.specs.Prelude.{◌&&◌, Option, Some, None, List, [], ◌∷◌, ◌++◌, find, take}
 use Rattle.std.specs.List.{flat_map}
 use Rattle.dname.specs.Labels.{Name, same_name}
 use Rattle.rdata.specs.declared.addr.Addr.{Addr}

@@ -1,9 +1,8 @@
 -- The servers of the addresses so far, and then those of the names so far.
-use Rattle.std.proofs.Common.{◌≡◌, Option, List, ◌++◌, take}
+use Rattle.std.proofs.Common.{◌≡◌, ◌++◌, take}
 use Rattle.std.specs.List.{flat_map}
 use Rattle.dname.specs.Labels.{Name}
 use Rattle.rdata.specs.declared.addr.Addr.{Addr}
-use Rattle.referral.specs.Cuts.{ServerAddress}
 use Rattle.frames.specs.Trimmed.{alone, entry_at, entry_of}
 use Rattle.frames.proofs.trimming.entries.Given as goal
 
