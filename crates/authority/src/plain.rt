@@ -31,7 +31,7 @@ fn stands<A: Allocator>(added: &Record<A>, name: &Name<A>, wild: bool) -> bool
 fn is_kind<A: Allocator>(added: &Record<A>, kind: RType) -> bool
     ensures { result ≡ is_type (type_number kind) added.now }
 {
-    added.value.kind().number() == kind.number()
+    added.is(kind)
 }
 
 // Whether it stands there and has the type.

@@ -17,6 +17,9 @@ use std::env;
 use std::io::Write;
 use std::rt::Runtime;
 
+#[cfg(test)]
+mod tests;
+
 fn main(rt: HostRuntime) -> Result<()> {
     let measures = env::args(&rt)?
         .skip(1)

@@ -222,13 +222,7 @@ fn denial_by<A: Allocator>(rcode: u8, soa: Record<A>) -> Link<A>
 fn first_of<A: Allocator>(records: &[Record<A>], kind: RType) -> Option<&Record<A>>
     ensures { option_copied result ≡ first_of (type_number kind) records.now }
 {
-    records.iter().find(|tested| is_kind(tested, kind))
-}
-
-fn is_kind<A: Allocator>(tested: &Record<A>, kind: RType) -> bool
-    ensures { result ≡ is_type (type_number kind) tested.now }
-{
-    tested.value.kind().number() == kind.number()
+    records.iter().find(|tested| tested.is(kind))
 }
 
 // Whether a zone of that origin may deny the name to one that asked a server of `zone`.
@@ -281,5 +275,5 @@ fn is_taken<A: Allocator>(added: &Record<A>, zone: &Name<A>, targets: &[Name<A>]
     requires { IsSorted name_cmp targets.now }
     ensures { result ≡ (is_type a_type added.now && is_under added.now.owner zone.now && is_one_of added.now.owner targets.now) }
 {
-    is_kind(added, RType::A) && added.owner.is_at_or_under(zone) && is_one_of(&added.owner, targets)
+    added.is(RType::A) && added.owner.is_at_or_under(zone) && is_one_of(&added.owner, targets)
 }

@@ -1,5 +1,6 @@
 -- Faults of a master file, and how one reading follows another.
-use Rattle.std.specs.Prelude.{◌≡◌, ℕ, Result, Ok, Err, List, ◌∷◌}
+use Rattle.std.specs.Prelude.{◌≡◌, ℕ, Result, Ok, Err, List, ◌∷◌, ◌++◌, codes, decimal}
+use Rattle.masterfile.specs.declared.faults.FileError.{FileError}
 use Rattle.masterfile.specs.declared.faults.FileKind.{FileKind}
 use Rattle.masterfile.specs.declared.faults.FileKind.TheVariants.{UnknownType, BadName, BadNumber, NoTtl, NoOwner, OpenText, UnknownDirective, BadClass, BadData, Memory}
 
@@ -14,6 +15,21 @@ kind_number UnknownDirective = 7
 kind_number BadClass = 8
 kind_number BadData = 9
 kind_number Memory = 10
+
+abbrev pub kind_text : FileKind → List ℕ
+kind_text UnknownType = codes "unknown type"
+kind_text BadName = codes "bad name"
+kind_text BadNumber = codes "number out of range"
+kind_text NoTtl = codes "no TTL"
+kind_text NoOwner = codes "no owner"
+kind_text OpenText = codes "parenthesis or quote without its other half"
+kind_text UnknownDirective = codes "unknown directive"
+kind_text BadClass = codes "bad class"
+kind_text BadData = codes "bad data"
+kind_text Memory = codes "out of memory"
+
+abbrev pub error_text : FileError → List ℕ
+error_text e = codes "line " ++ decimal e.line ++ codes ": " ++ kind_text e.kind
 
 -- What is read first decides: after a fault nothing is read.
 infixl 10 ◌>>=◌

@@ -1,8 +1,9 @@
 //! Why a text is no master file.
-ghost use Rattle.std.specs.Prelude.{◌≡◌};
-ghost use Rattle.masterfile.specs.Faults.{kind_number};
+ghost use Rattle.std.specs.Prelude.{◌≡◌, Some};
+ghost use Rattle.masterfile.specs.Faults.{kind_number, kind_text, error_text};
 
 use std::alloc::{AllocError, AllocFailed};
+use std::fmt;
 
 /// What is wrong with an entry.
 #[derive(Clone, Copy, Debug, PartialEq, Eq)]
@@ -49,6 +50,27 @@ impl FileKind {
     }
 }
 
+impl fmt::Display for FileKind {
+    ghost output = { λ k. Some (kind_text k) };
+
+    fn fmt<W: fmt::Write>(&self, f: &mut fmt::Formatter<W>) -> fmt::Result {
+        match self {
+            FileKind::UnknownType => write!(f, "unknown type"),
+            FileKind::BadName => write!(f, "bad name"),
+            FileKind::BadNumber => write!(f, "number out of range"),
+            FileKind::NoTtl => write!(f, "no TTL"),
+            FileKind::NoOwner => write!(f, "no owner"),
+            FileKind::OpenText => write!(f, "parenthesis or quote without its other half"),
+            FileKind::UnknownDirective => write!(f, "unknown directive"),
+            FileKind::BadClass => write!(f, "bad class"),
+            FileKind::BadData => write!(f, "bad data"),
+            FileKind::Memory => write!(f, "out of memory"),
+        }
+    }
+}
+
+impl std::error::Error for FileKind {}
+
 impl From<AllocError> for FileKind {
     ghost use Rattle.masterfile.specs.declared.faults.FileKind.TheVariants.{Memory};
 
@@ -85,3 +107,13 @@ pub struct FileError {
     pub line: usize,
     pub kind: FileKind,
 }
+
+impl fmt::Display for FileError {
+    ghost output = { λ e. Some (error_text e) };
+
+    fn fmt<W: fmt::Write>(&self, f: &mut fmt::Formatter<W>) -> fmt::Result {
+        write!(f, "line {}: {}", self.line, self.kind)
+    }
+}
+
+impl std::error::Error for FileError {}

@@ -16,12 +16,12 @@ impl<'t, A: Heap> Block<'t, A> {
     fn zone(&self, alloc: A) -> Result<Zone<A>, WorldFault>
         ensures { IfOk result (IsBuilt self.now) }
     {
-        let behind = self.line as usize + 1;
-        let records = read_block(alloc, &self.origin, self.text, behind)?;
+        let line = self.line as usize;
+        let records = read_block(alloc, &self.origin, self.text, line + 1)?;
         match Zone::build(self.origin.clone()?, records) {
             Ok(zone) => Ok(zone),
             Err(ZoneError::Memory) => Err(WorldFault::Memory),
-            Err(error) => Err(WorldFault::Zone(self.line, error)),
+            Err(error) => Err(WorldFault::Zone(line, error)),
         }
     }
 }

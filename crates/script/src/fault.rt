@@ -1,4 +1,7 @@
 //! Why a text of lines is refused.
+ghost use Rattle.std.specs.Prelude.{◌≡◌, Some};
+ghost use Rattle.script.specs.Faults.{kind_number, kind_text, error_text};
+
 use dname::{NameError, Starved};
 use std::alloc::{AllocError, AllocFailed};
 use std::fmt;
@@ -22,7 +25,9 @@ pub enum LineKind {
 
 impl LineKind {
     /// The number of the refusal.
-    pub fn number(self) -> u8 {
+    pub fn number(self) -> u8
+        ensures { result ≡ kind_number self }
+    {
         match self {
             LineKind::UnknownWord => 1,
             LineKind::BadName => 3,
@@ -35,17 +40,21 @@ impl LineKind {
 }
 
 impl fmt::Display for LineKind {
+    ghost output = { λ k. Some (kind_text k) };
+
     fn fmt<W: fmt::Write>(&self, f: &mut fmt::Formatter<W>) -> fmt::Result {
-        f.write_str(match self {
-            LineKind::UnknownWord => "a first word that opens no line",
-            LineKind::BadName => "a bad name",
-            LineKind::WordCount => "a word missing or left over",
-            LineKind::OpenBlock => "a block without its end",
-            LineKind::BadAddress => "a bad address",
-            LineKind::Memory => "out of memory",
-        })
+        match self {
+            LineKind::UnknownWord => write!(f, "a first word that opens no line"),
+            LineKind::BadName => write!(f, "a bad name"),
+            LineKind::WordCount => write!(f, "a word missing or left over"),
+            LineKind::OpenBlock => write!(f, "a block without its end"),
+            LineKind::BadAddress => write!(f, "a bad address"),
+            LineKind::Memory => write!(f, "out of memory"),
+        }
     }
 }
+
+impl std::error::Error for LineKind {}
 
 impl From<AllocError> for LineKind {
     fn from(_error: AllocError) -> LineKind {
@@ -77,6 +86,16 @@ impl From<NameError> for LineKind {
 /// The first line of a text that is refused, counted from 1, and what is wrong with it.
 #[derive(Clone, Copy, Debug, PartialEq, Eq)]
 pub struct LineError {
-    pub line: u32,
+    pub line: usize,
     pub kind: LineKind,
 }
+
+impl fmt::Display for LineError {
+    ghost output = { λ e. Some (error_text e) };
+
+    fn fmt<W: fmt::Write>(&self, f: &mut fmt::Formatter<W>) -> fmt::Result {
+        write!(f, "line {}: {}", self.line, self.kind)
+    }
+}
+
+impl std::error::Error for LineError {}

@@ -15,7 +15,7 @@ pub enum WorldFault {
     /// A block is no master file: the line in the whole text, and what is wrong there.
     File(FileError),
     /// A block is no zone: the line that opens it, and the zone's rule.
-    Zone(u32, ZoneError),
+    Zone(usize, ZoneError),
     /// The zones and servers are no world.
     World(WorldError),
     /// A growth was refused.
@@ -25,10 +25,8 @@ pub enum WorldFault {
 impl fmt::Display for WorldFault {
     fn fmt<W: fmt::Write>(&self, f: &mut fmt::Formatter<W>) -> fmt::Result {
         match self {
-            WorldFault::Line(error) => write!(f, "line {}: {}", error.line, error.kind),
-            WorldFault::File(error) => {
-                write!(f, "line {}: file {}", error.line, error.kind.number())
-            }
+            WorldFault::Line(error) => write!(f, "{error}"),
+            WorldFault::File(error) => write!(f, "{error}"),
             WorldFault::Zone(line, error) => write!(f, "line {line}: {error}"),
             WorldFault::World(error) => write!(f, "{error}"),
             WorldFault::Memory => write!(f, "out of memory"),

@@ -8,7 +8,7 @@ const TEXT: &str =
     "; a world\n\nzone .\n. 60 IN SOA r. h. 1 2 3 4 60\n\nend\n\tlocal\tcorp.example \nend\nzone b.\n; c\n end\nend.\nend\nhost 192.0.2.1 . b.\nhint 192.0.2.1\nhost 192.0.2.2 b.\nhost 192.0.2.1 corp.example.";
 
 // Whether the text is refused at this line with this number.
-fn is_refused<A: Heap>(alloc: A, text: &str, line: u32, number: u8) -> bool {
+fn is_refused<A: Heap>(alloc: A, text: &str, line: usize, number: u8) -> bool {
     match read_world(alloc, text) {
         Ok(_) => false,
         Err(error) => error.line == line && error.kind.number() == number,

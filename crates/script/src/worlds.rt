@@ -48,6 +48,16 @@ struct Opening<A: Allocator> {
     start: usize,
 }
 
+impl<A: Allocator> Opening<A> {
+    // No line `end` follows it.
+    fn unclosed(&self) -> LineError {
+        LineError {
+            line: self.line as usize,
+            kind: LineKind::OpenBlock,
+        }
+    }
+}
+
 #[derive(Drop)]
 struct Reader<'t, A: Allocator> {
     text: &'t [u8],
@@ -68,17 +78,15 @@ pub fn read_world<'t, A: Heap>(alloc: A, text: &'t str) -> Result<WorldText<'t, 
         match reader.take(alloc, number, line) {
             Ok(()) => {}
             Err(kind) => {
-                return Err(LineError { line: number, kind });
+                let line = number as usize;
+                return Err(LineError { line, kind });
             }
         }
     }
     let Reader { opening, world, .. } = reader;
     match opening {
         None => Ok(world),
-        Some(opening) => Err(LineError {
-            line: opening.line,
-            kind: LineKind::OpenBlock,
-        }),
+        Some(opening) => Err(opening.unclosed()),
     }
 }
 

@@ -33,7 +33,7 @@ pub fn has_origin<A: Allocator>(zones: &[Zone<A>], name: &Name<A>) -> bool
 fn is_server<A: Allocator>(subject: &Record<A>) -> bool
     ensures { result ≡ is_type ns_type subject.now }
 {
-    subject.value.kind().number() == RType::Ns.number()
+    subject.is(RType::Ns)
 }
 
 // Whether the record makes a cut in the zone of that origin.

@@ -34,8 +34,9 @@ pub record IsFirstOf (rs : List Record) (q : Name) (t : ℕ) (r : Record) : Type
   pub kind : type_of r.value ≡ t
   pub before : HasNo front q t
 
--- A denial: nothing in the answer, and an SOA over the name, at or under the frame's zone (RFC 2308,
--- section 2.2). The first SOA counts.
+-- A denial: no record of the name and the type in the answer and no CNAME of the name, though records of other
+-- names may stand there; and an SOA over the name, at or under the frame's zone, of which the first in the
+-- authority section counts (RFC 2308, section 2.2).
 pub record IsDenied (f q : Name) (t : ℕ) (m : Message) (soa : Record) : Type 0 where
   pub answer : HasNo m.answer q t
   pub alias : HasNo m.answer q cname_type

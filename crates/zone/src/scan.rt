@@ -9,7 +9,7 @@ use std::alloc::Allocator;
 pub fn is_type<A: Allocator>(subject: &Record<A>, kind: RType) -> bool
     ensures { result ≡ is_type (type_number kind) subject.now }
 {
-    subject.value.kind().number() == kind.number()
+    subject.is(kind)
 }
 
 pub fn is_address<A: Allocator>(subject: &Record<A>) -> bool
