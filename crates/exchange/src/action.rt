@@ -34,6 +34,83 @@ pub enum Action<A: Allocator = Global> {
     },
 }
 
+impl<A: Allocator> Action<A> {
+    /// Whether the actions are equal.
+    pub fn same(&self, other: &Action<A>) -> bool
+        ensures { IsTrue result ↔ (self.now ≡ other.now) }
+    {
+        match (self, other) {
+            (
+                Action::Reply {
+                    client,
+                    way,
+                    bytes,
+                    cause,
+                },
+                Action::Reply {
+                    client: its_client,
+                    way: its_way,
+                    bytes: its_bytes,
+                    cause: its_cause,
+                },
+            ) => {
+                client == its_client
+                    && way == its_way
+                    && cause == its_cause
+                    && bytes.same(its_bytes)
+            }
+            (
+                Action::Send { socket, to, bytes },
+                Action::Send {
+                    socket: its_socket,
+                    to: its_to,
+                    bytes: its_bytes,
+                },
+            ) => socket == its_socket && to == its_to && bytes.same(its_bytes),
+            (
+                Action::TcpAsk { number, to, bytes },
+                Action::TcpAsk {
+                    number: its_number,
+                    to: its_to,
+                    bytes: its_bytes,
+                },
+            ) => number == its_number && to == its_to && bytes.same(its_bytes),
+            _ => false,
+        }
+    }
+}
+
+impl<A: Heap> Action<A> {
+    /// The same action once more.
+    pub fn copied(&self) -> Result<Action<A>, Starved>
+        ensures { IfOk result (λ a. a ≡ self.now) }
+    {
+        Ok(match self {
+            Action::Reply {
+                client,
+                way,
+                bytes,
+                cause,
+            } => Action::Reply {
+                client: *client,
+                way: *way,
+                bytes: bytes.copied()?,
+                cause: *cause,
+            },
+            Action::Send { socket, to, bytes } => Action::Send {
+                socket: *socket,
+                to: *to,
+                bytes: bytes.copied()?,
+            },
+            Action::TcpAsk { number, to, bytes } => Action::TcpAsk {
+                number: *number,
+                to: *to,
+                bytes: bytes.copied()?,
+            },
+        })
+    }
+}
+
 /// All that comes out of a step: one action at most, and whether another query is due.
 #[derive(Drop)]
 pub struct Actions<A: Allocator = Global> {
@@ -49,4 +126,39 @@ impl<A: Allocator> Model for Actions<A> {
     ghost Value = { List Action };
 
     ghost view = { λ a. listed a.first a.more_due };
+}
+
+impl<A: Allocator> Actions<A> {
+    /// Whether the same comes out.
+    pub fn same(&self, other: &Actions<A>) -> bool
+        ensures { IsTrue result ↔ (self.now ≡ other.now) }
+    {
+        self.more_due == other.more_due && same_first(&self.first, &other.first)
+    }
+}
+
+impl<A: Heap> Actions<A> {
+    /// The same once more.
+    pub fn copied(&self) -> Result<Actions<A>, Starved>
+        ensures { IfOk result (λ a. a ≡ self.now) }
+    {
+        let first = match &self.first {
+            None => None,
+            Some(action) => Some(action.copied()?),
+        };
+        Ok(Actions {
+            first,
+            more_due: self.more_due,
+        })
+    }
+}
+
+fn same_first<A: Allocator>(first: &Option<Action<A>>, other: &Option<Action<A>>) -> bool
+    ensures { IsTrue result ↔ (first.now ≡ other.now) }
+{
+    match (first, other) {
+        (None, None) => true,
+        (Some(action), Some(other)) => action.same(other),
+        _ => false,
+    }
 }

@@ -61,3 +61,118 @@ impl<A: Allocator> Event<A> {
         }
     }
 }
+
+impl<A: Allocator> Event<A> {
+    /// Whether the events are equal.
+    pub fn same(&self, other: &Event<A>) -> bool
+        ensures { IsTrue result ↔ (self.now ≡ other.now) }
+    {
+        match (self, other) {
+            (
+                Event::Client {
+                    moment,
+                    client,
+                    way,
+                    bytes,
+                },
+                Event::Client {
+                    moment: its_moment,
+                    client: its_client,
+                    way: its_way,
+                    bytes: its_bytes,
+                },
+            ) => {
+                moment == its_moment
+                    && client == its_client
+                    && way == its_way
+                    && bytes.same(its_bytes)
+            }
+            (
+                Event::Datagram {
+                    moment,
+                    socket,
+                    from,
+                    bytes,
+                },
+                Event::Datagram {
+                    moment: its_moment,
+                    socket: its_socket,
+                    from: its_from,
+                    bytes: its_bytes,
+                },
+            ) => {
+                moment == its_moment
+                    && socket == its_socket
+                    && from == its_from
+                    && bytes.same(its_bytes)
+            }
+            (
+                Event::TcpReply {
+                    moment,
+                    number,
+                    bytes,
+                },
+                Event::TcpReply {
+                    moment: its_moment,
+                    number: its_number,
+                    bytes: its_bytes,
+                },
+            ) => moment == its_moment && number == its_number && bytes.same(its_bytes),
+            (
+                Event::TcpFailed { moment, number },
+                Event::TcpFailed {
+                    moment: its_moment,
+                    number: its_number,
+                },
+            ) => moment == its_moment && number == its_number,
+            (Event::Tick { moment }, Event::Tick { moment: its_moment }) => moment == its_moment,
+            _ => false,
+        }
+    }
+}
+
+impl<A: Heap> Event<A> {
+    /// The same event once more, on its own bytes' memory.
+    pub fn copied(&self) -> Result<Event<A>, Starved>
+        ensures { IfOk result (λ e. e ≡ self.now) }
+    {
+        Ok(match self {
+            Event::Client {
+                moment,
+                client,
+                way,
+                bytes,
+            } => Event::Client {
+                moment: *moment,
+                client: *client,
+                way: *way,
+                bytes: bytes.copied()?,
+            },
+            Event::Datagram {
+                moment,
+                socket,
+                from,
+                bytes,
+            } => Event::Datagram {
+                moment: *moment,
+                socket: *socket,
+                from: *from,
+                bytes: bytes.copied()?,
+            },
+            Event::TcpReply {
+                moment,
+                number,
+                bytes,
+            } => Event::TcpReply {
+                moment: *moment,
+                number: *number,
+                bytes: bytes.copied()?,
+            },
+            Event::TcpFailed { moment, number } => Event::TcpFailed {
+                moment: *moment,
+                number: *number,
+            },
+            Event::Tick { moment } => Event::Tick { moment: *moment },
+        })
+    }
+}

@@ -4,6 +4,7 @@ ghost use Rattle.layout.specs.Messages as layouts;
 ghost use Rattle.layout.specs.Messages.{IsMessage};
 ghost use Rattle.runs.specs.States.{endpoint};
 ghost use Rattle.runs.specs.Messages.{id_in, question_for, AnswersAsk, Brings};
+ghost use Rattle.exchange.specs.Paths.{endpoint_view};
 ghost use Rattle.exchange.specs.Views.{event_view};
 ghost use Rattle.exchange.specs.Hearing.{ComesFor, OpensReply, MayReply};
 
@@ -53,7 +54,7 @@ fn bytes_for<'a, A: Allocator>(port: u16, ask: &Asking<A>, event: &'a Event<A>) 
 }
 
 fn is_from<A: Allocator>(ask: &Asking<A>, port: u16, from: Endpoint) -> bool
-    ensures { IsTrue result ↔ (from ≡ endpoint ask.now.server port) }
+    ensures { IsTrue result ↔ (endpoint_view from ≡ endpoint ask.now.server port) }
 {
     from.address == ask.server && from.port == port
 }

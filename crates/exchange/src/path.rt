@@ -4,7 +4,6 @@ ghost use Rattle.runs.specs.States.{via_of};
 ghost use Rattle.exchange.specs.Paths.{path_view};
 
 use rdata::Addr;
-use std::marker::Model;
 use wire::Via;
 
 /// A server's address and port.
@@ -12,16 +11,6 @@ use wire::Via;
 pub struct Endpoint {
     pub address: Addr,
     pub port: u16,
-}
-
-impl Model for Endpoint {
-    ghost use Rattle.runs.specs.States.{Endpoint};
-
-    ghost Value = { Endpoint };
-
-    ghost view = { λ e. record { address = e.address; port = e.port } };
-
-    ghost inverse = { λ e. record { address = e.address; port = e.port } };
 }
 
 /// How an ask goes.

@@ -2,7 +2,7 @@
 ghost use Rattle.std.specs.Prelude.{◌≡◌, ◌≤◌, IfOk, length, option_copied};
 ghost use Rattle.runs.specs.Messages.{AreWritten, asking_header, asking_message, IsSent, IsReply, IsRefusal};
 ghost use Rattle.dname.specs.Labels.{wire};
-ghost use Rattle.exchange.specs.Paths.{path_view, directed};
+ghost use Rattle.exchange.specs.Paths.{endpoint_view, path_view, directed};
 ghost use Rattle.exchange.specs.Plain.{plain_outcome};
 ghost use Rattle.exchange.specs.Views.{action_view};
 
@@ -30,7 +30,7 @@ pub fn send<A: Heap>(alloc: A, port: u16, ask: &Asking<A>) -> Result<Action<A>, 
 }
 
 fn on_path<A: Heap>(path: Path, to: Endpoint, bytes: Bytes<A>) -> Action<A>
-    ensures { action_view result ≡ directed (path_view path) to bytes }
+    ensures { action_view result ≡ directed (path_view path) (endpoint_view to) bytes }
 {
     match path {
         Path::Udp(socket) => Action::Send { socket, to, bytes },
