@@ -1,14 +1,14 @@
 -- What may reply to an ask, what does, and the messages between.
-use Rattle.std.proofs.Common.{◌≡◌, ◌≢◌, ◌∙◌, sym, ap, subst, arith, ℕ, ◌+◌, ◌*◌, ◌≤◌, ◌⊎◌, ⊎_elim, true, Option, Some, None, MatchOption, Result, Ok, Err, IfOk, List, [], ◌∷◌, length, slice_index, refl}
-use Rattle.layout.specs.Messages.{Header, Question, Message, IsMessage}
+use Rattle.std.proofs.Common.{◌≡◌, ◌∙◌, sym, ap, subst, arith, ℕ, ◌⊎◌, ⊎_elim, Option, Some, None, MatchOption, Result, Ok, Err, IfOk, List, [], ◌∷◌, refl}
+use Rattle.layout.specs.Messages.{Header, Message, IsMessage}
 use Rattle.wire.specs.Heads.{header_of}
 use Rattle.wire.specs.declared.error.WireError.{WireError}
 use Rattle.wire.specs.declared.error.WireError.TheVariants.{Memory}
 use Rattle.wire.proofs.Heading.{HeaderRead, header_takes}
 use Rattle.layout.proofs.Single.{message_one}
 use Rattle.runs.specs.States.{Event, Client, Datagram, TcpReply, TcpFailed, Tick, Asking}
-use Rattle.runs.specs.Messages.{question_for, AnswersAsk, Brings, id_in}
-use Rattle.exchange.specs.Hearing.{ComesFor, OpensReply, MayReply}
+use Rattle.runs.specs.Messages.{question_for, AnswersAsk, Brings}
+use Rattle.exchange.specs.Hearing.{ComesFor, OpensReply}
 
 heading : (bytes : List ℕ) (m : Message) (is : IsMessage bytes m) → HeaderRead bytes m.header is.counts
 heading bytes m is = header_takes bytes m.header is.counts is.header is.fits_header is.fit_counts

@@ -1,5 +1,5 @@
 -- An ask fits a datagram.
-use Rattle.std.proofs.Common.{◌≡◌, ◌≢◌, sym, subst, arith, ℕ, ◌+◌, ◌≤◌, ◌<◌, List, length, refl}
+use Rattle.std.proofs.Common.{◌≡◌, sym, subst, arith, ℕ, ◌≤◌, List, length, refl}
 use Rattle.dname.specs.Labels.{wire}
 use Rattle.layout.specs.Messages.{Message, encoding}
 use Rattle.front.proofs.Short.{asked_once_long}

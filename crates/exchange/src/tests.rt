@@ -270,3 +270,30 @@ fn all_done<A: Heap>(alloc: A) -> Result<(), Starved> {
     let _ = refusal(alloc)?;
     Ok(())
 }
+
+#[test]
+fn copies_are_the_same(rt: HostRuntime) -> Result<(), Fail> {
+    let event = Event::TcpReply {
+        moment: 5,
+        number: 9,
+        bytes: Bytes::new(Vec::from_slice(rt.alloc(), REPLY)?),
+    };
+    assert!(rt; event.copied()?.same(&event));
+    assert!(rt;
+        !event.same(&Event::TcpFailed {
+            moment: 5,
+            number: 9
+        })
+    );
+    let actions = Actions {
+        first: Some(late_reply(rt.alloc())?),
+        more_due: true,
+    };
+    assert!(rt; actions.copied()?.same(&actions));
+    let others = Actions {
+        first: Some(refusal(rt.alloc())?),
+        more_due: true,
+    };
+    assert!(rt; !actions.same(&others));
+    Ok(())
+}

@@ -1,5 +1,5 @@
 -- The fields of the message are those of its view.
-use Rattle.std.proofs.Common.{◌≡◌, ◌∙◌, sym, ap, refl}
+use Rattle.std.proofs.Common.{◌∙◌, sym, ap, refl}
 use Rattle.layout.specs.Messages.{Message}
 use Rattle.exchange.proofs.hear.of_question.Goals as goal
 

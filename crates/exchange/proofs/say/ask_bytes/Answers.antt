@@ -1,6 +1,5 @@
 -- An ask is short.
-use Rattle.std.proofs.Common.{rules, ◌≡◌, ◌≤◌, ap, subst, sym, length}
-use Rattle.layout.specs.Messages.{Message, encoding}
+use Rattle.std.proofs.Common.{rules}
 use Rattle.exchange.proofs.Short.{written_or_starved}
 use Rattle.exchange.proofs.say.ask_bytes.Goals as goal
 
