@@ -6,6 +6,7 @@ use front::{Asked, Outcome, Via};
 use rdata::{Addr, RType};
 use refusing::Refusing;
 use std::test::Fail;
+use wire::TCP_LIMIT;
 
 const SERVER: Addr = Addr([192, 0, 2, 1]);
 
@@ -26,6 +27,13 @@ fn asking<A: Heap>(alloc: A, path: Path) -> Result<Asking<A>, Starved> {
 // A reply to it: QR and AA are set, and nothing is found.
 const REPLY: &[u8] = b"\x12\x34\x84\0\0\x01\0\0\0\0\0\0\x03www\x07example\0\0\x01\0\x01";
 
+fn message_bytes<A: Heap>(alloc: A, bytes: &[u8]) -> Result<Bytes<A>, Starved> {
+    if bytes.len() > TCP_LIMIT {
+        return Err(Starved);
+    }
+    Ok(Bytes::new(Vec::from_slice(alloc, bytes)?))
+}
+
 // Whether it is accepted at that socket, from that address and port, where the ask left socket 7 for port 53.
 fn is_heard<A: Heap>(
     alloc: A,
@@ -39,7 +47,7 @@ fn is_heard<A: Heap>(
         moment: 0,
         socket,
         from: Endpoint { address, port },
-        bytes: Bytes::new(Vec::from_slice(alloc, bytes)?),
+        bytes: message_bytes(alloc, bytes)?,
     };
     Ok(reply_in(alloc, 53, &ask, &event)?.is_some())
 }
@@ -50,7 +58,7 @@ fn is_heard_over_tcp<A: Heap>(alloc: A, number: u64, bytes: &[u8]) -> Result<boo
     let event = Event::TcpReply {
         moment: 0,
         number,
-        bytes: Bytes::new(Vec::from_slice(alloc, bytes)?),
+        bytes: message_bytes(alloc, bytes)?,
     };
     Ok(reply_in(alloc, 53, &ask, &event)?.is_some())
 }
@@ -81,7 +89,7 @@ fn no_reply_comes_over_the_other_way(rt: HostRuntime) -> Result<(), Fail> {
             address: SERVER,
             port: 53,
         },
-        bytes: Bytes::new(Vec::from_slice(alloc, REPLY)?),
+        bytes: message_bytes(alloc, REPLY)?,
     };
     assert!(rt; reply_in(alloc, 53, &ask, &event)?.is_none());
     Ok(())
@@ -276,7 +284,7 @@ fn copies_are_the_same(rt: HostRuntime) -> Result<(), Fail> {
     let event = Event::TcpReply {
         moment: 5,
         number: 9,
-        bytes: Bytes::new(Vec::from_slice(rt.alloc(), REPLY)?),
+        bytes: message_bytes(rt.alloc(), REPLY)?,
     };
     assert!(rt; event.copied()?.same(&event));
     assert!(rt;
