@@ -1,5 +1,5 @@
 -- Events and actions as plain values.
-use Rattle.std.specs.Prelude.{Bool, true, false, Option, Some, None, List, [], ◌∷◌}
+use Rattle.std.specs.Prelude.{ℕ, Bool, true, false, Option, Some, None, List, [], ◌∷◌}
 use Rattle.runs.specs.States.{Event, Client, Datagram, TcpReply, TcpFailed, Tick, Action, Reply, Send, TcpAsk, MoreDue}
 use Rattle.exchange.specs.Paths.{endpoint_view}
 use Rattle.exchange.specs.declared.event.Event.{Event as Told}
@@ -18,6 +18,13 @@ abbrev pub action_view : {A : Type 0} → Said A → Action
 action_view (said.Reply client way bytes cause) = Reply client way bytes cause
 action_view (said.Send sock to bytes) = Send sock (endpoint_view to) bytes
 action_view (said.TcpAsk number to bytes) = TcpAsk number (endpoint_view to) bytes
+
+-- The bytes that go out.
+abbrev pub bytes_in : Action → List ℕ
+bytes_in (Reply client way bytes cause) = bytes
+bytes_in (Send sock to bytes) = bytes
+bytes_in (TcpAsk number to bytes) = bytes
+bytes_in MoreDue = []
 
 -- One action at most, and then whether another query is due.
 abbrev pub due_listed : Bool → List Action

@@ -4,7 +4,8 @@ ghost use Rattle.runs.specs.Messages.{AreWritten, asking_header, asking_message,
 ghost use Rattle.dname.specs.Labels.{wire};
 ghost use Rattle.exchange.specs.Paths.{endpoint_view, path_view, directed};
 ghost use Rattle.exchange.specs.Plain.{plain_outcome};
-ghost use Rattle.exchange.specs.Views.{action_view};
+ghost use Rattle.exchange.specs.Views.{action_view, bytes_in};
+ghost use Rattle.wire.specs.Limits.{limit_of};
 
 use crate::action::Action;
 use crate::ask::Asking;
@@ -19,7 +20,8 @@ use wire::{Header, Message, Question, Questions, UDP_LIMIT, WireError, encode};
 /// An ask as it goes out on its path, to the server's `port`: one question in class IN, RD clear, at most 512
 /// bytes (RFC 1035, sections 2.3.4 and 4.1.2).
 pub fn send<A: Heap>(alloc: A, port: u16, ask: &Asking<A>) -> Result<Action<A>, Starved>
-    ensures { IfOk result (λ a. IsSent port ask.now (action_view a)) }
+    ensures sent { IfOk result (λ a. IsSent port ask.now (action_view a)) }
+    ensures short { IfOk result (λ a. length (bytes_in (action_view a)) ≤ UDP_LIMIT) }
 {
     let bytes = ask_bytes(alloc, ask)?;
     let to = Endpoint {
@@ -30,7 +32,8 @@ pub fn send<A: Heap>(alloc: A, port: u16, ask: &Asking<A>) -> Result<Action<A>, 
 }
 
 fn on_path<A: Heap>(path: Path, to: Endpoint, bytes: Bytes<A>) -> Action<A>
-    ensures { action_view result ≡ directed (path_view path) (endpoint_view to) bytes }
+    ensures is { action_view result ≡ directed (path_view path) (endpoint_view to) bytes }
+    ensures bytes { bytes_in (action_view result) ≡ bytes }
 {
     match path {
         Path::Udp(socket) => Action::Send { socket, to, bytes },
@@ -41,6 +44,7 @@ fn on_path<A: Heap>(path: Path, to: Endpoint, bytes: Bytes<A>) -> Action<A>
 // The bytes of an ask.
 fn ask_bytes<A: Heap>(alloc: A, ask: &Asking<A>) -> Result<Bytes<A>, Starved>
     ensures written { IfOk result (λ b. AreWritten b (asking_message ask.now)) }
+    ensures short { IfOk result (λ b. length b ≤ UDP_LIMIT) }
 {
     let message = ask_message(alloc, ask)?;
     is_short(ask);
@@ -93,13 +97,15 @@ fn ask_header(id: u16) -> Header
     }
 }
 
-/// The reply of an outcome to the client who asked, by its way, with the cause of a SERVFAIL.
+/// The reply of an outcome to the client who asked, by its way and within its limit, with the cause of a
+/// SERVFAIL.
 pub fn reply_to<A: Heap>(
     alloc: A,
     asker: &Asker<A>,
     outcome: &Outcome<A>,
 ) -> Result<Action<A>, Starved>
-    ensures { IfOk result (λ a. IsReply asker.now (plain_outcome outcome.now) (action_view a)) }
+    ensures reply { IfOk result (λ a. IsReply asker.now (plain_outcome outcome.now) (action_view a)) }
+    ensures short { IfOk result (λ a. length (bytes_in (action_view a)) ≤ limit_of asker.now.way) }
 {
     let (bytes, cause) = reply_bytes(alloc, &asker.query, outcome, asker.way)?;
     Ok(Action::Reply {
@@ -120,7 +126,8 @@ pub fn refuse<A: Heap>(
     start: Start,
     echo: Option<&Echo<A>>,
 ) -> Result<Action<A>, Starved>
-    ensures { IfOk result (λ a. IsRefusal client way refusal start (option_copied echo.entry) (action_view a)) }
+    ensures reply { IfOk result (λ a. IsRefusal client way refusal start (option_copied echo.entry) (action_view a)) }
+    ensures short { IfOk result (λ a. length (bytes_in (action_view a)) ≤ UDP_LIMIT) }
 {
     let bytes = refusal_bytes(alloc, refusal, start, echo)?;
     Ok(Action::Reply {
