@@ -1,6 +1,6 @@
 //! What the resolver says.
 ghost use Rattle.std.specs.Prelude.{◌≡◌, ◌↔◌, IfOk, IsTrue};
-ghost use Rattle.exchange.specs.Views.{action_view};
+ghost use Rattle.exchange.specs.declared.action.Action.TheVariants.{Reply};
 
 use crate::bytes::Bytes;
 use crate::path::Endpoint;
@@ -47,18 +47,8 @@ impl<A: Allocator> Action<A> {
                     bytes,
                     cause,
                 },
-                Action::Reply {
-                    client: its_client,
-                    way: its_way,
-                    bytes: its_bytes,
-                    cause: its_cause,
-                },
-            ) => {
-                client == its_client
-                    && way == its_way
-                    && cause == its_cause
-                    && bytes.same(its_bytes)
-            }
+                _,
+            ) => other.is_reply(*client, *way, bytes, *cause),
             (
                 Action::Send { socket, to, bytes },
                 Action::Send {
@@ -75,6 +65,21 @@ impl<A: Allocator> Action<A> {
                     bytes: its_bytes,
                 },
             ) => number == its_number && to == its_to && bytes.same(its_bytes),
+            _ => false,
+        }
+    }
+
+    // Whether this one is the reply of those bytes to that client by that way, with that cause.
+    fn is_reply(&self, to: u64, by: Via, sent: &Bytes<A>, why: Option<Cause>) -> bool
+        ensures { IsTrue result ↔ (self.now ≡ Reply to by sent.now why) }
+    {
+        match self {
+            Action::Reply {
+                client,
+                way,
+                bytes,
+                cause,
+            } => *client == to && *way == by && *cause == why && bytes.same(sent),
             _ => false,
         }
     }

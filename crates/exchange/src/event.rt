@@ -2,6 +2,7 @@
 ghost use Rattle.std.specs.Prelude.{◌≡◌, ◌≤◌, ◌↔◌, IfOk, IsTrue};
 ghost use Rattle.runs.specs.States.{latest, moment};
 ghost use Rattle.exchange.specs.Views.{event_view};
+ghost use Rattle.exchange.specs.declared.event.Event.TheVariants.{Client, Datagram, TcpReply};
 
 use crate::bytes::Bytes;
 use crate::path::Endpoint;
@@ -67,65 +68,71 @@ impl<A: Allocator> Event<A> {
     pub fn same(&self, other: &Event<A>) -> bool
         ensures { IsTrue result ↔ (self.now ≡ other.now) }
     {
-        match (self, other) {
-            (
-                Event::Client {
-                    moment,
-                    client,
-                    way,
-                    bytes,
-                },
-                Event::Client {
-                    moment: its_moment,
-                    client: its_client,
-                    way: its_way,
-                    bytes: its_bytes,
-                },
-            ) => {
-                moment == its_moment
-                    && client == its_client
-                    && way == its_way
-                    && bytes.same(its_bytes)
+        match self {
+            Event::Client {
+                moment,
+                client,
+                way,
+                bytes,
+            } => other.is_from_client(*moment, *client, *way, bytes),
+            Event::Datagram {
+                moment,
+                socket,
+                from,
+                bytes,
+            } => other.is_datagram(*moment, *socket, *from, bytes),
+            Event::TcpReply {
+                moment,
+                number,
+                bytes,
+            } => other.is_tcp_reply(*moment, *number, bytes),
+            Event::TcpFailed { moment, number } => {
+                matches!(other, Event::TcpFailed { moment: now, number: ask } if now == moment && ask == number)
             }
-            (
-                Event::Datagram {
-                    moment,
-                    socket,
-                    from,
-                    bytes,
-                },
-                Event::Datagram {
-                    moment: its_moment,
-                    socket: its_socket,
-                    from: its_from,
-                    bytes: its_bytes,
-                },
-            ) => {
-                moment == its_moment
-                    && socket == its_socket
-                    && from == its_from
-                    && bytes.same(its_bytes)
-            }
-            (
-                Event::TcpReply {
-                    moment,
-                    number,
-                    bytes,
-                },
-                Event::TcpReply {
-                    moment: its_moment,
-                    number: its_number,
-                    bytes: its_bytes,
-                },
-            ) => moment == its_moment && number == its_number && bytes.same(its_bytes),
-            (
-                Event::TcpFailed { moment, number },
-                Event::TcpFailed {
-                    moment: its_moment,
-                    number: its_number,
-                },
-            ) => moment == its_moment && number == its_number,
-            (Event::Tick { moment }, Event::Tick { moment: its_moment }) => moment == its_moment,
+            Event::Tick { moment } => matches!(other, Event::Tick { moment: now } if now == moment),
+        }
+    }
+
+    // Whether this one brings those bytes from that client, then and by that way.
+    fn is_from_client(&self, now: u64, from: u64, by: Via, sent: &Bytes<A>) -> bool
+        ensures { IsTrue result ↔ (self.now ≡ Client now from by sent.now) }
+    {
+        match self {
+            Event::Client {
+                moment,
+                client,
+                way,
+                bytes,
+            } => *moment == now && *client == from && *way == by && bytes.same(sent),
+            _ => false,
+        }
+    }
+
+    // Whether this one brings those bytes in a datagram, then, at that socket and from that endpoint.
+    fn is_datagram(&self, now: u64, at: u16, sender: Endpoint, sent: &Bytes<A>) -> bool
+        ensures { IsTrue result ↔ (self.now ≡ Datagram now at sender sent.now) }
+    {
+        match self {
+            Event::Datagram {
+                moment,
+                socket,
+                from,
+                bytes,
+            } => *moment == now && *socket == at && *from == sender && bytes.same(sent),
+            _ => false,
+        }
+    }
+
+    // Whether this one brings those bytes as the reply to that ask over TCP, then.
+    fn is_tcp_reply(&self, now: u64, ask: u64, sent: &Bytes<A>) -> bool
+        ensures { IsTrue result ↔ (self.now ≡ TcpReply now ask sent.now) }
+    {
+        match self {
+            Event::TcpReply {
+                moment,
+                number,
+                bytes,
+            } => *moment == now && *number == ask && bytes.same(sent),
             _ => false,
         }
     }
@@ -136,43 +143,40 @@ impl<A: Heap> Event<A> {
     pub fn copied(&self) -> Result<Event<A>, Starved>
         ensures { IfOk result (λ e. e ≡ self.now) }
     {
-        Ok(match self {
+        Ok(match *self {
             Event::Client {
                 moment,
                 client,
                 way,
-                bytes,
+                ref bytes,
             } => Event::Client {
-                moment: *moment,
-                client: *client,
-                way: *way,
+                moment,
+                client,
+                way,
                 bytes: bytes.copied()?,
             },
             Event::Datagram {
                 moment,
                 socket,
                 from,
-                bytes,
+                ref bytes,
             } => Event::Datagram {
-                moment: *moment,
-                socket: *socket,
-                from: *from,
+                moment,
+                socket,
+                from,
                 bytes: bytes.copied()?,
             },
             Event::TcpReply {
                 moment,
                 number,
-                bytes,
+                ref bytes,
             } => Event::TcpReply {
-                moment: *moment,
-                number: *number,
+                moment,
+                number,
                 bytes: bytes.copied()?,
             },
-            Event::TcpFailed { moment, number } => Event::TcpFailed {
-                moment: *moment,
-                number: *number,
-            },
-            Event::Tick { moment } => Event::Tick { moment: *moment },
+            Event::TcpFailed { moment, number } => Event::TcpFailed { moment, number },
+            Event::Tick { moment } => Event::Tick { moment },
         })
     }
 }
