@@ -4,3 +4,4 @@ pub mod Passed
 pub mod Places
 pub mod Plans
 pub mod Steps
+pub mod Trims

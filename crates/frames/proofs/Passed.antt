@@ -31,7 +31,7 @@ split_take {X} (suc i) k (suc n) (y ∷ xs) x e c = elim (Contains-cons y (take 
   ]
 ]
 
-any_of : {X : Type 0} (p : X → Bool) (xs : List X) → list_any p xs ≡ true → (x : X) × Contains xs x × (p x ≡ true)
+pub any_of : {X : Type 0} (p : X → Bool) (xs : List X) → list_any p xs ≡ true → (x : X) × Contains xs x × (p x ≡ true)
 any_of p [] h = absurd (cc)
 any_of {X} p (x ∷ xs) h = by_test (p x) (λ e. (x, Contains-head x xs, e)) (λ e. later (any_of p xs (sym (other_or (list_any p xs) e) ∙ h)))
   where

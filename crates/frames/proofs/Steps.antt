@@ -51,7 +51,7 @@ next_member p given (Some a) e h =
 
 -- ---- what is taken of a cut
 
-mapped : (ss : List ServerAddress) (a : Addr) → Contains (map (λ (s : ServerAddress). s.address) ss) a → (s : ServerAddress) × Contains ss s × (s.address ≡ a)
+pub mapped : (ss : List ServerAddress) (a : Addr) → Contains (map (λ (s : ServerAddress). s.address) ss) a → (s : ServerAddress) × Contains ss s × (s.address ≡ a)
 mapped [] a c = absurd (Contains-nil a c)
 mapped (s ∷ ss) a c = by (mapped ss a) (Contains-cons s.address (map (λ (t : ServerAddress). t.address) ss) a c)
   where

@@ -10,6 +10,7 @@ ghost use Rattle.retry.specs.Penalties.{same_addr};
 ghost use Rattle.retry.specs.Plans.{planned, IsByPenalty};
 ghost use Rattle.frames.specs.Frames.{Frame, FailedName, opened, is_known, has_failed, IsPassedOver, next_place, next_name, after_name, fresh_addresses, after_add};
 ghost use Rattle.frames.specs.Members.{AreAmong, times};
+ghost use Rattle.frames.specs.Trimmed.{trimmed};
 
 /// What a frame is opened with: addresses and names of the cut, at most 16 of each, no address twice, and
 /// no name of which an address is known. None is left out: each address of the cut is taken while there are
@@ -58,4 +59,15 @@ pub fn added_law()
     ensures kept { (level : Addr → ℕ) (f : Frame) (found : List Addr) → AreAmong f.addresses (after_add level f (fresh_addresses f found)).addresses }
     ensures there { (level : Addr → ℕ) (f : Frame) (found : List Addr) → AreAmong found (after_add level f (fresh_addresses f found)).addresses }
     ensures once { (level : Addr → ℕ) (f : Frame) (found : List Addr) → IsDistinct same_addr f.addresses → IsDistinct same_addr (after_add level f (fresh_addresses f found)).addresses }
+{}
+
+/// A cut that is trimmed opens the same frame, has 16 names and 32 addresses at most, and nothing that the
+/// cut does not have.
+pub fn trimmed_law()
+    ensures same { (level : Addr → ℕ) (nesting : ℕ) (c : Cut) → opened level nesting (trimmed c) ≡ opened level nesting c }
+    ensures few_names { (c : Cut) → length (trimmed c).names ≤ 16 }
+    ensures few_addresses { (c : Cut) → length (trimmed c).addresses ≤ 32 }
+    ensures names { (c : Cut) (n : Name) → Contains (trimmed c).names n → Contains c.names n }
+    ensures addresses { (c : Cut) (s : ServerAddress) → Contains (trimmed c).addresses s → Contains c.addresses s }
+    ensures owner { (c : Cut) → (trimmed c).owner ≡ c.owner }
 {}

@@ -13,7 +13,7 @@ use std::alloc::Allocator;
 // The most names, and the most addresses, that are taken of a cut.
 const MOST_TAKEN: usize = 16;
 
-fn has_address(addresses: &[Addr], sought: Addr) -> bool
+pub(crate) fn has_address(addresses: &[Addr], sought: Addr) -> bool
     ensures { result ≡ has_address addresses.now sought }
 {
     addresses.iter().any(|address| sought == *address)

@@ -118,6 +118,18 @@ fn servers_of_taken_addresses_are_known(rt: HostRuntime) -> Result<(), Fail> {
     Ok(())
 }
 
+// One address is kept twice, for two of the servers that have it; the seventeenth one not at all.
+#[test]
+fn trimmed_cut_opens_the_same_frame(rt: HostRuntime) -> Result<(), Fail> {
+    let cut = trimmed(rt.alloc(), &late_address(rt.alloc())?)?;
+    assert_eq!(rt; cut.names.as_slice().len(), 2);
+    assert_eq!(rt; cut.addresses.as_slice().len(), 17);
+    let frame = start(rt.alloc(), &cut, 0)?;
+    assert_eq!(rt; frame.addresses().len(), 16);
+    assert_eq!(rt; frame.unknown_names().len(), 1);
+    Ok(())
+}
+
 // Whether the name whose turn it is is this one.
 fn gives<A: Heap>(
     frame: &mut Frame<A>,
@@ -227,7 +239,7 @@ fn addresses_that_are_new_make_a_new_plan(rt: HostRuntime) -> Result<(), Fail> {
 }
 
 fn play<A: Heap>(alloc: A) -> Result<bool, Starved> {
-    let cut = five_servers(alloc)?;
+    let cut = trimmed(alloc, &five_servers(alloc)?)?;
     let failed = three_failures(alloc)?;
     let mut frame = start(alloc, &cut, 1)?;
     let given = gives(&mut frame, &failed, alloc, "c.net")?;

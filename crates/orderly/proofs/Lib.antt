@@ -3,7 +3,6 @@ pub mod Discipline
 pub mod Due
 pub mod Fates
 pub mod Lists
-pub mod Meant
 pub mod Orders
 pub mod Sent
 pub mod Times

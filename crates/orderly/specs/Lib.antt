@@ -1,4 +1,3 @@
 pub mod Laws
-pub mod Meant
 pub mod Times
 pub mod Words

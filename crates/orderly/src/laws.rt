@@ -1,7 +1,6 @@
 //! One reply and one open ask: functions that do nothing, whose clauses are proved.
 
 ghost use Rattle.orderly.specs.Laws.{OneAction, MoreDueAtTicks, NeverAgain, OneReply, OneComing, OpenByRun, FewAsks, OneLine, OthersStay, DueInOrder};
-ghost use Rattle.orderly.specs.Meant.{NothingIsMissed, DatagramIsServed};
 ghost use Rattle.orderly.specs.Times.{NothingIsLate};
 ghost use Rattle.orderly.specs.Words.{WordsInOrder};
 
@@ -37,11 +36,4 @@ pub fn due_law()
 /// had, words aside that were taken where memory was wanting.
 pub fn words_law()
     ensures { WordsInOrder }
-{}
-
-/// A datagram that an open ask accepts serves its query and no other, and a step that serves nobody brings
-/// nothing that an open ask accepts (RFC 5452, section 9.1).
-pub fn meant_law()
-    ensures datagram { DatagramIsServed }
-    ensures nobody { NothingIsMissed }
 {}

@@ -3,4 +3,4 @@
 
 mod laws;
 
-pub use laws::{discipline_law, due_law, isolation_law, meant_law, words_law};
+pub use laws::{discipline_law, due_law, isolation_law, words_law};

@@ -22,6 +22,7 @@ use Rattle.cache.specs.Keys.{Key}
 use Rattle.cache.specs.Cached.{Hit, retimed}
 use Rattle.cache.specs.Cached as cache
 use Rattle.frames.specs.Frames.{Frame, FailedName}
+use Rattle.frames.specs.Trimmed.{trimmed}
 
 -- ---- what the resolver holds
 
@@ -238,5 +239,6 @@ point task job stores = record { task = task; job = job; stores = stores }
 abbrev pub hit_from : Link → ℕ → Hit
 hit_from l now = cache.as_kept (received l) (lifetime_of (received l)) now
 
+-- Of a delegation what a frame can use is kept, however much a referral lists.
 abbrev pub cut_from : Cut → ℕ → ℕ → Known
-cut_from c ttl now = referral.as_kept c (referral_lifetime ttl) now
+cut_from c ttl now = referral.as_kept (trimmed c) (referral_lifetime ttl) now

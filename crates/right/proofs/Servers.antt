@@ -18,7 +18,9 @@ use Rattle.classify.proofs.Readings.{referral_read}
 use Rattle.referral.specs.Cuts.{ServerAddress, Cut, Known, IsBest, IsKept, after_best, after_keep}
 use Rattle.referral.proofs.Members.{looked_members, kept_members}
 use Rattle.frames.specs.Frames.{Frame, opened, after_add, fresh_addresses}
+use Rattle.frames.specs.Trimmed.{trimmed}
 use Rattle.frames.proofs.Steps.{taken_from, unknown_from, added_only}
+use Rattle.frames.proofs.Trims.{trimmed_names, trimmed_addresses}
 use Rattle.truth.specs.Worlds.{Address, World, IsWorld, Serves}
 use Rattle.truth.specs.Serving.{MayServe}
 use Rattle.truth.specs.Reading.{IsReferralTo, NamesServer, GivesAddress}
@@ -172,8 +174,16 @@ module _ (W : World) (w : IsWorld W) (z n : Name) (t : ℕ) (via : Via) (m : Mes
   pub referral_begins : BeginsTrue W n c
   referral_begins = subst (λ (o : Name). IsFrame W n (frame_at o c.names (cut_bytes c))) (sym is.owner) (referral_starts W a z n t m at c.names (cut_bytes c) w may serve is_read.0 taken)
 
+trimmed_true : (W : World) (c : Cut) → IsTrueCut W c → IsTrueCut W (trimmed c)
+trimmed_true W c h = record {
+  servers = λ n m. h.servers n (trimmed_names c n m);
+  serve = λ a m.
+      let (s, ms, is) = map_of address_bytes (trimmed c).addresses a m in
+      h.serve a (subst (Contains (cut_bytes c)) is (map_in address_bytes c.addresses s (trimmed_addresses c s ms)));
+}
+
 pub new_cut : (W : World) (ttl now : ℕ) (c : Cut) (n : Name) (k : Known) → IsTrueCut W c → IsKept (cut_from c ttl now) (n, k) → ((k.cut).owner ≡ n) × IsTrueCut W k.cut
-new_cut W ttl now c n k true_cut (is, some) = subst (λ (x : Name × Known). (((x.1).cut).owner ≡ x.0) × IsTrueCut W (x.1).cut) (sym is) (refl, true_cut)
+new_cut W ttl now c n k true_cut (is, some) = subst (λ (x : Name × Known). (((x.1).cut).owner ≡ x.0) × IsTrueCut W (x.1).cut) (sym is) (refl, trimmed_true W c true_cut)
 
 pub cut_kept_true : (W : World) (cap ttl now : ℕ) (c : Cut) (es : List (Name × Known)) → AreTrueCuts W es → IsTrueCut W c → AreTrueCuts W (after_keep cap (cut_from c ttl now) es)
 cut_kept_true W cap ttl now c es all true_cut n k m = elim (kept_members cap (cut_from c ttl now) es (n, k) m) as (λ x. ((k.cut).owner ≡ n) × IsTrueCut W k.cut) [

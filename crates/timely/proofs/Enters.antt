@@ -31,7 +31,7 @@ use Rattle.timely.proofs.Lists.{more_followed}
 use Rattle.timely.proofs.Stores.{kept_from, cut_kept_from}
 use Rattle.retry.proofs.Steps.{timed_out_low, answered_low}
 use Rattle.timely.proofs.Searches.{AreAsked, IsIdle, IsAsking, AreAround, AreMarked, idle_at}
-use Rattle.timely.proofs.Told.{AreTold, low_level}
+use Rattle.timely.proofs.Told.{AreTold, IsKeptStart, low_level}
 use Rattle.timely.proofs.Points.{OnTop, StandsBy, IsSound, put, heard_at}
 use Rattle.timely.proofs.Later.{told_later, stands_later, settled_later, asked_later, asking_later, waiting_later, around_later, marks_later}
 
@@ -176,10 +176,10 @@ module _ (port : ℕ) (home : Home) (k : ℕ) (turn : Turn) (past : List Turn) (
             ),
           )
 
-      pub fresh_cut : (c : Cut) (ttl : ℕ) → IsStart port home (turn ∷ past) c → (x : Name × Known) → referral.IsKept (cut_from c ttl now) x → (x.0 ≡ ((x.1).cut).owner) × IsStart port home (turn ∷ past) (x.1).cut
+      pub fresh_cut : (c : Cut) (ttl : ℕ) → IsStart port home (turn ∷ past) c → (x : Name × Known) → referral.IsKept (cut_from c ttl now) x → (x.0 ≡ ((x.1).cut).owner) × IsKeptStart port home (turn ∷ past) (x.1).cut
       fresh_cut c ttl start x new =
           let kept : x.1 ≡ cut_from c ttl now = ap (λ y. y.1) new.0 in
-          (ap (λ y. y.0) new.0 ∙ ap (λ (y : Known). (y.cut).owner) (sym kept), subst (λ (y : Known). IsStart port home (turn ∷ past) y.cut) (sym kept) start)
+          (ap (λ y. y.0) new.0 ∙ ap (λ (y : Known). (y.cut).owner) (sym kept), (c, start, ap (λ (y : Known). y.cut) kept))
 
       pub referral_enters : (at : Name) (ns glue : List Record) (ttl : ℕ) → class_of (s.frame).zone s.name s.kind (via_of ask.path) m ≡ class.Referral at ns glue ttl
           → IsReferred now s rest at ns glue ttl j stores p → Sound p
@@ -298,7 +298,7 @@ module _ (port : ℕ) (home : Home) (k : ℕ) (turn : Turn) (past : List Turn) (
     taken_entry (TimedOut server) is x (s, l, c, kept) = absurd c
     taken_entry (TcpFailed server) is x (s, l, c, kept) = absurd c
 
-    taken_cut : (input : Input) → IsInputNow input → (x : Name × Known) → IsTakenCut j input now x → (x.0 ≡ ((x.1).cut).owner) × IsStart port home (turn ∷ past) (x.1).cut
+    taken_cut : (input : Input) → IsInputNow input → (x : Name × Known) → IsTakenCut j input now x → (x.0 ≡ ((x.1).cut).owner) × IsKeptStart port home (turn ∷ past) (x.1).cut
     taken_cut Start is x (s, at, ns, glue, ttl, c, none, is_cut, kept) = absurd none
     taken_cut (Told way server m) (via_is, server_is, brings) x (s, at, ns, glue, ttl, c, ((rest, searches), is), is_cut, kept) =
         let h = subst (λ (l : List Search). OnTop port home k past CutNow j.name j.kind l IsAskingAs) searches top in

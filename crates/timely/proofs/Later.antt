@@ -58,7 +58,7 @@ module _ (port : ℕ) (home : Home) (turn : Turn) (past : List Turn) where
   pub told_later : (stores : Stores) → AreTold port home past stores → AreTold port home (turn ∷ past) stores
   told_later stores h = record {
     links = λ k e c. let (n, u, key, is) = h.links k e c in (n, u, key, inr is);
-    cuts = λ n c m. let (name, start) = h.cuts n c m in (name, inl start);
+    cuts = λ n c m. let (name, (s, start, is)) = h.cuts n c m in (name, (s, inl start, is));
     low = h.low;
   }
 

@@ -1,5 +1,5 @@
 -- What stands at each point of the work on a query, and that the rules keep it.
-use Rattle.std.proofs.Common.{◌≡◌, ◌≢◌, ℕ, zero, suc, ◌+◌, ◌-◌, inl, inr, Option, Some, None, List, [], ◌∷◌, refl, sym, ap, ◌∙◌, subst, arith, add-one}
+use Rattle.std.proofs.Common.{◌≡◌, ◌≢◌, ℕ, zero, suc, ◌+◌, ◌-◌, ◌≤◌, inl, inr, Option, Some, None, List, [], ◌∷◌, refl, sym, ap, ◌∙◌, subst, arith, add-one}
 use Rattle.lru.proofs.Splits.{Contains-cons}
 use Rattle.dname.specs.Labels.{Name, IsAtOrUnder}
 use Rattle.rdata.specs.Records.{Record}
@@ -9,9 +9,11 @@ use Rattle.zone.specs.Links.{Link, Found}
 use Rattle.zone.specs.Look as local
 use Rattle.authority.specs.Catalogs.{IsLooked}
 use Rattle.referral.specs.Cuts.{Cut, IsBest}
-use Rattle.frames.specs.Frames.{FailedName, fresh_addresses}
+use Rattle.frames.specs.Frames.{Frame, FailedName, fresh_addresses, opened}
+use Rattle.frames.specs.Trimmed.{trimmed}
 use Rattle.frames.proofs.Steps.{added_there}
-use Rattle.resolution.specs.Jobs.{Home, Stores, level_of, IsCutOf, IsRootCut, Search, Job, marked, Task, Seek, Take, Go, Again, Point}
+use Rattle.frames.proofs.Trims.{trimmed_opens}
+use Rattle.resolution.specs.Jobs.{Home, Stores, level_of, IsCutOf, IsRootCut, Search, search_at, Job, marked, Task, Seek, Take, Go, Again, Point}
 use Rattle.resolution.specs.Rules.{Says, Begins, Misses, HearsOf, turned, Rule, takes, asks, follows, restarts, hears, descends, gives_up, Rules}
 use Rattle.runs.specs.States.{Turn}
 use Rattle.timely.specs.Spent.{HasNoAddress, IsFound, IsStart, IsOver, IsBeyond}
@@ -27,28 +29,36 @@ looked_over home n t at ns glue says = by says.1
     by (inr (none, e)) = absurd (cc)
 
 module _ (port : ℕ) (home : Home) (run : List Turn) where
-  pub missed_start : (now : ℕ) (n : Name) (t : ℕ) (old new : Stores) (c : Cut) → AreTold port home run old → Misses home now n t old c new → IsStart port home run c × IsOver c n
+  -- A start over the name, at which a frame opens as at the cut.
+  abbrev pub BeginsAt : Cut → Name → Type 0
+  BeginsAt c n = (s : Cut) × IsStart port home run s × IsOver s n × ((level : Addr → ℕ) (nesting : ℕ) → opened level nesting c ≡ opened level nesting s)
+
+  pub missed_start : (now : ℕ) (n : Name) (t : ℕ) (old new : Stores) (c : Cut) → AreTold port home run old → Misses home now n t old c new → BeginsAt c n
   missed_start now n t old new c told m = by m.what m.best m.says m.is_best m.begins
     where
       root_start : (past : List Turn) → IsRootCut home c → IsStart port home past c
       root_start [] e = inl e
       root_start (turn ∷ past) e = inl (root_start past e)
 
-      kept : (k : Cut) → IsBest n now old.delegations (Some k) → c ≡ k → IsStart port home run c × IsOver c n
+      kept : (k : Cut) → IsBest n now old.delegations (Some k) → c ≡ k → BeginsAt c n
       kept k (m, d, deepest, is) e =
-          let (name, start) = told.cuts m d deepest.there in
-          let same = is ∙ sym e in
-          (subst (IsStart port home run) same start, inr (subst (IsAtOrUnder n) (name ∙ ap (λ (x : Cut). x.owner) same) deepest.over))
+          let (name, (s, start, some)) = told.cuts m d deepest.there in
+          let same : c ≡ trimmed s = e ∙ (sym is ∙ some) in (
+            s,
+            start,
+            inr (subst (IsAtOrUnder n) (name ∙ ap (λ (x : Cut). x.owner) some) deepest.over),
+            λ level nesting. ap (opened level nesting) same ∙ trimmed_opens s level nesting,
+          )
 
-      at_cut : (at : Name) (ns glue : List Record) → Says home n t (local.Cut at ns glue) → IsCutOf at ns glue c → IsStart port home run c × IsOver c n
-      at_cut at ns glue says is = (local_start port home run n t at ns glue c says is, inr (subst (IsAtOrUnder n) (sym is.owner) (looked_over home n t at ns glue says)))
+      at_cut : (at : Name) (ns glue : List Record) → Says home n t (local.Cut at ns glue) → IsCutOf at ns glue c → BeginsAt c n
+      at_cut at ns glue says is = (c, local_start port home run n t at ns glue c says is, inr (subst (IsAtOrUnder n) (sym is.owner) (looked_over home n t at ns glue says)), λ level nesting. refl)
 
-      by : (what : local.Local) (best : Option Cut) → Says home n t what → IsBest n now old.delegations best → Begins home n what best c → IsStart port home run c × IsOver c n
+      by : (what : local.Local) (best : Option Cut) → Says home n t what → IsBest n now old.delegations best → Begins home n what best c → BeginsAt c n
       by (local.Linked l) best says is b = absurd b
       by (local.Cut at ns glue) None says is b = at_cut at ns glue says b
       by (local.Cut at ns glue) (Some k) says is (inl b) = kept k is b.1
       by (local.Cut at ns glue) (Some k) says is (inr b) = at_cut at ns glue says b.1
-      by local.NotHere None says is b = (root_start run b, inl (ap (λ (x : Cut). x.owner) b))
+      by local.NotHere None says is b = (c, root_start run b, inl (ap (λ (x : Cut). x.owner) b), λ level nesting. refl)
       by local.NotHere (Some k) says is b = kept k is b
 
 module _ (port : ℕ) (home : Home) (k : ℕ) (run : List Turn) (Cuts : Addr → Name → ℕ → Type 0) where
@@ -119,6 +129,10 @@ module _ (port : ℕ) (home : Home) (k : ℕ) (run : List Turn) (Cuts : Addr →
       let (idle, more, name, kind, nesting) = heard p.stores n l w after j.failed marks told sets nones waiting marked h in
       put p Go _ to job told more (idle, around_stays j.name j.kind rest after.name w.name after.kind w.kind (after.frame).nesting (w.frame).nesting name kind nesting around)
 
+  begins : (level : Addr → ℕ) (low : (a : Addr) → level a ≤ 8) (nesting : ℕ) (c : Cut) (n : Name) (t : ℕ) → BeginsAt port home run c n → IsIdle port home k run (search_at n t (opened level nesting c))
+  begins level low nesting c n t (s, start, over, same) =
+      subst (λ (f : Frame). IsIdle port home k run (search_at n t f)) (sym (same level nesting)) (idle_at port home k run level low nesting s n t start over)
+
   pub rule_keeps : (now : ℕ) (a b : Point) → IsSound a → Rule home now a b → IsSound b
   rule_keeps now a b h (takes l task finds to job) =
       put b (Take l) a.job to job (found_told port home run now (a.job).name (a.job).kind a.stores b.stores l h.told finds) h.marks tt
@@ -126,7 +140,7 @@ module _ (port : ℕ) (home : Home) (k : ℕ) (run : List Turn) (Cuts : Addr →
       let told = missed_told port home run now (a.job).name (a.job).kind a.stores b.stores c h.told misses in
       let start = missed_start port home run now (a.job).name (a.job).kind a.stores b.stores c h.told misses in
       put b Go _ to job told h.marks
-      (idle_at port home k run (level_of b.stores) (low_level port home run b.stores told) 0 c (a.job).name (a.job).kind start.0 start.1, (refl, refl, refl))
+      (begins (level_of b.stores) (low_level port home run b.stores told) 0 c (a.job).name (a.job).kind start, (refl, refl, refl))
   rule_keeps now a b h (follows l r task is few to job stores) = put b Seek _ to job (subst (AreTold port home run) (sym stores) h.told) h.marks tt
   rule_keeps now a b h (restarts l d front back task ending is fresh dead to job stores) = put b Seek _ to job (subst (AreTold port home run) (sym stores) h.told) h.marks tt
   rule_keeps now a b h (hears before after rest n l marks task turn finds hears_of to job) =
@@ -139,7 +153,7 @@ module _ (port : ℕ) (home : Home) (k : ℕ) (run : List Turn) (Cuts : Addr →
       let told = missed_told port home run now n a_type a.stores b.stores c h.told misses in
       let start = missed_start port home run now n a_type a.stores b.stores c h.told misses in
       put b Go _ to job told h.marks (
-        idle_at port home k run (level_of b.stores) (low_level port home run b.stores told) ((s.frame).nesting + 1) c n a_type start.0 start.1,
+        begins (level_of b.stores) (low_level port home run b.stores told) ((s.frame).nesting + 1) c n a_type start,
         (refl, add-one (s.frame).nesting, waits port home k run (a.job).failed s n h.marks here.0 turn.asked_all turn.turn, here.1),
       )
   rule_keeps now a b h (gives_up s around rest task up to job stores) =

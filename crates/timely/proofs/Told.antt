@@ -9,6 +9,7 @@ use Rattle.zone.specs.Look as local
 use Rattle.retry.specs.Penalties.{AreAtMost, same_addr}
 use Rattle.retry.proofs.Steps.{looked_most}
 use Rattle.referral.specs.Cuts.{Cut, Known}
+use Rattle.frames.specs.Trimmed.{trimmed}
 use Rattle.cache.specs.Keys.{Key, Kind, NameError, key_for}
 use Rattle.cache.specs.Cached.{Hit, Answers}
 use Rattle.resolution.specs.Jobs.{Home, Stores, level_of, Taken, IsCutOf}
@@ -69,10 +70,14 @@ answers_alias n t u (NxDomain soa) r (inr (inl h)) = let s = h.1 in absurd (cc)
 answers_alias n t u (NxDomain soa) r (inr (inr h)) = let s = h.2 in absurd (cc)
 
 module _ (port : ℕ) (home : Home) (run : List Turn) where
-  -- What was kept was accepted; a cut that was kept is a start; no penalty is over 8.
+  -- Of a start that was kept what a frame can use is kept.
+  abbrev pub IsKeptStart : Cut → Type 0
+  IsKeptStart c = (s : Cut) × IsStart port home run s × (c ≡ trimmed s)
+
+  -- What was kept was accepted; a cut that was kept is one of a start; no penalty is over 8.
   pub record AreTold (stores : Stores) : Type 0 where
     pub links : AreKept (λ n u e. Earlier (Takes port n u e.link) run) stores.cache
-    pub cuts : (n : Name) (c : Known) → Contains stores.delegations (n, c) → (n ≡ (c.cut).owner) × IsStart port home run c.cut
+    pub cuts : (n : Name) (c : Known) → Contains stores.delegations (n, c) → (n ≡ (c.cut).owner) × IsKeptStart c.cut
     pub low : AreAtMost 8 stores.penalties
 
   pub low_level : (stores : Stores) → AreTold stores → (a : Addr) → level_of stores a ≤ 8
