@@ -12,7 +12,7 @@ use authority::Link;
 use cache::{Cache, Hit};
 use classify::{LONGEST, lifetime};
 use dname::{Heap, Name, Starved};
-use frames::Frame;
+use frames::{Frame, trimmed};
 use rdata::{Addr, RType};
 use referral::{Cut, Delegations};
 use retry::Penalties;
@@ -127,13 +127,20 @@ impl<S: BuildHasher + Drop, A: Heap> Stores<S, A> {
         Ok(())
     }
 
-    /// Keeps a delegation whose lowest TTL is this, in seconds, from the moment `now`, in milliseconds: a week
-    /// at most (RFC 2181, section 8). Want of memory changes nothing.
-    pub fn keep_cut(&mut self, cut: &Cut<A>, ttl: u32, now: u64) -> Result<(), Starved>
+    /// Keeps what a frame can use of a delegation whose lowest TTL is this, in seconds, from the moment `now`,
+    /// in milliseconds: a week at most (RFC 2181, section 8). Want of memory changes nothing.
+    pub fn keep_cut(
+        &mut self,
+        alloc: A,
+        cut: &Cut<A>,
+        ttl: u32,
+        now: u64,
+    ) -> Result<(), Starved>
         ensures ok { OnOk result (self.new ≡ with_cut self.old cut.now ttl now) }
         ensures err { OnErr result (self.new ≡ self.old) }
     {
-        self.delegations.keep(cut, ttl.min(LONGEST), now)?;
+        let kept = trimmed(alloc, cut)?;
+        self.delegations.keep(&kept, ttl.min(LONGEST), now)?;
         Ok(())
     }
 
