@@ -12,4 +12,10 @@ pub use home::Home;
 pub use lookup::{Found, find};
 pub use made::{cut_of, found_addresses};
 pub use stores::{Capacities, Hashers, Stores};
-pub use taken::{Source, Taken};
+pub use taken::Taken;
+// A crate can name a link that was taken in a contract only if the types of its fields are exported.
+#[doc(hidden)]
+pub use taken::Source;
+
+#[cfg(test)]
+mod tests;
