@@ -129,13 +129,7 @@ impl<S: BuildHasher + Drop, A: Heap> Stores<S, A> {
 
     /// Keeps what a frame can use of a delegation whose lowest TTL is this, in seconds, from the moment `now`,
     /// in milliseconds: a week at most (RFC 2181, section 8). Want of memory changes nothing.
-    pub fn keep_cut(
-        &mut self,
-        alloc: A,
-        cut: &Cut<A>,
-        ttl: u32,
-        now: u64,
-    ) -> Result<(), Starved>
+    pub fn keep_cut(&mut self, alloc: A, cut: &Cut<A>, ttl: u32, now: u64) -> Result<(), Starved>
         ensures ok { OnOk result (self.new ≡ with_cut self.old cut.now ttl now) }
         ensures err { OnErr result (self.new ≡ self.old) }
     {

@@ -149,7 +149,7 @@ impl<A: Heap> Resolver<A> {
 
     fn learn_cut(&mut self, at: &str, ttl: u32, now: u64) -> Result<(), Starved> {
         let cut = cut(self.alloc, at)?;
-        self.stores.keep_cut(&cut, ttl, now)
+        self.stores.keep_cut(self.alloc, &cut, ttl, now)
     }
 }
 
