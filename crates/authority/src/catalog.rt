@@ -169,8 +169,10 @@ impl<A: Heap> Catalog<A> {
     pub fn new(zones: Vec<Zone<A>, A>) -> Result<Catalog<A>, CatalogError>
         ensures { MatchResult result (λ c. (c ≡ zones.items) × (has_twins zones.items ≡ false)) (λ e. CatalogRefuses e (has_twins zones.items)) }
     {
-        check_origins(*zones.allocator(), &zones)?;
-        Ok(Catalog { zones })
+        match check_origins(*zones.allocator(), &zones) {
+            Ok(()) => Ok(Catalog { zones }),
+            Err(error) => Err(error),
+        }
     }
 
     /// Its zones, as they were given: no two have one origin, and each keeps the rules of a zone.
