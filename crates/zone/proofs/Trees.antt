@@ -88,7 +88,7 @@ not_from : (a b : Bool) → (a ≡ true → b ≡ true) → b ≡ false → a �
 not_from true b f e = sym (f refl) ∙ e
 not_from false b f e = refl
 
-not_own : (r : Record) (n : List (List ℕ)) → is_under r.owner n ≡ false → is_owned n r ≡ false
+pub not_own : (r : Record) (n : List (List ℕ)) → is_under r.owner n ≡ false → is_owned n r ≡ false
 not_own r n e = not_from (is_owned n r) (is_under r.owner n) (own_under r n) e
 
 not_wild : (r : Record) (n : List (List ℕ)) → is_under r.owner n ≡ false → is_owned (star ∷ n) r ≡ false
