@@ -123,8 +123,8 @@ pub near_more : {H : Type 0} (rs : List Record) (n p : List (List ℕ)) (o : Opt
 near_more rs n p o near new soa q t up h old e =
     ap (λ (w : Option (List Record)). met soa q t w (climbed soa q t rs p)) e
     ∙ near_some near (wild_of o) soa q t (climbed soa q t rs n) (climbed soa q t rs p) (climbed soa q t rs q) old
-      (λ k. ap (λ (w : Option (List Record)). met soa q t w (climbed soa q t rs p)) h.wild
-          ∙ near_none (has_under p rs) soa q t (at (star ∷ p) rs) (climbed soa q t rs p) (climbed soa q t rs q) (sym (climb_by soa q t rs n p up) ∙ k))
+    (λ k. ap (λ (w : Option (List Record)). met soa q t w (climbed soa q t rs p)) h.wild
+    ∙ near_none (has_under p rs) soa q t (at (star ∷ p) rs) (climbed soa q t rs p) (climbed soa q t rs q) (sym (climb_by soa q t rs n p up) ∙ k))
 
 pub near_last : (rs : List Record) (n : List (List ℕ)) (near : Option (List Record)) (soa : Record) (q : List (List ℕ)) (t : ℕ) → n ≡ root
     → met soa q t near (climbed soa q t rs n) ≡ climbed soa q t rs q → met soa q t near (NxDomain soa) ≡ climbed soa q t rs q

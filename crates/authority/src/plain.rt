@@ -218,7 +218,11 @@ fn has_repeat<A: Allocator>(set: &[Record<A>], added: &Record<A>) -> bool
 }
 
 // One address more, where it is new.
-pub(crate) fn put_glue<A: Heap>(set: &mut Records<A>, added: &Record<A>, picked: bool) -> Result<(), Starved>
+pub(crate) fn put_glue<A: Heap>(
+    set: &mut Records<A>,
+    added: &Record<A>,
+    picked: bool,
+) -> Result<(), Starved>
     ensures { OnOk result (set.new ≡ cond picked (add_glue set.old added.now) set.old) }
 {
     if !picked {

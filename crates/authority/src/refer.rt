@@ -45,11 +45,7 @@ fn put_server<A: Heap>(
 }
 
 // The addresses of an NS set's servers, server by server.
-fn glue<A: Heap>(
-    alloc: A,
-    zone: &Zone<A>,
-    servers: &[Record<A>],
-) -> Result<Records<A>, Starved>
+fn glue<A: Heap>(alloc: A, zone: &Zone<A>, servers: &[Record<A>]) -> Result<Records<A>, Starved>
     ensures { IfOk result (λ set. set ≡ glue_of zone.now.records servers.now) }
 {
     let mut set = Records::new(alloc);

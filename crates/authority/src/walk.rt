@@ -149,6 +149,9 @@ pub(crate) fn look_counted<A: Heap>(
     } = walk_up(zone, name)?;
     match cut {
         Some(cut) => Ok((refer(alloc, zone, cut)?, count + 1)),
-        None => Ok((Local::Link(link(alloc, here, near, soa, name, kind)?), count)),
+        None => Ok((
+            Local::Link(link(alloc, here, near, soa, name, kind)?),
+            count,
+        )),
     }
 }
