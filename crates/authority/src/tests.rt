@@ -1,4 +1,6 @@
 use super::*;
+use crate::plain::look_in;
+use crate::walk::look_counted;
 use dname::{Heap, Name, Starved};
 use rdata::{Addr, CharacterString, RData, RType, Record, Records, Soa, Texts};
 use refusing::Refusing;
@@ -323,5 +325,108 @@ fn each_growth_is_refused_in_turn(rt: HostRuntime) -> Result<(), Fail> {
     }
     heap.refuse_after(growths);
     assert!(rt; matches!(both_told(&heap), Ok((1, 1))));
+    Ok(())
+}
+
+// How many names are looked up for a name that exists without records (three labels and the root), for
+// one under a cut, and for one that no zone is over.
+fn counts<A: Heap>(alloc: A) -> Result<(usize, usize, usize), Starved> {
+    let zones = catalog(alloc)?;
+    let (_, empty) = zones.look_counted(alloc, &name(alloc, "b.lab.example")?, RType::Txt)?;
+    let (_, cut) = zones.look_counted(alloc, &name(alloc, "x.sub.lab.example")?, RType::A)?;
+    let (_, nowhere) = zones.look_counted(alloc, &name(alloc, "test")?, RType::A)?;
+    Ok((empty, cut, nowhere))
+}
+
+#[test]
+fn a_look_up_counts_its_labels(rt: HostRuntime) -> Result<(), Fail> {
+    assert!(rt; matches!(counts(rt.alloc()), Ok((4, 6, 0))));
+    Ok(())
+}
+
+// A name of a small zone; `*` may stand first.
+fn made_name<A: Heap>(alloc: A, seed: u32) -> Result<Name<A>, Starved> {
+    let first = ["*", "a", "b", "c"][(seed % 4) as usize];
+    let second = ["", "a.", "b.", "c.a."][(seed / 4 % 4) as usize];
+    name(
+        alloc,
+        format!(in alloc; "{first}.{second}made.example")?.as_str(),
+    )
+}
+
+// A zone of some records by a seed; nothing where they are no zone.
+fn made<A: Heap>(alloc: A, seed: u32) -> Result<Option<Zone<A>>, Starved> {
+    let mut records = top(alloc, "made.example")?;
+    for n in 1..6_u32 {
+        let mixed = seed
+            .wrapping_mul(2_654_435_761)
+            .wrapping_add(n.wrapping_mul(40_503))
+            / 64;
+        let owner = made_name(alloc, mixed)?;
+        let value = match mixed / 16 % 4 {
+            0 => RData::Ns(made_name(alloc, mixed / 64)?),
+            1 => words(alloc)?,
+            _ => RData::A(Addr([192, 0, 2, 1])),
+        };
+        records.push(Record {
+            owner,
+            ttl: 60,
+            value,
+        })?;
+    }
+    Ok(Zone::build(name(alloc, "made.example")?, records).ok())
+}
+
+// Whether the walk over a zone and the plain form over its list answer a question alike.
+fn is_alike<A: Heap>(
+    alloc: A,
+    zone: &Zone<A>,
+    asked: &Name<A>,
+    kind: RType,
+) -> Result<bool, Starved> {
+    let soa = zone.denial();
+    let (walked, _) = look_counted(alloc, zone, soa, asked, kind)?;
+    let (word, owner, set, glue) = described(alloc, walked)?;
+    let listed = look_in(alloc, zone.origin(), soa, zone.records(), asked, kind)?;
+    let (plain_word, plain_owner, plain_set, plain_glue) = described(alloc, listed)?;
+    Ok(
+        word == plain_word
+            && owner.as_str() == plain_owner.as_str()
+            && set == plain_set
+            && glue == plain_glue,
+    )
+}
+
+// The same of 48 questions.
+fn all_alike<A: Heap>(alloc: A, zone: &Zone<A>) -> Result<bool, Starved> {
+    for asked in 0..16 {
+        let asked = made_name(alloc, asked)?;
+        for kind in [RType::A, RType::Ns, RType::Txt] {
+            if !is_alike(alloc, zone, &asked, kind)? {
+                return Ok(false);
+            }
+        }
+    }
+    Ok(true)
+}
+
+// How many zones were made, if all their questions are answered alike.
+fn zones_alike<A: Heap>(alloc: A) -> Result<Option<u32>, Starved> {
+    let mut zones: u32 = 0;
+    for seed in 0..200 {
+        if let Some(zone) = made(alloc, seed)? {
+            if !all_alike(alloc, &zone)? {
+                return Ok(None);
+            }
+            zones = zones.wrapping_add(1);
+        }
+    }
+    Ok(Some(zones))
+}
+
+#[test]
+fn the_walk_gives_what_the_list_does(rt: HostRuntime) -> Result<(), Fail> {
+    let zones = zones_alike(rt.alloc());
+    assert!(rt; matches!(zones, Ok(Some(count)) if count >= 50));
     Ok(())
 }
