@@ -50,7 +50,7 @@ pub cut_last : (z : Zone) (n q : List (List ℕ)) (f : Option (List (List ℕ)))
 cut_last z n q f e h = ap (λ (x : List (List ℕ)). or_else (cut_of z (above x)) f) (sym e) ∙ h
 
 -- A step of the climb.
-climb_by : (soa : Record) (q : List (List ℕ)) (t : ℕ) (rs : List Record) (n p : List (List ℕ)) → parent_of n ≡ Some p
+pub climb_by : (soa : Record) (q : List (List ℕ)) (t : ℕ) (rs : List Record) (n p : List (List ℕ)) → parent_of n ≡ Some p
     → climbed soa q t rs n ≡ cond (has_under p rs) (said_wild soa q t (at (star ∷ p) rs)) (climbed soa q t rs p)
 climb_by soa q t rs n p e =
     let a = ascends n p e in

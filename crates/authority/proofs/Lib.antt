@@ -6,3 +6,4 @@ pub mod OneAnswers
 pub mod Picks
 pub mod SomeAnswers
 pub mod Twins
+pub mod Walks

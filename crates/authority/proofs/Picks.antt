@@ -83,7 +83,7 @@ pub added_new : (kept new : List Record) (r x : Record) (b : Bool) → b ≡ has
 added_new kept new r x b eb ef ex en =
     en ∙ (ap (λ (y : Record). kept ++ y ∷ []) ex ∙ ap (λ (c : Bool). cond c kept (kept ++ r ∷ [])) (sym ef ∙ eb))
 
-none_picked : (q : List (List ℕ)) (xs : List Record) → firsts (map (with_owner q) xs) ≡ [] → xs ≡ []
+pub none_picked : (q : List (List ℕ)) (xs : List Record) → firsts (map (with_owner q) xs) ≡ [] → xs ≡ []
 none_picked q [] e = refl
 none_picked q (x ∷ xs) e = absurd (some_kept (with_owner q x ∷ []) (map (with_owner q) xs) (λ z. cc) e)
 
@@ -92,7 +92,7 @@ pub say_none : (soa : Record) (q : List (List ℕ)) (t : ℕ) (n : List (List �
 say_none soa q t n rs e =
     ap (λ (xs : List Record). said_by soa q (at n rs) xs) (of_type_at t n rs ∙ none_picked q (picked n t rs) e) ∙ ap (said_alias soa q) (of_type_at cname_type n rs)
 
-found_by : (soa : Record) (q : List (List ℕ)) (own xs : List Record) → (firsts (map (with_owner q) xs) ≡ [] → ⊥) → said_by soa q own xs ≡ Found (firsts (map (with_owner q) xs))
+pub found_by : (soa : Record) (q : List (List ℕ)) (own xs : List Record) → (firsts (map (with_owner q) xs) ≡ [] → ⊥) → said_by soa q own xs ≡ Found (firsts (map (with_owner q) xs))
 found_by soa q own [] h = absurd (h refl)
 found_by soa q own (x ∷ xs) h = refl
 
@@ -186,7 +186,7 @@ stay_by c t r rs true true e ih = λ i. stays c r e i ∷ ih i
 stay_by c t r rs true false e ih = ih
 stay_by c t r rs false b e ih = ih
 
-owners_stay : (c : List (List ℕ)) (t : ℕ) (rs : List Record) → map (with_owner c) (picked c t rs) ≡ picked c t rs
+pub owners_stay : (c : List (List ℕ)) (t : ℕ) (rs : List Record) → map (with_owner c) (picked c t rs) ≡ picked c t rs
 owners_stay c t [] = refl
 owners_stay c t (r ∷ rs) = stay_by c t r rs (is_owned c r) (is_type t r) refl (owners_stay c t rs)
 

@@ -5,3 +5,4 @@ pub mod Causes
 pub mod Climb
 pub mod OneAnswer
 pub mod Seen
+pub mod Walk

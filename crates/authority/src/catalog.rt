@@ -1,4 +1,4 @@
-ghost use Rattle.std.specs.Prelude.{◌≡◌, ◌&&◌, ◌||◌, ℕ, List, Some, None, find, IfOk, OnOk, MatchResult, true, false, not};
+ghost use Rattle.std.specs.Prelude.{◌≡◌, ◌≤◌, ◌+◌, ◌&&◌, ◌||◌, ℕ, length, List, Some, None, find, IfOk, OnOk, MatchResult, true, false, not};
 ghost use Rattle.std.specs.HashSet as bag;
 ghost use Rattle.std.specs.Option.{option_copied};
 ghost use Rattle.dname.specs.Labels.{same_name};
@@ -8,7 +8,7 @@ ghost use Rattle.authority.specs.Catalogs.{zone_over, looked, among, is_chosen, 
 ghost use Rattle.authority.specs.CatalogFaults.{catalog_fault_number, CatalogRefuses};
 
 use crate::answer::Local;
-use crate::plain::look_in;
+use crate::walk::look_counted;
 use dname::{Heap, Name, Starved};
 use rdata::RType;
 use std::alloc::{AllocError, Allocator, Global};
@@ -169,8 +169,10 @@ impl<A: Heap> Catalog<A> {
     pub fn new(zones: Vec<Zone<A>, A>) -> Result<Catalog<A>, CatalogError>
         ensures { MatchResult result (λ c. (c ≡ zones.items) × (has_twins zones.items ≡ false)) (λ e. CatalogRefuses e (has_twins zones.items)) }
     {
-        check_origins(*zones.allocator(), &zones)?;
-        Ok(Catalog { zones })
+        match check_origins(*zones.allocator(), &zones) {
+            Ok(()) => Ok(Catalog { zones }),
+            Err(error) => Err(error),
+        }
     }
 
     /// Its zones, as they were given: no two have one origin, and each keeps the rules of a zone.
@@ -187,7 +189,23 @@ impl<A: Heap> Catalog<A> {
         ensures value { IfOk result (λ l. local_view l ≡ looked self.now name.now (type_number kind)) }
         ensures relation { IfOk result (λ l. IsLooked self.now name.now (type_number kind) (local_view l)) }
     {
-        self.look_through(alloc, None, name, kind)
+        let (local, _) = self.look_counted(alloc, name, kind)?;
+        Ok(local)
+    }
+
+    /// The same, and how many names were looked up in the tree of the zone that answers, glue aside: at
+    /// most two more than the name has labels. A name without a node counts too.
+    pub fn look_counted(
+        &self,
+        alloc: A,
+        name: &Name<A>,
+        kind: RType,
+    ) -> Result<(Local<A>, usize), Starved>
+        ensures value { IfOk result (λ p. local_view p.0 ≡ looked self.now name.now (type_number kind)) }
+        ensures relation { IfOk result (λ p. IsLooked self.now name.now (type_number kind) (local_view p.0)) }
+        ensures count { IfOk result (λ p. p.1 ≤ length name.now + 1) }
+    {
+        self.counted_through(alloc, None, name, kind)
     }
 
     /// The same of those zones alone whose origins are listed: what a server of these zones says. Origins
@@ -202,32 +220,27 @@ impl<A: Heap> Catalog<A> {
         ensures value { IfOk result (λ l. local_view l ≡ looked (among origins.now self.now) name.now (type_number kind)) }
         ensures relation { IfOk result (λ l. IsLooked (among origins.now self.now) name.now (type_number kind) (local_view l)) }
     {
-        self.look_through(alloc, Some(origins), name, kind)
+        let (local, _) = self.counted_through(alloc, Some(origins), name, kind)?;
+        Ok(local)
     }
 
     // Without a list, of all zones.
-    fn look_through<'a>(
+    fn counted_through<'a>(
         &'a self,
         alloc: A,
         listed: Option<&'a [Name<A>]>,
         name: &Name<A>,
         kind: RType,
-    ) -> Result<Local<A>, Starved>
-        ensures value { IfOk result (λ l. local_view l ≡ looked (chosen (option_copied listed.entry) self.now) name.now (type_number kind)) }
-        ensures relation { IfOk result (λ l. IsLooked (chosen (option_copied listed.entry) self.now) name.now (type_number kind) (local_view l)) }
+    ) -> Result<(Local<A>, usize), Starved>
+        ensures value { IfOk result (λ p. local_view p.0 ≡ looked (chosen (option_copied listed.entry) self.now) name.now (type_number kind)) }
+        ensures relation { IfOk result (λ p. IsLooked (chosen (option_copied listed.entry) self.now) name.now (type_number kind) (local_view p.0)) }
+        ensures count { IfOk result (λ p. p.1 ≤ length name.now + 1) }
     {
         match zone_over(&self.zones, listed, name)? {
-            None => Ok(Local::NotHere),
+            None => Ok((Local::NotHere, 0)),
             Some(zone) => {
                 zone_keeps_rules(zone);
-                Ok(look_in(
-                    alloc,
-                    zone.origin(),
-                    zone.denial(),
-                    zone.records(),
-                    name,
-                    kind,
-                )?)
+                Ok(look_counted(alloc, zone, zone.denial(), name, kind)?)
             }
         }
     }

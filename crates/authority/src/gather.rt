@@ -81,7 +81,7 @@ fn put_new<'a, A: Heap>(
 }
 
 // The same of a record that may have another type or name.
-fn put_picked<'a, A: Heap>(
+pub(crate) fn put_picked<'a, A: Heap>(
     set: &mut Records<A>,
     later: &mut Later<'a, A>,
     owner: &Name<A>,

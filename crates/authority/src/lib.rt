@@ -5,8 +5,11 @@ mod answer;
 mod catalog;
 mod cause;
 mod gather;
+mod held;
 mod laws;
 mod plain;
+mod refer;
+mod walk;
 
 pub use answer::{Link, Local};
 pub use catalog::{Catalog, CatalogError};

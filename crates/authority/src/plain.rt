@@ -28,7 +28,7 @@ fn stands<A: Allocator>(added: &Record<A>, name: &Name<A>, wild: bool) -> bool
     }
 }
 
-fn is_kind<A: Allocator>(added: &Record<A>, kind: RType) -> bool
+pub(crate) fn is_kind<A: Allocator>(added: &Record<A>, kind: RType) -> bool
     ensures { result ≡ is_type (type_number kind) added.now }
 {
     added.is(kind)
@@ -136,7 +136,7 @@ fn cut_at<A: Heap>(
     Ok(None)
 }
 
-fn first_or<A: Heap>(nearer: Option<Name<A>>, found: Option<Name<A>>) -> Option<Name<A>>
+pub(crate) fn first_or<A: Heap>(nearer: Option<Name<A>>, found: Option<Name<A>>) -> Option<Name<A>>
     ensures { result ≡ or_else nearer found }
 {
     match nearer {
@@ -218,7 +218,11 @@ fn has_repeat<A: Allocator>(set: &[Record<A>], added: &Record<A>) -> bool
 }
 
 // One address more, where it is new.
-fn put_glue<A: Heap>(set: &mut Records<A>, added: &Record<A>, picked: bool) -> Result<(), Starved>
+pub(crate) fn put_glue<A: Heap>(
+    set: &mut Records<A>,
+    added: &Record<A>,
+    picked: bool,
+) -> Result<(), Starved>
     ensures { OnOk result (set.new ≡ cond picked (add_glue set.old added.now) set.old) }
 {
     if !picked {

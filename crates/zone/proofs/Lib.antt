@@ -10,4 +10,5 @@ pub mod LawRules
 pub mod LawTests
 pub mod LawZones
 pub mod Members
+pub mod Trees
 pub mod LawNames

@@ -7,4 +7,5 @@ pub mod Referrals
 pub mod Ruled
 pub mod Rules
 pub mod Same
+pub mod Tree
 pub mod Zones

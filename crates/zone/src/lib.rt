@@ -7,10 +7,12 @@ mod cuts;
 mod denial;
 mod fault;
 mod laws;
+mod nodes;
 mod rules;
 mod scan;
 #[cfg(test)]
 mod tests;
+mod tree;
 mod ttls;
 mod zone;
 
@@ -19,4 +21,5 @@ pub use laws::{
     cut_law, delegated_name_law, encloser_law, existence_law, link_law, local_law, name_error_law,
     one_link_law, own_records_law, zone_keeps_rules, zone_law,
 };
+pub use tree::{Held, Stand};
 pub use zone::Zone;

@@ -1,11 +1,13 @@
-ghost use Rattle.std.specs.Prelude.{◌≡◌, None, Some, MatchResult};
+ghost use Rattle.std.specs.Prelude.{◌≡◌, None, Some, false, IfOk, MatchOption, MatchResult};
 ghost use Rattle.zone.specs.Look.{denial_of};
 ghost use Rattle.zone.specs.Faults.{fault_of, IsFault};
 ghost use Rattle.zone.specs.Kept.{zone_with};
+ghost use Rattle.zone.specs.Tree.{has_under, IsStand};
 
 use crate::denial::denial_in;
 use crate::fault::ZoneError;
 use crate::rules::check;
+use crate::tree::{Stand, Tree};
 use dname::{Heap, Name};
 use rdata::{Record, Records};
 use std::alloc::{AllocError, Allocator, Global};
@@ -16,7 +18,7 @@ use std::marker::Model;
 #[derive(Drop)]
 pub struct Zone<A: Allocator = Global> {
     origin: Name<A>,
-    records: Records<A>,
+    tree: Box<Tree<A>, A>,
     // The SOA with the lesser of its TTL and MINIMUM, as every denial has it.
     denial: Record<A>,
 }
@@ -27,9 +29,15 @@ impl<A: Allocator> Model for Zone<A> {
 
     ghost Value = { Zone };
 
-    ghost view = { λ z. zone_with z.origin z.records };
+    ghost view = { λ z. zone_with z.origin z.tree.value };
 
-    ghost invariant = { λ z. IsKept (zone_with z.origin z.records) z.denial };
+    ghost invariant = { λ z. IsKept (zone_with z.origin z.tree.value) z.denial };
+}
+
+fn boxed_copy<A: Heap>(tree: &Tree<A>, alloc: A) -> Result<Box<Tree<A>, A>, AllocError>
+    ensures { IfOk result (λ b. b.value ≡ tree.now) }
+{
+    Ok(Box::new(alloc, tree.copied(alloc)?)?)
 }
 
 impl<A: Heap> Clone for Zone<A> {
@@ -38,7 +46,7 @@ impl<A: Heap> Clone for Zone<A> {
     fn clone(&self) -> Result<Zone<A>, AllocError> {
         Ok(Zone {
             origin: self.origin.clone()?,
-            records: self.records.clone()?,
+            tree: boxed_copy(&self.tree, self.origin.allocator())?,
             denial: self.denial.clone()?,
         })
     }
@@ -54,9 +62,13 @@ impl<A: Heap> Zone<A> {
             return Err(ZoneError::Soa);
         };
         check(&origin, records.as_slice())?;
+        let tree = Box::new(
+            origin.allocator(),
+            Tree::build(origin.allocator(), records)?,
+        )?;
         Ok(Zone {
             origin,
-            records,
+            tree,
             denial,
         })
     }
@@ -74,7 +86,15 @@ impl<A: Allocator> Zone<A> {
     pub fn records(&self) -> &[Record<A>]
         ensures { result.now ≡ self.now.records }
     {
-        self.records.as_slice()
+        self.tree.records()
+    }
+
+    /// What stands at a name that an owner is at or under, and nothing where none is. It is found by the
+    /// name alone, whatever the zone's size.
+    pub fn stand(&self, name: &Name<A>) -> Option<Stand<'_, A>>
+        ensures { MatchOption result (has_under name.now self.now.records ≡ false) (λ s. IsStand name.now self.now.records s.own s.wild) }
+    {
+        self.tree.stand(name)
     }
 
     /// The SOA that its denials carry: its TTL is the lesser of the record's own and MINIMUM (RFC 2308,

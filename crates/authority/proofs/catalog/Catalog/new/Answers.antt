@@ -3,4 +3,4 @@ use Rattle.authority.specs.Catalogs.{IsCatalog}
 use Rattle.authority.proofs.catalog.Catalog.new.Goals as goal
 
 pub invariant_of-result : goal.invariant_of-result
-invariant_of-result g c = subst IsCatalog c.deref.ensures.value c.in_ok-check_origins.ensures
+invariant_of-result g c = subst IsCatalog c.deref.ensures.value c.in-Ok.ensures

@@ -7,24 +7,20 @@ use Rattle.authority.specs.Catalogs.{zone_over, chosen, IsLooked, AreZones}
 use Rattle.authority.proofs.Ascents.{looked_by}
 use Rattle.authority.proofs.Charges.{looked_here, looked_nowhere, zones_named}
 use Rattle.authority.proofs.Chosen.{chosen_named}
-use Rattle.authority.proofs.catalog.Catalog.look_through.Goals as goal
+use Rattle.authority.proofs.catalog.Catalog.counted_through.Goals as goal
 
-pub returns-in_ok-look_in-in-Some-clause-value : goal.returns-in_ok-look_in-in-Some-clause-value
-returns-in_ok-look_in-in-Some-clause-value g c =
-    let whole : record { origin = c.origin.result.now; records = c.records.result.now } ≡ c.in-Some.zone.now = λ i. record { origin = c.origin.ensures i; records = c.records.ensures i } in
+pub returns-in_ok-look_counted-in-Some-clause-value : goal.returns-in_ok-look_counted-in-Some-clause-value
+returns-in_ok-look_counted-in-Some-clause-value g c =
     let charge : Some c.in-Some.zone.now ≡ zone_over (chosen (option_copied c.args.listed) c.args.self.now) c.args.name.now =
     sym (ap option_copied c.in-Some.is) ∙ (c.in_ok-zone_over.ensures ∙ ap (λ (zs : List Zone). zone_over (chosen (option_copied c.args.listed) zs) c.args.name.now) (c.deref.ensures.value ∙ c.self.view_is)) in
-    c.in_ok-look_in-in-Some.ensures
-    ∙ (ap (λ (z : Zone). local_by c.denial.result.now z c.args.name.now (type_number c.args.kind)) whole
-    ∙ looked_by (chosen (option_copied c.args.listed) c.args.self.now) c.args.name.now (type_number c.args.kind) c.in-Some.zone.now c.denial.result.now charge c.denial.ensures)
+    c.in_ok-look_counted-in-Some.ensures.value
+    ∙ looked_by (chosen (option_copied c.args.listed) c.args.self.now) c.args.name.now (type_number c.args.kind) c.in-Some.zone.now c.denial.result.now charge c.denial.ensures
 
-pub returns-in_ok-look_in-in-Some-clause-relation : goal.returns-in_ok-look_in-in-Some-clause-relation
-returns-in_ok-look_in-in-Some-clause-relation g c =
-    let whole : record { origin = c.origin.result.now; records = c.records.result.now } ≡ c.in-Some.zone.now = λ i. record { origin = c.origin.ensures i; records = c.records.ensures i } in
+pub returns-in_ok-look_counted-in-Some-clause-relation : goal.returns-in_ok-look_counted-in-Some-clause-relation
+returns-in_ok-look_counted-in-Some-clause-relation g c =
     let charge : Some c.in-Some.zone.now ≡ zone_over (chosen (option_copied c.args.listed) c.args.self.now) c.args.name.now =
     sym (ap option_copied c.in-Some.is) ∙ (c.in_ok-zone_over.ensures ∙ ap (λ (zs : List Zone). zone_over (chosen (option_copied c.args.listed) zs) c.args.name.now) (c.deref.ensures.value ∙ c.self.view_is)) in
-    let given = c.in_ok-look_in-in-Some.ensures ∙ ap (λ (z : Zone). local_by c.denial.result.now z c.args.name.now (type_number c.args.kind)) whole in
-    subst (λ (l : Local). IsLooked (chosen (option_copied c.args.listed) c.args.self.now) c.args.name.now (type_number c.args.kind) l) (sym given)
+    subst (λ (l : Local). IsLooked (chosen (option_copied c.args.listed) c.args.self.now) c.args.name.now (type_number c.args.kind) l) (sym c.in_ok-look_counted-in-Some.ensures.value)
     (looked_here (chosen (option_copied c.args.listed) c.args.self.now) c.args.name.now (type_number c.args.kind) c.in-Some.zone.now c.denial.result.now charge c.zone_keeps_rules.ensures.named c.zone_keeps_rules.ensures.rules c.denial.ensures)
 
 pub returns-in-None-clause-relation : goal.returns-in-None-clause-relation

@@ -1,0 +1,157 @@
+//! Look-up by one walk up from the name: what it costs is what the name's labels cost.
+ghost use Rattle.std.specs.Prelude.{◌≡◌, ◌≤◌, ◌+◌, ◌&&◌, not, cond, length, List, ℕ, Some, None, IfOk};
+ghost use Rattle.std.specs.List.{list_any};
+ghost use Rattle.dname.specs.Labels.{same_name};
+ghost use Rattle.rdata.specs.Types.{type_number};
+ghost use Rattle.zone.specs.Zones.{ns_type};
+ghost use Rattle.zone.specs.Links.{NxDomain};
+ghost use Rattle.zone.specs.Look.{is_type, local_by, said};
+ghost use Rattle.authority.specs.Answers.{link_view, local_view};
+ghost use Rattle.authority.specs.Walk.{own_of, wild_of, near_or, met, told, IsWalk};
+
+use crate::answer::{Link, Local};
+use crate::held::{has_type, say, say_wild};
+use crate::plain::first_or;
+use crate::refer::refer;
+use dname::{Heap, Name, Starved};
+use rdata::{RType, Record};
+use std::alloc::Allocator;
+use zone::{Held, Stand, Zone};
+
+// What a walk up from a name finds.
+#[derive(Drop)]
+pub(crate) struct Walk<'a, A: Allocator> {
+    // The cut over the name that is nearest to the origin.
+    cut: Option<Name<A>>,
+    // What stands at the name.
+    here: Option<Stand<'a, A>>,
+    // The records of the wildcard at the nearest existing name above it.
+    near: Option<Held<'a, A>>,
+    // How many names were looked up.
+    count: usize,
+}
+
+// Whether NS records stand there.
+fn has_servers<A: Allocator>(stand: &Option<Stand<'_, A>>) -> bool
+    ensures { result ≡ list_any (is_type ns_type) (own_of stand.now) }
+{
+    match stand {
+        Some(stand) => has_type(&stand.own, RType::Ns),
+        None => false,
+    }
+}
+
+// The name where it is a cut: NS records stand there, and it is not the origin.
+fn cut_if<A: Heap>(
+    zone: &Zone<A>,
+    has_servers: bool,
+    name: &Name<A>,
+) -> Result<Option<Name<A>>, Starved>
+    ensures { IfOk result (λ c. c ≡ cond (has_servers && not (same_name name.now zone.now.origin)) (Some name.now) None) }
+{
+    if has_servers && *name != *zone.origin() {
+        return Ok(Some(name.clone()?));
+    }
+    Ok(None)
+}
+
+// The wildcard's records of the nearer name of two.
+fn nearer<'a, A: Allocator>(
+    near: Option<Held<'a, A>>,
+    stand: Option<Stand<'a, A>>,
+) -> Option<Held<'a, A>>
+    ensures { result ≡ near_or near.entry (wild_of stand.entry) }
+{
+    match near {
+        Some(held) => Some(held),
+        None => match stand {
+            Some(stand) => Some(stand.wild),
+            None => None,
+        },
+    }
+}
+
+// The walk from a name to the root. Names above the origin count too.
+fn walk_up<'a, A: Heap>(zone: &'a Zone<A>, name: &Name<A>) -> Result<Walk<'a, A>, Starved>
+    ensures { IfOk result (λ w. IsWalk zone.now name.now w) }
+{
+    name.is_well_formed();
+    let here = zone.stand(name);
+    let mut cut = cut_if(zone, has_servers(&here), name)?;
+    let mut near = None;
+    let mut count = 1;
+    let mut up = name.clone()?;
+    'up: while up.ascend() {
+        let stand = zone.stand(&up);
+        cut = first_or(cut_if(zone, has_servers(&stand), &up)?, cut);
+        near = nearer(near, stand);
+        count += 1;
+    }
+    Ok(Walk {
+        cut,
+        here,
+        near,
+        count,
+    })
+}
+
+// The answer of the wildcard at the closest encloser.
+fn link_above<A: Heap>(
+    alloc: A,
+    near: Option<Held<'_, A>>,
+    soa: &Record<A>,
+    name: &Name<A>,
+    kind: RType,
+) -> Result<Link<A>, Starved>
+    ensures { IfOk result (λ l. link_view l ≡ met soa.now name.now (type_number kind) near.entry (NxDomain soa.now)) }
+{
+    match near {
+        Some(held) => Ok(say_wild(alloc, &held, soa, name, kind)?),
+        None => Ok(Link::NxDomain(soa.clone()?)),
+    }
+}
+
+// The link of a name over which no cut stands.
+fn link<A: Heap>(
+    alloc: A,
+    here: Option<Stand<'_, A>>,
+    near: Option<Held<'_, A>>,
+    soa: &Record<A>,
+    name: &Name<A>,
+    kind: RType,
+) -> Result<Link<A>, Starved>
+    ensures { IfOk result (λ l. link_view l ≡ told soa.now name.now (type_number kind) here.entry near.entry) }
+{
+    match here {
+        Some(stand) => Ok(say(alloc, &stand.own, soa, name, kind)?),
+        None => Ok(link_above(alloc, near, soa, name, kind)?),
+    }
+}
+
+// What a zone gives for a name and a type, and how many names of its tree were looked up, glue aside:
+// at most two more than the name has labels. A name that has no node counts too.
+pub(crate) fn look_counted<A: Heap>(
+    alloc: A,
+    zone: &Zone<A>,
+    soa: &Record<A>,
+    name: &Name<A>,
+    kind: RType,
+) -> Result<(Local<A>, usize), Starved>
+    ensures value { IfOk result (λ p. local_view p.0 ≡ local_by soa.now zone.now name.now (type_number kind)) }
+    ensures count { IfOk result (λ p. p.1 ≤ length name.now + 1) }
+{
+    name.is_well_formed();
+    let Walk {
+        cut,
+        here,
+        near,
+        count,
+    } = walk_up(zone, name)?;
+    match cut {
+        Some(cut) => Ok((refer(alloc, zone, cut)?, count + 1)),
+        None => Ok((
+            Local::Link(link(alloc, here, near, soa, name, kind)?),
+            count,
+        )),
+    }
+}

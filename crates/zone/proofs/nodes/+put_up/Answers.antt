@@ -1,0 +1,10 @@
+use Rattle.std.proofs.Common.{◌∷◌}
+use Rattle.dname.specs.Labels.{same_name}
+use Rattle.std.specs.HashMap as hash
+use Rattle.zone.specs.Tree.{spot}
+use Rattle.zone.proofs.Trees.{put_above}
+use Rattle.zone.proofs.nodes.+put_up.Goals as goal
+
+pub returns-in_ok-put_up : goal.returns-in_ok-put_up
+returns-in_ok-put_up g t c = λ l ls.
+    put_above c.args.up.now c.ascend.new.self (l ∷ ls) c.args.owner.now c.args.place (spot (hash.get same_name c.args.nodes.now (l ∷ ls))) _ _ (c.if-ascend.ensures.above) (c.in_ok-put_node.ensures (l ∷ ls)) (c.in_ok-put_up.ensures l ls)

@@ -1,0 +1,97 @@
+//! The nodes of a zone's tree.
+ghost use Rattle.std.specs.Prelude.{◌≡◌, ◌∷◌, ℕ, List, IfOk, OnOk};
+ghost use Rattle.std.specs.HashMap as hash;
+ghost use Rattle.dname.specs.Labels.{same_name, is_under};
+ghost use Rattle.zone.specs.Tree.{more, put_place, or_empty, seen, spot, spot_after, IsTree};
+
+use dname::{Heap, Name, Starved};
+use rdata::Record;
+use std::alloc::Allocator;
+use std::collections::HashMap;
+use std::hash::{BuildHasherDefault, FoldHasher};
+
+/// A node of a zone's tree: where its own records stand in the zone's list, and those of the wildcard
+/// right under it (RFC 1034, section 4.3.3), whose name may be too long for a name.
+#[derive(Drop)]
+pub struct Node<A: Allocator> {
+    pub own: Vec<usize, A>,
+    pub wild: Vec<usize, A>,
+}
+
+/// The nodes of a zone by their names.
+pub type Nodes<A> = HashMap<Name<A>, Node<A>, BuildHasherDefault<FoldHasher>, A>;
+
+fn put_if<A: Heap>(places: &mut Vec<usize, A>, place: usize, is_there: bool) -> Result<(), Starved>
+    ensures { OnOk result (places.new.items ≡ more is_there places.old.items place) }
+{
+    if is_there {
+        places.push(place)?;
+    }
+    Ok(())
+}
+
+// The record's place at the node of a name, where the record is the name's own or its wildcard's.
+fn put_place<A: Heap>(
+    node: &mut Node<A>,
+    name: &Name<A>,
+    owner: &Name<A>,
+    place: usize,
+) -> Result<(), Starved>
+    ensures { OnOk result (seen node.new ≡ put_place name.now owner.now place (seen node.old)) }
+{
+    put_if(&mut node.own, place, *owner == *name)?;
+    put_if(&mut node.wild, place, owner.is_wildcard_of(name))?;
+    Ok(())
+}
+
+// The same, where the name may have no node as yet.
+fn put_node<A: Heap>(
+    nodes: &mut Nodes<A>,
+    name: &Name<A>,
+    owner: &Name<A>,
+    place: usize,
+) -> Result<(), Starved>
+    ensures { OnOk result ((q : List (List ℕ)) → spot (hash.get same_name nodes.new q) ≡ spot_after (same_name name.now q) name.now owner.now place (spot (hash.get same_name nodes.old q))) }
+{
+    if let Some(node) = nodes.get_mut(name) {
+        put_place(node, name, owner, place)?;
+        return Ok(());
+    }
+    let mut node = Node {
+        own: Vec::new(name.allocator()),
+        wild: Vec::new(name.allocator()),
+    };
+    put_place(&mut node, name, owner, place)?;
+    nodes.insert(name.clone()?, node)?;
+    Ok(())
+}
+
+// The same at a name and at each name above it.
+fn put_up<A: Heap>(
+    nodes: &mut Nodes<A>,
+    up: &mut Name<A>,
+    owner: &Name<A>,
+    place: usize,
+) -> Result<(), Starved>
+    ensures { OnOk result ((l : List ℕ) (ls : List (List ℕ)) → spot (hash.get same_name nodes.new (l ∷ ls)) ≡ spot_after (is_under up.old (l ∷ ls)) (l ∷ ls) owner.now place (spot (hash.get same_name nodes.old (l ∷ ls)))) }
+{
+    put_node(nodes, up, owner, place)?;
+    if up.ascend() {
+        put_up(nodes, up, owner, place)?;
+    }
+    Ok(())
+}
+
+/// The nodes of these records.
+pub fn nodes_of<A: Heap>(alloc: A, records: &[Record<A>]) -> Result<Nodes<A>, Starved>
+    ensures { IfOk result (λ m. IsTree m records.now) }
+{
+    let mut nodes = HashMap::new(alloc);
+    let mut place = 0;
+    for record in records {
+        let mut up = record.owner.clone()?;
+        put_up(&mut nodes, &mut up, &record.owner, place)?;
+        place += 1;
+    }
+    Ok(nodes)
+}

@@ -1,0 +1,138 @@
+//! A zone's records, and what stands at a name.
+ghost use Rattle.std.specs.Prelude.{◌≡◌, ◌<◌, false, length, get_or, IfOk, MatchOption};
+ghost use Rattle.zone.specs.Tree.{has_under, IsTree, IsStand};
+
+use crate::nodes::{Nodes, nodes_of};
+use dname::{Heap, Name, Starved};
+use rdata::{Record, Records};
+use std::alloc::{AllocError, Allocator};
+use std::marker::Model;
+
+/// Some records of a zone's list, lent by their places in it. Contracts see the records in order.
+#[derive(Drop)]
+pub struct Held<'a, A: Allocator> {
+    records: &'a [Record<A>],
+    places: &'a [usize],
+}
+
+impl<'a, A: Allocator> Model for Held<'a, A> {
+    ghost use Rattle.std.specs.Prelude.{List, length};
+    ghost use Rattle.rdata.specs.Records.{Record as Plain};
+    ghost use Rattle.zone.specs.Tree.{picks, AreWithin};
+
+    ghost Value = { List Plain };
+
+    ghost view = { λ h. picks h.records.now h.places.now };
+
+    ghost invariant = { λ h. AreWithin (length h.records.now) h.places.now };
+}
+
+impl<'a, A: Allocator> Held<'a, A> {
+    /// How many there are.
+    pub fn len(&self) -> usize
+        ensures { result ≡ length self.now }
+    {
+        self.places.len()
+    }
+
+    /// The record of that index.
+    pub fn get(&self, index: usize) -> &'a Record<A>
+        requires { index < length self.now }
+        ensures { result.now ≡ get_or self.now index result.now }
+    {
+        let records = self.records;
+        let places = self.places;
+        let place = places[index];
+        &records[place]
+    }
+}
+
+/// What stands at an existing name: its own records, and those of the wildcard right under it.
+#[derive(Drop)]
+pub struct Stand<'a, A: Allocator> {
+    pub own: Held<'a, A>,
+    pub wild: Held<'a, A>,
+}
+
+// What the nodes of these records have at a name.
+fn stand_at<'a, A: Allocator>(
+    nodes: &'a Nodes<A>,
+    records: &'a [Record<A>],
+    name: &Name<A>,
+) -> Option<Stand<'a, A>>
+    requires { IsTree nodes.now records.now }
+    ensures { MatchOption result (has_under name.now records.now ≡ false) (λ s. IsStand name.now records.now s.own s.wild) }
+{
+    name.is_well_formed();
+    match nodes.get(name) {
+        None => None,
+        Some(node) => Some(Stand {
+            own: Held {
+                records,
+                places: &node.own,
+            },
+            wild: Held {
+                records,
+                places: &node.wild,
+            },
+        }),
+    }
+}
+
+/// Records of a zone by name: the tree of its names (RFC 1034, section 3.1). It is one map from each
+/// existing name to its node. The child of a node by a label is the entry of the name that the label makes
+/// with the node's: every owner and each name above one has an entry. Contracts see the list of records.
+#[derive(Drop)]
+pub struct Tree<A: Allocator> {
+    records: Records<A>,
+    nodes: Nodes<A>,
+}
+
+impl<A: Allocator> Model for Tree<A> {
+    ghost use Rattle.std.specs.Prelude.{List};
+    ghost use Rattle.rdata.specs.Records.{Record as Plain};
+    ghost use Rattle.zone.specs.Tree.{IsTree};
+
+    ghost Value = { List Plain };
+
+    ghost view = { λ t. t.records };
+
+    ghost invariant = { λ t. IsTree t.nodes t.records };
+}
+
+impl<A: Heap> Tree<A> {
+    /// The tree of these records.
+    pub fn build(alloc: A, records: Records<A>) -> Result<Tree<A>, Starved>
+        ensures { IfOk result (λ t. t ≡ records) }
+    {
+        let nodes = nodes_of(alloc, records.as_slice())?;
+        Ok(Tree { records, nodes })
+    }
+
+    /// The same tree, made anew.
+    pub fn copied(&self, alloc: A) -> Result<Tree<A>, AllocError>
+        ensures { IfOk result (λ t. t ≡ self.now) }
+    {
+        let records = self.records.clone()?;
+        match Tree::build(alloc, records) {
+            Ok(tree) => Ok(tree),
+            Err(_) => Err(AllocError),
+        }
+    }
+}
+
+impl<A: Allocator> Tree<A> {
+    /// Its records in the order in which they were given.
+    pub fn records(&self) -> &[Record<A>]
+        ensures { result.now ≡ self.now }
+    {
+        self.records.as_slice()
+    }
+
+    /// What stands at a name.
+    pub fn stand(&self, name: &Name<A>) -> Option<Stand<'_, A>>
+        ensures { MatchOption result (has_under name.now self.now ≡ false) (λ s. IsStand name.now self.now s.own s.wild) }
+    {
+        stand_at(&self.nodes, self.records.as_slice(), name)
+    }
+}
