@@ -1,10 +1,10 @@
 -- What a server replies is what it may serve.
 use Rattle.std.proofs.Common.{◌≡◌, ℕ, ◌⊎◌, ⊎_elim, inl, inr, Option, Some, None, List, [], ◌∷◌, ◌++◌, refl, sym, ◌∙◌, ap, subst, arith}
-use Rattle.std.specs.Prelude.{Contains, IfSome}
+use Rattle.std.specs.Prelude.{Contains, IfSome, true, map, option_map}
 use Rattle.dname.specs.Labels.{Name}
 use Rattle.rdata.specs.Records.{Record}
 use Rattle.rdata.specs.Types.{type_number}
-use Rattle.layout.specs.Messages.{Message, IsMessage, folded_message}
+use Rattle.layout.specs.Messages.{Question, Message, IsMessage, folded_question, folded_message}
 use Rattle.zone.specs.Zones.{Zone}
 use Rattle.zone.specs.Links.{Link, Found, Alias, NoData, NxDomain, IsFrom, IsLink, Says}
 use Rattle.zone.specs.Look.{Local, Linked, Cut, NotHere}
@@ -17,13 +17,13 @@ use Rattle.truth.specs.Serving.{AnswersFrom, IsServersAddress, Refers, Gives, Te
 use Rattle.truth.proofs.Sames.{has_itself, link_itself}
 use Rattle.front.specs.Chains.{Leads, IsEndAt, IsEndOf, target_of}
 use Rattle.front.specs.Replies.{end_rcode, found_in}
-use Rattle.front.specs.Laws.{OneReading}
+use Rattle.front.specs.Laws.{OneReading, IsEchoed, EchoIsQuestion}
 use Rattle.front.specs.Queries.{IsAsked}
 use Rattle.front.specs.declared.queries.Asked.TheVariants as asked
 use Rattle.front.specs.declared.queries.Query.{Query as Asking}
 use Rattle.front.specs.declared.queries.End.{End}
 use Rattle.front.specs.declared.queries.End.TheVariants as end
-use Rattle.simnet.specs.Hosting.{served, says, IsFollowed, referral_to, answer_to, IsReplyBy, IsHonestReply}
+use Rattle.simnet.specs.Hosting.{served, says, IsFollowed, referral_to, answer_to, IsReplyBy, IsReplyFrom, IsHostReply, IsServed, IsHonestReply}
 use Rattle.simnet.specs.Rules.{serves}
 use Rattle.simnet.proofs.Worlds.{yes_serves, looked_is}
 
@@ -216,20 +216,45 @@ pub reply_is_honest : {A : Type 0} (W : World) (a : Address) (q : Asking A) (m :
     → IsReplyBy (says W a (type_number q.kind)) q (says W a (type_number q.kind) q.name) (Some m) → MayServe W a q.name (type_number q.kind) (folded_message m)
 reply_is_honest W a q m w h = inl (folded_tells W a q.name (type_number q.kind) m (tells W a (type_number q.kind) q w (says W a (type_number q.kind) q.name) m refl h))
 
--- The same of the bytes that are sent, if any are.
-pub sent_is_honest : {A V : Type 0} (W : World) (a : Address) (q : Asking A) (look : Name → Local) (l : Local) (m : Message) (items : V → List ℕ) (sent : Option V) → IsWorld W
-    → look ≡ says W a (type_number q.kind) → l ≡ look q.name → IsReplyBy look q l (Some m) → IfSome sent (λ v. IsMessage (items v) (folded_message m))
-    → IfSome sent (λ v. (n : Message) × IsMessage (items v) n × MayServe W a q.name (type_number q.kind) n)
-sent_is_honest W a q look l m items None w same is by written = tt
-sent_is_honest W a q look l m items (Some v) w same is by written =
-    (folded_message m, written, reply_is_honest W a q m w (subst (λ (f : Name → Local). IsReplyBy f q (f q.name) (Some m)) same (subst (λ (k : Local). IsReplyBy look q k (Some m)) is by)))
+-- It repeats the query's question.
+abbrev Repeats : {A : Type 0} → Asking A → Message → Type 0
+Repeats q m = (m.header.qr ≡ true) × (m.questions ≡ q.echo ∷ [])
+
+as_built : {A : Type 0} (q : Asking A) (built m : Message) → Repeats q built → Some m ≡ Some built → Repeats q m
+as_built q built m is e = let same : built ≡ m = cc in subst (Repeats q) same is
+
+repeats : {A : Type 0} (look : Name → Local) (q : Asking A) (l : Local) (m : Message) → IsReplyBy look q l (Some m) → Repeats q m
+repeats look q (Linked l) m (aliases, e, followed, same) = as_built q (answer_to q aliases e) m (refl, refl) same
+repeats look q (Cut c ns glue) m same = as_built q (referral_to q ns glue) m (refl, refl) same
+repeats look q NotHere m same = absurd (cc)
+
+-- What is sent is a reply to the question that is read, and one that the server may serve.
+served_by : {A : Type 0} (W : World) (a : Address) (bytes : List ℕ) (q : Asking A) (sent : List ℕ) → EchoIsQuestion A → IsWorld W → IsAsked bytes (asked.Query q)
+    → IsReplyFrom W a (asked.Query q) (Some sent) → IsServed W a q.name (type_number q.kind) sent
+served_by W a bytes q sent echoes w reads (None, is, none) = absurd (cc)
+served_by W a bytes q sent echoes w reads (Some m, is, (few, same, message)) =
+    let again = repeats (says W a (type_number q.kind)) q (says W a (type_number q.kind) q.name) m is in
+    let echoed : IsEchoed bytes q = echoes bytes q reads in
+    record {
+      read = folded_message m;
+      message = message;
+      reply = record { qr = again.0; question = ap (map folded_question) again.1 ∙ ap (λ (x : Question). x ∷ []) echoed.echo };
+      serves = reply_is_honest W a q m w is;
+    }
 
 -- Bytes ask one thing at most.
 same_query : {A : Type 0} (p q : Asking A) → asked.Query p ≡ asked.Query q → p ≡ q
 same_query p q e = cc
 
-pub one_query : {A V : Type 0} (W : World) (a : Address) (bytes : List ℕ) (items : V → List ℕ) (sent : Option V) (q : Asking A) → OneReading A → IsAsked bytes (asked.Query q)
-    → IfSome sent (λ v. (m : Message) × IsMessage (items v) m × MayServe W a q.name (type_number q.kind) m) → IfSome sent (λ v. IsHonestReply A W a bytes (items v))
-one_query W a bytes items None q one reads honest = tt
-one_query W a bytes items (Some v) q one reads honest = λ p other.
-    subst (λ x. (m : Message) × IsMessage (items v) m × MayServe W a x.name (type_number x.kind) m) (same_query q p (one bytes (asked.Query q) (asked.Query p) reads other)) honest
+pub sent_is_honest : {A V : Type 0} (W : World) (a : Address) (bytes : List ℕ) (items : V → List ℕ) (sent : Option V) (q : Asking A) → OneReading A → EchoIsQuestion A → IsWorld W
+    → IsAsked bytes (asked.Query q) → IsReplyFrom W a (asked.Query q) (option_map items sent) → IfSome sent (λ v. IsHonestReply A W a bytes (items v))
+sent_is_honest W a bytes items None q one echoes w reads by = tt
+sent_is_honest W a bytes items (Some v) q one echoes w reads by = λ p other.
+    served_by W a bytes p (items v) echoes w other (subst (λ x. IsReplyFrom W a (asked.Query x) (Some (items v))) (same_query q p (one bytes (asked.Query q) (asked.Query p) reads other)) by)
+
+-- Whatever the bytes are, a reply to them is a reply to some question, and may be served to it.
+pub host_serves : {A : Type 0} (W : World) (a : Address) (bytes sent : List ℕ) → EchoIsQuestion A → IsWorld W → IsHostReply A W a bytes (Some sent)
+    → (n : Name) × (t : ℕ) × IsServed W a n t sent
+host_serves W a bytes sent echoes w (asked.Drop, reads, none) = absurd (cc)
+host_serves W a bytes sent echoes w (asked.Refuse refusal start echo, reads, none) = absurd (cc)
+host_serves W a bytes sent echoes w (asked.Query q, reads, by) = (q.name, type_number q.kind, served_by W a bytes q sent echoes w reads by)

@@ -3,12 +3,13 @@ use Rattle.std.specs.Prelude.{◌≡◌, ℕ, ◌<◌, ◌≤◌, ◌⊎◌, Boo
 use Rattle.dname.specs.Labels.{Name}
 use Rattle.rdata.specs.Records.{Record}
 use Rattle.rdata.specs.Types.{type_number}
-use Rattle.layout.specs.Messages.{Header, Message, IsMessage, encoding}
+use Rattle.layout.specs.Messages.{Header, Message, IsMessage, encoding, folded_message}
 use Rattle.zone.specs.Zones.{Zone}
 use Rattle.zone.specs.Look.{Local, Linked, Cut, NotHere}
 use Rattle.authority.specs.Catalogs.{looked}
 use Rattle.truth.specs.Worlds.{Address, World}
 use Rattle.truth.specs.Serving.{MayServe}
+use Rattle.truth.specs.Replies.{IsReplyTo}
 use Rattle.front.specs.Openings.{Opening}
 use Rattle.front.specs.Queries.{IsAsked}
 use Rattle.front.specs.Chains.{Leads, IsEndAt}
@@ -74,11 +75,12 @@ IsReplyBy look q NotHere m = m ≡ None
 IsReplyBy look q (Cut c ns glue) m = m ≡ Some (referral_to q ns glue)
 IsReplyBy {A} look q (Linked l) m = (aliases : List Record) × (end : End A) × IsFollowed look q.name aliases end × (m ≡ Some (answer_to q aliases end))
 
--- A reply of over 65,535 bytes is not sent (RFC 1035, section 4.2.2).
+-- A reply of over 65,535 bytes is not sent (RFC 1035, section 4.2.2). What is sent is read as the reply, its
+-- question in lower case.
 abbrev pub IsSent : Option Message → Option (List ℕ) → Type 0
 IsSent None sent = sent ≡ None
 IsSent (Some m) None = 65535 < length (encoding m)
-IsSent (Some m) (Some bytes) = (length (encoding m) ≤ 65535) × (bytes ≡ encoding m)
+IsSent (Some m) (Some bytes) = (length (encoding m) ≤ 65535) × (bytes ≡ encoding m) × IsMessage bytes (folded_message m)
 
 -- Only a query of one question that is answerable has a reply.
 abbrev pub IsReplyFrom : {A : Type 0} → World → Address → Asked A → Option (List ℕ) → Type 0
@@ -90,6 +92,12 @@ IsReplyFrom W a (Query q) sent =
 abbrev pub IsHostReply : Type 0 → World → Address → List ℕ → Option (List ℕ) → Type 0
 IsHostReply A W a bytes sent = (asked : Asked A) × IsAsked bytes asked × IsReplyFrom W a asked sent
 
--- What is sent is a message that the server may serve to that question.
+-- What is sent is a reply to that question, and a message that the server may serve to it.
+pub record IsServed (W : World) (a : Address) (n : Name) (t : ℕ) (sent : List ℕ) : Type 0 where
+  pub read : Message
+  pub message : IsMessage sent read
+  pub reply : IsReplyTo n t read
+  pub serves : MayServe W a n t read
+
 abbrev pub IsHonestReply : Type 0 → World → Address → List ℕ → List ℕ → Type 0
-IsHonestReply A W a bytes sent = (q : Asking A) → IsAsked bytes (Query q) → (m : Message) × IsMessage sent m × MayServe W a q.name (type_number q.kind) m
+IsHonestReply A W a bytes sent = (q : Asking A) → IsAsked bytes (Query q) → IsServed W a q.name (type_number q.kind) sent

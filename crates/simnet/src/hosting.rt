@@ -1,11 +1,9 @@
 //! What the servers of a world reply.
 ghost use Rattle.std.specs.Prelude.{◌≡◌, ◌<◌, ◌++◌, ◌||◌, ℕ, List, IfOk, IfSome, OnOk, Some, option_map};
 ghost use Rattle.rdata.specs.Types.{type_number};
-ghost use Rattle.layout.specs.Messages.{Message, IsMessage, folded_message};
 ghost use Rattle.zone.specs.Look.{Linked};
 ghost use Rattle.authority.specs.Answers.{link_view};
 ghost use Rattle.authority.specs.Catalogs.{looked, among};
-ghost use Rattle.truth.specs.Serving.{MayServe};
 ghost use Rattle.front.specs.declared.queries.Asked.TheVariants as asked;
 ghost use Rattle.simnet.specs.Rules.{has_name, serves_at, serves};
 ghost use Rattle.simnet.specs.Hosting.{IsFollowed, host_header, referral_to, answer_to, IsSent, IsReplyFrom, IsHostReply, IsHonestReply};
@@ -14,7 +12,8 @@ use crate::world::{Host, World};
 use authority::{Catalog, Link, Local};
 use dname::{Heap, Name, Starved};
 use front::{
-    Asked, End, MOST_ALIASES, Parts, Query, Start, Step, alias_target, read_query, reading_is_one,
+    Asked, End, MOST_ALIASES, Parts, Query, Start, Step, alias_target, echo_is_question, read_query,
+    reading_is_one,
 };
 use rdata::{Addr, RType, Records};
 use std::alloc::Allocator;
@@ -137,8 +136,7 @@ fn answer<'a, A: Allocator>(
 
 // The bytes of a reply, where they are few enough.
 fn sent<A: Heap>(alloc: A, reply: &Parts<'_, A>) -> Result<Option<Vec<u8, A>>, Starved>
-    ensures is { IfOk result (λ r. IsSent (Some reply.now) (option_map (λ v. v.items) r)) }
-    ensures message { IfOk result (λ r. IfSome r (λ v. IsMessage v.items (folded_message reply.now))) }
+    ensures { IfOk result (λ r. IsSent (Some reply.now) (option_map (λ v. v.items) r)) }
 {
     reply.encode(alloc, TCP_LIMIT)
 }
@@ -150,10 +148,8 @@ fn reply_to<A: Heap>(
     address: Addr,
     query: &Query<A>,
 ) -> Result<Option<Vec<u8, A>>, Starved>
-    ensures is { IfOk result (λ r. IsReplyFrom world.now address.0 (asked.Query query.now) (option_map (λ v. v.items) r)) }
-    ensures honest { IfOk result (λ r. IfSome r (λ v. (m : Message) × IsMessage v.items m × MayServe world.now address.0 query.now.name (type_number query.now.kind) m)) }
+    ensures { IfOk result (λ r. IsReplyFrom world.now address.0 (asked.Query query.now) (option_map (λ v. v.items) r)) }
 {
-    world.is_well_formed();
     let served = served_origins(alloc, world.hosts(), address)?;
     let origins = served.as_slice();
     let catalog = world.catalog();
@@ -171,7 +167,7 @@ fn reply_to<A: Heap>(
 /// to bytes that are no query of one question, class IN and a served type, where no zone that it serves is over
 /// the name, and where the reply had over 65,535 bytes. At a cut a referral; else, with AA, the aliases through
 /// the zones that it serves, at most eight, and what they say behind them, which is nothing behind the eighth.
-/// What is given is a message that the server may serve.
+/// What is given is a reply to that question, and a message that the server may serve to it.
 pub fn host_reply<A: Heap>(
     alloc: A,
     world: &World<A>,
@@ -181,7 +177,9 @@ pub fn host_reply<A: Heap>(
     ensures is { IfOk result (λ r. IsHostReply A world.now address.0 bytes.now (option_map (λ v. v.items) r)) }
     ensures honest { IfOk result (λ r. IfSome r (λ v. IsHonestReply A world.now address.0 bytes.now v.items)) }
 {
+    world.is_well_formed();
     reading_is_one(alloc);
+    echo_is_question(alloc);
     match read_query(alloc, bytes)? {
         Asked::Query(query) => Ok(reply_to(alloc, world, address, &query)?),
         Asked::Drop | Asked::Refuse(_, _, _) => Ok(None),

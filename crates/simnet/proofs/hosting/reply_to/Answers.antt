@@ -5,12 +5,11 @@ use Rattle.zone.specs.Look.{Local, Linked}
 use Rattle.authority.specs.Answers.{link_view, local_view}
 use Rattle.authority.specs.Catalogs.{among, looked}
 use Rattle.simnet.specs.Hosting.{says, IsReplyBy}
-use Rattle.simnet.proofs.Hosted.{sent_is_honest}
 use Rattle.simnet.proofs.Origins.{said_is, replied}
 use Rattle.simnet.proofs.hosting.reply_to.Goals as goal
 
-pub returns-in-NotHere-clause-is : goal.returns-in-NotHere-clause-is
-returns-in-NotHere-clause-is g c =
+pub returns-in-NotHere : goal.returns-in-NotHere
+returns-in-NotHere g c =
     let look : Name → Local = λ n. looked (among c.as_slice-origins.result.now c.catalog-catalog.result.now) n (type_number c.args.query.now.kind) in
     let same : look ≡ says c.args.world.now c.args.address.0 (type_number c.args.query.now.kind) =
     said_is c.args.world.now c.args.address.0 c.catalog-catalog.result.now c.hosts.result.now c.in_ok-served.served.items c.as_slice-origins.result.now (type_number c.args.query.now.kind) c.catalog-catalog.ensures
@@ -18,17 +17,17 @@ returns-in-NotHere-clause-is g c =
     replied c.args.world.now c.args.address.0 c.args.query.now look (local_view c.in_ok-look_among.field-0) None None same c.in_ok-look_among.ensures.value
     (subst (λ l. IsReplyBy look c.args.query.now (local_view l) None) (sym c.in-NotHere.is) refl) refl
 
-pub returns-in-Cut-clause-is : goal.returns-in-Cut-clause-is
-returns-in-Cut-clause-is g c =
+pub returns-in-Cut : goal.returns-in-Cut
+returns-in-Cut g c =
     let look : Name → Local = λ n. looked (among c.as_slice-origins.result.now c.catalog-catalog.result.now) n (type_number c.args.query.now.kind) in
     let same : look ≡ says c.args.world.now c.args.address.0 (type_number c.args.query.now.kind) =
     said_is c.args.world.now c.args.address.0 c.catalog-catalog.result.now c.hosts.result.now c.in_ok-served.served.items c.as_slice-origins.result.now (type_number c.args.query.now.kind) c.catalog-catalog.ensures
     c.hosts.ensures c.as_slice-origins.ensures.value c.in_ok-served.ensures in
     replied c.args.world.now c.args.address.0 c.args.query.now look (local_view c.in_ok-look_among.field-0) (Some c.referral.result) (option_map (λ v. v.items) c.in_ok-sent-in-Cut.field-0) same
-    c.in_ok-look_among.ensures.value (subst (λ l. IsReplyBy look c.args.query.now (local_view l) (Some c.referral.result)) (sym c.in-Cut.is) (ap Some c.referral.ensures)) c.in_ok-sent-in-Cut.ensures.is
+    c.in_ok-look_among.ensures.value (subst (λ l. IsReplyBy look c.args.query.now (local_view l) (Some c.referral.result)) (sym c.in-Cut.is) (ap Some c.referral.ensures)) c.in_ok-sent-in-Cut.ensures
 
-pub returns-clause-is : goal.returns-clause-is
-returns-clause-is g c =
+pub returns : goal.returns
+returns g c =
     let look : Name → Local = λ n. looked (among c.as_slice-origins.result.now c.catalog-catalog.result.now) n (type_number c.args.query.now.kind) in
     let same : look ≡ says c.args.world.now c.args.address.0 (type_number c.args.query.now.kind) =
     said_is c.args.world.now c.args.address.0 c.catalog-catalog.result.now c.hosts.result.now c.in_ok-served.served.items c.as_slice-origins.result.now (type_number c.args.query.now.kind) c.catalog-catalog.ensures
@@ -38,27 +37,4 @@ returns-clause-is g c =
     c.in_ok-look_among.ensures.value
     (subst (λ l. IsReplyBy look c.args.query.now (local_view l) (Some c.answer.result)) (sym c.in-Link.is)
     (c.in_ok-aliases-in-Link.aliases, c.in_ok-aliases-in-Link.end, c.in_ok-aliases-in-Link.ensures c.args.query.now.name from, ap Some c.answer.ensures))
-    c.in_ok-sent-in-Link.ensures.is
-
-pub returns-in-Cut-clause-honest : goal.returns-in-Cut-clause-honest
-returns-in-Cut-clause-honest g c =
-    let look : Name → Local = λ n. looked (among c.as_slice-origins.result.now c.catalog-catalog.result.now) n (type_number c.args.query.now.kind) in
-    let same : look ≡ says c.args.world.now c.args.address.0 (type_number c.args.query.now.kind) =
-    said_is c.args.world.now c.args.address.0 c.catalog-catalog.result.now c.hosts.result.now c.in_ok-served.served.items c.as_slice-origins.result.now (type_number c.args.query.now.kind) c.catalog-catalog.ensures
-    c.hosts.ensures c.as_slice-origins.ensures.value c.in_ok-served.ensures in
-    sent_is_honest c.args.world.now c.args.address.0 c.args.query.now look (local_view c.in_ok-look_among.field-0) c.referral.result (λ v. v.items) c.in_ok-sent-in-Cut.field-0 c.is_well_formed.ensures same
-    c.in_ok-look_among.ensures.value (subst (λ l. IsReplyBy look c.args.query.now (local_view l) (Some c.referral.result)) (sym c.in-Cut.is) (ap Some c.referral.ensures))
-    c.in_ok-sent-in-Cut.ensures.message
-
-pub returns-clause-honest : goal.returns-clause-honest
-returns-clause-honest g c =
-    let look : Name → Local = λ n. looked (among c.as_slice-origins.result.now c.catalog-catalog.result.now) n (type_number c.args.query.now.kind) in
-    let same : look ≡ says c.args.world.now c.args.address.0 (type_number c.args.query.now.kind) =
-    said_is c.args.world.now c.args.address.0 c.catalog-catalog.result.now c.hosts.result.now c.in_ok-served.served.items c.as_slice-origins.result.now (type_number c.args.query.now.kind) c.catalog-catalog.ensures
-    c.hosts.ensures c.as_slice-origins.ensures.value c.in_ok-served.ensures in
-    let from : look c.args.query.now.name ≡ Linked (link_view c.in-Link.link) = sym c.in_ok-look_among.ensures.value ∙ ap local_view c.in-Link.is in
-    sent_is_honest c.args.world.now c.args.address.0 c.args.query.now look (local_view c.in_ok-look_among.field-0) c.answer.result (λ v. v.items) c.in_ok-sent-in-Link.field-0 c.is_well_formed.ensures same
-    c.in_ok-look_among.ensures.value
-    (subst (λ l. IsReplyBy look c.args.query.now (local_view l) (Some c.answer.result)) (sym c.in-Link.is)
-    (c.in_ok-aliases-in-Link.aliases, c.in_ok-aliases-in-Link.end, c.in_ok-aliases-in-Link.ensures c.args.query.now.name from, ap Some c.answer.ensures))
-    c.in_ok-sent-in-Link.ensures.message
+    c.in_ok-sent-in-Link.ensures
