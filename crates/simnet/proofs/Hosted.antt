@@ -4,7 +4,7 @@ use Rattle.std.specs.Prelude.{Contains, IfSome, true, map, option_map}
 use Rattle.dname.specs.Labels.{Name}
 use Rattle.rdata.specs.Records.{Record}
 use Rattle.rdata.specs.Types.{type_number}
-use Rattle.layout.specs.Messages.{Question, Message, IsMessage, folded_question, folded_message}
+use Rattle.layout.specs.Messages.{Question, Message, folded_question, folded_message}
 use Rattle.zone.specs.Zones.{Zone}
 use Rattle.zone.specs.Links.{Link, Found, Alias, NoData, NxDomain, IsFrom, IsLink, Says}
 use Rattle.zone.specs.Look.{Local, Linked, Cut, NotHere}
