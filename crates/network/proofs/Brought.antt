@@ -7,8 +7,8 @@ use Rattle.layout.proofs.Single.{message_one}
 use Rattle.truth.specs.Worlds.{Address, World, IsWorld}
 use Rattle.truth.specs.Serving.{IsCutDown, MayServe}
 use Rattle.front.proofs.Echoes.{echo_is_question}
-use Rattle.simnet.specs.Hosting.{IsServed}
-use Rattle.simnet.proofs.Hosted.{host_serves}
+use Rattle.worlds.specs.Hosting.{IsServed}
+use Rattle.worlds.proofs.Hosted.{host_serves}
 use Rattle.runs.specs.States.{Endpoint, Path, ByUdp, ByTcp, Asking, Plain}
 use Rattle.runs.specs.States as resolver
 use Rattle.runs.specs.Messages.{question_for, AnswersAsk, Brings}

@@ -7,7 +7,7 @@ use Rattle.wire.specs.Limits.{limit_of}
 use Rattle.wire.specs.declared.via.Via.{Via}
 use Rattle.wire.specs.declared.via.Via.TheVariants as via
 use Rattle.truth.specs.Worlds.{World}
-use Rattle.simnet.specs.Hosting.{IsHostReply}
+use Rattle.worlds.specs.Hosting.{IsHostReply}
 use Rattle.runs.specs.States.{Endpoint, Plain, Path, ByUdp, ByTcp, Served, State}
 use Rattle.runs.specs.States as resolver
 use Rattle.runs.specs.Steps.{Step}
