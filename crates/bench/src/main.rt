@@ -8,7 +8,7 @@ mod messages;
 mod names;
 mod resident;
 mod work;
-mod worlds;
+mod made_worlds;
 mod zones;
 
 use crate::work::{ALL, Counted, ON_MESSAGES, Work};

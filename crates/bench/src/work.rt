@@ -1,7 +1,7 @@
 //! The kinds of work.
 ghost use Rattle.std.specs.Prelude.{◌<◌};
 
-use crate::{links, messages, names, worlds, zones};
+use crate::{links, made_worlds, messages, names, zones};
 use anyhow::Result;
 use dname::Heap;
 use refusing::Refusing;
@@ -144,7 +144,7 @@ impl Work {
             Work::LookThousand => zones::look(rt, 1_000, rounds),
             Work::LookTenThousand => zones::look(rt, 10_000, rounds),
             Work::LookHundredThousand => zones::look(rt, 100_000, rounds),
-            Work::CheckWorld => worlds::check(rt, rounds),
+            Work::CheckWorld => made_worlds::check(rt, rounds),
             Work::KeepLink => links::keep(rt, rounds),
             Work::FindLink => links::find(rt, rounds),
             _ => {

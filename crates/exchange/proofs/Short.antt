@@ -12,7 +12,7 @@ use Rattle.runs.specs.Messages.{asking_header, asking_message, question_for}
 ask_fits : (a : Asking) → length (wire a.name) ≤ 255 → length (encoding (asking_message a)) ≤ 512
 ask_fits a short = let long = asked_once_long (asking_header a.id) (question_for a.name a.kind) in omega arith
 
-only_memory : (e : WireError) (text : List ℕ) → length text ≤ 512 → RefusesText e text 512 → e ≡ Memory
+pub only_memory : (e : WireError) (text : List ℕ) → length text ≤ 512 → RefusesText e text 512 → e ≡ Memory
 only_memory Memory text fits refused = refl
 only_memory OverLimit text fits refused = absurd (omega arith)
 only_memory Short text fits refused = absurd refused

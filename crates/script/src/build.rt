@@ -1,13 +1,13 @@
 //! Worlds made of their texts.
 ghost use Rattle.std.specs.Prelude.{◌≡◌, ◌+◌, ◌∷◌, [], ◌++◌, map, IfOk, OnOk};
-ghost use Rattle.simnet.specs.Kept.{addresses};
+ghost use Rattle.worlds.specs.Kept.{addresses};
 ghost use Rattle.script.specs.WorldTexts.{IsBuilt, AreBuilt, locals_of};
 
 use crate::world_fault::WorldFault;
-use crate::worlds::{Block, WorldText};
+use crate::world_text::{Block, WorldText};
 use dname::{Heap, Name, Starved};
 use masterfile::read_block;
-use simnet::World;
+use worlds::World;
 use std::alloc::Allocator;
 use zone::{Zone, ZoneError};
 

@@ -3,7 +3,7 @@ use crate::{LineError, LineKind, WorldFault, read_world};
 use dname::Heap;
 use masterfile::{FileError, FileKind};
 use refusing::Refusing;
-use simnet::WorldError;
+use worlds::WorldError;
 use std::test::Fail;
 use zone::ZoneError;
 

@@ -5,11 +5,11 @@ mod build;
 mod fault;
 mod line;
 mod world_fault;
-mod worlds;
+mod world_text;
 
 pub use fault::{LineError, LineKind};
 pub use world_fault::WorldFault;
-pub use worlds::{Block, WorldText, read_world};
+pub use world_text::{Block, WorldText, read_world};
 
 #[cfg(test)]
 mod build_tests;

@@ -2,7 +2,7 @@
 use crate::fault::{LineError, LineKind};
 use dname::Starved;
 use masterfile::{FileError, FileKind};
-use simnet::WorldError;
+use worlds::WorldError;
 use std::alloc::{AllocError, AllocFailed};
 use std::fmt;
 use zone::ZoneError;

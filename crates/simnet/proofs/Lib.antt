@@ -1,9 +1,2 @@
-pub mod Decided
-pub mod Held
-pub mod Hosted
-pub mod Judged
-pub mod Members
-pub mod Origins
-pub mod Refused
-pub mod Replied
-pub mod Worlds
+pub mod Cut
+pub mod Given

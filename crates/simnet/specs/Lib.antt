@@ -1,5 +1,2 @@
-pub mod Hosting
-pub mod Judging
-pub mod Kept
-pub mod Refusals
-pub mod Rules
+pub mod Views
+pub mod Replies

@@ -1,23 +1,10 @@
-//! Worlds of zones, servers and hints that stand in for the network (RFC 1034, sections 2.4 and 4.2).
+//! A network in memory: a resolver and the servers of a world, which reply to what it asks.
 #![tactic(auto)]
 
-mod fault;
-mod hosting;
-mod judging;
-mod rules;
-mod servers;
-mod world;
+mod come;
+mod event;
+mod reach;
+mod sent;
 
-pub use fault::WorldError;
-pub use hosting::host_reply;
-pub use judging::judge;
-pub use world::{Host, World};
-
-#[cfg(test)]
-mod fixtures;
-#[cfg(test)]
-mod host_tests;
-#[cfg(test)]
-mod judge_tests;
-#[cfg(test)]
-mod tests;
+pub use event::{SimAction, SimActions, SimEvent};
+pub use sent::Sent;

@@ -1,5 +1,5 @@
 use Rattle.std.proofs.Common.{◌≡◌, ◌+◌, ◌∷◌, [], ◌++◌, map, IfOk, OnOk, ℕ, ◌-◌, ◌*◌, ◌<◌, ◌≤◌, length, take}
-use Rattle.simnet.specs.Kept.{addresses}
+use Rattle.worlds.specs.Kept.{addresses}
 use Rattle.script.specs.WorldTexts.{IsBuilt, AreBuilt, locals_of}
 use Rattle.script.proofs.build.locals.Given as goal
 

@@ -1,0 +1,4 @@
+pub mod Asked
+pub mod Brought
+pub mod Follows
+pub mod Carried

@@ -1,0 +1,64 @@
+-- The law that the function of this crate states, and the lists of events that it speaks of.
+use Rattle.std.specs.Prelude.{◌≡◌, ℕ, ◌⊎◌, true, Option, Some, None, List, [], ◌∷◌, Contains}
+use Rattle.rdata.specs.Types.{type_number}
+use Rattle.layout.specs.Messages.{Question}
+use Rattle.authority.specs.declared.cause.Cause.{Cause}
+use Rattle.wire.specs.declared.via.Via.{Via}
+use Rattle.front.specs.Openings.{Opening}
+use Rattle.front.specs.Queries.{IsAsked}
+use Rattle.front.specs.declared.queries.Query.{Query as Asking}
+use Rattle.front.specs.declared.queries.Asked.{Asked}
+use Rattle.front.specs.declared.queries.Asked.TheVariants as heard
+use Rattle.front.specs.declared.queries.Refusal.{Refusal}
+use Rattle.truth.specs.Worlds.{World, IsWorld}
+use Rattle.runs.specs.States.{Plain, recursive, Site, IsNew}
+use Rattle.right.specs.Headline.{IsHomeIn, IsRightReply}
+use Rattle.network.specs.Networks.{NetworkEvent, Client, NetworkAction, Reply, Network, NetworkStep}
+
+-- An event and what came out, `None` where memory was wanting.
+pub record Line : Type 0 where
+  pub event : NetworkEvent
+  pub out : Option (List NetworkAction)
+
+-- A network of that world whose resolver has done nothing yet.
+pub record IsFresh (W : World) (site : Site) (s : Network) : Type 0 where
+  pub world : s.world ≡ W
+  pub resolver : IsNew site s.resolver
+  pub sends : s.sends ≡ []
+
+-- These lines, the newest first, lead from a fresh network to that one.
+abbrev pub NetworkRun : World → Site → List Line → Network → Type 0
+NetworkRun W site [] s = IsFresh W site s
+NetworkRun W site (l ∷ past) s = (old : Network) × NetworkRun W site past old × NetworkStep old l.event l.out s
+
+abbrev pub Throughout : (Line → List Line → Type 0) → List Line → Type 0
+Throughout P [] = Unit {0}
+Throughout P (l ∷ past) = P l past × Throughout P past
+
+abbrev pub Shows : Option (List NetworkAction) → NetworkAction → Type 0
+Shows None action = ⊥
+Shows (Some out) action = Contains out action
+
+-- On one of these lines this client's bytes came by this way, and that is what they ask.
+abbrev pub IsHeardOf : List Line → ℕ → Via → Asked Plain → Type 0
+IsHeardOf lines client way asked = (l : Line) × Contains lines l × ((now : ℕ) × (bytes : List ℕ) × (l.event ≡ Client now client way bytes) × IsAsked bytes asked)
+
+-- A reply answers a query of its client; where that is recursive the reply is right.
+pub record IsAnswered (W : World) (lines : List Line) (client : ℕ) (way : Via) (bytes : List ℕ) : Type 0 where
+  pub query : Asking Plain
+  pub asked : IsHeardOf lines client way (heard.Query query)
+  pub right : recursive query ≡ true → IsRightReply W way query.name (type_number query.kind) bytes
+
+-- Or it refuses bytes of its client that are no query to be answered.
+abbrev pub IsRefused : List Line → ℕ → Via → Type 0
+IsRefused lines client way = (refusal : Refusal) × (start : Opening) × (echo : Option Question) × IsHeardOf lines client way (heard.Refuse refusal start echo)
+
+abbrev pub RepliesAreRight : World → Line → List Line → Type 0
+RepliesAreRight W l past = (client : ℕ) (way : Via) (bytes : List ℕ) (c : Option Cause) → Shows l.out (Reply client way bytes c)
+    → IsRefused (l ∷ past) client way ⊎ IsAnswered W (l ∷ past) client way bytes
+
+-- In every list of events each reply to a recursive query is right: in a well formed world whose local zones and
+-- hints are the resolver's, with no premise on any message.
+abbrev pub NetworkHeadline : Type 0
+NetworkHeadline = (W : World) (site : Site) (lines : List Line) (s : Network) → IsWorld W → IsHomeIn W site.home → NetworkRun W site lines s
+    → Throughout (RepliesAreRight W) lines

@@ -1,0 +1,7 @@
+//! A network in memory, of a resolver and the servers of a world: definitions, in `specs`, and the law that each
+//! reply in it is right. Nothing here runs.
+#![tactic(auto)]
+
+mod laws;
+
+pub use laws::network_law;

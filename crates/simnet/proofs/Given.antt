@@ -1,0 +1,69 @@
+-- What a server replies, whatever its memory comes from; and its bytes are a message of one question.
+use Rattle.std.proofs.Common.{◌≡◌, ℕ, inl, inr, ⊎_elim, Option, Some, None, List, [], ◌∷◌, Result, Ok, Err, IfOk, refl, sym, ap, ◌∙◌, option_map}
+use Rattle.std.specs.Prelude.{IfSome}
+use Rattle.dname.specs.Labels.{Name}
+use Rattle.rdata.specs.Records.{Record}
+use Rattle.rdata.specs.Types.{type_number}
+use Rattle.layout.specs.Messages.{Question, internet}
+use Rattle.zone.specs.Links.{Link, Found, Alias, NoData, NxDomain}
+use Rattle.zone.specs.Look.{Local, Linked, Cut, NotHere}
+use Rattle.truth.specs.Worlds.{Address, World, IsWorld}
+use Rattle.front.specs.Chains.{IsEndOf, IsEndAt}
+use Rattle.front.specs.Laws.{EchoIsQuestion}
+use Rattle.front.specs.declared.queries.Query.{Query as Asking}
+use Rattle.front.specs.declared.queries.Asked.{Asked}
+use Rattle.front.specs.declared.queries.Asked.TheVariants as heard
+use Rattle.front.specs.declared.queries.End.{End}
+use Rattle.front.specs.declared.queries.End.TheVariants as end
+use Rattle.worlds.specs.Hosting.{says, IsFollowed, answer_to, IsReplyBy, IsReplyFrom, IsHostReply, IsServed}
+use Rattle.worlds.proofs.Hosted.{host_serves}
+use Rattle.runs.specs.States.{Plain}
+use Rattle.exchange.specs.Plain.{plain, plain_asked, plain_end}
+use Rattle.exchange.proofs.Plainly.{asked_plainly}
+use Rattle.simnet.specs.Replies.{AsksOne}
+
+module _ (A : Type 0) where
+  end_of : (l : Link) (e : End A) → IsEndOf l e → IsEndOf l (plain_end e)
+  end_of (Found set) e is = ap plain_end is
+  end_of (Alias r) e is = absurd is
+  end_of (NoData soa) e is = ap plain_end is
+  end_of (NxDomain soa) e is = ap plain_end is
+
+  end_at : (l : Local) (e : End A) → IsEndAt l e → IsEndAt l (plain_end e)
+  end_at (Linked l) e is = end_of l e is
+  end_at (Cut c ns glue) e is = ap plain_end is
+  end_at NotHere e is = ap plain_end is
+
+  followed_plainly : (look : Name → Local) (from : Name) (aliases : List Record) (e : End A) → IsFollowed look from aliases e → IsFollowed look from aliases (plain_end e)
+  followed_plainly look from aliases e h = record {
+    to = h.to;
+    leads = h.leads;
+    ends = ⊎_elim (λ p. inl (p.0, end_at (look h.to) e p.1)) (λ p. inr (p.0, ap plain_end p.1)) h.ends;
+  }
+
+  answer_plainly : (q : Asking A) (aliases : List Record) (e : End A) → answer_to q aliases e ≡ answer_to (plain q) aliases (plain_end e)
+  answer_plainly q aliases (end.Found set) = refl
+  answer_plainly q aliases (end.NoData soa) = refl
+  answer_plainly q aliases (end.NxDomain soa) = refl
+  answer_plainly q aliases end.Outside = refl
+
+  reply_plainly : (look : Name → Local) (q : Asking A) (l : Local) (m : _) → IsReplyBy look q l m → IsReplyBy look (plain q) l m
+  reply_plainly look q NotHere m is = is
+  reply_plainly look q (Cut c ns glue) m is = is
+  reply_plainly look q (Linked l) m (aliases, e, followed, is) =
+      (aliases, plain_end e, followed_plainly look q.name aliases e followed, is ∙ ap Some (answer_plainly q aliases e))
+
+  from_plainly : (W : World) (a : Address) (asked : Asked A) (sent : Option (List ℕ)) → IsReplyFrom W a asked sent → IsReplyFrom W a (plain_asked asked) sent
+  from_plainly W a heard.Drop sent is = is
+  from_plainly W a (heard.Refuse refusal start echo) sent is = is
+  from_plainly W a (heard.Query q) sent (m, by, is) = (m, reply_plainly (says W a (type_number q.kind)) q (says W a (type_number q.kind) q.name) m by, is)
+
+  pub host_plainly : (W : World) (a : Address) (bytes : List ℕ) (sent : Option (List ℕ)) → IsHostReply A W a bytes sent → IsHostReply Plain W a bytes sent
+  host_plainly W a bytes sent (asked, reads, by) = (plain_asked asked, asked_plainly bytes asked reads, from_plainly W a asked sent by)
+
+  pub asks_one : {V : Type 0} (W : World) (a : Address) (bytes : List ℕ) (items : V → List ℕ) (o : Option V) → EchoIsQuestion A → IsWorld W → IsHostReply A W a bytes (option_map items o)
+      → IfSome o (λ v. AsksOne (items v))
+  asks_one W a bytes items None echoes w is = tt
+  asks_one W a bytes items (Some v) echoes w is =
+      let (n, t, h) = host_serves W a bytes (items v) echoes w is in
+      record { message = h.read; is = h.message; question = record { name = n; qtype = t; qclass = internet }; only = (h.reply).question }

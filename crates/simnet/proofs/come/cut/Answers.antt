@@ -1,0 +1,19 @@
+use Rattle.std.proofs.Common.{rules, ◌≡◌, ◌∙◌, sym, ap, subst, refl, ℕ, List, [], ◌∷◌, IfOk, IfSome, option_map}
+use Rattle.dname.specs.Labels.{IsName}
+use Rattle.layout.specs.Messages.{Message, Question, IsMessage, encoding, folded_message}
+use Rattle.wire.specs.Drafts.{RefusesText}
+use Rattle.network.specs.Networks.{cut_down, IsGiven, IsCutReply}
+use Rattle.simnet.specs.Replies.{AsksOne}
+use Rattle.simnet.proofs.Cut.{starved_only}
+use Rattle.layout.proofs.Single.{message_one}
+use Rattle.simnet.proofs.come.cut.Goals as goal
+
+pub written-requires : goal.written-requires
+written-requires g c =
+    let same = message_one c.args.given.now c.in-Ok.message c.requires.message c.in-Ok.ensures.read c.requires.is in
+    (c.in-Ok.message, c.requires.question, c.without_records.ensures, ap (λ (x : Message). x.questions) same ∙ c.requires.only)
+
+pub unreachable-requires : goal.unreachable-requires
+unreachable-requires g c =
+    let memory = starved_only c.in-Err.field-0 c.args.given.now c.requires.message c.requires.is c.in-Err.ensures.refused in
+    search rules

@@ -1,9 +1,0 @@
-use Rattle.std.proofs.Common.{subst}
-use Rattle.front.specs.Queries.{IsAsked}
-use Rattle.simnet.proofs.Hosted.{one_query}
-use Rattle.simnet.proofs.hosting.host_reply.Goals as goal
-
-pub returns-in-Query-clause-honest : goal.returns-in-Query-clause-honest
-returns-in-Query-clause-honest g c =
-    one_query c.args.world.now c.args.address.0 c.args.bytes.now (λ v. v.items) c.in_ok-reply_to-in-Query.field-0 c.in-Query.query c.reading_is_one.ensures
-    (subst (IsAsked c.args.bytes.now) c.in-Query.is c.in_ok-query.ensures.asked) c.in_ok-reply_to-in-Query.ensures.honest

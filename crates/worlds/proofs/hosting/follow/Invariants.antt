@@ -1,0 +1,14 @@
+-- The aliases so far lead from the name with the first link to the one that was looked up last.
+use Rattle.std.proofs.Common.{◌-◌, length}
+use Rattle.rdata.specs.Types.{type_number}
+use Rattle.zone.specs.Look.{Linked}
+use Rattle.authority.specs.Answers.{link_view, local_view}
+use Rattle.authority.specs.Catalogs.{among, looked}
+use Rattle.front.proofs.Following.{Going}
+use Rattle.worlds.proofs.hosting.follow.Given as goal
+
+abbrev pub invariant-aliases : goal.invariant-aliases
+invariant-aliases g l = Going (λ name. looked (among l.origins l.catalog) name (type_number l.kind)) (Linked (link_view l.fn.first)) l.aliases (local_view l.found)
+
+abbrev pub decreases-aliases : goal.decreases-aliases
+decreases-aliases g l = 8 - length l.aliases

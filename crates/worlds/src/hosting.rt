@@ -1,0 +1,187 @@
+//! What the servers of a world reply.
+ghost use Rattle.std.specs.Prelude.{◌≡◌, ◌<◌, ◌++◌, ◌||◌, ℕ, List, IfOk, IfSome, OnOk, Some, option_map};
+ghost use Rattle.rdata.specs.Types.{type_number};
+ghost use Rattle.zone.specs.Look.{Linked};
+ghost use Rattle.authority.specs.Answers.{link_view};
+ghost use Rattle.authority.specs.Catalogs.{looked, among};
+ghost use Rattle.front.specs.declared.queries.Asked.TheVariants as asked;
+ghost use Rattle.worlds.specs.Rules.{has_name, serves_at, serves};
+ghost use Rattle.worlds.specs.Hosting.{IsFollowed, host_header, referral_to, answer_to, IsSent, IsReplyFrom, IsHostReply, IsHonestReply};
+
+use crate::world::{Host, World};
+use authority::{Catalog, Link, Local};
+use dname::{Heap, Name, Starved};
+use front::{
+    Asked, End, MOST_ALIASES, Parts, Query, Start, Step, alias_target, echo_is_question, read_query,
+    reading_is_one,
+};
+use rdata::{Addr, RType, Records};
+use std::alloc::Allocator;
+use wire::{Header, TCP_LIMIT};
+
+fn put_names<A: Heap>(names: &mut Vec<Name<A>, A>, more: &[Name<A>]) -> Result<(), Starved>
+    ensures { OnOk result (names.new.items ≡ names.old.items ++ more.now) }
+{
+    for name in more {
+        names.push(name.clone()?)?;
+    }
+    Ok(())
+}
+
+// The origins of one server more, where it has that address.
+fn put_origins<A: Heap>(
+    origins: &mut Vec<Name<A>, A>,
+    host: &Host<A>,
+    address: Addr,
+) -> Result<(), Starved>
+    ensures { OnOk result ((n : List (List ℕ)) → has_name n origins.new.items ≡ (has_name n origins.old.items || serves_at address.0 n host.now)) }
+{
+    if host.address.0 == address.0 {
+        put_names(origins, &host.origins)?;
+    }
+    Ok(())
+}
+
+// The origins of the zones that are served at that address.
+fn served_origins<A: Heap>(
+    alloc: A,
+    hosts: &[Host<A>],
+    address: Addr,
+) -> Result<Vec<Name<A>, A>, Starved>
+    ensures { IfOk result (λ v. (n : List (List ℕ)) → has_name n v.items ≡ serves address.0 n hosts.now) }
+{
+    let mut origins = Vec::new(alloc);
+    for host in hosts {
+        put_origins(&mut origins, host, address)?;
+    }
+    Ok(origins)
+}
+
+// The aliases from a name with that link on, through the zones of those origins, and where they end: nothing
+// is said behind the last that is followed.
+fn follow<A: Heap>(
+    alloc: A,
+    catalog: &Catalog<A>,
+    origins: &[Name<A>],
+    kind: RType,
+    first: Link<A>,
+) -> Result<(Records<A>, End<A>), Starved>
+    ensures { (name : List (List ℕ)) → looked (among origins.now catalog.now) name (type_number kind) ≡ Linked (link_view first)
+        → IfOk result (λ r. IsFollowed (λ n. looked (among origins.now catalog.now) n (type_number kind)) name r.0 r.1) }
+{
+    let mut aliases = Records::new(alloc);
+    let mut found = Local::Link(first);
+    'aliases: while aliases.len() < MOST_ALIASES {
+        match Step::of(alloc, found)? {
+            Step::Ended(end) => return Ok((aliases, end)),
+            Step::Onward(alias) => {
+                found = catalog.look_among(alloc, origins, alias_target(&alias), kind)?;
+                aliases.push(alias)?;
+            }
+        }
+    }
+    Ok((aliases, End::Outside))
+}
+
+fn header(start: Start, aa: bool, rcode: u8) -> Header
+    requires { rcode < 16 }
+    ensures { result ≡ host_header start aa rcode }
+{
+    Header {
+        id: start.id(),
+        qr: true,
+        opcode: start.opcode(),
+        aa,
+        tc: false,
+        rd: start.wants_recursion(),
+        ra: false,
+        z: 0,
+        rcode,
+    }
+}
+
+fn referral<'a, A: Allocator>(
+    query: &'a Query<A>,
+    ns: &'a Records<A>,
+    glue: &'a Records<A>,
+) -> Parts<'a, A>
+    ensures { result ≡ referral_to query.now ns.now glue.now }
+{
+    Parts {
+        header: header(query.start, false, 0),
+        question: Some(&query.echo),
+        first: &[],
+        second: &[],
+        authority: ns.as_slice(),
+        additional: glue.as_slice(),
+    }
+}
+
+fn answer<'a, A: Allocator>(
+    query: &'a Query<A>,
+    aliases: &'a Records<A>,
+    end: &'a End<A>,
+) -> Parts<'a, A>
+    ensures { result ≡ answer_to query.now aliases.now end.now }
+{
+    Parts {
+        header: header(query.start, true, end.rcode()),
+        question: Some(&query.echo),
+        first: aliases.as_slice(),
+        second: end.found(),
+        authority: end.denial(),
+        additional: &[],
+    }
+}
+
+// The bytes of a reply, where they are few enough.
+fn sent<A: Heap>(alloc: A, reply: &Parts<'_, A>) -> Result<Option<Vec<u8, A>>, Starved>
+    ensures { IfOk result (λ r. IsSent (Some reply.now) (option_map (λ v. v.items) r)) }
+{
+    reply.encode(alloc, TCP_LIMIT)
+}
+
+// What the server replies to a query.
+fn reply_to<A: Heap>(
+    alloc: A,
+    world: &World<A>,
+    address: Addr,
+    query: &Query<A>,
+) -> Result<Option<Vec<u8, A>>, Starved>
+    ensures { IfOk result (λ r. IsReplyFrom world.now address.0 (asked.Query query.now) (option_map (λ v. v.items) r)) }
+{
+    let served = served_origins(alloc, world.hosts(), address)?;
+    let origins = served.as_slice();
+    let catalog = world.catalog();
+    match catalog.look_among(alloc, origins, &query.name, query.kind)? {
+        Local::NotHere => Ok(None),
+        Local::Cut(_, ns, glue) => Ok(sent(alloc, &referral(query, &ns, &glue))?),
+        Local::Link(link) => {
+            let (aliases, end) = follow(alloc, catalog, origins, query.kind, link)?;
+            Ok(sent(alloc, &answer(query, &aliases, &end))?)
+        }
+    }
+}
+
+/// What the server at an address of the world replies to a client's bytes (RFC 1034, section 4.3.2): nothing
+/// to bytes that are no query of one question, class IN and a served type, where no zone that it serves is over
+/// the name, and where the reply had over 65,535 bytes. At a cut a referral; else, with AA, the aliases through
+/// the zones that it serves, at most eight, and what they say behind them, which is nothing behind the eighth.
+/// What is given is a reply to that question, and a message that the server may serve to it.
+pub fn host_reply<A: Heap>(
+    alloc: A,
+    world: &World<A>,
+    address: Addr,
+    bytes: &[u8],
+) -> Result<Option<Vec<u8, A>>, Starved>
+    ensures is { IfOk result (λ r. IsHostReply A world.now address.0 bytes.now (option_map (λ v. v.items) r)) }
+    ensures honest { IfOk result (λ r. IfSome r (λ v. IsHonestReply A world.now address.0 bytes.now v.items)) }
+{
+    world.is_well_formed();
+    reading_is_one(alloc);
+    echo_is_question(alloc);
+    match read_query(alloc, bytes)? {
+        Asked::Query(query) => Ok(reply_to(alloc, world, address, &query)?),
+        Asked::Drop | Asked::Refuse(_, _, _) => Ok(None),
+    }
+}

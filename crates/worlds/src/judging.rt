@@ -1,0 +1,265 @@
+//! Right replies, told from wrong ones.
+ghost use Rattle.std.specs.Prelude.{◌≡◌, ◌↔◌, ◌&&◌, nat_eq, ℕ, List, IfOk, IsTrue, MatchOption, not};
+ghost use Rattle.std.specs.List.{list_any};
+ghost use Rattle.rdata.specs.Data.{Cname};
+ghost use Rattle.zone.specs.Links.{Alias};
+ghost use Rattle.rdata.specs.Types.{type_number};
+ghost use Rattle.truth.specs.Truths.{IsTrueLink};
+ghost use Rattle.truth.specs.Replies.{IsRight};
+ghost use Rattle.worlds.specs.Judging.{IsRest, IsRightMessage, is_reply_to, is_asked, is_empty, is_same, has, lacks_some, once, is_set, is_only, is_none};
+
+use crate::world::World;
+use authority::Link;
+use dname::{Heap, Name, Starved};
+use front::MOST_ALIASES;
+use rdata::{RData, RType, Record};
+use std::alloc::Allocator;
+use wire::{Message, Question, WireError, decode};
+
+// Whether both are one record but for the TTL.
+fn is_same<A: Allocator>(one: &Record<A>, other: &Record<A>) -> bool
+    ensures { result ≡ is_same one.now other.now }
+{
+    one.owner == other.owner && one.value.is_same(&other.value)
+}
+
+// Whether the records have that one.
+fn has<A: Allocator>(records: &[Record<A>], wanted: &Record<A>) -> bool
+    ensures { result ≡ has records.now wanted.now }
+{
+    records.iter().any(|record| is_same(wanted, record))
+}
+
+// Whether the records lack one of those wanted.
+fn lacks_some<A: Allocator>(records: &[Record<A>], wanted: &[Record<A>]) -> bool
+    ensures { result ≡ lacks_some records.now wanted.now }
+{
+    wanted.iter().any(|record| !has(records, record))
+}
+
+// Whether no record stands twice.
+fn is_once<A: Allocator>(records: &[Record<A>]) -> bool
+    ensures { result ≡ once records.now }
+{
+    for (place, record) in records.iter().enumerate() {
+        if has(&records[place + 1..], record) {
+            return false;
+        }
+    }
+    true
+}
+
+// Whether the records are the set, in any order, each once.
+fn is_set<A: Allocator>(records: &[Record<A>], set: &[Record<A>]) -> bool
+    ensures { result ≡ is_set records.now set.now }
+{
+    !lacks_some(set, records) && !lacks_some(records, set) && is_once(records)
+}
+
+// Whether the records are that one alone.
+fn is_only<A: Allocator>(records: &[Record<A>], soa: &Record<A>) -> bool
+    ensures { result ≡ is_only soa.now records.now }
+{
+    match records {
+        [only] => is_same(only, soa),
+        _ => false,
+    }
+}
+
+fn is_none<A: Allocator>(records: &[Record<A>]) -> bool
+    ensures { result ≡ is_none records.now }
+{
+    records.is_empty()
+}
+
+// Whether a reply ends with that set.
+fn is_found<A: Allocator>(
+    set: &[Record<A>],
+    answer: &[Record<A>],
+    rcode: u8,
+    authority: &[Record<A>],
+) -> bool
+    ensures { result ≡ (is_set answer.now set.now && nat_eq rcode 0 && is_none authority.now) }
+{
+    is_set(answer, set) && rcode == 0 && is_none(authority)
+}
+
+// Whether a reply ends with that denial and RCODE.
+fn is_denied<A: Allocator>(
+    soa: &Record<A>,
+    denial: u8,
+    answer: &[Record<A>],
+    rcode: u8,
+    authority: &[Record<A>],
+) -> bool
+    ensures { result ≡ (is_none answer.now && nat_eq rcode denial && is_only soa.now authority.now) }
+{
+    is_none(answer) && rcode == denial && is_only(authority, soa)
+}
+
+// The name that a record is an alias of.
+fn target<A: Allocator>(subject: &Record<A>) -> Option<&Name<A>>
+    ensures { MatchOption result ((n : List (List ℕ)) → subject.now.value ≡ Cname n → ⊥) (λ n. subject.now.value ≡ Cname n.now) }
+{
+    match &subject.value {
+        RData::Cname(name) => Some(name),
+        _ => None,
+    }
+}
+
+// Whether the records go on with that alias, and then as the world does from its target on.
+#[cycle(judged)]
+fn goes_on<A: Heap>(
+    world: &World<A>,
+    alias: &Record<A>,
+    kind: RType,
+    answer: &[Record<A>],
+    left: usize,
+    rcode: u8,
+    authority: &[Record<A>],
+) -> Result<bool, Starved>
+    ensures { (q : List (List ℕ)) → IsTrueLink world.now q (type_number kind) (Alias alias.now) → IfOk result (λ b. IsTrue b ↔ IsRest world.now (type_number kind) q left answer.now rcode authority.now) }
+{
+    world.is_well_formed();
+    let [first, others @ ..] = answer else {
+        return Ok(false);
+    };
+    if left == 0 {
+        return Ok(false);
+    }
+    if !is_same(first, alias) {
+        return Ok(false);
+    }
+    let Some(next) = target(first) else {
+        return Ok(false);
+    };
+    Ok(is_rest(world, next, kind, others, left - 1, rcode, authority)?)
+}
+
+// Whether the records are a whole reply from the name on: at most so many aliases more, and then the end.
+#[cycle(judged)]
+fn is_rest<A: Heap>(
+    world: &World<A>,
+    name: &Name<A>,
+    kind: RType,
+    answer: &[Record<A>],
+    left: usize,
+    rcode: u8,
+    authority: &[Record<A>],
+) -> Result<bool, Starved>
+    ensures { IfOk result (λ b. IsTrue b ↔ IsRest world.now (type_number kind) name.now left answer.now rcode authority.now) }
+{
+    world.is_well_formed();
+    match world.link(name, kind)? {
+        Link::Alias(alias) => Ok(goes_on(world, &alias, kind, answer, left, rcode, authority)?),
+        Link::Found(set) => Ok(is_found(set.as_slice(), answer, rcode, authority)),
+        Link::NoData(soa) => Ok(is_denied(&soa, 0, answer, rcode, authority)),
+        Link::NxDomain(soa) => Ok(is_denied(&soa, 3, answer, rcode, authority)),
+    }
+}
+
+// Whether the message is a reply to that question, in class IN.
+fn is_reply_to<A: Allocator>(reply: &Message<A>, name: &Name<A>, kind: RType) -> bool
+    ensures { result ≡ is_reply_to name.now (type_number kind) reply.now }
+{
+    reply.header.qr && is_asked(reply.questions.as_slice(), name, kind)
+}
+
+fn is_asked<A: Allocator>(questions: &[Question<A>], name: &Name<A>, kind: RType) -> bool
+    ensures { result ≡ is_asked name.now (type_number kind) questions.now }
+{
+    match questions {
+        [only] => only.name == *name && only.qtype == kind.number() && only.qclass == 1,
+        _ => false,
+    }
+}
+
+// Whether the message has no records.
+fn is_empty<A: Allocator>(reply: &Message<A>) -> bool
+    ensures { result ≡ is_empty reply.now }
+{
+    is_none(reply.answer.as_slice())
+        && is_none(reply.authority.as_slice())
+        && is_none(reply.additional.as_slice())
+}
+
+// Whether the message is cut: TC is set.
+fn is_cut<A: Allocator>(reply: &Message<A>) -> bool
+    ensures { result ≡ reply.now.header.tc }
+{
+    reply.header.tc
+}
+
+// Whether something stands in additional.
+fn has_additional<A: Allocator>(reply: &Message<A>) -> bool
+    ensures { result ≡ not (is_none reply.now.additional) }
+{
+    !is_none(reply.additional.as_slice())
+}
+
+fn rcode<A: Allocator>(reply: &Message<A>) -> u8
+    ensures { result ≡ reply.now.header.rcode }
+{
+    reply.header.rcode
+}
+
+fn answer<A: Allocator>(reply: &Message<A>) -> &[Record<A>]
+    ensures { result.now ≡ reply.now.answer }
+{
+    reply.answer.as_slice()
+}
+
+fn authority<A: Allocator>(reply: &Message<A>) -> &[Record<A>]
+    ensures { result.now ≡ reply.now.authority }
+{
+    reply.authority.as_slice()
+}
+
+// Whether the message is the right reply to the question: cut, or whole.
+fn is_right<A: Heap>(
+    world: &World<A>,
+    name: &Name<A>,
+    kind: RType,
+    reply: &Message<A>,
+) -> Result<bool, Starved>
+    ensures { IfOk result (λ b. IsTrue b ↔ IsRightMessage world.now name.now (type_number kind) reply.now) }
+{
+    if !is_reply_to(reply, name, kind) {
+        return Ok(false);
+    }
+    if is_cut(reply) {
+        return Ok(is_empty(reply));
+    }
+    if has_additional(reply) {
+        return Ok(false);
+    }
+    let code = rcode(reply);
+    Ok(is_rest(
+        world,
+        name,
+        kind,
+        answer(reply),
+        MOST_ALIASES,
+        code,
+        authority(reply),
+    )?)
+}
+
+/// Whether the bytes are the right reply to the question, TTLs aside: a reply to it in class IN that is cut
+/// and has no records, or has exactly the world's aliases in order and then their end: the record set in any
+/// order, or the SOA of a denial, with RCODE 3 for a name error (RFC 1034, sections 3.6.2 and 4.3.2; RFC
+/// 2308, section 2).
+pub fn judge<A: Heap>(
+    world: &World<A>,
+    name: &Name<A>,
+    kind: RType,
+    bytes: &[u8],
+) -> Result<bool, Starved>
+    ensures { IfOk result (λ b. IsTrue b ↔ IsRight world.now name.now (type_number kind) bytes.now) }
+{
+    match decode(name.allocator(), bytes) {
+        Ok(reply) => Ok(is_right(world, name, kind, &reply)?),
+        Err(WireError::Memory) => Err(Starved),
+        Err(_) => Ok(false),
+    }
+}
