@@ -1,13 +1,14 @@
 -- What a server's file says, line by line.
-use Rattle.std.specs.Prelude.{◌≡◌, ◌⊎◌, ℕ, ◌==◌, ◌+◌, ◌-◌, ◌^◌, min, Bool, true, false, ◌||◌, cond, Result, Ok, Err, Option, Some, None, List, [], ◌∷◌, ◌++◌}
+use Rattle.std.specs.Prelude.{ℕ, Bool, true, false, ◌||◌, cond, Result, Ok, Err, Option, Some, None, List, [], ◌∷◌, ◌++◌}
 use Rattle.hex.specs.Hex.{decode_sized}
 use Rattle.hex.specs.declared.error.FromHexError.{FromHexError}
 use Rattle.dname.specs.Labels.{Name, same_name}
 use Rattle.statements.specs.declared.fault.LineKind.{LineKind}
-use Rattle.statements.specs.declared.fault.LineKind.TheVariants.{UnknownWord, WordCount, BadHex, Memory}
+use Rattle.statements.specs.declared.fault.LineKind.TheVariants.{UnknownWord, WordCount, BadHex}
 use Rattle.statements.specs.declared.fault.LineError.{LineError}
 use Rattle.statements.specs.Faults.{◌>>=◌}
-use Rattle.statements.specs.Lines.{lines, words}
+use Rattle.statements.specs.Lines.{lines}
+use Rattle.statements.specs.Texts.{said_from}
 use Rattle.statements.specs.Words.{number_of, address_of, name_of, next, ended}
 use Rattle.config.specs.declared.keyword.Keyword.{Keyword}
 use Rattle.config.specs.declared.keyword.Keyword.TheVariants as the
@@ -107,14 +108,9 @@ said_if d None ws = Err UnknownWord
 said_if d (Some k) ws = said_by d k ws
 
 -- A line without words says nothing.
-abbrev pub said_in : Draft → List (List ℕ) → Result Draft LineKind
-said_in d [] = Ok d
-said_in d (w ∷ ws) = said_if d (keyword_of w) ws
-
--- Nor does one that begins with a semicolon.
-abbrev pub said : Draft → List ℕ → Result Draft LineKind
+abbrev pub said : Draft → List (List ℕ) → Result Draft LineKind
 said d [] = Ok d
-said d (c ∷ cs) = cond (c == 59) (Ok d) (said_in d (words (c ∷ cs)))
+said d (w ∷ ws) = said_if d (keyword_of w) ws
 
 -- ---- What a file says.
 
@@ -150,27 +146,8 @@ finished d (Some e) = Ok (record {
   seed = d.seed;
 })
 
-abbrev pub at_line : {X : Type 0} → ℕ → Result X LineKind → Result X LineError
-at_line n (Ok x) = Ok x
-at_line n (Err k) = Err (record { line = n; kind = k })
-
--- Lines are counted up to 4,294,967,295.
-abbrev pub line_behind : ℕ → ℕ
-line_behind n = min (n + 1) (2 ^ 32 - 1)
-
-infixl 10 ◌>>◌
-abbrev pub ◌>>◌ : {X Y : Type 0} → Result X LineError → (X → Result Y LineError) → Result Y LineError
-Ok x >> f = f x
-Err e >> f = Err e
-
--- The lines from one of this number on: the first that is refused counts, and then what is wanting behind the last.
-abbrev pub config_from : ℕ → Draft → List (List ℕ) → Result Config LineError
-config_from n d [] = at_line n (finished d d.listen)
-config_from n d (l ∷ ls) = at_line n (said d l) >> λ next. config_from (line_behind n) next ls
+abbrev pub whole : Draft → Result Config LineKind
+whole d = finished d d.listen
 
 abbrev pub config_of : List ℕ → Result Config LineError
-config_of text = config_from 1 blank (lines text)
-
--- What is said of a refusal: it is the fault that stands there, or memory was wanting.
-abbrev pub IsTextFault : {X : Type 0} → LineError → Result X LineError → Type 0
-IsTextFault e r = (e.kind ≡ Memory) ⊎ (r ≡ Err e)
+config_of text = said_from said whole 1 blank (lines text)

@@ -6,8 +6,8 @@
 //! (16) and TCP workers (4) there are, `seed HEX` where identifiers begin. Blank lines and lines that begin with `;`
 //! are skipped. Words are parted by spaces and tabs.
 ghost use Rattle.std.specs.Prelude.{◌≡◌, Ok, Err, MatchResult};
-ghost use Rattle.statements.specs.Lines.{lines};
-ghost use Rattle.config.specs.Configs.{config_of, IsTextFault};
+ghost use Rattle.statements.specs.Texts.{IsTextFault};
+ghost use Rattle.config.specs.Configs.{config_of};
 
 use crate::draft::Draft;
 use dname::{Heap, Name};

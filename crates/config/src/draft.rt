@@ -1,8 +1,8 @@
 //! What the lines of a server's file say, one after the other.
 ghost use Rattle.std.specs.Prelude.{◌≡◌, ◌≤◌, Ok, Err, IfOk, MatchResult};
 ghost use Rattle.statements.specs.Faults.{IsLineFault};
-ghost use Rattle.statements.specs.Lines.{words as words_of};
-ghost use Rattle.config.specs.Configs.{blank, end_in, number_in, hint_in, zone_in, seed_of, seed_in, once as once_of, has_origin, with_zone, said_by, said_in, said, finished};
+ghost use Rattle.statements.specs.Texts.{stated_words};
+ghost use Rattle.config.specs.Configs.{blank, end_in, number_in, hint_in, zone_in, seed_of, seed_in, once as once_of, has_origin, with_zone, said_by, said, finished};
 
 use crate::config::{Endpoint, LocalFile, ServeConfig};
 use crate::keyword::Keyword;
@@ -73,12 +73,9 @@ impl<'t, A: Heap> Draft<'t, A> {
 
     /// One line more.
     pub(crate) fn take(&mut self, alloc: A, line: &'t str) -> Result<(), LineKind>
-        ensures { MatchResult result (λ _. said self.old line.entry.now ≡ Ok self.new) (λ e. IsLineFault e (said self.old line.entry.now)) }
+        ensures { MatchResult result (λ _. said self.old (stated_words line.entry.now) ≡ Ok self.new) (λ e. IsLineFault e (said self.old (stated_words line.entry.now))) }
     {
-        if line.as_bytes().first() == Some(&b';') {
-            return Ok(());
-        }
-        let mut words = LineWords::new(line);
+        let mut words = LineWords::stated(line);
         match words.next() {
             None => Ok(()),
             Some(word) => match Keyword::of_word(word) {

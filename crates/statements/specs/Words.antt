@@ -1,11 +1,15 @@
 -- What a word says, and the next word of a line.
 use Rattle.std.specs.Prelude.{ℕ, ◌+◌, ◌-◌, ◌*◌, Bool, true, false, ◌&&◌, cond, nat_le, Result, Ok, Err, Option, Some, None, List, [], ◌∷◌}
 use Rattle.std.specs.Net.Reader.{read_ipv4, whole_value}
+use Rattle.hex.specs.Hex.{decode_of}
+use Rattle.hex.specs.declared.error.FromHexError.{FromHexError}
+use Rattle.rdata.specs.declared.rtype.RType.{RType}
+use Rattle.rdata.specs.Types.{type_named}
 use Rattle.dname.specs.Labels.{Name}
 use Rattle.dname.specs.declared.text.NameError.{NameError}
 use Rattle.dname.specs.Text.{name_of_text}
 use Rattle.statements.specs.declared.fault.LineKind.{LineKind}
-use Rattle.statements.specs.declared.fault.LineKind.TheVariants.{BadNumber, BadName, WordCount, BadAddress}
+use Rattle.statements.specs.declared.fault.LineKind.TheVariants.{BadNumber, BadName, BadType, WordCount, BadHex, BadAddress}
 use Rattle.statements.specs.Faults.{kind_of_name, ◌>>=◌}
 
 abbrev pub is_digit : ℕ → Bool
@@ -38,6 +42,22 @@ name_read (Err e) = Err (kind_of_name e)
 
 abbrev pub name_of : List ℕ → Result Name LineKind
 name_of w = name_read (name_of_text w)
+
+abbrev pub bytes_read : Result (List ℕ) FromHexError → Result (List ℕ) LineKind
+bytes_read (Ok bytes) = Ok bytes
+bytes_read (Err e) = Err BadHex
+
+-- Bytes in hexadecimal digits, two each.
+abbrev pub bytes_of : List ℕ → Result (List ℕ) LineKind
+bytes_of w = bytes_read (decode_of w)
+
+abbrev pub type_read : Option RType → Result RType LineKind
+type_read None = Err BadType
+type_read (Some t) = Ok t
+
+-- A type that is served, in letters of either case.
+abbrev pub type_of : List ℕ → Result RType LineKind
+type_of w = type_read (type_named w)
 
 -- The next of these words, read so.
 abbrev pub next : {X : Type 0} → (List ℕ → Result X LineKind) → List (List ℕ) → Result (X × List (List ℕ)) LineKind

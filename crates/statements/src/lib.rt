@@ -9,4 +9,4 @@ mod word;
 pub use fault::{LineError, LineKind};
 pub use line::LineWords;
 pub use text::TextLines;
-pub use word::{address, name, number};
+pub use word::{address, bytes, name, number, rtype};

@@ -4,12 +4,13 @@ ghost use Rattle.std.specs.Str.{IsUtf8};
 ghost use Rattle.std.specs.List.{before_first, after_first, position_or_len};
 ghost use Rattle.statements.specs.Faults.{IsLineFault};
 ghost use Rattle.statements.specs.Lines.{is_blank as blank_test, words};
-ghost use Rattle.statements.specs.Words.{number_of, address_of, name_of, next, ended};
+ghost use Rattle.statements.specs.Texts.{stated_words};
+ghost use Rattle.statements.specs.Words.{number_of, address_of, name_of, bytes_of, type_of, next, ended};
 
 use crate::fault::LineKind;
 use crate::word;
 use dname::{Heap, Name};
-use rdata::Addr;
+use rdata::{Addr, RType};
 use std::marker::Model;
 
 /// The words of a line that are still to be read: what stands between spaces and tabs.
@@ -33,6 +34,16 @@ impl<'t> LineWords<'t> {
         ensures { result ≡ words line.entry.now }
     {
         LineWords { rest: line }
+    }
+
+    /// The words of this line, of which one that begins with `;` has none.
+    pub fn stated(line: &'t str) -> LineWords<'t>
+        ensures { result ≡ stated_words line.entry.now }
+    {
+        match line.as_bytes() {
+            [b';', ..] => LineWords { rest: "" },
+            _ => LineWords { rest: line },
+        }
     }
 
     /// The next word, if there is one.
@@ -72,6 +83,20 @@ impl<'t> LineWords<'t> {
         ensures { MatchResult result (λ a. next address_of self.old ≡ Ok (a.0, self.new)) (λ e. next address_of self.old ≡ Err e) }
     {
         word::address(self.word()?)
+    }
+
+    /// The next word as bytes in hexadecimal digits.
+    pub fn bytes<A: Heap>(&mut self, alloc: A) -> Result<Vec<u8, A>, LineKind>
+        ensures { MatchResult result (λ v. next bytes_of self.old ≡ Ok (v.items, self.new)) (λ e. IsLineFault e (next bytes_of self.old)) }
+    {
+        word::bytes(alloc, self.word()?)
+    }
+
+    /// The next word as a type that is served.
+    pub fn rtype(&mut self) -> Result<RType, LineKind>
+        ensures { MatchResult result (λ t. next type_of self.old ≡ Ok (t, self.new)) (λ e. next type_of self.old ≡ Err e) }
+    {
+        word::rtype(self.word()?)
     }
 
     /// The next word as a name.

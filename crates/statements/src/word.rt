@@ -1,11 +1,12 @@
 //! What a word says.
 ghost use Rattle.std.specs.Prelude.{◌≡◌, ◌<◌, ◌≤◌, ◌^◌, nat_le, cond, true, Some, None, Ok, Err, IfOk, MatchResult};
 ghost use Rattle.statements.specs.Faults.{IsLineFault};
-ghost use Rattle.statements.specs.Words.{is_digit as digit_test, are_digits as digits_test, value_from, number_of, address_of, name_of};
+ghost use Rattle.statements.specs.Words.{is_digit as digit_test, are_digits as digits_test, value_from, number_of, address_of, name_of, bytes_of, type_of};
 
 use crate::fault::LineKind;
 use dname::{Heap, Name};
-use rdata::Addr;
+use hex::FromHexError;
+use rdata::{Addr, RType};
 use std::net::Ipv4Addr;
 
 /// The number that a word of digits writes, within its limits.
@@ -75,4 +76,22 @@ pub fn name<A: Heap>(alloc: A, word: &str) -> Result<Name<A>, LineKind>
         Ok(name) => Ok(name),
         Err(error) => Err(LineKind::from(error)),
     }
+}
+
+/// The bytes that a word writes, two hexadecimal digits each.
+pub fn bytes<A: Heap>(alloc: A, word: &str) -> Result<Vec<u8, A>, LineKind>
+    ensures { MatchResult result (λ v. bytes_of word.now ≡ Ok v.items) (λ e. IsLineFault e (bytes_of word.now)) }
+{
+    match hex::decode(alloc, word) {
+        Ok(bytes) => Ok(bytes),
+        Err(FromHexError::OutOfMemory) => Err(LineKind::Memory),
+        Err(_) => Err(LineKind::BadHex),
+    }
+}
+
+/// The type that a word names, in letters of either case.
+pub fn rtype(word: &str) -> Result<RType, LineKind>
+    ensures { result ≡ type_of word.now }
+{
+    RType::from_word(word.as_bytes()).ok_or(LineKind::BadType)
 }
