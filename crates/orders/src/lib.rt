@@ -9,3 +9,6 @@ mod script;
 pub use order::Order;
 pub use script::read_script;
 pub use statements::{LineError, LineKind};
+
+#[cfg(test)]
+mod tests;

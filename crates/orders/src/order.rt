@@ -26,7 +26,10 @@ pub enum Order<A: Allocator = Global> {
         recursive: bool,
     },
     /// These bytes from a client.
-    Raw { bytes: Vec<u8, A>, via: Via },
+    Raw {
+        bytes: Vec<u8, A>,
+        via: Via,
+    },
     /// The reply to the send of this number comes.
     Carry(u64),
     /// It comes cut short.
