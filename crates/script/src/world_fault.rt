@@ -1,8 +1,8 @@
 //! Why a world text stands for no world.
-use crate::fault::{LineError, LineKind};
 use dname::Starved;
 use masterfile::{FileError, FileKind};
 use simnet::WorldError;
+use statements::{LineError, LineKind};
 use std::alloc::{AllocError, AllocFailed};
 use std::fmt;
 use zone::ZoneError;
