@@ -2,12 +2,10 @@
 #![tactic(auto)]
 
 mod build;
-mod fault;
-mod line;
 mod world_fault;
 mod world_text;
 
-pub use fault::{LineError, LineKind};
+pub use statements::{LineError, LineKind};
 pub use world_fault::WorldFault;
 pub use world_text::{Block, WorldText, read_world};
 

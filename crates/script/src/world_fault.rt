@@ -1,10 +1,10 @@
 //! Why a world text stands for no world.
-use crate::fault::{LineError, LineKind};
 use dname::Starved;
 use masterfile::{FileError, FileKind};
-use worlds::WorldError;
+use statements::{LineError, LineKind};
 use std::alloc::{AllocError, AllocFailed};
 use std::fmt;
+use worlds::WorldError;
 use zone::ZoneError;
 
 /// Why a world text stands for no world: the first of its lines, its blocks and its rules that is refused.

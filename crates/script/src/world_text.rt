@@ -3,13 +3,12 @@
 //! `zone ORIGIN` and `local ORIGIN` open a block of master file text, up to a line that is exactly `end`.
 //! `host ADDRESS ORIGIN ..` names a server and the zones that it serves, `hint ADDRESS` a server of the root. Outside
 //! of blocks, blank lines and lines that begin with `;` are skipped. Words are parted by spaces and tabs.
-use crate::fault::{LineError, LineKind};
-use crate::line::{BLANKS, LineWords};
 use dname::{Heap, Name};
 use rdata::Addr;
-use worlds::Host;
+use statements::{LineError, LineKind, LineWords};
 use std::alloc::{Allocator, Global};
 use std::marker::Model;
+use worlds::Host;
 
 /// A zone's block in a world text.
 #[derive(Drop)]
@@ -134,10 +133,7 @@ impl<'t, A: Heap> Reader<'t, A> {
 
     // A line outside of blocks.
     fn statement(&mut self, alloc: A, number: u32, line: &'t str) -> Result<(), LineKind> {
-        if line.starts_with(';') {
-            return Ok(());
-        }
-        let mut words = LineWords::new(line);
+        let mut words = LineWords::stated(line);
         match words.next() {
             None => Ok(()),
             Some("zone") => self.open(alloc, number, words, false),
@@ -171,10 +167,8 @@ impl<'t, A: Heap> WorldText<'t, A> {
     fn host(&mut self, alloc: A, mut words: LineWords<'t>) -> Result<(), LineKind> {
         let address = words.address()?;
         let mut origins = Vec::new(alloc);
-        for word in words.rest().split(BLANKS) {
-            if !word.is_empty() {
-                origins.push(Name::from_text(alloc, word)?)?;
-            }
+        while let Some(word) = words.next() {
+            origins.push(Name::from_text(alloc, word)?)?;
         }
         if origins.is_empty() {
             return Err(LineKind::WordCount);

@@ -1,6 +1,7 @@
 //! Why a text of lines is refused.
 ghost use Rattle.std.specs.Prelude.{◌≡◌, Some};
-ghost use Rattle.script.specs.Faults.{kind_number, kind_text, error_text};
+ghost use Rattle.statements.specs.Faults.{line_fault_number, kind_of_name, kind_text, error_text};
+ghost use Rattle.statements.specs.declared.fault.LineKind.TheVariants.{Memory};
 
 use dname::{NameError, Starved};
 use std::alloc::{AllocError, AllocFailed};
@@ -11,10 +12,16 @@ use std::fmt;
 pub enum LineKind {
     /// A first word that opens no such line.
     UnknownWord,
+    /// A number that is none, or out of its limits.
+    BadNumber,
     /// A name that is none.
     BadName,
+    /// A type that is not served.
+    BadType,
     /// A word missing, or words left over.
     WordCount,
+    /// Hexadecimal digits that are none, or not as many as are wanted.
+    BadHex,
     /// A block that no line `end` closes.
     OpenBlock,
     /// An address that is none.
@@ -26,12 +33,15 @@ pub enum LineKind {
 impl LineKind {
     /// The number of the refusal.
     pub fn number(self) -> u8
-        ensures { result ≡ kind_number self }
+        ensures { result ≡ line_fault_number self }
     {
         match self {
             LineKind::UnknownWord => 1,
+            LineKind::BadNumber => 2,
             LineKind::BadName => 3,
+            LineKind::BadType => 4,
             LineKind::WordCount => 5,
+            LineKind::BadHex => 6,
             LineKind::OpenBlock => 7,
             LineKind::BadAddress => 8,
             LineKind::Memory => 9,
@@ -45,8 +55,11 @@ impl fmt::Display for LineKind {
     fn fmt<W: fmt::Write>(&self, f: &mut fmt::Formatter<W>) -> fmt::Result {
         match self {
             LineKind::UnknownWord => write!(f, "a first word that opens no line"),
+            LineKind::BadNumber => write!(f, "a bad number"),
             LineKind::BadName => write!(f, "a bad name"),
+            LineKind::BadType => write!(f, "a type that is not served"),
             LineKind::WordCount => write!(f, "a word missing or left over"),
+            LineKind::BadHex => write!(f, "bad hexadecimal digits"),
             LineKind::OpenBlock => write!(f, "a block without its end"),
             LineKind::BadAddress => write!(f, "a bad address"),
             LineKind::Memory => write!(f, "out of memory"),
@@ -57,24 +70,32 @@ impl fmt::Display for LineKind {
 impl std::error::Error for LineKind {}
 
 impl From<AllocError> for LineKind {
+    ghost from_gives = { λ _ e. e ≡ Memory };
+
     fn from(_error: AllocError) -> LineKind {
         LineKind::Memory
     }
 }
 
 impl<T: Drop> From<AllocFailed<T>> for LineKind {
+    ghost from_gives = { λ _ e. e ≡ Memory };
+
     fn from(_error: AllocFailed<T>) -> LineKind {
         LineKind::Memory
     }
 }
 
 impl From<Starved> for LineKind {
+    ghost from_gives = { λ _ e. e ≡ Memory };
+
     fn from(_error: Starved) -> LineKind {
         LineKind::Memory
     }
 }
 
 impl From<NameError> for LineKind {
+    ghost from_gives = { λ error e. e ≡ kind_of_name error };
+
     fn from(error: NameError) -> LineKind {
         match error {
             NameError::Memory => LineKind::Memory,

@@ -1,0 +1,101 @@
+//! What a server's file says.
+//!
+//! `listen ADDRESS PORT` says where the server listens. `port N` is the port of other servers (53), `hint ADDRESS` a
+//! server of the root, `local ORIGIN FILE` a zone that is served from its file. `cache N`, `delegations N` and
+//! `penalties N` say how many entries are kept of each (1,024), `sockets N` and `workers N` how many upstream sockets
+//! (16) and TCP workers (4) there are, `seed HEX` where identifiers begin. Blank lines and lines that begin with `;`
+//! are skipped. Words are parted by spaces and tabs.
+ghost use Rattle.std.specs.Prelude.{◌≡◌, Ok, Err, MatchResult};
+ghost use Rattle.statements.specs.Texts.{IsTextFault};
+ghost use Rattle.config.specs.Configs.{config_of};
+
+use crate::draft::Draft;
+use dname::{Heap, Name};
+use rdata::Addr;
+use statements::{LineError, TextLines};
+use std::alloc::{Allocator, Global};
+use std::marker::Model;
+
+/// Where a server listens. Port 0 is any that is free.
+#[derive(Drop)]
+pub struct Endpoint {
+    pub address: Addr,
+    pub port: u16,
+}
+
+impl Model for Endpoint {
+    ghost use Rattle.config.specs.Configs.{End};
+
+    ghost Value = { End };
+
+    ghost view = { λ e. record { address = e.address.0; port = e.port } };
+}
+
+/// A zone that the server serves itself.
+#[derive(Drop)]
+pub struct LocalFile<'t, A: Allocator = Global> {
+    pub origin: Name<A>,
+    /// The path of its master file.
+    pub file: &'t str,
+}
+
+impl<'t, A: Allocator> Model for LocalFile<'t, A> {
+    ghost use Rattle.config.specs.Configs.{Zone};
+
+    ghost Value = { Zone };
+
+    ghost view = { λ l. record { origin = l.origin; file = l.file.now } };
+}
+
+/// What a server's file says.
+#[derive(Drop)]
+pub struct ServeConfig<'t, A: Allocator = Global> {
+    pub listen: Endpoint,
+    /// The port of other servers.
+    pub port: u16,
+    pub hints: Vec<Addr, A>,
+    /// The zones that the server serves itself, of different origins.
+    pub locals: Vec<LocalFile<'t, A>, A>,
+    /// How many entries are kept, 1 to 1,000,000 of each.
+    pub cache: u32,
+    pub delegations: u32,
+    pub penalties: u32,
+    /// Upstream sockets, 1 to 16.
+    pub sockets: u32,
+    /// TCP workers, 1 to 16.
+    pub workers: u32,
+    pub seed: Option<[u8; 32]>,
+}
+
+impl<'t, A: Allocator> Model for ServeConfig<'t, A> {
+    ghost use Rattle.std.specs.Prelude.{map};
+    ghost use Rattle.config.specs.Configs.{Config};
+
+    ghost Value = { Config };
+
+    ghost view = { λ c. record { listen = c.listen; port = c.port; hints = map (λ a. a.0) c.hints.items; locals = c.locals.items; cache = c.cache; delegations = c.delegations; penalties = c.penalties; sockets = c.sockets; workers = c.workers; seed = c.seed } };
+}
+
+/// What a server's file says. Refused by its first bad line, counted from 1: a value out of its limits as a bad number,
+/// one that an earlier line stated as a wrong count of words. A file that does not say where to listen is refused so at
+/// the line behind its last.
+pub fn read_config<'t, A: Heap>(alloc: A, text: &'t str) -> Result<ServeConfig<'t, A>, LineError>
+    ensures { MatchResult result (λ c. config_of text.entry.now ≡ Ok c) (λ e. IsTextFault e (config_of text.entry.now)) }
+{
+    let mut draft = Draft::new(alloc);
+    let mut lines = TextLines::new(text);
+    let mut number = 1u32;
+    while let Some(line) = lines.next() {
+        match draft.take(alloc, line) {
+            Ok(()) => {}
+            Err(kind) => {
+                return Err(LineError { line: number, kind });
+            }
+        }
+        number = number.saturating_add(1);
+    }
+    match draft.finish() {
+        Ok(config) => Ok(config),
+        Err(kind) => Err(LineError { line: number, kind }),
+    }
+}

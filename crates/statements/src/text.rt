@@ -1,0 +1,53 @@
+//! The lines of a text.
+ghost use Rattle.std.specs.Prelude.{◌≡◌, ◌∷◌, [], MatchOption};
+ghost use Rattle.statements.specs.Lines.{lines, is_line_end};
+ghost use Rattle.std.specs.List.{before_first, after_first};
+
+use std::marker::Model;
+
+/// The lines of a text that are still to be read. A line's end opens no line behind it.
+#[derive(Drop)]
+pub struct TextLines<'t> {
+    rest: &'t str,
+}
+
+impl<'t> Model for TextLines<'t> {
+    ghost use Rattle.std.specs.Prelude.{ℕ, List};
+    ghost use Rattle.statements.specs.Lines.{lines};
+
+    ghost Value = { List (List ℕ) };
+
+    ghost view = { λ t. lines t.rest.now };
+}
+
+impl<'t> TextLines<'t> {
+    /// The lines of this text.
+    pub fn new(text: &'t str) -> TextLines<'t>
+        ensures { result ≡ lines text.entry.now }
+    {
+        TextLines { rest: text }
+    }
+
+    /// The next line, if there is one.
+    pub fn next(&mut self) -> Option<&'t str>
+        ensures { MatchOption result ((self.old ≡ []) × (self.new ≡ [])) (λ l. self.old ≡ l.now ∷ self.new) }
+    {
+        if self.rest.is_empty() {
+            return None;
+        }
+        let (line, behind) = first_line(self.rest);
+        self.rest = behind;
+        Some(line)
+    }
+}
+
+// What stands before the first end of a line, and what stands behind it.
+fn first_line(text: &str) -> (&str, &str)
+    ensures piece { result.0.now ≡ before_first is_line_end text.now }
+    ensures behind { result.1.now ≡ after_first is_line_end text.now }
+{
+    match text.split_once('\n') {
+        Some(parts) => parts,
+        None => (text, ""),
+    }
+}
