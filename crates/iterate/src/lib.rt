@@ -2,7 +2,7 @@
 //! comes of what they say.
 #![tactic(auto)]
 
-mod advance;
+mod advancing;
 mod asking;
 mod calls;
 mod chain;
@@ -13,7 +13,7 @@ mod serving;
 mod task;
 mod turn;
 
-pub use advance::advance;
+pub use advancing::advance;
 pub use calls::{Input, Next};
 pub use chain::Chain;
 pub use job::Job;
@@ -23,5 +23,3 @@ pub use search::{Search, Searches};
 #[doc(hidden)]
 pub use task::{Task, Turn};
 
-#[cfg(test)]
-mod tests;
