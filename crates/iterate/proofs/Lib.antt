@@ -1,0 +1,2 @@
+pub mod Alive
+pub mod Sought

@@ -22,4 +22,3 @@ pub use job::Job;
 pub use search::{Search, Searches};
 #[doc(hidden)]
 pub use task::{Task, Turn};
-
