@@ -7,6 +7,8 @@ mod asking;
 mod calls;
 mod chain;
 mod chaining;
+mod entering;
+mod heard;
 mod job;
 mod search;
 mod serving;
