@@ -1,6 +1,7 @@
 -- What is found for a name and a type without asking anybody.
 use Rattle.std.specs.Prelude.{◌≡◌, ℕ, Option, Some, None}
 use Rattle.dname.specs.Labels.{Name, IsName}
+use Rattle.zone.specs.Zones.{IsBeneath}
 use Rattle.zone.specs.Look as local
 use Rattle.referral.specs.Cuts.{Cut, IsBest}
 use Rattle.cache.specs.Cached.{Hit, alone, lent, hit_of, moved, IsHeld}
@@ -34,6 +35,12 @@ pub record IsMiss (now : ℕ) (n : Name) (t : ℕ) (old : Stores) (best : Option
 abbrev pub IsKept : {A : Type 0} → ℕ → Name → ℕ → Stores → Kept A → Stores → Type 0
 IsKept now n t old (kept.Hit l) new = IsHit now n t old l new
 IsKept now n t old (kept.Best best) new = IsMiss now n t old best new
+
+-- What is left of the best cut: nothing where it is not beneath the one that the zones at hand name.
+abbrev pub IsDeeper : Name → Option Cut → Option Cut → Type 0
+IsDeeper at None deeper = deeper ≡ None
+IsDeeper at (Some k) None = IsBeneath k.owner at → ⊥
+IsDeeper at (Some k) (Some c) = IsBeneath k.owner at × (c ≡ k)
 
 -- The same where what is kept decides: the link, or where servers are sought first.
 abbrev pub IsBegun : {A : Type 0} → Home → Name → local.Local → Kept A → Found A → Type 0

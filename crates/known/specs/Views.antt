@@ -1,5 +1,5 @@
 -- What the resolver holds and takes, seen as the plain values of the rules.
-use Rattle.std.specs.Prelude.{ℕ, ◌≤◌, List, map}
+use Rattle.std.specs.Prelude.{ℕ, ◌≤◌, List, [], map}
 use Rattle.dname.specs.Labels.{Name}
 use Rattle.rdata.specs.Records.{greatest_ttl}
 use Rattle.rdata.specs.declared.addr.Addr.{Addr}

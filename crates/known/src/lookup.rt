@@ -5,7 +5,7 @@ ghost use Rattle.dname.specs.Labels.{Name as Labels};
 ghost use Rattle.zone.specs.Look.{Cut as Delegated, NotHere};
 ghost use Rattle.resolution.specs.Jobs.{Home as Grounds};
 ghost use Rattle.resolution.specs.Rules.{Begins};
-ghost use Rattle.known.specs.Found.{IsFound, IsKept, IsBegun};
+ghost use Rattle.known.specs.Found.{IsFound, IsKept, IsDeeper, IsBegun};
 ghost use Rattle.known.specs.Uses.{OnlyUses};
 
 use crate::home::Home;
@@ -60,6 +60,23 @@ fn find_kept<S: BuildHasher + Drop, A: Heap>(
     }
 }
 
+// The kept cut, if it is beneath the one that the zones at hand name.
+fn deeper<A: Allocator>(best: Option<Cut<A>>, at: &Name<A>) -> Option<Cut<A>>
+    ensures { IsDeeper at.now best result }
+{
+    match best {
+        Some(cut) => {
+            if is_beneath(&cut.at, at) {
+                Some(cut)
+            } else {
+                drop(cut);
+                None
+            }
+        }
+        None => None,
+    }
+}
+
 // Where servers are sought under the cut that the zones at hand name.
 fn start_under<A: Heap>(
     alloc: A,
@@ -70,9 +87,9 @@ fn start_under<A: Heap>(
 ) -> Result<Cut<A>, Starved>
     ensures { (home : Grounds) (n : Labels) → IfOk result (Begins home n (Delegated at servers.now glue.now) best) }
 {
-    match best {
-        Some(cut) if is_beneath(&cut.at, &at) => Ok(cut),
-        _ => Ok(cut_of(alloc, at, servers, glue)?),
+    match deeper(best, &at) {
+        Some(cut) => Ok(cut),
+        None => Ok(cut_of(alloc, at, servers, glue)?),
     }
 }
 
