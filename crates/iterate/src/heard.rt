@@ -153,7 +153,14 @@ fn hear_for<S: BuildHasher + Drop, A: Heap>(
     ensures by { IfOk result (λ t. ByClass now server search (job.old).searches (class_of search.frame.zone search.name search.kind via message.now) (with_search job.old search) stores.old (point (task_view t) job.new stores.new)) }
     ensures stops { (before : Remembered) → stores.old ≡ with_answer before server → OnErr result (Stops (Told via server message.now) now (with_search job.old search) before stores.new) }
 {
-    let class = classify(alloc, search.frame().zone(), search.name(), search.kind(), via, message);
+    let class = classify(
+        alloc,
+        search.frame().zone(),
+        search.name(),
+        search.kind(),
+        via,
+        message,
+    );
     match class {
         Err(starved) => {
             drop(search);

@@ -2,7 +2,6 @@
 //! comes of what they say.
 #![tactic(auto)]
 
-mod advance;
 mod asking;
 mod calls;
 mod chain;
@@ -10,15 +9,16 @@ mod chaining;
 mod entering;
 mod heard;
 mod job;
+mod running;
 mod search;
 mod serving;
 mod task;
 mod turn;
 
-pub use advance::advance;
 pub use calls::{Input, Next};
 pub use chain::Chain;
 pub use job::Job;
+pub use running::advance;
 // A crate can name a job in a contract only if the types of its fields are exported.
 #[doc(hidden)]
 pub use search::{Search, Searches};

@@ -13,6 +13,7 @@ use wire::{Header, Message, Questions, Via};
 
 // The servers of the root, of the zone example, and of nothing more; each in 192.0.2.0/24.
 const ROOT: u8 = 1;
+
 const EXAMPLE: u8 = 2;
 
 // Data of a record; an address stands in 192.0.2.0/24.
@@ -152,10 +153,12 @@ struct Asked<A: Heap> {
 fn address_of<A: Heap>(link: &Link<A>) -> Out {
     match link {
         Link::Found(set) => match set.as_slice() {
-            [Record {
-                value: RData::A(address),
-                ..
-            }] => Out::Address(address.0[3]),
+            [
+                Record {
+                    value: RData::A(address),
+                    ..
+                },
+            ] => Out::Address(address.0[3]),
             _ => Out::Other,
         },
         _ => Out::Other,
@@ -273,8 +276,14 @@ fn a_query_fails_when_no_server_is_left(rt: HostRuntime) -> Result<(), Fail> {
     let server = Addr([192, 0, 2, ROOT]);
     let mut asked = Asked::new(rt.alloc(), "www.example")?;
     assert_eq!(rt; asked.advance(Input::Start, 0)?, Out::Ask(ROOT));
-    assert_eq!(rt; asked.advance(Input::TimedOut(server), 1_000)?, Out::Ask(ROOT));
-    assert_eq!(rt; asked.advance(Input::TimedOut(server), 3_000)?, Out::Failed(5));
+    assert_eq!(rt;
+        asked.advance(Input::TimedOut(server), 1_000)?,
+        Out::Ask(ROOT)
+    );
+    assert_eq!(rt;
+        asked.advance(Input::TimedOut(server), 3_000)?,
+        Out::Failed(5)
+    );
     Ok(())
 }
 
