@@ -2,6 +2,7 @@
 //! comes of what they say.
 #![tactic(auto)]
 
+mod advancing;
 mod asking;
 mod calls;
 mod chain;
@@ -9,16 +10,15 @@ mod chaining;
 mod entering;
 mod heard;
 mod job;
-mod running;
 mod search;
 mod serving;
 mod task;
 mod turn;
 
+pub use advancing::advance;
 pub use calls::{Input, Next};
 pub use chain::Chain;
 pub use job::Job;
-pub use running::advance;
 // A crate can name a job in a contract only if the types of its fields are exported.
 #[doc(hidden)]
 pub use search::{Search, Searches};

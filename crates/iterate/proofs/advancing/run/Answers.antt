@@ -3,7 +3,7 @@ use Rattle.known.proofs.Uses.{uses_then}
 use Rattle.iterate.specs.Views.{task_view}
 use Rattle.iterate.proofs.Accepted.{on_err}
 use Rattle.iterate.proofs.Turns.{running_on, running_falls}
-use Rattle.iterate.proofs.running.run.Goals as goal
+use Rattle.iterate.proofs.advancing.run.Goals as goal
 
 pub returns-in_err-onward-clause-only : goal.returns-in_err-onward-clause-only
 returns-in_err-onward-clause-only g c =

@@ -4,7 +4,7 @@ use Rattle.resolution.proofs.Keeping.{enters_stop}
 use Rattle.known.proofs.Uses.{uses_stop}
 use Rattle.iterate.specs.Views.{input_view, task_view}
 use Rattle.iterate.proofs.Accepted.{on_err}
-use Rattle.iterate.proofs.running.advance.Goals as goal
+use Rattle.iterate.proofs.advancing.advance.Goals as goal
 
 pub run-requires : goal.run-requires
 run-requires g c =
