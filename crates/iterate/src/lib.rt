@@ -25,5 +25,6 @@ pub use search::{Search, Searches};
 #[doc(hidden)]
 pub use task::{Task, Turn};
 
+
 #[cfg(test)]
 mod tests;
