@@ -7,6 +7,8 @@ mod asking;
 mod calls;
 mod chain;
 mod chaining;
+mod entering;
+mod heard;
 mod job;
 mod search;
 mod serving;
@@ -22,3 +24,6 @@ pub use job::Job;
 pub use search::{Search, Searches};
 #[doc(hidden)]
 pub use task::{Task, Turn};
+
+#[cfg(test)]
+mod tests;
