@@ -11,6 +11,8 @@ use std::num::NonZeroUsize;
 use std::test::Fail;
 use wire::{Header, Message, Questions, Via};
 
+mod limits;
+
 // The servers of the root, of the zone example, and of nothing more; each in 192.0.2.0/24.
 const ROOT: u8 = 1;
 
