@@ -25,6 +25,5 @@ pub use search::{Search, Searches};
 #[doc(hidden)]
 pub use task::{Task, Turn};
 
-
 #[cfg(test)]
 mod tests;
