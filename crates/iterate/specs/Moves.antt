@@ -1,7 +1,10 @@
 -- One move of a job at work: a rule, or what goes out where none applies.
 use Rattle.std.specs.Prelude.{◌≡◌, ℕ, Bool, true, false, List, [], ◌∷◌, ◌++◌}
 use Rattle.dname.specs.Labels.{Name}
-use Rattle.resolution.specs.Jobs.{Home, Stores, Taken, AreFresh, IsDead, Search, Job, Next, Task, Point, point}
+use Rattle.rdata.specs.Records.{Record}
+use Rattle.rdata.specs.declared.addr.Addr.{Addr}
+use Rattle.frames.specs.Frames.{after_add, fresh_addresses}
+use Rattle.resolution.specs.Jobs.{Home, Stores, level_of, Taken, AreFresh, IsDead, AreAddressesOf, Search, with_frame, Job, Next, Task, Point, point}
 use Rattle.resolution.specs.Rules.{Rule, Leaves}
 
 -- The work goes on with a task, or something goes out.
@@ -19,6 +22,11 @@ with_search j s = record j { searches = s ∷ j.searches }
 
 abbrev pub begun : Job → Search → Job
 begun j s = record j { searches = s ∷ [] }
+
+-- A search with the addresses of a set: those that are not known yet are asked next.
+abbrev pub IsAdded : Stores → List Record → Search → Search → Type 0
+IsAdded stores set before after =
+    (found : List Addr) × AreAddressesOf set found × (after ≡ with_frame before (after_add (level_of stores) before.frame (fresh_addresses before.frame found)))
 
 -- A job with one alias more, which leads to a name.
 abbrev pub followed : Job → Taken → Name → Job

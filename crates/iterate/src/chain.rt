@@ -68,7 +68,7 @@ impl<A: Allocator> Chain<A> {
         ensures { MatchOption result (AreFresh now self.old × (self.new ≡ self.old)) (λ d. IsCutAt now self.old d self.new) }
     {
         let place = first_dead(&self.links, now)?;
-        let dead = self.links.swap_remove(place);
+        let dead = self.links.remove(place);
         self.links.truncate(place);
         Some(dead)
     }

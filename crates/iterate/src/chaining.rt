@@ -1,6 +1,6 @@
 //! Links that are used for the query's name: aliases are followed, and what ends them is the answer (RFC 1034,
 //! sections 3.6.2 and 5.3.3, step 4).
-ghost use Rattle.std.specs.Prelude.{◌≡◌, ◌<◌, ◌≤◌, false, IfOk, MatchOption};
+ghost use Rattle.std.specs.Prelude.{◌≡◌, ℕ, false, IfOk, MatchOption};
 ghost use Rattle.rdata.specs.Records.{Record as Listed};
 ghost use Rattle.zone.specs.Links.{Alias};
 ghost use Rattle.front.specs.Chains.{target_of};

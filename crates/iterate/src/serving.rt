@@ -1,14 +1,13 @@
 //! Servers of the innermost search: the next of its plan, and where all were asked, addresses of those that
 //! are known by name alone (RFC 1034, section 5.3.3, steps 2 and 3).
 ghost use Rattle.std.specs.Prelude.{◌≡◌, ◌+◌, ◌<◌, ℕ, List, Some, None, ◌∷◌, IfOk, OnOk};
-ghost use Rattle.rdata.specs.declared.addr.Addr.{Addr as Address};
 ghost use Rattle.retry.specs.Plans.{upcoming};
 ghost use Rattle.zone.specs.Zones.{a_type};
-ghost use Rattle.frames.specs.Frames.{FailedName, next_name, after_add, fresh_addresses, opened};
-ghost use Rattle.resolution.specs.Jobs.{Home as Grounds, Stores as Learnt, Search as Sought, Go as Going, point, level_of, search_at, with_frame, AreAddressesOf};
+ghost use Rattle.frames.specs.Frames.{FailedName, next_name, opened};
+ghost use Rattle.resolution.specs.Jobs.{Home as Grounds, Stores as Learnt, Search as Sought, Go as Going, point, level_of, search_at};
 ghost use Rattle.resolution.specs.Rules.{Rule, HearsOf, turned};
 ghost use Rattle.known.specs.Uses.{OnlyUses};
-ghost use Rattle.iterate.specs.Moves.{IsMove, with_search};
+ghost use Rattle.iterate.specs.Moves.{IsMove, IsAdded, with_search};
 ghost use Rattle.iterate.specs.Views.{turn_view};
 
 use crate::asking::ask;
@@ -29,31 +28,53 @@ fn add_set<S: BuildHasher + Drop, A: Heap>(
     set: &[Record<A>],
     stores: &Stores<S, A>,
 ) -> Result<(), Starved>
-    ensures { OnOk result ((found : List Address) × AreAddressesOf set.now found × (search.new ≡ with_frame search.old (after_add (level_of stores.now) (search.old).frame (fresh_addresses (search.old).frame found)))) }
+    ensures { OnOk result (IsAdded stores.now set.now search.old search.new) }
 {
     let found = found_addresses(search.name().allocator(), set)?;
     search.add(&found, stores)?;
     Ok(())
 }
 
+// A search goes on with the addresses of a set.
+fn go_on_with<S: BuildHasher + Drop, A: Heap>(
+    job: &mut Job<A>,
+    mut search: Search<A>,
+    set: &[Record<A>],
+    stores: &Stores<S, A>,
+) -> Result<(), Starved>
+    ensures { OnOk result ((after : Sought) × IsAdded stores.now set.now search after × (job.new ≡ with_search job.old after)) }
+{
+    match add_set(&mut search, set, stores) {
+        Err(starved) => {
+            drop(search);
+            Err(starved)
+        }
+        Ok(()) => {
+            job.push(search)?;
+            Ok(())
+        }
+    }
+}
+
 /// What is found for a server's name: addresses, or that it has none, which is noted for this query.
 pub(crate) fn hear_of<S: BuildHasher + Drop, A: Heap>(
     job: &mut Job<A>,
-    mut search: Search<A>,
+    search: Search<A>,
     link: &Taken<A>,
     stores: &Stores<S, A>,
 ) -> Result<(), Starved>
     ensures { OnOk result ((after : Sought) × (marks : List FailedName) × HearsOf stores.now link.now.name link.now.link search (job.old).failed after marks × (job.new ≡ record job.old { searches = after ∷ (job.old).searches; failed = marks })) }
 {
-    let heard = match link.link() {
-        Link::Found(set) => add_set(&mut search, set.as_slice(), stores),
-        Link::Alias(_) | Link::NoData(_) | Link::NxDomain(_) => job.mark(link.name(), 0),
-    };
-    match heard {
-        Ok(()) => Ok(job.push(search)?),
-        Err(starved) => {
-            drop(search);
-            Err(starved)
+    match link.link() {
+        Link::Found(set) => {
+            go_on_with(job, search, set.as_slice(), stores)?;
+            Ok(())
+        }
+        Link::Alias(_) | Link::NoData(_) | Link::NxDomain(_) => {
+            let marked = job.mark(link.name(), 0);
+            job.push(search)?;
+            marked?;
+            Ok(())
         }
     }
 }
@@ -101,12 +122,14 @@ fn look_for<S: BuildHasher + Drop, A: Heap>(
             drop(name);
             let heard = hear_of(job, search, &link, stores);
             drop(link);
-            heard
+            heard?;
+            Ok(())
         }
         Ok(Found::Start(cut)) => {
             let sought = descend(alloc, job, search, name, &cut, stores);
             drop(cut);
-            sought
+            sought?;
+            Ok(())
         }
     }
 }
