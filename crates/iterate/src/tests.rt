@@ -13,7 +13,7 @@ use wire::{Header, Message, Questions, Via};
 
 mod limits;
 
-// The servers of the root, of the zone example, and of nothing more; each in 192.0.2.0/24.
+// A server of the root, and one of the zone example; both in 192.0.2.0/24.
 const ROOT: u8 = 1;
 
 const EXAMPLE: u8 = 2;
@@ -47,19 +47,19 @@ fn name<A: Heap>(alloc: A, text: &str) -> Result<Name<A>, Starved> {
 }
 
 fn data<A: Heap>(alloc: A, value: Value) -> Result<RData<A>, Starved> {
-    Ok(match value {
-        Value::A(last) => RData::A(Addr([192, 0, 2, last])),
-        Value::Ns(target) => RData::Ns(name(alloc, target)?),
-        Value::Cname(target) => RData::Cname(name(alloc, target)?),
-    })
+    match value {
+        Value::A(last) => Ok(RData::A(Addr([192, 0, 2, last]))),
+        Value::Ns(target) => Ok(RData::Ns(name(alloc, target)?)),
+        Value::Cname(target) => Ok(RData::Cname(name(alloc, target)?)),
+    }
 }
 
-fn record<A: Heap>(alloc: A, line: Line, ttl: u32) -> Result<Record<A>, Starved> {
-    let (owner, value) = line;
+fn record<A: Heap>(alloc: A, line: Line, ttl: u16) -> Result<Record<A>, Starved> {
+    let owner = name(alloc, line.0)?;
     Ok(Record {
-        owner: name(alloc, owner)?,
-        ttl: ttl.min(2_147_483_647),
-        value: data(alloc, value)?,
+        owner,
+        ttl: u32::from(ttl),
+        value: data(alloc, line.1)?,
     })
 }
 
@@ -85,47 +85,34 @@ fn header(aa: bool, tc: bool) -> Header {
     }
 }
 
-// An answer with authority.
-fn answer<A: Heap>(alloc: A, lines: &[Line]) -> Result<Message<A>, Starved> {
-    Ok(Message {
-        header: header(true, false),
-        questions: Questions::new(alloc),
-        answer: records(alloc, lines)?,
-        authority: Records::new(alloc),
-        additional: Records::new(alloc),
-    })
-}
-
-// A referral to the zone of this server.
-fn referral<A: Heap>(alloc: A, server: Line, glue: &[Line]) -> Result<Message<A>, Starved> {
-    Ok(Message {
-        header: header(false, false),
-        questions: Questions::new(alloc),
-        answer: Records::new(alloc),
-        authority: records(alloc, &[server])?,
-        additional: records(alloc, glue)?,
-    })
-}
-
-fn cut_short<A: Heap>(alloc: A) -> Message<A> {
+// A message with these records for an answer.
+fn answer<A: Heap>(alloc: A, header: Header, answer: Records<A>) -> Message<A> {
     Message {
-        header: header(true, true),
+        header,
         questions: Questions::new(alloc),
-        answer: Records::new(alloc),
+        answer,
         authority: Records::new(alloc),
         additional: Records::new(alloc),
     }
 }
 
-fn room(entries: usize) -> Result<NonZeroUsize, Starved> {
-    NonZeroUsize::new(entries).ok_or(Starved)
+fn referral<A: Heap>(alloc: A, server: Line, glue: &[Line]) -> Result<Message<A>, Starved> {
+    let authority = records(alloc, &[server])?;
+    Ok(Message {
+        header: header(false, false),
+        questions: Questions::new(alloc),
+        answer: Records::new(alloc),
+        authority,
+        additional: records(alloc, glue)?,
+    })
 }
 
 fn stores<A: Heap>(alloc: A) -> Result<Stores<DefaultHasher, A>, Starved> {
+    let room = NonZeroUsize::new(9).ok_or(Starved)?;
     let capacities = Capacities {
-        links: room(9)?,
-        cuts: room(9)?,
-        servers: room(9)?,
+        links: room,
+        cuts: room,
+        servers: room,
     };
     let hashers = Hashers {
         links: BuildHasherDefault::new(),
@@ -143,6 +130,32 @@ fn home<A: Heap>(alloc: A) -> Result<Home<A>, Starved> {
     }
 }
 
+fn address_in<A: Heap>(value: &RData<A>) -> Out {
+    match value {
+        RData::A(address) => Out::Address(address.0[3]),
+        _ => Out::Other,
+    }
+}
+
+fn address_of<A: Heap>(link: &Link<A>) -> Out {
+    match link {
+        Link::Found(set) => match set.as_slice() {
+            [only] => address_in(&only.value),
+            _ => Out::Other,
+        },
+        _ => Out::Other,
+    }
+}
+
+fn short<A: Heap>(next: &Next<A>) -> Out {
+    match next {
+        Next::Ask(server, _, _) => Out::Ask(server.0[3]),
+        Next::AskTcp(server, _, _) => Out::AskTcp(server.0[3]),
+        Next::Done(_, link) => address_of(link.link()),
+        Next::Fail(cause) => Out::Failed(cause.number()),
+    }
+}
+
 // A resolver, and the query for the addresses of one name.
 #[derive(Drop)]
 struct Asked<A: Heap> {
@@ -152,52 +165,21 @@ struct Asked<A: Heap> {
     job: Job<A>,
 }
 
-fn address_of<A: Heap>(link: &Link<A>) -> Out {
-    match link {
-        Link::Found(set) => match set.as_slice() {
-            [
-                Record {
-                    value: RData::A(address),
-                    ..
-                },
-            ] => Out::Address(address.0[3]),
-            _ => Out::Other,
-        },
-        _ => Out::Other,
-    }
-}
-
 impl<A: Heap> Asked<A> {
     fn new(alloc: A, text: &str) -> Result<Asked<A>, Starved> {
+        let home = home(alloc)?;
+        let stores = stores(alloc)?;
+        let job = Job::new(name(alloc, text)?, RType::A, 0);
         Ok(Asked {
             alloc,
-            home: home(alloc)?,
-            stores: stores(alloc)?,
-            job: Job::new(name(alloc, text)?, RType::A, 0),
+            home,
+            stores,
+            job,
         })
     }
 
-    // Another query of the same resolver.
-    fn ask(&mut self, text: &str, now: u32) -> Result<(), Starved> {
-        self.job = Job::new(name(self.alloc, text)?, RType::A, u64::from(now));
-        Ok(())
-    }
-
-    fn keep(&mut self, line: Line, ttl: u32) -> Result<(), Starved> {
-        let owner = name(self.alloc, line.0)?;
-        let kept = record(self.alloc, line, ttl)?;
-        let link = match line.1 {
-            Value::Cname(_) => Link::Alias(kept),
-            _ => {
-                let mut set = Records::new(self.alloc);
-                set.push(kept)?;
-                Link::Found(set)
-            }
-        };
-        self.stores.keep_link(&owner, RType::A, &link, 0)
-    }
-
-    fn advance(&mut self, input: Input<A>, now: u64) -> Result<Out, Starved> {
+    fn advance(&mut self, input: Input<A>, now: u32) -> Result<Out, Starved> {
+        let now = u64::from(now);
         let next = advance(
             self.alloc,
             &mut self.job,
@@ -206,78 +188,107 @@ impl<A: Heap> Asked<A> {
             &mut self.stores,
             now,
         )?;
-        Ok(match next {
-            Next::Ask(server, _, _) => Out::Ask(server.0[3]),
-            Next::AskTcp(server, _, _) => Out::AskTcp(server.0[3]),
-            Next::Done(_, link) => address_of(link.link()),
-            Next::Fail(cause) => Out::Failed(cause.number()),
-        })
+        let out = short(&next);
+        drop(next);
+        Ok(out)
     }
 
-    fn told(&mut self, server: u8, message: Message<A>) -> Result<Out, Starved> {
+    // The query begins.
+    fn start(&mut self) -> Result<Out, Starved> {
+        self.advance(Input::Start, 0)
+    }
+
+    // Another query of the same resolver.
+    fn start_at(&mut self, text: &str, now: u32) -> Result<Out, Starved> {
+        self.job = Job::new(name(self.alloc, text)?, RType::A, u64::from(now));
+        self.advance(Input::Start, now)
+    }
+
+    // A server says this.
+    fn told(&mut self, server: u8, line: Line, now: u32) -> Result<Out, Starved> {
+        let said = records(self.alloc, &[line])?;
+        let reply = answer(self.alloc, header(true, false), said);
         let server = Addr([192, 0, 2, server]);
-        self.advance(Input::Told(Via::Udp, server, message), 0)
+        self.advance(Input::Told(Via::Udp, server, reply), now)
+    }
+
+    // The server of the root cuts its reply short.
+    fn told_cut(&mut self) -> Result<Out, Starved> {
+        let reply = answer(self.alloc, header(true, true), Records::new(self.alloc));
+        self.advance(Input::Told(Via::Udp, Addr([192, 0, 2, ROOT]), reply), 0)
+    }
+
+    // The server of the root refers to the zone example.
+    fn referred(&mut self, server: &'static str, glue: &[Line]) -> Result<Out, Starved> {
+        let reply = referral(self.alloc, ("example", Value::Ns(server)), glue)?;
+        self.advance(Input::Told(Via::Udp, Addr([192, 0, 2, ROOT]), reply), 0)
+    }
+
+    // This alias is in the cache, for so many seconds.
+    fn keep(&mut self, alias: Line, ttl: u16) -> Result<(), Starved> {
+        let name = name(self.alloc, alias.0)?;
+        let link = Link::Alias(record(self.alloc, alias, ttl)?);
+        let kept = self.stores.keep_link(&name, RType::A, &link, 0);
+        drop(link);
+        kept
+    }
+
+    // Whether this name is sought now.
+    fn seeks(&self, text: &str) -> Result<bool, Starved> {
+        let sought = name(self.alloc, text)?;
+        Ok(*self.job.name() == sought)
     }
 }
 
+// It is kept too: another query begins there.
 #[test]
 fn a_referral_is_followed_in_its_step(rt: HostRuntime) -> Result<(), Fail> {
-    let alloc = rt.alloc();
-    let mut asked = Asked::new(alloc, "www.example")?;
-    assert_eq!(rt; asked.advance(Input::Start, 0)?, Out::Ask(ROOT));
-    let server = ("example", Value::Ns("ns.example"));
-    let reply = referral(alloc, server, &[("ns.example", Value::A(EXAMPLE))])?;
-    assert_eq!(rt; asked.told(ROOT, reply)?, Out::Ask(EXAMPLE));
-    // It is kept: another query begins there.
-    asked.ask("other.example", 0)?;
-    assert_eq!(rt; asked.advance(Input::Start, 0)?, Out::Ask(EXAMPLE));
+    let mut asked = Asked::new(rt.alloc(), "www.example")?;
+    assert_eq!(rt; asked.start()?, Out::Ask(ROOT));
+    let glue = [("ns.example", Value::A(EXAMPLE))];
+    assert_eq!(rt; asked.referred("ns.example", &glue)?, Out::Ask(EXAMPLE));
+    assert_eq!(rt; asked.start_at("other.example", 0)?, Out::Ask(EXAMPLE));
     Ok(())
 }
 
 #[test]
-fn an_answer_is_used_and_kept(rt: HostRuntime) -> Result<(), Fail> {
-    let alloc = rt.alloc();
-    let mut asked = Asked::new(alloc, "www.example")?;
-    assert_eq!(rt; asked.advance(Input::Start, 0)?, Out::Ask(ROOT));
-    let reply = answer(alloc, &[("www.example", Value::A(9))])?;
-    assert_eq!(rt; asked.told(ROOT, reply)?, Out::Address(9));
-    asked.ask("www.example", 299_999)?;
-    assert_eq!(rt; asked.advance(Input::Start, 299_999)?, Out::Address(9));
-    asked.ask("www.example", 300_000)?;
-    assert_eq!(rt; asked.advance(Input::Start, 300_000)?, Out::Ask(ROOT));
+fn an_answer_is_used_and_kept_while_it_lives(rt: HostRuntime) -> Result<(), Fail> {
+    let line = ("www.example", Value::A(9));
+    let mut asked = Asked::new(rt.alloc(), "www.example")?;
+    assert_eq!(rt; asked.start()?, Out::Ask(ROOT));
+    assert_eq!(rt; asked.told(ROOT, line, 0)?, Out::Address(9));
+    assert_eq!(rt; asked.start_at("www.example", 299_999)?, Out::Address(9));
+    assert_eq!(rt; asked.start_at("www.example", 300_000)?, Out::Ask(ROOT));
     Ok(())
 }
 
 #[test]
-fn a_reply_that_was_cut_short_is_asked_for_over_tcp(rt: HostRuntime) -> Result<(), Fail> {
-    let alloc = rt.alloc();
-    let mut asked = Asked::new(alloc, "www.example")?;
-    assert_eq!(rt; asked.advance(Input::Start, 0)?, Out::Ask(ROOT));
-    assert_eq!(rt; asked.told(ROOT, cut_short(alloc))?, Out::AskTcp(ROOT));
+fn a_reply_cut_short_is_asked_for_over_tcp(rt: HostRuntime) -> Result<(), Fail> {
+    let mut asked = Asked::new(rt.alloc(), "www.example")?;
+    assert_eq!(rt; asked.start()?, Out::Ask(ROOT));
+    assert_eq!(rt; asked.told_cut()?, Out::AskTcp(ROOT));
     Ok(())
 }
 
 // The alias is used at once, and has run out when the answer for its target comes.
 #[test]
 fn an_alias_that_ran_out_is_sought_again(rt: HostRuntime) -> Result<(), Fail> {
-    let alloc = rt.alloc();
-    let mut asked = Asked::new(alloc, "www.example")?;
+    let line = ("web.test", Value::A(9));
+    let mut asked = Asked::new(rt.alloc(), "www.example")?;
     asked.keep(("www.example", Value::Cname("web.test")), 1)?;
-    assert_eq!(rt; asked.advance(Input::Start, 0)?, Out::Ask(ROOT));
-    assert!(rt; *asked.job.name() == name(alloc, "web.test")?);
-    let reply = answer(alloc, &[("web.test", Value::A(9))])?;
-    let told = Input::Told(Via::Udp, Addr([192, 0, 2, ROOT]), reply);
-    assert_eq!(rt; asked.advance(told, 1_000)?, Out::Ask(ROOT));
-    assert!(rt; *asked.job.name() == name(alloc, "www.example")?);
+    assert_eq!(rt; asked.start()?, Out::Ask(ROOT));
+    assert!(rt; asked.seeks("web.test")?);
+    assert_eq!(rt; asked.told(ROOT, line, 1_000)?, Out::Ask(ROOT));
+    assert!(rt; asked.seeks("www.example")?);
     Ok(())
 }
 
-// Each server is asked twice (RFC 1035, section 7.2), and there is one.
+// Each server is asked in two rounds, and there is one.
 #[test]
 fn a_query_fails_when_no_server_is_left(rt: HostRuntime) -> Result<(), Fail> {
     let server = Addr([192, 0, 2, ROOT]);
     let mut asked = Asked::new(rt.alloc(), "www.example")?;
-    assert_eq!(rt; asked.advance(Input::Start, 0)?, Out::Ask(ROOT));
+    assert_eq!(rt; asked.start()?, Out::Ask(ROOT));
     assert_eq!(rt;
         asked.advance(Input::TimedOut(server), 1_000)?,
         Out::Ask(ROOT)
@@ -289,47 +300,48 @@ fn a_query_fails_when_no_server_is_left(rt: HostRuntime) -> Result<(), Fail> {
     Ok(())
 }
 
-// A referral without glue, so that its server's address is sought; an alias out of the zone, and its target.
-fn play<A: Heap>(alloc: A) -> Result<bool, Starved> {
+// A referral without glue, so that its server's address is sought; then an alias out of the zone, and its
+// target.
+fn play<A: Heap>(asked: &mut Asked<A>) -> Result<Out, Starved> {
+    let _start = asked.start()?;
+    let _nested = asked.referred("ns.test", &[])?;
+    let _back = asked.told(ROOT, ("ns.test", Value::A(EXAMPLE)), 0)?;
+    let _onward = asked.told(EXAMPLE, ("www.example", Value::Cname("web.test")), 0)?;
+    asked.told(ROOT, ("web.test", Value::A(9)), 0)
+}
+
+fn played<A: Heap>(alloc: A) -> Result<Out, Starved> {
     let mut asked = Asked::new(alloc, "www.example")?;
-    let start = asked.advance(Input::Start, 0)?;
-    let reply = referral(alloc, ("example", Value::Ns("ns.test")), &[])?;
-    let nested = asked.told(ROOT, reply)?;
-    let reply = answer(alloc, &[("ns.test", Value::A(EXAMPLE))])?;
-    let back = asked.told(ROOT, reply)?;
-    let reply = answer(alloc, &[("www.example", Value::Cname("web.test"))])?;
-    let onward = asked.told(EXAMPLE, reply)?;
-    let reply = answer(alloc, &[("web.test", Value::A(9))])?;
-    let end = asked.told(ROOT, reply)?;
-    let asks = start == Out::Ask(ROOT)
-        && nested == Out::Ask(ROOT)
-        && back == Out::Ask(EXAMPLE)
-        && onward == Out::Ask(ROOT);
-    Ok(asks && end == Out::Address(9))
+    play(&mut asked)
 }
 
 #[test]
 fn each_growth_of_a_query_is_refused_in_turn(rt: HostRuntime) -> Result<(), Fail> {
     let heap = Refusing::new(rt.alloc());
-    assert!(rt; play(&heap)?);
+    assert_eq!(rt; played(&heap)?, Out::Address(9));
     let growths = heap.growths();
     assert!(rt; growths > 50);
     for n in 0..growths {
         heap.refuse_after(n);
-        assert!(rt; play(&heap).is_err(), "growth {n}");
-        assert!(rt; play(&heap)?, "after growth {n}");
+        assert!(rt; played(&heap).is_err(), "growth {n}");
+        assert_eq!(rt; played(&heap)?, Out::Address(9), "after growth {n}");
     }
     Ok(())
 }
 
-// A cached answer of one address.
+// A cached answer of one address, from the start to the end of its query.
 #[test]
 fn a_cached_answer_takes_few_growths(rt: HostRuntime) -> Result<(), Fail> {
     let heap = Refusing::new(rt.alloc());
     let mut asked = Asked::new(&heap, "www.example")?;
-    asked.keep(("www.example", Value::A(9)), 300)?;
+    assert_eq!(rt; asked.start()?, Out::Ask(ROOT));
+    assert_eq!(rt;
+        asked.told(ROOT, ("www.example", Value::A(9)), 0)?,
+        Out::Address(9)
+    );
+    asked.job = Job::new(name(&heap, "www.example")?, RType::A, 0);
     let before = heap.growths();
-    assert_eq!(rt; asked.advance(Input::Start, 0)?, Out::Address(9));
+    assert_eq!(rt; asked.start()?, Out::Address(9));
     assert!(rt; heap.growths().saturating_sub(before) <= 5);
     Ok(())
 }

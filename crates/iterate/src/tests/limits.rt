@@ -20,22 +20,19 @@ fn eight_aliases_are_followed_and_nine_are_not(rt: HostRuntime) -> Result<(), Fa
     for alias in ALIASES {
         asked.keep(alias, 300)?;
     }
-    assert_eq!(rt; asked.advance(Input::Start, 0)?, Out::Ask(ROOT));
-    asked.ask("a.test", 0)?;
-    assert_eq!(rt; asked.advance(Input::Start, 0)?, Out::Failed(3));
+    assert_eq!(rt; asked.start()?, Out::Ask(ROOT));
+    assert_eq!(rt; asked.start_at("a.test", 0)?, Out::Failed(3));
     Ok(())
 }
 
 #[test]
 fn forty_asks_are_sent_and_no_more(rt: HostRuntime) -> Result<(), Fail> {
-    let alloc = rt.alloc();
-    let mut asked = Asked::new(alloc, "www.example")?;
-    assert_eq!(rt; asked.advance(Input::Start, 0)?, Out::Ask(ROOT));
+    let mut asked = Asked::new(rt.alloc(), "www.example")?;
+    assert_eq!(rt; asked.start()?, Out::Ask(ROOT));
     for sent in 1..40u8 {
-        let out = asked.told(ROOT, cut_short(alloc))?;
-        assert_eq!(rt; out, Out::AskTcp(ROOT), "after {sent}");
+        assert_eq!(rt; asked.told_cut()?, Out::AskTcp(ROOT), "after {sent}");
     }
-    assert_eq!(rt; asked.told(ROOT, cut_short(alloc))?, Out::Failed(4));
+    assert_eq!(rt; asked.told_cut()?, Out::Failed(4));
     Ok(())
 }
 
@@ -43,10 +40,9 @@ fn forty_asks_are_sent_and_no_more(rt: HostRuntime) -> Result<(), Fail> {
 fn nothing_is_sent_from_the_deadline_on(rt: HostRuntime) -> Result<(), Fail> {
     let server = Addr([192, 0, 2, ROOT]);
     let mut asked = Asked::new(rt.alloc(), "www.example")?;
-    assert_eq!(rt; asked.advance(Input::Start, 0)?, Out::Ask(ROOT));
-    let late = asked.advance(Input::TimedOut(server), 9_999)?;
-    assert_eq!(rt; late, Out::Ask(ROOT));
-    asked.ask("other.example", 5)?;
+    assert_eq!(rt; asked.start()?, Out::Ask(ROOT));
+    assert_eq!(rt; asked.advance(Input::TimedOut(server), 9_999)?, Out::Ask(ROOT));
+    asked.job = Job::new(name(rt.alloc(), "other.example")?, RType::A, 5);
     assert_eq!(rt; asked.advance(Input::Start, 10_005)?, Out::Failed(2));
     Ok(())
 }
@@ -71,8 +67,7 @@ fn addresses_are_sought_three_deep_and_no_deeper(rt: HostRuntime) -> Result<(), 
     delegate(&mut asked, ("d", Value::Ns("ns.e")), &[])?;
     let glue = [("ns.e", Value::A(EXAMPLE))];
     delegate(&mut asked, ("e", Value::Ns("ns.e")), &glue)?;
-    assert_eq!(rt; asked.advance(Input::Start, 0)?, Out::Ask(EXAMPLE));
-    asked.ask("www.a", 0)?;
-    assert_eq!(rt; asked.advance(Input::Start, 0)?, Out::Failed(5));
+    assert_eq!(rt; asked.start()?, Out::Ask(EXAMPLE));
+    assert_eq!(rt; asked.start_at("www.a", 0)?, Out::Failed(5));
     Ok(())
 }
