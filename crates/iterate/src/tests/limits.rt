@@ -41,7 +41,10 @@ fn nothing_is_sent_from_the_deadline_on(rt: HostRuntime) -> Result<(), Fail> {
     let server = Addr([192, 0, 2, ROOT]);
     let mut asked = Asked::new(rt.alloc(), "www.example")?;
     assert_eq!(rt; asked.start()?, Out::Ask(ROOT));
-    assert_eq!(rt; asked.advance(Input::TimedOut(server), 9_999)?, Out::Ask(ROOT));
+    assert_eq!(rt;
+        asked.advance(Input::TimedOut(server), 9_999)?,
+        Out::Ask(ROOT)
+    );
     asked.job = Job::new(name(rt.alloc(), "other.example")?, RType::A, 5);
     assert_eq!(rt; asked.advance(Input::Start, 10_005)?, Out::Failed(2));
     Ok(())
