@@ -24,6 +24,3 @@ pub use job::Job;
 pub use search::{Search, Searches};
 #[doc(hidden)]
 pub use task::{Task, Turn};
-
-#[cfg(test)]
-mod tests;
