@@ -1,11 +1,11 @@
 -- What was found without asking, at the name and the type that were sought; and jobs after a search is over.
-use Rattle.std.proofs.Common.{◌≡◌, ℕ, ◌+◌, ◌<◌, inl, inr, Some, List, ◌∷◌, refl, sym, ap, ◌∙◌, subst}
+use Rattle.std.proofs.Common.{◌≡◌, ℕ, ◌<◌, inl, inr, Some, List, ◌∷◌, sym, ap, ◌∙◌, subst}
 use Rattle.dname.specs.Labels.{Name}
 use Rattle.referral.specs.Cuts.{Cut}
 use Rattle.zone.specs.Links.{Link}
-use Rattle.frames.specs.Frames.{Frame, FailedName, opened, next_name}
+use Rattle.frames.specs.Frames.{FailedName, next_name}
 use Rattle.frames.proofs.Places.{name_shallow}
-use Rattle.resolution.specs.Jobs.{Home, Stores, level_of, Taken, Search, search_at, Job, marked}
+use Rattle.resolution.specs.Jobs.{Home, Stores, Taken, Search, Job, marked}
 use Rattle.resolution.specs.Rules.{Finds, Misses, HearsOf, turned}
 use Rattle.known.specs.Found.{IsFound}
 use Rattle.known.specs.declared.lookup.Found.{Found}

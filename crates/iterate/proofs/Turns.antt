@@ -1,5 +1,5 @@
 -- The loop over the rules: what each turn keeps.
-use Rattle.std.proofs.Common.{◌≡◌, ℕ, suc, ◌<◌, refl}
+use Rattle.std.proofs.Common.{ℕ, suc, ◌<◌, refl}
 use Rattle.resolution.specs.Jobs.{Home, Point, IsFreshTask}
 use Rattle.resolution.specs.Rules.{Rule, Rules}
 use Rattle.resolution.proofs.Falls.{measure, falls, stays_fresh}

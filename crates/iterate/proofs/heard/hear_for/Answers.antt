@@ -1,11 +1,9 @@
-use Rattle.std.proofs.Common.{◌≡◌, sym, ap, ◌∙◌, subst}
+use Rattle.std.proofs.Common.{◌≡◌, sym, ap, ◌∙◌}
 use Rattle.authority.specs.Answers.{link_view}
 use Rattle.classify.specs.Classes as class
 use Rattle.classify.specs.Classes.{class_of}
 use Rattle.classify.specs.Views.{class_view}
 use Rattle.frames.specs.Frames.{Frame}
-use Rattle.resolution.specs.Jobs.{Told}
-use Rattle.resolution.specs.Rules.{Stops}
 use Rattle.iterate.specs.Moves.{with_search}
 use Rattle.iterate.proofs.Accepted.{answer_stops, kept_stops, on_err}
 use Rattle.iterate.proofs.heard.hear_for.Goals as goal

@@ -1,4 +1,4 @@
-use Rattle.std.proofs.Common.{refl, ap, ◌∙◌, ◌+◌}
+use Rattle.std.proofs.Common.{refl, ◌∙◌, ◌+◌}
 use Rattle.zone.specs.Zones.{a_type}
 use Rattle.frames.specs.Frames.{opened}
 use Rattle.resolution.specs.Jobs.{level_of, search_at}
