@@ -1,0 +1,4 @@
+pub mod Accepted
+pub mod Alive
+pub mod Sought
+pub mod Turns

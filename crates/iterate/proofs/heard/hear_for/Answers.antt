@@ -1,0 +1,22 @@
+use Rattle.std.proofs.Common.{◌≡◌, sym, ap, ◌∙◌}
+use Rattle.authority.specs.Answers.{link_view}
+use Rattle.classify.specs.Classes as class
+use Rattle.classify.specs.Classes.{class_of}
+use Rattle.classify.specs.Views.{class_view}
+use Rattle.frames.specs.Frames.{Frame}
+use Rattle.iterate.specs.Moves.{with_search}
+use Rattle.iterate.proofs.Accepted.{answer_stops, kept_stops, on_err}
+use Rattle.iterate.proofs.heard.hear_for.Goals as goal
+
+pub returns-in_err-answer-in-Ok-Answer-clause-stops : goal.returns-in_err-answer-in-Ok-Answer-clause-stops
+returns-in_err-answer-in-Ok-Answer-clause-stops g c = λ before is.
+    let zone = c.zone.ensures ∙ ap (λ (f : Frame). f.zone) c.frame.ensures in
+    let classed : class_of ((c.args.search).frame).zone (c.args.search).name (c.args.search).kind c.args.via c.args.message.now ≡ class.Answer (link_view c.in-Ok-Answer.link) =
+    sym (c.in-Ok-Answer.ensures ∙ (λ i. class_of (zone i) (c.name.ensures i) (c.kind.ensures i) c.args.via c.args.message.now)) ∙ ap class_view c.in-Ok-Answer.field-0-is in
+    on_err c.from_residual.result (kept_stops c.args.now c.args.job.now before c.args.stores.now c.answer.new.stores c.args.via c.args.server c.args.message.now c.args.search (link_view c.in-Ok-Answer.link) is
+    classed c.in_err-answer-in-Ok-Answer.ensures.stops)
+
+pub returns-in_err-refer-in-Ok-Referral-clause-stops : goal.returns-in_err-refer-in-Ok-Referral-clause-stops
+returns-in_err-refer-in-Ok-Referral-clause-stops g c = λ before is.
+    on_err c.from_residual-in_err-refer-in-Ok-Referral.result (answer_stops c.args.now (with_search c.args.job.now c.args.search) before c.refer.new.stores c.args.via c.args.server c.args.message.now
+    (c.in_err-refer-in-Ok-Referral.ensures.err ∙ is))

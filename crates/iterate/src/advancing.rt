@@ -1,0 +1,56 @@
+//! One call for one input: all that is due, until an ask goes out or the query is over.
+ghost use Rattle.std.specs.Prelude.{ℕ, IfOk, OnErr};
+ghost use Rattle.resolution.specs.Jobs.{Point, point, IsFreshTask};
+ghost use Rattle.resolution.specs.Rules.{Rules, Leaves, Advances, Stops};
+ghost use Rattle.known.specs.Uses.{OnlyUses};
+ghost use Rattle.iterate.specs.Views.{input_view, next_view, task_view};
+
+use crate::calls::{Input, Next};
+use crate::entering::enter;
+use crate::job::Job;
+use crate::task::{Task, Turn};
+use crate::turn::turn;
+use dname::{Heap, Starved};
+use known::{Home, Stores};
+use std::hash::BuildHasher;
+
+// Does what is due, task by task, until something goes out.
+fn run<S: BuildHasher + Drop, A: Heap>(
+    alloc: A,
+    job: &mut Job<A>,
+    first: Task<A>,
+    home: &Home<A>,
+    stores: &mut Stores<S, A>,
+    now: u64,
+) -> Result<Next<A>, Starved>
+    requires { IsFreshTask now (task_view first) }
+    ensures rules { IfOk result (λ next. (count : ℕ) × (last : Point) × Rules home.now now count (point (task_view first) job.old stores.old) last × Leaves home.now now last (next_view next) job.new stores.new) }
+    ensures only { OnErr result (OnlyUses stores.old stores.new) }
+{
+    let mut task = first;
+    'turns: loop {
+        match turn(alloc, job, task, home, stores, now)? {
+            Turn::Onward(onward) => task = onward,
+            Turn::Out(next) => return Ok(next),
+        }
+    }
+}
+
+/// What one input makes of a query's job, and what goes out: the input is taken up, and the rules of RFC 1034,
+/// section 5.3.3, are applied until a server is to be asked or the query is over. `now` is the moment of the
+/// call, in milliseconds. Where memory is wanting the stores may have kept what was accepted, and nothing else
+/// is new in them; the job is to be dropped.
+pub fn advance<S: BuildHasher + Drop, A: Heap>(
+    alloc: A,
+    job: &mut Job<A>,
+    input: Input<A>,
+    home: &Home<A>,
+    stores: &mut Stores<S, A>,
+    now: u64,
+) -> Result<Next<A>, Starved>
+    ensures advances { IfOk result (λ next. Advances home.now now (input_view input) job.old stores.old (next_view next) job.new stores.new) }
+    ensures stops { OnErr result (Stops (input_view input) now job.old stores.old stores.new) }
+{
+    let first = enter(alloc, job, input, stores, now)?;
+    Ok(run(alloc, job, first, home, stores, now)?)
+}

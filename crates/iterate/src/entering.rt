@@ -1,0 +1,39 @@
+//! How what comes in is taken up.
+ghost use Rattle.std.specs.Prelude.{IfOk, OnErr};
+ghost use Rattle.resolution.specs.Jobs.{point};
+ghost use Rattle.resolution.specs.Rules.{Enters, Stops};
+ghost use Rattle.iterate.specs.Views.{input_view, task_view};
+
+use crate::calls::Input;
+use crate::heard::hear;
+use crate::job::Job;
+use crate::task::Task;
+use dname::{Heap, Starved};
+use known::Stores;
+use std::hash::BuildHasher;
+
+/// What is due after an input. A server that answered loses half its penalty, one that did not gains some.
+pub(crate) fn enter<S: BuildHasher + Drop, A: Heap>(
+    alloc: A,
+    job: &mut Job<A>,
+    input: Input<A>,
+    stores: &mut Stores<S, A>,
+    now: u64,
+) -> Result<Task<A>, Starved>
+    ensures enters { IfOk result (λ t. Enters now (input_view input) job.old stores.old (point (task_view t) job.new stores.new)) }
+    ensures stops { OnErr result (Stops (input_view input) now job.old stores.old stores.new) }
+{
+    match input {
+        Input::Start => Ok(Task::Seek),
+        Input::Told(via, server, message) => {
+            stores.answered(server);
+            let heard = hear(alloc, job, via, server, &message, stores, now);
+            drop(message);
+            Ok(heard?)
+        }
+        Input::TimedOut(server) | Input::TcpFailed(server) => {
+            stores.timed_out(server)?;
+            Ok(Task::Go)
+        }
+    }
+}

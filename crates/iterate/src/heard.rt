@@ -1,0 +1,204 @@
+//! What is made of the messages that are accepted for a query (RFC 1034, section 5.3.3, step 4).
+ghost use Rattle.std.specs.Prelude.{◌≡◌, ◌⊎◌, ℕ, IfOk, OnOk, OnErr};
+ghost use Rattle.zone.specs.Links.{Link as Said};
+ghost use Rattle.authority.specs.Answers.{link_view};
+ghost use Rattle.classify.specs.Classes.{class_of};
+ghost use Rattle.resolution.specs.Jobs.{Stores as Remembered, Search as Sought, Told, Go, point, with_answer, received_link, IsCutOf, with_frame, level_of};
+ghost use Rattle.resolution.specs.Rules.{Learnt, IsAnswered, IsReferred, ByClass, Enters, Stops};
+ghost use Rattle.frames.specs.Frames.{opened};
+ghost use Rattle.known.specs.Views.{with_cut};
+ghost use Rattle.iterate.specs.Moves.{with_search};
+ghost use Rattle.iterate.specs.Views.{task_view};
+
+use crate::job::Job;
+use crate::search::Search;
+use crate::serving::hear_of;
+use crate::task::Task;
+use authority::Link;
+use classify::{Class, Referral, classify, received};
+use dname::{Heap, Starved};
+use known::{Stores, Taken, cut_of};
+use rdata::Addr;
+use referral::Cut;
+use std::alloc::Allocator;
+use std::hash::BuildHasher;
+use wire::{Message, Via};
+
+// A link was accepted for the innermost search, which is over. The query's own name has its link; what a
+// server's name has is heard by the search around.
+fn told<S: BuildHasher + Drop, A: Heap>(
+    job: &mut Job<A>,
+    link: Taken<A>,
+    stores: &Stores<S, A>,
+) -> Result<Task<A>, Starved>
+    ensures { (s : Sought) (l : Said) (now : ℕ) (before : Remembered) → link ≡ received_link s.name l now → Learnt now s l before stores.now → IfOk result (λ t. IsAnswered now s (job.old).searches l (with_search job.old s) before (point (task_view t) job.new stores.now)) }
+{
+    match job.pop() {
+        None => Ok(Task::Take(link)),
+        Some(around) => {
+            let heard = hear_of(job, around, &link, stores);
+            drop(link);
+            heard?;
+            Ok(Task::Go)
+        }
+    }
+}
+
+// A server's answer is kept, and is what the search is told.
+fn answer<S: BuildHasher + Drop, A: Heap>(
+    job: &mut Job<A>,
+    search: Search<A>,
+    link: Link<A>,
+    stores: &mut Stores<S, A>,
+    now: u64,
+) -> Result<Task<A>, Starved>
+    ensures by { IfOk result (λ t. IsAnswered now search (job.old).searches (link_view link) (with_search job.old search) stores.old (point (task_view t) job.new stores.new)) }
+    ensures stops { OnErr result ((stores.new ≡ stores.old) ⊎ Learnt now search (link_view link) stores.old stores.new) }
+{
+    let kind = search.kind();
+    let name = search.into_name();
+    let kept = received(link);
+    let stored = stores.keep_link(&name, kind, &kept, now);
+    let link = Taken::accepted(name, kept, now);
+    match stored {
+        Err(starved) => {
+            drop(link);
+            Err(starved)
+        }
+        Ok(()) => Ok(told(job, link, stores)?),
+    }
+}
+
+// The cut that a referral leads to.
+fn cut_from<A: Heap>(alloc: A, referral: Referral<A>) -> Result<Cut<A>, Starved>
+    ensures { IfOk result (IsCutOf referral.at referral.servers referral.addresses) }
+{
+    let Referral {
+        at,
+        servers,
+        addresses,
+        ttl: _,
+    } = referral;
+    let cut = cut_of(alloc, at, servers.as_slice(), addresses.as_slice());
+    drop(servers);
+    drop(addresses);
+    Ok(cut?)
+}
+
+// The search begins anew at a cut, which is kept.
+fn reopen<S: BuildHasher + Drop, A: Heap>(
+    alloc: A,
+    job: &mut Job<A>,
+    mut search: Search<A>,
+    cut: &Cut<A>,
+    ttl: u32,
+    stores: &mut Stores<S, A>,
+    now: u64,
+) -> Result<(), Starved>
+    ensures job { OnOk result (job.new ≡ with_search job.old (with_frame search (opened (level_of stores.old) search.frame.nesting cut.now))) }
+    ensures kept { OnOk result (stores.new ≡ with_cut stores.old cut.now ttl now) }
+    ensures err { OnErr result (stores.new ≡ stores.old) }
+{
+    match stores.open(alloc, cut, search.frame().nesting()) {
+        Err(starved) => {
+            drop(search);
+            Err(starved)
+        }
+        Ok(frame) => {
+            search.reopen(frame);
+            job.push(search)?;
+            stores.keep_cut(cut, ttl, now)?;
+            Ok(())
+        }
+    }
+}
+
+// A referral is followed, and kept.
+fn refer<S: BuildHasher + Drop, A: Heap>(
+    alloc: A,
+    job: &mut Job<A>,
+    search: Search<A>,
+    referral: Referral<A>,
+    stores: &mut Stores<S, A>,
+    now: u64,
+) -> Result<(), Starved>
+    ensures by { OnOk result (IsReferred now search (job.old).searches referral.at referral.servers referral.addresses referral.ttl (with_search job.old search) stores.old (point Go job.new stores.new)) }
+    ensures err { OnErr result (stores.new ≡ stores.old) }
+{
+    let ttl = referral.ttl;
+    match cut_from(alloc, referral) {
+        Err(starved) => {
+            drop(search);
+            Err(starved)
+        }
+        Ok(cut) => {
+            let reopened = reopen(alloc, job, search, &cut, ttl, stores, now);
+            drop(cut);
+            Ok(reopened?)
+        }
+    }
+}
+
+// A message was accepted for this search, the innermost one, which the job no longer has.
+fn hear_for<S: BuildHasher + Drop, A: Heap>(
+    alloc: A,
+    job: &mut Job<A>,
+    search: Search<A>,
+    via: Via,
+    server: Addr,
+    message: &Message<A>,
+    stores: &mut Stores<S, A>,
+    now: u64,
+) -> Result<Task<A>, Starved>
+    ensures by { IfOk result (λ t. ByClass now server search (job.old).searches (class_of search.frame.zone search.name search.kind via message.now) (with_search job.old search) stores.old (point (task_view t) job.new stores.new)) }
+    ensures stops { (before : Remembered) → stores.old ≡ with_answer before server → OnErr result (Stops (Told via server message.now) now (with_search job.old search) before stores.new) }
+{
+    let class = classify(
+        alloc,
+        search.frame().zone(),
+        search.name(),
+        search.kind(),
+        via,
+        message,
+    );
+    match class {
+        Err(starved) => {
+            drop(search);
+            Err(starved)
+        }
+        Ok(Class::Answer(link)) => Ok(answer(job, search, link, stores, now)?),
+        Ok(Class::Referral(referral)) => {
+            refer(alloc, job, search, referral, stores, now)?;
+            Ok(Task::Go)
+        }
+        Ok(Class::Cut) => {
+            job.push(search)?;
+            Ok(Task::Again(server))
+        }
+        Ok(Class::Failed(_)) => {
+            job.push(search)?;
+            Ok(Task::Go)
+        }
+    }
+}
+
+/// What is due after a message was accepted for the innermost search: an answer is kept and taken up, a
+/// referral is kept and followed, what was cut short is asked for again over TCP; the rest is of no use. A job
+/// without a search has nothing that a message could be for.
+pub(crate) fn hear<S: BuildHasher + Drop, A: Heap>(
+    alloc: A,
+    job: &mut Job<A>,
+    via: Via,
+    server: Addr,
+    message: &Message<A>,
+    stores: &mut Stores<S, A>,
+    now: u64,
+) -> Result<Task<A>, Starved>
+    ensures enters { (before : Remembered) → stores.old ≡ with_answer before server → IfOk result (λ t. Enters now (Told via server message.now) job.old before (point (task_view t) job.new stores.new)) }
+    ensures stops { (before : Remembered) → stores.old ≡ with_answer before server → OnErr result (Stops (Told via server message.now) now job.old before stores.new) }
+{
+    match job.pop() {
+        None => Ok(Task::Go),
+        Some(search) => Ok(hear_for(alloc, job, search, via, server, message, stores, now)?),
+    }
+}
