@@ -107,7 +107,7 @@ fn reopen<S: BuildHasher + Drop, A: Heap>(
         Ok(frame) => {
             search.reopen(frame);
             job.push(search)?;
-            stores.keep_cut(cut, ttl, now)?;
+            stores.keep_cut(alloc, cut, ttl, now)?;
             Ok(())
         }
     }
