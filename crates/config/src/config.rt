@@ -84,7 +84,7 @@ pub fn read_config<'t, A: Heap>(alloc: A, text: &'t str) -> Result<ServeConfig<'
 {
     let mut draft = Draft::new(alloc);
     let mut lines = TextLines::new(text);
-    let mut number = 1u32;
+    let mut number = 1usize;
     while let Some(line) = lines.next() {
         match draft.take(alloc, line) {
             Ok(()) => {}

@@ -9,7 +9,7 @@ const WHOLE: &str =
     "; a server\n\nlisten 127.0.0.1 5300\nport 5353\nhint 198.41.0.4\n hint\t170.247.170.2\nlocal corp.example. corp.zone\nlocal . \tr/\u{e9}.zone \ncache 1000000\ndelegations 1\npenalties 7\nsockets 16\nworkers 1\nseed 000102030405060708090A0b0c0d0e0f101112131415161718191a1b1c1d1e1f\n";
 
 // Whether the text is refused at this line with this number.
-fn is_refused<A: Heap>(alloc: A, text: &str, line: u32, number: u8) -> bool {
+fn is_refused<A: Heap>(alloc: A, text: &str, line: usize, number: u8) -> bool {
     match read_config(alloc, text) {
         Ok(_) => false,
         Err(error) => error.line == line && error.kind.number() == number,

@@ -21,7 +21,7 @@ pub fn read_script<A: Heap>(alloc: A, text: &str) -> Result<Vec<Order<A>, A>, Li
 {
     let mut orders = Vec::new(alloc);
     let mut lines = TextLines::new(text);
-    let mut number = 1u32;
+    let mut number = 1usize;
     while let Some(line) = lines.next() {
         match take(alloc, &mut orders, line) {
             Ok(()) => {}

@@ -10,7 +10,7 @@ const WHOLE: &str =
     "; a script\n\nat 4611686018427387904\nask a.example mx\nask . A tcp\nask . A\tnorec\nask . A tcp norec \nraw 00fF tcp\nraw 7f\ncarry 18446744073709551615\ncut 0\nlose 2\nrun\n tick";
 
 // Whether the text is refused at this line with this number.
-fn is_refused<A: Heap>(alloc: A, text: &str, line: u32, number: u8) -> bool {
+fn is_refused<A: Heap>(alloc: A, text: &str, line: usize, number: u8) -> bool {
     match read_script(alloc, text) {
         Ok(_) => false,
         Err(error) => error.line == line && error.kind.number() == number,

@@ -14,9 +14,9 @@ abbrev pub at_line : {X : Type 0} → ℕ → Result X LineKind → Result X Lin
 at_line n (Ok x) = Ok x
 at_line n (Err k) = Err (record { line = n; kind = k })
 
--- Lines are counted up to 4,294,967,295.
+-- Lines are counted up to 2^64 - 1.
 abbrev pub line_behind : ℕ → ℕ
-line_behind n = min (n + 1) (2 ^ 32 - 1)
+line_behind n = min (n + 1) (2 ^ 64 - 1)
 
 infixl 10 ◌>>◌
 abbrev pub ◌>>◌ : {X Y : Type 0} → Result X LineError → (X → Result Y LineError) → Result Y LineError
