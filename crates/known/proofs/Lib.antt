@@ -1,0 +1,3 @@
+pub mod Lists
+pub mod Uses
+pub mod Kept

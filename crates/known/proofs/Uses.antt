@@ -1,0 +1,72 @@
+-- Stores after look-ups alone.
+use Rattle.std.proofs.Common.{◌≡◌, ℕ, ◌⊎◌, Some, List, refl, sym, ap, subst, ◌∙◌}
+use Rattle.dname.specs.Labels.{Name}
+use Rattle.rdata.specs.declared.addr.Addr.{Addr}
+use Rattle.retry.specs.Penalties.{answered, timed_out}
+use Rattle.recency.specs.Orders.{KeepsOnly, HasSame}
+use Rattle.cache.proofs.Members as cache
+use Rattle.referral.proofs.Members as cuts
+use Rattle.resolution.specs.Jobs.{Stores, Job, Input}
+use Rattle.resolution.specs.Rules.{Stops, server_of}
+use Rattle.known.specs.Views.{after_look, after_best}
+use Rattle.known.specs.Uses.{OnlyUses}
+
+same_refl : {X : Type 0} (xs : List X) → HasSame xs xs
+same_refl xs = (λ x h. h, λ x h. h)
+
+same_then : {X : Type 0} (xs ys zs : List X) → HasSame xs ys → HasSame ys zs → HasSame xs zs
+same_then xs ys zs f g = (λ x h. f.0 x (g.0 x h), λ x h. g.1 x (f.1 x h))
+
+pub uses_refl : (s : Stores) → OnlyUses s s
+uses_refl s = record {
+  cache = same_refl s.cache;
+  delegations = same_refl s.delegations;
+  penalties = refl;
+  cache_cap = refl;
+  delegations_cap = refl;
+  penalties_cap = refl;
+}
+
+pub uses_same : (s t : Stores) → t ≡ s → OnlyUses s t
+uses_same s t is = subst (OnlyUses s) (sym is) (uses_refl s)
+
+pub uses_then : (a b c : Stores) → OnlyUses a b → OnlyUses b c → OnlyUses a c
+uses_then a b c f g = record {
+  cache = same_then a.cache b.cache c.cache f.cache g.cache;
+  delegations = same_then a.delegations b.delegations c.delegations f.delegations g.delegations;
+  penalties = g.penalties ∙ f.penalties;
+  cache_cap = g.cache_cap ∙ f.cache_cap;
+  delegations_cap = g.delegations_cap ∙ f.delegations_cap;
+  penalties_cap = g.penalties_cap ∙ f.penalties_cap;
+}
+
+pub look_uses : (s t : Stores) (n : Name) (k now : ℕ) → t ≡ after_look s n k now → OnlyUses s t
+look_uses s t n k now is = subst (OnlyUses s) (sym is) (record {
+  cache = cache.looked_members n k now s.cache;
+  delegations = same_refl s.delegations;
+  penalties = refl;
+  cache_cap = refl;
+  delegations_cap = refl;
+  penalties_cap = refl;
+})
+
+pub best_uses : (s t : Stores) (n : Name) (now : ℕ) → t ≡ after_best s n now → OnlyUses s t
+best_uses s t n now is = subst (OnlyUses s) (sym is) (record {
+  cache = same_refl s.cache;
+  delegations = cuts.looked_members n now s.delegations;
+  penalties = refl;
+  cache_cap = refl;
+  delegations_cap = refl;
+  penalties_cap = refl;
+})
+
+-- What may stand where memory was wanting may stand after further look-ups too.
+pub uses_stop : (input : Input) (now : ℕ) (j : Job) (old mid new : Stores) → Stops input now j old mid → OnlyUses mid new → Stops input now j old new
+uses_stop input now j old mid new h uses = record {
+  cache = λ e there. h.cache e (uses.cache.0 e there);
+  delegations = λ e there. h.delegations e (uses.delegations.0 e there);
+  penalties = subst (λ (ps : List (Addr × ℕ)). (ps ≡ old.penalties) ⊎ ((server : Addr) × (server_of input ≡ Some server) × ((ps ≡ answered server old.penalties) ⊎ (ps ≡ timed_out server old.penalties_cap old.penalties)))) (sym uses.penalties) h.penalties;
+  cache_cap = uses.cache_cap ∙ h.cache_cap;
+  delegations_cap = uses.delegations_cap ∙ h.delegations_cap;
+  penalties_cap = uses.penalties_cap ∙ h.penalties_cap;
+}

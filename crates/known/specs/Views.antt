@@ -1,0 +1,62 @@
+-- What the resolver holds and takes, seen as the plain values of the rules.
+use Rattle.std.specs.Prelude.{ℕ, ◌≤◌, List, [], map}
+use Rattle.dname.specs.Labels.{Name}
+use Rattle.rdata.specs.Records.{greatest_ttl}
+use Rattle.rdata.specs.declared.addr.Addr.{Addr}
+use Rattle.zone.specs.Zones.{Zone}
+use Rattle.zone.specs.Links.{Link}
+use Rattle.classify.specs.Lifetimes.{lifetime_of, referral_lifetime}
+use Rattle.referral.specs.Cuts.{ServerAddress, Cut}
+use Rattle.referral.specs.Cuts as referral
+use Rattle.cache.specs.Cached as cache
+use Rattle.resolution.specs.Jobs.{Home, Stores, Source, Taken}
+use Rattle.resolution.specs.Jobs as rules
+use Rattle.known.specs.declared.taken.Source.{Source as Origin}
+use Rattle.known.specs.declared.taken.Source.TheVariants as origin
+
+-- The zones at hand and the root's cut: the hints are the addresses of that cut.
+abbrev pub home_at : List Zone → List Addr → Home
+home_at zones hints = record { zones = zones; hints = hints }
+
+abbrev pub hints_of : Cut → List Addr
+hints_of c = map (λ (s : ServerAddress). s.address) c.addresses
+
+abbrev pub home_of : List Zone → Cut → Home
+home_of zones root = home_at zones (hints_of root)
+
+-- Where a link comes from.
+abbrev pub source_view : Origin → Source
+source_view origin.Local = rules.Local
+source_view (origin.Cached ttl since) = rules.Cached ttl since
+source_view (origin.Accepted ttl since) = rules.Accepted ttl since
+
+-- Its time to live is one that a record may have.
+abbrev pub IsBounded : Source → Type 0
+IsBounded rules.Local = Unit {0}
+IsBounded (rules.Cached ttl since) = ttl ≤ greatest_ttl
+IsBounded (rules.Accepted ttl since) = ttl ≤ greatest_ttl
+
+abbrev pub taken_at : Name → Link → Source → Taken
+taken_at n l source = record { name = n; link = l; source = source }
+
+-- A link within the limits on times to live that was accepted at this moment.
+abbrev pub accepted_link : Name → Link → ℕ → Taken
+accepted_link n l now = taken_at n l (rules.Accepted (lifetime_of l) now)
+
+-- Nothing learnt yet.
+abbrev pub no_stores : ℕ → ℕ → ℕ → Stores
+no_stores links cuts servers = record { cache = []; cache_cap = links; delegations = []; delegations_cap = cuts; penalties = []; penalties_cap = servers }
+
+-- After a link that is within the limits on times to live is kept for a name and a type; after a cut is.
+abbrev pub with_link : Stores → Name → ℕ → Link → ℕ → Stores
+with_link stores n t l now = record stores { cache = cache.after_keep stores.cache_cap n t (cache.as_kept l (lifetime_of l) now) stores.cache }
+
+abbrev pub with_cut : Stores → Cut → ℕ → ℕ → Stores
+with_cut stores c ttl now = record stores { delegations = referral.after_keep stores.delegations_cap (rules.cut_from c ttl now) stores.delegations }
+
+-- After the cache, or the kept delegations, were looked up.
+abbrev pub after_look : Stores → Name → ℕ → ℕ → Stores
+after_look stores n t now = record stores { cache = cache.moved (cache.lent (cache.alone n t) now stores.cache) stores.cache }
+
+abbrev pub after_best : Stores → Name → ℕ → Stores
+after_best stores n now = record stores { delegations = referral.after_best n now stores.delegations }

@@ -1,0 +1,155 @@
+ghost use Rattle.std.specs.Prelude.{◌≡◌, None, IfOk, IfSome, OnOk, OnErr};
+ghost use Rattle.std.specs.NonZero.{non_zero_usize_get};
+ghost use Rattle.rdata.specs.Types.{type_number};
+ghost use Rattle.authority.specs.Answers.{link_view};
+ghost use Rattle.referral.specs.Cuts.{nearest, cut_of, IsBest};
+ghost use Rattle.cache.specs.Cached.{alone, lent, hit_of, IsHeld};
+ghost use Rattle.frames.specs.Frames.{opened, fresh_addresses, after_add};
+ghost use Rattle.resolution.specs.Jobs.{level_of, with_answer, with_timeout};
+ghost use Rattle.known.specs.Views.{no_stores, with_link, with_cut, after_look, after_best};
+
+use authority::Link;
+use cache::{Cache, Hit};
+use classify::{LONGEST, lifetime};
+use dname::{Heap, Name, Starved};
+use frames::Frame;
+use rdata::{Addr, RType};
+use referral::{Cut, Delegations};
+use retry::Penalties;
+use std::alloc::{Allocator, Global};
+use std::hash::BuildHasher;
+use std::marker::Model;
+use std::num::NonZeroUsize;
+
+/// How many entries each store may have.
+#[derive(Clone, Copy)]
+pub struct Capacities {
+    /// Links.
+    pub links: NonZeroUsize,
+    /// Delegations.
+    pub cuts: NonZeroUsize,
+    /// Servers of which a penalty is kept.
+    pub servers: NonZeroUsize,
+}
+
+/// What hashes the keys of each store.
+#[derive(Drop)]
+pub struct Hashers<S: BuildHasher + Drop> {
+    pub links: S,
+    pub cuts: S,
+    pub servers: S,
+}
+
+/// What the resolver learnt: links, delegations, and penalties of servers that did not answer.
+#[derive(Drop)]
+pub struct Stores<S: BuildHasher + Drop, A: Allocator = Global> {
+    cache: Cache<S, A>,
+    delegations: Delegations<S, A>,
+    penalties: Penalties<S, A>,
+}
+
+impl<S: BuildHasher + Drop, A: Allocator> Model for Stores<S, A> {
+    ghost use Rattle.resolution.specs.Jobs.{Stores as Learnt};
+
+    ghost Value = { Learnt };
+
+    ghost view = { λ s. record { cache = s.cache.entries; cache_cap = s.cache.cap; delegations = s.delegations.entries; delegations_cap = s.delegations.cap; penalties = s.penalties.entries; penalties_cap = s.penalties.cap } };
+}
+
+impl<S: BuildHasher + Drop, A: Heap> Stores<S, A> {
+    /// Nothing learnt, with room for so many entries, which is taken as they come.
+    pub fn new(
+        alloc: A,
+        capacities: Capacities,
+        hashers: Hashers<S>,
+    ) -> Result<Stores<S, A>, Starved>
+        ensures { IfOk result (λ s. s ≡ no_stores (non_zero_usize_get capacities.links) (non_zero_usize_get capacities.cuts) (non_zero_usize_get capacities.servers)) }
+    {
+        Ok(Stores {
+            cache: Cache::new(alloc, capacities.links, hashers.links)?,
+            delegations: Delegations::new(alloc, capacities.cuts, hashers.cuts)?,
+            penalties: Penalties::new(alloc, capacities.servers, hashers.servers)?,
+        })
+    }
+
+    /// What the cache gives for this name and type at the moment `now`, in milliseconds. The entry becomes the
+    /// most recently used.
+    pub fn look(&mut self, name: &Name<A>, kind: RType, now: u64) -> Result<Option<Hit<A>>, Starved>
+        ensures value { IfOk result (λ h. h ≡ hit_of (lent (alone name.now (type_number kind)) now self.old.cache)) }
+        ensures held { IfOk result (λ h. IfSome h (IsHeld name.now (type_number kind) now self.old.cache)) }
+        ensures ok { OnOk result (self.new ≡ after_look self.old name.now (type_number kind) now) }
+        ensures err { OnErr result (self.new ≡ self.old) }
+    {
+        Ok(self.cache.look(name, kind, now)?)
+    }
+
+    /// The deepest delegation that is kept, lives at the moment `now`, in milliseconds, and that the name is at
+    /// or under. It becomes the most recently used.
+    pub fn best(&mut self, name: &Name<A>, now: u64) -> Result<Option<Cut<A>>, Starved>
+        ensures relation { IfOk result (IsBest name.now now self.old.delegations) }
+        ensures ok { OnOk result (self.new ≡ after_best self.old name.now now) }
+        ensures err { OnErr result (self.new ≡ self.old) }
+    {
+        Ok(self.delegations.best(name, now)?)
+    }
+
+    /// A frame at this cut, its addresses in the order of their penalties. `nesting` is 0 for the name that a
+    /// client asked for, and one more for each look-up of a server's address.
+    pub fn open(&self, alloc: A, cut: &Cut<A>, nesting: u8) -> Result<Frame<A>, Starved>
+        ensures { IfOk result (λ f. f ≡ opened (level_of self.now) nesting cut.now) }
+    {
+        Ok(Frame::start(alloc, cut, nesting, &self.penalties)?)
+    }
+
+    /// Addresses that were found for a server's name: those that the frame does not know yet make its new
+    /// plan. Want of memory changes nothing.
+    pub fn add(&self, frame: &mut Frame<A>, found: &[Addr]) -> Result<(), Starved>
+        ensures ok { OnOk result (frame.new ≡ after_add (level_of self.now) frame.old (fresh_addresses frame.old found.now)) }
+        ensures err { OnErr result (frame.new ≡ frame.old) }
+    {
+        frame.add(found, &self.penalties)?;
+        Ok(())
+    }
+
+    /// Keeps a link that is within the limits on times to live (`classify::received`) for this name and type
+    /// from the moment `now`, in milliseconds, for as long as it lives. Want of memory changes nothing.
+    pub fn keep_link(
+        &mut self,
+        name: &Name<A>,
+        kind: RType,
+        link: &Link<A>,
+        now: u64,
+    ) -> Result<(), Starved>
+        ensures ok { OnOk result (self.new ≡ with_link self.old name.now (type_number kind) (link_view link.now) now) }
+        ensures err { OnErr result (self.new ≡ self.old) }
+    {
+        self.cache.keep(name, kind, link, lifetime(link), now)?;
+        Ok(())
+    }
+
+    /// Keeps a delegation whose lowest TTL is this, in seconds, from the moment `now`, in milliseconds: a week
+    /// at most (RFC 2181, section 8). Want of memory changes nothing.
+    pub fn keep_cut(&mut self, cut: &Cut<A>, ttl: u32, now: u64) -> Result<(), Starved>
+        ensures ok { OnOk result (self.new ≡ with_cut self.old cut.now ttl now) }
+        ensures err { OnErr result (self.new ≡ self.old) }
+    {
+        self.delegations.keep(cut, ttl.min(LONGEST), now)?;
+        Ok(())
+    }
+
+    /// This server answered, whatever it said.
+    pub fn answered(&mut self, server: Addr)
+        ensures { self.new ≡ with_answer self.old server }
+    {
+        self.penalties.answered(server);
+    }
+
+    /// This server did not answer in time. Want of memory changes nothing.
+    pub fn timed_out(&mut self, server: Addr) -> Result<(), Starved>
+        ensures ok { OnOk result (self.new ≡ with_timeout self.old server) }
+        ensures err { OnErr result (self.new ≡ self.old) }
+    {
+        self.penalties.timed_out(server)?;
+        Ok(())
+    }
+}

@@ -1,0 +1,163 @@
+ghost use Rattle.std.specs.Prelude.{◌≡◌, ◌-◌, ◌/◌, ◌≤◌, IfOk, MatchOption};
+ghost use Rattle.rdata.specs.Records.{Record as Datum};
+ghost use Rattle.zone.specs.Links.{Alias as Alternative};
+ghost use Rattle.authority.specs.Answers.{link_view};
+ghost use Rattle.front.specs.Chains.{target_of};
+ghost use Rattle.resolution.specs.Jobs.{local_link, kept_link, is_dead, has_ended, IsEnding, sent};
+ghost use Rattle.known.specs.Views.{source_view, IsBounded, taken_at, accepted_link};
+
+use authority::Link;
+use cache::{Hit, retimed};
+use classify::lifetime;
+use dname::{Heap, Name, Starved};
+use front::alias_target;
+use std::alloc::{AllocError, Allocator, Global};
+use std::marker::Model;
+
+/// Where a link comes from. Times to live are in seconds, as the link had them at the moment `since`, which is
+/// in milliseconds.
+#[derive(Clone, Copy)]
+pub enum Source {
+    /// The zones at hand.
+    Local,
+    /// The cache.
+    Cached { ttl: u32, since: u64 },
+    /// A message that was accepted for the query itself.
+    Accepted { ttl: u32, since: u64 },
+}
+
+impl Source {
+    // Whether a link from here has reached its time to live.
+    fn has_ended(self, now: u64) -> bool
+        ensures { result ≡ has_ended now (source_view self) }
+    {
+        match self {
+            Source::Cached { ttl, since } => { 1_000 * u64::from(ttl) <= now.saturating_sub(since) }
+            Source::Local | Source::Accepted { .. } => false,
+        }
+    }
+}
+
+// The seconds that are left of a time to live.
+fn left(ttl: u32, since: u64, now: u64) -> u32
+    ensures value { result ≡ ttl - (now - since) / 1000 }
+    ensures most { result ≤ ttl }
+{
+    let age = now.saturating_sub(since) / 1_000;
+    u64::from(ttl).saturating_sub(age) as u32
+}
+
+/// What is known of a name: the name, a link, and where it comes from.
+#[derive(Drop)]
+pub struct Taken<A: Allocator = Global> {
+    name: Name<A>,
+    link: Link<A>,
+    source: Source,
+}
+
+impl<A: Allocator> Model for Taken<A> {
+    ghost use Rattle.authority.specs.Answers.{link_view};
+    ghost use Rattle.resolution.specs.Jobs.{Taken as Said};
+    ghost use Rattle.known.specs.Views.{source_view, IsBounded};
+
+    ghost Value = { Said };
+
+    ghost view = { λ t. record { name = t.name; link = link_view t.link; source = source_view t.source } };
+
+    ghost invariant = { λ t. IsBounded (source_view t.source) };
+}
+
+// The link of a copy of the name.
+fn named<A: Heap>(name: &Name<A>, link: Link<A>, source: Source) -> Result<Taken<A>, Starved>
+    requires { IsBounded (source_view source) }
+    ensures { IfOk result (λ t. t ≡ taken_at name.now (link_view link) (source_view source)) }
+{
+    let copy: Result<Name<A>, AllocError> = name.clone();
+    match copy {
+        Ok(name) => Ok(Taken { name, link, source }),
+        Err(_) => {
+            drop(link);
+            Err(Starved)
+        }
+    }
+}
+
+impl<A: Heap> Taken<A> {
+    /// A link of the zones at hand.
+    pub fn local(name: &Name<A>, link: Link<A>) -> Result<Taken<A>, Starved>
+        ensures { IfOk result (λ t. t ≡ local_link name.now (link_view link)) }
+    {
+        Ok(named(name, link, Source::Local)?)
+    }
+
+    /// A link that the cache gave.
+    pub fn cached(name: &Name<A>, hit: Hit<A>) -> Result<Taken<A>, Starved>
+        ensures { IfOk result (λ t. t ≡ kept_link name.now hit) }
+    {
+        let Hit { link, ttl, since } = hit;
+        Ok(named(name, link, Source::Cached { ttl, since })?)
+    }
+}
+
+impl<A: Allocator> Taken<A> {
+    /// A link that a server gave for the query itself at the moment `now`, in milliseconds, within the limits
+    /// on times to live (`classify::received`).
+    pub fn accepted(name: Name<A>, link: Link<A>, now: u64) -> Taken<A>
+        ensures { result ≡ accepted_link name (link_view link) now }
+    {
+        let ttl = lifetime(&link);
+        let source = Source::Accepted { ttl, since: now };
+        Taken { name, link, source }
+    }
+
+    /// The name that the link is of.
+    pub fn name(&self) -> &Name<A>
+        ensures { result.now ≡ self.now.name }
+    {
+        &self.name
+    }
+
+    /// The name alone.
+    pub fn into_name(self) -> Name<A>
+        ensures { result ≡ self.name }
+    {
+        self.name
+    }
+
+    /// The link as it was taken.
+    pub fn link(&self) -> &Link<A>
+        ensures { link_view result.now ≡ self.now.link }
+    {
+        &self.link
+    }
+
+    /// Where an alias leads; nothing where the link ends a chain.
+    pub fn alias_target(&self) -> Option<&Name<A>>
+        ensures { MatchOption result (IsEnding self.now.link) (λ n. (r : Datum) × (self.now.link ≡ Alternative r) × (n.now ≡ target_of r)) }
+    {
+        match &self.link {
+            Link::Alias(record) => Some(alias_target(record)),
+            _ => None,
+        }
+    }
+
+    /// Whether it came from the cache and has reached its time to live at this moment, in milliseconds.
+    pub fn is_dead(&self, now: u64) -> bool
+        ensures { result ≡ is_dead now self.now }
+    {
+        self.source.has_ended(now)
+    }
+
+    /// The link as it goes out at this moment: one of the zones at hand as it is, others with the seconds that
+    /// are left of their time to live (RFC 1035, section 6.1.3). Takes no memory.
+    pub fn into_sent(self, now: u64) -> Link<A>
+        ensures { link_view result ≡ sent now self }
+    {
+        match self.source {
+            Source::Local => self.link,
+            Source::Cached { ttl, since } | Source::Accepted { ttl, since } => {
+                retimed(self.link, left(ttl, since, now))
+            }
+        }
+    }
+}
