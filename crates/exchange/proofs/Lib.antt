@@ -1,0 +1,4 @@
+pub mod Plainly
+pub mod Replying
+pub mod Alike
+pub mod Short

@@ -1,0 +1,10 @@
+-- An ask is short.
+use Rattle.std.proofs.Common.{rules, ◌≡◌, ◌≤◌, ap, subst, sym, length}
+use Rattle.layout.specs.Messages.{Message, encoding}
+use Rattle.exchange.proofs.Short.{written_or_starved}
+use Rattle.exchange.proofs.say.ask_bytes.Goals as goal
+
+pub unreachable-requires : goal.unreachable-requires
+unreachable-requires g c =
+    let memory = written_or_starved c.args.ask.now _ c.in-Err.field-0 c.is_short.ensures c.in_ok-message.ensures c.in-Err.ensures.err in
+    search rules

@@ -1,0 +1,5 @@
+pub mod Paths
+pub mod Plain
+pub mod Views
+pub mod Hearing
+pub mod Laws

@@ -1,0 +1,26 @@
+//! Asks of servers.
+use crate::path::Path;
+use dname::Name;
+use rdata::{Addr, RType};
+use std::alloc::{Allocator, Global};
+use std::marker::Model;
+
+/// An ask: how it goes and to which server, under which ID, for which name and type.
+#[derive(Drop)]
+pub struct Asking<A: Allocator = Global> {
+    pub path: Path,
+    pub server: Addr,
+    pub id: u16,
+    pub name: Name<A>,
+    pub kind: RType,
+}
+
+impl<A: Allocator> Model for Asking<A> {
+    ghost use Rattle.rdata.specs.Types.{type_number};
+    ghost use Rattle.runs.specs.States.{Asking};
+    ghost use Rattle.exchange.specs.Paths.{path_view};
+
+    ghost Value = { Asking };
+
+    ghost view = { λ a. record { path = path_view a.path; server = a.server; id = a.id; name = a.name; kind = type_number a.kind } };
+}

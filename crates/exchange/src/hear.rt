@@ -1,0 +1,121 @@
+//! What is accepted as the reply to an ask.
+ghost use Rattle.std.specs.Prelude.{◌≡◌, ℕ, ◌≤◌, ◌↔◌, List, [], ◌∷◌, IfOk, IsOk, IsTrue, MatchOption, length};
+ghost use Rattle.layout.specs.Messages as layouts;
+ghost use Rattle.layout.specs.Messages.{IsMessage};
+ghost use Rattle.runs.specs.States.{endpoint};
+ghost use Rattle.runs.specs.Messages.{id_in, question_for, AnswersAsk, Brings};
+ghost use Rattle.exchange.specs.Views.{event_view};
+ghost use Rattle.exchange.specs.Hearing.{ComesFor, OpensReply, MayReply};
+
+use crate::ask::Asking;
+use crate::event::Event;
+use crate::path::{Endpoint, Path};
+use dname::{Heap, Starved};
+use rdata::INTERNET;
+use std::alloc::Allocator;
+use wire::{Message, Question, WireError, decode};
+
+/// The reply to an ask that an event brings, and none where it brings none: a message of operation 0 with QR
+/// set, the ask's ID and its one question in class IN, over UDP at the ask's socket from `port` of the server
+/// that was asked, over TCP under the ask's number (RFC 1035, section 7.3). Only bytes that come so and have
+/// such a header are decoded: others take no memory.
+pub fn reply_in<A: Heap>(
+    alloc: A,
+    port: u16,
+    ask: &Asking<A>,
+    event: &Event<A>,
+) -> Result<Option<Message<A>>, Starved>
+    ensures brought { IfOk result (λ r. MatchOption r ((m : layouts.Message) → Brings port ask.now (event_view event.now) m → ⊥) (λ m. Brings port ask.now (event_view event.now) m)) }
+    ensures quiet { (MayReply port ask.now (event_view event.now) → ⊥) → IsOk result }
+{
+    match bytes_for(port, ask, event) {
+        None => Ok(None),
+        Some(bytes) => message_for(alloc, ask, bytes),
+    }
+}
+
+// The bytes that came on the ask's path.
+fn bytes_for<'a, A: Allocator>(port: u16, ask: &Asking<A>, event: &'a Event<A>) -> Option<&'a [u8]>
+    ensures { MatchOption result ((bytes : List ℕ) → ComesFor port ask.now (event_view event.now) bytes → ⊥) (λ bytes. ComesFor port ask.now (event_view event.now) bytes.now) }
+{
+    match event {
+        Event::Datagram {
+            socket,
+            from,
+            bytes,
+            ..
+        } if ask.path == Path::Udp(*socket) && is_from(ask, port, *from) => Some(bytes.as_slice()),
+        Event::TcpReply { number, bytes, .. } if ask.path == Path::Tcp(*number) => {
+            Some(bytes.as_slice())
+        }
+        _ => None,
+    }
+}
+
+fn is_from<A: Allocator>(ask: &Asking<A>, port: u16, from: Endpoint) -> bool
+    ensures { IsTrue result ↔ (from ≡ endpoint ask.now.server port) }
+{
+    from.address == ask.server && from.port == port
+}
+
+// The message that bytes are, where it answers the ask.
+fn message_for<A: Heap>(
+    alloc: A,
+    ask: &Asking<A>,
+    bytes: &[u8],
+) -> Result<Option<Message<A>>, Starved>
+    ensures brought { IfOk result (λ r. MatchOption r ((m : layouts.Message) → IsMessage bytes.now m → AnswersAsk ask.now m → ⊥) (λ m. IsMessage bytes.now m × AnswersAsk ask.now m)) }
+    ensures quiet { (OpensReply ask.now.id bytes.now → ⊥) → IsOk result }
+{
+    if !opens_reply(ask.id, bytes) {
+        return Ok(None);
+    }
+    match decode(alloc, bytes) {
+        Ok(message) => Ok(of_question(ask, message)),
+        Err(WireError::Memory) => Err(Starved),
+        Err(_) => Ok(None),
+    }
+}
+
+// The message, where its one question is the ask's.
+fn of_question<A: Heap>(ask: &Asking<A>, message: Message<A>) -> Option<Message<A>>
+    ensures { MatchOption result (message.questions ≡ question_for ask.now.name ask.now.kind ∷ [] → ⊥) (λ m. (m ≡ message) × (message.questions ≡ question_for ask.now.name ask.now.kind ∷ [])) }
+{
+    if is_alone(ask, message.questions.as_slice()) {
+        Some(message)
+    } else {
+        None
+    }
+}
+
+// Whether bytes begin like a reply of operation 0 under this ID.
+fn opens_reply(id: u16, bytes: &[u8]) -> bool
+    ensures { IsTrue result ↔ OpensReply id bytes.now }
+{
+    bytes.len() >= 12 && id_in(bytes) == id && bytes[2] >> 7 == 1 && (bytes[2] >> 3) & 0x0f == 0
+}
+
+// Whether the ask's question stands there alone.
+fn is_alone<A: Allocator>(ask: &Asking<A>, questions: &[Question<A>]) -> bool
+    ensures { IsTrue result ↔ (questions.now ≡ question_for ask.now.name ask.now.kind ∷ []) }
+{
+    match questions {
+        [question] => is_question(ask, question),
+        _ => false,
+    }
+}
+
+#[tactic(auto, using(crate::proofs::Alike::alike_is_equal, crate::proofs::Alike::equal_is_alike))]
+fn is_question<A: Allocator>(ask: &Asking<A>, question: &Question<A>) -> bool
+    ensures { IsTrue result ↔ (question.now ≡ question_for ask.now.name ask.now.kind) }
+{
+    question.name == ask.name && question.qtype == ask.kind.number() && question.qclass == INTERNET
+}
+
+/// The ID that bytes begin with (RFC 1035, section 4.1.1).
+pub fn id_in(bytes: &[u8]) -> u16
+    requires { 2 ≤ length bytes.now }
+    ensures { result ≡ id_in bytes.now }
+{
+    u16::from(bytes[0]) * 256 + u16::from(bytes[1])
+}
