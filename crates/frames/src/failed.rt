@@ -1,4 +1,4 @@
-ghost use Rattle.std.specs.Prelude.{◌≡◌, [], ◌∷◌, ◌++◌, OnOk, OnErr};
+ghost use Rattle.std.specs.Prelude.{◌≡◌, [], ◌∷◌, OnOk, OnErr};
 ghost use Rattle.frames.specs.Frames.{has_failed};
 
 use dname::{Heap, Name, Starved};
@@ -19,7 +19,8 @@ impl<A: Allocator> Model for FailedName<A> {
     ghost view = { λ f. record { name = f.name; nesting = f.nesting } };
 }
 
-/// Names whose look-up failed, each with the nesting of that look-up. Contracts see their list.
+/// Names whose look-up failed, each with the nesting of that look-up, the last one first. Contracts see their
+/// list.
 #[derive(Drop)]
 pub struct Failed<A: Allocator = Global> {
     names: Vec<FailedName<A>, A>,
@@ -46,11 +47,11 @@ impl<A: Heap> Failed<A> {
 
     /// The look-up of this name failed at this nesting.
     pub fn mark(&mut self, name: &Name<A>, nesting: u8) -> Result<(), Starved>
-        ensures ok { OnOk result (self.new ≡ self.old ++ record { name = name.now; nesting = nesting } ∷ []) }
+        ensures ok { OnOk result (self.new ≡ record { name = name.now; nesting = nesting } ∷ self.old) }
         ensures err { OnErr result (self.new ≡ self.old) }
     {
         let name = name.clone()?;
-        self.names.push(FailedName { name, nesting })?;
+        self.names.insert(0, FailedName { name, nesting })?;
         Ok(())
     }
 }

@@ -12,7 +12,7 @@ use Rattle.frames.proofs.Places.{name_shallow, name_turn}
 use Rattle.frames.proofs.Steps.{few_unknown}
 use Rattle.classify.specs.Classes as class
 use Rattle.classify.specs.Classes.{class_of}
-use Rattle.resolution.specs.Jobs.{Home, Stores, Taken, is_dead, IsDead, AreFresh, Search, Job, Input, Start, Told, TimedOut, TcpFailed, Task, Seek, Take, Go, Again, Point, level_of}
+use Rattle.resolution.specs.Jobs.{Home, Stores, Taken, is_dead, IsDead, AreFresh, Search, Job, Input, Start, Told, TimedOut, TcpFailed, Task, Seek, Take, Go, Again, IsFreshTask, Point, level_of}
 use Rattle.resolution.specs.Rules.{Finds, Hits, HearsOf, turned, Rule, takes, asks, follows, restarts, hears, descends, gives_up, Rules, ByClass, Enters}
 
 -- ---- the measure
@@ -43,13 +43,6 @@ measure_by now (Again server) j = 0
 
 abbrev pub measure : ℕ → Point → ℕ
 measure now p = measure_by now p.task p.job
-
--- A link that is to be used is not dead.
-abbrev pub IsFreshTask : ℕ → Task → Type 0
-IsFreshTask now Seek = Unit {0}
-IsFreshTask now (Take l) = is_dead now l ≡ false
-IsFreshTask now Go = Unit {0}
-IsFreshTask now (Again server) = Unit {0}
 
 -- ---- chains
 

@@ -226,6 +226,13 @@ pub data Task : Type 0 where
   Go : Task
   Again : Addr → Task
 
+-- A link that is to be used is not dead.
+abbrev pub IsFreshTask : ℕ → Task → Type 0
+IsFreshTask now Seek = Unit {0}
+IsFreshTask now (Take l) = is_dead now l ≡ false
+IsFreshTask now Go = Unit {0}
+IsFreshTask now (Again server) = Unit {0}
+
 pub record Point : Type 0 where
   pub task : Task
   pub job : Job

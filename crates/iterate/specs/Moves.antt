@@ -1,0 +1,37 @@
+-- One move of a job at work: a rule, or what goes out where none applies.
+use Rattle.std.specs.Prelude.{◌≡◌, ℕ, Bool, true, false, List, [], ◌∷◌, ◌++◌}
+use Rattle.dname.specs.Labels.{Name}
+use Rattle.resolution.specs.Jobs.{Home, Stores, Taken, AreFresh, IsDead, Search, Job, Next, Task, Point, point}
+use Rattle.resolution.specs.Rules.{Rule, Leaves}
+
+-- The work goes on with a task, or something goes out.
+pub data Turn : Type 0 where
+  Onward : Task → Turn
+  Out : Next → Turn
+
+abbrev pub IsMove : Home → ℕ → Point → Turn → Job → Stores → Type 0
+IsMove home now p (Onward task) job stores = Rule home now p (point task job stores)
+IsMove home now p (Out next) job stores = Leaves home now p next job stores
+
+-- A job with one search more, and with that one alone.
+abbrev pub with_search : Job → Search → Job
+with_search j s = record j { searches = s ∷ j.searches }
+
+abbrev pub begun : Job → Search → Job
+begun j s = record j { searches = s ∷ [] }
+
+-- A job with one alias more, which leads to a name.
+abbrev pub followed : Job → Taken → Name → Job
+followed j l n = record j { chain = j.chain ++ l ∷ []; name = n }
+
+-- A chain up to the first link of it that has run out, and that link.
+pub record IsCutAt (now : ℕ) (old : List Taken) (d : Taken) (new : List Taken) : Type 0 where
+  pub back : List Taken
+  pub parts : old ≡ new ++ d ∷ back
+  pub fresh : AreFresh now new
+  pub dead : IsDead now d
+
+-- The first link of the chain that has run out is sought again; true where there was one.
+abbrev pub IsRestart : ℕ → Job → Job → Bool → Type 0
+IsRestart now old new true = (d : Taken) × (front : List Taken) × IsCutAt now old.chain d front × (new ≡ record old { chain = front; name = d.name; searches = [] })
+IsRestart now old new false = AreFresh now old.chain × (new ≡ old)

@@ -1,0 +1,66 @@
+//! Asks that go out (RFC 1034, section 5.3.3, step 3).
+ghost use Rattle.std.specs.Prelude.{◌≡◌, ℕ, Some, IfOk, Contains};
+ghost use Rattle.retry.specs.Plans.{upcoming};
+ghost use Rattle.resolution.specs.Jobs.{Home as Grounds, Stores as Learnt, Search as Sought, Go as Going, Again as Repeating, point, given};
+ghost use Rattle.iterate.specs.Moves.{IsMove, with_search};
+ghost use Rattle.iterate.specs.Views.{turn_view};
+
+use crate::calls::Next;
+use crate::job::Job;
+use crate::search::Search;
+use crate::task::Turn;
+use authority::Cause;
+use dname::{Heap, Name, Starved};
+use rdata::Addr;
+use std::alloc::AllocError;
+
+/// Asks the server that the search's plan gave, unless nothing more may be sent.
+pub(crate) fn ask<A: Heap>(
+    job: &mut Job<A>,
+    search: Search<A>,
+    server: Addr,
+    now: u64,
+) -> Result<Turn<A>, Starved>
+    ensures { (home : Grounds) (stores : Learnt) (before : Sought) → upcoming (before.frame).plan ≡ Some server → Contains (before.frame).addresses server → search ≡ given before
+        → IfOk result (λ t. IsMove home now (point Going (with_search job.old before) stores) (turn_view t) job.new stores) }
+{
+    if let Some(cause) = job.refusal(now) {
+        drop(search);
+        return Ok(Turn::Out(Next::Fail(cause)));
+    }
+    let name: Result<Name<A>, AllocError> = search.name().clone();
+    let kind = search.kind();
+    job.count();
+    job.push(search)?;
+    Ok(Turn::Out(Next::Ask(server, name?, kind)))
+}
+
+// Asks the search's server again, over TCP, unless nothing more may be sent.
+fn ask_again<A: Heap>(
+    job: &mut Job<A>,
+    search: Search<A>,
+    server: Addr,
+    now: u64,
+) -> Result<Turn<A>, Starved>
+    ensures { IfOk result (λ t. (home : Grounds) (stores : Learnt) → IsMove home now (point (Repeating server) (with_search job.old search) stores) (turn_view t) job.new stores) }
+{
+    if let Some(cause) = job.refusal(now) {
+        drop(search);
+        return Ok(Turn::Out(Next::Fail(cause)));
+    }
+    let name: Result<Name<A>, AllocError> = search.name().clone();
+    let kind = search.kind();
+    job.count();
+    job.push(search)?;
+    Ok(Turn::Out(Next::AskTcp(server, name?, kind)))
+}
+
+/// The reply of this server was cut short: it is asked again over TCP (RFC 2181, section 9).
+pub(crate) fn again<A: Heap>(job: &mut Job<A>, server: Addr, now: u64) -> Result<Turn<A>, Starved>
+    ensures { IfOk result (λ t. (home : Grounds) (stores : Learnt) → IsMove home now (point (Repeating server) job.old stores) (turn_view t) job.new stores) }
+{
+    match job.pop() {
+        Some(search) => Ok(ask_again(job, search, server, now)?),
+        None => Ok(Turn::Out(Next::Fail(Cause::NoServer))),
+    }
+}

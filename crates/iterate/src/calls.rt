@@ -1,0 +1,35 @@
+//! What comes in for a query, and what goes out.
+
+use crate::chain::Chain;
+use authority::Cause;
+use dname::Name;
+use known::Taken;
+use rdata::{Addr, RType};
+use std::alloc::{Allocator, Global};
+use wire::{Message, Via};
+
+/// What comes in for a query.
+#[derive(Drop)]
+pub enum Input<A: Allocator = Global> {
+    /// The query itself.
+    Start,
+    /// The message that was accepted for its ask: the way it came, and the server.
+    Told(Via, Addr, Message<A>),
+    /// The wait for this server is over.
+    TimedOut(Addr),
+    /// The ask of this server over TCP failed.
+    TcpFailed(Addr),
+}
+
+/// What goes out for a query.
+#[derive(Drop)]
+pub enum Next<A: Allocator = Global> {
+    /// An ask in a datagram: of this server, for this name and type.
+    Ask(Addr, Name<A>, RType),
+    /// The same over TCP.
+    AskTcp(Addr, Name<A>, RType),
+    /// The answer: the aliases in order, and the link that ends them.
+    Done(Chain<A>, Taken<A>),
+    /// No answer, and why.
+    Fail(Cause),
+}

@@ -1,0 +1,87 @@
+ghost use Rattle.std.specs.Prelude.{◌≡◌, [], ◌∷◌, ◌++◌, length, take, Some, None, OnOk, MatchOption, slice_get};
+ghost use Rattle.resolution.specs.Jobs.{Taken as Used, AreFresh, IsDead};
+ghost use Rattle.iterate.specs.Moves.{IsCutAt};
+
+use dname::{Heap, Starved};
+use known::Taken;
+use std::alloc::{Allocator, Global};
+use std::marker::Model;
+
+/// The aliases that led to a name, in order. Contracts see their list.
+#[derive(Drop)]
+pub struct Chain<A: Allocator = Global> {
+    links: Vec<Taken<A>, A>,
+}
+
+impl<A: Allocator> Model for Chain<A> {
+    ghost use Rattle.std.specs.Prelude.{List};
+    ghost use Rattle.resolution.specs.Jobs.{Taken as Used};
+
+    ghost Value = { List Used };
+
+    ghost view = { λ c. c.links.items };
+}
+
+impl<A: Heap> Chain<A> {
+    /// No aliases; takes no memory.
+    pub fn new(alloc: A) -> Chain<A>
+        ensures { result ≡ [] }
+    {
+        Chain {
+            links: Vec::new(alloc),
+        }
+    }
+
+    // One alias more, at the end.
+    pub(crate) fn push(&mut self, link: Taken<A>) -> Result<(), Starved>
+        ensures { OnOk result (self.new ≡ self.old ++ link ∷ []) }
+    {
+        self.links.push(link)?;
+        Ok(())
+    }
+}
+
+impl<A: Allocator> Chain<A> {
+    /// How many there are.
+    pub fn len(&self) -> usize
+        ensures { result ≡ length self.now }
+    {
+        self.links.len()
+    }
+
+    /// The aliases in order.
+    pub fn as_slice(&self) -> &[Taken<A>]
+        ensures { result.now ≡ self.now }
+    {
+        self.links.as_slice()
+    }
+
+    /// The aliases in order.
+    pub fn into_links(self) -> Vec<Taken<A>, A>
+        ensures { result.items ≡ self }
+    {
+        self.links
+    }
+
+    // Takes off the first link that has run out at this moment, and all that follow it.
+    pub(crate) fn cut_dead(&mut self, now: u64) -> Option<Taken<A>>
+        ensures { MatchOption result (AreFresh now self.old × (self.new ≡ self.old)) (λ d. IsCutAt now self.old d self.new) }
+    {
+        let place = first_dead(&self.links, now)?;
+        let dead = self.links.swap_remove(place);
+        self.links.truncate(place);
+        Some(dead)
+    }
+}
+
+// The place of the first link that has run out at this moment.
+fn first_dead<A: Allocator>(links: &[Taken<A>], now: u64) -> Option<usize>
+    ensures { MatchOption result (AreFresh now links.now) (λ k. AreFresh now (take k links.now) × (d : Used) × (slice_get links.now k ≡ Some d) × IsDead now d) }
+{
+    for place in 0..links.len() {
+        if links[place].is_dead(now) {
+            return Some(place);
+        }
+    }
+    None
+}

@@ -1,0 +1,199 @@
+ghost use Rattle.std.specs.Prelude.{◌≡◌, ◌+◌, ◌^◌, ◌<◌, ◌≤◌, [], length, IfOk, OnOk, MatchOption};
+ghost use Rattle.rdata.specs.Types.{type_number};
+ghost use Rattle.frames.specs.Frames.{next_name};
+ghost use Rattle.resolution.specs.Jobs.{job_at, wait_of_job, marked, asked_again, MaySend};
+ghost use Rattle.resolution.specs.Rules.{IsRefused, turned};
+ghost use Rattle.iterate.specs.Moves.{with_search, begun, followed, IsRestart};
+
+use crate::chain::Chain;
+use crate::search::{Search, Searches};
+use authority::Cause;
+use dname::{Heap, Name, Starved};
+use frames::Failed;
+use known::Taken;
+use rdata::RType;
+use std::alloc::{Allocator, Global};
+use std::marker::Model;
+use std::mem;
+
+// How long a query has, in milliseconds.
+const LIFETIME_MS: u64 = 10_000;
+// The most asks that are sent for a query.
+const MOST_ASKS: u32 = 40;
+
+/// The work on one query: what is sought now, the aliases that led there, and the searches for it and for
+/// addresses of servers.
+#[derive(Drop)]
+pub struct Job<A: Allocator = Global> {
+    name: Name<A>,
+    kind: RType,
+    chain: Chain<A>,
+    searches: Searches<A>,
+    failed: Failed<A>,
+    asks: u32,
+    deadline: u64,
+}
+
+impl<A: Allocator> Model for Job<A> {
+    ghost use Rattle.rdata.specs.Types.{type_number};
+    ghost use Rattle.resolution.specs.Jobs.{Job as Work};
+
+    ghost Value = { Work };
+
+    ghost view = { λ j. record { name = j.name; kind = type_number j.kind; chain = j.chain; searches = j.searches; failed = j.failed; asks = j.asks; deadline = j.deadline } };
+}
+
+impl<A: Heap> Job<A> {
+    /// The work on a query that comes at the moment `now`, in milliseconds; it has ten seconds. Takes no memory.
+    pub fn new(name: Name<A>, kind: RType, now: u64) -> Job<A>
+        requires { now + 10000 < 2 ^ 64 }
+        ensures { result ≡ job_at name (type_number kind) now }
+    {
+        let alloc = name.allocator();
+        Job {
+            name,
+            kind,
+            chain: Chain::new(alloc),
+            searches: Searches::new(alloc),
+            failed: Failed::new(alloc),
+            asks: 0,
+            deadline: now + LIFETIME_MS,
+        }
+    }
+
+    // A search within the others.
+    pub(crate) fn push(&mut self, search: Search<A>) -> Result<(), Starved>
+        ensures { OnOk result (self.new ≡ with_search self.old search) }
+    {
+        self.searches.push(search)?;
+        Ok(())
+    }
+
+    // A search that is the only one.
+    pub(crate) fn begin(&mut self, search: Search<A>) -> Result<(), Starved>
+        ensures { OnOk result (self.new ≡ begun self.old search) }
+    {
+        self.searches.clear();
+        self.searches.push(search)?;
+        Ok(())
+    }
+
+    // The look-up of this server's name failed.
+    pub(crate) fn mark(&mut self, name: &Name<A>, nesting: u8) -> Result<(), Starved>
+        ensures { OnOk result (self.new ≡ record self.old { failed = marked (self.old).failed name.now nesting }) }
+    {
+        self.failed.mark(name, nesting)?;
+        Ok(())
+    }
+
+    // One alias more, and where it leads.
+    pub(crate) fn follow(&mut self, link: Taken<A>, target: Name<A>) -> Result<(), Starved>
+        ensures { OnOk result (self.new ≡ followed self.old link target) }
+    {
+        self.name = target;
+        self.chain.push(link)?;
+        Ok(())
+    }
+
+    // The server's name of this search whose turn it is.
+    pub(crate) fn next_name(&self, search: &mut Search<A>) -> Result<Option<Name<A>>, Starved>
+        ensures value { IfOk result (λ n. n ≡ next_name (self.now).failed (search.old).frame) }
+        ensures ok { OnOk result (search.new ≡ turned (self.now).failed search.old) }
+    {
+        Ok(search.next_name(&self.failed)?)
+    }
+
+    // The aliases, which are taken out.
+    pub(crate) fn take_chain(&mut self) -> Chain<A>
+        ensures { result ≡ (self.old).chain }
+    {
+        let empty = Chain::new(self.name.allocator());
+        mem::replace(&mut self.chain, empty)
+    }
+}
+
+impl<A: Allocator> Job<A> {
+    /// The name that is sought now.
+    pub fn name(&self) -> &Name<A>
+        ensures { result.now ≡ self.now.name }
+    {
+        &self.name
+    }
+
+    /// The type that is asked for.
+    pub fn kind(&self) -> RType
+        ensures { type_number result ≡ self.now.kind }
+    {
+        self.kind
+    }
+
+    /// How many asks were sent.
+    pub fn asks(&self) -> u32
+        ensures { result ≡ self.now.asks }
+    {
+        self.asks
+    }
+
+    /// The moment from which on nothing more is sent, in milliseconds.
+    pub fn deadline(&self) -> u64
+        ensures { result ≡ self.now.deadline }
+    {
+        self.deadline
+    }
+
+    /// How long the server that was asked last is waited for, in milliseconds.
+    pub fn wait_ms(&self) -> u32
+        ensures { result ≡ wait_of_job self.now }
+    {
+        self.searches.wait_ms()
+    }
+
+    // How many aliases there are.
+    pub(crate) fn aliases(&self) -> usize
+        ensures { result ≡ length self.now.chain }
+    {
+        self.chain.len()
+    }
+
+    // The innermost search.
+    pub(crate) fn pop(&mut self) -> Option<Search<A>>
+        ensures { MatchOption result (((self.old).searches ≡ []) × (self.new ≡ self.old)) (λ s. self.old ≡ with_search self.new s) }
+    {
+        self.searches.pop()
+    }
+
+    // Why nothing may be sent at this moment.
+    pub(crate) fn refusal(&self, now: u64) -> Option<Cause>
+        ensures { MatchOption result (MaySend now self.now) (IsRefused now self.now) }
+    {
+        if self.deadline <= now {
+            return Some(Cause::Deadline);
+        }
+        if self.asks >= MOST_ASKS {
+            return Some(Cause::Sends);
+        }
+        None
+    }
+
+    // One ask more.
+    pub(crate) fn count(&mut self)
+        requires { (self.old).asks < 40 }
+        ensures { self.new ≡ asked_again self.old }
+    {
+        self.asks += 1;
+    }
+
+    // Goes back to the first alias that has run out at this moment: its name is sought again.
+    pub(crate) fn restart(&mut self, now: u64) -> bool
+        ensures { IsRestart now self.old self.new result }
+    {
+        match self.chain.cut_dead(now) {
+            Some(dead) => {
+                self.name = dead.into_name();
+                self.searches.clear();
+                true
+            }
+            None => false,
+        }
+    }
+}

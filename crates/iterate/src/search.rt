@@ -1,0 +1,166 @@
+ghost use Rattle.std.specs.Prelude.{◌≡◌, ◌+◌, ◌<◌, [], ◌∷◌, None, IfOk, OnOk, IfSome, IfNone, MatchOption, Contains};
+ghost use Rattle.rdata.specs.Types.{type_number};
+ghost use Rattle.retry.specs.Plans.{upcoming, wait_of};
+ghost use Rattle.frames.specs.Frames.{next_name, after_add, fresh_addresses};
+ghost use Rattle.resolution.specs.Jobs.{level_of, search_at, with_frame, given, wait_in};
+ghost use Rattle.resolution.specs.Rules.{turned};
+
+use dname::{Heap, Name, Starved};
+use frames::{Failed, Frame};
+use known::Stores;
+use rdata::{Addr, RType};
+use std::alloc::{Allocator, Global};
+use std::hash::BuildHasher;
+use std::marker::Model;
+
+/// What is sought of the servers of a frame.
+#[derive(Drop)]
+pub struct Search<A: Allocator = Global> {
+    name: Name<A>,
+    kind: RType,
+    frame: Frame<A>,
+}
+
+impl<A: Allocator> Model for Search<A> {
+    ghost use Rattle.rdata.specs.Types.{type_number};
+    ghost use Rattle.resolution.specs.Jobs.{Search as Sought};
+
+    ghost Value = { Sought };
+
+    ghost view = { λ s. record { name = s.name; kind = type_number s.kind; frame = s.frame } };
+}
+
+impl<A: Allocator> Search<A> {
+    // The search for this name and type at these servers.
+    pub(crate) fn new(name: Name<A>, kind: RType, frame: Frame<A>) -> Search<A>
+        ensures { result ≡ search_at name (type_number kind) frame }
+    {
+        Search { name, kind, frame }
+    }
+
+    pub(crate) fn name(&self) -> &Name<A>
+        ensures { result.now ≡ self.now.name }
+    {
+        &self.name
+    }
+
+    pub(crate) fn kind(&self) -> RType
+        ensures { type_number result ≡ self.now.kind }
+    {
+        self.kind
+    }
+
+    pub(crate) fn frame(&self) -> &Frame<A>
+        ensures { result.now ≡ self.now.frame }
+    {
+        &self.frame
+    }
+
+    pub(crate) fn into_name(self) -> Name<A>
+        ensures { result ≡ self.name }
+    {
+        self.name
+    }
+
+    // The search goes on at these servers.
+    pub(crate) fn reopen(&mut self, frame: Frame<A>)
+        ensures { self.new ≡ with_frame self.old frame }
+    {
+        self.frame = frame;
+    }
+
+    // The next address of the plan, which is one of the frame's.
+    pub(crate) fn next_address(&mut self) -> Option<Addr>
+        ensures value { result ≡ upcoming (self.old).frame.plan }
+        ensures given { self.new ≡ given self.old }
+        ensures member { IfSome result (Contains (self.old).frame.addresses) }
+        ensures none { IfNone result (self.new ≡ self.old) }
+    {
+        self.frame.next_address()
+    }
+}
+
+impl<A: Heap> Search<A> {
+    // The server's name whose turn it is.
+    pub(crate) fn next_name(&mut self, failed: &Failed<A>) -> Result<Option<Name<A>>, Starved>
+        ensures value { IfOk result (λ n. n ≡ next_name failed.now (self.old).frame) }
+        ensures ok { OnOk result (self.new ≡ turned failed.now self.old) }
+    {
+        Ok(self.frame.next_name(failed)?)
+    }
+
+    // Addresses that were found for a server's name: those that are not known yet are asked next.
+    pub(crate) fn add<S: BuildHasher + Drop>(
+        &mut self,
+        found: &[Addr],
+        stores: &Stores<S, A>,
+    ) -> Result<(), Starved>
+        ensures { OnOk result (self.new ≡ with_frame self.old (after_add (level_of stores.now) (self.old).frame (fresh_addresses (self.old).frame found.now))) }
+    {
+        stores.add(&mut self.frame, found)?;
+        Ok(())
+    }
+}
+
+/// Searches, the innermost first. Contracts see their list.
+#[derive(Drop)]
+pub struct Searches<A: Allocator = Global> {
+    searches: Vec<Search<A>, A>,
+}
+
+impl<A: Allocator> Model for Searches<A> {
+    ghost use Rattle.std.specs.Prelude.{List};
+    ghost use Rattle.resolution.specs.Jobs.{Search as Sought};
+
+    ghost Value = { List Sought };
+
+    ghost view = { λ s. s.searches.items };
+}
+
+impl<A: Heap> Searches<A> {
+    // No searches; takes no memory.
+    pub(crate) fn new(alloc: A) -> Searches<A>
+        ensures { result ≡ [] }
+    {
+        Searches {
+            searches: Vec::new(alloc),
+        }
+    }
+
+    // One within the others.
+    pub(crate) fn push(&mut self, search: Search<A>) -> Result<(), Starved>
+        ensures { OnOk result (self.new ≡ search ∷ self.old) }
+    {
+        self.searches.insert(0, search)?;
+        Ok(())
+    }
+}
+
+impl<A: Allocator> Searches<A> {
+    // The innermost.
+    pub(crate) fn pop(&mut self) -> Option<Search<A>>
+        ensures { MatchOption result ((self.old ≡ []) × (self.new ≡ self.old)) (λ s. self.old ≡ s ∷ self.new) }
+    {
+        if self.searches.is_empty() {
+            return None;
+        }
+        Some(self.searches.remove(0))
+    }
+
+    // They are given up.
+    pub(crate) fn clear(&mut self)
+        ensures { self.new ≡ [] }
+    {
+        self.searches.clear();
+    }
+
+    // How long the server of the innermost is waited for, in milliseconds.
+    pub(crate) fn wait_ms(&self) -> u32
+        ensures { result ≡ wait_in self.now }
+    {
+        match self.searches.first() {
+            Some(search) => search.frame.wait_ms(),
+            None => 1_000,
+        }
+    }
+}

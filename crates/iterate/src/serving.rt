@@ -1,0 +1,193 @@
+//! Servers of the innermost search: the next of its plan, and where all were asked, addresses of those that
+//! are known by name alone (RFC 1034, section 5.3.3, steps 2 and 3).
+ghost use Rattle.std.specs.Prelude.{◌≡◌, ◌+◌, ◌<◌, ℕ, List, Some, None, ◌∷◌, IfOk, OnOk};
+ghost use Rattle.rdata.specs.declared.addr.Addr.{Addr as Address};
+ghost use Rattle.retry.specs.Plans.{upcoming};
+ghost use Rattle.zone.specs.Zones.{a_type};
+ghost use Rattle.frames.specs.Frames.{FailedName, next_name, after_add, fresh_addresses, opened};
+ghost use Rattle.resolution.specs.Jobs.{Home as Grounds, Stores as Learnt, Search as Sought, Go as Going, point, level_of, search_at, with_frame, AreAddressesOf};
+ghost use Rattle.resolution.specs.Rules.{Rule, HearsOf, turned};
+ghost use Rattle.known.specs.Uses.{OnlyUses};
+ghost use Rattle.iterate.specs.Moves.{IsMove, with_search};
+ghost use Rattle.iterate.specs.Views.{turn_view};
+
+use crate::asking::ask;
+use crate::calls::Next;
+use crate::job::Job;
+use crate::search::Search;
+use crate::task::{Task, Turn};
+use authority::{Cause, Link};
+use dname::{Heap, Name, Starved};
+use known::{Found, Home, Stores, Taken, find, found_addresses};
+use rdata::{RType, Record};
+use referral::Cut;
+use std::hash::BuildHasher;
+
+// The addresses that were found for a server's name; those that are not known yet are asked next.
+fn add_set<S: BuildHasher + Drop, A: Heap>(
+    search: &mut Search<A>,
+    set: &[Record<A>],
+    stores: &Stores<S, A>,
+) -> Result<(), Starved>
+    ensures { OnOk result ((found : List Address) × AreAddressesOf set.now found × (search.new ≡ with_frame search.old (after_add (level_of stores.now) (search.old).frame (fresh_addresses (search.old).frame found)))) }
+{
+    let found = found_addresses(search.name().allocator(), set)?;
+    search.add(&found, stores)?;
+    Ok(())
+}
+
+/// What is found for a server's name: addresses, or that it has none, which is noted for this query.
+pub(crate) fn hear_of<S: BuildHasher + Drop, A: Heap>(
+    job: &mut Job<A>,
+    mut search: Search<A>,
+    link: &Taken<A>,
+    stores: &Stores<S, A>,
+) -> Result<(), Starved>
+    ensures { OnOk result ((after : Sought) × (marks : List FailedName) × HearsOf stores.now link.now.name link.now.link search (job.old).failed after marks × (job.new ≡ record job.old { searches = after ∷ (job.old).searches; failed = marks })) }
+{
+    let heard = match link.link() {
+        Link::Found(set) => add_set(&mut search, set.as_slice(), stores),
+        Link::Alias(_) | Link::NoData(_) | Link::NxDomain(_) => job.mark(link.name(), 0),
+    };
+    match heard {
+        Ok(()) => Ok(job.push(search)?),
+        Err(starved) => {
+            drop(search);
+            Err(starved)
+        }
+    }
+}
+
+// The address of a server's name is sought, one nesting deeper.
+fn descend<S: BuildHasher + Drop, A: Heap>(
+    alloc: A,
+    job: &mut Job<A>,
+    search: Search<A>,
+    name: Name<A>,
+    cut: &Cut<A>,
+    stores: &Stores<S, A>,
+) -> Result<(), Starved>
+    requires { (search.frame).nesting < 3 }
+    ensures { OnOk result (job.new ≡ with_search (with_search job.old search) (search_at name a_type (opened (level_of stores.now) ((search.frame).nesting + 1) cut.now))) }
+{
+    let frame = stores.open(alloc, cut, search.frame().nesting() + 1);
+    job.push(search)?;
+    job.push(Search::new(name, RType::A, frame?))?;
+    Ok(())
+}
+
+// The address of a server's name: what is known of it, or else a search.
+fn look_for<S: BuildHasher + Drop, A: Heap>(
+    alloc: A,
+    job: &mut Job<A>,
+    search: Search<A>,
+    name: Name<A>,
+    home: &Home<A>,
+    stores: &mut Stores<S, A>,
+    now: u64,
+) -> Result<(), Starved>
+    requires { (search.frame).nesting < 3 }
+    ensures rule { (before : Sought) → upcoming (before.frame).plan ≡ None → next_name (job.old).failed before.frame ≡ Some name → search ≡ turned (job.old).failed before
+        → OnOk result (Rule home.now now (point Going (with_search job.old before) stores.old) (point Going job.new stores.new)) }
+    ensures only { OnlyUses stores.old stores.new }
+{
+    match find(alloc, home, &name, RType::A, stores, now) {
+        Err(starved) => {
+            drop(search);
+            drop(name);
+            Err(starved)
+        }
+        Ok(Found::Known(link)) => {
+            drop(name);
+            let heard = hear_of(job, search, &link, stores);
+            drop(link);
+            heard
+        }
+        Ok(Found::Start(cut)) => {
+            let sought = descend(alloc, job, search, name, &cut, stores);
+            drop(cut);
+            sought
+        }
+    }
+}
+
+// No server is left for the innermost search: the one around it goes on, or none is left for the query.
+fn give_up<A: Heap>(job: &mut Job<A>, search: Search<A>) -> Result<Turn<A>, Starved>
+    ensures { (home : Grounds) (now : ℕ) (stores : Learnt) (before : Sought) → upcoming (before.frame).plan ≡ None → next_name (job.old).failed before.frame ≡ None → search ≡ turned (job.old).failed before
+        → IfOk result (λ t. IsMove home now (point Going (with_search job.old before) stores) (turn_view t) job.new stores) }
+{
+    match job.pop() {
+        None => {
+            drop(search);
+            Ok(Turn::Out(Next::Fail(Cause::NoServer)))
+        }
+        Some(around) => {
+            let marked = job.mark(search.name(), search.frame().nesting());
+            drop(search);
+            job.push(around)?;
+            marked?;
+            Ok(Turn::Onward(Task::Go))
+        }
+    }
+}
+
+// All known addresses were asked.
+fn go_further<S: BuildHasher + Drop, A: Heap>(
+    alloc: A,
+    job: &mut Job<A>,
+    mut search: Search<A>,
+    home: &Home<A>,
+    stores: &mut Stores<S, A>,
+    now: u64,
+) -> Result<Turn<A>, Starved>
+    requires { upcoming (search.frame).plan ≡ None }
+    ensures is { IfOk result (λ t. IsMove home.now now (point Going (with_search job.old search) stores.old) (turn_view t) job.new stores.new) }
+    ensures only { OnlyUses stores.old stores.new }
+{
+    match job.next_name(&mut search) {
+        Err(starved) => {
+            drop(search);
+            Err(starved)
+        }
+        Ok(Some(name)) => {
+            look_for(alloc, job, search, name, home, stores, now)?;
+            Ok(Turn::Onward(Task::Go))
+        }
+        Ok(None) => Ok(give_up(job, search)?),
+    }
+}
+
+// The innermost search goes on.
+fn go_on<S: BuildHasher + Drop, A: Heap>(
+    alloc: A,
+    job: &mut Job<A>,
+    mut search: Search<A>,
+    home: &Home<A>,
+    stores: &mut Stores<S, A>,
+    now: u64,
+) -> Result<Turn<A>, Starved>
+    ensures is { IfOk result (λ t. IsMove home.now now (point Going (with_search job.old search) stores.old) (turn_view t) job.new stores.new) }
+    ensures only { OnlyUses stores.old stores.new }
+{
+    match search.next_address() {
+        Some(server) => Ok(ask(job, search, server, now)?),
+        None => Ok(go_further(alloc, job, search, home, stores, now)?),
+    }
+}
+
+/// Servers are asked: the next one of the innermost search.
+pub(crate) fn go<S: BuildHasher + Drop, A: Heap>(
+    alloc: A,
+    job: &mut Job<A>,
+    home: &Home<A>,
+    stores: &mut Stores<S, A>,
+    now: u64,
+) -> Result<Turn<A>, Starved>
+    ensures is { IfOk result (λ t. IsMove home.now now (point Going job.old stores.old) (turn_view t) job.new stores.new) }
+    ensures only { OnlyUses stores.old stores.new }
+{
+    match job.pop() {
+        Some(search) => Ok(go_on(alloc, job, search, home, stores, now)?),
+        None => Ok(Turn::Out(Next::Fail(Cause::NoServer))),
+    }
+}
