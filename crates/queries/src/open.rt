@@ -36,6 +36,14 @@ impl<A: Allocator> Open<A> {
         self.number
     }
 
+    /// Who asks, and the work on it.
+    pub fn into_work(self) -> (Asker<A>, Job<A>)
+        ensures asker { result.0 ≡ self.asker }
+        ensures job { result.1 ≡ self.job }
+    {
+        (self.asker, self.job)
+    }
+
     /// When it is due: the wait for its ask is over, or its own time is up.
     pub fn due_moment(&self) -> u64
         ensures { result ≡ due_moment self.now }
