@@ -1,0 +1,7 @@
+//! The resolver as a machine of one thread: events in, actions out.
+#![tactic(auto)]
+
+mod answer;
+mod ask;
+mod serve;
+mod works;
