@@ -3,5 +3,7 @@
 
 mod answer;
 mod ask;
+mod begin;
+mod hear;
 mod serve;
 mod works;

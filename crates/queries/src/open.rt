@@ -44,6 +44,13 @@ impl<A: Allocator> Open<A> {
         (self.asker, self.job)
     }
 
+    /// Its open ask.
+    pub fn ask(&self) -> &Asking<A>
+        ensures { result.now ≡ self.now.ask }
+    {
+        &self.ask
+    }
+
     /// When it is due: the wait for its ask is over, or its own time is up.
     pub fn due_moment(&self) -> u64
         ensures { result ≡ due_moment self.now }
