@@ -1,14 +1,14 @@
 //! Events for open queries.
-ghost use Rattle.std.specs.Prelude.{IfOk};
+ghost use Rattle.std.specs.Prelude.{◌≡◌, IfOk, OnErr};
 ghost use Rattle.exchange.specs.Views.{event_view};
 ghost use Rattle.runs.specs.States.{Open};
 ghost use Rattle.queries.specs.Lookups.{IsTheOne};
-ghost use Rattle.engine.specs.Works.{state_of};
-ghost use Rattle.engine.specs.Moves.{Reads, IsRead, Forgets};
+ghost use Rattle.engine.specs.Works.{state_of, IsSound};
+ghost use Rattle.engine.specs.Moves.{Reads, IsRead, Forgets, IsHeard, IsLost};
 
 use crate::works::Works;
 use dname::{Heap, Starved};
-use exchange::{Asking, Event, reply_in};
+use exchange::{Action, Asking, Event, reply_in};
 use iterate::Input;
 
 // What an event brings for an ask: a message that is accepted, as an input.
@@ -46,6 +46,26 @@ impl<A: Heap> Works<A> {
         match self.queries.take(number) {
             Some(open) => drop(open),
             None => unreachable!(),
+        }
+    }
+
+    // The open query of that number is served by what an event brings for it.
+    pub fn hear(&mut self, number: u64, event: &Event<A>) -> Result<Option<Action<A>>, Starved>
+        requires sound { IsSound (state_of self.old) }
+        requires there { (q : Open) × IsTheOne self.old.queries number q }
+        ensures ok { IfOk result (λ o. IsHeard (state_of self.old) number (event_view event.now) o (state_of self.new)) }
+        ensures err { OnErr result (IsLost (state_of self.old) number (event_view event.now) (state_of self.new)) }
+    {
+        match self.read_for(number, event) {
+            Ok(Some(input)) => match self.go_on(number, input) {
+                Ok(action) => Ok(Some(action)),
+                Err(_) => Err(Starved),
+            },
+            Ok(None) => Ok(None),
+            Err(_) => {
+                self.forget(number);
+                Err(Starved)
+            }
         }
     }
 }
