@@ -1,5 +1,5 @@
 -- What the resolver holds and takes, seen as the plain values of the rules.
-use Rattle.std.specs.Prelude.{ℕ, ◌≤◌, List, [], map}
+use Rattle.std.specs.Prelude.{ℕ, ◌≤◌, Bool, true, false, List, [], map}
 use Rattle.dname.specs.Labels.{Name}
 use Rattle.rdata.specs.Records.{greatest_ttl}
 use Rattle.rdata.specs.declared.addr.Addr.{Addr}
@@ -29,6 +29,11 @@ abbrev pub source_view : Origin → Source
 source_view origin.Local = rules.Local
 source_view (origin.Cached ttl since) = rules.Cached ttl since
 source_view (origin.Accepted ttl since) = rules.Accepted ttl since
+
+abbrev pub is_at_hand : Source → Bool
+is_at_hand rules.Local = true
+is_at_hand (rules.Cached ttl since) = false
+is_at_hand (rules.Accepted ttl since) = false
 
 -- Its time to live is one that a record may have.
 abbrev pub IsBounded : Source → Type 0

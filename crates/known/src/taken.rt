@@ -4,7 +4,7 @@ ghost use Rattle.zone.specs.Links.{Alias as Alternative};
 ghost use Rattle.authority.specs.Answers.{link_view};
 ghost use Rattle.front.specs.Chains.{target_of};
 ghost use Rattle.resolution.specs.Jobs.{local_link, kept_link, is_dead, has_ended, IsEnding, sent};
-ghost use Rattle.known.specs.Views.{source_view, IsBounded, taken_at, accepted_link};
+ghost use Rattle.known.specs.Views.{source_view, is_at_hand, IsBounded, taken_at, accepted_link};
 
 use authority::Link;
 use cache::{Hit, retimed};
@@ -122,6 +122,16 @@ impl<A: Allocator> Taken<A> {
         ensures { result ≡ self.name }
     {
         self.name
+    }
+
+    /// Whether it comes from the zones at hand.
+    pub fn is_local(&self) -> bool
+        ensures { result ≡ is_at_hand self.now.source }
+    {
+        match self.source {
+            Source::Local => true,
+            Source::Cached { .. } | Source::Accepted { .. } => false,
+        }
     }
 
     /// The link as it was taken.

@@ -1,0 +1,5 @@
+pub mod Asks
+pub mod Aliases
+pub mod Lift
+pub mod Begun
+pub mod Heard

@@ -1,0 +1,17 @@
+use Rattle.std.proofs.Common.{◌+◌, refl, ap}
+use Rattle.rdata.specs.Types.{type_number}
+use Rattle.exchange.specs.Views.{action_view}
+use Rattle.runs.specs.States.{State, ByTcp, low_half}
+use Rattle.engine.specs.Works.{state_of}
+use Rattle.engine.proofs.Asks.{still_none, waits_by_tcp, halts}
+use Rattle.engine.proofs.works.Works.ask_tcp.Goals as goal
+
+pub put-requires : goal.put-requires
+put-requires g c = still_none (state_of c.args.self.now) (state_of c.word.new.self) c.word.ensures.state c.args.number c.requires.fresh
+
+pub returns-clause-ok : goal.returns-clause-ok
+returns-clause-ok g c =
+    let drew = c.word.ensures.state in
+    waits_by_tcp (state_of c.args.self.now) (state_of c.word.new.self) drew (state_of c.put.new.self) c.args.asker c.args.number c.args.job _ _ (action_view c.in_ok-action.action) c.in_ok-action.ensures.ok
+    c.args.server c.args.name (type_number c.args.kind)
+    record { server = refl; name = refl; kind = refl } (ap (λ (z : State). ByTcp z.asked) drew) (ap low_half c.word.ensures.is) (ap (λ (z : State). z.clock + 3000) drew)

@@ -1,0 +1,29 @@
+use Rattle.std.proofs.Common.{refl}
+use Rattle.std.proofs.lemmas.Result.{IfOk-weaker, on_err_weaker}
+use Rattle.iterate.specs.Views.{input_view, next_view}
+use Rattle.runs.specs.States.{State}
+use Rattle.engine.specs.Works.{state_of}
+use Rattle.engine.specs.Replies.{alone}
+use Rattle.engine.proofs.Lift.{goes_on, falls_after}
+use Rattle.engine.proofs.works.Works.serve.Goals as goal
+
+pub follow-requires : goal.follow-requires
+follow-requires g c = record {
+  sound = record { sockets = c.requires.sound.sockets; clock = c.requires.sound.clock; few = c.requires.sound.few; opened = c.requires.sound.opened };
+  fresh = c.requires.fresh;
+}
+
+pub returns-clause-ok : goal.returns-clause-ok
+returns-clause-ok g c =
+    let s : State = state_of c.args.self.now in
+    IfOk-weaker c.follow.result _ _
+    (λ a h. goes_on s (record s { stores = c.advance.new.stores }) c.args.asker c.args.number c.args.job (input_view c.args.input) (next_view c.in_ok-next.next) c.advance.new.job c.advance.new.stores
+    (alone a) (state_of c.follow.new.self) c.requires.fresh refl c.in_ok-next.ensures.advances h)
+    c.follow.ensures.ok
+
+pub returns-clause-err : goal.returns-clause-err
+returns-clause-err g c =
+    let s : State = state_of c.args.self.now in
+    on_err_weaker c.follow.result
+    (falls_after s (record s { stores = c.advance.new.stores }) c.args.job (input_view c.args.input) (next_view c.in_ok-next.next) c.advance.new.job c.advance.new.stores (state_of c.follow.new.self) refl c.in_ok-next.ensures.advances)
+    c.follow.ensures.err

@@ -1,0 +1,3 @@
+pub mod Works
+pub mod Moves
+pub mod Replies

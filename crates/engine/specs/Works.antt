@@ -1,0 +1,23 @@
+-- The state of a resolver at work, and what holds of it at all times.
+use Rattle.std.specs.Prelude.{ℕ, ◌<◌, ◌≤◌, List, length, Contains}
+use Rattle.runs.specs.States.{Open, State, latest}
+use Rattle.runs.specs.Steps.{most_open}
+use Rattle.engine.specs.declared.works.Works.{Works}
+
+abbrev pub state_of : {A : Type 0} → Works A → State
+state_of w = record {
+  site = record { home = w.home; port = w.port; sockets = w.sockets };
+  clock = w.clock;
+  stores = w.stores;
+  queries = w.queries;
+  opened = w.opened;
+  asked = w.asked;
+  generator = w.generator;
+}
+
+-- There is a socket, the clock is a moment that counts, not too many queries are open, and each was opened.
+pub record IsSound (s : State) : Type 0 where
+  pub sockets : 0 < (s.site).sockets
+  pub clock : s.clock ≤ latest
+  pub few : length s.queries ≤ most_open
+  pub opened : (q : Open) → Contains s.queries q → q.number < s.opened

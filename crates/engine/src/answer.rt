@@ -1,0 +1,70 @@
+//! What a query whose chain has its end is to be answered.
+ghost use Rattle.std.specs.Prelude.{◌≡◌, [], ◌∷◌, IfOk};
+ghost use Rattle.authority.specs.Answers.{link_view};
+ghost use Rattle.exchange.specs.Plain.{plain_end, plain_outcome};
+ghost use Rattle.runs.specs.Messages.{is_local_first, aliases_of, end_in, outcome_of};
+
+use authority::Link;
+use dname::{Heap, Starved};
+use front::{End, Outcome};
+use iterate::Chain;
+use known::Taken;
+use rdata::{Record, Records};
+
+// The answer of a chain and its end, at the moment `now`.
+pub fn outcome_of<A: Heap>(
+    alloc: A,
+    chain: Chain<A>,
+    last: Taken<A>,
+    now: u64,
+) -> Result<Outcome<A>, Starved>
+    ensures { IfOk result (λ o. plain_outcome o ≡ outcome_of now chain last) }
+{
+    let aa = is_local_first(chain.as_slice(), &last);
+    let aliases = aliases_of(alloc, chain, now)?;
+    let end = end_of(alloc, last.into_sent(now))?;
+    Ok(Outcome::Answer(aa, aliases, end))
+}
+
+// Whether the asked name's own link is of the zones at hand.
+fn is_local_first<A: Heap>(links: &[Taken<A>], last: &Taken<A>) -> bool
+    ensures { result ≡ is_local_first links.now last.now }
+{
+    match links.first() {
+        Some(first) => first.is_local(),
+        None => last.is_local(),
+    }
+}
+
+// The records of the aliases, as they go out.
+fn aliases_of<A: Heap>(alloc: A, chain: Chain<A>, now: u64) -> Result<Records<A>, Starved>
+    ensures { IfOk result (λ r. r ≡ aliases_of now chain) }
+{
+    let mut aliases = Records::new(alloc);
+    for taken in chain.into_links() {
+        if let Link::Alias(record) = taken.into_sent(now) {
+            aliases.push(record)?;
+        }
+    }
+    Ok(aliases)
+}
+
+// A chain's end, with a denial's SOA as a list of one.
+fn end_of<A: Heap>(alloc: A, link: Link<A>) -> Result<End<A>, Starved>
+    ensures { IfOk result (λ e. plain_end e ≡ end_in (link_view link)) }
+{
+    match link {
+        Link::Found(set) => Ok(End::Found(set)),
+        Link::Alias(_) => Ok(End::Outside),
+        Link::NoData(soa) => Ok(End::NoData(only(alloc, soa)?)),
+        Link::NxDomain(soa) => Ok(End::NxDomain(only(alloc, soa)?)),
+    }
+}
+
+fn only<A: Heap>(alloc: A, soa: Record<A>) -> Result<Records<A>, Starved>
+    ensures { IfOk result (λ r. r ≡ soa ∷ []) }
+{
+    let mut records = Records::new(alloc);
+    records.push(soa)?;
+    Ok(records)
+}

@@ -1,0 +1,118 @@
+//! Asks that go out, and the queries that wait for them.
+ghost use Rattle.std.specs.Prelude.{◌≡◌, ℕ, ◌+◌, ◌<◌, ◌/◌, ◌%◌, ◌^◌, length, IfOk, OnErr};
+ghost use Rattle.rdata.specs.Types.{type_number};
+ghost use Rattle.exchange.specs.Views.{action_view};
+ghost use Rattle.resolution.specs.Jobs.{wait_of_job};
+ghost use Rattle.runs.specs.States.{open_query, word_of, word_taken, low_half, socket_of};
+ghost use Rattle.runs.specs.Steps.{most_open, WaitsByUdp, WaitsByTcp};
+ghost use Rattle.queries.specs.Lookups.{HasNo};
+ghost use Rattle.engine.specs.Works.{state_of, IsSound};
+ghost use Rattle.engine.specs.Moves.{Puts, Halts};
+ghost use Rattle.engine.specs.Replies.{alone};
+
+use crate::works::Works;
+use dname::{Heap, Name, Starved};
+use exchange::{Action, Asker, Asking, Path, send};
+use iterate::Job;
+use queries::Open;
+use rand_core::utils::NextWord;
+use rdata::{Addr, RType};
+
+// How long a reply over TCP is waited for, in milliseconds.
+const TCP_WAIT_MS: u64 = 3_000;
+
+impl<A: Heap> Works<A> {
+    // The next word of the generator.
+    fn word(&mut self) -> u32
+        ensures is { result ≡ word_of self.old.generator }
+        ensures state { state_of self.new ≡ record (state_of self.old) { generator = word_taken self.old.generator } }
+    {
+        self.generator.next_word()
+    }
+
+    // A query's ask goes out, and the query waits for it.
+    fn put(
+        &mut self,
+        number: u64,
+        asker: Asker<A>,
+        job: Job<A>,
+        ask: Asking<A>,
+        due: u64,
+    ) -> Result<Action<A>, Starved>
+        requires { HasNo self.old.queries number }
+        ensures ok { IfOk result (λ a. Puts (state_of self.old) (open_query number asker job ask due) (action_view a) (state_of self.new)) }
+        ensures err { OnErr result (state_of self.new ≡ state_of self.old) }
+    {
+        let action = send(self.alloc, self.port, &ask)?;
+        self.queries.put(Open {
+            number,
+            asker,
+            job,
+            ask,
+            due,
+        })?;
+        Ok(action)
+    }
+
+    // A server is asked in a datagram: the ID and the socket by a word of the generator, the ID raised until no
+    // other open ask is like it.
+    pub fn ask_udp(
+        &mut self,
+        number: u64,
+        asker: Asker<A>,
+        job: Job<A>,
+        server: Addr,
+        name: Name<A>,
+        kind: RType,
+    ) -> Result<Action<A>, Starved>
+        requires sound { IsSound (state_of self.old) }
+        requires fresh { HasNo self.old.queries number }
+        ensures ok { IfOk result (λ a. WaitsByUdp (state_of self.old) asker number self.old.opened server name (type_number kind) job self.old.stores (alone a) (state_of self.new)) }
+        ensures err { OnErr result (Halts (state_of self.old) (state_of self.new)) }
+    {
+        let word = self.word();
+        let socket = (word / 65_536 % u32::from(self.sockets)) as u16;
+        let id = self.queries.free_id(socket, server, (word % 65_536) as u16);
+        let due = self.clock + u64::from(job.wait_ms());
+        let ask = Asking {
+            path: Path::Udp(socket),
+            server,
+            id,
+            name,
+            kind,
+        };
+        self.put(number, asker, job, ask, due)
+    }
+
+    // A server is asked over TCP, under the next number: the ID by a word of the generator.
+    pub fn ask_tcp(
+        &mut self,
+        number: u64,
+        asker: Asker<A>,
+        job: Job<A>,
+        server: Addr,
+        name: Name<A>,
+        kind: RType,
+    ) -> Result<Action<A>, Starved>
+        requires sound { IsSound (state_of self.old) }
+        requires fresh { HasNo self.old.queries number }
+        ensures ok { IfOk result (λ a. WaitsByTcp (state_of self.old) asker number self.old.opened server name (type_number kind) job self.old.stores (alone a) (state_of self.new)) }
+        ensures err { OnErr result (Halts (state_of self.old) (state_of self.new)) }
+    {
+        if self.asked == u64::MAX {
+            return Err(Starved);
+        }
+        let id = (self.word() % 65_536) as u16;
+        let due = self.clock + TCP_WAIT_MS;
+        let ask = Asking {
+            path: Path::Tcp(self.asked),
+            server,
+            id,
+            name,
+            kind,
+        };
+        let action = self.put(number, asker, job, ask, due)?;
+        self.asked += 1;
+        Ok(action)
+    }
+}

@@ -1,0 +1,71 @@
+//! Events for open queries.
+ghost use Rattle.std.specs.Prelude.{◌≡◌, IfOk, OnErr};
+ghost use Rattle.exchange.specs.Views.{event_view};
+ghost use Rattle.runs.specs.States.{Open};
+ghost use Rattle.queries.specs.Lookups.{IsTheOne};
+ghost use Rattle.engine.specs.Works.{state_of, IsSound};
+ghost use Rattle.engine.specs.Moves.{Reads, IsRead, Forgets, IsHeard, IsLost};
+
+use crate::works::Works;
+use dname::{Heap, Starved};
+use exchange::{Action, Asking, Event, reply_in};
+use iterate::Input;
+
+// What an event brings for an ask: a message that is accepted, as an input.
+fn read<A: Heap>(
+    alloc: A,
+    port: u16,
+    ask: &Asking<A>,
+    event: &Event<A>,
+) -> Result<Option<Input<A>>, Starved>
+    ensures { IfOk result (Reads port ask.now (event_view event.now)) }
+{
+    match reply_in(alloc, port, ask, event)? {
+        Some(message) => Ok(Some(Input::Told(ask.path.via(), ask.server, message))),
+        None => Ok(None),
+    }
+}
+
+impl<A: Heap> Works<A> {
+    // What an event brings for the open query of that number.
+    fn read_for(&self, number: u64, event: &Event<A>) -> Result<Option<Input<A>>, Starved>
+        requires { (q : Open) × IsTheOne self.now.queries number q }
+        ensures { IfOk result (IsRead (state_of self.now) number (event_view event.now)) }
+    {
+        match self.queries.get(number) {
+            Some(open) => read(self.alloc, self.port, open.ask(), event),
+            None => unreachable!(),
+        }
+    }
+
+    // The open query of that number is gone.
+    fn forget(&mut self, number: u64)
+        requires { (q : Open) × IsTheOne self.old.queries number q }
+        ensures { Forgets (state_of self.old) number (state_of self.new) }
+    {
+        match self.queries.take(number) {
+            Some(open) => drop(open),
+            None => unreachable!(),
+        }
+    }
+
+    // The open query of that number is served by what an event brings for it.
+    pub fn hear(&mut self, number: u64, event: &Event<A>) -> Result<Option<Action<A>>, Starved>
+        requires sound { IsSound (state_of self.old) }
+        requires there { (q : Open) × IsTheOne self.old.queries number q }
+        ensures ok { IfOk result (λ o. IsHeard (state_of self.old) number (event_view event.now) o (state_of self.new)) }
+        ensures err { OnErr result (IsLost (state_of self.old) number (event_view event.now) (state_of self.new)) }
+    {
+        match self.read_for(number, event) {
+            Ok(Some(input)) => match self.go_on(number, input) {
+                Ok(action) => Ok(Some(action)),
+                Err(_) => Err(Starved),
+            },
+            Ok(None) => Ok(None),
+            Err(_) => {
+                self.forget(number);
+                Err(Starved)
+            }
+        }
+    }
+}

@@ -1,0 +1,111 @@
+//! One query's work, and what comes of it.
+ghost use Rattle.std.specs.Prelude.{◌≡◌, IfOk, OnErr};
+ghost use Rattle.authority.specs.declared.cause.Cause.TheVariants as cause;
+ghost use Rattle.front.specs.declared.queries.Outcome.TheVariants as outcome;
+ghost use Rattle.exchange.specs.Views.{action_view};
+ghost use Rattle.iterate.specs.Views.{input_view, next_view};
+ghost use Rattle.runs.specs.States.{Open};
+ghost use Rattle.runs.specs.Messages.{outcome_of};
+ghost use Rattle.runs.specs.Steps.{AreOthers, Ends, Comes};
+ghost use Rattle.queries.specs.Lookups.{HasNo, IsTheOne};
+ghost use Rattle.engine.specs.Works.{state_of, IsSound};
+ghost use Rattle.engine.specs.Moves.{Halts, Goes, Falls, ServesOne, DropsOne};
+ghost use Rattle.engine.specs.Replies.{alone};
+
+use crate::answer::outcome_of;
+use crate::works::Works;
+use authority::Cause;
+use dname::{Heap, Starved};
+use exchange::{Action, Asker, reply_to};
+use front::Outcome;
+use iterate::{Chain, Input, Job, Next, advance};
+use known::Taken;
+
+impl<A: Heap> Works<A> {
+    // The answer of a chain and its end goes out, and the query of that number is over.
+    fn answer(
+        &self,
+        number: u64,
+        asker: &Asker<A>,
+        chain: Chain<A>,
+        last: Taken<A>,
+    ) -> Result<Action<A>, Starved>
+        requires { HasNo self.now.queries number }
+        ensures { IfOk result (λ a. Ends (state_of self.now) asker.now number (outcome_of self.now.clock chain last) self.now.stores (alone a) (state_of self.now)) }
+    {
+        let outcome = outcome_of(self.alloc, chain, last, self.clock)?;
+        reply_to(self.alloc, asker, &outcome)
+    }
+
+    // The failure goes out, and the query of that number is over.
+    pub fn fail(&self, number: u64, asker: &Asker<A>, cause: Cause) -> Result<Action<A>, Starved>
+        requires { HasNo self.now.queries number }
+        ensures { IfOk result (λ a. Ends (state_of self.now) asker.now number (outcome.Fail cause) self.now.stores (alone a) (state_of self.now)) }
+    {
+        let outcome = Outcome::Fail(cause);
+        reply_to(self.alloc, asker, &outcome)
+    }
+
+    // What the work gave goes out: an ask, or the reply.
+    pub fn follow(
+        &mut self,
+        number: u64,
+        asker: Asker<A>,
+        job: Job<A>,
+        next: Next<A>,
+    ) -> Result<Action<A>, Starved>
+        requires sound { IsSound (state_of self.old) }
+        requires fresh { HasNo self.old.queries number }
+        ensures ok { IfOk result (λ a. Comes (state_of self.old) asker number self.old.opened (next_view next) job self.old.stores (alone a) (state_of self.new)) }
+        ensures err { OnErr result (Halts (state_of self.old) (state_of self.new)) }
+    {
+        match next {
+            Next::Ask(server, name, kind) => self.ask_udp(number, asker, job, server, name, kind),
+            Next::AskTcp(server, name, kind) => {
+                self.ask_tcp(number, asker, job, server, name, kind)
+            }
+            Next::Done(chain, last) => self.answer(number, &asker, chain, last),
+            Next::Fail(cause) => self.fail(number, &asker, cause),
+        }
+    }
+
+    // The work of the query of that number goes on by one input, and what comes of it goes out.
+    fn serve(
+        &mut self,
+        number: u64,
+        asker: Asker<A>,
+        mut job: Job<A>,
+        input: Input<A>,
+    ) -> Result<Action<A>, Starved>
+        requires sound { IsSound (state_of self.old) }
+        requires fresh { HasNo self.old.queries number }
+        ensures ok { IfOk result (λ a. Goes (state_of self.old) asker number job (input_view input) (alone a) (state_of self.new)) }
+        ensures err { OnErr result (Falls (state_of self.old) job (input_view input) (state_of self.new)) }
+    {
+        let next = advance(
+            self.alloc,
+            &mut job,
+            input,
+            &self.home,
+            &mut self.stores,
+            self.clock,
+        )?;
+        self.follow(number, asker, job, next)
+    }
+
+    // The open query of that number is served.
+    pub fn go_on(&mut self, number: u64, input: Input<A>) -> Result<Action<A>, Starved>
+        requires sound { IsSound (state_of self.old) }
+        requires there { (q : Open) × IsTheOne self.old.queries number q }
+        ensures ok { IfOk result (λ a. ServesOne (state_of self.old) number (input_view input) (alone a) (state_of self.new)) }
+        ensures err { OnErr result (DropsOne (state_of self.old) number (input_view input) (state_of self.new)) }
+    {
+        match self.queries.take(number) {
+            Some(open) => {
+                let (asker, job) = open.into_work();
+                self.serve(number, asker, job, input)
+            }
+            None => unreachable!(),
+        }
+    }
+}

@@ -1,0 +1,26 @@
+//! What the resolver works with.
+use exchange::Event;
+use known::{Home, Stores};
+use queries::Queries;
+use rand_chacha::ChaCha20Rng;
+use std::alloc::{Allocator, Global};
+use std::hash::{BuildHasherDefault, FoldHasher};
+
+// What hashes the keys of the stores.
+pub type Hasher = BuildHasherDefault<FoldHasher>;
+
+// The state between two steps: what stays, the clock in milliseconds, what was learnt, the open queries, and
+// the numbers of the next query and of the next ask over TCP.
+#[derive(Drop)]
+pub struct Works<A: Allocator = Global> {
+    pub alloc: A,
+    pub home: Home<A>,
+    pub port: u16,
+    pub sockets: u16,
+    pub clock: u64,
+    pub stores: Stores<Hasher, A>,
+    pub queries: Queries<A>,
+    pub opened: u64,
+    pub asked: u64,
+    pub generator: ChaCha20Rng,
+}
