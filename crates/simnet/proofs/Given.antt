@@ -1,5 +1,5 @@
 -- What a server replies, whatever its memory comes from; and its bytes are a message of one question.
-use Rattle.std.proofs.Common.{◌≡◌, ℕ, inl, inr, ⊎_elim, Option, Some, None, List, [], ◌∷◌, Result, Ok, Err, IfOk, refl, sym, ap, ◌∙◌, option_map}
+use Rattle.std.proofs.Common.{◌≡◌, ℕ, ◌≤◌, length, subst, inl, inr, ⊎_elim, Option, Some, None, List, [], ◌∷◌, Result, Ok, Err, IfOk, refl, sym, ap, ◌∙◌, option_map}
 use Rattle.std.specs.Prelude.{IfSome}
 use Rattle.dname.specs.Labels.{Name}
 use Rattle.rdata.specs.Records.{Record}
@@ -67,3 +67,15 @@ module _ (A : Type 0) where
   asks_one W a bytes items (Some v) echoes w is =
       let (n, t, h) = host_serves W a bytes (items v) echoes w is in
       record { message = h.read; is = h.message; question = record { name = n; qtype = t; qclass = internet }; only = (h.reply).question }
+
+  -- It fits a stream (RFC 1035, section 4.2.2).
+  short_from : (W : World) (a : Address) (asked : Asked A) (sent : List ℕ) → IsReplyFrom W a asked (Some sent) → length sent ≤ 65535
+  short_from W a heard.Drop sent none = absurd (cc)
+  short_from W a (heard.Refuse refusal start echo) sent none = absurd (cc)
+  short_from W a (heard.Query q) sent (None, by, none) = absurd (cc)
+  short_from W a (heard.Query q) sent (Some m, by, (few, same, message)) = subst (λ (bytes : List ℕ). length bytes ≤ 65535) (sym same) few
+
+  pub is_short : {V : Type 0} (W : World) (a : Address) (bytes : List ℕ) (items : V → List ℕ) (o : Option V) → IsHostReply A W a bytes (option_map items o)
+      → IfSome o (λ v. length (items v) ≤ 65535)
+  is_short W a bytes items None is = tt
+  is_short W a bytes items (Some v) (asked, reads, by) = short_from W a asked (items v) by

@@ -1,5 +1,5 @@
 //! What comes of an ask that went out.
-ghost use Rattle.std.specs.Prelude.{◌≡◌, List, [], ◌∷◌, IfOk, IfSome, option_map};
+ghost use Rattle.std.specs.Prelude.{◌≡◌, ◌≤◌, List, [], ◌∷◌, IfOk, IfSome, length, option_map};
 ghost use Rattle.dname.specs.Labels.{IsName};
 ghost use Rattle.layout.specs.Messages as layouts;
 ghost use Rattle.layout.specs.Messages.{IsMessage};
@@ -15,7 +15,8 @@ use std::alloc::Allocator;
 use wire::{Message, UDP_LIMIT, WireError, decode, encode};
 use worlds::{World, host_reply};
 
-/// What the server at the address of an ask replies, if anything: a message of one question.
+/// What the server at the address of an ask replies, if anything: a message of one question, of
+/// 65,535 bytes at most.
 pub fn given<A: Heap>(
     alloc: A,
     world: &World<A>,
@@ -23,6 +24,7 @@ pub fn given<A: Heap>(
 ) -> Result<Option<Vec<u8, A>>, Starved>
     ensures is { IfOk result (λ r. IsGiven world.now sent.now (option_map (λ v. v.items) r)) }
     ensures asks { IfOk result (λ r. IfSome r (λ v. AsksOne v.items)) }
+    ensures short { IfOk result (λ r. IfSome r (λ v. length v.items ≤ 65535)) }
 {
     world.is_well_formed();
     echo_is_question(alloc);

@@ -1,10 +1,9 @@
-//! A network in memory: a resolver and the servers of a world, which reply to what it asks.
+//! What comes of a resolver's asks in a network in memory: the replies of a world's servers, whole, cut or lost.
 #![tactic(auto)]
 
 mod come;
-mod event;
 mod reach;
 mod sent;
 
-pub use event::{SimAction, SimActions, SimEvent};
+pub use reach::{cut_over_udp, lost, over_tcp, whole_over_udp};
 pub use sent::Sent;

@@ -7,7 +7,7 @@ use Rattle.simnet.specs.Replies.{AsksOne}
 use Rattle.runs.specs.States.{Plain}
 use Rattle.network.specs.Networks.{Sent}
 use Rattle.worlds.specs.Hosting.{IsHostReply}
-use Rattle.simnet.proofs.Given.{host_plainly, asks_one}
+use Rattle.simnet.proofs.Given.{host_plainly, asks_one, is_short}
 use Rattle.simnet.proofs.come.given.Goals as goal
 
 pub returns-clause-is : goal.returns-clause-is
@@ -20,3 +20,7 @@ returns-clause-is g c =
 pub returns-clause-asks : goal.returns-clause-asks
 returns-clause-asks g c =
     asks_one _ c.args.world.now c.sent.inside.to.address.0 c.as_slice.result.now (λ v. v.items) c.in_ok-host_reply.field-0 c.echo_is_question.ensures c.is_well_formed.ensures c.in_ok-host_reply.ensures.is
+
+pub returns-clause-short : goal.returns-clause-short
+returns-clause-short g c =
+    is_short _ c.args.world.now c.sent.inside.to.address.0 c.as_slice.result.now (λ v. v.items) c.in_ok-host_reply.field-0 c.in_ok-host_reply.ensures.is
