@@ -3,3 +3,4 @@ pub mod Aliases
 pub mod Lift
 pub mod Begun
 pub mod Heard
+pub mod Beginning

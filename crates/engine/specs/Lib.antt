@@ -1,3 +1,4 @@
 pub mod Works
 pub mod Moves
 pub mod Replies
+pub mod Beginnings

@@ -1,0 +1,76 @@
+//! The resolver as one machine for one thread: events in, actions out.
+ghost use Rattle.std.specs.Prelude.{◌≡◌, IfOk, MatchResult};
+ghost use Rattle.std.specs.NonZero.{non_zero_usize_get};
+ghost use Rattle.known.specs.Views.{no_stores};
+ghost use Rattle.engine.specs.Beginnings.{CoreRefuses, IsMade};
+ghost use Rattle.engine.specs.Works.{state_of};
+
+use crate::settings::{Config, CoreError};
+use crate::works::{Hasher, Works};
+use authority::Catalog;
+use dname::{Heap, Starved};
+use known::{Capacities, Hashers, Home, Stores};
+use queries::Queries;
+use rand_chacha::ChaCha20Rng;
+use rand_core::SeedableRng;
+use std::alloc::{Allocator, Global};
+use std::marker::Model;
+
+/// A resolver: the zones and hints that it holds, what it learnt, and the open queries.
+#[derive(Drop)]
+pub struct Core<A: Allocator = Global> {
+    works: Works<A>,
+}
+
+impl<A: Allocator> Model for Core<A> {
+    ghost use Rattle.runs.specs.States.{State};
+    ghost use Rattle.engine.specs.Works.{state_of, IsSound};
+
+    ghost Value = { State };
+
+    ghost view = { λ c. state_of c.works };
+
+    ghost invariant = { λ c. IsSound (state_of c.works) };
+}
+
+fn stores<A: Heap>(alloc: A, room: Capacities) -> Result<Stores<Hasher, A>, Starved>
+    ensures { IfOk result (λ s. s ≡ no_stores (non_zero_usize_get room.links) (non_zero_usize_get room.cuts) (non_zero_usize_get room.servers)) }
+{
+    let hashers = Hashers {
+        links: Hasher::default(),
+        cuts: Hasher::default(),
+        servers: Hasher::default(),
+    };
+    Ok(Stores::new(alloc, room, hashers)?)
+}
+
+impl<A: Heap> Core<A> {
+    /// A resolver that has done nothing yet. The first that holds is refused: a setting out of its limits (1),
+    /// two zones of one origin (2), want of memory (3).
+    pub fn new(alloc: A, config: Config<A>) -> Result<Core<A>, CoreError>
+        ensures { MatchResult result (IsMade config.local.items config.hints.items config.settings) (λ e. CoreRefuses e config.settings config.local.items) }
+    {
+        let Some(room) = config.settings.room() else {
+            return Err(CoreError::Setting);
+        };
+        let settings = config.settings;
+        let hints = config.hints;
+        let catalog = Catalog::new(config.local)?;
+        let home = Home::new(alloc, catalog, &hints)?;
+        let stores = stores(alloc, room)?;
+        Ok(Core {
+            works: Works {
+                alloc,
+                home,
+                port: settings.port,
+                sockets: settings.sockets,
+                clock: 0,
+                stores,
+                queries: Queries::new(alloc),
+                opened: 0,
+                asked: 0,
+                generator: ChaCha20Rng::from_seed(settings.seed),
+            },
+        })
+    }
+}
