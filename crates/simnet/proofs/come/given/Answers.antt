@@ -14,7 +14,7 @@ pub returns-clause-is : goal.returns-clause-is
 returns-clause-is g c =
     let reply = option_map (λ v. v.items) c.in_ok-host_reply.field-0 in
     subst (λ (x : Sent). IsHostReply Plain c.args.world.now x.to.address.0 x.bytes reply) c.sent.view_is
-    (subst (λ (bytes : List ℕ). IsHostReply Plain c.args.world.now c.sent.inside.to.address.0 bytes reply) c.as_slice.ensures
+    (subst (λ (bytes : List ℕ). IsHostReply Plain c.args.world.now c.sent.inside.to.address.0 bytes reply) c.as_slice.ensures.is
     (host_plainly _ c.args.world.now c.sent.inside.to.address.0 c.as_slice.result.now reply c.in_ok-host_reply.ensures.is))
 
 pub returns-clause-asks : goal.returns-clause-asks
