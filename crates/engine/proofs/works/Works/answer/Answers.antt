@@ -10,4 +10,4 @@ pub returns : goal.returns
 returns g c =
     IfOk-weaker c.reply_to.result _ _
     (λ a h. ends_here (state_of c.args.self.now) c.args.asker.now c.args.number _ (action_view a) c.requires (subst (λ o. IsReply c.args.asker.now o (action_view a)) c.in_ok-outcome.ensures h))
-    c.reply_to.ensures
+    c.reply_to.ensures.reply
