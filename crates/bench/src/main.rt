@@ -4,11 +4,11 @@
 #![tactic(auto)]
 
 mod links;
+mod made_worlds;
 mod messages;
 mod names;
 mod resident;
 mod work;
-mod made_worlds;
 mod zones;
 
 use crate::work::{ALL, Counted, ON_MESSAGES, Work};

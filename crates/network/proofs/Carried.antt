@@ -44,9 +44,9 @@ among_out (resolver.Send sock to bytes ∷ out) x number path m = ⊎_elim
     (in_cases (record { path = ByUdp sock; to = to; bytes = bytes }) x (sends_among out) m)
 among_out (resolver.TcpAsk n to bytes ∷ out) x number path m = ⊎_elim
     (λ e. let f : ByTcp n ≡ ByTcp number = ap (λ (y : Sent). y.path) e ∙ path in
-      let a : n ≡ number = cc in
-      let same : resolver.TcpAsk n to bytes ≡ resolver.TcpAsk number x.to x.bytes = λ i. resolver.TcpAsk (a i) ((ap (λ (y : Sent). y.to) e) i) ((ap (λ (y : Sent). y.bytes) e) i) in
-      subst (Contains (resolver.TcpAsk n to bytes ∷ out)) same (first_in (resolver.TcpAsk n to bytes) out))
+    let a : n ≡ number = cc in
+    let same : resolver.TcpAsk n to bytes ≡ resolver.TcpAsk number x.to x.bytes = λ i. resolver.TcpAsk (a i) ((ap (λ (y : Sent). y.to) e) i) ((ap (λ (y : Sent). y.bytes) e) i) in
+    subst (Contains (resolver.TcpAsk n to bytes ∷ out)) same (first_in (resolver.TcpAsk n to bytes) out))
     (λ more. later_in (resolver.TcpAsk n to bytes) _ out (among_out out x number path more))
     (in_cases (record { path = ByTcp n; to = to; bytes = bytes }) x (sends_among out) m)
 among_out (resolver.MoreDue ∷ out) x number path m = later_in resolver.MoreDue _ out (among_out out x number path m)
@@ -58,7 +58,7 @@ out_among (resolver.Send sock at bs ∷ out) number to bytes m = ⊎_elim (λ e.
     (λ more. later_in (record { path = ByUdp sock; to = at; bytes = bs }) _ (sends_among out) (out_among out number to bytes more)) (in_cases (resolver.Send sock at bs) _ out m)
 out_among (resolver.TcpAsk n at bs ∷ out) number to bytes m = ⊎_elim
     (λ e. let a : n ≡ number = cc in let b : at ≡ to = cc in let c : bs ≡ bytes = cc in
-      subst (Contains (sends_among (resolver.TcpAsk n at bs ∷ out))) (λ i. record { path = ByTcp (a i); to = b i; bytes = c i }) (first_in (record { path = ByTcp n; to = at; bytes = bs }) (sends_among out)))
+    subst (Contains (sends_among (resolver.TcpAsk n at bs ∷ out))) (λ i. record { path = ByTcp (a i); to = b i; bytes = c i }) (first_in (record { path = ByTcp n; to = at; bytes = bs }) (sends_among out)))
     (λ more. later_in (record { path = ByTcp n; to = at; bytes = bs }) _ (sends_among out) (out_among out number to bytes more)) (in_cases (resolver.TcpAsk n at bs) _ out m)
 out_among (resolver.MoreDue ∷ out) number to bytes m = ⊎_elim (λ e. absurd (cc)) (λ more. out_among out number to bytes more) (in_cases resolver.MoreDue _ out m)
 

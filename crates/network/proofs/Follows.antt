@@ -118,9 +118,13 @@ module _ (W : World) (l : Line) (past : List Line) (t : Turn) (before : List Tur
       let (sent, written, is) = h.reply in
       let whose : client ≡ h.client = cc in
       let by : way ≡ h.way = cc in
-      let asked : Asked Plain = heard.Refuse h.refusal h.start h.echo in
-      (h.refusal, h.start, h.echo, subst (λ (n : ℕ). IsHeardOf (l ∷ past) n way asked) (sym whose) (subst (λ (w : Via). IsHeardOf (l ∷ past) h.client w asked) (sym by)
-      (l, first_in l past, (h.moment, h.bytes, mirrors.clients h.moment h.client h.way h.bytes h.event, h.reads))))
+      let asked : Asked Plain = heard.Refuse h.refusal h.start h.echo in (
+        h.refusal,
+        h.start,
+        h.echo,
+        subst (λ (n : ℕ). IsHeardOf (l ∷ past) n way asked) (sym whose) (subst (λ (w : Via). IsHeardOf (l ∷ past) h.client w asked) (sym by)
+            (l, first_in l past, (h.moment, h.bytes, mirrors.clients h.moment h.client h.way h.bytes h.event, h.reads))),
+      )
 
   answered_is : (client : ℕ) (way : Via) (bytes : List ℕ) (c : Option Cause) (who : Asker) → IsRightAnswer W t before client way bytes c → who.client ≡ client → who.way ≡ way → IsServedFor who t before
       → IsAnswered W (l ∷ past) client way bytes

@@ -2,12 +2,13 @@
 ghost use Rattle.std.specs.Prelude.{◌≡◌, [], IfOk, string_bytes};
 ghost use Rattle.rdata.specs.Types.{type_number};
 ghost use Rattle.layout.specs.Messages.{encoding};
+ghost use Rattle.front.specs.declared.queries.Asked.TheVariants as asked;
 ghost use Rattle.lines.specs.Lines.{ArePrinted};
 ghost use Rattle.resolverd.specs.Exchanges.{query_for, AreMessage, AreLinesOf, AreLines};
 
 use authority::{Catalog, Cause};
 use dname::{Heap, Name, Starved};
-use front::{Asked, Via, answer_local, read_query, refusal_bytes, reply_bytes};
+use front::{Asked, Query, Via, answer_local, read_query, refusal_bytes, reply_bytes};
 use lines::put_reply_bytes;
 use rdata::{INTERNET, RType, Records};
 use wire::{Header, Message, Question, Questions, UDP_LIMIT, encode};
@@ -40,12 +41,21 @@ fn lines_of<A: Heap>(alloc: A, catalog: &Catalog<A>, asked: Asked<A>) -> Result<
             let reply = refusal_bytes(alloc, refusal, start, echo.as_ref())?;
             Ok(printed(alloc, &reply, None)?)
         }
-        Asked::Query(query) => {
-            let outcome = answer_local(alloc, &query, catalog)?;
-            let (reply, cause) = reply_bytes(alloc, &query, &outcome, Via::Udp)?;
-            Ok(printed(alloc, &reply, cause)?)
-        }
+        Asked::Query(query) => Ok(answer_lines(alloc, catalog, &query)?),
     }
+}
+
+// The lines of the reply over UDP to a query.
+fn answer_lines<A: Heap>(
+    alloc: A,
+    catalog: &Catalog<A>,
+    query: &Query<A>,
+) -> Result<String<A>, Starved>
+    ensures { IfOk result (λ s. AreLinesOf catalog.now (asked.Query query.now) (string_bytes s)) }
+{
+    let outcome = answer_local(alloc, query, catalog)?;
+    let (reply, cause) = reply_bytes(alloc, query, &outcome, Via::Udp)?;
+    Ok(printed(alloc, &reply, cause)?)
 }
 
 // The lines of a reply's bytes, which are a message.

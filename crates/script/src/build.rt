@@ -7,8 +7,8 @@ use crate::world_fault::WorldFault;
 use crate::world_text::{Block, WorldText};
 use dname::{Heap, Name, Starved};
 use masterfile::read_block;
-use worlds::World;
 use std::alloc::Allocator;
+use worlds::World;
 use zone::{Zone, ZoneError};
 
 impl<'t, A: Heap> Block<'t, A> {

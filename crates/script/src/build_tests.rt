@@ -3,8 +3,8 @@ use crate::{LineError, LineKind, WorldFault, read_world};
 use dname::Heap;
 use masterfile::{FileError, FileKind};
 use refusing::Refusing;
-use worlds::WorldError;
 use std::test::Fail;
+use worlds::WorldError;
 use zone::ZoneError;
 
 const ROOT: &str =

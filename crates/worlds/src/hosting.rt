@@ -12,8 +12,8 @@ use crate::world::{Host, World};
 use authority::{Catalog, Link, Local};
 use dname::{Heap, Name, Starved};
 use front::{
-    Asked, End, MOST_ALIASES, Parts, Query, Start, Step, alias_target, echo_is_question, read_query,
-    reading_is_one,
+    Asked, End, MOST_ALIASES, Parts, Query, Start, Step, alias_target, echo_is_question,
+    read_query, reading_is_one,
 };
 use rdata::{Addr, RType, Records};
 use std::alloc::Allocator;

@@ -6,7 +6,7 @@ pub loop-rest-preserved : goal.loop-rest-preserved
 loop-rest-preserved c = record {
   text = c.first_piece.ensures.text;
   same = sym (no_word c.loop-rest.rest.now c.first_piece.result.0.now c.first_piece.result.1.now (over_zero _ (c.loop-rest-test.ensures {u = tt}))
-    c.first_piece.ensures.piece c.first_piece.ensures.behind (is_zero _ (c.if-not-is_empty.ensures {u = tt}))) ∙ c.loop-rest.invariant.same;
+      c.first_piece.ensures.piece c.first_piece.ensures.behind (is_zero _ (c.if-not-is_empty.ensures {u = tt}))) ∙ c.loop-rest.invariant.same;
 }
 
 pub returns-then-not-is_empty : goal.returns-then-not-is_empty
