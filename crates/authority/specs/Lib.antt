@@ -1,7 +1,6 @@
 pub mod Answers
 pub mod CatalogFaults
 pub mod Catalogs
-pub mod Causes
 pub mod Climb
 pub mod OneAnswer
 pub mod Seen

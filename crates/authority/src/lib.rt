@@ -3,7 +3,6 @@
 
 mod answer;
 mod catalog;
-mod cause;
 mod gather;
 mod held;
 mod laws;
@@ -13,7 +12,6 @@ mod walk;
 
 pub use answer::{Link, Local};
 pub use catalog::{Catalog, CatalogError};
-pub use cause::Cause;
 pub use laws::{one_answer_law, some_answer_law};
 
 #[cfg(test)]

@@ -1,7 +1,7 @@
 -- A query that comes, and is opened or over.
 use Rattle.std.proofs.Common.{◌≡◌, ℕ, ◌+◌, ◌<◌, ◌≤◌, length, List, refl, ap, arith, Contains}
 use Rattle.resolution.specs.Jobs.{Stores, Job, Next, Ask, AskTcp, Done, Fail}
-use Rattle.authority.specs.declared.cause.Cause.TheVariants as cause
+use Rattle.causes.specs.declared.cause.Cause.TheVariants as cause
 use Rattle.front.specs.declared.queries.Outcome.TheVariants as outcome
 use Rattle.runs.specs.States.{Action, Asker, State, Own, Query}
 use Rattle.runs.specs.Steps.{most_open, IsAsking, Comes, Ends, IsOpened, at_once, crowded, admitted}

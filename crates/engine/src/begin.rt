@@ -8,7 +8,7 @@ ghost use Rattle.engine.specs.Moves.{Halts, Opens};
 ghost use Rattle.engine.specs.Replies.{alone};
 
 use crate::works::Works;
-use authority::Cause;
+use causes::Cause;
 use dname::{Heap, Starved};
 use exchange::{Action, Asker};
 use iterate::{Job, Next};

@@ -1,6 +1,6 @@
 //! One query's work, and what comes of it.
 ghost use Rattle.std.specs.Prelude.{◌≡◌, IfOk, OnErr};
-ghost use Rattle.authority.specs.declared.cause.Cause.TheVariants as cause;
+ghost use Rattle.causes.specs.declared.cause.Cause.TheVariants as cause;
 ghost use Rattle.front.specs.declared.queries.Outcome.TheVariants as outcome;
 ghost use Rattle.exchange.specs.Views.{action_view};
 ghost use Rattle.iterate.specs.Views.{input_view, next_view};
@@ -14,7 +14,7 @@ ghost use Rattle.engine.specs.Replies.{alone};
 
 use crate::answer::outcome_of;
 use crate::works::Works;
-use authority::Cause;
+use causes::Cause;
 use dname::{Heap, Starved};
 use exchange::{Action, Asker, reply_to};
 use front::Outcome;

@@ -4,7 +4,7 @@ ghost use Rattle.exchange.specs.declared.action.Action.TheVariants.{Reply};
 
 use crate::bytes::Bytes;
 use crate::path::Endpoint;
-use authority::Cause;
+use causes::Cause;
 use dname::{Heap, Starved};
 use front::Via;
 use std::alloc::{Allocator, Global};

@@ -1,6 +1,6 @@
 //! What is accepted as the reply to an ask, part by part, and what goes out.
 use super::*;
-use authority::Cause;
+use causes::Cause;
 use dname::{Heap, Name, Starved};
 use front::{Asked, Outcome, Via};
 use rdata::{Addr, RType};

@@ -5,7 +5,7 @@ use Rattle.lru.proofs.Splits.{Contains-head}
 use Rattle.rdata.specs.Records.{Record}
 use Rattle.rdata.specs.declared.addr.Addr.{Addr}
 use Rattle.zone.specs.Links.{Link, Found, Alias, NoData, NxDomain}
-use Rattle.authority.specs.declared.cause.Cause.{Cause}
+use Rattle.causes.specs.declared.cause.Cause.{Cause}
 use Rattle.classify.specs.Classes as class
 use Rattle.classify.specs.Lifetimes.{received}
 use Rattle.retry.specs.Penalties.{answered, AreAtMost}

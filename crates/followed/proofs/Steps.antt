@@ -2,7 +2,7 @@
 use Rattle.std.proofs.Common.{◌≡◌, ℕ, ◌≤◌, ◌<◌, ◌⊎◌, inl, inr, Option, Some, List, [], ◌∷◌, ◌++◌, Contains, refl, sym, ap, ◌∙◌, subst, arith}
 use Rattle.rdata.specs.declared.addr.Addr.{Addr}
 use Rattle.zone.specs.Links.{Alias}
-use Rattle.authority.specs.declared.cause.Cause.{Cause}
+use Rattle.causes.specs.declared.cause.Cause.{Cause}
 use Rattle.front.specs.declared.queries.Outcome.{Outcome}
 use Rattle.layout.specs.Messages.{Message}
 use Rattle.layout.proofs.Single.{message_one}

@@ -3,7 +3,7 @@ use Rattle.std.proofs.Common.{◌≡◌, ◌≢◌, ◌∙◌, sym, ap, subst, i
 use Rattle.rdata.specs.Records.{Record}
 use Rattle.zone.specs.Links.{Alias}
 use Rattle.zone.specs.Look.{Local, Linked}
-use Rattle.authority.specs.declared.cause.Cause.TheVariants.{Chain}
+use Rattle.causes.specs.declared.cause.Cause.TheVariants.{Chain}
 use Rattle.front.specs.Chains.{Leads, FollowsOn, IsEndAt, target_of}
 use Rattle.front.specs.declared.queries.End.{End}
 use Rattle.front.specs.declared.queries.Outcome.TheVariants.{Answer, Fail}

@@ -2,8 +2,8 @@
 use Rattle.std.proofs.Common.{◌≡◌, ◌∙◌, sym, ap, subst, ℕ, ◌<◌, ◌≤◌, nat_lt, false, if◌then◌else◌, Option, Some, List, [], ◌∷◌, length, refl}
 use Rattle.std.proofs.lemmas.Bool.{lt-ltb, le-ltb}
 use Rattle.layout.specs.Messages.{Message, IsMessage, encoding, folded_message}
-use Rattle.authority.specs.declared.cause.Cause.{Cause}
-use Rattle.authority.specs.declared.cause.Cause.TheVariants.{Large}
+use Rattle.causes.specs.declared.cause.Cause.{Cause}
+use Rattle.causes.specs.declared.cause.Cause.TheVariants.{Large}
 use Rattle.front.specs.Replies.{whole_reply, cut_reply, bare, failure_of, reply_of}
 use Rattle.wire.specs.Limits.{limit_of}
 use Rattle.front.specs.declared.queries.Query.{Query}

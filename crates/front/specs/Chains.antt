@@ -6,7 +6,7 @@ use Rattle.rdata.specs.Records.{Record}
 use Rattle.zone.specs.Links as said
 use Rattle.zone.specs.Look as looked
 use Rattle.zone.specs.Look.{Local}
-use Rattle.authority.specs.declared.cause.Cause.TheVariants.{Chain}
+use Rattle.causes.specs.declared.cause.Cause.TheVariants.{Chain}
 use Rattle.front.specs.declared.queries.End.{End}
 use Rattle.front.specs.declared.queries.End.TheVariants.{Found, NoData, NxDomain, Outside}
 use Rattle.front.specs.declared.queries.Outcome.{Outcome}

@@ -3,8 +3,8 @@ use Rattle.std.specs.Prelude.{ℕ, Bool, true, false, nat_lt, if◌then◌else�
 use Rattle.rdata.specs.Records.{Record}
 use Rattle.layout.specs.Messages.{Header, Question, Message, encoding}
 use Rattle.wire.specs.Drafts.{asked_alone}
-use Rattle.authority.specs.declared.cause.Cause.{Cause}
-use Rattle.authority.specs.declared.cause.Cause.TheVariants.{Large}
+use Rattle.causes.specs.declared.cause.Cause.{Cause}
+use Rattle.causes.specs.declared.cause.Cause.TheVariants.{Large}
 use Rattle.front.specs.Openings.{Opening}
 use Rattle.front.specs.declared.queries.Refusal.{Refusal}
 use Rattle.front.specs.declared.queries.Refusal.TheVariants.{FormErr, NotImp}

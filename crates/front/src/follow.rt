@@ -8,7 +8,8 @@ ghost use Rattle.front.specs.Chains.{AnswersLocally, FollowsOn, target_of};
 ghost use Rattle.front.specs.Steps.{IsStep};
 
 use crate::queries::{End, Outcome, Query};
-use authority::{Catalog, Cause, Link, Local};
+use authority::{Catalog, Link, Local};
+use causes::Cause;
 use dname::{Heap, Name, Starved};
 use rdata::{RData, RType, Record, Records};
 use std::alloc::{Allocator, Global};

@@ -4,7 +4,7 @@ ghost use Rattle.front.specs.Replies.{refusal_rcode, end_rcode, found_in, denied
 
 use crate::echo::Echo;
 use crate::start::Start;
-use authority::Cause;
+use causes::Cause;
 use dname::Name;
 use rdata::{RType, Record, Records};
 use std::alloc::{Allocator, Global};

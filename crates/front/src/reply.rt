@@ -10,7 +10,7 @@ use crate::echo::Echo;
 use crate::parts::Parts;
 use crate::queries::{Outcome, Query, Refusal};
 use crate::start::Start;
-use authority::Cause;
+use causes::Cause;
 use dname::{Heap, Starved};
 use std::alloc::Allocator;
 use wire::{Header, TCP_LIMIT, UDP_LIMIT, Via};

@@ -2,7 +2,7 @@
 ghost use Rattle.std.specs.Prelude.{◌≤◌};
 
 use super::*;
-use authority::Cause;
+use causes::Cause;
 use dname::{Heap, Starved};
 use rdata::{CharacterString, RData, Record, Records, Texts};
 use std::test::Fail;

@@ -9,7 +9,7 @@ use crate::calls::Next;
 use crate::job::Job;
 use crate::search::Search;
 use crate::task::Turn;
-use authority::Cause;
+use causes::Cause;
 use dname::{Heap, Name, Starved};
 use rdata::Addr;
 use std::alloc::AllocError;

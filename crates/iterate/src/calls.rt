@@ -1,7 +1,7 @@
 //! What comes in for a query, and what goes out.
 
 use crate::chain::Chain;
-use authority::Cause;
+use causes::Cause;
 use dname::Name;
 use known::Taken;
 use rdata::{Addr, RType};

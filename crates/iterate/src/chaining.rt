@@ -11,7 +11,7 @@ ghost use Rattle.iterate.specs.Views.{turn_view};
 use crate::calls::Next;
 use crate::job::Job;
 use crate::task::{Task, Turn};
-use authority::Cause;
+use causes::Cause;
 use dname::{Heap, Name, Starved};
 use known::Taken;
 use std::alloc::AllocError;

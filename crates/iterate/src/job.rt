@@ -7,7 +7,7 @@ ghost use Rattle.iterate.specs.Moves.{with_search, begun, followed, IsRestart};
 
 use crate::chain::Chain;
 use crate::search::{Search, Searches};
-use authority::Cause;
+use causes::Cause;
 use dname::{Heap, Name, Starved};
 use frames::Failed;
 use known::Taken;

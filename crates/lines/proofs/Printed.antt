@@ -4,7 +4,7 @@ use Rattle.std.specs.List.{flat_map}
 use Rattle.std.proofs.lemmas.List.{take_more, flat_map_more}
 use Rattle.rdata.specs.Records.{Record}
 use Rattle.layout.specs.Messages.{Header, Question, Message}
-use Rattle.authority.specs.declared.cause.Cause.{Cause}
+use Rattle.causes.specs.declared.cause.Cause.{Cause}
 use Rattle.lines.specs.Lines.{head_line, record_line, reply_text}
 
 -- One item more is printed.

@@ -5,8 +5,8 @@ use Rattle.dname.specs.Text.{name_text}
 use Rattle.rdata.specs.Records.{Record}
 use Rattle.rdata.specs.Text.{data_text}
 use Rattle.layout.specs.Messages.{Header, Message, IsMessage}
-use Rattle.authority.specs.Causes.{cause_number}
-use Rattle.authority.specs.declared.cause.Cause.{Cause}
+use Rattle.causes.specs.Causes.{cause_number}
+use Rattle.causes.specs.declared.cause.Cause.{Cause}
 
 -- The word of an RCODE (RFC 1035, section 4.1.1).
 abbrev pub rcode_word : ℕ → List ℕ

@@ -3,7 +3,7 @@ ghost use Rattle.std.specs.Prelude.{◌≡◌, ◌⊎◌, ◌++◌, OnOk, string
 ghost use Rattle.std.specs.List.{flat_map};
 ghost use Rattle.lines.specs.Lines.{AreNone, ArePrinted, cause_words, flag_word, head_line, rcode_word, record_line, reply_text};
 
-use authority::Cause;
+use causes::Cause;
 use dname::{Heap, Starved, put_name};
 use rdata::{Record, put_data};
 use std::alloc::Allocator;

@@ -2,7 +2,7 @@
 ghost use Rattle.std.specs.Prelude.{◌<◌};
 
 use crate::put_reply;
-use authority::Cause;
+use causes::Cause;
 use dname::Name;
 use rdata::{Addr, RData, Record, Records};
 use std::alloc::Global;

@@ -3,7 +3,7 @@ use Rattle.std.proofs.Common.{◌≡◌, ℕ, ◌+◌, ◌⊎◌, inl, inr, ⊎_
 use Rattle.std.specs.Prelude.{Contains}
 use Rattle.zone.proofs.LawLists.{none_in, first_in, later_in, in_cases}
 use Rattle.rdata.specs.Types.{type_number}
-use Rattle.authority.specs.declared.cause.Cause.{Cause}
+use Rattle.causes.specs.declared.cause.Cause.{Cause}
 use Rattle.wire.specs.declared.via.Via.{Via}
 use Rattle.front.specs.declared.queries.Asked.{Asked}
 use Rattle.front.specs.declared.queries.Asked.TheVariants as heard

@@ -2,7 +2,7 @@
 use Rattle.std.specs.Prelude.{◌≡◌, ℕ, ◌⊎◌, true, Option, Some, None, List, [], ◌∷◌, Contains}
 use Rattle.rdata.specs.Types.{type_number}
 use Rattle.layout.specs.Messages.{Question}
-use Rattle.authority.specs.declared.cause.Cause.{Cause}
+use Rattle.causes.specs.declared.cause.Cause.{Cause}
 use Rattle.wire.specs.declared.via.Via.{Via}
 use Rattle.front.specs.Openings.{Opening}
 use Rattle.front.specs.Queries.{IsAsked}

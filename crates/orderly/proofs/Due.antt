@@ -6,7 +6,7 @@ use Rattle.wire.specs.declared.via.Via.{Via}
 use Rattle.front.specs.declared.queries.Asked.{Asked}
 use Rattle.front.specs.declared.queries.Asked.TheVariants as heard
 use Rattle.front.specs.declared.queries.Outcome.TheVariants as outcome
-use Rattle.authority.specs.declared.cause.Cause.TheVariants as cause
+use Rattle.causes.specs.declared.cause.Cause.TheVariants as cause
 use Rattle.resolution.specs.Jobs.{Stores, Job, Next, Ask, AskTcp, Done, Fail}
 use Rattle.runs.specs.States.{Event, Client, Datagram, TcpReply, TcpFailed, Tick, Action, MoreDue, Served, Nobody, Query, Turn, Plain, Asker, Open, due_moment, State, moved}
 use Rattle.runs.specs.Messages.{IsReply}

@@ -1,6 +1,6 @@
 -- One reply and one open ask for each query, whatever comes (RFC 1035, section 7; RFC 5452, section 4).
 use Rattle.std.specs.Prelude.{◌≡◌, ◌≢◌, ℕ, ◌≤◌, ◌⊎◌, Bool, true, false, Some, List, [], ◌∷◌, Contains}
-use Rattle.authority.specs.declared.cause.Cause.TheVariants as cause
+use Rattle.causes.specs.declared.cause.Cause.TheVariants as cause
 use Rattle.front.specs.Queries.{IsAsked}
 use Rattle.front.specs.declared.queries.Asked.TheVariants as heard
 use Rattle.front.specs.declared.queries.Outcome.TheVariants as outcome

@@ -6,7 +6,8 @@ ghost use Rattle.front.specs.declared.queries.Asked.TheVariants as asked;
 ghost use Rattle.lines.specs.Lines.{ArePrinted};
 ghost use Rattle.resolverd.specs.Exchanges.{query_for, AreMessage, AreLinesOf, AreLines};
 
-use authority::{Catalog, Cause};
+use authority::Catalog;
+use causes::Cause;
 use dname::{Heap, Name, Starved};
 use front::{Asked, Query, Via, answer_local, read_query, refusal_bytes, reply_bytes};
 use lines::put_reply_bytes;

@@ -9,10 +9,10 @@ use Rattle.zone.specs.Links.{Link, Found, Alias, NoData, NxDomain}
 use Rattle.zone.specs.Same.{Same}
 use Rattle.layout.specs.Messages.{Message, IsMessage, encoding, folded_message, folded_question}
 use Rattle.layout.proofs.Letters.{letters_long}
-use Rattle.authority.specs.declared.cause.Cause.{Cause}
+use Rattle.causes.specs.declared.cause.Cause.{Cause}
 use Rattle.wire.specs.declared.via.Via.{Via}
 use Rattle.wire.specs.declared.via.Via.TheVariants.{Udp, Tcp}
-use Rattle.authority.specs.declared.cause.Cause.TheVariants.{Large}
+use Rattle.causes.specs.declared.cause.Cause.TheVariants.{Large}
 use Rattle.front.specs.Chains.{target_in, target_of}
 use Rattle.front.specs.Laws.{question_of}
 use Rattle.front.specs.Replies.{whole_reply, cut_reply, bare, reply_of, found_in, end_rcode, denied_by}

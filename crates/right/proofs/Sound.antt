@@ -5,8 +5,8 @@ use Rattle.dname.specs.Labels.{Name}
 use Rattle.rdata.specs.Types.{type_number}
 use Rattle.rdata.specs.declared.addr.Addr.{Addr}
 use Rattle.layout.specs.Messages.{Message, folded_question}
-use Rattle.authority.specs.declared.cause.Cause.{Cause}
-use Rattle.authority.specs.declared.cause.Cause.TheVariants as cause
+use Rattle.causes.specs.declared.cause.Cause.{Cause}
+use Rattle.causes.specs.declared.cause.Cause.TheVariants as cause
 use Rattle.wire.specs.declared.via.Via.{Via}
 use Rattle.front.specs.Queries.{IsAsked}
 use Rattle.front.specs.Laws.{question_of}

@@ -5,7 +5,7 @@ use Rattle.dname.specs.Labels.{Name}
 use Rattle.rdata.specs.Types.{type_number}
 use Rattle.rdata.specs.declared.addr.Addr.{Addr}
 use Rattle.authority.specs.Catalogs.{looked}
-use Rattle.authority.specs.declared.cause.Cause.TheVariants as cause
+use Rattle.causes.specs.declared.cause.Cause.TheVariants as cause
 use Rattle.layout.specs.Messages.{Message}
 use Rattle.wire.specs.declared.via.Via.{Via}
 use Rattle.front.specs.Queries.{IsAsked}

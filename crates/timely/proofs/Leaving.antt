@@ -5,8 +5,8 @@ use Rattle.rdata.specs.Records.{Record}
 use Rattle.rdata.specs.declared.addr.Addr.{Addr}
 use Rattle.zone.specs.Links.{Alias}
 use Rattle.front.specs.Chains.{target_of}
-use Rattle.authority.specs.declared.cause.Cause.{Cause}
-use Rattle.authority.specs.declared.cause.Cause.TheVariants.{TooManyOpen, Deadline, Chain, Sends, NoServer, Large}
+use Rattle.causes.specs.declared.cause.Cause.{Cause}
+use Rattle.causes.specs.declared.cause.Cause.TheVariants.{TooManyOpen, Deadline, Chain, Sends, NoServer, Large}
 use Rattle.retry.specs.Plans.{Plan, upcoming, advanced}
 use Rattle.resolution.specs.Jobs.{Home, Stores, Taken, Search, Job, Next, Ask, AskTcp, Done, Fail, given, Task, Take, Go, Again, Point}
 use Rattle.resolution.specs.Rules.{IsRefused, IsUsedUp, Leaves, sends, sends_again, refuses, spent, nowhere, too_long, done}

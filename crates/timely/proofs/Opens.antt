@@ -4,7 +4,7 @@ use Rattle.lru.proofs.Splits.{Contains-head, Contains-tail, Contains-cons, Conta
 use Rattle.dname.specs.Labels.{Name}
 use Rattle.rdata.specs.Types.{type_number}
 use Rattle.rdata.specs.declared.addr.Addr.{Addr}
-use Rattle.authority.specs.declared.cause.Cause.{Cause}
+use Rattle.causes.specs.declared.cause.Cause.{Cause}
 use Rattle.wire.specs.declared.via.Via.{Via}
 use Rattle.front.specs.declared.queries.Outcome.{Outcome}
 use Rattle.resolution.specs.Jobs.{Home, Stores, Job}

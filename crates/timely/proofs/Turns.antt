@@ -1,8 +1,8 @@
 -- What becomes of a query that a step serves: an open one, or one that comes.
 use Rattle.std.proofs.Common.{◌≡◌, ◌≢◌, ℕ, ◌+◌, ◌≤◌, ◌<◌, inl, inr, true, false, List, ◌∷◌, length, Contains, refl, sym, ap, ◌∙◌, subst, arith}
 use Rattle.rdata.specs.Types.{type_number}
-use Rattle.authority.specs.declared.cause.Cause.{Cause}
-use Rattle.authority.specs.declared.cause.Cause.TheVariants as cause
+use Rattle.causes.specs.declared.cause.Cause.{Cause}
+use Rattle.causes.specs.declared.cause.Cause.TheVariants as cause
 use Rattle.front.specs.declared.queries.Outcome.{Outcome}
 use Rattle.front.specs.declared.queries.Outcome.TheVariants as outcome
 use Rattle.resolution.specs.Jobs.{Stores, Job, Input, Next, Ask, AskTcp, Done, Fail}

@@ -3,7 +3,7 @@ use Rattle.std.specs.Prelude.{◌≡◌, ℕ, ◌≤◌, ◌⊎◌, List, ◌∷
 use Rattle.dname.specs.Labels.{Name}
 use Rattle.rdata.specs.Records.{Record}
 use Rattle.rdata.specs.Types.{type_number}
-use Rattle.authority.specs.declared.cause.Cause.TheVariants.{NoServer}
+use Rattle.causes.specs.declared.cause.Cause.TheVariants.{NoServer}
 use Rattle.front.specs.declared.queries.Outcome.{Outcome}
 use Rattle.front.specs.declared.queries.Outcome.TheVariants.{Fail}
 use Rattle.resolution.specs.Jobs.{Home}

@@ -2,7 +2,7 @@
 use Rattle.std.specs.Prelude.{◌≡◌, ℕ, ◌⊎◌, true, false, Option, List}
 use Rattle.rdata.specs.Types.{type_number}
 use Rattle.authority.specs.Catalogs.{looked}
-use Rattle.authority.specs.declared.cause.Cause.{Cause}
+use Rattle.causes.specs.declared.cause.Cause.{Cause}
 use Rattle.wire.specs.declared.via.Via.{Via}
 use Rattle.front.specs.Chains.{AnswersLocally}
 use Rattle.front.specs.declared.queries.Outcome.{Outcome}

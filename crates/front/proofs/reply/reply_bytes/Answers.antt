@@ -1,7 +1,7 @@
 -- The short reply where the whole one does not fit.
 use Rattle.std.proofs.Common.{rules, ◌∙◌, sym, ap, refl, arith, ◌<◌, ◌≤◌, Option, Some, length}
 use Rattle.layout.specs.Messages.{Message, encoding}
-use Rattle.authority.specs.declared.cause.Cause.{Cause}
+use Rattle.causes.specs.declared.cause.Cause.{Cause}
 use Rattle.front.specs.Replies.{reply_of, cut_reply}
 use Rattle.wire.specs.declared.via.Via.{Via}
 use Rattle.wire.specs.declared.via.Via.TheVariants.{Udp, Tcp}

@@ -1,5 +1,5 @@
 ghost use Rattle.std.specs.Prelude.{◌≡◌};
-ghost use Rattle.authority.specs.Causes.{cause_number};
+ghost use Rattle.causes.specs.Causes.{cause_number};
 
 /// Why a query is answered SERVFAIL (RFC 1035, section 4.1.1).
 #[derive(Clone, Copy, Debug, PartialEq, Eq)]

@@ -1,7 +1,7 @@
 -- The causes of a SERVFAIL and their numbers.
 use Rattle.std.specs.Prelude.{ℕ}
-use Rattle.authority.specs.declared.cause.Cause.{Cause}
-use Rattle.authority.specs.declared.cause.Cause.TheVariants.{TooManyOpen, Deadline, Chain, Sends, NoServer, Large}
+use Rattle.causes.specs.declared.cause.Cause.{Cause}
+use Rattle.causes.specs.declared.cause.Cause.TheVariants.{TooManyOpen, Deadline, Chain, Sends, NoServer, Large}
 
 abbrev pub cause_number : Cause → ℕ
 cause_number TooManyOpen = 1
