@@ -5,14 +5,19 @@ PROGRAM = crates/resolverd
 # The words of the example: which zone, its file, and what is asked.
 QUESTION = ask lab.example. $(CURDIR)/examples/lab.zone x.lab.example. TXT
 
-.PHONY: ask test turned try install
+.PHONY: ask test turned try install kit
+
+# Tells where the toolchain is not the one with which all of this was proved; the proofs are tried all the same.
+kit:
+	@test "$$(rt version)" = "$$(cat KIT)" || echo "note: this tree was proved with $$(cat KIT), and rt version prints $$(rt version)" >&2
 
 # Proves and builds the program and all below it, and answers one query.
 ask:
 	cd $(PROGRAM) && rt run -- $(QUESTION)
 
 # The gate: every proof, every edit that must fail, every test and every run.
-test:
+test: kit
+	tools/layers --check
 	rt ci
 
 # Tries the edits of single functions, which the gate leaves out: of all crates, or with SINCE=COMMIT of those that
