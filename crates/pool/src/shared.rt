@@ -1,0 +1,53 @@
+//! A book behind a lock.
+ghost use Rattle.std.specs.Prelude.{IfOk, IfErr};
+ghost use Rattle.pool.specs.Closings.{Enters, IsRefused};
+
+use crate::fault::PoolError;
+use book::{Book, Entry, Machine, Ticket};
+use memory::Heap;
+use std::alloc::{Allocator, Global};
+use std::sync::ledger::Ledger;
+use std::sync::{Mutex, Wait};
+
+/// A machine that many threads share: its book behind a lock. Whenever the lock is free, one history of the machine
+/// led to what the book shows.
+#[derive(Drop)]
+pub struct Shared<M: Machine, L: Ledger, A: Allocator = Global> {
+    book: Mutex<Book<M, L, A>>,
+}
+
+impl<M: Machine, L: Ledger, A: Allocator> Shared<M, L, A> {
+    /// The book, behind a lock that is free.
+    pub fn new(book: Book<M, L, A>) -> Shared<M, L, A> {
+        Shared {
+            book: Mutex::new(book),
+        }
+    }
+
+    /// The book, once no thread uses it any more.
+    pub fn into_book(self) -> Book<M, L, A> {
+        self.book.into_inner()
+    }
+}
+
+/// The machine takes one step on `event`, as the worker of `ticket`, and the answer is a copy of the entry. The lock is
+/// held for this one step. Refused with `Memory` as `Book::put` refuses: the ticket's count has risen where the entry
+/// stands; with `Stranger` where the ticket's worker or count is not the book's, and then nothing changes.
+pub fn submit<M: Machine, L: Ledger, A: Heap, R: Wait>(
+    rt: &R,
+    shared: &Shared<M, L, A>,
+    ticket: &mut Ticket<L>,
+    event: M::Event,
+) -> Result<Entry<M>, PoolError>
+    ensures ok { IfOk result (λ e. Enters ticket.old event e ticket.new) }
+    ensures err { IfErr result (IsRefused ticket.old ticket.new) }
+{
+    let mut book = shared.book.lock(rt);
+    if !book.owns(ticket) {
+        return Err(PoolError::Stranger);
+    }
+    match book.put(ticket, event) {
+        Ok(entry) => Ok(entry),
+        Err(_starved) => Err(PoolError::Memory),
+    }
+}
