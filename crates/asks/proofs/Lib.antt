@@ -1,0 +1,3 @@
+mod Due
+mod Found
+mod First
