@@ -5,8 +5,6 @@
 mod ask;
 mod asks;
 mod indexes;
-#[cfg(test)]
-mod tests;
 
 pub use ask::{UdpAsk, Waiting};
 pub use asks::Asks;
