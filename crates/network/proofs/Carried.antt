@@ -8,9 +8,9 @@ use Rattle.runs.specs.States.{Endpoint, endpoint, Path, ByUdp, ByTcp, Asking, Tu
 use Rattle.runs.specs.States as resolver
 use Rattle.runs.specs.Messages.{sending, IsSent}
 use Rattle.runs.specs.Runs.{Run, Earlier, GivesOut, Asks, Accepts}
-use Rattle.right.specs.Headline.{IsHonest}
-use Rattle.right.proofs.Every.{sound_run}
-use Rattle.right.proofs.Lists.{both_cases, front_in}
+use Rattle.laws.specs.Headline.{IsHonest}
+use Rattle.laws.proofs.Every.{sound_run}
+use Rattle.laws.proofs.RightLists.{both_cases, front_in}
 use Rattle.network.specs.Networks.{Sent, Network, NetworkAction, Reply, sent_at, sends_among, sends_in, Reaches, NetworkStep, Passes}
 use Rattle.network.specs.Laws.{Line, NetworkRun, Shows, NetworkHeadline}
 use Rattle.network.proofs.Asked.{AsksTcp, quiet, asks, step_asks}

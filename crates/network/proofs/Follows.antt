@@ -12,8 +12,8 @@ use Rattle.runs.specs.States.{Path, ByUdp, ByTcp, Endpoint, Turn, Plain, Asker, 
 use Rattle.runs.specs.States as resolver
 use Rattle.runs.specs.Runs.{Earlier, Always, GivesOut, Came}
 use Rattle.runs.specs.Replies.{IsServedFor, Refuses}
-use Rattle.right.specs.Headline.{IsRightAnswer}
-use Rattle.right.specs.Headline as theorem
+use Rattle.laws.specs.Headline.{IsRightAnswer}
+use Rattle.laws.specs.Headline as theorem
 use Rattle.network.specs.Networks.{Sent, Network, sent_at, NetworkEvent, Client, Carry, CarryCut, CarryTcp, Lose, Tick, Reply, WasSent, WasAsked, MoreDue, IsCutReply, IsFitReply, IsDatagram, IsStream, OverUdp, OverTcp, lost, OfSend, Reaches, numbered, shown}
 use Rattle.network.specs.Laws.{Line, Throughout, Shows, IsHeardOf, IsAnswered, IsRefused, RepliesAreRight}
 
@@ -42,8 +42,8 @@ shown_reply n (resolver.Reply k w bs d ∷ out) client way bytes c m = ⊎_elim
   where
     as_told : Reply k w bs d ≡ Reply client way bytes c → resolver.Reply k w bs d ≡ resolver.Reply client way bytes c
     as_told e = let a : k ≡ client = cc in let b : w ≡ way = cc in let x : bs ≡ bytes = cc in let y : d ≡ c = cc in λ i. resolver.Reply (a i) (b i) (x i) (y i)
-shown_reply n (resolver.Send sock to bs ∷ out) client way bytes c m = ⊎_elim (λ e. absurd (cc)) (λ more. later_in (resolver.Send sock to bs) _ out (shown_reply (n + 1) out client way bytes c more)) (in_cases (WasSent (n + 1) sock to bs) _ (numbered (n + 1) out) m)
-shown_reply n (resolver.TcpAsk number to bs ∷ out) client way bytes c m = ⊎_elim (λ e. absurd (cc)) (λ more. later_in (resolver.TcpAsk number to bs) _ out (shown_reply (n + 1) out client way bytes c more)) (in_cases (WasAsked (n + 1) to bs) _ (numbered (n + 1) out) m)
+shown_reply n (resolver.Send sock to bs ∷ out) client way bytes c m = ⊎_elim (λ e. absurd (cc)) (λ more. later_in (resolver.Send sock to bs) _ out (shown_reply (n + 1) out client way bytes c more)) (in_cases (WasSent (n + 1)) _ (numbered (n + 1) out) m)
+shown_reply n (resolver.TcpAsk number to bs ∷ out) client way bytes c m = ⊎_elim (λ e. absurd (cc)) (λ more. later_in (resolver.TcpAsk number to bs) _ out (shown_reply (n + 1) out client way bytes c more)) (in_cases (WasAsked (n + 1)) _ (numbered (n + 1) out) m)
 shown_reply n (resolver.MoreDue ∷ out) client way bytes c m = ⊎_elim (λ e. absurd (cc)) (λ more. later_in resolver.MoreDue _ out (shown_reply n out client way bytes c more)) (in_cases MoreDue _ (numbered n out) m)
 
 pub shown_out : (n : ℕ) (out : Option (List resolver.Action)) (client : ℕ) (way : Via) (bytes : List ℕ) (c : Option Cause) → Shows (shown n out) (Reply client way bytes c)

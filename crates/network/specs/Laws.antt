@@ -12,7 +12,7 @@ use Rattle.front.specs.declared.queries.Asked.TheVariants as heard
 use Rattle.front.specs.declared.queries.Refusal.{Refusal}
 use Rattle.truth.specs.Worlds.{World, IsWorld}
 use Rattle.runs.specs.States.{Plain, recursive, Site, IsNew}
-use Rattle.right.specs.Headline.{IsHomeIn, IsRightReply}
+use Rattle.laws.specs.Headline.{IsHomeIn, IsRightReply}
 use Rattle.network.specs.Networks.{NetworkEvent, Client, NetworkAction, Reply, Network, NetworkStep}
 
 -- An event and what came out, `None` where memory was wanting.

@@ -39,11 +39,11 @@ pub data NetworkEvent : Type 0 where
   Lose : ℕ → ℕ → NetworkEvent
   Tick : ℕ → NetworkEvent
 
--- What the resolver does, each ask with its number.
+-- What the resolver does. An ask, over UDP or over TCP, shows the number under which it stands in the network.
 pub data NetworkAction : Type 0 where
   Reply : ℕ → Via → List ℕ → Option Cause → NetworkAction
-  WasSent : ℕ → ℕ → Endpoint → List ℕ → NetworkAction
-  WasAsked : ℕ → Endpoint → List ℕ → NetworkAction
+  WasSent : ℕ → NetworkAction
+  WasAsked : ℕ → NetworkAction
   MoreDue : NetworkAction
 
 -- ---- what comes of an ask
@@ -123,8 +123,8 @@ sends_in (Some out) = sends_among out
 abbrev pub numbered : ℕ → List resolver.Action → List NetworkAction
 numbered n [] = []
 numbered n (resolver.Reply client way bytes cause ∷ out) = Reply client way bytes cause ∷ numbered n out
-numbered n (resolver.Send sock to bytes ∷ out) = WasSent (n + 1) sock to bytes ∷ numbered (n + 1) out
-numbered n (resolver.TcpAsk number to bytes ∷ out) = WasAsked (n + 1) to bytes ∷ numbered (n + 1) out
+numbered n (resolver.Send sock to bytes ∷ out) = WasSent (n + 1) ∷ numbered (n + 1) out
+numbered n (resolver.TcpAsk number to bytes ∷ out) = WasAsked (n + 1) ∷ numbered (n + 1) out
 numbered n (resolver.MoreDue ∷ out) = MoreDue ∷ numbered n out
 
 abbrev pub shown : ℕ → Option (List resolver.Action) → Option (List NetworkAction)

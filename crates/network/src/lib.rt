@@ -2,6 +2,6 @@
 //! reply in it is right. Nothing here runs.
 #![tactic(auto)]
 
-mod laws;
+mod headline;
 
-pub use laws::network_law;
+pub use headline::network_law;

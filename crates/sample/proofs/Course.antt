@@ -17,7 +17,7 @@ use Rattle.runs.specs.Steps.{IsUdpAsk, admitted, Step}
 use Rattle.runs.specs.Runs.{Asks, Came, Accepts}
 use Rattle.truth.specs.Serving.{MayServe}
 use Rattle.truth.specs.Sample.{server_name, lower_name, host_name, server_address, entry}
-use Rattle.right.specs.Headline.{IsHonest, IsHomeIn}
+use Rattle.laws.specs.Headline.{IsHonest, IsHomeIn}
 use Rattle.sample.specs.Stands.{FollowsReferral, Answers, LawsStand}
 use Rattle.sample.proofs.Talk.{question, servers, glue, ask_message, referral_message, answer_message, reply_message, client_bytes, ask_is, referral_is, answer_is, reply_is}
 use Rattle.sample.proofs.Place.{world, world_stands, root_address, may_refer, may_answer}

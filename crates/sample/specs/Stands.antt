@@ -9,7 +9,7 @@ use Rattle.truth.specs.Worlds.{World, IsWorld}
 use Rattle.runs.specs.States.{Action, Reply, Query, Turn, Asker, recursive, Asking, Site, State, via_of}
 use Rattle.runs.specs.Messages.{IsSent}
 use Rattle.runs.specs.Runs.{Run, GivesOut, Accepts, Came}
-use Rattle.right.specs.Headline.{IsHonest, IsHomeIn}
+use Rattle.laws.specs.Headline.{IsHonest, IsHomeIn}
 
 -- A step accepts a referral for the open ask of query k, and asks a server whose address the referral gives
 -- the same question (RFC 1034, sections 4.3.2, step 3b, and 5.3.3, step 4b).

@@ -2,6 +2,6 @@
 //! runs.
 #![tactic(auto)]
 
-mod laws;
+mod standing;
 
-pub use laws::laws_stand;
+pub use standing::laws_stand;

@@ -1,0 +1,321 @@
+-- What comes in for an open query: its ask ends for nothing, or an answer or a referral is taken.
+use Rattle.std.proofs.Common.{◌≡◌, ◌≢◌, ℕ, ◌⊎◌, inl, inr, Some, List, [], ◌∷◌, refl, sym, ap, ◌∙◌, subst}
+use Rattle.dname.specs.Labels.{Name, IsAtOrUnder}
+use Rattle.rdata.specs.Records.{Record}
+use Rattle.rdata.specs.declared.addr.Addr.{Addr}
+use Rattle.zone.specs.Zones.{a_type}
+use Rattle.zone.specs.Links.{Link, Found, Alias, NoData, NxDomain}
+use Rattle.layout.specs.Messages.{Message}
+use Rattle.layout.proofs.Roots.{names_end_in_root}
+use Rattle.wire.specs.declared.via.Via.{Via}
+use Rattle.wire.specs.declared.via.Via.TheVariants as via
+use Rattle.classify.specs.Classes as class
+use Rattle.classify.specs.Classes.{class_of}
+use Rattle.classify.specs.Lifetimes.{received}
+use Rattle.classify.specs.Laws.{EndInRoot}
+use Rattle.classify.proofs.Uses.{referral_over, cut_is}
+use Rattle.classify.proofs.Roots.{of_root}
+use Rattle.referral.specs.Cuts.{Cut, Known}
+use Rattle.referral.specs.Cuts as referral
+use Rattle.cache.specs.Keys.{Key, key_for}
+use Rattle.cache.specs.Cached.{Hit, IsKept}
+use Rattle.resolution.specs.Jobs.{Home, Stores, level_of, with_answer, with_timeout, IsCutOf, Search, Job, Input, Start, Told, TimedOut, TcpFailed, Task, Go, Again, Point, point, hit_from, cut_from}
+use Rattle.retry.specs.Penalties.{AreAtMost, answered, timed_out}
+use Rattle.resolution.specs.Rules.{Learnt, IsAnswered, IsReferred, ByClass, Enters, server_of, IsTakenEntry, IsTakenCut, Stops}
+use Rattle.runs.specs.States.{Turn, Event, Client, Datagram, TcpReply, Tick, Query, Path, ByUdp, ByTcp, Asking, IsFor, via_of}
+use Rattle.runs.specs.States as states
+use Rattle.runs.specs.Messages.{Brings}
+use Rattle.runs.specs.Runs.{Asks, Earlier, clock_of}
+use Rattle.laws.specs.Spent.{AsksBy, EndsBadly, HasFailed, IsBad, IsCutShort, IsOpenAsk, IsOver, IsStart, IsUdp, Repeats, Takes, TellsOfNone}
+use Rattle.laws.proofs.TimelyLists.{more_followed}
+use Rattle.laws.proofs.TimelyStores.{kept_from, cut_kept_from}
+use Rattle.retry.proofs.Steps.{timed_out_low, answered_low}
+use Rattle.laws.proofs.TimelySearches.{AreAsked, IsIdle, IsAsking, AreAround, AreMarked, idle_at}
+use Rattle.laws.proofs.Told.{AreTold, IsKeptStart, low_level}
+use Rattle.laws.proofs.TimelyPoints.{OnTop, StandsBy, IsSound, put, heard_at}
+use Rattle.laws.proofs.Later.{told_later, stands_later, settled_later, asked_later, asking_later, waiting_later, around_later, marks_later}
+
+-- A message that is brought is read from its bytes.
+pub brought_ends : (port : ℕ) (ask : Asking) (event : Event) (m : Message) → Brings port ask event m → EndInRoot m
+brought_ends port ask (Client now client way bytes) m b = absurd b
+brought_ends port ask (Datagram now sock from bytes) m b = (names_end_in_root bytes m b.2).authority
+brought_ends port ask (TcpReply now number bytes) m b = (names_end_in_root bytes m b.1).authority
+brought_ends port ask (states.TcpFailed now number) m b = absurd b
+brought_ends port ask (Tick now) m b = absurd b
+
+-- ---- the ask over TCP is an open ask
+
+pub open_asks : (port k : ℕ) (ask : Asking) (path : Path) (run : List Turn) → AsksBy port k ask path run → Asks port k ask run
+open_asks port k ask (ByUdp sock) run h = h
+open_asks port k ask (ByTcp number) run h = by run h
+  where
+    by : (run : List Turn) → Repeats port k ask run → Asks port k ask run
+    by [] h = absurd h
+    by (turn ∷ past) (inl (served, sent, cut)) = inl (served, sent)
+    by (turn ∷ past) (inr (other, more)) = inr (other, by past more)
+
+module _ (port : ℕ) (home : Home) (k : ℕ) (turn : Turn) (past : List Turn) (ask : Asking) (served : turn.served ≡ Query k) (asked : IsOpenAsk port k ask past) where
+  -- The asked server said nothing of use: the search goes on.
+  pub ends_badly : (s : Search) → ask.name ≡ s.name → ask.kind ≡ s.kind → ((c : Cut) → (s.frame).zone ≡ c.owner → IsBad port c.owner ask turn.event) → IsAsking port home k past s ask.server → IsIdle port home k (turn ∷ past) s
+  ends_badly s name kind bad h =
+      let ended : EndsBadly port k h.cut.owner s.name s.kind ask.server turn past = (ask, served, asked, record { server = refl; name = name; kind = kind }, bad h.cut h.stands.zone) in
+      let later = asked_later port home turn past k s h.cut h.ended h.asked in
+      let more = more_followed (λ a. Earlier (EndsBadly port k h.cut.owner s.name s.kind a) past) (λ a. HasFailed port past k h.cut.owner s.name s.kind a)
+      (λ a. Earlier (EndsBadly port k h.cut.owner s.name s.kind a) (turn ∷ past)) (λ a. HasFailed port (turn ∷ past) k h.cut.owner s.name s.kind a)
+      ((s.frame).plan).order h.ended ask.server h.at (λ a e. inr e) (λ a e. inr e) (inl ended) (λ e. inl (ended, e)) h.asked.followed in
+      record {
+        cut = h.cut;
+        stands = stands_later port home turn past k s h.cut h.stands;
+        settled = settled_later port home turn past k s h.cut (s.frame).tried h.settled;
+        asked = subst (AreAsked port home k (turn ∷ past) s h.cut) (sym h.given) (record { followed = more; others = later.others });
+      }
+
+  -- What the query's open search is.
+  abbrev pub IsAskingAs : Search → Type 0
+  IsAskingAs s = IsAsking port home k past s ask.server × (ask.name ≡ s.name) × (ask.kind ≡ s.kind)
+
+  abbrev pub CutNow : Addr → Name → ℕ → Type 0
+  CutNow a n t = IsCutShort port k a n t turn past
+
+  abbrev Sound : Point → Type 0
+  Sound p = IsSound port home k (turn ∷ past) CutNow p
+
+  put_now : (p : Point) (t : Task) (j : Job) → p.task ≡ t → p.job ≡ j → AreTold port home (turn ∷ past) p.stores → AreMarked port home k (turn ∷ past) j.failed → StandsBy port home k (turn ∷ past) CutNow t j → Sound p
+  put_now p t j te je told marks stands = put port home k (turn ∷ past) CutNow p t j te je told marks stands
+
+  module _ (s : Search) (rest : List Search) (now : ℕ) (j : Job) (stores : Stores) (p : Point) (told : AreTold port home past stores) (marks : AreMarked port home k past j.failed)
+      (top : IsAskingAs s) (around : AreAround port home k past j.name j.kind s.name s.kind (s.frame).nesting rest) where
+    around_now : AreAround port home k (turn ∷ past) j.name j.kind s.name s.kind (s.frame).nesting rest
+    around_now = around_later port home turn past k j.name j.kind s.name s.kind (s.frame).nesting rest around
+
+    marks_now : AreMarked port home k (turn ∷ past) j.failed
+    marks_now = marks_later port home turn past k j.failed marks
+
+    -- Nothing of use came: what is due next is due.
+    pub goes_further : ((c : Cut) → (s.frame).zone ≡ c.owner → IsBad port c.owner ask turn.event) → j.searches ≡ s ∷ rest → p ≡ point Go j stores → Sound p
+    goes_further bad is e = subst Sound (sym e) (record {
+      told = told_later port home turn past stores told;
+      marks = marks_now;
+      stands = subst (λ (l : List Search). OnTop port home k (turn ∷ past) CutNow j.name j.kind l (IsIdle port home k (turn ∷ past))) (sym is)
+          (ends_badly s top.1 top.2 bad top.0, around_now);
+    })
+
+    module _ (m : Message) (brings : Brings port ask turn.event m) where
+      -- An answer.
+      pub taken_now : (l : Link) → class_of (s.frame).zone s.name s.kind (via_of ask.path) m ≡ class.Answer l → Takes port s.name s.kind (received l) turn past
+      taken_now l is = (
+        k,
+        l,
+        clock_of (turn ∷ past),
+        record {
+          ask = ask;
+          message = m;
+          accepts = record { served = served; ask = open_asks port k ask ask.path past asked; brings = brings };
+          name = top.1;
+          kind = top.2;
+          is = of_root (s.frame).zone s.name s.kind (via_of ask.path) m l (brought_ends port ask turn.event m brings) is;
+          moment = refl;
+        },
+        refl,
+      )
+
+      pub fresh_entry : (l : Link) → class_of (s.frame).zone s.name s.kind (via_of ask.path) m ≡ class.Answer l → (x : Key × Hit) → IsKept s.name s.kind (hit_from l now) x
+          → (n : Name) × (u : ℕ) × (x.0 ≡ key_for n u (x.1).link) × Earlier (Takes port n u (x.1).link) (turn ∷ past)
+      fresh_entry l is x new =
+          let hit : x.1 ≡ hit_from l now = ap (λ y. y.1) new.0 in
+          (s.name, s.kind, ap (λ y. y.0) new.0 ∙ ap (λ (y : Hit). key_for s.name s.kind y.link) (sym hit), subst (λ (y : Hit). Earlier (Takes port s.name s.kind y.link) (turn ∷ past)) (sym hit) (inl (taken_now l is)))
+
+      learnt_told : (l : Link) (new : Stores) → class_of (s.frame).zone s.name s.kind (via_of ask.path) m ≡ class.Answer l → Learnt now s l stores new → AreTold port home (turn ∷ past) new
+      learnt_told l new is learnt = subst (AreTold port home (turn ∷ past)) (sym learnt.stores) (record {
+        links = λ key e c. elim (kept_from stores.cache_cap s.name s.kind (hit_from l now) stores.cache (key, e) c) [
+          | inl d ↦ let (n, u, same, is) = told.links key e d in (n, u, same, inr is)
+          | inr new ↦ fresh_entry l is (key, e) new
+        ];
+        cuts = (told_later port home turn past stores told).cuts;
+        low = told.low;
+      })
+
+      pub answer_enters : (l : Link) → class_of (s.frame).zone s.name s.kind (via_of ask.path) m ≡ class.Answer l → IsAnswered now s rest l j stores p → Sound p
+      answer_enters l is h = by rest around h
+        where
+          no_address : (l : Link) → (((set : List Record) → received l ≢ Found set)) → TellsOfNone a_type (received l)
+          no_address (Found rs) none = absurd (none _ refl)
+          no_address (Alias r) none = tt
+          no_address (NoData soa) none = refl
+          no_address (NxDomain soa) none = tt
+
+          by : (os : List Search) → AreAround port home k past j.name j.kind s.name s.kind (s.frame).nesting os → IsAnswered now s os l j stores p → Sound p
+          by [] a (task, job, learnt) = put_now p _ _ task job (learnt_told l p.stores is learnt) marks_now tt
+          by (o ∷ os) (kind, nesting, waiting, further) (after, more, task, learnt, hears_of, job) =
+              let new = learnt_told l p.stores is learnt in
+              let takes : Takes port s.name a_type (received l) turn past = subst (λ (t : ℕ). Takes port s.name t (received l) turn past) kind (taken_now l is) in
+              heard_at port home k (turn ∷ past) CutNow p s.name (received l) o after os j more new
+              (λ set e. inr (inl (subst (λ (x : Link). Takes port s.name a_type x turn past) e takes)))
+              (λ none. inr (a_type, received l, inl takes, no_address l none))
+              (waiting_later port home turn past k o s.name waiting) (around_later port home turn past k j.name j.kind o.name o.kind (o.frame).nesting os further) marks_now hears_of task job
+
+      -- A referral.
+      pub referred_start : (at : Name) (ns glue : List Record) (ttl : ℕ) (c : Cut) → class_of (s.frame).zone s.name s.kind (via_of ask.path) m ≡ class.Referral at ns glue ttl → IsCutOf at ns glue c → IsStart port home (turn ∷ past) c
+      referred_start at ns glue ttl c is is_cut =
+          inr (
+            (top.0).cut,
+            (top.0).stands.start,
+            (
+              k,
+              ask,
+              m,
+              at,
+              ns,
+              glue,
+              ttl,
+              record { served = served; ask = open_asks port k ask ask.path past asked; brings = brings },
+              subst (λ (n : Name). class_of (top.0).cut.owner n ask.kind (via_of ask.path) m ≡ class.Referral at ns glue ttl) (sym top.1)
+                  (subst (λ (t : ℕ). class_of (top.0).cut.owner s.name t (via_of ask.path) m ≡ class.Referral at ns glue ttl) (sym top.2)
+                  (subst (λ (z : Name). class_of z s.name s.kind (via_of ask.path) m ≡ class.Referral at ns glue ttl) (top.0).stands.zone is)),
+              is_cut,
+            ),
+          )
+
+      pub fresh_cut : (c : Cut) (ttl : ℕ) → IsStart port home (turn ∷ past) c → (x : Name × Known) → referral.IsKept (cut_from c ttl now) x → (x.0 ≡ ((x.1).cut).owner) × IsKeptStart port home (turn ∷ past) (x.1).cut
+      fresh_cut c ttl start x new =
+          let kept : x.1 ≡ cut_from c ttl now = ap (λ y. y.1) new.0 in
+          (ap (λ y. y.0) new.0 ∙ ap (λ (y : Known). (y.cut).owner) (sym kept), (c, start, ap (λ (y : Known). y.cut) kept))
+
+      pub referral_enters : (at : Name) (ns glue : List Record) (ttl : ℕ) → class_of (s.frame).zone s.name s.kind (via_of ask.path) m ≡ class.Referral at ns glue ttl
+          → IsReferred now s rest at ns glue ttl j stores p → Sound p
+      referral_enters at ns glue ttl is h =
+          let start = referred_start at ns glue ttl h.cut is h.is_cut in
+          let over : IsOver h.cut s.name = inr (subst (IsAtOrUnder s.name) (sym h.is_cut.owner) (referral_over (s.frame).zone s.name s.kind m (via_of ask.path) at ns glue ttl is)) in
+          put_now p Go _ h.task h.job (subst (AreTold port home (turn ∷ past)) (sym h.stored) (record {
+            links = (told_later port home turn past stores told).links;
+            cuts = λ n e c. elim (cut_kept_from stores.delegations_cap (cut_from h.cut ttl now) stores.delegations (n, e) c) [
+              | inl d ↦ (told_later port home turn past stores told).cuts n e d
+              | inr new ↦ fresh_cut h.cut ttl start (n, e) new
+            ];
+            low = told.low;
+          })) marks_now
+          (idle_at port home k (turn ∷ past) (level_of stores) (low_level port home past stores told) (s.frame).nesting h.cut s.name s.kind start over, around_now)
+
+      -- A reply that was cut short.
+      pub cut_enters : class_of (s.frame).zone s.name s.kind (via_of ask.path) m ≡ class.Cut → j.searches ≡ s ∷ rest → p ≡ point (Again ask.server) j stores → Sound p
+      cut_enters is searches e =
+          let udp = cut_is (s.frame).zone s.name s.kind m (via_of ask.path) is in
+          let path = udp_of ask.path udp.0 in
+          subst Sound (sym e) (record {
+            told = told_later port home turn past stores told;
+            marks = marks_now;
+            stands = subst (λ (l : List Search). OnTop port home k (turn ∷ past) CutNow j.name j.kind l (λ s. IsAsking port home k (turn ∷ past) s ask.server × CutNow ask.server s.name s.kind)) (sym searches) (
+              (
+                asking_later port home turn past k s ask.server top.0,
+                record {
+                  ask = ask;
+                  udp = path;
+                  asked = open_udp ask.path path asked;
+                  same = record { server = refl; name = top.1; kind = top.2 };
+                  message = m;
+                  brings = brings;
+                  cut = udp.1;
+                },
+              ),
+              around_now,
+            );
+          })
+        where
+          udp_of : (path : Path) → via_of path ≡ via.Udp → IsUdp path
+          udp_of (ByUdp sock) e = tt
+          udp_of (ByTcp number) e = absurd (cc)
+
+          open_udp : (path : Path) → IsUdp path → AsksBy port k ask path past → Asks port k ask past
+          open_udp (ByUdp sock) u a = a
+          open_udp (ByTcp number) u a = absurd u
+
+      pub class_enters : (c : class.Class) → class_of (s.frame).zone s.name s.kind (via_of ask.path) m ≡ c → j.searches ≡ s ∷ rest → ByClass now ask.server s rest c j stores p → Sound p
+      class_enters (class.Answer l) is searches h = answer_enters l is h
+      class_enters (class.Referral at ns glue ttl) is searches h = referral_enters at ns glue ttl is h
+      class_enters class.Cut is searches h = cut_enters is searches h
+      class_enters (class.Failed f) is searches h = goes_further (λ c zone. inr (inr (
+        m,
+        f,
+        brings,
+        subst (λ (n : Name). class_of c.owner n ask.kind (via_of ask.path) m ≡ class.Failed f) (sym top.1)
+            (subst (λ (t : ℕ). class_of c.owner s.name t (via_of ask.path) m ≡ class.Failed f) (sym top.2)
+            (subst (λ (z : Name). class_of z s.name s.kind (via_of ask.path) m ≡ class.Failed f) zone is)),
+      ))) searches h
+
+  -- What the event is for this ask.
+  abbrev pub IsInputNow : Input → Type 0
+  IsInputNow Start = ⊥
+  IsInputNow (Told way server m) = (way ≡ via_of ask.path) × (server ≡ ask.server) × Brings port ask turn.event m
+  IsInputNow (TimedOut server) = (server ≡ ask.server) × ((z : Name) → IsBad port z ask turn.event)
+  IsInputNow (TcpFailed server) = (server ≡ ask.server) × ((z : Name) → IsBad port z ask turn.event)
+
+  answered_told : (run : List Turn) (stores : Stores) (a : Addr) → AreTold port home run stores → AreTold port home run (with_answer stores a)
+  answered_told run stores a h = record { links = h.links; cuts = h.cuts; low = answered_low a stores.penalties h.low }
+
+  timed_told : (run : List Turn) (stores : Stores) (a : Addr) → AreTold port home run stores → AreTold port home run (with_timeout stores a)
+  timed_told run stores a h = record { links = h.links; cuts = h.cuts; low = timed_out_low a stores.penalties_cap stores.penalties h.low }
+
+  -- There is an innermost search, and it asks.
+  with_top : (P : Type 0) (j : Job) → OnTop port home k past CutNow j.name j.kind j.searches IsAskingAs
+      → ((s : Search) (rest : List Search) → j.searches ≡ s ∷ rest → IsAskingAs s → AreAround port home k past j.name j.kind s.name s.kind (s.frame).nesting rest → P) → P
+  with_top P j top f = by j.searches refl top
+    where
+      by : (l : List Search) → j.searches ≡ l → OnTop port home k past CutNow j.name j.kind l IsAskingAs → P
+      by [] e h = absurd h
+      by (s ∷ rest) e h = f s rest e h.0 h.1
+
+  pub enters_sound : (now : ℕ) (input : Input) (j : Job) (stores : Stores) (p : Point) → AreTold port home past stores → AreMarked port home k past j.failed
+      → OnTop port home k past CutNow j.name j.kind j.searches IsAskingAs → IsInputNow input → Enters now input j stores p → Sound p
+  enters_sound now Start j stores p told marks top is e = absurd is
+  enters_sound now (Told way server m) j stores p told marks top (via_is, server_is, brings) e = elim e [
+    | inl (none, at) ↦ absurd (subst (λ (l : List Search). OnTop port home k past CutNow j.name j.kind l IsAskingAs) none top)
+    | inr (s, rest, searches, by) ↦
+        let h = subst (λ (l : List Search). OnTop port home k past CutNow j.name j.kind l IsAskingAs) searches top in
+        class_enters s rest now j (with_answer stores server) p (answered_told past stores server told) marks h.0 h.1 m brings (class_of (s.frame).zone s.name s.kind (via_of ask.path) m) refl searches
+        (subst (λ (w : Via). ByClass now ask.server s rest (class_of (s.frame).zone s.name s.kind w m) j (with_answer stores server) p) via_is
+        (subst (λ (a : Addr). ByClass now a s rest (class_of (s.frame).zone s.name s.kind way m) j (with_answer stores server) p) server_is by))
+  ]
+  enters_sound now (TimedOut server) j stores p told marks top (server_is, bad) e =
+      with_top (Sound p) j top (λ s rest searches h around. goes_further s rest now j (with_timeout stores server) p (timed_told past stores server told) marks h around (λ c zone. bad c.owner) searches e)
+  enters_sound now (TcpFailed server) j stores p told marks top (server_is, bad) e =
+      with_top (Sound p) j top (λ s rest searches h around. goes_further s rest now j (with_timeout stores server) p (timed_told past stores server told) marks h around (λ c zone. bad c.owner) searches e)
+
+  -- ---- what the stores hold where memory was wanting on the way
+
+  stopped_penalties : (input : Input) (stores : Stores) (low : AreAtMost 8 stores.penalties) (new : List (Addr × ℕ))
+      → (new ≡ stores.penalties) ⊎ ((server : Addr) × (server_of input ≡ Some server) × ((new ≡ answered server stores.penalties) ⊎ (new ≡ timed_out server stores.penalties_cap stores.penalties))) → AreAtMost 8 new
+  stopped_penalties input stores low new (inl e) = subst (AreAtMost 8) (sym e) low
+  stopped_penalties input stores low new (inr (server, is, inl e)) = subst (AreAtMost 8) (sym e) (answered_low server stores.penalties low)
+  stopped_penalties input stores low new (inr (server, is, inr e)) = subst (AreAtMost 8) (sym e) (timed_out_low server stores.penalties_cap stores.penalties low)
+
+  module _ (now : ℕ) (j : Job) (stores : Stores) (told : AreTold port home past stores) (marks : AreMarked port home k past j.failed)
+      (top : OnTop port home k past CutNow j.name j.kind j.searches IsAskingAs) where
+    taken_entry : (input : Input) → IsInputNow input → (x : Key × Hit) → IsTakenEntry j input now x → (n : Name) × (u : ℕ) × (x.0 ≡ key_for n u (x.1).link) × Earlier (Takes port n u (x.1).link) (turn ∷ past)
+    taken_entry Start is x (s, l, c, kept) = absurd c
+    taken_entry (Told way server m) (via_is, server_is, brings) x (s, l, ((rest, searches), is), kept) =
+        let h = subst (λ (l : List Search). OnTop port home k past CutNow j.name j.kind l IsAskingAs) searches top in
+        fresh_entry s rest now j stores (point Go j stores) told marks h.0 h.1 m brings l (subst (λ (w : Via). class_of (s.frame).zone s.name s.kind w m ≡ class.Answer l) via_is is) x kept
+    taken_entry (TimedOut server) is x (s, l, c, kept) = absurd c
+    taken_entry (TcpFailed server) is x (s, l, c, kept) = absurd c
+
+    taken_cut : (input : Input) → IsInputNow input → (x : Name × Known) → IsTakenCut j input now x → (x.0 ≡ ((x.1).cut).owner) × IsKeptStart port home (turn ∷ past) (x.1).cut
+    taken_cut Start is x (s, at, ns, glue, ttl, c, none, is_cut, kept) = absurd none
+    taken_cut (Told way server m) (via_is, server_is, brings) x (s, at, ns, glue, ttl, c, ((rest, searches), is), is_cut, kept) =
+        let h = subst (λ (l : List Search). OnTop port home k past CutNow j.name j.kind l IsAskingAs) searches top in
+        let class_is = subst (λ (w : Via). class_of (s.frame).zone s.name s.kind w m ≡ class.Referral at ns glue ttl) via_is is in
+        fresh_cut s rest now j stores (point Go j stores) told marks h.0 h.1 m brings c ttl (referred_start s rest now j stores (point Go j stores) told marks h.0 h.1 m brings at ns glue ttl c class_is is_cut) x kept
+    taken_cut (TimedOut server) is x (s, at, ns, glue, ttl, c, none, is_cut, kept) = absurd none
+    taken_cut (TcpFailed server) is x (s, at, ns, glue, ttl, c, none, is_cut, kept) = absurd none
+
+    pub stops_told : (input : Input) (after : Stores) → IsInputNow input → Stops input now j stores after → AreTold port home (turn ∷ past) after
+    stops_told input after is h = record {
+      links = λ key e c. elim (h.cache (key, e) c) [
+        | inl d ↦ (told_later port home turn past stores told).links key e d
+        | inr new ↦ taken_entry input is (key, e) new
+      ];
+      cuts = λ n e c. elim (h.delegations (n, e) c) [
+        | inl d ↦ (told_later port home turn past stores told).cuts n e d
+        | inr new ↦ taken_cut input is (n, e) new
+      ];
+      low = stopped_penalties input stores told.low after.penalties h.penalties;
+    }

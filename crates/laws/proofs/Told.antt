@@ -1,0 +1,140 @@
+-- What stands in the stores was once accepted, and what the zones at hand and the stores tell of a name.
+use Rattle.std.proofs.Common.{◌≡◌, ℕ, ◌≤◌, ◌⊎◌, inl, inr, Some, List, [], ◌∷◌, Contains, sym, ap, ◌∙◌, subst, arith}
+use Rattle.dname.specs.Labels.{Name}
+use Rattle.rdata.specs.Records.{Record}
+use Rattle.rdata.specs.declared.addr.Addr.{Addr}
+use Rattle.zone.specs.Zones.{a_type, cname_type}
+use Rattle.zone.specs.Links.{Link, Found, Alias, NoData, NxDomain}
+use Rattle.zone.specs.Look as local
+use Rattle.retry.specs.Penalties.{AreAtMost, same_addr}
+use Rattle.retry.proofs.Steps.{looked_most}
+use Rattle.referral.specs.Cuts.{Cut, Known}
+use Rattle.frames.specs.Trimmed.{trimmed}
+use Rattle.cache.specs.Keys.{Key, Kind, NameError, key_for}
+use Rattle.cache.specs.Cached.{Hit, Answers}
+use Rattle.resolution.specs.Jobs.{Home, Stores, level_of, Taken, IsCutOf}
+use Rattle.resolution.specs.Rules.{Says, Hits, Finds, Misses}
+use Rattle.runs.specs.States.{Turn}
+use Rattle.runs.specs.Runs.{Earlier}
+use Rattle.laws.specs.Spent.{Takes, IsFound, TellsOfNone, IsNotFound, HasNoAddress, IsAliasOf, IsStart}
+use Rattle.laws.proofs.TimelyStores.{AreKept, Tells, hit_tells, looked_from, best_from}
+
+-- ---- what an entry that answers says of its own link
+
+apart_types : cname_type ≡ a_type → ⊥
+apart_types e = omega (arith, e)
+
+answers_set : (n : Name) (u : ℕ) (l : Link) (set : List Record) → Answers n a_type (key_for n u l) l (Found set) → (u ≡ a_type) × (l ≡ Found set)
+answers_set n u (Found rs) set (inl h) = let s : Kind u ≡ NameError = ap (λ (k : Key). k.slot) h.0 in absurd (cc)
+answers_set n u (Found rs) set (inr (inl h)) = let s : Kind u ≡ Kind a_type = ap (λ (k : Key). k.slot) h.0 in (cc, sym h.1)
+answers_set n u (Found []) set (inr (inr h)) = let s = h.2 in absurd (cc)
+answers_set n u (Found (r ∷ rs)) set (inr (inr h)) = let s = h.2 in absurd (cc)
+answers_set n u (Alias r) set (inl h) = let s : Kind cname_type ≡ NameError = ap (λ (k : Key). k.slot) h.0 in absurd (cc)
+answers_set n u (Alias r) set (inr (inl h)) = let s : Kind cname_type ≡ Kind a_type = ap (λ (k : Key). k.slot) h.0 in absurd (apart_types (cc))
+answers_set n u (Alias r) set (inr (inr h)) = let s = h.2 in absurd (cc)
+answers_set n u (NoData soa) set (inl h) = let s = h.1 in absurd (cc)
+answers_set n u (NoData soa) set (inr (inl h)) = let s = h.1 in absurd (cc)
+answers_set n u (NoData soa) set (inr (inr h)) = let s = h.2 in absurd (cc)
+answers_set n u (NxDomain soa) set (inl h) = let s = h.1 in absurd (cc)
+answers_set n u (NxDomain soa) set (inr (inl h)) = let s = h.1 in absurd (cc)
+answers_set n u (NxDomain soa) set (inr (inr h)) = let s = h.2 in absurd (cc)
+
+answers_none : (n : Name) (u : ℕ) (l given : Link) → Answers n a_type (key_for n u l) l given → IsNotFound given → TellsOfNone u l
+answers_none n u (Found rs) given (inl h) none = let s : Kind u ≡ NameError = ap (λ (k : Key). k.slot) h.0 in absurd (cc)
+answers_none n u (Found rs) given (inr (inl h)) none = absurd (none rs h.1)
+answers_none n u (Found rs) given (inr (inr h)) none = let s : Kind u ≡ Kind cname_type = ap (λ (k : Key). k.slot) h.0 in cc
+answers_none n u (Alias r) given h none = tt
+answers_none n u (NoData soa) given (inl h) none = let s : Kind u ≡ NameError = ap (λ (k : Key). k.slot) h.0 in absurd (cc)
+answers_none n u (NoData soa) given (inr (inl h)) none = let s : Kind u ≡ Kind a_type = ap (λ (k : Key). k.slot) h.0 in cc
+answers_none n u (NoData soa) given (inr (inr h)) none = let s = h.2 in absurd (cc)
+answers_none n u (NxDomain soa) given h none = tt
+
+answers_alias : (n : Name) (t u : ℕ) (l : Link) (r : Record) → Answers n t (key_for n u l) l (Alias r)
+    → (l ≡ Alias r) ⊎ ((u ≡ cname_type) × ((rs : List Record) × (l ≡ Found (r ∷ rs))))
+answers_alias n t u (Found rs) r (inl h) = let s = h.1 in absurd (cc)
+answers_alias n t u (Found rs) r (inr (inl h)) = let s = h.1 in absurd (cc)
+answers_alias n t u (Found []) r (inr (inr h)) = let s = h.2 in absurd (cc)
+answers_alias n t u (Found (q ∷ rs)) r (inr (inr h)) =
+    let s : Kind u ≡ Kind cname_type = ap (λ (k : Key). k.slot) h.0 in
+    let e : Some (Alias q) ≡ Some (Alias r) = h.2 in
+    let same : q ≡ r = cc in
+    inr (cc, (rs, ap (λ (x : Record). Found (x ∷ rs)) same))
+answers_alias n t u (Alias q) r (inl h) = let s = h.1 in absurd (cc)
+answers_alias n t u (Alias q) r (inr (inl h)) = let s = h.1 in absurd (cc)
+answers_alias n t u (Alias q) r (inr (inr h)) = let e : Some (Alias q) ≡ Some (Alias r) = h.2 in inl (cc)
+answers_alias n t u (NoData soa) r (inl h) = let s = h.1 in absurd (cc)
+answers_alias n t u (NoData soa) r (inr (inl h)) = let s = h.1 in absurd (cc)
+answers_alias n t u (NoData soa) r (inr (inr h)) = let s = h.2 in absurd (cc)
+answers_alias n t u (NxDomain soa) r (inl h) = let s = h.1 in absurd (cc)
+answers_alias n t u (NxDomain soa) r (inr (inl h)) = let s = h.1 in absurd (cc)
+answers_alias n t u (NxDomain soa) r (inr (inr h)) = let s = h.2 in absurd (cc)
+
+module _ (port : ℕ) (home : Home) (run : List Turn) where
+  -- Of a start that was kept what a frame can use is kept.
+  abbrev pub IsKeptStart : Cut → Type 0
+  IsKeptStart c = (s : Cut) × IsStart port home run s × (c ≡ trimmed s)
+
+  -- What was kept was accepted; a cut that was kept is one of a start; no penalty is over 8.
+  pub record AreTold (stores : Stores) : Type 0 where
+    pub links : AreKept (λ n u e. Earlier (Takes port n u e.link) run) stores.cache
+    pub cuts : (n : Name) (c : Known) → Contains stores.delegations (n, c) → (n ≡ (c.cut).owner) × IsKeptStart c.cut
+    pub low : AreAtMost 8 stores.penalties
+
+  pub low_level : (stores : Stores) → AreTold stores → (a : Addr) → level_of stores a ≤ 8
+  low_level stores told a = looked_most 8 (same_addr a) stores.penalties told.low
+
+  -- ---- what is found
+
+  pub found_told : (now : ℕ) (n : Name) (t : ℕ) (old new : Stores) (l : Taken) → AreTold old → Finds home now n t old l new → AreTold new
+  found_told now n t old new l told finds = elim finds.is [
+    | inl (k, says, link, same) ↦ subst AreTold (sym same) told
+    | inr (hit, hits) ↦ subst AreTold (sym hits.stores) (record { links = λ k e c. told.links k e (looked_from n t now old.cache (k, e) c); cuts = told.cuts; low = told.low })
+  ]
+
+  told_hit : (now : ℕ) (n : Name) (t : ℕ) (old new : Stores) (l : Taken) (hit : Hit) → AreTold old → Hits home now n t old l hit new
+      → Tells (λ m u e. Earlier (Takes port m u e.link) run) n t now hit
+  told_hit now n t old new l hit told hits = hit_tells (λ m u e. Earlier (Takes port m u e.link) run) n t now old.cache hit told.links hits.found
+
+  pub found_set : (now : ℕ) (n : Name) (old new : Stores) (l : Taken) (set : List Record) → AreTold old → Finds home now n a_type old l new → l.link ≡ Found set → IsFound port home run n set
+  found_set now n old new l set told finds is = elim finds.is [
+    | inl (k, says, link, same) ↦ inl (subst (λ (m : Link). Says home n a_type (local.Linked m)) (sym (ap (λ (x : Taken). x.link) link) ∙ is) says)
+    | inr (hit, hits) ↦ inr (by_hit (told_hit now n a_type old new l hit told hits) (sym (ap (λ (x : Taken). x.link) hits.link) ∙ is))
+  ]
+    where
+      by_hit : {hit : Hit} → Tells (λ m u e. Earlier (Takes port m u e.link) run) n a_type now hit → hit.link ≡ Found set → Earlier (Takes port n a_type (Found set)) run
+      by_hit tells e =
+          let a = answers_set n tells.kind tells.entry.link set (subst (Answers n a_type (key_for n tells.kind tells.entry.link) tells.entry.link) e tells.answers) in
+          subst (λ (u : ℕ). Earlier (Takes port n u (Found set)) run) a.0 (subst (λ (m : Link). Earlier (Takes port n tells.kind m) run) a.1 tells.kept)
+
+  pub found_none : (now : ℕ) (n : Name) (old new : Stores) (l : Taken) → AreTold old → Finds home now n a_type old l new → IsNotFound l.link → HasNoAddress port home run n
+  found_none now n old new l told finds none = elim finds.is [
+    | inl (k, says, link, same) ↦ inl (k, says, subst IsNotFound (ap (λ (x : Taken). x.link) link) none)
+    | inr (hit, hits) ↦ inr (by_hit (told_hit now n a_type old new l hit told hits) (subst IsNotFound (ap (λ (x : Taken). x.link) hits.link) none))
+  ]
+    where
+      by_hit : {hit : Hit} → Tells (λ m u e. Earlier (Takes port m u e.link) run) n a_type now hit → IsNotFound hit.link → (t : ℕ) × (k : Link) × Earlier (Takes port n t k) run × TellsOfNone t k
+      by_hit {hit} tells none = (tells.kind, tells.entry.link, tells.kept, answers_none n tells.kind tells.entry.link hit.link tells.answers none)
+
+  pub found_alias : (now : ℕ) (n : Name) (t : ℕ) (old new : Stores) (l : Taken) (r : Record) → AreTold old → Finds home now n t old l new → l.link ≡ Alias r → IsAliasOf port home run n t r
+  found_alias now n t old new l r told finds is = elim finds.is [
+    | inl (k, says, link, same) ↦ inl (subst (λ (m : Link). Says home n t (local.Linked m)) (sym (ap (λ (x : Taken). x.link) link) ∙ is) says)
+    | inr (hit, hits) ↦ inr (by_hit (told_hit now n t old new l hit told hits) (sym (ap (λ (x : Taken). x.link) hits.link) ∙ is))
+  ]
+    where
+      by_hit : {hit : Hit} → Tells (λ m u e. Earlier (Takes port m u e.link) run) n t now hit → hit.link ≡ Alias r
+          → (v : ℕ) × (k : Link) × Earlier (Takes port n v k) run × ((k ≡ Alias r) ⊎ ((v ≡ cname_type) × ((rs : List Record) × (k ≡ Found (r ∷ rs)))))
+      by_hit tells e = (tells.kind, tells.entry.link, tells.kept, answers_alias n t tells.kind tells.entry.link r (subst (Answers n t (key_for n tells.kind tells.entry.link) tells.entry.link) e tells.answers))
+
+  pub found_name : (now : ℕ) (n : Name) (t : ℕ) (old new : Stores) (l : Taken) → Finds home now n t old l new → l.name ≡ n
+  found_name now n t old new l finds = elim finds.is [ inl (k, says, link, same) ↦ ap (λ (x : Taken). x.name) link | inr (hit, hits) ↦ ap (λ (x : Taken). x.name) hits.link ]
+
+  -- ---- where a search starts
+
+  pub missed_told : (now : ℕ) (n : Name) (t : ℕ) (old new : Stores) (c : Cut) → AreTold old → Misses home now n t old c new → AreTold new
+  missed_told now n t old new c told m =
+      subst AreTold (sym m.stores) (record { links = told.links; cuts = λ d k h. told.cuts d k (best_from n now old.delegations (d, k) h); low = told.low })
+
+-- A cut of a zone at hand is a start, and so are the hints.
+pub local_start : (port : ℕ) (home : Home) (run : List Turn) (n : Name) (t : ℕ) (at : Name) (ns glue : List Record) (c : Cut) → Says home n t (local.Cut at ns glue) → IsCutOf at ns glue c → IsStart port home run c
+local_start port home [] n t at ns glue c says is = inr (n, t, at, ns, glue, says, is)
+local_start port home (turn ∷ past) n t at ns glue c says is = inl (local_start port home past n t at ns glue c says is)

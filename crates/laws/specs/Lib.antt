@@ -1,0 +1,15 @@
+pub mod Calls
+pub mod Caused
+pub mod Failures
+pub mod Headline
+pub mod Held
+pub mod Laws
+pub mod Looks
+pub mod Replies
+pub mod Searches
+pub mod Spent
+pub mod Steps
+pub mod Timely
+pub mod Times
+pub mod Uses
+pub mod Words

@@ -1,0 +1,39 @@
+//! One reply and one open ask: functions that do nothing, whose clauses are proved.
+
+ghost use Rattle.laws.specs.Laws.{OneAction, MoreDueAtTicks, NeverAgain, OneReply, OneComing, OpenByRun, FewAsks, OneLine, OthersStay, DueInOrder};
+ghost use Rattle.laws.specs.Times.{NothingIsLate};
+ghost use Rattle.laws.specs.Words.{WordsInOrder};
+
+/// Over every run, whatever comes: a step that serves a query gives one reply or one ask of it, and bytes
+/// that are no query are dropped; a query has one Client step, one reply at most and 40 asks at most, and is
+/// never served again when it is over; the open queries are those whose last step sent an ask, which is
+/// their one open ask; no two open asks over UDP agree in socket, server and ID (RFC 5452, section 4).
+pub fn discipline_law()
+    ensures action { OneAction }
+    ensures coming { OneComing }
+    ensures reply { OneReply }
+    ensures never_again { NeverAgain }
+    ensures waits { OpenByRun }
+    ensures asks { FewAsks }
+    ensures line { OneLine }
+{}
+
+/// An event changes no open query but the one that it serves.
+pub fn isolation_law()
+    ensures { OthersStay }
+{}
+
+/// A tick serves the query that is due first, the older one among equals, and answers it where its time is
+/// up; word that another query is due is given at ticks alone, and exactly where one is. Nothing is sent for a
+/// query once ten seconds have passed since it came, whatever comes.
+pub fn due_law()
+    ensures order { DueInOrder }
+    ensures late { NothingIsLate }
+    ensures ticks { MoreDueAtTicks }
+{}
+
+/// The socket and the ID of each ask are those of the first word of the seed's stream that no ask before it
+/// had, words aside that were taken where memory was wanting.
+pub fn words_law()
+    ensures { WordsInOrder }
+{}

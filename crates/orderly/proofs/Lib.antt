@@ -1,9 +1,0 @@
-pub mod Asking
-pub mod Discipline
-pub mod Due
-pub mod Fates
-pub mod Lists
-pub mod Orders
-pub mod Sent
-pub mod Times
-pub mod Words

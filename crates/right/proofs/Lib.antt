@@ -1,9 +1,0 @@
-pub mod Actions
-pub mod Entries
-pub mod Every
-pub mod Lists
-pub mod Opens
-pub mod Points
-pub mod Replies
-pub mod Servers
-pub mod Sound

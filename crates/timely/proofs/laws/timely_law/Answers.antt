@@ -1,5 +1,0 @@
-use Rattle.timely.proofs.Runs.{run_explained}
-use Rattle.timely.proofs.laws.timely_law.Goals as goal
-
-pub returns : goal.returns
-returns c = λ site run s legal. (run_explained site run s legal).1
