@@ -1,5 +1,5 @@
 -- The aliases of a chain, one by one.
-use Rattle.std.proofs.Common.{◌≡◌, ℕ, List, [], ◌∷◌, ◌++◌, refl, sym, ◌∙◌, ap, append_assoc, append-nil, length, arith}
+use Rattle.std.proofs.Common.{◌≡◌, ℕ, List, [], ◌∷◌, ◌++◌, sym, ◌∙◌, ap, append_assoc, append-nil, length, arith}
 use Rattle.rdata.specs.Records.{Record}
 use Rattle.zone.specs.Links.{Link, Alias}
 use Rattle.resolution.specs.Jobs.{Taken, sent}

@@ -1,11 +1,11 @@
 -- How an ask that goes out is one of the resolver's.
-use Rattle.std.proofs.Common.{◌≡◌, ◌≢◌, ℕ, ◌+◌, ◌%◌, ◌<◌, ◌⊎◌, inl, inr, List, [], ◌∷◌, Contains, refl, sym, ◌∙◌, ap, subst}
+use Rattle.std.proofs.Common.{◌≡◌, ℕ, ◌+◌, inr, List, [], ◌∷◌, refl, sym, ◌∙◌, ap, subst}
 use Rattle.dname.specs.Labels.{Name}
 use Rattle.rdata.specs.declared.addr.Addr.{Addr}
-use Rattle.resolution.specs.Jobs.{Stores, Job, wait_of_job}
+use Rattle.resolution.specs.Jobs.{Job, wait_of_job}
 use Rattle.runs.specs.States.{Action, Asker, Asking, IsFor, ByUdp, ByTcp, Open, open_query, State, word_of, word_taken, low_half, socket_of}
 use Rattle.runs.specs.Messages.{IsSent}
-use Rattle.runs.specs.Steps.{IsInUse, IsRaised, IsUdpAsk, IsTcpAsk, AreWith, Waits, WaitsByUdp, WaitsByTcp}
+use Rattle.runs.specs.Steps.{IsInUse, IsRaised, AreWith, WaitsByUdp, WaitsByTcp}
 use Rattle.queries.specs.Lookups.{HasNo, IsTakenId}
 use Rattle.engine.specs.Moves.{Puts, Halts}
 

@@ -1,8 +1,8 @@
 -- A resolver that has done nothing yet is sound.
-use Rattle.std.proofs.Common.{◌≡◌, ℕ, ◌<◌, ◌≤◌, List, [], length, sym, subst, arith}
+use Rattle.std.proofs.Common.{◌≡◌, ◌≤◌, List, [], length, sym, subst, arith}
 use Rattle.std.specs.Prelude.{Contains}
 use Rattle.zone.proofs.LawLists.{none_in}
-use Rattle.runs.specs.States.{Open, State, latest}
+use Rattle.runs.specs.States.{Open, State}
 use Rattle.runs.specs.Steps.{most_open}
 use Rattle.engine.specs.Works.{IsSound}
 

@@ -1,10 +1,10 @@
 -- A query that comes, and is opened or over.
-use Rattle.std.proofs.Common.{◌≡◌, ℕ, ◌+◌, ◌<◌, ◌≤◌, length, List, refl, ap, arith, Contains}
+use Rattle.std.proofs.Common.{ℕ, ◌+◌, ◌<◌, ◌≤◌, length, List, refl, ap, arith}
 use Rattle.resolution.specs.Jobs.{Stores, Job, Next, Ask, AskTcp, Done, Fail}
 use Rattle.causes.specs.declared.cause.Cause.TheVariants as cause
 use Rattle.front.specs.declared.queries.Outcome.TheVariants as outcome
 use Rattle.runs.specs.States.{Action, Asker, State, Own, Query}
-use Rattle.runs.specs.Steps.{most_open, IsAsking, Comes, Ends, IsOpened, at_once, crowded, admitted}
+use Rattle.runs.specs.Steps.{most_open, IsAsking, Comes, Ends, at_once, crowded, admitted}
 use Rattle.queries.specs.Lookups.{HasNo}
 use Rattle.engine.specs.Works.{IsSound}
 use Rattle.engine.specs.Moves.{Opens}

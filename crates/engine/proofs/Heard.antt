@@ -1,13 +1,11 @@
 -- An event that is for the open query of a number.
-use Rattle.std.proofs.Common.{◌≡◌, ℕ, ◌⊎◌, inl, inr, List, refl, sym, ◌∙◌, subst, ap, Some}
-use Rattle.resolution.specs.Jobs.{Stores, Job, Input}
+use Rattle.std.proofs.Common.{◌≡◌, ℕ, inl, inr, List, sym, ◌∙◌, subst, ap, Some}
 use Rattle.resolution.specs.Rules.{Stops}
 use Rattle.iterate.specs.declared.calls.Input.{Input as Given}
 use Rattle.iterate.specs.Views.{input_view}
 use Rattle.runs.specs.States.{Event, Action, Open, State}
-use Rattle.runs.specs.Steps.{AreOthers, Serves, IsLeft}
-use Rattle.queries.specs.Lookups.{IsTheOne, IsTaken}
-use Rattle.engine.specs.Moves.{ServesOne, DropsOne, IsToldBy, IsRead, Forgets, IsServed, IsLost}
+use Rattle.runs.specs.Steps.{Serves}
+use Rattle.engine.specs.Moves.{ServesOne, DropsOne, IsRead, Forgets, IsServed, IsLost}
 
 pub is_served : {A : Type 0} (s : State) (k : ℕ) (event : Event) (input : Given A) (out : List Action) (new : State) → IsRead s k event (Some input) → ServesOne s k (input_view input) out new → IsServed s k event out new
 is_served s k event input out new read h = record {

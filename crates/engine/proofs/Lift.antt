@@ -1,5 +1,5 @@
 -- What is said of a state without a query is said of the state that has it.
-use Rattle.std.proofs.Common.{◌≡◌, ◌≢◌, ℕ, ◌+◌, ◌⊎◌, inl, inr, List, [], ◌∷◌, Contains, refl, sym, ◌∙◌, ap, subst}
+use Rattle.std.proofs.Common.{◌≡◌, ℕ, ◌⊎◌, inl, inr, List, [], ◌∷◌, refl, sym, ◌∙◌, ap, subst}
 use Rattle.rdata.specs.declared.addr.Addr.{Addr}
 use Rattle.front.specs.declared.queries.Outcome.{Outcome}
 use Rattle.resolution.specs.Jobs.{Stores, Job, Input, Next, Ask, AskTcp, Done, Fail}
@@ -7,8 +7,8 @@ use Rattle.resolution.specs.Rules.{Advances, Stops}
 use Rattle.resolution.proofs.Keeping.{advances_stop}
 use Rattle.runs.specs.States.{Action, Plain, Asker, Open, State, word_taken}
 use Rattle.runs.specs.Messages.{IsReply}
-use Rattle.runs.specs.Steps.{IsInUse, IsRaised, AreOthers, AreWith, Ends, WaitsByUdp, WaitsByTcp, Comes, Serves, IsLeft}
-use Rattle.queries.specs.Lookups.{HasNo, IsTheOne, IsTaken}
+use Rattle.runs.specs.Steps.{IsInUse, IsRaised, AreOthers, AreWith, Ends, Comes}
+use Rattle.queries.specs.Lookups.{HasNo, IsTaken}
 use Rattle.engine.specs.Moves.{Halts, Goes, Falls, ServesOne, DropsOne}
 
 pub others_same : (qs : List Open) (k : ℕ) → HasNo qs k → AreOthers k qs qs

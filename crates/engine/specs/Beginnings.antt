@@ -46,6 +46,13 @@ pub record IsMade (zones : List Zone) (hints : List Addr) (s : Settings) (made :
   pub apart : has_twins zones ≡ false
   pub is : made ≡ first_state zones hints s
 
+-- A resolver of some zones, hints and settings that has done nothing yet.
+pub record IsBegun (made : State) : Type 0 where
+  pub zones : List Zone
+  pub hints : List Addr
+  pub settings : Settings
+  pub is : IsMade zones hints settings made
+
 abbrev pub core_fault_number : CoreError → ℕ
 core_fault_number Setting = 1
 core_fault_number Twins = 2

@@ -2,3 +2,8 @@ pub mod Works
 pub mod Moves
 pub mod Replies
 pub mod Beginnings
+pub mod Turns
+pub mod Calls
+pub mod Finds
+pub mod Promises
+pub mod Histories

@@ -1,5 +1,5 @@
 -- What becomes of one query, said of a state that is without it.
-use Rattle.std.specs.Prelude.{◌≡◌, ℕ, ◌⊎◌, Option, Some, None, List, [], ◌∷◌, Contains}
+use Rattle.std.specs.Prelude.{◌≡◌, ℕ, ◌⊎◌, Option, Some, None, List}
 use Rattle.layout.specs.Messages.{Message}
 use Rattle.resolution.specs.Jobs.{Stores, Job, Input, Told, Next}
 use Rattle.resolution.specs.Rules.{Advances, Stops}

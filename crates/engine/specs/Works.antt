@@ -1,5 +1,5 @@
 -- The state of a resolver at work, and what holds of it at all times.
-use Rattle.std.specs.Prelude.{ℕ, ◌<◌, ◌≤◌, List, length, Contains}
+use Rattle.std.specs.Prelude.{◌<◌, ◌≤◌, length, Contains}
 use Rattle.runs.specs.States.{Open, State, latest}
 use Rattle.runs.specs.Steps.{most_open}
 use Rattle.engine.specs.declared.works.Works.{Works}

@@ -1,14 +1,19 @@
 //! The resolver as one machine for one thread: events in, actions out.
-ghost use Rattle.std.specs.Prelude.{◌≡◌, IfOk, MatchResult};
+ghost use Rattle.std.specs.Prelude.{◌≡◌, Some, None, IfOk, IsOk, OnErr, MatchResult};
 ghost use Rattle.std.specs.NonZero.{non_zero_usize_get};
 ghost use Rattle.known.specs.Views.{no_stores};
 ghost use Rattle.engine.specs.Beginnings.{CoreRefuses, IsMade};
 ghost use Rattle.engine.specs.Works.{state_of};
+ghost use Rattle.engine.specs.Turns.{IsQuiet};
+ghost use Rattle.engine.specs.Promises.{Steps};
+ghost use Rattle.exchange.specs.Views.{event_view};
+ghost use Rattle.runs.specs.States.{moved};
 
 use crate::settings::{Config, CoreError};
 use crate::works::{Hasher, Works};
 use authority::Catalog;
 use dname::{Heap, Starved};
+use exchange::{Actions, Event};
 use known::{Capacities, Hashers, Home, Stores};
 use queries::Queries;
 use rand_chacha::ChaCha20Rng;
@@ -72,5 +77,18 @@ impl<A: Heap> Core<A> {
                 generator: ChaCha20Rng::from_seed(settings.seed),
             },
         })
+    }
+
+    /// One step: an event comes, and at most one query is served. For want of memory nothing goes out, and the
+    /// query that the event was for is gone. With it every run keeps what the laws of runs promise.
+    pub fn step(&mut self, event: &Event<A>) -> Result<Actions<A>, Starved>
+        ensures ok { IfOk result (λ a. Steps self.old (event_view event.now) (Some a) self.new) }
+        ensures err { OnErr result (Steps self.old (event_view event.now) None self.new) }
+        ensures quiet { IsQuiet (moved self.old (event_view event.now)) (event_view event.now) → IsOk result }
+    {
+        self.works.hear_of(event);
+        let out = self.works.turn(event);
+        self.works.queries.are_apart();
+        out
     }
 }

@@ -51,6 +51,13 @@ impl<A: Allocator> Open<A> {
         &self.ask
     }
 
+    /// When its own time is up, in milliseconds.
+    pub fn deadline(&self) -> u64
+        ensures { result ≡ (self.now.job).deadline }
+    {
+        self.job.deadline()
+    }
+
     /// When it is due: the wait for its ask is over, or its own time is up.
     pub fn due_moment(&self) -> u64
         ensures { result ≡ due_moment self.now }

@@ -3,7 +3,7 @@ use Rattle.rdata.specs.Types.{type_number}
 use Rattle.exchange.specs.Views.{action_view}
 use Rattle.runs.specs.States.{State, ByTcp, low_half}
 use Rattle.engine.specs.Works.{state_of}
-use Rattle.engine.proofs.Asks.{still_none, waits_by_tcp, halts}
+use Rattle.engine.proofs.Asks.{still_none, waits_by_tcp}
 use Rattle.engine.proofs.works.Works.ask_tcp.Goals as goal
 
 pub put-requires : goal.put-requires

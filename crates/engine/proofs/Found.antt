@@ -1,0 +1,107 @@
+-- What is found of an open query by its number, and what its ask comes to.
+use Rattle.std.proofs.Common.{◌≡◌, ℕ, ◌<◌, ◌≤◌, ◌⊎◌, inl, inr, Bool, true, false, leb, MatchBool, Option, Some, None, List, [], ◌∷◌, length, Contains, refl, sym, ◌∙◌, ap, subst, arith}
+use Rattle.std.proofs.lemmas.Bool.{leb-true, leb-false}
+use Rattle.std.specs.Prelude.{MatchOption}
+use Rattle.zone.proofs.LawLists.{none_in, in_cases}
+use Rattle.rdata.specs.declared.addr.Addr.{Addr}
+use Rattle.causes.specs.declared.cause.Cause.TheVariants as cause
+use Rattle.front.specs.declared.queries.Outcome.TheVariants as outcome
+use Rattle.resolution.specs.Jobs.{Input}
+use Rattle.resolution.specs.Rules.{Stops}
+use Rattle.runs.specs.States.{Endpoint, Datagram, Action, Asker, Open, due_moment, AreApart, State}
+use Rattle.runs.specs.Messages.{id_in}
+use Rattle.runs.specs.Steps.{Ends, Serves, IsLeft, IsOfLine, IsOfNumber, IsFirstDue}
+use Rattle.queries.specs.Lookups.{IsOnLine, IsOnStream, Stands, IsFound, IsNoLater, Leads, IsTheOne, IsTaken}
+use Rattle.engine.specs.Moves.{ServesOne, DropsOne}
+use Rattle.engine.specs.Finds.{Finds, OfTheOne, Reaches, NoneDue, IsLateOne, IsEarlyOne, Tells, Untold, Expires}
+use Rattle.engine.specs.Turns.{IsQuiet}
+use Rattle.engine.proofs.Lift.{ends_too}
+
+alone_of : (qs : List Open) → AreApart qs → (p q : Open) → Contains qs p → Contains qs q → p.number ≡ q.number → p ≡ q
+alone_of [] apart p q mp mq same = absurd (none_in p mp)
+alone_of (x ∷ qs) apart p q mp mq same = by (in_cases x p qs mp) (in_cases x q qs mq) (λ a b. alone_of qs apart.1 p q a b same)
+  where
+    by : (x ≡ p) ⊎ Contains qs p → (x ≡ q) ⊎ Contains qs q → (Contains qs p → Contains qs q → p ≡ q) → p ≡ q
+    by (inl e) (inl f) more = sym e ∙ f
+    by (inl e) (inr m) more = absurd (apart.0 q m (sym same ∙ ap (λ (o : Open). o.number) (sym e)))
+    by (inr m) (inl f) more = absurd (apart.0 p m (same ∙ ap (λ (o : Open). o.number) (sym f)))
+    by (inr a) (inr b) more = more a b
+
+pub finds : (IsSo : Open → Type 0) (qs : List Open) (k : ℕ) → AreApart qs → Stands IsSo qs k → Finds IsSo qs k
+finds IsSo qs k apart h = record {
+  query = h.query;
+  one = record {
+    stands = h.stands;
+    number_is = h.number_is;
+    alone = λ p there same. alone_of qs apart p h.query there h.stands (same ∙ sym h.number_is);
+  };
+  is = h.is;
+}
+
+-- Whichever query is found under the number is so.
+pub found_is : (IsSo : Open → Type 0) (qs : List Open) (k : ℕ) (q : Open) → Finds IsSo qs k → IsTheOne qs k q → IsSo q
+found_is IsSo qs k q h one = subst IsSo (one.alone h.query h.one.stands h.one.number_is) h.is
+
+pub tells : (s : State) (k : ℕ) (word : Addr → Input) (server : Addr) (out : List Action) (new : State) → OfTheOne s.queries k (λ q. server ≡ (q.ask).server) → ServesOne s k (word server) out new → Tells s k word out new
+tells s k word server out new asked h = record {
+  query = h.query;
+  one = h.one;
+  serves = subst (λ (x : Addr). Serves s h.query (word x) out new) (asked h.query h.one) h.serves;
+}
+
+pub untold : (s : State) (k : ℕ) (word : Addr → Input) (server : Addr) (new : State) → OfTheOne s.queries k (λ q. server ≡ (q.ask).server) → DropsOne s k (word server) new → Untold s k word new
+untold s k word server new asked h = record {
+  query = h.query;
+  one = h.one;
+  left = subst (λ (x : Addr). IsLeft s k (Stops (word x) s.clock h.query.job s.stores) new) (asked h.query h.one) h.left;
+}
+
+pub expires : (s : State) (k : ℕ) (q : Open) (others : List Open) (who : Asker) (out : List Action) (new : State) → IsTaken s.queries k q others → who ≡ q.asker
+    → Ends (record s { queries = others }) who k (outcome.Fail cause.Deadline) s.stores out new → Expires s k out new
+expires s k q others who out new taken is h =
+    let at_number : Ends s who k (outcome.Fail cause.Deadline) s.stores out new = ends_too s k others s.stores taken.others who (outcome.Fail cause.Deadline) s.stores out new h in
+    record {
+      query = q;
+      one = taken.one;
+      ends = subst (λ (w : Asker). Ends s w q.number (outcome.Fail cause.Deadline) s.stores out new) is
+          (subst (λ (n : ℕ). Ends s who n (outcome.Fail cause.Deadline) s.stores out new) (sym taken.one.number_is) at_number);
+    }
+
+-- ---- look-ups
+
+pub reaches : (s : State) (sock : ℕ) (from : Endpoint) (bytes : List ℕ) (o : Option ℕ) → AreApart s.queries → from.port ≡ (s.site).port → 12 ≤ length bytes
+    → IsFound (IsOnLine sock from.address (id_in bytes)) s.queries o → MatchOption o (IsQuiet s (Datagram 0 sock from bytes)) (Reaches s sock from bytes)
+reaches s sock from bytes None apart port header none = inr (inr none)
+reaches s sock from bytes (Some k) apart port header h = record { port = port; header = header; found = finds (IsOfLine sock from bytes) s.queries k apart h }
+
+pub asked : (qs : List Open) (ask : ℕ) (o : Option ℕ) → AreApart qs → IsFound (IsOnStream ask) qs o
+    → MatchOption o ((q : Open) → Contains qs q → IsOfNumber ask q → ⊥) (λ k. Finds (IsOfNumber ask) qs k)
+asked qs ask None apart none = none
+asked qs ask (Some k) apart h = finds (IsOfNumber ask) qs k apart h
+
+pub is_due : (s : State) (due k : ℕ) → AreApart s.queries → Leads s.queries due k → due ≤ s.clock → Finds (IsFirstDue s) s.queries k
+is_due s due k apart h now = finds (IsFirstDue s) s.queries k apart record {
+  query = h.query;
+  stands = h.stands;
+  is = record {
+    stands = h.stands;
+    due = let moment = h.due_is in omega arith;
+    first = λ p there. subst (λ (d : ℕ). IsNoLater d h.query.number p) (sym h.due_is) (subst (λ (n : ℕ). IsNoLater due n p) (sym h.number_is) (h.first p there));
+  };
+  number_is = h.number_is;
+}
+
+pub none_is_due : (s : State) (due k : ℕ) → Leads s.queries due k → s.clock < due → NoneDue s
+none_is_due s due k h later p there = elim (h.first p there) [ inl after ↦ omega arith | inr both ↦ (let same : due ≡ due_moment p = both.0 in omega arith) ]
+
+pub none_open : (s : State) → s.queries ≡ [] → NoneDue s
+none_open s empty p there = absurd (none_in p (subst (λ (qs : List Open). Contains qs p) empty there))
+
+by_test : (b : Bool) (P Q : Type 0) → (b ≡ true → P) → (b ≡ false → Q) → MatchBool b P Q
+by_test true P Q f g = f refl
+by_test false P Q f g = g refl
+
+pub late_or_early : (s : State) (k deadline : ℕ) (q : Open) → IsTheOne s.queries k q → deadline ≡ (q.job).deadline → MatchBool (leb deadline s.clock) (IsLateOne s k) (IsEarlyOne s k)
+late_or_early s k deadline q one is = by_test (leb deadline s.clock) (IsLateOne s k) (IsEarlyOne s k)
+    (λ test p other. subst (λ (o : Open). (o.job).deadline ≤ s.clock) (sym (one.alone p other.stands other.number_is)) (subst (λ (d : ℕ). d ≤ s.clock) is (leb-true deadline s.clock test)))
+    (λ test p other. subst (λ (o : Open). s.clock < (o.job).deadline) (sym (one.alone p other.stands other.number_is)) (subst (λ (d : ℕ). s.clock < d) is (leb-false deadline s.clock test)))

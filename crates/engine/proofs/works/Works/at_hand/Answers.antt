@@ -1,0 +1,29 @@
+use Rattle.std.proofs.Common.{List, refl, subst, ap}
+use Rattle.std.proofs.lemmas.Result.{IfOk-weaker}
+use Rattle.rdata.specs.Types.{type_number}
+use Rattle.zone.specs.Zones.{Zone}
+use Rattle.authority.specs.Catalogs.{looked}
+use Rattle.front.specs.Chains.{AnswersLocally}
+use Rattle.front.specs.declared.queries.Query.{Query as Question}
+use Rattle.runs.specs.States.{Plain, Asker}
+use Rattle.exchange.specs.Plain.{plain_outcome}
+use Rattle.exchange.specs.Views.{action_view}
+use Rattle.engine.proofs.works.Works.at_hand.Goals as goal
+
+pub returns : goal.returns
+returns g c =
+    IfOk-weaker c.reply_to.result _ _
+    (λ a h. record {
+      served_is = refl;
+      result = plain_outcome c.in_ok-outcome.outcome;
+      answers =
+          subst (λ (q : Question Plain). AnswersLocally (λ n. looked c.args.self.now.home.zones n (type_number q.kind)) q.name (plain_outcome c.in_ok-outcome.outcome))
+          (ap (λ (w : Asker). w.query) c.asker.view_is)
+          (subst (λ (zones : List Zone). AnswersLocally (λ n. looked zones n (type_number c.asker.inside.query.kind)) c.asker.inside.query.name (plain_outcome c.in_ok-outcome.outcome)) c.catalog.ensures
+          (c.local_answer_is_plain.ensures (λ n. looked c.catalog.result.now n (type_number c.asker.inside.query.kind)) c.asker.inside.query.name c.in_ok-outcome.outcome c.in_ok-outcome.ensures));
+      action = action_view a;
+      reply = h;
+      out_is = refl;
+      state = refl;
+    })
+    c.reply_to.ensures.reply

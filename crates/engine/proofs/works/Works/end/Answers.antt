@@ -1,0 +1,18 @@
+use Rattle.std.proofs.lemmas.Result.{IfOk-weaker}
+use Rattle.runs.specs.States.{State}
+use Rattle.engine.specs.Works.{state_of}
+use Rattle.engine.specs.Replies.{alone}
+use Rattle.engine.proofs.Lift.{none_of}
+use Rattle.engine.proofs.Found.{expires}
+use Rattle.engine.proofs.works.Works.end.Goals as goal
+
+pub fail-requires : goal.fail-requires
+fail-requires g c = none_of c.args.number c.args.self.now.queries c.take.new.self c.in-Some.ensures.others
+
+pub returns-clause-ok : goal.returns-clause-ok
+returns-clause-ok g c =
+    let s : State = state_of c.args.self.now in
+    let mid : State = record s { queries = c.take.new.self } in
+    IfOk-weaker c.fail.result _ _
+    (λ a h. expires s c.args.number c.in-Some.open c.take.new.self c.into_work-asker.result.0 (alone a) mid c.in-Some.ensures c.into_work-asker.ensures.asker h)
+    c.fail.ensures

@@ -1,0 +1,62 @@
+-- What a look-up for an event finds, and what becomes of an ask that is not answered.
+use Rattle.std.specs.Prelude.{◌≡◌, ℕ, ◌<◌, ◌≤◌, ◌⊎◌, List, length, Contains}
+use Rattle.rdata.specs.declared.addr.Addr.{Addr}
+use Rattle.causes.specs.declared.cause.Cause.TheVariants as cause
+use Rattle.front.specs.declared.queries.Outcome.TheVariants as outcome
+use Rattle.resolution.specs.Jobs.{Input, TimedOut}
+use Rattle.resolution.specs.Rules.{Stops}
+use Rattle.runs.specs.States.{Endpoint, Action, Open, due_moment, State}
+use Rattle.runs.specs.Steps.{Ends, Serves, IsLeft, IsOfLine}
+use Rattle.queries.specs.Lookups.{IsTheOne}
+use Rattle.engine.specs.Moves.{Forgets}
+
+-- The one open query of a number is so.
+pub record Finds (IsSo : Open → Type 0) (qs : List Open) (k : ℕ) : Type 0 where
+  pub query : Open
+  pub one : IsTheOne qs k query
+  pub is : IsSo query
+
+-- The same, said of whichever query has the number.
+abbrev pub OfTheOne : List Open → ℕ → (Open → Type 0) → Type 0
+OfTheOne qs k IsSo = (q : Open) → IsTheOne qs k q → IsSo q
+
+-- A datagram from the servers' port, with room for a header, is for the ask of the open query of a number.
+pub record Reaches (s : State) (sock : ℕ) (from : Endpoint) (bytes : List ℕ) (k : ℕ) : Type 0 where
+  pub port : from.port ≡ (s.site).port
+  pub header : 12 ≤ length bytes
+  pub found : Finds (IsOfLine sock from bytes) s.queries k
+
+-- No open query is due.
+abbrev pub NoneDue : State → Type 0
+NoneDue s = (q : Open) → Contains s.queries q → s.clock < due_moment q
+
+-- The open query of a number is served by word of the server that it asks; memory was wanting for that.
+pub record Tells (s : State) (k : ℕ) (word : Addr → Input) (out : List Action) (new : State) : Type 0 where
+  pub query : Open
+  pub one : IsTheOne s.queries k query
+  pub serves : Serves s query (word (query.ask).server) out new
+
+pub record Untold (s : State) (k : ℕ) (word : Addr → Input) (new : State) : Type 0 where
+  pub query : Open
+  pub one : IsTheOne s.queries k query
+  pub left : IsLeft s k (Stops (word (query.ask).server) s.clock query.job s.stores) new
+
+-- The time of the open query of a number is up, or is not.
+abbrev pub IsLateOne : State → ℕ → Type 0
+IsLateOne s k = OfTheOne s.queries k (λ q. (q.job).deadline ≤ s.clock)
+
+abbrev pub IsEarlyOne : State → ℕ → Type 0
+IsEarlyOne s k = OfTheOne s.queries k (λ q. s.clock < (q.job).deadline)
+
+-- It is over without an answer in time.
+pub record Expires (s : State) (k : ℕ) (out : List Action) (new : State) : Type 0 where
+  pub query : Open
+  pub one : IsTheOne s.queries k query
+  pub ends : Ends s query.asker query.number (outcome.Fail cause.Deadline) s.stores out new
+
+-- A query that is due: its time is up, or its ask waited too long; memory was wanting for that.
+abbrev pub Rings : State → ℕ → List Action → State → Type 0
+Rings s k out new = (IsLateOne s k × Expires s k out new) ⊎ (IsEarlyOne s k × Tells s k TimedOut out new)
+
+abbrev pub Unrung : State → ℕ → State → Type 0
+Unrung s k new = Forgets s k new ⊎ (IsEarlyOne s k × Untold s k TimedOut new)

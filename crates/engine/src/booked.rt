@@ -1,0 +1,50 @@
+//! The resolver as the machine of a book: workers on several threads share it, and one history of its steps leads
+//! to each of its states.
+ghost use Rattle.engine.specs.Histories.{HistoryIsRun};
+
+use crate::machine::Core;
+use book::Machine;
+use dname::Starved;
+use exchange::{Actions, Event};
+use std::alloc::Allocator;
+
+impl Machine for Core {
+    type State = Core;
+
+    type Event = Event;
+
+    type Out = Actions;
+
+    ghost use Rattle.engine.specs.Beginnings.{IsBegun};
+    ghost use Rattle.engine.specs.Histories.{Moves};
+
+    ghost moves = { λ s e r t. Moves s e r t };
+
+    ghost begins = { IsBegun };
+
+    fn step(state: &mut Core, event: &Event) -> Result<Actions, Starved> {
+        state.step(event)
+    }
+
+    fn copy_event(event: &Event) -> Result<Event, Starved> {
+        event.copied()
+    }
+
+    fn copy_out(out: &Actions) -> Result<Actions, Starved> {
+        out.copied()
+    }
+
+    fn same_event(a: &Event, b: &Event) -> bool {
+        a.same(b)
+    }
+
+    fn same_out(a: &Actions, b: &Actions) -> bool {
+        a.same(b)
+    }
+}
+
+/// The history of such a book, from a resolver that has done nothing yet, is a run: each law of runs holds of it,
+/// whichever worker took which step.
+pub fn history_is_run<A: Allocator>(_alloc: A)
+    ensures { HistoryIsRun A }
+{}

@@ -1,0 +1,94 @@
+//! Time that passes.
+ghost use Rattle.std.specs.Prelude.{ℕ, Some, None, IfOk, IsOk, OnErr, MatchOption};
+ghost use Rattle.std.specs.Bool.{MatchBool};
+ghost use Rattle.runs.specs.States.{Tick, Open};
+ghost use Rattle.runs.specs.Steps.{IsFirstDue};
+ghost use Rattle.queries.specs.Lookups.{IsTheOne};
+ghost use Rattle.engine.specs.Works.{state_of, IsSound};
+ghost use Rattle.engine.specs.Replies.{alone};
+ghost use Rattle.engine.specs.Moves.{Forgets};
+ghost use Rattle.engine.specs.Finds.{Finds, NoneDue, IsLateOne, IsEarlyOne, Expires, Rings, Unrung};
+ghost use Rattle.engine.specs.Turns.{Turns, IsQuiet};
+
+use crate::works::Works;
+use causes::Cause;
+use dname::{Heap, Starved};
+use exchange::{Action, Actions};
+use iterate::Input;
+
+impl<A: Heap> Works<A> {
+    // The number of the query that is due first, where one is due.
+    fn first_due(&self) -> Option<u64>
+        ensures { MatchOption result (NoneDue (state_of self.now)) (λ k. Finds (IsFirstDue (state_of self.now)) self.now.queries k) }
+    {
+        self.queries.are_apart();
+        match self.queries.earliest() {
+            Some((due, number)) if due <= self.clock => Some(number),
+            _ => None,
+        }
+    }
+
+    // Whether the time of the open query of that number is up.
+    fn is_late(&self, number: u64) -> bool
+        requires { (q : Open) × IsTheOne self.now.queries number q }
+        ensures { MatchBool result (IsLateOne (state_of self.now) number) (IsEarlyOne (state_of self.now) number) }
+    {
+        match self.queries.get(number) {
+            Some(open) => open.deadline() <= self.clock,
+            None => unreachable!(),
+        }
+    }
+
+    // The time of the open query of that number is up.
+    fn end(&mut self, number: u64) -> Result<Action<A>, Starved>
+        requires { (q : Open) × IsTheOne self.old.queries number q }
+        ensures ok { IfOk result (λ a. Expires (state_of self.old) number (alone a) (state_of self.new)) }
+        ensures err { OnErr result (Forgets (state_of self.old) number (state_of self.new)) }
+    {
+        match self.queries.take(number) {
+            Some(open) => {
+                let (asker, job) = open.into_work();
+                drop(job);
+                self.fail(number, &asker, Cause::Deadline)
+            }
+            None => unreachable!(),
+        }
+    }
+
+    // The query of that number, which is due, is served.
+    fn ring(&mut self, number: u64) -> Result<Action<A>, Starved>
+        requires sound { IsSound (state_of self.old) }
+        requires there { (q : Open) × IsTheOne self.old.queries number q }
+        ensures ok { IfOk result (λ a. Rings (state_of self.old) number (alone a) (state_of self.new)) }
+        ensures err { OnErr result (Unrung (state_of self.old) number (state_of self.new)) }
+    {
+        if self.is_late(number) {
+            self.end(number)
+        } else {
+            let server = self.server_of(number);
+            self.go_on(number, Input::TimedOut(server))
+        }
+    }
+
+    // Time has passed: the query that is due first is served, and it is told whether another one is due.
+    pub fn tick(&mut self) -> Result<Actions<A>, Starved>
+        requires sound { IsSound (state_of self.old) }
+        ensures ok { IfOk result (λ a. (now : ℕ) → Turns (state_of self.old) (Tick now) (Some a) (state_of self.new)) }
+        ensures err { OnErr result ((now : ℕ) → Turns (state_of self.old) (Tick now) None (state_of self.new)) }
+        ensures quiet { (now : ℕ) → IsQuiet (state_of self.old) (Tick now) → IsOk result }
+    {
+        match self.first_due() {
+            Some(number) => {
+                let first = Some(self.ring(number)?);
+                Ok(Actions {
+                    first,
+                    more_due: self.first_due().is_some(),
+                })
+            }
+            None => Ok(Actions {
+                first: None,
+                more_due: false,
+            }),
+        }
+    }
+}
