@@ -1,6 +1,6 @@
 -- A reply of one question that is cut fits a datagram, and its question is in lower case already.
 use Rattle.std.proofs.Common.{◌≡◌, ◌⊎◌, inl, inr, ℕ, ◌≤◌, List, [], ◌∷◌, length, refl, sym, ap, ◌∙◌, subst, arith}
-use Rattle.dname.specs.Labels.{folded_label, folded_labels, AreFolded, IsLabel, AreLabels, IsName}
+use Rattle.dname.specs.Labels.{folded_label, folded_labels, AreFolded, AreLabels, IsName}
 use Rattle.layout.specs.Messages.{Question, Message, IsMessage, folded_question, folded_message, encoding}
 use Rattle.front.proofs.Short.{asked_once_long}
 use Rattle.wire.specs.declared.error.WireError.{WireError}

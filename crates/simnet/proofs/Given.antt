@@ -1,10 +1,10 @@
 -- What a server replies, whatever its memory comes from; and its bytes are a message of one question.
-use Rattle.std.proofs.Common.{◌≡◌, ℕ, ◌≤◌, length, subst, inl, inr, ⊎_elim, Option, Some, None, List, [], ◌∷◌, Result, Ok, Err, IfOk, refl, sym, ap, ◌∙◌, option_map}
+use Rattle.std.proofs.Common.{◌≡◌, ℕ, ◌≤◌, length, subst, inl, inr, ⊎_elim, Option, Some, None, List, refl, sym, ap, ◌∙◌, option_map}
 use Rattle.std.specs.Prelude.{IfSome}
 use Rattle.dname.specs.Labels.{Name}
 use Rattle.rdata.specs.Records.{Record}
 use Rattle.rdata.specs.Types.{type_number}
-use Rattle.layout.specs.Messages.{Question, internet}
+use Rattle.layout.specs.Messages.{internet}
 use Rattle.zone.specs.Links.{Link, Found, Alias, NoData, NxDomain}
 use Rattle.zone.specs.Look.{Local, Linked, Cut, NotHere}
 use Rattle.truth.specs.Worlds.{Address, World, IsWorld}
@@ -15,7 +15,7 @@ use Rattle.front.specs.declared.queries.Asked.{Asked}
 use Rattle.front.specs.declared.queries.Asked.TheVariants as heard
 use Rattle.front.specs.declared.queries.End.{End}
 use Rattle.front.specs.declared.queries.End.TheVariants as end
-use Rattle.worlds.specs.Hosting.{says, IsFollowed, answer_to, IsReplyBy, IsReplyFrom, IsHostReply, IsServed}
+use Rattle.worlds.specs.Hosting.{says, IsFollowed, answer_to, IsReplyBy, IsReplyFrom, IsHostReply}
 use Rattle.worlds.proofs.Hosted.{host_serves}
 use Rattle.runs.specs.States.{Plain}
 use Rattle.exchange.specs.Plain.{plain, plain_asked, plain_end}

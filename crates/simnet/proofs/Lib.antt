@@ -1,2 +1,5 @@
+pub mod Begun
 pub mod Cut
 pub mod Given
+pub mod Shown
+pub mod Stepped

@@ -1,1 +1,4 @@
+pub mod Beginnings
+pub mod Promises
 pub mod Replies
+pub mod Views

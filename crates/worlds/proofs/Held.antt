@@ -1,12 +1,12 @@
 -- The zones that the resolver itself holds.
-use Rattle.std.proofs.Common.{◌≡◌, ℕ, ◌+◌, ◌<◌, Bool, true, false, cond, List, [], ◌∷◌, ◌++◌, length, take, get_or, sym, ◌∙◌, ap, subst}
+use Rattle.std.proofs.Common.{◌≡◌, ◌≢◌, ℕ, ◌+◌, ◌<◌, Bool, true, false, cond, List, [], ◌∷◌, ◌++◌, length, take, get_or, sym, ◌∙◌, ap, subst}
 use Rattle.std.proofs.lemmas.List.{append-nil}
 use Rattle.std.specs.Prelude.{Contains, filter}
 use Rattle.std.proofs.lemmas.List.Elements.{filter_more}
 use Rattle.zone.specs.Zones.{Zone}
 use Rattle.zone.proofs.LawLists.{filter_of, filter_in}
 use Rattle.truth.specs.Frames.{AreHeld}
-use Rattle.truth.specs.Worlds.{World}
+use Rattle.truth.specs.Worlds.{World, Parted}
 use Rattle.worlds.specs.Rules.{has_name}
 use Rattle.worlds.proofs.Worlds.{yes_name}
 
@@ -30,3 +30,12 @@ are_held W zs e z = (
   λ m. let k = filter_of (λ (y : Zone). has_name y.origin W.locals) W.zones z (subst (λ (ys : List Zone). Contains ys z) e m) in (k.0, (yes_name z.origin W.locals).so k.1),
   λ h. subst (λ (ys : List Zone). Contains ys z) (sym e) (filter_in (λ (y : Zone). has_name y.origin W.locals) W.zones z h.0 ((yes_name z.origin W.locals).test h.1)),
 )
+
+-- Some of the zones are as far apart as all.
+parted_with : (p : Zone → Bool) (z : Zone) (zs : List Zone) (b : Bool) → ((y : Zone) → Contains zs y → y.origin ≢ z.origin) → Parted (filter p zs) → Parted (cond b (z ∷ filter p zs) (filter p zs))
+parted_with p z zs true apart rest = (λ y m. apart y ((filter_of p zs y m).0), rest)
+parted_with p z zs false apart rest = rest
+
+pub parted_some : (p : Zone → Bool) (zs : List Zone) → Parted zs → Parted (filter p zs)
+parted_some p [] h = tt
+parted_some p (z ∷ zs) h = parted_with p z zs (p z) h.0 (parted_some p zs h.1)

@@ -3,7 +3,7 @@ ghost use Rattle.dname.specs.Labels.{root};
 ghost use Rattle.rdata.specs.Types.{type_number};
 ghost use Rattle.authority.specs.Answers.{link_view};
 ghost use Rattle.truth.specs.Frames.{AreHeld};
-ghost use Rattle.truth.specs.Worlds.{IsWorld};
+ghost use Rattle.truth.specs.Worlds.{IsWorld, Parted};
 ghost use Rattle.truth.specs.Truths.{IsTrueLink};
 ghost use Rattle.worlds.specs.Kept.{addresses, world_with};
 ghost use Rattle.worlds.specs.Refusals.{IsRefused};
@@ -173,10 +173,12 @@ impl<A: Allocator> World<A> {
 }
 
 impl<A: Heap> World<A> {
-    /// The zones that the resolver itself holds: those whose origins are local.
+    /// The zones that the resolver itself holds: those whose origins are local. No two have one origin.
     pub fn held(&self) -> Result<Vec<Zone<A>, A>, Starved>
-        ensures { IfOk result (λ v. AreHeld self.now v.items) }
+        ensures are { IfOk result (λ v. AreHeld self.now v.items) }
+        ensures parted { IfOk result (λ v. Parted v.items) }
     {
+        self.is_well_formed();
         let zones = self.catalog().zones();
         Ok(held_zones(*self.hosts.allocator(), zones, self.locals())?)
     }

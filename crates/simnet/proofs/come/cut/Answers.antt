@@ -1,9 +1,5 @@
-use Rattle.std.proofs.Common.{rules, ◌≡◌, ◌∙◌, sym, ap, subst, refl, ℕ, List, [], ◌∷◌, IfOk, IfSome, option_map}
-use Rattle.dname.specs.Labels.{IsName}
-use Rattle.layout.specs.Messages.{Message, Question, IsMessage, encoding, folded_message}
-use Rattle.wire.specs.Drafts.{RefusesText}
-use Rattle.network.specs.Networks.{cut_down, IsGiven, IsCutReply}
-use Rattle.simnet.specs.Replies.{AsksOne}
+use Rattle.std.proofs.Common.{rules, ◌∙◌, ap}
+use Rattle.layout.specs.Messages.{Message}
 use Rattle.simnet.proofs.Cut.{starved_only}
 use Rattle.layout.proofs.Single.{message_one}
 use Rattle.simnet.proofs.come.cut.Goals as goal

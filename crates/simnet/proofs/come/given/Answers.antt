@@ -1,9 +1,4 @@
-use Rattle.std.proofs.Common.{rules, ◌≡◌, ◌∙◌, sym, ap, subst, refl, ℕ, List, [], ◌∷◌, IfOk, IfSome, option_map}
-use Rattle.dname.specs.Labels.{IsName}
-use Rattle.layout.specs.Messages.{Message, Question, IsMessage, encoding, folded_message}
-use Rattle.wire.specs.Drafts.{RefusesText}
-use Rattle.network.specs.Networks.{cut_down, IsGiven, IsCutReply}
-use Rattle.simnet.specs.Replies.{AsksOne}
+use Rattle.std.proofs.Common.{subst, ℕ, List, option_map}
 use Rattle.runs.specs.States.{Plain}
 use Rattle.network.specs.Networks.{Sent}
 use Rattle.worlds.specs.Hosting.{IsHostReply}

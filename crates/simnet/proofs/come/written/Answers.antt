@@ -1,9 +1,6 @@
-use Rattle.std.proofs.Common.{rules, ◌≡◌, ◌∙◌, sym, ap, subst, refl, ℕ, List, [], ◌∷◌, IfOk, IfSome, option_map}
-use Rattle.dname.specs.Labels.{IsName}
-use Rattle.layout.specs.Messages.{Message, Question, IsMessage, encoding, folded_message}
+use Rattle.std.proofs.Common.{rules, ◌≡◌, ◌∙◌, sym, ap, subst, ℕ, List}
+use Rattle.layout.specs.Messages.{Message, IsMessage, encoding, folded_message}
 use Rattle.wire.specs.Drafts.{RefusesText}
-use Rattle.network.specs.Networks.{cut_down, IsGiven, IsCutReply}
-use Rattle.simnet.specs.Replies.{AsksOne}
 use Rattle.simnet.proofs.Cut.{cut_is_folded, only_starved}
 use Rattle.simnet.proofs.come.written.Goals as goal
 
