@@ -1,8 +1,10 @@
-//! The program's output lines: a reply as text.
+//! The program's output lines: a reply as text, and an ask.
 #![tactic(auto)]
 
+mod ask;
 mod reply;
 
+pub use ask::put_ask_bytes;
 pub use reply::{put_reply, put_reply_bytes};
 
 #[cfg(test)]
