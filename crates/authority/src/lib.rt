@@ -13,6 +13,3 @@ mod walk;
 pub use answer::{Link, Local};
 pub use catalog::{Catalog, CatalogError};
 pub use laws::{one_answer_law, some_answer_law};
-
-#[cfg(test)]
-mod tests;

@@ -19,6 +19,3 @@ pub use data::PackedData;
 pub use key::{Key, Slot};
 #[doc(hidden)]
 pub use packed::{Form, Packed, Unowned};
-
-#[cfg(test)]
-mod tests;

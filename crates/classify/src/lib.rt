@@ -11,6 +11,3 @@ pub use class::{Class, Failure, Referral};
 pub use laws::{answer_law, cut_law, found_law, referral_law, root_law, use_law};
 pub use lifetimes::{LONGEST, LONGEST_DENIAL, lifetime, received, received_law};
 pub use table::classify;
-
-#[cfg(test)]
-mod tests;

@@ -23,6 +23,3 @@ pub use laws::{id_is_in_message, local_answer_is_plain};
 pub use path::{Endpoint, Path};
 pub use read::read_asked;
 pub use say::{refuse, reply_to, send};
-
-#[cfg(test)]
-mod tests;

@@ -13,6 +13,3 @@ pub use failed::Failed;
 pub use frame::Frame;
 pub use laws::{added_law, next_name_law, opened_law, order_law, trimmed_law};
 pub use trimming::trimmed;
-
-#[cfg(test)]
-mod tests;

@@ -19,8 +19,3 @@ pub use read::read_query;
 pub use reply::{refusal_bytes, reply_bytes};
 pub use start::Start;
 pub use wire::Via;
-
-#[cfg(test)]
-mod exchange_tests;
-#[cfg(test)]
-mod tests;

@@ -24,12 +24,3 @@ pub use job::Job;
 pub use search::{Search, Searches};
 #[doc(hidden)]
 pub use task::{Task, Turn};
-
-#[cfg(test)]
-mod fixtures;
-#[cfg(test)]
-mod growth_tests;
-#[cfg(test)]
-mod limit_tests;
-#[cfg(test)]
-mod tests;

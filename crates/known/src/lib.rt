@@ -16,6 +16,3 @@ pub use taken::Taken;
 // A crate can name a link that was taken in a contract only if the types of its fields are exported.
 #[doc(hidden)]
 pub use taken::Source;
-
-#[cfg(test)]
-mod tests;

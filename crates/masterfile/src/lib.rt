@@ -16,6 +16,3 @@ pub use faults::{FileError, FileKind};
 pub use files::{read, read_block};
 pub use laws::{printed_is_read_back, reads_both_ways};
 pub use printed::{print, put_record};
-
-#[cfg(test)]
-mod tests;

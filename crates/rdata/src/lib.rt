@@ -21,10 +21,3 @@ pub use sets::{dedup_set, lowest_ttl, same_set, set_at};
 pub use soa::Soa;
 pub use text::{put_data, put_ipv4};
 pub use texts::{CharacterString, Texts};
-
-#[cfg(test)]
-mod growth_tests;
-#[cfg(test)]
-mod long_tests;
-#[cfg(test)]
-mod tests;

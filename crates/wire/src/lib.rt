@@ -25,10 +25,3 @@ pub use message::{Message, Question, Questions};
 pub use reader::{decode, question_spelling};
 pub use spelling::Spelling;
 pub use via::{TCP_LIMIT, UDP_LIMIT, Via};
-
-#[cfg(test)]
-mod fault_tests;
-#[cfg(test)]
-mod growth_tests;
-#[cfg(test)]
-mod tests;

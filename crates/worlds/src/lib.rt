@@ -12,12 +12,3 @@ pub use fault::WorldError;
 pub use hosting::host_reply;
 pub use judging::judge;
 pub use world::{Host, World};
-
-#[cfg(test)]
-mod fixtures;
-#[cfg(test)]
-mod host_tests;
-#[cfg(test)]
-mod judge_tests;
-#[cfg(test)]
-mod tests;

@@ -10,8 +10,6 @@ mod laws;
 mod nodes;
 mod rules;
 mod scan;
-#[cfg(test)]
-mod tests;
 mod tree;
 mod ttls;
 mod zone;

@@ -1,0 +1,327 @@
+use authority::{Catalog, CatalogError, Link, Local};
+use dname::{Heap, Name, Starved};
+use rdata::{Addr, CharacterString, RData, RType, Record, Records, Soa, Texts};
+use refusing::Refusing;
+use std::test::Fail;
+use zone::Zone;
+
+fn name<A: Heap>(alloc: A, text: &str) -> Result<Name<A>, Starved> {
+    match Name::from_text(alloc, text) {
+        Ok(name) => Ok(name),
+        Err(_) => Err(Starved),
+    }
+}
+
+fn words<A: Heap>(alloc: A) -> Result<RData<A>, Starved> {
+    let string = CharacterString::new(Vec::from_slice(alloc, b"words")?);
+    Ok(RData::Txt(Texts::new(alloc, string)?))
+}
+
+fn put<A: Heap>(
+    alloc: A,
+    records: &mut Records<A>,
+    owner: &str,
+    ttl: u16,
+    value: RData<A>,
+) -> Result<(), Starved> {
+    let owner = name(alloc, owner)?;
+    records.push(Record {
+        owner,
+        ttl: ttl as u32,
+        value,
+    })
+}
+
+// The SOA and the server of a zone.
+fn top<A: Heap>(alloc: A, origin: &str) -> Result<Records<A>, Starved> {
+    let mut records = Records::new(alloc);
+    let soa = Soa {
+        primary: name(alloc, "ns.example")?,
+        mailbox: name(alloc, "root.example")?,
+        serial: 1,
+        refresh: 7200,
+        retry: 600,
+        expire: 3_600_000,
+        minimum: 60,
+    };
+    put(alloc, &mut records, origin, 3600, RData::Soa(soa))?;
+    let server = RData::Ns(name(alloc, "ns.example")?);
+    put(alloc, &mut records, origin, 3600, server)?;
+    Ok(records)
+}
+
+fn zone<A: Heap>(alloc: A, origin: &str, records: Records<A>) -> Result<Zone<A>, Starved> {
+    match Zone::build(name(alloc, origin)?, records) {
+        Ok(zone) => Ok(zone),
+        Err(_) => Err(Starved),
+    }
+}
+
+// RFC 4592, section 2.2.1, in small: a wildcard, a name between owners and the origin, a cut, an alias.
+fn lab<A: Heap>(alloc: A) -> Result<Zone<A>, Starved> {
+    let mut records = top(alloc, "lab.example")?;
+    put(alloc, &mut records, "*.lab.example", 60, words(alloc)?)?;
+    put(alloc, &mut records, "*.lab.example", 60, words(alloc)?)?;
+    let address = RData::A(Addr([192, 0, 2, 1]));
+    put(alloc, &mut records, "a.b.lab.example", 60, address)?;
+    let target = RData::Cname(name(alloc, "a.b.lab.example")?);
+    put(alloc, &mut records, "www.lab.example", 60, target)?;
+    let server = RData::Ns(name(alloc, "ns.sub.lab.example")?);
+    put(alloc, &mut records, "sub.lab.example", 60, server)?;
+    let glue = RData::A(Addr([192, 0, 2, 2]));
+    put(alloc, &mut records, "ns.sub.lab.example", 60, glue)?;
+    zone(alloc, "lab.example", records)
+}
+
+fn catalog<A: Heap>(alloc: A) -> Result<Catalog<A>, Starved> {
+    let mut zones = Vec::new(alloc);
+    zones.push(zone(alloc, "example", top(alloc, "example")?)?)?;
+    zones.push(lab(alloc)?)?;
+    match Catalog::new(zones) {
+        Ok(catalog) => Ok(catalog),
+        Err(_) => Err(Starved),
+    }
+}
+
+// The answer's kind, the name that it speaks of, and how many records and addresses it has.
+fn told<A: Heap>(
+    alloc: A,
+    zones: &Catalog<A>,
+    asked: &str,
+    kind: RType,
+) -> Result<(&'static str, String<A>, usize, usize), Starved> {
+    let asked = name(alloc, asked)?;
+    described(alloc, zones.look(alloc, &asked, kind)?)
+}
+
+fn described<A: Heap>(
+    alloc: A,
+    said: Local<A>,
+) -> Result<(&'static str, String<A>, usize, usize), Starved> {
+    match said {
+        Local::Link(Link::Found(set)) => {
+            let owner = match set.as_slice() {
+                [first, ..] => first.owner.to_text()?,
+                [] => String::new(alloc),
+            };
+            Ok(("found", owner, set.len(), 0))
+        }
+        Local::Link(Link::Alias(alias)) => Ok(("alias", alias.owner.to_text()?, 1, 0)),
+        Local::Link(Link::NoData(soa)) => Ok(("no data", soa.owner.to_text()?, 0, 0)),
+        Local::Link(Link::NxDomain(soa)) => Ok(("no name", soa.owner.to_text()?, 0, 0)),
+        Local::Cut(cut, servers, addresses) => {
+            Ok(("cut", cut.to_text()?, servers.len(), addresses.len()))
+        }
+        Local::NotHere => Ok(("not here", String::new(alloc), 0, 0)),
+    }
+}
+
+#[test]
+fn answers_from_the_longest_origin(rt: HostRuntime) -> Result<(), Fail> {
+    let zones = catalog(rt.alloc());
+    assert!(rt; zones.is_ok());
+    if let Ok(zones) = zones {
+        for (asked, kind, answer, owner, records, addresses) in [
+            ("x.lab.example", RType::Txt, "found", "x.lab.example.", 1, 0),
+            (
+                "x.y.lab.example",
+                RType::Txt,
+                "found",
+                "x.y.lab.example.",
+                1,
+                0,
+            ),
+            ("x.lab.example", RType::A, "no data", "lab.example.", 0, 0),
+            (
+                "x.b.lab.example",
+                RType::Txt,
+                "no name",
+                "lab.example.",
+                0,
+                0,
+            ),
+            ("b.lab.example", RType::Txt, "no data", "lab.example.", 0, 0),
+            (
+                "a.b.lab.example",
+                RType::A,
+                "found",
+                "a.b.lab.example.",
+                1,
+                0,
+            ),
+            (
+                "www.lab.example",
+                RType::A,
+                "alias",
+                "www.lab.example.",
+                1,
+                0,
+            ),
+            (
+                "x.sub.lab.example",
+                RType::A,
+                "cut",
+                "sub.lab.example.",
+                1,
+                1,
+            ),
+            (
+                "sub.lab.example",
+                RType::Ns,
+                "cut",
+                "sub.lab.example.",
+                1,
+                1,
+            ),
+            ("lab.example", RType::Ns, "found", "lab.example.", 1, 0),
+            ("other.example", RType::Txt, "no name", "example.", 0, 0),
+            ("example", RType::Txt, "no data", "example.", 0, 0),
+            ("test", RType::A, "not here", "", 0, 0),
+        ] {
+            let given = told(rt.alloc(), &zones, asked, kind);
+            assert!(rt; given.is_ok());
+            if let Ok((word, name, set, glue)) = given {
+                assert_eq!(rt; word, answer, "for {asked}");
+                assert_eq!(rt; name.as_str(), owner, "for {asked}");
+                assert_eq!(rt; (set, glue), (records, addresses), "for {asked}");
+            }
+        }
+    }
+    Ok(())
+}
+
+// The same of the zones whose origins are listed.
+fn told_among<A: Heap>(
+    alloc: A,
+    zones: &Catalog<A>,
+    listed: &[&str],
+    asked: &str,
+) -> Result<(&'static str, String<A>, usize, usize), Starved> {
+    let mut origins = Vec::new(alloc);
+    for origin in listed {
+        origins.push(name(alloc, origin)?)?;
+    }
+    let asked = name(alloc, asked)?;
+    described(
+        alloc,
+        zones.look_among(alloc, &origins, &asked, RType::Txt)?,
+    )
+}
+
+#[test]
+fn answers_from_listed_zones_alone(rt: HostRuntime) -> Result<(), Fail> {
+    let zones = catalog(rt.alloc())?;
+    for (listed, asked, answer, owner) in [
+        (
+            ["example", "lab.example"].as_slice(),
+            "x.lab.example",
+            "found",
+            "x.lab.example.",
+        ),
+        (&["lab.example"], "x.lab.example", "found", "x.lab.example."),
+        // The shorter origin, where the longer one is not listed.
+        (&["example"], "x.lab.example", "no name", "example."),
+        // Listed, but not over the name; without a zone; none at all.
+        (&["lab.example"], "x.example", "not here", ""),
+        (
+            &["test", "b.lab.example"],
+            "a.b.lab.example",
+            "not here",
+            "",
+        ),
+        (&[], "x.lab.example", "not here", ""),
+    ] {
+        let (word, name, _, _) = told_among(rt.alloc(), &zones, listed, asked)?;
+        assert_eq!(rt; word, answer, "for {asked}");
+        assert_eq!(rt; name.as_str(), owner, "for {asked}");
+    }
+    Ok(())
+}
+
+#[test]
+fn refuses_twins(rt: HostRuntime) -> Result<(), Fail> {
+    let mut zones = Vec::new(rt.alloc());
+    for _ in 0..2 {
+        let twin = lab(rt.alloc());
+        assert!(rt; twin.is_ok());
+        if let Ok(twin) = twin {
+            zones.push(twin)?;
+        }
+    }
+    let refused = Catalog::new(zones);
+    assert!(rt; refused.is_err());
+    if let Err(error) = refused {
+        assert_eq!(rt; error, CatalogError::Twins);
+    }
+    Ok(())
+}
+
+// Zones of so many origins.
+fn many_zones<A: Heap>(alloc: A, count: u32) -> Result<Vec<Zone<A>, A>, Starved> {
+    let mut zones = Vec::new(alloc);
+    for n in 0..count {
+        let origin = format!(in alloc; "zone-{n}.example")?;
+        zones.push(zone(alloc, origin.as_str(), top(alloc, origin.as_str())?)?)?;
+    }
+    Ok(zones)
+}
+
+// Whether ten thousand zones are a catalog, and with one of them twice at its ends refused.
+fn tells_twins<A: Heap>(alloc: A) -> Result<bool, Starved> {
+    let parted = Catalog::new(many_zones(alloc, 10_000)?).is_ok();
+    let mut zones = many_zones(alloc, 10_000)?;
+    zones.push(zone(alloc, "ZONE-0.example", top(alloc, "zone-0.example")?)?)?;
+    let refused = Catalog::new(zones);
+    Ok(parted && matches!(refused, Err(CatalogError::Twins)))
+}
+
+#[test]
+fn ten_thousand_zones_are_a_catalog(rt: HostRuntime) -> Result<(), Fail> {
+    assert!(rt; matches!(tells_twins(rt.alloc()), Ok(true)));
+    Ok(())
+}
+
+// How many of forty addresses, each of them twice, a zone has at a name.
+fn found_twice<A: Heap>(alloc: A) -> Result<usize, Starved> {
+    let mut records = top(alloc, "example")?;
+    for n in 0..80_u8 {
+        let address = RData::A(Addr([192, 0, 2, n % 40]));
+        put(alloc, &mut records, "many.example", 60, address)?;
+    }
+    let mut zones = Vec::new(alloc);
+    zones.push(zone(alloc, "example", records)?)?;
+    let Ok(zones) = Catalog::new(zones) else {
+        return Err(Starved);
+    };
+    let (_, _, found, _) = told(alloc, &zones, "many.example", RType::A)?;
+    Ok(found)
+}
+
+#[test]
+fn repeats_are_found_in_long_sets(rt: HostRuntime) -> Result<(), Fail> {
+    assert!(rt; matches!(found_twice(rt.alloc()), Ok(40)));
+    Ok(())
+}
+
+// What two zones say of a name beneath a wildcard, and of one beneath a cut.
+fn both_told<A: Heap>(alloc: A) -> Result<(usize, usize), Starved> {
+    let zones = catalog(alloc)?;
+    let (_, _, found, _) = told(alloc, &zones, "x.lab.example", RType::Txt)?;
+    let (_, _, _, glue) = told(alloc, &zones, "x.sub.lab.example", RType::A)?;
+    told_among(alloc, &zones, &["example"], "x.lab.example")?;
+    Ok((found, glue))
+}
+
+#[test]
+fn each_growth_is_refused_in_turn(rt: HostRuntime) -> Result<(), Fail> {
+    let heap = Refusing::new(rt.alloc());
+    assert!(rt; matches!(both_told(&heap), Ok((1, 1))));
+    let growths = heap.growths();
+    for n in 0..growths {
+        heap.refuse_after(n);
+        assert!(rt; both_told(&heap).is_err(), "growth {n}");
+    }
+    heap.refuse_after(growths);
+    assert!(rt; matches!(both_told(&heap), Ok((1, 1))));
+    Ok(())
+}

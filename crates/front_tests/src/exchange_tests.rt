@@ -1,0 +1,103 @@
+//! A query that a local zone answers, bytes to bytes.
+use authority::Catalog;
+use dname::{Heap, Name, Starved};
+use front::{Asked, Via, answer_local, read_query, reply_bytes};
+use rdata::{Addr, RData, Record, Records, Soa};
+use refusing::Refusing;
+use std::test::Fail;
+use zone::Zone;
+
+// ID 4660, RD, one question: www.example. A IN (RFC 1035, section 4.1).
+const QUERY: &[u8] = b"\x124\x01\0\0\x01\0\0\0\0\0\0\x03www\x07example\0\0\x01\0\x01";
+
+// The answer: the question's name by a pointer, TTL 300, 192.0.2.1.
+const REPLY: &[u8] =
+    b"\x124\x85\x80\0\x01\0\x01\0\0\0\0\x03www\x07example\0\0\x01\0\x01\xc0\x0c\0\x01\0\x01\0\0\x01\x2c\0\x04\xc0\0\x02\x01";
+
+fn name<A: Heap>(alloc: A, text: &str) -> Result<Name<A>, Starved> {
+    match Name::from_text(alloc, text) {
+        Ok(name) => Ok(name),
+        Err(_) => Err(Starved),
+    }
+}
+
+fn put<A: Heap>(
+    alloc: A,
+    records: &mut Records<A>,
+    owner: &str,
+    value: RData<A>,
+) -> Result<(), Starved> {
+    let owner = name(alloc, owner)?;
+    records.push(Record {
+        owner,
+        ttl: 300,
+        value,
+    })
+}
+
+// The zone example., with www.example. A 192.0.2.1.
+fn catalog<A: Heap>(alloc: A) -> Result<Catalog<A>, Starved> {
+    let mut records = Records::new(alloc);
+    let soa = Soa {
+        primary: name(alloc, "ns.example")?,
+        mailbox: name(alloc, "root.example")?,
+        serial: 1,
+        refresh: 7200,
+        retry: 600,
+        expire: 3_600_000,
+        minimum: 60,
+    };
+    put(alloc, &mut records, "example", RData::Soa(soa))?;
+    let server = RData::Ns(name(alloc, "ns.example")?);
+    put(alloc, &mut records, "example", server)?;
+    let address = RData::A(Addr([192, 0, 2, 1]));
+    put(alloc, &mut records, "www.example", address)?;
+    let Ok(zone) = Zone::build(name(alloc, "example")?, records) else {
+        return Err(Starved);
+    };
+    let mut zones = Vec::new(alloc);
+    zones.push(zone)?;
+    match Catalog::new(zones) {
+        Ok(catalog) => Ok(catalog),
+        Err(_) => Err(Starved),
+    }
+}
+
+fn answer<A: Heap>(alloc: A, catalog: &Catalog<A>) -> Result<Vec<u8, A>, Starved> {
+    let Asked::Query(query) = read_query(alloc, QUERY)? else {
+        return Err(Starved);
+    };
+    let outcome = answer_local(alloc, &query, catalog)?;
+    let (reply, _) = reply_bytes(alloc, &query, &outcome, Via::Udp)?;
+    Ok(reply)
+}
+
+#[test]
+fn a_query_is_answered_from_a_zone(rt: HostRuntime) -> Result<(), Fail> {
+    assert_eq!(rt; (QUERY.len(), REPLY.len()), (29, 45));
+    let catalog = catalog(rt.alloc())?;
+    assert!(rt; answer(rt.alloc(), &catalog)?.as_slice() == REPLY);
+    Ok(())
+}
+
+#[test]
+fn each_growth_of_an_answer_is_refused_in_turn(rt: HostRuntime) -> Result<(), Fail> {
+    let heap = Refusing::new(rt.alloc());
+    let catalog = catalog(&heap)?;
+    let before = heap.growths();
+    assert!(rt; answer(&heap, &catalog)?.as_slice() == REPLY);
+    let growths = heap.growths().saturating_sub(before);
+    assert!(rt; growths > 4);
+    for n in 0..growths {
+        heap.refuse_after(n);
+        assert!(rt;
+            matches!(answer(&heap, &catalog), Err(Starved)),
+            "growth {n}"
+        );
+        assert!(rt;
+            answer(&heap, &catalog)?.as_slice() == REPLY,
+            "after growth {n}"
+        );
+    }
+    Ok(())
+}

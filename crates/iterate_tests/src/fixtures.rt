@@ -1,0 +1,393 @@
+//! A resolver in memory for tests: what comes in for a query, and what goes out, in short.
+ghost use Rattle.std.specs.Prelude.{◌<◌};
+
+use authority::{Catalog, Link};
+use causes::Cause;
+use dname::{Heap, Name, Starved};
+use iterate::{Input, Job, Next, advance};
+use known::{Capacities, Hashers, Home, Stores};
+use lru::DefaultHasher;
+use rdata::{Addr, RData, RType, Record, Records, Soa};
+use std::hash::BuildHasherDefault;
+use std::num::NonZeroUsize;
+use wire::{Header, Message, Questions, Via};
+use zone::Zone;
+
+// Servers are known by the last byte of their address, which stands in 192.0.2.0/24: one of the root, one of
+// the zone example, one of a zone beneath the one at hand.
+pub const ROOT: u8 = 1;
+
+pub const EXAMPLE: u8 = 2;
+
+pub const SUB: u8 = 3;
+
+// Data of a record.
+#[derive(Clone, Copy)]
+pub enum Value<'a> {
+    A(u8),
+    Ns(&'a str),
+    Cname(&'a str),
+    Soa,
+}
+
+// Owner, TTL and data.
+pub type Line<'a> = (&'a str, u16, Value<'a>);
+
+// The zone at hand: an address, an alias that leads out of it, and a cut.
+const ZONE_LINES: [Line<'static>; 6] = [
+    ("local", 60, Value::Soa),
+    ("local", 60, Value::Ns("www.local")),
+    ("www.local", 60, Value::A(7)),
+    ("alias.local", 60, Value::Cname("www.example")),
+    ("sub.local", 60, Value::Ns("ns.sub.local")),
+    ("ns.sub.local", 60, Value::A(SUB)),
+];
+
+const ROOT_SOA: Line<'static> = (".", 60, Value::Soa);
+
+// What comes in.
+#[derive(Clone, Copy)]
+pub enum Event<'a> {
+    // A query for the address of this name.
+    Query(&'a str),
+    // A server gives one record for an answer.
+    Answer(u8, Line<'a>),
+    // A server of the root says that there is no such name.
+    NoName,
+    // A server of the root refers to a zone: its servers, and addresses of the first one.
+    Referral(&'a str, &'a [&'a str], &'a [u8]),
+    // A server cuts its reply short.
+    CutShort(u8),
+    // A server has no use for the question.
+    Refused(u8),
+    TimedOut(u8),
+    TcpFailed(u8),
+}
+
+// What goes out.
+#[derive(Clone, Copy, Debug, PartialEq, Eq)]
+pub enum Out {
+    Ask(u8),
+    AskTcp(u8),
+    // An address behind so many aliases.
+    Address(usize, u8),
+    // A denial behind so many aliases.
+    Denied(usize),
+    Failed(Cause),
+    Other,
+}
+
+// The moment, what comes in, and what has to go out.
+pub type Step<'a> = (u32, Event<'a>, Out);
+
+fn name<A: Heap>(alloc: A, text: &str) -> Result<Name<A>, Starved> {
+    match Name::from_text(alloc, text) {
+        Ok(name) => Ok(name),
+        Err(_) => Err(Starved),
+    }
+}
+
+fn soa<A: Heap>(alloc: A) -> Result<RData<A>, Starved> {
+    Ok(RData::Soa(Soa {
+        primary: name(alloc, "ns.")?,
+        mailbox: name(alloc, "h.")?,
+        serial: 1,
+        refresh: 2,
+        retry: 3,
+        expire: 4,
+        minimum: 60,
+    }))
+}
+
+fn data<A: Heap>(alloc: A, value: Value<'_>) -> Result<RData<A>, Starved> {
+    match value {
+        Value::A(last) => Ok(RData::A(Addr([192, 0, 2, last]))),
+        Value::Ns(target) => Ok(RData::Ns(name(alloc, target)?)),
+        Value::Cname(target) => Ok(RData::Cname(name(alloc, target)?)),
+        Value::Soa => Ok(soa(alloc)?),
+    }
+}
+
+fn record<A: Heap>(alloc: A, line: Line<'_>) -> Result<Record<A>, Starved> {
+    let (owner, ttl, value) = line;
+    Ok(Record {
+        owner: name(alloc, owner)?,
+        ttl: u32::from(ttl),
+        value: data(alloc, value)?,
+    })
+}
+
+fn records<A: Heap>(alloc: A, lines: &[Line<'_>]) -> Result<Records<A>, Starved> {
+    let mut records = Records::new(alloc);
+    for line in lines {
+        records.push(record(alloc, *line)?)?;
+    }
+    Ok(records)
+}
+
+// RCODE is a number of four bits (RFC 1035, section 4.1.1).
+fn header(rcode: u8, aa: bool, tc: bool) -> Header
+    requires { rcode < 16 }
+{
+    Header {
+        id: 1,
+        qr: true,
+        opcode: 0,
+        aa,
+        tc,
+        rd: false,
+        ra: false,
+        z: 0,
+        rcode,
+    }
+}
+
+fn message<A: Heap>(
+    alloc: A,
+    header: Header,
+    answer: Records<A>,
+    authority: Records<A>,
+    additional: Records<A>,
+) -> Message<A> {
+    Message {
+        header,
+        questions: Questions::new(alloc),
+        answer,
+        authority,
+        additional,
+    }
+}
+
+fn empty<A: Heap>(alloc: A) -> Records<A> {
+    Records::new(alloc)
+}
+
+// A message without records.
+fn bare<A: Heap>(alloc: A, header: Header) -> Message<A> {
+    message(alloc, header, empty(alloc), empty(alloc), empty(alloc))
+}
+
+fn answer<A: Heap>(alloc: A, line: Line<'_>) -> Result<Message<A>, Starved> {
+    let header = header(0, true, false);
+    let answer = records(alloc, &[line])?;
+    Ok(message(alloc, header, answer, empty(alloc), empty(alloc)))
+}
+
+fn denial<A: Heap>(alloc: A) -> Result<Message<A>, Starved> {
+    let header = header(3, true, false);
+    let soa = records(alloc, &[ROOT_SOA])?;
+    Ok(message(alloc, header, empty(alloc), soa, empty(alloc)))
+}
+
+fn servers<A: Heap>(alloc: A, zone: &str, names: &[&str]) -> Result<Records<A>, Starved> {
+    let mut servers = Records::new(alloc);
+    for name in names {
+        servers.push(record(alloc, (zone, 300, Value::Ns(*name)))?)?;
+    }
+    Ok(servers)
+}
+
+fn addresses<A: Heap>(alloc: A, name: &str, glue: &[u8]) -> Result<Records<A>, Starved> {
+    let mut addresses = Records::new(alloc);
+    for last in glue {
+        addresses.push(record(alloc, (name, 300, Value::A(*last)))?)?;
+    }
+    Ok(addresses)
+}
+
+fn addresses_of_first<A: Heap>(
+    alloc: A,
+    names: &[&str],
+    glue: &[u8],
+) -> Result<Records<A>, Starved> {
+    match names {
+        [first, ..] => Ok(addresses(alloc, *first, glue)?),
+        [] => Ok(empty(alloc)),
+    }
+}
+
+fn referral<A: Heap>(
+    alloc: A,
+    zone: &str,
+    names: &[&str],
+    glue: &[u8],
+) -> Result<Message<A>, Starved> {
+    let header = header(0, false, false);
+    let servers = servers(alloc, zone, names)?;
+    let addresses = addresses_of_first(alloc, names, glue)?;
+    Ok(message(alloc, header, empty(alloc), servers, addresses))
+}
+
+fn address(last: u8) -> Addr {
+    Addr([192, 0, 2, last])
+}
+
+fn told<A: Heap>(server: u8, message: Message<A>) -> Input<A> {
+    Input::Told(Via::Udp, address(server), message)
+}
+
+fn input<A: Heap>(alloc: A, event: Event<'_>) -> Result<Input<A>, Starved> {
+    match event {
+        Event::Query(_) => Ok(Input::Start),
+        Event::Answer(server, line) => Ok(told(server, answer(alloc, line)?)),
+        Event::NoName => Ok(told(ROOT, denial(alloc)?)),
+        Event::Referral(zone, names, glue) => Ok(told(ROOT, referral(alloc, zone, names, glue)?)),
+        Event::CutShort(server) => Ok(told(server, bare(alloc, header(0, true, true)))),
+        Event::Refused(server) => Ok(told(server, bare(alloc, header(5, true, false)))),
+        Event::TimedOut(server) => Ok(Input::TimedOut(address(server))),
+        Event::TcpFailed(server) => Ok(Input::TcpFailed(address(server))),
+    }
+}
+
+fn zone<A: Heap>(alloc: A) -> Result<Zone<A>, Starved> {
+    let origin = name(alloc, "local")?;
+    match Zone::build(origin, records(alloc, &ZONE_LINES)?) {
+        Ok(zone) => Ok(zone),
+        Err(_) => Err(Starved),
+    }
+}
+
+fn catalog<A: Heap>(alloc: A) -> Result<Catalog<A>, Starved> {
+    let mut zones = Vec::new(alloc);
+    zones.push(zone(alloc)?)?;
+    match Catalog::new(zones) {
+        Ok(catalog) => Ok(catalog),
+        Err(_) => Err(Starved),
+    }
+}
+
+fn home<A: Heap>(alloc: A) -> Result<Home<A>, Starved> {
+    let catalog = catalog(alloc)?;
+    Ok(Home::new(alloc, catalog, &[address(ROOT)])?)
+}
+
+fn hasher() -> DefaultHasher {
+    BuildHasherDefault::new()
+}
+
+fn stores<A: Heap>(alloc: A) -> Result<Stores<DefaultHasher, A>, Starved> {
+    let room = NonZeroUsize::new(20).ok_or(Starved)?;
+    let capacities = Capacities {
+        links: room,
+        cuts: room,
+        servers: room,
+    };
+    let hashers = Hashers {
+        links: hasher(),
+        cuts: hasher(),
+        servers: hasher(),
+    };
+    Ok(Stores::new(alloc, capacities, hashers)?)
+}
+
+fn job<A: Heap>(alloc: A, text: &str, now: u32) -> Result<Job<A>, Starved> {
+    let name = name(alloc, text)?;
+    Ok(Job::new(name, RType::A, u64::from(now)))
+}
+
+fn last_byte_of<A: Heap>(value: &RData<A>) -> u8 {
+    match value {
+        RData::A(address) => address.0[3],
+        _ => 0,
+    }
+}
+
+fn found<A: Heap>(aliases: usize, set: &[Record<A>]) -> Out {
+    match set {
+        [only] => Out::Address(aliases, last_byte_of(&only.value)),
+        _ => Out::Other,
+    }
+}
+
+fn done<A: Heap>(aliases: usize, link: &Link<A>) -> Out {
+    match link {
+        Link::Found(set) => found(aliases, set.as_slice()),
+        Link::NoData(_) | Link::NxDomain(_) => Out::Denied(aliases),
+        Link::Alias(_) => Out::Other,
+    }
+}
+
+fn short<A: Heap>(next: &Next<A>) -> Out {
+    match next {
+        Next::Ask(server, _, _) => Out::Ask(server.0[3]),
+        Next::AskTcp(server, _, _) => Out::AskTcp(server.0[3]),
+        Next::Done(chain, link) => done(chain.len(), link.link()),
+        Next::Fail(cause) => Out::Failed(*cause),
+    }
+}
+
+// A resolver with one zone at hand and one server of the root, and the query at work.
+#[derive(Drop)]
+pub struct Asked<A: Heap> {
+    alloc: A,
+    home: Home<A>,
+    stores: Stores<DefaultHasher, A>,
+    job: Job<A>,
+}
+
+impl<A: Heap> Asked<A> {
+    // One that has learnt nothing.
+    pub fn new(alloc: A) -> Result<Asked<A>, Starved> {
+        Ok(Asked {
+            alloc,
+            home: home(alloc)?,
+            stores: stores(alloc)?,
+            job: job(alloc, ".", 0)?,
+        })
+    }
+
+    // Another query of the same resolver is at work; nothing came in for it yet.
+    pub fn begin(&mut self, text: &str, now: u32) -> Result<(), Starved> {
+        self.job = job(self.alloc, text, now)?;
+        Ok(())
+    }
+
+    pub fn advance(&mut self, input: Input<A>, now: u32) -> Result<Out, Starved> {
+        let next = advance(
+            self.alloc,
+            &mut self.job,
+            input,
+            &self.home,
+            &mut self.stores,
+            u64::from(now),
+        )?;
+        Ok(short(&next))
+    }
+
+    // What goes out at this moment for what comes in.
+    pub fn hear(&mut self, now: u32, event: Event<'_>) -> Result<Out, Starved> {
+        if let Event::Query(text) = event {
+            self.begin(text, now)?;
+        }
+        let input = input(self.alloc, event)?;
+        Ok(self.advance(input, now)?)
+    }
+
+    // The first of these steps after which something else went out, by its place, and what it was.
+    pub fn first_wrong(&mut self, steps: &[Step<'_>]) -> Result<Option<(usize, Out)>, Starved> {
+        for place in 0..steps.len() {
+            let (now, event, want) = steps[place];
+            let out = self.hear(now, event)?;
+            if out != want {
+                return Ok(Some((place, out)));
+            }
+        }
+        Ok(None)
+    }
+
+    // After how many such events the query fails, and why.
+    pub fn until_failure(&mut self, event: Event<'_>) -> Result<(u32, Cause), Starved> {
+        for events in 1..100u32 {
+            if let Out::Failed(cause) = self.hear(0, event)? {
+                return Ok((events, cause));
+            }
+        }
+        Err(Starved)
+    }
+}
+
+// The first wrong step of a resolver that has learnt nothing.
+pub fn first_wrong<A: Heap>(alloc: A, steps: &[Step<'_>]) -> Result<Option<(usize, Out)>, Starved> {
+    let mut asked = Asked::new(alloc)?;
+    Ok(asked.first_wrong(steps)?)
+}

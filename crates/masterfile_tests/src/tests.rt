@@ -1,0 +1,184 @@
+use dname::{Heap, Name, NameError, Starved};
+use masterfile::{
+    BadClass, BadData, BadName, BadNumber, FileError, FileKind, Memory, NoOwner, NoTtl, OpenText,
+    UnknownDirective, UnknownType, print, put_record, read, read_block,
+};
+use rdata::Record;
+use refusing::Refusing;
+use std::test::Fail;
+
+mod texts;
+
+fn lines_of<A: Heap>(alloc: A, records: &[Record<A>]) -> Result<String<A>, Starved> {
+    let mut out = String::new(alloc);
+    for record in records {
+        put_record(&mut out, record)?;
+        out.push('\n')?;
+    }
+    Ok(out)
+}
+
+// Whether a text under the origin `example.` says this: its records printed, or the line and kind of its first fault.
+fn says<A: Heap>(
+    alloc: A,
+    text: &[u8],
+    wanted: Result<&str, (usize, FileKind)>,
+) -> Result<bool, NameError> {
+    let origin = Name::from_text(alloc, "example.")?;
+    Ok(match (read_block(alloc, &origin, text, 1), wanted) {
+        (Ok(records), Ok(lines)) => lines_of(alloc, records.as_slice())?.as_str() == lines,
+        (Err(fault), Err((line, kind))) => fault.line == line && fault.kind == kind,
+        _ => false,
+    })
+}
+// `head`, and then runs of these sizes, each of `byte` and behind `parting`.
+fn with_runs<A: Heap>(
+    alloc: A,
+    head: &str,
+    byte: &str,
+    parting: &str,
+    sizes: &[usize],
+) -> Result<String<A>, Starved> {
+    let mut text = String::from_str(alloc, head)?;
+    for size in sizes {
+        text.push_str(parting)?;
+        for _ in 0..*size {
+            text.push_str(byte)?;
+        }
+    }
+    Ok(text)
+}
+
+// The line and kind of a text's first fault under the origin `example.`, if it has one.
+fn fault_of<A: Heap>(alloc: A, text: &[u8]) -> Result<Option<(usize, FileKind)>, NameError> {
+    let origin = Name::from_text(alloc, "example.")?;
+    Ok(match read_block(alloc, &origin, text, 1) {
+        Ok(_) => None,
+        Err(fault) => Some((fault.line, fault.kind)),
+    })
+}
+
+// A label has at most 63 bytes; a name 255, of which `example.` takes 9; a string 255 after its escapes; data 65,535,
+// here 255 strings of 255 bytes and one of 254, each behind its length byte.
+#[test]
+fn greatest_sizes(rt: HostRuntime) -> Result<(), Fail> {
+    let rows: [(&str, &str, &str, &[usize], Option<(usize, FileKind)>); 11] = [
+        ("a 1 NS ", "b", "", &[63], None),
+        ("a 1 NS ", "\\098", "", &[63], None),
+        ("a 1 NS ", "b", "", &[64], Some((1, BadName))),
+        ("a 1 NS b", "b", ".", &[63, 63, 63, 51], None),
+        ("a 1 NS b", "b", ".", &[63, 63, 63, 52], Some((1, BadName))),
+        ("\nb", "b", ".", &[63, 63, 63, 52], Some((2, BadName))),
+        ("a 1 TXT ", "b", "\"", &[255, 0], None),
+        ("a 1 TXT ", "b", "\"", &[256, 0], Some((1, BadData))),
+        ("a 1 TXT ", "\\098", "", &[255], None),
+        ("a 1 TXT ", "\\\\", "", &[256], Some((1, BadData))),
+        ("a 1 TXT ", "b", " ", &[255; 256], Some((1, BadData))),
+    ];
+    for (head, byte, parting, sizes, wanted) in rows {
+        let text = with_runs(rt.alloc(), head, byte, parting, sizes)?;
+        let found = fault_of(rt.alloc(), text.as_bytes())?;
+        assert!(rt; found == wanted, "{head} {byte}");
+    }
+    let mut sizes = [255; 256];
+    sizes[100] = 254;
+    let text = with_runs(rt.alloc(), "a 1 TXT", "b", " ", &sizes)?;
+    assert!(rt; fault_of(rt.alloc(), text.as_bytes())? == None);
+    Ok(())
+}
+
+// A text in a larger one: lines count from its first; bytes need be no UTF-8.
+#[test]
+fn blocks(rt: HostRuntime) -> Result<(), Fail> {
+    let origin = Name::from_text(rt.alloc(), ".")?;
+    let found = read_block(rt.alloc(), &origin, b"a 1 A 192.0.2.1\nb 1 A x\n", 7);
+    assert!(rt;
+        matches!(
+            found,
+            Err(FileError {
+                line: 8,
+                kind: BadData
+            })
+        )
+    );
+    assert!(rt;
+        says(
+            rt.alloc(),
+            b"a 1 TXT \xff\x00\x7f \"\xc3\"",
+            Ok("a.example. 1 IN TXT \"\\255\\000\\127\" \"\\195\"\n")
+        )?
+    );
+    assert!(rt; says(rt.alloc(), b"\xff 1 A 192.0.2.1", Err((1, BadName)))?);
+    assert!(rt; says(rt.alloc(), b"a 1 A 192.0.2.1\xff", Err((1, BadData)))?);
+    assert!(rt; says(rt.alloc(), b"a 1 A\xff", Err((1, UnknownType)))?);
+    Ok(())
+}
+
+// Each kind's number, in the order of the rules.
+#[test]
+fn kinds_and_their_numbers(rt: HostRuntime) -> Result<(), Fail> {
+    let kinds = [
+        UnknownType,
+        BadName,
+        BadNumber,
+        NoTtl,
+        NoOwner,
+        OpenText,
+        UnknownDirective,
+        BadClass,
+        BadData,
+        Memory,
+    ];
+    let mut number = 1;
+    for kind in kinds {
+        assert_eq!(rt; kind.number(), number);
+        number = number.wrapping_add(1);
+    }
+    Ok(())
+}
+
+// A text of every type, and a faulty one that takes memory before its fault.
+const ZONE: &str =
+    "$TTL 3600\n@ IN SOA VENERA Action\\.domains (\n 20 ; SERIAL\n 7200 600 3600000 60 )\n NS A.ISI.EDU.\n MX 10 VENERA\nVENERA A 10.1.0.52\n 5 AAAA 2001:db8::1\n$ORIGIN sub\nalias CNAME @\nback 1 IN PTR venera.example.\nnote TXT \"a \\\"b\\\" c\" plain \\100\\;\n";
+
+const PRINTED: &str =
+    "$ORIGIN example.\nexample. 3600 IN SOA venera.example. action\\.domains.example. 20 7200 600 3600000 60\nexample. 3600 IN NS a.isi.edu.\nexample. 3600 IN MX 10 venera.example.\nvenera.example. 3600 IN A 10.1.0.52\nvenera.example. 5 IN AAAA 2001:db8:0:0:0:0:0:1\nalias.sub.example. 3600 IN CNAME sub.example.\nback.sub.example. 1 IN PTR venera.example.\nnote.sub.example. 3600 IN TXT \"a \\\"b\\\" c\" \"plain\" \"d;\"\n";
+
+const FAULTY: &str = "$ORIGIN a.b\n@ 1 TXT x \"y\" z\n 2 MX 5 c.d\n 3 SOA e f 1 2 3 4 x\n";
+
+// Whether a text under the origin `example.` is read and printed as `wanted`, or is refused by that fault; `None` where
+// memory lacks.
+fn comes_to<A: Heap>(alloc: A, text: &str, wanted: Result<&str, FileError>) -> Option<bool> {
+    let origin = Name::from_text(alloc, "example.").ok()?;
+    match (read(alloc, &origin, text), wanted) {
+        (Err(FileError { kind: Memory, .. }), _) => None,
+        (Err(found), Err(fault)) => Some(found == fault),
+        (Ok(records), Ok(printed)) => {
+            let out = print(alloc, &origin, records.as_slice()).ok()?;
+            Some(out.as_str() == printed)
+        }
+        _ => Some(false),
+    }
+}
+
+// With any one growth refused memory lacks; with none refused a text comes to what it stands for.
+#[test]
+fn refuses_each_growth_in_turn(rt: HostRuntime) -> Result<(), Fail> {
+    let faulty = FileError {
+        line: 4,
+        kind: BadData,
+    };
+    for (text, wanted) in [(ZONE, Ok(PRINTED)), (FAULTY, Err(faulty))] {
+        let heap = Refusing::new(rt.alloc());
+        assert!(rt; comes_to(&heap, text, wanted) == Some(true));
+        let growths = heap.growths();
+        assert!(rt; growths > 0);
+        for n in 0..growths {
+            heap.refuse_after(n);
+            assert!(rt; comes_to(&heap, text, wanted).is_none(), "growth {n}");
+        }
+        heap.refuse_after(growths);
+        assert!(rt; comes_to(&heap, text, wanted) == Some(true));
+    }
+    Ok(())
+}

@@ -1,0 +1,58 @@
+use dname::Heap;
+use refusing::Refusing;
+use std::test::Fail;
+use wire::{WireError, decode, encode, question_spelling};
+
+// A denial: the zone's SOA in the authority section, its names by pointers.
+const DENIAL: &[u8] =
+    b"\0\x01\x84\x80\0\x01\0\0\0\x01\0\0\x01b\x03lab\x07example\0\0\x10\0\x01\xc0\x0e\0\x06\0\x01\0\0\0\x3c\0\x1d\x02ns\xc0\x0e\x01h\xc0\x0e\0\0\0\x01\0\0\0\x02\0\0\0\x03\0\0\0\x04\0\0\0\x3c";
+
+fn rewritten<A: Heap>(alloc: A) -> Result<Vec<u8, A>, WireError> {
+    let m = decode(alloc, DENIAL)?;
+    encode(alloc, &m, 65_535)
+}
+
+#[test]
+fn each_growth_is_refused_in_turn(rt: HostRuntime) -> Result<(), Fail> {
+    let heap = Refusing::new(rt.alloc());
+    assert!(rt; rewritten(&heap)?.as_slice() == DENIAL);
+    let growths = heap.growths();
+    assert!(rt; growths > 8);
+    for n in 0..growths {
+        heap.refuse_after(n);
+        assert!(rt;
+            matches!(rewritten(&heap), Err(WireError::Memory)),
+            "growth {n}"
+        );
+        assert!(rt; rewritten(&heap)?.as_slice() == DENIAL, "after growth {n}");
+    }
+    Ok(())
+}
+
+#[test]
+fn each_growth_of_a_spelling_is_refused(rt: HostRuntime) -> Result<(), Fail> {
+    let heap = Refusing::new(rt.alloc());
+    assert!(rt;
+        question_spelling(&heap, DENIAL)?.wire() == b"\x01b\x03lab\x07example\0".as_slice()
+    );
+    let growths = heap.growths();
+    for n in 0..growths {
+        heap.refuse_after(n);
+        assert!(rt;
+            matches!(question_spelling(&heap, DENIAL), Err(WireError::Memory)),
+            "growth {n}"
+        );
+    }
+    Ok(())
+}
+
+// Two records of a type that is not served: one owner in full, one by a pointer to it.
+#[test]
+fn skipped_records_take_no_memory(rt: HostRuntime) -> Result<(), Fail> {
+    let bytes =
+        b"\0\x01\x80\0\0\0\0\x02\0\0\0\0\x01a\x07example\0\0\x63\0\x01\0\0\0\x01\0\x01x\xc0\x0c\0\x63\0\x01\0\0\0\x01\0\0";
+    let heap = Refusing::new(rt.alloc());
+    assert!(rt; decode(&heap, bytes)?.answer.is_empty());
+    assert_eq!(rt; heap.growths(), 0);
+    Ok(())
+}

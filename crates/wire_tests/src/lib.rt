@@ -1,0 +1,9 @@
+//! The tests of `wire`, from outside: by what it makes public.
+#![tactic(auto)]
+
+#[cfg(test)]
+mod fault_tests;
+#[cfg(test)]
+mod growth_tests;
+#[cfg(test)]
+mod tests;

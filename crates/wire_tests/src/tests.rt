@@ -1,0 +1,89 @@
+use dname::Name;
+use rdata::{Addr, RData};
+use std::test::Fail;
+use wire::{WireError, decode, encode, question_spelling};
+
+// ID 4660, RD, one question: www.example. A IN (RFC 1035, section 4.1).
+const QUERY: &[u8] = b"\x124\x01\0\0\x01\0\0\0\0\0\0\x03www\x07example\0\0\x01\0\x01";
+
+// The answer of a local zone: the question's name by a pointer, TTL 300, 192.0.2.1.
+const REPLY: &[u8] =
+    b"\x124\x85\x80\0\x01\0\x01\0\0\0\0\x03www\x07example\0\0\x01\0\x01\xc0\x0c\0\x01\0\x01\0\0\x01\x2c\0\x04\xc0\0\x02\x01";
+
+// A denial: the zone's SOA in the authority section, its names by pointers into the question and the SOA.
+const DENIAL: &[u8] =
+    b"\0\x01\x84\x80\0\x01\0\0\0\x01\0\0\x01b\x03lab\x07example\0\0\x10\0\x01\xc0\x0e\0\x06\0\x01\0\0\0\x3c\0\x1d\x02ns\xc0\x0e\x01h\xc0\x0e\0\0\0\x01\0\0\0\x02\0\0\0\x03\0\0\0\x04\0\0\0\x3c";
+
+#[test]
+fn a_query_is_read(rt: HostRuntime) -> Result<(), Fail> {
+    let m = decode(rt.alloc(), QUERY)?;
+    assert_eq!(rt;
+        (m.header.id, m.header.rd, m.header.qr),
+        (4660, true, false)
+    );
+    for asked in m.questions.as_slice() {
+        assert_eq!(rt; asked.name.to_text()?.as_str(), "www.example.");
+        assert_eq!(rt; (asked.qtype, asked.qclass), (1, 1));
+    }
+    assert_eq!(rt; m.questions.len(), 1);
+    assert!(rt; m.answer.is_empty() && m.authority.is_empty() && m.additional.is_empty());
+    Ok(())
+}
+
+#[test]
+fn each_front_of_a_query_is_short(rt: HostRuntime) -> Result<(), Fail> {
+    for size in 0..QUERY.len() {
+        assert!(rt;
+            matches!(decode(rt.alloc(), &QUERY[..size]), Err(WireError::Short)),
+            "{size}"
+        );
+    }
+    let mut longer = Vec::from_slice(rt.alloc(), QUERY)?;
+    longer.push(0)?;
+    assert!(rt; matches!(decode(rt.alloc(), &longer), Err(WireError::TrailingBytes)));
+    Ok(())
+}
+
+#[test]
+fn a_reply_is_read(rt: HostRuntime) -> Result<(), Fail> {
+    assert_eq!(rt; REPLY.len(), 45);
+    let m = decode(rt.alloc(), REPLY)?;
+    assert_eq!(rt;
+        (m.header.qr, m.header.aa, m.header.ra, m.header.tc),
+        (true, true, true, false)
+    );
+    assert_eq!(rt; m.answer.len(), 1);
+    for found in m.answer.as_slice() {
+        assert_eq!(rt; found.owner.to_text()?.as_str(), "www.example.");
+        assert_eq!(rt; found.ttl, 300);
+        assert!(rt; found.value.is_same(&RData::A(Addr([192, 0, 2, 1]))));
+    }
+    Ok(())
+}
+
+// What is read is written as it stood, names compressed.
+#[test]
+fn messages_are_written_as_they_stood(rt: HostRuntime) -> Result<(), Fail> {
+    assert_eq!(rt; DENIAL.len(), 72);
+    for bytes in [QUERY, REPLY, DENIAL] {
+        let m = decode(rt.alloc(), bytes)?;
+        assert!(rt; encode(rt.alloc(), &m, 65_535)?.as_slice() == bytes);
+        assert!(rt; encode(rt.alloc(), &m, bytes.len())?.as_slice() == bytes);
+        assert!(rt;
+            matches!(
+                encode(rt.alloc(), &m, bytes.len() - 1),
+                Err(WireError::OverLimit)
+            )
+        );
+    }
+    Ok(())
+}
+
+#[test]
+fn a_question_keeps_its_letters(rt: HostRuntime) -> Result<(), Fail> {
+    let bytes = b"\0\x01\0\0\0\x01\0\0\0\0\0\0\x03wWw\x01X\0\0\x01\0\x01";
+    let spelling = question_spelling(rt.alloc(), bytes)?;
+    assert!(rt; spelling.wire() == b"\x03wWw\x01X\0".as_slice());
+    assert_eq!(rt; spelling.name().to_text()?.as_str(), "www.x.");
+    Ok(())
+}
