@@ -1,0 +1,3 @@
+mod Ending
+mod Goings
+mod Handed
