@@ -3,13 +3,14 @@ use Rattle.std.specs.Prelude.{◌≡◌, true, Option, Some, List, codes, string
 use Rattle.clap.specs.Words.{Row, Text, first_of, subcommand_of, takes}
 use Rattle.commandline.specs.Grammar.{line_app}
 use Rattle.commandline.specs.declared.subcommands.Command.{Command}
-use Rattle.commandline.specs.declared.subcommands.Command.TheVariants.{Ask, Check, Dump}
+use Rattle.commandline.specs.declared.subcommands.Command.TheVariants.{Ask, Check, Dump, Play}
 
 -- The word that names a command.
 abbrev pub word_of : Command → Text
 word_of (Ask origin file name kind) = codes "ask"
 word_of (Check origin file) = codes "check"
 word_of (Dump origin file) = codes "dump"
+word_of (Play world script) = codes "play"
 
 -- The rows have a command's words.
 abbrev pub HaveWords : List Row → Command → Type 0
@@ -17,6 +18,7 @@ HaveWords rows (Ask origin file name kind) = (first_of (codes "origin") rows ≡
     × (first_of (codes "name") rows ≡ Some (string_bytes name)) × (first_of (codes "type") rows ≡ Some (string_bytes kind))
 HaveWords rows (Check origin file) = (first_of (codes "origin") rows ≡ Some (string_bytes origin)) × (first_of (codes "file") rows ≡ Some (string_bytes file))
 HaveWords rows (Dump origin file) = (first_of (codes "origin") rows ≡ Some (string_bytes origin)) × (first_of (codes "file") rows ≡ Some (string_bytes file))
+HaveWords rows (Play world script) = (first_of (codes "world") rows ≡ Some (string_bytes world)) × (first_of (codes "script") rows ≡ Some (string_bytes script))
 
 -- The subcommand of this name, with these rows, is the command.
 abbrev pub IsNamed : Text → List Row → Command → Type 0

@@ -2,25 +2,35 @@
 ghost use Rattle.std.specs.Prelude.{◌≡◌, IfOk, true, false, codes};
 ghost use Rattle.clap.specs.Words.{app_of, rule_of};
 ghost use Rattle.clap.specs.declared.builder.command.Command.TheViews.{out-Command};
-ghost use Rattle.commandline.specs.Grammar.{ask_app, file_app, line_app, word_rule};
+ghost use Rattle.commandline.specs.Grammar.{ask_app, file_app, line_app, play_app, word_rule};
 
 use clap::{Arg, ArgAction};
 use std::alloc::{AllocError, Global};
 
 /// What stands below the help: the lines of a reply, and the numbers of faults and statuses in words.
-pub static NUMBERS: &str = "For example, with the file examples/lab.zone:
+pub static NUMBERS: &str = "For example, with the files of the folder examples:
 
   resolverd ask lab.example. examples/lab.zone x.lab.example. TXT
   resolverd check lab.example. examples/lab.zone
   resolverd dump lab.example. examples/lab.zone
+  resolverd play examples/small.world examples/first.script
 
 A reply is printed as a line for its header and one for each of its records.
 
-  reply 1 RCODE              the reply to the query: NOERROR, SERVFAIL, NXDOMAIN or REFUSED, and behind it
+  reply 1 RCODE              the reply to the query of client 1: NOERROR, SERVFAIL, NXDOMAIN or REFUSED, and behind it
     aa                       the zone is the authority for the name
     tc                       the reply was over 512 bytes, and its records were left out
-    cause 3                  SERVFAIL, since more than eight aliases stand one behind the other
+    cause K                  why SERVFAIL: 1 too many open queries, 2 its time is up, 3 more than eight aliases,
+                             4 too many sends, 5 no server is left, 6 the reply is too large
   an OWNER TTL TYPE DATA     a record of the answer section; ns of the authority section, ar of the additional one
+
+play prints besides:
+
+  send K ADDRESS NAME TYPE   ask number K goes out in a datagram; tcp in place of send: over TCP
+  drop C                     the bytes of client C are dropped
+  due                        another query is due
+  starved                    no memory was left for a step
+  right R of M               of M replies to recursive queries, other than SERVFAIL, R are right in that world
 
 One line on standard error says what went wrong.
 
@@ -29,6 +39,11 @@ One line on standard error says what went wrong.
   error: FILE: zone K        the zone: 1 not one SOA at the origin, 2 no NS at the origin, 3 an owner outside,
                              4 CNAME beside other data, 5 TTLs differ in a set, 6 other data at or beneath a cut,
                              7 a * inside an owner, 8 NS or SOA at a wildcard, 9 a wildcard beneath a cut
+  error: FILE:LINE: zone K   the same of the zone that this line of a world opens
+  error: FILE: world K       the world: 1 no zone at the root, 2 a cut without its zone, 3 a zone that is not delegated,
+                             4 a server without its zone, 5 no hint that serves the root, 7 two zones of one origin
+  error: FILE:LINE: script K a line of a world or a script: 1 unknown word, 2 bad number, 3 bad name, 4 unknown type,
+                             5 wrong number of words, 6 bad hexadecimal, 7 a zone without end, 8 bad address
   error: FILE: unreadable    the file is missing or is not UTF-8
   error: name K              a name: 1 empty label, 2 label over 63 bytes, 3 name over 255 bytes, 4 bad escape
   error: type                another type than A, NS, CNAME, SOA, PTR, MX, TXT and AAAA
@@ -74,12 +89,27 @@ fn file_line<'a>(
         .arg(word(alloc, "file"))
 }
 
+// `play WORLD SCRIPT`
+fn play_line<'a>(alloc: Global) -> Result<clap::Command<'a>, AllocError>
+    ensures app { IfOk result (λ c. app_of c ≡ play_app) }
+    ensures local { IfOk result (λ c. (out-Command c).has_globals ≡ false) }
+{
+    clap::Command::new(alloc, "play")
+        .about(
+            "WORLD SCRIPT: plays a script in a network in memory, and says how many replies are right",
+        )
+        .arg(word(alloc, "world"))?
+        .arg(word(alloc, "script"))
+}
+
 /// The whole line, after the program's name.
 pub fn line<'a>(alloc: Global) -> Result<clap::Command<'a>, AllocError>
     ensures app { IfOk result (λ c. app_of c ≡ line_app) }
 {
     clap::Command::new(alloc, "resolverd")
-        .about("Answers DNS queries from a zone file, checks zone files and prints their records")
+        .about(
+            "Answers DNS queries, from a zone file or in a network in memory, and checks zone files",
+        )
         .no_binary_name(true)
         .subcommand_required(true)
         .subcommand(ask_line(alloc)?)?
@@ -92,5 +122,6 @@ pub fn line<'a>(alloc: Global) -> Result<clap::Command<'a>, AllocError>
             alloc,
             "dump",
             "ORIGIN FILE: prints the records of a zone file, one a line",
-        )?)
+        )?)?
+        .subcommand(play_line(alloc)?)
 }

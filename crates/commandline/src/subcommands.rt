@@ -37,6 +37,13 @@ pub enum Command {
         /// The path of the master file.
         file: String,
     },
+    /// `play WORLD SCRIPT`: plays a script in a network in memory.
+    Play {
+        /// The path of the world's text.
+        world: String,
+        /// The path of the script.
+        script: String,
+    },
 }
 
 // The word that stands for `id`.
@@ -84,6 +91,15 @@ fn read_dump(alloc: Global, found: &ArgMatches<'_>) -> Result<Command, LineFault
     Ok(Command::Dump { origin, file })
 }
 
+fn read_play(alloc: Global, found: &ArgMatches<'_>) -> Result<Command, LineFault>
+    ensures ok { IfOk result (IsNamed (codes "play") (rows_of (found_of found.now))) }
+    ensures refused { IfErr result (λ e. e ≡ Words → (command : Command) → IsNamed (codes "play") (rows_of (found_of found.now)) command → ⊥) }
+{
+    let world = text_of(alloc, found, "world")?;
+    let script = text_of(alloc, found, "script")?;
+    Ok(Command::Play { world, script })
+}
+
 /// The subcommand that the line names, with its words.
 pub fn read_subcommand(alloc: Global, matches: &ArgMatches<'_>) -> Result<Command, LineFault>
     ensures ok { IfOk result (Says (subcommand_rows_of matches.now)) }
@@ -93,6 +109,7 @@ pub fn read_subcommand(alloc: Global, matches: &ArgMatches<'_>) -> Result<Comman
         Some(("ask", found)) => read_ask(alloc, found),
         Some(("check", found)) => read_check(alloc, found),
         Some(("dump", found)) => read_dump(alloc, found),
+        Some(("play", found)) => read_play(alloc, found),
         _ => Err(LineFault::Words),
     }
 }

@@ -53,6 +53,19 @@ fn check_and_dump_take_two_words(rt: HostRuntime) -> Result<(), Fail> {
     Ok(())
 }
 
+#[test]
+fn play_takes_two_words(rt: HostRuntime) -> Result<(), Fail> {
+    let line = words(rt.alloc(), &["play", "small.world", "first.script"])?;
+    let Ok(Command::Play { world, script }) = read_words(rt.alloc(), line.as_slice()) else {
+        panic!(rt; "the line is refused");
+    };
+    assert_eq!(rt;
+        (world.as_str(), script.as_str()),
+        ("small.world", "first.script")
+    );
+    Ok(())
+}
+
 fn number_of(rt: &impl Abort, line: &Result<Command, LineFault>) -> u8 {
     match line {
         Ok(_) => panic!(rt; "the line is taken"),
@@ -62,7 +75,7 @@ fn number_of(rt: &impl Abort, line: &Result<Command, LineFault>) -> u8 {
 
 #[test]
 fn other_lines_are_refused(rt: HostRuntime) -> Result<(), Fail> {
-    let lines: [&[&str]; 10] = [
+    let lines: [&[&str]; 11] = [
         &[],
         &["--help"],
         &[
@@ -93,6 +106,7 @@ fn other_lines_are_refused(rt: HostRuntime) -> Result<(), Fail> {
         &["check", "lab.example.", "lab.zone", "more"],
         &["dump"],
         &["dump", "lab.example.", "lab.zone", "more"],
+        &["play", "small.world"],
     ];
     for line in &lines {
         let refused = words(rt.alloc(), *line)?;
@@ -115,7 +129,10 @@ fn help_explains_commands_and_numbers(rt: HostRuntime) -> Result<(), Fail> {
         "reply 1 RCODE",
         "the zone is the authority",
         "over 512 bytes",
-        "more than eight aliases",
+        "resolverd play examples/small.world ",
+        "3 more than eight aliases",
+        "send K ADDRESS",
+        "8 bad address",
         "ns of the authority section",
         "8 bad class, 9 bad data",
         "9 a wildcard beneath a cut",

@@ -3,5 +3,6 @@ pub mod Exchanges
 pub mod Faults
 pub mod Files
 pub mod Runs
+pub mod Scripts
 pub mod Texts
 pub mod Zones

@@ -3,7 +3,7 @@ ghost use Rattle.std.specs.Prelude.{◌≡◌, [], ◌∷◌, IfOk, IfErr, strin
 ghost use Rattle.resolverd.specs.Asks.{IsRefused};
 ghost use Rattle.resolverd.specs.Exchanges.{PrintsAnswer};
 
-use crate::exchange::exchange;
+use crate::answering::exchange;
 use crate::fault::Fault;
 use crate::texts::Texts;
 use crate::zones::read_zone;

@@ -1,11 +1,14 @@
 //! What can go wrong with a command: its line, and the exit status that goes with it.
 ghost use Rattle.std.specs.Prelude.{◌≡◌, Some};
-ghost use Rattle.resolverd.specs.Faults.{fault_text, status_of, file_fault, zone_fault, name_fault};
+ghost use Rattle.resolverd.specs.Faults.{fault_text, status_of, file_fault, zone_fault, name_fault, line_fault, world_fault};
 ghost use Rattle.resolverd.specs.declared.fault.Fault.TheVariants.{Memory};
 
 use dname::{NameError, Starved};
 use masterfile::{FileError, FileKind};
+use orders::{LineError, LineKind};
+use script::WorldFault;
 use std::fmt;
+use worlds::WorldError;
 use zone::ZoneError;
 
 /// Why a command came to nothing. Want of memory is `Memory`, wherever it was met.
@@ -15,6 +18,12 @@ pub enum Fault<'a> {
     File(&'a str, FileError),
     /// The records at this path are no zone.
     Zone(&'a str, ZoneError),
+    /// A line of the world or of the script at this path can't be read.
+    Script(&'a str, LineError),
+    /// The records of a block of the world at this path are no zone; with the line that opens the block.
+    Block(&'a str, usize, ZoneError),
+    /// The zones and servers at this path are no world.
+    World(&'a str, WorldError),
     /// Nothing can be read at this path, or it is not UTF-8.
     Unreadable(&'a str),
     /// A word is no name.
@@ -48,6 +57,31 @@ impl<'a> Fault<'a> {
         }
     }
 
+    /// What the reader of a script refused.
+    pub fn of_line(path: &'a str, error: LineError) -> Fault<'a>
+        ensures { result ≡ line_fault path.entry error }
+    {
+        match error.kind {
+            LineKind::Memory => Fault::Memory,
+            _ => Fault::Script(path, error),
+        }
+    }
+
+    /// What the reader of a world refused.
+    pub fn of_world(path: &'a str, error: WorldFault) -> Fault<'a>
+        ensures { result ≡ world_fault path.entry error }
+    {
+        match error {
+            WorldFault::Line(error) => Fault::of_line(path, error),
+            WorldFault::File(error) => Fault::of_file(path, error),
+            WorldFault::Zone(_, ZoneError::Memory) => Fault::Memory,
+            WorldFault::Zone(line, error) => Fault::Block(path, line, error),
+            WorldFault::World(WorldError::Memory) => Fault::Memory,
+            WorldFault::World(error) => Fault::World(path, error),
+            WorldFault::Memory => Fault::Memory,
+        }
+    }
+
     /// The exit status: 1 where the input is refused, 3 for want of memory, 4 for an unreadable file or
     /// failed output.
     pub fn status(&self) -> u8
@@ -55,6 +89,7 @@ impl<'a> Fault<'a> {
     {
         match self {
             Fault::File(_, _) | Fault::Zone(_, _) | Fault::BadName(_) | Fault::BadType => 1,
+            Fault::Script(_, _) | Fault::Block(_, _, _) | Fault::World(_, _) => 1,
             Fault::Memory => 3,
             Fault::Unreadable(_) | Fault::Output => 4,
         }
@@ -74,6 +109,19 @@ impl fmt::Display for Fault<'_> {
             Fault::Zone(path, error) => {
                 let number = error.number();
                 write!(f, "{path}: zone {number}")
+            }
+            Fault::Script(path, error) => {
+                let line = error.line;
+                let kind = error.kind.number();
+                write!(f, "{path}:{line}: script {kind}")
+            }
+            Fault::Block(path, line, error) => {
+                let number = error.number();
+                write!(f, "{path}:{line}: zone {number}")
+            }
+            Fault::World(path, error) => {
+                let number = error.number();
+                write!(f, "{path}: world {number}")
             }
             Fault::Unreadable(path) => write!(f, "{path}: unreadable"),
             Fault::BadName(error) => {

@@ -1,10 +1,11 @@
 //! `resolverd`: what its command line asks, done with the real files and streams.
 #![tactic(auto)]
 
+mod answering;
 mod ask;
-mod exchange;
 mod fault;
 mod files;
+mod play;
 mod run;
 mod texts;
 mod zones;
@@ -49,5 +50,7 @@ fn line_fault(error: &io::Error) -> LineFault {
     }
 }
 
+#[cfg(test)]
+mod play_tests;
 #[cfg(test)]
 mod tests;

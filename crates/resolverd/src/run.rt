@@ -8,6 +8,7 @@ ghost use Rattle.resolverd.specs.Runs.{Ended, IsExplained, IsLineDone, IsPrinted
 use crate::ask::ask;
 use crate::fault::Fault;
 use crate::files::{check, dump};
+use crate::play::play;
 use crate::texts::Texts;
 use commandline::{Command, LineFault, help_text, read_words};
 use dname::Heap;
@@ -75,6 +76,10 @@ pub fn run_command<A: Heap, T: Texts, O: Write, E: Write>(
         }
         Command::Dump { origin, file } => {
             let done = dump(alloc, texts, origin.as_str(), file.as_str());
+            finish(&done, out, err)
+        }
+        Command::Play { world, script } => {
+            let done = play(alloc, texts, world.as_str(), script.as_str());
             finish(&done, out, err)
         }
     }

@@ -439,10 +439,7 @@ fn lines_without_a_command_get_help(rt: HostRuntime) -> Result<(), Fail> {
         let mut err = Page::new(alloc, WIDE);
         let status = run_words(alloc, &words, &mut source, &mut out, &mut err);
         assert_eq!(rt; status, 2);
-        assert!(rt;
-            out.bytes
-                .starts_with(b"Answers DNS queries from a zone file")
-        );
+        assert!(rt; out.bytes.starts_with(b"Answers DNS queries"));
         assert!(rt; err.bytes.is_empty());
     }
     Ok(())

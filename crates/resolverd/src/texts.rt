@@ -1,5 +1,5 @@
 //! Where the texts that a command names come from.
-ghost use Rattle.std.specs.Prelude.{ℕ, List, Option, None, IfOk, string_bytes};
+ghost use Rattle.std.specs.Prelude.{◌≡◌, ℕ, List, Option, None, IfOk, string_bytes};
 ghost use Rattle.std.specs.Option.{option_map};
 ghost use Rattle.resolverd.specs.Texts.{MayHold};
 
@@ -15,7 +15,8 @@ pub trait Texts {
 
     /// The text at a path; none where it can't be read or is not UTF-8.
     fn text<A: Heap>(&mut self, alloc: A, path: &str) -> Result<Option<String<A>>, Starved>
-        ensures { IfOk result (λ text. MayHold (held self.old path.now) (option_map string_bytes text)) };
+        ensures is { IfOk result (λ text. MayHold (held self.old path.now) (option_map string_bytes text)) }
+        ensures keeps { held self.new ≡ held self.old };
 }
 
 /// The files that the program can reach.

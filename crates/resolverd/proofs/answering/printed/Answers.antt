@@ -1,7 +1,7 @@
 -- The bytes are a message, so its lines are printed, and nothing stood before them.
 use Rattle.std.proofs.Common.{◌∙◌, ap, ⊎_elim, List, ℕ, ◌++◌}
 use Rattle.lines.specs.Lines.{reply_text}
-use Rattle.resolverd.proofs.exchange.printed.Goals as goal
+use Rattle.resolverd.proofs.answering.printed.Goals as goal
 
 pub returns : goal.returns
 returns g c =

@@ -1,0 +1,4 @@
+pub mod Acting
+pub mod Happening
+pub mod Playing
+pub mod Right

@@ -1,0 +1,14 @@
+-- Every reply that is counted is right, whatever the script.
+use Rattle.std.proofs.Common.{map, string_bytes}
+use Rattle.std.proofs.lemmas.Result.{IfOk-weaker}
+use Rattle.orders.specs.Orders.{order_seen}
+use Rattle.player.specs.Seen.{state_of}
+use Rattle.player.proofs.Right.{is_played}
+use Rattle.player.proofs.follow.play.Goals as goal
+
+pub returns : goal.returns
+returns g c =
+    IfOk-weaker c.end.result _ _
+    (λ text is. is_played c.args.world (map order_seen c.args.orders.items) (state_of c.in_ok-player.player) (state_of c.follow_all.new.self) (string_bytes text) c.network_law.ensures
+    c.is_well_formed.ensures c.in_ok-player.ensures c.in_ok-follow_all.ensures is)
+    c.end.ensures

@@ -1,0 +1,81 @@
+//! Scripts while memory is refused somewhere: the play ends, or each reply that counts is right all the same.
+
+use crate::texts::{all_right, script, world};
+use dname::Starved;
+use player::play;
+use refusing::Refusing;
+use std::alloc::{AllocError, Global};
+use std::test::Fail;
+
+// A root, example. beneath it, lab.example. beneath that, dark.example. whose server has no address there, and the local
+// corp.example.
+const SMALL: &str =
+    "zone .\n. 3600 IN SOA r. h. 1 2 3 4 60\n. 3600 IN NS ns.\nns. 3600 IN A 198.51.100.1\nexample. 3600 IN NS ns.example.\nns.example. 3600 IN A 198.51.100.2\nend\nzone example.\n$TTL 3600\n@ SOA ns h 1 2 3 4 60\n@ NS ns\nns A 198.51.100.2\nold 5 CNAME www.lab\napp CNAME db.corp\nlab NS ns.lab\nns.lab A 198.51.100.3\ndark NS ns.dark\nend\nzone lab.example.\n$TTL 300\n@ SOA ns h 1 2 3 4 60\n@ NS ns\nns A 198.51.100.3\nwww A 192.0.2.1\nend\nzone dark.example.\n$TTL 300\n@ SOA ns h 1 2 3 4 60\n@ NS ns\nns A 198.51.100.4\nwww A 192.0.2.4\nend\nlocal corp.example.\n$TTL 300\n@ SOA ns h 1 2 3 4 60\n@ NS ns\ndb A 10.0.0.5\nend\nhost 198.51.100.1 .\nhost 198.51.100.2 example.\nhost 198.51.100.3 lab.example.\nhost 198.51.100.4 dark.example.\nhint 198.51.100.1\n";
+
+const SCRIPTS: [&str; 6] = [
+    "at 1000\nask www.lab.example. A\nrun\nat 300999\nask www.lab.example. A\n",
+    "ask gone.example. A\nrun\nat 59999\nask gone.example. TXT\n",
+    "ask app.example. A\nrun\n",
+    "ask old.example. CNAME\nrun\nat 4000\nask old.example. A\nat 7000\nrun\n",
+    "ask www.dark.example. A\nrun\nat 1000\ntick\n",
+    "ask ns.example. A tcp\ncut 1\nrun\nask db.corp.example. A\n",
+];
+
+// Whether a play ends for want of memory, or with each reply that counts right, where the growth behind `n` others is
+// refused.
+fn is_well(heap: &Refusing<Global>, text: &str, n: u64) -> bool {
+    heap.refuse_after(u64::MAX);
+    let (Some(world), Some(orders)) = (world(heap, SMALL), script(heap, text)) else {
+        return false;
+    };
+    heap.refuse_after(n);
+    match play(heap, world, orders) {
+        Ok(text) => all_right(text.as_str()).is_some(),
+        Err(Starved) => true,
+    }
+}
+
+#[test]
+fn each_growth_of_a_play_is_refused(rt: HostRuntime) -> Result<(), Fail> {
+    let heap = Refusing::new(rt.alloc());
+    for text in SCRIPTS {
+        assert!(rt; is_well(&heap, text, u64::MAX));
+        let growths = heap.growths();
+        assert!(rt; growths > 50, "only {growths} growths");
+        for n in 0..growths {
+            assert!(rt; is_well(&heap, text, n), "growth {n} of {text}");
+        }
+    }
+    Ok(())
+}
+
+// The query www.lab.example. A, ID 1 and RD set.
+const QUERY: &[u8] = b"\0\x01\x01\0\0\x01\0\0\0\0\0\0\x03www\x03lab\x07example\0\0\x01\0\x01";
+
+// Clients who send that query with one byte changed, in each way that there is.
+fn changed_queries(alloc: Global) -> Result<String, AllocError> {
+    let mut text = String::new(alloc);
+    for place in 0..QUERY.len() {
+        for change in 1..=255u8 {
+            text.push_str("raw ")?;
+            for (at, byte) in QUERY.iter().enumerate() {
+                let sent = if at == place { byte ^ change } else { *byte };
+                write!(&mut text, "{sent:02x}")?;
+            }
+            text.push_str("\nrun\n")?;
+        }
+    }
+    Ok(text)
+}
+
+#[test]
+fn a_changed_byte_of_a_query_misleads_nobody(rt: HostRuntime) -> Result<(), Fail> {
+    let alloc = rt.alloc();
+    let text = changed_queries(alloc)?;
+    let orders = script(alloc, text.as_str()).ok_or("no script")?;
+    let world = world(alloc, SMALL).ok_or("no world")?;
+    let shown = play(alloc, world, orders)?;
+    let replies = all_right(shown.as_str()).ok_or("a reply is wrong")?;
+    assert!(rt; replies > 1_000, "only {replies} replies");
+    Ok(())
+}
