@@ -44,14 +44,16 @@ impl Tree {
     /// From three zones on up to the most.
     pub fn new(dice: &mut Dice) -> Tree {
         Tree {
-            zones: 3 + dice.roll(MOST_ZONES - 2),
+            zones: dice.roll(MOST_ZONES - 2).saturating_add(3),
             fell: dice.roll(1 << 30),
         }
     }
 
     // The zone right above.
     fn above(&self, zone: u64) -> u64 {
-        (self.fell >> zone).checked_rem(zone).unwrap_or(0)
+        (self.fell.wrapping_mul(zone) >> 8)
+            .checked_rem(zone)
+            .unwrap_or(0)
     }
 
     // The labels of a zone's origin: `z2.z1.`, none for the root.
@@ -145,7 +147,7 @@ impl Tree {
     }
 
     fn put_order(&self, text: &mut String, dice: &mut Dice) -> Result<(), AllocError> {
-        let number = 1 + dice.roll(40);
+        let number = dice.roll(40).saturating_add(1);
         match dice.roll(13) {
             0 | 1 | 2 | 3 => self.put_ask(text, dice),
             4 | 5 | 6 => text.push_str("run\n"),
