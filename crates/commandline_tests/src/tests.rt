@@ -66,6 +66,16 @@ fn play_takes_two_words(rt: HostRuntime) -> Result<(), Fail> {
     Ok(())
 }
 
+#[test]
+fn serve_takes_one_word(rt: HostRuntime) -> Result<(), Fail> {
+    let line = words(rt.alloc(), &["serve", "resolverd.conf"])?;
+    let Ok(Command::Serve { config }) = read_words(rt.alloc(), line.as_slice()) else {
+        panic!(rt; "the line is refused");
+    };
+    assert_eq!(rt; config.as_str(), "resolverd.conf");
+    Ok(())
+}
+
 fn number_of(rt: &impl Abort, line: &Result<Command, LineFault>) -> u8 {
     match line {
         Ok(_) => panic!(rt; "the line is taken"),
@@ -75,7 +85,7 @@ fn number_of(rt: &impl Abort, line: &Result<Command, LineFault>) -> u8 {
 
 #[test]
 fn other_lines_are_refused(rt: HostRuntime) -> Result<(), Fail> {
-    let lines: [&[&str]; 11] = [
+    let lines: [&[&str]; 13] = [
         &[],
         &["--help"],
         &[
@@ -107,6 +117,8 @@ fn other_lines_are_refused(rt: HostRuntime) -> Result<(), Fail> {
         &["dump"],
         &["dump", "lab.example.", "lab.zone", "more"],
         &["play", "small.world"],
+        &["serve"],
+        &["serve", "resolverd.conf", "more"],
     ];
     for line in &lines {
         let refused = words(rt.alloc(), *line)?;
@@ -130,6 +142,9 @@ fn help_explains_commands_and_numbers(rt: HostRuntime) -> Result<(), Fail> {
         "the zone is the authority",
         "over 512 bytes",
         "resolverd play examples/small.world ",
+        "resolverd serve resolverd.conf",
+        "listening ADDRESS PORT",
+        "error: socket",
         "3 more than eight aliases",
         "send K ADDRESS",
         "8 bad address",
