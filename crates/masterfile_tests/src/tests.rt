@@ -1,8 +1,9 @@
 use dname::{Heap, Name, NameError, Starved};
-use masterfile::{
-    BadClass, BadData, BadName, BadNumber, FileError, FileKind, Memory, NoOwner, NoTtl, OpenText,
-    UnknownDirective, UnknownType, print, put_record, read, read_block,
+use masterfile::FileKind::{
+    BadClass, BadData, BadName, BadNumber, Memory, NoOwner, NoTtl, OpenText, UnknownDirective,
+    UnknownType,
 };
+use masterfile::{FileError, FileKind, print, put_record, read, read_block};
 use rdata::Record;
 use refusing::Refusing;
 use std::test::Fail;

@@ -344,49 +344,52 @@ fn ends_well(status: u8, out: &str, err: &str) -> bool {
     }
 }
 
+// The status of a script whose growth behind `n` others is refused, and what it prints.
+fn played(
+    heap: &Refusing<Global>,
+    alloc: Global,
+    script: &str,
+    n: u64,
+) -> Result<(u8, String, String), Fail> {
+    let mut source = Held {
+        world: SMALL,
+        script,
+    };
+    let command = play_line(alloc, "WORLD", "SCRIPT")?;
+    let mut out = Page::new(alloc);
+    let mut err = Page::new(alloc);
+    heap.refuse_after(n);
+    let status = run_command(
+        heap,
+        &command,
+        &mut source,
+        &mut Nowhere,
+        &mut out,
+        &mut err,
+    );
+    let shown = String::from_utf8(out.bytes).ok().ok_or("no text")?;
+    let fault = String::from_utf8(err.bytes).ok().ok_or("no text")?;
+    Ok((status, shown, fault))
+}
+
 #[test]
 fn each_growth_may_be_refused(rt: HostRuntime) -> Result<(), Fail> {
-    let alloc = rt.alloc();
-    let heap = Refusing::new(alloc);
+    let heap = Refusing::new(rt.alloc());
     let script = "ask old.example. A\ncut 1\nrun\nask db.corp.example. A";
-    let command = play_line(alloc, "WORLD", "SCRIPT")?;
-    let mut growths = 0;
-    let mut starved = 0;
-    let mut n = 0;
-    while n <= growths {
-        let mut source = Held {
-            world: SMALL,
-            script,
-        };
-        let mut out = Page::new(alloc);
-        let mut err = Page::new(alloc);
-        if n > 0 {
-            heap.refuse_after(n - 1);
-        }
-        let status = run_command(
-            &heap,
-            &command,
-            &mut source,
-            &mut Nowhere,
-            &mut out,
-            &mut err,
+    let (status, shown, _) = played(&heap, rt.alloc(), script, u64::MAX)?;
+    let growths = heap.growths();
+    assert_eq!(rt; status, 0);
+    assert!(rt; shown.as_str().ends_with("right 2 of 2\n"));
+    let mut starved = 0u64;
+    for n in 0..growths {
+        let (status, shown, fault) = played(&heap, rt.alloc(), script, n)?;
+        assert!(rt;
+            ends_well(status, shown.as_str(), fault.as_str()),
+            "growth {n}"
         );
-        let shown = String::from_utf8(out.bytes).ok().ok_or("no text")?;
-        let fault = String::from_utf8(err.bytes).ok().ok_or("no text")?;
-        if n == 0 {
-            assert_eq!(rt; status, 0);
-            assert!(rt; shown.as_str().ends_with("right 2 of 2\n"));
-            growths = heap.growths();
-        } else {
-            assert!(rt;
-                ends_well(status, shown.as_str(), fault.as_str()),
-                "growth {n}"
-            );
-            if status == 0 {
-                starved += 1;
-            }
+        if status == 0 {
+            starved = starved.saturating_add(1);
         }
-        n += 1;
     }
     assert!(rt; starved > 100 && growths > 500, "{starved} of {growths}");
     Ok(())
