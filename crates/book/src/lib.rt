@@ -12,6 +12,3 @@ pub use book::Book;
 pub use entry::Entry;
 pub use machine::Machine;
 pub use ticket::Ticket;
-
-#[cfg(test)]
-mod tests;

@@ -7,6 +7,3 @@ mod keyword;
 
 pub use config::{Endpoint, LocalFile, ServeConfig, read_config};
 pub use statements::{LineError, LineKind};
-
-#[cfg(test)]
-mod tests;

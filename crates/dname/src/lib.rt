@@ -14,6 +14,3 @@ pub use memory::{Heap, Starved};
 pub use name::Name;
 pub use text::{NameError, first_fault_counts, put_name, text_is_read_back, text_writes_name};
 pub use walk::next_label;
-
-#[cfg(test)]
-mod tests;

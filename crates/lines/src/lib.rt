@@ -6,6 +6,3 @@ mod reply;
 
 pub use ask::put_ask_bytes;
 pub use reply::{put_reply, put_reply_bytes};
-
-#[cfg(test)]
-mod tests;

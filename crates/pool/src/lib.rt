@@ -9,6 +9,3 @@ mod shared;
 pub use closing::{Closed, Kept, gather};
 pub use fault::PoolError;
 pub use shared::{Shared, submit};
-
-#[cfg(test)]
-mod tests;

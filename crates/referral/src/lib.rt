@@ -15,6 +15,3 @@ pub use lists::{Addresses, Names, ServerAddress};
 // A crate can name a store in a contract only if the types of its fields are exported.
 #[doc(hidden)]
 pub use cut::Servers;
-
-#[cfg(test)]
-mod tests;

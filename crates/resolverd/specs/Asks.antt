@@ -7,7 +7,7 @@ use Rattle.rdata.specs.Types.{type_named}
 use Rattle.rdata.specs.declared.rtype.RType.{RType}
 use Rattle.resolverd.specs.Zones.{HoldsNoZone}
 use Rattle.resolverd.specs.declared.fault.Fault.{Fault}
-use Rattle.resolverd.specs.declared.fault.Fault.TheVariants.{File, Zone, Script, Block, World, Unreadable, BadName, BadType, Memory, Output}
+use Rattle.resolverd.specs.declared.fault.Fault.TheVariants.{File, Zone, Script, Block, World, Unreadable, BadName, BadType, Settings, Memory, Socket, Threads, Output}
 
 -- The fault of a word that is to be a name, or a type.
 abbrev pub fault_of_name : Result (List (List ℕ)) NameError → Option Fault
@@ -37,6 +37,9 @@ IsRefused known origin name kind (File path e) = HasNoZone known origin name kin
 IsRefused known origin name kind (Zone path e) = HasNoZone known origin name kind (Zone path e)
 IsRefused known origin name kind Memory = Unit {0}
 IsRefused known origin name kind Output = ⊥
+IsRefused known origin name kind Settings = ⊥
+IsRefused known origin name kind Socket = ⊥
+IsRefused known origin name kind Threads = ⊥
 IsRefused known origin name kind (Script path e) = ⊥
 IsRefused known origin name kind (Block path line e) = ⊥
 IsRefused known origin name kind (World path e) = ⊥

@@ -21,7 +21,7 @@ use Rattle.worlds.specs.declared.fault.WorldError.TheVariants.{Memory as world_m
 use Rattle.script.specs.declared.world_fault.WorldFault.{WorldFault}
 use Rattle.script.specs.declared.world_fault.WorldFault.TheVariants as of
 use Rattle.resolverd.specs.declared.fault.Fault.{Fault}
-use Rattle.resolverd.specs.declared.fault.Fault.TheVariants.{File, Zone, Script, Block, World, Unreadable, BadName, BadType, Memory, Output}
+use Rattle.resolverd.specs.declared.fault.Fault.TheVariants.{File, Zone, Script, Block, World, Unreadable, BadName, BadType, Settings, Memory, Socket, Threads, Output}
 
 -- What stands behind `error: `.
 abbrev pub fault_text : Fault → List ℕ
@@ -33,10 +33,13 @@ fault_text (World path e) = path.now ++ codes ": world " ++ decimal (world_fault
 fault_text (Unreadable path) = path.now ++ codes ": unreadable"
 fault_text (BadName e) = codes "name " ++ decimal (fault_number e)
 fault_text BadType = codes "type"
+fault_text Settings = codes "settings"
 fault_text Memory = codes "memory"
+fault_text Socket = codes "socket"
+fault_text Threads = codes "threads"
 fault_text Output = codes "output"
 
--- 1 where the input is refused, 3 for want of memory, 4 for an unreadable file or failed output.
+-- 1 where the input is refused, 3 for want of memory, 4 for what the system refuses: a file, a socket, a thread, output.
 abbrev pub status_of : Fault → ℕ
 status_of (File path e) = 1
 status_of (Zone path e) = 1
@@ -46,7 +49,10 @@ status_of (World path e) = 1
 status_of (Unreadable path) = 4
 status_of (BadName e) = 1
 status_of BadType = 1
+status_of Settings = 1
 status_of Memory = 3
+status_of Socket = 4
+status_of Threads = 4
 status_of Output = 4
 
 -- Want of memory is one fault, wherever it was met.

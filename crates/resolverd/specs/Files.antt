@@ -6,7 +6,7 @@ use Rattle.masterfile.specs.Printed.{file_text}
 use Rattle.zone.specs.Zones.{Zone as ZoneOf}
 use Rattle.resolverd.specs.Zones.{HoldsRecords, HoldsNoRecords, HoldsZone, HoldsNoZone}
 use Rattle.resolverd.specs.declared.fault.Fault.{Fault}
-use Rattle.resolverd.specs.declared.fault.Fault.TheVariants.{File, Zone, Script, Block, World, Unreadable, BadName, BadType, Memory, Output}
+use Rattle.resolverd.specs.declared.fault.Fault.TheVariants.{File, Zone, Script, Block, World, Unreadable, BadName, BadType, Settings, Memory, Socket, Threads, Output}
 
 -- The number of records of the zone that the file holds.
 abbrev pub CountsRecords : Option (Option (List ℕ)) → List ℕ → List ℕ → Type 0
@@ -27,6 +27,9 @@ IsNoZone known origin (File path e) = (o : List (List ℕ)) × (name_of_text ori
 IsNoZone known origin (Zone path e) = (o : List (List ℕ)) × (name_of_text origin ≡ Ok o) × HoldsNoZone known o (Zone path e)
 IsNoZone known origin Memory = Unit {0}
 IsNoZone known origin Output = ⊥
+IsNoZone known origin Settings = ⊥
+IsNoZone known origin Socket = ⊥
+IsNoZone known origin Threads = ⊥
 IsNoZone known origin (Script path e) = ⊥
 IsNoZone known origin (Block path line e) = ⊥
 IsNoZone known origin (World path e) = ⊥
@@ -40,6 +43,9 @@ IsNoFile known origin (File path e) = (o : List (List ℕ)) × (name_of_text ori
 IsNoFile known origin (Zone path e) = ⊥
 IsNoFile known origin Memory = Unit {0}
 IsNoFile known origin Output = ⊥
+IsNoFile known origin Settings = ⊥
+IsNoFile known origin Socket = ⊥
+IsNoFile known origin Threads = ⊥
 IsNoFile known origin (Script path e) = ⊥
 IsNoFile known origin (Block path line e) = ⊥
 IsNoFile known origin (World path e) = ⊥

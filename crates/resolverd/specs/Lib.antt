@@ -4,5 +4,6 @@ pub mod Faults
 pub mod Files
 pub mod Runs
 pub mod Scripts
+pub mod Servers
 pub mod Texts
 pub mod Zones

@@ -5,11 +5,12 @@ use Rattle.commandline.specs.Says.{Names, NamesNothing}
 use Rattle.commandline.specs.declared.fault.LineFault.{LineFault}
 use Rattle.commandline.specs.declared.fault.LineFault.TheVariants.{Words, Memory as line_memory}
 use Rattle.commandline.specs.declared.subcommands.Command.{Command}
-use Rattle.commandline.specs.declared.subcommands.Command.TheVariants.{Ask, Check, Dump, Play}
+use Rattle.commandline.specs.declared.subcommands.Command.TheVariants.{Ask, Check, Dump, Play, Serve}
 use Rattle.resolverd.specs.Asks.{IsRefused}
 use Rattle.resolverd.specs.Exchanges.{PrintsAnswer}
 use Rattle.resolverd.specs.Files.{CountsRecords, PrintsRecords, IsNoZone, IsNoFile}
 use Rattle.resolverd.specs.Scripts.{PrintsScript, IsNoScript}
+use Rattle.resolverd.specs.Servers.{PrintsAddress, IsNoServer}
 use Rattle.resolverd.specs.declared.fault.Fault.{Fault}
 use Rattle.resolverd.specs.declared.fault.Fault.TheVariants.{Memory}
 use Rattle.resolverd.specs.Faults.{fault_text, status_of}
@@ -50,6 +51,7 @@ texts_of A held (Ask origin file name kind) text = PrintsAnswer A (held (string_
 texts_of A held (Check origin file) text = CountsRecords (held (string_bytes file)) (string_bytes origin) text
 texts_of A held (Dump origin file) text = PrintsRecords (held (string_bytes file)) (string_bytes origin) text
 texts_of A held (Play world script) text = PrintsScript (held (string_bytes world)) (held (string_bytes script)) text
+texts_of A held (Serve config) text = PrintsAddress (held (string_bytes config)) text
 
 -- The faults of a command, over the same.
 abbrev pub faults_of : (List ℕ → Option (Option (List ℕ))) → Command → Fault → Type 0
@@ -57,6 +59,7 @@ faults_of held (Ask origin file name kind) f = IsRefused (held (string_bytes fil
 faults_of held (Check origin file) f = IsNoZone (held (string_bytes file)) (string_bytes origin) f
 faults_of held (Dump origin file) f = IsNoFile (held (string_bytes file)) (string_bytes origin) f
 faults_of held (Play world script) f = IsNoScript (held (string_bytes world)) (held (string_bytes script)) f
+faults_of held (Serve config) f = IsNoServer (held (string_bytes config)) f
 
 -- The help text was printed, or no memory was left for it.
 abbrev pub IsExplained : Option (List ℕ) → Option (List ℕ) → Option (List ℕ) → Option (List ℕ) → ℕ → Type 0

@@ -5,7 +5,7 @@ use Rattle.orders.specs.Orders.{Order, script_of}
 use Rattle.player.specs.Played.{IsPlayed}
 use Rattle.resolverd.specs.Texts.{MayHold}
 use Rattle.resolverd.specs.declared.fault.Fault.{Fault}
-use Rattle.resolverd.specs.declared.fault.Fault.TheVariants.{File, Zone, Script, Block, World as NoWorld, Unreadable, BadName, BadType, Memory, Output}
+use Rattle.resolverd.specs.declared.fault.Fault.TheVariants.{File, Zone, Script, Block, World as NoWorld, Unreadable, BadName, BadType, Settings, Memory, Socket, Threads, Output}
 
 -- The text is there.
 abbrev pub IsReadable : Option (Option (List ℕ)) → Type 0
@@ -27,6 +27,9 @@ HoldsNoOrders known (NoWorld path e) = ⊥
 HoldsNoOrders known (BadName e) = ⊥
 HoldsNoOrders known BadType = ⊥
 HoldsNoOrders known Output = ⊥
+HoldsNoOrders known Settings = ⊥
+HoldsNoOrders known Socket = ⊥
+HoldsNoOrders known Threads = ⊥
 
 -- The text is not there, or one of its lines, its blocks or its rules is refused.
 abbrev pub HoldsNoWorld : Option (Option (List ℕ)) → Fault → Type 0
@@ -40,6 +43,9 @@ HoldsNoWorld known (Zone path e) = ⊥
 HoldsNoWorld known (BadName e) = ⊥
 HoldsNoWorld known BadType = ⊥
 HoldsNoWorld known Output = ⊥
+HoldsNoWorld known Settings = ⊥
+HoldsNoWorld known Socket = ⊥
+HoldsNoWorld known Threads = ⊥
 
 -- What the script's orders print in a well formed world.
 pub record PrintsScript (world script : Option (Option (List ℕ))) (text : List ℕ) : Type 0 where

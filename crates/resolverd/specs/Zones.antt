@@ -7,7 +7,7 @@ use Rattle.zone.specs.Kept.{zone_with}
 use Rattle.zone.specs.Faults.{fault_of}
 use Rattle.resolverd.specs.Texts.{MayHold}
 use Rattle.resolverd.specs.declared.fault.Fault.{Fault}
-use Rattle.resolverd.specs.declared.fault.Fault.TheVariants.{File, Zone, Script, Block, World, Unreadable, BadName, BadType, Memory, Output}
+use Rattle.resolverd.specs.declared.fault.Fault.TheVariants.{File, Zone, Script, Block, World, Unreadable, BadName, BadType, Settings, Memory, Socket, Threads, Output}
 
 -- The text is there, and it is read as these records.
 abbrev pub HoldsRecords : Option (Option (List ℕ)) → List (List ℕ) → List Record → Type 0
@@ -22,6 +22,9 @@ HoldsNoRecords known origin (Zone path e) = ⊥
 HoldsNoRecords known origin (BadName e) = ⊥
 HoldsNoRecords known origin BadType = ⊥
 HoldsNoRecords known origin Output = ⊥
+HoldsNoRecords known origin Settings = ⊥
+HoldsNoRecords known origin Socket = ⊥
+HoldsNoRecords known origin Threads = ⊥
 HoldsNoRecords known origin (Script path e) = ⊥
 HoldsNoRecords known origin (Block path line e) = ⊥
 HoldsNoRecords known origin (World path e) = ⊥
@@ -39,6 +42,9 @@ HoldsNoZone known origin Memory = Unit {0}
 HoldsNoZone known origin (BadName e) = ⊥
 HoldsNoZone known origin BadType = ⊥
 HoldsNoZone known origin Output = ⊥
+HoldsNoZone known origin Settings = ⊥
+HoldsNoZone known origin Socket = ⊥
+HoldsNoZone known origin Threads = ⊥
 HoldsNoZone known origin (Script path e) = ⊥
 HoldsNoZone known origin (Block path line e) = ⊥
 HoldsNoZone known origin (World path e) = ⊥

@@ -7,6 +7,7 @@ use dname::{NameError, Starved};
 use masterfile::{FileError, FileKind};
 use orders::{LineError, LineKind};
 use script::WorldFault;
+use std::alloc::AllocFailed;
 use std::fmt;
 use worlds::WorldError;
 use zone::ZoneError;
@@ -30,8 +31,14 @@ pub enum Fault<'a> {
     BadName(NameError),
     /// A word is no served type.
     BadType,
+    /// What the file of a server sets is out of the limits of a resolver.
+    Settings,
     /// A growth was refused.
     Memory,
+    /// An address can't be bound.
+    Socket,
+    /// A thread can't be made.
+    Threads,
     /// The output could not be written.
     Output,
 }
@@ -82,15 +89,17 @@ impl<'a> Fault<'a> {
         }
     }
 
-    /// The exit status: 1 where the input is refused, 3 for want of memory, 4 for an unreadable file or
-    /// failed output.
+    /// The exit status: 1 where the input is refused, 3 for want of memory, 4 for an unreadable file, an address
+    /// that can't be bound, a thread that can't be made or failed output.
     pub fn status(&self) -> u8
         ensures { result ≡ status_of self.now }
     {
         match self {
             Fault::File(_, _) | Fault::Zone(_, _) | Fault::BadName(_) | Fault::BadType => 1,
             Fault::Script(_, _) | Fault::Block(_, _, _) | Fault::World(_, _) => 1,
+            Fault::Settings => 1,
             Fault::Memory => 3,
+            Fault::Socket | Fault::Threads => 4,
             Fault::Unreadable(_) | Fault::Output => 4,
         }
     }
@@ -129,7 +138,10 @@ impl fmt::Display for Fault<'_> {
                 write!(f, "name {number}")
             }
             Fault::BadType => write!(f, "type"),
+            Fault::Settings => write!(f, "settings"),
             Fault::Memory => write!(f, "memory"),
+            Fault::Socket => write!(f, "socket"),
+            Fault::Threads => write!(f, "threads"),
             Fault::Output => write!(f, "output"),
         }
     }
@@ -150,6 +162,14 @@ impl From<Starved> for Fault<'_> {
     ghost from_gives = { λ _ f. f ≡ Memory };
 
     fn from(_error: Starved) -> Self {
+        Fault::Memory
+    }
+}
+
+impl<T: Drop> From<AllocFailed<T>> for Fault<'_> {
+    ghost from_gives = { λ _ f. f ≡ Memory };
+
+    fn from(_error: AllocFailed<T>) -> Self {
         Fault::Memory
     }
 }

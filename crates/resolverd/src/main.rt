@@ -5,11 +5,14 @@ mod answering;
 mod ask;
 mod fault;
 mod files;
+mod host;
 mod play;
 mod run;
+mod serve;
 mod texts;
 mod zones;
 
+use crate::host::Machine;
 use crate::run::{refuse_line, run_words};
 use crate::texts::Disk;
 use commandline::LineFault;
@@ -23,7 +26,17 @@ fn main(rt: HostRuntime) -> ExitCode {
     let mut out = rt.stdout();
     let mut err = rt.stderr();
     let status = match words_of(&rt) {
-        Ok(words) => run_words(alloc, &words, &mut Disk::new(&rt), &mut out, &mut err),
+        Ok(words) => {
+            let mut host = Machine::new(&rt, alloc);
+            run_words(
+                alloc,
+                &words,
+                &mut Disk::new(&rt),
+                &mut host,
+                &mut out,
+                &mut err,
+            )
+        }
         Err(fault) => refuse_line(alloc, fault, &mut out, &mut err),
     };
     ExitCode::from(status)
@@ -52,5 +65,7 @@ fn line_fault(error: &io::Error) -> LineFault {
 
 #[cfg(test)]
 mod play_tests;
+#[cfg(test)]
+mod serve_tests;
 #[cfg(test)]
 mod tests;

@@ -1,6 +1,7 @@
 //! Scripts played in worlds in memory.
 
 use crate::run::run_command;
+use crate::tests::Nowhere;
 use crate::texts::Texts;
 use commandline::Command;
 use dname::{Heap, Starved};
@@ -71,7 +72,14 @@ fn see(rt: &impl Abort, alloc: Global, held: Held<'_>, want: (u8, &str, &str)) -
     let mut out = Page::new(alloc);
     let mut err = Page::new(alloc);
     let command = play_line(alloc, "WORLD", "SCRIPT")?;
-    let status = run_command(alloc, &command, &mut source, &mut out, &mut err);
+    let status = run_command(
+        alloc,
+        &command,
+        &mut source,
+        &mut Nowhere,
+        &mut out,
+        &mut err,
+    );
     let (code, printed, fault) = want;
     let shown = String::from_utf8(out.bytes).ok().ok_or("no text")?;
     assert!(rt; shown.as_str() == printed, "printed {shown}");
@@ -242,7 +250,14 @@ fn unreadable_texts_are_named(rt: HostRuntime) -> Result<(), Fail> {
         let mut out = Page::new(alloc);
         let mut err = Page::new(alloc);
         let command = play_line(alloc, world, script)?;
-        let status = run_command(alloc, &command, &mut source, &mut out, &mut err);
+        let status = run_command(
+            alloc,
+            &command,
+            &mut source,
+            &mut Nowhere,
+            &mut out,
+            &mut err,
+        );
         assert_eq!(rt; status, 4);
         assert!(rt; out.has(""));
         assert!(rt; err.has(want));
@@ -291,7 +306,14 @@ fn a_query_too_many_fails(rt: HostRuntime) -> Result<(), Fail> {
     let mut out = Page::new(alloc);
     let mut err = Page::new(alloc);
     let command = play_line(alloc, "WORLD", "SCRIPT")?;
-    let status = run_command(alloc, &command, &mut source, &mut out, &mut err);
+    let status = run_command(
+        alloc,
+        &command,
+        &mut source,
+        &mut Nowhere,
+        &mut out,
+        &mut err,
+    );
     assert_eq!(rt; status, 0);
     let shown = String::from_utf8(out.bytes).ok().ok_or("no text")?;
     let text = shown.as_str();
@@ -337,7 +359,14 @@ fn played(
     let mut out = Page::new(alloc);
     let mut err = Page::new(alloc);
     heap.refuse_after(n);
-    let status = run_command(heap, &command, &mut source, &mut out, &mut err);
+    let status = run_command(
+        heap,
+        &command,
+        &mut source,
+        &mut Nowhere,
+        &mut out,
+        &mut err,
+    );
     let shown = String::from_utf8(out.bytes).ok().ok_or("no text")?;
     let fault = String::from_utf8(err.bytes).ok().ok_or("no text")?;
     Ok((status, shown, fault))

@@ -8,7 +8,9 @@ ghost use Rattle.resolverd.specs.Runs.{Ended, IsExplained, IsLineDone, IsPrinted
 use crate::ask::ask;
 use crate::fault::Fault;
 use crate::files::{check, dump};
+use crate::host::Host;
 use crate::play::play;
+use crate::serve::serve;
 use crate::texts::Texts;
 use commandline::{Command, LineFault, help_text, read_words};
 use dname::Heap;
@@ -17,17 +19,18 @@ use std::io::Write;
 
 /// Does what the words after the program's name ask, and gives the exit status. Words that name no command
 /// are answered with the help text and status 2.
-pub fn run_words<T: Texts, O: Write, E: Write>(
+pub fn run_words<T: Texts, H: Host<Global>, O: Write, E: Write>(
     alloc: Global,
     words: &[String],
     texts: &mut T,
+    host: &mut H,
     out: &mut O,
     err: &mut E,
 ) -> u8
     ensures { IsLineDone Global (map string_bytes words.now) (T.held texts.old) (O.contents out.old) (O.contents out.new) (E.contents err.old) (E.contents err.new) result }
 {
     match read_words(alloc, words) {
-        Ok(command) => run_command(alloc, &command, texts, out, err),
+        Ok(command) => run_command(alloc, &command, texts, host, out, err),
         Err(fault) => refuse_line(alloc, fault, out, err),
     }
 }
@@ -47,13 +50,14 @@ pub fn refuse_line<O: Write, E: Write>(
     }
 }
 
-/// Does a command and gives the exit status: 0 done, 1 input refused, 3 no memory, 4 an unreadable file or
-/// failed output. Of a command that fails nothing is printed but the line of its fault, unless the output
-/// itself fails.
-pub fn run_command<A: Heap, T: Texts, O: Write, E: Write>(
+/// Does a command and gives the exit status: 0 done, 1 input refused, 3 no memory, 4 an unreadable file, an
+/// address that can't be bound, a thread that can't be made or failed output. Of a command that fails nothing is
+/// printed but the line of its fault, unless the output itself fails or a thread can't be made.
+pub fn run_command<A: Heap, T: Texts, H: Host<A>, O: Write, E: Write>(
     alloc: A,
     command: &Command,
     texts: &mut T,
+    host: &mut H,
     out: &mut O,
     err: &mut E,
 ) -> u8
@@ -82,6 +86,7 @@ pub fn run_command<A: Heap, T: Texts, O: Write, E: Write>(
             let done = play(alloc, texts, world.as_str(), script.as_str());
             finish(&done, out, err)
         }
+        Command::Serve { config } => serve(alloc, config.as_str(), texts, host, out, err),
     }
 }
 
@@ -109,8 +114,8 @@ fn explain<O: Write, E: Write>(alloc: Global, out: &mut O, err: &mut E) -> u8
     }
 }
 
-// Prints a text, and gives the status, unless the output fails.
-fn put<A: Allocator, O: Write, E: Write>(
+/// Prints a text, and gives the status, unless the output fails.
+pub fn put<A: Allocator, O: Write, E: Write>(
     text: &String<A>,
     status: u8,
     out: &mut O,

@@ -1,9 +1,12 @@
 //! Commands over texts in memory.
 
+use crate::host::Host;
 use crate::run::{refuse_line, run_command, run_words};
 use crate::texts::Texts;
 use commandline::{Command, LineFault};
 use dname::{Heap, Starved};
+use engine::Core;
+use exchange::Endpoint;
 use refusing::Refusing;
 use std::alloc::{AllocError, Global};
 use std::io;
@@ -31,15 +34,38 @@ impl Texts for Held {
     }
 }
 
+// No place for a server.
+#[derive(Clone, Copy)]
+pub struct Nowhere;
+
+impl<A: Heap> Host<A> for Nowhere {
+    fn seed(&mut self) -> Option<[u8; 32]> {
+        None
+    }
+
+    fn open(&mut self, _listen: Endpoint, _sockets: u16) -> Option<u16> {
+        None
+    }
+
+    fn run(&mut self, _core: Core<A>, _workers: u16) -> Result<(), Starved> {
+        Err(Starved)
+    }
+}
+
 // A writer that takes so many bytes, three at a time, and fails at the next.
 #[derive(Drop)]
-struct Page {
+pub struct Page {
     bytes: Vec<u8>,
     room: usize,
 }
 
 impl Page {
-    fn new(alloc: Global, room: usize) -> Page {
+    // Whether this was written.
+    pub fn holds(&self, text: &str) -> bool {
+        self.bytes.as_slice() == text.as_bytes()
+    }
+
+    pub fn new(alloc: Global, room: usize) -> Page {
         Page {
             bytes: Vec::new(alloc),
             room,
@@ -64,7 +90,7 @@ impl Write for Page {
 }
 
 // The room of a page that is never full here.
-const WIDE: usize = 65_536;
+pub const WIDE: usize = 65_536;
 
 fn ask_line(
     alloc: Global,
@@ -93,7 +119,14 @@ fn ends<A: Heap>(
     let mut source = held;
     let mut out = Page::new(pages, WIDE);
     let mut err = Page::new(pages, WIDE);
-    let status = run_command(alloc, command, &mut source, &mut out, &mut err);
+    let status = run_command(
+        alloc,
+        command,
+        &mut source,
+        &mut Nowhere,
+        &mut out,
+        &mut err,
+    );
     let (code, printed, fault) = want;
     status == code
         && out.bytes.as_slice() == printed.as_bytes()
@@ -307,7 +340,14 @@ fn a_long_set_is_answered(rt: HostRuntime) -> Result<(), Fail> {
     let mut source = Made(text.as_str());
     let mut out = Page::new(alloc, WIDE);
     let mut err = Page::new(alloc, WIDE);
-    let status = run_command(alloc, &command, &mut source, &mut out, &mut err);
+    let status = run_command(
+        alloc,
+        &command,
+        &mut source,
+        &mut Nowhere,
+        &mut out,
+        &mut err,
+    );
     assert_eq!(rt; status, 0);
     assert!(rt; out.bytes.as_slice() == "reply 1 NOERROR aa tc\n".as_bytes());
     Ok(())
@@ -374,7 +414,14 @@ fn output_may_fail_at_each_byte(rt: HostRuntime) -> Result<(), Fail> {
         let mut source = Held::Text(LAB);
         let mut out = Page::new(alloc, room);
         let mut err = Page::new(alloc, WIDE);
-        let status = run_command(alloc, &command, &mut source, &mut out, &mut err);
+        let status = run_command(
+            alloc,
+            &command,
+            &mut source,
+            &mut Nowhere,
+            &mut out,
+            &mut err,
+        );
         assert_eq!(rt; status, 4, "after {room} bytes");
         assert!(rt;
             out.bytes.as_slice() == &printed[..room],
@@ -392,7 +439,14 @@ fn a_fault_line_may_fail(rt: HostRuntime) -> Result<(), Fail> {
     let mut source = Held::Nothing;
     let mut out = Page::new(alloc, WIDE);
     let mut err = Page::new(alloc, 0);
-    let status = run_command(alloc, &command, &mut source, &mut out, &mut err);
+    let status = run_command(
+        alloc,
+        &command,
+        &mut source,
+        &mut Nowhere,
+        &mut out,
+        &mut err,
+    );
     assert_eq!(rt; status, 4);
     assert!(rt; out.bytes.is_empty());
     assert!(rt; err.bytes.is_empty());
@@ -414,7 +468,7 @@ fn a_line_is_read_and_done(rt: HostRuntime) -> Result<(), Fail> {
     let mut source = Held::Text(LAB);
     let mut out = Page::new(alloc, WIDE);
     let mut err = Page::new(alloc, WIDE);
-    let status = run_words(alloc, &words, &mut source, &mut out, &mut err);
+    let status = run_words(alloc, &words, &mut source, &mut Nowhere, &mut out, &mut err);
     assert_eq!(rt; status, 0);
     assert!(rt; out.bytes.as_slice() == "ok 4 records\n".as_bytes());
     assert!(rt; err.bytes.is_empty());
@@ -437,7 +491,7 @@ fn lines_without_a_command_get_help(rt: HostRuntime) -> Result<(), Fail> {
         let mut source = Held::Text(LAB);
         let mut out = Page::new(alloc, WIDE);
         let mut err = Page::new(alloc, WIDE);
-        let status = run_words(alloc, &words, &mut source, &mut out, &mut err);
+        let status = run_words(alloc, &words, &mut source, &mut Nowhere, &mut out, &mut err);
         assert_eq!(rt; status, 2);
         assert!(rt; out.bytes.starts_with(b"Answers DNS queries"));
         assert!(rt; err.bytes.is_empty());

@@ -8,8 +8,3 @@ mod world_text;
 pub use statements::{LineError, LineKind};
 pub use world_fault::WorldFault;
 pub use world_text::{Block, WorldText, read_world};
-
-#[cfg(test)]
-mod build_tests;
-#[cfg(test)]
-mod world_tests;

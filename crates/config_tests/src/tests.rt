@@ -1,0 +1,119 @@
+//! Files of a server, by examples.
+use config::{LineKind, ServeConfig, read_config};
+use dname::Heap;
+use rdata::Addr;
+use refusing::Refusing;
+use std::test::Fail;
+
+const WHOLE: &str =
+    "; a server\n\nlisten 127.0.0.1 5300\nport 5353\nhint 198.41.0.4\n hint\t170.247.170.2\nlocal corp.example. corp.zone\nlocal . \tr/\u{e9}.zone \ncache 1000000\ndelegations 1\npenalties 7\nsockets 16\nworkers 1\nseed 000102030405060708090A0b0c0d0e0f101112131415161718191a1b1c1d1e1f\n";
+
+// Whether the text is refused at this line with this number.
+fn is_refused<A: Heap>(alloc: A, text: &str, line: usize, number: u8) -> bool {
+    match read_config(alloc, text) {
+        Ok(_) => false,
+        Err(error) => error.line == line && error.kind.number() == number,
+    }
+}
+
+fn has_numbers<A: Heap>(config: &ServeConfig<'_, A>, numbers: [u32; 6]) -> bool {
+    let port = u32::from(config.port);
+    numbers
+        == [
+            port,
+            config.cache,
+            config.delegations,
+            config.penalties,
+            config.sockets,
+            config.workers,
+        ]
+}
+
+#[test]
+fn each_line_is_read(rt: HostRuntime) -> Result<(), Fail> {
+    match read_config(rt.alloc(), WHOLE) {
+        Err(_) => assert!(rt; false, "the text is a server's"),
+        Ok(config) => {
+            assert!(rt; config.listen.address == Addr([127, 0, 0, 1]));
+            assert_eq!(rt; config.listen.port, 5300);
+            assert!(rt; has_numbers(&config, [5353, 1_000_000, 1, 7, 16, 1]));
+            assert_eq!(rt; config.hints.len(), 2);
+            assert!(rt; config.hints.get(1) == Some(&Addr([170, 247, 170, 2])));
+            assert_eq!(rt; config.locals.len(), 2);
+            assert!(rt;
+                config
+                    .locals
+                    .get(1)
+                    .is_some_and(|local| local.file == "r/\u{e9}.zone")
+            );
+            assert!(rt;
+                config
+                    .seed
+                    .is_some_and(|seed| seed[10] == 10 && seed[31] == 31)
+            );
+        }
+    }
+    Ok(())
+}
+
+#[test]
+fn what_is_left_out_is_as_usual(rt: HostRuntime) -> Result<(), Fail> {
+    match read_config(rt.alloc(), "listen 0.0.0.0 0") {
+        Err(_) => assert!(rt; false, "the text is a server's"),
+        Ok(config) => {
+            assert!(rt; has_numbers(&config, [53, 1024, 1024, 1024, 16, 4]));
+            assert!(rt;
+                config.seed.is_none() && config.hints.is_empty() && config.locals.is_empty()
+            );
+        }
+    }
+    Ok(())
+}
+
+#[test]
+fn the_first_bad_line_is_named(rt: HostRuntime) -> Result<(), Fail> {
+    for (text, line, number) in [
+        ("", 1, 5),
+        ("port 1\n", 2, 5),
+        ("port 1\n\n", 3, 5),
+        ("Listen 0.0.0.0 0", 1, 1),
+        (" ; no comment", 1, 1),
+        ("listen 0.0.0.0", 1, 5),
+        ("listen 0.0.0 65536", 1, 8),
+        ("listen 0.0.0.0 65536 x", 1, 2),
+        ("listen 0.0.0.0 +1", 1, 2),
+        ("listen 0.0.0.0 1 1", 1, 5),
+        ("listen 0.0.0.0 1\nlisten 0.0.0.0 1", 2, 5),
+        ("port 0", 1, 2),
+        ("cache 1000001", 1, 2),
+        ("delegations 0", 1, 2),
+        ("penalties 18446744073709551616", 1, 2),
+        ("sockets 17", 1, 2),
+        ("workers 17", 1, 2),
+        ("workers 16\nworkers 16", 2, 5),
+        ("hint 1.2.3.04", 1, 8),
+        ("local a..b x", 1, 3),
+        ("local a", 1, 5),
+        ("local a x\nlocal b x\nlocal A. y", 3, 5),
+        ("seed 0g", 1, 6),
+        ("seed 00", 1, 6),
+    ] {
+        assert!(rt; is_refused(rt.alloc(), text, line, number), "for {text}");
+    }
+    Ok(())
+}
+
+#[test]
+fn each_growth_may_be_refused(rt: HostRuntime) -> Result<(), Fail> {
+    let heap = Refusing::new(rt.alloc());
+    assert!(rt; read_config(&heap, WHOLE).is_ok());
+    let growths = heap.growths();
+    for n in 0..growths {
+        heap.refuse_after(n);
+        match read_config(&heap, WHOLE) {
+            Ok(_) => assert!(rt; false, "growth {n}"),
+            Err(error) => assert!(rt; error.kind == LineKind::Memory, "growth {n}"),
+        }
+    }
+    Ok(())
+}

@@ -1,0 +1,4 @@
+pub mod Parcels
+pub mod Roles
+pub mod Senders
+pub mod Targets

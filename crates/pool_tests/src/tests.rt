@@ -1,0 +1,219 @@
+ghost use Rattle.std.specs.Prelude.{◌≡◌, ◌<◌};
+
+use book::{Book, Entry, Machine, Ticket};
+use memory::{Heap, Starved};
+use pool::{Closed, Kept, PoolError, Shared, gather, submit};
+use refusing::Refusing;
+use std::alloc::{Allocator, Global};
+use std::marker::Brand;
+use std::sync::Wait;
+use std::sync::ledger::{Blank, Ledger};
+use std::test::Fail;
+
+// Counts up by each event and shows the count. It refuses to copy the event 1 and the count 2.
+struct Counting;
+
+impl Machine for Counting {
+    type State = u64;
+
+    type Event = u64;
+
+    type Out = u64;
+
+    ghost use Rattle.std.specs.Prelude.{◌≡◌, ◌+◌, MatchResult};
+
+    ghost moves = { λ s e r t. MatchResult r (λ o. (o ≡ s + e) × (t ≡ o)) (λ _. t ≡ s) };
+
+    ghost begins = { λ s. s ≡ 0 };
+
+    fn step(state: &mut u64, event: &u64) -> Result<u64, Starved> {
+        let sum = state.checked_add(*event).ok_or(Starved)?;
+        *state = sum;
+        Ok(sum)
+    }
+
+    fn copy_event(event: &u64) -> Result<u64, Starved> {
+        if *event == 1 {
+            return Err(Starved);
+        }
+        Ok(*event)
+    }
+
+    fn copy_out(out: &u64) -> Result<u64, Starved> {
+        if *out == 2 {
+            return Err(Starved);
+        }
+        Ok(*out)
+    }
+
+    fn same_event(a: &u64, b: &u64) -> bool {
+        a == b
+    }
+
+    fn same_out(a: &u64, b: &u64) -> bool {
+        a == b
+    }
+}
+
+// Worker, number, event, and the count behind it.
+type Row = (usize, u64, u64, Option<u64>);
+
+fn row(entry: &Entry<Counting>) -> Row {
+    let out = entry.out().as_ref().ok().copied();
+    (entry.worker(), entry.number(), *entry.event(), out)
+}
+
+// One event put by the worker at this place, who keeps the entry.
+fn put<L: Ledger, A: Heap, R: Wait>(
+    rt: &R,
+    shared: &Shared<Counting, L, A>,
+    tickets: &mut [Ticket<L>],
+    lists: &mut [Vec<Entry<Counting>, A>],
+    place: usize,
+    event: u64,
+) -> Result<(), PoolError> {
+    let ticket = tickets.get_mut(place).ok_or(Starved)?;
+    let list = lists.get_mut(place).ok_or(Starved)?;
+    list.push(submit(rt, shared, ticket, event)?)?;
+    Ok(())
+}
+
+// What the workers hand back.
+fn handed_back<L: Ledger, A: Heap>(
+    alloc: A,
+    tickets: Vec<Ticket<L>, A>,
+    lists: Vec<Vec<Entry<Counting>, A>, A>,
+) -> Result<Vec<Kept<Counting, L, A>, A>, Starved> {
+    let mut kept = Vec::new(alloc);
+    for (ticket, list) in tickets.into_iter().zip(lists) {
+        kept.push(Kept::new(ticket, list))?;
+    }
+    Ok(kept)
+}
+
+// The history after worker 0 put 5 and 6, and worker 1 put 7 between them and 8 at the end, where the book keeps so
+// many. With `swapped` the entries of worker 0 change places in its list.
+fn closing<L: Ledger, A: Heap, R: Wait>(
+    rt: &R,
+    alloc: A,
+    blank: Blank,
+    keep: usize,
+    swapped: bool,
+) -> Result<Vec<Row, A>, PoolError>
+    requires name { blank.name ≡ L.name }
+    requires parts { (blank.parts ≡ L.parts) × (blank.parts ≡ 2) }
+    requires some { 0 < keep }
+{
+    let (book, mut tickets) = Book::<Counting, L, A>::new(alloc, blank, 0, 2, keep)?;
+    let shared = Shared::new(book);
+    let mut lists = Vec::new(alloc);
+    lists.push(Vec::new(alloc))?;
+    lists.push(Vec::new(alloc))?;
+    for (place, event) in [(0, 5), (1, 7), (0, 6), (1, 8)] {
+        put(rt, &shared, &mut tickets, &mut lists, place, event)?;
+    }
+    if swapped && let Some(list) = lists.first_mut() {
+        list.reverse();
+    }
+    let kept = handed_back(alloc, tickets, lists)?;
+    rows(alloc, gather(alloc, shared.into_book(), kept)?)
+}
+
+// The rows of a history, where the lists are as long together.
+fn rows<A: Heap>(alloc: A, closed: Closed<Counting, A>) -> Result<Vec<Row, A>, PoolError> {
+    let mut rows = Vec::new(alloc);
+    for entry in closed.history.iter() {
+        rows.push(row(entry))?;
+    }
+    Ok(rows)
+}
+
+const ROWS: [Row; 4] = [
+    (0, 0, 5, Some(5)),
+    (1, 0, 7, Some(12)),
+    (0, 1, 6, Some(18)),
+    (1, 1, 8, Some(26)),
+];
+
+#[test]
+fn true_lists_close(rt: HostRuntime) -> Result<(), Fail> {
+    let closed = closing::<Brand, Global, _>(&rt, rt.alloc(), Blank::new(2), 4, false)?;
+    assert!(rt; closed.as_slice() == ROWS.as_slice());
+    Ok(())
+}
+
+#[test]
+fn a_false_list_differs(rt: HostRuntime) -> Result<(), Fail> {
+    let closed = closing::<Brand, Global, _>(&rt, rt.alloc(), Blank::new(2), 4, true);
+    assert!(rt; closed.err() == Some(PoolError::Differs));
+    Ok(())
+}
+
+#[test]
+fn a_forgotten_entry_comes_first(rt: HostRuntime) -> Result<(), Fail> {
+    for swapped in [false, true] {
+        let closed = closing::<Brand, Global, _>(&rt, rt.alloc(), Blank::new(2), 3, swapped);
+        assert!(rt; closed.err() == Some(PoolError::Forgot));
+    }
+    Ok(())
+}
+
+#[test]
+fn each_growth_refused_in_turn(rt: HostRuntime) -> Result<(), Fail> {
+    let heap = Refusing::new(rt.alloc());
+    assert!(rt; closing::<Brand, _, _>(&rt, &heap, Blank::new(2), 4, false).is_ok());
+    let growths = heap.growths();
+    assert!(rt; growths >= 8);
+    for n in 0..growths {
+        heap.refuse_after(n);
+        let closed = closing::<Brand, _, _>(&rt, &heap, Blank::new(2), 4, false);
+        assert!(rt; closed.err() == Some(PoolError::Memory), "growth {n}");
+    }
+    Ok(())
+}
+
+// What one event of one worker leaves: whether the entry came back, the ticket's count, the entries and the machine's
+// count.
+fn after_one<L: Ledger, R: Wait>(
+    rt: &R,
+    alloc: Global,
+    blank: Blank,
+    event: u64,
+) -> Result<(Option<PoolError>, u64, u64, u64), PoolError>
+    requires name { blank.name ≡ L.name }
+    requires parts { (blank.parts ≡ L.parts) × (blank.parts ≡ 1) }
+{
+    let (book, mut tickets) = Book::<Counting, L>::new(alloc, blank, 0, 1, 1)?;
+    let shared = Shared::new(book);
+    let ticket = tickets.first_mut().ok_or(Starved)?;
+    let refusal = submit(rt, &shared, ticket, event).err();
+    let count = ticket.count();
+    let book = shared.into_book();
+    Ok((refusal, count, book.entries(), *book.state()))
+}
+
+#[test]
+fn each_copy_refused(rt: HostRuntime) -> Result<(), Fail> {
+    let alloc = rt.alloc();
+    assert!(rt; after_one::<Brand, _>(&rt, alloc, Blank::new(1), 3)? == (None, 1, 1, 3));
+    let starved = Some(PoolError::Memory);
+    assert!(rt; after_one::<Brand, _>(&rt, alloc, Blank::new(1), 1)? == (starved, 0, 0, 0));
+    assert!(rt; after_one::<Brand, _>(&rt, alloc, Blank::new(1), 2)? == (starved, 1, 1, 2));
+    Ok(())
+}
+
+fn sends<T: Send + Drop>(_value: T) {}
+
+fn shares<T: Sync>(_value: &T) {}
+
+// A shared machine, what workers hand back and what comes of it can cross threads, whatever the machine.
+fn crosses<M: Machine + Send + Sync, L: Ledger + Send + Sync>(
+    shared: Shared<M, L>,
+    kept: Kept<M, L>,
+    closed: Closed<M>,
+) {
+    shares(&shared);
+    sends(shared);
+    sends(kept);
+    sends(closed);
+}

@@ -1,0 +1,17 @@
+-- Addresses of sockets.
+use Rattle.std.specs.Prelude.{◌≡◌}
+use Rattle.std.specs.Net.Addr.{ipv4_octets}
+use Rattle.std.specs.Net.Socket.{v4_ip, v4_port}
+use Rattle.std.specs.declared.net.socket_addr.SocketAddr.{SocketAddr}
+use Rattle.std.specs.declared.net.socket_addr.SocketAddr.TheVariants.{V4, V6}
+use Rattle.exchange.specs.declared.path.Endpoint.{Endpoint}
+
+-- It is this IPv4 address with this port.
+abbrev pub IsAt : SocketAddr → Endpoint → Type 0
+IsAt (V4 a) e = (ipv4_octets (v4_ip a) ≡ (e.address).0) × (v4_port a ≡ e.port)
+IsAt (V6 a) e = ⊥
+
+-- It is no IPv4 address.
+abbrev pub IsElsewhere : SocketAddr → Type 0
+IsElsewhere (V4 a) = ⊥
+IsElsewhere (V6 a) = Unit {0}

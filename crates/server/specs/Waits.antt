@@ -1,0 +1,8 @@
+-- How long loops wait.
+use Rattle.std.specs.Prelude.{◌*◌, ◌<◌, ◌≤◌}
+use Rattle.std.specs.Duration.{as_nanos}
+use Rattle.std.specs.declared.time.Duration.{Duration}
+
+-- It is some time, and at most 100 milliseconds.
+abbrev pub IsShort : Duration → Type 0
+IsShort d = (0 < as_nanos d) × (as_nanos d ≤ 100 * 1_000_000)

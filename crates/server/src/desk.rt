@@ -1,0 +1,77 @@
+//! What the loops share: the machine, the sockets, the channels between the loops, and the flag.
+use crate::ends::Ends;
+use crate::outbox::{Outbox, StreamAsk, StreamReply};
+use book::{Machine, Ticket};
+use crossbeam_channel::{Receiver, Sender};
+use delivery::{hand_over, heard_on_stream};
+use exchange::{Actions, Event};
+use pool::{Shared, submit};
+use std::alloc::Global;
+use std::sync::Wait;
+use std::sync::atomic::{AtomicBool, Ordering};
+use std::sync::ledger::Ledger;
+use std::time::{Clock, Instant};
+
+// More asks than one query makes: a query that comes to nothing but refused asks ends before.
+const MOST_ASKS: u32 = 64;
+
+/// What the loops share.
+#[derive(Drop)]
+pub(crate) struct Desk<'a, M: Machine, L: Ledger> {
+    pub alloc: Global,
+    pub shared: &'a Shared<M, L>,
+    pub ends: &'a Ends,
+    pub to_workers: &'a Sender<StreamAsk>,
+    pub asks: &'a Receiver<StreamAsk>,
+    pub to_streams: &'a Sender<StreamReply>,
+    pub replies: &'a Receiver<StreamReply>,
+    pub stop: &'a AtomicBool,
+    pub start: Instant,
+}
+
+impl<M: Machine<Event = Event, Out = Actions>, L: Ledger> Desk<'_, M, L> {
+    /// Whether the flag is up.
+    pub fn is_over(&self) -> bool {
+        self.stop.load(Ordering::SeqCst)
+    }
+
+    /// Milliseconds since the server began. Where the clock can't be read no time has passed: the machine takes the
+    /// latest moment that it heard of.
+    pub fn moment<R: Clock>(&self, rt: &R) -> u64 {
+        match self.start.elapsed(rt) {
+            Ok(passed) => u64::try_from(passed.as_millis()).unwrap_or(u64::MAX),
+            Err(_) => 0,
+        }
+    }
+
+    /// Puts an event, and hands over what goes out; whether another query is due. An ask over TCP that no worker can
+    /// be handed has failed, which is an event again.
+    pub fn put<R: Wait + Clock>(&self, rt: &R, ticket: &mut Ticket<L>, event: Event) -> bool {
+        let mut event = event;
+        for _ in 0..MOST_ASKS {
+            let Ok(entry) = submit(rt, self.shared, ticket, event) else {
+                return false;
+            };
+            let Ok(actions) = entry.out() else {
+                return false;
+            };
+            match self.send_out(rt, actions) {
+                Some(number) => event = heard_on_stream(self.moment(rt), number, None),
+                None => return actions.more_due,
+            }
+        }
+        false
+    }
+
+    // Hands over what goes out of a step; the number of an ask over TCP that no worker can be handed.
+    fn send_out<R: Wait>(&self, rt: &R, actions: &Actions) -> Option<u64> {
+        let action = actions.first.as_ref()?;
+        let mut outbox = Outbox {
+            rt,
+            ends: self.ends,
+            to_streams: self.to_streams,
+            to_workers: self.to_workers,
+        };
+        hand_over(&mut outbox, action)
+    }
+}

@@ -1,0 +1,124 @@
+//! A server that runs.
+ghost use Rattle.server.specs.Staff.{IsStaffed};
+
+use crate::clock::pass_time;
+use crate::datagrams::take_datagrams;
+use crate::desk::Desk;
+use crate::ends::Ends;
+use crate::fault::ServeError;
+use crate::streams::take_streams;
+use crate::upstream::take_answers;
+use crate::workers::ask_servers;
+use book::{Machine, Ticket};
+use delivery::{Role, role_of};
+use exchange::{Actions, Event};
+use pool::Shared;
+use std::alloc::Global;
+use std::net::{Net, TcpListener, TcpStream};
+use std::sync::Wait;
+use std::sync::atomic::{AtomicBool, Ordering};
+use std::sync::ledger::Ledger;
+use std::thread;
+use std::thread::{Scope, Threads};
+use std::time::{Clock, Instant};
+
+/// Serves at these ends until the flag is up: each ticket is for one loop, by its worker's number. Every loop has ended
+/// when this returns. Where a thread can't be made the flag is put up, and the server is refused with `Threads`.
+pub fn serve_until<
+    M: Machine<Event = Event, Out = Actions> + Send + Sync,
+    L: Ledger + Send + Sync,
+    R: Net<Listener = TcpListener, Stream = TcpStream> + Threads + Wait + Clock + Sync,
+>(
+    rt: &R,
+    alloc: Global,
+    shared: &Shared<M, L>,
+    tickets: Vec<Ticket<L>>,
+    ends: &Ends,
+    stop: &AtomicBool,
+) -> Result<(), ServeError>
+    requires { IsStaffed ends.now tickets.items }
+{
+    let Ok(start) = Instant::now(rt) else {
+        return Err(ServeError::Clock);
+    };
+    let (to_workers, asks) = crossbeam_channel::unbounded(alloc)?;
+    let (to_streams, replies) = crossbeam_channel::unbounded(alloc)?;
+    let desk = Desk {
+        alloc,
+        shared,
+        ends,
+        to_workers: &to_workers,
+        asks: &asks,
+        to_streams: &to_streams,
+        replies: &replies,
+        stop,
+        start,
+    };
+    if run(rt, &desk, tickets) {
+        Ok(())
+    } else {
+        Err(ServeError::Threads)
+    }
+}
+
+// Runs a loop for each ticket, until all have ended; whether each had its thread.
+fn run<
+    M: Machine<Event = Event, Out = Actions> + Send + Sync,
+    L: Ledger + Send + Sync,
+    R: Net<Listener = TcpListener, Stream = TcpStream> + Threads + Wait + Clock + Sync,
+>(rt: &R, desk: &Desk<'_, M, L>, tickets: Vec<Ticket<L>>) -> bool {
+    thread::scope(
+        thread::scope_env(),
+        rt,
+        |scope| start_all(rt, scope, desk, tickets),
+    )
+}
+
+// Begins what each ticket is for; whether each has its thread.
+fn start_all<
+    's,
+    'd,
+    E,
+    M: Machine<Event = Event, Out = Actions> + Send + Sync,
+    L: Ledger + Send + Sync,
+    R: Net<Listener = TcpListener, Stream = TcpStream> + Wait + Clock + Sync,
+>(rt: &'s R, scope: &Scope<'s, E>, desk: &'s Desk<'d, M, L>, tickets: Vec<Ticket<L>>) -> bool {
+    let mut well = true;
+    for ticket in tickets {
+        let started = start(rt, scope, desk, ticket);
+        well = well && started;
+    }
+    well
+}
+
+// Begins what the ticket is for, in a thread of its own. Where none can be made the flag is put up; whether there is one.
+fn start<
+    's,
+    'd,
+    E,
+    M: Machine<Event = Event, Out = Actions> + Send + Sync,
+    L: Ledger + Send + Sync,
+    R: Net<Listener = TcpListener, Stream = TcpStream> + Wait + Clock + Sync,
+>(rt: &'s R, scope: &Scope<'s, E>, desk: &'s Desk<'d, M, L>, ticket: Ticket<L>) -> bool {
+    let started = scope.spawn(move || work(rt, desk, ticket)).is_ok();
+    if !started {
+        desk.stop.store(true, Ordering::SeqCst);
+    }
+    started
+}
+
+// Does what the ticket is for, until the flag is up.
+fn work<
+    M: Machine<Event = Event, Out = Actions>,
+    L: Ledger,
+    R: Net<Listener = TcpListener, Stream = TcpStream> + Wait + Clock,
+>(rt: &R, desk: &Desk<'_, M, L>, ticket: Ticket<L>) {
+    let mut ticket = ticket;
+    match role_of(ticket.worker(), desk.ends.sockets()) {
+        Role::Datagrams => take_datagrams(rt, desk, &mut ticket),
+        Role::Streams => take_streams(rt, desk, &mut ticket),
+        Role::Clock => pass_time(rt, desk, &mut ticket),
+        Role::Upstream(number) => take_answers(rt, desk, &mut ticket, number),
+        Role::Asks => ask_servers(rt, desk, &mut ticket),
+    }
+}

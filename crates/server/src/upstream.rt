@@ -1,0 +1,34 @@
+//! The datagrams of other servers.
+use crate::desk::Desk;
+use crate::ends::endpoint_of;
+use book::{Machine, Ticket};
+use delivery::heard;
+use exchange::{Actions, Event};
+use std::sync::Wait;
+use std::sync::ledger::Ledger;
+use std::time::Clock;
+
+/// Takes the datagrams at the upstream socket of this number until the flag is up. A fault of the socket is a loss.
+pub(crate) fn take_answers<M: Machine<Event = Event, Out = Actions>, L: Ledger, R: Wait + Clock>(
+    rt: &R,
+    desk: &Desk<'_, M, L>,
+    ticket: &mut Ticket<L>,
+    number: u16,
+) {
+    let ends = desk.ends;
+    let Some(socket) = ends.upstream.get(usize::from(number)) else {
+        return;
+    };
+    let mut buffer = [0u8; 65_535];
+    for _ in rt.forever() {
+        if desk.is_over() {
+            return;
+        }
+        if let Ok((count, from)) = socket.recv_from(&mut buffer)
+            && let Some(from) = endpoint_of(from)
+            && let Ok(event) = heard(desk.alloc, desk.moment(rt), number, from, &buffer[..count])
+        {
+            desk.put(rt, ticket, event);
+        }
+    }
+}

@@ -1,0 +1,63 @@
+//! Asks of servers over TCP.
+ghost use Rattle.std.specs.Prelude.{◌≤◌, IfSome, length};
+
+use crate::desk::Desk;
+use crate::ends::{address_of, limit, slice};
+use crate::outbox::StreamAsk;
+use crate::patient::Hurried;
+use book::{Machine, Ticket};
+use delivery::heard_on_stream;
+use exchange::{Actions, Event};
+use sockets::{read_framed, write_framed};
+use std::alloc::Global;
+use std::net::{Net, TcpListener, TcpStream};
+use std::sync::Wait;
+use std::sync::atomic::AtomicBool;
+use std::sync::ledger::Ledger;
+use std::time::{Clock, Duration, Instant};
+
+// How long a server may take to accept a stream, in milliseconds.
+const CONNECT_MS: u64 = 3_000;
+
+/// Asks servers over TCP, ask by ask, until the flag is up. What is no reply is told as a failure.
+pub(crate) fn ask_servers<
+    M: Machine<Event = Event, Out = Actions>,
+    L: Ledger,
+    R: Net<Listener = TcpListener, Stream = TcpStream> + Wait + Clock,
+>(rt: &R, desk: &Desk<'_, M, L>, ticket: &mut Ticket<L>) {
+    for _ in rt.forever() {
+        if desk.is_over() {
+            return;
+        }
+        if let Ok(ask) = desk.asks.recv_timeout(rt, slice()) {
+            let frame = frame_for(rt, desk.alloc, desk.stop, &ask);
+            let event = heard_on_stream(desk.moment(rt), ask.number, frame);
+            desk.put(rt, ticket, event);
+        }
+    }
+}
+
+// The frame with which a server answers an ask. None where the stream can't be had, or faults, or ends, or takes longer
+// than an ask may wait.
+fn frame_for<R: Net<Listener = TcpListener, Stream = TcpStream> + Clock>(
+    rt: &R,
+    alloc: Global,
+    stop: &AtomicBool,
+    ask: &StreamAsk,
+) -> Option<Vec<u8>>
+    ensures { IfSome result (λ v. length v.items ≤ 65535) }
+{
+    let start = Instant::now(rt).ok()?;
+    let wait = Duration::from_millis(CONNECT_MS);
+    let stream = TcpStream::connect_timeout(rt, &address_of(ask.to), wait).ok()?;
+    limit(&stream).ok()?;
+    let mut writer = &stream;
+    write_framed(&mut writer, ask.bytes.as_slice()).ok()?;
+    let mut reader = Hurried {
+        rt,
+        stream: &stream,
+        stop,
+        start,
+    };
+    read_framed(alloc, &mut reader).ok()?
+}

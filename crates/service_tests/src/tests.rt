@@ -1,0 +1,119 @@
+//! A resolver and three servers at addresses of this host, and a client who asks it over UDP and TCP.
+ghost use Rattle.std.specs.Prelude.{IfOk};
+ghost use Rattle.engine.specs.Beginnings.{IsBegun};
+
+use crate::client::{ANYWHERE, Client};
+use crate::nameservers::{Nameserver, nameservers, port_of, world};
+use config::read_config;
+use dname::Starved;
+use engine::Core;
+use server::Ends;
+use service::{resolver_of, serve};
+use std::alloc::Global;
+use std::net::{Net, TcpListener, TcpStream};
+use std::sync::Wait;
+use std::sync::atomic::{AtomicBool, AtomicU64, Ordering};
+use std::thread;
+use std::thread::Threads;
+use std::time::Clock;
+use worlds::World;
+
+// The resolver that this text of a server's file describes, with the local zone of the world.
+fn resolver(alloc: Global, world: &World, port: u16) -> Result<Core, Starved>
+    ensures { IfOk result IsBegun }
+{
+    let text = format!(in alloc;
+        "listen 127.0.0.1 0\nport {port}\nhint 127.0.0.2\nlocal corp.example. corp\nsockets 2\nworkers 2\n"
+    )?;
+    let Ok(config) = read_config(alloc, text.as_str()) else {
+        return Err(Starved);
+    };
+    match resolver_of(alloc, config, world.held()?, [7; 32]) {
+        Ok(core) => Ok(core),
+        Err(_) => Err(Starved),
+    }
+}
+
+// Runs the resolver; whether it ran.
+fn resolve<R: Net<Listener = TcpListener, Stream = TcpStream> + Threads + Wait + Clock + Sync>(
+    rt: &R,
+    alloc: Global,
+    world: &World,
+    port: u16,
+    ends: &Ends,
+    stop: &AtomicBool,
+) -> bool {
+    match resolver(alloc, world, port) {
+        Ok(core) => serve(rt, alloc, core, ends, 2, stop).is_ok(),
+        Err(_) => false,
+    }
+}
+
+// What a client sees while the servers and the resolver run.
+fn seen_by<R: Net<Listener = TcpListener, Stream = TcpStream> + Threads + Wait + Clock + Sync>(
+    client: &Client<'_, R>,
+    hosts: &[Nameserver],
+    port: u16,
+    ends: &Ends,
+) -> Result<u64, &'static str> {
+    let (rt, alloc, world) = (client.rt, client.alloc, client.world);
+    let (asked, stop) = (AtomicU64::new(0), AtomicBool::new(false));
+    let (asked, stop) = (&asked, &stop);
+    thread::scope(thread::scope_env(), rt, |scope| {
+        for host in hosts {
+            if scope
+                .spawn(move || host.serve(rt, world, asked, stop))
+                .is_err()
+            {
+                stop.store(true, Ordering::SeqCst);
+            }
+        }
+        let runs = scope.spawn(move || resolve(rt, alloc, world, port, ends, stop));
+        let seen = client.visit(asked);
+        stop.store(true, Ordering::SeqCst);
+        match runs {
+            Ok(handle) => {
+                if handle.join(rt) {
+                    seen
+                } else {
+                    Err("the resolver does not run")
+                }
+            }
+            Err(_) => Err("no thread for the resolver"),
+        }
+    })
+}
+
+// What a client sees of the resolver and the servers, once all have their sockets.
+fn meeting<R: Net<Listener = TcpListener, Stream = TcpStream> + Threads + Wait + Clock + Sync>(
+    rt: &R,
+    alloc: Global,
+) -> Result<u64, &'static str> {
+    let hosts = nameservers(rt, alloc).ok_or("no sockets for the servers")?;
+    let port = port_of(&hosts).ok_or("no port")?;
+    let Ok(ends) = Ends::open(rt, alloc, ANYWHERE, 2) else {
+        return Err("no sockets for the resolver");
+    };
+    let Ok(at) = ends.listen() else {
+        return Err("no address");
+    };
+    let Ok(world) = world(alloc) else {
+        return Err("no world");
+    };
+    let client = Client {
+        rt,
+        alloc,
+        world: &world,
+        at,
+    };
+    seen_by(&client, &hosts, port, &ends)
+}
+
+#[test]
+fn each_client_is_answered_right(rt: HostRuntime) {
+    assert_eq!(rt;
+        meeting(&rt, rt.alloc()),
+        Ok(4),
+        "four questions reach the servers"
+    );
+}
