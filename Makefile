@@ -23,7 +23,7 @@ serve: ask
 # The gate: every proof, every edit that must fail, every test and every run.
 test: kit
 	tools/layers --check
-	rt ci
+	RT_JOBS=$$(tools/lanes) rt ci
 
 # Tries the edits of single functions, which the gate leaves out: of all crates, or with SINCE=COMMIT of those that
 # differ from that commit's.
