@@ -1,5 +1,6 @@
 //! Lines that are taken and lines that are not.
-use commandline::{Command, LineFault};
+use commandline::{Command, LineFault, help_text, read_words};
+use std::alloc::Global;
 use std::process::Abort;
 use std::test::Fail;
 

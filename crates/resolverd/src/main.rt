@@ -1,21 +1,8 @@
 //! `resolverd`: what its command line asks, done with the real files and streams.
 #![tactic(auto)]
 
-mod answering;
-mod ask;
-mod fault;
-mod files;
-mod host;
-mod play;
-mod run;
-mod serve;
-mod texts;
-mod zones;
-
-use crate::host::Machine;
-use crate::run::{refuse_line, run_words};
-use crate::texts::Disk;
 use commandline::LineFault;
+use commands::{Disk, Machine, refuse_line, run_words};
 use std::io::ErrorKind;
 use std::process::ExitCode;
 use std::rt::Env;
@@ -62,10 +49,3 @@ fn line_fault(error: &io::Error) -> LineFault {
         _ => LineFault::Words,
     }
 }
-
-#[cfg(test)]
-mod play_tests;
-#[cfg(test)]
-mod serve_tests;
-#[cfg(test)]
-mod tests;

@@ -1,0 +1,108 @@
+-- What is printed of a server, and why there is none.
+use Rattle.std.specs.Prelude.{◌≡◌, ◌⊎◌, ℕ, List, ◌++◌, Option, Some, None, Ok, Err, codes, decimal}
+use Rattle.rdata.specs.Text.{ipv4_text}
+use Rattle.exchange.specs.declared.path.Endpoint.{Endpoint}
+use Rattle.config.specs.Configs.{Config, End, config_of}
+use Rattle.commands.specs.Texts.{MayHold}
+use Rattle.commands.specs.declared.fault.Fault.{Fault}
+use Rattle.commands.specs.declared.fault.Fault.TheVariants.{File, Zone, Script, Block, World, Unreadable, BadName, BadType, Settings, Memory, Socket, Threads, Output}
+
+-- The text is read as the file of a server that listens there.
+pub record Describes (text : List ℕ) (at : End) : Type 0 where
+  pub config : Config
+  pub is : config_of text ≡ Ok config
+  pub listens : config.listen ≡ at
+
+-- The text is there, and it is read so.
+pub record HoldsConfig (known : Option (Option (List ℕ))) : Type 0 where
+  pub text : List ℕ
+  pub held : MayHold known (Some text)
+  pub at : End
+  pub describes : Describes text at
+
+abbrev pub end_of : Endpoint → End
+end_of e = record { address = (e.address).0; port = e.port }
+
+-- The line that says where clients are served.
+abbrev pub address_line : List ℕ → ℕ → List ℕ
+address_line address port = codes "listening " ++ ipv4_text address ++ codes " " ++ decimal port ++ codes "\n"
+
+-- It names the address, and the port, which is any where 0 is asked for.
+pub record NamesEnd (at : End) (text : List ℕ) : Type 0 where
+  pub port : ℕ
+  pub bound : (port ≡ at.port) ⊎ (at.port ≡ 0)
+  pub is : text ≡ address_line at.address port
+
+-- The file says where to listen, and that is printed.
+pub record PrintsAddress (known : Option (Option (List ℕ))) (text : List ℕ) : Type 0 where
+  pub holds : HoldsConfig known
+  pub names : NamesEnd holds.at text
+
+-- Why a zone's file gives no zone.
+abbrev pub IsZoneFault : Fault → Type 0
+IsZoneFault (Unreadable path) = Unit {0}
+IsZoneFault (File path e) = Unit {0}
+IsZoneFault (Zone path e) = Unit {0}
+IsZoneFault Memory = Unit {0}
+IsZoneFault (Script path e) = ⊥
+IsZoneFault (Block path line e) = ⊥
+IsZoneFault (World path e) = ⊥
+IsZoneFault (BadName e) = ⊥
+IsZoneFault BadType = ⊥
+IsZoneFault Settings = ⊥
+IsZoneFault Socket = ⊥
+IsZoneFault Threads = ⊥
+IsZoneFault Output = ⊥
+
+-- Why the sockets are not bound.
+abbrev pub IsUnbound : Fault → Type 0
+IsUnbound Socket = Unit {0}
+IsUnbound Memory = Unit {0}
+IsUnbound (Unreadable path) = ⊥
+IsUnbound (File path e) = ⊥
+IsUnbound (Zone path e) = ⊥
+IsUnbound (Script path e) = ⊥
+IsUnbound (Block path line e) = ⊥
+IsUnbound (World path e) = ⊥
+IsUnbound (BadName e) = ⊥
+IsUnbound BadType = ⊥
+IsUnbound Settings = ⊥
+IsUnbound Threads = ⊥
+IsUnbound Output = ⊥
+
+-- The text is read as some file of a server.
+abbrev pub IsConfig : List ℕ → Type 0
+IsConfig text = (at : End) × Describes text at
+
+-- Why the text of a server's file gives no resolver: a line of it, a file of its zones or the source of random bytes.
+-- Want of memory leaves all open.
+abbrev pub Refuses : List ℕ → Fault → Type 0
+Refuses text (Script path e) = config_of text ≡ Err e
+Refuses text (Unreadable path) = IsConfig text
+Refuses text (File path e) = IsConfig text
+Refuses text (Zone path e) = IsConfig text
+Refuses text Settings = IsConfig text
+Refuses text Memory = Unit {0}
+Refuses text (Block path line e) = ⊥
+Refuses text (World path e) = ⊥
+Refuses text (BadName e) = ⊥
+Refuses text BadType = ⊥
+Refuses text Socket = ⊥
+Refuses text Threads = ⊥
+Refuses text Output = ⊥
+
+-- The first of these that fails: the file itself, a file of its zones or the source of random bytes, the sockets.
+abbrev pub IsNoServer : Option (Option (List ℕ)) → Fault → Type 0
+IsNoServer known (Script path e) = (text : List ℕ) × MayHold known (Some text) × (config_of text ≡ Err e)
+IsNoServer known (Unreadable path) = MayHold known None ⊎ HoldsConfig known
+IsNoServer known (File path e) = HoldsConfig known
+IsNoServer known (Zone path e) = HoldsConfig known
+IsNoServer known Settings = HoldsConfig known
+IsNoServer known Socket = HoldsConfig known
+IsNoServer known Memory = Unit {0}
+IsNoServer known (Block path line e) = ⊥
+IsNoServer known (World path e) = ⊥
+IsNoServer known (BadName e) = ⊥
+IsNoServer known BadType = ⊥
+IsNoServer known Threads = ⊥
+IsNoServer known Output = ⊥
