@@ -85,7 +85,9 @@ fn handed_back<L: Ledger, A: Heap>(
     lists: Vec<Vec<Entry<Counting>, A>, A>,
 ) -> Result<Vec<Kept<Counting, L, A>, A>, Starved> {
     let mut kept = Vec::new(alloc);
-    for (ticket, list) in tickets.into_iter().zip(lists) {
+    let mut lists = lists.into_iter();
+    for ticket in tickets {
+        let list = lists.next().ok_or(Starved)?;
         kept.push(Kept::new(ticket, list))?;
     }
     Ok(kept)

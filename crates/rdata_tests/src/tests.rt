@@ -138,16 +138,24 @@ fn four(alloc: Global) -> Result<Records, NameError> {
     Ok(records)
 }
 
+// Whether a record has the TTL 60 and this last byte in its address.
+fn is_at(record: &Record, last: u8) -> bool {
+    record.ttl == 60 && record.value.is_same(&RData::A(Addr([192, 0, 2, last])))
+}
+
+fn is_one_two_three(set: &[Record]) -> bool {
+    match set {
+        [a, b, c] => is_at(a, 1) && is_at(b, 2) && is_at(c, 3),
+        _ => false,
+    }
+}
+
 // RFC 2181, sections 5 and 5.2.
 #[test]
 fn records_made_one_set(rt: HostRuntime) -> Result<(), Fail> {
     let records = four(rt.alloc())?;
     let set = dedup_set(rt.alloc(), records.as_slice())?;
-    assert_eq!(rt; set.len(), 3);
-    for (made, last) in set.as_slice().iter().zip([1, 2, 3]) {
-        assert_eq!(rt; made.ttl, 60);
-        assert!(rt; made.value.is_same(&RData::A(Addr([192, 0, 2, last]))));
-    }
+    assert!(rt; is_one_two_three(set.as_slice()));
     Ok(())
 }
 
@@ -173,15 +181,18 @@ fn the_set_of_an_owner_and_type(rt: HostRuntime) -> Result<(), Fail> {
     })?;
     let owner = name(rt.alloc(), "a.example")?;
     let set = set_at(rt.alloc(), records.as_slice(), &owner, RType::A)?;
-    assert_eq!(rt; set.len(), 3);
-    for (made, last) in set.as_slice().iter().zip([1, 2, 3]) {
-        assert_eq!(rt; made.ttl, 60);
-        assert!(rt; made.is(RType::A));
-        assert!(rt; made.value == RData::A(Addr([192, 0, 2, last])));
-    }
+    assert!(rt; is_one_two_three(set.as_slice()));
+    assert!(rt; set.as_slice().first().is_some_and(|made| made.is(RType::A)));
     let none = set_at(rt.alloc(), records.as_slice(), &owner, RType::Mx)?;
     assert!(rt; none.is_empty());
     Ok(())
+}
+
+fn have_ttls(records: &[Record], ttls: [u32; 4]) -> bool {
+    match records {
+        [a, b, c, d] => [a.ttl, b.ttl, c.ttl, d.ttl] == ttls,
+        _ => false,
+    }
 }
 
 // RFC 2181, section 8.
@@ -192,9 +203,7 @@ fn lowest_and_capped(rt: HostRuntime) -> Result<(), Fail> {
     let mut records = four(rt.alloc())?;
     assert_eq!(rt; lowest_ttl(records.as_slice()), 60);
     records.cap_ttl(90);
-    for (capped, ttl) in records.as_slice().iter().zip([90, 60, 90, 90]) {
-        assert_eq!(rt; capped.ttl, ttl);
-    }
+    assert!(rt; have_ttls(records.as_slice(), [90, 60, 90, 90]));
     Ok(())
 }
 

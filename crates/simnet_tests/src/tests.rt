@@ -328,7 +328,9 @@ fn out_of<A: Heap>(sim: &mut Sim<A>, event: SimEvent<A>) -> Result<Out, Starved>
 // What comes out of the query and then of the last order, each a millisecond after the one before.
 fn follow<A: Heap>(sim: &mut Sim<A>, query: SimEvent<A>, orders: &[Order]) -> Result<Out, Starved> {
     let mut out = out_of(sim, query)?;
-    for (order, moment) in orders.iter().zip(1..) {
+    let mut moment = 0u64;
+    for order in orders {
+        moment = moment.saturating_add(1);
         out = out_of(sim, event_of(*order, moment))?;
     }
     Ok(out)
