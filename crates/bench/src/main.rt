@@ -17,9 +17,6 @@ use std::env;
 use std::io::Write;
 use std::rt::Runtime;
 
-#[cfg(test)]
-mod tests;
-
 fn main(rt: HostRuntime) -> Result<()> {
     let measures = env::args(&rt)?
         .skip(1)
