@@ -2,7 +2,7 @@
 use Rattle.std.proofs.Common.{◌≡◌, ◌∙◌, ap, ap₂, codes}
 use Rattle.std.proofs.lemmas.Result.{IfOk-weaker}
 use Rattle.clap.specs.Words.{App, app_of, with_subcommand}
-use Rattle.commandline.specs.Grammar.{ask_app, file_app, play_app, serve_app, bare_app}
+use Rattle.commandline.specs.Grammar.{ask_app, file_app, play_app, bare_app}
 use Rattle.commandline.proofs.grammar.line.Goals as goal
 
 pub returns : goal.returns
