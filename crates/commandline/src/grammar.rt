@@ -2,7 +2,7 @@
 ghost use Rattle.std.specs.Prelude.{◌≡◌, IfOk, true, false, codes};
 ghost use Rattle.clap.specs.Words.{app_of, rule_of};
 ghost use Rattle.clap.specs.declared.builder.command.Command.TheViews.{out-Command};
-ghost use Rattle.commandline.specs.Grammar.{ask_app, file_app, line_app, play_app, serve_app, word_rule};
+ghost use Rattle.commandline.specs.Grammar.{ask_app, bare_app, file_app, line_app, play_app, serve_app, word_rule};
 
 use clap::{Arg, ArgAction};
 use std::alloc::{AllocError, Global};
@@ -136,9 +136,9 @@ fn serve_line<'a>(alloc: Global) -> Result<clap::Command<'a>, AllocError>
         .arg(word(alloc, "config"))
 }
 
-/// The whole line, after the program's name.
-pub fn line<'a>(alloc: Global) -> Result<clap::Command<'a>, AllocError>
-    ensures app { IfOk result (λ c. app_of c ≡ line_app) }
+// The line without its subcommands, of which one has to stand.
+fn bare_line<'a>(alloc: Global) -> clap::Command<'a>
+    ensures { app_of result ≡ bare_app }
 {
     clap::Command::new(alloc, "resolverd")
         .about(
@@ -146,6 +146,13 @@ pub fn line<'a>(alloc: Global) -> Result<clap::Command<'a>, AllocError>
         )
         .no_binary_name(true)
         .subcommand_required(true)
+}
+
+/// The whole line, after the program's name.
+pub fn line<'a>(alloc: Global) -> Result<clap::Command<'a>, AllocError>
+    ensures app { IfOk result (λ c. app_of c ≡ line_app) }
+{
+    bare_line(alloc)
         .subcommand(ask_line(alloc)?)?
         .subcommand(file_line(
             alloc,

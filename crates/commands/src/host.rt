@@ -75,7 +75,9 @@ where
     }
 
     // No flag ends it: it runs until the program is stopped.
-    fn run(&mut self, core: Core, workers: u16) -> Result<(), Starved> {
+    fn run(&mut self, core: Core, workers: u16) -> Result<(), Starved>
+        requires { IsBegun core }
+    {
         let stop = AtomicBool::new(false);
         match &self.ends {
             Some(ends) => match service::serve(

@@ -1,13 +1,13 @@
 -- The line's subcommands, one after the other.
-use Rattle.std.proofs.Common.{rules, ◌≡◌, ◌∙◌, ap, ap₂, codes}
+use Rattle.std.proofs.Common.{◌≡◌, ◌∙◌, ap, ap₂, codes}
 use Rattle.std.proofs.lemmas.Result.{IfOk-weaker}
 use Rattle.clap.specs.Words.{App, app_of, with_subcommand}
-use Rattle.commandline.specs.Grammar.{ask_app, file_app, play_app, serve_app, bare_app}
+use Rattle.commandline.specs.Grammar.{ask_app, file_app, play_app, bare_app}
 use Rattle.commandline.proofs.grammar.line.Goals as goal
 
 pub returns : goal.returns
 returns c =
-    let bare : app_of c.subcommand_required.result ≡ bare_app = search rules in
+    let bare = c.bare_line.ensures in
     let with_ask : app_of c.in_ok-subcommand.field-0 ≡ with_subcommand bare_app ask_app.top =
     c.in_ok-subcommand.ensures.shape c.in_ok-ask_line.ensures.local ∙ ap₂ with_subcommand bare (ap (λ (a : App). a.top) c.in_ok-ask_line.ensures.app) in
     let with_check : app_of c.in_ok-subcommand-2.field-0 ≡ with_subcommand (with_subcommand bare_app ask_app.top) (file_app (codes "check")).top =
