@@ -1,7 +1,0 @@
-//! The tests of `engine`, from outside: by what it makes public.
-#![tactic(auto)]
-
-#[cfg(test)]
-mod fixtures;
-#[cfg(test)]
-mod tests;
