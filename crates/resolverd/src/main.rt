@@ -1,8 +1,18 @@
 //! `resolverd`: what its command line asks, done with the real files and streams.
 #![tactic(auto)]
 
+mod answering;
+mod ask;
+mod fault;
+mod files;
+mod play;
+mod run;
+mod texts;
+mod zones;
+
+use crate::run::{refuse_line, run_words};
+use crate::texts::Disk;
 use commandline::LineFault;
-use commands::{Disk, Machine, refuse_line, run_words};
 use std::io::ErrorKind;
 use std::process::ExitCode;
 use std::rt::Env;
@@ -13,17 +23,7 @@ fn main(rt: HostRuntime) -> ExitCode {
     let mut out = rt.stdout();
     let mut err = rt.stderr();
     let status = match words_of(&rt) {
-        Ok(words) => {
-            let mut host = Machine::new(&rt, alloc);
-            run_words(
-                alloc,
-                &words,
-                &mut Disk::new(&rt),
-                &mut host,
-                &mut out,
-                &mut err,
-            )
-        }
+        Ok(words) => run_words(alloc, &words, &mut Disk::new(&rt), &mut out, &mut err),
         Err(fault) => refuse_line(alloc, fault, &mut out, &mut err),
     };
     ExitCode::from(status)
@@ -49,3 +49,8 @@ fn line_fault(error: &io::Error) -> LineFault {
         _ => LineFault::Words,
     }
 }
+
+#[cfg(test)]
+mod play_tests;
+#[cfg(test)]
+mod tests;
