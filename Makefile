@@ -5,7 +5,7 @@ PROGRAM = crates/resolverd
 # The words of the example: which zone, its file, and what is asked.
 QUESTION = ask lab.example. $(CURDIR)/examples/lab.zone x.lab.example. TXT
 
-.PHONY: ask test turned try install kit
+.PHONY: ask serve test turned try install kit
 
 # Tells where the toolchain is not the one with which all of this was proved; the proofs are tried all the same.
 kit:
@@ -14,6 +14,11 @@ kit:
 # Proves and builds the program and all below it, and answers one query.
 ask:
 	cd $(PROGRAM) && rt run -- $(QUESTION)
+
+# Proves and builds the program, and runs a resolver for this machine alone, at 127.0.0.1 port 5300, until it is
+# stopped: `dig @127.0.0.1 -p 5300 example.org` asks it.
+serve: ask
+	cd examples/serve && $(CURDIR)/$(PROGRAM)/out/resolverd serve resolverd.conf
 
 # The gate: every proof, every edit that must fail, every test and every run.
 test: kit

@@ -20,6 +20,10 @@ file_app name = with_rule (with_rule (new_app name) (word_rule (codes "origin"))
 abbrev pub play_app : App
 play_app = with_rule (with_rule (new_app (codes "play")) (word_rule (codes "world"))) (word_rule (codes "script"))
 
+-- `serve CONFIG`
+abbrev pub serve_app : App
+serve_app = with_rule (new_app (codes "serve")) (word_rule (codes "config"))
+
 -- The line without its subcommands: one of them has to stand.
 abbrev pub bare_app : App
 bare_app = let a = new_app (codes "resolverd") in record a { top = record a.top { no_binary_name = true; subcommand_required = true } }
@@ -27,4 +31,6 @@ bare_app = let a = new_app (codes "resolverd") in record a { top = record a.top 
 -- The whole line.
 abbrev pub line_app : App
 line_app =
-    with_subcommand (with_subcommand (with_subcommand (with_subcommand bare_app ask_app.top) (file_app (codes "check")).top) (file_app (codes "dump")).top) play_app.top
+    with_subcommand
+    (with_subcommand (with_subcommand (with_subcommand (with_subcommand bare_app ask_app.top) (file_app (codes "check")).top) (file_app (codes "dump")).top) play_app.top)
+    serve_app.top

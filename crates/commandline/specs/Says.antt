@@ -3,7 +3,7 @@ use Rattle.std.specs.Prelude.{◌≡◌, true, Option, Some, List, codes, string
 use Rattle.clap.specs.Words.{Row, Text, first_of, subcommand_of, takes}
 use Rattle.commandline.specs.Grammar.{line_app}
 use Rattle.commandline.specs.declared.subcommands.Command.{Command}
-use Rattle.commandline.specs.declared.subcommands.Command.TheVariants.{Ask, Check, Dump, Play}
+use Rattle.commandline.specs.declared.subcommands.Command.TheVariants.{Ask, Check, Dump, Play, Serve}
 
 -- The word that names a command.
 abbrev pub word_of : Command → Text
@@ -11,6 +11,7 @@ word_of (Ask origin file name kind) = codes "ask"
 word_of (Check origin file) = codes "check"
 word_of (Dump origin file) = codes "dump"
 word_of (Play world script) = codes "play"
+word_of (Serve config) = codes "serve"
 
 -- The rows have a command's words.
 abbrev pub HaveWords : List Row → Command → Type 0
@@ -19,6 +20,7 @@ HaveWords rows (Ask origin file name kind) = (first_of (codes "origin") rows ≡
 HaveWords rows (Check origin file) = (first_of (codes "origin") rows ≡ Some (string_bytes origin)) × (first_of (codes "file") rows ≡ Some (string_bytes file))
 HaveWords rows (Dump origin file) = (first_of (codes "origin") rows ≡ Some (string_bytes origin)) × (first_of (codes "file") rows ≡ Some (string_bytes file))
 HaveWords rows (Play world script) = (first_of (codes "world") rows ≡ Some (string_bytes world)) × (first_of (codes "script") rows ≡ Some (string_bytes script))
+HaveWords rows (Serve config) = first_of (codes "config") rows ≡ Some (string_bytes config)
 
 -- The subcommand of this name, with these rows, is the command.
 abbrev pub IsNamed : Text → List Row → Command → Type 0

@@ -2,7 +2,7 @@
 ghost use Rattle.std.specs.Prelude.{◌≡◌, IfOk, true, false, codes};
 ghost use Rattle.clap.specs.Words.{app_of, rule_of};
 ghost use Rattle.clap.specs.declared.builder.command.Command.TheViews.{out-Command};
-ghost use Rattle.commandline.specs.Grammar.{ask_app, file_app, line_app, play_app, word_rule};
+ghost use Rattle.commandline.specs.Grammar.{ask_app, bare_app, file_app, line_app, play_app, serve_app, word_rule};
 
 use clap::{Arg, ArgAction};
 use std::alloc::{AllocError, Global};
@@ -14,6 +14,7 @@ pub static NUMBERS: &str = "For example, with the files of the folder examples:
   resolverd check lab.example. examples/lab.zone
   resolverd dump lab.example. examples/lab.zone
   resolverd play examples/small.world examples/first.script
+  cd examples/serve && resolverd serve resolverd.conf
 
 A reply is printed as a line for its header and one for each of its records.
 
@@ -32,6 +33,23 @@ play prints besides:
   starved                    no memory was left for a step
   right R of M               of M replies to recursive queries, other than SERVFAIL, R are right in that world
 
+serve prints a line once it answers, and goes on until it is stopped. It answers whoever reaches its address.
+
+  listening ADDRESS PORT     where it answers, over UDP and TCP
+
+Its file has lines of these words; blank lines and lines that begin with ; are skipped.
+
+  listen ADDRESS PORT        where to answer; port 0 is any that is free
+  port N                     the port of other servers, 53
+  hint ADDRESS               a server of the root
+  local ORIGIN FILE          a zone that is answered from its master file
+  cache N                    how many record sets and denials are kept, up to 1000000; 1024
+  delegations N              how many delegations are; 1024
+  penalties N                how many servers that did not answer are; 1024
+  sockets N                  from how many sockets servers are asked, up to 16; 16
+  workers N                  how many servers are asked over TCP at once, up to 16; 4
+  seed HEX                   what identifiers are drawn from, 64 digits; random
+
 One line on standard error says what went wrong.
 
   error: FILE:LINE: file K   the master file: 1 unknown type, 2 bad name, 3 bad number, 4 no TTL, 5 no owner,
@@ -42,16 +60,20 @@ One line on standard error says what went wrong.
   error: FILE:LINE: zone K   the same of the zone that this line of a world opens
   error: FILE: world K       the world: 1 no zone at the root, 2 a cut without its zone, 3 a zone that is not delegated,
                              4 a server without its zone, 5 no hint that serves the root, 7 two zones of one origin
-  error: FILE:LINE: script K a line of a world or a script: 1 unknown word, 2 bad number, 3 bad name, 4 unknown type,
-                             5 wrong number of words, 6 bad hexadecimal, 7 a zone without end, 8 bad address
+  error: FILE:LINE: script K a line of a world, a script or a server's file: 1 unknown word, 2 bad number, 3 bad name,
+                             4 unknown type, 5 wrong number of words, 6 bad hexadecimal, 7 a zone without end,
+                             8 bad address
   error: FILE: unreadable    the file is missing or is not UTF-8
   error: name K              a name: 1 empty label, 2 label over 63 bytes, 3 name over 255 bytes, 4 bad escape
+  error: settings            the numbers of a server's file are out of their limits
+  error: socket              the address can't be bound
+  error: threads             a thread can't be made
   error: type                another type than A, NS, CNAME, SOA, PTR, MX, TXT and AAAA
   error: memory              no memory was left
   error: output              what was to be printed could not be written
 
 The exit status is 0 where all went well, 1 for a fault in what was read, 2 for the command line,
-3 for want of memory, and 4 for an unreadable file or failed output.";
+3 for want of memory, and 4 for an unreadable file, an address that can't be bound or failed output.";
 
 // A word that has to stand, and stands once.
 fn word<'a>(alloc: Global, name: &'a str) -> Arg<'a>
@@ -102,16 +124,35 @@ fn play_line<'a>(alloc: Global) -> Result<clap::Command<'a>, AllocError>
         .arg(word(alloc, "script"))
 }
 
+// `serve CONFIG`
+fn serve_line<'a>(alloc: Global) -> Result<clap::Command<'a>, AllocError>
+    ensures app { IfOk result (λ c. app_of c ≡ serve_app) }
+    ensures local { IfOk result (λ c. (out-Command c).has_globals ≡ false) }
+{
+    clap::Command::new(alloc, "serve")
+        .about(
+            "CONFIG: answers the queries of clients, from the zones of the file and from other servers",
+        )
+        .arg(word(alloc, "config"))
+}
+
+// The line without its subcommands, of which one has to stand.
+fn bare_line<'a>(alloc: Global) -> clap::Command<'a>
+    ensures { app_of result ≡ bare_app }
+{
+    clap::Command::new(alloc, "resolverd")
+        .about(
+            "Answers DNS queries, over the network, from a zone file or in a network in memory, and checks zone files",
+        )
+        .no_binary_name(true)
+        .subcommand_required(true)
+}
+
 /// The whole line, after the program's name.
 pub fn line<'a>(alloc: Global) -> Result<clap::Command<'a>, AllocError>
     ensures app { IfOk result (λ c. app_of c ≡ line_app) }
 {
-    clap::Command::new(alloc, "resolverd")
-        .about(
-            "Answers DNS queries, from a zone file or in a network in memory, and checks zone files",
-        )
-        .no_binary_name(true)
-        .subcommand_required(true)
+    bare_line(alloc)
         .subcommand(ask_line(alloc)?)?
         .subcommand(file_line(
             alloc,
@@ -123,5 +164,6 @@ pub fn line<'a>(alloc: Global) -> Result<clap::Command<'a>, AllocError>
             "dump",
             "ORIGIN FILE: prints the records of a zone file, one a line",
         )?)?
-        .subcommand(play_line(alloc)?)
+        .subcommand(play_line(alloc)?)?
+        .subcommand(serve_line(alloc)?)
 }

@@ -34,6 +34,3 @@ pub fn help_text(alloc: Global) -> Result<String, LineFault>
     let mut line = grammar::line(alloc)?.after_help(grammar::NUMBERS);
     Ok(line.render_help()?)
 }
-
-#[cfg(test)]
-mod tests;

@@ -44,6 +44,11 @@ pub enum Command {
         /// The path of the script.
         script: String,
     },
+    /// `serve CONFIG`: answers clients over the network.
+    Serve {
+        /// The path of the server's file.
+        config: String,
+    },
 }
 
 // The word that stands for `id`.
@@ -100,6 +105,14 @@ fn read_play(alloc: Global, found: &ArgMatches<'_>) -> Result<Command, LineFault
     Ok(Command::Play { world, script })
 }
 
+fn read_serve(alloc: Global, found: &ArgMatches<'_>) -> Result<Command, LineFault>
+    ensures ok { IfOk result (IsNamed (codes "serve") (rows_of (found_of found.now))) }
+    ensures refused { IfErr result (λ e. e ≡ Words → (command : Command) → IsNamed (codes "serve") (rows_of (found_of found.now)) command → ⊥) }
+{
+    let config = text_of(alloc, found, "config")?;
+    Ok(Command::Serve { config })
+}
+
 /// The subcommand that the line names, with its words.
 pub fn read_subcommand(alloc: Global, matches: &ArgMatches<'_>) -> Result<Command, LineFault>
     ensures ok { IfOk result (Says (subcommand_rows_of matches.now)) }
@@ -110,6 +123,7 @@ pub fn read_subcommand(alloc: Global, matches: &ArgMatches<'_>) -> Result<Comman
         Some(("check", found)) => read_check(alloc, found),
         Some(("dump", found)) => read_dump(alloc, found),
         Some(("play", found)) => read_play(alloc, found),
+        Some(("serve", found)) => read_serve(alloc, found),
         _ => Err(LineFault::Words),
     }
 }

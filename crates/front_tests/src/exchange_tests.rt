@@ -14,6 +14,13 @@ const QUERY: &[u8] = b"\x124\x01\0\0\x01\0\0\0\0\0\0\x03www\x07example\0\0\x01\0
 const REPLY: &[u8] =
     b"\x124\x85\x80\0\x01\0\x01\0\0\0\0\x03www\x07example\0\0\x01\0\x01\xc0\x0c\0\x01\0\x01\0\0\x01\x2c\0\x04\xc0\0\x02\x01";
 
+// ID 1, RD clear, one question: b.lab.example. TXT IN.
+const NO_DATA_QUERY: &[u8] = b"\0\x01\0\0\0\x01\0\0\0\0\0\0\x01b\x03lab\x07example\0\0\x10\0\x01";
+
+// No record, and the SOA record of the zone with its names by pointers, TTL 60 (RFC 2308, sections 2.2 and 3).
+const NO_DATA_REPLY: &[u8] =
+    b"\0\x01\x84\x80\0\x01\0\0\0\x01\0\0\x01b\x03lab\x07example\0\0\x10\0\x01\xc0\x0e\0\x06\0\x01\0\0\0\x3c\0\x1d\x02ns\xc0\x0e\x01h\xc0\x0e\0\0\0\x01\0\0\0\x02\0\0\0\x03\0\0\0\x04\0\0\0\x3c";
+
 fn name<A: Heap>(alloc: A, text: &str) -> Result<Name<A>, Starved> {
     match Name::from_text(alloc, text) {
         Ok(name) => Ok(name),
@@ -52,7 +59,32 @@ fn catalog<A: Heap>(alloc: A) -> Result<Catalog<A>, Starved> {
     put(alloc, &mut records, "example", server)?;
     let address = RData::A(Addr([192, 0, 2, 1]));
     put(alloc, &mut records, "www.example", address)?;
-    let Ok(zone) = Zone::build(name(alloc, "example")?, records) else {
+    single(alloc, "example", records)
+}
+
+// The zone lab.example., with a.b.lab.example. A 192.0.2.7.
+fn lab_catalog<A: Heap>(alloc: A) -> Result<Catalog<A>, Starved> {
+    let mut records = Records::new(alloc);
+    let soa = Soa {
+        primary: name(alloc, "ns.lab.example")?,
+        mailbox: name(alloc, "h.lab.example")?,
+        serial: 1,
+        refresh: 2,
+        retry: 3,
+        expire: 4,
+        minimum: 60,
+    };
+    put(alloc, &mut records, "lab.example", RData::Soa(soa))?;
+    let server = RData::Ns(name(alloc, "ns.lab.example")?);
+    put(alloc, &mut records, "lab.example", server)?;
+    let address = RData::A(Addr([192, 0, 2, 7]));
+    put(alloc, &mut records, "a.b.lab.example", address)?;
+    single(alloc, "lab.example", records)
+}
+
+// The catalog of one zone.
+fn single<A: Heap>(alloc: A, origin: &str, records: Records<A>) -> Result<Catalog<A>, Starved> {
+    let Ok(zone) = Zone::build(name(alloc, origin)?, records) else {
         return Err(Starved);
     };
     let mut zones = Vec::new(alloc);
@@ -63,8 +95,8 @@ fn catalog<A: Heap>(alloc: A) -> Result<Catalog<A>, Starved> {
     }
 }
 
-fn answer<A: Heap>(alloc: A, catalog: &Catalog<A>) -> Result<Vec<u8, A>, Starved> {
-    let Asked::Query(query) = read_query(alloc, QUERY)? else {
+fn answer<A: Heap>(alloc: A, catalog: &Catalog<A>, bytes: &[u8]) -> Result<Vec<u8, A>, Starved> {
+    let Asked::Query(query) = read_query(alloc, bytes)? else {
         return Err(Starved);
     };
     let outcome = answer_local(alloc, &query, catalog)?;
@@ -76,7 +108,15 @@ fn answer<A: Heap>(alloc: A, catalog: &Catalog<A>) -> Result<Vec<u8, A>, Starved
 fn a_query_is_answered_from_a_zone(rt: HostRuntime) -> Result<(), Fail> {
     assert_eq!(rt; (QUERY.len(), REPLY.len()), (29, 45));
     let catalog = catalog(rt.alloc())?;
-    assert!(rt; answer(rt.alloc(), &catalog)?.as_slice() == REPLY);
+    assert!(rt; answer(rt.alloc(), &catalog, QUERY)?.as_slice() == REPLY);
+    Ok(())
+}
+
+#[test]
+fn a_name_between_others_has_no_data(rt: HostRuntime) -> Result<(), Fail> {
+    assert_eq!(rt; (NO_DATA_QUERY.len(), NO_DATA_REPLY.len()), (31, 72));
+    let catalog = lab_catalog(rt.alloc())?;
+    assert!(rt; answer(rt.alloc(), &catalog, NO_DATA_QUERY)?.as_slice() == NO_DATA_REPLY);
     Ok(())
 }
 
@@ -85,17 +125,17 @@ fn each_growth_of_an_answer_is_refused_in_turn(rt: HostRuntime) -> Result<(), Fa
     let heap = Refusing::new(rt.alloc());
     let catalog = catalog(&heap)?;
     let before = heap.growths();
-    assert!(rt; answer(&heap, &catalog)?.as_slice() == REPLY);
+    assert!(rt; answer(&heap, &catalog, QUERY)?.as_slice() == REPLY);
     let growths = heap.growths().saturating_sub(before);
     assert!(rt; growths > 4);
     for n in 0..growths {
         heap.refuse_after(n);
         assert!(rt;
-            matches!(answer(&heap, &catalog), Err(Starved)),
+            matches!(answer(&heap, &catalog, QUERY), Err(Starved)),
             "growth {n}"
         );
         assert!(rt;
-            answer(&heap, &catalog)?.as_slice() == REPLY,
+            answer(&heap, &catalog, QUERY)?.as_slice() == REPLY,
             "after growth {n}"
         );
     }

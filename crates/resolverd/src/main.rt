@@ -1,18 +1,8 @@
-//! `resolverd`: what its command line asks, done with the real files and streams.
+//! `resolverd`: what its command line asks, done with the real files, streams and sockets.
 #![tactic(auto)]
 
-mod answering;
-mod ask;
-mod fault;
-mod files;
-mod play;
-mod run;
-mod texts;
-mod zones;
-
-use crate::run::{refuse_line, run_words};
-use crate::texts::Disk;
 use commandline::LineFault;
+use commands::{Disk, Machine, refuse_line, run_words, serve_at};
 use std::io::ErrorKind;
 use std::process::ExitCode;
 use std::rt::Env;
@@ -23,7 +13,15 @@ fn main(rt: HostRuntime) -> ExitCode {
     let mut out = rt.stdout();
     let mut err = rt.stderr();
     let status = match words_of(&rt) {
-        Ok(words) => run_words(alloc, &words, &mut Disk::new(&rt), &mut out, &mut err),
+        Ok(words) => {
+            let mut machine = Machine::new(&rt, alloc);
+            let mut disk = Disk::new(&rt);
+            let done = run_words(alloc, &words, &mut disk, &mut machine, &mut out, &mut err);
+            match done.server {
+                Some(server) => serve_at(&machine, server, &mut err),
+                None => done.status,
+            }
+        }
         Err(fault) => refuse_line(alloc, fault, &mut out, &mut err),
     };
     ExitCode::from(status)
@@ -49,8 +47,3 @@ fn line_fault(error: &io::Error) -> LineFault {
         _ => LineFault::Words,
     }
 }
-
-#[cfg(test)]
-mod play_tests;
-#[cfg(test)]
-mod tests;

@@ -1,0 +1,144 @@
+-- Faults of a server's parts are faults of its start, and its zones come one by one.
+use Rattle.std.proofs.Common.{◌≡◌, arith, ◌+◌, ◌<◌, ℕ, zero, suc, true, false, nat_eq, List, [], ◌∷◌, ◌++◌, length, take, get_or, refl, sym, ◌∙◌, ap, subst, Ok, Err, inl, inr, ⊎_elim}
+use Rattle.std.specs.Prelude.{Option, Some, None}
+use Rattle.std.proofs.lemmas.Bool.{eq-eqb}
+use Rattle.std.proofs.Math.Dec.{eqb-suc-zero}
+use Rattle.std.proofs.lemmas.List.{take_more}
+use Rattle.zone.specs.Zones.{Zone as ZoneOf}
+use Rattle.config.specs.Configs.{Zone as Local}
+use Rattle.runs.specs.States.{State}
+use Rattle.commands.specs.Faults.{IsReported, status_of}
+use Rattle.commands.specs.Texts.{MayHold}
+use Rattle.commands.specs.Zones.{HoldsZone, HoldsNoZone}
+use Rattle.commands.specs.Runs.{IsRun}
+use Rattle.commands.specs.Servers.{HoldsConfig, IsConfig, IsStartFault, IsUnbound, Refuses, IsNoServer, AreZonesIn, IsServer, StartsWith, Starts}
+use Rattle.commands.specs.declared.fault.Fault.{Fault}
+use Rattle.commands.specs.declared.fault.Fault.TheVariants.{File, Zone, Script, Block, World, Unreadable, BadName, BadType, Settings, Memory, Socket, Threads, Output}
+
+pub run_weaker : {P P' : List ℕ → Type 0} {Q Q' : Fault → Type 0} {out out2 err err2 : Option (List ℕ)} {n : ℕ}
+    → ((text : List ℕ) → P text → P' text) → ((f : Fault) → Q f → Q' f) → IsRun P Q out out2 err err2 n → IsRun P' Q' out out2 err err2 n
+run_weaker texts faults (Ok text, allowed, ended) = (Ok text, texts text allowed, ended)
+run_weaker texts faults (Err f, allowed, ended) = (Err f, faults f allowed, ended)
+
+pub no_zone : (known : Option (Option (List ℕ))) (origin : List (List ℕ)) (f : Fault) → HoldsNoZone known origin f → IsStartFault f
+no_zone known origin (Unreadable path) h = tt
+no_zone known origin (File path e) h = tt
+no_zone known origin (Zone path e) h = tt
+no_zone known origin Memory h = tt
+no_zone known origin (Script path e) h = h
+no_zone known origin (Block path line e) h = h
+no_zone known origin (World path e) h = h
+no_zone known origin (BadName e) h = h
+no_zone known origin BadType h = h
+no_zone known origin Settings h = absurd h
+no_zone known origin Socket h = h
+no_zone known origin Threads h = h
+no_zone known origin Output h = h
+
+pub start_refused : (text : List ℕ) (f : Fault) → IsConfig text → IsStartFault f → Refuses text f
+start_refused text (Unreadable path) is h = is
+start_refused text (File path e) is h = is
+start_refused text (Zone path e) is h = is
+start_refused text Memory is h = tt
+start_refused text (Script path e) is h = absurd h
+start_refused text (Block path line e) is h = h
+start_refused text (World path e) is h = h
+start_refused text (BadName e) is h = h
+start_refused text BadType is h = h
+start_refused text Settings is h = is
+start_refused text Socket is h = h
+start_refused text Threads is h = h
+start_refused text Output is h = h
+
+holds : (known : Option (Option (List ℕ))) (text : List ℕ) → MayHold known (Some text) → IsConfig text → HoldsConfig known
+holds known text held is = record { text = text; held = held; at = is.0; describes = is.1 }
+
+pub refused : (known : Option (Option (List ℕ))) (text : List ℕ) → MayHold known (Some text) → (f : Fault) → Refuses text f → IsNoServer known f
+refused known text held (Script path e) h = (text, held, h)
+refused known text held (Unreadable path) h = inr (holds known text held h)
+refused known text held (File path e) h = holds known text held h
+refused known text held (Zone path e) h = holds known text held h
+refused known text held Settings h = holds known text held h
+refused known text held Memory h = tt
+refused known text held (Block path line e) h = h
+refused known text held (World path e) h = h
+refused known text held (BadName e) h = h
+refused known text held BadType h = h
+refused known text held Socket h = absurd h
+refused known text held Threads h = h
+refused known text held Output h = h
+
+pub unbound : (known : Option (Option (List ℕ))) → HoldsConfig known → (f : Fault) → IsUnbound f → IsNoServer known f
+unbound known is Socket h = is
+unbound known is Memory h = tt
+unbound known is (Unreadable path) h = absurd h
+unbound known is (File path e) h = absurd h
+unbound known is (Zone path e) h = absurd h
+unbound known is (Script path e) h = absurd h
+unbound known is Settings h = absurd h
+unbound known is (Block path line e) h = h
+unbound known is (World path e) h = h
+unbound known is (BadName e) h = h
+unbound known is BadType h = h
+unbound known is Threads h = h
+unbound known is Output h = h
+
+-- ---- Exit statuses.
+
+one_not : ◌≡◌ {A = ℕ} 1 0 → ⊥
+one_not is = omega arith
+
+three_not : ◌≡◌ {A = ℕ} 3 0 → ⊥
+three_not is = omega arith
+
+four_not : ◌≡◌ {A = ℕ} 4 0 → ⊥
+four_not is = omega arith
+
+-- No fault has the status of what is done.
+some_status : (f : Fault) → status_of f ≡ 0 → ⊥
+some_status (File path e) is = one_not is
+some_status (Zone path e) is = one_not is
+some_status (Script path e) is = one_not is
+some_status (Block path line e) is = one_not is
+some_status (World path e) is = one_not is
+some_status (Unreadable path) is = four_not is
+some_status (BadName e) is = one_not is
+some_status BadType is = one_not is
+some_status Settings is = one_not is
+some_status Memory is = three_not is
+some_status Socket is = four_not is
+some_status Threads is = four_not is
+some_status Output is = four_not is
+
+pub failed : (f : Fault) (err err2 : Option (List ℕ)) (n : ℕ) → IsReported f err err2 n → n ≡ 0 → ⊥
+failed f err err2 n reported none = ⊎_elim (λ h. some_status f (sym h.0 ∙ none)) (λ four. four_not (sym four ∙ none)) reported
+
+-- ---- The server that is started.
+
+pub starts_so : (made : State) (n : ℕ) → nat_eq n 0 ≡ true → StartsWith made n (Some made)
+starts_so made zero is = inl (refl, refl)
+starts_so made (suc n) is = let no = eqb-suc-zero n in absurd (cc)
+
+pub starts_not : (made : State) (n : ℕ) → nat_eq n 0 ≡ false → StartsWith made n None
+starts_not made n is = inr ((λ none. let same = eq-eqb n 0 none in absurd (cc)), refl)
+
+pub started : (held : List ℕ → Option (Option (List ℕ))) (path text : List ℕ) (made : State) (n : ℕ) (server : Option State)
+    → MayHold (held path) (Some text) → IsServer held text made → StartsWith made n server → Starts held path n server
+started held path text made n server there is starts =
+    ⊎_elim (λ h. inl (h.0, (made, h.1, record { text = text; there = there; is = is }))) (λ h. inr h) starts
+
+-- ---- The zones of a server's file, one after the other.
+
+zones_more : (held : List ℕ → Option (Option (List ℕ))) (ls : List Local) (zs : List ZoneOf) (l : Local) (z : ZoneOf)
+    → AreZonesIn held ls zs → HoldsZone (held l.file) l.origin z → AreZonesIn held (ls ++ l ∷ []) (zs ++ z ∷ [])
+zones_more held [] [] l z h more = (more, tt)
+zones_more held (k ∷ ks) (y ∷ ys) l z h more = (h.0, zones_more held ks ys l z h.1 more)
+zones_more held [] (y ∷ ys) l z h more = absurd h
+zones_more held (k ∷ ks) [] l z h more = absurd h
+
+pub zones_step : (held : List ℕ → Option (Option (List ℕ))) (ls : List Local) (i : ℕ) (l : Local) (zs zs2 : List ZoneOf) (z : ZoneOf) → i < length ls → l ≡ get_or ls i l
+    → AreZonesIn held (take i ls) zs → HoldsZone (held l.file) l.origin z → zs2 ≡ zs ++ z ∷ [] → AreZonesIn held (take (i + 1) ls) zs2
+zones_step held ls i l zs zs2 z lt at_i so_far more is =
+    subst (AreZonesIn held (take (i + 1) ls)) (sym is)
+    (subst (λ (ks : List Local). AreZonesIn held ks (zs ++ z ∷ [])) (sym (take_more ls i l lt ∙ ap (λ (k : Local). take i ls ++ k ∷ []) (sym at_i)))
+    (zones_more held (take i ls) zs l z so_far more))

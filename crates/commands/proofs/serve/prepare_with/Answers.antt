@@ -1,0 +1,20 @@
+-- The resolver is made of the zones, the seed and the rest of the file.
+use Rattle.std.proofs.Common.{◌∙◌, sym, ap, subst, List}
+use Rattle.config.specs.Configs.{Config, Zone as Local}
+use Rattle.runs.specs.States.{State}
+use Rattle.service.specs.Resolvers.{IsDescribed}
+use Rattle.commands.specs.Servers.{AreZonesIn}
+use Rattle.commands.proofs.serve.prepare_with.Goals as goal
+
+pub returns-in-Ok-clause-ok : goal.returns-in-Ok-clause-ok
+returns-in-Ok-clause-ok g c = (
+  sym (ap (λ (s : Config). s.listen) c.config.view_is) ∙ sym c.endpoint_of-listen.ensures,
+  record {
+    zones = c.in_ok-zones.zones.items;
+    local = subst (λ (ls : List Local). AreZonesIn (g.T.Texts.held c.args.texts.now) ls c.in_ok-zones.zones.items) (c.deref.ensures.value ∙ ap (λ (s : Config). s.locals) c.config.view_is)
+        c.in_ok-zones.ensures.ok;
+    seed = c.in_ok-seed.seed;
+    seeded = c.in_ok-seed.ensures.ok;
+    is = subst (λ (made : State). IsDescribed c.args.config c.in_ok-zones.zones.items c.in_ok-seed.seed made) (sym c.new.ensures) c.in-Ok.ensures.is;
+  },
+)

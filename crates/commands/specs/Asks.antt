@@ -1,0 +1,45 @@
+-- Why a query gets no reply.
+use Rattle.std.specs.Prelude.{◌≡◌, ℕ, List, Option, Some, None, Result, Ok, Err}
+use Rattle.std.specs.Option.{option_or}
+use Rattle.dname.specs.Text.{name_of_text}
+use Rattle.dname.specs.declared.text.NameError.{NameError}
+use Rattle.rdata.specs.Types.{type_named}
+use Rattle.rdata.specs.declared.rtype.RType.{RType}
+use Rattle.commands.specs.Zones.{HoldsNoZone}
+use Rattle.commands.specs.declared.fault.Fault.{Fault}
+use Rattle.commands.specs.declared.fault.Fault.TheVariants.{File, Zone, Script, Block, World, Unreadable, BadName, BadType, Settings, Memory, Socket, Threads, Output}
+
+-- The fault of a word that is to be a name, or a type.
+abbrev pub fault_of_name : Result (List (List ℕ)) NameError → Option Fault
+fault_of_name (Ok n) = None
+fault_of_name (Err e) = Some (BadName e)
+
+abbrev pub fault_of_type : Option RType → Option Fault
+fault_of_type (Some t) = None
+fault_of_type None = Some BadType
+
+-- The fault of the first of the words ORIGIN, NAME and TYPE that has one.
+abbrev pub first_fault : List ℕ → List ℕ → List ℕ → Option Fault
+first_fault origin name kind =
+    option_or (fault_of_name (name_of_text origin)) (option_or (fault_of_name (name_of_text name)) (fault_of_type (type_named kind)))
+
+-- No word has a fault, and the text at the path holds no zone of the origin.
+abbrev pub HasNoZone : Option (Option (List ℕ)) → List ℕ → List ℕ → List ℕ → Fault → Type 0
+HasNoZone known origin name kind f =
+    (first_fault origin name kind ≡ None) × ((o : List (List ℕ)) × (name_of_text origin ≡ Ok o) × HoldsNoZone known o f)
+
+-- The words' faults count before the file's. Want of memory leaves all open.
+abbrev pub IsRefused : Option (Option (List ℕ)) → List ℕ → List ℕ → List ℕ → Fault → Type 0
+IsRefused known origin name kind (BadName e) = first_fault origin name kind ≡ Some (BadName e)
+IsRefused known origin name kind BadType = first_fault origin name kind ≡ Some BadType
+IsRefused known origin name kind (Unreadable path) = HasNoZone known origin name kind (Unreadable path)
+IsRefused known origin name kind (File path e) = HasNoZone known origin name kind (File path e)
+IsRefused known origin name kind (Zone path e) = HasNoZone known origin name kind (Zone path e)
+IsRefused known origin name kind Memory = Unit {0}
+IsRefused known origin name kind Output = ⊥
+IsRefused known origin name kind Settings = ⊥
+IsRefused known origin name kind Socket = ⊥
+IsRefused known origin name kind Threads = ⊥
+IsRefused known origin name kind (Script path e) = ⊥
+IsRefused known origin name kind (Block path line e) = ⊥
+IsRefused known origin name kind (World path e) = ⊥

@@ -1,0 +1,110 @@
+//! A query and its reply, as bytes.
+ghost use Rattle.std.specs.Prelude.{◌≡◌, [], IfOk, string_bytes};
+ghost use Rattle.rdata.specs.Types.{type_number};
+ghost use Rattle.layout.specs.Messages.{encoding};
+ghost use Rattle.front.specs.declared.queries.Asked.TheVariants as asked;
+ghost use Rattle.lines.specs.Lines.{ArePrinted};
+ghost use Rattle.commands.specs.Exchanges.{query_for, AreMessage, AreLinesOf, AreLines};
+
+use authority::Catalog;
+use causes::Cause;
+use dname::{Heap, Name, Starved};
+use front::{Asked, Query, Via, answer_local, read_query, refusal_bytes, reply_bytes};
+use lines::put_reply_bytes;
+use rdata::{INTERNET, RType, Records};
+use wire::{Header, Message, Question, Questions, UDP_LIMIT, encode};
+
+// The number of the client in the printed reply.
+const CLIENT: u64 = 1;
+
+/// The lines of the reply to a query: its bytes are written, read and answered, and the bytes of the reply
+/// are read again.
+pub fn exchange<A: Heap>(
+    alloc: A,
+    catalog: &Catalog<A>,
+    name: Name<A>,
+    kind: RType,
+) -> Result<String<A>, Starved>
+    ensures { IfOk result (λ s. AreLines A catalog.now name (type_number kind) (string_bytes s)) }
+{
+    let query = query_bytes(alloc, name, kind)?;
+    let asked = read_query(alloc, &query)?;
+    Ok(lines_of(alloc, catalog, asked)?)
+}
+
+// The lines of the reply to what was asked over UDP.
+fn lines_of<A: Heap>(alloc: A, catalog: &Catalog<A>, asked: Asked<A>) -> Result<String<A>, Starved>
+    ensures { IfOk result (λ s. AreLinesOf catalog.now asked (string_bytes s)) }
+{
+    match asked {
+        Asked::Drop => Ok(String::new(alloc)),
+        Asked::Refuse(refusal, start, echo) => {
+            let reply = refusal_bytes(alloc, refusal, start, echo.as_ref())?;
+            Ok(printed(alloc, &reply, None)?)
+        }
+        Asked::Query(query) => Ok(answer_lines(alloc, catalog, &query)?),
+    }
+}
+
+// The lines of the reply over UDP to a query.
+fn answer_lines<A: Heap>(
+    alloc: A,
+    catalog: &Catalog<A>,
+    query: &Query<A>,
+) -> Result<String<A>, Starved>
+    ensures { IfOk result (λ s. AreLinesOf catalog.now (asked.Query query.now) (string_bytes s)) }
+{
+    let outcome = answer_local(alloc, query, catalog)?;
+    let (reply, cause) = reply_bytes(alloc, query, &outcome, Via::Udp)?;
+    Ok(printed(alloc, &reply, cause)?)
+}
+
+// The lines of a reply's bytes, which are a message.
+fn printed<A: Heap>(alloc: A, reply: &[u8], cause: Option<Cause>) -> Result<String<A>, Starved>
+    requires { AreMessage reply.now }
+    ensures { IfOk result (λ s. ArePrinted reply.now 1 cause [] (string_bytes s)) }
+{
+    let mut out = String::new(alloc);
+    put_reply_bytes(alloc, &mut out, CLIENT, reply, cause)?;
+    Ok(out)
+}
+
+// The bytes of the query.
+fn query_bytes<A: Heap>(alloc: A, name: Name<A>, kind: RType) -> Result<Vec<u8, A>, Starved>
+    ensures { IfOk result (λ v. v.items ≡ encoding (query_for name (type_number kind))) }
+{
+    let mut questions = Questions::new(alloc);
+    questions.push(Question {
+        name,
+        qtype: kind.number(),
+        qclass: INTERNET,
+    })?;
+    let query = Message {
+        header: query_header(),
+        questions,
+        answer: Records::new(alloc),
+        authority: Records::new(alloc),
+        additional: Records::new(alloc),
+    };
+    // A header and one question have at most 271 bytes: only memory can be refused.
+    match encode(alloc, &query, UDP_LIMIT) {
+        Ok(bytes) => Ok(bytes),
+        Err(_) => Err(Starved),
+    }
+}
+
+fn query_header() -> Header
+    ensures { result ≡ (query_for [] 0).header }
+{
+    Header {
+        id: 1,
+        qr: false,
+        opcode: 0,
+        aa: false,
+        tc: false,
+        rd: false,
+        ra: false,
+        z: 0,
+        rcode: 0,
+    }
+}

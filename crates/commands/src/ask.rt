@@ -1,0 +1,47 @@
+//! `ask`: one query, to one zone.
+ghost use Rattle.std.specs.Prelude.{◌≡◌, [], ◌∷◌, IfOk, IfErr, string_bytes};
+ghost use Rattle.commands.specs.Asks.{IsRefused};
+ghost use Rattle.commands.specs.Exchanges.{PrintsAnswer};
+
+use crate::answering::exchange;
+use crate::fault::Fault;
+use crate::texts::Texts;
+use crate::zones::read_zone;
+use authority::{Catalog, CatalogError};
+use dname::{Heap, Name, Starved};
+use rdata::RType;
+use zone::Zone;
+
+/// The lines of the reply that the zone in a file gives to a query for a name and a type: one over UDP, with
+/// RD clear. The words are read in this order: the origin, the name, the type; then the file.
+pub fn ask<'a, A: Heap, T: Texts>(
+    alloc: A,
+    texts: &mut T,
+    origin: &str,
+    file: &'a str,
+    name: &str,
+    kind: &str,
+) -> Result<String<A>, Fault<'a>>
+    ensures ok { IfOk result (λ s. PrintsAnswer A (T.held texts.old file.entry.now) origin.now name.now kind.now (string_bytes s)) }
+    ensures err { IfErr result (IsRefused (T.held texts.old file.entry.now) origin.now name.now kind.now) }
+{
+    let origin = Name::from_text(alloc, origin)?;
+    let name = Name::from_text(alloc, name)?;
+    let kind = RType::from_word(kind.as_bytes()).ok_or(Fault::BadType)?;
+    let zone = read_zone(alloc, texts, origin, file)?;
+    let catalog = catalog_of(alloc, zone)?;
+    Ok(exchange(alloc, &catalog, name, kind)?)
+}
+
+// The catalog of one zone.
+fn catalog_of<A: Heap>(alloc: A, zone: Zone<A>) -> Result<Catalog<A>, Starved>
+    ensures { IfOk result (λ c. c ≡ zone ∷ []) }
+{
+    let mut zones = Vec::new(alloc);
+    zones.push(zone)?;
+    match Catalog::new(zones) {
+        Ok(catalog) => Ok(catalog),
+        Err(CatalogError::Memory) => Err(Starved),
+        Err(CatalogError::Twins) => unreachable!(),
+    }
+}

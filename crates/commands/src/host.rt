@@ -1,0 +1,66 @@
+//! Where a server runs.
+ghost use Rattle.std.specs.Prelude.{◌≡◌, ◌⊎◌, IfSome};
+
+use exchange::Endpoint;
+use server::Ends;
+use std::alloc::Global;
+use std::fs;
+use std::io::Read;
+use std::net::{Net, TcpListener, TcpStream};
+use std::rt::Files;
+
+/// What the start of a server needs besides memory and files.
+pub trait Host {
+    /// Bytes from which identifiers may be drawn; none where they can't be read.
+    fn seed(&mut self) -> Option<[u8; 32]>;
+
+    /// Binds the sockets of a server: the port at which clients find it, or none where an address can't be bound.
+    fn open(&mut self, listen: Endpoint, sockets: u16) -> Option<u16>
+        ensures { IfSome result (λ port. (port ≡ listen.port) ⊎ (listen.port ≡ 0)) };
+}
+
+/// The machine on which the program runs.
+#[derive(Drop)]
+pub struct Machine<'a, R> {
+    pub(crate) runtime: &'a R,
+    pub(crate) alloc: Global,
+    /// The sockets that were bound last.
+    pub(crate) ends: Option<Ends>,
+}
+
+impl<'a, R> Machine<'a, R> {
+    /// With no socket bound.
+    pub fn new(runtime: &'a R, alloc: Global) -> Machine<'a, R> {
+        Machine {
+            runtime,
+            alloc,
+            ends: None,
+        }
+    }
+}
+
+/// Where random bytes are read.
+pub const RANDOM: &str = "/dev/urandom";
+
+impl<R> Host for Machine<'_, R>
+where
+    R: Net<Listener = TcpListener, Stream = TcpStream> + Files,
+{
+    fn seed(&mut self) -> Option<[u8; 32]> {
+        let mut seed = [0u8; 32];
+        let mut file = fs::open(self.runtime, RANDOM).ok()?;
+        file.read_exact(&mut seed).ok()?;
+        Some(seed)
+    }
+
+    fn open(&mut self, listen: Endpoint, sockets: u16) -> Option<u16> {
+        let ends = Ends::open(self.runtime, self.alloc, listen, sockets).ok()?;
+        let bound = ends.listen().ok()?;
+        self.ends = Some(ends);
+        if listen.port == 0 {
+            Some(bound.port)
+        } else {
+            Some(listen.port)
+        }
+    }
+}

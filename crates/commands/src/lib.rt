@@ -1,0 +1,22 @@
+//! What the program is asked to do, done: `ask`, `check`, `dump`, `play` and `serve`, over a source of texts, a place
+//! for a server's sockets and two writers that the caller gives. A server that `serve` started is run by `serve_at`.
+#![tactic(auto)]
+
+mod answering;
+mod ask;
+mod fault;
+mod files;
+mod host;
+mod outcome;
+mod play;
+mod run;
+mod serve;
+mod serving;
+mod texts;
+mod zones;
+
+pub use host::{Host, Machine};
+pub use outcome::{Outcome, Server};
+pub use run::{refuse_line, run_command, run_words};
+pub use serving::serve_at;
+pub use texts::{Disk, Texts};

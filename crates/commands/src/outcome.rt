@@ -1,0 +1,53 @@
+//! What a command comes to.
+ghost use Rattle.std.specs.Prelude.{◌≡◌};
+ghost use Rattle.engine.specs.Beginnings.{IsBegun};
+
+use engine::Core;
+use std::alloc::{Allocator, Global};
+use std::marker::Model;
+
+/// A server that is started and does not run yet: a resolver that has done nothing, and how many workers it has for
+/// asks over TCP.
+#[derive(Drop)]
+pub struct Server<A: Allocator = Global> {
+    pub(crate) core: Core<A>,
+    pub(crate) workers: u16,
+}
+
+impl<A: Allocator> Model for Server<A> {
+    ghost use Rattle.runs.specs.States.{State};
+    ghost use Rattle.engine.specs.Beginnings.{IsBegun};
+
+    ghost Value = { State };
+
+    ghost view = { λ s. s.core };
+
+    ghost invariant = { λ s. IsBegun s.core };
+}
+
+impl<A: Allocator> Server<A> {
+    /// One of this resolver.
+    pub(crate) fn new(core: Core<A>, workers: u16) -> Server<A>
+        requires { IsBegun core }
+        ensures { result ≡ core }
+    {
+        Server { core, workers }
+    }
+
+    /// The resolver.
+    pub fn into_core(self) -> Core<A>
+        ensures is { result ≡ self }
+        ensures begun { IsBegun result }
+    {
+        self.core
+    }
+}
+
+/// What a command comes to: its exit status, and the server that it started, which is to be run.
+#[derive(Drop)]
+pub struct Outcome<A: Allocator = Global> {
+    /// The exit status.
+    pub status: u8,
+    /// The server, only where the status is 0.
+    pub server: Option<Server<A>>,
+}

@@ -1,0 +1,171 @@
+//! Commands, done: output to one writer, a fault's line to the other, and the exit status.
+ghost use Rattle.std.specs.Prelude.{◌≡◌, None, map, string_bytes};
+ghost use Rattle.std.specs.Bool.{OnTrue};
+ghost use Rattle.std.specs.Io.KnownBytes.{Appends};
+ghost use Rattle.std.specs.declared.alloc.Global.{Global};
+ghost use Rattle.commands.specs.Faults.{IsReported};
+ghost use Rattle.commands.specs.Runs.{Ended, IsExplained, IsLineDone, IsPrinted, IsRefusedLine, IsRun, StartsFor, faults_of, shown, texts_of};
+
+use crate::ask::ask;
+use crate::fault::Fault;
+use crate::files::{check, dump};
+use crate::host::Host;
+use crate::outcome::Outcome;
+use crate::play::play;
+use crate::serve::serve;
+use crate::texts::Texts;
+use commandline::{Command, LineFault, help_text, read_words};
+use dname::Heap;
+use std::alloc::{Allocator, Global};
+use std::io::Write;
+
+/// Does what the words after the program's name ask, and gives the exit status, and the server that was started. Words
+/// that name no command are answered with the help text and status 2.
+pub fn run_words<T: Texts, H: Host, O: Write, E: Write>(
+    alloc: Global,
+    words: &[String],
+    texts: &mut T,
+    host: &mut H,
+    out: &mut O,
+    err: &mut E,
+) -> Outcome
+    ensures { IsLineDone Global (map string_bytes words.now) (T.held texts.old) (O.contents out.old) (O.contents out.new) (E.contents err.old) (E.contents err.new) result.status result.server }
+{
+    match read_words(alloc, words) {
+        Ok(command) => run_command(alloc, &command, texts, host, out, err),
+        Err(fault) => Outcome {
+            status: refuse_line(alloc, fault, out, err),
+            server: None,
+        },
+    }
+}
+
+/// Answers words that name no command: with the help text and status 2, or as want of memory.
+pub fn refuse_line<O: Write, E: Write>(
+    alloc: Global,
+    fault: LineFault,
+    out: &mut O,
+    err: &mut E,
+) -> u8
+    ensures { IsRefusedLine fault (O.contents out.old) (O.contents out.new) (E.contents err.old) (E.contents err.new) result }
+{
+    match fault {
+        LineFault::Words => explain(alloc, out, err),
+        LineFault::Memory => report(&Fault::Memory, err),
+    }
+}
+
+/// Does a command and gives the exit status: 0 done, 1 input refused, 3 no memory, 4 an unreadable file, an
+/// address that can't be bound or failed output. Of a command that fails nothing is printed but the line of its
+/// fault, unless the output itself fails. The server that `serve` starts, where all went well, is to be run.
+pub fn run_command<A: Heap, T: Texts, H: Host, O: Write, E: Write>(
+    alloc: A,
+    command: &Command,
+    texts: &mut T,
+    host: &mut H,
+    out: &mut O,
+    err: &mut E,
+) -> Outcome<A>
+    ensures run { IsRun (texts_of A (T.held texts.old) command.now) (faults_of (T.held texts.old) command.now) (O.contents out.old) (O.contents out.new) (E.contents err.old) (E.contents err.new) result.status }
+    ensures starts { StartsFor (T.held texts.old) command.now result.status result.server }
+{
+    match command {
+        Command::Ask {
+            origin,
+            file,
+            name,
+            kind,
+        } => {
+            let (origin, file) = (origin.as_str(), file.as_str());
+            let done = ask(alloc, texts, origin, file, name.as_str(), kind.as_str());
+            finished(&done, out, err)
+        }
+        Command::Check { origin, file } => {
+            let done = check(alloc, texts, origin.as_str(), file.as_str());
+            finished(&done, out, err)
+        }
+        Command::Dump { origin, file } => {
+            let done = dump(alloc, texts, origin.as_str(), file.as_str());
+            finished(&done, out, err)
+        }
+        Command::Play { world, script } => {
+            let done = play(alloc, texts, world.as_str(), script.as_str());
+            finished(&done, out, err)
+        }
+        Command::Serve { config } => serve(alloc, config.as_str(), texts, host, out, err),
+    }
+}
+
+// The same as an outcome, for a command that starts no server.
+fn finished<A: Allocator, O: Write, E: Write>(
+    done: &Result<String<A>, Fault<'_>>,
+    out: &mut O,
+    err: &mut E,
+) -> Outcome<A>
+    ensures ended { Ended (shown string_bytes done.now) (O.contents out.old) (O.contents out.new) (E.contents err.old) (E.contents err.new) result.status }
+    ensures none { result.server ≡ None }
+{
+    Outcome {
+        status: finish(done, out, err),
+        server: None,
+    }
+}
+
+// Prints what came out, and gives the exit status.
+fn finish<A: Allocator, O: Write, E: Write>(
+    done: &Result<String<A>, Fault<'_>>,
+    out: &mut O,
+    err: &mut E,
+) -> u8
+    ensures { Ended (shown string_bytes done.now) (O.contents out.old) (O.contents out.new) (E.contents err.old) (E.contents err.new) result }
+{
+    match done {
+        Ok(text) => put(text, 0, out, err),
+        Err(fault) => report(fault, err),
+    }
+}
+
+// Prints the help text, and gives the status of a line that names no command.
+fn explain<O: Write, E: Write>(alloc: Global, out: &mut O, err: &mut E) -> u8
+    ensures { IsExplained (O.contents out.old) (O.contents out.new) (E.contents err.old) (E.contents err.new) result }
+{
+    match help_text(alloc) {
+        Ok(text) => put(&text, 2, out, err),
+        Err(_) => report(&Fault::Memory, err),
+    }
+}
+
+/// Prints a text, and gives the status, unless the output fails.
+pub fn put<A: Allocator, O: Write, E: Write>(
+    text: &String<A>,
+    status: u8,
+    out: &mut O,
+    err: &mut E,
+) -> u8
+    ensures { IsPrinted (string_bytes text.now) status (O.contents out.old) (O.contents out.new) (E.contents err.old) (E.contents err.new) result }
+{
+    if written(text, out) {
+        status
+    } else {
+        let _ = report(&Fault::Output, err);
+        Fault::Output.status()
+    }
+}
+
+// Whether a text was written whole.
+fn written<A: Allocator, O: Write>(text: &String<A>, out: &mut O) -> bool
+    ensures { OnTrue result (Appends (O.contents out.old) (O.contents out.new) (string_bytes text.now)) }
+{
+    out.write_all(text.as_bytes()).is_ok() && out.flush().is_ok()
+}
+
+/// Prints the line of a fault, and gives its status: 4, that of failed output, where the line can't be
+/// printed.
+pub fn report<E: Write>(fault: &Fault<'_>, err: &mut E) -> u8
+    ensures { IsReported fault.now (E.contents err.old) (E.contents err.new) result }
+{
+    match writeln!(err, "error: {fault}") {
+        Ok(()) => fault.status(),
+        Err(_) => Fault::Output.status(),
+    }
+}

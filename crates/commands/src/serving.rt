@@ -1,0 +1,36 @@
+//! A server that was started, run.
+ghost use Rattle.commands.specs.Servers.{IsServed};
+
+use crate::fault::Fault;
+use crate::host::Machine;
+use crate::outcome::Server;
+use crate::run::report;
+use server::ServeError;
+use std::alloc::Global;
+use std::io::Write;
+use std::net::{Net, TcpListener, TcpStream};
+use std::sync::Wait;
+use std::sync::atomic::AtomicBool;
+use std::thread::Threads;
+use std::time::Clock;
+
+/// Runs a server at the sockets that this machine bound last, and gives the exit status: of a server that can't be
+/// run, that of the fault whose line is printed. No flag ends it: it runs until the program is stopped.
+pub fn serve_at<
+    R: Net<Listener = TcpListener, Stream = TcpStream> + Threads + Wait + Clock + Sync,
+    E: Write,
+>(machine: &Machine<'_, R>, server: Server<Global>, err: &mut E) -> u8
+    ensures { IsServed (E.contents err.old) (E.contents err.new) result }
+{
+    let Some(ends) = &machine.ends else {
+        return report(&Fault::Socket, err);
+    };
+    let stop = AtomicBool::new(false);
+    let workers = server.workers;
+    let core = server.into_core();
+    match service::serve(machine.runtime, machine.alloc, core, ends, workers, &stop) {
+        Ok(()) => 0,
+        Err(ServeError::Memory) => report(&Fault::Memory, err),
+        Err(ServeError::Clock) | Err(ServeError::Threads) => report(&Fault::Threads, err),
+    }
+}

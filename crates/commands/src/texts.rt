@@ -1,0 +1,50 @@
+//! Where the texts that a command names come from.
+ghost use Rattle.std.specs.Prelude.{◌≡◌, ℕ, List, Option, None, IfOk, string_bytes};
+ghost use Rattle.std.specs.Option.{option_map};
+ghost use Rattle.commands.specs.Texts.{MayHold};
+
+use dname::{Heap, Starved};
+use std::io::ErrorKind;
+use std::rt::Files;
+use std::{fs, io};
+
+/// A source of texts.
+pub trait Texts {
+    // What stands at a path, where that is known.
+    ghost held: { Self → List ℕ → Option (Option (List ℕ)) } = { λ _ _. None };
+
+    /// The text at a path; none where it can't be read or is not UTF-8.
+    fn text<A: Heap>(&mut self, alloc: A, path: &str) -> Result<Option<String<A>>, Starved>
+        ensures is { IfOk result (λ text. MayHold (held self.old path.now) (option_map string_bytes text)) }
+        ensures keeps { held self.new ≡ held self.old };
+}
+
+/// The files that the program can reach.
+#[derive(Drop)]
+pub struct Disk<'a, R> {
+    runtime: &'a R,
+}
+
+impl<'a, R: Files> Disk<'a, R> {
+    /// Those that this runtime opens.
+    pub fn new(runtime: &'a R) -> Disk<'a, R> {
+        Disk { runtime }
+    }
+}
+
+impl<R: Files> Texts for Disk<'_, R> {
+    fn text<A: Heap>(&mut self, alloc: A, path: &str) -> Result<Option<String<A>>, Starved> {
+        match read_file(alloc, self.runtime, path) {
+            Ok(text) => Ok(Some(text)),
+            Err(error) => match error.kind() {
+                ErrorKind::OutOfMemory => Err(Starved),
+                _ => Ok(None),
+            },
+        }
+    }
+}
+
+// The text of a file.
+fn read_file<A: Heap, R: Files>(alloc: A, runtime: &R, path: &str) -> io::Result<String<A>> {
+    io::read_to_string(alloc, fs::open(runtime, path)?)
+}
