@@ -1,0 +1,7 @@
+//! The tests of `engine`, from outside: by what it makes public.
+#![tactic(auto)]
+
+#[cfg(test)]
+mod fixtures;
+#[cfg(test)]
+mod tests;
