@@ -5,7 +5,7 @@ PROGRAM = crates/resolverd
 # The words of the example: which zone, its file, and what is asked.
 QUESTION = ask lab.example. $(CURDIR)/examples/lab.zone x.lab.example. TXT
 
-.PHONY: ask serve test turned try install kit
+.PHONY: ask serve bench test turned try install kit
 
 # Tells where the toolchain is not the one with which all of this was proved; the proofs are tried all the same.
 kit:
@@ -19,6 +19,11 @@ ask:
 # stopped: `dig @127.0.0.1 -p 5300 example.org` asks it.
 serve: ask
 	cd examples/serve && $(CURDIR)/$(PROGRAM)/out/resolverd serve resolverd.conf
+
+# How long the libraries' calls take, and the server of the program: README has the figures of one machine.
+bench: ask
+	cd crates/bench && rt run -- measure
+	tools/pace
 
 # The gate: every proof, every edit that must fail, every test and every run.
 test: kit

@@ -10,6 +10,19 @@ use std::rt::Runtime;
 use std::time::{Duration, Instant};
 use wire::WireError;
 
+/// Where a name that is looked up stands in its zone.
+#[derive(Clone, Copy)]
+pub enum Asked {
+    /// An address has it as its owner.
+    Owner,
+    /// A wildcard stands over it.
+    Wildcard,
+    /// Nothing.
+    Nowhere,
+    /// It is delegated.
+    UnderCut,
+}
+
 /// A kind of work.
 #[derive(Clone, Copy)]
 pub enum Work {
@@ -29,10 +42,8 @@ pub enum Work {
     BuildThousand,
     BuildTenThousand,
     BuildHundredThousand,
-    /// A look-up in a zone of so many records.
-    LookThousand,
-    LookTenThousand,
-    LookHundredThousand,
+    /// A look-up in a zone of so many hosts.
+    Look(Asked, u64),
     /// A zone of a world, of ten records; so many zones are one world.
     CheckWorld,
     /// A link kept in a cache, each for another name; and found again.
@@ -40,7 +51,7 @@ pub enum Work {
     FindLink,
 }
 
-pub const ALL: [Work; 20] = [
+pub const ALL: [Work; 29] = [
     Work::ReadName,
     Work::WriteName,
     Work::HashName,
@@ -55,9 +66,18 @@ pub const ALL: [Work; 20] = [
     Work::BuildThousand,
     Work::BuildTenThousand,
     Work::BuildHundredThousand,
-    Work::LookThousand,
-    Work::LookTenThousand,
-    Work::LookHundredThousand,
+    Work::Look(Asked::Owner, 10),
+    Work::Look(Asked::Owner, 1_000),
+    Work::Look(Asked::Owner, 100_000),
+    Work::Look(Asked::Wildcard, 10),
+    Work::Look(Asked::Wildcard, 1_000),
+    Work::Look(Asked::Wildcard, 100_000),
+    Work::Look(Asked::Nowhere, 10),
+    Work::Look(Asked::Nowhere, 1_000),
+    Work::Look(Asked::Nowhere, 100_000),
+    Work::Look(Asked::UnderCut, 10),
+    Work::Look(Asked::UnderCut, 1_000),
+    Work::Look(Asked::UnderCut, 100_000),
     Work::CheckWorld,
     Work::KeepLink,
     Work::FindLink,
@@ -89,6 +109,17 @@ pub struct Done {
     pub counted: Counted,
 }
 
+impl fmt::Display for Asked {
+    fn fmt<W: fmt::Write>(&self, f: &mut fmt::Formatter<W>) -> fmt::Result {
+        f.write_str(match self {
+            Asked::Owner => "name",
+            Asked::Wildcard => "name under a wildcard",
+            Asked::Nowhere => "missing name",
+            Asked::UnderCut => "delegated name",
+        })
+    }
+}
+
 impl fmt::Display for Work {
     fn fmt<W: fmt::Write>(&self, f: &mut fmt::Formatter<W>) -> fmt::Result {
         f.write_str(match self {
@@ -106,9 +137,7 @@ impl fmt::Display for Work {
             Work::BuildThousand => "record of 1,000 built into a zone",
             Work::BuildTenThousand => "record of 10,000 built into a zone",
             Work::BuildHundredThousand => "record of 100,000 built into a zone",
-            Work::LookThousand => "name looked up among 1,000",
-            Work::LookTenThousand => "name looked up among 10,000",
-            Work::LookHundredThousand => "name looked up among 100,000",
+            Work::Look(asked, hosts) => return write!(f, "{asked} looked up among {hosts}"),
             Work::CheckWorld => "zone of a world of 1,000 checked",
             Work::KeepLink => "link kept",
             Work::FindLink => "link found",
@@ -125,12 +154,11 @@ impl Work {
             Work::ReadName | Work::WriteName => 2_000_000,
             Work::HashName | Work::CompareNames | Work::TestUnder => 10_000_000,
             Work::DecodeReply | Work::EncodeReply => 1_000_000,
-            Work::KeepLink | Work::FindLink => 1_000_000,
+            Work::KeepLink | Work::FindLink | Work::Look(..) => 1_000_000,
             Work::DecodeTwenty | Work::EncodeTwenty => 100_000,
             Work::ReadZone | Work::BuildHundredThousand => 100_000,
-            Work::MakeSet | Work::BuildTenThousand | Work::LookThousand => 10_000,
-            Work::BuildThousand | Work::LookTenThousand | Work::CheckWorld => 1_000,
-            Work::LookHundredThousand => 100,
+            Work::MakeSet | Work::BuildTenThousand => 10_000,
+            Work::BuildThousand | Work::CheckWorld => 1_000,
         }
     }
 
@@ -141,9 +169,7 @@ impl Work {
             Work::BuildThousand | Work::BuildTenThousand | Work::BuildHundredThousand => {
                 zones::build(rt, rounds)
             }
-            Work::LookThousand => zones::look(rt, 1_000, rounds),
-            Work::LookTenThousand => zones::look(rt, 10_000, rounds),
-            Work::LookHundredThousand => zones::look(rt, 100_000, rounds),
+            Work::Look(asked, hosts) => zones::look(rt, asked, hosts, rounds),
             Work::CheckWorld => made_worlds::check(rt, rounds),
             Work::KeepLink => links::keep(rt, rounds),
             Work::FindLink => links::find(rt, rounds),

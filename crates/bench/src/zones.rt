@@ -1,5 +1,5 @@
 //! Work on zones.
-use crate::work::{Counted, Done};
+use crate::work::{Asked, Counted, Done};
 use anyhow::Result;
 use authority::{Catalog, Local};
 use dname::{Name, Starved};
@@ -22,10 +22,11 @@ fn name(alloc: Global, text: &str) -> Result<Name, Starved> {
     Name::from_text(alloc, text).map_err(|_| Starved)
 }
 
-// A zone file of so many hosts, each with an address.
+// A zone file of so many hosts, each with an address, a wildcard and a delegation.
 fn text(alloc: Global, count: u64) -> Result<String, Starved> {
     let mut text = String::new(alloc);
     text.push_str("$TTL 300\n@ SOA ns h 1 2 3 4 60\n@ NS ns\n")?;
+    text.push_str("*.wild A 192.0.2.1\ncut NS ns.cut\nns.cut A 192.0.2.2\n")?;
     for host in 0..count {
         write!(text, "host{host} A 192.0.2.{}\n", host % 256)?;
     }
@@ -69,17 +70,33 @@ pub fn build<R: Runtime + AllocGlobal>(rt: &R, rounds: u64) -> Result<Done> {
     })
 }
 
-pub fn look<R: Runtime + AllocGlobal>(rt: &R, size: u64, rounds: u64) -> Result<Done> {
+// A name that stands so in the zone.
+fn asked_name(alloc: Global, asked: Asked) -> Result<Name, Starved> {
+    match asked {
+        Asked::Owner => name(alloc, "host5.lab.example."),
+        Asked::Wildcard => name(alloc, "x.wild.lab.example."),
+        Asked::Nowhere => name(alloc, "none.lab.example."),
+        Asked::UnderCut => name(alloc, "x.cut.lab.example."),
+    }
+}
+
+pub fn look<R: Runtime + AllocGlobal>(
+    rt: &R,
+    asked: Asked,
+    hosts: u64,
+    rounds: u64,
+) -> Result<Done> {
     let alloc = rt.alloc();
     let mut zones = Vec::new(alloc);
-    zones.push(zone(alloc, size)?)?;
+    zones.push(zone(alloc, hosts)?)?;
     let catalog = Catalog::new(zones).map_err(|_| Starved)?;
-    let asked = name(alloc, "host500.lab.example.")?;
+    let asked = asked_name(alloc, asked)?;
     let start = Instant::now(rt)?;
     let mut sum = 0u64;
     for _ in 0..rounds {
-        if let Local::Link(_) = catalog.look(alloc, &asked, RType::A)? {
-            sum = sum.wrapping_add(1);
+        match catalog.look(alloc, &asked, RType::A)? {
+            Local::Link(_) | Local::Cut(..) => sum = sum.wrapping_add(1),
+            Local::NotHere => {}
         }
     }
     let taken = start.elapsed(rt)?;

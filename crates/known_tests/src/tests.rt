@@ -176,113 +176,202 @@ fn cut<A: Heap>(alloc: A, at: &str) -> Result<Cut<A>, Starved> {
     cut_of(alloc, at, servers.as_slice(), glue.as_slice())
 }
 
+// What is done with a resolver that has asked nobody, and what has to come of it.
+#[derive(Clone, Copy)]
+enum Step {
+    // An address of that owner is kept at that moment; it lives for five seconds.
+    Learn(&'static str, u64),
+    // A cut is kept for so many seconds.
+    LearnCut(&'static str, u32, u64),
+    // That address is known of a name at a moment, and goes out with that TTL.
+    Known(&'static str, u64, Addr, u32),
+    // Servers of a name are sought at a moment, at that cut.
+    Starts(&'static str, u64, &'static str),
+}
+
+impl<A: Heap> Resolver<A> {
+    fn goes(&mut self, step: Step) -> Result<bool, Starved> {
+        match step {
+            Step::Learn(owner, now) => {
+                self.learn(owner, now)?;
+                Ok(true)
+            }
+            Step::LearnCut(at, ttl, now) => {
+                self.learn_cut(at, ttl, now)?;
+                Ok(true)
+            }
+            Step::Known(asked, now, address, ttl) => {
+                Ok(self.known(asked, now)? == Some((address, ttl)))
+            }
+            Step::Starts(asked, now, at) => self.starts(asked, at, now),
+        }
+    }
+}
+
+// The place of the first of these steps of which something else comes.
+fn first_wrong<A: Heap>(alloc: A, steps: &[Step]) -> Result<Option<usize>, Starved> {
+    let mut resolver = fresh(alloc)?;
+    for (place, step) in steps.iter().enumerate() {
+        if !resolver.goes(*step)? {
+            return Ok(Some(place));
+        }
+    }
+    Ok(None)
+}
+
 #[test]
 fn zones_at_hand_come_first(rt: HostRuntime) -> Result<(), Fail> {
-    let mut resolver = fresh(rt.alloc())?;
-    resolver.learn("www.example", 0)?;
-    assert!(rt; resolver.known("www.example", 4_000)? == Some((LOCAL, 3600)));
+    let steps = [
+        Step::Learn("www.example", 0),
+        Step::Known("www.example", 4_000, LOCAL, 3600),
+    ];
+    assert_eq!(rt; first_wrong(rt.alloc(), &steps)?, None);
     Ok(())
 }
 
 #[test]
 fn a_link_is_known_to_its_last_millisecond(rt: HostRuntime) -> Result<(), Fail> {
-    let mut resolver = fresh(rt.alloc())?;
-    resolver.learn("www.test", 1_000)?;
-    assert!(rt; resolver.known("www.test", 5_999)? == Some((REMOTE, 1)));
-    assert!(rt; resolver.known("www.test", 6_000)?.is_none());
+    let steps = [
+        Step::Learn("www.test", 1_000),
+        Step::Known("www.test", 5_999, REMOTE, 1),
+        Step::Starts("www.test", 6_000, "."),
+    ];
+    assert_eq!(rt; first_wrong(rt.alloc(), &steps)?, None);
     Ok(())
 }
 
 #[test]
 fn a_kept_cut_counts_beneath_the_local_one(rt: HostRuntime) -> Result<(), Fail> {
-    let mut resolver = fresh(rt.alloc())?;
-    resolver.learn_cut("example", 60, 0)?;
-    assert!(rt; resolver.starts("a.b.sub.example", "sub.example", 0)?);
-    resolver.learn_cut("b.sub.example", 60, 0)?;
-    assert!(rt; resolver.starts("a.b.sub.example", "b.sub.example", 0)?);
-    assert!(rt; resolver.starts("c.sub.example", "sub.example", 0)?);
+    let steps = [
+        Step::LearnCut("example", 60, 0),
+        Step::Starts("a.b.sub.example", 0, "sub.example"),
+        Step::LearnCut("b.sub.example", 60, 0),
+        Step::Starts("a.b.sub.example", 0, "b.sub.example"),
+        Step::Starts("c.sub.example", 0, "sub.example"),
+    ];
+    assert_eq!(rt; first_wrong(rt.alloc(), &steps)?, None);
     Ok(())
 }
 
 // A week is 604,800 seconds.
 #[test]
 fn a_cut_is_kept_for_a_week_at_most(rt: HostRuntime) -> Result<(), Fail> {
-    let mut resolver = fresh(rt.alloc())?;
-    resolver.learn_cut("test", 604_801, 0)?;
-    assert!(rt; resolver.starts("www.test", "test", 604_799_999)?);
-    assert!(rt; resolver.starts("www.test", ".", 604_800_000)?);
+    let steps = [
+        Step::LearnCut("test", 604_801, 0),
+        Step::Starts("www.test", 604_799_999, "test"),
+        Step::Starts("www.test", 604_800_000, "."),
+    ];
+    assert_eq!(rt; first_wrong(rt.alloc(), &steps)?, None);
     Ok(())
+}
+
+// Whom a frame at the cut asks first.
+fn first_asked<A: Heap>(
+    alloc: A,
+    stores: &mut Stores<DefaultHasher, A>,
+) -> Result<Option<Addr>, Starved> {
+    let cut = cut(alloc, "test")?;
+    let mut frame = stores.open(alloc, &cut, 0)?;
+    Ok(frame.next_address())
+}
+
+// Whom it asks next, once another address was found.
+fn asked_once_found<A: Heap>(
+    alloc: A,
+    stores: &mut Stores<DefaultHasher, A>,
+) -> Result<Option<Addr>, Starved> {
+    let cut = cut(alloc, "test")?;
+    let mut set = Records::new(alloc);
+    set.push(record(alloc, "ns.test", 60, RData::A(HINT))?)?;
+    let found = found_addresses(alloc, set.as_slice())?;
+    let mut frame = stores.open(alloc, &cut, 0)?;
+    frame.next_address();
+    stores.add(&mut frame, &found)?;
+    Ok(frame.next_address())
+}
+
+// Whom frames ask after LOCAL was silent, after it answered twice, and once HINT was found.
+fn asked<A: Heap>(alloc: A) -> Result<[Option<Addr>; 3], Starved> {
+    let mut stores = stores(alloc)?;
+    stores.timed_out(LOCAL)?;
+    let slow = first_asked(alloc, &mut stores)?;
+    stores.answered(LOCAL);
+    stores.answered(LOCAL);
+    let quick = first_asked(alloc, &mut stores)?;
+    Ok([slow, quick, asked_once_found(alloc, &mut stores)?])
 }
 
 // They are asked by their penalties, and found ones join them.
 #[test]
 fn frames_open_by_penalties(rt: HostRuntime) -> Result<(), Fail> {
-    let mut stores = stores(rt.alloc())?;
-    stores.timed_out(LOCAL)?;
-    let mut frame = stores.open(rt.alloc(), &cut(rt.alloc(), "test")?, 0)?;
-    assert!(rt; frame.next_address() == Some(REMOTE));
-    stores.answered(LOCAL);
-    stores.answered(LOCAL);
-    let mut frame = stores.open(rt.alloc(), &cut(rt.alloc(), "test")?, 0)?;
-    assert!(rt; frame.next_address() == Some(LOCAL));
-    let set = [record(rt.alloc(), "ns.test", 60, RData::A(HINT))?];
-    stores.add(&mut frame, &found_addresses(rt.alloc(), &set)?)?;
-    assert!(rt; frame.next_address() == Some(HINT));
+    let wanted = [Some(REMOTE), Some(LOCAL), Some(HINT)];
+    assert_eq!(rt; asked(rt.alloc())?, wanted);
     Ok(())
+}
+
+// An alias without time to live, accepted at moment 1,000.
+fn accepted<A: Heap>(alloc: A) -> Result<Taken<A>, Starved> {
+    let target = RData::Cname(name(alloc, "www.test")?);
+    let alias = Link::Alias(record(alloc, "a.test", 0, target)?);
+    Ok(Taken::accepted(name(alloc, "a.test")?, alias, 1_000))
+}
+
+// Whether it is dead later on, how many labels its target has, and whether it is a link of its name.
+fn shown<A: Heap>(alloc: A) -> Result<(bool, Option<usize>, bool), Starved> {
+    let owner = name(alloc, "a.test")?;
+    let taken = accepted(alloc)?;
+    let labels = taken.alias_target().map(|to| to.labels());
+    let is_alias = matches!(taken.link(), Link::Alias(_)) && *taken.name() == owner;
+    let dead = taken.is_dead(9_000);
+    Ok((dead, labels, is_alias && taken.into_name() == owner))
 }
 
 // What a server gives for the query itself is used even if it is over at once; what is kept is not.
 #[test]
 fn accepted_links_do_not_die(rt: HostRuntime) -> Result<(), Fail> {
-    let target = RData::Cname(name(rt.alloc(), "www.test")?);
-    let alias = Link::Alias(record(rt.alloc(), "a.test", 0, target)?);
-    let taken = Taken::accepted(name(rt.alloc(), "a.test")?, alias, 1_000);
-    assert!(rt; !taken.is_dead(9_000));
-    assert!(rt; taken.alias_target().is_some_and(|to| to.labels() == 2));
-    assert!(rt; matches!(taken.link(), Link::Alias(_)));
-    assert!(rt; *taken.name() == name(rt.alloc(), "a.test")?);
-    assert!(rt; taken.into_name() == name(rt.alloc(), "a.test")?);
+    assert_eq!(rt; shown(rt.alloc())?, (false, Some(2), true));
     Ok(())
 }
 
 // One look-up of each kind.
-fn play<A: Heap>(alloc: A) -> Result<bool, Starved> {
-    let mut resolver = fresh(alloc)?;
-    resolver.learn("www.test", 0)?;
-    resolver.learn_cut("b.sub.example", 60, 0)?;
-    Ok(
-        resolver.known("www.example", 0)? == Some((LOCAL, 3600))
-            && resolver.known("www.test", 0)? == Some((REMOTE, 5))
-            && resolver.starts("other.test", ".", 0)?
-            && resolver.starts("a.sub.example", "sub.example", 0)?
-            && resolver.starts("b.sub.example", "b.sub.example", 0)?,
-    )
-}
+const EACH: [Step; 7] = [
+    Step::Learn("www.test", 0),
+    Step::LearnCut("b.sub.example", 60, 0),
+    Step::Known("www.example", 0, LOCAL, 3600),
+    Step::Known("www.test", 0, REMOTE, 5),
+    Step::Starts("other.test", 0, "."),
+    Step::Starts("a.sub.example", 0, "sub.example"),
+    Step::Starts("b.sub.example", 0, "b.sub.example"),
+];
 
 #[test]
 fn each_growth_refused_in_turn(rt: HostRuntime) -> Result<(), Fail> {
     let heap = Refusing::new(rt.alloc());
-    assert!(rt; play(&heap)?);
+    assert_eq!(rt; first_wrong(&heap, &EACH)?, None);
     let growths = heap.growths();
     assert!(rt; growths >= 50);
     for n in 0..growths {
         heap.refuse_after(n);
-        assert!(rt; play(&heap).is_err(), "growth {n}");
+        assert!(rt; first_wrong(&heap, &EACH).is_err(), "growth {n}");
     }
     Ok(())
 }
 
-// A cached answer of one address.
-#[test]
-fn growths_of_a_cached_answer(rt: HostRuntime) -> Result<(), Fail> {
-    let heap = Refusing::new(rt.alloc());
+// How many growths a cached answer of one address takes.
+fn growths_of_find<A: Heap>(alloc: A) -> Result<Option<u64>, Starved> {
+    let heap = Refusing::new(alloc);
+    let asked = name(&heap, "www.test")?;
     let mut resolver = fresh(&heap)?;
     resolver.learn("www.test", 0)?;
-    let asked = name(&heap, "www.test")?;
     let before = heap.growths();
-    let found = resolver.find_name(&asked, 0)?;
-    let growths = heap.growths().saturating_sub(before);
-    assert!(rt; matches!(found, Found::Known(_)));
-    assert_eq!(rt; growths, 5);
+    match resolver.find_name(&asked, 0)? {
+        Found::Known(_) => Ok(Some(heap.growths().saturating_sub(before))),
+        Found::Start(_) => Ok(None),
+    }
+}
+
+#[test]
+fn growths_of_a_cached_answer(rt: HostRuntime) -> Result<(), Fail> {
+    assert_eq!(rt; growths_of_find(rt.alloc())?, Some(5));
     Ok(())
 }

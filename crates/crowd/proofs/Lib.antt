@@ -1,0 +1,5 @@
+mod Counting
+mod Listing
+mod Numbering
+mod Right
+mod Running

@@ -1,0 +1,19 @@
+use Rattle.std.proofs.Common.{◌≡◌, List, arith, ap, length, map, Vec, Global}
+use Rattle.std.proofs.lemmas.List.{length_push}
+use Rattle.orders.specs.Orders.{order_seen}
+use Rattle.orders.specs.declared.order.Order.{Order}
+use Rattle.crowd.specs.declared.asking.Asking.{Asking}
+use Rattle.crowd.proofs.Listing.{script_more}
+use Rattle.crowd.proofs.lists.lists_of.Goals as goal
+
+pub loop-script-preserved : goal.loop-script-preserved
+loop-script-preserved c =
+    let longer = c.in_ok-push.ensures.items in
+    let same = c.loop-script.invariant.0 in
+    let lists = length_push c.loop-script.lists.items c.in-Some-2.list in
+    let scripts = length_push c.loop-script.yielded c.in-Some.script in
+    let all = ap (λ (l : List (Vec (Asking Global) Global)). length l) longer in (
+      omega (arith, same, lists, scripts, all),
+      script_more (λ (s : Vec (Order Global) Global). map order_seen s.items) (λ (l : Vec (Asking Global) Global). l.items) c.loop-script.yielded c.in-Some.script c.loop-script.lists.items _ _ _ _ _
+          c.loop-script.invariant.1 (rw c.in-Some-2.is at c.in_ok-list.ensures) longer,
+    )

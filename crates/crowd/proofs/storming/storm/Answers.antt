@@ -1,0 +1,11 @@
+use Rattle.std.proofs.Common.{map, ap, Vec, Global}
+use Rattle.orders.specs.Orders.{order_seen}
+use Rattle.orders.specs.declared.order.Order.{Order}
+use Rattle.crowd.specs.declared.asking.Asking.{Asking}
+use Rattle.crowd.proofs.Right.{storm_of}
+use Rattle.crowd.proofs.storming.storm.Goals as goal
+
+pub returns : goal.returns
+returns g c =
+    storm_of c.args.start (map (λ (s : Vec (Order Global) Global). map order_seen s.items) c.args.scripts.items) _ _ _ _ c.in_ok-totals.totals c.new-clients.ensures
+    (ap (map (λ (l : Vec (Asking Global) Global). l.items)) c.deref.ensures.value) (rw c.in-Some.is at c.in_ok-queries.ensures.asks) c.in_ok-totals.ensures

@@ -1,0 +1,4 @@
+pub mod Counts
+pub mod Errands
+pub mod Lists
+pub mod Runs

@@ -1,0 +1,38 @@
+-- What scripts ask, where they have `at` and `ask` lines only.
+use Rattle.std.specs.Prelude.{◌≡◌, ℕ, ◌+◌, Bool, List, [], ◌∷◌, length}
+use Rattle.dname.specs.Labels.{Name}
+use Rattle.rdata.specs.Types.{type_number}
+use Rattle.rdata.specs.declared.rtype.RType.{RType}
+use Rattle.wire.specs.declared.via.Via.{Via}
+use Rattle.layout.specs.Messages.{encoding}
+use Rattle.orders.specs.Orders.{Order, at, ask, raw, carry, cut, lose, run, tick}
+use Rattle.tally.specs.Clients.{Queries, IsHeard, query_for}
+use Rattle.crowd.specs.declared.asking.Asking.{Asking}
+
+-- One query more, at a moment: its client has the next number.
+pub record AsksOne {A : Type 0} (now : ℕ) (name : Name) (kind : RType) (by : Via) (rd : Bool) (q : Asking A) (old new : Queries) : Type 0 where
+  pub moment : q.moment ≡ now
+  pub client : q.client ≡ length old + 1
+  pub way : q.way ≡ by
+  pub bytes : q.bytes ≡ encoding (query_for (length old + 1) name (type_number kind) rd)
+  pub heard : IsHeard q.bytes old new
+
+-- A script asks these queries, in their order.
+abbrev pub Asks : {A : Type 0} → ℕ → List Order → Queries → List (Asking A) → Queries → Type 0
+Asks now [] old qs new = (qs ≡ []) × (new ≡ old)
+Asks now (at n ∷ os) old qs new = Asks n os old qs new
+Asks {A} now (ask name kind by rd ∷ os) old qs new =
+    (q : Asking A) × (rest : List (Asking A)) × (middle : Queries) × (qs ≡ q ∷ rest) × AsksOne now name kind by rd q old middle × Asks now os middle rest new
+Asks now (raw bytes by ∷ os) old qs new = ⊥
+Asks now (carry k ∷ os) old qs new = ⊥
+Asks now (cut k ∷ os) old qs new = ⊥
+Asks now (lose k ∷ os) old qs new = ⊥
+Asks now (run ∷ os) old qs new = ⊥
+Asks now (tick ∷ os) old qs new = ⊥
+
+-- So do several, one list for each, with clients numbered on.
+abbrev pub AsksAll : {A : Type 0} → List (List Order) → Queries → List (List (Asking A)) → Queries → Type 0
+AsksAll [] old lists new = (lists ≡ []) × (new ≡ old)
+AsksAll {A} (script ∷ scripts) old lists new =
+    (list : List (Asking A)) × (rest : List (List (Asking A))) × (middle : Queries) × (lists ≡ list ∷ rest)
+    × Asks 0 script old list middle × AsksAll scripts middle rest new

@@ -1,0 +1,13 @@
+//! What a worker asks.
+use exchange::Bytes;
+use front::Via;
+use std::alloc::{Allocator, Global};
+
+/// Bytes that a client sends by its way, and their moment in milliseconds.
+#[derive(Drop)]
+pub struct Asking<A: Allocator = Global> {
+    pub moment: u64,
+    pub client: u64,
+    pub way: Via,
+    pub bytes: Bytes<A>,
+}
