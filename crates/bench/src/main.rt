@@ -7,6 +7,7 @@ mod links;
 mod made_worlds;
 mod messages;
 mod names;
+mod open_asks;
 mod resident;
 mod work;
 mod zones;

@@ -1,7 +1,7 @@
 //! The kinds of work.
 ghost use Rattle.std.specs.Prelude.{◌<◌};
 
-use crate::{links, made_worlds, messages, names, zones};
+use crate::{links, made_worlds, messages, names, open_asks, zones};
 use anyhow::Result;
 use dname::Heap;
 use refusing::Refusing;
@@ -49,9 +49,12 @@ pub enum Work {
     /// A link kept in a cache, each for another name; and found again.
     KeepLink,
     FindLink,
+    /// A datagram's query found among so many open ones, and the query that is due first.
+    FindAskOfOne,
+    FindAskOfMany,
 }
 
-pub const ALL: [Work; 29] = [
+pub const ALL: [Work; 31] = [
     Work::ReadName,
     Work::WriteName,
     Work::HashName,
@@ -81,6 +84,8 @@ pub const ALL: [Work; 29] = [
     Work::CheckWorld,
     Work::KeepLink,
     Work::FindLink,
+    Work::FindAskOfOne,
+    Work::FindAskOfMany,
 ];
 
 /// Work on messages.
@@ -141,6 +146,8 @@ impl fmt::Display for Work {
             Work::CheckWorld => "zone of a world of 1,000 checked",
             Work::KeepLink => "link kept",
             Work::FindLink => "link found",
+            Work::FindAskOfOne => "ask found among 1",
+            Work::FindAskOfMany => "ask found among 1,024",
         })
     }
 }
@@ -153,6 +160,7 @@ impl Work {
         match self {
             Work::ReadName | Work::WriteName => 2_000_000,
             Work::HashName | Work::CompareNames | Work::TestUnder => 10_000_000,
+            Work::FindAskOfOne | Work::FindAskOfMany => 10_000_000,
             Work::DecodeReply | Work::EncodeReply => 1_000_000,
             Work::KeepLink | Work::FindLink | Work::Look(..) => 1_000_000,
             Work::DecodeTwenty | Work::EncodeTwenty => 100_000,
@@ -173,6 +181,8 @@ impl Work {
             Work::CheckWorld => made_worlds::check(rt, rounds),
             Work::KeepLink => links::keep(rt, rounds),
             Work::FindLink => links::find(rt, rounds),
+            Work::FindAskOfOne => open_asks::find(rt, 1, rounds),
+            Work::FindAskOfMany => open_asks::find(rt, 1_024, rounds),
             _ => {
                 let start = Instant::now(rt)?;
                 let sum = self.times(rt, rounds)?;

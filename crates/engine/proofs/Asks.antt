@@ -1,12 +1,14 @@
 -- How an ask that goes out is one of the resolver's.
-use Rattle.std.proofs.Common.{◌≡◌, ℕ, ◌+◌, inr, List, [], ◌∷◌, refl, sym, ◌∙◌, ap, subst}
+use Rattle.std.proofs.Common.{◌≡◌, ℕ, ◌+◌, ◌<◌, inr, List, [], ◌∷◌, refl, sym, ◌∙◌, ap, subst, arith}
+use Rattle.std.specs.List.{Contains}
 use Rattle.dname.specs.Labels.{Name}
 use Rattle.rdata.specs.declared.addr.Addr.{Addr}
 use Rattle.resolution.specs.Jobs.{Job, wait_of_job}
 use Rattle.runs.specs.States.{Action, Asker, Asking, IsFor, ByUdp, ByTcp, Open, open_query, State, word_of, word_taken, low_half, socket_of}
 use Rattle.runs.specs.Messages.{IsSent}
 use Rattle.runs.specs.Steps.{IsInUse, IsRaised, AreWith, WaitsByUdp, WaitsByTcp}
-use Rattle.queries.specs.Lookups.{HasNo, IsTakenId}
+use Rattle.queries.specs.Lookups.{IsOnStream, HasNo, IsTakenId}
+use Rattle.engine.specs.Works.{IsSound}
 use Rattle.engine.specs.Moves.{Puts, Halts}
 
 -- Where the query itself is not open, asks in use are those of all open queries.
@@ -21,6 +23,13 @@ in_use qs k sock server from id none h = record {
 module _ (s s1 : State) (drew : s1 ≡ record s { generator = word_taken s.generator }) where
   pub still_none : (k : ℕ) → HasNo s.queries k → HasNo s1.queries k
   still_none k h = subst (λ (z : State). HasNo z.queries k) (sym drew) h
+
+  pub over_fresh : IsSound s → (q : Open) → Contains s1.queries q → IsOnStream s1.asked q → ⊥
+  over_fresh sound q there on =
+      let was : Contains s.queries q = subst (λ (z : State). Contains z.queries q) drew there in
+      let asked : s1.asked ≡ s.asked = ap (λ (z : State). z.asked) drew in
+      let less : s1.asked < s.asked = sound.asked q was s1.asked on in
+      omega arith
 
   module _ (mid : State) (who : Asker) (k : ℕ) (job : Job) (ask : Asking) (due : ℕ) (a : Action) (h : Puts s1 (open_query k who job ask due) a mid) where
     sent_there : IsSent (s.site).port ask a

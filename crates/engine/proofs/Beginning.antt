@@ -12,4 +12,5 @@ first_is_sound s some early none = record {
   clock = omega (arith, early);
   few = subst (λ (qs : List Open). length qs ≤ most_open) (sym none) (omega arith);
   opened = λ q m. absurd (none_in q (subst (λ (qs : List Open). Contains qs q) none m));
+  asked = λ q m number path. absurd (none_in q (subst (λ (qs : List Open). Contains qs q) none m));
 }

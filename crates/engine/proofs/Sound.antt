@@ -1,11 +1,11 @@
 -- A step of a sound state leaves a sound one.
-use Rattle.std.proofs.Common.{◌≡◌, ℕ, ◌+◌, ◌<◌, ◌≤◌, min, max, ◌⊎◌, inl, inr, Option, Some, None, List, length, Contains, refl, sym, subst, ap, arith}
+use Rattle.std.proofs.Common.{◌≡◌, ◌∙◌, ℕ, ◌+◌, ◌<◌, ◌≤◌, min, max, ◌⊎◌, inl, inr, Option, Some, None, List, length, Contains, refl, sym, subst, ap, arith}
 use Rattle.wire.specs.declared.via.Via.{Via}
 use Rattle.front.specs.declared.queries.Asked.{Asked}
 use Rattle.front.specs.declared.queries.Asked.TheVariants as heard
 use Rattle.front.specs.declared.queries.Outcome.{Outcome}
 use Rattle.resolution.specs.Jobs.{Stores, Job, wait_of_job, Input, Next, Ask, AskTcp, Done, Fail}
-use Rattle.runs.specs.States.{Event, Client, Datagram, TcpReply, TcpFailed, Tick, Action, Served, Plain, Asker, asker, Open, open_query, Site, State, AreApart, latest, told_moment, moved}
+use Rattle.runs.specs.States.{Event, Client, Datagram, TcpReply, TcpFailed, Tick, Action, Served, Plain, Asker, asker, ByUdp, ByTcp, Open, open_query, Site, State, AreApart, latest, told_moment, moved}
 use Rattle.runs.specs.Steps.{AreOthers, AreWith, Ends, Waits, Comes, Serves, IsAsking, most_open, IsOpened, at_once, crowded, admitted, IsHandled, IsIgnored, Hears, IsTicked, IsLeft, IsTurn}
 use Rattle.engine.specs.Works.{IsSound}
 use Rattle.engine.proofs.Counts.{HasNumber, others_no_more, with_no_more, with_one_more}
@@ -20,6 +20,7 @@ moved_is_sound s e sound = record {
   clock = no_later s.clock (told_moment e) latest sound.clock;
   few = sound.few;
   opened = sound.opened;
+  asked = sound.asked;
 }
 
 module _ (s : State) (sound : IsSound s) (new : State) (apart : AreApart new.queries) where
@@ -27,28 +28,31 @@ module _ (s : State) (sound : IsSound s) (new : State) (apart : AreApart new.que
   same_is_sound same = subst (λ (z : State). IsSound z) (sym same) sound
 
   -- The site and the clock stay.
-  still_sound : new.site ≡ s.site → new.clock ≡ s.clock → length new.queries ≤ most_open → ((q : Open) → Contains new.queries q → q.number < new.opened) → IsSound new
-  still_sound site clock few opened = record {
+  still_sound : new.site ≡ s.site → new.clock ≡ s.clock → length new.queries ≤ most_open → ((q : Open) → Contains new.queries q → q.number < new.opened)
+      → ((q : Open) → Contains new.queries q → (number : ℕ) → (q.ask).path ≡ ByTcp number → number < new.asked) → IsSound new
+  still_sound site clock few opened asked = record {
     sockets = subst (λ (here : Site). 0 < here.sockets) (sym site) sound.sockets;
     clock = subst (λ (now : ℕ). now ≤ latest) (sym clock) sound.clock;
     few = few;
     opened = opened;
+    asked = asked;
   }
 
   -- A query is over, or gone.
-  without_is_sound : (k : ℕ) → AreOthers k s.queries new.queries → new.site ≡ s.site → new.clock ≡ s.clock → new.opened ≡ s.opened → IsSound new
-  without_is_sound k others site clock opened =
+  without_is_sound : (k : ℕ) → AreOthers k s.queries new.queries → new.site ≡ s.site → new.clock ≡ s.clock → new.opened ≡ s.opened → new.asked ≡ s.asked → IsSound new
+  without_is_sound k others site clock opened asked =
       let few : length s.queries ≤ most_open = sound.few in
       let less : length new.queries ≤ length s.queries = others_no_more k s.queries new.queries others apart in
       still_sound site clock (omega arith) (λ q there. subst (λ (n : ℕ). q.number < n) (sym opened) (sound.opened q (others.only q there).0))
+      (λ q there number path. subst (λ (n : ℕ). number < n) (sym asked) (sound.asked q (others.only q there).0 number path))
 
   ends_is_sound : (who : Asker) (k : ℕ) (o : Outcome Plain) (stores : Stores) (out : List Action) → Ends s who k o stores out new → IsSound new
   ends_is_sound who k o stores out h =
-      without_is_sound k h.queries (ap (λ (z : State). z.site) h.state) (ap (λ (z : State). z.clock) h.state) (ap (λ (z : State). z.opened) h.state)
+      without_is_sound k h.queries (ap (λ (z : State). z.site) h.state) (ap (λ (z : State). z.clock) h.state) (ap (λ (z : State). z.opened) h.state) (ap (λ (z : State). z.asked) h.state)
 
   left_is_sound : (k : ℕ) (IsOnTheWay : Stores → Type 0) → IsLeft s k IsOnTheWay new → IsSound new
   left_is_sound k IsOnTheWay h =
-      without_is_sound k h.queries (ap (λ (z : State). z.site) h.state) (ap (λ (z : State). z.clock) h.state) (ap (λ (z : State). z.opened) h.state)
+      without_is_sound k h.queries (ap (λ (z : State). z.site) h.state) (ap (λ (z : State). z.clock) h.state) (ap (λ (z : State). z.opened) h.state) (ap (λ (z : State). z.asked) h.state)
 
   -- A query waits: there was one of its number, or room for one more.
   waits_is_few : (after : Open) → AreWith after s.queries new.queries → HasNumber s.queries after.number ⊎ (length s.queries < most_open) → length new.queries ≤ most_open
@@ -61,10 +65,11 @@ module _ (s : State) (sound : IsSound s) (new : State) (apart : AreApart new.que
       omega arith
 
   waits_is_sound : (after : Open) (opened asked : ℕ) (stores : Stores) (out : List Action) → HasNumber s.queries after.number ⊎ (length s.queries < most_open) → after.number < opened → s.opened ≤ opened
-      → Waits s after opened asked stores out new → IsSound new
-  waits_is_sound after opened asked stores out room below grows h =
+      → ((number : ℕ) → (after.ask).path ≡ ByTcp number → number < asked) → s.asked ≤ asked → Waits s after opened asked stores out new → IsSound new
+  waits_is_sound after opened asked stores out room below grows over more h =
       still_sound (ap (λ (z : State). z.site) h.state) (ap (λ (z : State). z.clock) h.state) (waits_is_few after h.queries room)
       (λ q there. subst (λ (n : ℕ). q.number < n) (sym (ap (λ (z : State). z.opened) h.state)) (numbered q there))
+      (λ q there number path. subst (λ (n : ℕ). number < n) (sym (ap (λ (z : State). z.asked) h.state)) (given q there number path))
     where
       numbered : (q : Open) → Contains new.queries q → q.number < opened
       numbered q there = elim ((h.queries).only q there) [
@@ -72,10 +77,18 @@ module _ (s : State) (sound : IsSound s) (new : State) (apart : AreApart new.que
         | inr was ↦ let lower : q.number < s.opened = sound.opened q was.0 in omega arith
       ]
 
+      given : (q : Open) → Contains new.queries q → (number : ℕ) → (q.ask).path ≡ ByTcp number → number < asked
+      given q there number path = elim ((h.queries).only q there) [
+        | inl e ↦ over number (sym (ap (λ (p : Open). (p.ask).path) e) ∙ path)
+        | inr was ↦ let lower : number < s.asked = sound.asked q was.0 number path in omega arith
+      ]
+
   comes_is_sound : (who : Asker) (k opened : ℕ) (next : Next) (job : Job) (stores : Stores) (out : List Action) → HasNumber s.queries k ⊎ (length s.queries < most_open) → k < opened → s.opened ≤ opened
       → Comes s who k opened next job stores out new → IsSound new
-  comes_is_sound who k opened (Ask server n t) job stores out room below grows h = waits_is_sound (open_query k who job h.ask (s.clock + wait_of_job job)) opened s.asked stores out room below grows h.waits
-  comes_is_sound who k opened (AskTcp server n t) job stores out room below grows h = waits_is_sound (open_query k who job h.ask (s.clock + 3000)) opened (s.asked + 1) stores out room below grows h.waits
+  comes_is_sound who k opened (Ask server n t) job stores out room below grows h = waits_is_sound (open_query k who job h.ask (s.clock + wait_of_job job)) opened s.asked stores out room below grows
+      (λ number path. let clash : ByUdp (h.goes).sock ≡ ByTcp number = sym (h.goes).path ∙ path in cc) (omega arith) h.waits
+  comes_is_sound who k opened (AskTcp server n t) job stores out room below grows h = waits_is_sound (open_query k who job h.ask (s.clock + 3000)) opened (s.asked + 1) stores out room below grows
+      (λ number path. let both : ByTcp s.asked ≡ ByTcp number = sym (h.goes).path ∙ path in let same : s.asked ≡ number = cc in omega arith) (omega arith) h.waits
   comes_is_sound who k opened (Done chain last) job stores out room below grows h = ends_is_sound who k _ stores out h
   comes_is_sound who k opened (Fail c) job stores out room below grows h = ends_is_sound who k _ stores out h
 

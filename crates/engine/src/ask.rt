@@ -5,7 +5,7 @@ ghost use Rattle.exchange.specs.Views.{action_view};
 ghost use Rattle.resolution.specs.Jobs.{wait_of_job};
 ghost use Rattle.runs.specs.States.{open_query, word_of, word_taken, low_half, socket_of};
 ghost use Rattle.runs.specs.Steps.{most_open, WaitsByUdp, WaitsByTcp};
-ghost use Rattle.queries.specs.Lookups.{HasNo};
+ghost use Rattle.queries.specs.Lookups.{HasNo, IsFree};
 ghost use Rattle.engine.specs.Works.{state_of, IsSound};
 ghost use Rattle.engine.specs.Moves.{Puts, Halts};
 ghost use Rattle.engine.specs.Replies.{alone};
@@ -30,7 +30,7 @@ impl<A: Heap> Works<A> {
         self.generator.next_word()
     }
 
-    // A query's ask goes out, and the query waits for it.
+    // A query's ask, which is like no other one, goes out, and the query waits for it.
     fn put(
         &mut self,
         number: u64,
@@ -39,7 +39,8 @@ impl<A: Heap> Works<A> {
         ask: Asking<A>,
         due: u64,
     ) -> Result<Action<A>, Starved>
-        requires { HasNo self.old.queries number }
+        requires fresh { HasNo self.old.queries number }
+        requires free { IsFree self.old.queries ask }
         ensures ok { IfOk result (λ a. Puts (state_of self.old) (open_query number asker job ask due) (action_view a) (state_of self.new)) }
         ensures err { OnErr result (state_of self.new ≡ state_of self.old) }
     {

@@ -1,14 +1,14 @@
 -- Slots of open queries of which no two have one number: what a removal and an insertion make of them.
-use Rattle.std.proofs.Common.{◌≡◌, ◌≢◌, ℕ, zero, suc, ◌+◌, ◌⊎◌, inl, inr, Option, Some, None, List, [], ◌∷◌, length, refl, sym, ◌∙◌, ap, subst, arith, slice_index_or, Bor}
+use Rattle.std.proofs.Common.{◌≡◌, ◌≢◌, ℕ, zero, suc, ◌+◌, ◌⊎◌, inl, inr, Option, Some, None, List, [], ◌∷◌, length, refl, sym, ◌∙◌, ap, subst, arith, slice_index_or, is_some, Bor}
 use Rattle.std.specs.List.{Contains}
 use Rattle.std.proofs.lemmas.Bool.{cases_eq}
-use Rattle.slab.specs.Slab.{Slab, get, slab_len, values, Updates}
+use Rattle.slab.specs.Slab.{Slab, get, ContainsKey, slab_len, values, Updates}
 use Rattle.runs.specs.States.{Open, AreApart}
-use Rattle.runs.specs.Steps.{AreWith}
+use Rattle.runs.specs.Steps.{AreOthers, AreWith}
 use Rattle.queries.specs.Lookups.{HasNo, IsTheOne, IsTaken, IsApart}
 use Rattle.queries.proofs.Slots.{held, held-there, held-slot, length-held}
-use Rattle.queries.proofs.Found.{LeadsTo}
-use Rattle.std.specs.Option.{MatchOption, OnSome, option_copied}
+use Rattle.queries.specs.Indexes.{LeadsTo}
+use Rattle.std.specs.Option.{MatchOption, option_copied}
 
 abbrev AreApartIn : List (Option Open) → Type 0
 AreApartIn slots = (i j : ℕ) (v w : Open) → slice_index_or slots i None ≡ Some v → slice_index_or slots j None ≡ Some w → v.number ≡ w.number → i ≡ j
@@ -65,10 +65,13 @@ module _ (old new : Slab Open) (key : ℕ) (w : Open) (apart : IsApart old) (the
       let before = stood it.0 q it.1 in
       (held-there old.slots it.0 q before.1, λ same. before.0 (apart it.0 key q w before.1 there same))
 
+  pub remaining : AreOthers w.number (values old) (values new)
+  remaining = record { stay = stays; only = was_there }
+
   pub taken : slab_len new + 1 ≡ slab_len old → IsTaken (values old) w.number w (values new)
   taken len = record {
     one = the_one old key w apart there;
-    others = record { stay = stays; only = was_there };
+    others = remaining;
     fewer = length-held old ∙ sym len ∙ ap (λ (n : ℕ). n + 1) (sym (length-held new));
   }
 
@@ -127,26 +130,27 @@ one_of s number key apart h =
     subst (λ (o : Option Open). MatchOption o (HasNo (values s) number) (IsTheOne (values s) number)) (sym h.1)
     (subst (λ (n : ℕ). IsTheOne (values s) n h.0) h.2 one)
 
--- What a removal by the key of a number takes out.
+-- What a removal by a number takes out.
 abbrev pub Removes : List Open → ℕ → Option Open → List Open → Type 0
 Removes old number r new = MatchOption r (HasNo old number × (new ≡ old)) (λ q. IsTaken old number q new)
 
-pub removes : (old new : Slab Open) (number key : ℕ) (r : Option Open) → IsApart old → LeadsTo old number (Some key) → r ≡ get old key → Updates old new key None
-    → OnSome r (slab_len new + 1 ≡ slab_len old) → Removes (values old) number r (values new)
-removes old new number key r apart h is updates len =
-    let some : r ≡ Some h.0 = is ∙ h.1 in
-    let one_less : slab_len new + 1 ≡ slab_len old = subst (λ (o : Option Open). OnSome o (slab_len new + 1 ≡ slab_len old)) some len in
-    let out = taken old new key h.0 apart h.1 updates one_less in
-    subst (λ (o : Option Open). Removes (values old) number o (values new)) (sym some)
-    (subst (λ (n : ℕ). IsTaken (values old) n h.0 (values new)) h.2 out)
+-- What the key of a number leads to has the number.
+pub numbered : (s : Slab Open) (number key : ℕ) (w : Open) → LeadsTo s number (Some key) → get s key ≡ Some w → w.number ≡ number
+numbered s number key w led there =
+    let at_key : get s key ≡ Some led.0 = led.1 in
+    let is : led.0 ≡ w = cc in
+    sym (ap (λ (x : Open). x.number) is) ∙ led.2
+
+pub keyed_there : (s : Slab Open) (number key : ℕ) → LeadsTo s number (Some key) → ContainsKey s key
+keyed_there s number key led = ap (λ (o : Option Open). is_some o) led.1
+
+pub taken_out : (old new : Slab Open) (number key : ℕ) (w : Open) → IsApart old → LeadsTo old number (Some key) → get old key ≡ Some w → Updates old new key None → slab_len new + 1 ≡ slab_len old → IsTaken (values old) number w (values new)
+taken_out old new number key w apart led there updates len =
+    subst (λ (n : ℕ). IsTaken (values old) n w (values new)) (numbered old number key w led there) (taken old new key w apart there updates len)
 
 -- One more slot is filled.
 pub one_more : (old new : Slab Open) → slab_len new ≡ slab_len old + 1 → length (values new) ≡ length (values old) + 1
 one_more old new e = length-held new ∙ e ∙ ap (λ (n : ℕ). n + 1) (sym (length-held old))
-
--- A slab of another capacity has the same slots.
-pub grown-apart : (old new : Slab Open) (capacity : ℕ) → new ≡ record old { capacity = capacity } → IsApart old → IsApart new
-grown-apart old new capacity e apart = subst IsApart (sym e) (λ i j v w at_i at_j same. apart i j v w at_i at_j same)
 
 pub copied_match : {T : Type 0} (r : Option (Bor T)) (o : Option T) (P : Type 0) (Q : T → Type 0) → option_copied r ≡ o → MatchOption o P Q → MatchOption r P (λ q. Q q.now)
 copied_match {T} r o P Q e h =

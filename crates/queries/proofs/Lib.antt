@@ -1,6 +1,6 @@
 pub mod Slots
 pub mod Pigeons
 pub mod Apart
-pub mod Found
-pub mod First
+pub mod Waits
+pub mod Indexed
 pub mod Free

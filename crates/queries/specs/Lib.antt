@@ -1,2 +1,2 @@
+pub mod Indexes
 pub mod Lookups
-pub mod Scans

@@ -2,7 +2,7 @@
 use Rattle.std.specs.Prelude.{◌≡◌, ◌≢◌, ℕ, ◌+◌, ◌<◌, ◌≤◌, ◌⊎◌, Option, Some, None, List, [], length, Contains}
 use Rattle.slab.specs.Slab.{Slab, get}
 use Rattle.rdata.specs.declared.addr.Addr.{Addr}
-use Rattle.runs.specs.States.{ByUdp, ByTcp, Open, due_moment}
+use Rattle.runs.specs.States.{Path, ByUdp, ByTcp, Asking, Open, due_moment}
 use Rattle.runs.specs.Steps.{AreOthers}
 
 -- The query's open ask left this socket for this server under this ID; it went over TCP under this number.
@@ -15,6 +15,15 @@ IsOnStream ask q = (q.ask).path ≡ ByTcp ask
 -- Some open query's ask left this socket for this server under this ID.
 abbrev pub IsTakenId : List Open → ℕ → Addr → ℕ → Type 0
 IsTakenId qs sock server id = (q : Open) × Contains qs q × IsOnLine sock server id q
+
+-- No open query's ask is like this one: none left the socket for the server under the ID; over TCP none went under the
+-- number.
+abbrev pub IsFreeBy : List Open → Path → Addr → ℕ → Type 0
+IsFreeBy qs (ByUdp sock) server id = IsTakenId qs sock server id → ⊥
+IsFreeBy qs (ByTcp number) server id = (q : Open) → Contains qs q → IsOnStream number q → ⊥
+
+abbrev pub IsFree : List Open → Asking → Type 0
+IsFree qs a = IsFreeBy qs a.path a.server a.id
 
 -- An open query of this number is so.
 pub record Stands (P : Open → Type 0) (qs : List Open) (number : ℕ) : Type 0 where

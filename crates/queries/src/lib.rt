@@ -2,9 +2,9 @@
 //! its number, and found by its ask or by when it is due.
 #![tactic(auto)]
 
+mod indexes;
 mod open;
 mod queries;
-mod scan;
 
 pub use open::Open;
 pub use queries::Queries;

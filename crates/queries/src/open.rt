@@ -1,11 +1,11 @@
 //! One open query.
 ghost use Rattle.std.specs.Prelude.{◌≡◌};
 ghost use Rattle.runs.specs.States.{due_moment};
-ghost use Rattle.queries.specs.Scans.{on_line, on_stream};
+ghost use Rattle.queries.specs.Indexes.{udp_ask, tcp_ask};
 
+use asks::UdpAsk;
 use exchange::{Asker, Asking, Path};
 use iterate::Job;
-use rdata::Addr;
 use std::alloc::{Allocator, Global};
 use std::marker::Model;
 
@@ -65,23 +65,27 @@ impl<A: Allocator> Open<A> {
         self.due.min(self.job.deadline())
     }
 
-    // Whether its ask left this socket for this server under this ID.
-    pub(crate) fn is_on_line(&self, socket: u16, server: Addr, id: u16) -> bool
-        ensures { result ≡ on_line socket server id self.now }
+    // Its open ask, where that went over UDP.
+    pub(crate) fn udp_ask(&self) -> Option<UdpAsk>
+        ensures { result ≡ udp_ask (self.now).ask }
     {
         match self.ask.path {
-            Path::Udp(own) => own == socket && self.ask.server == server && self.ask.id == id,
-            Path::Tcp(_) => false,
+            Path::Udp(socket) => Some(UdpAsk {
+                socket,
+                server: self.ask.server,
+                id: self.ask.id,
+            }),
+            Path::Tcp(_) => None,
         }
     }
 
-    // Whether its ask went over TCP under this number.
-    pub(crate) fn is_on_stream(&self, ask: u64) -> bool
-        ensures { result ≡ on_stream ask self.now }
+    // The number of its open ask, where that went over TCP.
+    pub(crate) fn tcp_ask(&self) -> Option<u64>
+        ensures { result ≡ tcp_ask (self.now).ask }
     {
         match self.ask.path {
-            Path::Udp(_) => false,
-            Path::Tcp(own) => own == ask,
+            Path::Udp(_) => None,
+            Path::Tcp(number) => Some(number),
         }
     }
 }

@@ -2,33 +2,40 @@
 ghost use Rattle.std.specs.Prelude.{◌≡◌, ℕ, ◌+◌, ◌≤◌, [], length, IfSome, OnOk, OnErr, MatchOption};
 ghost use Rattle.runs.specs.States.{AreApart};
 ghost use Rattle.runs.specs.Steps.{AreWith, IsRaised};
-ghost use Rattle.queries.specs.Lookups.{IsOnLine, IsOnStream, IsFound, IsEarliest, HasNo, IsTheOne, IsTaken, IsTakenId};
+ghost use Rattle.queries.specs.Lookups.{IsOnLine, IsOnStream, IsFound, IsFree, IsEarliest, HasNo, IsTheOne, IsTaken, IsTakenId};
 
+use crate::indexes::{
+    Keys, Streams, drop_key, drop_stream, key_of, make_room, put_key, put_stream, stream_of,
+};
 use crate::open::Open;
-use crate::scan::{first_due, key_of, number_on_line, number_on_stream};
+use asks::Asks;
 use dname::{Heap, Starved};
 use rdata::Addr;
 use slab::Slab;
 use std::alloc::{Allocator, Global};
+use std::collections::HashMap;
 use std::marker::Model;
 
 /// Open queries, no two of one number. Contracts see their list.
 #[derive(Drop)]
 pub struct Queries<A: Allocator = Global> {
     slots: Slab<Open<A>, A>,
+    keys: Keys<A>,
+    streams: Streams<A>,
+    asks: Asks<A>,
 }
 
 impl<A: Allocator> Model for Queries<A> {
     ghost use Rattle.std.specs.Prelude.{List};
     ghost use Rattle.slab.specs.Slab.{values};
     ghost use Rattle.runs.specs.States.{Open as Waiting};
-    ghost use Rattle.queries.specs.Lookups.{IsApart};
+    ghost use Rattle.queries.specs.Indexes.{AreIndexed};
 
     ghost Value = { List Waiting };
 
     ghost view = { λ q. values q.slots };
 
-    ghost invariant = { λ q. IsApart q.slots };
+    ghost invariant = { λ q. AreIndexed q.slots q.keys.entries q.streams.entries q.asks };
 }
 
 impl<A: Heap> Queries<A> {
@@ -38,6 +45,9 @@ impl<A: Heap> Queries<A> {
     {
         Queries {
             slots: Slab::new(alloc),
+            keys: HashMap::new(alloc),
+            streams: HashMap::new(alloc),
+            asks: Asks::new(alloc),
         }
     }
 
@@ -59,14 +69,14 @@ impl<A: Heap> Queries<A> {
     pub fn find(&self, socket: u16, server: Addr, id: u16) -> Option<u64>
         ensures { IsFound (IsOnLine socket server id) self.now result }
     {
-        number_on_line(&self.slots, socket, server, id)
+        self.asks.find(socket, server, id)
     }
 
     /// The number of the query whose ask went over TCP under this number.
     pub fn find_tcp(&self, ask: u64) -> Option<u64>
         ensures { IsFound (IsOnStream ask) self.now result }
     {
-        number_on_stream(&self.slots, ask)
+        stream_of(&self.streams, ask)
     }
 
     /// When the query that is due first is due, in milliseconds, and its number; of those that are due at one
@@ -74,32 +84,42 @@ impl<A: Heap> Queries<A> {
     pub fn earliest(&self) -> Option<(u64, u64)>
         ensures { IsEarliest self.now result }
     {
-        first_due(&self.slots)
+        self.asks.earliest()
     }
 
     /// The query of this number.
     pub fn get(&self, number: u64) -> Option<&Open<A>>
         ensures { MatchOption result (HasNo self.now number) (λ q. IsTheOne self.now number q.now) }
     {
-        self.slots.get(key_of(&self.slots, number)?)
+        self.slots.get(key_of(&self.keys, number)?)
     }
 
     /// Takes the query of this number out.
     pub fn take(&mut self, number: u64) -> Option<Open<A>>
         ensures { MatchOption result (HasNo self.old number × (self.new ≡ self.old)) (λ q. IsTaken self.old number q self.new) }
     {
-        let key = key_of(&self.slots, number)?;
-        self.slots.try_remove(key)
+        let key = key_of(&self.keys, number)?;
+        let taken = self.slots.remove(key);
+        drop_key(&mut self.keys, number);
+        drop_stream(&mut self.streams, taken.tcp_ask());
+        self.asks.clear(number);
+        Some(taken)
     }
 
     /// Puts a query in. Want of memory changes nothing, and the query is gone.
     pub fn put(&mut self, added: Open<A>) -> Result<(), Starved>
-        requires { HasNo self.old added.number }
+        requires fresh { HasNo self.old added.number }
+        requires free { IsFree self.old added.ask }
         ensures ok { OnOk result (AreWith added self.old self.new) }
         ensures more { OnOk result (length self.new ≡ length self.old + 1) }
         ensures err { OnErr result (self.new ≡ self.old) }
     {
-        self.slots.insert(added)?;
+        make_room(&mut self.slots, &mut self.keys, &mut self.streams)?;
+        let number = added.number();
+        self.asks.set(number, added.udp_ask(), added.due_moment())?;
+        put_stream(&mut self.streams, added.tcp_ask(), number);
+        let key = self.slots.insert_reserved(added);
+        put_key(&mut self.keys, number, key);
         Ok(())
     }
 

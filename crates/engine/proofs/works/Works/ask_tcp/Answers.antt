@@ -3,11 +3,15 @@ use Rattle.rdata.specs.Types.{type_number}
 use Rattle.exchange.specs.Views.{action_view}
 use Rattle.runs.specs.States.{State, ByTcp, low_half}
 use Rattle.engine.specs.Works.{state_of}
-use Rattle.engine.proofs.Asks.{still_none, waits_by_tcp}
+use Rattle.engine.proofs.Asks.{still_none, over_fresh, waits_by_tcp}
 use Rattle.engine.proofs.works.Works.ask_tcp.Goals as goal
 
-pub put-requires : goal.put-requires
-put-requires g c = still_none (state_of c.args.self.now) (state_of c.word.new.self) c.word.ensures.state c.args.number c.requires.fresh
+pub put-requires-clause-fresh : goal.put-requires-clause-fresh
+put-requires-clause-fresh g c = still_none (state_of c.args.self.now) (state_of c.word.new.self) c.word.ensures.state c.args.number c.requires.fresh
+
+pub put-requires-clause-free : goal.put-requires-clause-free
+put-requires-clause-free g c =
+    over_fresh (state_of c.args.self.now) (state_of c.word.new.self) c.word.ensures.state c.requires.sound
 
 pub returns-clause-ok : goal.returns-clause-ok
 returns-clause-ok g c =

@@ -9,8 +9,11 @@ use Rattle.engine.specs.Works.{state_of}
 use Rattle.engine.proofs.Asks.{still_none, waits_by_udp, halts}
 use Rattle.engine.proofs.works.Works.ask_udp.Goals as goal
 
-pub put-requires : goal.put-requires
-put-requires g c = still_none (state_of c.args.self.now) (state_of c.word-word.new.self) c.word-word.ensures.state c.args.number c.requires.fresh
+pub put-requires-clause-fresh : goal.put-requires-clause-fresh
+put-requires-clause-fresh g c = still_none (state_of c.args.self.now) (state_of c.word-word.new.self) c.word-word.ensures.state c.args.number c.requires.fresh
+
+pub put-requires-clause-free : goal.put-requires-clause-free
+put-requires-clause-free g c = (c.free_id-id.ensures).free
 
 pub returns-clause-ok : goal.returns-clause-ok
 returns-clause-ok g c =

@@ -11,7 +11,7 @@ use Rattle.engine.proofs.works.Works.begin.Goals as goal
 
 pub admit-requires : goal.admit-requires
 admit-requires g c =
-    record { sockets = c.requires.sound.sockets; clock = c.requires.sound.clock; few = c.requires.sound.few; opened = c.requires.sound.opened }
+    record { sockets = c.requires.sound.sockets; clock = c.requires.sound.clock; few = c.requires.sound.few; opened = c.requires.sound.opened; asked = c.requires.sound.asked }
 
 pub returns-in_err-job-clause-err : goal.returns-in_err-job-clause-err
 returns-in_err-job-clause-err g c = at_err c.from_residual.result (lost_none (state_of c.args.self.now) c.requires.sound)

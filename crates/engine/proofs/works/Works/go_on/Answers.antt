@@ -18,6 +18,7 @@ serve-requires g c =
         clock = c.requires.sound.clock;
         few = omega (arith, taken.fewer, c.requires.sound.few);
         opened = λ q there. c.requires.sound.opened q (taken.others.only q there).0;
+        asked = λ q there number path. c.requires.sound.asked q (taken.others.only q there).0 number path;
       };
       fresh = none_of c.args.number c.args.self.now.queries c.take.new.self taken.others;
     }

@@ -9,7 +9,7 @@ use Rattle.engine.proofs.works.Works.serve.Goals as goal
 
 pub follow-requires : goal.follow-requires
 follow-requires g c = record {
-  sound = record { sockets = c.requires.sound.sockets; clock = c.requires.sound.clock; few = c.requires.sound.few; opened = c.requires.sound.opened };
+  sound = record { sockets = c.requires.sound.sockets; clock = c.requires.sound.clock; few = c.requires.sound.few; opened = c.requires.sound.opened; asked = c.requires.sound.asked };
   fresh = c.requires.fresh;
 }
 

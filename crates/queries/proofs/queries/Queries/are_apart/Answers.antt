@@ -4,4 +4,4 @@ use Rattle.queries.proofs.Apart.{values-apart}
 use Rattle.queries.proofs.queries.Queries.are_apart.Goals as goal
 
 pub returns : goal.returns
-returns g c = subst (λ (qs : List Open). AreApart qs) c.self.view_is (values-apart c.self.inside.slots c.self.invariant)
+returns g c = subst (λ (qs : List Open). AreApart qs) c.self.view_is (values-apart c.self.inside.slots (c.self.invariant).apart)

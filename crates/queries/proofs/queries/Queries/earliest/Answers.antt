@@ -1,10 +1,11 @@
-use Rattle.std.proofs.Common.{sym, subst, List}
+use Rattle.std.proofs.Common.{subst, List}
 use Rattle.runs.specs.States.{Open}
+use Rattle.slab.specs.Slab.{values}
 use Rattle.queries.specs.Lookups.{IsEarliest}
-use Rattle.queries.proofs.First.{first_leads}
+use Rattle.queries.proofs.Waits.{first_due}
 use Rattle.queries.proofs.queries.Queries.earliest.Goals as goal
 
 pub returns : goal.returns
 returns g c =
-    subst (λ (qs : List Open). IsEarliest qs c.first_due.result) c.self.view_is
-    (subst (IsEarliest _) (sym c.first_due.ensures) (first_leads c.self.inside.slots))
+    subst (λ (qs : List Open). IsEarliest qs c.earliest.result) c.self.view_is
+    (first_due (values c.self.inside.slots) c.self.inside.asks (c.self.invariant).waits c.earliest.result c.earliest.ensures)

@@ -1,0 +1,141 @@
+//! Queries that are put in and taken out.
+ghost use Rattle.queries.specs.Lookups.{HasNo};
+
+use dname::{Heap, Name, Starved};
+use exchange::{Asker, Asking, Path, read_asked};
+use front::{Asked, Via};
+use iterate::Job;
+use queries::{Open, Queries};
+use rdata::{Addr, RType};
+
+// A client's query for www.example. A, under ID 5 with RD set.
+const QUERY: &[u8] = b"\0\x05\x01\0\0\x01\0\0\0\0\0\0\x03www\x07example\0\0\x01\0\x01";
+
+pub const FIRST: Addr = Addr([192, 0, 2, 1]);
+
+pub const SECOND: Addr = Addr([192, 0, 2, 2]);
+
+// An ask over TCP goes out under its query's number and this much.
+pub const TCP: u64 = 100;
+
+fn asker<A: Heap>(alloc: A) -> Result<Asker<A>, Starved> {
+    match read_asked(alloc, QUERY)? {
+        Asked::Query(query) => Ok(Asker {
+            client: 1,
+            way: Via::Udp,
+            query,
+        }),
+        _ => Err(Starved),
+    }
+}
+
+fn name<A: Heap>(alloc: A) -> Result<Name<A>, Starved> {
+    let Ok(name) = Name::from_text(alloc, "www.example") else {
+        return Err(Starved);
+    };
+    Ok(name)
+}
+
+fn job<A: Heap>(alloc: A) -> Result<Job<A>, Starved> {
+    Ok(Job::new(name(alloc)?, RType::A, 0))
+}
+
+// Opens a query whose ask leaves this socket for this server, under the first free ID from this one on.
+fn open_udp<A: Heap>(
+    alloc: A,
+    queries: &mut Queries<A>,
+    number: u64,
+    socket: u16,
+    server: Addr,
+    from: u16,
+    due: u64,
+) -> Result<(), Starved>
+    requires { HasNo queries.old number }
+{
+    if queries.len() > 1_024 {
+        return Ok(());
+    }
+    let asker = asker(alloc)?;
+    let job = job(alloc)?;
+    let name = name(alloc)?;
+    let id = queries.free_id(socket, server, from);
+    let ask = Asking {
+        path: Path::Udp(socket),
+        server,
+        id,
+        name,
+        kind: RType::A,
+    };
+    queries.put(Open {
+        number,
+        asker,
+        job,
+        ask,
+        due,
+    })
+}
+
+// The same where its ask goes over TCP.
+fn open_tcp<A: Heap>(
+    alloc: A,
+    queries: &mut Queries<A>,
+    number: u64,
+    due: u64,
+) -> Result<(), Starved>
+    requires { HasNo queries.old number }
+{
+    let under = number.wrapping_add(TCP);
+    let asker = asker(alloc)?;
+    let job = job(alloc)?;
+    let ask = Asking {
+        path: Path::Tcp(under),
+        server: FIRST,
+        id: 7,
+        name: name(alloc)?,
+        kind: RType::A,
+    };
+    match queries.find_tcp(under) {
+        Some(_) => Ok(()),
+        None => queries.put(Open {
+            number,
+            asker,
+            job,
+            ask,
+            due,
+        }),
+    }
+}
+
+// The query is opened so or, where one of its number is open, taken out.
+pub fn turn_udp<A: Heap>(
+    alloc: A,
+    queries: &mut Queries<A>,
+    number: u64,
+    socket: u16,
+    server: Addr,
+    from: u16,
+    due: u64,
+) -> Result<(), Starved> {
+    match queries.take(number) {
+        Some(gone) => {
+            drop(gone);
+            Ok(())
+        }
+        None => open_udp(alloc, queries, number, socket, server, from, due),
+    }
+}
+
+pub fn turn_tcp<A: Heap>(
+    alloc: A,
+    queries: &mut Queries<A>,
+    number: u64,
+    due: u64,
+) -> Result<(), Starved> {
+    match queries.take(number) {
+        Some(gone) => {
+            drop(gone);
+            Ok(())
+        }
+        None => open_tcp(alloc, queries, number, due),
+    }
+}
