@@ -4,6 +4,7 @@ pub mod Chosen
 pub mod Found
 pub mod OneAnswers
 pub mod Picks
+pub mod Places
 pub mod SomeAnswers
 pub mod Twins
 pub mod Walks

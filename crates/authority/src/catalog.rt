@@ -1,20 +1,18 @@
-ghost use Rattle.std.specs.Prelude.{◌≡◌, ◌≤◌, ◌+◌, ◌&&◌, ◌||◌, ℕ, length, List, Some, None, find, IfOk, OnOk, MatchResult, true, false, not};
-ghost use Rattle.std.specs.HashSet as bag;
+ghost use Rattle.std.specs.Prelude.{◌≡◌, ◌≤◌, ◌+◌, length, IfOk, MatchResult, false};
 ghost use Rattle.std.specs.Option.{option_copied};
-ghost use Rattle.dname.specs.Labels.{same_name};
 ghost use Rattle.rdata.specs.Types.{type_number};
 ghost use Rattle.authority.specs.Answers.{local_view};
-ghost use Rattle.authority.specs.Catalogs.{zone_over, looked, among, is_chosen, has_origin_in, chosen, has_twins, AreZones, IsCatalog, IsLooked};
+ghost use Rattle.authority.specs.Catalogs.{zone_over, looked, among, chosen, has_twins, AreZones, IsLooked};
 ghost use Rattle.authority.specs.CatalogFaults.{catalog_fault_number, CatalogRefuses};
+ghost use Rattle.authority.specs.Origins.{ArePlaces};
 
 use crate::answer::Local;
+use crate::origins::{Places, places_of, zone_at};
 use crate::walk::look_counted;
 use dname::{Heap, Name, Starved};
 use rdata::RType;
 use std::alloc::{AllocError, Allocator, Global};
-use std::collections::HashSet;
 use std::fmt;
-use std::hash::{BuildHasherDefault, FoldHasher};
 use std::marker::Model;
 use zone::{Zone, zone_keeps_rules};
 
@@ -64,100 +62,39 @@ impl From<Starved> for CatalogError {
 #[derive(Drop)]
 pub struct Catalog<A: Allocator = Global> {
     zones: Vec<Zone<A>, A>,
+    places: Places<A>,
 }
 
 impl<A: Allocator> Model for Catalog<A> {
     ghost use Rattle.std.specs.Prelude.{List};
     ghost use Rattle.zone.specs.Zones.{Zone};
     ghost use Rattle.authority.specs.Catalogs.{IsCatalog};
+    ghost use Rattle.authority.specs.Origins.{ArePlaces};
 
     ghost Value = { List Zone };
 
     ghost view = { λ c. c.zones.items };
 
-    ghost invariant = { λ c. IsCatalog c.zones.items };
-}
-
-fn is_at<A: Allocator>(zone: &Zone<A>, name: &Name<A>) -> bool
-    ensures { result ≡ same_name zone.now.origin name.now }
-{
-    *zone.origin() == *name
-}
-
-fn has_origin_in<A: Allocator>(zone: &Zone<A>, origins: &[Name<A>]) -> bool
-    ensures { result ≡ has_origin_in origins.now zone.now }
-{
-    origins.iter().any(|origin| is_at(zone, origin))
-}
-
-// Whether the zone's origin is listed. Without a list, each is.
-fn is_chosen<A: Allocator>(zone: &Zone<A>, listed: Option<&[Name<A>]>) -> bool
-    ensures { result ≡ is_chosen (option_copied listed.entry) zone.now }
-{
-    match listed {
-        None => true,
-        Some(origins) => has_origin_in(zone, origins),
-    }
-}
-
-fn is_chosen_at<A: Allocator>(zone: &Zone<A>, listed: Option<&[Name<A>]>, name: &Name<A>) -> bool
-    ensures { result ≡ (same_name zone.now.origin name.now && is_chosen (option_copied listed.entry) zone.now) }
-{
-    is_at(zone, name) && is_chosen(zone, listed)
-}
-
-// The zone of that origin, if it is listed.
-fn zone_at<'a, A: Allocator>(
-    zones: &'a [Zone<A>],
-    listed: Option<&[Name<A>]>,
-    name: &Name<A>,
-) -> Option<&'a Zone<A>>
-    ensures { option_copied result ≡ find (λ z. same_name z.origin name.now && is_chosen (option_copied listed.entry) z) zones.now }
-{
-    zones.iter().find(|zone| is_chosen_at(zone, listed, name))
-}
-
-// The origins of zones.
-type Origins<A> = HashSet<Name<A>, BuildHasherDefault<FoldHasher>, A>;
-
-// Keeps the zone's origin; false where it was kept before.
-fn note_origin<A: Heap>(origins: &mut Origins<A>, zone: &Zone<A>) -> Result<bool, Starved>
-    ensures fresh { IfOk result (λ b. b ≡ not (bag.contains same_name origins.old zone.now.origin)) }
-    ensures kept { OnOk result ((q : List (List ℕ)) → bag.contains same_name origins.new q ≡ (bag.contains same_name origins.old q || same_name zone.now.origin q)) }
-{
-    Ok(origins.insert(zone.origin().clone()?)?)
-}
-
-// Whether zones are a catalog: no two have one origin.
-fn check_origins<A: Heap>(alloc: A, zones: &[Zone<A>]) -> Result<(), CatalogError>
-    ensures { MatchResult result (λ _. IsCatalog zones.now) (λ e. CatalogRefuses e (has_twins zones.now)) }
-{
-    let mut origins = HashSet::new(alloc);
-    for zone in zones {
-        zone_keeps_rules(zone);
-        zone.origin().is_well_formed();
-        if !note_origin(&mut origins, zone)? {
-            return Err(CatalogError::Twins);
-        }
-    }
-    Ok(())
+    ghost invariant = { λ c. IsCatalog c.zones.items × ArePlaces c.places c.zones.items };
 }
 
 // The zone with the longest origin over the name, of those that are listed.
 fn zone_over<'a, A: Heap>(
     zones: &'a [Zone<A>],
+    places: &Places<A>,
     listed: Option<&[Name<A>]>,
     name: &Name<A>,
 ) -> Result<Option<&'a Zone<A>>, Starved>
+    requires { ArePlaces places.now zones.now }
     ensures { IfOk result (λ z. option_copied z ≡ zone_over (chosen (option_copied listed.entry) zones.now) name.now) }
 {
     name.is_well_formed();
     let mut up = name.clone()?;
-    if let Some(found) = zone_at(zones, listed, &up) {
+    if let Some(found) = zone_at(zones, places, listed, &up) {
         return Ok(Some(found));
     }
     'up: while up.ascend() {
-        if let Some(found) = zone_at(zones, listed, &up) {
+        if let Some(found) = zone_at(zones, places, listed, &up) {
             return Ok(Some(found));
         }
     }
@@ -169,8 +106,8 @@ impl<A: Heap> Catalog<A> {
     pub fn new(zones: Vec<Zone<A>, A>) -> Result<Catalog<A>, CatalogError>
         ensures { MatchResult result (λ c. (c ≡ zones.items) × (has_twins zones.items ≡ false)) (λ e. CatalogRefuses e (has_twins zones.items)) }
     {
-        match check_origins(*zones.allocator(), &zones) {
-            Ok(()) => Ok(Catalog { zones }),
+        match places_of(*zones.allocator(), &zones) {
+            Ok(places) => Ok(Catalog { zones, places }),
             Err(error) => Err(error),
         }
     }
@@ -236,7 +173,7 @@ impl<A: Heap> Catalog<A> {
         ensures relation { IfOk result (λ p. IsLooked (chosen (option_copied listed.entry) self.now) name.now (type_number kind) (local_view p.0)) }
         ensures count { IfOk result (λ p. p.1 ≤ length name.now + 1) }
     {
-        match zone_over(&self.zones, listed, name)? {
+        match zone_over(&self.zones, &self.places, listed, name)? {
             None => Ok((Local::NotHere, 0)),
             Some(zone) => {
                 zone_keeps_rules(zone);

@@ -277,7 +277,8 @@ fn glue<A: Heap>(
     Ok(set)
 }
 
-/// What a zone's records give for a name and a type; `soa` is the zone's denial.
+/// What a zone's records give for a name and a type, by a walk over all of them: what look-up by the tree is compared
+/// with. `soa` is the zone's denial.
 pub fn look_in<A: Heap>(
     alloc: A,
     origin: &Name<A>,

@@ -27,4 +27,4 @@ pub returns-in-None-clause-relation : goal.returns-in-None-clause-relation
 returns-in-None-clause-relation g c =
     let nobody : None ≡ zone_over (chosen (option_copied c.args.listed) c.args.self.now) c.args.name.now =
     sym (ap option_copied c.in-None.is) ∙ (c.in_ok-zone_over.ensures ∙ ap (λ (zs : List Zone). zone_over (chosen (option_copied c.args.listed) zs) c.args.name.now) (c.deref.ensures.value ∙ c.self.view_is)) in
-    looked_nowhere (chosen (option_copied c.args.listed) c.args.self.now) c.args.name.now (type_number c.args.kind) (chosen_named (option_copied c.args.listed) c.args.self.now (zones_named c.args.self.now (subst AreZones c.self.view_is c.self.invariant.sound))) nobody
+    looked_nowhere (chosen (option_copied c.args.listed) c.args.self.now) c.args.name.now (type_number c.args.kind) (chosen_named (option_copied c.args.listed) c.args.self.now (zones_named c.args.self.now (subst AreZones c.self.view_is c.self.invariant.0.sound))) nobody

@@ -1,0 +1,81 @@
+//! Zones by their origins: where each stands among its like.
+ghost use Rattle.std.specs.Prelude.{◌≡◌, ℕ, List, Some, cond, is_none, IfOk, OnOk, MatchResult};
+ghost use Rattle.std.specs.HashMap as hash;
+ghost use Rattle.std.specs.Option.{option_copied};
+ghost use Rattle.dname.specs.Labels.{same_name};
+ghost use Rattle.authority.specs.Catalogs.{zone_at, has_origin_in, is_chosen, chosen, has_twins, IsCatalog};
+ghost use Rattle.authority.specs.CatalogFaults.{CatalogRefuses};
+ghost use Rattle.authority.specs.Origins.{ArePlaces};
+
+use crate::catalog::CatalogError;
+use dname::{Heap, Name, Starved};
+use std::alloc::Allocator;
+use std::collections::HashMap;
+use std::hash::{BuildHasherDefault, FoldHasher};
+use zone::{Zone, zone_keeps_rules};
+
+/// The place of each zone in a list of them, by its origin.
+pub(crate) type Places<A> = HashMap<Name<A>, usize, BuildHasherDefault<FoldHasher>, A>;
+
+// Notes where the zone stands; false where one of its origin was noted before.
+fn note_place<A: Heap>(
+    places: &mut Places<A>,
+    zone: &Zone<A>,
+    place: usize,
+) -> Result<bool, Starved>
+    ensures fresh { IfOk result (λ b. b ≡ is_none (hash.get same_name places.old zone.now.origin)) }
+    ensures noted { OnOk result ((q : List (List ℕ)) → hash.get same_name places.new q ≡ cond (same_name zone.now.origin q) (Some place) (hash.get same_name places.old q)) }
+{
+    Ok(places.insert(zone.origin().clone()?, place)?.is_none())
+}
+
+/// The places of zones; refused where two have one origin.
+pub(crate) fn places_of<A: Heap>(alloc: A, zones: &[Zone<A>]) -> Result<Places<A>, CatalogError>
+    ensures { MatchResult result (λ m. IsCatalog zones.now × ArePlaces m zones.now) (λ e. CatalogRefuses e (has_twins zones.now)) }
+{
+    let mut places = HashMap::new(alloc);
+    let mut place = 0;
+    for zone in zones {
+        zone_keeps_rules(zone);
+        zone.origin().is_well_formed();
+        if !note_place(&mut places, zone, place)? {
+            return Err(CatalogError::Twins);
+        }
+        place += 1;
+    }
+    Ok(places)
+}
+
+fn has_origin_in<A: Allocator>(zone: &Zone<A>, origins: &[Name<A>]) -> bool
+    ensures { result ≡ has_origin_in origins.now zone.now }
+{
+    origins.iter().any(|origin| *zone.origin() == *origin)
+}
+
+// Whether the zone's origin is listed. Without a list, each is.
+fn is_chosen<A: Allocator>(zone: &Zone<A>, listed: Option<&[Name<A>]>) -> bool
+    ensures { result ≡ is_chosen (option_copied listed.entry) zone.now }
+{
+    match listed {
+        None => true,
+        Some(origins) => has_origin_in(zone, origins),
+    }
+}
+
+/// The zone of that origin, if it is listed.
+pub(crate) fn zone_at<'a, A: Heap>(
+    zones: &'a [Zone<A>],
+    places: &Places<A>,
+    listed: Option<&[Name<A>]>,
+    name: &Name<A>,
+) -> Option<&'a Zone<A>>
+    requires { ArePlaces places.now zones.now }
+    ensures { option_copied result ≡ zone_at name.now (chosen (option_copied listed.entry) zones.now) }
+{
+    let zone = zones.get(*places.get(name)?)?;
+    if is_chosen(zone, listed) {
+        Some(zone)
+    } else {
+        None
+    }
+}

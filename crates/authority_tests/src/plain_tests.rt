@@ -1,0 +1,105 @@
+//! Look-up by the tree of a zone's names, beside a walk over the list of its records: the same answers.
+
+use crate::made::Maker;
+use authority::{Catalog, Link, Local, look_in};
+use dname::{Heap, Name, Starved};
+use rdata::{RType, Record};
+use std::alloc::Allocator;
+use std::test::Fail;
+use zone::Zone;
+
+fn is_same<A: Allocator>(one: &Record<A>, other: &Record<A>) -> bool {
+    one.owner == other.owner && one.ttl == other.ttl && one.value == other.value
+}
+
+// The same records in the same order.
+fn are_same<A: Allocator>(these: &[Record<A>], those: &[Record<A>]) -> bool {
+    these.len() == those.len()
+        && these
+            .iter()
+            .zip(those)
+            .all(|(one, other)| is_same(one, other))
+}
+
+fn is_same_link<A: Allocator>(one: &Link<A>, other: &Link<A>) -> bool {
+    match (one, other) {
+        (Link::Found(these), Link::Found(those)) => are_same(these.as_slice(), those.as_slice()),
+        (Link::Alias(one), Link::Alias(other)) => is_same(one, other),
+        (Link::NoData(one), Link::NoData(other)) => is_same(one, other),
+        (Link::NxDomain(one), Link::NxDomain(other)) => is_same(one, other),
+        _ => false,
+    }
+}
+
+fn says_same<A: Allocator>(one: &Local<A>, other: &Local<A>) -> bool {
+    match (one, other) {
+        (Local::Link(one), Local::Link(other)) => is_same_link(one, other),
+        (Local::Cut(cut, these, glue), Local::Cut(at, those, addresses)) => {
+            *cut == *at
+                && are_same(these.as_slice(), those.as_slice())
+                && are_same(glue.as_slice(), addresses.as_slice())
+        }
+        _ => false,
+    }
+}
+
+// Whether the tree and the list answer a question alike.
+fn answer_alike<A: Heap>(
+    alloc: A,
+    catalog: &Catalog<A>,
+    zone: &Zone<A>,
+    asked: &Name<A>,
+    kind: RType,
+) -> Result<bool, Starved> {
+    let (origin, soa, records) = (zone.origin(), zone.denial(), zone.records());
+    let by_list = look_in(alloc, origin, soa, records, asked, kind)?;
+    let by_tree = catalog.look(alloc, asked, kind)?;
+    Ok(says_same(&by_tree, &by_list))
+}
+
+fn asked_alike<A: Heap>(
+    maker: &mut Maker<A>,
+    alloc: A,
+    catalog: &Catalog<A>,
+    zone: &Zone<A>,
+) -> Result<bool, Starved> {
+    let (asked, kind) = maker.question()?;
+    answer_alike(alloc, catalog, zone, &asked, kind)
+}
+
+// How many of so many questions to the zone of a seed they answer alike.
+fn alike_in<A: Heap>(alloc: A, seed: u8, questions: u32) -> Result<u32, Starved> {
+    let mut maker = Maker::new(alloc, seed);
+    let zone = maker.zone()?;
+    let catalog = catalog_of(alloc, zone.clone()?)?;
+    let mut count = 0u32;
+    for _ in 0..questions {
+        let alike = asked_alike(&mut maker, alloc, &catalog, &zone)?;
+        count = count.saturating_add(alike as u32);
+    }
+    Ok(count)
+}
+
+// The same of so many zones.
+fn alike<A: Heap>(alloc: A, zones: u8, questions: u32) -> Result<u32, Starved> {
+    let mut count = 0u32;
+    for seed in 0..zones {
+        count = count.saturating_add(alike_in(alloc, seed, questions)?);
+    }
+    Ok(count)
+}
+
+fn catalog_of<A: Heap>(alloc: A, zone: Zone<A>) -> Result<Catalog<A>, Starved> {
+    let mut zones = Vec::new(alloc);
+    zones.push(zone)?;
+    match Catalog::new(zones) {
+        Ok(catalog) => Ok(catalog),
+        Err(_) => Err(Starved),
+    }
+}
+
+#[test]
+fn the_tree_answers_as_the_list_does(rt: HostRuntime) -> Result<(), Fail> {
+    assert!(rt; matches!(alike(rt.alloc(), 50, 40), Ok(2_000)));
+    Ok(())
+}
