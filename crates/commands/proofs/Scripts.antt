@@ -1,5 +1,5 @@
--- Whatever a world's text is refused for, it was there.
-use Rattle.std.specs.Prelude.{ℕ, List, Option}
+-- Which fault of a command a world's text is refused for.
+use Rattle.std.specs.Prelude.{ℕ, List, Option, Some}
 use Rattle.std.specs.Borrow.{Bor}
 use Rattle.masterfile.specs.declared.faults.FileKind.{FileKind}
 use Rattle.masterfile.specs.declared.faults.FileKind.TheVariants as file
@@ -13,57 +13,62 @@ use Rattle.worlds.specs.declared.fault.WorldError.{WorldError}
 use Rattle.worlds.specs.declared.fault.WorldError.TheVariants as rule
 use Rattle.script.specs.declared.world_fault.WorldFault.{WorldFault}
 use Rattle.script.specs.declared.world_fault.WorldFault.TheVariants as of
+use Rattle.script.specs.Worlds.{IsNoWorld}
+use Rattle.commands.specs.Texts.{MayHold}
 use Rattle.commands.specs.Faults.{kind_fault, line_kind_fault, block_fault, rule_fault, world_fault}
-use Rattle.commands.specs.Scripts.{IsReadable, HoldsNoWorld}
+use Rattle.commands.specs.Scripts.{IsRefusedFor, HoldsNoWorld}
 
-module _ (known : Option (Option (List ℕ))) (path : Bor (List ℕ)) (there : IsReadable known) where
-  no_line : (e : LineError) (k : LineKind) → HoldsNoWorld known (line_kind_fault path e k)
-  no_line e line.UnknownWord = there
-  no_line e line.BadNumber = there
-  no_line e line.BadName = there
-  no_line e line.BadType = there
-  no_line e line.WordCount = there
-  no_line e line.BadHex = there
-  no_line e line.OpenBlock = there
-  no_line e line.BadAddress = there
-  no_line e line.Memory = tt
+module _ (known : Option (Option (List ℕ))) (path : Bor (List ℕ)) where
+  no_line : (e : LineError) (k : LineKind) → IsRefusedFor known (of.Line e) → HoldsNoWorld known (line_kind_fault path e k)
+  no_line e line.UnknownWord why = why
+  no_line e line.BadNumber why = why
+  no_line e line.BadName why = why
+  no_line e line.BadType why = why
+  no_line e line.WordCount why = why
+  no_line e line.BadHex why = why
+  no_line e line.OpenBlock why = why
+  no_line e line.BadAddress why = why
+  no_line e line.Memory why = tt
 
-  no_file : (e : FileError) (k : FileKind) → HoldsNoWorld known (kind_fault path e k)
-  no_file e file.UnknownType = there
-  no_file e file.BadName = there
-  no_file e file.BadNumber = there
-  no_file e file.NoTtl = there
-  no_file e file.NoOwner = there
-  no_file e file.OpenText = there
-  no_file e file.UnknownDirective = there
-  no_file e file.BadClass = there
-  no_file e file.BadData = there
-  no_file e file.Memory = tt
+  no_file : (e : FileError) (k : FileKind) → IsRefusedFor known (of.File e) → HoldsNoWorld known (kind_fault path e k)
+  no_file e file.UnknownType why = why
+  no_file e file.BadName why = why
+  no_file e file.BadNumber why = why
+  no_file e file.NoTtl why = why
+  no_file e file.NoOwner why = why
+  no_file e file.OpenText why = why
+  no_file e file.UnknownDirective why = why
+  no_file e file.BadClass why = why
+  no_file e file.BadData why = why
+  no_file e file.Memory why = tt
 
-  no_block : (at_line : ℕ) (k : ZoneError) → HoldsNoWorld known (block_fault path at_line k)
-  no_block at_line zone.Soa = there
-  no_block at_line zone.NoServers = there
-  no_block at_line zone.ForeignOwner = there
-  no_block at_line zone.CnameClash = there
-  no_block at_line zone.MixedTtls = there
-  no_block at_line zone.DataAtCut = there
-  no_block at_line zone.InnerStar = there
-  no_block at_line zone.WildcardAuthority = there
-  no_block at_line zone.WildcardBeneathCut = there
-  no_block at_line zone.Memory = tt
+  no_block : (at_line : ℕ) (e : ZoneError) → IsRefusedFor known (of.Zone at_line e) → HoldsNoWorld known (block_fault path at_line e)
+  no_block at_line zone.Soa why = why
+  no_block at_line zone.NoServers why = why
+  no_block at_line zone.ForeignOwner why = why
+  no_block at_line zone.CnameClash why = why
+  no_block at_line zone.MixedTtls why = why
+  no_block at_line zone.DataAtCut why = why
+  no_block at_line zone.InnerStar why = why
+  no_block at_line zone.WildcardAuthority why = why
+  no_block at_line zone.WildcardBeneathCut why = why
+  no_block at_line zone.Memory why = tt
 
-  no_rule : (k : WorldError) → HoldsNoWorld known (rule_fault path k)
-  no_rule rule.NoRoot = there
-  no_rule rule.LooseCut = there
-  no_rule rule.Undelegated = there
-  no_rule rule.Lame = there
-  no_rule rule.NoStart = there
-  no_rule rule.Memory = tt
-  no_rule rule.Twins = there
+  no_rule : (e : WorldError) → IsRefusedFor known (of.World e) → HoldsNoWorld known (rule_fault path e)
+  no_rule rule.NoRoot why = why
+  no_rule rule.LooseCut why = why
+  no_rule rule.Undelegated why = why
+  no_rule rule.Lame why = why
+  no_rule rule.NoStart why = why
+  no_rule rule.Twins why = why
+  no_rule rule.Memory why = tt
 
-  pub no_world : (e : WorldFault) → HoldsNoWorld known (world_fault path e)
-  no_world (of.Line e) = no_line e e.kind
-  no_world (of.File e) = no_file e e.kind
-  no_world (of.Zone at_line e) = no_block at_line e
-  no_world (of.World e) = no_rule e
-  no_world of.Memory = tt
+  named : (e : WorldFault) → IsRefusedFor known e → HoldsNoWorld known (world_fault path e)
+  named (of.Line e) why = no_line e e.kind why
+  named (of.File e) why = no_file e e.kind why
+  named (of.Zone at_line e) why = no_block at_line e why
+  named (of.World e) why = no_rule e why
+  named of.Memory why = tt
+
+  pub no_world : (text : List ℕ) (e : WorldFault) → MayHold known (Some text) → IsNoWorld text e → HoldsNoWorld known (world_fault path e)
+  no_world text e held fails = named e (record { text = text; held = held; fails = fails })

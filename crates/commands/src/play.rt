@@ -1,13 +1,13 @@
 //! `play`: a script in a network in memory.
 ghost use Rattle.std.specs.Prelude.{◌≡◌, IfOk, IfErr, map, string_bytes};
 ghost use Rattle.orders.specs.Orders.{order_seen};
-ghost use Rattle.commands.specs.Scripts.{IsReadable, HoldsOrders, HoldsNoOrders, HoldsNoWorld, PrintsScript, IsNoScript};
+ghost use Rattle.commands.specs.Scripts.{HoldsWorld, HoldsNoWorld, HoldsOrders, HoldsNoOrders, PrintsScript, IsNoScript};
 
 use crate::fault::Fault;
 use crate::texts::Texts;
 use dname::Heap;
 use orders::{Order, read_script};
-use script::{WorldFault, read_world};
+use script::world_in;
 use worlds::World;
 
 /// What is printed of a script in a world. The world is read, built and checked before the script is read.
@@ -22,30 +22,24 @@ pub fn play<'a, A: Heap, T: Texts>(
 {
     let world = world_at(alloc, texts, world)?;
     let orders = orders_at(alloc, texts, script)?;
-    world.is_well_formed();
     Ok(player::play(alloc, world, orders)?)
 }
 
 // The world in the text at a path.
-#[tactic(auto, using(crate::proofs::Scripts::no_world))]
 fn world_at<'a, A: Heap, T: Texts>(
     alloc: A,
     texts: &mut T,
     path: &'a str,
 ) -> Result<World<A>, Fault<'a>>
-    ensures ok { IfOk result (λ _. IsReadable (T.held texts.old path.entry.now)) }
+    ensures ok { IfOk result (HoldsWorld (T.held texts.old path.entry.now)) }
     ensures err { IfErr result (HoldsNoWorld (T.held texts.old path.entry.now)) }
     ensures keeps { T.held texts.new ≡ T.held texts.old }
 {
     let text = texts.text(alloc, path)?.ok_or(Fault::Unreadable(path))?;
-    match built(alloc, text.as_str()) {
+    match world_in(alloc, text.as_str()) {
         Ok(world) => Ok(world),
         Err(error) => Err(Fault::of_world(path, error)),
     }
-}
-
-fn built<A: Heap>(alloc: A, text: &str) -> Result<World<A>, WorldFault> {
-    read_world(alloc, text)?.build(alloc)
 }
 
 // The orders in the text at a path.

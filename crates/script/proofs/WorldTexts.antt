@@ -1,25 +1,11 @@
--- Blocks taken one by one.
-use Rattle.std.proofs.Common.{◌≡◌, refl, ℕ, ◌+◌, ◌<◌, Bool, true, false, cond, List, [], ◌∷◌, ◌++◌, length, take, get_or, sym, ◌∙◌, ap, subst}
+-- The origins of local blocks, taken one by one.
+use Rattle.std.proofs.Common.{◌≡◌, refl, ℕ, ◌+◌, ◌<◌, Bool, true, false, cond, List, [], ◌∷◌, ◌++◌, length, take, get_or, sym, ◌∙◌, ap}
 use Rattle.std.proofs.lemmas.List.{take_more}
 use Rattle.dname.specs.Labels.{Name}
-use Rattle.zone.specs.Zones.{Zone}
-use Rattle.script.specs.WorldTexts.{Block, IsBuilt, AreBuilt, locals_of}
-
-built_more : (bs : List Block) (zs : List Zone) (b : Block) (z : Zone) → AreBuilt bs zs → IsBuilt b z → AreBuilt (bs ++ b ∷ []) (zs ++ z ∷ [])
-built_more [] [] b z _ h = (h, tt)
-built_more [] (y ∷ zs) b z g h = absurd g
-built_more (a ∷ bs) [] b z g h = absurd g
-built_more (a ∷ bs) (y ∷ zs) b z (g, gs) h = (g, built_more bs zs b z gs h)
+use Rattle.script.specs.WorldTexts.{Block, locals_of}
 
 taken : (bs : List Block) (i : ℕ) (b : Block) → i < length bs → b ≡ get_or bs i b → take i bs ++ b ∷ [] ≡ take (i + 1) bs
 taken bs i b lt e = ap (λ (x : Block). take i bs ++ x ∷ []) e ∙ sym (take_more bs i b lt)
-
--- One block more is built.
-pub built_step : (bs : List Block) (zs new : List Zone) (i : ℕ) (b : Block) (z : Zone) → i < length bs → b ≡ get_or bs i b
-    → AreBuilt (take i bs) zs → IsBuilt b z → new ≡ zs ++ z ∷ [] → AreBuilt (take (i + 1) bs) new
-built_step bs zs new i b z lt e old h en =
-    subst (λ (l : List Block). AreBuilt l new) (taken bs i b lt e)
-    (subst (λ (n : List Zone). AreBuilt (take i bs ++ b ∷ []) n) (sym en) (built_more (take i bs) zs b z old h))
 
 local_head : (t : Bool) (x y : Name) (ns : List Name) → cond t (x ∷ (ns ++ y ∷ [])) (ns ++ y ∷ []) ≡ cond t (x ∷ ns) ns ++ y ∷ []
 local_head true x y ns = refl

@@ -1,1 +1,8 @@
+pub mod Keywords
+pub mod Places
+pub mod Readings
+pub mod Seen
+pub mod Statements
+pub mod WorldFaults
+pub mod Worlds
 pub mod WorldTexts

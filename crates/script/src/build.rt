@@ -1,33 +1,33 @@
 //! Worlds made of their texts.
-ghost use Rattle.std.specs.Prelude.{◌≡◌, ◌+◌, ◌∷◌, [], ◌++◌, map, IfOk, OnOk};
-ghost use Rattle.worlds.specs.Kept.{addresses};
-ghost use Rattle.script.specs.WorldTexts.{IsBuilt, AreBuilt, locals_of};
+ghost use Rattle.std.specs.Prelude.{◌≡◌, Ok, IfOk, MatchResult};
+ghost use Rattle.script.specs.WorldTexts.{zone_of, zones_of, locals_of, IsFaultOf};
+ghost use Rattle.script.specs.Worlds.{IsSaidWorld, IsNoSaidWorld, IsWorldOf, IsNoWorld};
+ghost use Rattle.script.specs.Seen.{said_seen};
 
 use crate::world_fault::WorldFault;
-use crate::world_text::{Block, WorldText};
+use crate::world_text::{Block, WorldText, read_world};
 use dname::{Heap, Name, Starved};
 use masterfile::read_block;
 use std::alloc::Allocator;
 use worlds::World;
-use zone::{Zone, ZoneError};
+use zone::Zone;
 
 impl<'t, A: Heap> Block<'t, A> {
     // The zone of the block's records.
     fn zone(&self, alloc: A) -> Result<Zone<A>, WorldFault>
-        ensures { IfOk result (IsBuilt self.now) }
+        ensures { MatchResult result (λ z. zone_of self.now ≡ Ok z) (λ e. IsFaultOf e (zone_of self.now)) }
     {
-        let line = self.line as usize;
-        let records = read_block(alloc, &self.origin, self.text, line + 1)?;
+        let records = read_block(alloc, &self.origin, self.text, self.line + 1)?;
         match Zone::build(self.origin.clone()?, records) {
             Ok(zone) => Ok(zone),
-            Err(ZoneError::Memory) => Err(WorldFault::Memory),
-            Err(error) => Err(WorldFault::Zone(line, error)),
+            Err(error) => Err(WorldFault::of_zone(self.line, error)),
         }
     }
 }
 
+// The zones of the blocks, one by one.
 fn zones<'t, A: Heap>(alloc: A, blocks: &[Block<'t, A>]) -> Result<Vec<Zone<A>, A>, WorldFault>
-    ensures { IfOk result (λ v. AreBuilt blocks.now v.items) }
+    ensures { MatchResult result (λ v. zones_of blocks.now ≡ Ok v.items) (λ e. IsFaultOf e (zones_of blocks.now)) }
 {
     let mut zones = Vec::with_capacity(alloc, blocks.len())?;
     for block in blocks {
@@ -54,10 +54,7 @@ impl<'t, A: Heap> WorldText<'t, A> {
     /// the first that is no master file or no zone, then by the first rule of a world that does not hold, or where
     /// a growth is refused.
     pub fn build(self, alloc: A) -> Result<World<A>, WorldFault>
-        ensures zones { IfOk result (λ w. AreBuilt self.entry.blocks.items w.zones) }
-        ensures locals { IfOk result (λ w. w.locals ≡ locals_of self.entry.blocks.items) }
-        ensures hosts { IfOk result (λ w. w.hosts ≡ self.entry.hosts.items) }
-        ensures hints { IfOk result (λ w. w.hints ≡ addresses self.entry.hints.items) }
+        ensures { MatchResult result (IsSaidWorld (said_seen self.entry)) (IsNoSaidWorld (said_seen self.entry)) }
     {
         let Self {
             blocks,
@@ -68,4 +65,12 @@ impl<'t, A: Heap> WorldText<'t, A> {
         let locals = locals(alloc, &blocks)?;
         Ok(World::check(zones, hosts, hints, locals)?)
     }
+}
+
+/// The world that a text says. Of its lines, its blocks and the rules of a world, in this order, the first fault
+/// counts.
+pub fn world_in<A: Heap>(alloc: A, text: &str) -> Result<World<A>, WorldFault>
+    ensures { MatchResult result (IsWorldOf text.now) (IsNoWorld text.now) }
+{
+    read_world(alloc, text)?.build(alloc)
 }

@@ -1,4 +1,8 @@
 //! Why a world text stands for no world.
+ghost use Rattle.std.specs.Prelude.{◌≡◌};
+ghost use Rattle.script.specs.WorldFaults.{line_fault, file_fault, zone_fault, rule_fault};
+ghost use Rattle.script.specs.declared.world_fault.WorldFault.TheVariants.{Memory};
+
 use dname::Starved;
 use masterfile::{FileError, FileKind};
 use statements::{LineError, LineKind};
@@ -36,7 +40,21 @@ impl fmt::Display for WorldFault {
 
 impl std::error::Error for WorldFault {}
 
+impl WorldFault {
+    /// A block is no zone, or memory was wanting.
+    pub(crate) fn of_zone(line: usize, error: ZoneError) -> WorldFault
+        ensures { result ≡ zone_fault line error }
+    {
+        match error {
+            ZoneError::Memory => WorldFault::Memory,
+            _ => WorldFault::Zone(line, error),
+        }
+    }
+}
+
 impl From<LineError> for WorldFault {
+    ghost from_gives = { λ error e. e ≡ line_fault error error.kind };
+
     fn from(error: LineError) -> WorldFault {
         match error.kind {
             LineKind::Memory => WorldFault::Memory,
@@ -46,6 +64,8 @@ impl From<LineError> for WorldFault {
 }
 
 impl From<FileError> for WorldFault {
+    ghost from_gives = { λ error e. e ≡ file_fault error error.kind };
+
     fn from(error: FileError) -> WorldFault {
         match error.kind {
             FileKind::Memory => WorldFault::Memory,
@@ -55,6 +75,8 @@ impl From<FileError> for WorldFault {
 }
 
 impl From<WorldError> for WorldFault {
+    ghost from_gives = { λ error e. e ≡ rule_fault error };
+
     fn from(error: WorldError) -> WorldFault {
         match error {
             WorldError::Memory => WorldFault::Memory,
@@ -64,18 +86,24 @@ impl From<WorldError> for WorldFault {
 }
 
 impl From<Starved> for WorldFault {
+    ghost from_gives = { λ _ e. e ≡ Memory };
+
     fn from(_error: Starved) -> WorldFault {
         WorldFault::Memory
     }
 }
 
 impl From<AllocError> for WorldFault {
+    ghost from_gives = { λ _ e. e ≡ Memory };
+
     fn from(_error: AllocError) -> WorldFault {
         WorldFault::Memory
     }
 }
 
 impl<T: Drop> From<AllocFailed<T>> for WorldFault {
+    ghost from_gives = { λ _ e. e ≡ Memory };
+
     fn from(_error: AllocFailed<T>) -> WorldFault {
         WorldFault::Memory
     }

@@ -2,7 +2,7 @@
 use dname::Heap;
 use masterfile::{FileError, FileKind};
 use refusing::Refusing;
-use script::{LineError, LineKind, WorldFault, read_world};
+use script::{LineError, LineKind, WorldFault, world_in};
 use std::test::Fail;
 use worlds::WorldError;
 use zone::ZoneError;
@@ -11,7 +11,7 @@ const ROOT: &str =
     "zone .\n. 60 IN SOA r. h. 1 2 3 4 60\n. 60 IN NS ns.\nend\nhost 192.0.2.1 .\nhint 192.0.2.1\n";
 
 fn built<A: Heap>(alloc: A, text: &str) -> Result<(), WorldFault> {
-    drop(read_world(alloc, text)?.build(alloc)?);
+    drop(world_in(alloc, text)?);
     Ok(())
 }
 
@@ -60,6 +60,26 @@ fn a_file_fault_names_its_line_in_the_whole_text(rt: HostRuntime) -> Result<(), 
 fn a_zone_fault_names_the_line_of_its_block(rt: HostRuntime) -> Result<(), Fail> {
     let text = "\nzone .\n. 60 IN SOA r. h. 1 2 3 4 60\nend";
     assert!(rt; is_refused(rt.alloc(), text, WorldFault::Zone(2, ZoneError::NoServers)));
+    Ok(())
+}
+
+#[test]
+fn the_first_bad_block_counts(rt: HostRuntime) -> Result<(), Fail> {
+    let text = "zone .\nend\nlocal b.\n. 60 IN NS\nend";
+    assert!(rt; is_refused(rt.alloc(), text, WorldFault::Zone(1, ZoneError::Soa)));
+    let error = FileError {
+        line: 3,
+        kind: FileKind::BadData,
+    };
+    let text = "\nzone .\n. 60 IN NS\nend\nlocal b.\nend";
+    assert!(rt; is_refused(rt.alloc(), text, WorldFault::File(error)));
+    Ok(())
+}
+
+#[test]
+fn a_second_block_is_named_by_its_own_line(rt: HostRuntime) -> Result<(), Fail> {
+    let text = "local .\n$TTL 60\n@ SOA r. h. 1 2 3 4 60\n@ NS ns.\nend\n;\nzone b.\nend";
+    assert!(rt; is_refused(rt.alloc(), text, WorldFault::Zone(7, ZoneError::Soa)));
     Ok(())
 }
 

@@ -19,7 +19,7 @@ fn is_refused<A: Heap>(alloc: A, text: &str, line: usize, number: u8) -> bool {
 fn has_block<A: Heap>(
     world: &WorldText<'_, A>,
     place: usize,
-    line: u32,
+    line: usize,
     is_local: bool,
     text: &[u8],
 ) -> bool {
@@ -66,6 +66,17 @@ fn a_second_line_of_one_server_adds_to_it(rt: HostRuntime) -> Result<(), Fail> {
 }
 
 #[test]
+fn a_last_line_may_lack_its_end(rt: HostRuntime) -> Result<(), Fail> {
+    for text in ["\nzone .\n\nx\nend", "\nzone .\n\nx\nend\n"] {
+        match read_world(rt.alloc(), text) {
+            Err(_) => assert!(rt; false, "the text is a world's"),
+            Ok(world) => assert!(rt; has_block(&world, 0, 2, false, b"\nx\n")),
+        }
+    }
+    Ok(())
+}
+
+#[test]
 fn the_first_bad_line_is_named(rt: HostRuntime) -> Result<(), Fail> {
     let alloc = rt.alloc();
     for (text, line, number) in [
@@ -86,6 +97,9 @@ fn the_first_bad_line_is_named(rt: HostRuntime) -> Result<(), Fail> {
         ("hint 192.0.2.256", 1, 8),
         ("hint 192.0.2.1 .", 1, 5),
         ("zone .\nhint\nend\nhint 1\nhost", 4, 8),
+        ("zone .\nend\n\nlocal a.\nend\r\nhost", 4, 7),
+        ("hint 192.0.2.1\n;\nhost 192.0.2.1 . a..b c..d\nx", 3, 3),
+        ("zone .\nend\n\n\tend", 4, 1),
     ] {
         assert!(rt; is_refused(alloc, text, line, number), "for {text}");
     }

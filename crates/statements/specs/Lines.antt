@@ -1,5 +1,5 @@
 -- A text parted into lines, and a line into words.
-use Rattle.std.specs.Prelude.{ℕ, ◌==◌, Bool, ◌||◌, cond, List, [], ◌∷◌}
+use Rattle.std.specs.Prelude.{◌≡◌, ◌⊎◌, ℕ, ◌==◌, Bool, ◌||◌, cond, List, [], ◌∷◌, ◌++◌}
 
 abbrev pub is_blank : ℕ → Bool
 is_blank c = c == 32 || c == 9
@@ -18,6 +18,11 @@ parted ends (c ∷ cs) = cond (ends c) ([] ∷ parted ends cs) (onto_first c (pa
 
 abbrev pub lines : List ℕ → List (List ℕ)
 lines text = parted is_line_end text
+
+-- The first line of a text that is not empty, and the text behind its end; the last line may lack its end.
+pub record IsFirstLine (text line behind : List ℕ) : Type 0 where
+  pub first : lines text ≡ line ∷ lines behind
+  pub splits : (text ≡ line ++ 10 ∷ behind) ⊎ ((text ≡ line) × (behind ≡ []))
 
 abbrev pub without_empty : List (List ℕ) → List (List ℕ)
 without_empty [] = []

@@ -8,5 +8,5 @@ mod word;
 
 pub use fault::{LineError, LineKind};
 pub use line::LineWords;
-pub use text::TextLines;
+pub use text::{TextLines, first_line};
 pub use word::{address, bytes, name, number, rtype};

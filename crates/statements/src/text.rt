@@ -1,6 +1,6 @@
 //! The lines of a text.
 ghost use Rattle.std.specs.Prelude.{◌≡◌, ◌∷◌, [], MatchOption};
-ghost use Rattle.statements.specs.Lines.{lines, is_line_end};
+ghost use Rattle.statements.specs.Lines.{lines, is_line_end, IsFirstLine};
 ghost use Rattle.std.specs.List.{before_first, after_first};
 
 use std::marker::Model;
@@ -32,17 +32,24 @@ impl<'t> TextLines<'t> {
     pub fn next(&mut self) -> Option<&'t str>
         ensures { MatchOption result ((self.old ≡ []) × (self.new ≡ [])) (λ l. self.old ≡ l.now ∷ self.new) }
     {
-        if self.rest.is_empty() {
-            return None;
-        }
-        let (line, behind) = first_line(self.rest);
+        let (line, behind) = first_line(self.rest)?;
         self.rest = behind;
         Some(line)
     }
 }
 
+/// The first line of a text, and the text behind it; none of an empty text.
+pub fn first_line(text: &str) -> Option<(&str, &str)>
+    ensures { MatchOption result (text.now ≡ []) (λ r. IsFirstLine text.now r.0.now r.1.now) }
+{
+    if text.is_empty() {
+        return None;
+    }
+    Some(parted(text))
+}
+
 // What stands before the first end of a line, and what stands behind it.
-fn first_line(text: &str) -> (&str, &str)
+fn parted(text: &str) -> (&str, &str)
     ensures piece { result.0.now ≡ before_first is_line_end text.now }
     ensures behind { result.1.now ≡ after_first is_line_end text.now }
 {

@@ -1,6 +1,5 @@
-use Rattle.std.proofs.Common.{◌≡◌, ◌+◌, ◌∷◌, [], ◌++◌, map, IfOk, OnOk, ℕ, ◌-◌, ◌*◌, ◌<◌, ◌≤◌, length, take}
-use Rattle.worlds.specs.Kept.{addresses}
-use Rattle.script.specs.WorldTexts.{IsBuilt, AreBuilt, locals_of}
+use Rattle.std.proofs.Common.{◌≡◌, take}
+use Rattle.script.specs.WorldTexts.{locals_of}
 use Rattle.script.proofs.build.locals.Given as goal
 
 abbrev pub invariant-loop-block : goal.invariant-loop-block

@@ -1,19 +1,22 @@
-use Rattle.std.proofs.Common.{◌≡◌, List, [], sym, subst}
-use Rattle.std.proofs.lemmas.List.{take_all}
+use Rattle.std.proofs.Common.{ap, List}
 use Rattle.zone.specs.Zones.{Zone}
-use Rattle.script.specs.WorldTexts.{Block, AreBuilt}
-use Rattle.script.proofs.WorldTexts.{built_step}
+use Rattle.script.specs.WorldTexts.{zones_from}
+use Rattle.script.proofs.Building.{zones_step, zones_stop, zones_end, refused_by}
 use Rattle.script.proofs.build.zones.Goals as goal
 
 pub loop-block-init : goal.loop-block-init
-loop-block-init g c = subst (λ (zs : List Zone). AreBuilt [] zs) (sym c.in_ok-zones.ensures.items) tt
+loop-block-init g c = ap (λ (zs : List Zone). zones_from zs c.args.blocks.now) c.in_ok-zones.ensures.items
+
+pub returns-in_err-zone : goal.returns-in_err-zone
+returns-in_err-zone g c =
+    refused_by c.from_residual-in_err-zone.result c.in_err-zone.field-0.0 _ _ c.from_residual-in_err-zone.ensures.1
+    (zones_stop c.args.blocks.now c.loop-block.zones.items c.loop-block.block-index c.block-item.result c.in_err-zone.field-0.0
+    c.loop-block-test.true c.block-item.is c.in_err-zone.ensures c.loop-block.invariant)
 
 pub loop-block-preserved : goal.loop-block-preserved
 loop-block-preserved g c =
-    built_step c.args.blocks.now c.loop-block.zones.items c.push.new.self.items c.loop-block.block-index c.block-item.result c.in_ok-zone.field-0
-    c.loop-block-test.true c.block-item.is c.loop-block.invariant c.in_ok-zone.ensures c.in_ok-push.ensures.items
+    zones_step c.args.blocks.now c.loop-block.zones.items c.push.new.self.items c.loop-block.block-index c.block-item.result c.in_ok-zone.field-0
+    c.loop-block-test.true c.block-item.is c.in_ok-zone.ensures c.in_ok-push.ensures.items c.loop-block.invariant
 
 pub returns : goal.returns
-returns g c =
-    subst (λ (bs : List Block). AreBuilt bs c.loop-block.zones.items)
-    (take_all c.loop-block.block-index c.args.blocks.now c.loop-block-test.false) c.loop-block.invariant
+returns g c = zones_end c.args.blocks.now c.loop-block.zones.items c.loop-block.block-index c.loop-block-test.false c.loop-block.invariant

@@ -1,7 +1,6 @@
-use Rattle.std.proofs.Common.{◌≡◌, ◌+◌, ◌∷◌, [], ◌++◌, map, IfOk, OnOk, ℕ, ◌-◌, ◌*◌, ◌<◌, ◌≤◌, length, take}
-use Rattle.worlds.specs.Kept.{addresses}
-use Rattle.script.specs.WorldTexts.{IsBuilt, AreBuilt, locals_of}
+use Rattle.std.proofs.Common.{◌≡◌, drop}
+use Rattle.script.specs.WorldTexts.{zones_from, zones_of}
 use Rattle.script.proofs.build.zones.Given as goal
 
 abbrev pub invariant-loop-block : goal.invariant-loop-block
-invariant-loop-block g l = AreBuilt (take l.block-index l.blocks) l.zones.items
+invariant-loop-block g l = zones_from l.zones.items (drop l.block-index l.blocks) ≡ zones_of l.blocks

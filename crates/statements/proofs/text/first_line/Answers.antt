@@ -1,14 +1,8 @@
-use Rattle.std.proofs.Common.{◌≡◌, ◌<◌, arith, List, ℕ}
-use Rattle.statements.specs.Lines.{is_line_end}
-use Rattle.statements.proofs.Pieces.{whole_piece}
+use Rattle.statements.proofs.Pieces.{first_line_of, no_text, over_zero, is_zero}
 use Rattle.statements.proofs.text.first_line.Goals as goal
 
-pub returns-in-Some : goal.returns-in-Some
-returns-in-Some c =
-    let h = c.in-Some.ensures.byte (omega arith) (λ w o f. f) in
-    record { piece = h.0; behind = h.1 }
+pub returns : goal.returns
+returns c = first_line_of c.args.text.now c.parted.result.0.now c.parted.result.1.now (over_zero _ (c.if-is_empty.ensures {u = tt})) c.parted.ensures.piece c.parted.ensures.behind
 
-pub returns-in-None : goal.returns-in-None
-returns-in-None c =
-    let h = whole_piece is_line_end c.args.text.now (c.in-None.ensures.byte (omega arith) (λ w o f. f)) in
-    record { piece = h.0; behind = h.1 }
+pub returns-then-is_empty : goal.returns-then-is_empty
+returns-then-is_empty c = no_text c.args.text.now (is_zero _ c.if-is_empty.ensures)
