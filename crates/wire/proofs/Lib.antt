@@ -9,4 +9,5 @@ pub mod NamesRead
 pub mod DataRead
 pub mod EntriesRead
 pub mod Skipping
+pub mod Chaining
 pub mod MessagesRead

@@ -19,12 +19,12 @@ use Rattle.wire.proofs.Bytes.{AreSmall, test_read, then_read, test_yes, test_no,
 -- ---- a part
 
 -- What a part that was read says of its place.
-abbrev IsThere : List ℕ → ℕ → ℕ → Part → Type 0
+abbrev pub IsThere : List ℕ → ℕ → ℕ → Part → Type 0
 IsThere bytes limit at End = (at < limit) × (slice_get bytes at ≡ Some 0)
 IsThere bytes limit at (Label size) = (slice_get bytes at ≡ Some size) × (0 < size) × (size < 64)
 IsThere bytes limit at (Pointer target) = (at + 1 < limit) × IsPointerAt bytes at target
 
-part_there : (bytes : List ℕ) (limit : ℕ) (border bad : WireError) (at : ℕ) → AreSmall bytes → limit ≤ length bytes
+pub part_there : (bytes : List ℕ) (limit : ℕ) (border bad : WireError) (at : ℕ) → AreSmall bytes → limit ≤ length bytes
     → IfOk (part_at bytes limit border bad at) (IsThere bytes limit at)
 part_there bytes limit border bad at small fits =
     let byte = slice_index bytes at in
@@ -154,7 +154,7 @@ label_part bytes limit border bad at size within get some few =
     test_no (nat_le limit at) (Err border) (part_by bytes limit border bad at (slice_index bytes at)) inside ∙ (ap (part_by bytes limit border bad at) byte
     ∙ (test_no (nat_eq size 0) (Ok End) _ a ∙ test_yes (nat_lt size 64) (Ok (Label size)) _ b))
 
-pointer_part : (bytes : List ℕ) (limit : ℕ) (border bad : WireError) (at target : ℕ) → at + 1 < limit → IsPointerAt bytes at target
+pub pointer_part : (bytes : List ℕ) (limit : ℕ) (border bad : WireError) (at target : ℕ) → at + 1 < limit → IsPointerAt bytes at target
     → part_at bytes limit border bad at ≡ Ok (Pointer target)
 pointer_part bytes limit border bad at target within p =
     let inside : nat_le limit at ≡ false = grind (arith, nat_tests) in

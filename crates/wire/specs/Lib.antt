@@ -4,6 +4,7 @@ pub mod Numbers
 pub mod Heads
 pub mod Results
 pub mod Parts
+pub mod Chains
 pub mod Shapes
 pub mod Values
 pub mod Entries

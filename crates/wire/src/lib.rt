@@ -1,6 +1,7 @@
 //! Messages read and written (RFC 1035, section 4).
 #![tactic(auto)]
 
+mod chains;
 mod encoder;
 mod error;
 mod fields;

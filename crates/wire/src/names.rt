@@ -2,10 +2,12 @@ ghost use Rattle.std.specs.Prelude.{◌≡◌, ℕ, ◌≤◌, ◌<◌, ◌+◌,
 ghost use Rattle.dname.specs.Labels.{wire};
 ghost use Rattle.dname.specs.Draft.{labelled};
 ghost use Rattle.wire.specs.Parts.{message_faults, spelt_at, name_at};
+ghost use Rattle.wire.specs.Chains.{AreChainEnds};
 ghost use Rattle.wire.specs.Entries.{spelling_of};
 ghost use Rattle.wire.specs.Results.{Gives, and_then};
 ghost use Rattle.wire.specs.Skips.{end_alone};
 
+use crate::chains::chain_behind;
 use crate::error::WireError;
 use crate::parts::{Faults, Part, part_at};
 use crate::spelling::Spelling;
@@ -29,15 +31,17 @@ fn put_label<A: Heap>(name: &mut Builder<A>, label: &[u8]) -> Result<(), Starved
 }
 
 // The name at a place (RFC 1035, section 4.1.4), whose own part ends at the limit at the latest, and the
-// end of what lies there.
+// end of what lies there. Chains of pointers whose ends are known are passed in one step.
 pub fn name_at<A: Heap>(
     alloc: A,
     bytes: &[u8],
+    ends: &[u16],
     faults: Faults,
     limit: usize,
     at: usize,
 ) -> Result<(Name<A>, usize), WireError>
-    requires { limit ≤ length bytes.now }
+    requires fits { limit ≤ length bytes.now }
+    requires known { AreChainEnds bytes.now ends.now }
     ensures is { Gives {Y = List (List ℕ) × ℕ} (λ x. (x.0, x.1)) result (name_at bytes.now faults limit at) }
     ensures within { IfOk result (λ x. x.1 ≤ limit) }
 {
@@ -67,17 +71,19 @@ pub fn name_at<A: Heap>(
                     return Err(faults.not_earlier);
                 }
                 end = end.or(Some(place + 2));
-                start = target;
+                let next = chain_behind(ends, target);
+                start = next;
                 stop = bytes.len();
                 border = WireError::Short;
-                place = target;
+                place = next;
             }
         }
     }
 }
 
 // The end of the name at a place of a message: whether one stands there, as `name_at` decides it. None is built.
-pub fn name_end(bytes: &[u8], at: usize) -> Result<usize, WireError>
+pub fn name_end(bytes: &[u8], ends: &[u16], at: usize) -> Result<usize, WireError>
+    requires { AreChainEnds bytes.now ends.now }
     ensures is { result ≡ and_then (name_at bytes.now message_faults (length bytes.now) at) end_alone }
     ensures within { IfOk result (λ end. end ≤ length bytes.now) }
 {
@@ -109,8 +115,9 @@ pub fn name_end(bytes: &[u8], at: usize) -> Result<usize, WireError>
                     return Err(WireError::PointerNotEarlier);
                 }
                 end = end.or(Some(place + 2));
-                start = target;
-                place = target;
+                let next = chain_behind(ends, target);
+                start = next;
+                place = next;
             }
         }
     }

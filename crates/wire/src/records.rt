@@ -2,6 +2,7 @@ ghost use Rattle.std.specs.Prelude.{◌≡◌, ℕ, ◌≤◌, ◌+◌, List, Op
 ghost use Rattle.rdata.specs.Records as plain;
 ghost use Rattle.layout.specs.Messages as layouts;
 ghost use Rattle.layout.specs.Messages.{ttl_of};
+ghost use Rattle.wire.specs.Chains.{AreChainEnds};
 ghost use Rattle.wire.specs.Entries.{entry_at, section_from, question_at, questions_from};
 ghost use Rattle.wire.specs.Results.{Gives};
 ghost use Rattle.wire.specs.Skips.{IsSkipping};
@@ -36,13 +37,14 @@ fn begins_usual(bytes: &[u8], at: usize) -> bool
 }
 
 // The end of the record at a place, where it is one that is skipped: its owner is walked, and takes no memory.
-fn skipped_end(bytes: &[u8], at: usize) -> Result<Option<usize>, WireError>
+fn skipped_end(bytes: &[u8], ends: &[u16], at: usize) -> Result<Option<usize>, WireError>
+    requires { AreChainEnds bytes.now ends.now }
     ensures { IsSkipping result (entry_at bytes.now at) }
 {
     if begins_usual(bytes, at) {
         return Ok(None);
     }
-    let past = name_end(bytes, at)?;
+    let past = name_end(bytes, ends, at)?;
     if bytes.len() - past < 10 {
         return Err(WireError::Short);
     }
@@ -62,15 +64,17 @@ fn skipped_end(bytes: &[u8], at: usize) -> Result<Option<usize>, WireError>
 fn entry_at<A: Heap>(
     alloc: A,
     bytes: &[u8],
+    ends: &[u16],
     at: usize,
 ) -> Result<(Option<Record<A>>, usize), WireError>
+    requires { AreChainEnds bytes.now ends.now }
     ensures is { Gives {Y = Option plain.Record × ℕ} (λ x. (x.0, x.1)) result (entry_at bytes.now at) }
     ensures skipped { (end : ℕ) → entry_at bytes.now at ≡ Ok (None, end) → IsOk result }
 {
-    if let Some(end) = skipped_end(bytes, at)? {
+    if let Some(end) = skipped_end(bytes, ends, at)? {
         return Ok((None, end));
     }
-    let (owner, at) = name_at(alloc, bytes, Faults::in_message(), bytes.len(), at)?;
+    let (owner, at) = name_at(alloc, bytes, ends, Faults::in_message(), bytes.len(), at)?;
     if bytes.len() - at < 10 {
         return Err(WireError::Short);
     }
@@ -83,7 +87,7 @@ fn entry_at<A: Heap>(
     match served_type(two_at(bytes, at), two_at(bytes, at + 2)) {
         None => Ok((None, start + size)),
         Some(kind) => {
-            let value = value_at(alloc, kind, bytes, start, start + size)?;
+            let value = value_at(alloc, kind, bytes, ends, start, start + size)?;
             Ok((Some(Record { owner, ttl, value }), start + size))
         }
     }
@@ -103,15 +107,17 @@ fn keep<A: Heap>(records: &mut Records<A>, found: Option<Record<A>>) -> Result<(
 pub fn section_at<A: Heap>(
     alloc: A,
     bytes: &[u8],
+    ends: &[u16],
     count: u16,
     at: usize,
 ) -> Result<(Records<A>, usize), WireError>
+    requires { AreChainEnds bytes.now ends.now }
     ensures { Gives {Y = List plain.Record × ℕ} (λ x. (x.0, x.1)) result (section_from count bytes.now at) }
 {
     let mut records = Records::new(alloc);
     let mut place = at;
     for _ in 0..count {
-        let (found, next) = entry_at(alloc, bytes, place)?;
+        let (found, next) = entry_at(alloc, bytes, ends, place)?;
         keep(&mut records, found)?;
         place = next;
     }
@@ -123,11 +129,13 @@ pub fn section_at<A: Heap>(
 fn question_at<A: Heap>(
     alloc: A,
     bytes: &[u8],
+    ends: &[u16],
     at: usize,
 ) -> Result<(Question<A>, usize), WireError>
+    requires { AreChainEnds bytes.now ends.now }
     ensures { Gives {Y = layouts.Question × ℕ} (λ x. (x.0, x.1)) result (question_at bytes.now at) }
 {
-    let (name, at) = name_at(alloc, bytes, Faults::in_message(), bytes.len(), at)?;
+    let (name, at) = name_at(alloc, bytes, ends, Faults::in_message(), bytes.len(), at)?;
     if bytes.len() - at < 4 {
         return Err(WireError::Short);
     }
@@ -147,15 +155,17 @@ fn question_at<A: Heap>(
 pub fn questions_at<A: Heap>(
     alloc: A,
     bytes: &[u8],
+    ends: &[u16],
     count: u16,
     at: usize,
 ) -> Result<(Questions<A>, usize), WireError>
+    requires { AreChainEnds bytes.now ends.now }
     ensures { Gives {Y = List layouts.Question × ℕ} (λ x. (x.0, x.1)) result (questions_from count bytes.now at) }
 {
     let mut questions = Questions::new(alloc);
     let mut place = at;
     for _ in 0..count {
-        let (question, next) = question_at(alloc, bytes, place)?;
+        let (question, next) = question_at(alloc, bytes, ends, place)?;
         questions.push(question)?;
         place = next;
     }

@@ -2,6 +2,7 @@ ghost use Rattle.std.specs.Prelude.{◌≡◌, ℕ, ◌≤◌, ◌<◌, ◌+◌,
 ghost use Rattle.rdata.specs.Data.{Datum};
 ghost use Rattle.rdata.specs.Kept.{datum};
 ghost use Rattle.wire.specs.Values.{two_within, string_at, texts_at, soa_behind, form_at, value_at, name_within};
+ghost use Rattle.wire.specs.Chains.{AreChainEnds};
 ghost use Rattle.wire.specs.Results.{Gives, and_then};
 
 use crate::error::WireError;
@@ -15,14 +16,16 @@ use rdata::{Addr, CharacterString, RData, RType, Soa, Texts};
 fn name_within<A: Heap>(
     alloc: A,
     bytes: &[u8],
+    ends: &[u16],
     at: usize,
     end: usize,
 ) -> Result<(Name<A>, usize), WireError>
-    requires { end ≤ length bytes.now }
+    requires fits { end ≤ length bytes.now }
+    requires known { AreChainEnds bytes.now ends.now }
     ensures is { Gives {Y = List (List ℕ) × ℕ} (λ x. (x.0, x.1)) result (name_within bytes.now at end) }
     ensures within { IfOk result (λ x. x.1 ≤ end) }
 {
-    name_at(alloc, bytes, Faults::in_rdata(), end, at)
+    name_at(alloc, bytes, ends, Faults::in_rdata(), end, at)
 }
 
 // One character-string, and its end.
@@ -65,14 +68,16 @@ fn texts_at<A: Heap>(alloc: A, bytes: &[u8], at: usize, end: usize) -> Result<Te
 fn soa_at<A: Heap>(
     alloc: A,
     bytes: &[u8],
+    ends: &[u16],
     at: usize,
     end: usize,
 ) -> Result<(RData<A>, usize), WireError>
-    requires { end ≤ length bytes.now }
+    requires fits { end ≤ length bytes.now }
+    requires known { AreChainEnds bytes.now ends.now }
     ensures { Gives {Y = Datum × ℕ} (λ x. (datum x.0, x.1)) result (form_at RType.Soa bytes.now at end) }
 {
-    let (primary, at) = name_within(alloc, bytes, at, end)?;
-    let (mailbox, at) = name_within(alloc, bytes, at, end)?;
+    let (primary, at) = name_within(alloc, bytes, ends, at, end)?;
+    let (mailbox, at) = name_within(alloc, bytes, ends, at, end)?;
     if end - at < 20 {
         return Err(WireError::BadRdataLength);
     }
@@ -91,18 +96,20 @@ fn soa_at<A: Heap>(
 fn mx_at<A: Heap>(
     alloc: A,
     bytes: &[u8],
+    ends: &[u16],
     at: usize,
     end: usize,
 ) -> Result<(RData<A>, usize), WireError>
     requires fits { end ≤ length bytes.now }
     requires starts { at ≤ end }
+    requires known { AreChainEnds bytes.now ends.now }
     ensures { Gives {Y = Datum × ℕ} (λ x. (datum x.0, x.1)) result (form_at RType.Mx bytes.now at end) }
 {
     if end - at < 2 {
         return Err(WireError::BadRdataLength);
     }
     let preference = two_at(bytes, at);
-    let (exchange, at) = name_within(alloc, bytes, at + 2, end)?;
+    let (exchange, at) = name_within(alloc, bytes, ends, at + 2, end)?;
     Ok((RData::Mx(preference, exchange), at))
 }
 
@@ -137,29 +144,31 @@ fn form_at<A: Heap>(
     alloc: A,
     kind: RType,
     bytes: &[u8],
+    ends: &[u16],
     at: usize,
     end: usize,
 ) -> Result<(RData<A>, usize), WireError>
     requires fits { end ≤ length bytes.now }
     requires starts { at ≤ end }
+    requires known { AreChainEnds bytes.now ends.now }
     ensures { Gives {Y = Datum × ℕ} (λ x. (datum x.0, x.1)) result (form_at kind bytes.now at end) }
 {
     match kind {
         RType::A => ipv4_at(bytes, at, end),
         RType::Ns => {
-            let (name, past) = name_within(alloc, bytes, at, end)?;
+            let (name, past) = name_within(alloc, bytes, ends, at, end)?;
             Ok((RData::Ns(name), past))
         }
         RType::Cname => {
-            let (name, past) = name_within(alloc, bytes, at, end)?;
+            let (name, past) = name_within(alloc, bytes, ends, at, end)?;
             Ok((RData::Cname(name), past))
         }
-        RType::Soa => soa_at(alloc, bytes, at, end),
+        RType::Soa => soa_at(alloc, bytes, ends, at, end),
         RType::Ptr => {
-            let (name, past) = name_within(alloc, bytes, at, end)?;
+            let (name, past) = name_within(alloc, bytes, ends, at, end)?;
             Ok((RData::Ptr(name), past))
         }
-        RType::Mx => mx_at(alloc, bytes, at, end),
+        RType::Mx => mx_at(alloc, bytes, ends, at, end),
         RType::Txt => {
             let texts = texts_at(alloc, bytes, at, end)?;
             Ok((RData::Txt(texts), end))
@@ -174,14 +183,16 @@ pub fn value_at<A: Heap>(
     alloc: A,
     kind: RType,
     bytes: &[u8],
+    ends: &[u16],
     at: usize,
     end: usize,
 ) -> Result<RData<A>, WireError>
     requires fits { end ≤ length bytes.now }
     requires starts { at ≤ end }
+    requires known { AreChainEnds bytes.now ends.now }
     ensures { Gives {Y = Datum} datum result (value_at kind bytes.now at end) }
 {
-    let (value, past) = form_at(alloc, kind, bytes, at, end)?;
+    let (value, past) = form_at(alloc, kind, bytes, ends, at, end)?;
     if past == end {
         Ok(value)
     } else {

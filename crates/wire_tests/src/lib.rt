@@ -2,6 +2,8 @@
 #![tactic(auto)]
 
 #[cfg(test)]
+mod chain_tests;
+#[cfg(test)]
 mod fault_tests;
 #[cfg(test)]
 mod growth_tests;

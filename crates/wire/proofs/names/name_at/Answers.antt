@@ -1,14 +1,15 @@
 use Rattle.std.proofs.Common.{[], arith}
 use Rattle.std.specs.Prelude.{slice_range, ◌+◌}
 use Rattle.wire.specs.Parts.{spelt_at, name_at}
-use Rattle.wire.proofs.Walks.{walk_begins, walk_refused, name_refused, walk_too_long, walk_over, walk_forward, walk_ends, walk_pointer, name_found, name_label, gives_failed, label_long, label_room}
+use Rattle.wire.proofs.Walks.{walk_begins, walk_refused, name_refused, walk_too_long, walk_over, walk_forward, walk_ends, name_found, name_label, gives_failed, label_long, label_room}
 use Rattle.std.proofs.Common.{◌∙◌, sym, ap, Ok}
+use Rattle.wire.proofs.Chaining.{walk_chain, chain_leads, chain_lower}
 use Rattle.wire.proofs.names.name_at.Goals as goal
 
 pub parts-init : goal.parts-init
 parts-init g c = record {
   front = [];
-  walk = walk_begins c.args.bytes.now c.args.faults c.args.limit c.args.at c.requires;
+  walk = walk_begins c.args.bytes.now c.args.faults c.args.limit c.args.at c.requires.fits;
   opened = ap (λ d. d.opened) c.in_ok-name.ensures;
   closed = ap (λ d. d.closed) c.in_ok-name.ensures;
 }
@@ -59,8 +60,9 @@ returns-then-target-start-clause-is g c =
 pub parts-preserved : goal.parts-preserved
 parts-preserved g c =
     let w = c.parts.invariant in
-    let walk = walk_pointer c.args.bytes.now c.args.faults c.args.limit (spelt_at c.args.bytes.now c.args.faults c.args.limit c.args.at) w.front c.parts.start c.parts.place c.parts.stop c.parts.border c.parts.room c.parts.end w.walk c.in-Pointer.target c.part_at.result c.part_at.ensures.is
-    (c.in_ok-part_at.was ∙ ap (λ p. Ok p) c.in-Pointer.is) c.if-target-start.false (rw c.in-Pointer.is at c.in_ok-part_at.ensures.shape).0 in
+    let walk = walk_chain c.args.bytes.now c.args.faults c.args.limit (spelt_at c.args.bytes.now c.args.faults c.args.limit c.args.at) w.front c.parts.start c.parts.place c.parts.stop c.parts.border c.parts.room c.parts.end w.walk c.in-Pointer.target c.part_at.result c.part_at.ensures.is
+    (c.in_ok-part_at.was ∙ ap (λ p. Ok p) c.in-Pointer.is) c.if-target-start.false (rw c.in-Pointer.is at c.in_ok-part_at.ensures.shape).0
+    c.chain_behind-next.result (chain_leads c.args.bytes.now c.args.ends.now c.in-Pointer.target c.chain_behind-next.result c.requires.known c.chain_behind-next.ensures) in
     record { front = w.front; walk = rw c.or-end.ensures walk; opened = w.opened; closed = w.closed }
 
 pub put_label-requires-clause-room : goal.put_label-requires-clause-room
@@ -73,3 +75,8 @@ put_label-requires-clause-room g c =
     let fits = c.if-stop-place.false in
     label_room c.parts.name w.front c.parts.room size (slice_range c.args.bytes.now (place + 1) (place + 1 + size)) w.closed w.walk.taken c.if-room-size.false
     (label_long c.args.bytes.now place size (omega arith))
+
+pub parts-smaller : goal.parts-smaller
+parts-smaller g c =
+    let lower = chain_lower c.args.bytes.now c.args.ends.now c.in-Pointer.target c.chain_behind-next.result c.requires.known c.chain_behind-next.ensures in
+    omega (arith, lower, c.if-target-start.false)

@@ -2,7 +2,8 @@ use Rattle.std.proofs.Common.{◌∙◌, ap, Ok, [], length, arith}
 use Rattle.std.specs.Prelude.{◌++◌, ◌∷◌, ◌+◌, slice_range}
 use Rattle.wire.specs.declared.error.WireError.TheVariants.{Short, NameTooLong, PointerNotEarlier}
 use Rattle.wire.specs.Parts.{message_faults, spelt_at}
-use Rattle.wire.proofs.Walks.{walk_begins, walk_refused, walk_too_long, walk_over, walk_forward, walk_ends, walk_label, walk_pointer}
+use Rattle.wire.proofs.Walks.{walk_begins, walk_refused, walk_too_long, walk_over, walk_forward, walk_ends, walk_label}
+use Rattle.wire.proofs.Chaining.{walk_chain, chain_leads, chain_lower}
 use Rattle.wire.proofs.Skipping.{end_refused, end_found, handed}
 use Rattle.wire.proofs.names.name_end.Goals as goal
 
@@ -59,6 +60,12 @@ returns-then-target-start-clause-is c =
 pub parts-preserved : goal.parts-preserved
 parts-preserved c =
     let w = c.parts.invariant in
-    let walk = walk_pointer c.args.bytes.now message_faults (length c.args.bytes.now) (spelt_at c.args.bytes.now message_faults (length c.args.bytes.now) c.args.at) w.0 c.parts.start c.parts.place (length c.args.bytes.now) Short c.parts.room c.parts.end w.1
-    c.in-Pointer.target c.part_at.result c.part_at.ensures.is (c.in_ok-part_at.was ∙ ap (λ p. Ok p) c.in-Pointer.is) c.if-target-start.false (rw c.in-Pointer.is at c.in_ok-part_at.ensures.shape).0 in
+    let walk = walk_chain c.args.bytes.now message_faults (length c.args.bytes.now) (spelt_at c.args.bytes.now message_faults (length c.args.bytes.now) c.args.at) w.0 c.parts.start c.parts.place (length c.args.bytes.now) Short c.parts.room c.parts.end w.1
+    c.in-Pointer.target c.part_at.result c.part_at.ensures.is (c.in_ok-part_at.was ∙ ap (λ p. Ok p) c.in-Pointer.is) c.if-target-start.false (rw c.in-Pointer.is at c.in_ok-part_at.ensures.shape).0
+    c.chain_behind-next.result (chain_leads c.args.bytes.now c.args.ends.now c.in-Pointer.target c.chain_behind-next.result c.requires c.chain_behind-next.ensures) in
     (w.0, rw c.or-end.ensures walk)
+
+pub parts-smaller : goal.parts-smaller
+parts-smaller c =
+    let lower = chain_lower c.args.bytes.now c.args.ends.now c.in-Pointer.target c.chain_behind-next.result c.requires c.chain_behind-next.ensures in
+    omega (arith, lower, c.if-target-start.false)

@@ -4,7 +4,7 @@ use Rattle.wire.specs.Entries.{message_of}
 use Rattle.wire.proofs.Walks.{gives_failed}
 use Rattle.wire.proofs.Whole.{first, second, third, questions_fail, answer_fails, authority_fails, additional_fails, trailing, all_read}
 use Rattle.wire.proofs.MessagesRead.{message_there, no_message, none_handed_on}
-use Rattle.wire.proofs.reader.decode.Goals as goal
+use Rattle.wire.proofs.reader.message_of.Goals as goal
 
 pub returns-in_err-authority-clause-exact : goal.returns-in_err-authority-clause-exact
 returns-in_err-authority-clause-exact g c =

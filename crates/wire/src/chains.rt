@@ -1,0 +1,59 @@
+ghost use Rattle.std.specs.Prelude.{◌≡◌, ◌<◌, length, IfOk};
+ghost use Rattle.wire.specs.Chains.{IsChainEnd, AreChainEnds, chain_behind};
+
+use crate::error::WireError;
+use crate::parts::{Part, part_at};
+use crate::via::UDP_LIMIT;
+use dname::{Heap, Starved};
+
+// The offset in a pointer has 14 bits (RFC 1035, section 4.1.4).
+const PLACES: usize = 16_384;
+
+// Where the chain of pointers from a place ends, by the ends of those from the places before it.
+fn chain_end(bytes: &[u8], ends: &[u16], at: usize) -> u16
+    requires known { AreChainEnds bytes.now ends.now }
+    requires next { length ends.now ≡ at }
+    requires within { at < 16384 }
+    ensures { IsChainEnd bytes.now at result }
+{
+    match part_at(
+        bytes,
+        bytes.len(),
+        WireError::Short,
+        WireError::BadLabel,
+        at,
+    ) {
+        Ok(Part::Pointer(target)) => { if target < at { ends[target] } else { at as u16 } }
+        Ok(Part::End) => at as u16,
+        Ok(Part::Label(_)) => at as u16,
+        Err(_) => at as u16,
+    }
+}
+
+// Where the chain of pointers from each place ends to which a pointer can lead, so that a name is walked past
+// a chain in one step. The chains of a message that a datagram can hold are short, and are walked.
+pub fn chain_ends<A: Heap>(alloc: A, bytes: &[u8]) -> Result<Vec<u16, A>, Starved>
+    ensures { IfOk result (λ ends. AreChainEnds bytes.now ends.items) }
+{
+    if bytes.len() <= UDP_LIMIT {
+        return Ok(Vec::new(alloc));
+    }
+    let places = bytes.len().min(PLACES);
+    let mut ends = Vec::with_capacity(alloc, places)?;
+    for at in 0..places {
+        let end = chain_end(bytes, &ends, at);
+        ends.push(end)?;
+    }
+    Ok(ends)
+}
+
+// The end of the chain of pointers from a place, where it is known, else that place.
+pub fn chain_behind(ends: &[u16], at: usize) -> usize
+    ensures { result ≡ chain_behind ends.now at }
+{
+    if at < ends.len() {
+        usize::from(ends[at])
+    } else {
+        at
+    }
+}

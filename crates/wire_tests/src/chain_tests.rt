@@ -1,0 +1,45 @@
+use dname::{Heap, Starved};
+use refusing::Refusing;
+use std::test::Fail;
+use wire::{WireError, decode};
+
+// A record that is skipped: its RDATA hold the name `a.`, at 23, and from 26 on 8,000 pointers, the first to that
+// name and each further one to the one before it. Then come 3,000 records, whose owner is a pointer to the last.
+fn chained<A: Heap>(alloc: A) -> Result<Vec<u8, A>, Starved> {
+    let mut bytes = Vec::from_slice(
+        alloc,
+        b"\0\x01\x80\0\0\0\x0b\xb9\0\0\0\0\0\0\x63\0\x01\0\0\0\0\x3e\x83\x01a\0",
+    )?;
+    let mut target: u16 = 23;
+    for link in 0..8_000_u16 {
+        let [high, low] = (0xc000 | target).to_be_bytes();
+        bytes.push(high)?;
+        bytes.push(low)?;
+        target = 26 + 2 * link;
+    }
+    for _ in 0..3_000 {
+        bytes.extend_from_slice(b"\xfe\x98\0\x01\0\x01\0\0\0\x3c\0\x04\xc0\0\x02\x01")?;
+    }
+    Ok(bytes)
+}
+
+#[test]
+fn owners_behind_a_long_chain_are_read(rt: HostRuntime) -> Result<(), Fail> {
+    let bytes = chained(rt.alloc())?;
+    assert_eq!(rt; bytes.len(), 64_026);
+    let m = decode(rt.alloc(), &bytes)?;
+    assert_eq!(rt; m.answer.len(), 3_000);
+    for kept in m.answer.as_slice() {
+        assert_eq!(rt; kept.owner.to_text()?.as_str(), "a.");
+    }
+    Ok(())
+}
+
+#[test]
+fn want_of_memory_for_the_ends_of_chains_is_told(rt: HostRuntime) -> Result<(), Fail> {
+    let bytes = chained(rt.alloc())?;
+    let heap = Refusing::new(rt.alloc());
+    heap.refuse_after(0);
+    assert!(rt; matches!(decode(&heap, &bytes), Err(WireError::Memory)));
+    Ok(())
+}
