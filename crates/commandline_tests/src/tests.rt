@@ -71,7 +71,14 @@ fn play_takes_two_words(rt: HostRuntime) -> Result<(), Fail> {
 fn storm_takes_a_world_and_scripts(rt: HostRuntime) -> Result<(), Fail> {
     let line = words(
         rt.alloc(),
-        &["storm", "--keep", "1000000", "small.world", "a.script", "b.script"],
+        &[
+            "storm",
+            "--keep",
+            "1000000",
+            "small.world",
+            "a.script",
+            "b.script",
+        ],
     )?;
     let Ok(
         Command::Storm {
@@ -85,8 +92,16 @@ fn storm_takes_a_world_and_scripts(rt: HostRuntime) -> Result<(), Fail> {
     };
     assert_eq!(rt; (keep, world.as_str()), (1_000_000, "small.world"));
     assert_eq!(rt; scripts.len(), 2);
-    assert!(rt; scripts.get(0).is_some_and(|script| script.as_str() == "a.script"));
-    assert!(rt; scripts.get(1).is_some_and(|script| script.as_str() == "b.script"));
+    assert!(rt;
+        scripts
+            .get(0)
+            .is_some_and(|script| script.as_str() == "a.script")
+    );
+    assert!(rt;
+        scripts
+            .get(1)
+            .is_some_and(|script| script.as_str() == "b.script")
+    );
     Ok(())
 }
 

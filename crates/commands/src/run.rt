@@ -24,13 +24,7 @@ use std::thread::Threads;
 
 /// Does what the words after the program's name ask, and gives the exit status, and the server that was started. Words
 /// that name no command are answered with the help text and status 2.
-pub fn run_words<
-    R: Threads + Wait + AllocGlobal + Sync,
-    T: Texts,
-    H: Host,
-    O: Write,
-    E: Write,
->(
+pub fn run_words<R: Threads + Wait + AllocGlobal + Sync, T: Texts, H: Host, O: Write, E: Write>(
     rt: &R,
     words: &[String],
     texts: &mut T,

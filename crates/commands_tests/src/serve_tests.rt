@@ -154,10 +154,7 @@ fn a_start_that_fails_says_why(rt: HostRuntime) -> Result<(), Fail> {
         ),
         ("listen 127.0.0.1 0\n", 4, "error: socket\n"),
     ] {
-        assert!(rt;
-            is_refused(&rt, text, BUSY, status, fault)?,
-            "{fault}"
-        );
+        assert!(rt; is_refused(&rt, text, BUSY, status, fault)?, "{fault}");
     }
     Ok(())
 }

@@ -29,11 +29,7 @@ pub fn read_asks<A: Heap>(alloc: A, text: &str) -> Result<Vec<Order<A>, A>, Line
     read_orders(alloc, Scope::Asks, text)
 }
 
-fn read_orders<A: Heap>(
-    alloc: A,
-    scope: Scope,
-    text: &str,
-) -> Result<Vec<Order<A>, A>, LineError>
+fn read_orders<A: Heap>(alloc: A, scope: Scope, text: &str) -> Result<Vec<Order<A>, A>, LineError>
     ensures { MatchResult result (λ v. orders_of scope text.now ≡ Ok (map order_seen v.items)) (λ e. IsTextFault e (orders_of scope text.now)) }
 {
     let mut orders = Vec::new(alloc);

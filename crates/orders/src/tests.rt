@@ -101,7 +101,11 @@ fn a_script_of_asks_has_no_other_lines(rt: HostRuntime) -> Result<(), Fail> {
             assert!(rt; asks(orders.get(1), (RType::A, Via::Tcp, true)));
         }
     }
-    for (text, line, number) in [("ask a A\nrun", 2, 1), ("carry x", 1, 1), ("ask a\nrun", 1, 5)] {
+    for (text, line, number) in [
+        ("ask a A\nrun", 2, 1),
+        ("carry x", 1, 1),
+        ("ask a\nrun", 1, 5),
+    ] {
         match read_asks(rt.alloc(), text) {
             Ok(_) => assert!(rt; false, "for {text}"),
             Err(error) => assert_eq!(rt; (error.line, error.kind.number()), (line, number)),
