@@ -67,7 +67,7 @@ module _ {X : Type 0} (view : X → List ℕ) (held now : List ℕ → Option (O
 
 -- ---- a text says one world
 
-ok_same : {T E : Type 0} {x y : T} → Ok {T} {E} x ≡ Ok {T} {E} y → x ≡ y
+ok_same : {T E : Type 0} {x y : T} → (let r : Result T E = Ok x in r) ≡ Ok y → x ≡ y
 ok_same e = cc
 
 pub one_world : (text : List ℕ) (W V : World) → IsWorldOf text W → IsWorldOf text V → V ≡ W

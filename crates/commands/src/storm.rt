@@ -59,8 +59,9 @@ fn worlds_at<'a, T: Texts>(
 }
 
 // The world that a text says, twice.
+#[tactic(auto, using(crate::proofs::Storms::one_world))]
 fn worlds_in(alloc: Global, text: &str) -> Result<(World, World), WorldFault>
-    ensures is { MatchResult result (λ w. IsWorldOf text.now w.0) (IsNoWorld text.now) }
+    ensures says { MatchResult result (λ w. IsWorldOf text.now w.0) (IsNoWorld text.now) }
     ensures same { IfOk result (λ w. w.1 ≡ w.0) }
 {
     let world = world_in(alloc, text)?;
