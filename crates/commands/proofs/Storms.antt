@@ -1,5 +1,5 @@
 -- Scripts read one after the other, and what a storm is refused for.
-use Rattle.std.proofs.Common.{◌≡◌, refl, ℕ, zero, suc, ◌+◌, ◌<◌, ◌⊎◌, inl, inr, List, [], ◌∷◌, ◌++◌, Option, length, take, map, get_or, sym, ◌∙◌, ap, ap₂, subst, arith, Result, Ok, Err, IfErr, IsErrAnd}
+use Rattle.std.proofs.Common.{◌≡◌, refl, ℕ, zero, suc, ◌+◌, ◌<◌, inl, inr, List, [], ◌∷◌, ◌++◌, Option, length, take, map, get_or, sym, ◌∙◌, ap, ap₂, subst, arith, Result, Ok, Err, IfErr, IsErrAnd}
 use Rattle.std.proofs.lemmas.List.{map-append, take_more}
 use Rattle.orders.specs.Orders.{Order}
 use Rattle.pool.specs.declared.fault.PoolError.{PoolError}

@@ -1,5 +1,5 @@
 -- What is printed of scripts that a worker each asks by in one network, and why nothing is.
-use Rattle.std.specs.Prelude.{◌≡◌, ◌⊎◌, ℕ, List, [], ◌∷◌, ◌++◌, Option, Some, None, Ok, Err, codes, decimal}
+use Rattle.std.specs.Prelude.{◌≡◌, ◌⊎◌, ℕ, List, [], ◌∷◌, ◌++◌, Option, codes, decimal}
 use Rattle.std.specs.declared.alloc.Global.{Global}
 use Rattle.truth.specs.Worlds.{World}
 use Rattle.orders.specs.Orders.{Order, asks_of}

@@ -4,7 +4,7 @@ use Rattle.std.specs.Prelude.{Option}
 use Rattle.std.proofs.lemmas.List.{take_all}
 use Rattle.orders.specs.Orders.{order_seen}
 use Rattle.orders.specs.declared.order.Order.{Order}
-use Rattle.commands.specs.Storms.{HoldsAsks, HoldsNoAsks, HoldAsks, RefusesOne}
+use Rattle.commands.specs.Storms.{HoldsAsks, HoldAsks, RefusesOne}
 use Rattle.commands.specs.declared.fault.Fault.{Fault}
 use Rattle.commands.proofs.Storms.{asks_step, refuses_at, err_weaker}
 use Rattle.commands.proofs.storm.asks_at_all.Goals as goal
