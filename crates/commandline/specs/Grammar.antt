@@ -1,7 +1,8 @@
 -- The lines that the program takes, in the words of `clap`.
 use Rattle.std.specs.Prelude.{Some, true, codes}
+use Rattle.clap.specs.Lexer.{usize_max}
 use Rattle.clap.specs.Words.{App, Rule, Text, new_app, new_rule, with_rule, with_subcommand}
-use Rattle.clap.specs.declared.builder.action.ArgAction.TheVariants.{Set}
+use Rattle.clap.specs.declared.builder.action.ArgAction.TheVariants.{Set, Append}
 
 -- A word that has to stand, and stands once.
 abbrev pub word_rule : Text → Rule
@@ -20,6 +21,18 @@ file_app name = with_rule (with_rule (new_app name) (word_rule (codes "origin"))
 abbrev pub play_app : App
 play_app = with_rule (with_rule (new_app (codes "play")) (word_rule (codes "world"))) (word_rule (codes "script"))
 
+-- `--keep N`, which may be left out.
+abbrev pub keep_rule : Rule
+keep_rule = record (new_rule (codes "keep")) { long = Some (codes "keep"); action = Some Set }
+
+-- `SCRIPT..`, one or more.
+abbrev pub scripts_rule : Rule
+scripts_rule = record (new_rule (codes "script")) { required = true; action = Some Append; range = Some (record { start_inclusive = 1; end_inclusive = usize_max }) }
+
+-- `storm [--keep N] WORLD SCRIPT..`
+abbrev pub storm_app : App
+storm_app = with_rule (with_rule (with_rule (new_app (codes "storm")) keep_rule) (word_rule (codes "world"))) scripts_rule
+
 -- `serve CONFIG`
 abbrev pub serve_app : App
 serve_app = with_rule (new_app (codes "serve")) (word_rule (codes "config"))
@@ -32,5 +45,7 @@ bare_app = let a = new_app (codes "resolverd") in record a { top = record a.top 
 abbrev pub line_app : App
 line_app =
     with_subcommand
+    (with_subcommand
     (with_subcommand (with_subcommand (with_subcommand (with_subcommand bare_app ask_app.top) (file_app (codes "check")).top) (file_app (codes "dump")).top) play_app.top)
+    storm_app.top)
     serve_app.top

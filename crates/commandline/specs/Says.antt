@@ -1,9 +1,10 @@
 -- Which command a line's matches name, and which one the words of the line do.
-use Rattle.std.specs.Prelude.{◌≡◌, true, Option, Some, List, codes, string_bytes}
-use Rattle.clap.specs.Words.{Row, Text, first_of, subcommand_of, takes}
+use Rattle.std.specs.Prelude.{◌≡◌, ◌≤◌, ℕ, true, Option, Some, None, List, codes, map, string_bytes}
+use Rattle.std.specs.Str.Parse.{IsNumeral, digits_value, without_leading_plus}
+use Rattle.clap.specs.Words.{Row, Text, all_of, first_of, subcommand_of, takes}
 use Rattle.commandline.specs.Grammar.{line_app}
 use Rattle.commandline.specs.declared.subcommands.Command.{Command}
-use Rattle.commandline.specs.declared.subcommands.Command.TheVariants.{Ask, Check, Dump, Play, Serve}
+use Rattle.commandline.specs.declared.subcommands.Command.TheVariants.{Ask, Check, Dump, Play, Storm, Serve}
 
 -- The word that names a command.
 abbrev pub word_of : Command → Text
@@ -11,7 +12,13 @@ word_of (Ask origin file name kind) = codes "ask"
 word_of (Check origin file) = codes "check"
 word_of (Dump origin file) = codes "dump"
 word_of (Play world script) = codes "play"
+word_of (Storm keep world scripts) = codes "storm"
 word_of (Serve config) = codes "serve"
+
+-- How many entries are kept: the number behind `--keep`, 1 to 1,000,000, or 65,536 where none stands there.
+abbrev pub IsKeep : Option Text → ℕ → Type 0
+IsKeep None n = n ≡ 65536
+IsKeep (Some t) n = IsNumeral 10 (without_leading_plus t) × (digits_value 10 (without_leading_plus t) ≡ n) × (1 ≤ n) × (n ≤ 1000000)
 
 -- The rows have a command's words.
 abbrev pub HaveWords : List Row → Command → Type 0
@@ -20,6 +27,8 @@ HaveWords rows (Ask origin file name kind) = (first_of (codes "origin") rows ≡
 HaveWords rows (Check origin file) = (first_of (codes "origin") rows ≡ Some (string_bytes origin)) × (first_of (codes "file") rows ≡ Some (string_bytes file))
 HaveWords rows (Dump origin file) = (first_of (codes "origin") rows ≡ Some (string_bytes origin)) × (first_of (codes "file") rows ≡ Some (string_bytes file))
 HaveWords rows (Play world script) = (first_of (codes "world") rows ≡ Some (string_bytes world)) × (first_of (codes "script") rows ≡ Some (string_bytes script))
+HaveWords rows (Storm keep world scripts) = IsKeep (first_of (codes "keep") rows) keep × (first_of (codes "world") rows ≡ Some (string_bytes world))
+    × (all_of (codes "script") rows ≡ Some (map string_bytes scripts.items))
 HaveWords rows (Serve config) = first_of (codes "config") rows ≡ Some (string_bytes config)
 
 -- The subcommand of this name, with these rows, is the command.

@@ -2,7 +2,7 @@
 ghost use Rattle.std.specs.Prelude.{◌≡◌, IfOk, true, false, codes};
 ghost use Rattle.clap.specs.Words.{app_of, rule_of};
 ghost use Rattle.clap.specs.declared.builder.command.Command.TheViews.{out-Command};
-ghost use Rattle.commandline.specs.Grammar.{ask_app, bare_app, file_app, line_app, play_app, serve_app, word_rule};
+ghost use Rattle.commandline.specs.Grammar.{ask_app, bare_app, file_app, line_app, play_app, serve_app, storm_app, keep_rule, scripts_rule, word_rule};
 
 use clap::{Arg, ArgAction};
 use std::alloc::{AllocError, Global};
@@ -14,6 +14,7 @@ pub static NUMBERS: &str = "For example, with the files of the folder examples:
   resolverd check lab.example. examples/lab.zone
   resolverd dump lab.example. examples/lab.zone
   resolverd play examples/small.world examples/first.script
+  resolverd storm examples/small.world examples/asks.script examples/asks.script
   cd examples/serve && resolverd serve resolverd.conf
 
 A reply is printed as a line for its header and one for each of its records.
@@ -32,6 +33,14 @@ play prints besides:
   due                        another query is due
   starved                    no memory was left for a step
   right R of M               of M replies to recursive queries, other than SERVFAIL, R are right in that world
+
+storm plays scripts of at and ask lines, a thread each, in one network, and prints:
+
+  replies N                  how many replies there were
+  history ok                 what the threads did is one history of the resolver
+  right R                    how many of the replies that play would count are right in that world
+
+Behind --keep stands how many entries that history may have, 1 to 1000000; 65536 where it is left out.
 
 serve prints a line once it answers, and goes on until it is stopped. It answers whoever reaches its address.
 
@@ -65,6 +74,7 @@ One line on standard error says what went wrong.
                              8 bad address
   error: FILE: unreadable    the file is missing or is not UTF-8
   error: name K              a name: 1 empty label, 2 label over 63 bytes, 3 name over 255 bytes, 4 bad escape
+  error: pool K              the threads: 1 what they did is not one history, 2 it has more entries than are kept
   error: settings            the numbers of a server's file are out of their limits
   error: socket              the address can't be bound
   error: threads             a thread can't be made
@@ -124,6 +134,39 @@ fn play_line<'a>(alloc: Global) -> Result<clap::Command<'a>, AllocError>
         .arg(word(alloc, "script"))
 }
 
+// `--keep N`, which may be left out.
+fn keep_word<'a>(alloc: Global) -> Arg<'a>
+    ensures rule { rule_of result ≡ keep_rule }
+    ensures local { result.global ≡ false }
+{
+    Arg::new(alloc, "keep").long("keep").action(ArgAction::Set)
+}
+
+// `SCRIPT..`, one or more.
+fn script_words<'a>(alloc: Global) -> Arg<'a>
+    ensures rule { rule_of result ≡ scripts_rule }
+    ensures local { result.global ≡ false }
+{
+    Arg::new(alloc, "script")
+        .required(true)
+        .num_args(1..)
+        .action(ArgAction::Append)
+}
+
+// `storm [--keep N] WORLD SCRIPT..`
+fn storm_line<'a>(alloc: Global) -> Result<clap::Command<'a>, AllocError>
+    ensures app { IfOk result (λ c. app_of c ≡ storm_app) }
+    ensures local { IfOk result (λ c. (out-Command c).has_globals ≡ false) }
+{
+    clap::Command::new(alloc, "storm")
+        .about(
+            "[--keep N] WORLD SCRIPT..: plays each script by a thread of its own, and says how many replies are right",
+        )
+        .arg(keep_word(alloc))?
+        .arg(word(alloc, "world"))?
+        .arg(script_words(alloc))
+}
+
 // `serve CONFIG`
 fn serve_line<'a>(alloc: Global) -> Result<clap::Command<'a>, AllocError>
     ensures app { IfOk result (λ c. app_of c ≡ serve_app) }
@@ -165,5 +208,6 @@ pub fn line<'a>(alloc: Global) -> Result<clap::Command<'a>, AllocError>
             "ORIGIN FILE: prints the records of a zone file, one a line",
         )?)?
         .subcommand(play_line(alloc)?)?
+        .subcommand(storm_line(alloc)?)?
         .subcommand(serve_line(alloc)?)
 }

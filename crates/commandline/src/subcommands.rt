@@ -1,13 +1,14 @@
 //! The subcommands, read from what `clap` matched: a function and an arm for each.
-ghost use Rattle.std.specs.Prelude.{◌≡◌, IfOk, IfErr, Some, None, codes, string_bytes};
-ghost use Rattle.clap.specs.Words.{found_of, first_of, rows_of, subcommand_rows_of};
-ghost use Rattle.commandline.specs.Says.{IsNamed, Says};
-ghost use Rattle.commandline.specs.declared.fault.LineFault.TheVariants.{Words};
+ghost use Rattle.std.specs.Prelude.{◌≡◌, ℕ, IfOk, IfErr, Some, None, codes, map, string_bytes};
+ghost use Rattle.clap.specs.Words.{all_of, found_of, first_of, rows_of, subcommand_rows_of};
+ghost use Rattle.commandline.specs.Says.{IsKeep, IsNamed, Says};
+ghost use Rattle.commandline.specs.declared.fault.LineFault.TheVariants.{Words, Memory};
 ghost use Rattle.commandline.specs.declared.subcommands.Command.{Command};
 
 use crate::fault::LineFault;
 use clap::ArgMatches;
 use std::alloc::Global;
+use std::str::FromStr;
 
 /// What the program is asked to do.
 #[derive(Debug, Drop)]
@@ -43,6 +44,15 @@ pub enum Command {
         world: String,
         /// The path of the script.
         script: String,
+    },
+    /// `storm [--keep N] WORLD SCRIPT..`: plays scripts by threads of one resolver in a network in memory.
+    Storm {
+        /// How many entries of its history are kept, 1 to 1,000,000.
+        keep: u32,
+        /// The path of the world's text.
+        world: String,
+        /// The paths of the scripts, one or more.
+        scripts: Vec<String>,
     },
     /// `serve CONFIG`: answers clients over the network.
     Serve {
@@ -105,6 +115,69 @@ fn read_play(alloc: Global, found: &ArgMatches<'_>) -> Result<Command, LineFault
     Ok(Command::Play { world, script })
 }
 
+// How many entries are kept where no number stands there, and the most that may.
+const USUAL_KEEP: u32 = 65_536;
+
+const MOST_KEPT: u32 = 1_000_000;
+
+// How many entries are kept.
+fn keep_of(found: &ArgMatches<'_>) -> Result<u32, LineFault>
+    ensures ok { IfOk result (IsKeep (first_of (codes "keep") (rows_of (found_of found.now)))) }
+    ensures refused { IfErr result (λ e. e ≡ Words → (n : ℕ) → IsKeep (first_of (codes "keep") (rows_of (found_of found.now))) n → ⊥) }
+{
+    match found.get_str("keep") {
+        None => Ok(USUAL_KEEP),
+        Some(text) => kept_in(text),
+    }
+}
+
+// The number in the word behind `--keep`.
+fn kept_in(text: &str) -> Result<u32, LineFault>
+    ensures ok { IfOk result (IsKeep (Some text.now)) }
+    ensures refused { IfErr result (λ e. e ≡ Words → (n : ℕ) → IsKeep (Some text.now) n → ⊥) }
+{
+    match u32::from_str(text) {
+        Ok(number) if 1 <= number && number <= MOST_KEPT => Ok(number),
+        _ => Err(LineFault::Words),
+    }
+}
+
+// The words that stand for `id`, one or more.
+fn texts_of(alloc: Global, found: &ArgMatches<'_>, id: &str) -> Result<Vec<String>, LineFault>
+    ensures ok { IfOk result (λ copies. all_of id.now (rows_of (found_of found.now)) ≡ Some (map string_bytes copies.items)) }
+    ensures refused { IfErr result (λ e. e ≡ Words → all_of id.now (rows_of (found_of found.now)) ≡ None) }
+{
+    match found.get_raw(id) {
+        Some(texts) => copies(alloc, texts),
+        None => Err(LineFault::Words),
+    }
+}
+
+fn copies(alloc: Global, texts: &[&str]) -> Result<Vec<String>, LineFault>
+    ensures ok { IfOk result (λ copies. map (λ t. t.now) texts.now ≡ map string_bytes copies.items) }
+    ensures refused { IfErr result (λ e. e ≡ Memory) }
+{
+    let mut copies = Vec::new(alloc);
+    for text in texts {
+        copies.push(String::from_str(alloc, text)?)?;
+    }
+    Ok(copies)
+}
+
+fn read_storm(alloc: Global, found: &ArgMatches<'_>) -> Result<Command, LineFault>
+    ensures ok { IfOk result (IsNamed (codes "storm") (rows_of (found_of found.now))) }
+    ensures refused { IfErr result (λ e. e ≡ Words → (command : Command) → IsNamed (codes "storm") (rows_of (found_of found.now)) command → ⊥) }
+{
+    let keep = keep_of(found)?;
+    let world = text_of(alloc, found, "world")?;
+    let scripts = texts_of(alloc, found, "script")?;
+    Ok(Command::Storm {
+        keep,
+        world,
+        scripts,
+    })
+}
+
 fn read_serve(alloc: Global, found: &ArgMatches<'_>) -> Result<Command, LineFault>
     ensures ok { IfOk result (IsNamed (codes "serve") (rows_of (found_of found.now))) }
     ensures refused { IfErr result (λ e. e ≡ Words → (command : Command) → IsNamed (codes "serve") (rows_of (found_of found.now)) command → ⊥) }
@@ -123,6 +196,7 @@ pub fn read_subcommand(alloc: Global, matches: &ArgMatches<'_>) -> Result<Comman
         Some(("check", found)) => read_check(alloc, found),
         Some(("dump", found)) => read_dump(alloc, found),
         Some(("play", found)) => read_play(alloc, found),
+        Some(("storm", found)) => read_storm(alloc, found),
         Some(("serve", found)) => read_serve(alloc, found),
         _ => Err(LineFault::Words),
     }

@@ -68,6 +68,54 @@ fn play_takes_two_words(rt: HostRuntime) -> Result<(), Fail> {
 }
 
 #[test]
+fn storm_takes_a_world_and_scripts(rt: HostRuntime) -> Result<(), Fail> {
+    let line = words(
+        rt.alloc(),
+        &[
+            "storm",
+            "--keep",
+            "1000000",
+            "small.world",
+            "a.script",
+            "b.script",
+        ],
+    )?;
+    let Ok(
+        Command::Storm {
+            keep,
+            world,
+            scripts,
+        },
+    ) = read_words(rt.alloc(), line.as_slice())
+    else {
+        panic!(rt; "the line is refused");
+    };
+    assert_eq!(rt; (keep, world.as_str()), (1_000_000, "small.world"));
+    assert_eq!(rt; scripts.len(), 2);
+    assert!(rt;
+        scripts
+            .get(0)
+            .is_some_and(|script| script.as_str() == "a.script")
+    );
+    assert!(rt;
+        scripts
+            .get(1)
+            .is_some_and(|script| script.as_str() == "b.script")
+    );
+    Ok(())
+}
+
+#[test]
+fn storm_keeps_so_many_entries_where_none_is_said(rt: HostRuntime) -> Result<(), Fail> {
+    let line = words(rt.alloc(), &["storm", "small.world", "a.script"])?;
+    let Ok(Command::Storm { keep, scripts, .. }) = read_words(rt.alloc(), line.as_slice()) else {
+        panic!(rt; "the line is refused");
+    };
+    assert_eq!(rt; (keep, scripts.len()), (65_536, 1));
+    Ok(())
+}
+
+#[test]
 fn serve_takes_one_word(rt: HostRuntime) -> Result<(), Fail> {
     let line = words(rt.alloc(), &["serve", "resolverd.conf"])?;
     let Ok(Command::Serve { config }) = read_words(rt.alloc(), line.as_slice()) else {
@@ -86,7 +134,7 @@ fn number_of(rt: &impl Abort, line: &Result<Command, LineFault>) -> u8 {
 
 #[test]
 fn other_lines_are_refused(rt: HostRuntime) -> Result<(), Fail> {
-    let lines: [&[&str]; 13] = [
+    let lines: [&[&str]; 18] = [
         &[],
         &["--help"],
         &[
@@ -118,6 +166,11 @@ fn other_lines_are_refused(rt: HostRuntime) -> Result<(), Fail> {
         &["dump"],
         &["dump", "lab.example.", "lab.zone", "more"],
         &["play", "small.world"],
+        &["storm"],
+        &["storm", "small.world"],
+        &["storm", "--keep", "0", "small.world", "a.script"],
+        &["storm", "--keep", "1000001", "small.world", "a.script"],
+        &["storm", "--keep", "many", "small.world", "a.script"],
         &["serve"],
         &["serve", "resolverd.conf", "more"],
     ];
@@ -143,8 +196,10 @@ fn help_explains_commands_and_numbers(rt: HostRuntime) -> Result<(), Fail> {
         "the zone is the authority",
         "over 512 bytes",
         "resolverd play examples/small.world ",
+        "resolverd storm examples/small.world ",
         "resolverd serve resolverd.conf",
         "listening ADDRESS PORT",
+        "error: pool",
         "error: socket",
         "3 more than eight aliases",
         "send K ADDRESS",

@@ -13,7 +13,7 @@ use Rattle.commands.specs.Zones.{HoldsZone, HoldsNoZone}
 use Rattle.commands.specs.Runs.{IsRun}
 use Rattle.commands.specs.Servers.{HoldsConfig, IsConfig, IsStartFault, IsUnbound, Refuses, IsNoServer, AreZonesIn, IsServer, StartsWith, Starts}
 use Rattle.commands.specs.declared.fault.Fault.{Fault}
-use Rattle.commands.specs.declared.fault.Fault.TheVariants.{File, Zone, Script, Block, World, Unreadable, BadName, BadType, Settings, Memory, Socket, Threads, Output}
+use Rattle.commands.specs.declared.fault.Fault.TheVariants.{File, Zone, Script, Block, World, Unreadable, BadName, BadType, Settings, Memory, Pool, Socket, Threads, Output}
 
 pub run_weaker : {P P' : List ℕ → Type 0} {Q Q' : Fault → Type 0} {out out2 err err2 : Option (List ℕ)} {n : ℕ}
     → ((text : List ℕ) → P text → P' text) → ((f : Fault) → Q f → Q' f) → IsRun P Q out out2 err err2 n → IsRun P' Q' out out2 err err2 n
@@ -32,6 +32,7 @@ no_zone known origin (BadName e) h = h
 no_zone known origin BadType h = h
 no_zone known origin Settings h = absurd h
 no_zone known origin Socket h = h
+no_zone known origin (Pool e) h = h
 no_zone known origin Threads h = h
 no_zone known origin Output h = h
 
@@ -47,6 +48,7 @@ start_refused text (BadName e) is h = h
 start_refused text BadType is h = h
 start_refused text Settings is h = is
 start_refused text Socket is h = h
+start_refused text (Pool e) is h = h
 start_refused text Threads is h = h
 start_refused text Output is h = h
 
@@ -65,6 +67,7 @@ refused known text held (World path e) h = h
 refused known text held (BadName e) h = h
 refused known text held BadType h = h
 refused known text held Socket h = absurd h
+refused known text held (Pool e) h = h
 refused known text held Threads h = h
 refused known text held Output h = h
 
@@ -80,6 +83,7 @@ unbound known is (Block path line e) h = h
 unbound known is (World path e) h = h
 unbound known is (BadName e) h = h
 unbound known is BadType h = h
+unbound known is (Pool e) h = h
 unbound known is Threads h = h
 unbound known is Output h = h
 
@@ -107,6 +111,7 @@ some_status BadType is = one_not is
 some_status Settings is = one_not is
 some_status Memory is = three_not is
 some_status Socket is = four_not is
+some_status (Pool e) is = one_not is
 some_status Threads is = four_not is
 some_status Output is = four_not is
 

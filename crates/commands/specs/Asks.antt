@@ -7,7 +7,7 @@ use Rattle.rdata.specs.Types.{type_named}
 use Rattle.rdata.specs.declared.rtype.RType.{RType}
 use Rattle.commands.specs.Zones.{HoldsNoZone}
 use Rattle.commands.specs.declared.fault.Fault.{Fault}
-use Rattle.commands.specs.declared.fault.Fault.TheVariants.{File, Zone, Script, Block, World, Unreadable, BadName, BadType, Settings, Memory, Socket, Threads, Output}
+use Rattle.commands.specs.declared.fault.Fault.TheVariants.{File, Zone, Script, Block, World, Unreadable, BadName, BadType, Settings, Memory, Pool, Socket, Threads, Output}
 
 -- The fault of a word that is to be a name, or a type.
 abbrev pub fault_of_name : Result (List (List ℕ)) NameError → Option Fault
@@ -39,6 +39,7 @@ IsRefused known origin name kind Memory = Unit {0}
 IsRefused known origin name kind Output = ⊥
 IsRefused known origin name kind Settings = ⊥
 IsRefused known origin name kind Socket = ⊥
+IsRefused known origin name kind (Pool e) = ⊥
 IsRefused known origin name kind Threads = ⊥
 IsRefused known origin name kind (Script path e) = ⊥
 IsRefused known origin name kind (Block path line e) = ⊥

@@ -19,10 +19,13 @@ use Rattle.statements.specs.declared.fault.LineError.{LineError}
 use Rattle.worlds.specs.Refusals.{world_fault_number}
 use Rattle.worlds.specs.declared.fault.WorldError.{WorldError}
 use Rattle.worlds.specs.declared.fault.WorldError.TheVariants.{Memory as world_memory}
+use Rattle.pool.specs.Faults.{pool_fault_number}
+use Rattle.pool.specs.declared.fault.PoolError.{PoolError}
+use Rattle.pool.specs.declared.fault.PoolError.TheVariants as threads
 use Rattle.script.specs.declared.world_fault.WorldFault.{WorldFault}
 use Rattle.script.specs.declared.world_fault.WorldFault.TheVariants as of
 use Rattle.commands.specs.declared.fault.Fault.{Fault}
-use Rattle.commands.specs.declared.fault.Fault.TheVariants.{File, Zone, Script, Block, World, Unreadable, BadName, BadType, Settings, Memory, Socket, Threads, Output}
+use Rattle.commands.specs.declared.fault.Fault.TheVariants.{File, Zone, Script, Block, World, Unreadable, BadName, BadType, Settings, Memory, Pool, Socket, Threads, Output}
 
 -- What stands behind `error: `.
 abbrev pub fault_text : Fault → List ℕ
@@ -37,6 +40,7 @@ fault_text BadType = codes "type"
 fault_text Settings = codes "settings"
 fault_text Memory = codes "memory"
 fault_text Socket = codes "socket"
+fault_text (Pool e) = codes "pool " ++ decimal (pool_fault_number e)
 fault_text Threads = codes "threads"
 fault_text Output = codes "output"
 
@@ -53,6 +57,7 @@ status_of BadType = 1
 status_of Settings = 1
 status_of Memory = 3
 status_of Socket = 4
+status_of (Pool e) = 1
 status_of Threads = 4
 status_of Output = 4
 
@@ -101,3 +106,9 @@ world_fault path of.Memory = Memory
 abbrev pub name_fault : NameError → Fault
 name_fault name_memory = Memory
 name_fault e = BadName e
+
+abbrev pub pool_fault : PoolError → Fault
+pool_fault threads.Memory = Memory
+pool_fault threads.Differs = Pool threads.Differs
+pool_fault threads.Forgot = Pool threads.Forgot
+pool_fault threads.Stranger = Pool threads.Stranger

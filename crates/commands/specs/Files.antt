@@ -6,7 +6,7 @@ use Rattle.masterfile.specs.Printed.{file_text}
 use Rattle.zone.specs.Zones.{Zone as ZoneOf}
 use Rattle.commands.specs.Zones.{HoldsRecords, HoldsNoRecords, HoldsZone, HoldsNoZone}
 use Rattle.commands.specs.declared.fault.Fault.{Fault}
-use Rattle.commands.specs.declared.fault.Fault.TheVariants.{File, Zone, Script, Block, World, Unreadable, BadName, BadType, Settings, Memory, Socket, Threads, Output}
+use Rattle.commands.specs.declared.fault.Fault.TheVariants.{File, Zone, Script, Block, World, Unreadable, BadName, BadType, Settings, Memory, Pool, Socket, Threads, Output}
 
 -- The number of records of the zone that the file holds.
 abbrev pub CountsRecords : Option (Option (List ℕ)) → List ℕ → List ℕ → Type 0
@@ -29,6 +29,7 @@ IsNoZone known origin Memory = Unit {0}
 IsNoZone known origin Output = ⊥
 IsNoZone known origin Settings = ⊥
 IsNoZone known origin Socket = ⊥
+IsNoZone known origin (Pool e) = ⊥
 IsNoZone known origin Threads = ⊥
 IsNoZone known origin (Script path e) = ⊥
 IsNoZone known origin (Block path line e) = ⊥
@@ -45,6 +46,7 @@ IsNoFile known origin Memory = Unit {0}
 IsNoFile known origin Output = ⊥
 IsNoFile known origin Settings = ⊥
 IsNoFile known origin Socket = ⊥
+IsNoFile known origin (Pool e) = ⊥
 IsNoFile known origin Threads = ⊥
 IsNoFile known origin (Script path e) = ⊥
 IsNoFile known origin (Block path line e) = ⊥

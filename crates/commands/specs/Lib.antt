@@ -5,5 +5,6 @@ pub mod Files
 pub mod Runs
 pub mod Scripts
 pub mod Servers
+pub mod Storms
 pub mod Texts
 pub mod Zones

@@ -5,12 +5,13 @@ use Rattle.commandline.specs.Says.{Names, NamesNothing}
 use Rattle.commandline.specs.declared.fault.LineFault.{LineFault}
 use Rattle.commandline.specs.declared.fault.LineFault.TheVariants.{Words, Memory as line_memory}
 use Rattle.commandline.specs.declared.subcommands.Command.{Command}
-use Rattle.commandline.specs.declared.subcommands.Command.TheVariants.{Ask, Check, Dump, Play, Serve}
+use Rattle.commandline.specs.declared.subcommands.Command.TheVariants.{Ask, Check, Dump, Play, Storm, Serve}
 use Rattle.runs.specs.States.{State}
 use Rattle.commands.specs.Asks.{IsRefused}
 use Rattle.commands.specs.Exchanges.{PrintsAnswer}
 use Rattle.commands.specs.Files.{CountsRecords, PrintsRecords, IsNoZone, IsNoFile}
 use Rattle.commands.specs.Scripts.{PrintsScript, IsNoScript}
+use Rattle.commands.specs.Storms.{PrintsStorm, IsNoStorm}
 use Rattle.commands.specs.Servers.{PrintsAddress, IsNoServer, Starts}
 use Rattle.commands.specs.declared.fault.Fault.{Fault}
 use Rattle.commands.specs.declared.fault.Fault.TheVariants.{Memory}
@@ -44,6 +45,7 @@ texts_of A held (Ask origin file name kind) text = PrintsAnswer A (held (string_
 texts_of A held (Check origin file) text = CountsRecords (held (string_bytes file)) (string_bytes origin) text
 texts_of A held (Dump origin file) text = PrintsRecords (held (string_bytes file)) (string_bytes origin) text
 texts_of A held (Play world script) text = PrintsScript (held (string_bytes world)) (held (string_bytes script)) text
+texts_of A held (Storm keep world scripts) text = PrintsStorm (λ p. held (string_bytes p)) (held (string_bytes world)) scripts.items text
 texts_of A held (Serve config) text = PrintsAddress (held (string_bytes config)) text
 
 -- The faults of a command, over the same.
@@ -52,6 +54,7 @@ faults_of held (Ask origin file name kind) f = IsRefused (held (string_bytes fil
 faults_of held (Check origin file) f = IsNoZone (held (string_bytes file)) (string_bytes origin) f
 faults_of held (Dump origin file) f = IsNoFile (held (string_bytes file)) (string_bytes origin) f
 faults_of held (Play world script) f = IsNoScript (held (string_bytes world)) (held (string_bytes script)) f
+faults_of held (Storm keep world scripts) f = IsNoStorm (λ p. held (string_bytes p)) (held (string_bytes world)) scripts.items f
 faults_of held (Serve config) f = IsNoServer (held (string_bytes config)) f
 
 -- The server that a command starts: `serve` alone starts one.
@@ -60,6 +63,7 @@ StartsFor held (Ask origin file name kind) status server = server ≡ None
 StartsFor held (Check origin file) status server = server ≡ None
 StartsFor held (Dump origin file) status server = server ≡ None
 StartsFor held (Play world script) status server = server ≡ None
+StartsFor held (Storm keep world scripts) status server = server ≡ None
 StartsFor held (Serve config) status server = Starts held (string_bytes config) status server
 
 -- The help text was printed, or no memory was left for it.

@@ -1,6 +1,7 @@
 -- What is printed of a script in a world, and why nothing is.
-use Rattle.std.specs.Prelude.{◌≡◌, ◌⊎◌, ℕ, List, Option, Some, None, Ok, Err}
+use Rattle.std.specs.Prelude.{◌≡◌, ◌⊎◌, ℕ, List, Option, Some, None, Result, Ok, Err}
 use Rattle.truth.specs.Worlds.{World}
+use Rattle.statements.specs.declared.fault.LineError.{LineError}
 use Rattle.orders.specs.Orders.{Order, script_of}
 use Rattle.player.specs.Played.{IsPlayed}
 use Rattle.script.specs.Worlds.{IsWorldOf, IsNoWorld}
@@ -8,7 +9,7 @@ use Rattle.script.specs.declared.world_fault.WorldFault.{WorldFault}
 use Rattle.script.specs.declared.world_fault.WorldFault.TheVariants as of
 use Rattle.commands.specs.Texts.{MayHold}
 use Rattle.commands.specs.declared.fault.Fault.{Fault}
-use Rattle.commands.specs.declared.fault.Fault.TheVariants.{File, Zone, Script, Block, World as NoWorld, Unreadable, BadName, BadType, Settings, Memory, Socket, Threads, Output}
+use Rattle.commands.specs.declared.fault.Fault.TheVariants.{File, Zone, Script, Block, World as NoWorld, Unreadable, BadName, BadType, Settings, Memory, Pool, Socket, Threads, Output}
 
 -- The text is there, and it says that world.
 pub record HoldsWorld (known : Option (Option (List ℕ))) (W : World) : Type 0 where
@@ -23,24 +24,32 @@ pub record IsRefusedFor (known : Option (Option (List ℕ))) (fault : WorldFault
   pub fails : IsNoWorld text fault
 
 -- The text is there, and it is read as these orders.
-abbrev pub HoldsOrders : Option (Option (List ℕ)) → List Order → Type 0
-HoldsOrders known orders = (text : List ℕ) × MayHold known (Some text) × (script_of text ≡ Ok orders)
+abbrev pub Holds : (List ℕ → Result (List Order) LineError) → Option (Option (List ℕ)) → List Order → Type 0
+Holds read known orders = (text : List ℕ) × MayHold known (Some text) × (read text ≡ Ok orders)
 
 -- Want of memory leaves all open.
+abbrev pub HoldsNo : (List ℕ → Result (List Order) LineError) → Option (Option (List ℕ)) → Fault → Type 0
+HoldsNo read known (Unreadable path) = MayHold known None
+HoldsNo read known (Script path e) = (text : List ℕ) × MayHold known (Some text) × (read text ≡ Err e)
+HoldsNo read known Memory = Unit {0}
+HoldsNo read known (File path e) = ⊥
+HoldsNo read known (Zone path e) = ⊥
+HoldsNo read known (Block path line e) = ⊥
+HoldsNo read known (NoWorld path e) = ⊥
+HoldsNo read known (BadName e) = ⊥
+HoldsNo read known BadType = ⊥
+HoldsNo read known Output = ⊥
+HoldsNo read known Settings = ⊥
+HoldsNo read known Socket = ⊥
+HoldsNo read known (Pool e) = ⊥
+HoldsNo read known Threads = ⊥
+
+-- As a script.
+abbrev pub HoldsOrders : Option (Option (List ℕ)) → List Order → Type 0
+HoldsOrders known orders = Holds script_of known orders
+
 abbrev pub HoldsNoOrders : Option (Option (List ℕ)) → Fault → Type 0
-HoldsNoOrders known (Unreadable path) = MayHold known None
-HoldsNoOrders known (Script path e) = (text : List ℕ) × MayHold known (Some text) × (script_of text ≡ Err e)
-HoldsNoOrders known Memory = Unit {0}
-HoldsNoOrders known (File path e) = ⊥
-HoldsNoOrders known (Zone path e) = ⊥
-HoldsNoOrders known (Block path line e) = ⊥
-HoldsNoOrders known (NoWorld path e) = ⊥
-HoldsNoOrders known (BadName e) = ⊥
-HoldsNoOrders known BadType = ⊥
-HoldsNoOrders known Output = ⊥
-HoldsNoOrders known Settings = ⊥
-HoldsNoOrders known Socket = ⊥
-HoldsNoOrders known Threads = ⊥
+HoldsNoOrders known f = HoldsNo script_of known f
 
 -- The text is not there, or the first of its lines, its blocks and the rules of a world that fails is named.
 abbrev pub HoldsNoWorld : Option (Option (List ℕ)) → Fault → Type 0
@@ -56,6 +65,7 @@ HoldsNoWorld known BadType = ⊥
 HoldsNoWorld known Output = ⊥
 HoldsNoWorld known Settings = ⊥
 HoldsNoWorld known Socket = ⊥
+HoldsNoWorld known (Pool e) = ⊥
 HoldsNoWorld known Threads = ⊥
 
 -- What the script's orders print in the world that the text says.

@@ -10,7 +10,7 @@ use Rattle.commands.specs.Faults.{IsReported}
 use Rattle.commands.specs.Texts.{MayHold}
 use Rattle.commands.specs.Zones.{HoldsZone}
 use Rattle.commands.specs.declared.fault.Fault.{Fault}
-use Rattle.commands.specs.declared.fault.Fault.TheVariants.{File, Zone, Script, Block, World, Unreadable, BadName, BadType, Settings, Memory, Socket, Threads, Output}
+use Rattle.commands.specs.declared.fault.Fault.TheVariants.{File, Zone, Script, Block, World, Unreadable, BadName, BadType, Settings, Memory, Pool, Socket, Threads, Output}
 
 -- The text is read as the file of a server that listens there.
 pub record Describes (text : List ℕ) (at : End) : Type 0 where
@@ -56,6 +56,7 @@ IsStartFault (World path e) = ⊥
 IsStartFault (BadName e) = ⊥
 IsStartFault BadType = ⊥
 IsStartFault Socket = ⊥
+IsStartFault (Pool e) = ⊥
 IsStartFault Threads = ⊥
 IsStartFault Output = ⊥
 
@@ -72,6 +73,7 @@ IsUnbound (World path e) = ⊥
 IsUnbound (BadName e) = ⊥
 IsUnbound BadType = ⊥
 IsUnbound Settings = ⊥
+IsUnbound (Pool e) = ⊥
 IsUnbound Threads = ⊥
 IsUnbound Output = ⊥
 
@@ -93,6 +95,7 @@ Refuses text (World path e) = ⊥
 Refuses text (BadName e) = ⊥
 Refuses text BadType = ⊥
 Refuses text Socket = ⊥
+Refuses text (Pool e) = ⊥
 Refuses text Threads = ⊥
 Refuses text Output = ⊥
 
@@ -109,6 +112,7 @@ IsNoServer known (Block path line e) = ⊥
 IsNoServer known (World path e) = ⊥
 IsNoServer known (BadName e) = ⊥
 IsNoServer known BadType = ⊥
+IsNoServer known (Pool e) = ⊥
 IsNoServer known Threads = ⊥
 IsNoServer known Output = ⊥
 

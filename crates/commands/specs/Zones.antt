@@ -7,7 +7,7 @@ use Rattle.zone.specs.Kept.{zone_with}
 use Rattle.zone.specs.Faults.{fault_of}
 use Rattle.commands.specs.Texts.{MayHold}
 use Rattle.commands.specs.declared.fault.Fault.{Fault}
-use Rattle.commands.specs.declared.fault.Fault.TheVariants.{File, Zone, Script, Block, World, Unreadable, BadName, BadType, Settings, Memory, Socket, Threads, Output}
+use Rattle.commands.specs.declared.fault.Fault.TheVariants.{File, Zone, Script, Block, World, Unreadable, BadName, BadType, Settings, Memory, Pool, Socket, Threads, Output}
 
 -- The text is there, and it is read as these records.
 abbrev pub HoldsRecords : Option (Option (List ℕ)) → List (List ℕ) → List Record → Type 0
@@ -24,6 +24,7 @@ HoldsNoRecords known origin BadType = ⊥
 HoldsNoRecords known origin Output = ⊥
 HoldsNoRecords known origin Settings = ⊥
 HoldsNoRecords known origin Socket = ⊥
+HoldsNoRecords known origin (Pool e) = ⊥
 HoldsNoRecords known origin Threads = ⊥
 HoldsNoRecords known origin (Script path e) = ⊥
 HoldsNoRecords known origin (Block path line e) = ⊥
@@ -44,6 +45,7 @@ HoldsNoZone known origin BadType = ⊥
 HoldsNoZone known origin Output = ⊥
 HoldsNoZone known origin Settings = ⊥
 HoldsNoZone known origin Socket = ⊥
+HoldsNoZone known origin (Pool e) = ⊥
 HoldsNoZone known origin Threads = ⊥
 HoldsNoZone known origin (Script path e) = ⊥
 HoldsNoZone known origin (Block path line e) = ⊥

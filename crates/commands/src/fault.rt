@@ -1,11 +1,12 @@
 //! What can go wrong with a command: its line, and the exit status that goes with it.
 ghost use Rattle.std.specs.Prelude.{◌≡◌, Some};
-ghost use Rattle.commands.specs.Faults.{fault_text, status_of, file_fault, zone_fault, name_fault, line_fault, world_fault};
+ghost use Rattle.commands.specs.Faults.{fault_text, status_of, file_fault, zone_fault, name_fault, line_fault, pool_fault, world_fault};
 ghost use Rattle.commands.specs.declared.fault.Fault.TheVariants.{Memory};
 
 use dname::{NameError, Starved};
 use masterfile::{FileError, FileKind};
 use orders::{LineError, LineKind};
+use pool::PoolError;
 use script::WorldFault;
 use std::alloc::AllocFailed;
 use std::fmt;
@@ -35,6 +36,8 @@ pub enum Fault<'a> {
     Settings,
     /// A growth was refused.
     Memory,
+    /// What the workers of a storm did does not close.
+    Pool(PoolError),
     /// An address can't be bound.
     Socket,
     /// A thread can't be made.
@@ -89,6 +92,16 @@ impl<'a> Fault<'a> {
         }
     }
 
+    /// What the workers of a storm refused.
+    pub fn of_pool(error: PoolError) -> Fault<'a>
+        ensures { result ≡ pool_fault error }
+    {
+        match error {
+            PoolError::Memory => Fault::Memory,
+            _ => Fault::Pool(error),
+        }
+    }
+
     /// The exit status: 1 where the input is refused, 3 for want of memory, 4 for an unreadable file, an address
     /// that can't be bound, a thread that can't be made or failed output.
     pub fn status(&self) -> u8
@@ -97,7 +110,7 @@ impl<'a> Fault<'a> {
         match self {
             Fault::File(_, _) | Fault::Zone(_, _) | Fault::BadName(_) | Fault::BadType => 1,
             Fault::Script(_, _) | Fault::Block(_, _, _) | Fault::World(_, _) => 1,
-            Fault::Settings => 1,
+            Fault::Settings | Fault::Pool(_) => 1,
             Fault::Memory => 3,
             Fault::Socket | Fault::Threads => 4,
             Fault::Unreadable(_) | Fault::Output => 4,
@@ -140,6 +153,10 @@ impl fmt::Display for Fault<'_> {
             Fault::BadType => write!(f, "type"),
             Fault::Settings => write!(f, "settings"),
             Fault::Memory => write!(f, "memory"),
+            Fault::Pool(error) => {
+                let number = error.number();
+                write!(f, "pool {number}")
+            }
             Fault::Socket => write!(f, "socket"),
             Fault::Threads => write!(f, "threads"),
             Fault::Output => write!(f, "output"),

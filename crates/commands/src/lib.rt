@@ -1,5 +1,6 @@
-//! What the program is asked to do, done: `ask`, `check`, `dump`, `play` and `serve`, over a source of texts, a place
-//! for a server's sockets and two writers that the caller gives. A server that `serve` started is run by `serve_at`.
+//! What the program is asked to do, done: `ask`, `check`, `dump`, `play`, `storm` and `serve`, over the threads of a
+//! storm, a source of texts, a place for a server's sockets and two writers that the caller gives. A server that
+//! `serve` started is run by `serve_at`.
 #![tactic(auto)]
 
 mod answering;
@@ -12,6 +13,7 @@ mod play;
 mod run;
 mod serve;
 mod serving;
+mod storm;
 mod texts;
 mod zones;
 

@@ -13,16 +13,19 @@ use crate::host::Host;
 use crate::outcome::Outcome;
 use crate::play::play;
 use crate::serve::serve;
+use crate::storm::storm;
 use crate::texts::Texts;
 use commandline::{Command, LineFault, help_text, read_words};
 use dname::Heap;
 use std::alloc::{Allocator, Global};
 use std::io::Write;
+use std::sync::Wait;
+use std::thread::Threads;
 
 /// Does what the words after the program's name ask, and gives the exit status, and the server that was started. Words
 /// that name no command are answered with the help text and status 2.
-pub fn run_words<T: Texts, H: Host, O: Write, E: Write>(
-    alloc: Global,
+pub fn run_words<R: Threads + Wait + AllocGlobal + Sync, T: Texts, H: Host, O: Write, E: Write>(
+    rt: &R,
     words: &[String],
     texts: &mut T,
     host: &mut H,
@@ -31,8 +34,9 @@ pub fn run_words<T: Texts, H: Host, O: Write, E: Write>(
 ) -> Outcome
     ensures { IsLineDone Global (map string_bytes words.now) (T.held texts.old) (O.contents out.old) (O.contents out.new) (E.contents err.old) (E.contents err.new) result.status result.server }
 {
+    let alloc = rt.alloc();
     match read_words(alloc, words) {
-        Ok(command) => run_command(alloc, &command, texts, host, out, err),
+        Ok(command) => run_command(rt, alloc, &command, texts, host, out, err),
         Err(fault) => Outcome {
             status: refuse_line(alloc, fault, out, err),
             server: None,
@@ -57,8 +61,17 @@ pub fn refuse_line<O: Write, E: Write>(
 
 /// Does a command and gives the exit status: 0 done, 1 input refused, 3 no memory, 4 an unreadable file, an
 /// address that can't be bound or failed output. Of a command that fails nothing is printed but the line of its
-/// fault, unless the output itself fails. The server that `serve` starts, where all went well, is to be run.
-pub fn run_command<A: Heap, T: Texts, H: Host, O: Write, E: Write>(
+/// fault, unless the output itself fails. The server that `serve` starts, where all went well, is to be run. The
+/// workers of `storm` are threads of `rt`, and what they share lies in its memory.
+pub fn run_command<
+    R: Threads + Wait + AllocGlobal + Sync,
+    A: Heap,
+    T: Texts,
+    H: Host,
+    O: Write,
+    E: Write,
+>(
+    rt: &R,
     alloc: A,
     command: &Command,
     texts: &mut T,
@@ -92,13 +105,21 @@ pub fn run_command<A: Heap, T: Texts, H: Host, O: Write, E: Write>(
             let done = play(alloc, texts, world.as_str(), script.as_str());
             finished(&done, out, err)
         }
+        Command::Storm {
+            keep,
+            world,
+            scripts,
+        } => {
+            let done = storm(rt, texts, *keep, world.as_str(), scripts.as_slice());
+            finished(&done, out, err)
+        }
         Command::Serve { config } => serve(alloc, config.as_str(), texts, host, out, err),
     }
 }
 
 // The same as an outcome, for a command that starts no server.
-fn finished<A: Allocator, O: Write, E: Write>(
-    done: &Result<String<A>, Fault<'_>>,
+fn finished<A: Allocator, S: Allocator, O: Write, E: Write>(
+    done: &Result<String<S>, Fault<'_>>,
     out: &mut O,
     err: &mut E,
 ) -> Outcome<A>

@@ -6,4 +6,6 @@ mod play_tests;
 #[cfg(test)]
 mod serve_tests;
 #[cfg(test)]
+mod storm_tests;
+#[cfg(test)]
 mod tests;

@@ -9,13 +9,15 @@ use std::alloc::{AllocError, Global};
 use std::io;
 use std::io::Write;
 use std::process::Abort;
+use std::sync::Wait;
 use std::test::Fail;
+use std::thread::Threads;
 
 // The texts of a world and of a script, at these two paths.
 #[derive(Clone, Copy)]
-struct Held<'a> {
-    world: &'a str,
-    script: &'a str,
+pub struct Held<'a> {
+    pub world: &'a str,
+    pub script: &'a str,
 }
 
 impl Texts for Held<'_> {
@@ -66,12 +68,18 @@ fn play_line(alloc: Global, world: &str, script: &str) -> Result<Command, AllocE
 }
 
 // What `play WORLD SCRIPT` must print and end with.
-fn see(rt: &impl Abort, alloc: Global, held: Held<'_>, want: (u8, &str, &str)) -> Result<(), Fail> {
+fn see<R: Abort + Threads + Wait + AllocGlobal + Sync>(
+    rt: &R,
+    alloc: Global,
+    held: Held<'_>,
+    want: (u8, &str, &str),
+) -> Result<(), Fail> {
     let mut source = held;
     let mut out = Page::new(alloc);
     let mut err = Page::new(alloc);
     let command = play_line(alloc, "WORLD", "SCRIPT")?;
     let done = run_command(
+        rt,
         alloc,
         &command,
         &mut source,
@@ -88,8 +96,8 @@ fn see(rt: &impl Abort, alloc: Global, held: Held<'_>, want: (u8, &str, &str)) -
 }
 
 // What a script must print in a world.
-fn plays(
-    rt: &impl Abort,
+fn plays<R: Abort + Threads + Wait + AllocGlobal + Sync>(
+    rt: &R,
     alloc: Global,
     world: &str,
     script: &str,
@@ -100,7 +108,7 @@ fn plays(
 
 // A root, example. beneath it, lab.example. beneath that, dark.example. whose server has no address there, and the local
 // corp.example.
-static SMALL: &str =
+pub static SMALL: &str =
     "zone .\n. 3600 IN SOA r. h. 1 2 3 4 60\n. 3600 IN NS ns.\nns. 3600 IN A 198.51.100.1\nexample. 3600 IN NS ns.example.\nns.example. 3600 IN A 198.51.100.2\nend\nzone example.\n$TTL 3600\n@ SOA ns h 1 2 3 4 60\n@ NS ns\nns A 198.51.100.2\nold 5 CNAME www.lab\napp CNAME db.corp\nlab NS ns.lab\nns.lab A 198.51.100.3\ndark NS ns.dark\nend\nzone lab.example.\n$TTL 300\n@ SOA ns h 1 2 3 4 60\n@ NS ns\nns A 198.51.100.3\nwww A 192.0.2.1\nend\nzone dark.example.\n$TTL 300\n@ SOA ns h 1 2 3 4 60\n@ NS ns\nns A 198.51.100.4\nwww A 192.0.2.4\nend\nlocal corp.example.\n$TTL 300\n@ SOA ns h 1 2 3 4 60\n@ NS ns\ndb A 10.0.0.5\nend\nhost 198.51.100.1 .\nhost 198.51.100.2 example.\nhost 198.51.100.3 lab.example.\nhost 198.51.100.4 dark.example.\nhint 198.51.100.1\n";
 
 #[test]
@@ -171,7 +179,7 @@ fn a_cut_reply_is_asked_for_over_tcp(rt: HostRuntime) -> Result<(), Fail> {
 }
 
 // The same with out.example., whose server is named in lab.example., and sub.corp.example. beneath the local zone.
-static NESTED: &str =
+pub static NESTED: &str =
     "zone .\n. 3600 IN SOA r. h. 1 2 3 4 60\n. 3600 IN NS ns.\nns. 3600 IN A 198.51.100.1\nexample. 3600 IN NS ns.example.\nns.example. 3600 IN A 198.51.100.2\nend\nzone example.\n$TTL 3600\n@ SOA ns h 1 2 3 4 60\n@ NS ns\nns A 198.51.100.2\nold 5 CNAME www.lab\napp CNAME db.corp\nlab NS ns.lab\nns.lab A 198.51.100.3\ndark NS ns.dark\nout NS srv.lab\nend\nzone lab.example.\n$TTL 300\n@ SOA ns h 1 2 3 4 60\n@ NS ns\nns A 198.51.100.3\nwww A 192.0.2.1\nsrv A 198.51.100.5\nend\nzone dark.example.\n$TTL 300\n@ SOA ns h 1 2 3 4 60\n@ NS ns\nns A 198.51.100.4\nwww A 192.0.2.4\nend\nlocal corp.example.\n$TTL 300\n@ SOA ns h 1 2 3 4 60\n@ NS ns\ndb A 10.0.0.5\nsub NS ns.sub\nns.sub A 198.51.100.8\nend\nzone out.example.\n$TTL 300\n@ SOA ns h 1 2 3 4 60\n@ NS srv.lab.example.\nwww A 192.0.2.5\nend\nzone sub.corp.example.\n$TTL 300\n@ SOA ns h 1 2 3 4 60\n@ NS ns\nns A 198.51.100.8\nwww A 192.0.2.8\nend\nhost 198.51.100.1 .\nhost 198.51.100.2 example.\nhost 198.51.100.3 lab.example.\nhost 198.51.100.4 dark.example.\nhost 198.51.100.5 out.example.\nhost 198.51.100.8 sub.corp.example.\nhint 198.51.100.1\n";
 
 #[test]
@@ -250,6 +258,7 @@ fn unreadable_texts_are_named(rt: HostRuntime) -> Result<(), Fail> {
         let mut err = Page::new(alloc);
         let command = play_line(alloc, world, script)?;
         let done = run_command(
+            &rt,
             alloc,
             &command,
             &mut source,
@@ -306,6 +315,7 @@ fn a_query_too_many_fails(rt: HostRuntime) -> Result<(), Fail> {
     let mut err = Page::new(alloc);
     let command = play_line(alloc, "WORLD", "SCRIPT")?;
     let done = run_command(
+        &rt,
         alloc,
         &command,
         &mut source,
@@ -344,12 +354,13 @@ fn ends_well(status: u8, out: &str, err: &str) -> bool {
 }
 
 // The status of a script whose growth behind `n` others is refused, and what it prints.
-fn played(
+fn played<R: Threads + Wait + AllocGlobal + Sync>(
+    rt: &R,
     heap: &Refusing<Global>,
-    alloc: Global,
     script: &str,
     n: u64,
 ) -> Result<(u8, String, String), Fail> {
+    let alloc = rt.alloc();
     let mut source = Held {
         world: SMALL,
         script,
@@ -359,6 +370,7 @@ fn played(
     let mut err = Page::new(alloc);
     heap.refuse_after(n);
     let done = run_command(
+        rt,
         heap,
         &command,
         &mut source,
@@ -375,13 +387,13 @@ fn played(
 fn each_growth_may_be_refused(rt: HostRuntime) -> Result<(), Fail> {
     let heap = Refusing::new(rt.alloc());
     let script = "ask old.example. A\ncut 1\nrun\nask db.corp.example. A";
-    let (status, shown, _) = played(&heap, rt.alloc(), script, u64::MAX)?;
+    let (status, shown, _) = played(&rt, &heap, script, u64::MAX)?;
     let growths = heap.growths();
     assert_eq!(rt; status, 0);
     assert!(rt; shown.as_str().ends_with("right 2 of 2\n"));
     let mut starved = 0u64;
     for n in 0..growths {
-        let (status, shown, fault) = played(&heap, rt.alloc(), script, n)?;
+        let (status, shown, fault) = played(&rt, &heap, script, n)?;
         assert!(rt;
             ends_well(status, shown.as_str(), fault.as_str()),
             "growth {n}"

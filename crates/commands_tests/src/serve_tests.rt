@@ -5,7 +5,9 @@ use commands::{Host, Outcome, Server, Texts, run_command};
 use dname::{Heap, Starved};
 use exchange::{Action, Bytes, Endpoint, Event};
 use std::alloc::{AllocError, Global};
+use std::sync::Wait;
 use std::test::Fail;
+use std::thread::Threads;
 use wire::Via;
 
 static CORP: &str = "$TTL 300\n@ SOA ns h 1 2 3 4 60\n@ NS ns\ndb A 10.0.0.5\n";
@@ -42,45 +44,46 @@ impl Host for Place {
 }
 
 // What comes of `serve conf` there.
-fn outcome(
-    alloc: Global,
+fn outcome<R: Threads + Wait + AllocGlobal + Sync>(
+    rt: &R,
     text: &'static str,
     place: Place,
     out: &mut Page,
     err: &mut Page,
 ) -> Result<Outcome, AllocError> {
+    let alloc = rt.alloc();
     let config = String::from_str(alloc, "conf")?;
     let mut source = Folder(text);
     let mut host = place;
     let command = Command::Serve { config };
-    Ok(run_command(alloc, &command, &mut source, &mut host, out, err))
+    Ok(run_command(rt, alloc, &command, &mut source, &mut host, out, err))
 }
 
 // The server of a start that prints this and ends with status 0.
-fn started(
-    alloc: Global,
+fn started<R: Threads + Wait + AllocGlobal + Sync>(
+    rt: &R,
     text: &'static str,
     place: Place,
     want: &str,
 ) -> Result<Option<Server>, AllocError> {
-    let mut out = Page::new(alloc, WIDE);
-    let mut err = Page::new(alloc, WIDE);
-    let done = outcome(alloc, text, place, &mut out, &mut err)?;
+    let mut out = Page::new(rt.alloc(), WIDE);
+    let mut err = Page::new(rt.alloc(), WIDE);
+    let done = outcome(rt, text, place, &mut out, &mut err)?;
     let is_well = done.status == 0 && out.holds(want) && err.holds("");
     Ok(if is_well { done.server } else { None })
 }
 
 // Whether a start ends with this status and this line of a fault, and no server.
-fn is_refused(
-    alloc: Global,
+fn is_refused<R: Threads + Wait + AllocGlobal + Sync>(
+    rt: &R,
     text: &'static str,
     place: Place,
     status: u8,
     fault: &str,
 ) -> Result<bool, AllocError> {
-    let mut out = Page::new(alloc, WIDE);
-    let mut err = Page::new(alloc, WIDE);
-    let done = outcome(alloc, text, place, &mut out, &mut err)?;
+    let mut out = Page::new(rt.alloc(), WIDE);
+    let mut err = Page::new(rt.alloc(), WIDE);
+    let done = outcome(rt, text, place, &mut out, &mut err)?;
     Ok(done.status == status && done.server.is_none() && out.holds("") && err.holds(fault))
 }
 
@@ -124,7 +127,7 @@ fn a_server_says_where_it_listens_and_answers(rt: HostRuntime) -> Result<(), Fai
     let alloc = rt.alloc();
     assert_eq!(rt; (QUERY.len(), REPLY.len()), (33, 49));
     let text = "listen 127.0.0.1 0\nlocal corp.example. corp.zone\n";
-    let server = started(alloc, text, FREE, "listening 127.0.0.1 4242\n")?.ok_or("no server")?;
+    let server = started(&rt, text, FREE, "listening 127.0.0.1 4242\n")?.ok_or("no server")?;
     let reply = reply_of(alloc, server)?.ok_or("no reply")?;
     assert!(rt; reply.as_slice() == REPLY);
     Ok(())
@@ -151,10 +154,7 @@ fn a_start_that_fails_says_why(rt: HostRuntime) -> Result<(), Fail> {
         ),
         ("listen 127.0.0.1 0\n", 4, "error: socket\n"),
     ] {
-        assert!(rt;
-            is_refused(rt.alloc(), text, BUSY, status, fault)?,
-            "{fault}"
-        );
+        assert!(rt; is_refused(&rt, text, BUSY, status, fault)?, "{fault}");
     }
     Ok(())
 }
@@ -167,10 +167,10 @@ fn random_bytes_may_be_wanting(rt: HostRuntime) -> Result<(), Fail> {
     };
     let text = "listen 127.0.0.1 0\n";
     let fault = "error: /dev/urandom: unreadable\n";
-    assert!(rt; is_refused(rt.alloc(), text, place, 4, fault)?);
+    assert!(rt; is_refused(&rt, text, place, 4, fault)?);
     assert!(rt;
         started(
-            rt.alloc(),
+            &rt,
             "listen 127.0.0.1 0\nseed 0707070707070707070707070707070707070707070707070707070707070707\n",
             place,
             "listening 127.0.0.1 4242\n"

@@ -9,7 +9,9 @@ use std::alloc::{AllocError, Global};
 use std::io;
 use std::io::{ErrorKind, Write};
 use std::process::Abort;
+use std::sync::Wait;
 use std::test::Fail;
+use std::thread::Threads;
 
 static LAB: &str = "$TTL 300\n@ SOA ns h 1 2 3 4 60\n@ NS ns\n* TXT \"wild\"\na.b A 192.0.2.7\n";
 
@@ -102,17 +104,18 @@ fn ask_line(
 
 // Whether a command that is done in this memory ends with a status, an output and the line of a fault. The pages
 // take other memory.
-fn ends<A: Heap>(
+fn ends<R: Threads + Wait + AllocGlobal + Sync, A: Heap>(
+    rt: &R,
     alloc: A,
-    pages: Global,
     held: Held,
     command: &Command,
     want: (u8, &str, &str),
 ) -> bool {
     let mut source = held;
-    let mut out = Page::new(pages, WIDE);
-    let mut err = Page::new(pages, WIDE);
+    let mut out = Page::new(rt.alloc(), WIDE);
+    let mut err = Page::new(rt.alloc(), WIDE);
     let done = run_command(
+        rt,
         alloc,
         command,
         &mut source,
@@ -127,8 +130,8 @@ fn ends<A: Heap>(
 }
 
 // What a command must write and end with.
-fn see(
-    rt: &impl Abort,
+fn see<R: Abort + Threads + Wait + AllocGlobal + Sync>(
+    rt: &R,
     alloc: Global,
     held: Held,
     command: &Command,
@@ -136,15 +139,15 @@ fn see(
 ) -> Result<(), Fail> {
     let (code, printed, fault) = want;
     assert!(rt;
-        ends(alloc, alloc, held, command, want),
+        ends(rt, alloc, held, command, want),
         "status {code}, output {printed}, fault {fault}"
     );
     Ok(())
 }
 
 // The same of `ask`.
-fn check(
-    rt: &impl Abort,
+fn check<R: Abort + Threads + Wait + AllocGlobal + Sync>(
+    rt: &R,
     alloc: Global,
     held: Held,
     line: [&str; 4],
@@ -273,16 +276,20 @@ fn aliases_and_cuts_are_followed(rt: HostRuntime) -> Result<(), Fail> {
 
 // Counts the growths of a command over the example that ends well, and refuses each in turn: memory lacks then, and
 // nothing else is printed.
-fn starve(rt: &impl Abort, pages: Global, command: &Command, printed: &str) {
-    let heap = Refusing::new(pages);
+fn starve<R: Abort + Threads + Wait + AllocGlobal + Sync>(
+    rt: &R,
+    command: &Command,
+    printed: &str,
+) {
+    let heap = Refusing::new(rt.alloc());
     let held = Held::Text(LAB);
-    assert!(rt; ends(&heap, pages, held, command, (0, printed, "")));
+    assert!(rt; ends(rt, &heap, held, command, (0, printed, "")));
     let growths = heap.growths();
     assert!(rt; growths > 8);
     for n in 0..growths {
         heap.refuse_after(n);
         let want = (3, "", "error: memory\n");
-        assert!(rt; ends(&heap, pages, held, command, want), "growth {n}");
+        assert!(rt; ends(rt, &heap, held, command, want), "growth {n}");
     }
 }
 
@@ -290,9 +297,9 @@ fn starve(rt: &impl Abort, pages: Global, command: &Command, printed: &str) {
 fn each_growth_of_check_and_dump_is_refused(rt: HostRuntime) -> Result<(), Fail> {
     let alloc = rt.alloc();
     let command = check_line(alloc, "lab.example.")?;
-    starve(&rt, alloc, &command, "ok 4 records\n");
+    starve(&rt, &command, "ok 4 records\n");
     let command = dump_line(alloc, "lab.example.")?;
-    starve(&rt, alloc, &command, PRINTED);
+    starve(&rt, &command, PRINTED);
     Ok(())
 }
 
@@ -301,7 +308,7 @@ fn each_growth_of_ask_is_refused(rt: HostRuntime) -> Result<(), Fail> {
     let alloc = rt.alloc();
     let command = ask_line(alloc, "lab.example.", "lab.zone", "x.lab.example.", "TXT")?;
     let printed = "reply 1 NOERROR aa\n  an x.lab.example. 300 TXT \"wild\"\n";
-    starve(&rt, alloc, &command, printed);
+    starve(&rt, &command, printed);
     Ok(())
 }
 
@@ -334,6 +341,7 @@ fn a_long_set_is_answered(rt: HostRuntime) -> Result<(), Fail> {
     let mut out = Page::new(alloc, WIDE);
     let mut err = Page::new(alloc, WIDE);
     let done = run_command(
+        &rt,
         alloc,
         &command,
         &mut source,
@@ -408,6 +416,7 @@ fn output_may_fail_at_each_byte(rt: HostRuntime) -> Result<(), Fail> {
         let mut out = Page::new(alloc, room);
         let mut err = Page::new(alloc, WIDE);
         let done = run_command(
+            &rt,
             alloc,
             &command,
             &mut source,
@@ -433,6 +442,7 @@ fn a_fault_line_may_fail(rt: HostRuntime) -> Result<(), Fail> {
     let mut out = Page::new(alloc, WIDE);
     let mut err = Page::new(alloc, 0);
     let done = run_command(
+        &rt,
         alloc,
         &command,
         &mut source,
@@ -461,7 +471,7 @@ fn a_line_is_read_and_done(rt: HostRuntime) -> Result<(), Fail> {
     let mut source = Held::Text(LAB);
     let mut out = Page::new(alloc, WIDE);
     let mut err = Page::new(alloc, WIDE);
-    let done = run_words(alloc, &words, &mut source, &mut Nowhere, &mut out, &mut err);
+    let done = run_words(&rt, &words, &mut source, &mut Nowhere, &mut out, &mut err);
     assert_eq!(rt; done.status, 0);
     assert!(rt; out.bytes.as_slice() == "ok 4 records\n".as_bytes());
     assert!(rt; err.bytes.is_empty());
@@ -484,7 +494,7 @@ fn lines_without_a_command_get_help(rt: HostRuntime) -> Result<(), Fail> {
         let mut source = Held::Text(LAB);
         let mut out = Page::new(alloc, WIDE);
         let mut err = Page::new(alloc, WIDE);
-        let done = run_words(alloc, &words, &mut source, &mut Nowhere, &mut out, &mut err);
+        let done = run_words(&rt, &words, &mut source, &mut Nowhere, &mut out, &mut err);
         assert_eq!(rt; done.status, 2);
         assert!(rt; out.bytes.starts_with(b"Answers DNS queries"));
         assert!(rt; err.bytes.is_empty());

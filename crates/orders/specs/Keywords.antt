@@ -3,6 +3,8 @@ use Rattle.std.specs.Prelude.{ℕ, cond, codes, List, Option, Some, None}
 use Rattle.std.specs.Str.{bytes_eq}
 use Rattle.orders.specs.declared.keyword.Keyword.{Keyword}
 use Rattle.orders.specs.declared.keyword.Keyword.TheVariants.{At, Ask, Raw, Carry, Cut, Lose, Run, Tick}
+use Rattle.orders.specs.declared.keyword.Scope.{Scope}
+use Rattle.orders.specs.declared.keyword.Scope.TheVariants.{Whole, Asks}
 use Rattle.orders.specs.declared.mark.Mark.{Mark}
 use Rattle.orders.specs.declared.mark.Mark.TheVariants.{Tcp, Norec}
 
@@ -17,6 +19,26 @@ keyword_of w =
     (cond (bytes_eq w (codes "lose")) (Some Lose)
     (cond (bytes_eq w (codes "run")) (Some Run)
     (cond (bytes_eq w (codes "tick")) (Some Tick) None)))))))
+
+-- One that a script of asks may have: `at` or `ask`.
+abbrev pub asking : Keyword → Option Keyword
+asking At = Some At
+asking Ask = Some Ask
+asking Raw = None
+asking Carry = None
+asking Cut = None
+asking Lose = None
+asking Run = None
+asking Tick = None
+
+abbrev pub if_asking : Option Keyword → Option Keyword
+if_asking (Some k) = asking k
+if_asking None = None
+
+-- A line's first word, in such a script.
+abbrev pub keyword_in : Scope → List ℕ → Option Keyword
+keyword_in Whole w = keyword_of w
+keyword_in Asks w = if_asking (keyword_of w)
 
 -- A word at a line's end.
 abbrev pub mark_of : List ℕ → Option Mark

@@ -17,7 +17,9 @@ use Rattle.orders.specs.declared.mark.Mark.{Mark}
 use Rattle.orders.specs.declared.mark.Mark.TheVariants as mark
 use Rattle.orders.specs.declared.order.Order.{Order as Given}
 use Rattle.orders.specs.declared.order.Order.TheVariants as given
-use Rattle.orders.specs.Keywords.{keyword_of, mark_of}
+use Rattle.orders.specs.declared.keyword.Scope.{Scope}
+use Rattle.orders.specs.declared.keyword.Scope.TheVariants.{Whole, Asks}
+use Rattle.orders.specs.Keywords.{keyword_in, mark_of}
 
 -- What one line orders.
 pub data Order : Type 0 where
@@ -103,9 +105,16 @@ ordered None ws = Err UnknownWord
 ordered (Some k) ws = ordered_by k ws
 
 -- A line without words orders nothing.
-abbrev pub said : List Order → List (List ℕ) → Result (List Order) LineKind
-said done [] = Ok done
-said done (w ∷ ws) = ordered (keyword_of w) ws >>= λ o. Ok (done ++ o ∷ [])
+abbrev pub said : Scope → List Order → List (List ℕ) → Result (List Order) LineKind
+said scope done [] = Ok done
+said scope done (w ∷ ws) = ordered (keyword_in scope w) ws >>= λ o. Ok (done ++ o ∷ [])
+
+abbrev pub orders_of : Scope → List ℕ → Result (List Order) LineError
+orders_of scope text = said_from (said scope) Ok 1 [] (lines text)
 
 abbrev pub script_of : List ℕ → Result (List Order) LineError
-script_of text = said_from said Ok 1 [] (lines text)
+script_of text = orders_of Whole text
+
+-- The same of a script that may only ask: another first word than `at` and `ask` is unknown there.
+abbrev pub asks_of : List ℕ → Result (List Order) LineError
+asks_of text = orders_of Asks text

@@ -7,7 +7,7 @@ mod order;
 mod script;
 
 pub use order::Order;
-pub use script::read_script;
+pub use script::{read_asks, read_script};
 pub use statements::{LineError, LineKind};
 
 #[cfg(test)]

@@ -7,9 +7,9 @@
 ghost use Rattle.std.specs.Prelude.{◌≡◌, ◌++◌, ◌∷◌, [], Ok, Err, map, MatchResult};
 ghost use Rattle.statements.specs.Faults.{IsLineFault};
 ghost use Rattle.statements.specs.Texts.{IsTextFault, stated_words};
-ghost use Rattle.orders.specs.Orders.{order_seen, said, script_of};
+ghost use Rattle.orders.specs.Orders.{order_seen, asks_of, orders_of, said, script_of};
 
-use crate::keyword::Keyword;
+use crate::keyword::{Keyword, Scope};
 use crate::order::{Order, order_of};
 use dname::Heap;
 use statements::{LineError, LineKind, LineWords, TextLines};
@@ -19,11 +19,24 @@ use statements::{LineError, LineKind, LineWords, TextLines};
 pub fn read_script<A: Heap>(alloc: A, text: &str) -> Result<Vec<Order<A>, A>, LineError>
     ensures { MatchResult result (λ v. script_of text.now ≡ Ok (map order_seen v.items)) (λ e. IsTextFault e (script_of text.now)) }
 {
+    read_orders(alloc, Scope::Whole, text)
+}
+
+/// The same of a script that may only ask: it has `at` and `ask` lines alone, and any other first word is unknown.
+pub fn read_asks<A: Heap>(alloc: A, text: &str) -> Result<Vec<Order<A>, A>, LineError>
+    ensures { MatchResult result (λ v. asks_of text.now ≡ Ok (map order_seen v.items)) (λ e. IsTextFault e (asks_of text.now)) }
+{
+    read_orders(alloc, Scope::Asks, text)
+}
+
+fn read_orders<A: Heap>(alloc: A, scope: Scope, text: &str) -> Result<Vec<Order<A>, A>, LineError>
+    ensures { MatchResult result (λ v. orders_of scope text.now ≡ Ok (map order_seen v.items)) (λ e. IsTextFault e (orders_of scope text.now)) }
+{
     let mut orders = Vec::new(alloc);
     let mut lines = TextLines::new(text);
     let mut number = 1usize;
     while let Some(line) = lines.next() {
-        match take(alloc, &mut orders, line) {
+        match take(alloc, scope, &mut orders, line) {
             Ok(()) => {}
             Err(kind) => {
                 return Err(LineError { line: number, kind });
@@ -35,14 +48,19 @@ pub fn read_script<A: Heap>(alloc: A, text: &str) -> Result<Vec<Order<A>, A>, Li
 }
 
 // One line more.
-fn take<A: Heap>(alloc: A, orders: &mut Vec<Order<A>, A>, line: &str) -> Result<(), LineKind>
-    ensures { MatchResult result (λ _. said (map order_seen orders.old.items) (stated_words line.now) ≡ Ok (map order_seen orders.new.items)) (λ e. IsLineFault e (said (map order_seen orders.old.items) (stated_words line.now))) }
+fn take<A: Heap>(
+    alloc: A,
+    scope: Scope,
+    orders: &mut Vec<Order<A>, A>,
+    line: &str,
+) -> Result<(), LineKind>
+    ensures { MatchResult result (λ _. said scope (map order_seen orders.old.items) (stated_words line.now) ≡ Ok (map order_seen orders.new.items)) (λ e. IsLineFault e (said scope (map order_seen orders.old.items) (stated_words line.now))) }
 {
     let mut words = LineWords::stated(line);
     let Some(first) = words.next() else {
         return Ok(());
     };
-    match Keyword::of_word(first) {
+    match Keyword::in_scope(scope, first) {
         None => Err(LineKind::UnknownWord),
         Some(keyword) => {
             orders.push(order_of(alloc, keyword, words)?)?;

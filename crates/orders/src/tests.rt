@@ -1,5 +1,5 @@
 //! Scripts, by examples.
-use crate::{LineKind, Order, read_script};
+use crate::{LineKind, Order, read_asks, read_script};
 use dname::Heap;
 use rdata::RType;
 use refusing::Refusing;
@@ -87,6 +87,29 @@ fn the_first_bad_line_is_named(rt: HostRuntime) -> Result<(), Fail> {
         ("lose 1 1", 1, 5),
     ] {
         assert!(rt; is_refused(rt.alloc(), text, line, number), "for {text}");
+    }
+    Ok(())
+}
+
+#[test]
+fn a_script_of_asks_has_no_other_lines(rt: HostRuntime) -> Result<(), Fail> {
+    match read_asks(rt.alloc(), "; asks\nat 7\nask a A tcp\n") {
+        Err(_) => assert!(rt; false, "the text is a script of asks"),
+        Ok(orders) => {
+            assert_eq!(rt; orders.len(), 2);
+            assert!(rt; matches!(orders.get(0), Some(Order::At(7))));
+            assert!(rt; asks(orders.get(1), (RType::A, Via::Tcp, true)));
+        }
+    }
+    for (text, line, number) in [
+        ("ask a A\nrun", 2, 1),
+        ("carry x", 1, 1),
+        ("ask a\nrun", 1, 5),
+    ] {
+        match read_asks(rt.alloc(), text) {
+            Ok(_) => assert!(rt; false, "for {text}"),
+            Err(error) => assert_eq!(rt; (error.line, error.kind.number()), (line, number)),
+        }
     }
     Ok(())
 }

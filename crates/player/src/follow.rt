@@ -39,8 +39,8 @@ pub fn play<A: Heap>(
     player.end()
 }
 
-// What a resolver is set to in a script: servers are asked at the usual port (RFC 1035, section 4.2).
-fn settings() -> Settings
+/// What a resolver is set to in a script: servers are asked at the usual port (RFC 1035, section 4.2).
+pub fn settings() -> Settings
     ensures { result ≡ settings }
 {
     Settings {

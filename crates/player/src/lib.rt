@@ -5,4 +5,4 @@
 mod follow;
 mod show;
 
-pub use follow::play;
+pub use follow::{play, settings};

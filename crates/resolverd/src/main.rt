@@ -16,7 +16,7 @@ fn main(rt: HostRuntime) -> ExitCode {
         Ok(words) => {
             let mut machine = Machine::new(&rt, alloc);
             let mut disk = Disk::new(&rt);
-            let done = run_words(alloc, &words, &mut disk, &mut machine, &mut out, &mut err);
+            let done = run_words(&rt, &words, &mut disk, &mut machine, &mut out, &mut err);
             match done.server {
                 Some(server) => serve_at(&machine, server, &mut err),
                 None => done.status,

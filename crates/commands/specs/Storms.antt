@@ -1,0 +1,72 @@
+-- What is printed of scripts that a worker each asks by in one network, and why nothing is.
+use Rattle.std.specs.Prelude.{◌≡◌, ◌⊎◌, ℕ, List, [], ◌∷◌, ◌++◌, Option, codes, decimal}
+use Rattle.std.specs.declared.alloc.Global.{Global}
+use Rattle.truth.specs.Worlds.{World}
+use Rattle.orders.specs.Orders.{Order, asks_of}
+use Rattle.network.specs.Networks.{Network}
+use Rattle.simnet.specs.Beginnings.{IsNetworkOf}
+use Rattle.player.specs.Played.{settings}
+use Rattle.crowd.specs.Counts.{IsStorm}
+use Rattle.crowd.specs.declared.count.Totals.{Totals}
+use Rattle.pool.specs.declared.fault.PoolError.{PoolError}
+use Rattle.commands.specs.Scripts.{Holds, HoldsNo, HoldsWorld, HoldsNoWorld}
+use Rattle.commands.specs.declared.fault.Fault.{Fault}
+use Rattle.commands.specs.declared.fault.Fault.TheVariants.{Memory, Pool}
+
+-- The text is there, and it is read as these orders: `at` and `ask` alone.
+abbrev pub HoldsAsks : Option (Option (List ℕ)) → List Order → Type 0
+HoldsAsks known orders = Holds asks_of known orders
+
+abbrev pub HoldsNoAsks : Option (Option (List ℕ)) → Fault → Type 0
+HoldsNoAsks known f = HoldsNo asks_of known f
+
+-- So are several, one after the other; `known` is what is known to stand at a path.
+abbrev pub HoldAsks : {X : Type 0} → (X → Option (Option (List ℕ))) → List X → List (List Order) → Type 0
+HoldAsks known [] [] = Unit {0}
+HoldAsks known [] (orders ∷ scripts) = ⊥
+HoldAsks known (path ∷ paths) [] = ⊥
+HoldAsks known (path ∷ paths) (orders ∷ scripts) = HoldsAsks (known path) orders × HoldAsks known paths scripts
+
+-- The first of them that is refused counts. Want of memory leaves all open.
+abbrev pub RefusesOne : {X : Type 0} → (X → Option (Option (List ℕ))) → List X → Fault → Type 0
+RefusesOne known [] f = f ≡ Memory
+RefusesOne known (path ∷ paths) f = HoldsNoAsks (known path) f ⊎ ((orders : List Order) × HoldsAsks (known path) orders × RefusesOne known paths f)
+
+-- What the workers did does not close, or memory was wanting.
+abbrev pub IsRunFault : Fault → Type 0
+IsRunFault f = (f ≡ Memory) ⊎ ((e : PoolError) × (f ≡ Pool e))
+
+-- The totals are those of the scripts, a worker for each, in a network of that world that did nothing before.
+pub record IsStormIn (W : World) (scripts : List (List Order)) (totals : Totals) : Type 0 where
+  pub start : Network
+  pub made : IsNetworkOf W settings start
+  pub storm : IsStorm Global start scripts totals
+
+-- How many replies there were, and how many of those that count were right: those to recursive queries that are no
+-- SERVFAIL, and all of them are.
+abbrev pub storm_lines : Totals → List ℕ
+storm_lines t = codes "replies " ++ (decimal t.replies ++ (codes "\nhistory ok\nright " ++ (decimal (t.count).right ++ codes "\n")))
+
+-- What the scripts print in the world that the text says.
+pub record PrintsStorm {X : Type 0} (known : X → Option (Option (List ℕ))) (world : Option (Option (List ℕ))) (scripts : List X) (text : List ℕ) : Type 0 where
+  pub W : World
+  pub stands : HoldsWorld world W
+  pub orders : List (List Order)
+  pub held : HoldAsks known scripts orders
+  pub totals : Totals
+  pub stormed : IsStormIn W orders totals
+  pub is : text ≡ storm_lines totals
+
+-- Workers asked by the scripts, and what they did is refused.
+abbrev pub FailsToClose : {X : Type 0} → (X → Option (Option (List ℕ))) → List X → Fault → Type 0
+FailsToClose known scripts f = (orders : List (List Order)) × HoldAsks known scripts orders × IsRunFault f
+
+-- The world stands, and a script is none, or what the workers did is refused.
+pub record StormFails {X : Type 0} (known : X → Option (Option (List ℕ))) (world : Option (Option (List ℕ))) (scripts : List X) (fault : Fault) : Type 0 where
+  pub W : World
+  pub stands : HoldsWorld world W
+  pub fails : RefusesOne known scripts fault ⊎ FailsToClose known scripts fault
+
+-- The world's faults count before those of the scripts, and these before the workers'.
+abbrev pub IsNoStorm : {X : Type 0} → (X → Option (Option (List ℕ))) → Option (Option (List ℕ)) → List X → Fault → Type 0
+IsNoStorm known world scripts f = HoldsNoWorld world f ⊎ StormFails known world scripts f
