@@ -135,7 +135,7 @@ fn top<A: Heap>(alloc: A) -> Result<Records<A>, Starved> {
         minimum: 60,
     };
     let mut records = Records::new(alloc);
-    records.push(at_origin(alloc, RData::Soa(soa))?)?;
+    records.push(at_origin(alloc, RData::Soa(Box::new(alloc, soa)?))?)?;
     let server = RData::Ns(named(alloc, "ns.d.zone.example")?);
     records.push(at_origin(alloc, server)?)?;
     Ok(records)

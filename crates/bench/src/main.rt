@@ -59,6 +59,10 @@ fn measure<R: Runtime + AllocGlobal>(rt: &R, work: Work) -> Result<()> {
         Counted::Resident(bytes) => {
             print!(rt; ", {} bytes of memory each", bytes / rounds)?;
         }
+        Counted::Grown { list, zone } => {
+            let (list, zone) = (list / rounds, zone / rounds);
+            print!(rt; ", {zone} bytes of memory each, {list} of them as a list")?;
+        }
     }
     println!(rt; " (sum {})", done.sum)?;
     Ok(())

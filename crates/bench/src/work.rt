@@ -104,6 +104,8 @@ pub enum Counted {
     Text(u64),
     /// The bytes of resident memory that were taken.
     Resident(u64),
+    /// The same for the records of a zone as a list, and for the whole zone.
+    Grown { list: u64, zone: u64 },
 }
 
 /// What came out of work, as a number, how long it took, and what was counted.

@@ -1,4 +1,5 @@
 //! Work on zones.
+use crate::resident::resident;
 use crate::work::{Asked, Counted, Done};
 use anyhow::Result;
 use authority::{Catalog, Local};
@@ -59,14 +60,20 @@ pub fn read<R: Runtime + AllocGlobal>(rt: &R, rounds: u64) -> Result<Done> {
 pub fn build<R: Runtime + AllocGlobal>(rt: &R, rounds: u64) -> Result<Done> {
     let alloc = rt.alloc();
     let origin = origin(alloc)?;
-    let records = records(alloc, rounds)?;
+    let text = text(alloc, rounds)?;
+    let before = resident(rt);
+    let records = masterfile::read(alloc, &origin, text.as_str()).map_err(|_| Starved)?;
+    let read = resident(rt);
     let start = Instant::now(rt)?;
     let built = Zone::build(origin, records).map_err(|_| Starved)?;
     let taken = start.elapsed(rt)?;
     Ok(Done {
         sum: low(built.records().len()),
         taken,
-        counted: Counted::Nothing,
+        counted: Counted::Grown {
+            list: read.saturating_sub(before),
+            zone: resident(rt).saturating_sub(before),
+        },
     })
 }
 

@@ -3,7 +3,6 @@
 #![tactic(auto)]
 
 mod cache;
-mod data;
 mod hit;
 mod key;
 mod laws;
@@ -13,8 +12,6 @@ pub use cache::Cache;
 pub use hit::{Hit, retimed};
 pub use laws::{aging_law, given_law, members_law};
 // A crate can name a cache in a contract only if the types of its fields are exported.
-#[doc(hidden)]
-pub use data::PackedData;
 #[doc(hidden)]
 pub use key::{Key, Slot};
 #[doc(hidden)]

@@ -5,11 +5,10 @@ ghost use Rattle.cache.specs.Cached.{is_live, as_set, as_alias, with_link, as_ke
 ghost use Rattle.cache.specs.Packed.{owned, link_of, hit_of_packed};
 ghost use Rattle.cache.specs.Forms.{form_view};
 
-use crate::data::PackedData;
 use crate::hit::{Hit, alias_of, is_young, set_of, set_of_one};
 use authority::Link;
 use dname::{Heap, Name, Starved};
-use rdata::{Record, Records};
+use rdata::{RData, Record, Records};
 use std::alloc::{Allocator, Global};
 use std::marker::Model;
 
@@ -17,7 +16,7 @@ use std::marker::Model;
 #[derive(Drop)]
 pub struct Unowned<A: Allocator = Global> {
     ttl: u32,
-    value: PackedData<A>,
+    value: RData<A>,
 }
 
 impl<A: Allocator> Model for Unowned<A> {
@@ -27,16 +26,16 @@ impl<A: Allocator> Model for Unowned<A> {
 
     ghost Value = { Said };
 
-    ghost use Rattle.cache.specs.Forms.{data_view};
+    ghost use Rattle.rdata.specs.Kept.{datum};
 
-    ghost view = { λ u. record { ttl = u.ttl; value = data_view u.value } };
+    ghost view = { λ u. record { ttl = u.ttl; value = datum u.value } };
 
     ghost invariant = { λ u. u.ttl ≤ greatest_ttl };
 }
 
 impl<A: Heap> Unowned<A> {
     // The record, if this name owns it.
-    fn of(alloc: A, name: &Name<A>, source: &Record<A>) -> Result<Option<Unowned<A>>, Starved>
+    fn of(name: &Name<A>, source: &Record<A>) -> Result<Option<Unowned<A>>, Starved>
         ensures { IfOk result (λ u. IfSome u (λ u. owned name.now u ≡ source.now)) }
     {
         if source.owner != *name {
@@ -44,7 +43,7 @@ impl<A: Heap> Unowned<A> {
         }
         Ok(Some(Unowned {
             ttl: source.ttl,
-            value: PackedData::of(alloc, &source.value)?,
+            value: source.value.clone()?,
         }))
     }
 
@@ -55,7 +54,7 @@ impl<A: Heap> Unowned<A> {
         Ok(Record {
             owner: name.clone()?,
             ttl: self.ttl,
-            value: self.value.unpacked()?,
+            value: self.value.clone()?,
         })
     }
 }
@@ -70,7 +69,7 @@ fn without_owner<A: Heap>(
 {
     let mut all = Vec::with_capacity(alloc, records.len())?;
     for source in records {
-        match Unowned::of(alloc, name, source)? {
+        match Unowned::of(name, source)? {
             Some(added) => all.push(added)?,
             None => return Ok(None),
         }
@@ -109,7 +108,7 @@ impl<A: Heap> Form<A> {
         match link {
             Link::Found(records) => {
                 if let [only] = records.as_slice() {
-                    if let Some(one) = Unowned::of(alloc, name, only)? {
+                    if let Some(one) = Unowned::of(name, only)? {
                         return Ok(Form::One(one));
                     }
                 } else if let Some(all) = without_owner(alloc, name, records.as_slice())? {
@@ -117,7 +116,7 @@ impl<A: Heap> Form<A> {
                 }
             }
             Link::Alias(record) => {
-                if let Some(alias) = Unowned::of(alloc, name, record)? {
+                if let Some(alias) = Unowned::of(name, record)? {
                     return Ok(Form::Alias(alias));
                 }
             }

@@ -73,7 +73,7 @@ fn soa<A: Heap>(owner: &Name<A>) -> Result<Record<A>, Starved> {
     Ok(Record {
         owner: owner.clone()?,
         ttl: 60,
-        value: RData::Soa(soa),
+        value: RData::Soa(Box::new(owner.allocator(), soa)?),
     })
 }
 

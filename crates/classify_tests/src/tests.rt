@@ -39,7 +39,7 @@ fn data<A: Heap>(alloc: A, value: Value) -> Result<RData<A>, Starved> {
         Value::Aaaa => RData::Aaaa([0x20, 1, 0xd, 0xb8, 0, 0, 0, 0, 0, 0, 0, 0, 0, 0, 0, 1]),
         Value::Ns(target) => RData::Ns(name(alloc, target)?),
         Value::Cname(target) => RData::Cname(name(alloc, target)?),
-        Value::Soa(minimum) => RData::Soa(Soa {
+        Value::Soa(minimum) => RData::Soa(Box::new(alloc, Soa {
             primary: name(alloc, "ns.")?,
             mailbox: name(alloc, "h.")?,
             serial: 1,
@@ -47,7 +47,7 @@ fn data<A: Heap>(alloc: A, value: Value) -> Result<RData<A>, Starved> {
             retry: 3,
             expire: 4,
             minimum,
-        }),
+        })?),
     })
 }
 

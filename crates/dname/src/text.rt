@@ -48,13 +48,13 @@ impl fmt::Display for NameError {
     ghost output = { λ e. Some (fault_text e) };
 
     fn fmt<W: fmt::Write>(&self, f: &mut fmt::Formatter<W>) -> fmt::Result {
-        match self {
-            NameError::EmptyLabel => write!(f, "empty label"),
-            NameError::LongLabel => write!(f, "label over 63 bytes"),
-            NameError::LongName => write!(f, "name over 255 bytes"),
-            NameError::BadByte => write!(f, "bad escape or byte"),
-            NameError::Memory => write!(f, "out of memory"),
-        }
+        f.write_str(match self {
+            NameError::EmptyLabel => "empty label",
+            NameError::LongLabel => "label over 63 bytes",
+            NameError::LongName => "name over 255 bytes",
+            NameError::BadByte => "bad escape or byte",
+            NameError::Memory => "out of memory",
+        })
     }
 }
 

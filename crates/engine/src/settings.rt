@@ -93,11 +93,11 @@ impl CoreError {
 
 impl fmt::Display for CoreError {
     fn fmt<W: fmt::Write>(&self, f: &mut fmt::Formatter<W>) -> fmt::Result {
-        match self {
-            CoreError::Setting => write!(f, "a setting is out of its limits"),
-            CoreError::Twins => write!(f, "two zones have one origin"),
-            CoreError::Memory => write!(f, "out of memory"),
-        }
+        f.write_str(match self {
+            CoreError::Setting => "a setting is out of its limits",
+            CoreError::Twins => "two zones have one origin",
+            CoreError::Memory => "out of memory",
+        })
     }
 }
 

@@ -88,7 +88,7 @@ fn name<A: Heap>(alloc: A, text: &str) -> Result<Name<A>, Starved> {
 }
 
 fn soa<A: Heap>(alloc: A) -> Result<RData<A>, Starved> {
-    Ok(RData::Soa(Soa {
+    Ok(RData::Soa(Box::new(alloc, Soa {
         primary: name(alloc, "ns.")?,
         mailbox: name(alloc, "h.")?,
         serial: 1,
@@ -96,7 +96,7 @@ fn soa<A: Heap>(alloc: A) -> Result<RData<A>, Starved> {
         retry: 3,
         expire: 4,
         minimum: 60,
-    }))
+    })?))
 }
 
 fn data<A: Heap>(alloc: A, value: Value<'_>) -> Result<RData<A>, Starved> {

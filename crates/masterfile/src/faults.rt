@@ -54,18 +54,18 @@ impl fmt::Display for FileKind {
     ghost output = { λ k. Some (kind_text k) };
 
     fn fmt<W: fmt::Write>(&self, f: &mut fmt::Formatter<W>) -> fmt::Result {
-        match self {
-            FileKind::UnknownType => write!(f, "unknown type"),
-            FileKind::BadName => write!(f, "bad name"),
-            FileKind::BadNumber => write!(f, "number out of range"),
-            FileKind::NoTtl => write!(f, "no TTL"),
-            FileKind::NoOwner => write!(f, "no owner"),
-            FileKind::OpenText => write!(f, "parenthesis or quote without its other half"),
-            FileKind::UnknownDirective => write!(f, "unknown directive"),
-            FileKind::BadClass => write!(f, "bad class"),
-            FileKind::BadData => write!(f, "bad data"),
-            FileKind::Memory => write!(f, "out of memory"),
-        }
+        f.write_str(match self {
+            FileKind::UnknownType => "unknown type",
+            FileKind::BadName => "bad name",
+            FileKind::BadNumber => "number out of range",
+            FileKind::NoTtl => "no TTL",
+            FileKind::NoOwner => "no owner",
+            FileKind::OpenText => "parenthesis or quote without its other half",
+            FileKind::UnknownDirective => "unknown directive",
+            FileKind::BadClass => "bad class",
+            FileKind::BadData => "bad data",
+            FileKind::Memory => "out of memory",
+        })
     }
 }
 

@@ -165,7 +165,7 @@ pub(crate) fn rdata<A: Heap>(
         RType::A => Ok(RData::A(Addr(ipv4(plain(words)?)?))),
         RType::Ns => Ok(RData::Ns(name(alloc, words, origin)?)),
         RType::Cname => Ok(RData::Cname(name(alloc, words, origin)?)),
-        RType::Soa => Ok(RData::Soa(soa(alloc, words, origin)?)),
+        RType::Soa => Ok(RData::Soa(Box::new(alloc, soa(alloc, words, origin)?)?)),
         RType::Ptr => Ok(RData::Ptr(name(alloc, words, origin)?)),
         RType::Mx => mx(alloc, words, origin),
         RType::Txt => Ok(RData::Txt(texts(alloc, words)?)),

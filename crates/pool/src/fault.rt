@@ -37,12 +37,12 @@ impl fmt::Display for PoolError {
     ghost output = { λ e. Some (pool_fault_text e) };
 
     fn fmt<W: fmt::Write>(&self, f: &mut fmt::Formatter<W>) -> fmt::Result {
-        match self {
-            PoolError::Differs => write!(f, "what a worker kept differs from the history"),
-            PoolError::Forgot => write!(f, "the history is no longer kept whole"),
-            PoolError::Memory => write!(f, "out of memory"),
-            PoolError::Stranger => write!(f, "the ticket is not one of the book's"),
-        }
+        f.write_str(match self {
+            PoolError::Differs => "what a worker kept differs from the history",
+            PoolError::Forgot => "the history is no longer kept whole",
+            PoolError::Memory => "out of memory",
+            PoolError::Stranger => "the ticket is not one of the book's",
+        })
     }
 }
 

@@ -7,7 +7,7 @@ abbrev pub datum : {H : Type 0} → RData H → Datum
 datum (kept.A a) = Ipv4 a.0
 datum (kept.Ns n) = Ns n
 datum (kept.Cname n) = Cname n
-datum (kept.Soa s) = Soa s
+datum (kept.Soa s) = Soa s.value
 datum (kept.Ptr n) = Ptr n
 datum (kept.Mx p n) = Mx p n
 datum (kept.Txt ts) = Txt ts

@@ -16,7 +16,8 @@ pub enum RData<A: Allocator = Global> {
     A(Addr),
     Ns(Name<A>),
     Cname(Name<A>),
-    Soa(Soa<A>),
+    /// Boxed: of all data it alone is long.
+    Soa(Box<Soa<A>, A>),
     Ptr(Name<A>),
     /// Preference, the lowest first, and exchange.
     Mx(u16, Name<A>),
@@ -43,14 +44,17 @@ impl<A: Allocator> RData<A> {
 }
 
 impl<A: Heap> Clone for RData<A> {
-    ghost is_clone = { λ x y. y ≡ x };
+    ghost use Rattle.std.specs.Prelude.{◌≡◌};
+    ghost use Rattle.rdata.specs.Kept.{datum};
+
+    ghost is_clone = { λ x y. datum y ≡ datum x };
 
     fn clone(&self) -> Result<RData<A>, AllocError> {
         match self {
             RData::A(addr) => Ok(RData::A(*addr)),
             RData::Ns(name) => Ok(RData::Ns(name.clone()?)),
             RData::Cname(name) => Ok(RData::Cname(name.clone()?)),
-            RData::Soa(soa) => Ok(RData::Soa(soa.clone()?)),
+            RData::Soa(soa) => Ok(RData::Soa(Box::new(soa.primary.allocator(), (**soa).clone()?)?)),
             RData::Ptr(name) => Ok(RData::Ptr(name.clone()?)),
             RData::Mx(preference, name) => Ok(RData::Mx(*preference, name.clone()?)),
             RData::Txt(texts) => Ok(RData::Txt(texts.clone()?)),

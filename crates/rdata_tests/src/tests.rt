@@ -90,7 +90,7 @@ fn data_with_names(rt: HostRuntime) -> Result<(), Fail> {
 fn data_with_names_and_numbers(rt: HostRuntime) -> Result<(), Fail> {
     let mx = RData::Mx(65535, name(rt.alloc(), "m.example")?);
     assert_eq!(rt; written(rt.alloc(), &mx)?.as_str(), "MX 65535 m.example.");
-    let soa = RData::Soa(soa(rt.alloc())?);
+    let soa = RData::Soa(Box::new(rt.alloc(), soa(rt.alloc())?)?);
     let wanted = "SOA ns.example. host\\.master.example. 1 2 3 4 4294967295";
     assert_eq!(rt; written(rt.alloc(), &soa)?.as_str(), wanted);
     Ok(())
@@ -214,7 +214,7 @@ fn data_in_order(rt: HostRuntime) -> Result<(), Fail> {
     let last = RData::Mx(20, name(rt.alloc(), "a.example")?);
     assert!(rt; lowest < next);
     assert!(rt; next < last);
-    let soa = RData::Soa(soa(rt.alloc())?);
+    let soa = RData::Soa(Box::new(rt.alloc(), soa(rt.alloc())?)?);
     assert_eq!(rt; soa.cmp(&soa.clone()?), std::cmp::Ordering::Equal);
     assert!(rt; soa < next);
     Ok(())

@@ -53,17 +53,17 @@ impl fmt::Display for LineKind {
     ghost output = { λ k. Some (kind_text k) };
 
     fn fmt<W: fmt::Write>(&self, f: &mut fmt::Formatter<W>) -> fmt::Result {
-        match self {
-            LineKind::UnknownWord => write!(f, "a first word that opens no line"),
-            LineKind::BadNumber => write!(f, "a bad number"),
-            LineKind::BadName => write!(f, "a bad name"),
-            LineKind::BadType => write!(f, "a type that is not served"),
-            LineKind::WordCount => write!(f, "a word missing or left over"),
-            LineKind::BadHex => write!(f, "bad hexadecimal digits"),
-            LineKind::OpenBlock => write!(f, "a block without its end"),
-            LineKind::BadAddress => write!(f, "a bad address"),
-            LineKind::Memory => write!(f, "out of memory"),
-        }
+        f.write_str(match self {
+            LineKind::UnknownWord => "a first word that opens no line",
+            LineKind::BadNumber => "a bad number",
+            LineKind::BadName => "a bad name",
+            LineKind::BadType => "a type that is not served",
+            LineKind::WordCount => "a word missing or left over",
+            LineKind::BadHex => "bad hexadecimal digits",
+            LineKind::OpenBlock => "a block without its end",
+            LineKind::BadAddress => "a bad address",
+            LineKind::Memory => "out of memory",
+        })
     }
 }
 

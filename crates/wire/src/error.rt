@@ -51,17 +51,17 @@ impl fmt::Display for WireError {
     ghost output = { λ e. Some (fault_text e) };
 
     fn fmt<W: fmt::Write>(&self, f: &mut fmt::Formatter<W>) -> fmt::Result {
-        match self {
-            WireError::Short => write!(f, "the message ends early"),
-            WireError::BadLabel => write!(f, "bad label"),
-            WireError::PointerNotEarlier => write!(f, "a pointer leads forward"),
-            WireError::NameTooLong => write!(f, "name over 255 bytes"),
-            WireError::BadRdataLength => write!(f, "bad length of RDATA"),
-            WireError::BadRdataName => write!(f, "bad name in RDATA"),
-            WireError::TrailingBytes => write!(f, "bytes behind the message"),
-            WireError::OverLimit => write!(f, "message over its limit"),
-            WireError::Memory => write!(f, "out of memory"),
-        }
+        f.write_str(match self {
+            WireError::Short => "the message ends early",
+            WireError::BadLabel => "bad label",
+            WireError::PointerNotEarlier => "a pointer leads forward",
+            WireError::NameTooLong => "name over 255 bytes",
+            WireError::BadRdataLength => "bad length of RDATA",
+            WireError::BadRdataName => "bad name in RDATA",
+            WireError::TrailingBytes => "bytes behind the message",
+            WireError::OverLimit => "message over its limit",
+            WireError::Memory => "out of memory",
+        })
     }
 }
 

@@ -90,7 +90,7 @@ fn soa_at<A: Heap>(
         expire: four_at(bytes, at + 12),
         minimum: four_at(bytes, at + 16),
     };
-    Ok((RData::Soa(soa), at + 20))
+    Ok((RData::Soa(Box::new(alloc, soa)?), at + 20))
 }
 
 fn mx_at<A: Heap>(

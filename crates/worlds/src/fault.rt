@@ -44,15 +44,15 @@ impl WorldError {
 
 impl fmt::Display for WorldError {
     fn fmt<W: fmt::Write>(&self, f: &mut fmt::Formatter<W>) -> fmt::Result {
-        match self {
-            WorldError::NoRoot => write!(f, "no zone at the root"),
-            WorldError::LooseCut => write!(f, "a cut without a zone"),
-            WorldError::Undelegated => write!(f, "a zone that the zone above does not delegate"),
-            WorldError::Lame => write!(f, "a server without its zone"),
-            WorldError::NoStart => write!(f, "no hint that serves the root"),
-            WorldError::Memory => write!(f, "out of memory"),
-            WorldError::Twins => write!(f, "two zones have one origin"),
-        }
+        f.write_str(match self {
+            WorldError::NoRoot => "no zone at the root",
+            WorldError::LooseCut => "a cut without a zone",
+            WorldError::Undelegated => "a zone that the zone above does not delegate",
+            WorldError::Lame => "a server without its zone",
+            WorldError::NoStart => "no hint that serves the root",
+            WorldError::Memory => "out of memory",
+            WorldError::Twins => "two zones have one origin",
+        })
     }
 }
 

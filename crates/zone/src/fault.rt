@@ -53,18 +53,18 @@ impl ZoneError {
 
 impl fmt::Display for ZoneError {
     fn fmt<W: fmt::Write>(&self, f: &mut fmt::Formatter<W>) -> fmt::Result {
-        match self {
-            ZoneError::Soa => write!(f, "not exactly one SOA record, at the origin"),
-            ZoneError::NoServers => write!(f, "no NS record at the origin"),
-            ZoneError::ForeignOwner => write!(f, "an owner outside the zone"),
-            ZoneError::CnameClash => write!(f, "a CNAME beside other records"),
-            ZoneError::MixedTtls => write!(f, "different TTLs in a record set"),
-            ZoneError::DataAtCut => write!(f, "other data than glue at or beneath a cut"),
-            ZoneError::InnerStar => write!(f, "a label `*` that is not the first of its owner"),
-            ZoneError::WildcardAuthority => write!(f, "NS or SOA at a wildcard"),
-            ZoneError::WildcardBeneathCut => write!(f, "a wildcard beneath a cut"),
-            ZoneError::Memory => write!(f, "out of memory"),
-        }
+        f.write_str(match self {
+            ZoneError::Soa => "not exactly one SOA record, at the origin",
+            ZoneError::NoServers => "no NS record at the origin",
+            ZoneError::ForeignOwner => "an owner outside the zone",
+            ZoneError::CnameClash => "a CNAME beside other records",
+            ZoneError::MixedTtls => "different TTLs in a record set",
+            ZoneError::DataAtCut => "other data than glue at or beneath a cut",
+            ZoneError::InnerStar => "a label `*` that is not the first of its owner",
+            ZoneError::WildcardAuthority => "NS or SOA at a wildcard",
+            ZoneError::WildcardBeneathCut => "a wildcard beneath a cut",
+            ZoneError::Memory => "out of memory",
+        })
     }
 }
 
