@@ -44,7 +44,13 @@ fn top<A: Heap>(alloc: A, origin: &str) -> Result<Records<A>, Starved> {
         expire: 3_600_000,
         minimum: 60,
     };
-    put(alloc, &mut records, origin, 3600, RData::Soa(Box::new(alloc, soa)?))?;
+    put(
+        alloc,
+        &mut records,
+        origin,
+        3600,
+        RData::Soa(Box::new(alloc, soa)?),
+    )?;
     let server = RData::Ns(name(alloc, "ns.example")?);
     put(alloc, &mut records, origin, 3600, server)?;
     Ok(records)

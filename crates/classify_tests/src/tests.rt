@@ -39,15 +39,18 @@ fn data<A: Heap>(alloc: A, value: Value) -> Result<RData<A>, Starved> {
         Value::Aaaa => RData::Aaaa([0x20, 1, 0xd, 0xb8, 0, 0, 0, 0, 0, 0, 0, 0, 0, 0, 0, 1]),
         Value::Ns(target) => RData::Ns(name(alloc, target)?),
         Value::Cname(target) => RData::Cname(name(alloc, target)?),
-        Value::Soa(minimum) => RData::Soa(Box::new(alloc, Soa {
-            primary: name(alloc, "ns.")?,
-            mailbox: name(alloc, "h.")?,
-            serial: 1,
-            refresh: 2,
-            retry: 3,
-            expire: 4,
-            minimum,
-        })?),
+        Value::Soa(minimum) => RData::Soa(Box::new(
+            alloc,
+            Soa {
+                primary: name(alloc, "ns.")?,
+                mailbox: name(alloc, "h.")?,
+                serial: 1,
+                refresh: 2,
+                retry: 3,
+                expire: 4,
+                minimum,
+            },
+        )?),
     })
 }
 

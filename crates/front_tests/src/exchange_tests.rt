@@ -54,7 +54,12 @@ fn catalog<A: Heap>(alloc: A) -> Result<Catalog<A>, Starved> {
         expire: 3_600_000,
         minimum: 60,
     };
-    put(alloc, &mut records, "example", RData::Soa(Box::new(alloc, soa)?))?;
+    put(
+        alloc,
+        &mut records,
+        "example",
+        RData::Soa(Box::new(alloc, soa)?),
+    )?;
     let server = RData::Ns(name(alloc, "ns.example")?);
     put(alloc, &mut records, "example", server)?;
     let address = RData::A(Addr([192, 0, 2, 1]));
@@ -74,7 +79,12 @@ fn lab_catalog<A: Heap>(alloc: A) -> Result<Catalog<A>, Starved> {
         expire: 4,
         minimum: 60,
     };
-    put(alloc, &mut records, "lab.example", RData::Soa(Box::new(alloc, soa)?))?;
+    put(
+        alloc,
+        &mut records,
+        "lab.example",
+        RData::Soa(Box::new(alloc, soa)?),
+    )?;
     let server = RData::Ns(name(alloc, "ns.lab.example")?);
     put(alloc, &mut records, "lab.example", server)?;
     let address = RData::A(Addr([192, 0, 2, 7]));

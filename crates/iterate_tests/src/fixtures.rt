@@ -88,15 +88,18 @@ fn name<A: Heap>(alloc: A, text: &str) -> Result<Name<A>, Starved> {
 }
 
 fn soa<A: Heap>(alloc: A) -> Result<RData<A>, Starved> {
-    Ok(RData::Soa(Box::new(alloc, Soa {
-        primary: name(alloc, "ns.")?,
-        mailbox: name(alloc, "h.")?,
-        serial: 1,
-        refresh: 2,
-        retry: 3,
-        expire: 4,
-        minimum: 60,
-    })?))
+    Ok(RData::Soa(Box::new(
+        alloc,
+        Soa {
+            primary: name(alloc, "ns.")?,
+            mailbox: name(alloc, "h.")?,
+            serial: 1,
+            refresh: 2,
+            retry: 3,
+            expire: 4,
+            minimum: 60,
+        },
+    )?))
 }
 
 fn data<A: Heap>(alloc: A, value: Value<'_>) -> Result<RData<A>, Starved> {

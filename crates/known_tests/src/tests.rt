@@ -33,15 +33,18 @@ fn record<A: Heap>(alloc: A, owner: &str, ttl: u16, value: RData<A>) -> Result<R
 }
 
 fn soa<A: Heap>(alloc: A) -> Result<RData<A>, Starved> {
-    Ok(RData::Soa(Box::new(alloc, Soa {
-        primary: name(alloc, "ns.example")?,
-        mailbox: name(alloc, "root.example")?,
-        serial: 1,
-        refresh: 7200,
-        retry: 600,
-        expire: 3_600_000,
-        minimum: 60,
-    })?))
+    Ok(RData::Soa(Box::new(
+        alloc,
+        Soa {
+            primary: name(alloc, "ns.example")?,
+            mailbox: name(alloc, "root.example")?,
+            serial: 1,
+            refresh: 7200,
+            retry: 600,
+            expire: 3_600_000,
+            minimum: 60,
+        },
+    )?))
 }
 
 // A zone with an address of www.example, which leaves sub.example to another server.

@@ -31,15 +31,18 @@ fn data_of<A: Heap>(alloc: A, said: Said) -> Result<RData<A>, NameError> {
         Said::Server => RData::Ns(Name::from_text(alloc, "ns.example.com")?),
         Said::Alias(target) => RData::Cname(Name::from_text(alloc, target)?),
         Said::Exchange => RData::Mx(10, Name::from_text(alloc, "mail.example.com")?),
-        Said::Authority => RData::Soa(Box::new(alloc, Soa {
-            primary: Name::from_text(alloc, "ns.example.com")?,
-            mailbox: Name::from_text(alloc, "host.example.com")?,
-            serial: 1,
-            refresh: 2,
-            retry: 3,
-            expire: 4,
-            minimum: 60,
-        })?),
+        Said::Authority => RData::Soa(Box::new(
+            alloc,
+            Soa {
+                primary: Name::from_text(alloc, "ns.example.com")?,
+                mailbox: Name::from_text(alloc, "host.example.com")?,
+                serial: 1,
+                refresh: 2,
+                retry: 3,
+                expire: 4,
+                minimum: 60,
+            },
+        )?),
     })
 }
 
