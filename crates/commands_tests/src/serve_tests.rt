@@ -1,5 +1,5 @@
 //! The start of a server, from texts in memory and without sockets.
-use crate::tests::{Page, WIDE};
+use crate::pages::{Page, WIDE};
 use commandline::Command;
 use commands::{Host, Outcome, Server, Texts, run_command};
 use dname::{Heap, Starved};

@@ -1,13 +1,11 @@
 //! Commands over texts in memory.
 
+use crate::pages::{Nowhere, Page, WIDE};
 use commandline::{Command, LineFault};
-use commands::{Host, Texts, refuse_line, run_command, run_words};
+use commands::{Texts, refuse_line, run_command, run_words};
 use dname::{Heap, Starved};
-use exchange::Endpoint;
 use refusing::Refusing;
 use std::alloc::{AllocError, Global};
-use std::io;
-use std::io::{ErrorKind, Write};
 use std::process::Abort;
 use std::sync::Wait;
 use std::test::Fail;
@@ -32,60 +30,6 @@ impl Texts for Held {
         }
     }
 }
-
-// No place for a server.
-#[derive(Clone, Copy)]
-pub struct Nowhere;
-
-impl Host for Nowhere {
-    fn seed(&mut self) -> Option<[u8; 32]> {
-        None
-    }
-
-    fn open(&mut self, _listen: Endpoint, _sockets: u16) -> Option<u16> {
-        None
-    }
-}
-
-// A writer that takes so many bytes, three at a time, and fails at the next.
-#[derive(Drop)]
-pub struct Page {
-    bytes: Vec<u8>,
-    room: usize,
-}
-
-impl Page {
-    // Whether this was written.
-    pub fn holds(&self, text: &str) -> bool {
-        self.bytes.as_slice() == text.as_bytes()
-    }
-
-    pub fn new(alloc: Global, room: usize) -> Page {
-        Page {
-            bytes: Vec::new(alloc),
-            room,
-        }
-    }
-}
-
-impl Write for Page {
-    fn write(&mut self, buf: &[u8]) -> io::Result<usize> {
-        let taken = buf.len().min(self.room).min(3);
-        if taken == 0 && !buf.is_empty() {
-            return Err(io::Error::from(ErrorKind::StorageFull));
-        }
-        self.bytes.extend_from_slice(&buf[..taken])?;
-        self.room -= taken;
-        Ok(taken)
-    }
-
-    fn flush(&mut self) -> io::Result<()> {
-        Ok(())
-    }
-}
-
-// The room of a page that is never full here.
-pub const WIDE: usize = 65_536;
 
 fn ask_line(
     alloc: Global,

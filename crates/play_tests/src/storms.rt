@@ -1,9 +1,9 @@
 //! Storms in worlds in memory.
 
-use crate::play_tests::{Held, NESTED, SMALL};
-use crate::tests::{Nowhere, Page, WIDE};
+use crate::plays::{Held, NESTED, SMALL};
 use commandline::Command;
 use commands::run_command;
+use commands_tests::{Nowhere, Page, WIDE};
 use std::alloc::{AllocError, Global};
 use std::process::Abort;
 use std::sync::Wait;

@@ -1,13 +1,11 @@
 //! Scripts played in worlds in memory.
 
-use crate::tests::Nowhere;
 use commandline::Command;
 use commands::{Texts, run_command};
+use commands_tests::{Nowhere, Page, WIDE};
 use dname::{Heap, Starved};
 use refusing::Refusing;
 use std::alloc::{AllocError, Global};
-use std::io;
-use std::io::Write;
 use std::process::Abort;
 use std::sync::Wait;
 use std::test::Fail;
@@ -30,36 +28,6 @@ impl Texts for Held<'_> {
     }
 }
 
-// A writer that keeps what it is given.
-#[derive(Drop)]
-struct Page {
-    bytes: Vec<u8>,
-}
-
-impl Page {
-    fn new(alloc: Global) -> Page {
-        Page {
-            bytes: Vec::new(alloc),
-        }
-    }
-
-    // Whether that is what was written.
-    fn has(&self, text: &str) -> bool {
-        self.bytes.as_slice() == text.as_bytes()
-    }
-}
-
-impl Write for Page {
-    fn write(&mut self, buf: &[u8]) -> io::Result<usize> {
-        self.bytes.extend_from_slice(buf)?;
-        Ok(buf.len())
-    }
-
-    fn flush(&mut self) -> io::Result<()> {
-        Ok(())
-    }
-}
-
 fn play_line(alloc: Global, world: &str, script: &str) -> Result<Command, AllocError> {
     Ok(Command::Play {
         world: String::from_str(alloc, world)?,
@@ -75,8 +43,8 @@ fn see<R: Abort + Threads + Wait + AllocGlobal + Sync>(
     want: (u8, &str, &str),
 ) -> Result<(), Fail> {
     let mut source = held;
-    let mut out = Page::new(alloc);
-    let mut err = Page::new(alloc);
+    let mut out = Page::new(alloc, WIDE);
+    let mut err = Page::new(alloc, WIDE);
     let command = play_line(alloc, "WORLD", "SCRIPT")?;
     let done = run_command(
         rt,
@@ -90,7 +58,7 @@ fn see<R: Abort + Threads + Wait + AllocGlobal + Sync>(
     let (code, printed, fault) = want;
     let shown = String::from_utf8(out.bytes).ok().ok_or("no text")?;
     assert!(rt; shown.as_str() == printed, "printed {shown}");
-    assert!(rt; err.has(fault), "no fault {fault}");
+    assert!(rt; err.holds(fault), "no fault {fault}");
     assert_eq!(rt; done.status, code);
     Ok(())
 }
@@ -254,8 +222,8 @@ fn unreadable_texts_are_named(rt: HostRuntime) -> Result<(), Fail> {
             world: SMALL,
             script: "run",
         };
-        let mut out = Page::new(alloc);
-        let mut err = Page::new(alloc);
+        let mut out = Page::new(alloc, WIDE);
+        let mut err = Page::new(alloc, WIDE);
         let command = play_line(alloc, world, script)?;
         let done = run_command(
             &rt,
@@ -267,8 +235,8 @@ fn unreadable_texts_are_named(rt: HostRuntime) -> Result<(), Fail> {
             &mut err,
         );
         assert_eq!(rt; done.status, 4);
-        assert!(rt; out.has(""));
-        assert!(rt; err.has(want));
+        assert!(rt; out.holds(""));
+        assert!(rt; err.holds(want));
     }
     Ok(())
 }
@@ -311,8 +279,8 @@ fn a_query_too_many_fails(rt: HostRuntime) -> Result<(), Fail> {
         world: SMALL,
         script: script.as_str(),
     };
-    let mut out = Page::new(alloc);
-    let mut err = Page::new(alloc);
+    let mut out = Page::new(alloc, WIDE);
+    let mut err = Page::new(alloc, WIDE);
     let command = play_line(alloc, "WORLD", "SCRIPT")?;
     let done = run_command(
         &rt,
@@ -366,8 +334,8 @@ fn played<R: Threads + Wait + AllocGlobal + Sync>(
         script,
     };
     let command = play_line(alloc, "WORLD", "SCRIPT")?;
-    let mut out = Page::new(alloc);
-    let mut err = Page::new(alloc);
+    let mut out = Page::new(alloc, WIDE);
+    let mut err = Page::new(alloc, WIDE);
     heap.refuse_after(n);
     let done = run_command(
         rt,

@@ -1,0 +1,62 @@
+//! Where the commands of tests write, and a machine on which no server can listen.
+use commands::Host;
+use exchange::Endpoint;
+use std::alloc::Global;
+use std::io;
+use std::io::{ErrorKind, Write};
+
+/// No place for a server.
+#[derive(Clone, Copy)]
+pub struct Nowhere;
+
+impl Host for Nowhere {
+    fn seed(&mut self) -> Option<[u8; 32]> {
+        None
+    }
+
+    fn open(&mut self, _listen: Endpoint, _sockets: u16) -> Option<u16> {
+        None
+    }
+}
+
+/// A writer that takes so many bytes, three at a time, and fails at the next.
+#[derive(Drop)]
+pub struct Page {
+    /// What was written.
+    pub bytes: Vec<u8>,
+    room: usize,
+}
+
+impl Page {
+    /// Whether this was written.
+    pub fn holds(&self, text: &str) -> bool {
+        self.bytes.as_slice() == text.as_bytes()
+    }
+
+    /// An empty page with room for so many bytes.
+    pub fn new(alloc: Global, room: usize) -> Page {
+        Page {
+            bytes: Vec::new(alloc),
+            room,
+        }
+    }
+}
+
+impl Write for Page {
+    fn write(&mut self, buf: &[u8]) -> io::Result<usize> {
+        let taken = buf.len().min(self.room).min(3);
+        if taken == 0 && !buf.is_empty() {
+            return Err(io::Error::from(ErrorKind::StorageFull));
+        }
+        self.bytes.extend_from_slice(&buf[..taken])?;
+        self.room -= taken;
+        Ok(taken)
+    }
+
+    fn flush(&mut self) -> io::Result<()> {
+        Ok(())
+    }
+}
+
+/// The room of a page that is never full here, in bytes.
+pub const WIDE: usize = 1_000_000;

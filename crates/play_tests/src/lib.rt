@@ -1,0 +1,7 @@
+//! The tests of `commands` that play scripts in worlds in memory, from outside.
+#![tactic(auto)]
+
+#[cfg(test)]
+mod plays;
+#[cfg(test)]
+mod storms;
