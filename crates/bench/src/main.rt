@@ -9,6 +9,7 @@ mod messages;
 mod names;
 mod open_asks;
 mod resident;
+mod steps;
 mod work;
 mod zones;
 

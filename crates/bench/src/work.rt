@@ -1,7 +1,7 @@
 //! The kinds of work.
 ghost use Rattle.std.specs.Prelude.{◌<◌};
 
-use crate::{links, made_worlds, messages, names, open_asks, zones};
+use crate::{links, made_worlds, messages, names, open_asks, steps, zones};
 use anyhow::Result;
 use dname::Heap;
 use refusing::Refusing;
@@ -52,9 +52,13 @@ pub enum Work {
     /// A datagram's query found among so many open ones, and the query that is due first.
     FindAskOfOne,
     FindAskOfMany,
+    /// A step of a resolver with so many open queries, by a datagram that is for none of them.
+    PassDatagram(u16),
+    /// A client's query and the datagram that answers it, two steps, with so many queries open between them.
+    AnswerQuery(u16),
 }
 
-pub const ALL: [Work; 31] = [
+pub const ALL: [Work; 35] = [
     Work::ReadName,
     Work::WriteName,
     Work::HashName,
@@ -86,6 +90,10 @@ pub const ALL: [Work; 31] = [
     Work::FindLink,
     Work::FindAskOfOne,
     Work::FindAskOfMany,
+    Work::PassDatagram(1),
+    Work::PassDatagram(1_024),
+    Work::AnswerQuery(1),
+    Work::AnswerQuery(1_024),
 ];
 
 /// Work on messages.
@@ -150,6 +158,8 @@ impl fmt::Display for Work {
             Work::FindLink => "link found",
             Work::FindAskOfOne => "ask found among 1",
             Work::FindAskOfMany => "ask found among 1,024",
+            Work::PassDatagram(open) => return write!(f, "datagram passed over among {open}"),
+            Work::AnswerQuery(open) => return write!(f, "query answered among {open}"),
         })
     }
 }
@@ -162,9 +172,10 @@ impl Work {
         match self {
             Work::ReadName | Work::WriteName => 2_000_000,
             Work::HashName | Work::CompareNames | Work::TestUnder => 10_000_000,
-            Work::FindAskOfOne | Work::FindAskOfMany => 10_000_000,
+            Work::FindAskOfOne | Work::FindAskOfMany | Work::PassDatagram(_) => 10_000_000,
             Work::DecodeReply | Work::EncodeReply => 1_000_000,
             Work::KeepLink | Work::FindLink | Work::Look(..) => 1_000_000,
+            Work::AnswerQuery(_) => 1_000_000,
             Work::DecodeTwenty | Work::EncodeTwenty => 100_000,
             Work::ReadZone | Work::BuildHundredThousand => 100_000,
             Work::MakeSet | Work::BuildTenThousand => 10_000,
@@ -185,6 +196,8 @@ impl Work {
             Work::FindLink => links::find(rt, rounds),
             Work::FindAskOfOne => open_asks::find(rt, 1, rounds),
             Work::FindAskOfMany => open_asks::find(rt, 1_024, rounds),
+            Work::PassDatagram(open) => steps::pass(rt, open, rounds),
+            Work::AnswerQuery(open) => steps::answer(rt, open, rounds),
             _ => {
                 let start = Instant::now(rt)?;
                 let sum = self.times(rt, rounds)?;

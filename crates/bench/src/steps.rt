@@ -1,0 +1,147 @@
+//! Steps of a resolver with so many queries open.
+use crate::work::{Counted, Done};
+use anyhow::Result;
+use dname::{Heap, Starved};
+use engine::{Config, Core, Settings};
+use exchange::{Action, Actions, Bytes, Endpoint, Event};
+use rdata::Addr;
+use std::rt::Runtime;
+use std::time::Instant;
+use wire::{TCP_LIMIT, Via};
+
+const SETTINGS: Settings = Settings {
+    cache: 1_024,
+    delegations: 1_024,
+    penalties: 1_024,
+    sockets: 16,
+    port: 53,
+    seed: [7; 32],
+};
+
+// The server of the root, and another one.
+const ROOT: Addr = Addr([192, 0, 2, 1]);
+
+const STRANGER: Addr = Addr([192, 0, 2, 2]);
+
+// A client's query for www.example. A with RD.
+const QUERY: &[u8] = b"\0\x05\x01\0\0\x01\0\0\0\0\0\0\x03www\x07example\0\0\x01\0\x01";
+
+// A server's reply to it behind its ID: an address that is not kept, its TTL being 0.
+const REPLY: &[u8] =
+    b"\x84\0\0\x01\0\x01\0\0\0\0\x03www\x07example\0\0\x01\0\x01\xc0\x0c\0\x01\0\x01\0\0\0\0\0\x04\xc0\0\x02\x09";
+
+fn message<A: Heap>(alloc: A, id: &[u8], rest: &[u8]) -> Result<Bytes<A>, Starved> {
+    let mut bytes = Vec::from_slice(alloc, id)?;
+    bytes.extend_from_slice(rest)?;
+    if bytes.len() > TCP_LIMIT {
+        return Err(Starved);
+    }
+    Ok(Bytes::new(bytes))
+}
+
+fn query<A: Heap>(alloc: A) -> Result<Event<A>, Starved> {
+    Ok(Event::Client {
+        moment: 0,
+        client: 1,
+        way: Via::Udp,
+        bytes: message(alloc, &[], QUERY)?,
+    })
+}
+
+fn datagram<A: Heap>(alloc: A, socket: u16, from: Addr, id: &[u8]) -> Result<Event<A>, Starved> {
+    Ok(Event::Datagram {
+        moment: 0,
+        socket,
+        from: Endpoint {
+            address: from,
+            port: 53,
+        },
+        bytes: message(alloc, id, REPLY)?,
+    })
+}
+
+fn core<A: Heap>(alloc: A) -> Result<Core<A>, Starved> {
+    let config = Config {
+        local: Vec::new(alloc),
+        hints: Vec::from_slice(alloc, &[ROOT])?,
+        settings: SETTINGS,
+    };
+    match Core::new(alloc, config) {
+        Ok(core) => Ok(core),
+        Err(_) => Err(Starved),
+    }
+}
+
+// A resolver with so many open queries.
+fn with_open<A: Heap>(alloc: A, open: u16) -> Result<Core<A>, Starved> {
+    let mut core = core(alloc)?;
+    let query = query(alloc)?;
+    for _ in 0..open {
+        core.step(&query)?;
+    }
+    Ok(core)
+}
+
+// How many of these datagrams are passed over.
+fn pass_all<A: Heap>(core: &mut Core<A>, datagram: &Event<A>, rounds: u64) -> Result<u64, Starved> {
+    let mut sum = 0u64;
+    for _ in 0..rounds {
+        if core.step(datagram)?.first.is_none() {
+            sum = sum.wrapping_add(1);
+        }
+    }
+    Ok(sum)
+}
+
+// The reply to the ask that went out.
+fn reply_to<A: Heap>(alloc: A, asked: &Actions<A>) -> Result<Event<A>, Starved> {
+    match &asked.first {
+        Some(Action::Send { socket, bytes, .. }) => match bytes.as_slice() {
+            [high, low, ..] => datagram(alloc, *socket, ROOT, &[*high, *low]),
+            _ => Err(Starved),
+        },
+        _ => Err(Starved),
+    }
+}
+
+// How many of so many queries, one after another, are answered.
+fn answer_all<A: Heap>(alloc: A, core: &mut Core<A>, rounds: u64) -> Result<u64, Starved> {
+    let query = query(alloc)?;
+    let mut sum = 0u64;
+    for _ in 0..rounds {
+        let asked = core.step(&query)?;
+        let reply = reply_to(alloc, &asked)?;
+        if let Some(Action::Reply { cause: None, .. }) = core.step(&reply)?.first {
+            sum = sum.wrapping_add(1);
+        }
+    }
+    Ok(sum)
+}
+
+fn done<R: Runtime>(rt: &R, start: Instant, sum: u64) -> Result<Done> {
+    let taken = start.elapsed(rt)?;
+    Ok(Done {
+        sum,
+        taken,
+        counted: Counted::Nothing,
+    })
+}
+
+/// A datagram of a server that was not asked, while so many queries are open: it is passed over.
+pub fn pass<R: Runtime + AllocGlobal>(rt: &R, open: u16, rounds: u64) -> Result<Done> {
+    let alloc = rt.alloc();
+    let mut core = with_open(alloc, open)?;
+    let foreign = datagram(alloc, 0, STRANGER, &[0, 1])?;
+    let start = Instant::now(rt)?;
+    let sum = pass_all(&mut core, &foreign, rounds)?;
+    done(rt, start, sum)
+}
+
+/// A client's query and the datagram that answers it, so that so many queries are open between the two.
+pub fn answer<R: Runtime + AllocGlobal>(rt: &R, open: u16, rounds: u64) -> Result<Done> {
+    let alloc = rt.alloc();
+    let mut core = with_open(alloc, open.saturating_sub(1))?;
+    let start = Instant::now(rt)?;
+    let sum = answer_all(alloc, &mut core, rounds)?;
+    done(rt, start, sum)
+}
