@@ -2,7 +2,7 @@
 use authority::Catalog;
 use dname::{Heap, Name, Starved};
 use front::{Asked, Via, answer_local, read_query, reply_bytes};
-use rdata::{Addr, RData, Record, Records, Soa};
+use rdata::{Addr, RData, RType, Record, Records, Soa};
 use refusing::Refusing;
 use std::test::Fail;
 use zone::Zone;
@@ -127,6 +127,16 @@ fn a_name_between_others_has_no_data(rt: HostRuntime) -> Result<(), Fail> {
     assert_eq!(rt; (NO_DATA_QUERY.len(), NO_DATA_REPLY.len()), (31, 72));
     let catalog = lab_catalog(rt.alloc())?;
     assert!(rt; answer(rt.alloc(), &catalog, NO_DATA_QUERY)?.as_slice() == NO_DATA_REPLY);
+    Ok(())
+}
+
+// The tree of the zone is asked at most once a label of the name, once for the root, and once more.
+#[test]
+fn a_name_between_others_takes_five_looks(rt: HostRuntime) -> Result<(), Fail> {
+    let catalog = lab_catalog(rt.alloc())?;
+    let asked = name(rt.alloc(), "b.lab.example")?;
+    let (_, looks) = catalog.look_counted(rt.alloc(), &asked, RType::Txt)?;
+    assert!(rt; 1 <= looks && looks <= 5, "{looks} looks");
     Ok(())
 }
 
