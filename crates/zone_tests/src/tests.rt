@@ -24,6 +24,23 @@ const NS: Row = ("example.com", 3600, Said::Server);
 
 const CUT: Row = ("sub.example.com", 60, Said::Server);
 
+// What the SOA says.
+fn authority<A: Heap>(alloc: A) -> Result<Box<Soa<A>, A>, NameError> {
+    let soa = Soa {
+        primary: Name::from_text(alloc, "ns.example.com")?,
+        mailbox: Name::from_text(alloc, "host.example.com")?,
+        serial: 1,
+        refresh: 2,
+        retry: 3,
+        expire: 4,
+        minimum: 60,
+    };
+    match Box::new(alloc, soa) {
+        Ok(soa) => Ok(soa),
+        Err(_) => Err(NameError::Memory),
+    }
+}
+
 fn data_of<A: Heap>(alloc: A, said: Said) -> Result<RData<A>, NameError> {
     Ok(match said {
         Said::Address(last) => RData::A(Addr([192, 0, 2, last])),
@@ -31,18 +48,7 @@ fn data_of<A: Heap>(alloc: A, said: Said) -> Result<RData<A>, NameError> {
         Said::Server => RData::Ns(Name::from_text(alloc, "ns.example.com")?),
         Said::Alias(target) => RData::Cname(Name::from_text(alloc, target)?),
         Said::Exchange => RData::Mx(10, Name::from_text(alloc, "mail.example.com")?),
-        Said::Authority => RData::Soa(Box::new(
-            alloc,
-            Soa {
-                primary: Name::from_text(alloc, "ns.example.com")?,
-                mailbox: Name::from_text(alloc, "host.example.com")?,
-                serial: 1,
-                refresh: 2,
-                retry: 3,
-                expire: 4,
-                minimum: 60,
-            },
-        )?),
+        Said::Authority => RData::Soa(authority(alloc)?),
     })
 }
 
