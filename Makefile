@@ -28,6 +28,7 @@ bench: ask
 # The gate: every proof, every edit that must fail, every test and every run.
 test: kit
 	tools/layers --check
+	tools/definitions
 	RT_JOBS=$$(tools/lanes) rt ci
 
 # Tries the edits of single functions, which the gate leaves out: of all crates, or with SINCE=COMMIT of those that

@@ -1,3 +1,4 @@
+//! What a look-up answers: the link of a name, or the zone cut over it.
 ghost use Rattle.std.specs.Prelude.{◌≡◌};
 
 use dname::{Heap, Name};
@@ -7,13 +8,13 @@ use std::alloc::{AllocError, Allocator, Global};
 /// What a zone says of a name and a type (RFC 1034, section 4.3.2; RFC 2308).
 #[derive(Drop)]
 pub enum Link<A: Allocator = Global> {
-    /// The record set.
+    /// The RRset (RFC 2181, section 5).
     Found(Records<A>),
     /// The CNAME record.
     Alias(Record<A>),
-    /// The name exists without such records; with the zone's SOA.
+    /// NODATA: the name exists without such records; with the zone's SOA.
     NoData(Record<A>),
-    /// The name does not exist; with the zone's SOA.
+    /// NXDOMAIN: the name does not exist; with the zone's SOA.
     NxDomain(Record<A>),
 }
 
@@ -34,7 +35,7 @@ impl<A: Heap> Clone for Link<A> {
 #[derive(Drop)]
 pub enum Local<A: Allocator = Global> {
     Link(Link<A>),
-    /// The name is delegated: the cut, its NS set and the addresses of its servers that the zone has.
+    /// The name is delegated: the zone cut, its NS RRset, and the glue that the zone has.
     Cut(Name<A>, Records<A>, Records<A>),
     /// No local zone is over the name.
     NotHere,

@@ -1,3 +1,4 @@
+//! The local zones, and the look-up in the one with the longest origin over a name.
 ghost use Rattle.std.specs.Prelude.{◌≡◌, ◌≤◌, ◌+◌, length, IfOk, MatchResult, false};
 ghost use Rattle.std.specs.Option.{option_copied};
 ghost use Rattle.rdata.specs.Types.{type_number};

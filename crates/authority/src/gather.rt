@@ -1,4 +1,4 @@
-//! The set of an owner and a type, gathered from the records of a zone.
+//! The RRset of an owner and a type, gathered from the records of a zone.
 ghost use Rattle.std.specs.Prelude.{◌≡◌, [], ◌∷◌, ◌++◌, cond, not, IfOk, OnOk, map};
 ghost use Rattle.rdata.specs.Types.{type_number};
 ghost use Rattle.rdata.specs.Data.{same_data};

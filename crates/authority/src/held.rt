@@ -57,7 +57,7 @@ pub(crate) fn has_type<A: Allocator>(held: &Held<'_, A>, kind: RType) -> bool
     }
 }
 
-// Their alias, with `owner` as owner, or the denial.
+// Their CNAME, with `owner` as owner, or NODATA.
 fn alias_or_none<A: Heap>(
     held: &Held<'_, A>,
     soa: &Record<A>,
@@ -88,7 +88,7 @@ pub(crate) fn say<A: Heap>(
     Ok(Link::Found(set))
 }
 
-// What those of a wildcard say, and a name error where there are none.
+// What those of a wildcard say, and NXDOMAIN where there are none.
 pub(crate) fn say_wild<A: Heap>(
     alloc: A,
     held: &Held<'_, A>,

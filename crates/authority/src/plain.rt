@@ -1,4 +1,4 @@
-// Look-up by walking a zone's list of records.
+//! Look-up by walking a zone's list of records.
 ghost use Rattle.std.specs.Prelude.{◌≡◌, ◌&&◌, ℕ, List, cond, true, find, filter, fold, Some, None, IfOk, OnOk, map};
 ghost use Rattle.std.specs.List.{list_any};
 ghost use Rattle.std.specs.Option.{option_copied};
@@ -87,7 +87,7 @@ fn first_of<'a, A: Allocator>(
         .find(|added| answers(added, name, wild, kind))
 }
 
-// An alias there, with `owner` as owner, or the denial.
+// A CNAME there, with `owner` as owner, or NODATA.
 fn alias_or_none<A: Heap>(
     records: &[Record<A>],
     soa: &Record<A>,
@@ -278,7 +278,7 @@ fn glue<A: Heap>(
 }
 
 /// What a zone's records give for a name and a type, by a walk over all of them: what look-up by the tree is compared
-/// with. `soa` is the zone's denial.
+/// with. `soa` is the SOA of the zone's negative answers.
 pub fn look_in<A: Heap>(
     alloc: A,
     origin: &Name<A>,

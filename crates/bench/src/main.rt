@@ -1,6 +1,13 @@
-//! `bench`: how long the calls of the libraries take. Without words each kind of work is done a few times and its
-//! sum printed, the same each time; with the word `measure` it is done often, and nanoseconds for one time are
-//! printed. Last stands how often one message read or written asks for memory.
+//! `bench`: how long the calls of the libraries take.
+//!
+//! Without words each kind of work (`Work`) is done a few times and its sum printed, the same each time; with the
+//! word `measure` it is done often, and nanoseconds for one time are printed. Last stands how often one message
+//! read or written asks for memory.
+//! Nothing is proved of it but that it is safe.
+//!
+//! ```text
+//! bench measure
+//! ```
 #![tactic(auto)]
 
 mod links;

@@ -1,2 +1,3 @@
-pub mod Books
+-- To be read: what the words of the contracts mean.
 pub mod Histories
+pub mod Books

@@ -1,3 +1,4 @@
+//! The book: a machine's state, its counts and its last entries, which one history led to.
 ghost use Rattle.std.specs.Prelude.{◌≡◌, ◌<◌, ◌≤◌, ◌↔◌, ◌⊎◌, [], reverse, replicate, length, IfOk, OnErr, IsTrue, option_copied, slice_get};
 ghost use Rattle.book.specs.Books.{page, seats, Owns, Reached, IsHistory, Takes, Stands};
 

@@ -1,3 +1,4 @@
+//! A step that was taken, as it is written down.
 ghost use Rattle.std.specs.Prelude.{◌≡◌, ◌↔◌, IfOk, IsTrue};
 ghost use Rattle.book.specs.Histories.{line, IsLast};
 

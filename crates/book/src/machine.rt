@@ -1,3 +1,4 @@
+//! What a machine is, so that one thread or many may drive it.
 ghost use Rattle.std.specs.Prelude.{◌≡◌, ◌↔◌, IfOk, IsTrue};
 
 use memory::Starved;

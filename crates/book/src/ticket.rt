@@ -1,3 +1,4 @@
+//! The right to put events as one worker.
 ghost use Rattle.std.specs.Prelude.{◌≡◌, IfOk};
 ghost use Rattle.book.specs.Books.{seat, seats};
 

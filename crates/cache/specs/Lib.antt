@@ -1,9 +1,11 @@
-pub mod Aging
+-- To be read: what the words of the contracts mean.
 pub mod Cached
-pub mod Forms
-pub mod Given
 pub mod Keys
+pub mod Given
+pub mod Members
+pub mod Aging
+-- Kept: what the code's own values keep.
+pub mod Forms
 pub mod Kinds
 pub mod Laws
-pub mod Members
 pub mod Packed

@@ -1,3 +1,4 @@
+//! The cache itself: links kept, and looked up.
 ghost use Rattle.std.specs.Prelude.{◌≡◌, ◌≢◌, ◌≤◌, [], IfOk, OnOk, OnErr, IfSome, IfNone, Contains, option_map, option_copied};
 ghost use Rattle.std.specs.NonZero.{non_zero_usize_get};
 ghost use Rattle.lru.specs.LruCache.{lru_cache, IsValid};

@@ -1,3 +1,4 @@
+//! A link that is kept, and what age leaves of its TTL.
 ghost use Rattle.std.specs.Prelude.{◌≡◌, ◌-◌, ◌*◌, ◌≤◌, nat_lt, [], ◌∷◌, IfOk, option_map};
 ghost use Rattle.rdata.specs.Records.{greatest_ttl};
 ghost use Rattle.rdata.specs.Sets.{with_ttl};

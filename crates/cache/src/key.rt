@@ -1,3 +1,4 @@
+//! Under which key a link is kept (RFC 2308, section 5).
 ghost use Rattle.std.specs.Prelude.{◌≡◌, true};
 ghost use Rattle.cache.specs.Keys.{same_slot, same_key, slot_for};
 ghost use Rattle.rdata.specs.Types.{type_number};

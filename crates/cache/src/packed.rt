@@ -1,3 +1,4 @@
+//! Links as they lie in memory: an owner that is the key's name is not kept once more.
 ghost use Rattle.std.specs.Prelude.{◌≡◌, ◌≤◌, ℕ, List, map, IfOk, IfSome, Some, option_map};
 ghost use Rattle.rdata.specs.Records.{greatest_ttl};
 ghost use Rattle.authority.specs.Answers.{link_view};

@@ -1,3 +1,4 @@
+//! The causes, and their numbers.
 ghost use Rattle.std.specs.Prelude.{◌≡◌};
 ghost use Rattle.causes.specs.Causes.{cause_number};
 
@@ -8,9 +9,9 @@ pub enum Cause {
     TooManyOpen,
     /// The query's deadline is over.
     Deadline,
-    /// More aliases than a chain may have.
+    /// A CNAME chain that is longer than one may be.
     Chain,
-    /// The query has sent as often as it may.
+    /// The query has asked servers as often as it may.
     Sends,
     /// No server is left to ask.
     NoServer,

@@ -21,7 +21,7 @@ use Rattle.zone.specs.Same.{Same, Has}
 use Rattle.zone.proofs.LawLists.{any_from, any_of, filter_of, filter_in}
 use Rattle.truth.specs.Worlds.{Address}
 use Rattle.truth.specs.Reading.{IsIn, HasNo, IsFirst, IsDenied, Reads, IsAnswer, IsReferralTo, NamesServer, GivesAddress}
-use Rattle.classify.specs.Classes.{Class, Answer, Referral, Cut, Failed, first_of, answer_by, names_server, is_taken, addresses_of, refer_by, servers_of, leads_down, by_servers, denial_by, denies, by_denial, by_alias, by_set, by_code, cut_over, class_of}
+use Rattle.classify.specs.Classes.{Class, Answer, Referral, Truncated, Failed, first_of, answer_by, names_server, is_taken, addresses_of, refer_by, servers_of, leads_down, by_servers, denial_by, denies, by_denial, by_alias, by_set, by_code, truncated_over, class_of}
 use Rattle.classify.specs.declared.class.Failure.TheVariants.{BadCode, NoAuthority, Empty, Foreign}
 use Rattle.classify.specs.Laws.{AreServers, AreAddresses}
 use Rattle.classify.proofs.Firsts.{selected_in, in_selected, none_selected, first_selected, first_of_type, none_of_type, ns_of, ipv4_of}
@@ -95,7 +95,7 @@ module _ (f q : Name) (t : ℕ) (m : Message) where
   abbrev pub Says : Class → Type 0
   Says (Answer l) = IsAnswer f q t m l
   Says (Referral c servers addresses ttl) = IsReferralTo f q t m c × AreServers m c servers × AreAddresses f m c addresses
-  Says Cut = m.header.tc ≡ true
+  Says Truncated = m.header.tc ≡ true
   Says (Failed e) = Unit {0}
 
   by_authority : (l : Link) (b : Bool) → m.header.aa ≡ b → m.header.tc ≡ false → Reads f q t m l → Says (cond b (Answer l) (Failed NoAuthority))
@@ -194,11 +194,11 @@ module _ (f q : Name) (t : ℕ) (m : Message) where
   coded tc true e = by_records tc (told_by (nat_eq m.header.rcode 0) (nat_eq m.header.rcode 3) refl refl e) (records_at q t m.answer) refl
   coded tc false e = tt
 
-  short : (via : Via) → m.header.tc ≡ true → Says (cut_over via)
+  short : (via : Via) → m.header.tc ≡ true → Says (truncated_over via)
   short Udp e = e
   short Tcp e = tt
 
-  whole : (via : Via) (b : Bool) → m.header.tc ≡ b → Says (cond b (cut_over via) (by_code f q t m))
+  whole : (via : Via) (b : Bool) → m.header.tc ≡ b → Says (cond b (truncated_over via) (by_code f q t m))
   whole via true e = short via e
   whole via false e = coded e (nat_eq m.header.rcode 0 || nat_eq m.header.rcode 3) refl
 
@@ -212,5 +212,5 @@ module _ (f q : Name) (t : ℕ) (m : Message) where
       → IsReferralTo f q t m c × AreServers m c servers × AreAddresses f m c addresses
   referral_read via c servers addresses ttl e = subst (λ (x : Class). Says x) e (says via)
 
-  pub cut_read : (via : Via) → class_of f q t via m ≡ Cut → m.header.tc ≡ true
-  cut_read via e = subst (λ (c : Class). Says c) e (says via)
+  pub truncated_read : (via : Via) → class_of f q t via m ≡ Truncated → m.header.tc ≡ true
+  truncated_read via e = subst (λ (c : Class). Says c) e (says via)

@@ -12,7 +12,7 @@ use Rattle.zone.specs.Zones.{ns_type, cname_type, soa_type}
 use Rattle.zone.specs.Links.{Link}
 use Rattle.zone.specs.Look.{is_type}
 use Rattle.zone.proofs.LawLists.{find_of}
-use Rattle.classify.specs.Classes.{Answer, Failed, first_of, answer_by, refer_by, servers_of, leads_down, by_servers, denial_by, denies, by_denial, by_alias, by_set, by_code, cut_over, class_of}
+use Rattle.classify.specs.Classes.{Answer, Failed, first_of, answer_by, refer_by, servers_of, leads_down, by_servers, denial_by, denies, by_denial, by_alias, by_set, by_code, truncated_over, class_of}
 use Rattle.classify.specs.declared.class.Failure.TheVariants.{BadCode, Empty, Foreign}
 use Rattle.classify.specs.Laws.{EndInRoot}
 
@@ -56,7 +56,7 @@ module _ (f q : Name) (t : ℕ) (m : Message) (l : Link) (rooted : EndInRoot m) 
   coded true h = by_records (one_set (records_at q t m.answer)) h
   coded false h = h
 
-  whole : (via : Via) (b : Bool) → cond b (cut_over via) (by_code f q t m) ≡ Answer l → cond b (cut_over via) (by_code root q t m) ≡ Answer l
+  whole : (via : Via) (b : Bool) → cond b (truncated_over via) (by_code f q t m) ≡ Answer l → cond b (truncated_over via) (by_code root q t m) ≡ Answer l
   whole via true h = h
   whole via false h = coded (nat_eq m.header.rcode 0 || nat_eq m.header.rcode 3) h
 

@@ -22,10 +22,10 @@ use Rattle.zone.proofs.LawLists.{none_in, first_in, later_in, filter_of}
 use Rattle.truth.specs.Replies.{Once}
 use Rattle.truth.specs.Reading.{HasNo, IsFirst, IsFirstOf, IsDenied, Reads, IsAnswer, IsReferralTo}
 use Rattle.truth.proofs.Sames.{same_back, same_on, same_one}
-use Rattle.classify.specs.Classes.{Answer, Referral, Cut, Failed, first_of, answer_by, addresses_of, refer, refer_by, servers_of, leads_down, by_servers, denial_by, by_denial, by_alias, by_set, by_code, cut_over, class_of}
+use Rattle.classify.specs.Classes.{Answer, Referral, Truncated, Failed, first_of, answer_by, addresses_of, refer, refer_by, servers_of, leads_down, by_servers, denial_by, by_denial, by_alias, by_set, by_code, truncated_over, class_of}
 use Rattle.classify.specs.declared.class.Failure.TheVariants.{BadCode, NoAuthority, Empty, Foreign}
 use Rattle.classify.proofs.Firsts.{at_is, at_holds, selected_in, in_selected}
-use Rattle.classify.proofs.Readings.{answer_read, referral_read, cut_read}
+use Rattle.classify.proofs.Readings.{answer_read, referral_read, truncated_read}
 
 is_false : (b : Bool) → (b ≡ true → ⊥) → b ≡ false
 is_false true h = absurd (h refl)
@@ -75,7 +75,7 @@ module _ (f q : Name) (t : ℕ) (m : Message) where
 
   -- The class of a whole message by each line of the table.
   at_set : (via : Via) → m.header.tc ≡ false → (m.header.rcode ≡ 0) ⊎ (m.header.rcode ≡ 3) → class_of f q t via m ≡ by_set f q m (one_set (records_at q t m.answer))
-  at_set via tc told = ap (λ b. cond b (cut_over via) (by_code f q t m)) tc ∙ ap (λ b. cond b (by_set f q m (one_set (records_at q t m.answer))) (Failed BadCode)) (told_so told)
+  at_set via tc told = ap (λ b. cond b (truncated_over via) (by_code f q t m)) tc ∙ ap (λ b. cond b (by_set f q m (one_set (records_at q t m.answer))) (Failed BadCode)) (told_so told)
 
   at_alias : (via : Via) → m.header.tc ≡ false → (m.header.rcode ≡ 0) ⊎ (m.header.rcode ≡ 3) → HasNo m.answer q t → class_of f q t via m ≡ by_alias f q m (one_set (records_at q cname_type m.answer))
   at_alias via tc told none = at_set via tc told ∙ ap (λ (rs : List Record). by_set f q m (one_set rs)) (none_at m.answer q t none)
@@ -193,19 +193,19 @@ module _ (f q : Name) (t : ℕ) (m : Message) where
   pub referral_over : (via : Via) (c : Name) (servers addresses : List Record) (ttl : ℕ) → class_of f q t via m ≡ Referral c servers addresses ttl → IsAtOrUnder q c
   referral_over via c servers addresses ttl e = (referral_read f q t m via c servers addresses ttl e).0.over
 
-  -- What was cut short on UDP, and nothing else.
-  cut_way : (via : Via) → cut_over via ≡ Cut → via ≡ Udp
-  cut_way Udp e = refl
-  cut_way Tcp e = absurd (cc)
+  -- What was truncated over UDP, and nothing else.
+  truncated_way : (via : Via) → truncated_over via ≡ Truncated → via ≡ Udp
+  truncated_way Udp e = refl
+  truncated_way Tcp e = absurd (cc)
 
-  at_cut : (via : Via) → m.header.tc ≡ true → class_of f q t via m ≡ cut_over via
-  at_cut via tc = ap (λ b. cond b (cut_over via) (by_code f q t m)) tc
+  at_truncated : (via : Via) → m.header.tc ≡ true → class_of f q t via m ≡ truncated_over via
+  at_truncated via tc = ap (λ b. cond b (truncated_over via) (by_code f q t m)) tc
 
-  pub cut_is : (via : Via) → class_of f q t via m ≡ Cut → (via ≡ Udp) × (m.header.tc ≡ true)
-  cut_is via e = let tc = cut_read f q t m via e in (cut_way via (sym (at_cut via tc) ∙ e), tc)
+  pub truncated_is : (via : Via) → class_of f q t via m ≡ Truncated → (via ≡ Udp) × (m.header.tc ≡ true)
+  truncated_is via e = let tc = truncated_read f q t m via e in (truncated_way via (sym (at_truncated via tc) ∙ e), tc)
 
-  pub is_cut : (via : Via) → (via ≡ Udp) × (m.header.tc ≡ true) → class_of f q t via m ≡ Cut
-  is_cut via (way, tc) = at_cut via tc ∙ ap cut_over way
+  pub is_truncated : (via : Via) → (via ≡ Udp) × (m.header.tc ≡ true) → class_of f q t via m ≡ Truncated
+  is_truncated via (way, tc) = at_truncated via tc ∙ ap truncated_over way
 
 -- ---- each record once
 

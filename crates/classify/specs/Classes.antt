@@ -15,14 +15,14 @@ use Rattle.zone.specs.Look.{is_type}
 use Rattle.wire.specs.declared.via.Via.{Via}
 use Rattle.wire.specs.declared.via.Via.TheVariants.{Udp, Tcp}
 use Rattle.classify.specs.declared.class.Failure.{Failure}
-use Rattle.classify.specs.declared.class.Failure.TheVariants.{BadCode, NoAuthority, Empty, Foreign, CutShort}
+use Rattle.classify.specs.declared.class.Failure.TheVariants.{BadCode, NoAuthority, Empty, Foreign, TruncatedOverTcp}
 
 -- A link; a cut, its NS set, the addresses that are taken of its servers and the lowest TTL of all these; a
--- reply that was cut short on UDP; what is of no use.
+-- reply that was truncated over UDP; what is of no use.
 pub data Class : Type 0 where
   Answer : Link → Class
   Referral : Name → List Record → List Record → ℕ → Class
-  Cut : Class
+  Truncated : Class
   Failed : Failure → Class
 
 -- The first record of a type.
@@ -92,11 +92,11 @@ abbrev pub by_code : Name → Name → ℕ → Message → Class
 by_code f q t m =
     cond (nat_eq m.header.rcode 0 || nat_eq m.header.rcode 3) (by_set f q m (one_set (records_at q t m.answer))) (Failed BadCode)
 
--- What was cut short is asked for again over TCP (RFC 2181, section 9).
-abbrev pub cut_over : Via → Class
-cut_over Udp = Cut
-cut_over Tcp = Failed CutShort
+-- A truncated reply is asked for again over TCP (RFC 2181, section 9).
+abbrev pub truncated_over : Via → Class
+truncated_over Udp = Truncated
+truncated_over Tcp = Failed TruncatedOverTcp
 
 -- The class of a message: the first line that fits.
 abbrev pub class_of : Name → Name → ℕ → Via → Message → Class
-class_of f q t via m = cond m.header.tc (cut_over via) (by_code f q t m)
+class_of f q t via m = cond m.header.tc (truncated_over via) (by_code f q t m)

@@ -13,7 +13,7 @@ use Rattle.wire.specs.declared.via.Via.TheVariants.{Udp}
 use Rattle.truth.specs.Worlds.{Address}
 use Rattle.truth.specs.Reading.{IsIn, IsAnswer, IsReferralTo, NamesServer, GivesAddress}
 use Rattle.truth.specs.Replies.{Once}
-use Rattle.classify.specs.Classes.{Answer, Referral, Cut, class_of}
+use Rattle.classify.specs.Classes.{Answer, Referral, Truncated, class_of}
 
 -- The servers of a referral: its message names each of them, and none is left out, TTLs aside.
 pub record AreServers (m : Message) (c : Name) (servers : List Record) : Type 0 where
@@ -61,9 +61,9 @@ FoundIsOnce = (f q : Name) (t : ℕ) (via : Via) (m : Message) (set : List Recor
 abbrev pub CnameIsFound : Type 0
 CnameIsFound = (f q : Name) (via : Via) (m : Message) (r : Record) → class_of f q cname_type via m ≡ Answer (Alias r) → ⊥
 
--- What was cut short on UDP is asked for again over TCP, and nothing else is.
-abbrev pub CutIsShort : Type 0
-CutIsShort = (f q : Name) (t : ℕ) (via : Via) (m : Message) → (class_of f q t via m ≡ Cut) ↔ ((via ≡ Udp) × (m.header.tc ≡ true))
+-- What was truncated over UDP is asked for again over TCP, and nothing else is.
+abbrev pub TruncatedIsOverUdp : Type 0
+TruncatedIsOverUdp = (f q : Name) (t : ℕ) (via : Via) (m : Message) → (class_of f q t via m ≡ Truncated) ↔ ((via ≡ Udp) × (m.header.tc ≡ true))
 
 -- Every owner of authority records ends with the root's label.
 abbrev pub EndInRoot : Message → Type 0

@@ -12,10 +12,10 @@ failure_number failure.BadCode = 1
 failure_number failure.NoAuthority = 2
 failure_number failure.Empty = 3
 failure_number failure.Foreign = 4
-failure_number failure.CutShort = 5
+failure_number failure.TruncatedOverTcp = 5
 
 abbrev pub class_view : {A : Type 0} → Class A → plain.Class
 class_view (class.Answer l) = plain.Answer (link_view l)
 class_view (class.Referral r) = plain.Referral r.at r.servers r.addresses r.ttl
-class_view class.Cut = plain.Cut
+class_view class.Truncated = plain.Truncated
 class_view (class.Failed f) = plain.Failed f

@@ -1,3 +1,4 @@
+//! What a reply may be used for, and why it may be of no use.
 ghost use Rattle.std.specs.Prelude.{◌≡◌};
 ghost use Rattle.classify.specs.Lifetimes.{referral_lifetime};
 ghost use Rattle.classify.specs.Views.{failure_number};
@@ -17,10 +18,10 @@ pub enum Failure {
     NoAuthority,
     /// Nothing of use in it.
     Empty,
-    /// A denial or a referral of another zone.
+    /// A negative answer or a referral of another zone: out of bailiwick.
     Foreign,
-    /// Cut short, and over TCP (RFC 2181, section 9).
-    CutShort,
+    /// Truncated, and over TCP (RFC 2181, section 9).
+    TruncatedOverTcp,
 }
 
 impl Failure {
@@ -33,7 +34,7 @@ impl Failure {
             Failure::NoAuthority => 2,
             Failure::Empty => 3,
             Failure::Foreign => 4,
-            Failure::CutShort => 5,
+            Failure::TruncatedOverTcp => 5,
         }
     }
 }
@@ -45,7 +46,7 @@ pub struct Referral<A: Allocator = Global> {
     pub at: Name<A>,
     /// Its NS set.
     pub servers: Records<A>,
-    /// The A records of its servers that are taken, in the order of the message.
+    /// The glue that is taken, A records of its servers in bailiwick, in the order of the message.
     pub addresses: Records<A>,
     /// The lowest TTL of all these, in seconds.
     pub ttl: u32,
@@ -63,10 +64,12 @@ impl<A: Allocator> Referral<A> {
 /// What a reply is used for.
 #[derive(Drop)]
 pub enum Class<A: Allocator = Global> {
-    /// What it says of the name and the type.
+    /// What it says of the name and the type: an RRset, a CNAME, or a negative answer.
     Answer(Link<A>),
+    /// The servers of a zone beneath.
     Referral(Referral<A>),
-    /// Cut short on UDP: to be asked for again over TCP.
-    Cut,
+    /// Truncated over UDP: to be asked for again over TCP.
+    Truncated,
+    /// Of no use.
     Failed(Failure),
 }

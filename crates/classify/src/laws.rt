@@ -1,5 +1,5 @@
 //! Laws of the table: what a message is used for is what the RFCs say it is.
-ghost use Rattle.classify.specs.Laws.{AnswerIsRead, ReferralIsRead, ReferralIsOver, ReferralIsLowest, AnswerIsUsed, ReferralIsFollowed, FoundIsOnce, CnameIsFound, CutIsShort, AnswerIsOfRoot};
+ghost use Rattle.classify.specs.Laws.{AnswerIsRead, ReferralIsRead, ReferralIsOver, ReferralIsLowest, AnswerIsUsed, ReferralIsFollowed, FoundIsOnce, CnameIsFound, TruncatedIsOverUdp, AnswerIsOfRoot};
 
 /// What is used as an answer is one: whole, with authority, and with this link for the name and the type
 /// (RFC 1034, section 5.3.3; RFC 2308, section 2; RFC 2181, section 5.4.1).
@@ -31,8 +31,8 @@ pub fn found_law()
 {}
 
 /// What is asked for again over TCP is what came by UDP with the bit TC, and all of it (RFC 2181, section 9).
-pub fn cut_law()
-    ensures { CutIsShort }
+pub fn truncated_law()
+    ensures { TruncatedIsOverUdp }
 {}
 
 /// An answer of a zone's server is the same answer of a root server.

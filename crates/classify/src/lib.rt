@@ -1,4 +1,25 @@
-//! What replies from servers are used for (RFC 1034, section 5.3.3; RFC 2308; RFC 2181, section 5.4.1).
+//! What a reply from a server is used for (RFC 1034, section 5.3.3, step 4; RFC 2308, section 2; RFC 2181, section
+//! 5.4.1): an answer, a referral, a truncated reply, or nothing.
+//!
+//! `classify` takes the zone whose server was asked, the question, the way and the message, and gives the `Class`:
+//! the first line that fits of a short table. Of a referral only glue in bailiwick is taken, the A records at or
+//! under the zone that was asked. `received` bounds the TTLs of an answer (a week; a negative answer three hours),
+//! `lifetime` and `Referral::lifetime` say for how long it is kept.
+//!
+//! Promised: the class exactly (`class_of`); what is used is an answer or a referral in the RFC's words
+//! (`answer_law`, `referral_law`, `root_law`), and what is one is used (`use_law`, `found_law`); asked for again
+//! over TCP is what came truncated over UDP, and nothing else (`truncated_law`); bounds change TTLs alone
+//! (`received_law`).
+//! Not here: whether the message is the reply to an ask at all (`exchange::reply_in`).
+//!
+//! ```text
+//! match classify(alloc, &zone, &name, RType::A, Via::Udp, &message)? {
+//!     Class::Answer(link) => { let link = received(link); let seconds = lifetime(&link); }
+//!     Class::Referral(referral) => { /* ask referral.servers; kept for referral.lifetime() seconds */ }
+//!     Class::Truncated => { /* ask the same server over TCP */ }
+//!     Class::Failed(failure) => { /* ask the next server */ }
+//! }
+//! ```
 #![tactic(auto)]
 
 mod class;
@@ -8,6 +29,6 @@ mod table;
 mod targets;
 
 pub use class::{Class, Failure, Referral};
-pub use laws::{answer_law, cut_law, found_law, referral_law, root_law, use_law};
+pub use laws::{answer_law, found_law, referral_law, root_law, truncated_law, use_law};
 pub use lifetimes::{LONGEST, LONGEST_DENIAL, lifetime, received, received_law};
 pub use table::classify;

@@ -14,11 +14,11 @@ use std::alloc::Allocator;
 
 /// The most seconds for which records are kept: a week.
 pub const LONGEST: u32 = 604_800;
-/// The most seconds for which a denial is kept: three hours (RFC 2308, section 5).
+/// The most seconds for which a negative answer is kept: three hours (RFC 2308, section 5).
 pub const LONGEST_DENIAL: u32 = 10_800;
 
 /// What a server said as it is kept and sent; takes no memory. The TTL of a record is a week at most; that
-/// of a denial's SOA the lesser of it and its MINIMUM, and three hours at most (RFC 2308, sections 3 and 5).
+/// of a negative answer's SOA the lesser of it and its MINIMUM, and three hours at most (RFC 2308, sections 3 and 5).
 pub fn received<A: Heap>(link: Link<A>) -> Link<A>
     ensures { link_view result ≡ received (link_view link) }
 {
@@ -47,7 +47,7 @@ fn received_denial<A: Allocator>(mut soa: Record<A>) -> Record<A>
     soa
 }
 
-// The TTL of a denial: the lesser of its SOA's TTL and MINIMUM.
+// The TTL of a negative answer: the lesser of its SOA's TTL and MINIMUM.
 fn denial_ttl<A: Allocator>(ttl: u32, value: &RData<A>) -> u32
     ensures { result ≡ denial_ttl ttl (datum value.now) }
 {

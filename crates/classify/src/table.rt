@@ -1,3 +1,4 @@
+//! The table by which a reply is used: its first line that fits.
 ghost use Rattle.std.specs.Prelude.{◌≡◌, ◌&&◌, ◌||◌, ◌++◌, [], ◌∷◌, cond, nat_eq, IfOk, OnOk};
 ghost use Rattle.std.specs.List.Sorted.{IsSorted};
 ghost use Rattle.std.specs.Option.{option_copied};
@@ -9,7 +10,7 @@ ghost use Rattle.rdata.specs.Types.{type_number};
 ghost use Rattle.zone.specs.Zones.{a_type, ns_type, cname_type, soa_type};
 ghost use Rattle.zone.specs.Look.{is_type};
 ghost use Rattle.authority.specs.Answers.{link_view};
-ghost use Rattle.classify.specs.Classes.{first_of, answer_by, addresses_of, refer_by, leads_down, by_servers, denial_by, denies, by_denial, by_alias, by_set, by_code, cut_over, class_of};
+ghost use Rattle.classify.specs.Classes.{first_of, answer_by, addresses_of, refer_by, leads_down, by_servers, denial_by, denies, by_denial, by_alias, by_set, by_code, truncated_over, class_of};
 ghost use Rattle.classify.specs.Targets.{is_one_of};
 ghost use Rattle.classify.specs.Views.{class_view};
 
@@ -25,12 +26,12 @@ use wire::{Message, Via};
 /// zone: the first line that fits of
 /// - TC set: to be asked for again over TCP; of no use where it came over TCP;
 /// - an RCODE other than 0 and 3: of no use;
-/// - records of the name and the type: the set, each record once and all with the lowest TTL;
+/// - records of the name and the type: the RRset, each record once and all with the lowest TTL;
 /// - a CNAME of the name: the alias, the first of several with the lowest TTL, with RCODE 0 and 3 alike;
-/// - RCODE 3 or an SOA: the denial by the first SOA, which is over the name and at or under the zone;
+/// - RCODE 3 or an SOA: NXDOMAIN or NODATA by the first SOA, which is over the name and at or under the zone;
 /// - an NS record: the referral to its owner, strictly under the zone and over the name;
 /// - nothing of these: of no use.
-/// Answers and denials are used with the bit AA alone.
+/// Answers, negative ones too, are used with the bit AA alone.
 pub fn classify<A: Heap>(
     alloc: A,
     zone: &Name<A>,
@@ -42,18 +43,18 @@ pub fn classify<A: Heap>(
     ensures { IfOk result (λ c. class_view c ≡ class_of zone.now name.now (type_number kind) via message.now) }
 {
     if message.header.tc {
-        return Ok(cut_over(via));
+        return Ok(truncated_over(via));
     }
     Ok(by_code(alloc, zone, name, kind, message)?)
 }
 
-// What was cut short is asked for again over TCP.
-fn cut_over<A: Allocator>(via: Via) -> Class<A>
-    ensures { class_view result ≡ cut_over via }
+// What was truncated over UDP is asked for again over TCP.
+fn truncated_over<A: Allocator>(via: Via) -> Class<A>
+    ensures { class_view result ≡ truncated_over via }
 {
     match via {
-        Via::Udp => Class::Cut,
-        Via::Tcp => Class::Failed(Failure::CutShort),
+        Via::Udp => Class::Truncated,
+        Via::Tcp => Class::Failed(Failure::TruncatedOverTcp),
     }
 }
 

@@ -153,7 +153,7 @@ fn text<A: Heap>(alloc: A, class: &Class<A>) -> Result<String<A>, Starved> {
             write!(out, "; with")?;
             put_records(&mut out, &referral.addresses)?;
         }
-        Class::Cut => write!(out, "cut")?,
+        Class::Truncated => write!(out, "truncated")?,
         Class::Failed(failure) => write!(out, "failed {}", failure.number())?,
     }
     Ok(out)
@@ -178,12 +178,12 @@ const ADDRESS: Line = (W, 60, Value::A(1));
 
 // RFC 2181, section 9.
 #[test]
-fn replies_that_were_cut_short(rt: HostRuntime) -> Result<(), Fail> {
-    let cut = header(Code::NoError, true, true);
-    let message = reply(rt.alloc(), cut, &[ADDRESS], &[], &[])?;
+fn truncated_replies(rt: HostRuntime) -> Result<(), Fail> {
+    let truncated = header(Code::NoError, true, true);
+    let message = reply(rt.alloc(), truncated, &[ADDRESS], &[], &[])?;
     assert_eq!(rt;
         used(rt.alloc(), RType::A, Via::Udp, &message)?.as_str(),
-        "cut"
+        "truncated"
     );
     assert_eq!(rt;
         used(rt.alloc(), RType::A, Via::Tcp, &message)?.as_str(),

@@ -1,6 +1,20 @@
-//! The command line of `resolverd`: which subcommand the words name, with what.
+//! The command line of `resolverd`: which subcommand the words name, with what. It is a library of its own, so that
+//! no other crate's check has to read `clap`.
 //!
-//! It is a library of its own, so that no other crate's check has to read `clap`.
+//! `read_words` gives the `Command` of the words after the program's name: `ask`, `check`, `dump`, `play`, `storm`
+//! or `serve`. `help_text` is what is printed where they name none.
+//!
+//! Promised: the command is the one that the words name by the line's grammar (`Names`), and they are refused only
+//! where they name none (`NamesNothing`), or for want of memory.
+//! Not here: doing what is asked (`commands`).
+//!
+//! ```text
+//! match read_words(alloc, &words)? {
+//!     Command::Ask { origin, file, name, kind } => { /* ask lab.example. lab.zone www.lab.example. A */ }
+//!     Command::Serve { config } => { /* serve resolverd.conf */ }
+//!     _ => {}
+//! }
+//! ```
 #![tactic(auto)]
 
 ghost use Rattle.std.specs.Prelude.{◌≡◌, IfOk, IfErr, map, string_bytes};

@@ -1,10 +1,11 @@
-pub mod Asks
-pub mod Exchanges
-pub mod Faults
-pub mod Files
+-- To be read: what the words of the contracts mean.
 pub mod Runs
-pub mod Scripts
-pub mod Servers
-pub mod Storms
+pub mod Faults
 pub mod Texts
 pub mod Zones
+pub mod Asks
+pub mod Exchanges
+pub mod Files
+pub mod Scripts
+pub mod Storms
+pub mod Servers

@@ -1,6 +1,21 @@
-//! What the program is asked to do, done: `ask`, `check`, `dump`, `play`, `storm` and `serve`, over the threads of a
-//! storm, a source of texts, a place for a server's sockets and two writers that the caller gives. A server that
-//! `serve` started is run by `serve_at`.
+//! What the program is asked to do, done: `ask`, `check`, `dump`, `play`, `storm` and `serve`, over what the caller
+//! gives: a runtime for threads, a source of texts, a place for a server's sockets, and two writers.
+//!
+//! `run_words` does what the words of a command line ask, `run_command` a `Command`; each writes the text or the
+//! line of the fault, and gives the exit status and, of `serve`, the `Server` that was started, which `serve_at`
+//! runs. `Disk` and `Machine` are the real files and sockets; a test gives a `Texts` and a `Host` of its own.
+//!
+//! Promised: status, text and fault of each command by one definition (`IsLineDone`, `IsRun`): the lines of the
+//! reply that the zone gives (`PrintsAnswer`), the text of a script (`PrintsScript`, `PrintsStorm`), a server made
+//! of its file (`StartsFor`); and which of several faults counts.
+//! Not here: the words themselves (`commandline`).
+//!
+//! ```text
+//! let mut disk = Disk::new(&rt);
+//! let mut machine = Machine::new(&rt, rt.alloc());
+//! let done = run_words(&rt, &words, &mut disk, &mut machine, &mut out, &mut err);
+//! if let Some(server) = done.server { serve_at(&machine, server, &mut err); }
+//! ```
 #![tactic(auto)]
 
 mod answering;

@@ -4,7 +4,7 @@ use Rattle.std.proofs.lemmas.List.{map-append}
 use Rattle.dname.specs.Labels.{Name}
 use Rattle.rdata.specs.declared.rtype.RType.{RType}
 use Rattle.wire.specs.declared.via.Via.{Via}
-use Rattle.orders.specs.Orders.{Order, at, ask, raw, carry, cut, lose, run, tick}
+use Rattle.orders.specs.Orders.{Order, at, ask, raw, carry, truncate, lose, run, tick}
 use Rattle.tally.specs.Clients.{Queries}
 use Rattle.crowd.specs.Lists.{AsksOne, Asks, AsksAll}
 use Rattle.crowd.specs.declared.asking.Asking.{Asking}
@@ -16,7 +16,7 @@ moment_after now (at n ∷ os) = moment_after n os
 moment_after now (ask name kind by rd ∷ os) = moment_after now os
 moment_after now (raw bytes by ∷ os) = moment_after now os
 moment_after now (carry k ∷ os) = moment_after now os
-moment_after now (cut k ∷ os) = moment_after now os
+moment_after now (truncate k ∷ os) = moment_after now os
 moment_after now (lose k ∷ os) = moment_after now os
 moment_after now (run ∷ os) = moment_after now os
 moment_after now (tick ∷ os) = moment_after now os
@@ -37,7 +37,7 @@ later now (at m ∷ os) n = later m os n
 later now (ask name kind by rd ∷ os) n = later now os n
 later now (raw bytes by ∷ os) n = later now os n
 later now (carry k ∷ os) n = later now os n
-later now (cut k ∷ os) n = later now os n
+later now (truncate k ∷ os) n = later now os n
 later now (lose k ∷ os) n = later now os n
 later now (run ∷ os) n = later now os n
 later now (tick ∷ os) n = later now os n
@@ -48,7 +48,7 @@ unmoved now (at m ∷ os) name kind by rd = unmoved m os name kind by rd
 unmoved now (ask it of way wish ∷ os) name kind by rd = unmoved now os name kind by rd
 unmoved now (raw bytes way ∷ os) name kind by rd = unmoved now os name kind by rd
 unmoved now (carry k ∷ os) name kind by rd = unmoved now os name kind by rd
-unmoved now (cut k ∷ os) name kind by rd = unmoved now os name kind by rd
+unmoved now (truncate k ∷ os) name kind by rd = unmoved now os name kind by rd
 unmoved now (lose k ∷ os) name kind by rd = unmoved now os name kind by rd
 unmoved now (run ∷ os) name kind by rd = unmoved now os name kind by rd
 unmoved now (tick ∷ os) name kind by rd = unmoved now os name kind by rd
@@ -59,7 +59,7 @@ waits now (at m ∷ os) old qs new n h = waits m os old qs new n h
 waits now (ask name kind by rd ∷ os) old qs new n (q, rest, middle, is, one, more) = (q, rest, middle, is, one, waits now os middle rest new n more)
 waits now (raw bytes by ∷ os) old qs new n h = absurd h
 waits now (carry k ∷ os) old qs new n h = absurd h
-waits now (cut k ∷ os) old qs new n h = absurd h
+waits now (truncate k ∷ os) old qs new n h = absurd h
 waits now (lose k ∷ os) old qs new n h = absurd h
 waits now (run ∷ os) old qs new n h = absurd h
 waits now (tick ∷ os) old qs new n h = absurd h
@@ -74,7 +74,7 @@ module _ {A : Type 0} (name : Name) (kind : RType) (by : Via) (rd : Bool) (q : A
       (p, rest ++ q ∷ [], between, ap (λ (l : List (Asking A)). l ++ q ∷ []) is, first, asks_then now os between rest middle more one)
   asks_then now (raw bytes way ∷ os) old qs middle h one = absurd h
   asks_then now (carry k ∷ os) old qs middle h one = absurd h
-  asks_then now (cut k ∷ os) old qs middle h one = absurd h
+  asks_then now (truncate k ∷ os) old qs middle h one = absurd h
   asks_then now (lose k ∷ os) old qs middle h one = absurd h
   asks_then now (run ∷ os) old qs middle h one = absurd h
   asks_then now (tick ∷ os) old qs middle h one = absurd h

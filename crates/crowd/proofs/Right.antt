@@ -21,8 +21,8 @@ use Rattle.truth.specs.Worlds.{World}
 use Rattle.truth.specs.Replies.{IsRight}
 use Rattle.runs.specs.States.{Plain, recursive}
 use Rattle.laws.specs.Headline.{IsRightReply}
-use Rattle.orders.specs.Orders.{Order, at, ask, raw, carry, cut, lose, run, tick}
-use Rattle.network.specs.Networks.{Network, NetworkEvent, Client, Carry, CarryCut, CarryTcp, Lose, Tick, NetworkAction, Reply, WasSent, WasAsked, MoreDue}
+use Rattle.orders.specs.Orders.{Order, at, ask, raw, carry, truncate, lose, run, tick}
+use Rattle.network.specs.Networks.{Network, NetworkEvent, Client, Carry, CarryTruncated, CarryTcp, Lose, Tick, NetworkAction, Reply, WasSent, WasAsked, MoreDue}
 use Rattle.network.specs.Laws.{Line as Happening, Shows, Throughout, RepliesAreRight, IsRefused, IsAnswered}
 use Rattle.simnet.specs.declared.event.SimEvent.{SimEvent}
 use Rattle.simnet.specs.declared.event.SimEvent.TheVariants as happens
@@ -129,7 +129,7 @@ module _ {A : Type 0} where
       )
   known_in now (raw bytes by ∷ os) old qs new h = absurd h
   known_in now (carry k ∷ os) old qs new h = absurd h
-  known_in now (cut k ∷ os) old qs new h = absurd h
+  known_in now (truncate k ∷ os) old qs new h = absurd h
   known_in now (lose k ∷ os) old qs new h = absurd h
   known_in now (run ∷ os) old qs new h = absurd h
   known_in now (tick ∷ os) old qs new h = absurd h
@@ -154,7 +154,7 @@ module _ {A : Type 0} where
 abbrev Fair : Queries → NetworkEvent → Type 0
 Fair clients (Client now c way bytes) = Knows clients c bytes
 Fair clients (Carry now k) = Unit {0}
-Fair clients (CarryCut now k) = Unit {0}
+Fair clients (CarryTruncated now k) = Unit {0}
 Fair clients (CarryTcp now k) = Unit {0}
 Fair clients (Lose now k) = Unit {0}
 Fair clients (Tick now) = Unit {0}

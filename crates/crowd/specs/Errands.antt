@@ -2,7 +2,7 @@
 use Rattle.std.specs.Prelude.{◌≡◌, ℕ, Option, Result, Ok, Err, List, [], ◌∷◌, option_to_list}
 use Rattle.network.specs.Networks.{NetworkAction, Reply, WasSent, WasAsked, MoreDue}
 use Rattle.simnet.specs.declared.event.SimEvent.{SimEvent}
-use Rattle.simnet.specs.declared.event.SimEvent.TheVariants.{Client, Carry, CarryCut, CarryTcp, Lose, Tick}
+use Rattle.simnet.specs.declared.event.SimEvent.TheVariants.{Client, Carry, CarryTruncated, CarryTcp, Lose, Tick}
 use Rattle.crowd.specs.declared.asking.Asking.{Asking}
 
 -- The event of what a worker asks.
@@ -12,7 +12,7 @@ asked q = Client q.moment q.client q.way q.bytes
 abbrev pub moment_of : {A : Type 0} → SimEvent A → ℕ
 moment_of (Client now client way bytes) = now
 moment_of (Carry now k) = now
-moment_of (CarryCut now k) = now
+moment_of (CarryTruncated now k) = now
 moment_of (CarryTcp now k) = now
 moment_of (Lose now k) = now
 moment_of (Tick now) = now

@@ -1,4 +1,5 @@
-pub mod Counts
-pub mod Errands
-pub mod Lists
+-- To be read: what the words of the contracts mean.
 pub mod Runs
+pub mod Lists
+pub mod Errands
+pub mod Counts

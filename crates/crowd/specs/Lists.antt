@@ -5,7 +5,7 @@ use Rattle.rdata.specs.Types.{type_number}
 use Rattle.rdata.specs.declared.rtype.RType.{RType}
 use Rattle.wire.specs.declared.via.Via.{Via}
 use Rattle.layout.specs.Messages.{encoding}
-use Rattle.orders.specs.Orders.{Order, at, ask, raw, carry, cut, lose, run, tick}
+use Rattle.orders.specs.Orders.{Order, at, ask, raw, carry, truncate, lose, run, tick}
 use Rattle.tally.specs.Clients.{Queries, IsHeard, query_for}
 use Rattle.crowd.specs.declared.asking.Asking.{Asking}
 
@@ -25,7 +25,7 @@ Asks {A} now (ask name kind by rd ∷ os) old qs new =
     (q : Asking A) × (rest : List (Asking A)) × (middle : Queries) × (qs ≡ q ∷ rest) × AsksOne now name kind by rd q old middle × Asks now os middle rest new
 Asks now (raw bytes by ∷ os) old qs new = ⊥
 Asks now (carry k ∷ os) old qs new = ⊥
-Asks now (cut k ∷ os) old qs new = ⊥
+Asks now (truncate k ∷ os) old qs new = ⊥
 Asks now (lose k ∷ os) old qs new = ⊥
 Asks now (run ∷ os) old qs new = ⊥
 Asks now (tick ∷ os) old qs new = ⊥

@@ -103,7 +103,7 @@ fn moment_of(event: &SimEvent) -> u64
     match event {
         SimEvent::Client { moment, .. } => *moment,
         SimEvent::Carry { moment, .. } => *moment,
-        SimEvent::CarryCut { moment, .. } => *moment,
+        SimEvent::CarryTruncated { moment, .. } => *moment,
         SimEvent::CarryTcp { moment, .. } => *moment,
         SimEvent::Lose { moment, .. } => *moment,
         SimEvent::Tick { moment } => *moment,

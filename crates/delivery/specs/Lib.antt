@@ -1,4 +1,5 @@
+-- To be read: what the words of the contracts mean.
 pub mod Parcels
-pub mod Roles
-pub mod Senders
 pub mod Targets
+pub mod Senders
+pub mod Roles

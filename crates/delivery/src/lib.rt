@@ -1,4 +1,20 @@
-//! What comes at a server's ends, as events; where its actions go; and which loop each of its workers runs.
+//! What comes at a server's sockets, as events; where its actions go; and which loop each of its workers runs.
+//!
+//! `asked`, `asked_on_stream`, `heard` and `heard_on_stream` make an `exchange::Event` of what came. `hand_over`
+//! gives an action to a `Carrier`, sockets and channels or a list in a test, by its `target_of`. A client's number
+//! is its address and port (`client_of`, `sender_of`), so that nothing is kept of it. `role_of` and `seats_of`
+//! staff the loops of a server.
+//!
+//! Promised: each event and each target exactly (`target`, `Adds`); a reply goes back to the address and the port
+//! that its query came from (`replies_go_back`), and to nobody else.
+//! Not here: the sockets themselves (`server`).
+//!
+//! ```text
+//! let event = asked(alloc, moment, from, bytes)?;
+//! if let Some(number) = hand_over(&mut carrier, &action) {
+//!     let failed: Event<A> = heard_on_stream(moment, number, None);       // no worker was free to ask over TCP
+//! }
+//! ```
 #![tactic(auto)]
 
 mod carrier;

@@ -1,10 +1,12 @@
-pub mod Draft
+-- To be read: what the words of the contracts mean.
 pub mod Labels
-pub mod Laws
-pub mod Stars
-pub mod Wire
-pub mod Written
-pub mod Text
-pub mod Tokens
-pub mod Order
 pub mod Spelling
+pub mod Text
+pub mod Wire
+pub mod Order
+pub mod Stars
+pub mod Draft
+-- Kept: what the code's own values keep.
+pub mod Laws
+pub mod Tokens
+pub mod Written

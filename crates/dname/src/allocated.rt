@@ -1,3 +1,4 @@
+//! Where the memory of a name comes from.
 use crate::name::Name;
 use memory::Heap;
 

@@ -1,3 +1,4 @@
+//! A name that is written label by label, within its bounds (RFC 1035, section 2.3.4).
 ghost use Rattle.std.specs.Prelude.{◌≡◌, ◌+◌, ◌≤◌, ◌<◌, List, [], ◌∷◌, ◌++◌, length, Ok, IfOk, OnOk, OnErr, MatchResult};
 ghost use Rattle.dname.specs.Labels.{wire, folded, folded_label};
 ghost use Rattle.dname.specs.Draft.{empty_draft, Refuses, pushed, shut, labelled};

@@ -1,3 +1,4 @@
+//! Wildcards among names (RFC 4592, section 2.1.1).
 ghost use Rattle.std.specs.Prelude.{◌≡◌};
 ghost use Rattle.dname.specs.Stars.{is_wildcard, has_inner_star};
 

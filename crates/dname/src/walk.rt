@@ -1,3 +1,4 @@
+//! Names in wire form, walked label by label (RFC 1035, section 3.1).
 ghost use Rattle.std.specs.Prelude.{◌≡◌, ℕ, ◌≤◌, ◌<◌, ◌++◌, List, length, MatchOption};
 ghost use Rattle.dname.specs.Labels.{root, wire, is_under};
 ghost use Rattle.dname.specs.Wire.{labels_of, IsWire, IsSplit};

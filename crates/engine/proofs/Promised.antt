@@ -21,7 +21,7 @@ use Rattle.laws.proofs.Due.{due_in_order}
 use Rattle.laws.proofs.Times.{nothing_is_late}
 use Rattle.laws.proofs.Words.{words_in_order}
 use Rattle.laws.proofs.FollowedSearches.{ask_is_of_search}
-use Rattle.laws.proofs.Steps.{lost_is_asked_on, cut_is_asked_again, referral_is_asked, answer_is_replied, alias_is_kept}
+use Rattle.laws.proofs.Steps.{lost_is_asked_on, truncated_is_asked_again, referral_is_asked, answer_is_replied, alias_is_kept}
 use Rattle.laws.specs.Held.{IsHeldChain}
 use Rattle.laws.proofs.Held.{held_is_replied}
 use Rattle.laws.proofs.Found.{kept_is_found}
@@ -67,7 +67,7 @@ module _ (site : Site) (past : List Turn) (old : State) (t : Turn) (new : State)
     late = λ k. (nothing_is_late site (t ∷ past) new (old, legal, step) k).0;
     ask = ask_is_of_search site (t ∷ past) new (old, legal, step);
     lost = λ out. lost_is_asked_on site past old t out new;
-    cut = λ out. cut_is_asked_again site past old t out new;
+    truncated = λ out. truncated_is_asked_again site past old t out new;
     referral = λ out. referral_is_asked site past old t out new;
     answered = λ out. answer_is_replied site past old t out new;
     alias = λ out. alias_is_kept site past old t out new;

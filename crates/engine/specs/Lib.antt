@@ -1,9 +1,12 @@
-pub mod Works
-pub mod Moves
-pub mod Replies
+-- To be read: what the words of the contracts mean.
+pub mod Promises
 pub mod Beginnings
 pub mod Turns
+pub mod Histories
+-- Computed: functions that the code is compared with.
+pub mod Moves
 pub mod Calls
 pub mod Finds
-pub mod Promises
-pub mod Histories
+-- Kept: what the code's own values keep.
+pub mod Works
+pub mod Replies

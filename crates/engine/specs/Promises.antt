@@ -68,8 +68,8 @@ pub record Keeps (site : Site) (past : List Turn) (old : State) (turn : Turn) (n
   pub lost : (out : List Action) (q : Open) (sought : Search) (around : List Search) (server : Addr)
       → Attends site past old turn out new q sought around → EndsInVain site (at_moment old turn) turn q sought → upcoming (sought.frame).plan ≡ Some server
       → followed.Asks followed.IsUdp site (at_moment old turn) q server sought out new
-  pub cut : (out : List Action) (q : Open) (sought : Search) (around : List Search)
-      → Attends site past old turn out new q sought around → Accepted site turn q sought class.Cut → followed.Asks followed.IsTcp site (at_moment old turn) q (q.ask).server sought out new
+  pub truncated : (out : List Action) (q : Open) (sought : Search) (around : List Search)
+      → Attends site past old turn out new q sought around → Accepted site turn q sought class.Truncated → followed.Asks followed.IsTcp site (at_moment old turn) q (q.ask).server sought out new
   pub referral : (out : List Action) (q : Open) (sought : Search) (around : List Search) (at : Name) (ns glue : List Record) (ttl : ℕ)
       → Attends site past old turn out new q sought around → Accepted site turn q sought (class.Referral at ns glue ttl)
       → (c : Cut) × IsCutOf at ns glue c

@@ -1,4 +1,4 @@
-//! Queries that come.
+//! Queries that come: admitted, or refused where too many are open.
 ghost use Rattle.std.specs.Prelude.{◌≡◌, ◌+◌, IfOk, OnErr};
 ghost use Rattle.std.specs.Bool.{MatchBool};
 ghost use Rattle.iterate.specs.Views.{next_view};

@@ -1,4 +1,4 @@
-//! What a resolver is made of.
+//! What a resolver is made of, and the limits of what an operator may set.
 ghost use Rattle.std.specs.Prelude.{◌≡◌, MatchOption};
 ghost use Rattle.std.specs.NonZero.{non_zero_usize_get};
 ghost use Rattle.engine.specs.Beginnings.{IsRoom, IsAllowed, core_fault_number};

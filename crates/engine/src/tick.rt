@@ -1,4 +1,4 @@
-//! Time that passes.
+//! A tick: the query that is due first is served.
 ghost use Rattle.std.specs.Prelude.{ℕ, Some, None, IfOk, IsOk, OnErr, MatchOption};
 ghost use Rattle.std.specs.Bool.{MatchBool};
 ghost use Rattle.runs.specs.States.{Tick, Open};

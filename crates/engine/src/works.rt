@@ -1,4 +1,4 @@
-//! What the resolver works with.
+//! What the resolver works with: zones and hints, what it learnt, open queries, and its source of identifiers.
 use exchange::Event;
 use known::{Home, Stores};
 use queries::Queries;

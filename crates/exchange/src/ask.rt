@@ -1,11 +1,11 @@
-//! Asks of servers.
+//! Asks: queries to servers.
 use crate::path::Path;
 use dname::Name;
 use rdata::{Addr, RType};
 use std::alloc::{Allocator, Global};
 use std::marker::Model;
 
-/// An ask: how it goes and to which server, under which ID, for which name and type.
+/// A query to a server: how it goes and to which server, under which ID, for which name and type.
 #[derive(Drop)]
 pub struct Asking<A: Allocator = Global> {
     pub path: Path,

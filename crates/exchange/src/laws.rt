@@ -1,4 +1,4 @@
-//! Laws of the definitions.
+//! Laws of the definitions: functions that do nothing, whose clauses are proved.
 ghost use Rattle.exchange.specs.Laws.{IdIsInMessage, LocalAnswerIsPlain};
 
 use std::alloc::Allocator;

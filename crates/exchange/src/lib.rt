@@ -1,5 +1,23 @@
-//! What the resolver is told and what it says, and the bytes of both: events and actions, asks of servers, and
-//! who asks.
+//! What the resolver is told and what it says, as plain values, and the bytes of both; and the one place that says
+//! which reply is accepted (RFC 1035, section 7.3; RFC 5452, section 9.1).
+//!
+//! `Event` comes and `Actions` go out. `read_asked` says what a client's bytes ask, `reply_to` and `refuse` write
+//! what the client gets; `send` writes an ask of a server, one question with RD clear. `reply_in` gives the message
+//! that an event brings for an ask, if it does: by the ask's path, from the server's address and port, with QR, the
+//! ask's ID and its question.
+//!
+//! Promised: what is accepted is what the definition says, and nothing else (`Brings`); what goes out is that ask
+//! (`IsSent`), that reply (`IsReply`), within its way's limit. What can't be a reply is never decoded, and takes no
+//! memory (clause `quiet`).
+//! Not here: which ask is open (`asks`, `queries`); what an accepted message is used for (`classify`).
+//!
+//! ```text
+//! let ask = Asking { path: Path::Udp(7), server: Addr([192, 0, 2, 1]), id: 4660, name, kind: RType::A };
+//! let action = send(alloc, 53, &ask)?;
+//! let from = Endpoint { address: Addr([192, 0, 2, 1]), port: 53 };
+//! let event = Event::Datagram { moment: 20, socket: 7, from, bytes };
+//! if let Some(message) = reply_in(alloc, 53, &ask, &event)? { /* accepted */ }
+//! ```
 #![tactic(auto)]
 
 mod action;

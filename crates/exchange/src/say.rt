@@ -17,7 +17,7 @@ use front::{Echo, Outcome, Refusal, Start, Via, refusal_bytes, reply_bytes};
 use rdata::{INTERNET, Records};
 use wire::{Header, Message, Question, Questions, UDP_LIMIT, WireError, encode};
 
-/// An ask as it goes out on its path, to the server's `port`: one question in class IN, RD clear, at most 512
+/// An iterative query as it goes out on its path, to the server's `port`: one question in class IN, RD clear, at most 512
 /// bytes (RFC 1035, sections 2.3.4 and 4.1.2).
 pub fn send<A: Heap>(alloc: A, port: u16, ask: &Asking<A>) -> Result<Action<A>, Starved>
     ensures sent { IfOk result (λ a. IsSent port ask.now (action_view a)) }

@@ -1,3 +1,4 @@
+-- To be read: what the words of the contracts mean.
 pub mod Frames
-pub mod Members
 pub mod Trimmed
+pub mod Members

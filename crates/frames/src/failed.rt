@@ -1,3 +1,4 @@
+//! Names of servers whose look-up failed.
 ghost use Rattle.std.specs.Prelude.{◌≡◌, [], ◌∷◌, OnOk, OnErr};
 ghost use Rattle.frames.specs.Frames.{has_failed};
 

@@ -1,3 +1,4 @@
+//! A frame: whose turn it is, and what is found of the servers' addresses.
 ghost use Rattle.std.specs.Prelude.{◌≡◌, ◌<◌, true, not, nat_lt, length, Contains, IfOk, IfSome, OnOk, OnErr};
 ghost use Rattle.retry.specs.Penalties.{penalty};
 ghost use Rattle.retry.specs.Plans.{IsByPenalty, upcoming, advanced, wait_of};
@@ -131,7 +132,7 @@ impl<A: Allocator> Frame<A> {
         &self.zone
     }
 
-    /// The servers of which no address was known at the start.
+    /// The servers without glue: those of which no address was known at the start.
     pub fn unknown_names(&self) -> &[Name<A>]
         ensures { result.now ≡ (self.now).names }
     {

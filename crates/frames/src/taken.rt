@@ -1,3 +1,4 @@
+//! What is taken of a cut, and what of addresses that were found is new.
 ghost use Rattle.std.specs.Prelude.{◌≡◌, ◌&&◌, not, filter, map, take, IfOk};
 ghost use Rattle.std.specs.List.{list_any};
 ghost use Rattle.dname.specs.Labels.{Name as Labels, same_name};

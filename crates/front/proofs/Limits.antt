@@ -4,7 +4,7 @@ use Rattle.std.proofs.lemmas.Bool.{lt-ltb, le-ltb}
 use Rattle.layout.specs.Messages.{Message, IsMessage, encoding, folded_message}
 use Rattle.causes.specs.declared.cause.Cause.{Cause}
 use Rattle.causes.specs.declared.cause.Cause.TheVariants.{Large}
-use Rattle.front.specs.Replies.{whole_reply, cut_reply, bare, failure_of, reply_of}
+use Rattle.front.specs.Replies.{whole_reply, truncated_reply, bare, failure_of, reply_of}
 use Rattle.wire.specs.Limits.{limit_of}
 use Rattle.front.specs.declared.queries.Query.{Query}
 use Rattle.front.specs.declared.queries.Outcome.{Outcome}
@@ -26,9 +26,9 @@ reply_fits Tcp q o m is short =
     fits 65535 (length (encoding (whole_reply q o))) _ _ (subst (λ (n : Message). length (encoding n) ≤ 65535) is short)
     ∙ ap (λ (n : Message). let r : Message × Option Cause = (n, failure_of o) in r) (sym is)
 
-pub reply_cut : {A : Type 0} (q : Query A) (o : Outcome A) (m : Message) → m ≡ whole_reply q o → 512 < length (encoding m)
-    → reply_of Udp q o ≡ (cut_reply (whole_reply q o), failure_of o)
-reply_cut q o m is long = over 512 (length (encoding (whole_reply q o))) _ _ (subst (λ (n : Message). 512 < length (encoding n)) is long)
+pub reply_truncated : {A : Type 0} (q : Query A) (o : Outcome A) (m : Message) → m ≡ whole_reply q o → 512 < length (encoding m)
+    → reply_of Udp q o ≡ (truncated_reply (whole_reply q o), failure_of o)
+reply_truncated q o m is long = over 512 (length (encoding (whole_reply q o))) _ _ (subst (λ (n : Message). 512 < length (encoding n)) is long)
 
 pub reply_fails : {A : Type 0} (q : Query A) (o : Outcome A) (m : Message) → m ≡ whole_reply q o → 65535 < length (encoding m)
     → reply_of Tcp q o ≡ (bare q.start (q.echo ∷ []) false 2, Some Large)

@@ -6,7 +6,7 @@ use Rattle.layout.specs.Pieces.{Text, plain_bytes, asked_name, flat_piece, put_f
 use Rattle.layout.specs.Messages.{Header, Question, Message, encoding}
 use Rattle.wire.specs.Drafts.{asked_alone}
 use Rattle.front.specs.Openings.{Opening}
-use Rattle.front.specs.Replies.{reply_header, bare, whole_reply, cut_reply}
+use Rattle.front.specs.Replies.{reply_header, bare, whole_reply, truncated_reply}
 use Rattle.front.specs.declared.queries.Query.{Query}
 use Rattle.front.specs.declared.queries.Outcome.{Outcome}
 use Rattle.front.specs.declared.queries.Outcome.TheVariants.{Answer, Referral, Refused, Fail}
@@ -47,13 +47,13 @@ bare_fits s None rcode m is short =
 bare_fits s (Some q) rcode m is short =
     subst (λ (n : Message). length (encoding n) ≤ 512) (sym is) (asked_fits (reply_header s false false rcode) q short)
 
-cut_is_fit : {A : Type 0} (q : Query A) (o : Outcome A) → length (wire q.echo.name) ≤ 255 → length (encoding (cut_reply (whole_reply q o))) ≤ 512
-cut_is_fit q (Answer aa aliases end) short = asked_fits _ q.echo short
-cut_is_fit q (Referral ns glue) short = asked_fits _ q.echo short
-cut_is_fit q Refused short = asked_fits _ q.echo short
-cut_is_fit q (Fail cause) short = asked_fits _ q.echo short
+truncated_is_fit : {A : Type 0} (q : Query A) (o : Outcome A) → length (wire q.echo.name) ≤ 255 → length (encoding (truncated_reply (whole_reply q o))) ≤ 512
+truncated_is_fit q (Answer aa aliases end) short = asked_fits _ q.echo short
+truncated_is_fit q (Referral ns glue) short = asked_fits _ q.echo short
+truncated_is_fit q Refused short = asked_fits _ q.echo short
+truncated_is_fit q (Fail cause) short = asked_fits _ q.echo short
 
-pub cut_fits : {A : Type 0} (q : Query A) (o : Outcome A) (m n : Message) → m ≡ whole_reply q o → n ≡ cut_reply m → length (wire q.echo.name) ≤ 255
+pub truncated_fits : {A : Type 0} (q : Query A) (o : Outcome A) (m n : Message) → m ≡ whole_reply q o → n ≡ truncated_reply m → length (wire q.echo.name) ≤ 255
     → length (encoding n) ≤ 512
-cut_fits q o m n whole is short =
-    subst (λ (k : Message). length (encoding k) ≤ 512) (sym (is ∙ ap cut_reply whole)) (cut_is_fit q o short)
+truncated_fits q o m n whole is short =
+    subst (λ (k : Message). length (encoding k) ≤ 512) (sym (is ∙ ap truncated_reply whole)) (truncated_is_fit q o short)

@@ -79,8 +79,8 @@ whole_reply q Refused = bare q.start (q.echo ∷ []) false 5
 whole_reply q (Fail cause) = bare q.start (q.echo ∷ []) false 2
 
 -- The reply without its records, and with TC (RFC 2181, section 9).
-abbrev pub cut_reply : Message → Message
-cut_reply m = record {
+abbrev pub truncated_reply : Message → Message
+truncated_reply m = record {
   header = record m.header { tc = true };
   questions = m.questions;
   answer = [];
@@ -92,10 +92,10 @@ abbrev pub failure_of : {A : Type 0} → Outcome A → Option Cause
 failure_of (Fail cause) = Some cause
 failure_of _ = None
 
--- The reply that goes out, and the cause of a SERVFAIL: one that is too long is cut on UDP, and on TCP a
+-- The reply that goes out, and the cause of a SERVFAIL: one that is too long is truncated on UDP, and on TCP a
 -- SERVFAIL goes in its place.
 abbrev pub reply_of : {A : Type 0} → Via → Query A → Outcome A → Message × Option Cause
-reply_of Udp q o = if nat_lt (limit_of Udp) (length (encoding (whole_reply q o))) then (cut_reply (whole_reply q o), failure_of o)
+reply_of Udp q o = if nat_lt (limit_of Udp) (length (encoding (whole_reply q o))) then (truncated_reply (whole_reply q o), failure_of o)
     else (whole_reply q o, failure_of o)
 reply_of Tcp q o = if nat_lt (limit_of Tcp) (length (encoding (whole_reply q o))) then (bare q.start (q.echo ∷ []) false 2, Some Large)
     else (whole_reply q o, failure_of o)

@@ -14,11 +14,11 @@ use dname::{Heap, Name, Starved};
 use rdata::{RData, RType, Record, Records};
 use std::alloc::{Allocator, Global};
 
-/// The aliases that a chain may have, to which the end comes (RFC 1034, section 3.6.2, leaves the number open).
+/// The links that a CNAME chain may have, to which the end comes (RFC 1034, section 3.6.2, leaves the number open).
 pub const MOST_ALIASES: usize = 8;
 
 /// What local zones alone answer a query, one whose RD is clear: nothing where none is over the name, a
-/// referral at a cut, else the chain of aliases through local zones and what stands at its end. A ninth alias
+/// referral at a zone cut, else the CNAME chain through local zones and what stands at its end. A ninth alias
 /// is a failure.
 pub fn answer_local<A: Heap>(
     alloc: A,

@@ -52,21 +52,21 @@ pub enum Asked<A: Allocator = Global> {
     Query(Query<A>),
 }
 
-/// Where a chain of aliases ends.
+/// Where a CNAME chain ends.
 #[derive(Drop)]
 pub enum End<A: Allocator = Global> {
-    /// The records that were asked for.
+    /// The RRset that was asked for.
     Found(Records<A>),
-    /// The name has no such records; with the zone's SOA alone.
+    /// NODATA: the name has no such records; with the zone's SOA alone.
     NoData(Records<A>),
-    /// The name does not exist; with the zone's SOA alone.
+    /// NXDOMAIN: the name does not exist; with the zone's SOA alone.
     NxDomain(Records<A>),
-    /// At a name of which nothing is said here.
+    /// Nothing is said here of the name at its end, as where that is delegated or no zone here is over it.
     Outside,
 }
 
 impl<A: Allocator> End<A> {
-    /// The RCODE of a reply that ends so: 3 for a name error, else 0 (RFC 2308, section 2).
+    /// The RCODE of a reply that ends so: 3 for NXDOMAIN, else 0 (RFC 2308, section 2).
     pub fn rcode(&self) -> u8
         ensures is { result ≡ end_rcode self.now }
         ensures fits { result < 16 }
@@ -77,7 +77,7 @@ impl<A: Allocator> End<A> {
         }
     }
 
-    /// The records that stand behind the aliases in the answer.
+    /// The records that stand behind the CNAME chain in the answer.
     pub fn found(&self) -> &[Record<A>]
         ensures { result.now ≡ found_in self.now }
     {
@@ -87,7 +87,7 @@ impl<A: Allocator> End<A> {
         }
     }
 
-    /// The SOA of a denial, for the authority section (RFC 2308, section 2).
+    /// The SOA of a negative answer, for the authority section (RFC 2308, section 2).
     pub fn denial(&self) -> &[Record<A>]
         ensures { result.now ≡ denied_by self.now }
     {
@@ -101,11 +101,12 @@ impl<A: Allocator> End<A> {
 /// What a query is to be answered.
 #[derive(Drop)]
 pub enum Outcome<A: Allocator = Global> {
-    /// Whether the asked name's own link is local, the aliases in order, and where they end.
+    /// Whether the asked name's own link is local, the CNAME chain in order, and its end.
     Answer(bool, Records<A>, End<A>),
-    /// The NS set of a cut, and the addresses of its servers.
+    /// The NS RRset of a zone cut, and its glue.
     Referral(Records<A>, Records<A>),
-    /// Nothing is said of the name here.
+    /// REFUSED: no local zone is over the name.
     Refused,
+    /// SERVFAIL, and why.
     Fail(Cause),
 }

@@ -3,7 +3,7 @@ ghost use Rattle.std.specs.Prelude.{◌≡◌, false, ◌≤◌, ◌<◌, [], �
 ghost use Rattle.dname.specs.Labels.{wire};
 ghost use Rattle.wire.specs.Drafts.{asked_alone};
 ghost use Rattle.layout.specs.Messages.{IsMessage, encoding, folded_message};
-ghost use Rattle.front.specs.Replies.{reply_header, whole_reply, cut_reply, bare, reply_of, failure_of, refusal_reply};
+ghost use Rattle.front.specs.Replies.{reply_header, whole_reply, truncated_reply, bare, reply_of, failure_of, refusal_reply};
 ghost use Rattle.wire.specs.Limits.{limit_of};
 
 use crate::echo::Echo;
@@ -36,7 +36,7 @@ pub fn reply_bytes<A: Heap>(
             Some(bytes) => Ok((bytes, cause)),
             None => {
                 is_short(Some(&query.echo));
-                Ok((short_bytes(alloc, &cut(&whole), UDP_LIMIT)?, cause))
+                Ok((short_bytes(alloc, &truncated(&whole), UDP_LIMIT)?, cause))
             }
         },
         Via::Tcp => match whole.encode(alloc, TCP_LIMIT)? {
@@ -131,8 +131,8 @@ fn empty_draft<'a, A: Allocator>(start: Start, echo: Option<&'a Echo<A>>, rcode:
 }
 
 // The reply without its records, and with TC.
-fn cut<'a, A: Allocator>(whole: &Parts<'a, A>) -> Parts<'a, A>
-    ensures { result ≡ cut_reply whole.now }
+fn truncated<'a, A: Allocator>(whole: &Parts<'a, A>) -> Parts<'a, A>
+    ensures { result ≡ truncated_reply whole.now }
 {
     let mut header = whole.header;
     header.tc = true;

@@ -107,13 +107,13 @@ fn reply_of_one<A: Heap>(alloc: A, second: usize, via: Via) -> Result<Vec<u8, A>
 }
 
 #[test]
-fn a_reply_over_512_bytes_is_cut_on_udp(rt: HostRuntime) -> Result<(), Fail> {
+fn a_reply_over_512_bytes_is_truncated_on_udp(rt: HostRuntime) -> Result<(), Fail> {
     let alloc = rt.alloc();
     let whole = reply_of_one(alloc, 216, Via::Udp)?;
     assert_eq!(rt; whole.len(), 512);
-    let cut = reply_of_one(alloc, 217, Via::Udp)?;
-    assert_eq!(rt; cut.len(), 27);
-    assert!(rt; cut.starts_with(b"\0\x09\x87\x80\0\x01\0\0\0\0\0\0"));
+    let truncated = reply_of_one(alloc, 217, Via::Udp)?;
+    assert_eq!(rt; truncated.len(), 27);
+    assert!(rt; truncated.starts_with(b"\0\x09\x87\x80\0\x01\0\0\0\0\0\0"));
     assert_eq!(rt; reply_of_one(alloc, 217, Via::Tcp)?.len(), 513);
     Ok(())
 }

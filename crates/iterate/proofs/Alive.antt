@@ -3,7 +3,7 @@ use Rattle.std.proofs.Common.{◌≡◌, ℕ, ◌+◌, ◌<◌, ◌≤◌, false
 use Rattle.std.proofs.lemmas.List.{take_more, take-append-drop}
 use Rattle.std.proofs.lemmas.Option.{slice_get_within, get_or_from_slice_get}
 use Rattle.resolution.specs.Jobs.{Taken, is_dead, IsDead, AreFresh}
-use Rattle.iterate.specs.Moves.{IsCutAt}
+use Rattle.iterate.specs.Moves.{IsTakenFrom}
 
 fresh_join : (now : ℕ) (xs : List Taken) (l : Taken) → AreFresh now xs → is_dead now l ≡ false → AreFresh now (xs ++ l ∷ [])
 fresh_join now [] l all one = (one, tt)
@@ -31,9 +31,9 @@ parts_at xs k l lt is =
     ∙ append_assoc (take k xs) (l ∷ []) (drop (k + 1) xs)
 
 -- The link at that place is taken out, and all behind it go.
-pub cut_at : (now : ℕ) (xs mid new : List Taken) (k : ℕ) (l d : Taken) → slice_get xs k ≡ Some d → IsDead now d → AreFresh now (take k xs)
-    → l ≡ get_or xs k l → mid ≡ take k xs ++ drop (k + 1) xs → new ≡ take k mid → IsCutAt now xs l new
-cut_at now xs mid new k l d there dead fresh is rest front =
+pub taken_from : (now : ℕ) (xs mid new : List Taken) (k : ℕ) (l d : Taken) → slice_get xs k ≡ Some d → IsDead now d → AreFresh now (take k xs)
+    → l ≡ get_or xs k l → mid ≡ take k xs ++ drop (k + 1) xs → new ≡ take k mid → IsTakenFrom now xs l new
+taken_from now xs mid new k l d there dead fresh is rest front =
     let lt : k < length xs = slice_get_within xs k d there in
     let same : l ≡ d = is ∙ get_or_from_slice_get xs k d l there in
     let len : length (take k xs) ≡ k = front_length xs k (omega (arith, lt)) in

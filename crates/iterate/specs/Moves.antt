@@ -33,7 +33,7 @@ abbrev pub followed : Job → Taken → Name → Job
 followed j l n = record j { chain = j.chain ++ l ∷ []; name = n }
 
 -- A chain up to the first link of it that has run out, and that link.
-pub record IsCutAt (now : ℕ) (old : List Taken) (d : Taken) (new : List Taken) : Type 0 where
+pub record IsTakenFrom (now : ℕ) (old : List Taken) (d : Taken) (new : List Taken) : Type 0 where
   pub back : List Taken
   pub parts : old ≡ new ++ d ∷ back
   pub fresh : AreFresh now new
@@ -41,5 +41,5 @@ pub record IsCutAt (now : ℕ) (old : List Taken) (d : Taken) (new : List Taken)
 
 -- The first link of the chain that has run out is sought again; true where there was one.
 abbrev pub IsRestart : ℕ → Job → Job → Bool → Type 0
-IsRestart now old new true = (d : Taken) × (front : List Taken) × IsCutAt now old.chain d front × (new ≡ record old { chain = front; name = d.name; searches = [] })
+IsRestart now old new true = (d : Taken) × (front : List Taken) × IsTakenFrom now old.chain d front × (new ≡ record old { chain = front; name = d.name; searches = [] })
 IsRestart now old new false = AreFresh now old.chain × (new ≡ old)

@@ -55,7 +55,7 @@ fn ask_again<A: Heap>(
     Ok(Turn::Out(Next::AskTcp(server, name?, kind)))
 }
 
-/// The reply of this server was cut short: it is asked again over TCP (RFC 2181, section 9).
+/// The reply of this server was truncated: it is asked again over TCP (RFC 2181, section 9).
 pub(crate) fn again<A: Heap>(job: &mut Job<A>, server: Addr, now: u64) -> Result<Turn<A>, Starved>
     ensures { IfOk result (λ t. (home : Grounds) (stores : Learnt) → IsMove home now (point (Repeating server) job.old stores) (turn_view t) job.new stores) }
 {

@@ -28,7 +28,7 @@ pub enum Next<A: Allocator = Global> {
     Ask(Addr, Name<A>, RType),
     /// The same over TCP.
     AskTcp(Addr, Name<A>, RType),
-    /// The answer: the aliases in order, and the link that ends them.
+    /// The answer: the CNAME chain in order, and the link that ends it.
     Done(Chain<A>, Taken<A>),
     /// No answer, and why.
     Fail(Cause),

@@ -1,13 +1,14 @@
+//! The CNAME chain of a query at work.
 ghost use Rattle.std.specs.Prelude.{◌≡◌, [], ◌∷◌, ◌++◌, length, take, Some, None, OnOk, MatchOption, slice_get};
 ghost use Rattle.resolution.specs.Jobs.{Taken as Used, AreFresh, IsDead};
-ghost use Rattle.iterate.specs.Moves.{IsCutAt};
+ghost use Rattle.iterate.specs.Moves.{IsTakenFrom};
 
 use dname::{Heap, Starved};
 use known::Taken;
 use std::alloc::{Allocator, Global};
 use std::marker::Model;
 
-/// The aliases that led to a name, in order. Contracts see their list.
+/// A CNAME chain: the aliases that led to a name, in order. Contracts see their list.
 #[derive(Drop)]
 pub struct Chain<A: Allocator = Global> {
     links: Vec<Taken<A>, A>,
@@ -64,8 +65,8 @@ impl<A: Allocator> Chain<A> {
     }
 
     // Takes off the first link that has run out at this moment, and all that follow it.
-    pub(crate) fn cut_dead(&mut self, now: u64) -> Option<Taken<A>>
-        ensures { MatchOption result (AreFresh now self.old × (self.new ≡ self.old)) (λ d. IsCutAt now self.old d self.new) }
+    pub(crate) fn take_from_dead(&mut self, now: u64) -> Option<Taken<A>>
+        ensures { MatchOption result (AreFresh now self.old × (self.new ≡ self.old)) (λ d. IsTakenFrom now self.old d self.new) }
     {
         let place = first_dead(&self.links, now)?;
         let dead = self.links.remove(place);

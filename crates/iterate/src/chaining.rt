@@ -16,7 +16,7 @@ use dname::{Heap, Name, Starved};
 use known::Taken;
 use std::alloc::AllocError;
 
-/// The aliases that a chain may have.
+/// The links that a CNAME chain may have.
 const MOST_ALIASES: usize = 8;
 
 // Where an alias leads; nothing where the link ends a chain.

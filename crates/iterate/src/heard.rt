@@ -171,7 +171,7 @@ fn hear_for<S: BuildHasher + Drop, A: Heap>(
             refer(alloc, job, search, referral, stores, now)?;
             Ok(Task::Go)
         }
-        Ok(Class::Cut) => {
+        Ok(Class::Truncated) => {
             job.push(search)?;
             Ok(Task::Again(server))
         }
@@ -183,7 +183,7 @@ fn hear_for<S: BuildHasher + Drop, A: Heap>(
 }
 
 /// What is due after a message was accepted for the innermost search: an answer is kept and taken up, a
-/// referral is kept and followed, what was cut short is asked for again over TCP; the rest is of no use. A job
+/// referral is kept and followed, what was truncated is asked for again over TCP; the rest is of no use. A job
 /// without a search has nothing that a message could be for.
 pub(crate) fn hear<S: BuildHasher + Drop, A: Heap>(
     alloc: A,

@@ -1,3 +1,4 @@
+//! The work on one query, and its bounds: asks, time, the length of its chain.
 ghost use Rattle.std.specs.Prelude.{◌≡◌, ◌+◌, ◌^◌, ◌<◌, ◌≤◌, [], length, IfOk, OnOk, MatchOption};
 ghost use Rattle.rdata.specs.Types.{type_number};
 ghost use Rattle.frames.specs.Frames.{next_name};
@@ -187,7 +188,7 @@ impl<A: Allocator> Job<A> {
     pub(crate) fn restart(&mut self, now: u64) -> bool
         ensures { IsRestart now self.old self.new result }
     {
-        match self.chain.cut_dead(now) {
+        match self.chain.take_from_dead(now) {
             Some(dead) => {
                 self.name = dead.into_name();
                 self.searches.clear();

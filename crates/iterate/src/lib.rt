@@ -1,5 +1,25 @@
-//! The work on one query (RFC 1034, section 5.3.3): what is due for it, which servers are asked, and what
-//! comes of what they say.
+//! The work on one query (RFC 1034, section 5.3.3): what is due for it, which servers are asked, and what comes of
+//! what they say.
+//!
+//! `Job::new` is the work on a query that comes, with ten seconds for it. `advance` takes what came in, an `Input`:
+//! the query itself, the message that was accepted for its ask, a time-out, an ask over TCP that failed. It answers
+//! with the `Next` thing that goes out: an ask of a server in a datagram or over TCP, the CNAME chain and its end,
+//! or the cause of a failure.
+//!
+//! Promised: each call is one by the rules of `resolution` (`Advances`); where memory is wanting the stores have
+//! nothing new but what was accepted (`Stops`). At most 40 asks, eight aliases, and look-ups of servers' addresses
+//! three deep.
+//! Not here: which message is a reply (`exchange`), identifiers, sockets and many queries at once (`engine`).
+//!
+//! ```text
+//! let mut job = Job::new(name, RType::A, now);
+//! match advance(alloc, &mut job, Input::Start, &home, &mut stores, now)? {
+//!     Next::Ask(server, name, kind) => { /* later: Input::Told(Via::Udp, ..), or Input::TimedOut(server) */ }
+//!     Next::AskTcp(server, name, kind) => { /* later: Input::Told(Via::Tcp, ..), or Input::TcpFailed(server) */ }
+//!     Next::Done(chain, last) => { /* the aliases, and what ends them */ }
+//!     Next::Fail(cause) => { /* SERVFAIL */ }
+//! }
+//! ```
 #![tactic(auto)]
 
 mod advancing;

@@ -1,3 +1,4 @@
+//! Searches for servers: that for the query's name, and those for servers' addresses within it.
 ghost use Rattle.std.specs.Prelude.{◌≡◌, ◌+◌, ◌<◌, [], ◌∷◌, None, IfOk, OnOk, IfSome, IfNone, MatchOption, Contains};
 ghost use Rattle.rdata.specs.Types.{type_number};
 ghost use Rattle.retry.specs.Plans.{upcoming, wait_of};

@@ -56,8 +56,8 @@ pub enum Event<'a> {
     NoName,
     // A server of the root refers to a zone: its servers, and addresses of the first one.
     Referral(&'a str, &'a [&'a str], &'a [u8]),
-    // A server cuts its reply short.
-    CutShort(u8),
+    // A server's reply comes truncated.
+    Truncated(u8),
     // A server has no use for the question.
     Refused(u8),
     TimedOut(u8),
@@ -235,7 +235,7 @@ fn input<A: Heap>(alloc: A, event: Event<'_>) -> Result<Input<A>, Starved> {
         Event::Answer(server, line) => Ok(told(server, answer(alloc, line)?)),
         Event::NoName => Ok(told(ROOT, denial(alloc)?)),
         Event::Referral(zone, names, glue) => Ok(told(ROOT, referral(alloc, zone, names, glue)?)),
-        Event::CutShort(server) => Ok(told(server, bare(alloc, header(0, true, true)))),
+        Event::Truncated(server) => Ok(told(server, bare(alloc, header(0, true, true)))),
         Event::Refused(server) => Ok(told(server, bare(alloc, header(5, true, false)))),
         Event::TimedOut(server) => Ok(Input::TimedOut(address(server))),
         Event::TcpFailed(server) => Ok(Input::TcpFailed(address(server))),

@@ -40,16 +40,16 @@ fn nine_aliases_are_too_many(rt: HostRuntime) -> Result<(), Fail> {
     Ok(())
 }
 
-// How many asks go out where each reply is cut short, and why no more do.
-fn asks_of_cut_replies<A: Heap>(alloc: A) -> Result<(u32, Cause), Starved> {
+// How many asks go out where each reply is truncated, and why no more do.
+fn asks_of_truncated_replies<A: Heap>(alloc: A) -> Result<(u32, Cause), Starved> {
     let mut asked = Asked::new(alloc)?;
     let _first = asked.hear(0, Event::Query(WWW))?;
-    Ok(asked.until_failure(Event::CutShort(ROOT))?)
+    Ok(asked.until_failure(Event::Truncated(ROOT))?)
 }
 
 #[test]
 fn forty_asks_are_sent_and_no_more(rt: HostRuntime) -> Result<(), Fail> {
-    assert_eq!(rt; asks_of_cut_replies(rt.alloc())?, (40, Cause::Sends));
+    assert_eq!(rt; asks_of_truncated_replies(rt.alloc())?, (40, Cause::Sends));
     Ok(())
 }
 
@@ -68,7 +68,7 @@ fn the_last_millisecond_is_used(rt: HostRuntime) -> Result<(), Fail> {
 fn nothing_is_sent_from_the_deadline_on(rt: HostRuntime) -> Result<(), Fail> {
     let steps = [
         (5, Event::Query(WWW), Out::Ask(ROOT)),
-        (10_005, Event::CutShort(ROOT), Out::Failed(Cause::Deadline)),
+        (10_005, Event::Truncated(ROOT), Out::Failed(Cause::Deadline)),
         (5, Event::Query(WWW), Out::Ask(ROOT)),
         (10_005, Event::TimedOut(ROOT), Out::Failed(Cause::Deadline)),
     ];

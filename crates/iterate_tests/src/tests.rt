@@ -181,10 +181,10 @@ fn a_server_whose_name_is_denied_is_passed_over(rt: HostRuntime) -> Result<(), F
 
 // Each server is asked in two rounds.
 #[test]
-fn a_reply_cut_short_is_asked_for_over_tcp(rt: HostRuntime) -> Result<(), Fail> {
+fn a_truncated_reply_is_asked_for_over_tcp(rt: HostRuntime) -> Result<(), Fail> {
     let steps = [
         (0, Event::Query(WWW), Out::Ask(ROOT)),
-        (0, Event::CutShort(ROOT), Out::AskTcp(ROOT)),
+        (0, Event::Truncated(ROOT), Out::AskTcp(ROOT)),
         (0, Event::TcpFailed(ROOT), Out::Ask(ROOT)),
         (0, Event::Refused(ROOT), Out::Failed(Cause::NoServer)),
     ];

@@ -1,3 +1,4 @@
+//! What the resolver holds from the start: local zones and hints.
 ghost use Rattle.std.specs.Prelude.{◌≡◌, IfOk};
 ghost use Rattle.resolution.specs.Jobs.{root_cut};
 ghost use Rattle.known.specs.Views.{home_at};

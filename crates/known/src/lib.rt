@@ -1,5 +1,22 @@
-//! What the resolver knows of a name without asking anybody (RFC 1034, section 5.3.3, steps 1 and 2): the
-//! zones at hand, what was learnt, and where servers are sought if neither says anything.
+//! What the resolver knows of a name without asking anybody (RFC 1034, section 5.3.3, steps 1 and 2): the zones at
+//! hand, what was learnt, and where servers are sought if neither says anything.
+//!
+//! `Home` holds the local zones and the root's cut, made of the hints (SBELT). `Stores` holds the cache, the
+//! delegations and the penalties of servers. `find` asks the zones first and the cache next; where neither knows,
+//! it gives the cut at which servers are sought: the one that the zones name, or a deeper one that is kept. `Taken`
+//! is a link with where it comes from, and `into_sent` the link as it goes out.
+//!
+//! Promised: what is found, or that nothing is and where the search starts (`IsFound`); a look-up leaves the same
+//! entries, in another order at most (`OnlyUses`); each call of the stores is one equation over `resolution`'s
+//! words.
+//! Not here: asking servers (`iterate`).
+//!
+//! ```text
+//! match find(alloc, &home, &name, RType::A, &mut stores, now)? {
+//!     Found::Known(taken) => { let link = taken.into_sent(now); }
+//!     Found::Start(cut) => { let frame = stores.open(alloc, &cut, 0)?; }
+//! }
+//! ```
 #![tactic(auto)]
 
 mod home;

@@ -1,3 +1,4 @@
+//! The look-up without asking anybody: local zones, cache, and else where the search starts.
 ghost use Rattle.std.specs.Prelude.{◌≡◌, ◌↔◌, IsTrue, IfOk};
 ghost use Rattle.rdata.specs.Types.{type_number};
 ghost use Rattle.zone.specs.Zones.{IsBeneath};

@@ -29,7 +29,7 @@ fn put_found<A: Heap>(found: &mut Vec<Addr, A>, given: &Record<A>) -> Result<(),
     Ok(())
 }
 
-/// The addresses that a set of A records gives, in order.
+/// The addresses that an RRset of A records gives, in order.
 pub fn found_addresses<A: Heap>(alloc: A, set: &[Record<A>]) -> Result<Vec<Addr, A>, Starved>
     ensures { IfOk result (λ found. AreAddressesOf set.now found.items) }
 {

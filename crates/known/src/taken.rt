@@ -1,3 +1,4 @@
+//! A link that is used for a query, with where it comes from and how it goes out.
 ghost use Rattle.std.specs.Prelude.{◌≡◌, ◌-◌, ◌/◌, ◌≤◌, IfOk, MatchOption};
 ghost use Rattle.rdata.specs.Records.{Record as Datum};
 ghost use Rattle.zone.specs.Links.{Alias as Alternative};

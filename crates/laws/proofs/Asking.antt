@@ -40,7 +40,7 @@ answered_keeps now s (around ∷ rest) l j stores p (after, marks, task, learnt,
 class_keeps : (now : ℕ) (server : Addr) (s : Search) (rest : List Search) (c : class.Class) (j : Job) (stores : Stores) (p : Point) → ByClass now server s rest c j stores p → SameTime j p.job
 class_keeps now server s rest (class.Answer l) j stores p h = answered_keeps now s rest l j stores p h
 class_keeps now server s rest (class.Referral at ns glue ttl) j stores p h = same_job j p.job _ h.job refl refl
-class_keeps now server s rest class.Cut j stores p h = same_job j p.job _ (ap (λ (x : Point). x.job) h) refl refl
+class_keeps now server s rest class.Truncated j stores p h = same_job j p.job _ (ap (λ (x : Point). x.job) h) refl refl
 class_keeps now server s rest (class.Failed f) j stores p h = same_job j p.job _ (ap (λ (x : Point). x.job) h) refl refl
 
 enters_keep : (now : ℕ) (input : Input) (j : Job) (stores : Stores) (p : Point) → Enters now input j stores p → SameTime j p.job

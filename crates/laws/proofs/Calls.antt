@@ -7,7 +7,7 @@ use Rattle.classify.specs.declared.class.Failure.{Failure}
 use Rattle.retry.specs.Plans.{upcoming}
 use Rattle.resolution.specs.Jobs.{Home, Stores, with_answer, with_timeout, Search, Job, Input, Told, TimedOut, TcpFailed, Next, Ask, AskTcp, Go, Again, Point, point}
 use Rattle.resolution.specs.Rules.{Rule, takes, asks, follows, restarts, hears, descends, gives_up, Rules, Enters, ByClass, Leaves, sends, sends_again, refuses, spent, nowhere, too_long, done}
-use Rattle.laws.specs.Calls.{Hears, IsLost, GoesOut, NextIsAsked, CutIsRepeated}
+use Rattle.laws.specs.Calls.{Hears, IsLost, GoesOut, NextIsAsked, TruncatedIsRepeated}
 
 module _ (home : Home) (now : ℕ) where
   -- Where no rule applies, none was taken.
@@ -101,10 +101,10 @@ next_is_asked home now input old stores next new after s rest server call lost d
     subst (λ (j : Job). GoesOut now j (Ask server s.name s.kind) next) job
     (asks_next home now call.first s rest (ap (λ (j : Job). j.searches) job ∙ lost.searches) server task due call.count call.last next new after call.rules call.leaves)
 
-pub cut_is_repeated : CutIsRepeated
-cut_is_repeated home now input old stores next new after s rest server call cut =
-    let is = heard now input old stores call.first s rest server class.Cut call.enters cut in
+pub truncated_is_repeated : TruncatedIsRepeated
+truncated_is_repeated home now input old stores next new after s rest server call short =
+    let is = heard now input old stores call.first s rest server class.Truncated call.enters short in
     let job : (call.first).job ≡ old = ap (λ (q : Point). q.job) is in
     let task : (call.first).task ≡ Again server = ap (λ (q : Point). q.task) is in
     subst (λ (j : Job). GoesOut now j (AskTcp server s.name s.kind) next) job
-    (asks_again home now call.first s rest (ap (λ (j : Job). j.searches) job ∙ cut.searches) server task call.count call.last next new after call.rules call.leaves)
+    (asks_again home now call.first s rest (ap (λ (j : Job). j.searches) job ∙ short.searches) server task call.count call.last next new after call.rules call.leaves)

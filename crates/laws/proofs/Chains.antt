@@ -90,9 +90,9 @@ module _ (port : ℕ) (home : Home) (run : List Turn) (t : ℕ) where
   led from (l ∷ ls) to (n, (r, is, a, more)) = let (rs, len, leads) = led (target_of r) ls to more in (r ∷ rs, ap suc len, (a, leads))
 
 module _ (port : ℕ) (home : Home) (run : List Turn) (t : ℕ) (k : ℕ) where
-  pub rules_reach : (Cuts : Addr → Name → ℕ → Type 0) (now n : ℕ) (from : Name) (a b : Point) → IsSound port home k run Cuts a → IsReached port home run t from a.task a.job → Rules home now n a b
-      → IsSound port home k run Cuts b × IsReached port home run t from b.task b.job
-  rules_reach Cuts now zero from a b sound h is = (subst (IsSound port home k run Cuts) (sym is) sound, subst (λ (p : Point). IsReached port home run t from p.task p.job) (sym is) h)
-  rules_reach Cuts now (suc n) from a b sound h (mid, before, last) =
-      let (s, r) = rules_reach Cuts now n from a mid sound h before in
-      (rule_keeps port home k run Cuts now mid b s last, rule_reaches port home run t now from mid b s.told r last)
+  pub rules_reach : (Truncates : Addr → Name → ℕ → Type 0) (now n : ℕ) (from : Name) (a b : Point) → IsSound port home k run Truncates a → IsReached port home run t from a.task a.job → Rules home now n a b
+      → IsSound port home k run Truncates b × IsReached port home run t from b.task b.job
+  rules_reach Truncates now zero from a b sound h is = (subst (IsSound port home k run Truncates) (sym is) sound, subst (λ (p : Point). IsReached port home run t from p.task p.job) (sym is) h)
+  rules_reach Truncates now (suc n) from a b sound h (mid, before, last) =
+      let (s, r) = rules_reach Truncates now n from a mid sound h before in
+      (rule_keeps port home k run Truncates now mid b s last, rule_reaches port home run t now from mid b s.told r last)

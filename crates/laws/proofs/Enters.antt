@@ -13,7 +13,7 @@ use Rattle.classify.specs.Classes as class
 use Rattle.classify.specs.Classes.{class_of}
 use Rattle.classify.specs.Lifetimes.{received}
 use Rattle.classify.specs.Laws.{EndInRoot}
-use Rattle.classify.proofs.Uses.{referral_over, cut_is}
+use Rattle.classify.proofs.Uses.{referral_over, truncated_is}
 use Rattle.classify.proofs.Roots.{of_root}
 use Rattle.referral.specs.Cuts.{Cut, Known}
 use Rattle.referral.specs.Cuts as referral
@@ -26,7 +26,7 @@ use Rattle.runs.specs.States.{Turn, Event, Client, Datagram, TcpReply, Tick, Que
 use Rattle.runs.specs.States as states
 use Rattle.runs.specs.Messages.{Brings}
 use Rattle.runs.specs.Runs.{Asks, Earlier, clock_of}
-use Rattle.laws.specs.Spent.{AsksBy, EndsBadly, HasFailed, IsBad, IsCutShort, IsOpenAsk, IsOver, IsStart, IsUdp, Repeats, Takes, TellsOfNone}
+use Rattle.laws.specs.Spent.{AsksBy, EndsBadly, HasFailed, IsBad, BringsTruncated, IsOpenAsk, IsOver, IsStart, IsUdp, Repeats, Takes, TellsOfNone}
 use Rattle.laws.proofs.TimelyLists.{more_followed}
 use Rattle.laws.proofs.TimelyStores.{kept_from, cut_kept_from}
 use Rattle.retry.proofs.Steps.{timed_out_low, answered_low}
@@ -51,7 +51,7 @@ open_asks port k ask (ByTcp number) run h = by run h
   where
     by : (run : List Turn) → Repeats port k ask run → Asks port k ask run
     by [] h = absurd h
-    by (turn ∷ past) (inl (served, sent, cut)) = inl (served, sent)
+    by (turn ∷ past) (inl (served, sent, short)) = inl (served, sent)
     by (turn ∷ past) (inr (other, more)) = inr (other, by past more)
 
 module _ (port : ℕ) (home : Home) (k : ℕ) (turn : Turn) (past : List Turn) (ask : Asking) (served : turn.served ≡ Query k) (asked : IsOpenAsk port k ask past) where
@@ -74,14 +74,14 @@ module _ (port : ℕ) (home : Home) (k : ℕ) (turn : Turn) (past : List Turn) (
   abbrev pub IsAskingAs : Search → Type 0
   IsAskingAs s = IsAsking port home k past s ask.server × (ask.name ≡ s.name) × (ask.kind ≡ s.kind)
 
-  abbrev pub CutNow : Addr → Name → ℕ → Type 0
-  CutNow a n t = IsCutShort port k a n t turn past
+  abbrev pub TruncatedNow : Addr → Name → ℕ → Type 0
+  TruncatedNow a n t = BringsTruncated port k a n t turn past
 
   abbrev Sound : Point → Type 0
-  Sound p = IsSound port home k (turn ∷ past) CutNow p
+  Sound p = IsSound port home k (turn ∷ past) TruncatedNow p
 
-  put_now : (p : Point) (t : Task) (j : Job) → p.task ≡ t → p.job ≡ j → AreTold port home (turn ∷ past) p.stores → AreMarked port home k (turn ∷ past) j.failed → StandsBy port home k (turn ∷ past) CutNow t j → Sound p
-  put_now p t j te je told marks stands = put port home k (turn ∷ past) CutNow p t j te je told marks stands
+  put_now : (p : Point) (t : Task) (j : Job) → p.task ≡ t → p.job ≡ j → AreTold port home (turn ∷ past) p.stores → AreMarked port home k (turn ∷ past) j.failed → StandsBy port home k (turn ∷ past) TruncatedNow t j → Sound p
+  put_now p t j te je told marks stands = put port home k (turn ∷ past) TruncatedNow p t j te je told marks stands
 
   module _ (s : Search) (rest : List Search) (now : ℕ) (j : Job) (stores : Stores) (p : Point) (told : AreTold port home past stores) (marks : AreMarked port home k past j.failed)
       (top : IsAskingAs s) (around : AreAround port home k past j.name j.kind s.name s.kind (s.frame).nesting rest) where
@@ -96,7 +96,7 @@ module _ (port : ℕ) (home : Home) (k : ℕ) (turn : Turn) (past : List Turn) (
     goes_further bad is e = subst Sound (sym e) (record {
       told = told_later port home turn past stores told;
       marks = marks_now;
-      stands = subst (λ (l : List Search). OnTop port home k (turn ∷ past) CutNow j.name j.kind l (IsIdle port home k (turn ∷ past))) (sym is)
+      stands = subst (λ (l : List Search). OnTop port home k (turn ∷ past) TruncatedNow j.name j.kind l (IsIdle port home k (turn ∷ past))) (sym is)
           (ends_badly s top.1 top.2 bad top.0, around_now);
     })
 
@@ -149,7 +149,7 @@ module _ (port : ℕ) (home : Home) (k : ℕ) (turn : Turn) (past : List Turn) (
           by (o ∷ os) (kind, nesting, waiting, further) (after, more, task, learnt, hears_of, job) =
               let new = learnt_told l p.stores is learnt in
               let takes : Takes port s.name a_type (received l) turn past = subst (λ (t : ℕ). Takes port s.name t (received l) turn past) kind (taken_now l is) in
-              heard_at port home k (turn ∷ past) CutNow p s.name (received l) o after os j more new
+              heard_at port home k (turn ∷ past) TruncatedNow p s.name (received l) o after os j more new
               (λ set e. inr (inl (subst (λ (x : Link). Takes port s.name a_type x turn past) e takes)))
               (λ none. inr (a_type, received l, inl takes, no_address l none))
               (waiting_later port home turn past k o s.name waiting) (around_later port home turn past k j.name j.kind o.name o.kind (o.frame).nesting os further) marks_now hears_of task job
@@ -196,15 +196,15 @@ module _ (port : ℕ) (home : Home) (k : ℕ) (turn : Turn) (past : List Turn) (
           })) marks_now
           (idle_at port home k (turn ∷ past) (level_of stores) (low_level port home past stores told) (s.frame).nesting h.cut s.name s.kind start over, around_now)
 
-      -- A reply that was cut short.
-      pub cut_enters : class_of (s.frame).zone s.name s.kind (via_of ask.path) m ≡ class.Cut → j.searches ≡ s ∷ rest → p ≡ point (Again ask.server) j stores → Sound p
-      cut_enters is searches e =
-          let udp = cut_is (s.frame).zone s.name s.kind m (via_of ask.path) is in
+      -- A truncated reply.
+      pub truncated_enters : class_of (s.frame).zone s.name s.kind (via_of ask.path) m ≡ class.Truncated → j.searches ≡ s ∷ rest → p ≡ point (Again ask.server) j stores → Sound p
+      truncated_enters is searches e =
+          let udp = truncated_is (s.frame).zone s.name s.kind m (via_of ask.path) is in
           let path = udp_of ask.path udp.0 in
           subst Sound (sym e) (record {
             told = told_later port home turn past stores told;
             marks = marks_now;
-            stands = subst (λ (l : List Search). OnTop port home k (turn ∷ past) CutNow j.name j.kind l (λ s. IsAsking port home k (turn ∷ past) s ask.server × CutNow ask.server s.name s.kind)) (sym searches) (
+            stands = subst (λ (l : List Search). OnTop port home k (turn ∷ past) TruncatedNow j.name j.kind l (λ s. IsAsking port home k (turn ∷ past) s ask.server × TruncatedNow ask.server s.name s.kind)) (sym searches) (
               (
                 asking_later port home turn past k s ask.server top.0,
                 record {
@@ -214,7 +214,7 @@ module _ (port : ℕ) (home : Home) (k : ℕ) (turn : Turn) (past : List Turn) (
                   same = record { server = refl; name = top.1; kind = top.2 };
                   message = m;
                   brings = brings;
-                  cut = udp.1;
+                  tc = udp.1;
                 },
               ),
               around_now,
@@ -232,7 +232,7 @@ module _ (port : ℕ) (home : Home) (k : ℕ) (turn : Turn) (past : List Turn) (
       pub class_enters : (c : class.Class) → class_of (s.frame).zone s.name s.kind (via_of ask.path) m ≡ c → j.searches ≡ s ∷ rest → ByClass now ask.server s rest c j stores p → Sound p
       class_enters (class.Answer l) is searches h = answer_enters l is h
       class_enters (class.Referral at ns glue ttl) is searches h = referral_enters at ns glue ttl is h
-      class_enters class.Cut is searches h = cut_enters is searches h
+      class_enters class.Truncated is searches h = truncated_enters is searches h
       class_enters (class.Failed f) is searches h = goes_further (λ c zone. inr (inr (
         m,
         f,
@@ -256,21 +256,21 @@ module _ (port : ℕ) (home : Home) (k : ℕ) (turn : Turn) (past : List Turn) (
   timed_told run stores a h = record { links = h.links; cuts = h.cuts; low = timed_out_low a stores.penalties_cap stores.penalties h.low }
 
   -- There is an innermost search, and it asks.
-  with_top : (P : Type 0) (j : Job) → OnTop port home k past CutNow j.name j.kind j.searches IsAskingAs
+  with_top : (P : Type 0) (j : Job) → OnTop port home k past TruncatedNow j.name j.kind j.searches IsAskingAs
       → ((s : Search) (rest : List Search) → j.searches ≡ s ∷ rest → IsAskingAs s → AreAround port home k past j.name j.kind s.name s.kind (s.frame).nesting rest → P) → P
   with_top P j top f = by j.searches refl top
     where
-      by : (l : List Search) → j.searches ≡ l → OnTop port home k past CutNow j.name j.kind l IsAskingAs → P
+      by : (l : List Search) → j.searches ≡ l → OnTop port home k past TruncatedNow j.name j.kind l IsAskingAs → P
       by [] e h = absurd h
       by (s ∷ rest) e h = f s rest e h.0 h.1
 
   pub enters_sound : (now : ℕ) (input : Input) (j : Job) (stores : Stores) (p : Point) → AreTold port home past stores → AreMarked port home k past j.failed
-      → OnTop port home k past CutNow j.name j.kind j.searches IsAskingAs → IsInputNow input → Enters now input j stores p → Sound p
+      → OnTop port home k past TruncatedNow j.name j.kind j.searches IsAskingAs → IsInputNow input → Enters now input j stores p → Sound p
   enters_sound now Start j stores p told marks top is e = absurd is
   enters_sound now (Told way server m) j stores p told marks top (via_is, server_is, brings) e = elim e [
-    | inl (none, at) ↦ absurd (subst (λ (l : List Search). OnTop port home k past CutNow j.name j.kind l IsAskingAs) none top)
+    | inl (none, at) ↦ absurd (subst (λ (l : List Search). OnTop port home k past TruncatedNow j.name j.kind l IsAskingAs) none top)
     | inr (s, rest, searches, by) ↦
-        let h = subst (λ (l : List Search). OnTop port home k past CutNow j.name j.kind l IsAskingAs) searches top in
+        let h = subst (λ (l : List Search). OnTop port home k past TruncatedNow j.name j.kind l IsAskingAs) searches top in
         class_enters s rest now j (with_answer stores server) p (answered_told past stores server told) marks h.0 h.1 m brings (class_of (s.frame).zone s.name s.kind (via_of ask.path) m) refl searches
         (subst (λ (w : Via). ByClass now ask.server s rest (class_of (s.frame).zone s.name s.kind w m) j (with_answer stores server) p) via_is
         (subst (λ (a : Addr). ByClass now a s rest (class_of (s.frame).zone s.name s.kind way m) j (with_answer stores server) p) server_is by))
@@ -289,11 +289,11 @@ module _ (port : ℕ) (home : Home) (k : ℕ) (turn : Turn) (past : List Turn) (
   stopped_penalties input stores low new (inr (server, is, inr e)) = subst (AreAtMost 8) (sym e) (timed_out_low server stores.penalties_cap stores.penalties low)
 
   module _ (now : ℕ) (j : Job) (stores : Stores) (told : AreTold port home past stores) (marks : AreMarked port home k past j.failed)
-      (top : OnTop port home k past CutNow j.name j.kind j.searches IsAskingAs) where
+      (top : OnTop port home k past TruncatedNow j.name j.kind j.searches IsAskingAs) where
     taken_entry : (input : Input) → IsInputNow input → (x : Key × Hit) → IsTakenEntry j input now x → (n : Name) × (u : ℕ) × (x.0 ≡ key_for n u (x.1).link) × Earlier (Takes port n u (x.1).link) (turn ∷ past)
     taken_entry Start is x (s, l, c, kept) = absurd c
     taken_entry (Told way server m) (via_is, server_is, brings) x (s, l, ((rest, searches), is), kept) =
-        let h = subst (λ (l : List Search). OnTop port home k past CutNow j.name j.kind l IsAskingAs) searches top in
+        let h = subst (λ (l : List Search). OnTop port home k past TruncatedNow j.name j.kind l IsAskingAs) searches top in
         fresh_entry s rest now j stores (point Go j stores) told marks h.0 h.1 m brings l (subst (λ (w : Via). class_of (s.frame).zone s.name s.kind w m ≡ class.Answer l) via_is is) x kept
     taken_entry (TimedOut server) is x (s, l, c, kept) = absurd c
     taken_entry (TcpFailed server) is x (s, l, c, kept) = absurd c
@@ -301,7 +301,7 @@ module _ (port : ℕ) (home : Home) (k : ℕ) (turn : Turn) (past : List Turn) (
     taken_cut : (input : Input) → IsInputNow input → (x : Name × Known) → IsTakenCut j input now x → (x.0 ≡ ((x.1).cut).owner) × IsKeptStart port home (turn ∷ past) (x.1).cut
     taken_cut Start is x (s, at, ns, glue, ttl, c, none, is_cut, kept) = absurd none
     taken_cut (Told way server m) (via_is, server_is, brings) x (s, at, ns, glue, ttl, c, ((rest, searches), is), is_cut, kept) =
-        let h = subst (λ (l : List Search). OnTop port home k past CutNow j.name j.kind l IsAskingAs) searches top in
+        let h = subst (λ (l : List Search). OnTop port home k past TruncatedNow j.name j.kind l IsAskingAs) searches top in
         let class_is = subst (λ (w : Via). class_of (s.frame).zone s.name s.kind w m ≡ class.Referral at ns glue ttl) via_is is in
         fresh_cut s rest now j stores (point Go j stores) told marks h.0 h.1 m brings c ttl (referred_start s rest now j stores (point Go j stores) told marks h.0 h.1 m brings at ns glue ttl c class_is is_cut) x kept
     taken_cut (TimedOut server) is x (s, at, ns, glue, ttl, c, none, is_cut, kept) = absurd none

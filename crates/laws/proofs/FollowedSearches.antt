@@ -107,7 +107,7 @@ class_right : (now : ℕ) (server : Addr) (s : Search) (rest : List Search) (c :
     → ByClass now server s rest c j stores p → IsRight p.task p.job
 class_right now server s rest (class.Answer l) j stores p top all h = answered_right now s rest l j stores p top h
 class_right now server s rest (class.Referral at ns glue ttl) j stores p top all h = right_at p Go _ h.task h.job (alike j.name j.kind s (with_frame s (opened (level_of stores) (s.frame).nesting h.cut)) rest refl refl top)
-class_right now server s rest class.Cut j stores p top all h = right_at p (Again server) j (ap (λ (x : Point). x.task) h) (ap (λ (x : Point). x.job) h) all
+class_right now server s rest class.Truncated j stores p top all h = right_at p (Again server) j (ap (λ (x : Point). x.task) h) (ap (λ (x : Point). x.job) h) all
 class_right now server s rest (class.Failed f) j stores p top all h = right_at p Go j (ap (λ (x : Point). x.task) h) (ap (λ (x : Point). x.job) h) all
 
 -- A job that begins has no search.

@@ -87,7 +87,7 @@ answered_so now s (around ∷ rest) l j stores p (after, marks, task, learnt, to
 class_low : (now : ℕ) (server : Addr) (s : Search) (rest : List Search) (c : class.Class) (j : Job) (stores : Stores) (p : Point) → ByClass now server s rest c j stores p → AreLow stores → AreLow p.stores
 class_low now server s rest (class.Answer l) j stores p is h = answered_so now s rest l j stores p is h
 class_low now server s rest (class.Referral at ns glue ttl) j stores p is h = low_by stores p.stores (ap (λ (x : Stores). x.penalties) is.stored) h
-class_low now server s rest class.Cut j stores p is h = low_by stores p.stores (ap (λ (x : Point). (x.stores).penalties) is) h
+class_low now server s rest class.Truncated j stores p is h = low_by stores p.stores (ap (λ (x : Point). (x.stores).penalties) is) h
 class_low now server s rest (class.Failed f) j stores p is h = low_by stores p.stores (ap (λ (x : Point). (x.stores).penalties) is) h
 
 enters_low : (now : ℕ) (input : Input) (j : Job) (stores : Stores) (p : Point) → Enters now input j stores p → AreLow stores → AreLow p.stores

@@ -104,7 +104,7 @@ answered_taken now s (around ∷ rest) l j stores p (after, marks, task, learnt,
 class_taken : (now : ℕ) (server : Addr) (s : Search) (rest : List Search) (c : class.Class) (j : Job) (stores : Stores) (p : Point) → ByClass now server s rest c j stores p → IsTaken (accepted_by now s c) stores p.stores
 class_taken now server s rest (class.Answer l) j stores p h = answered_taken now s rest l j stores p h
 class_taken now server s rest (class.Referral at ns glue ttl) j stores p h = none_taken stores p.stores (ap (λ (x : Stores). x.cache) h.stored) (ap (λ (x : Stores). x.cache_cap) h.stored)
-class_taken now server s rest class.Cut j stores p h = none_taken stores p.stores (ap (λ (x : Point). (x.stores).cache) h) (ap (λ (x : Point). (x.stores).cache_cap) h)
+class_taken now server s rest class.Truncated j stores p h = none_taken stores p.stores (ap (λ (x : Point). (x.stores).cache) h) (ap (λ (x : Point). (x.stores).cache_cap) h)
 class_taken now server s rest (class.Failed f) j stores p h = none_taken stores p.stores (ap (λ (x : Point). (x.stores).cache) h) (ap (λ (x : Point). (x.stores).cache_cap) h)
 
 enters_taken : (now : ℕ) (input : Input) (j : Job) (stores : Stores) (p : Point) → (h : Enters now input j stores p) → IsTaken (enters_accepted now input j stores p h) stores p.stores
@@ -247,7 +247,7 @@ enters_plain now (Told via server m) j stores p (inr (s, rest, top, h)) a f r is
         let same : record { name = s.name; kind = s.kind; hit = hit_from l now } ≡ b = cc in
         subst (λ (y : Accepted). y.kind ≢ cname_type) same (no_alias (s.frame).zone s.name s.kind via m l x e (ap (λ (y : Accepted). (y.hit).link) same ∙ was))
     by (class.Referral at ns glue ttl) e b g x was = nothing_plain None refl b g x was
-    by class.Cut e b g x was = nothing_plain None refl b g x was
+    by class.Truncated e b g x was = nothing_plain None refl b g x was
     by (class.Failed y) e b g x was = nothing_plain None refl b g x was
 enters_plain now (TimedOut server) j stores p h a f r is = nothing_plain None refl a f r is
 enters_plain now (TcpFailed server) j stores p h a f r is = nothing_plain None refl a f r is

@@ -27,7 +27,7 @@ use Rattle.laws.proofs.Leaving.{IsWaitingFor}
 use Rattle.laws.proofs.Enters.{open_asks, brought_ends, IsInputNow, enters_sound}
 use Rattle.laws.proofs.Timed.{IsLearnt, AreTimed, AreKnown, KnownBy, IsTimed, timed_at, rules_timed, timed_later, known_later}
 use Rattle.laws.proofs.TimelySent.{GoesTimely, leaves_timed}
-use Rattle.laws.proofs.States.{CutNow, top_at, enters_reach}
+use Rattle.laws.proofs.States.{TruncatedNow, top_at, enters_reach}
 
 module _ (port : ℕ) (home : Home) (k : ℕ) (turn : Turn) (past : List Turn) (ask : Asking) (served : turn.served ≡ Query k) (asked : IsOpenAsk port k ask past)
     (t : ℕ) (from : Name) (j : Job) (stores : Stores) (told : AreTold port home past stores) (work : IsWaitingFor port home past k t from ask.server ask.name ask.kind j)
@@ -95,7 +95,7 @@ module _ (port : ℕ) (home : Home) (k : ℕ) (turn : Turn) (past : List Turn) (
       going p Go (record j { searches = after ∷ rest; failed = marks }) task job (learnt_timed s (around ∷ rest) m l old p.stores h searches brings is learnt) remote refl refl refl refl
   by_class s rest server m (class.Referral at ns glue ttl) old p h searches brings is e =
       going p Go _ e.task e.job (subst (AreTimed port home (turn ∷ past)) (sym e.stored) (timed_later port home turn past old h)) remote refl refl refl refl
-  by_class s rest server m class.Cut old p h searches brings is e =
+  by_class s rest server m class.Truncated old p h searches brings is e =
       going p (Again server) j (ap (λ (x : Point). x.task) e) (ap (λ (x : Point). x.job) e) (subst (AreTimed port home (turn ∷ past)) (sym (ap (λ (x : Point). x.stores) e)) (timed_later port home turn past old h)) remote refl refl refl refl
   by_class s rest server m (class.Failed f) old p h searches brings is e =
       going p Go j (ap (λ (x : Point). x.task) e) (ap (λ (x : Point). x.job) e) (subst (AreTimed port home (turn ∷ past)) (sym (ap (λ (x : Point). x.stores) e)) (timed_later port home turn past old h)) remote refl refl refl refl
@@ -119,7 +119,7 @@ module _ (port : ℕ) (home : Home) (k : ℕ) (turn : Turn) (past : List Turn) (
   call_timed input next new after is a =
       let first = enters_sound port home k turn past ask served asked now input j stores a.first told work.marks work.top is a.enters in
       let reached = enters_reach port home k turn past ask served asked t from j stores told work now input stores a.first is a.enters in
-      let (sound, reach) = rules_reach port home (turn ∷ past) t k (CutNow port home k turn past ask served asked t from j stores told work) now a.count from a.first a.last first reached a.rules in
+      let (sound, reach) = rules_reach port home (turn ∷ past) t k (TruncatedNow port home k turn past ask served asked t from j stores told work) now a.count from a.first a.last first reached a.rules in
       let last = rules_timed port home (turn ∷ past) k t Mine j.deadline j.asks now a.count a.first a.last (enters_timed input a.first is a.enters) a.rules in
       leaves_timed port home turn past k t now clock Mine (λ is. is) from j.deadline j.asks a.last next new after last reach a.leaves
 

@@ -41,20 +41,20 @@ module _ (port : ℕ) (home : Home) (run : List Turn) (k : ℕ) (t : ℕ) (from 
   FailsFor NoServer = EndsSpent
   FailsFor Large = Unit {0}
 
-module _ (port : ℕ) (home : Home) (run : List Turn) (k : ℕ) (t : ℕ) (from : Name) (Cuts : Addr → Name → ℕ → Type 0) where
+module _ (port : ℕ) (home : Home) (run : List Turn) (k : ℕ) (t : ℕ) (from : Name) (Truncates : Addr → Name → ℕ → Type 0) where
   abbrev pub GoesOut : Next → Job → Type 0
   GoesOut (Ask server n u) job = IsWaitingFor port home run k t from server n u job
-  GoesOut (AskTcp server n u) job = IsWaitingFor port home run k t from server n u job × Cuts server n u
+  GoesOut (AskTcp server n u) job = IsWaitingFor port home run k t from server n u job × Truncates server n u
   GoesOut (Done chain last) job = Unit {0}
   GoesOut (Fail c) job = FailsFor port home run k t from c
 
-  at_go : (p : Point) → IsSound port home k run Cuts p → p.task ≡ Go → (s : Search) (rest : List Search) → (p.job).searches ≡ s ∷ rest
+  at_go : (p : Point) → IsSound port home k run Truncates p → p.task ≡ Go → (s : Search) (rest : List Search) → (p.job).searches ≡ s ∷ rest
       → IsIdle port home k run s × AreAround port home k run (p.job).name (p.job).kind s.name s.kind (s.frame).nesting rest
-  at_go p h te s rest e = subst (λ (l : List Search). OnTop port home k run Cuts (p.job).name (p.job).kind l (IsIdle port home k run)) e (subst (λ (y : Task). StandsBy port home k run Cuts y p.job) te h.stands)
+  at_go p h te s rest e = subst (λ (l : List Search). OnTop port home k run Truncates (p.job).name (p.job).kind l (IsIdle port home k run)) e (subst (λ (y : Task). StandsBy port home k run Truncates y p.job) te h.stands)
 
-  at_again : (p : Point) (a : Addr) → IsSound port home k run Cuts p → p.task ≡ Again a → (s : Search) (rest : List Search) → (p.job).searches ≡ s ∷ rest
-      → (IsAsking port home k run s a × Cuts a s.name s.kind) × AreAround port home k run (p.job).name (p.job).kind s.name s.kind (s.frame).nesting rest
-  at_again p a h te s rest e = subst (λ (l : List Search). OnTop port home k run Cuts (p.job).name (p.job).kind l (λ s. IsAsking port home k run s a × Cuts a s.name s.kind)) e (subst (λ (y : Task). StandsBy port home k run Cuts y p.job) te h.stands)
+  at_again : (p : Point) (a : Addr) → IsSound port home k run Truncates p → p.task ≡ Again a → (s : Search) (rest : List Search) → (p.job).searches ≡ s ∷ rest
+      → (IsAsking port home k run s a × Truncates a s.name s.kind) × AreAround port home k run (p.job).name (p.job).kind s.name s.kind (s.frame).nesting rest
+  at_again p a h te s rest e = subst (λ (l : List Search). OnTop port home k run Truncates (p.job).name (p.job).kind l (λ s. IsAsking port home k run s a × Truncates a s.name s.kind)) e (subst (λ (y : Task). StandsBy port home k run Truncates y p.job) te h.stands)
 
   one_given : (p : Plan) (a : Addr) → upcoming p ≡ Some a → (advanced p).given ≡ suc p.given
   one_given p a e = ap (λ (o : Option Addr). cond (is_some o) (p.given + 1) p.given) e ∙ add-one p.given
@@ -71,7 +71,7 @@ module _ (port : ℕ) (home : Home) (run : List Turn) (k : ℕ) (t : ℕ) (from 
     asked = record { followed = h.asked.followed; others = h.asked.others };
   }
 
-  all_spent : (p : Point) (s : Search) → IsSound port home k run Cuts p → IsReached port home run t from p.task p.job → p.task ≡ Go → IsUsedUp p.job s [] → EndsSpent port home run k t from
+  all_spent : (p : Point) (s : Search) → IsSound port home k run Truncates p → IsReached port home run t from p.task p.job → p.task ≡ Go → IsUsedUp p.job s [] → EndsSpent port home run k t from
   all_spent p s sound reached te up =
       let (idle, (name, kind, depth)) = at_go p sound te s [] up.searches in
       let (c, used) = used_up port home k run (p.job).failed s sound.marks idle up.asked_all up.none_left in
@@ -103,12 +103,12 @@ module _ (port : ℕ) (home : Home) (run : List Turn) (k : ℕ) (t : ℕ) (from 
   refused now j c (inl h) = subst (FailsFor port home run k t from) (sym h.0) tt
   refused now j c (inr h) = subst (FailsFor port home run k t from) (sym h.0) tt
 
-  pub leaves_tell : (now : ℕ) (p : Point) (next : Next) (job : Job) (stores : Stores) → IsSound port home k run Cuts p → IsReached port home run t from p.task p.job → Leaves home now p next job stores
+  pub leaves_tell : (now : ℕ) (p : Point) (next : Next) (job : Job) (stores : Stores) → IsSound port home k run Truncates p → IsReached port home run t from p.task p.job → Leaves home now p next job stores
       → GoesOut next job × AreTold port home run stores
   leaves_tell now p next job stores sound reached (sends server s rest due may is to same) =
       let (idle, around) = at_go p sound due.task s rest due.searches in (
         subst (λ (x : Next). GoesOut x job) (sym is) (record {
-          top = subst (λ (x : Job). OnTop port home k run Cuts x.name x.kind x.searches (λ z. IsAsking port home k run z server × (s.name ≡ z.name) × (s.kind ≡ z.kind))) (sym to) ((asks_next s server idle due.next, refl, refl), around);
+          top = subst (λ (x : Job). OnTop port home k run Truncates x.name x.kind x.searches (λ z. IsAsking port home k run z server × (s.name ≡ z.name) × (s.kind ≡ z.kind))) (sym to) ((asks_next s server idle due.next, refl, refl), around);
           marks = subst (λ (x : Job). AreMarked port home k run x.failed) (sym to) sound.marks;
           kind = ap (λ (x : Job). x.kind) to ∙ reached.kind;
           leads = subst (λ (x : Job). LeadsOn port home run t from x.chain x.name) (sym to) reached.leads;
@@ -120,8 +120,8 @@ module _ (port : ℕ) (home : Home) (run : List Turn) (k : ℕ) (t : ℕ) (from 
       let (asking, around) = at_again p server sound due.task s rest due.searches in (
         subst (λ (x : Next). GoesOut x job) (sym is) (
           record {
-            top = subst (λ (x : Job). OnTop port home k run Cuts x.name x.kind x.searches (λ z. IsAsking port home k run z server × (s.name ≡ z.name) × (s.kind ≡ z.kind))) (sym to)
-                (subst (λ (l : List Search). OnTop port home k run Cuts (p.job).name (p.job).kind l (λ z. IsAsking port home k run z server × (s.name ≡ z.name) × (s.kind ≡ z.kind))) (sym due.searches) ((asking.0, refl, refl), around));
+            top = subst (λ (x : Job). OnTop port home k run Truncates x.name x.kind x.searches (λ z. IsAsking port home k run z server × (s.name ≡ z.name) × (s.kind ≡ z.kind))) (sym to)
+                (subst (λ (l : List Search). OnTop port home k run Truncates (p.job).name (p.job).kind l (λ z. IsAsking port home k run z server × (s.name ≡ z.name) × (s.kind ≡ z.kind))) (sym due.searches) ((asking.0, refl, refl), around));
             marks = subst (λ (x : Job). AreMarked port home k run x.failed) (sym to) sound.marks;
             kind = ap (λ (x : Job). x.kind) to ∙ reached.kind;
             leads = subst (λ (x : Job). LeadsOn port home run t from x.chain x.name) (sym to) reached.leads;
@@ -136,8 +136,8 @@ module _ (port : ℕ) (home : Home) (run : List Turn) (k : ℕ) (t : ℕ) (from 
   leaves_tell now p next job stores sound reached (spent s te up is same) =
       (subst (λ (x : Next). GoesOut x job) (sym is) (all_spent p s sound reached te up), subst (AreTold port home run) (sym same) sound.told)
   leaves_tell now p next job stores sound reached (nowhere te none is same) = absurd (elim te [
-    | inl go ↦ subst (λ (l : List Search). OnTop port home k run Cuts (p.job).name (p.job).kind l (IsIdle port home k run)) none (subst (λ (y : Task). StandsBy port home k run Cuts y p.job) go sound.stands)
-    | inr (a, again) ↦ subst (λ (l : List Search). OnTop port home k run Cuts (p.job).name (p.job).kind l (λ s. IsAsking port home k run s a × Cuts a s.name s.kind)) none (subst (λ (y : Task). StandsBy port home k run Cuts y p.job) again sound.stands)
+    | inl go ↦ subst (λ (l : List Search). OnTop port home k run Truncates (p.job).name (p.job).kind l (IsIdle port home k run)) none (subst (λ (y : Task). StandsBy port home k run Truncates y p.job) go sound.stands)
+    | inr (a, again) ↦ subst (λ (l : List Search). OnTop port home k run Truncates (p.job).name (p.job).kind l (λ s. IsAsking port home k run s a × Truncates a s.name s.kind)) none (subst (λ (y : Task). StandsBy port home k run Truncates y p.job) again sound.stands)
   ])
   leaves_tell now p next job stores sound reached (too_long l r te is_alias long is same) =
       (subst (λ (x : Next). GoesOut x job) (sym is) (all_long p l r reached te is_alias long), subst (AreTold port home run) (sym same) sound.told)

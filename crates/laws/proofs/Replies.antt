@@ -15,7 +15,7 @@ use Rattle.wire.specs.declared.via.Via.TheVariants.{Udp, Tcp}
 use Rattle.causes.specs.declared.cause.Cause.TheVariants.{Large}
 use Rattle.front.specs.Chains.{target_in, target_of}
 use Rattle.front.specs.Laws.{question_of}
-use Rattle.front.specs.Replies.{whole_reply, cut_reply, bare, reply_of, found_in, end_rcode, denied_by}
+use Rattle.front.specs.Replies.{whole_reply, truncated_reply, bare, reply_of, found_in, end_rcode, denied_by}
 use Rattle.front.specs.declared.queries.Query.{Query as Question}
 use Rattle.front.specs.declared.queries.Outcome.TheVariants as outcome
 use Rattle.truth.specs.Worlds.{World}
@@ -117,9 +117,9 @@ module _ (W : World) (q : Question Plain) (echo : folded_question q.echo ≡ que
   pub fail_right : (way : Via) (c : Cause) (bytes : List ℕ) → AreWritten bytes (reply_of way q (outcome.Fail c)).0 → IsServfail q.name (type_number q.kind) bytes
   fail_right Udp c bytes written = by (nat_lt 512 (length (encoding (whole_reply q (outcome.Fail c))))) written.1
     where
-      by : (b : Bool) → IsMessage bytes (folded_message (if◌then◌else◌ {A = Message × Option Cause} b (cut_reply (whole_reply q (outcome.Fail c)), Some c) (whole_reply q (outcome.Fail c), Some c)).0)
+      by : (b : Bool) → IsMessage bytes (folded_message (if◌then◌else◌ {A = Message × Option Cause} b (truncated_reply (whole_reply q (outcome.Fail c)), Some c) (whole_reply q (outcome.Fail c), Some c)).0)
           → IsServfail q.name (type_number q.kind) bytes
-      by true is = servfail bytes (cut_reply (whole_reply q (outcome.Fail c))) is refl refl refl refl refl refl
+      by true is = servfail bytes (truncated_reply (whole_reply q (outcome.Fail c))) is refl refl refl refl refl refl
       by false is = servfail bytes (whole_reply q (outcome.Fail c)) is refl refl refl refl refl refl
   fail_right Tcp c bytes written = by (nat_lt 65535 (length (encoding (whole_reply q (outcome.Fail c))))) written.1
     where
@@ -150,13 +150,13 @@ module _ (W : World) (q : Question Plain) (echo : folded_question q.echo ≡ que
     pub chain_right : (way : Via) (bytes : List ℕ) → AreWritten bytes (reply_of way q (outcome_of now chain l)).0 → IsRightReply W way q.name (type_number q.kind) bytes
     chain_right Udp bytes written = by (nat_lt 512 (length (encoding full))) refl written.1
       where
-        by : (b : Bool) → nat_lt 512 (length (encoding full)) ≡ b → IsMessage bytes (folded_message (if◌then◌else◌ {A = Message × Option Cause} b (cut_reply full, None) (full, None)).0)
+        by : (b : Bool) → nat_lt 512 (length (encoding full)) ≡ b → IsMessage bytes (folded_message (if◌then◌else◌ {A = Message × Option Cause} b (truncated_reply full, None) (full, None)).0)
             → IsRightReply W Udp q.name (type_number q.kind) bytes
         by true long is = inr (inl (record {
           over = refl;
-          message = folded_message (cut_reply full);
+          message = folded_message (truncated_reply full);
           is = is;
-          to = to_question (folded_message (cut_reply full)) refl refl;
+          to = to_question (folded_message (truncated_reply full)) refl refl;
           bare = record { tc = refl; answer = refl; authority = refl; additional = refl };
           whole = folded_message full;
           whole_to = to_question (folded_message full) refl refl;

@@ -312,7 +312,7 @@ module _ (W : World) (w : IsWorld W) (home : Home) (ours : IsHomeIn W home) (now
       anew : (s : Search) (rest : List Search) (f : Frame) → IsTrueFrame W s.name f → AreTrueSearches W j.name t (s ∷ rest) → AreTrueSearches W j.name t (with_frame s f ∷ rest)
       anew s [] f new (frame, wanted, more) = (new, wanted, more)
       anew s (around ∷ rest) f new (frame, wanted, more) = (new, wanted, more)
-  class_true q t server via m s rest class.Cut j stores p is searches h all (may, serve) same =
+  class_true q t server via m s rest class.Truncated j stores p is searches h all (may, serve) same =
       point_true W q t p _ _ (ap (λ (x : Point). x.task) same) (ap (λ (x : Point). x.job) same) h (subst (AreTrue W) (sym (ap (λ (x : Point). x.stores) same)) all)
       (subst (MayAskNext W server) (sym searches) may)
   class_true q t server via m s rest (class.Failed f) j stores p is searches h all (may, serve) same =

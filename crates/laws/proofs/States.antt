@@ -20,7 +20,7 @@ use Rattle.runs.specs.States as states
 use Rattle.runs.specs.Messages.{Brings}
 use Rattle.runs.specs.Runs.{Earlier, Came, clock_of, asks_in, is_for, asks_of}
 use Rattle.runs.specs.Steps.{IsInput}
-use Rattle.laws.specs.Spent.{IsCutShort, AsksBy, IsOpenAsk, Takes}
+use Rattle.laws.specs.Spent.{BringsTruncated, AsksBy, IsOpenAsk, Takes}
 use Rattle.laws.proofs.TimelySearches.{IsAsking, AreAround}
 use Rattle.laws.proofs.Told.{AreTold}
 use Rattle.laws.proofs.Timed.{AreTimed, AreKnown, timed_later, known_later}
@@ -131,8 +131,8 @@ module _ (port : ℕ) (home : Home) where
 
 module _ (port : ℕ) (home : Home) (k : ℕ) (turn : Turn) (past : List Turn) (ask : Asking) (served : turn.served ≡ Query k) (asked : IsOpenAsk port k ask past)
     (t : ℕ) (from : Name) (j : Job) (stores : Stores) (told : AreTold port home past stores) (work : IsWaitingFor port home past k t from ask.server ask.name ask.kind j) where
-  abbrev pub CutNow : Addr → Name → ℕ → Type 0
-  CutNow a n u = IsCutShort port k a n u turn past
+  abbrev pub TruncatedNow : Addr → Name → ℕ → Type 0
+  TruncatedNow a n u = BringsTruncated port k a n u turn past
 
   -- The chain as it was.
   abbrev pub ReachedBy : Point → Type 0
@@ -170,7 +170,7 @@ module _ (port : ℕ) (home : Home) (k : ℕ) (turn : Turn) (past : List Turn) (
   by_class now s (around ∷ rest) server m (class.Answer l) old p searches brings is (after, marks, task, learnt, hears_of, job) =
       same_chain p Go (record j { searches = after ∷ rest; failed = marks }) task job refl refl refl tt
   by_class now s rest server m (class.Referral at ns glue ttl) old p searches brings is h = same_chain p Go _ h.task h.job refl refl refl tt
-  by_class now s rest server m class.Cut old p searches brings is h = same_chain p (Again server) j (ap (λ (x : Point). x.task) h) (ap (λ (x : Point). x.job) h) refl refl refl tt
+  by_class now s rest server m class.Truncated old p searches brings is h = same_chain p (Again server) j (ap (λ (x : Point). x.task) h) (ap (λ (x : Point). x.job) h) refl refl refl tt
   by_class now s rest server m (class.Failed f) old p searches brings is h = same_chain p Go j (ap (λ (x : Point). x.task) h) (ap (λ (x : Point). x.job) h) refl refl refl tt
 
   pub enters_reach : (now : ℕ) (input : Input) (old : Stores) (p : Point) → IsInputNow port home k turn past ask served asked input → Enters now input j old p → ReachedBy p
@@ -185,27 +185,27 @@ module _ (port : ℕ) (home : Home) (k : ℕ) (turn : Turn) (past : List Turn) (
 
   -- What one call gives.
   pub call_tells : (now : ℕ) (input : Input) (next : Next) (new : Job) (after : Stores) → IsInputNow port home k turn past ask served asked input → Advances home now input j stores next new after
-      → Leads port home (turn ∷ past) k t from CutNow next new × AreTold port home (turn ∷ past) after
+      → Leads port home (turn ∷ past) k t from TruncatedNow next new × AreTold port home (turn ∷ past) after
   call_tells now input next new after is a =
       let first = enters_sound port home k turn past ask served asked now input j stores a.first told work.marks work.top is a.enters in
       let reached = enters_reach now input stores a.first is a.enters in
-      let (sound, reach) = rules_reach port home (turn ∷ past) t k CutNow now a.count from a.first a.last first reached a.rules in
-      leaves_tell port home (turn ∷ past) k t from CutNow now a.last next new after sound reach a.leaves
+      let (sound, reach) = rules_reach port home (turn ∷ past) t k TruncatedNow now a.count from a.first a.last first reached a.rules in
+      leaves_tell port home (turn ∷ past) k t from TruncatedNow now a.last next new after sound reach a.leaves
 
   pub stop_tells : (now : ℕ) (input : Input) (after : Stores) → IsInputNow port home k turn past ask served asked input → Stops input now j stores after → AreTold port home (turn ∷ past) after
   stop_tells now input after is h = stops_told port home k turn past ask served asked now j stores told work.marks work.top input after is h
 
 -- ---- a query that comes
 
-module _ (port : ℕ) (home : Home) (run : List Turn) (k : ℕ) (t : ℕ) (from : Name) (Cuts : Addr → Name → ℕ → Type 0) where
+module _ (port : ℕ) (home : Home) (run : List Turn) (k : ℕ) (t : ℕ) (from : Name) (Truncates : Addr → Name → ℕ → Type 0) where
   pub start_tells : (now deadline : ℕ) (j : Job) (stores : Stores) (next : Next) (new : Job) (after : Stores) → AreTold port home run stores → Advances home now Start (job_at from t deadline) stores next new after
-      → Leads port home run k t from Cuts next new × AreTold port home run after
+      → Leads port home run k t from Truncates next new × AreTold port home run after
   start_tells now deadline j stores next new after told a =
-      let sound : IsSound port home k run Cuts a.first = subst (IsSound port home k run Cuts) (sym a.enters) (record { told = told; marks = λ f c. absurd (Contains-nil f c); stands = tt }) in
+      let sound : IsSound port home k run Truncates a.first = subst (IsSound port home k run Truncates) (sym a.enters) (record { told = told; marks = λ f c. absurd (Contains-nil f c); stands = tt }) in
       let reached : IsReached port home run t from a.first.task a.first.job = subst (λ (p : Point). IsReached port home run t from p.task p.job) (sym a.enters)
       (record { kind = refl; leads = refl; few = zero_least; link = tt }) in
-      let (last, reach) = rules_reach port home run t k Cuts now a.count from a.first a.last sound reached a.rules in
-      leaves_tell port home run k t from Cuts now a.last next new after last reach a.leaves
+      let (last, reach) = rules_reach port home run t k Truncates now a.count from a.first a.last sound reached a.rules in
+      leaves_tell port home run k t from Truncates now a.last next new after last reach a.leaves
     where
       zero_least : 0 ≤ 8
       zero_least = omega arith

@@ -22,8 +22,8 @@ use Rattle.laws.proofs.Discipline.{open_by_run, fresh_number}
 use Rattle.laws.proofs.Orders.{run_orderly}
 use Rattle.laws.specs.Calls as call
 use Rattle.laws.specs.Calls.{GoesOut, HasLink}
-use Rattle.laws.specs.Steps.{Attends, at_moment, EndsInVain, Replies, IsUdp, IsTcp, Asks, LostIsAskedOn, CutIsAskedAgain, ReferralIsAsked, AnswerIsReplied, AliasIsKept}
-use Rattle.laws.proofs.Calls.{next_is_asked, cut_is_repeated}
+use Rattle.laws.specs.Steps.{Attends, at_moment, EndsInVain, Replies, IsUdp, IsTcp, Asks, LostIsAskedOn, TruncatedIsAskedAgain, ReferralIsAsked, AnswerIsReplied, AliasIsKept}
+use Rattle.laws.proofs.Calls.{next_is_asked, truncated_is_repeated}
 use Rattle.laws.proofs.FollowedAnswered.{referral_is_followed, answer_is_used, alias_stays}
 use Rattle.laws.proofs.FollowedStores.{low_run}
 
@@ -234,12 +234,12 @@ lost_is_asked_on site past old t out new q sought others server a vain due = by 
           lost = inr (inr (f, hears_class site past old t out new q sought others a (class.Failed f) x.message x.is_class));
         }) due
 
-pub cut_is_asked_again : CutIsAskedAgain
-cut_is_asked_again site past old t out new q sought others a cut =
-    let (first, v, behind) = told_by site past old t out new q sought others a cut.message cut.brings in
+pub truncated_is_asked_again : TruncatedIsAskedAgain
+truncated_is_asked_again site past old t out new q sought others a short =
+    let (first, v, behind) = told_by site past old t out new q sought others a short.message short.brings in
     sends_tcp site past old t out new q sought others a _ first (q.ask).server v behind
-    (cut_is_repeated ((at_moment old t).site).home (at_moment old t).clock _ q.job (at_moment old t).stores v.next v.job v.stores sought others (q.ask).server v.advances
-    (hears_class site past old t out new q sought others a class.Cut cut.message cut.is_class))
+    (truncated_is_repeated ((at_moment old t).site).home (at_moment old t).clock _ q.job (at_moment old t).stores v.next v.job v.stores sought others (q.ask).server v.advances
+    (hears_class site past old t out new q sought others a class.Truncated short.message short.is_class))
 
 pub answer_is_replied : AnswerIsReplied
 answer_is_replied site past old t out new q sought l a answer ends fresh =

@@ -12,7 +12,7 @@ use Rattle.runs.specs.States.{Action, Reply, MoreDue, Turn, Served, Nobody, Own,
 use Rattle.runs.specs.Messages.{sending, IsSent}
 use Rattle.runs.specs.Runs.{Earlier, GivesOut, Came, clock_of, is_ask, asks_among, asks_in, is_for, asks_of}
 use Rattle.runs.specs.Steps.{AreOthers, AreWith, Ends, Waits, WaitsByUdp, WaitsByTcp}
-use Rattle.laws.specs.Spent.{IsCutShort, AsksBy, IsOpenAsk}
+use Rattle.laws.specs.Spent.{BringsTruncated, AsksBy, IsOpenAsk}
 use Rattle.laws.specs.Caused.{AreDistinct}
 use Rattle.laws.proofs.Leaving.{IsWaitingFor}
 use Rattle.laws.proofs.TimelySent.{IsOpenFor}
@@ -169,12 +169,12 @@ module _ (port : ℕ) (home : Home) (past : List Turn) (s : State) (h : IsExplai
           (opens server n u job w.ask _ w.for (subst (λ (p : Path). AsksBy port k w.ask p (turn ∷ past)) (sym w.goes.path) (inl (is, (w.waits.action, gives, sent))))
           (one_more w.waits.action w.ask out sent w.waits.out_is counts) work timely)
 
-      pub by_tcp : IsCutShort port k server n u turn past → WaitsByTcp s who k opened server n u job stores out new → IsExplained port home (turn ∷ past) new
-      by_tcp cut w =
+      pub by_tcp : BringsTruncated port k server n u turn past → WaitsByTcp s who k opened server n u job stores out new → IsExplained port home (turn ∷ past) new
+      by_tcp short w =
           let sent = subst (λ (p : ℕ). IsSent p w.ask w.waits.action) at w.waits.sent in
           let gives = goes w.waits.action (subst (λ (l : List Action). Contains l w.waits.action) (sym w.waits.out_is) (Contains-head w.waits.action [])) in
-          let same = subst (λ (a : Addr). IsCutShort port k a (w.ask).name (w.ask).kind turn past) (sym w.for.server)
-          (subst (λ (m : Name). IsCutShort port k server m (w.ask).kind turn past) (sym w.for.name) (subst (λ (v : ℕ). IsCutShort port k server n v turn past) (sym w.for.kind) cut)) in
+          let same = subst (λ (a : Addr). BringsTruncated port k a (w.ask).name (w.ask).kind turn past) (sym w.for.server)
+          (subst (λ (m : Name). BringsTruncated port k server m (w.ask).kind turn past) (sym w.for.name) (subst (λ (v : ℕ). BringsTruncated port k server n v turn past) (sym w.for.kind) short)) in
           waits_on w.ask job stores _ _ out new told w.waits
           (opens server n u job w.ask _ w.for (subst (λ (p : Path). AsksBy port k w.ask p (turn ∷ past)) (sym w.goes.path) (inl (is, (w.waits.action, gives, sent), same)))
           (one_more w.waits.action w.ask out sent w.waits.out_is counts) work timely)

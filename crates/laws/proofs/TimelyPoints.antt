@@ -61,7 +61,7 @@ module _ (port : ℕ) (home : Home) (run : List Turn) where
       by local.NotHere None says is b = (c, root_start run b, inl (ap (λ (x : Cut). x.owner) b), λ level nesting. refl)
       by local.NotHere (Some k) says is b = kept k is b
 
-module _ (port : ℕ) (home : Home) (k : ℕ) (run : List Turn) (Cuts : Addr → Name → ℕ → Type 0) where
+module _ (port : ℕ) (home : Home) (k : ℕ) (run : List Turn) (Truncates : Addr → Name → ℕ → Type 0) where
   -- The innermost search is so, and the others wait around it.
   abbrev pub OnTop : Name → ℕ → List Search → (Search → Type 0) → Type 0
   OnTop name kind [] P = ⊥
@@ -71,7 +71,7 @@ module _ (port : ℕ) (home : Home) (k : ℕ) (run : List Turn) (Cuts : Addr →
   StandsBy Seek j = Unit {0}
   StandsBy (Take l) j = Unit {0}
   StandsBy Go j = OnTop j.name j.kind j.searches (IsIdle port home k run)
-  StandsBy (Again a) j = OnTop j.name j.kind j.searches (λ s. IsAsking port home k run s a × Cuts a s.name s.kind)
+  StandsBy (Again a) j = OnTop j.name j.kind j.searches (λ s. IsAsking port home k run s a × Truncates a s.name s.kind)
 
   pub record IsSound (p : Point) : Type 0 where
     pub told : AreTold port home run p.stores

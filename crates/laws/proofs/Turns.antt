@@ -10,7 +10,7 @@ use Rattle.resolution.specs.Rules.{Stops}
 use Rattle.runs.specs.States.{Action, Turn, Served, Own, Query, Plain, Asker, recursive, Open, AreApart, State}
 use Rattle.runs.specs.Runs.{Asks, GivesOut, Came, clock_of, asks_among, asks_in, is_for, asks_of}
 use Rattle.runs.specs.Steps.{Ends, Comes, IsAsking, IsOpened, at_once, crowded, admitted, Resolves, IsInput, IsIgnored, Hears, IsLate, IsLeft}
-use Rattle.laws.specs.Spent.{IsCutShort}
+use Rattle.laws.specs.Spent.{BringsTruncated}
 use Rattle.laws.specs.Caused.{AreCrowded, IsPastDeadline, IsExplained as IsResult}
 use Rattle.laws.proofs.Enters.{open_asks}
 use Rattle.laws.proofs.Leaving.{FailsFor, GoesOut as Leads}
@@ -66,7 +66,7 @@ module _ (past : List Turn) (s : State) (h : IsExplained (s.site).port (s.site).
   -- What comes of an open query.
   comes_of : (q : Open) (next : Next) (job : Job) (stores : Stores) (out : List Action) (new : State) → Contains s.queries q → (is : turn.served ≡ Query q.number)
       → ((a : Action) → Contains out a → GivesOut turn.out a) → asks_in turn.out ≡ asks_among out
-      → Leads (s.site).port (s.site).home (turn ∷ past) q.number (type_number ((q.asker).query).kind) ((q.asker).query).name (λ a n u. IsCutShort (s.site).port q.number a n u turn past) next job
+      → Leads (s.site).port (s.site).home (turn ∷ past) q.number (type_number ((q.asker).query).kind) ((q.asker).query).name (λ a n u. BringsTruncated (s.site).port q.number a n u turn past) next job
       → GoesTimely (s.site).port (s.site).home turn past q.number (type_number ((q.asker).query).kind) s.clock clock (turn.served ≡ Query q.number) (λ is. is) ((q.asker).query).name (q.job).deadline (q.job).asks next job
       → AreHeld (s.site).port (s.site).home (turn ∷ past) stores → Comes s q.asker q.number s.opened next job stores out new → Keeps new out
   comes_of q (Ask server n u) job stores out new there is goes counts leads timely told w = (
@@ -144,7 +144,7 @@ module _ (past : List Turn) (s : State) (h : IsExplained (s.site).port (s.site).
     told_now = held_later (s.site).port (s.site).home turn past s.stores h.told
 
     Tells_of : Next → Job → Type 0
-    Tells_of next job = Leads (s.site).port (s.site).home (turn ∷ past) s.opened (type_number (who.query).kind) (who.query).name (λ a n u. IsCutShort (s.site).port s.opened a n u turn past) next job
+    Tells_of next job = Leads (s.site).port (s.site).home (turn ∷ past) s.opened (type_number (who.query).kind) (who.query).name (λ a n u. BringsTruncated (s.site).port s.opened a n u turn past) next job
 
     Timely_of : Next → Job → Type 0
     Timely_of next job = GoesTimely (s.site).port (s.site).home turn past s.opened (type_number (who.query).kind) s.clock clock ⊥ (λ e. absurd e) (who.query).name (s.clock + 10000) 0 next job
@@ -223,7 +223,7 @@ module _ (past : List Turn) (s : State) (h : IsExplained (s.site).port (s.site).
     pub resolved_now : (new : State) → AreApart s.queries → ((served : Served) → turn.served ≡ served → Came served who turn past) → Resolves s who turn.served out new → Keeps new out
     unfolding Tells_of Timely_of
     resolved_now new apart came e =
-        let tells = start_tells (s.site).port (s.site).home (turn ∷ past) s.opened (type_number (who.query).kind) (who.query).name (λ a n u. IsCutShort (s.site).port s.opened a n u turn past) s.clock s.clock e.job s.stores e.next e.job e.stores told_now.0 e.advances in
+        let tells = start_tells (s.site).port (s.site).home (turn ∷ past) s.opened (type_number (who.query).kind) (who.query).name (λ a n u. BringsTruncated (s.site).port s.opened a n u turn past) s.clock s.clock e.job s.stores e.next e.job e.stores told_now.0 e.advances in
         let timely = start_timed (s.site).port (s.site).home turn past s.opened (type_number (who.query).kind) s.clock clock (who.query).name s.clock s.stores e.next e.job e.stores told_now.0 told_now.1 e.advances in
         by tells.0 timely.0 (tells.1, timely.1) e.opened
       where

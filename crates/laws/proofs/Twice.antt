@@ -5,7 +5,7 @@ use Rattle.rdata.specs.declared.addr.Addr.{Addr}
 use Rattle.layout.specs.Messages.{Message}
 use Rattle.layout.proofs.Single.{message_one}
 use Rattle.classify.specs.Classes as class
-use Rattle.classify.specs.Classes.{class_of, by_code, cut_over}
+use Rattle.classify.specs.Classes.{class_of, by_code, truncated_over}
 use Rattle.classify.specs.declared.class.Failure.{Failure}
 use Rattle.wire.specs.declared.via.Via.TheVariants as via
 use Rattle.runs.specs.States.{Turn, Event, Client, Datagram, TcpReply, TcpFailed, Tick, Path, ByUdp, ByTcp, Asking, IsFor, via_of}
@@ -14,25 +14,25 @@ use Rattle.runs.specs.Runs.{Earlier, Asks}
 use Rattle.laws.specs.Spent.{Twice, IsUdp, Repeats, AsksBy, IsBad, EndsBadly, HasFailed, SendsTo}
 
 module _ (port k : ℕ) where
-  -- A reply that was cut short over UDP is no bad end.
-  cut_no_failure : (z n : Name) (t : ℕ) (m : Message) (f : Failure) → m.header.tc ≡ true → class_of z n t via.Udp m ≡ class.Failed f → ⊥
-  cut_no_failure z n t m f tc e = let cut : class_of z n t via.Udp m ≡ class.Cut = ap (λ b. cond b (cut_over via.Udp) (by_code z n t m)) tc in absurd (apart (sym cut ∙ e))
+  -- A reply that was truncated over UDP is no bad end.
+  truncated_no_failure : (z n : Name) (t : ℕ) (m : Message) (f : Failure) → m.header.tc ≡ true → class_of z n t via.Udp m ≡ class.Failed f → ⊥
+  truncated_no_failure z n t m f tc e = let short : class_of z n t via.Udp m ≡ class.Truncated = ap (λ b. cond b (truncated_over via.Udp) (by_code z n t m)) tc in absurd (apart (sym short ∙ e))
     where
-      apart : class.Cut ≡ class.Failed f → ⊥
+      apart : class.Truncated ≡ class.Failed f → ⊥
       apart e = cc
 
-  not_both : (z : Name) (bad cut : Asking) (event : Event) (m : Message) → IsUdp cut.path → Brings port cut event m → m.header.tc ≡ true → IsBad port z bad event → ⊥
-  not_both z bad cut (Client now client way bytes) m udp brings tc is = brings
-  not_both z bad cut (TcpReply now number bytes) m udp (path, is_m, answers) tc is = subst IsUdp path udp
-  not_both z bad cut (TcpFailed now number) m udp brings tc is = brings
-  not_both z bad cut (Tick now) m udp brings tc is = brings
-  not_both z bad cut (Datagram now sock from bytes) m udp (path, source, is_m, answers) tc (inl (later, e)) = cc
-  not_both z bad cut (Datagram now sock from bytes) m udp (path, source, is_m, answers) tc (inr (inl (later, number, tcp, inl e))) = cc
-  not_both z bad cut (Datagram now sock from bytes) m udp (path, source, is_m, answers) tc (inr (inl (later, number, tcp, inr (text, e, none)))) = cc
-  not_both z bad cut (Datagram now sock from bytes) m udp (path, source, is_m, answers) tc (inr (inr (other, f, (bad_path, bad_source, is_other, bad_answers), failed))) =
+  not_both : (z : Name) (bad short : Asking) (event : Event) (m : Message) → IsUdp short.path → Brings port short event m → m.header.tc ≡ true → IsBad port z bad event → ⊥
+  not_both z bad short (Client now client way bytes) m udp brings tc is = brings
+  not_both z bad short (TcpReply now number bytes) m udp (path, is_m, answers) tc is = subst IsUdp path udp
+  not_both z bad short (TcpFailed now number) m udp brings tc is = brings
+  not_both z bad short (Tick now) m udp brings tc is = brings
+  not_both z bad short (Datagram now sock from bytes) m udp (path, source, is_m, answers) tc (inl (later, e)) = cc
+  not_both z bad short (Datagram now sock from bytes) m udp (path, source, is_m, answers) tc (inr (inl (later, number, tcp, inl e))) = cc
+  not_both z bad short (Datagram now sock from bytes) m udp (path, source, is_m, answers) tc (inr (inl (later, number, tcp, inr (text, e, none)))) = cc
+  not_both z bad short (Datagram now sock from bytes) m udp (path, source, is_m, answers) tc (inr (inr (other, f, (bad_path, bad_source, is_other, bad_answers), failed))) =
       let same : m ≡ other = message_one bytes m other is_m is_other in
       let way : via_of bad.path ≡ via.Udp = ap via_of bad_path in
-      cut_no_failure z bad.name bad.kind other f (subst (λ (x : Message). x.header.tc ≡ true) same tc) (subst (λ w. class_of z bad.name bad.kind w other ≡ class.Failed f) way failed)
+      truncated_no_failure z bad.name bad.kind other f (subst (λ (x : Message). x.header.tc ≡ true) same tc) (subst (λ w. class_of z bad.name bad.kind w other ≡ class.Failed f) way failed)
 
   module _ (z n : Name) (t : ℕ) (a : Addr) where
     asked_by_udp : (ask : Asking) (run : List Turn) → IsUdp ask.path → IsFor a n t ask → Asks port k ask run → Earlier (SendsTo port k a n t) run
@@ -40,12 +40,12 @@ module _ (port k : ℕ) where
     asked_by_udp ask (turn ∷ past) udp same (inl (served, sent)) = inl (ask, udp, same, served, sent)
     asked_by_udp ask (turn ∷ past) udp same (inr (other, more)) = inr (asked_by_udp ask past udp same more)
 
-    same_ask : (ask cut : Asking) → IsFor a n t ask → IsFor ask.server ask.name ask.kind cut → IsFor a n t cut
-    same_ask ask cut f g = record { server = g.server ∙ f.server; name = g.name ∙ f.name; kind = g.kind ∙ f.kind }
+    same_ask : (ask short : Asking) → IsFor a n t ask → IsFor ask.server ask.name ask.kind short → IsFor a n t short
+    same_ask ask short f g = record { server = g.server ∙ f.server; name = g.name ∙ f.name; kind = g.kind ∙ f.kind }
 
     repeated : (ask : Asking) (run : List Turn) → IsFor a n t ask → Repeats port k ask run → Earlier (SendsTo port k a n t) run
     repeated ask [] same h = absurd h
-    repeated ask (turn ∷ past) same (inl (served, sent, cut)) = inr (asked_by_udp cut.ask past cut.udp (same_ask ask cut.ask same cut.same) cut.asked)
+    repeated ask (turn ∷ past) same (inl (served, sent, short)) = inr (asked_by_udp short.ask past short.udp (same_ask ask short.ask same short.same) short.asked)
     repeated ask (turn ∷ past) same (inr (other, more)) = inr (repeated ask past same more)
 
     origin : (ask : Asking) (path : Path) (run : List Turn) → ask.path ≡ path → IsFor a n t ask → AsksBy port k ask path run → Earlier (SendsTo port k a n t) run
@@ -72,8 +72,8 @@ module _ (port k : ℕ) where
 
     second_repeated : (ask : Asking) (run : List Turn) → IsFor a n t ask → Repeats port k ask run → Earlier Bad run → Twice (SendsTo port k a n t) run
     second_repeated ask [] same h e = absurd h
-    second_repeated ask (turn ∷ past) same (inl (served, sent, cut)) (inl (bad, is, asked, for_it, ends)) = absurd (not_both z bad cut.ask turn.event cut.message cut.udp cut.brings cut.cut ends)
-    second_repeated ask (turn ∷ past) same (inl (served, sent, cut)) (inr e) = inr (second_by_udp cut.ask past cut.udp (same_ask ask cut.ask same cut.same) cut.asked e)
+    second_repeated ask (turn ∷ past) same (inl (served, sent, short)) (inl (bad, is, asked, for_it, ends)) = absurd (not_both z bad short.ask turn.event short.message short.udp short.brings short.tc ends)
+    second_repeated ask (turn ∷ past) same (inl (served, sent, short)) (inr e) = inr (second_by_udp short.ask past short.udp (same_ask ask short.ask same short.same) short.asked e)
     second_repeated ask (turn ∷ past) same (inr (other, more)) (inl (bad, served, asked, for_it, ends)) = absurd (other served)
     second_repeated ask (turn ∷ past) same (inr (other, more)) (inr e) = inr (second_repeated ask past same more e)
 

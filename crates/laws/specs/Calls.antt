@@ -1,5 +1,5 @@
 -- What one input makes of a query's work (RFC 1034, section 5.3.3, steps 3 and 4): servers are asked in
--- turn, a referral is followed, a reply that was cut is asked for again, an answer is used.
+-- turn, a referral is followed, a truncated reply is asked for again, an answer is used.
 use Rattle.std.specs.Prelude.{◌≡◌, ℕ, ◌⊎◌, ◌+◌, Option, Some, None, List, [], ◌∷◌, Contains}
 use Rattle.dname.specs.Labels.{Name}
 use Rattle.rdata.specs.Records.{Record}
@@ -51,11 +51,11 @@ NextIsAsked =
     → Advances home now input old stores next new after → IsLost old input s rest → upcoming (s.frame).plan ≡ Some server
     → GoesOut now old (Ask server s.name s.kind) next
 
--- A reply that was cut short over UDP: the same server is asked the same question over TCP.
-abbrev pub CutIsRepeated : Type 0
-CutIsRepeated =
+-- A reply that was truncated over UDP: the same server is asked the same question over TCP.
+abbrev pub TruncatedIsRepeated : Type 0
+TruncatedIsRepeated =
     (home : Home) (now : ℕ) (input : Input) (old : Job) (stores : Stores) (next : Next) (new : Job) (after : Stores) (s : Search) (rest : List Search) (server : Addr)
-    → Advances home now input old stores next new after → Hears old input s rest server class.Cut
+    → Advances home now input old stores next new after → Hears old input s rest server class.Truncated
     → GoesOut now old (AskTcp server s.name s.kind) next
 
 -- A referral: where an address of one of its servers is taken, one of those taken is asked the same question,

@@ -1,5 +1,5 @@
 -- The theorem: every reply is right. In a well formed world whose local zones and hints are the resolver's, and
--- in every run in which servers say only what they may, each reply to a recursive query is a SERVFAIL, or is cut
+-- in every run in which servers say only what they may, each reply to a recursive query is a SERVFAIL, or is truncated
 -- as it should be, or says the whole truth of the question and nothing else.
 use Rattle.std.specs.Prelude.{◌≡◌, ◌∷◌, ℕ, ◌<◌, ◌⊎◌, true, Option, List, [], length, Contains}
 use Rattle.dname.specs.Labels.{Name}
@@ -44,9 +44,9 @@ pub record IsRightWhole (W : World) (q : Name) (t : ℕ) (bytes : List ℕ) : Ty
   pub to : IsReplyTo q t message
   pub whole : IsWhole W q t message
 
--- A reply over UDP that was cut (RFC 1035, section 4.2.1; RFC 2181, section 9): without records, its header that
+-- A reply that was truncated over UDP (RFC 1035, section 4.2.1; RFC 2181, section 9): without records, its header that
 -- of a right reply but for TC, and that one would have more than 512 bytes.
-pub record IsCutShort (W : World) (way : Via) (q : Name) (t : ℕ) (bytes : List ℕ) : Type 0 where
+pub record IsTruncated (W : World) (way : Via) (q : Name) (t : ℕ) (bytes : List ℕ) : Type 0 where
   pub over : way ≡ Udp
   pub message : Message
   pub is : IsMessage bytes message
@@ -59,7 +59,7 @@ pub record IsCutShort (W : World) (way : Via) (q : Name) (t : ℕ) (bytes : List
   pub long : 512 < length (encoding whole)
 
 abbrev pub IsRightReply : World → Via → Name → ℕ → List ℕ → Type 0
-IsRightReply W way q t bytes = IsServfail q t bytes ⊎ IsCutShort W way q t bytes ⊎ IsRightWhole W q t bytes
+IsRightReply W way q t bytes = IsServfail q t bytes ⊎ IsTruncated W way q t bytes ⊎ IsRightWhole W q t bytes
 
 -- A reply of a step goes to the client whose query the step serves, or refuses bytes that are none; and to
 -- every recursive query that the step serves it is right.

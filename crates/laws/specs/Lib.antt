@@ -1,15 +1,16 @@
-pub mod Calls
-pub mod Caused
-pub mod Failures
+-- To be read: what the words of the contracts mean.
 pub mod Headline
-pub mod Held
+pub mod Timely
+pub mod Caused
+pub mod Spent
+pub mod Failures
 pub mod Laws
-pub mod Looks
 pub mod Replies
 pub mod Searches
-pub mod Spent
-pub mod Steps
-pub mod Timely
 pub mod Times
-pub mod Uses
 pub mod Words
+pub mod Calls
+pub mod Steps
+pub mod Held
+pub mod Looks
+pub mod Uses

@@ -51,7 +51,7 @@ rules_hits home now (suc n) a b (mid, before, rule) = rules_hits home now n a mi
 abbrev pub accepted_by : ℕ → Search → class.Class → Option Accepted
 accepted_by now s (class.Answer l) = Some (record { name = s.name; kind = s.kind; hit = hit_from l now })
 accepted_by now s (class.Referral at ns glue ttl) = None
-accepted_by now s class.Cut = None
+accepted_by now s class.Truncated = None
 accepted_by now s (class.Failed f) = None
 
 abbrev pub enters_accepted : (now : ℕ) (input : Input) (j : Job) (stores : Stores) (p : Point) → Enters now input j stores p → Option Accepted

@@ -33,22 +33,22 @@ abbrev pub IsUdp : Path → Type 0
 IsUdp (ByUdp sock) = Unit {0}
 IsUdp (ByTcp number) = ⊥
 
--- This step brings a reply that was cut short to the query's open ask over UDP of that server.
-pub record IsCutShort (port k : ℕ) (a : Addr) (n : Name) (t : ℕ) (turn : Turn) (past : List Turn) : Type 0 where
+-- This step brings a truncated reply to the query's open ask over UDP of that server.
+pub record BringsTruncated (port k : ℕ) (a : Addr) (n : Name) (t : ℕ) (turn : Turn) (past : List Turn) : Type 0 where
   pub ask : Asking
   pub udp : IsUdp ask.path
   pub asked : Asks port k ask past
   pub same : IsFor a n t ask
   pub message : Message
   pub brings : Brings port ask turn.event message
-  pub cut : message.header.tc ≡ true
+  pub tc : message.header.tc ≡ true
 
--- The query's open ask over TCP: it went out in the step that brought a reply to the same ask over UDP, cut
--- short (RFC 1035, section 4.2.1). With it that ask goes on.
+-- The query's open ask over TCP: it went out in the step that brought a truncated reply to the same ask over
+-- UDP (RFC 1035, section 4.2.1). With it that ask goes on.
 abbrev pub Repeats : ℕ → ℕ → Asking → List Turn → Type 0
 Repeats port k ask [] = ⊥
 Repeats port k ask (turn ∷ past) =
-    ((turn.served ≡ Query k) × ((action : Action) × GivesOut turn.out action × IsSent port ask action) × IsCutShort port k ask.server ask.name ask.kind turn past)
+    ((turn.served ≡ Query k) × ((action : Action) × GivesOut turn.out action × IsSent port ask action) × BringsTruncated port k ask.server ask.name ask.kind turn past)
     ⊎ ((turn.served ≢ Query k) × Repeats port k ask past)
 
 abbrev pub AsksBy : ℕ → ℕ → Asking → Path → List Turn → Type 0

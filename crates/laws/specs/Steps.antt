@@ -88,11 +88,11 @@ LostIsAskedOn =
     → Attends site past old t out new q sought others → EndsInVain site (at_moment old t) t q sought → upcoming (sought.frame).plan ≡ Some server
     → Asks IsUdp site (at_moment old t) q server sought out new
 
--- A reply that was cut short over UDP: the same server is asked the same question over TCP.
-abbrev pub CutIsAskedAgain : Type 0
-CutIsAskedAgain =
+-- A reply that was truncated over UDP: the same server is asked the same question over TCP.
+abbrev pub TruncatedIsAskedAgain : Type 0
+TruncatedIsAskedAgain =
     (site : Site) (past : List Turn) (old : State) (t : Turn) (out : List Action) (new : State) (q : Open) (sought : Search) (others : List Search)
-    → Attends site past old t out new q sought others → Accepted site t q sought class.Cut
+    → Attends site past old t out new q sought others → Accepted site t q sought class.Truncated
     → Asks IsTcp site (at_moment old t) q (q.ask).server sought out new
 
 -- A referral of which an address is taken: one that is taken is asked the same question, the first of a plan

@@ -1,16 +1,16 @@
 //! What is heard is used, and what was learnt is followed: functions that do nothing, whose clauses are proved.
 
-ghost use Rattle.laws.specs.Calls.{NextIsAsked, CutIsRepeated, ReferralIsFollowed, FramesOpenRightly, AnswerIsUsed, AliasStays};
+ghost use Rattle.laws.specs.Calls.{NextIsAsked, TruncatedIsRepeated, ReferralIsFollowed, FramesOpenRightly, AnswerIsUsed, AliasStays};
 ghost use Rattle.laws.specs.Searches.{AskIsOfSearch};
-ghost use Rattle.laws.specs.Steps.{LostIsAskedOn, CutIsAskedAgain, ReferralIsAsked, AnswerIsReplied, AliasIsKept};
+ghost use Rattle.laws.specs.Steps.{LostIsAskedOn, TruncatedIsAskedAgain, ReferralIsAsked, AnswerIsReplied, AliasIsKept};
 
 /// What one call of the work on a query does at once (RFC 1034, section 5.3.3): where an ask came to nothing
-/// the plan's next address is asked; a reply that was cut is asked for again over TCP; a referral is
+/// the plan's next address is asked; a truncated reply is asked for again over TCP; a referral is
 /// followed; a frame opens where the zones at hand and the delegations say, with a plan by the penalties; an
 /// answer for the query's own name is used, and an alias stays in its chain.
 pub fn calls_law()
     ensures next { NextIsAsked }
-    ensures cut { CutIsRepeated }
+    ensures truncated { TruncatedIsRepeated }
     ensures referral { ReferralIsFollowed }
     ensures frame { FramesOpenRightly }
     ensures answer { AnswerIsUsed }
@@ -19,13 +19,13 @@ pub fn calls_law()
 
 /// The open ask of a query is for what its innermost search seeks. What a step does at once for the open
 /// query that it serves, over every run and whatever came before: an ask that ended in vain goes on to the
-/// plan's next address; a reply that was cut is asked for again over TCP; a referral of which an address is
+/// plan's next address; a truncated reply is asked for again over TCP; a referral of which an address is
 /// taken is followed; an answer that ends the chain is replied, and an alias stays in the chain. Only the
 /// query's deadline and its 40 asks stand before an ask.
 pub fn runs_law()
     ensures ask { AskIsOfSearch }
     ensures lost { LostIsAskedOn }
-    ensures cut { CutIsAskedAgain }
+    ensures truncated { TruncatedIsAskedAgain }
     ensures referral { ReferralIsAsked }
     ensures answer { AnswerIsReplied }
     ensures alias { AliasIsKept }

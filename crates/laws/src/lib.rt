@@ -1,4 +1,23 @@
 //! What every run of the resolver keeps: definitions, in `specs`, and laws, a module each. Nothing here runs.
+//!
+//! `headline_law`: in a well formed world, as long as each accepted message is one that its server may send, each
+//! reply to a recursive query is a SERVFAIL, or exactly what RFC 1034, section 4.3.2, finds in the zones, or
+//! truncated over UDP. The others have no premise on anyone. `timely_law`: no link is sent beyond its TTL, and
+//! every failure has its cause; `every_failure_is_spent`, `failed_is_asked_twice`: no server is left only where all
+//! were asked twice. `discipline_law`, `isolation_law`, `due_law`, `words_law`: one reply and one open ask a query,
+//! in due order, with identifiers of the seed. `calls_law`, `runs_law`: what is heard is used in its own step.
+//! `held_law`, `kept_law`: what is held is answered, what is kept is found.
+//!
+//! `engine::Core::step` keeps each of them. docs/DEFINITIONS.md says which definitions a reader has to believe.
+//! Not here: that the premises can be met (`sample`); the same without a premise on servers, in a network in memory
+//! (`network`).
+//!
+//! ```text
+//! pub fn headline_law()
+//!     ensures { Headline }
+//! {}
+//! // A call of a law does nothing; the proof of the function that calls it has its clause from there on.
+//! ```
 #![tactic(auto)]
 
 mod followed;

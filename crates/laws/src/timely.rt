@@ -20,7 +20,7 @@ pub fn every_failure_is_spent()
 {}
 
 /// An address that was asked twice in vain was asked twice over UDP: an ask that goes on over TCP, after a
-/// reply that was cut short, ends once (RFC 1035, section 4.2.1).
+/// truncated reply, ends once (RFC 1035, section 4.2.1).
 pub fn failed_is_asked_twice()
     ensures { FailedIsAskedTwice }
 {}

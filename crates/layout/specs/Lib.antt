@@ -1,6 +1,8 @@
+-- To be read: what the words of the contracts mean.
 pub mod Names
-pub mod Packing
 pub mod Pieces
 pub mod Places
 pub mod Messages
 pub mod Laws
+-- Computed: functions that the code is compared with.
+pub mod Packing

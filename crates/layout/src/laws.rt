@@ -1,3 +1,4 @@
+//! Laws of the definitions: functions that do nothing, whose clauses are proved.
 ghost use Rattle.layout.specs.Laws.{OneName, OneSpelling, SpellingIsName, NameIsSpelt, EncodingIsMessage, LettersKeepLength, LettersStayInQuestion, OneMessage, NamesEndInRoot};
 
 /// At a place of a message stands one name at most (RFC 1035, section 4.1.4).

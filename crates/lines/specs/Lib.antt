@@ -1,2 +1,3 @@
-pub mod Asks
+-- To be read: what the words of the contracts mean.
 pub mod Lines
+pub mod Asks

@@ -1,11 +1,14 @@
+-- To be read: what the words of the contracts mean.
+pub mod MasterText
+pub mod Files
+pub mod Printed
+pub mod ReadBack
 pub mod Faults
+-- Computed: functions that the code is compared with.
+pub mod Entries
+pub mod Fields
 pub mod Numbers
 pub mod Addresses
 pub mod Strings
-pub mod Fields
-pub mod Entries
-pub mod Files
+-- Kept: what the code's own values keep.
 pub mod Given
-pub mod MasterText
-pub mod Printed
-pub mod ReadBack

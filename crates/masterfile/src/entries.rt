@@ -1,4 +1,4 @@
-//! Entries: records and directives.
+//! Entries read one by one, records and directives, each under the origin, owner and TTL in force.
 ghost use Rattle.std.specs.Prelude.{◌≡◌, ◌≤◌, [], ◌∷◌, length, Ok, Err, None, Some, IfOk, OnOk, MatchOption, MatchResult, false};
 ghost use Rattle.words.specs.Lexemes.{plain as plain_text};
 ghost use Rattle.words.specs.Views.{lead_of};

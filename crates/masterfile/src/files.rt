@@ -1,4 +1,4 @@
-//! Whole texts.
+//! A whole text read, up to its first fault.
 ghost use Rattle.std.specs.Prelude.{◌≡◌, ◌+◌, ◌<◌, ◌^◌, ◌++◌, length, Ok, OnOk, MatchResult};
 ghost use Rattle.masterfile.specs.Files.{listed, read_lines, read_text, IsFirstFault};
 

@@ -1,4 +1,4 @@
-//! Laws of the definitions.
+//! Laws of the definitions: functions that do nothing, whose clauses are proved.
 ghost use Rattle.masterfile.specs.MasterText.{ReadsBothWays};
 ghost use Rattle.masterfile.specs.ReadBack.{PrintedIsReadBack};
 

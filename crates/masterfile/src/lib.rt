@@ -1,4 +1,21 @@
-//! Zone texts, read and printed (RFC 1035, section 5).
+//! Zone texts, read and printed (RFC 1035, section 5.1; `$TTL`: RFC 2308, section 4).
+//!
+//! `read` gives the records of a text in order, `read_block` those of a text that stands in a larger one. A
+//! relative name is under the origin in force, an entry without owner or TTL takes the ones before it. `print`
+//! writes records as a zone text of absolute names, `put_record` one line of it.
+//!
+//! Promised: a text is read as records exactly where it stands for them by the RFC's rules (`reads_both_ways`,
+//! `IsMasterText`), else refused with the line and the kind of its first fault (`FileError`); what `print` writes
+//! is read back as the same records, whatever the reader's origin (`printed_is_read_back`).
+//! Not here: the rules of a zone (`zone`); `$INCLUDE`, TTL units (`1h`), classes other than IN, types other than
+//! the eight of `rdata`: each is refused.
+//!
+//! ```text
+//! let origin = Name::from_text(alloc, "example.")?;
+//! let records = read(alloc, &origin, "$TTL 300\nwww IN A 192.0.2.1\n")?;
+//! assert_eq!(records.as_slice()[0].owner.to_text()?.as_str(), "www.example.");
+//! let text = print(alloc, &origin, records.as_slice())?;
+//! ```
 #![tactic(auto)]
 
 mod addresses;

@@ -1,4 +1,4 @@
-//! Records printed.
+//! Records printed as a zone text.
 ghost use Rattle.std.specs.Prelude.{◌≡◌, ◌++◌, IfOk, OnOk, string_bytes};
 ghost use Rattle.masterfile.specs.Printed.{record_text, line_text, file_text};
 ghost use Rattle.masterfile.specs.ReadBack.{FitMessages, IsReadAs};

@@ -1,4 +1,4 @@
-//! Character-strings.
+//! Character-strings of TXT records, read: quotes and escapes.
 ghost use Rattle.std.specs.Prelude.{◌≡◌, ◌<◌, [], length, None, Ok, IfOk, MatchOption, MatchResult};
 ghost use Rattle.masterfile.specs.declared.faults.FileKind.TheVariants.{BadData};
 ghost use Rattle.masterfile.specs.Strings.{unescaped, escaped_bytes, byte_onto, string_of};

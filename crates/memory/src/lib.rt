@@ -1,5 +1,17 @@
-//! Want of memory: the error that every crate answers where a growth is refused, and the bound on the
-//! allocators that they take.
+//! Out of memory, as a value: every growth can be refused, and no call aborts for it.
+//!
+//! `Starved` is the refusal of a call that can fail in no other way; the error enum of a crate has a variant
+//! `Memory` for it. `Heap` bounds an allocator that is passed by value: `Global`, or a reference to one that is
+//! lent. Public data is generic over it, so that a test refuses each growth in turn (`refusing`).
+//!
+//! Promised: the number of the refusal (`Starved::number`) and its words, "out of memory".
+//! Not here: what stands after a refusal. The contract of each call says it.
+//!
+//! ```text
+//! fn copy<A: Heap>(alloc: A, bytes: &[u8]) -> Result<Vec<u8, A>, Starved> {
+//!     Ok(Vec::from_slice(alloc, bytes)?)      // AllocError becomes Starved
+//! }
+//! ```
 #![tactic(auto)]
 
 ghost use Rattle.std.specs.Prelude.{◌≡◌, Some, codes};

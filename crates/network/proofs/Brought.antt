@@ -5,30 +5,30 @@ use Rattle.dname.specs.Labels.{Name}
 use Rattle.layout.specs.Messages.{Header, Question, Message, IsMessage}
 use Rattle.layout.proofs.Single.{message_one}
 use Rattle.truth.specs.Worlds.{Address, World, IsWorld}
-use Rattle.truth.specs.Serving.{IsCutDown, MayServe}
+use Rattle.truth.specs.Serving.{IsTruncationOf, MayServe}
 use Rattle.front.proofs.Echoes.{echo_is_question}
 use Rattle.worlds.specs.Hosting.{IsServed}
 use Rattle.worlds.proofs.Hosted.{host_serves}
 use Rattle.runs.specs.States.{Endpoint, Path, ByUdp, ByTcp, Asking, Plain}
 use Rattle.runs.specs.States as resolver
 use Rattle.runs.specs.Messages.{question_for, AnswersAsk, Brings}
-use Rattle.network.specs.Networks.{Sent, Network, sent_at, NetworkEvent, Client, Carry, CarryCut, CarryTcp, Lose, Tick, IsGiven, cut_down, IsCutReply, IsFitReply, IsDatagram, IsStream, OverUdp, OverTcp, lost, OfSend, Reaches}
+use Rattle.network.specs.Networks.{Sent, Network, sent_at, NetworkEvent, Client, Carry, CarryTruncated, CarryTcp, Lose, Tick, IsGiven, truncated, IsTruncatedReply, IsFitReply, IsDatagram, IsStream, OverUdp, OverTcp, lost, OfSend, Reaches}
 
--- ---- a reply, whole or cut, may be served
+-- ---- a reply, whole or truncated, may be served
 
-cut_is_served : (W : World) (a : Address) (n : Name) (t : ℕ) (m : Message) → MayServe W a n t m → MayServe W a n t (cut_down m)
-cut_is_served W a n t m (inl tells) =
+truncated_is_served : (W : World) (a : Address) (n : Name) (t : ℕ) (m : Message) → MayServe W a n t m → MayServe W a n t (truncated m)
+truncated_is_served W a n t m (inl tells) =
     inr (m, tells, record { header = refl; answer = λ r c. absurd (none_in r c); authority = λ r c. absurd (none_in r c); additional = λ r c. absurd (none_in r c) })
-cut_is_served W a n t m (inr (whole, tells, cut)) = let k : IsCutDown whole m = cut in
+truncated_is_served W a n t m (inr (whole, tells, short)) = let k : IsTruncationOf whole m = short in
     inr (whole, tells, record { header = ap (λ (h : Header). record h { tc = true }) k.header; answer = λ r c. absurd (none_in r c); authority = λ r c. absurd (none_in r c); additional = λ r c. absurd (none_in r c) })
 
 -- What comes of a reply: itself, or what is left of it.
 abbrev Comes : List ℕ → List ℕ → Type 0
-Comes given come = (come ≡ given) ⊎ IsCutReply given come
+Comes given come = (come ≡ given) ⊎ IsTruncatedReply given come
 
 fit_comes : (given come : List ℕ) → IsFitReply given come → Comes given come
 fit_comes given come (inl (few, same)) = inl same
-fit_comes given come (inr (many, cut)) = inr cut
+fit_comes given come (inr (many, short)) = inr short
 
 one_question : (x : Question) (y : Question) → (x ∷ []) ≡ y ∷ [] → x ≡ y
 one_question x y e = cc
@@ -46,11 +46,11 @@ module _ (W : World) (at : Address) (a : Asking) (m : Message) (fits : AnswersAs
   come_serves n t given come h (inl same) is =
       let one : h.read ≡ m = message_one given _ _ h.message (subst (λ (bs : List ℕ). IsMessage bs m) same is) in
       to_asked n t h.read (h.reply).question (ap (λ (x : Message). x.questions) (sym one)) (subst (MayServe W at n t) one h.serves)
-  come_serves n t given come h (inr cut) is =
-      let one : h.read ≡ cut.read = message_one given _ _ h.message cut.message in
-      let left : cut_down cut.read ≡ m = message_one come _ _ cut.stands is in
-      let down : cut_down h.read ≡ m = ap cut_down one ∙ left in
-      to_asked n t h.read (h.reply).question (ap (λ (x : Message). x.questions) (sym down)) (subst (MayServe W at n t) down (cut_is_served W at n t h.read h.serves))
+  come_serves n t given come h (inr short) is =
+      let one : h.read ≡ short.read = message_one given _ _ h.message short.message in
+      let left : truncated short.read ≡ m = message_one come _ _ short.stands is in
+      let down : truncated h.read ≡ m = ap truncated one ∙ left in
+      to_asked n t h.read (h.reply).question (ap (λ (x : Message). x.questions) (sym down)) (subst (MayServe W at n t) down (truncated_is_served W at n t h.read h.serves))
 
 -- ---- by the event
 
@@ -106,8 +106,8 @@ module _ (s : Network) (w : IsWorld s.world) (port : ℕ) (a : Asking) (m : Mess
   reached_serves (Client now client way bytes) e ours same brings = absurd (brought_as e (resolver.Client now client way bytes) same brings)
   reached_serves (Carry now k) e ours h brings =
       of_send (λ x. OverUdp s.world IsFitReply now x x.path) (sent_at s.sends k) e (λ x is here. over_udp IsFitReply now x x.path e fit_comes here brings) h
-  reached_serves (CarryCut now k) e ours h brings =
-      of_send (λ x. OverUdp s.world IsCutReply now x x.path) (sent_at s.sends k) e (λ x is here. over_udp IsCutReply now x x.path e (λ g c cut. inr cut) here brings) h
+  reached_serves (CarryTruncated now k) e ours h brings =
+      of_send (λ x. OverUdp s.world IsTruncatedReply now x x.path) (sent_at s.sends k) e (λ x is here. over_udp IsTruncatedReply now x x.path e (λ g c short. inr short) here brings) h
   reached_serves (CarryTcp now k) e ours h brings =
       of_send (λ x. OverTcp s.world now x x.path) (sent_at s.sends k) e (λ x is here. over_tcp now x x.path e refl (ours k x is) here brings) h
   reached_serves (Lose now k) e ours h brings = of_send (λ x l. l ≡ lost now x.path) (sent_at s.sends k) e (λ x is here. is_lost now x.path e here brings) h

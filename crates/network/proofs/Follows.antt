@@ -14,7 +14,7 @@ use Rattle.runs.specs.Runs.{Earlier, Always, GivesOut, Came}
 use Rattle.runs.specs.Replies.{IsServedFor, Refuses}
 use Rattle.laws.specs.Headline.{IsRightAnswer}
 use Rattle.laws.specs.Headline as theorem
-use Rattle.network.specs.Networks.{Sent, Network, sent_at, NetworkEvent, Client, Carry, CarryCut, CarryTcp, Lose, Tick, Reply, WasSent, WasAsked, MoreDue, IsCutReply, IsFitReply, IsDatagram, IsStream, OverUdp, OverTcp, lost, OfSend, Reaches, numbered, shown}
+use Rattle.network.specs.Networks.{Sent, Network, sent_at, NetworkEvent, Client, Carry, CarryTruncated, CarryTcp, Lose, Tick, Reply, WasSent, WasAsked, MoreDue, IsTruncatedReply, IsFitReply, IsDatagram, IsStream, OverUdp, OverTcp, lost, OfSend, Reaches, numbered, shown}
 use Rattle.network.specs.Laws.{Line, Throughout, Shows, IsHeardOf, IsAnswered, IsRefused, RepliesAreRight}
 
 -- A line without replies, and one that shows what a step of the resolver does: no other replies, and that
@@ -84,7 +84,7 @@ module _ (s : Network) (now client : ℕ) (way : Via) (bytes : List ℕ) where
   reached_client (Client at who by bs) e =
       let a : now ≡ at = cc in let b : client ≡ who = cc in let c : way ≡ by = cc in let d : bytes ≡ bs = cc in λ i. Client (sym a i) (sym b i) (sym c i) (sym d i)
   reached_client (Carry at k) h = absurd (no_send _ (sent_at s.sends k) (λ x. no_udp IsFitReply at x x.path) h)
-  reached_client (CarryCut at k) h = absurd (no_send _ (sent_at s.sends k) (λ x. no_udp IsCutReply at x x.path) h)
+  reached_client (CarryTruncated at k) h = absurd (no_send _ (sent_at s.sends k) (λ x. no_udp IsTruncatedReply at x x.path) h)
   reached_client (CarryTcp at k) h = absurd (no_send _ (sent_at s.sends k) (λ x. no_tcp at x x.path) h)
   reached_client (Lose at k) h = absurd (no_send (λ x e. e ≡ lost at x.path) (sent_at s.sends k) (λ x. no_loss at x.path) h)
   reached_client (Tick at) e = absurd (cc)

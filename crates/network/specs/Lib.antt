@@ -1,2 +1,3 @@
-pub mod Laws
+-- To be read: what the words of the contracts mean.
 pub mod Networks
+pub mod Laws

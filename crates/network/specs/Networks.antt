@@ -1,5 +1,5 @@
 -- A network in memory: a resolver, and the servers of a world, which reply to what it asks. A reply is carried
--- in any order, any number of times, cut or not, or is lost. Moments are milliseconds.
+-- in any order, any number of times, truncated or not, or is lost. Moments are milliseconds.
 use Rattle.std.specs.Prelude.{◌≡◌, ℕ, ◌+◌, ◌-◌, ◌<◌, ◌≤◌, ◌⊎◌, true, cond, nat_eq, Option, Some, None, List, [], ◌∷◌, ◌++◌, length, slice_get}
 use Rattle.layout.specs.Messages.{Message, IsMessage, encoding}
 use Rattle.causes.specs.declared.cause.Cause.{Cause}
@@ -30,11 +30,11 @@ abbrev pub sent_at : List Sent → ℕ → Option Sent
 sent_at sends k = cond (nat_eq k 0) None (slice_get sends (k - 1))
 
 -- Each event has its moment. A client's bytes, with its number and its way; the reply to an ask comes, over UDP
--- whole or cut, or over TCP; an ask is lost; time passes.
+-- whole or truncated, or over TCP; an ask is lost; time passes.
 pub data NetworkEvent : Type 0 where
   Client : ℕ → ℕ → Via → List ℕ → NetworkEvent
   Carry : ℕ → ℕ → NetworkEvent
-  CarryCut : ℕ → ℕ → NetworkEvent
+  CarryTruncated : ℕ → ℕ → NetworkEvent
   CarryTcp : ℕ → ℕ → NetworkEvent
   Lose : ℕ → ℕ → NetworkEvent
   Tick : ℕ → NetworkEvent
@@ -52,19 +52,19 @@ pub data NetworkAction : Type 0 where
 abbrev pub IsGiven : World → Sent → Option (List ℕ) → Type 0
 IsGiven W x given = IsHostReply Plain W ((x.to).address).0 x.bytes given
 
--- A reply that is cut: its header with TC, and its question (RFC 2181, section 9).
-abbrev pub cut_down : Message → Message
-cut_down m = record { header = record m.header { tc = true }; questions = m.questions; answer = []; authority = []; additional = [] }
+-- A truncated reply: its header with TC, and its question (RFC 2181, section 9).
+abbrev pub truncated : Message → Message
+truncated m = record { header = record m.header { tc = true }; questions = m.questions; answer = []; authority = []; additional = [] }
 
-pub record IsCutReply (given come : List ℕ) : Type 0 where
+pub record IsTruncatedReply (given come : List ℕ) : Type 0 where
   pub read : Message
   pub message : IsMessage given read
-  pub encoded : come ≡ encoding (cut_down read)
-  pub stands : IsMessage come (cut_down read)
+  pub encoded : come ≡ encoding (truncated read)
+  pub stands : IsMessage come (truncated read)
 
--- Over UDP a reply comes whole where it has at most 512 bytes, and cut where it has more (RFC 1035, section 4.2.1).
+-- Over UDP a reply comes whole where it has at most 512 bytes, and truncated where it has more (RFC 1035, section 4.2.1).
 abbrev pub IsFitReply : List ℕ → List ℕ → Type 0
-IsFitReply given come = ((length given ≤ limit_of via.Udp) × (come ≡ given)) ⊎ ((limit_of via.Udp < length given) × IsCutReply given come)
+IsFitReply given come = ((length given ≤ limit_of via.Udp) × (come ≡ given)) ⊎ ((limit_of via.Udp < length given) × IsTruncatedReply given come)
 
 -- A datagram with the reply, from whom was asked; nothing from a server that does not reply.
 abbrev pub IsDatagram : (List ℕ → List ℕ → Type 0) → ℕ → ℕ → Endpoint → Option (List ℕ) → Option resolver.Event → Type 0
@@ -100,7 +100,7 @@ OfSend Of (Some x) event = Of x event
 abbrev pub Reaches : Network → NetworkEvent → Option resolver.Event → Type 0
 Reaches s (Client now client way bytes) event = event ≡ Some (resolver.Client now client way bytes)
 Reaches s (Carry now k) event = OfSend (λ x. OverUdp s.world IsFitReply now x x.path) (sent_at s.sends k) event
-Reaches s (CarryCut now k) event = OfSend (λ x. OverUdp s.world IsCutReply now x x.path) (sent_at s.sends k) event
+Reaches s (CarryTruncated now k) event = OfSend (λ x. OverUdp s.world IsTruncatedReply now x x.path) (sent_at s.sends k) event
 Reaches s (CarryTcp now k) event = OfSend (λ x. OverTcp s.world now x x.path) (sent_at s.sends k) event
 Reaches s (Lose now k) event = OfSend (λ x e. e ≡ lost now x.path) (sent_at s.sends k) event
 Reaches s (Tick now) event = event ≡ Some (resolver.Tick now)

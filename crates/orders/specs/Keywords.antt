@@ -2,7 +2,7 @@
 use Rattle.std.specs.Prelude.{ℕ, cond, codes, List, Option, Some, None}
 use Rattle.std.specs.Str.{bytes_eq}
 use Rattle.orders.specs.declared.keyword.Keyword.{Keyword}
-use Rattle.orders.specs.declared.keyword.Keyword.TheVariants.{At, Ask, Raw, Carry, Cut, Lose, Run, Tick}
+use Rattle.orders.specs.declared.keyword.Keyword.TheVariants.{At, Ask, Raw, Carry, Truncate, Lose, Run, Tick}
 use Rattle.orders.specs.declared.keyword.Scope.{Scope}
 use Rattle.orders.specs.declared.keyword.Scope.TheVariants.{Whole, Asks}
 use Rattle.orders.specs.declared.mark.Mark.{Mark}
@@ -15,7 +15,7 @@ keyword_of w =
     (cond (bytes_eq w (codes "ask")) (Some Ask)
     (cond (bytes_eq w (codes "raw")) (Some Raw)
     (cond (bytes_eq w (codes "carry")) (Some Carry)
-    (cond (bytes_eq w (codes "cut")) (Some Cut)
+    (cond (bytes_eq w (codes "cut")) (Some Truncate)
     (cond (bytes_eq w (codes "lose")) (Some Lose)
     (cond (bytes_eq w (codes "run")) (Some Run)
     (cond (bytes_eq w (codes "tick")) (Some Tick) None)))))))
@@ -26,7 +26,7 @@ asking At = Some At
 asking Ask = Some Ask
 asking Raw = None
 asking Carry = None
-asking Cut = None
+asking Truncate = None
 asking Lose = None
 asking Run = None
 asking Tick = None

@@ -1,2 +1,3 @@
-pub mod Keywords
+-- To be read: what the words of the contracts mean.
 pub mod Orders
+pub mod Keywords

@@ -29,9 +29,9 @@ pub data Order : Type 0 where
   ask : Name → RType → Via → Bool → Order
   -- these bytes from a client
   raw : List ℕ → Via → Order
-  -- the reply to the send of this number comes, comes cut short, or never comes
+  -- the reply to the send of this number comes, comes truncated, or never comes
   carry : ℕ → Order
-  cut : ℕ → Order
+  truncate : ℕ → Order
   lose : ℕ → Order
   -- replies come until no send is left
   run : Order
@@ -42,7 +42,7 @@ order_seen (given.At n) = at n
 order_seen (given.Ask n t v r) = ask n t v r
 order_seen (given.Raw bytes v) = raw bytes.items v
 order_seen (given.Carry n) = carry n
-order_seen (given.Cut n) = cut n
+order_seen (given.Truncate n) = truncate n
 order_seen (given.Lose n) = lose n
 order_seen given.Run = run
 order_seen given.Tick = tick
@@ -95,7 +95,7 @@ ordered_by the.At ws = number_in 4611686018427387904 ws >>= λ n. Ok (at n)
 ordered_by the.Ask ws = ask_in ws
 ordered_by the.Raw ws = raw_in ws
 ordered_by the.Carry ws = number_in (2 ^ 64 - 1) ws >>= λ n. Ok (carry n)
-ordered_by the.Cut ws = number_in (2 ^ 64 - 1) ws >>= λ n. Ok (cut n)
+ordered_by the.Truncate ws = number_in (2 ^ 64 - 1) ws >>= λ n. Ok (truncate n)
 ordered_by the.Lose ws = number_in (2 ^ 64 - 1) ws >>= λ n. Ok (lose n)
 ordered_by the.Run ws = ended run ws
 ordered_by the.Tick ws = ended tick ws

@@ -9,7 +9,7 @@ pub(crate) enum Keyword {
     Ask,
     Raw,
     Carry,
-    Cut,
+    Truncate,
     Lose,
     Run,
     Tick,
@@ -42,7 +42,7 @@ impl Keyword {
             Keyword::At => Some(Keyword::At),
             Keyword::Ask => Some(Keyword::Ask),
             Keyword::Raw => None,
-            Keyword::Carry | Keyword::Cut | Keyword::Lose => None,
+            Keyword::Carry | Keyword::Truncate | Keyword::Lose => None,
             Keyword::Run | Keyword::Tick => None,
         }
     }
@@ -56,7 +56,7 @@ impl Keyword {
             "ask" => Some(Keyword::Ask),
             "raw" => Some(Keyword::Raw),
             "carry" => Some(Keyword::Carry),
-            "cut" => Some(Keyword::Cut),
+            "cut" => Some(Keyword::Truncate),
             "lose" => Some(Keyword::Lose),
             "run" => Some(Keyword::Run),
             "tick" => Some(Keyword::Tick),

@@ -1,4 +1,17 @@
-//! Scripts: what is done in a network, order by order.
+//! Scripts of a network in memory: what clients ask, what comes of the asks of servers, and when.
+//!
+//! `read_script` reads the orders of a script, a line each: `at` sets the moment, `ask` and `raw` are clients,
+//! `carry`, `cut` and `lose` say whether the reply to a numbered ask comes, comes truncated or never comes, `run`
+//! carries all that are left, `tick` lets time pass. `read_asks` reads a script that may only ask.
+//!
+//! Promised: the orders that the text says (`script_of`, `asks_of`), or the first line that is refused and why
+//! (`LineError`).
+//! Not here: playing them (`player` in one thread, `crowd` in many).
+//!
+//! ```text
+//! let orders = read_script(alloc, "at 0\nask www.lab.example. A\ncut 1\nrun\n")?;
+//! assert!(matches!(orders.as_slice()[2], Order::Truncate(1)));
+//! ```
 #![tactic(auto)]
 
 mod keyword;

@@ -32,11 +32,11 @@ pub enum Order<A: Allocator = Global> {
     },
     /// The reply to the send of this number comes.
     Carry(u64),
-    /// It comes cut short.
-    Cut(u64),
+    /// It comes truncated.
+    Truncate(u64),
     /// It never comes.
     Lose(u64),
-    /// The reply comes to each send that was not carried, cut or lost, until none is left.
+    /// The reply comes to each send that was not carried, truncated or lost, until none is left.
     Run,
     /// Time is looked at.
     Tick,
@@ -58,7 +58,7 @@ pub(crate) fn order_of<A: Heap>(
         Keyword::Ask => ask(alloc, words),
         Keyword::Raw => raw(alloc, words),
         Keyword::Carry => Ok(Order::Carry(number(words, u64::MAX)?)),
-        Keyword::Cut => Ok(Order::Cut(number(words, u64::MAX)?)),
+        Keyword::Truncate => Ok(Order::Truncate(number(words, u64::MAX)?)),
         Keyword::Lose => Ok(Order::Lose(number(words, u64::MAX)?)),
         Keyword::Run => {
             no_more(words)?;

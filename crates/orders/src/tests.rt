@@ -53,7 +53,7 @@ fn each_line_is_an_order(rt: HostRuntime) -> Result<(), Fail> {
             assert!(rt; brings(orders.get(5), &[0, 255], Via::Tcp));
             assert!(rt; brings(orders.get(6), &[127], Via::Udp));
             assert!(rt; matches!(orders.get(7), Some(Order::Carry(u64::MAX))));
-            assert!(rt; matches!(orders.get(8), Some(Order::Cut(0))));
+            assert!(rt; matches!(orders.get(8), Some(Order::Truncate(0))));
             assert!(rt; matches!(orders.get(9), Some(Order::Lose(2))));
             assert!(rt; matches!(orders.get(10), Some(Order::Run)));
             assert!(rt; matches!(orders.get(11), Some(Order::Tick)));

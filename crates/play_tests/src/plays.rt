@@ -139,7 +139,7 @@ fn a_silent_server_is_asked_twice(rt: HostRuntime) -> Result<(), Fail> {
 }
 
 #[test]
-fn a_cut_reply_is_asked_for_over_tcp(rt: HostRuntime) -> Result<(), Fail> {
+fn a_truncated_reply_is_asked_for_over_tcp(rt: HostRuntime) -> Result<(), Fail> {
     let script = "at 0\nask ns.example. A\ncut 1\nrun\n";
     let want =
         "send 1 198.51.100.1 ns.example. A\ntcp 2 198.51.100.1 ns.example. A\nsend 3 198.51.100.2 ns.example. A\nreply 1 NOERROR\n  an ns.example. 3600 A 198.51.100.2\nright 1 of 1\n";

@@ -19,8 +19,8 @@ use Rattle.truth.specs.Worlds.{World, IsWorld}
 use Rattle.truth.specs.Replies.{IsRight}
 use Rattle.runs.specs.States.{Plain, Site, recursive}
 use Rattle.laws.specs.Headline.{IsHomeIn, IsRightReply}
-use Rattle.orders.specs.Orders.{Order, at, ask, raw, carry, cut, lose, run, tick}
-use Rattle.network.specs.Networks.{Network, NetworkEvent, Client, CarryCut, Lose, Tick, NetworkAction, Reply, WasSent, WasAsked, MoreDue, NetworkStep}
+use Rattle.orders.specs.Orders.{Order, at, ask, raw, carry, truncate, lose, run, tick}
+use Rattle.network.specs.Networks.{Network, NetworkEvent, Client, CarryTruncated, Lose, Tick, NetworkAction, Reply, WasSent, WasAsked, MoreDue, NetworkStep}
 use Rattle.network.specs.Laws.{Line, IsFresh, NetworkRun, NetworkHeadline, IsRefused, IsAnswered}
 use Rattle.tally.specs.Clients.{Queries, recursive_in, known, query_for, query_of}
 use Rattle.tally.specs.Counts.{IsFailure, IsRightFor, IsCountedFor}
@@ -28,7 +28,7 @@ use Rattle.tally.specs.Sends.{way_at, taken_off}
 use Rattle.tally.specs.declared.sends.Mark.{Mark}
 use Rattle.tally.specs.declared.count.Count.{Count}
 use Rattle.player.specs.Counts.{Counts, CountsAll}
-use Rattle.player.specs.Plays.{Seen, State, out_of, Happens, Occurs, Asks, coming, without, Carries, cut_off, Runs, Does, Plays, beginning, last_line}
+use Rattle.player.specs.Plays.{Seen, State, out_of, Happens, Occurs, Asks, coming, without, Carries, take_truncated, Runs, Does, Plays, beginning, last_line}
 use Rattle.player.specs.Shown.{client_of}
 use Rattle.player.specs.Played.{IsReady, IsPlayed}
 
@@ -236,9 +236,9 @@ module _ (W : World) (site : Site) (law : NetworkHeadline) (well : IsWorld W) (h
       asks_kept way (encoding (query_for (length (old.seen).clients + 1) name (type_number kind) rd)) old new kept asks
   does_kept (raw bytes way) old new kept asks = asks_kept way (take 65535 bytes) old new kept asks
   does_kept (carry k) old new kept carries = carries_kept k old new kept carries
-  does_kept (cut k) old new kept occurs =
-      occurs_kept (CarryCut old.moment k) (without (cut_off (old.seen).sends k (way_at (old.seen).sends k)) old) new refl
-      (marks_kept (cut_off (old.seen).sends k (way_at (old.seen).sends k)) old kept) occurs
+  does_kept (truncate k) old new kept occurs =
+      occurs_kept (CarryTruncated old.moment k) (without (take_truncated (old.seen).sends k (way_at (old.seen).sends k)) old) new refl
+      (marks_kept (take_truncated (old.seen).sends k (way_at (old.seen).sends k)) old kept) occurs
   does_kept (lose k) old new kept occurs =
       occurs_kept (Lose old.moment k) (without (taken_off (old.seen).sends k) old) new refl (marks_kept (taken_off (old.seen).sends k) old kept) occurs
   does_kept run old new kept (rounds, runs) = runs_kept rounds old new kept runs

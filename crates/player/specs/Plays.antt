@@ -5,8 +5,8 @@ use Rattle.rdata.specs.Types.{type_number}
 use Rattle.layout.specs.Messages.{encoding}
 use Rattle.wire.specs.declared.via.Via.{Via}
 use Rattle.wire.specs.declared.via.Via.TheVariants.{Udp, Tcp}
-use Rattle.orders.specs.Orders.{Order, at, ask, raw, carry, cut, lose, run, tick}
-use Rattle.network.specs.Networks.{Network, NetworkEvent, Client, Carry, CarryCut, CarryTcp, Lose, Tick, NetworkAction, NetworkStep}
+use Rattle.orders.specs.Orders.{Order, at, ask, raw, carry, truncate, lose, run, tick}
+use Rattle.network.specs.Networks.{Network, NetworkEvent, Client, Carry, CarryTruncated, CarryTcp, Lose, Tick, NetworkAction, NetworkStep}
 use Rattle.tally.specs.Clients.{Queries, IsHeard, query_for}
 use Rattle.player.specs.Counts.{CountsAll, mark_of}
 use Rattle.tally.specs.Sends.{way_at, taken_off, lowest}
@@ -64,11 +64,11 @@ without marks s = record s { seen = record s.seen { sends = marks } }
 abbrev pub Carries : ℕ → State → State → Type 0
 Carries k old new = Occurs (coming old.moment k (way_at (old.seen).sends k)) (without (taken_off (old.seen).sends k) old) new
 
--- A reply over TCP does not come cut.
-abbrev pub cut_off : List Mark → ℕ → Option Via → List Mark
-cut_off marks k None = marks
-cut_off marks k (Some Udp) = taken_off marks k
-cut_off marks k (Some Tcp) = marks
+-- A reply over TCP does not come truncated.
+abbrev pub take_truncated : List Mark → ℕ → Option Via → List Mark
+take_truncated marks k None = marks
+take_truncated marks k (Some Udp) = taken_off marks k
+take_truncated marks k (Some Tcp) = marks
 
 -- So many replies come, each to the lowest ask that is left, and then none is left.
 abbrev pub Runs : ℕ → State → State → Type 0
@@ -80,7 +80,7 @@ Does (at n) old new = new ≡ record old { moment = n }
 Does (ask name kind way rd) old new = Asks way (encoding (query_for (length (old.seen).clients + 1) name (type_number kind) rd)) old new
 Does (raw bytes way) old new = Asks way (take 65535 bytes) old new
 Does (carry k) old new = Carries k old new
-Does (cut k) old new = Occurs (CarryCut old.moment k) (without (cut_off (old.seen).sends k (way_at (old.seen).sends k)) old) new
+Does (truncate k) old new = Occurs (CarryTruncated old.moment k) (without (take_truncated (old.seen).sends k (way_at (old.seen).sends k)) old) new
 Does (lose k) old new = Occurs (Lose old.moment k) (without (taken_off (old.seen).sends k) old) new
 Does run old new = (rounds : ℕ) × Runs rounds old new
 Does tick old new = Occurs (Tick old.moment) old new

@@ -2,7 +2,7 @@
 use Rattle.std.specs.Prelude.{◌≡◌, ◌⊎◌, ℕ, Option, Some, None, List, [], ◌∷◌, ◌++◌, codes, decimal}
 use Rattle.wire.specs.declared.via.Via.{Via}
 use Rattle.wire.specs.declared.via.Via.TheVariants.{Udp, Tcp}
-use Rattle.network.specs.Networks.{Sent, sent_at, NetworkEvent, Client, Carry, CarryCut, CarryTcp, Lose, Tick, NetworkAction, Reply, WasSent, WasAsked, MoreDue}
+use Rattle.network.specs.Networks.{Sent, sent_at, NetworkEvent, Client, Carry, CarryTruncated, CarryTcp, Lose, Tick, NetworkAction, Reply, WasSent, WasAsked, MoreDue}
 use Rattle.lines.specs.Lines.{ArePrinted, AreNone}
 use Rattle.lines.specs.Asks.{IsAskPrinted}
 
@@ -25,7 +25,7 @@ PutsAll sends (a ∷ rest) before after = (middle : List ℕ) × Puts sends a be
 abbrev pub client_of : NetworkEvent → Option ℕ
 client_of (Client now client way bytes) = Some client
 client_of (Carry now k) = None
-client_of (CarryCut now k) = None
+client_of (CarryTruncated now k) = None
 client_of (CarryTcp now k) = None
 client_of (Lose now k) = None
 client_of (Tick now) = None

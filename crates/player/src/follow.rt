@@ -4,7 +4,7 @@ ghost use Rattle.orders.specs.Orders.{order_seen};
 ghost use Rattle.orders.specs.Orders as order;
 ghost use Rattle.simnet.specs.Views.{sim_event_view};
 ghost use Rattle.tally.specs.Sends.{way_at};
-ghost use Rattle.player.specs.Plays.{Asks, Carries, Does, Occurs, Plays, beginning, coming, cut_off, last_line};
+ghost use Rattle.player.specs.Plays.{Asks, Carries, Does, Occurs, Plays, beginning, coming, take_truncated, last_line};
 ghost use Rattle.player.specs.Seen.{state_of};
 ghost use Rattle.player.specs.Shown.{client_of};
 ghost use Rattle.player.specs.Played.{IsPlayed, IsReady, settings};
@@ -73,9 +73,9 @@ fn coming<A: Allocator>(moment: u64, number: u64, way: Option<Via>) -> SimEvent<
     }
 }
 
-// An ask whose reply comes cut is left no more; over TCP none comes cut.
-fn cut_off<A: Allocator>(sends: &mut Sends<A>, number: u64)
-    ensures { sends.new.marks ≡ cut_off sends.old.marks number (way_at sends.old.marks number) }
+// An ask whose reply comes truncated is left no more; over TCP none does.
+fn take_truncated<A: Allocator>(sends: &mut Sends<A>, number: u64)
+    ensures { sends.new.marks ≡ take_truncated sends.old.marks number (way_at sends.old.marks number) }
 {
     match sends.way(number) {
         None => (),
@@ -143,7 +143,7 @@ impl<A: Heap> Player<A> {
             } => self.query(via, name, kind, recursive),
             Order::Raw { bytes, via } => self.raw(via, bytes),
             Order::Carry(number) => self.carry(number),
-            Order::Cut(number) => self.cut(number),
+            Order::Truncate(number) => self.truncate(number),
             Order::Lose(number) => self.lose(number),
             Order::Run => self.run(),
             Order::Tick => self.tick(),
@@ -210,12 +210,12 @@ impl<A: Heap> Player<A> {
         self.show.happen(coming(self.moment, number, way))
     }
 
-    // It comes cut.
-    fn cut(&mut self, number: u64) -> Result<(), Starved>
-        ensures { OnOk result (Does (order.cut number) (state_of self.old) (state_of self.new)) }
+    // It comes truncated.
+    fn truncate(&mut self, number: u64) -> Result<(), Starved>
+        ensures { OnOk result (Does (order.truncate number) (state_of self.old) (state_of self.new)) }
     {
-        cut_off(&mut self.show.sends, number);
-        self.show.happen(SimEvent::CarryCut {
+        take_truncated(&mut self.show.sends, number);
+        self.show.happen(SimEvent::CarryTruncated {
             moment: self.moment,
             number,
         })

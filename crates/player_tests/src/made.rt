@@ -160,7 +160,7 @@ impl Tree {
         }
     }
 
-    /// The text of a script of so many orders: asks, replies in any order, again, cut or lost, and a clock that steps.
+    /// The text of a script of so many orders: asks, replies in any order, again, truncated or lost, and a clock that steps.
     pub fn put_script(
         &self,
         text: &mut String,

@@ -1,4 +1,4 @@
-//! Scripts in worlds: whatever is asked, lost, repeated, cut or late, each reply that counts is right.
+//! Scripts in worlds: whatever is asked, lost, repeated, truncated or late, each reply that counts is right.
 
 use crate::made::{Dice, Tree};
 use crate::texts::{all_right, script, world};

@@ -1,4 +1,4 @@
-//! One open query.
+//! One open query: who asks, the work on it, and its ask.
 ghost use Rattle.std.specs.Prelude.{◌≡◌};
 ghost use Rattle.runs.specs.States.{due_moment};
 ghost use Rattle.queries.specs.Indexes.{udp_ask, tcp_ask};

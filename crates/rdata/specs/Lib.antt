@@ -1,11 +1,14 @@
-pub mod Caps
+-- To be read: what the words of the contracts mean.
 pub mod Data
-pub mod Gathering
-pub mod Kept
-pub mod Later
-pub mod Order
-pub mod Records
-pub mod Selected
-pub mod Sets
-pub mod Text
 pub mod Types
+pub mod Records
+pub mod Sets
+pub mod Selected
+pub mod Caps
+pub mod Text
+-- Computed: functions that the code is compared with.
+pub mod Order
+-- Kept: what the code's own values keep.
+pub mod Kept
+pub mod Gathering
+pub mod Later

@@ -1,3 +1,4 @@
+//! IPv4 addresses.
 ghost use Rattle.std.specs.Prelude.{Some};
 ghost use Rattle.rdata.specs.Text.{ipv4_text};
 

@@ -1,3 +1,4 @@
+//! RDATA of the eight served types.
 ghost use Rattle.std.specs.Prelude.{◌≡◌};
 ghost use Rattle.rdata.specs.Data.{type_of, same_data};
 ghost use Rattle.rdata.specs.Kept.{datum};

@@ -1,4 +1,22 @@
-//! Resource records of the served types (RFC 1035, sections 3.2 and 3.3) and their sets.
+//! Resource records of class IN and of eight types (RFC 1035, sections 3.2 and 3.3): A, NS, CNAME, SOA, PTR, MX,
+//! TXT and AAAA (RFC 3596); and RRsets (RFC 2181, section 5).
+//!
+//! `Record` is an owner, a TTL and `RData`; `Records` lists them. `RType` is a served type, by number
+//! (`from_number`, `number`) or by word (`from_word`, `word`). `set_at` picks the RRset of an owner and a type,
+//! `dedup_set` makes one of records: repeats dropped, all TTLs the lowest. `put_data` writes RDATA as a master file
+//! has it.
+//!
+//! Promised: each result exactly, by the functions of `specs` (`one_set`, `type_by`, `data_text`); the test for
+//! equal data finds equal data alone (`same_data_law`); each type is named by its number and its word
+//! (`number_names_type_law`, `word_names_type_law`).
+//! Not here: other types and classes, which the readers of messages and of master files leave out or refuse.
+//!
+//! ```text
+//! let mut records = Records::new(alloc);
+//! records.push(Record { owner: name.clone()?, ttl: 300, value: RData::A(Addr([192, 0, 2, 1])) })?;
+//! let set = set_at(alloc, records.as_slice(), &name, RType::A)?;
+//! assert!(set.len() == 1 && lowest_ttl(set.as_slice()) == 300);
+//! ```
 #![tactic(auto)]
 
 mod addr;

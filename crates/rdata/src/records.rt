@@ -1,3 +1,4 @@
+//! Records, and lists of them.
 ghost use Rattle.std.specs.Prelude.{◌≡◌, ◌≤◌, [], ◌∷◌, ◌++◌, length, map, IfOk, OnOk, OnErr, ◌↔◌, IsTrue, nat_eq};
 ghost use Rattle.rdata.specs.Caps.{capped};
 ghost use Rattle.rdata.specs.Data.{type_of};

@@ -1,3 +1,4 @@
+//! Types, by number and by word.
 ghost use Rattle.std.specs.Prelude.{◌≡◌, ◌↔◌, IsTrue, IsSome, IfSome, Some};
 ghost use Rattle.rdata.specs.Types.{type_number, type_word, type_by, is_served, same_word, type_named};
 

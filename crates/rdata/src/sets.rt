@@ -1,4 +1,4 @@
-//! Records made one set (RFC 2181, sections 5 and 5.2).
+//! RRsets: records made one set (RFC 2181, sections 5 and 5.2).
 ghost use Rattle.std.specs.Prelude.{◌≡◌, ℕ, ◌≤◌, [], ◌∷◌, ◌++◌, not, cond, min, IfOk, OnOk};
 ghost use Rattle.rdata.specs.Gathering.{has, add_once};
 ghost use Rattle.rdata.specs.Later.{AreFound};
@@ -20,14 +20,14 @@ const FEW: usize = 16;
 // The records of a set behind the first few, without their TTLs.
 type Later<'a, A> = BTreeSet<(&'a RData<A>, &'a Name<A>), A>;
 
-/// Whether both are of one set: same owner, same type (RFC 2181, section 5).
+/// Whether both are of one RRset: same owner, same type (RFC 2181, section 5).
 pub fn same_set<A: Allocator>(a: &Record<A>, b: &Record<A>) -> bool
     ensures { result ≡ same_set a.now b.now }
 {
     a.owner == b.owner && a.is(b.value.kind())
 }
 
-/// The records as one set: the first of equal ones, in order, all with the lowest TTL of all
+/// The records as one RRset: the first of equal ones, in order, all with the lowest TTL of all
 /// (RFC 2181, sections 5 and 5.2). Of n records it makes some n log n comparisons; up to 16 in the set take no
 /// memory but theirs.
 pub fn dedup_set<A: Heap>(alloc: A, records: &[Record<A>]) -> Result<Records<A>, Starved>
@@ -42,7 +42,7 @@ pub fn dedup_set<A: Heap>(alloc: A, records: &[Record<A>]) -> Result<Records<A>,
     Ok(set)
 }
 
-/// The records of that owner and type as one set: the first of equal ones, in order, all with the lowest TTL
+/// The records of that owner and type as one RRset: the first of equal ones, in order, all with the lowest TTL
 /// of theirs (RFC 2181, sections 5 and 5.2). Costs are those of `dedup_set`.
 pub fn set_at<A: Heap>(
     alloc: A,

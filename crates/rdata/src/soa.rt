@@ -1,3 +1,4 @@
+//! The data of an SOA record.
 use dname::{Heap, Name};
 use std::alloc::{AllocError, Allocator, Global};
 use std::marker::Model;
@@ -13,7 +14,7 @@ pub struct Soa<A: Allocator = Global> {
     pub refresh: u32,
     pub retry: u32,
     pub expire: u32,
-    /// MINIMUM: the bound on a denial's TTL (RFC 2308, section 4).
+    /// MINIMUM: the bound on a negative answer's TTL (RFC 2308, section 4).
     pub minimum: u32,
 }
 

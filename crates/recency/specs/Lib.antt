@@ -1,1 +1,2 @@
+-- To be read: what the words of the contracts mean.
 pub mod Orders

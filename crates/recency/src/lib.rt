@@ -1,5 +1,22 @@
-//! What `lru` does to the list of its entries, in exact words, where equality of keys is exact: laws for
-//! the stores that stand on it.
+//! What the crate `lru` does to the list of its entries, in exact words, for keys whose equality is exact: laws for
+//! the stores that stand on it. Nothing here runs.
+//!
+//! `kept` and `used` (`specs`) are the list after an entry was put and after one was looked up; `KeepsOnly` and
+//! `LosesOnly` say what may be new in it and what may be gone. The contracts of `retry`, `cache` and `referral`
+//! speak in these words.
+//!
+//! Promised: a put brings its own entry alone and loses the old one of its key, or what stood past the capacity
+//! (`kept_law`); a look-up changes the order alone (`used_law`); a removal loses one key's (`removed_law`); an
+//! entry goes down by one place at most with each call (`places_law`); no key stands twice, and there are no more
+//! entries than the capacity (`keys_law`).
+//! Not here: time (`cache`, `referral`).
+//!
+//! ```text
+//! pub fn timed_out(&mut self, addr: Addr) -> Result<(), Starved>
+//!     ensures only { KeepsOnly self.old.entries (λ e. e ≡ (addr, raised addr self.old.entries)) self.new.entries }
+//!     ensures gone { LosesOnly self.old.entries (MayGo same_addr self.old.cap addr self.old.entries)
+//!         self.new.entries }
+//! ```
 #![tactic(auto)]
 
 mod laws;

@@ -1,3 +1,4 @@
+//! A delegation: a zone cut, its servers and their glue.
 ghost use Rattle.std.specs.Prelude.{◌≡◌, List, ℕ, IfOk};
 ghost use Rattle.referral.specs.Cuts.{is_live, as_kept, known_of};
 
@@ -6,7 +7,7 @@ use dname::{Heap, Name, Starved};
 use std::alloc::{AllocError, Allocator, Global};
 use std::marker::Model;
 
-/// A zone's name, the names of its servers and the addresses that are known of them.
+/// A zone cut as a delegation: the zone's name, the names of its servers, and the addresses that are known of them.
 #[derive(Drop)]
 pub struct Cut<A: Allocator = Global> {
     pub at: Name<A>,

@@ -1,3 +1,4 @@
+//! Delegations kept, and the deepest one over a name.
 ghost use Rattle.std.specs.Prelude.{◌≡◌, ◌≢◌, [], IfOk, OnOk, OnErr, IfSome, Contains, option_map};
 ghost use Rattle.std.specs.NonZero.{non_zero_usize_get};
 ghost use Rattle.lru.specs.LruCache.{lru_cache, IsValid};

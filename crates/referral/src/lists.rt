@@ -1,3 +1,4 @@
+//! Lists of names and of addresses of servers.
 ghost use Rattle.std.specs.Prelude.{◌≡◌, [], ◌∷◌, ◌++◌, length, take, IfOk, OnOk, OnErr};
 
 use dname::{Heap, Name, Starved};

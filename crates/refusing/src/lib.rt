@@ -1,6 +1,17 @@
 //! An allocator for tests: it counts growths, and refuses the one that a test chooses.
 //!
 //! Lend it: `&Refusing<B>` is an allocator too, and `Copy`, so that whatever a test hands it to shares one count.
+//! `growths` says how many a call asked for; `refuse_after` chooses the one to refuse, and that one alone. A test
+//! of a call refuses each growth in turn, and then calls it once more.
+//!
+//! ```text
+//! let heap = Refusing::new(rt.alloc());
+//! assert!(call(&heap).is_ok());
+//! for n in 0..heap.growths() {
+//!     heap.refuse_after(n);
+//!     assert!(call(&heap).is_err());
+//! }
+//! ```
 #![tactic(auto)]
 
 use std::alloc::{AllocError, Allocator};

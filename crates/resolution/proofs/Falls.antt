@@ -221,7 +221,7 @@ class_fresh : (now : ℕ) (server : Addr) (s : Search) (rest : List Search) (c :
 class_fresh now server s [] (class.Answer l) j stores p (task, job, learnt) = subst (IsFreshTask now) (sym task) refl
 class_fresh now server s (around ∷ rest) (class.Answer l) j stores p (after, marks, task, learnt, heard, job) = subst (IsFreshTask now) (sym task) tt
 class_fresh now server s rest (class.Referral at ns glue ttl) j stores p h = subst (IsFreshTask now) (sym h.task) tt
-class_fresh now server s rest class.Cut j stores p h = subst (λ (p : Point). IsFreshTask now p.task) (sym h) tt
+class_fresh now server s rest class.Truncated j stores p h = subst (λ (p : Point). IsFreshTask now p.task) (sym h) tt
 class_fresh now server s rest (class.Failed f) j stores p h = subst (λ (p : Point). IsFreshTask now p.task) (sym h) tt
 
 pub enters_fresh : (now : ℕ) (input : Input) (j : Job) (stores : Stores) (p : Point) → Enters now input j stores p → IsFreshTask now p.task

@@ -109,7 +109,7 @@ module _ (now : ℕ) (j : Job) (stores : Stores) where
     delegations_cap = refl;
     penalties_cap = refl;
   })
-  class_stops server via m s rest class.Cut p searches is same = subst (Stops (Told via server m) now j stores) (sym (ap (λ (x : Point). x.stores) same)) (answer_stops server via m)
+  class_stops server via m s rest class.Truncated p searches is same = subst (Stops (Told via server m) now j stores) (sym (ap (λ (x : Point). x.stores) same)) (answer_stops server via m)
   class_stops server via m s rest (class.Failed f) p searches is same = subst (Stops (Told via server m) now j stores) (sym (ap (λ (x : Point). x.stores) same)) (answer_stops server via m)
 
   pub enters_stop : (input : Input) (p : Point) → Enters now input j stores p → Stops input now j stores p.stores

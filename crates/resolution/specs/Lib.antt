@@ -1,3 +1,4 @@
+-- To be read: what the words of the contracts mean.
 pub mod Jobs
-pub mod Laws
 pub mod Rules
+pub mod Laws

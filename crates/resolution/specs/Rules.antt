@@ -152,7 +152,7 @@ pub record IsReferred (now : ℕ) (s : Search) (rest : List Search) (at : Name) 
 abbrev pub ByClass : ℕ → Addr → Search → List Search → class.Class → Job → Stores → Point → Type 0
 ByClass now server s rest (class.Answer l) j stores p = IsAnswered now s rest l j stores p
 ByClass now server s rest (class.Referral at ns glue ttl) j stores p = IsReferred now s rest at ns glue ttl j stores p
-ByClass now server s rest class.Cut j stores p = p ≡ point (Again server) j stores
+ByClass now server s rest class.Truncated j stores p = p ≡ point (Again server) j stores
 ByClass now server s rest (class.Failed f) j stores p = p ≡ point Go j stores
 
 -- How what comes in is taken up. A server that answered loses half its penalty, one that did not gains some.
@@ -175,7 +175,7 @@ pub record IsDue (p : Point) (server : Addr) (s : Search) (rest : List Search) :
   pub next : upcoming (s.frame).plan ≡ Some server
   pub known : Contains (s.frame).addresses server
 
--- The server that cut its reply short is asked again, over TCP.
+-- The server whose reply was truncated is asked again, over TCP.
 pub record IsDueAgain (p : Point) (server : Addr) (s : Search) (rest : List Search) : Type 0 where
   pub task : p.task ≡ Again server
   pub searches : (p.job).searches ≡ s ∷ rest

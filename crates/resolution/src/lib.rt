@@ -1,5 +1,22 @@
-//! How one query is resolved (RFC 1034, section 5.3.3): definitions, in `specs`, and the laws that they
-//! keep. Nothing here runs.
+//! How one query is resolved (RFC 1034, section 5.3.3): definitions, in `specs`, and laws. Nothing here runs.
+//!
+//! `Home` is the zones at hand and the hints, `Stores` what was learnt, `Job` the work on one query: its CNAME
+//! chain, and the searches for servers that are under way. `Rule` has the seven small steps of that work, from the
+//! look at what is known to the look-up of a server's address; `Advances` is one call: what came in is taken up,
+//! and rules are applied until an ask goes out or the query is over. `iterate` is the code of these words, `runs`
+//! and `laws` build on them.
+//!
+//! Promised: the rules end (`end_law`); what was accepted for a query serves that query, whatever its TTL
+//! (`received_law`); where memory was wanting nothing is new in the stores beside what was accepted (`stores_law`).
+//! Not here: clients, sockets and identifiers (`runs`).
+//!
+//! ```text
+//! ghost use Rattle.resolution.specs.Rules.{Advances};
+//!
+//! pub fn advance<..>(.., job: &mut Job<A>, input: Input<A>, ..) -> Result<Next<A>, Starved>
+//!     ensures advances { IfOk result (λ next. Advances home.now now (input_view input)
+//!         job.old stores.old (next_view next) job.new stores.new) }
+//! ```
 #![tactic(auto)]
 
 mod laws;

@@ -1,4 +1,13 @@
 //! `resolverd`: what its command line asks, done with the real files, streams and sockets.
+//!
+//! It is thin: it hands its words to `commands::run_words`, which says in its contract what is printed and which
+//! status is given, and runs the server that `serve` started by `commands::serve_at`. Words that are not UTF-8 name
+//! no command.
+//!
+//! ```text
+//! resolverd ask lab.example. lab.zone www.lab.example. A
+//! resolverd serve resolverd.conf
+//! ```
 #![tactic(auto)]
 
 use commandline::LineFault;

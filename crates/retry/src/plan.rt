@@ -1,3 +1,4 @@
+//! The order of asking: by penalties, in two rounds.
 ghost use Rattle.std.specs.Prelude.{◌≡◌, IfOk};
 ghost use Rattle.retry.specs.Penalties.{penalty};
 ghost use Rattle.retry.specs.Plans.{planned, IsByPenalty, upcoming, advanced, wait_of};

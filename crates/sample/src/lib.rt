@@ -1,5 +1,17 @@
 //! The premises of the laws over runs can be met: a run that meets them, in `specs` and `proofs`. Nothing here
 //! runs.
+//!
+//! `LawsStand` has a well formed world, a site, and an honest run from a new resolver: a client asks, the server of
+//! the root refers the resolver to another, and that one's answer goes to the client.
+//!
+//! Promised: there is such a run (`laws_stand`), so that no law of `laws` is of nothing.
+//! Not here: the laws themselves (`laws`).
+//!
+//! ```text
+//! pub fn laws_stand()
+//!     ensures { LawsStand }
+//! {}
+//! ```
 #![tactic(auto)]
 
 mod standing;

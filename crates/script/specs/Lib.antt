@@ -1,8 +1,10 @@
-pub mod Keywords
-pub mod Places
-pub mod Readings
-pub mod Seen
-pub mod Statements
-pub mod WorldFaults
+-- To be read: what the words of the contracts mean.
 pub mod Worlds
 pub mod WorldTexts
+pub mod Statements
+pub mod Readings
+pub mod WorldFaults
+pub mod Keywords
+pub mod Places
+-- Kept: what the code's own values keep.
+pub mod Seen

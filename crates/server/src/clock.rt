@@ -1,4 +1,4 @@
-//! Time.
+//! The loop that lets time pass, so that queries which are due are served.
 use crate::desk::Desk;
 use book::{Machine, Ticket};
 use exchange::{Actions, Event};

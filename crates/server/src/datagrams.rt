@@ -1,4 +1,4 @@
-//! The datagrams of clients.
+//! The loop that takes clients' datagrams.
 use crate::desk::Desk;
 use crate::ends::endpoint_of;
 use book::{Machine, Ticket};

@@ -1,4 +1,4 @@
-//! The streams of clients.
+//! The loop that takes clients' TCP streams.
 use crate::clock::rest;
 use crate::desk::Desk;
 use crate::ends::{limit, slice};

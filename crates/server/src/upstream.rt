@@ -1,4 +1,4 @@
-//! The datagrams of other servers.
+//! The loops that take other servers' datagrams.
 use crate::desk::Desk;
 use crate::ends::endpoint_of;
 use book::{Machine, Ticket};

@@ -1,4 +1,4 @@
-//! Asks of servers over TCP.
+//! The loops that ask servers over TCP.
 ghost use Rattle.std.specs.Prelude.{◌≤◌, IfSome, length};
 
 use crate::desk::Desk;

@@ -1,5 +1,5 @@
 pub mod Begun
-pub mod Cut
+pub mod Truncated
 pub mod Given
 pub mod Shown
 pub mod Stepped

@@ -1,6 +1,6 @@
 -- Events and actions of a network as plain values.
 use Rattle.std.specs.Prelude.{Bool, true, false, Option, Some, None, List, [], ◌∷◌}
-use Rattle.network.specs.Networks.{NetworkEvent, Client, Carry, CarryCut, CarryTcp, Lose, Tick, NetworkAction, Reply, WasSent, WasAsked, MoreDue}
+use Rattle.network.specs.Networks.{NetworkEvent, Client, Carry, CarryTruncated, CarryTcp, Lose, Tick, NetworkAction, Reply, WasSent, WasAsked, MoreDue}
 use Rattle.simnet.specs.declared.event.SimEvent.{SimEvent}
 use Rattle.simnet.specs.declared.event.SimEvent.TheVariants as happens
 use Rattle.simnet.specs.declared.action.SimAction.{SimAction}
@@ -9,7 +9,7 @@ use Rattle.simnet.specs.declared.action.SimAction.TheVariants as done
 abbrev pub sim_event_view : {A : Type 0} → SimEvent A → NetworkEvent
 sim_event_view (happens.Client now client way bytes) = Client now client way bytes
 sim_event_view (happens.Carry now k) = Carry now k
-sim_event_view (happens.CarryCut now k) = CarryCut now k
+sim_event_view (happens.CarryTruncated now k) = CarryTruncated now k
 sim_event_view (happens.CarryTcp now k) = CarryTcp now k
 sim_event_view (happens.Lose now k) = Lose now k
 sim_event_view (happens.Tick now) = Tick now

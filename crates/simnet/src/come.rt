@@ -3,7 +3,7 @@ ghost use Rattle.std.specs.Prelude.{◌≡◌, ◌≤◌, List, [], ◌∷◌, I
 ghost use Rattle.dname.specs.Labels.{IsName};
 ghost use Rattle.layout.specs.Messages as layouts;
 ghost use Rattle.layout.specs.Messages.{IsMessage};
-ghost use Rattle.network.specs.Networks.{cut_down, IsGiven, IsCutReply, IsFitReply};
+ghost use Rattle.network.specs.Networks.{truncated, IsGiven, IsTruncatedReply, IsFitReply};
 ghost use Rattle.simnet.specs.Replies.{AsksOne};
 
 use crate::sent::Sent;
@@ -42,7 +42,7 @@ fn are_names<A: Allocator>(message: &Message<A>)
 
 // A reply without its records, with TC.
 fn without_records<A: Heap>(alloc: A, message: &mut Message<A>)
-    ensures { message.new ≡ cut_down message.old }
+    ensures { message.new ≡ truncated message.old }
 {
     message.header.tc = true;
     message.answer = Records::new(alloc);
@@ -51,7 +51,7 @@ fn without_records<A: Heap>(alloc: A, message: &mut Message<A>)
 }
 
 fn written<A: Heap>(alloc: A, message: &Message<A>) -> Result<Bytes<A>, Starved>
-    requires { (m : layouts.Message) × (q : layouts.Question) × (message.now ≡ cut_down m) × (m.questions ≡ q ∷ []) }
+    requires { (m : layouts.Message) × (q : layouts.Question) × (message.now ≡ truncated m) × (m.questions ≡ q ∷ []) }
     ensures encoded { IfOk result (λ b. b ≡ layouts.encoding message.now) }
     ensures stands { IfOk result (λ b. IsMessage b message.now) }
 {
@@ -63,10 +63,10 @@ fn written<A: Heap>(alloc: A, message: &Message<A>) -> Result<Bytes<A>, Starved>
     }
 }
 
-/// A reply of one question, cut (RFC 2181, section 9).
-pub fn cut<A: Heap>(alloc: A, given: &[u8]) -> Result<Bytes<A>, Starved>
+/// A reply of one question, truncated (RFC 2181, section 9).
+pub fn truncated<A: Heap>(alloc: A, given: &[u8]) -> Result<Bytes<A>, Starved>
     requires { AsksOne given.now }
-    ensures { IfOk result (λ b. IsCutReply given.now b) }
+    ensures { IfOk result (λ b. IsTruncatedReply given.now b) }
 {
     match decode(alloc, given) {
         Ok(mut message) => {
@@ -78,7 +78,7 @@ pub fn cut<A: Heap>(alloc: A, given: &[u8]) -> Result<Bytes<A>, Starved>
     }
 }
 
-/// A reply as a datagram has it: whole with at most 512 bytes, else cut.
+/// A reply as a datagram has it: whole with at most 512 bytes, else truncated.
 pub fn fit<A: Heap>(alloc: A, given: Vec<u8, A>) -> Result<Bytes<A>, Starved>
     requires { AsksOne given.items }
     ensures { IfOk result (λ b. IsFitReply given.items b) }
@@ -86,6 +86,6 @@ pub fn fit<A: Heap>(alloc: A, given: Vec<u8, A>) -> Result<Bytes<A>, Starved>
     if given.len() <= UDP_LIMIT {
         Ok(Bytes::new(given))
     } else {
-        Ok(cut(alloc, &given)?)
+        Ok(truncated(alloc, &given)?)
     }
 }

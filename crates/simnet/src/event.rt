@@ -17,13 +17,13 @@ pub enum SimEvent<A: Allocator = Global> {
         way: Via,
         bytes: Bytes<A>,
     },
-    /// The server's reply to the ask over UDP of this number comes; one of more than 512 bytes comes cut.
+    /// The server's reply to the ask over UDP of this number comes; one of more than 512 bytes comes truncated.
     Carry {
         moment: u64,
         number: u64,
     },
-    /// It comes cut, whatever its length.
-    CarryCut {
+    /// It comes truncated, whatever its length.
+    CarryTruncated {
         moment: u64,
         number: u64,
     },
@@ -58,8 +58,8 @@ impl<A: Allocator> SimEvent<A> {
             SimEvent::Carry { moment, number } => {
                 matches!(other, SimEvent::Carry { moment: now, number: ask } if now == moment && ask == number)
             }
-            SimEvent::CarryCut { moment, number } => {
-                matches!(other, SimEvent::CarryCut { moment: now, number: ask } if now == moment && ask == number)
+            SimEvent::CarryTruncated { moment, number } => {
+                matches!(other, SimEvent::CarryTruncated { moment: now, number: ask } if now == moment && ask == number)
             }
             SimEvent::CarryTcp { moment, number } => {
                 matches!(other, SimEvent::CarryTcp { moment: now, number: ask } if now == moment && ask == number)
@@ -106,7 +106,10 @@ impl<A: Heap> SimEvent<A> {
                 bytes: bytes.copied()?,
             },
             SimEvent::Carry { moment, number } => SimEvent::Carry { moment, number },
-            SimEvent::CarryCut { moment, number } => SimEvent::CarryCut { moment, number },
+            SimEvent::CarryTruncated { moment, number } => SimEvent::CarryTruncated {
+                moment,
+                number,
+            },
             SimEvent::CarryTcp { moment, number } => SimEvent::CarryTcp { moment, number },
             SimEvent::Lose { moment, number } => SimEvent::Lose { moment, number },
             SimEvent::Tick { moment } => SimEvent::Tick { moment },

@@ -3,15 +3,15 @@ ghost use Rattle.std.specs.Prelude.{◌≡◌, IfOk, Option, option_map};
 ghost use Rattle.runs.specs.States as runs;
 ghost use Rattle.exchange.specs.Paths.{path_view};
 ghost use Rattle.exchange.specs.Views.{event_view};
-ghost use Rattle.network.specs.Networks.{IsCutReply, IsFitReply, OverUdp, OverTcp, lost};
+ghost use Rattle.network.specs.Networks.{IsTruncatedReply, IsFitReply, OverUdp, OverTcp, lost};
 
-use crate::come::{cut, fit, given};
+use crate::come::{fit, given, truncated};
 use crate::sent::Sent;
 use dname::{Heap, Starved};
 use exchange::{Bytes, Event, Path};
 use worlds::World;
 
-/// A reply over UDP as it comes: whole where it has at most 512 bytes, else cut; nothing from a server that does
+/// A reply over UDP as it comes: whole where it has at most 512 bytes, else truncated; nothing from a server that does
 /// not reply, and for an ask over TCP.
 pub fn whole_over_udp<A: Heap>(
     alloc: A,
@@ -30,21 +30,21 @@ pub fn whole_over_udp<A: Heap>(
     }
 }
 
-/// A reply over UDP that comes cut.
-pub fn cut_over_udp<A: Heap>(
+/// A reply over UDP that comes truncated.
+pub fn truncated_over_udp<A: Heap>(
     alloc: A,
     world: &World<A>,
     sent: &Sent<A>,
     moment: u64,
 ) -> Result<Option<Event<A>>, Starved>
-    ensures { IfOk result (λ e. OverUdp world.now IsCutReply moment sent.now sent.now.path (option_map event_view e)) }
+    ensures { IfOk result (λ e. OverUdp world.now IsTruncatedReply moment sent.now sent.now.path (option_map event_view e)) }
 {
     let Path::Udp(socket) = sent.path else {
         return Ok(None);
     };
     match given(alloc, world, sent)? {
         None => Ok(None),
-        Some(reply) => Ok(Some(datagram(moment, socket, sent, cut(alloc, &reply)?))),
+        Some(reply) => Ok(Some(datagram(moment, socket, sent, truncated(alloc, &reply)?))),
     }
 }
 

@@ -1,6 +1,6 @@
 //! A network in memory: a resolver and the servers of a world.
 ghost use Rattle.std.specs.Prelude.{◌≡◌, Some, None, IfOk, OnErr, MatchResult, length, option_copied, option_map};
-ghost use Rattle.network.specs.Networks.{NetworkEvent, Carry, CarryCut, CarryTcp, Lose, sent_at, Reaches, NetworkStep};
+ghost use Rattle.network.specs.Networks.{NetworkEvent, Carry, CarryTruncated, CarryTcp, Lose, sent_at, Reaches, NetworkStep};
 ghost use Rattle.exchange.specs.Views.{event_view};
 ghost use Rattle.simnet.specs.Beginnings.{IsNetworkOf, SimRefuses};
 ghost use Rattle.simnet.specs.Promises.{StaysRight};
@@ -10,7 +10,7 @@ use crate::action::SimActions;
 use crate::begin::resolver_of;
 use crate::event::SimEvent;
 use crate::fault::SimError;
-use crate::reach::{cut_over_udp, lost, over_tcp, whole_over_udp};
+use crate::reach::{lost, over_tcp, truncated_over_udp, whole_over_udp};
 use crate::sent::Sent;
 use crate::show::shown;
 use dname::{Heap, Starved};
@@ -89,12 +89,12 @@ impl<A: Heap> Sim<A> {
         }
     }
 
-    fn carried_cut(&self, moment: u64, number: u64) -> Result<Option<Event<A>>, Starved>
-        ensures { IfOk result (λ e. Reaches self.now (CarryCut moment number) (option_map event_view e)) }
+    fn carried_truncated(&self, moment: u64, number: u64) -> Result<Option<Event<A>>, Starved>
+        ensures { IfOk result (λ e. Reaches self.now (CarryTruncated moment number) (option_map event_view e)) }
     {
         match self.sent(number) {
             None => Ok(None),
-            Some(sent) => Ok(cut_over_udp(self.alloc, &self.world, sent, moment)?),
+            Some(sent) => Ok(truncated_over_udp(self.alloc, &self.world, sent, moment)?),
         }
     }
 
@@ -133,7 +133,9 @@ impl<A: Heap> Sim<A> {
                 bytes,
             })),
             SimEvent::Carry { moment, number } => Ok(self.carried(moment, number)?),
-            SimEvent::CarryCut { moment, number } => Ok(self.carried_cut(moment, number)?),
+            SimEvent::CarryTruncated { moment, number } => Ok(self.carried_truncated(
+                moment, number,
+            )?),
             SimEvent::CarryTcp { moment, number } => Ok(self.carried_over_tcp(moment, number)?),
             SimEvent::Lose { moment, number } => Ok(self.lost(moment, number)),
             SimEvent::Tick { moment } => Ok(Some(Event::Tick { moment })),

@@ -5,7 +5,7 @@ use exchange::{Bytes, Endpoint, Event, Path};
 use rdata::Addr;
 use refusing::Refusing;
 use simnet::{
-    Sent, Sim, SimAction, SimActions, SimError, SimEvent, cut_over_udp, lost, over_tcp,
+    Sent, Sim, SimAction, SimActions, SimError, SimEvent, lost, over_tcp, truncated_over_udp,
     whole_over_udp,
 };
 use std::test::Fail;
@@ -142,7 +142,7 @@ fn ask<A: Heap>(alloc: A, path: Path, last: u8, query: &[u8]) -> Result<Sent<A>,
 #[derive(Clone, Copy)]
 enum Way {
     Whole,
-    Cut,
+    Truncated,
     Stream,
     Lost,
 }
@@ -195,7 +195,7 @@ fn event_by<A: Heap>(
 ) -> Result<Option<Event<A>>, Starved> {
     match way {
         Way::Whole => whole_over_udp(alloc, world, ask, 9),
-        Way::Cut => cut_over_udp(alloc, world, ask, 9),
+        Way::Truncated => truncated_over_udp(alloc, world, ask, 9),
         Way::Stream => over_tcp(alloc, world, ask, 9),
         Way::Lost => Ok(lost(ask, 9)),
     }
@@ -221,8 +221,8 @@ fn a_datagram_has_at_most_512_bytes(rt: HostRuntime) -> Result<(), Fail> {
     for (addresses, way, come) in [
         (30, Way::Whole, Come::Datagram(507, false)),
         (31, Way::Whole, Come::Datagram(27, true)),
-        (30, Way::Cut, Come::Datagram(27, true)),
-        (31, Way::Cut, Come::Datagram(27, true)),
+        (30, Way::Truncated, Come::Datagram(27, true)),
+        (31, Way::Truncated, Come::Datagram(27, true)),
     ] {
         assert_eq!(rt;
             comes(rt.alloc(), addresses, &ask, way)?,
@@ -263,7 +263,7 @@ fn an_ask_comes_by_its_own_way(rt: HostRuntime) -> Result<(), Fail> {
     for (path, way) in [
         (SOCKET, Way::Stream),
         (STREAM, Way::Whole),
-        (STREAM, Way::Cut),
+        (STREAM, Way::Truncated),
     ] {
         let ask = ask(rt.alloc(), path, 2, WWW)?;
         assert_eq!(rt; comes(rt.alloc(), 0, &ask, way)?, Come::Nothing);
@@ -285,7 +285,7 @@ fn query_of_client<A: Heap>(alloc: A, query: &[u8]) -> Result<SimEvent<A>, Starv
 #[derive(Clone, Copy)]
 enum Order {
     Carry(u64),
-    Cut(u64),
+    Truncate(u64),
     Tcp(u64),
     Lose(u64),
 }
@@ -293,7 +293,7 @@ enum Order {
 fn event_of<A: Heap>(order: Order, moment: u64) -> SimEvent<A> {
     match order {
         Order::Carry(number) => SimEvent::Carry { moment, number },
-        Order::Cut(number) => SimEvent::CarryCut { moment, number },
+        Order::Truncate(number) => SimEvent::CarryTruncated { moment, number },
         Order::Tcp(number) => SimEvent::CarryTcp { moment, number },
         Order::Lose(number) => SimEvent::Lose { moment, number },
     }
@@ -417,7 +417,7 @@ fn asks_stand_under_their_numbers(rt: HostRuntime) -> Result<(), Fail> {
     Ok(())
 }
 
-// What is cut is asked again over TCP; over UDP the client has the reply cut.
+// What is truncated is asked again over TCP; over UDP the client has the reply truncated.
 #[test]
 fn a_long_reply_goes_over_tcp(rt: HostRuntime) -> Result<(), Fail> {
     let orders = [Order::Carry(1), Order::Carry(2), Order::Tcp(3)];
@@ -434,10 +434,10 @@ fn a_long_reply_goes_over_tcp(rt: HostRuntime) -> Result<(), Fail> {
 fn lost_streams_end_a_query(rt: HostRuntime) -> Result<(), Fail> {
     let orders = [
         Order::Carry(1),
-        Order::Cut(2),
+        Order::Truncate(2),
         Order::Lose(2),
         Order::Lose(3),
-        Order::Cut(4),
+        Order::Truncate(4),
         Order::Lose(5),
     ];
     assert_eq!(rt; outcome(rt.alloc(), 0, WWW, &orders[..3])?, Out::Nothing);

@@ -1,2 +1,3 @@
-pub mod Faults
+-- To be read: what the words of the contracts mean.
 pub mod Frames
+pub mod Faults

@@ -1,5 +1,19 @@
 //! The frames of a TCP stream of messages (RFC 1035, section 4.2.2): a length in two bytes, the higher first, and
-//! then so many bytes.
+//! then so many bytes, 65,535 at most.
+//!
+//! `read_framed` takes one frame off a stream and leaves the rest unread, or says that the stream is at its end.
+//! `write_framed` writes the bytes of a message as one frame, its length and its first bytes in one write (RFC
+//! 7766, section 8).
+//!
+//! Promised: the frame that stood first, and what is left of the stream (`IsTaken`, `IsOver`), or why none was
+//! taken (`FrameError`, `IsNotTaken`); what was written (`frame`, `IsNotWritten`).
+//! Not here: connections, time-outs and threads (`server`).
+//!
+//! ```text
+//! while let Some(bytes) = read_framed(alloc, &mut stream)? {
+//!     write_framed(&mut stream, &answer(&bytes)?)?;
+//! }
+//! ```
 #![tactic(auto)]
 
 mod fault;

@@ -1,4 +1,5 @@
-pub mod Faults
+-- To be read: what the words of the contracts mean.
 pub mod Lines
-pub mod Texts
 pub mod Words
+pub mod Texts
+pub mod Faults

@@ -1,2 +1,4 @@
-pub mod Kept
+-- To be read: what the words of the contracts mean.
 pub mod Longest
+-- Kept: what the code's own values keep.
+pub mod Kept

@@ -1,4 +1,19 @@
-//! The earlier names of a message, for message compression (RFC 1035, section 4.1.4).
+//! The earlier names of a message, for compression (RFC 1035, section 4.1.4): a name is written as its first labels
+//! and a pointer to the longest suffix of it that stands in the message already.
+//!
+//! The writer of a message calls `longest` before it writes a name, and `note` behind it: every suffix that begins
+//! with a label that was written, and that a pointer can reach (places below 16,384), is noted with its place.
+//!
+//! Promised: `longest` gives the longest suffix that was noted, at its earliest place, and never the root
+//! (`longest`, in `specs`); what is noted is exactly what was written (`first_notes`); after a refusal nothing is.
+//! Not here: the bytes of the message (`wire`).
+//!
+//! ```text
+//! let mut seen = Suffixes::new(alloc)?;
+//! seen.note(&www_example, 2, 12)?;            // www.example. stands at 12, example. at 16
+//! let found = seen.longest(&ftp_example);     // ftp.example.: one label, then the pointer
+//! assert!(matches!(found, Some(Found { labels: 1, place: 16, .. })));
+//! ```
 #![tactic(auto)]
 
 mod earlier;

@@ -1,3 +1,4 @@
+-- To be read: what the words of the contracts mean.
 pub mod Clients
-pub mod Counts
 pub mod Sends
+pub mod Counts

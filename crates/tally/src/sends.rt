@@ -7,7 +7,7 @@ use front::Via;
 use std::alloc::Allocator;
 use std::marker::Model;
 
-/// An ask that went out: by which way, and whether it is left, which it is until it is carried, cut or lost.
+/// An ask that went out: by which way, and whether it is left, which it is until it is carried, truncated or lost.
 #[derive(Clone, Copy)]
 pub struct Mark {
     pub way: Via,

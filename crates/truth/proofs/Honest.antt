@@ -151,7 +151,7 @@ serving_charge W a f q z w may from uncut =
     let long = from.longest y m (subst (λ (n : Name). Serves W a n) (sym e) may.serves) (subst (λ (n : Name). IsAtOrUnder q n) (sym e) may.over) in
     in_charge W q z w from.stands from.over uncut (λ x held over. let short = may.unshadowed x held over in omega (arith, ap length e, long, short))
 
--- A message that is not cut is told whole.
+-- A message that is not truncated is told whole.
 pub told_whole : (W : World) (a : Address) (q : Name) (t : ℕ) (m : Message) → MayServe W a q t m → m.header.tc ≡ false → Tells W a q t m
 told_whole W a q t m (inl told) tc = told
 told_whole W a q t m (inr (whole, told, cut)) tc = absurd (let e : true ≡ false = sym (ap (λ (h : Header). h.tc) cut.header) ∙ tc in cc)

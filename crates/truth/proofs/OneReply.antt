@@ -106,7 +106,7 @@ one_whole W q t m n w a b =
     let end = one_end a.last b.last a.rest b.rest m.header.rcode n.header.rcode m.authority n.authority truth.last a.ends b.ends in
     record { rcode = end.rcode; aliases = truth.chain; set = end.set; count = end.count; authority = end.authority }
 
--- The message of right bytes is whole where it is not cut.
+-- The message of right bytes is whole where it is not truncated.
 uncut : (W : World) (q : Name) (t : ℕ) (bytes : List ℕ) (m : Message) → IsRight W q t bytes → IsMessage bytes m → m.header.tc ≡ false → IsWhole W q t m
 uncut W q t bytes m (x, at, asked, inl bare) is tc =
     let e : x ≡ m = message_one bytes x m at is in

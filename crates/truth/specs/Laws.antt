@@ -62,7 +62,7 @@ ChainGrows = (W : World) (t : ℕ) (from to n : Name) (chain : List Record) (r :
 abbrev pub OneWhole : Type 0
 OneWhole = (W : World) (q : Name) (t : ℕ) (m n : Message) → IsWorld W → (a : IsWhole W q t m) (b : IsWhole W q t n) → IsSameReply W q t m n a b
 
--- Two right replies to one question that are not cut are whole, and say the same.
+-- Two right replies to one question that are not truncated are whole, and say the same.
 abbrev pub OneReply : Type 0
 OneReply = (W : World) (q : Name) (t : ℕ) (a b : List ℕ) (m n : Message) → IsWorld W → IsRight W q t a → IsRight W q t b → IsMessage a m → IsMessage b n
     → m.header.tc ≡ false → n.header.tc ≡ false → (x : IsWhole W q t m) × (y : IsWhole W q t n) × IsSameReply W q t m n x y

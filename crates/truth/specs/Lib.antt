@@ -1,9 +1,10 @@
-pub mod FrameLaws
+-- To be read: what the words of the contracts mean.
+pub mod Worlds
+pub mod Truths
+pub mod Serving
+pub mod Replies
+pub mod Reading
 pub mod Frames
 pub mod Laws
-pub mod Reading
-pub mod Replies
+pub mod FrameLaws
 pub mod Sample
-pub mod Serving
-pub mod Truths
-pub mod Worlds

@@ -13,7 +13,7 @@ pub record IsReplyTo (q : Name) (t : ℕ) (m : Message) : Type 0 where
   pub qr : m.header.qr ≡ true
   pub question : m.questions ≡ record { name = q; qtype = t; qclass = internet } ∷ []
 
--- A reply that was cut: no records (RFC 2181, section 9).
+-- A truncated reply: no records (RFC 2181, section 9).
 pub record IsBare (m : Message) : Type 0 where
   pub tc : m.header.tc ≡ true
   pub answer : m.answer ≡ []
@@ -44,7 +44,7 @@ pub record IsWhole (W : World) (q : Name) (t : ℕ) (m : Message) : Type 0 where
   pub ends : Ends last rest m.header.rcode m.authority
   pub additional : m.additional ≡ []
 
--- The bytes are the right reply to the question (q, t): cut, or whole.
+-- The bytes are the right reply to the question (q, t): truncated, or whole.
 abbrev pub IsRight : World → Name → ℕ → List ℕ → Type 0
 IsRight W q t bytes = (m : Message) × IsMessage bytes m × IsReplyTo q t m × (IsBare m ⊎ IsWhole W q t m)
 

@@ -54,7 +54,7 @@ abbrev pub Tells : World → Address → Name → ℕ → Message → Type 0
 Tells W a q t m = (z : Zone) × AnswersFrom W a q z × (((c : Name) × IsCutOver z q c × Refers W a z c m) ⊎ ((l : Link) × Gives z q t m l))
 
 -- What is left of a whole message: TC is set, and any records are gone (RFC 2181, section 9).
-pub record IsCutDown (whole m : Message) : Type 0 where
+pub record IsTruncationOf (whole m : Message) : Type 0 where
   pub header : m.header ≡ record whole.header { tc = true }
   pub answer : (r : Record) → Contains m.answer r → Contains whole.answer r
   pub authority : (r : Record) → Contains m.authority r → Contains whole.authority r
@@ -62,4 +62,4 @@ pub record IsCutDown (whole m : Message) : Type 0 where
 
 -- What the server at an address may answer to the question (q, t).
 abbrev pub MayServe : World → Address → Name → ℕ → Message → Type 0
-MayServe W a q t m = Tells W a q t m ⊎ ((whole : Message) × Tells W a q t whole × IsCutDown whole m)
+MayServe W a q t m = Tells W a q t m ⊎ ((whole : Message) × Tells W a q t whole × IsTruncationOf whole m)

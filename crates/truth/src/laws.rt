@@ -21,7 +21,7 @@ pub fn one_truth_law()
     ensures truth { OneTruth }
 {}
 
-/// Chains of aliases: one grows by the alias at its end; nine aliases have no truth; where CNAME is asked
+/// CNAME chains: one grows by the alias at its end; nine aliases have no truth; where CNAME is asked
 /// for none is followed (RFC 1034, section 3.6.2).
 pub fn chain_law()
     ensures grows { ChainGrows }
@@ -30,7 +30,7 @@ pub fn chain_law()
 {}
 
 /// A right reply is right for one truth only: in a well formed world two right replies to one question that
-/// are not cut have the same RCODE, the same aliases in order, the same records behind them, as many, and
+/// are not truncated have the same RCODE, the same aliases in order, the same records behind them, as many, and
 /// the same authority, TTLs aside.
 pub fn one_reply_law()
     ensures whole { OneWhole }
@@ -62,7 +62,7 @@ pub fn honest_referral_law()
     ensures { HonestReferral }
 {}
 
-/// What is true of a name for one type serves questions of other types: a name error all of them (RFC 2308,
+/// What is true of a name for one type serves questions of other types: NXDOMAIN all of them (RFC 2308,
 /// section 5), an alias all but those for CNAME, and those as the set that is found; a CNAME that was found
 /// serves all others as an alias (RFC 1034, section 3.6.2).
 pub fn entry_law()

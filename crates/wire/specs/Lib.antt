@@ -1,14 +1,17 @@
-pub mod Errors
+-- To be read: what the words of the contracts mean.
 pub mod Limits
-pub mod Numbers
-pub mod Heads
+pub mod Errors
 pub mod Results
+pub mod Drafts
+pub mod Laws
+-- Computed: functions that the code is compared with.
+pub mod Entries
+pub mod Heads
 pub mod Parts
+pub mod Numbers
+pub mod Values
+pub mod Skips
+-- Kept: what the code's own values keep.
 pub mod Chains
 pub mod Shapes
-pub mod Values
-pub mod Entries
-pub mod Skips
-pub mod Drafts
 pub mod Spellings
-pub mod Laws

@@ -1,3 +1,4 @@
+//! Chains of pointers (RFC 1035, section 4.1.4), passed in one step in a long message.
 ghost use Rattle.std.specs.Prelude.{◌≡◌, ◌<◌, length, IfOk};
 ghost use Rattle.wire.specs.Chains.{IsChainEnd, AreChainEnds, chain_behind};
 

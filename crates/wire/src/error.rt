@@ -1,3 +1,4 @@
+//! Why bytes are no message.
 ghost use Rattle.std.specs.Prelude.{◌≡◌, Some};
 ghost use Rattle.wire.specs.Errors.{number_of, fault_text};
 

@@ -1,3 +1,4 @@
+//! Numbers at a place of a message, the high byte first.
 ghost use Rattle.std.specs.Prelude.{◌≡◌, ◌+◌, ◌≤◌, length};
 ghost use Rattle.wire.specs.Numbers.{two_at, four_at};
 

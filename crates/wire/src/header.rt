@@ -1,3 +1,4 @@
+//! The header (RFC 1035, section 4.1.1).
 ghost use Rattle.std.specs.Prelude.{◌≡◌, ◌≤◌, length};
 ghost use Rattle.wire.specs.Heads.{header_of};
 

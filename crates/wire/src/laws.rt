@@ -1,3 +1,4 @@
+//! Laws of the definitions: functions that do nothing, whose clauses are proved.
 ghost use Rattle.wire.specs.Laws.{ReadIsMessage, MessageIsRead, ReadIsSpelling, SpellingIsRead, EncodingIsReadBack};
 
 /// What is read of bytes is the message that they are (RFC 1035, section 4), and each message is read.

@@ -1,4 +1,21 @@
-//! Messages read and written (RFC 1035, section 4).
+//! Messages read from bytes and written as bytes (RFC 1035, section 4).
+//!
+//! `decode` reads a `Message`: its `Header`, its questions, and the records of its three sections; names are
+//! unfolded from their pointers, and records of types and classes that are not served are left out.
+//! `question_spelling` gives the first question's name in the letters that it came in. `encode` writes a message
+//! with compression, `encode_draft` one of borrowed parts and with its question in its own letters; `Via::limit` is
+//! what a datagram or a stream allows.
+//!
+//! Promised: what is read is the message that the bytes are, and every message is read (`decoding_is_message`, over
+//! `layout`'s `IsMessage`), else the first fault from the left is answered (`WireError`); what is written is
+//! `encoding`, and read back (`encoding_is_read_back`).
+//! Not here: what a message means (`front`, `exchange`, `classify`); EDNS (RFC 6891).
+//!
+//! ```text
+//! let message = decode(alloc, bytes)?;
+//! for asked in message.questions.as_slice() { /* asked.name, asked.qtype, asked.qclass */ }
+//! let bytes = encode(alloc, &message, UDP_LIMIT)?;
+//! ```
 #![tactic(auto)]
 
 mod chains;

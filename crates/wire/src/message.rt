@@ -1,3 +1,4 @@
+//! Messages and questions as values.
 ghost use Rattle.std.specs.Prelude.{◌≡◌, [], ◌∷◌, ◌++◌, length, ◌↔◌, IsTrue, OnOk, OnErr, MatchOption, ◌⊎◌};
 
 use crate::header::Header;

@@ -1,3 +1,4 @@
+//! Names read at a place of a message, their pointers followed (RFC 1035, section 4.1.4).
 ghost use Rattle.std.specs.Prelude.{◌≡◌, ℕ, ◌≤◌, ◌<◌, ◌+◌, List, [], Ok, length, IfOk, OnOk};
 ghost use Rattle.dname.specs.Labels.{wire};
 ghost use Rattle.dname.specs.Draft.{labelled};

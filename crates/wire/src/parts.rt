@@ -1,3 +1,4 @@
+//! One part of a name that is read: a label, a pointer or its end.
 ghost use Rattle.std.specs.Prelude.{◌≡◌, ◌≤◌, ◌<◌, length, IfOk};
 ghost use Rattle.wire.specs.Parts.{part_at, message_faults, rdata_faults};
 ghost use Rattle.wire.specs.Shapes.{IsPart};

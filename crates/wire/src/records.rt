@@ -1,3 +1,4 @@
+//! Records and questions read; those that are not served are stepped over.
 ghost use Rattle.std.specs.Prelude.{◌≡◌, ℕ, ◌≤◌, ◌+◌, List, Option, length, option_to_list, ◌++◌, OnOk, IsOk, IsTrue, Ok, None};
 ghost use Rattle.rdata.specs.Records as plain;
 ghost use Rattle.layout.specs.Messages as layouts;

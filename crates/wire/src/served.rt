@@ -1,3 +1,4 @@
+//! Which records are kept: of a served type, in class IN.
 ghost use Rattle.std.specs.Prelude.{◌≡◌};
 ghost use Rattle.layout.specs.Messages.{served_type};
 

@@ -1,3 +1,4 @@
+//! A name with the letters in which it was asked for.
 ghost use Rattle.std.specs.Prelude.{◌≡◌, ◌≤◌, length};
 ghost use Rattle.dname.specs.Labels.{wire, folded_labels};
 ghost use Rattle.dname.specs.Wire.{labels_of};

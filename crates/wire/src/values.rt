@@ -1,3 +1,4 @@
+//! RDATA read, within the length that RDLENGTH gives.
 ghost use Rattle.std.specs.Prelude.{◌≡◌, ℕ, ◌≤◌, ◌<◌, ◌+◌, List, length, IfOk};
 ghost use Rattle.rdata.specs.Data.{Datum};
 ghost use Rattle.rdata.specs.Kept.{datum};

@@ -1,3 +1,4 @@
+//! How messages travel, and how long they may be.
 ghost use Rattle.std.specs.Prelude.{◌≡◌, ◌≤◌};
 ghost use Rattle.wire.specs.Limits.{limit_of};
 

@@ -46,8 +46,8 @@ other_reply W q t m h = (λ e. absurd (cc), λ p. absurd (fails (yes_reply q t m
 yes_empty : (m : Message) → Yes (is_empty m) (((m.answer ≡ []) × (m.authority ≡ [])) × (m.additional ≡ []))
 yes_empty m = yes_and (yes_and (yes_none m.answer) (yes_none m.authority)) (yes_none m.additional)
 
-pub cut_reply : (W : World) (q : Name) (t : ℕ) (m : Message) (x : Bool) → is_reply_to q t m ≡ true → m.header.tc ≡ true → x ≡ is_empty m → Clause x (IsRightMessage W q t m)
-cut_reply W q t m x r tc e = (
+pub truncated_reply : (W : World) (q : Name) (t : ℕ) (m : Message) (x : Bool) → is_reply_to q t m ≡ true → m.header.tc ≡ true → x ≡ is_empty m → Clause x (IsRightMessage W q t m)
+truncated_reply W q t m x r tc e = (
   λ h. let p = Yes.so (yes_empty m) (sym e ∙ h) in (Yes.so (yes_reply q t m) r, inl (record { tc = tc; answer = p.0.0; authority = p.0.1; additional = p.1 })),
   λ p. e ∙ Yes.test (yes_empty m) (emptied p),
 )

@@ -1,5 +1,8 @@
+-- To be read: what the words of the contracts mean.
+pub mod Refusals
 pub mod Hosting
 pub mod Judging
-pub mod Kept
-pub mod Refusals
+-- Computed: functions that the code is compared with.
 pub mod Rules
+-- Kept: what the code's own values keep.
+pub mod Kept

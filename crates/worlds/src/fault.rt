@@ -1,3 +1,4 @@
+//! Why there is no such world.
 ghost use Rattle.std.specs.Prelude.{◌≡◌};
 ghost use Rattle.worlds.specs.Refusals.{world_fault_number};
 
@@ -10,12 +11,12 @@ use std::fmt;
 pub enum WorldError {
     /// No zone has the root as origin (RFC 1034, section 3.1).
     NoRoot,
-    /// A cut of a zone is not an origin (RFC 1034, section 4.2).
+    /// A zone cut is not the origin of any zone (RFC 1034, section 4.2).
     LooseCut,
     /// An origin neither root nor local is not a cut of the zone right above (RFC 1034, section 4.2.1).
     Undelegated,
-    /// An address of a server of a cut does not serve the cut, or a server names an origin without a zone
-    /// (RFC 1034, section 4.2.2).
+    /// A lame delegation: an address of a server of a zone cut does not serve it, or a server names an origin
+    /// without a zone (RFC 1034, section 4.2.2).
     Lame,
     /// A hint does not serve the root, or there is none and the root is not local (RFC 1034, section 5.3.2).
     NoStart,

@@ -165,8 +165,8 @@ fn reply_to<A: Heap>(
 
 /// What the server at an address of the world replies to a client's bytes (RFC 1034, section 4.3.2): nothing
 /// to bytes that are no query of one question, class IN and a served type, where no zone that it serves is over
-/// the name, and where the reply had over 65,535 bytes. At a cut a referral; else, with AA, the aliases through
-/// the zones that it serves, at most eight, and what they say behind them, which is nothing behind the eighth.
+/// the name, and where the reply had over 65,535 bytes. At a zone cut a referral; else, with AA, the CNAME chain
+/// through the zones that it serves, at most eight long, and what they say behind it: nothing behind the eighth.
 /// What is given is a reply to that question, and a message that the server may serve to it.
 pub fn host_reply<A: Heap>(
     alloc: A,

@@ -245,9 +245,9 @@ fn is_right<A: Heap>(
     )?)
 }
 
-/// Whether the bytes are the right reply to the question, TTLs aside: a reply to it in class IN that is cut
-/// and has no records, or has exactly the world's aliases in order and then their end: the record set in any
-/// order, or the SOA of a denial, with RCODE 3 for a name error (RFC 1034, sections 3.6.2 and 4.3.2; RFC
+/// Whether the bytes are the right reply to the question, TTLs aside: a reply to it in class IN that is
+/// truncated and has no records, or has exactly the world's CNAME chain and then its end: the RRset in any
+/// order, or the SOA of a negative answer, with RCODE 3 for NXDOMAIN (RFC 1034, sections 3.6.2 and 4.3.2; RFC
 /// 2308, section 2).
 pub fn judge<A: Heap>(
     world: &World<A>,

@@ -1,4 +1,4 @@
-// Rules of a world about its zones, and who serves them.
+//! Rules of a world about its zones, and who serves them.
 ghost use Rattle.std.specs.Prelude.{◌≡◌, ◌&&◌, not};
 ghost use Rattle.std.specs.List.{list_any};
 ghost use Rattle.dname.specs.Labels.{root, same_name};

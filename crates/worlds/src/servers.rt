@@ -1,4 +1,4 @@
-// Rules of a world about its servers and hints.
+//! Rules of a world about its servers and hints.
 ghost use Rattle.std.specs.Prelude.{◌≡◌, ◌||◌, IfOk, not};
 ghost use Rattle.std.specs.List.{list_any};
 ghost use Rattle.dname.specs.Labels.{root};

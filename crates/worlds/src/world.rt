@@ -1,3 +1,4 @@
+//! A world and its rules: zones, servers, local zones, hints.
 ghost use Rattle.std.specs.Prelude.{◌≡◌, IfOk, MatchResult, filter};
 ghost use Rattle.dname.specs.Labels.{root};
 ghost use Rattle.rdata.specs.Types.{type_number};

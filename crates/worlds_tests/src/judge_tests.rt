@@ -162,7 +162,7 @@ fn replies_are_judged(rt: HostRuntime) -> Result<(), Fail> {
 }
 
 #[test]
-fn cut_replies_are_judged(rt: HostRuntime) -> Result<(), Fail> {
+fn truncated_replies_are_judged(rt: HostRuntime) -> Result<(), Fail> {
     let bare = Reply {
         name: "w.",
         tc: true,

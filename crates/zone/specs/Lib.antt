@@ -1,11 +1,14 @@
-pub mod Faults
-pub mod Kept
-pub mod Last
+-- To be read: what the words of the contracts mean.
+pub mod Zones
 pub mod Links
-pub mod Look
 pub mod Referrals
 pub mod Ruled
-pub mod Rules
+pub mod Faults
 pub mod Same
 pub mod Tree
-pub mod Zones
+-- Computed: functions that the code is compared with.
+pub mod Look
+pub mod Rules
+pub mod Last
+-- Kept: what the code's own values keep.
+pub mod Kept

@@ -1,3 +1,4 @@
+//! CNAME records that stand beside other data (RFC 1034, section 3.6.2).
 ghost use Rattle.std.specs.Prelude.{◌≡◌, ℕ, List, IfOk, OnOk};
 ghost use Rattle.std.specs.HashMap as hash;
 ghost use Rattle.std.specs.List.{list_any};

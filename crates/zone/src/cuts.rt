@@ -1,3 +1,4 @@
+//! The zone cuts of records that are to be a zone.
 ghost use Rattle.std.specs.Prelude.{◌≡◌, ◌&&◌, ◌||◌, ℕ, List, IfOk, OnOk};
 ghost use Rattle.std.specs.HashSet as bag;
 ghost use Rattle.dname.specs.Labels.{same_name};

@@ -1,3 +1,4 @@
+//! The SOA that negative answers carry (RFC 2308, section 3).
 ghost use Rattle.std.specs.Prelude.{◌≡◌, IfOk, find};
 ghost use Rattle.rdata.specs.Kept.{datum};
 ghost use Rattle.zone.specs.Zones.{soa_type};
@@ -25,7 +26,7 @@ fn denial_ttl<A: Allocator>(ttl: u32, value: &RData<A>) -> u32
     }
 }
 
-// The SOA as a denial has it: with the lesser of its TTL and MINIMUM (RFC 2308, section 3).
+// The SOA as a negative answer has it: with the lesser of its TTL and MINIMUM (RFC 2308, section 3).
 fn lessened<A: Heap>(soa: &Record<A>) -> Result<Record<A>, Starved>
     ensures { IfOk result (λ d. d ≡ lessened soa.now) }
 {
@@ -36,7 +37,7 @@ fn lessened<A: Heap>(soa: &Record<A>) -> Result<Record<A>, Starved>
     })
 }
 
-// The denial that the first SOA record makes; none without such a record.
+// The SOA of negative answers that the first SOA record makes; none without such a record.
 pub fn denial_in<A: Heap>(records: &[Record<A>]) -> Result<Option<Record<A>>, Starved>
     ensures { IfOk result (λ d. d ≡ denial_by (find (is_type soa_type) records.now)) }
 {

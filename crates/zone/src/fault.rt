@@ -1,3 +1,4 @@
+//! Why records are no zone: the rules by number.
 ghost use Rattle.std.specs.Prelude.{◌≡◌, Some};
 ghost use Rattle.zone.specs.Faults.{fault_number};
 
@@ -12,7 +13,7 @@ pub enum ZoneError {
     Soa,
     /// No NS record at the origin (RFC 1034, section 4.2.1).
     NoServers,
-    /// An owner is not at or under the origin.
+    /// An owner out of the zone: not at or under the origin.
     ForeignOwner,
     /// A CNAME beside any other record than its own repeat (RFC 1034, section 3.6.2).
     CnameClash,

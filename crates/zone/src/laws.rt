@@ -59,7 +59,7 @@ pub fn own_records_law()
     ensures alias { (z : Zone) (q : List (List ℕ)) (t : ℕ) (r : Record) → Exists z q → IsLink z q t (Alias r) → At z q cname_type r }
 {}
 
-/// A name error stands only where nothing at or under the name exists, and no wildcard has records right
+/// NXDOMAIN stands only where nothing at or under the name exists, and no wildcard has records right
 /// under its closest encloser (RFC 1034, section 4.3.2, step 3c).
 pub fn name_error_law()
     ensures nothing { (z : Zone) (q n : List (List ℕ)) (t : ℕ) (soa : Record) → IsLink z q t (NxDomain soa) → IsAtOrUnder n q → Exists z n → ⊥ }

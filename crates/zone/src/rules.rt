@@ -1,3 +1,4 @@
+//! The rules of a zone, tried in the order of their numbers.
 ghost use Rattle.std.specs.Prelude.{◌≡◌, IfOk, None, MatchResult};
 ghost use Rattle.std.specs.List.{list_any};
 ghost use Rattle.dname.specs.Stars.{has_inner_star};

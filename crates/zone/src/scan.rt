@@ -1,3 +1,4 @@
+//! Records of a name or a type, found by a walk over a list.
 ghost use Rattle.std.specs.Prelude.{◌≡◌, ◌&&◌, length};
 ghost use Rattle.rdata.specs.Types.{type_number};
 ghost use Rattle.zone.specs.Look.{is_type, is_owned, of_type, owns, is_address};

@@ -1,3 +1,4 @@
+//! RRsets with more than one TTL (RFC 2181, section 5.2).
 ghost use Rattle.std.specs.Prelude.{◌≡◌, IfOk, OnOk};
 ghost use Rattle.std.specs.HashMap as hash;
 ghost use Rattle.std.specs.List.{list_any};
@@ -11,10 +12,10 @@ use std::alloc::Allocator;
 use std::collections::HashMap;
 use std::hash::{BuildHasherDefault, FoldHasher};
 
-// Record sets by owner and type number, each with the TTL of its last record.
+// RRsets by owner and type number, each with the TTL of its last record.
 type Ttls<A> = HashMap<(Name<A>, u16), u32, BuildHasherDefault<FoldHasher>, A>;
 
-// The set of a record (RFC 2181, section 5).
+// The RRset of a record (RFC 2181, section 5).
 fn set_of<A: Heap>(subject: &Record<A>) -> Result<(Name<A>, u16), Starved>
     ensures { IfOk result (λ k. k ≡ set_of subject.now) }
 {

@@ -1,3 +1,4 @@
+//! A zone: an origin, and records that keep the rules.
 ghost use Rattle.std.specs.Prelude.{◌≡◌, None, Some, false, IfOk, MatchOption, MatchResult};
 ghost use Rattle.zone.specs.Look.{denial_of};
 ghost use Rattle.zone.specs.Faults.{fault_of, IsFault};
@@ -19,7 +20,7 @@ use std::marker::Model;
 pub struct Zone<A: Allocator = Global> {
     origin: Name<A>,
     tree: Box<Tree<A>, A>,
-    // The SOA with the lesser of its TTL and MINIMUM, as every denial has it.
+    // The SOA with the lesser of its TTL and MINIMUM, as every negative answer has it.
     denial: Record<A>,
 }
 
@@ -97,7 +98,7 @@ impl<A: Allocator> Zone<A> {
         self.tree.stand(name)
     }
 
-    /// The SOA that its denials carry: its TTL is the lesser of the record's own and MINIMUM (RFC 2308,
+    /// The SOA that its negative answers carry: its TTL is the lesser of the record's own and MINIMUM (RFC 2308,
     /// section 3).
     pub fn denial(&self) -> &Record<A>
         ensures { denial_of self.now ≡ Some result.now }

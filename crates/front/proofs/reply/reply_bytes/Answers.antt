@@ -2,16 +2,16 @@
 use Rattle.std.proofs.Common.{rules, ◌∙◌, sym, ap, refl, arith, ◌<◌, ◌≤◌, Option, Some, length}
 use Rattle.layout.specs.Messages.{Message, encoding}
 use Rattle.causes.specs.declared.cause.Cause.{Cause}
-use Rattle.front.specs.Replies.{reply_of, cut_reply}
+use Rattle.front.specs.Replies.{reply_of, truncated_reply}
 use Rattle.wire.specs.declared.via.Via.{Via}
 use Rattle.wire.specs.declared.via.Via.TheVariants.{Udp, Tcp}
-use Rattle.front.proofs.Limits.{reply_fits, reply_cut, reply_fails, reply_read}
-use Rattle.front.proofs.Short.{cut_fits, bare_fits}
+use Rattle.front.proofs.Limits.{reply_fits, reply_truncated, reply_fails, reply_read}
+use Rattle.front.proofs.Short.{truncated_fits, bare_fits}
 use Rattle.front.proofs.reply.reply_bytes.Goals as goal
 
 pub short_bytes-requires-clause-fits : goal.short_bytes-requires-clause-fits
 short_bytes-requires-clause-fits g c =
-    cut_fits c.args.query.now c.args.outcome.now c.draft_of-whole.result c.cut.result c.draft_of-whole.ensures c.cut.ensures c.is_short.ensures
+    truncated_fits c.args.query.now c.args.outcome.now c.draft_of-whole.result c.truncated.result c.draft_of-whole.ensures c.truncated.ensures c.is_short.ensures
 
 pub short_bytes-requires-in-None-2-clause-fits : goal.short_bytes-requires-in-None-2-clause-fits
 short_bytes-requires-in-None-2-clause-fits g c =
@@ -22,14 +22,14 @@ short_bytes-requires-in-None-2-clause-fits g c =
 pub returns-in_ok-short_bytes-in-None-clause-bytes : goal.returns-in_ok-short_bytes-in-None-clause-bytes
 returns-in_ok-short_bytes-in-None-clause-bytes g c =
     let long : 512 < length (encoding c.draft_of-whole.result) = search rules in
-    c.in_ok-short_bytes-in-None.ensures.bytes ∙ ap encoding (c.cut.ensures ∙ ap cut_reply c.draft_of-whole.ensures)
-    ∙ ap (λ (r : Message × Option Cause). encoding r.0) (sym (reply_cut c.args.query.now c.args.outcome.now c.draft_of-whole.result c.draft_of-whole.ensures long))
+    c.in_ok-short_bytes-in-None.ensures.bytes ∙ ap encoding (c.truncated.ensures ∙ ap truncated_reply c.draft_of-whole.ensures)
+    ∙ ap (λ (r : Message × Option Cause). encoding r.0) (sym (reply_truncated c.args.query.now c.args.outcome.now c.draft_of-whole.result c.draft_of-whole.ensures long))
     ∙ ap (λ (via : Via). encoding (reply_of via c.args.query.now c.args.outcome.now).0) (sym c.in-Udp.is)
 
 pub returns-in_ok-short_bytes-in-None-clause-cause : goal.returns-in_ok-short_bytes-in-None-clause-cause
 returns-in_ok-short_bytes-in-None-clause-cause g c =
     let long : 512 < length (encoding c.draft_of-whole.result) = search rules in
-    c.cause_in-cause.ensures ∙ ap (λ (r : Message × Option Cause). r.1) (sym (reply_cut c.args.query.now c.args.outcome.now c.draft_of-whole.result c.draft_of-whole.ensures long))
+    c.cause_in-cause.ensures ∙ ap (λ (r : Message × Option Cause). r.1) (sym (reply_truncated c.args.query.now c.args.outcome.now c.draft_of-whole.result c.draft_of-whole.ensures long))
     ∙ ap (λ (via : Via). (reply_of via c.args.query.now c.args.outcome.now).1) (sym c.in-Udp.is)
 
 pub returns-in_ok-short_bytes-in-None-2-clause-bytes : goal.returns-in_ok-short_bytes-in-None-2-clause-bytes
@@ -54,8 +54,8 @@ returns-in-Some-clause-message g c =
 pub returns-in_ok-short_bytes-in-None-clause-message : goal.returns-in_ok-short_bytes-in-None-clause-message
 returns-in_ok-short_bytes-in-None-clause-message g c =
     let long : 512 < length (encoding c.draft_of-whole.result) = search rules in
-    reply_read c.args.via Udp c.args.query.now c.args.outcome.now c.cut.result _ _ _ c.in-Udp.is
-    (reply_cut c.args.query.now c.args.outcome.now c.draft_of-whole.result c.draft_of-whole.ensures long) (c.cut.ensures ∙ ap cut_reply c.draft_of-whole.ensures)
+    reply_read c.args.via Udp c.args.query.now c.args.outcome.now c.truncated.result _ _ _ c.in-Udp.is
+    (reply_truncated c.args.query.now c.args.outcome.now c.draft_of-whole.result c.draft_of-whole.ensures long) (c.truncated.ensures ∙ ap truncated_reply c.draft_of-whole.ensures)
     c.in_ok-short_bytes-in-None.ensures.message
 
 pub returns-in-Some-2-clause-message : goal.returns-in-Some-2-clause-message

@@ -1,12 +1,12 @@
 use Rattle.laws.proofs.FollowedSearches.{ask_is_of_search}
-use Rattle.laws.proofs.Steps.{lost_is_asked_on, cut_is_asked_again, referral_is_asked, answer_is_replied, alias_is_kept}
+use Rattle.laws.proofs.Steps.{lost_is_asked_on, truncated_is_asked_again, referral_is_asked, answer_is_replied, alias_is_kept}
 use Rattle.laws.proofs.followed.runs_law.Goals as goal
 
 pub returns : goal.returns
 returns c = record {
   ask = ask_is_of_search;
   lost = lost_is_asked_on;
-  cut = cut_is_asked_again;
+  truncated = truncated_is_asked_again;
   referral = referral_is_asked;
   answer = answer_is_replied;
   alias = alias_is_kept;

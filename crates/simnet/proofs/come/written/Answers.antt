@@ -1,7 +1,7 @@
 use Rattle.std.proofs.Common.{rules, ◌≡◌, ◌∙◌, sym, ap, subst, ℕ, List}
 use Rattle.layout.specs.Messages.{Message, IsMessage, encoding, folded_message}
 use Rattle.wire.specs.Drafts.{RefusesText}
-use Rattle.simnet.proofs.Cut.{cut_is_folded, only_starved}
+use Rattle.simnet.proofs.Truncated.{truncated_is_folded, only_starved}
 use Rattle.simnet.proofs.come.written.Goals as goal
 
 pub unreachable-requires : goal.unreachable-requires
@@ -15,5 +15,5 @@ pub returns-in-Ok-clause-stands : goal.returns-in-Ok-clause-stands
 returns-in-Ok-clause-stands g c =
     let (m, q, is, only) = c.requires in
     let name = c.are_names.ensures q (ap (λ (x : Message). x.questions) is ∙ only) in
-    let folded : folded_message c.args.message.now ≡ c.args.message.now = ap folded_message is ∙ (cut_is_folded m q only name ∙ sym is) in
+    let folded : folded_message c.args.message.now ≡ c.args.message.now = ap folded_message is ∙ (truncated_is_folded m q only name ∙ sym is) in
     subst (IsMessage c.new.result) folded (subst (λ (bytes : List ℕ). IsMessage bytes (folded_message c.args.message.now)) (sym c.new.ensures) c.in-Ok.ensures.message)

@@ -2,12 +2,12 @@ use Rattle.std.proofs.Common.{sym, ◌∙◌, subst, ℕ, List}
 use Rattle.rdata.specs.Records.{Record}
 use Rattle.rdata.specs.Types.{type_number}
 use Rattle.worlds.specs.Judging.{IsRest}
-use Rattle.worlds.proofs.Replied.{Clause, cut_reply, stray_reply, whole_reply}
+use Rattle.worlds.proofs.Replied.{Clause, truncated_reply, stray_reply, whole_reply}
 use Rattle.worlds.proofs.judging.is_right.Goals as goal
 
 pub returns-then-is_cut : goal.returns-then-is_cut
 returns-then-is_cut g c =
-    cut_reply c.args.world.now c.args.name.now (type_number c.args.kind) c.args.reply.now c.is_empty.result (sym c.is_reply_to.ensures ∙ c.if-not-is_reply_to.false) (sym c.is_cut.ensures ∙ c.if-is_cut.true)
+    truncated_reply c.args.world.now c.args.name.now (type_number c.args.kind) c.args.reply.now c.is_empty.result (sym c.is_reply_to.ensures ∙ c.if-not-is_reply_to.false) (sym c.is_cut.ensures ∙ c.if-is_cut.true)
     c.is_empty.ensures
 
 pub returns-then-has_additional : goal.returns-then-has_additional

@@ -1,4 +1,4 @@
--- A reply of one question that is cut fits a datagram, and its question is in lower case already.
+-- A truncated reply of one question fits a datagram, and its question is in lower case already.
 use Rattle.std.proofs.Common.{◌≡◌, ◌⊎◌, inl, inr, ℕ, ◌≤◌, List, [], ◌∷◌, length, refl, sym, ap, ◌∙◌, subst, arith}
 use Rattle.dname.specs.Labels.{folded_label, folded_labels, AreFolded, AreLabels, IsName}
 use Rattle.layout.specs.Messages.{Question, Message, IsMessage, folded_question, folded_message, encoding}
@@ -7,7 +7,7 @@ use Rattle.wire.specs.declared.error.WireError.{WireError}
 use Rattle.wire.specs.declared.error.WireError.TheVariants.{Memory}
 use Rattle.wire.specs.Drafts.{RefusesText}
 use Rattle.exchange.proofs.Short.{only_memory}
-use Rattle.network.specs.Networks.{cut_down}
+use Rattle.network.specs.Networks.{truncated}
 
 folded_is : (l : List ℕ) → AreFolded l → folded_label l ≡ l
 folded_is [] h = refl
@@ -22,19 +22,19 @@ question_is : (q : Question) → IsName q.name → folded_question q ≡ q
 question_is q name = λ i. record q { name = (labels_are q.name name.labels) i }
 
 module _ (m : Message) (q : Question) (only : m.questions ≡ q ∷ []) (name : IsName q.name) where
-  pub cut_is_folded : folded_message (cut_down m) ≡ cut_down m
-  cut_is_folded =
-      let same : folded_message (record (cut_down m) { questions = q ∷ [] }) ≡ record (cut_down m) { questions = q ∷ [] } = λ i. record (cut_down m) { questions = (question_is q name) i ∷ [] } in
-      subst (λ (qs : List Question). folded_message (record (cut_down m) { questions = qs }) ≡ record (cut_down m) { questions = qs }) (sym only) same
+  pub truncated_is_folded : folded_message (truncated m) ≡ truncated m
+  truncated_is_folded =
+      let same : folded_message (record (truncated m) { questions = q ∷ [] }) ≡ record (truncated m) { questions = q ∷ [] } = λ i. record (truncated m) { questions = (question_is q name) i ∷ [] } in
+      subst (λ (qs : List Question). folded_message (record (truncated m) { questions = qs }) ≡ record (truncated m) { questions = qs }) (sym only) same
 
-  cut_is_short : length (encoding (cut_down m)) ≤ 512
-  cut_is_short =
-      let long = asked_once_long (cut_down m).header q in
+  truncated_is_short : length (encoding (truncated m)) ≤ 512
+  truncated_is_short =
+      let long = asked_once_long (truncated m).header q in
       let few = name.short in
-      subst (λ (qs : List Question). length (encoding (record (cut_down m) { questions = qs })) ≤ 512) (sym only) (omega (arith, long, few))
+      subst (λ (qs : List Question). length (encoding (record (truncated m) { questions = qs })) ≤ 512) (sym only) (omega (arith, long, few))
 
-  pub only_starved : (e : WireError) → RefusesText e (encoding (cut_down m)) 512 → e ≡ Memory
-  only_starved e refused = only_memory e (encoding (cut_down m)) cut_is_short refused
+  pub only_starved : (e : WireError) → RefusesText e (encoding (truncated m)) 512 → e ≡ Memory
+  only_starved e refused = only_memory e (encoding (truncated m)) truncated_is_short refused
 
 -- Bytes that are a message are refused for want of memory alone.
 pub starved_only : (e : WireError) (bytes : List ℕ) (m : Message) → IsMessage bytes m → (e ≡ Memory) ⊎ ((n : Message) → IsMessage bytes n → ⊥) → e ≡ Memory

@@ -1,8 +1,8 @@
 use Rattle.std.proofs.Common.{rules, ◌∙◌, ap}
 use Rattle.layout.specs.Messages.{Message}
-use Rattle.simnet.proofs.Cut.{starved_only}
+use Rattle.simnet.proofs.Truncated.{starved_only}
 use Rattle.layout.proofs.Single.{message_one}
-use Rattle.simnet.proofs.come.cut.Goals as goal
+use Rattle.simnet.proofs.come.truncated.Goals as goal
 
 pub written-requires : goal.written-requires
 written-requires g c =

@@ -1,12 +1,12 @@
 -- It is left no more, unless it went over TCP.
 use Rattle.std.proofs.Common.{refl}
 use Rattle.std.proofs.lemmas.Result.{on_ok_weaker}
-use Rattle.network.specs.Networks.{CarryCut}
+use Rattle.network.specs.Networks.{CarryTruncated}
 use Rattle.tally.specs.Sends.{way_at}
-use Rattle.player.specs.Plays.{cut_off}
+use Rattle.player.specs.Plays.{take_truncated}
 use Rattle.player.specs.Seen.{state_of}
 use Rattle.player.proofs.Playing.{occurred}
-use Rattle.player.proofs.follow.Player.cut.Goals as goal
+use Rattle.player.proofs.follow.Player.truncate.Goals as goal
 
 pub returns : goal.returns
 returns g c =
@@ -14,5 +14,5 @@ returns g c =
     let k = c.args.number in
     let sends = ((p.show).sends).marks in
     on_ok_weaker c.happen.result
-    (occurred (CarryCut p.moment k) (state_of p) (state_of (record p { show = c.happen.new.self })) (c.cut_off.new.sends).marks (cut_off sends k (way_at sends k)) c.cut_off.ensures refl)
+    (occurred (CarryTruncated p.moment k) (state_of p) (state_of (record p { show = c.happen.new.self })) (c.take_truncated.new.sends).marks (take_truncated sends k (way_at sends k)) c.take_truncated.ensures refl)
     c.happen.ensures.is
