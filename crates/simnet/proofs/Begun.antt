@@ -1,19 +1,16 @@
 -- A network before its first event.
-use Rattle.std.proofs.Common.{◌≡◌, ◌∙◌, refl, sym, ap, subst, true, false, List}
+use Rattle.std.proofs.Common.{◌≡◌, refl, sym, ap, subst, List}
 use Rattle.std.specs.Prelude.{Contains}
 use Rattle.rdata.specs.declared.addr.Addr.{Addr}
 use Rattle.zone.specs.Zones.{Zone}
 use Rattle.zone.proofs.LawLists.{map_in}
-use Rattle.truth.specs.Worlds.{World, Parted}
+use Rattle.truth.specs.Worlds.{World}
 use Rattle.truth.specs.Frames.{AreHeld}
 use Rattle.worlds.specs.Kept.{bytes_of, addresses}
-use Rattle.worlds.proofs.Worlds.{parted_is}
 use Rattle.runs.specs.States.{State, IsNew}
 use Rattle.laws.specs.Headline.{IsHomeIn}
 use Rattle.engine.specs.declared.settings.Settings.{Settings}
-use Rattle.engine.specs.declared.settings.CoreError.{CoreError}
-use Rattle.engine.specs.declared.settings.CoreError.TheVariants.{Setting, Twins, Memory}
-use Rattle.engine.specs.Beginnings.{IsAllowed, CoreRefuses, IsMade}
+use Rattle.engine.specs.Beginnings.{IsMade}
 use Rattle.simnet.specs.Beginnings.{IsResolverOf}
 
 module _ (W : World) (local : List Zone) (hints : List Addr) (settings : Settings) (s : State) (made : IsMade local hints settings s) where
@@ -41,9 +38,3 @@ module _ (W : World) (local : List Zone) (hints : List Addr) (settings : Setting
 
 pub is_fresh : (W : World) (settings : Settings) (s : State) → IsResolverOf W settings s → IsNew s.site s
 is_fresh W settings s r = is_new W r.local r.hints settings s r.made
-
--- Zones of different origins and settings within their limits are refused for want of memory alone.
-pub only_starved : (e : CoreError) (settings : Settings) (local : List Zone) → IsAllowed settings → Parted local → CoreRefuses e settings local → e ≡ Memory
-only_starved Setting settings local allowed parted refused = absurd (refused allowed)
-only_starved Twins settings local allowed parted refused = absurd (let e : true ≡ false = sym refused.1 ∙ (parted_is local).test parted in cc)
-only_starved Memory settings local allowed parted refused = refl

@@ -4,7 +4,7 @@ ghost use Rattle.simnet.specs.Beginnings.{IsResolverOf, SimRefuses};
 
 use crate::fault::SimError;
 use dname::Heap;
-use engine::{Config, Core, CoreError, Settings};
+use engine::{Config, Core, Settings};
 use worlds::World;
 
 // A resolver that is set so, holds the world's local zones and begins at its hints.
@@ -25,7 +25,7 @@ pub fn resolver_of<A: Heap>(
     };
     match Core::new(alloc, config) {
         Ok(resolver) => Ok(resolver),
-        Err(CoreError::Memory) => Err(SimError::Memory),
-        Err(_) => unreachable!(),
+        // These settings are allowed, and a world's zones have one origin each: only memory can be wanting.
+        Err(_) => Err(SimError::Memory),
     }
 }

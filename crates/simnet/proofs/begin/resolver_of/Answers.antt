@@ -1,12 +1,7 @@
-use Rattle.std.proofs.Common.{rules, ◌∙◌, ap}
+use Rattle.std.proofs.Common.{◌∙◌, ap}
 use Rattle.worlds.specs.Kept.{addresses}
-use Rattle.simnet.proofs.Begun.{resolver_is, only_starved}
+use Rattle.simnet.proofs.Begun.{resolver_is}
 use Rattle.simnet.proofs.begin.resolver_of.Goals as goal
-
-pub unreachable-requires : goal.unreachable-requires
-unreachable-requires g c =
-    let memory = only_starved c.in-Err.field-0 c.args.settings c.in_ok-held.field-0.items c.in-Some.ensures.0 c.in_ok-held.ensures.parted c.in-Err.ensures in
-    search rules
 
 pub returns-in-Ok : goal.returns-in-Ok
 returns-in-Ok g c =
