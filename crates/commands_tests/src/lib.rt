@@ -1,10 +1,9 @@
-//! The tests of `commands`, from outside: by what it makes public. The pages that they write on serve `play_tests` too.
+//! The tests of `commands`, from outside: by what it makes public.
 #![tactic(auto)]
 
-mod pages;
+#[cfg(test)]
+mod nowhere;
 #[cfg(test)]
 mod serve_tests;
 #[cfg(test)]
 mod tests;
-
-pub use pages::{Nowhere, Page, WIDE};

@@ -1,9 +1,9 @@
 //! The start of a server, from texts in memory and without sockets.
-use crate::pages::{Page, WIDE};
 use commandline::Command;
 use commands::{Host, Outcome, Server, Texts, run_command};
 use dname::{Heap, Starved};
 use exchange::{Action, Bytes, Endpoint, Event};
+use pages::{Page, WIDE};
 use std::alloc::{AllocError, Global};
 use std::sync::Wait;
 use std::test::Fail;

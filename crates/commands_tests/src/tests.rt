@@ -1,9 +1,10 @@
 //! Commands over texts in memory.
 
-use crate::pages::{Nowhere, Page, WIDE};
+use crate::nowhere::Nowhere;
 use commandline::{Command, LineFault};
 use commands::{Texts, refuse_line, run_command, run_words};
 use dname::{Heap, Starved};
+use pages::{Page, WIDE};
 use refusing::Refusing;
 use std::alloc::{AllocError, Global};
 use std::process::Abort;

@@ -1,9 +1,10 @@
 //! Scripts played in worlds in memory.
 
+use crate::nowhere::Nowhere;
 use commandline::Command;
 use commands::{Texts, run_command};
-use commands_tests::{Nowhere, Page, WIDE};
 use dname::{Heap, Starved};
+use pages::{Page, WIDE};
 use refusing::Refusing;
 use std::alloc::{AllocError, Global};
 use std::process::Abort;

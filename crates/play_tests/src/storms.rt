@@ -1,9 +1,10 @@
 //! Storms in worlds in memory.
 
+use crate::nowhere::Nowhere;
 use crate::plays::{Held, NESTED, SMALL};
 use commandline::Command;
 use commands::run_command;
-use commands_tests::{Nowhere, Page, WIDE};
+use pages::{Page, WIDE};
 use std::alloc::{AllocError, Global};
 use std::process::Abort;
 use std::sync::Wait;

@@ -1,23 +1,15 @@
-//! Where the commands of tests write, and a machine on which no server can listen.
-use commands::Host;
-use exchange::Endpoint;
+//! A page for tests: what a call writes is kept there until the page is full, and the write after that fails.
+//!
+//! ```text
+//! let mut page = Page::new(rt.alloc(), 10);
+//! let written = call(&mut page);
+//! assert!(page.holds("ok\n"));
+//! ```
+#![tactic(auto)]
+
 use std::alloc::Global;
 use std::io;
 use std::io::{ErrorKind, Write};
-
-/// No place for a server.
-#[derive(Clone, Copy)]
-pub struct Nowhere;
-
-impl Host for Nowhere {
-    fn seed(&mut self) -> Option<[u8; 32]> {
-        None
-    }
-
-    fn open(&mut self, _listen: Endpoint, _sockets: u16) -> Option<u16> {
-        None
-    }
-}
 
 /// A writer that takes so many bytes, three at a time, and fails at the next.
 #[derive(Drop)]
@@ -58,5 +50,5 @@ impl Write for Page {
     }
 }
 
-/// The room of a page that is never full here, in bytes.
+/// The room of a page that is never full in a test, in bytes.
 pub const WIDE: usize = 1_000_000;
