@@ -58,6 +58,3 @@ impl<T: Drop> From<AllocFailed<T>> for Starved {
 pub trait Heap: Allocator + Copy {}
 
 impl<A: Allocator + Copy> Heap for A {}
-
-#[cfg(test)]
-mod tests;

@@ -1,4 +1,4 @@
-use super::*;
+use memory::{Heap, Starved};
 use refusing::Refusing;
 use std::test::Fail;
 
