@@ -8,4 +8,4 @@ pub returns : goal.returns
 returns g c =
     let own : same_name c.source.inside.owner c.args.name.now ≡ true = search rules in
     owned_is c.args.name.now (record { owner = c.source.inside.owner; ttl = c.source.inside.ttl; value = datum c.source.inside.value })
-    (record { ttl = c.source.inside.ttl; value = datum c.in_ok-of.field-0 }) own refl c.in_ok-of.ensures ∙ c.source.view_is
+    (record { ttl = c.source.inside.ttl; value = datum c.in_ok-clone.field-0 }) own refl c.in_ok-clone.ensures.cases ∙ c.source.view_is
