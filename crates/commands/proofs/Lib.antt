@@ -1,3 +1,4 @@
+pub mod Broken
 pub mod Scripts
 pub mod Servers
 pub mod Storms

@@ -3,10 +3,9 @@ use Rattle.std.specs.Prelude.{◌≡◌, ◌⊎◌, ℕ, List, [], ◌∷◌, �
 use Rattle.std.specs.declared.alloc.Global.{Global}
 use Rattle.truth.specs.Worlds.{World}
 use Rattle.orders.specs.Orders.{Order, asks_of}
-use Rattle.network.specs.Networks.{Network}
 use Rattle.simnet.specs.Beginnings.{IsNetworkOf}
 use Rattle.player.specs.Played.{settings}
-use Rattle.crowd.specs.Counts.{IsStorm}
+use Rattle.crowd.specs.Counts.{Network, IsStorm}
 use Rattle.crowd.specs.declared.count.Totals.{Totals}
 use Rattle.pool.specs.declared.fault.PoolError.{PoolError}
 use Rattle.commands.specs.Scripts.{Holds, HoldsNo, HoldsWorld, HoldsNoWorld}

@@ -2,7 +2,8 @@
 use Rattle.std.specs.Prelude.{◌≡◌, ℕ, ◌+◌, Option, Some, None, List, [], ◌∷◌}
 use Rattle.truth.specs.Worlds.{World}
 use Rattle.orders.specs.Orders.{Order}
-use Rattle.network.specs.Networks.{NetworkAction, Reply, WasSent, WasAsked, MoreDue, Network}
+use Rattle.network.specs.Networks.{NetworkAction, Reply, WasSent, WasAsked, MoreDue}
+pub use Rattle.network.specs.Networks.{Network}
 use Rattle.tally.specs.Clients.{Queries, query_of}
 use Rattle.tally.specs.Counts.{IsCountedFor}
 use Rattle.tally.specs.declared.count.Count.{Count}
