@@ -1,5 +1,5 @@
 -- Scripts read one after the other, and what a storm is refused for.
-use Rattle.std.proofs.Common.{◌≡◌, refl, ℕ, zero, suc, ◌+◌, ◌<◌, inl, inr, List, [], ◌∷◌, ◌++◌, Option, length, take, map, get_or, sym, ◌∙◌, ap, ap₂, subst, arith, Result, Ok, Err, IfErr, IsErrAnd}
+use Rattle.std.proofs.Common.{◌≡◌, refl, ℕ, zero, suc, ◌+◌, ◌<◌, inl, inr, List, [], ◌∷◌, ◌++◌, Option, length, take, map, get_or, sym, ◌∙◌, ap, ap₂, subst, arith, Result, Ok, Err, IfOk, IfErr, IsErrAnd}
 use Rattle.std.proofs.lemmas.List.{map-append, take_more}
 use Rattle.orders.specs.Orders.{Order}
 use Rattle.pool.specs.declared.fault.PoolError.{PoolError}
@@ -10,6 +10,7 @@ use Rattle.script.specs.WorldTexts.{zones_of}
 use Rattle.script.specs.Worlds.{IsWorldOf, said_world}
 use Rattle.truth.specs.Worlds.{World}
 use Rattle.commands.specs.Scripts.{HoldsWorld}
+use Rattle.commands.specs.Runs.{IsAllowed, shown}
 use Rattle.commands.specs.Storms.{HoldsAsks, HoldsNoAsks, HoldAsks, RefusesOne, IsRunFault, IsNoStorm}
 use Rattle.commands.specs.declared.fault.Fault.{Fault}
 use Rattle.commands.specs.declared.fault.Fault.TheVariants.{Memory}
@@ -79,3 +80,8 @@ one_world text W V w v =
 pub err_weaker : {T E : Type 0} (r : Result T E) (P Q : E → Type 0) → ((e : E) → P e → Q e) → IsErrAnd r P → IfErr r Q
 err_weaker (Ok x) P Q f h = tt
 err_weaker (Err e) P Q f h = f e h
+
+-- What came out is allowed, where its text is one of these and its fault one of those.
+pub ran : {S : Type 0} (bytes : S → List ℕ) (P : List ℕ → Type 0) (Q : Fault → Type 0) (r : Result S Fault) → IfOk r (λ s. P (bytes s)) → IfErr r Q → IsAllowed P Q (shown bytes r)
+ran bytes P Q (Ok s) ok err = ok
+ran bytes P Q (Err f) ok err = err

@@ -13,7 +13,7 @@ returns-in_err-scripts-clause-err g c =
     err_weaker c.from_residual-in_err-scripts.result _ _
     (λ (f : Fault) is. subst
     (λ (e : Fault). IsNoStorm {X = String Global} (λ p. g.T.Texts.held c.args.texts.now (string_bytes p)) (g.T.Texts.held c.args.texts.now c.args.world.now) c.args.scripts.now e) (sym is)
-    (no_scripts (λ (p : String Global). string_bytes p) (g.T.Texts.held c.args.texts.now) _ c.args.world.now c.in_ok-worlds_at.field-0.0 c.args.scripts.now c.worlds_at.ensures.keeps c.in_ok-worlds_at.ensures.ok _ c.in_err-scripts.ensures.err))
+    (no_scripts (λ (p : String Global). string_bytes p) (g.T.Texts.held c.args.texts.now) _ c.args.world.now c.in_ok-world.world c.args.scripts.now c.worlds_at.ensures.keeps c.in_ok-world.ensures.ok _ c.in_err-scripts.ensures.err))
     c.from_residual-in_err-scripts.ensures.1
 
 pub returns-in_err-totals-clause-err : goal.returns-in_err-totals-clause-err
@@ -21,7 +21,7 @@ returns-in_err-totals-clause-err g c =
     err_weaker c.from_residual-in_err-totals.result _ _
     (λ (f : Fault) is. subst
     (λ (e : Fault). IsNoStorm {X = String Global} (λ p. g.T.Texts.held c.args.texts.now (string_bytes p)) (g.T.Texts.held c.args.texts.now c.args.world.now) c.args.scripts.now e) (sym is)
-    (no_close (λ (p : String Global). string_bytes p) (g.T.Texts.held c.args.texts.now) _ c.args.world.now c.in_ok-worlds_at.field-0.0 c.args.scripts.now c.worlds_at.ensures.keeps c.in_ok-worlds_at.ensures.ok _ _ c.in_ok-scripts.ensures.ok
+    (no_close (λ (p : String Global). string_bytes p) (g.T.Texts.held c.args.texts.now) _ c.args.world.now c.in_ok-world.world c.args.scripts.now c.worlds_at.ensures.keeps c.in_ok-world.ensures.ok _ _ c.in_ok-scripts.ensures.ok
     c.in_err-totals.ensures.err))
     c.from_residual-in_err-totals.ensures.1
 
@@ -29,8 +29,8 @@ pub returns-clause-ok : goal.returns-clause-ok
 returns-clause-ok g c =
     let orders = map (λ (s : Vec (Order Global) Global). map order_seen s.items) c.in_ok-scripts.scripts.items in
     record {
-      W = c.in_ok-worlds_at.field-0.0;
-      stands = c.in_ok-worlds_at.ensures.ok;
+      W = c.in_ok-world.world;
+      stands = c.in_ok-world.ensures.ok;
       orders = orders;
       held = subst (λ (held : List ℕ → Option (Option (List ℕ))). HoldAsks {X = String Global} (λ p. held (string_bytes p)) c.args.scripts.now orders) c.worlds_at.ensures.keeps c.in_ok-scripts.ensures.ok;
       totals = c.in_ok-totals.totals;
