@@ -38,7 +38,7 @@ impl Line {
 }
 
 // A message: its ID, the rest of its header, the question, and records.
-pub fn message<A: Heap>(
+fn message<A: Heap>(
     alloc: A,
     id: [u8; 2],
     rest: &[u8],
@@ -53,7 +53,7 @@ pub fn message<A: Heap>(
     bounded(bytes)
 }
 
-pub fn bounded<A: Heap>(bytes: Vec<u8, A>) -> Result<Bytes<A>, Starved> {
+fn bounded<A: Heap>(bytes: Vec<u8, A>) -> Result<Bytes<A>, Starved> {
     if bytes.len() > TCP_LIMIT {
         return Err(Starved);
     }
@@ -66,7 +66,6 @@ pub fn bounded<A: Heap>(bytes: Vec<u8, A>) -> Result<Bytes<A>, Starved> {
 pub enum Out {
     Nothing,
     Asked(u8),
-    AskedOverTcp(u8),
     Replied,
     Failed(u8),
     Starved,
@@ -87,7 +86,7 @@ fn out_of<A: Heap>(actions: &Actions<A>) -> Out {
                 ..
             },
         ) => Out::Failed(cause.number()),
-        Some(Action::TcpAsk { to, .. }) => Out::AskedOverTcp(to.address.0[3]),
+        Some(Action::TcpAsk { .. }) => Out::Other,
     }
 }
 
@@ -198,29 +197,18 @@ impl<A: Heap> Desk<A> {
         })
     }
 
-    // These bytes from 192.0.2.`from` at the socket of the last ask.
-    pub fn datagram(&self, from: u8, bytes: Bytes<A>) -> Event<A> {
-        let (socket, _) = self.line;
-        Event::Datagram {
+    // A message from 192.0.2.`from` at the socket of the last ask and under its ID.
+    pub fn reply(&self, from: u8, rest: &[u8], lines: &[Line]) -> Result<Event<A>, Starved> {
+        let (socket, id) = self.line;
+        Ok(Event::Datagram {
             moment: 0,
             socket,
             from: Endpoint {
                 address: Addr([192, 0, 2, from]),
                 port: 53,
             },
-            bytes,
-        }
-    }
-
-    // A message under the ID of the last ask.
-    pub fn said(&self, rest: &[u8], lines: &[Line]) -> Result<Bytes<A>, Starved> {
-        let (_, id) = self.line;
-        message(self.alloc, id, rest, lines)
-    }
-
-    // A message from 192.0.2.`from` at the socket of the last ask and under its ID.
-    pub fn reply(&self, from: u8, rest: &[u8], lines: &[Line]) -> Result<Event<A>, Starved> {
-        Ok(self.datagram(from, self.said(rest, lines)?))
+            bytes: message(self.alloc, id, rest, lines)?,
+        })
     }
 
     // The resolver is told of this, if the event could be made.
@@ -231,14 +219,9 @@ impl<A: Heap> Desk<A> {
         }
     }
 
-    // Whether client 3 was just sent these bytes.
-    pub fn has_sent(&self, wanted: &Bytes<A>) -> bool {
-        went_to_client(&self.last, wanted)
-    }
-
     fn looks(&self, rest: &[u8], lines: &[Line]) -> Out {
         match message(self.alloc, [0, 5], rest, lines) {
-            Ok(wanted) if self.has_sent(&wanted) => Out::Replied,
+            Ok(wanted) if went_to_client(&self.last, &wanted) => Out::Replied,
             _ => Out::Other,
         }
     }

@@ -2,8 +2,6 @@
 #![tactic(auto)]
 
 #[cfg(test)]
-mod byte_tests;
-#[cfg(test)]
 mod fixtures;
 #[cfg(test)]
 mod tests;

@@ -5,13 +5,13 @@ use refusing::Refusing;
 use std::test::Fail;
 
 // The header of a server's reply behind its ID, with one record: QR and AA are set.
-pub const FOUND: &[u8] = b"\x84\0\0\x01\0\x01\0\0\0\0";
+const FOUND: &[u8] = b"\x84\0\0\x01\0\x01\0\0\0\0";
 
 // The same for the client: QR, RD and RA are set.
-pub const REPLY: &[u8] = b"\x81\x80\0\x01\0\x01\0\0\0\0";
+const REPLY: &[u8] = b"\x81\x80\0\x01\0\x01\0\0\0\0";
 
 // An address of www.example.
-pub const ONE: &[Line] = &[Line {
+const ONE: &[Line] = &[Line {
     owner: WWW_EXAMPLE,
     ttl: 300,
     last: 9,
