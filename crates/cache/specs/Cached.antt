@@ -28,9 +28,12 @@ retimed ttl (Alias r) = Alias (with_ttl ttl r)
 retimed ttl (NoData soa) = NoData (with_ttl ttl soa)
 retimed ttl (NxDomain soa) = NxDomain (with_ttl ttl soa)
 
--- The seconds that are left of a link's time to live, its age in whole seconds; 0 where that is over.
+-- The seconds that are left of a time to live that began at that moment, its age in whole seconds; 0 where it is over.
+abbrev pub seconds_left : ℕ → ℕ → ℕ → ℕ
+seconds_left now ttl since = ttl - (now - since) / 1000
+
 abbrev pub left_of : ℕ → Hit → ℕ
-left_of now h = h.ttl - (now - h.since) / 1000
+left_of now h = seconds_left now h.ttl h.since
 
 -- The link as it is sent (RFC 1035, section 6.1.3).
 abbrev pub aged : ℕ → Hit → Link

@@ -4,7 +4,7 @@ ghost use Rattle.rdata.specs.Records.{greatest_ttl};
 ghost use Rattle.rdata.specs.Sets.{with_ttl};
 ghost use Rattle.zone.specs.Links.{Found};
 ghost use Rattle.authority.specs.Answers.{link_view};
-ghost use Rattle.cache.specs.Cached.{is_live, as_set, as_alias, retimed, left_of, aged};
+ghost use Rattle.cache.specs.Cached.{is_live, as_set, as_alias, retimed, seconds_left, left_of, aged};
 
 use authority::Link;
 use dname::{Heap, Starved};
@@ -61,8 +61,7 @@ impl<A: Allocator> Hit<A> {
         ensures value { result ≡ left_of now self.now }
         ensures most { result ≤ greatest_ttl }
     {
-        let age = now.saturating_sub(self.since) / 1_000;
-        u64::from(self.ttl).saturating_sub(age) as u32
+        seconds_left(self.ttl, self.since, now)
     }
 
     /// The link as it is sent at this moment: each record has as many seconds as are left (RFC 1035,
@@ -73,6 +72,16 @@ impl<A: Allocator> Hit<A> {
         let ttl = self.left(now);
         retimed(self.link, ttl)
     }
+}
+
+/// How many seconds are left at the moment `now` of a time to live that began at the moment `since`; 0 where it is
+/// over. Moments are milliseconds.
+pub fn seconds_left(ttl: u32, since: u64, now: u64) -> u32
+    ensures value { result ≡ seconds_left now ttl since }
+    ensures most { result ≤ ttl }
+{
+    let age = now.saturating_sub(since) / 1_000;
+    u64::from(ttl).saturating_sub(age) as u32
 }
 
 /// The link with this TTL, in seconds, on each record; takes no memory.

@@ -29,7 +29,7 @@ mod laws;
 mod packed;
 
 pub use cache::Cache;
-pub use hit::{Hit, retimed};
+pub use hit::{Hit, retimed, seconds_left};
 pub use laws::{aging_law, given_law, members_law};
 // A crate can name a cache in a contract only if the types of its fields are exported.
 #[doc(hidden)]

@@ -3,7 +3,7 @@ ghost use Rattle.std.specs.Prelude.{◌≡◌};
 ghost use Rattle.classify.specs.Lifetimes.{referral_lifetime};
 ghost use Rattle.classify.specs.Views.{failure_number};
 
-use crate::lifetimes::LONGEST;
+use crate::lifetimes::referral_lifetime;
 use authority::Link;
 use dname::Name;
 use rdata::Records;
@@ -57,7 +57,7 @@ impl<A: Allocator> Referral<A> {
     pub fn lifetime(&self) -> u32
         ensures { result ≡ referral_lifetime self.now.ttl }
     {
-        self.ttl.min(LONGEST)
+        referral_lifetime(self.ttl)
     }
 }
 

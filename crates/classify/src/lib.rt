@@ -30,5 +30,5 @@ mod targets;
 
 pub use class::{Class, Failure, Referral};
 pub use laws::{answer_law, found_law, referral_law, root_law, truncated_law, use_law};
-pub use lifetimes::{LONGEST, LONGEST_DENIAL, lifetime, received, received_law};
+pub use lifetimes::{LONGEST, LONGEST_DENIAL, lifetime, received, received_law, referral_lifetime};
 pub use table::classify;

@@ -5,7 +5,7 @@ ghost use Rattle.rdata.specs.Kept.{datum};
 ghost use Rattle.rdata.specs.Records.{greatest_ttl};
 ghost use Rattle.zone.specs.Links.{counted, denial_ttl};
 ghost use Rattle.authority.specs.Answers.{link_view};
-ghost use Rattle.classify.specs.Lifetimes.{received, received_denial, shortest, lifetime_of, ReceivedIsSame, ReceivedIsShort};
+ghost use Rattle.classify.specs.Lifetimes.{received, received_denial, shortest, lifetime_of, referral_lifetime, ReceivedIsSame, ReceivedIsShort};
 
 use authority::Link;
 use dname::Heap;
@@ -62,6 +62,13 @@ fn counted(minimum: u32) -> u32
     ensures { result ≡ counted minimum }
 {
     if minimum < 2_147_483_648 { minimum } else { 0 }
+}
+
+/// For how many seconds a delegation is kept whose lowest TTL this is: a week at most (RFC 2181, sections 5.2 and 8).
+pub fn referral_lifetime(ttl: u32) -> u32
+    ensures { result ≡ referral_lifetime ttl }
+{
+    ttl.min(LONGEST)
 }
 
 /// For how many seconds a link is kept: the TTL of its record, of several the lowest, of none 0

@@ -17,9 +17,16 @@ pub static NUMBERS: &str = "For example, with the files of the folder examples:
   resolverd storm examples/small.world examples/asks.script examples/asks.script
   cd examples/serve && resolverd serve resolverd.conf
 
+check prints one line, and dump the records as a master file:
+
+  ok N records               the file has N records, and they are a zone
+  $ORIGIN NAME               the origin that they are read under
+  OWNER TTL IN TYPE DATA     a record, its names in full
+
 A reply is printed as a line for its header and one for each of its records.
 
-  reply 1 RCODE              the reply to the query of client 1: NOERROR, SERVFAIL, NXDOMAIN or REFUSED, and behind it
+  reply 1 RCODE              the reply to the query of client 1: NOERROR, FORMERR, SERVFAIL, NXDOMAIN, NOTIMP or REFUSED,
+                             and behind it
     aa                       the zone is the authority for the name
     tc                       the reply was over 512 bytes, and its records were left out
     cause K                  why SERVFAIL: 1 too many open queries, 2 its time is up, 3 more than eight aliases,
@@ -77,7 +84,7 @@ One line on standard error says what went wrong.
   error: pool K              the threads: 1 what they did is not one history, 2 it has more entries than are kept
   error: settings            the numbers of a server's file are out of their limits
   error: socket              the address can't be bound
-  error: threads             a thread can't be made
+  error: threads             a thread can't be made, or the clock can't be read
   error: type                another type than A, NS, CNAME, SOA, PTR, MX, TXT and AAAA
   error: memory              no memory was left
   error: output              what was to be printed could not be written

@@ -192,6 +192,8 @@ fn help_explains_commands_and_numbers(rt: HostRuntime) -> Result<(), Fail> {
         "resolverd ask lab.example. ",
         "resolverd check lab.example. ",
         "resolverd dump lab.example. ",
+        "ok N records",
+        "NOERROR, FORMERR, SERVFAIL, NXDOMAIN, NOTIMP or REFUSED",
         "reply 1 RCODE",
         "the zone is the authority",
         "over 512 bytes",

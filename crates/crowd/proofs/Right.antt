@@ -24,6 +24,7 @@ use Rattle.laws.specs.Headline.{IsRightReply}
 use Rattle.orders.specs.Orders.{Order, at, ask, raw, carry, truncate, lose, run, tick}
 use Rattle.network.specs.Networks.{Network, NetworkEvent, Client, Carry, CarryTruncated, CarryTcp, Lose, Tick, NetworkAction, Reply, WasSent, WasAsked, MoreDue}
 use Rattle.network.specs.Laws.{Line as Happening, Shows, Throughout, RepliesAreRight, IsRefused, IsAnswered}
+use Rattle.network.proofs.Follows.{heard_of}
 use Rattle.simnet.specs.declared.event.SimEvent.{SimEvent}
 use Rattle.simnet.specs.declared.event.SimEvent.TheVariants as happens
 use Rattle.simnet.specs.Promises.{Moves}
@@ -267,16 +268,16 @@ module _ (W : World) (clients : Queries) where
       ⊎_elim (λ same. subst (Fair clients) (ap (λ (x : Happening). x.event) same ∙ is) (fair e (first_in e es)))
       (λ rest. heard_in es (λ x some. fair x (later_in e x es some)) l rest now c way bytes is) (in_cases (seen e) l (map seen es) among)
 
-  to_refused : {A : Type 0} (es : List (Entry A)) → AllFair clients es → (client : ℕ) (way : Via) → IsRefused (map seen es) client way → query_of clients client ≡ None
-  to_refused es fair client way (refusal, start, echo, (l, among, (now, bytes, is, reads))) =
-      (heard_in es fair l among now client way bytes is).is (heard.Refuse refusal start echo) reads
+  to_refused : {A : Type 0} (e : Entry A) (es : List (Entry A)) → AllFair clients (e ∷ es) → (client : ℕ) (way : Via) → IsRefused (seen e) client way → query_of clients client ≡ None
+  to_refused e es fair client way (refusal, start, echo, (now, bytes, is, reads)) =
+      (heard_in (e ∷ es) fair (seen e) (first_in (seen e) (map seen es)) now client way bytes is).is (heard.Refuse refusal start echo) reads
 
-  to_query : {A : Type 0} (es : List (Entry A)) → AllFair clients es → (client : ℕ) (way : Via) (bytes : List ℕ) → IsRefused (map seen es) client way ⊎ IsAnswered W (map seen es) client way bytes
-      → (q : Query Plain) → query_of clients client ≡ Some q → IsFailure bytes ⊎ IsRightFor W q bytes
-  to_query es fair client way bytes (inl refused) q e = let none = to_refused es fair client way refused in absurd (cc)
-  to_query es fair client way bytes (inr answered) q e =
-      let (l, among, (now, sent, is, reads)) = answered.asked in
-      let (wish, same) = by_wish (recursive answered.query) answered.query q (sym ((heard_in es fair l among now client way sent is).is (heard.Query answered.query) reads) ∙ e) in
+  to_query : {A : Type 0} (e : Entry A) (es : List (Entry A)) → AllFair clients (e ∷ es) → (client : ℕ) (way : Via) (bytes : List ℕ)
+      → IsRefused (seen e) client way ⊎ IsAnswered W (seen e) (map seen es) client way bytes → (q : Query Plain) → query_of clients client ≡ Some q → IsFailure bytes ⊎ IsRightFor W q bytes
+  to_query x es fair client way bytes (inl refused) q e = let none = to_refused x es fair client way refused in absurd (cc)
+  to_query x es fair client way bytes (inr answered) q e =
+      let (l, among, (now, sent, is, reads)) = heard_of (seen x) (map seen es) client way answered.query answered.to in
+      let (wish, same) = by_wish (recursive answered.query) answered.query q (sym ((heard_in (x ∷ es) fair l among now client way sent is).is (heard.Query answered.query) reads) ∙ e) in
       subst (λ (p : Query Plain). IsFailure bytes ⊎ IsRightFor W p bytes) same (right_reply W way (answered.query).name (type_number (answered.query).kind) bytes (answered.right wish))
 
   abbrev AreFit : Option (List NetworkAction) → Type 0
@@ -285,7 +286,7 @@ module _ (W : World) (clients : Queries) where
   fit_in : {A : Type 0} (es : List (Entry A)) → AllFair clients es → Throughout (RepliesAreRight W) (map seen es) → (e : Entry A) → Contains es e → AreFit (out_of e.out)
   fit_in [] fair right e among = absurd (none_in e among)
   fit_in {A} (x ∷ es) fair (here, before) e among =
-      ⊎_elim (λ same. subst (λ (y : Entry A). AreFit (out_of y.out)) same (λ client way bytes c shows. to_query (x ∷ es) fair client way bytes (here client way bytes c shows)))
+      ⊎_elim (λ same. subst (λ (y : Entry A). AreFit (out_of y.out)) same (λ client way bytes c shows. to_query x es fair client way bytes (here client way bytes c shows)))
       (λ rest. fit_in es (λ y some. fair y (later_in x y es some)) before e rest) (in_cases x e es among)
 
   -- ---- the count

@@ -1,5 +1,5 @@
 -- What a resolver may be set to, and its first state.
-use Rattle.std.specs.Prelude.{◌≡◌, ℕ, ◌≤◌, true, false, List, []}
+use Rattle.std.specs.Prelude.{◌≡◌, ℕ, ◌≤◌, true, false, List, [], codes}
 use Rattle.rdata.specs.declared.addr.Addr.{Addr}
 use Rattle.zone.specs.Zones.{Zone}
 use Rattle.authority.specs.Catalogs.{has_twins}
@@ -57,6 +57,11 @@ abbrev pub core_fault_number : CoreError → ℕ
 core_fault_number Setting = 1
 core_fault_number Twins = 2
 core_fault_number Memory = 3
+
+abbrev pub core_fault_text : CoreError → List ℕ
+core_fault_text Setting = codes "a setting is out of its limits"
+core_fault_text Twins = codes "two zones have one origin"
+core_fault_text Memory = codes "out of memory"
 
 abbrev pub core_fault : CatalogError → CoreError
 core_fault catalog.Twins = Twins

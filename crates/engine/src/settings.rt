@@ -1,7 +1,7 @@
 //! What a resolver is made of, and the limits of what an operator may set.
-ghost use Rattle.std.specs.Prelude.{◌≡◌, MatchOption};
+ghost use Rattle.std.specs.Prelude.{◌≡◌, Some, MatchOption};
 ghost use Rattle.std.specs.NonZero.{non_zero_usize_get};
-ghost use Rattle.engine.specs.Beginnings.{IsRoom, IsAllowed, core_fault_number};
+ghost use Rattle.engine.specs.Beginnings.{IsRoom, IsAllowed, core_fault_number, core_fault_text};
 
 use authority::CatalogError;
 use dname::Starved;
@@ -92,6 +92,8 @@ impl CoreError {
 }
 
 impl fmt::Display for CoreError {
+    ghost output = { λ e. Some (core_fault_text e) };
+
     fn fmt<W: fmt::Write>(&self, f: &mut fmt::Formatter<W>) -> fmt::Result {
         f.write_str(match self {
             CoreError::Setting => "a setting is out of its limits",

@@ -13,11 +13,9 @@ use crate::job::Job;
 use crate::task::{Task, Turn};
 use causes::Cause;
 use dname::{Heap, Name, Starved};
+use front::MOST_ALIASES;
 use known::Taken;
 use std::alloc::AllocError;
-
-/// The links that a CNAME chain may have.
-const MOST_ALIASES: usize = 8;
 
 // Where an alias leads; nothing where the link ends a chain.
 fn target<A: Heap>(link: &Taken<A>) -> Result<Option<Name<A>>, Starved>

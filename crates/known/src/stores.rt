@@ -11,7 +11,7 @@ ghost use Rattle.known.specs.Views.{no_stores, with_link, with_cut, after_look, 
 
 use authority::Link;
 use cache::{Cache, Hit};
-use classify::{LONGEST, lifetime};
+use classify::{lifetime, referral_lifetime};
 use dname::{Heap, Name, Starved};
 use frames::{Frame, trimmed};
 use rdata::{Addr, RType};
@@ -135,7 +135,7 @@ impl<S: BuildHasher + Drop, A: Heap> Stores<S, A> {
         ensures err { OnErr result (self.new ≡ self.old) }
     {
         let kept = trimmed(alloc, cut)?;
-        self.delegations.keep(&kept, ttl.min(LONGEST), now)?;
+        self.delegations.keep(&kept, referral_lifetime(ttl), now)?;
         Ok(())
     }
 

@@ -1,5 +1,5 @@
 //! A link that is used for a query, with where it comes from and how it goes out.
-ghost use Rattle.std.specs.Prelude.{◌≡◌, ◌-◌, ◌/◌, ◌≤◌, IfOk, MatchOption};
+ghost use Rattle.std.specs.Prelude.{◌≡◌, ◌≤◌, IfOk, MatchOption};
 ghost use Rattle.rdata.specs.Records.{Record as Datum};
 ghost use Rattle.zone.specs.Links.{Alias as Alternative};
 ghost use Rattle.authority.specs.Answers.{link_view};
@@ -8,7 +8,7 @@ ghost use Rattle.resolution.specs.Jobs.{local_link, kept_link, is_dead, has_ende
 ghost use Rattle.known.specs.Views.{source_view, is_at_hand, IsBounded, taken_at, accepted_link};
 
 use authority::Link;
-use cache::{Hit, retimed};
+use cache::{Hit, retimed, seconds_left};
 use classify::lifetime;
 use dname::{Heap, Name, Starved};
 use front::alias_target;
@@ -37,15 +37,6 @@ impl Source {
             Source::Local | Source::Accepted { .. } => false,
         }
     }
-}
-
-// The seconds that are left of a time to live.
-fn left(ttl: u32, since: u64, now: u64) -> u32
-    ensures value { result ≡ ttl - (now - since) / 1000 }
-    ensures most { result ≤ ttl }
-{
-    let age = now.saturating_sub(since) / 1_000;
-    u64::from(ttl).saturating_sub(age) as u32
 }
 
 /// What is known of a name: the name, a link, and where it comes from.
@@ -167,7 +158,7 @@ impl<A: Allocator> Taken<A> {
         match self.source {
             Source::Local => self.link,
             Source::Cached { ttl, since } | Source::Accepted { ttl, since } => {
-                retimed(self.link, left(ttl, since, now))
+                retimed(self.link, seconds_left(ttl, since, now))
             }
         }
     }

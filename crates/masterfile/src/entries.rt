@@ -12,13 +12,10 @@ use crate::faults::FileKind;
 use crate::fields::{end, name, name_of_word, number_field, plain, rdata};
 use crate::numbers::{is_number, number};
 use dname::{Heap, Name};
-use rdata::{RType, Record, is_same_word};
+use rdata::{GREATEST_TTL, RType, Record, is_same_word};
 use std::alloc::{Allocator, Global};
 use std::marker::Model;
 use words::{Lead, Word, Words};
-
-/// The greatest TTL, in seconds (RFC 2181, section 8).
-const GREATEST_TTL: u32 = 2_147_483_647;
 
 /// What earlier entries leave to the later ones.
 #[derive(Drop)]

@@ -11,7 +11,7 @@ use Rattle.runs.specs.Runs.{Run, Earlier, GivesOut, Asks, Accepts}
 use Rattle.laws.specs.Headline.{IsHonest}
 use Rattle.laws.proofs.Every.{sound_run}
 use Rattle.laws.proofs.RightLists.{both_cases, front_in}
-use Rattle.network.specs.Networks.{Sent, Network, NetworkAction, Reply, sent_at, sends_among, sends_in, Reaches, NetworkStep, Passes}
+use Rattle.network.specs.Networks.{Sent, Network, NetworkEvent, NetworkAction, Reply, sent_at, sends_among, sends_in, Reaches, NetworkStep, Passes}
 use Rattle.network.specs.Laws.{Line, NetworkRun, Shows, NetworkHeadline}
 use Rattle.network.proofs.Asked.{AsksTcp, quiet, asks, step_asks}
 use Rattle.network.proofs.Brought.{IsAskOf, reached_serves}
@@ -180,6 +180,8 @@ module _ (W : World) (w : IsWorld W) (site : Site) (l : Line) (past : List Line)
       mirrors = record {
         replies = λ client way bytes c m. shown_out (length old.sends) h.actions client way bytes c (subst (λ (o : Option (List NetworkAction)). Shows o (Reply client way bytes c)) h.out_is m);
         clients = λ now client way bytes e. reached_client old now client way bytes l.event (subst (λ (b : resolver.Event). Reaches old l.event (Some b)) e h.reaches);
+        brought = λ now client way bytes e. let is = subst (λ (x : NetworkEvent). Reaches old x (Some h.brought)) e h.reaches in cc;
+        step = (old.resolver, new.resolver, h.step);
       }
 
   goes_on : NetworkStep old l.event l.out new → Along W site (l ∷ past) new

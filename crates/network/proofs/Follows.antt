@@ -1,30 +1,35 @@
 -- Lines of a network and the steps of its resolver.
-use Rattle.std.proofs.Common.{◌≡◌, ℕ, ◌+◌, ◌⊎◌, inl, inr, ⊎_elim, Option, Some, None, List, [], ◌∷◌, sym, subst}
+use Rattle.std.proofs.Common.{◌≡◌, ℕ, ◌+◌, ◌⊎◌, inl, inr, ⊎_elim, true, Option, Some, None, List, [], ◌∷◌, refl, sym, subst, ◌∙◌}
 use Rattle.std.specs.Prelude.{Contains}
 use Rattle.zone.proofs.LawLists.{none_in, first_in, later_in, in_cases}
 use Rattle.rdata.specs.Types.{type_number}
 use Rattle.causes.specs.declared.cause.Cause.{Cause}
 use Rattle.wire.specs.declared.via.Via.{Via}
+use Rattle.front.specs.declared.queries.Query.{Query as Asking}
 use Rattle.front.specs.declared.queries.Asked.{Asked}
 use Rattle.front.specs.declared.queries.Asked.TheVariants as heard
 use Rattle.truth.specs.Worlds.{World}
-use Rattle.runs.specs.States.{Path, ByUdp, ByTcp, Endpoint, Turn, Plain, Asker, Served, Own, Query, Site}
+use Rattle.runs.specs.States.{Path, ByUdp, ByTcp, Endpoint, Turn, Plain, Asker, Served, Own, Query, recursive}
 use Rattle.runs.specs.States as resolver
 use Rattle.runs.specs.Runs.{Earlier, Always, GivesOut, Came}
 use Rattle.runs.specs.Replies.{IsServedFor, Refuses}
 use Rattle.laws.specs.Headline.{IsRightAnswer}
 use Rattle.laws.specs.Headline as theorem
+use Rattle.laws.proofs.Actions.{own_not_query}
 use Rattle.network.specs.Networks.{Sent, Network, sent_at, NetworkEvent, Client, Carry, CarryTruncated, CarryTcp, Lose, Tick, Reply, WasSent, WasAsked, MoreDue, IsTruncatedReply, IsFitReply, IsDatagram, IsStream, OverUdp, OverTcp, lost, OfSend, Reaches, numbered, shown}
-use Rattle.network.specs.Laws.{Line, Throughout, Shows, IsHeardOf, IsAnswered, IsRefused, RepliesAreRight}
+use Rattle.network.specs.Laws.{Line, Throughout, Shows, BringsOf, IsOfNoClient, IsTo, IsAnswered, IsRefused, RepliesAreRight}
+use Rattle.network.proofs.Owned.{IsStepOf, reply_is_own, open_is_recursive}
 
 -- A line without replies, and one that shows what a step of the resolver does: no other replies, and that
--- step's client.
+-- step's client, if there is one.
 abbrev pub IsQuiet : Line → Type 0
 IsQuiet l = (client : ℕ) (way : Via) (bytes : List ℕ) (c : Option Cause) → Shows l.out (Reply client way bytes c) → ⊥
 
 pub record Mirrors (l : Line) (t : Turn) : Type 0 where
   pub replies : (client : ℕ) (way : Via) (bytes : List ℕ) (c : Option Cause) → Shows l.out (Reply client way bytes c) → GivesOut t.out (resolver.Reply client way bytes c)
   pub clients : (now client : ℕ) (way : Via) (bytes : List ℕ) → t.event ≡ resolver.Client now client way bytes → l.event ≡ Client now client way bytes
+  pub brought : (now client : ℕ) (way : Via) (bytes : List ℕ) → l.event ≡ Client now client way bytes → t.event ≡ resolver.Client now client way bytes
+  pub step : IsStepOf t
 
 abbrev pub Follows : List Line → List Turn → Type 0
 Follows [] run = run ≡ []
@@ -91,29 +96,26 @@ module _ (s : Network) (now client : ℕ) (way : Via) (bytes : List ℕ) where
 
 -- ---- replies
 
--- A query that came in some step came on some line.
-later_heard : (l : Line) (past : List Line) (client : ℕ) (way : Via) (asked : Asked Plain) → IsHeardOf past client way asked → IsHeardOf (l ∷ past) client way asked
-later_heard l past client way asked (x, there, is) = (x, later_in l x past there, is)
+-- A query that came in a step came on that step's line; one that stays open is recursive.
+came_on : (l : Line) (t : Turn) (before : List Turn) (served : Served) (who : Asker) → Mirrors l t → Came served who t before → BringsOf l who.client who.way (heard.Query who.query)
+came_on l t before served who mirrors came = (came.moment, came.bytes, mirrors.clients came.moment who.client who.way came.bytes came.event, came.reads)
 
-came_heard : (l : Line) (past : List Line) (t : Turn) (before : List Turn) (served : Served) (who : Asker) → Mirrors l t → Came served who t before
-    → IsHeardOf (l ∷ past) who.client who.way (heard.Query who.query)
-came_heard l past t before served who mirrors came =
-    (l, first_in l past, (came.moment, came.bytes, mirrors.clients came.moment who.client who.way came.bytes came.event, came.reads))
+abbrev CameOpen : List Line → Asker → Type 0
+CameOpen lines who = (recursive who.query ≡ true) × ((m : Line) × Contains lines m × BringsOf m who.client who.way (heard.Query who.query))
 
-earlier_heard : (lines : List Line) (run : List Turn) (served : Served) (who : Asker) → Follows lines run → Earlier (Came served who) run → IsHeardOf lines who.client who.way (heard.Query who.query)
-earlier_heard [] run served who none h = absurd (subst (Earlier (Came served who)) none h)
-earlier_heard (l ∷ past) run served who (inl (quiet, more)) h = later_heard l past _ _ _ (earlier_heard past run served who more h)
-earlier_heard (l ∷ past) run served who (inr (t, before, is, mirrors, more)) h = ⊎_elim
-    (λ came. came_heard l past t before served who mirrors came)
-    (λ earlier. later_heard l past _ _ _ (earlier_heard past before served who more earlier))
-    (subst (Earlier (Came served who)) is h)
+later_open : (l : Line) (past : List Line) (who : Asker) → CameOpen past who → CameOpen (l ∷ past) who
+later_open l past who (wish, (m, there, brings)) = (wish, (m, later_in l m past there, brings))
+
+earlier_open : (lines : List Line) (run : List Turn) (k : ℕ) (who : Asker) → Follows lines run → Earlier (Came (Query k) who) run → CameOpen lines who
+earlier_open [] run k who none h = absurd (subst (Earlier (Came (Query k) who)) none h)
+earlier_open (l ∷ past) run k who (inl (quiet, more)) h = later_open l past who (earlier_open past run k who more h)
+earlier_open (l ∷ past) run k who (inr (t, before, is, mirrors, more)) h = ⊎_elim
+    (λ came. (open_is_recursive t before k who mirrors.step came, (l, first_in l past, came_on l t before (Query k) who mirrors came)))
+    (λ earlier. later_open l past who (earlier_open past before k who more earlier))
+    (subst (Earlier (Came (Query k) who)) is h)
 
 module _ (W : World) (l : Line) (past : List Line) (t : Turn) (before : List Turn) (mirrors : Mirrors l t) (more : Follows past before) where
-  served_heard : (who : Asker) → IsServedFor who t before → IsHeardOf (l ∷ past) who.client who.way (heard.Query who.query)
-  served_heard who (inl came) = came_heard l past t before Own who mirrors came
-  served_heard who (inr (k, served, earlier)) = later_heard l past _ _ _ (earlier_heard past before (Query k) who more earlier)
-
-  refused_is : (client : ℕ) (way : Via) (bytes : List ℕ) (c : Option Cause) → Refuses (resolver.Reply client way bytes c) t → IsRefused (l ∷ past) client way
+  refused_is : (client : ℕ) (way : Via) (bytes : List ℕ) (c : Option Cause) → Refuses (resolver.Reply client way bytes c) t → IsRefused l client way
   refused_is client way bytes c h =
       let (sent, written, is) = h.reply in
       let whose : client ≡ h.client = cc in
@@ -122,28 +124,50 @@ module _ (W : World) (l : Line) (past : List Line) (t : Turn) (before : List Tur
         h.refusal,
         h.start,
         h.echo,
-        subst (λ (n : ℕ). IsHeardOf (l ∷ past) n way asked) (sym whose) (subst (λ (w : Via). IsHeardOf (l ∷ past) h.client w asked) (sym by)
-            (l, first_in l past, (h.moment, h.bytes, mirrors.clients h.moment h.client h.way h.bytes h.event, h.reads))),
+        subst (λ (n : ℕ). BringsOf l n way asked) (sym whose) (subst (λ (w : Via). BringsOf l h.client w asked) (sym by)
+            (h.moment, h.bytes, mirrors.clients h.moment h.client h.way h.bytes h.event, h.reads)),
       )
 
-  answered_is : (client : ℕ) (way : Via) (bytes : List ℕ) (c : Option Cause) (who : Asker) → IsRightAnswer W t before client way bytes c → who.client ≡ client → who.way ≡ way → IsServedFor who t before
-      → IsAnswered W (l ∷ past) client way bytes
-  answered_is client way bytes c who good whose by served = record {
+  -- Where a client's bytes come, the step serves them.
+  module _ (client : ℕ) (way : Via) (bytes : List ℕ) (c : Option Cause) (gives : GivesOut t.out (resolver.Reply client way bytes c)) (who : Asker) (k : ℕ) (served : t.served ≡ Query k) (open_then : CameOpen past who) where
+    open_to : (e : NetworkEvent) → l.event ≡ e → IsTo l past who.client who.way who.query
+    open_to (Client now from by said) is = own_not_query k (sym (reply_is_own t mirrors.step now from by said (mirrors.brought now from by said is) client way bytes c gives) ∙ served)
+    open_to (Carry now n) is = inr (subst IsOfNoClient (sym is) tt, open_then.0, open_then.1)
+    open_to (CarryTruncated now n) is = inr (subst IsOfNoClient (sym is) tt, open_then.0, open_then.1)
+    open_to (CarryTcp now n) is = inr (subst IsOfNoClient (sym is) tt, open_then.0, open_then.1)
+    open_to (Lose now n) is = inr (subst IsOfNoClient (sym is) tt, open_then.0, open_then.1)
+    open_to (Tick now) is = inr (subst IsOfNoClient (sym is) tt, open_then.0, open_then.1)
+
+  served_to : (client : ℕ) (way : Via) (bytes : List ℕ) (c : Option Cause) → GivesOut t.out (resolver.Reply client way bytes c) → (who : Asker) → IsServedFor who t before → IsTo l past who.client who.way who.query
+  served_to client way bytes c gives who (inl came) = inl (came_on l t before Own who mirrors came)
+  served_to client way bytes c gives who (inr (k, served, earlier)) = open_to client way bytes c gives who k served (earlier_open past before k who more earlier) l.event refl
+
+  answered_is : (client : ℕ) (way : Via) (bytes : List ℕ) (c : Option Cause) (who : Asker) → GivesOut t.out (resolver.Reply client way bytes c) → IsRightAnswer W t before client way bytes c → who.client ≡ client
+      → who.way ≡ way → IsServedFor who t before → IsAnswered W l past client way bytes
+  answered_is client way bytes c who gives good whose by served = record {
     query = who.query;
-    asked = subst (λ (n : ℕ). IsHeardOf (l ∷ past) n way (heard.Query who.query)) whose (subst (λ (w : Via). IsHeardOf (l ∷ past) who.client w (heard.Query who.query)) by (served_heard who served));
+    to = subst (λ (n : ℕ). IsTo l past n way who.query) whose (subst (λ (w : Via). IsTo l past who.client w who.query) by (served_to client way bytes c gives who served));
     right = λ rd. subst (λ (w : Via). theorem.IsRightReply W w (who.query).name (type_number (who.query).kind) bytes) by (good.right who served rd);
   }
 
   mirrored_right : theorem.RepliesAreRight W t before → RepliesAreRight W l past
   mirrored_right right client way bytes c shows = by good (good.to)
     where
+      gives : GivesOut t.out (resolver.Reply client way bytes c)
+      gives = mirrors.replies client way bytes c shows
+
       good : IsRightAnswer W t before client way bytes c
-      good = right client way bytes c (mirrors.replies client way bytes c shows)
+      good = right client way bytes c gives
 
       by : IsRightAnswer W t before client way bytes c → Refuses (resolver.Reply client way bytes c) t ⊎ ((who : Asker) × (who.client ≡ client) × (who.way ≡ way) × IsServedFor who t before)
-          → IsRefused (l ∷ past) client way ⊎ IsAnswered W (l ∷ past) client way bytes
+          → IsRefused l client way ⊎ IsAnswered W l past client way bytes
       by g (inl refuses) = inl (refused_is client way bytes c refuses)
-      by g (inr (who, whose, way_is, served)) = inr (answered_is client way bytes c who g whose way_is served)
+      by g (inr (who, whose, way_is, served)) = inr (answered_is client way bytes c who gives g whose way_is served)
+
+-- What a reply is to came on that line or on an earlier one.
+pub heard_of : (l : Line) (past : List Line) (client : ℕ) (way : Via) (query : Asking Plain) → IsTo l past client way query → (m : Line) × Contains (l ∷ past) m × BringsOf m client way (heard.Query query)
+heard_of l past client way query (inl brings) = (l, first_in l past, brings)
+heard_of l past client way query (inr (none, wish, (m, there, brings))) = (m, later_in l m past there, brings)
 
 pub lines_right : (W : World) (lines : List Line) (run : List Turn) → Follows lines run → Always (theorem.RepliesAreRight W) run → Throughout (RepliesAreRight W) lines
 lines_right W [] run follows right = tt

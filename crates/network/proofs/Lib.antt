@@ -1,4 +1,5 @@
 pub mod Asked
 pub mod Brought
+pub mod Owned
 pub mod Follows
 pub mod Carried

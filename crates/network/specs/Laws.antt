@@ -13,7 +13,7 @@ use Rattle.front.specs.declared.queries.Refusal.{Refusal}
 use Rattle.truth.specs.Worlds.{World, IsWorld}
 use Rattle.runs.specs.States.{Plain, recursive, Site, IsNew}
 use Rattle.laws.specs.Headline.{IsHomeIn, IsRightReply}
-use Rattle.network.specs.Networks.{NetworkEvent, Client, NetworkAction, Reply, Network, NetworkStep}
+use Rattle.network.specs.Networks.{NetworkEvent, Client, Carry, CarryTruncated, CarryTcp, Lose, Tick, NetworkAction, Reply, Network, NetworkStep}
 
 -- An event and what came out, `None` where memory was wanting.
 pub record Line : Type 0 where
@@ -39,23 +39,38 @@ abbrev pub Shows : Option (List NetworkAction) → NetworkAction → Type 0
 Shows None action = ⊥
 Shows (Some out) action = Contains out action
 
--- On one of these lines this client's bytes came by this way, and that is what they ask.
-abbrev pub IsHeardOf : List Line → ℕ → Via → Asked Plain → Type 0
-IsHeardOf lines client way asked = (l : Line) × Contains lines l × ((now : ℕ) × (bytes : List ℕ) × (l.event ≡ Client now client way bytes) × IsAsked bytes asked)
+-- On this line this client's bytes come by this way, and that is what they ask.
+abbrev pub BringsOf : Line → ℕ → Via → Asked Plain → Type 0
+BringsOf l client way asked = (now : ℕ) × (bytes : List ℕ) × (l.event ≡ Client now client way bytes) × IsAsked bytes asked
+
+-- On this line no client's bytes come.
+abbrev pub IsOfNoClient : NetworkEvent → Type 0
+IsOfNoClient (Client now client way bytes) = ⊥
+IsOfNoClient (Carry now k) = Unit {0}
+IsOfNoClient (CarryTruncated now k) = Unit {0}
+IsOfNoClient (CarryTcp now k) = Unit {0}
+IsOfNoClient (Lose now k) = Unit {0}
+IsOfNoClient (Tick now) = Unit {0}
+
+-- Where a client's bytes come on a line, its reply is to them. Else it is to a recursive query that came on an
+-- earlier line.
+abbrev pub IsTo : Line → List Line → ℕ → Via → Asking Plain → Type 0
+IsTo l past client way query = BringsOf l client way (heard.Query query)
+    ⊎ (IsOfNoClient l.event × (recursive query ≡ true) × ((m : Line) × Contains past m × BringsOf m client way (heard.Query query)))
 
 -- A reply answers a query of its client; where that is recursive the reply is right.
-pub record IsAnswered (W : World) (lines : List Line) (client : ℕ) (way : Via) (bytes : List ℕ) : Type 0 where
+pub record IsAnswered (W : World) (l : Line) (past : List Line) (client : ℕ) (way : Via) (bytes : List ℕ) : Type 0 where
   pub query : Asking Plain
-  pub asked : IsHeardOf lines client way (heard.Query query)
+  pub to : IsTo l past client way query
   pub right : recursive query ≡ true → IsRightReply W way query.name (type_number query.kind) bytes
 
--- Or it refuses bytes of its client that are no query to be answered.
-abbrev pub IsRefused : List Line → ℕ → Via → Type 0
-IsRefused lines client way = (refusal : Refusal) × (start : Opening) × (echo : Option Question) × IsHeardOf lines client way (heard.Refuse refusal start echo)
+-- Or it refuses bytes of its client that came on its own line and are no query to be answered.
+abbrev pub IsRefused : Line → ℕ → Via → Type 0
+IsRefused l client way = (refusal : Refusal) × (start : Opening) × (echo : Option Question) × BringsOf l client way (heard.Refuse refusal start echo)
 
 abbrev pub RepliesAreRight : World → Line → List Line → Type 0
 RepliesAreRight W l past = (client : ℕ) (way : Via) (bytes : List ℕ) (c : Option Cause) → Shows l.out (Reply client way bytes c)
-    → IsRefused (l ∷ past) client way ⊎ IsAnswered W (l ∷ past) client way bytes
+    → IsRefused l client way ⊎ IsAnswered W l past client way bytes
 
 -- In every list of events each reply to a recursive query is right: in a well formed world whose local zones and
 -- hints are the resolver's, with no premise on any message.

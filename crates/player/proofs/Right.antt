@@ -22,6 +22,7 @@ use Rattle.laws.specs.Headline.{IsHomeIn, IsRightReply}
 use Rattle.orders.specs.Orders.{Order, at, ask, raw, carry, truncate, lose, run, tick}
 use Rattle.network.specs.Networks.{Network, NetworkEvent, Client, CarryTruncated, Lose, Tick, NetworkAction, Reply, WasSent, WasAsked, MoreDue, NetworkStep}
 use Rattle.network.specs.Laws.{Line, IsFresh, NetworkRun, NetworkHeadline, IsRefused, IsAnswered}
+use Rattle.network.proofs.Follows.{heard_of}
 use Rattle.tally.specs.Clients.{Queries, recursive_in, known, query_for, query_of}
 use Rattle.tally.specs.Counts.{IsFailure, IsRightFor, IsCountedFor}
 use Rattle.tally.specs.Sends.{way_at, taken_off}
@@ -81,16 +82,16 @@ by_wish : (b : Bool) (p q : Asking Plain) → cond b (Some p) None ≡ Some q �
 by_wish true p q e = (refl, cc)
 by_wish false p q e = absurd (cc)
 
-module _ (W : World) (lines : List Line) (queries : Queries) (knows : KnowsAll lines queries) where
-  to_refused : (client : ℕ) (way : Via) → IsRefused lines client way → query_of queries client ≡ None
-  to_refused client way (refusal, start, echo, (l, among, (now, bytes, is, asked))) = (knows l among now client way bytes is).is (heard.Refuse refusal start echo) asked
+module _ (W : World) (l : Line) (past : List Line) (queries : Queries) (knows : KnowsAll (l ∷ past) queries) where
+  to_refused : (client : ℕ) (way : Via) → IsRefused l client way → query_of queries client ≡ None
+  to_refused client way (refusal, start, echo, (now, bytes, is, asked)) = (knows l (first_in l past) now client way bytes is).is (heard.Refuse refusal start echo) asked
 
-  to_query : (client : ℕ) (way : Via) (bytes : List ℕ) → IsRefused lines client way ⊎ IsAnswered W lines client way bytes → (q : Asking Plain)
+  to_query : (client : ℕ) (way : Via) (bytes : List ℕ) → IsRefused l client way ⊎ IsAnswered W l past client way bytes → (q : Asking Plain)
       → query_of queries client ≡ Some q → IsFailure bytes ⊎ IsRightFor W q bytes
   to_query client way bytes (inl refused) q e = let none = to_refused client way refused in absurd (cc)
   to_query client way bytes (inr answered) q e =
-      let (l, among, (now, sent, is, asked)) = answered.asked in
-      let (wish, same) = by_wish (recursive answered.query) answered.query q (sym ((knows l among now client way sent is).is (heard.Query answered.query) asked) ∙ e) in
+      let (m, among, (now, sent, is, asked)) = heard_of l past client way answered.query answered.to in
+      let (wish, same) = by_wish (recursive answered.query) answered.query q (sym ((knows m among now client way sent is).is (heard.Query answered.query) asked) ∙ e) in
       subst (λ (p : Asking Plain). IsFailure bytes ⊎ IsRightFor W p bytes) same (right_reply W way (answered.query).name (type_number (answered.query).kind) bytes (answered.right wish))
 
 -- ---- the count
@@ -140,7 +141,7 @@ module _ (W : World) (site : Site) (law : NetworkHeadline) (well : IsWorld W) (h
       → NetworkRun W site (record { event = event; out = out } ∷ lines) s → KnowsAll (record { event = event; out = out } ∷ lines) queries → AllRight W queries (out_of out)
   out_right event None lines s queries ran knows client way bytes c among q e = let gone = among.1 in absurd (omega arith)
   out_right event (Some out) lines s queries ran knows client way bytes c among q e =
-      to_query W (record { event = event; out = Some out } ∷ lines) queries knows client way bytes
+      to_query W (record { event = event; out = Some out }) lines queries knows client way bytes
       ((law W site (record { event = event; out = Some out } ∷ lines) s well home ran).0 client way bytes c among) q e
 
   happens_kept : (event : NetworkEvent) (old new : Seen) (k : Kept old) (h : Happens event old new) → (new.network).world ≡ W

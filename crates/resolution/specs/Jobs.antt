@@ -19,7 +19,7 @@ use Rattle.retry.specs.Plans.{advanced, wait_of}
 use Rattle.referral.specs.Cuts.{ServerAddress, Cut, Known}
 use Rattle.referral.specs.Cuts as referral
 use Rattle.cache.specs.Keys.{Key}
-use Rattle.cache.specs.Cached.{Hit, retimed}
+use Rattle.cache.specs.Cached.{Hit, retimed, seconds_left}
 use Rattle.cache.specs.Cached as cache
 use Rattle.frames.specs.Frames.{Frame, FailedName}
 use Rattle.frames.specs.Trimmed.{trimmed}
@@ -103,8 +103,8 @@ IsEnding (NxDomain soa) = Unit {0}
 -- A link as it goes out: a local one as it is, others with what is left of their time to live.
 abbrev pub sent_from : ℕ → Source → Link → Link
 sent_from now Local l = l
-sent_from now (Cached ttl since) l = retimed (ttl - (now - since) / 1000) l
-sent_from now (Accepted ttl since) l = retimed (ttl - (now - since) / 1000) l
+sent_from now (Cached ttl since) l = retimed (seconds_left now ttl since) l
+sent_from now (Accepted ttl since) l = retimed (seconds_left now ttl since) l
 
 abbrev pub sent : ℕ → Taken → Link
 sent now l = sent_from now l.source l.link

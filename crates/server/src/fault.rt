@@ -1,4 +1,7 @@
 //! Why a server does not run.
+ghost use Rattle.std.specs.Prelude.{◌≡◌, Some};
+ghost use Rattle.server.specs.Faults.{serve_fault_number, serve_fault_text};
+
 use std::alloc::AllocError;
 use std::fmt;
 
@@ -13,7 +16,22 @@ pub enum ServeError {
     Threads,
 }
 
+impl ServeError {
+    /// Its number, 1 to 3.
+    pub fn number(self) -> u8
+        ensures { result ≡ serve_fault_number self }
+    {
+        match self {
+            ServeError::Memory => 1,
+            ServeError::Clock => 2,
+            ServeError::Threads => 3,
+        }
+    }
+}
+
 impl fmt::Display for ServeError {
+    ghost output = { λ e. Some (serve_fault_text e) };
+
     fn fmt<W: fmt::Write>(&self, f: &mut fmt::Formatter<W>) -> fmt::Result {
         f.write_str(match self {
             ServeError::Memory => "out of memory",

@@ -1,5 +1,5 @@
 -- A network of a world before its first event, and why there is none.
-use Rattle.std.specs.Prelude.{◌≡◌, ℕ, List}
+use Rattle.std.specs.Prelude.{◌≡◌, ℕ, List, codes}
 use Rattle.rdata.specs.declared.addr.Addr.{Addr}
 use Rattle.zone.specs.Zones.{Zone}
 use Rattle.truth.specs.Worlds.{World, IsWorld}
@@ -42,3 +42,7 @@ SimRefuses Memory settings = IsAllowed settings
 abbrev pub sim_fault_number : SimError → ℕ
 sim_fault_number Setting = 1
 sim_fault_number Memory = 2
+
+abbrev pub sim_fault_text : SimError → List ℕ
+sim_fault_text Setting = codes "a setting is out of its limits"
+sim_fault_text Memory = codes "out of memory"

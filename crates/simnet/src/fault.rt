@@ -1,6 +1,6 @@
 //! Why there is no network.
-ghost use Rattle.std.specs.Prelude.{◌≡◌};
-ghost use Rattle.simnet.specs.Beginnings.{sim_fault_number};
+ghost use Rattle.std.specs.Prelude.{◌≡◌, Some};
+ghost use Rattle.simnet.specs.Beginnings.{sim_fault_number, sim_fault_text};
 
 use dname::Starved;
 use std::alloc::AllocError;
@@ -28,11 +28,13 @@ impl SimError {
 }
 
 impl fmt::Display for SimError {
+    ghost output = { λ e. Some (sim_fault_text e) };
+
     fn fmt<W: fmt::Write>(&self, f: &mut fmt::Formatter<W>) -> fmt::Result {
-        match self {
-            SimError::Setting => write!(f, "a setting is out of its limits"),
-            SimError::Memory => write!(f, "out of memory"),
-        }
+        f.write_str(match self {
+            SimError::Setting => "a setting is out of its limits",
+            SimError::Memory => "out of memory",
+        })
     }
 }
 

@@ -1,6 +1,6 @@
 //! Why a frame is not taken, or not written.
-ghost use Rattle.std.specs.Prelude.{◌≡◌};
-ghost use Rattle.sockets.specs.Faults.{frame_fault_number};
+ghost use Rattle.std.specs.Prelude.{◌≡◌, Some};
+ghost use Rattle.sockets.specs.Faults.{frame_fault_number, frame_fault_text};
 ghost use Rattle.sockets.specs.declared.fault.FrameError.TheVariants.{Memory};
 
 use std::alloc::{AllocError, AllocFailed};
@@ -34,6 +34,8 @@ impl FrameError {
 }
 
 impl fmt::Display for FrameError {
+    ghost output = { λ e. Some (frame_fault_text e) };
+
     fn fmt<W: fmt::Write>(&self, f: &mut fmt::Formatter<W>) -> fmt::Result {
         f.write_str(match self {
             FrameError::Short => "the stream ends inside a frame",

@@ -1,6 +1,6 @@
 -- Why zones, servers, hints and local names are no world: the rules of a world by name, the refusals'
 -- numbers, and the refusal that answers.
-use Rattle.std.specs.Prelude.{◌≡◌, ℕ, ◌⊎◌, Contains}
+use Rattle.std.specs.Prelude.{◌≡◌, ℕ, ◌⊎◌, List, codes, Contains}
 use Rattle.dname.specs.Labels.{Name, root}
 use Rattle.zone.specs.Zones.{Zone, IsCut}
 use Rattle.truth.specs.Worlds.{Address, World, Serves, IsOrigin, IsParent, IsServerName, IsAddressOf, Parted}
@@ -34,6 +34,15 @@ world_fault_number Lame = 4
 world_fault_number NoStart = 5
 world_fault_number Memory = 6
 world_fault_number Twins = 7
+
+abbrev pub world_fault_text : WorldError → List ℕ
+world_fault_text NoRoot = codes "no zone at the root"
+world_fault_text LooseCut = codes "a cut without a zone"
+world_fault_text Undelegated = codes "a zone that the zone above does not delegate"
+world_fault_text Lame = codes "a server without its zone"
+world_fault_text NoStart = codes "no hint that serves the root"
+world_fault_text Memory = codes "out of memory"
+world_fault_text Twins = codes "two zones have one origin"
 
 -- A refusal's rule is broken, and those before it hold, in the order 7, 1, 2, 3, 4, 5; want of memory can
 -- come at any time.

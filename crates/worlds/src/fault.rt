@@ -1,6 +1,6 @@
 //! Why there is no such world.
-ghost use Rattle.std.specs.Prelude.{◌≡◌};
-ghost use Rattle.worlds.specs.Refusals.{world_fault_number};
+ghost use Rattle.std.specs.Prelude.{◌≡◌, Some};
+ghost use Rattle.worlds.specs.Refusals.{world_fault_number, world_fault_text};
 
 use dname::Starved;
 use std::alloc::AllocError;
@@ -44,6 +44,8 @@ impl WorldError {
 }
 
 impl fmt::Display for WorldError {
+    ghost output = { λ e. Some (world_fault_text e) };
+
     fn fmt<W: fmt::Write>(&self, f: &mut fmt::Formatter<W>) -> fmt::Result {
         f.write_str(match self {
             WorldError::NoRoot => "no zone at the root",

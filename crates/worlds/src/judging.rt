@@ -12,7 +12,7 @@ use crate::world::World;
 use authority::Link;
 use dname::{Heap, Name, Starved};
 use front::MOST_ALIASES;
-use rdata::{RData, RType, Record};
+use rdata::{INTERNET, RData, RType, Record};
 use std::alloc::Allocator;
 use wire::{Message, Question, WireError, decode};
 
@@ -169,7 +169,7 @@ fn is_asked<A: Allocator>(questions: &[Question<A>], name: &Name<A>, kind: RType
     ensures { result ≡ is_asked name.now (type_number kind) questions.now }
 {
     match questions {
-        [only] => only.name == *name && only.qtype == kind.number() && only.qclass == 1,
+        [only] => only.name == *name && only.qtype == kind.number() && only.qclass == INTERNET,
         _ => false,
     }
 }
@@ -183,8 +183,8 @@ fn is_empty<A: Allocator>(reply: &Message<A>) -> bool
         && is_none(reply.additional.as_slice())
 }
 
-// Whether the message is cut: TC is set.
-fn is_cut<A: Allocator>(reply: &Message<A>) -> bool
+// Whether the message is truncated: TC is set.
+fn is_truncated<A: Allocator>(reply: &Message<A>) -> bool
     ensures { result ≡ reply.now.header.tc }
 {
     reply.header.tc
@@ -227,7 +227,7 @@ fn is_right<A: Heap>(
     if !is_reply_to(reply, name, kind) {
         return Ok(false);
     }
-    if is_cut(reply) {
+    if is_truncated(reply) {
         return Ok(is_empty(reply));
     }
     if has_additional(reply) {
