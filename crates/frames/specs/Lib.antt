@@ -2,3 +2,5 @@
 pub mod Frames
 pub mod Trimmed
 pub mod Members
+-- Kept: what the code's own values keep.
+pub mod Seen

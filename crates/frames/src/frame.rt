@@ -17,8 +17,8 @@ use std::marker::Model;
 // The deepest look-up of a server's name.
 const DEEPEST: u8 = 3;
 
-/// The servers of a zone as they are asked for one name. It keeps every name and address that it took, and
-/// counts those that had their turn.
+/// The servers of a zone as they are asked for one name. It keeps every address that it took, and the names
+/// of which it took none, and counts the names that had their turn.
 #[derive(Drop)]
 pub struct Frame<A: Allocator = Global> {
     nesting: u8,

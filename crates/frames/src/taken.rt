@@ -5,14 +5,22 @@ ghost use Rattle.dname.specs.Labels.{Name as Labels, same_name};
 ghost use Rattle.rdata.specs.declared.addr.Addr.{Addr as Address};
 ghost use Rattle.referral.specs.Cuts.{ServerAddress as Listed};
 ghost use Rattle.frames.specs.Frames.{has_address, each_once, most_taken};
+ghost use Rattle.frames.specs.Seen.{AreSeen};
 
 use dname::{Heap, Name, Starved};
 use rdata::Addr;
 use referral::{Names, ServerAddress};
 use std::alloc::Allocator;
+use std::collections::BTreeSet;
 
 // The most names, and the most addresses, that are taken of a cut.
 const MOST_TAKEN: usize = 16;
+
+// So many found addresses are compared one by one; of more, each is sought by the order of addresses.
+const FEW: usize = 16;
+
+// The bytes of addresses.
+type Seen<A> = BTreeSet<[u8; 4], A>;
 
 pub(crate) fn has_address(addresses: &[Addr], sought: Addr) -> bool
     ensures { result ≡ has_address addresses.now sought }
@@ -68,12 +76,22 @@ pub(crate) fn unknown_names<A: Heap>(
     Ok(unknown)
 }
 
-/// Those found that are not known, each once.
+/// Those found that are not known, each once. Of n addresses, known and found, it makes some n log n
+/// comparisons; where up to 16 are found it takes no memory but that of the fresh ones.
 pub(crate) fn fresh_addresses<A: Heap>(
     alloc: A,
     known: &[Addr],
     found: &[Addr],
 ) -> Result<Vec<Addr, A>, Starved>
+    ensures { IfOk result (λ v. v.items ≡ filter (λ (a : Address). not (has_address known.now a)) (each_once found.now)) }
+{
+    if found.len() <= FEW {
+        return fresh_of_few(alloc, known, found);
+    }
+    fresh_of_many(alloc, known, found)
+}
+
+fn fresh_of_few<A: Heap>(alloc: A, known: &[Addr], found: &[Addr]) -> Result<Vec<Addr, A>, Starved>
     ensures { IfOk result (λ v. v.items ≡ filter (λ (a : Address). not (has_address known.now a)) (each_once found.now)) }
 {
     let mut fresh = Vec::new(alloc);
@@ -83,4 +101,28 @@ pub(crate) fn fresh_addresses<A: Heap>(
         }
     }
     Ok(fresh)
+}
+
+fn fresh_of_many<A: Heap>(alloc: A, known: &[Addr], found: &[Addr]) -> Result<Vec<Addr, A>, Starved>
+    ensures { IfOk result (λ v. v.items ≡ filter (λ (a : Address). not (has_address known.now a)) (each_once found.now)) }
+{
+    let mut seen = set_of(alloc, known)?;
+    let mut fresh = Vec::new(alloc);
+    for address in found {
+        if seen.insert(address.0)? {
+            fresh.push(*address)?;
+        }
+    }
+    Ok(fresh)
+}
+
+// The set of these addresses.
+fn set_of<A: Heap>(alloc: A, addresses: &[Addr]) -> Result<Seen<A>, Starved>
+    ensures { IfOk result (λ seen. AreSeen seen addresses.now) }
+{
+    let mut seen = BTreeSet::new(alloc);
+    for address in addresses {
+        seen.insert(address.0)?;
+    }
+    Ok(seen)
 }

@@ -238,12 +238,43 @@ fn addresses_that_are_new_make_a_new_plan(rt: HostRuntime) -> Result<(), Fail> {
     Ok(())
 }
 
+// The addresses 10.0.0.0, 10.0.0.1 and so on, as many as are counted, five times over.
+fn five_rounds<A: Heap>(alloc: A, count: u16) -> Result<Vec<Addr, A>, Starved> {
+    let mut found = Vec::new(alloc);
+    for _ in 0..5 {
+        for n in 0..count {
+            let [high, low] = n.to_be_bytes();
+            found.push(Addr([10, 0, high, low]))?;
+        }
+    }
+    Ok(found)
+}
+
+// The first time two of them are known, the second time all.
+#[test]
+fn addresses_that_come_often_are_taken_once(rt: HostRuntime) -> Result<(), Fail> {
+    let found = five_rounds(rt.alloc(), 1_000)?;
+    let mut frame = start(rt.alloc(), &empty(rt.alloc())?, 0)?;
+    assert!(rt;
+        add(
+            &mut frame,
+            rt.alloc(),
+            &[Addr([10, 0, 3, 231]), Addr([10, 0, 0, 1])]
+        )?
+    );
+    assert!(rt; add(&mut frame, rt.alloc(), &found)?);
+    assert_eq!(rt; frame.addresses().len(), 1_000);
+    assert!(rt; asks(&mut frame, &[Addr([10, 0, 0, 0]), Addr([10, 0, 0, 2])]));
+    assert!(rt; !add(&mut frame, rt.alloc(), &found)?);
+    Ok(())
+}
+
 fn play<A: Heap>(alloc: A) -> Result<bool, Starved> {
     let cut = trimmed(alloc, &five_servers(alloc)?)?;
     let failed = three_failures(alloc)?;
     let mut frame = start(alloc, &cut, 1)?;
     let given = gives(&mut frame, &failed, alloc, "c.net")?;
-    Ok(add(&mut frame, alloc, &[addr(2)])? && given)
+    Ok(add(&mut frame, alloc, &five_rounds(alloc, 20)?)? && given)
 }
 
 #[test]

@@ -1,7 +1,7 @@
 use Rattle.std.proofs.Common.{ap, ◌∙◌}
 use Rattle.frames.proofs.Once.{found_known, found_there, found_new}
-use Rattle.frames.proofs.taken.fresh_addresses.Goals as goal
-use Rattle.frames.proofs.taken.fresh_addresses.Goals.{then-not-has_address+then-not-has_address-2+in_ok-push, else-not-has_address, else-not-has_address-via-then-not-has_address+else-not-has_address-2, else-not-has_address-via-else-not-has_address}
+use Rattle.frames.proofs.taken.fresh_of_few.Goals as goal
+use Rattle.frames.proofs.taken.fresh_of_few.Goals.{then-not-has_address+then-not-has_address-2+in_ok-push, else-not-has_address, else-not-has_address-via-then-not-has_address+else-not-has_address-2, else-not-has_address-via-else-not-has_address}
 
 pub loop-address-preserved : goal.loop-address-preserved
 loop-address-preserved g c = elim c.if-not-has_address.branch [
