@@ -25,11 +25,12 @@ bench: ask
 	cd crates/bench && rt run -- measure
 	tools/pace
 
-# The gate: every proof, every edit that must fail, every test and every run.
+# The gate: every proof, every edit that must fail, every test and every run, and the examples with the proved program.
 test: kit
 	tools/layers --check
 	tools/definitions
 	RT_JOBS=$$(tools/lanes) rt ci
+	tools/examples
 
 # Tries the edits of single functions, which the gate leaves out: of all crates, or with SINCE=COMMIT of those that
 # differ from that commit's.
