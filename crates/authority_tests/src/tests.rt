@@ -2,6 +2,7 @@ use authority::{Catalog, CatalogError, Link, Local};
 use dname::{Heap, Name, Starved};
 use rdata::{Addr, CharacterString, RData, RType, Record, Records, Soa, Texts};
 use refusing::Refusing;
+use std::process::Abort;
 use std::test::Fail;
 use zone::Zone;
 
@@ -122,78 +123,72 @@ fn described<A: Heap>(
     }
 }
 
-#[test]
-fn answers_from_the_longest_origin(rt: HostRuntime) -> Result<(), Fail> {
-    let zones = catalog(rt.alloc());
-    assert!(rt; zones.is_ok());
-    if let Ok(zones) = zones {
-        for (asked, kind, answer, owner, records, addresses) in [
-            ("x.lab.example", RType::Txt, "found", "x.lab.example.", 1, 0),
-            (
-                "x.y.lab.example",
-                RType::Txt,
-                "found",
-                "x.y.lab.example.",
-                1,
-                0,
-            ),
-            ("x.lab.example", RType::A, "no data", "lab.example.", 0, 0),
-            (
-                "x.b.lab.example",
-                RType::Txt,
-                "no name",
-                "lab.example.",
-                0,
-                0,
-            ),
-            ("b.lab.example", RType::Txt, "no data", "lab.example.", 0, 0),
-            (
-                "a.b.lab.example",
-                RType::A,
-                "found",
-                "a.b.lab.example.",
-                1,
-                0,
-            ),
-            (
-                "www.lab.example",
-                RType::A,
-                "alias",
-                "www.lab.example.",
-                1,
-                0,
-            ),
-            (
-                "x.sub.lab.example",
-                RType::A,
-                "cut",
-                "sub.lab.example.",
-                1,
-                1,
-            ),
-            (
-                "sub.lab.example",
-                RType::Ns,
-                "cut",
-                "sub.lab.example.",
-                1,
-                1,
-            ),
-            ("lab.example", RType::Ns, "found", "lab.example.", 1, 0),
-            ("other.example", RType::Txt, "no name", "example.", 0, 0),
-            ("example", RType::Txt, "no data", "example.", 0, 0),
-            ("test", RType::A, "not here", "", 0, 0),
-        ] {
-            let given = told(rt.alloc(), &zones, asked, kind);
-            assert!(rt; given.is_ok());
-            if let Ok((word, name, set, glue)) = given {
-                assert_eq!(rt; word, answer, "for {asked}");
-                assert_eq!(rt; name.as_str(), owner, "for {asked}");
-                assert_eq!(rt; (set, glue), (records, addresses), "for {asked}");
-            }
-        }
+// A name and a type that are asked for; the answer's kind, and the name that it speaks of; how many records and addresses
+// it has.
+type Row = (
+    &'static str,
+    RType,
+    &'static str,
+    &'static str,
+    usize,
+    usize,
+);
+
+// The zones answer so.
+fn answers<R: Abort + AllocGlobal>(rt: &R, rows: &[Row]) -> Result<(), Fail> {
+    let zones = catalog(rt.alloc())?;
+    for (asked, kind, answer, owner, records, addresses) in rows {
+        let (word, name, set, glue) = told(rt.alloc(), &zones, *asked, *kind)?;
+        assert_eq!(rt; word, *answer, "for {asked}");
+        assert_eq!(rt; name.as_str(), *owner, "for {asked}");
+        assert_eq!(rt; (set, glue), (*records, *addresses), "for {asked}");
     }
     Ok(())
+}
+
+#[test]
+fn a_wildcard_answers_where_no_name_is_closer(rt: HostRuntime) -> Result<(), Fail> {
+    let kind = RType::Txt;
+    let rows: [Row; 5] = [
+        ("x.lab.example", kind, "found", "x.lab.example.", 1, 0),
+        ("x.y.lab.example", kind, "found", "x.y.lab.example.", 1, 0),
+        ("x.lab.example", RType::A, "no data", "lab.example.", 0, 0),
+        ("x.b.lab.example", kind, "no name", "lab.example.", 0, 0),
+        ("b.lab.example", kind, "no data", "lab.example.", 0, 0),
+    ];
+    answers(&rt, &rows)
+}
+
+#[test]
+fn records_aliases_and_cuts_answer(rt: HostRuntime) -> Result<(), Fail> {
+    let kind = RType::A;
+    let rows: [Row; 5] = [
+        ("a.b.lab.example", kind, "found", "a.b.lab.example.", 1, 0),
+        ("www.lab.example", kind, "alias", "www.lab.example.", 1, 0),
+        ("x.sub.lab.example", kind, "cut", "sub.lab.example.", 1, 1),
+        (
+            "sub.lab.example",
+            RType::Ns,
+            "cut",
+            "sub.lab.example.",
+            1,
+            1,
+        ),
+        ("lab.example", RType::Ns, "found", "lab.example.", 1, 0),
+    ];
+    answers(&rt, &rows)
+}
+
+#[test]
+fn the_zone_of_the_longest_origin_answers(rt: HostRuntime) -> Result<(), Fail> {
+    let kind = RType::Txt;
+    let rows: [Row; 4] = [
+        ("x.lab.example", kind, "found", "x.lab.example.", 1, 0),
+        ("other.example", kind, "no name", "example.", 0, 0),
+        ("example", kind, "no data", "example.", 0, 0),
+        ("test", RType::A, "not here", "", 0, 0),
+    ];
+    answers(&rt, &rows)
 }
 
 // The same of the zones whose origins are listed.

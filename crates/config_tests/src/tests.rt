@@ -71,6 +71,18 @@ fn what_is_left_out_is_as_usual(rt: HostRuntime) -> Result<(), Fail> {
 }
 
 #[test]
+fn the_greatest_port_is_one(rt: HostRuntime) -> Result<(), Fail> {
+    match read_config(rt.alloc(), "listen 0.0.0.0 65535\nport 65535") {
+        Err(_) => assert!(rt; false, "the text is a server's"),
+        Ok(config) => {
+            assert_eq!(rt; config.listen.port, 65_535);
+            assert_eq!(rt; config.port, 65_535);
+        }
+    }
+    Ok(())
+}
+
+#[test]
 fn the_first_bad_line_is_named(rt: HostRuntime) -> Result<(), Fail> {
     for (text, line, number) in [
         ("", 1, 5),
@@ -85,10 +97,13 @@ fn the_first_bad_line_is_named(rt: HostRuntime) -> Result<(), Fail> {
         ("listen 0.0.0.0 1 1", 1, 5),
         ("listen 0.0.0.0 1\nlisten 0.0.0.0 1", 2, 5),
         ("port 0", 1, 2),
+        ("port 65536", 1, 2),
         ("cache 1000001", 1, 2),
         ("delegations 0", 1, 2),
         ("penalties 18446744073709551616", 1, 2),
+        ("sockets 0", 1, 2),
         ("sockets 17", 1, 2),
+        ("workers 0", 1, 2),
         ("workers 17", 1, 2),
         ("workers 16\nworkers 16", 2, 5),
         ("hint 1.2.3.04", 1, 8),

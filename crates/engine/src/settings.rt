@@ -21,9 +21,11 @@ pub const MOST_SOCKETS: u16 = 16;
 /// What an operator may set.
 #[derive(Clone, Copy)]
 pub struct Settings {
-    /// How many links are kept, how many delegations, and how many penalties of servers: 1 to 1,000,000 each.
+    /// How many links are kept: 1 to 1,000,000.
     pub cache: usize,
+    /// How many delegations are kept: 1 to 1,000,000.
     pub delegations: usize,
+    /// Of how many servers that did not answer it is kept: 1 to 1,000,000.
     pub penalties: usize,
     /// How many sockets servers are asked from: 1 to 16.
     pub sockets: u16,
@@ -62,8 +64,11 @@ fn entries(count: usize) -> Option<NonZeroUsize>
 /// The zones at hand, addresses of servers of the root, and what an operator set.
 #[derive(Drop)]
 pub struct Config<A: Allocator = Global> {
+    /// The zones that the resolver holds itself.
     pub local: Vec<Zone<A>, A>,
+    /// Addresses of servers of the root (RFC 1034, section 5.3.2, SBELT).
     pub hints: Vec<Addr, A>,
+    /// What an operator set.
     pub settings: Settings,
 }
 

@@ -33,9 +33,9 @@ fn the_lowest_of_many(rt: HostRuntime) -> Result<(), Fail> {
 // RFC 2181, sections 5 and 5.2.
 #[test]
 fn many_records_made_one_set(rt: HostRuntime) -> Result<(), Fail> {
-    let records = addresses(rt.alloc(), 20_000, 1_000)?;
+    let records = addresses(rt.alloc(), 99_000, 1_000)?;
     let set = dedup_set(rt.alloc(), records.as_slice())?;
-    assert_eq!(rt; set.len(), 20_000);
+    assert_eq!(rt; set.len(), 99_000);
     let mut number = 0u32;
     for made in set.as_slice() {
         assert_eq!(rt; made.ttl, 300);

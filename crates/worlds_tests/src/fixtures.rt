@@ -188,3 +188,17 @@ pub fn world<A: Heap>(alloc: A, lines: &[Line]) -> Result<Result<World<A>, World
     } = parts;
     Ok(World::check(zones, hosts, hints, locals))
 }
+
+// The world of the root zone alone, by its master text, with one server. A text of no such world is `Starved` too.
+pub fn root_world<A: Heap>(alloc: A, text: &str) -> Result<World<A>, Starved> {
+    let mut zones = Vec::new(alloc);
+    zones.push(zone(alloc, ".", text)?)?;
+    let mut hosts = Vec::new(alloc);
+    hosts.push(host(alloc, 1, ".")?)?;
+    let mut hints = Vec::new(alloc);
+    hints.push(address(1))?;
+    match World::check(zones, hosts, hints, Vec::new(alloc)) {
+        Ok(world) => Ok(world),
+        Err(_) => Err(Starved),
+    }
+}

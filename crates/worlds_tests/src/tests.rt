@@ -4,6 +4,7 @@ use crate::fixtures::{
 };
 use dname::{Heap, Starved};
 use refusing::Refusing;
+use std::process::Abort;
 use std::test::Fail;
 use worlds::WorldError;
 
@@ -67,10 +68,18 @@ const A: Line = Line::Zone("a.", "$TTL 60\n@ SOA ns. h 1 2 3 4 60\n@ NS ns.\n");
 
 const SUB: Line = Line::Zone("s.a.", "$TTL 60\n@ SOA ns. h 1 2 3 4 60\n@ NS ns.\n");
 
-// A world that breaks one rule, and beside it the rule that is tested next.
+// Each of these worlds is refused so. It breaks one rule, and beside it often the rule that is tested next.
+fn refuses<R: Abort + AllocGlobal>(rt: &R, rows: &[(&[Line], WorldError)]) -> Result<(), Fail> {
+    for (lines, fault) in rows {
+        let checked = world(rt.alloc(), *lines)?;
+        assert!(rt; matches!(checked, Err(found) if found == *fault), "{fault}");
+    }
+    Ok(())
+}
+
 #[test]
-fn the_first_refusal_answers(rt: HostRuntime) -> Result<(), Fail> {
-    let rows: [(&[Line], WorldError); 15] = [
+fn each_zone_is_one_and_delegated(rt: HostRuntime) -> Result<(), Fail> {
+    let rows: [(&[Line], WorldError); 8] = [
         // Twins, and no root.
         (&[A, A], WorldError::Twins),
         (&[LONE, A, LONE], WorldError::Twins),
@@ -82,6 +91,14 @@ fn the_first_refusal_answers(rt: HostRuntime) -> Result<(), Fail> {
         // A zone that is not delegated, and a server that is not there.
         (&[ROOT, EXAMPLE, LAB, DARK, A], WorldError::Undelegated),
         (&[LONE, A, SUB, Line::Host(1, ".")], WorldError::Undelegated),
+        (&[LONE, A, LAB, Line::Hint(1)], WorldError::Undelegated),
+    ];
+    refuses(&rt, &rows)
+}
+
+#[test]
+fn servers_serve_what_is_delegated_to_them(rt: HostRuntime) -> Result<(), Fail> {
+    let rows: [(&[Line], WorldError); 3] = [
         // A server that does not serve, and no hint.
         (&[ROOT, EXAMPLE, LAB, DARK], WorldError::Lame),
         (
@@ -98,30 +115,25 @@ fn the_first_refusal_answers(rt: HostRuntime) -> Result<(), Fail> {
             WorldError::Lame,
         ),
         (&[LONE, Line::Host(1, "a.")], WorldError::Lame),
-        // A hint that does not serve; none at all.
-        (
-            &[LONE, Line::Host(1, "."), Line::Hint(2)],
-            WorldError::NoStart,
-        ),
-        (&[LONE, Line::Hint(1)], WorldError::NoStart),
-        (&[LONE, Line::Host(1, ".")], WorldError::NoStart),
-        (
-            &[
-                LONE,
-                Line::Host(1, "."),
-                Line::Host(2, "."),
-                Line::Hint(1),
-                Line::Hint(3),
-            ],
-            WorldError::NoStart,
-        ),
-        (&[LONE, A, LAB, Line::Hint(1)], WorldError::Undelegated),
     ];
-    for (lines, fault) in &rows {
-        let checked = world(rt.alloc(), *lines)?;
-        assert!(rt; matches!(checked, Err(found) if found == *fault), "{fault}");
-    }
-    Ok(())
+    refuses(&rt, &rows)
+}
+
+#[test]
+fn hints_serve_the_root(rt: HostRuntime) -> Result<(), Fail> {
+    let server = Line::Host(1, ".");
+    let second = Line::Host(2, ".");
+    let rows: [(&[Line], WorldError); 4] = [
+        // A hint that does not serve; none at all.
+        (&[LONE, server, Line::Hint(2)], WorldError::NoStart),
+        (&[LONE, Line::Hint(1)], WorldError::NoStart),
+        (&[LONE, server], WorldError::NoStart),
+        (
+            &[LONE, server, second, Line::Hint(1), Line::Hint(3)],
+            WorldError::NoStart,
+        ),
+    ];
+    refuses(&rt, &rows)
 }
 
 // How many zones a world holds itself, the labels of the first one's origin, and how many hints there are.

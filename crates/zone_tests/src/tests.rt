@@ -1,6 +1,7 @@
 use dname::{Heap, Name, NameError};
 use rdata::{Addr, RData, Record, Records, Soa};
 use refusing::Refusing;
+use std::process::Abort;
 use std::test::Fail;
 use zone::{Zone, ZoneError};
 
@@ -68,10 +69,22 @@ fn zone_of<A: Heap>(alloc: A, rows: &[Row]) -> Result<Result<Zone<A>, ZoneError>
     Ok(Zone::build(origin, records_of(alloc, rows)?))
 }
 
+const ALIAS: Row = ("a.example.com", 60, Said::Alias("b"));
+
+const ADDRESS: Row = ("a.example.com", 60, Said::Address(1));
+
+// Each of these zones is refused so.
+fn refuses<R: Abort + AllocGlobal>(rt: &R, rows: &[(&[Row], ZoneError)]) -> Result<(), Fail> {
+    for (zone, fault) in rows {
+        let built = zone_of(rt.alloc(), *zone)?;
+        assert!(rt; matches!(built, Err(found) if found == *fault), "{fault}");
+    }
+    Ok(())
+}
+
 #[test]
-fn the_lowest_refusal_answers(rt: HostRuntime) -> Result<(), Fail> {
-    let address = Said::Address(1);
-    let rows: [(&[Row], ZoneError); 17] = [
+fn a_zone_has_one_soa_and_servers(rt: HostRuntime) -> Result<(), Fail> {
+    let rows: [(&[Row], ZoneError); 4] = [
         (&[NS], ZoneError::Soa),
         (&[SOA, SOA, NS], ZoneError::Soa),
         (
@@ -79,27 +92,29 @@ fn the_lowest_refusal_answers(rt: HostRuntime) -> Result<(), Fail> {
             ZoneError::Soa,
         ),
         (&[SOA, CUT], ZoneError::NoServers),
+    ];
+    refuses(&rt, &rows)
+}
+
+#[test]
+fn owners_are_at_or_under_the_origin(rt: HostRuntime) -> Result<(), Fail> {
+    let address = Said::Address(1);
+    let rows: [(&[Row], ZoneError); 2] = [
         (
             &[SOA, NS, ("example.org", 60, address)],
             ZoneError::ForeignOwner,
         ),
         (&[SOA, NS, ("com", 60, address)], ZoneError::ForeignOwner),
+    ];
+    refuses(&rt, &rows)
+}
+
+#[test]
+fn an_alias_stands_alone_and_a_set_has_one_ttl(rt: HostRuntime) -> Result<(), Fail> {
+    let rows: [(&[Row], ZoneError); 5] = [
+        (&[SOA, NS, ALIAS, ADDRESS], ZoneError::CnameClash),
         (
-            &[
-                SOA,
-                NS,
-                ("a.example.com", 60, Said::Alias("b")),
-                ("a.example.com", 60, address),
-            ],
-            ZoneError::CnameClash,
-        ),
-        (
-            &[
-                SOA,
-                NS,
-                ("a.example.com", 60, Said::Alias("b")),
-                ("a.example.com", 60, Said::Alias("c")),
-            ],
+            &[SOA, NS, ALIAS, ("a.example.com", 60, Said::Alias("c"))],
             ZoneError::CnameClash,
         ),
         (
@@ -107,23 +122,21 @@ fn the_lowest_refusal_answers(rt: HostRuntime) -> Result<(), Fail> {
             ZoneError::CnameClash,
         ),
         (
-            &[
-                SOA,
-                NS,
-                ("a.example.com", 60, address),
-                ("a.example.com", 61, Said::Address(2)),
-            ],
+            &[SOA, NS, ADDRESS, ("a.example.com", 61, Said::Address(2))],
             ZoneError::MixedTtls,
         ),
         (
-            &[
-                SOA,
-                NS,
-                ("a.example.com", 60, Said::Alias("b")),
-                ("a.example.com", 61, Said::Alias("b")),
-            ],
+            &[SOA, NS, ALIAS, ("a.example.com", 61, Said::Alias("b"))],
             ZoneError::MixedTtls,
         ),
+    ];
+    refuses(&rt, &rows)
+}
+
+#[test]
+fn cuts_and_wildcards_are_held_apart(rt: HostRuntime) -> Result<(), Fail> {
+    let address = Said::Address(1);
+    let rows: [(&[Row], ZoneError); 5] = [
         (
             &[SOA, NS, CUT, ("sub.example.com", 60, Said::Exchange)],
             ZoneError::DataAtCut,
@@ -144,21 +157,37 @@ fn the_lowest_refusal_answers(rt: HostRuntime) -> Result<(), Fail> {
             &[SOA, NS, CUT, ("*.sub.example.com", 60, address)],
             ZoneError::WildcardBeneathCut,
         ),
+    ];
+    refuses(&rt, &rows)
+}
+
+#[test]
+fn the_lowest_refusal_answers(rt: HostRuntime) -> Result<(), Fail> {
+    let foreign: Row = ("org", 60, Said::Address(1));
+    let rows: [(&[Row], ZoneError); 3] = [
+        (&[SOA, ALIAS, ADDRESS, foreign], ZoneError::NoServers),
         (
             &[
                 SOA,
-                ("a.example.com", 60, Said::Alias("b")),
-                ("a.example.com", 60, address),
-                ("org", 60, address),
+                NS,
+                CUT,
+                ("sub.example.com", 60, Said::Exchange),
+                foreign,
             ],
-            ZoneError::NoServers,
+            ZoneError::ForeignOwner,
+        ),
+        (
+            &[
+                SOA,
+                NS,
+                ALIAS,
+                ADDRESS,
+                ("a.example.com", 61, Said::Address(2)),
+            ],
+            ZoneError::CnameClash,
         ),
     ];
-    for (zone, fault) in &rows {
-        let built = zone_of(rt.alloc(), *zone)?;
-        assert!(rt; matches!(built, Err(found) if found == *fault), "{fault}");
-    }
-    Ok(())
+    refuses(&rt, &rows)
 }
 
 #[test]
