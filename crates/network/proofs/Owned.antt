@@ -1,5 +1,5 @@
 -- A reply of a step in which a client's bytes come is to them; and a query that stays open is recursive.
-use Rattle.std.proofs.Common.{◌≡◌, ℕ, ◌+◌, ◌⊎◌, inl, inr, true, Option, Some, None, List, sym, subst, ◌∙◌}
+use Rattle.std.proofs.Common.{◌≡◌, ℕ, ◌+◌, inl, inr, true, Option, Some, None, List, sym, subst, ◌∙◌}
 use Rattle.std.specs.Prelude.{Contains}
 use Rattle.causes.specs.declared.cause.Cause.{Cause}
 use Rattle.wire.specs.declared.via.Via.{Via}
@@ -43,8 +43,8 @@ module _ (client : ℕ) (way : Via) (bytes : List ℕ) (c : Option Cause) where
       → Contains out (Reply client way bytes c) → served ≡ Own
   handled_own s from by heard.Drop served out new (is, none, same) m = is
   handled_own s from by (heard.Refuse refusal start echo) served out new (is, reply, same) m = is
-  handled_own s from by (heard.Query q) served out new (inl (no, h)) m = h.served_is
-  handled_own s from by (heard.Query q) served out new (inr (yes, h)) m = opened_own s _ h.next h.job h.stores served out new h.opened m
+  handled_own s from by (heard.Query q) served out new (inl (plain, h)) m = h.served_is
+  handled_own s from by (heard.Query q) served out new (inr (wishes, h)) m = opened_own s _ h.next h.job h.stores served out new h.opened m
 
   turn_own : (s : State) (now from : ℕ) (by : Via) (said : List ℕ) (served : Served) (out : Option (List Action)) (new : State) → IsTurn s (Client now from by said) served out new
       → GivesOut out (Reply client way bytes c) → served ≡ Own
@@ -66,8 +66,8 @@ module _ (k : ℕ) (q : Asking Plain) (served : Served) (is : served ≡ Query k
       → recursive q ≡ true
   handled_recursive s from by heard.Drop out new (own, none, same) e = own_not_query k (sym own ∙ is)
   handled_recursive s from by (heard.Refuse refusal start echo) out new (own, reply, same) e = own_not_query k (sym own ∙ is)
-  handled_recursive s from by (heard.Query p) out new (inl (no, h)) e = own_not_query k (sym h.served_is ∙ is)
-  handled_recursive s from by (heard.Query p) out new (inr (yes, h)) e = subst (λ (x : Asking Plain). recursive x ≡ true) (one_asked p q e) yes
+  handled_recursive s from by (heard.Query p) out new (inl (plain, h)) e = own_not_query k (sym h.served_is ∙ is)
+  handled_recursive s from by (heard.Query p) out new (inr (wishes, h)) e = subst (λ (x : Asking Plain). recursive x ≡ true) (one_asked p q e) wishes
 
   turn_recursive : (s : State) (now from : ℕ) (by : Via) (said : List ℕ) (out : Option (List Action)) (new : State) → IsTurn s (Client now from by said) served out new
       → IsAsked {A = Plain} said (heard.Query q) → recursive q ≡ true
