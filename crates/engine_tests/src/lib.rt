@@ -4,4 +4,8 @@
 #[cfg(test)]
 mod fixtures;
 #[cfg(test)]
+mod referral_tests;
+#[cfg(test)]
+mod starved_tests;
+#[cfg(test)]
 mod tests;

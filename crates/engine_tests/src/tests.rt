@@ -1,6 +1,9 @@
 //! Steps from outside, by messages worked by hand.
-use crate::fixtures::{Act, Desk, EXAMPLE, Line, Out, QUERY, ROOT, WWW_EXAMPLE, first_wrong};
+use crate::fixtures::{
+    Act, EXAMPLE, Line, QUERY, ROOT, WWW_EXAMPLE, desk, first_wrong, perform, reply,
+};
 use dname::{Heap, Starved};
+use engine_desk::Out;
 use refusing::Refusing;
 use std::test::Fail;
 
@@ -177,15 +180,15 @@ fn the_clock_stops_at_the_last_moment(rt: HostRuntime) -> Result<(), Fail> {
 // which nothing is due.
 fn outs_for_nobody<A: Heap>(alloc: A) -> Result<[Out; 3], Starved> {
     let heap = Refusing::new(alloc);
-    let mut desk = Desk::new(&heap)?;
-    desk.act(Act::Asks(0, QUERY));
-    let stray = desk.reply(2, FOUND, ONE)?;
-    let short = desk.query(0, b"\0\x05\x01\0\0\x01\0\0\0\0\0")?;
+    let mut desk = desk(&heap)?;
+    perform(&mut desk, Act::Asks(0, QUERY));
+    let stray = reply(&desk, 2, FOUND, ONE)?;
+    let short = desk.query(3, 0, b"\0\x05\x01\0\0\x01\0\0\0\0\0")?;
     heap.refuse_after(0);
     Ok([
         desk.step(&stray),
         desk.step(&short),
-        desk.act(Act::Tick(999)),
+        perform(&mut desk, Act::Tick(999)),
     ])
 }
 
@@ -198,9 +201,9 @@ fn what_is_for_nobody_takes_no_memory(rt: HostRuntime) -> Result<(), Fail> {
 // How many growths the step of a reply takes.
 fn growths_of_reply<A: Heap>(alloc: A) -> Result<u64, Starved> {
     let heap = Refusing::new(alloc);
-    let mut desk = Desk::new(&heap)?;
-    desk.act(Act::Asks(0, QUERY));
-    let right = desk.reply(ROOT, FOUND, ONE)?;
+    let mut desk = desk(&heap)?;
+    perform(&mut desk, Act::Asks(0, QUERY));
+    let right = reply(&desk, ROOT, FOUND, ONE)?;
     let before = heap.growths();
     match desk.step(&right) {
         Out::Replied => Ok(heap.growths().saturating_sub(before)),
@@ -211,14 +214,14 @@ fn growths_of_reply<A: Heap>(alloc: A) -> Result<u64, Starved> {
 // A reply of which that growth is refused, what it brings once more, and what time brings.
 fn outs_of_reply<A: Heap>(alloc: A, growth: u64) -> Result<[Out; 3], Starved> {
     let heap = Refusing::new(alloc);
-    let mut desk = Desk::new(&heap)?;
-    desk.act(Act::Asks(0, QUERY));
-    let right = desk.reply(ROOT, FOUND, ONE)?;
+    let mut desk = desk(&heap)?;
+    perform(&mut desk, Act::Asks(0, QUERY));
+    let right = reply(&desk, ROOT, FOUND, ONE)?;
     heap.refuse_after(growth);
     Ok([
         desk.step(&right),
         desk.step(&right),
-        desk.act(Act::Tick(60_000)),
+        perform(&mut desk, Act::Tick(60_000)),
     ])
 }
 
@@ -241,8 +244,8 @@ fn a_reply_that_wants_memory_ends_its_query(rt: HostRuntime) -> Result<(), Fail>
 // How many growths the step of a query takes.
 fn growths_of_query<A: Heap>(alloc: A) -> Result<u64, Starved> {
     let heap = Refusing::new(alloc);
-    let mut desk = Desk::new(&heap)?;
-    let query = desk.query(0, QUERY)?;
+    let mut desk = desk(&heap)?;
+    let query = desk.query(3, 0, QUERY)?;
     let before = heap.growths();
     match desk.step(&query) {
         Out::Asked(ROOT) => Ok(heap.growths().saturating_sub(before)),
@@ -253,12 +256,12 @@ fn growths_of_query<A: Heap>(alloc: A) -> Result<u64, Starved> {
 // A query of which that growth is refused, what time brings, and the query once more.
 fn outs_of_query<A: Heap>(alloc: A, growth: u64) -> Result<[Out; 3], Starved> {
     let heap = Refusing::new(alloc);
-    let mut desk = Desk::new(&heap)?;
-    let query = desk.query(0, QUERY)?;
+    let mut desk = desk(&heap)?;
+    let query = desk.query(3, 0, QUERY)?;
     heap.refuse_after(growth);
     Ok([
         desk.step(&query),
-        desk.act(Act::Tick(60_000)),
+        perform(&mut desk, Act::Tick(60_000)),
         desk.step(&query),
     ])
 }
