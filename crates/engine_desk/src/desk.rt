@@ -6,7 +6,6 @@ use engine::{Config, Core, Settings};
 use exchange::{Action, Actions, Event, Path};
 use rdata::Addr;
 use wire::Via;
-use zone::Zone;
 
 /// A resolver with one hint; what it asked last, and what went out last.
 #[derive(Drop)]
@@ -18,9 +17,9 @@ pub struct Desk<A: Heap> {
 }
 
 // The stores have room for nine entries each, and asks leave by four sockets.
-fn core<A: Heap>(alloc: A, hint: Addr, local: Vec<Zone<A>, A>) -> Result<Core<A>, Starved> {
+fn core<A: Heap>(alloc: A, hint: Addr) -> Result<Core<A>, Starved> {
     let config = Config {
-        local,
+        local: Vec::new(alloc),
         hints: Vec::from_slice(alloc, &[hint])?,
         settings: Settings {
             cache: 9,
@@ -46,11 +45,11 @@ fn ask_of<A: Heap>(actions: &Actions<A>) -> Option<Ask> {
 }
 
 impl<A: Heap> Desk<A> {
-    /// A new resolver with that server of the root and these local zones.
-    pub fn new(alloc: A, hint: Addr, local: Vec<Zone<A>, A>) -> Result<Desk<A>, Starved> {
+    /// A new resolver with that server of the root, and no zones of its own.
+    pub fn new(alloc: A, hint: Addr) -> Result<Desk<A>, Starved> {
         Ok(Desk {
             alloc,
-            core: core(alloc, hint, local)?,
+            core: core(alloc, hint)?,
             ask: Ask {
                 path: Path::Udp(0),
                 server: hint,

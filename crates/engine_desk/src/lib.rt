@@ -4,7 +4,7 @@
 //! it. `Out` says in short what a step brought.
 //!
 //! ```text
-//! let mut desk = Desk::new(rt.alloc(), Addr([192, 0, 2, 1]), Vec::new(rt.alloc()))?;
+//! let mut desk = Desk::new(rt.alloc(), Addr([192, 0, 2, 1]))?;
 //! let query = desk.query(3, 0, QUERY)?;
 //! assert_eq!(rt; desk.step(&query), Out::Asked(1));
 //! let ask = desk.ask();

@@ -54,7 +54,7 @@ fn message<A: Heap>(
 
 // A desk at which the server of the root is known.
 pub fn desk<A: Heap>(alloc: A) -> Result<Desk<A>, Starved> {
-    Ok(Desk::new(alloc, Addr([192, 0, 2, ROOT]), Vec::new(alloc))?)
+    Ok(Desk::new(alloc, Addr([192, 0, 2, ROOT]))?)
 }
 
 // What happens at a desk.

@@ -1,0 +1,52 @@
+//! Messages that are cut short or changed.
+use dname::{Heap, Starved};
+use engine_desk::{Desk, Out, bounded, under};
+use exchange::{Bytes, Event};
+
+// What becomes of a message on its way.
+#[derive(Clone, Copy, Debug)]
+pub enum Change {
+    Nothing,
+    // The first so many bytes come alone.
+    CutAt(usize),
+    // Some bits of the byte at a place are turned.
+    Turned(usize, u8),
+}
+
+pub fn changed<A: Heap>(alloc: A, bytes: &[u8], change: Change) -> Result<Vec<u8, A>, Starved> {
+    let mut copy = Vec::from_slice(alloc, bytes)?;
+    match change {
+        Change::Nothing => {}
+        Change::CutAt(length) => copy.truncate(length),
+        Change::Turned(place, bits) => {
+            if let Some(byte) = copy.get_mut(place) {
+                *byte ^= bits;
+            }
+        }
+    }
+    Ok(copy)
+}
+
+// A message with these bytes behind its ID, as it comes.
+fn message<A: Heap>(
+    alloc: A,
+    id: [u8; 2],
+    rest: &[u8],
+    change: Change,
+) -> Result<Bytes<A>, Starved> {
+    let whole = under(alloc, id, rest)?;
+    let bytes = changed(alloc, whole.as_slice(), change)?;
+    Ok(bounded(bytes)?)
+}
+
+fn event<A: Heap>(desk: &Desk<A>, rest: &[u8], change: Change) -> Result<Event<A>, Starved> {
+    let ask = desk.ask();
+    let bytes = message(desk.heap(), ask.id, rest, change)?;
+    Ok(ask.told(0, bytes))
+}
+
+// The server of the last ask says this behind the ask's ID, and it comes so changed.
+pub fn told<A: Heap>(desk: &mut Desk<A>, rest: &[u8], change: Change) -> Out {
+    let event = event(desk, rest, change);
+    desk.take(event)
+}
