@@ -1,8 +1,9 @@
 //! `bench`: how long the calls of the libraries take.
 //!
 //! Without words each kind of work (`Work`) is done a few times and its sum printed, the same each time; with the
-//! word `measure` it is done often, and nanoseconds for one time are printed. Last stands how often one message
-//! read or written asks for memory.
+//! word `measure` it is done often, and nanoseconds for one time are printed; a step that takes over 1.5 times as long
+//! with 1,024 queries open as with one then makes the status 1. Both print how often one message read or written asks
+//! for memory.
 //! Nothing is proved of it but that it is safe.
 //!
 //! ```text
@@ -20,8 +21,8 @@ mod steps;
 mod work;
 mod zones;
 
-use crate::work::{ALL, Counted, ON_MESSAGES, Work};
-use anyhow::Result;
+use crate::work::{ALL, Counted, ON_MESSAGES, ON_STEPS, Work};
+use anyhow::{Result, ensure};
 use std::env;
 use std::io::Write;
 use std::rt::Runtime;
@@ -40,6 +41,11 @@ fn main(rt: HostRuntime) -> Result<()> {
     }
     for work in ON_MESSAGES {
         println!(rt; "{work}: {} growths of memory", work.growths(&rt)?)?;
+    }
+    if measures {
+        for [one, many] in ON_STEPS {
+            compare(&rt, one, many)?;
+        }
     }
     Ok(())
 }
@@ -73,5 +79,27 @@ fn measure<R: Runtime + AllocGlobal>(rt: &R, work: Work) -> Result<()> {
         }
     }
     println!(rt; " (sum {})", done.sum)?;
+    Ok(())
+}
+
+// How much of the time that a step takes with one query open it may take with 1,024, in percent.
+const MOST: u128 = 150;
+
+// The shortest of five times, in nanoseconds, since the machine has other work.
+fn shortest<R: Runtime + AllocGlobal>(rt: &R, work: Work) -> Result<u128> {
+    let mut shortest = u128::MAX;
+    for _ in 0..5 {
+        let done = work.run(rt, work.rounds() / 10)?;
+        shortest = shortest.min(done.taken.as_nanos());
+    }
+    Ok(shortest)
+}
+
+// The time of a step with many queries open as a part of that with one.
+fn compare<R: Runtime + AllocGlobal>(rt: &R, one: Work, many: Work) -> Result<()> {
+    let alone = shortest(rt, one)?.max(1);
+    let percent = shortest(rt, many)?.saturating_mul(100) / alone;
+    println!(rt; "{many}: {percent} % of the time among 1")?;
+    ensure!(percent <= MOST, "{many}: over {MOST} % of the time among 1");
     Ok(())
 }

@@ -96,6 +96,12 @@ pub const ALL: [Work; 35] = [
     Work::AnswerQuery(1_024),
 ];
 
+/// Steps with one query open, and the same with 1,024: as queries are found by index, they take as long.
+pub const ON_STEPS: [[Work; 2]; 2] = [
+    [Work::PassDatagram(1), Work::PassDatagram(1_024)],
+    [Work::AnswerQuery(1), Work::AnswerQuery(1_024)],
+];
+
 /// Work on messages.
 pub const ON_MESSAGES: [Work; 4] = [
     Work::DecodeReply,
