@@ -8,7 +8,8 @@ use std::alloc::Global;
 use std::io::Write;
 use std::net::{Net, Shutdown, TcpListener, TcpStream, UdpSocket};
 use std::sync::atomic::{AtomicU64, Ordering};
-use std::time::Duration;
+use std::thread;
+use std::time::{Clock, Duration};
 use worlds::{World, judge};
 
 // A question of the world, and the query for it: under ID 5, with RD set.
@@ -56,6 +57,9 @@ fn patience() -> Duration {
     Duration::from_millis(8_000)
 }
 
+// By when the resolver has taken a stream that was opened.
+const ACCEPT_MS: u64 = 300;
+
 // A client that asks at one address.
 #[derive(Drop)]
 pub struct Client<'a, R> {
@@ -65,7 +69,7 @@ pub struct Client<'a, R> {
     pub at: Endpoint,
 }
 
-impl<R: Net<Listener = TcpListener, Stream = TcpStream>> Client<'_, R> {
+impl<R: Net<Listener = TcpListener, Stream = TcpStream> + Clock> Client<'_, R> {
     // Asks all that a test is to see: how many questions had reached the servers before those that need none of them, or
     // what was not answered right.
     pub fn visit(&self, asked: &AtomicU64) -> Result<u64, &'static str> {
@@ -126,9 +130,11 @@ impl<R: Net<Listener = TcpListener, Stream = TcpStream>> Client<'_, R> {
         self.asks_on(&stream, question)
     }
 
-    // Opens a stream and is silent on it, while another client asks and is answered; then asks on the stream.
+    // Opens a stream and is silent on it, while another client asks and is answered; then asks on the stream. Before the
+    // other client asks the resolver has the time to take the stream.
     fn asks_beside_silence(&self) -> Option<()> {
         let stream = self.open()?;
+        thread::sleep(self.rt, Duration::from_millis(ACCEPT_MS));
         self.asks(DB)?;
         self.asks_on(&stream, DB)
     }

@@ -29,6 +29,7 @@ old 5 CNAME www.lab
 app CNAME db.corp
 lab NS ns.lab
 ns.lab A 127.0.0.4
+dark NS ns.dark
 end
 zone lab.example.
 $TTL 300
@@ -37,6 +38,13 @@ $TTL 300
 ns A 127.0.0.4
 www A 192.0.2.1
 long TXT \"xxxxxxxxxxxxxxxxxxxxxxxxxxxxxxxxxxxxxxxxxxxxxxxxxxxxxxxxxxxxxxxxxxxxxxxxxxxxxxxxxxxxxxxxxxxxxxxxxxxxxxxxxxxxxxxxxxxxxxxxxxxxxxxxxxxxxxxxxxxxxxxxxxxxxxxxxxxxxxxxxxxxxxxxxxxxxxxxxxxxxxxxxxxxxxxxxxxxxxxx\" \"xxxxxxxxxxxxxxxxxxxxxxxxxxxxxxxxxxxxxxxxxxxxxxxxxxxxxxxxxxxxxxxxxxxxxxxxxxxxxxxxxxxxxxxxxxxxxxxxxxxxxxxxxxxxxxxxxxxxxxxxxxxxxxxxxxxxxxxxxxxxxxxxxxxxxxxxxxxxxxxxxxxxxxxxxxxxxxxxxxxxxxxxxxxxxxxxxxxxxxxx\" \"xxxxxxxxxxxxxxxxxxxxxxxxxxxxxxxxxxxxxxxxxxxxxxxxxxxxxxxxxxxxxxxxxxxxxxxxxxxxxxxxxxxxxxxxxxxxxxxxxxxxxxxxxxxxxxxxxxxxxxxxxxxxxxxxxxxxxxxxxxxxxxxxxxxxxxxxxxxxxxxxxxxxxxxxxxxxxxxxxxxxxxxxxxxxxxxxxxxxxxxx\"
+end
+zone dark.example.
+$TTL 300
+@ SOA ns h 1 2 3 4 60
+@ NS ns
+ns A 127.0.0.5
+www A 192.0.2.4
 end
 local corp.example.
 $TTL 300
@@ -47,10 +55,11 @@ end
 host 127.0.0.2 .
 host 127.0.0.3 example.
 host 127.0.0.4 lab.example.
+host 127.0.0.5 dark.example.
 hint 127.0.0.2
 ";
 
-// The last byte of each server's address.
+// The last byte of the address of each server that runs; the one of dark.example. does not.
 const HOSTS: [u8; 3] = [2, 3, 4];
 
 // The world that the servers serve.
