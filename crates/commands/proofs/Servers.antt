@@ -5,13 +5,13 @@ use Rattle.std.proofs.lemmas.Bool.{eq-eqb}
 use Rattle.std.proofs.Math.Dec.{eqb-suc-zero}
 use Rattle.std.proofs.lemmas.List.{take_more}
 use Rattle.zone.specs.Zones.{Zone as ZoneOf}
-use Rattle.config.specs.Configs.{Zone as Local}
+use Rattle.config.specs.Configs.{Config, Zone as Local}
 use Rattle.runs.specs.States.{State}
 use Rattle.commands.specs.Faults.{IsReported, status_of}
 use Rattle.commands.specs.Texts.{MayHold}
 use Rattle.commands.specs.Zones.{HoldsZone, HoldsNoZone}
 use Rattle.commands.specs.Runs.{IsRun}
-use Rattle.commands.specs.Servers.{HoldsConfig, IsConfig, IsStartFault, IsUnbound, Refuses, IsNoServer, AreZonesIn, IsServer, StartsWith, Starts}
+use Rattle.commands.specs.Servers.{AreZonesIn, LacksZone, IsStartFault, IsServer, StartsWith, Starts}
 use Rattle.commands.specs.declared.fault.Fault.{Fault}
 use Rattle.commands.specs.declared.fault.Fault.TheVariants.{File, Zone, Script, Block, World, Unreadable, BadName, BadType, Settings, Memory, Pool, Socket, Threads, Output}
 
@@ -19,73 +19,6 @@ pub run_weaker : {P P' : List ℕ → Type 0} {Q Q' : Fault → Type 0} {out out
     → ((text : List ℕ) → P text → P' text) → ((f : Fault) → Q f → Q' f) → IsRun P Q out out2 err err2 n → IsRun P' Q' out out2 err err2 n
 run_weaker texts faults (Ok text, allowed, ended) = (Ok text, texts text allowed, ended)
 run_weaker texts faults (Err f, allowed, ended) = (Err f, faults f allowed, ended)
-
-pub no_zone : (known : Option (Option (List ℕ))) (origin : List (List ℕ)) (f : Fault) → HoldsNoZone known origin f → IsStartFault f
-no_zone known origin (Unreadable path) h = tt
-no_zone known origin (File path e) h = tt
-no_zone known origin (Zone path e) h = tt
-no_zone known origin Memory h = tt
-no_zone known origin (Script path e) h = h
-no_zone known origin (Block path line e) h = h
-no_zone known origin (World path e) h = h
-no_zone known origin (BadName e) h = h
-no_zone known origin BadType h = h
-no_zone known origin Settings h = absurd h
-no_zone known origin Socket h = h
-no_zone known origin (Pool e) h = h
-no_zone known origin Threads h = h
-no_zone known origin Output h = h
-
-pub start_refused : (text : List ℕ) (f : Fault) → IsConfig text → IsStartFault f → Refuses text f
-start_refused text (Unreadable path) is h = is
-start_refused text (File path e) is h = is
-start_refused text (Zone path e) is h = is
-start_refused text Memory is h = tt
-start_refused text (Script path e) is h = absurd h
-start_refused text (Block path line e) is h = h
-start_refused text (World path e) is h = h
-start_refused text (BadName e) is h = h
-start_refused text BadType is h = h
-start_refused text Settings is h = is
-start_refused text Socket is h = h
-start_refused text (Pool e) is h = h
-start_refused text Threads is h = h
-start_refused text Output is h = h
-
-holds : (known : Option (Option (List ℕ))) (text : List ℕ) → MayHold known (Some text) → IsConfig text → HoldsConfig known
-holds known text held is = record { text = text; held = held; at = is.0; describes = is.1 }
-
-pub refused : (known : Option (Option (List ℕ))) (text : List ℕ) → MayHold known (Some text) → (f : Fault) → Refuses text f → IsNoServer known f
-refused known text held (Script path e) h = (text, held, h)
-refused known text held (Unreadable path) h = inr (holds known text held h)
-refused known text held (File path e) h = holds known text held h
-refused known text held (Zone path e) h = holds known text held h
-refused known text held Settings h = holds known text held h
-refused known text held Memory h = tt
-refused known text held (Block path line e) h = h
-refused known text held (World path e) h = h
-refused known text held (BadName e) h = h
-refused known text held BadType h = h
-refused known text held Socket h = absurd h
-refused known text held (Pool e) h = h
-refused known text held Threads h = h
-refused known text held Output h = h
-
-pub unbound : (known : Option (Option (List ℕ))) → HoldsConfig known → (f : Fault) → IsUnbound f → IsNoServer known f
-unbound known is Socket h = is
-unbound known is Memory h = tt
-unbound known is (Unreadable path) h = absurd h
-unbound known is (File path e) h = absurd h
-unbound known is (Zone path e) h = absurd h
-unbound known is (Script path e) h = absurd h
-unbound known is Settings h = absurd h
-unbound known is (Block path line e) h = h
-unbound known is (World path e) h = h
-unbound known is (BadName e) h = h
-unbound known is BadType h = h
-unbound known is (Pool e) h = h
-unbound known is Threads h = h
-unbound known is Output h = h
 
 -- ---- Exit statuses.
 
@@ -147,3 +80,24 @@ zones_step held ls i l zs zs2 z lt at_i so_far more is =
     subst (AreZonesIn held (take (i + 1) ls)) (sym is)
     (subst (λ (ks : List Local). AreZonesIn held ks (zs ++ z ∷ [])) (sym (take_more ls i l lt ∙ ap (λ (k : Local). take i ls ++ k ∷ []) (sym at_i)))
     (zones_more held (take i ls) zs l z so_far more))
+
+-- ---- The first line whose file holds no zone.
+
+module _ (held : List ℕ → Option (Option (List ℕ))) where
+  -- The files of those before it hold one.
+  pub lacks_at : (ls : List Local) (zs : List ZoneOf) (i : ℕ) (l : Local) (f : Fault) → i < length ls → l ≡ get_or ls i l → AreZonesIn held (take i ls) zs
+      → HoldsNoZone held l.file l.origin f → LacksZone held ls f
+  lacks_at [] zs i l f lt at_i so_far bad = absurd (omega (arith, lt))
+  lacks_at (k ∷ ks) zs zero l f lt at_i so_far bad = inl (subst (λ (m : Local). HoldsNoZone held m.file m.origin f) at_i bad)
+  lacks_at (k ∷ ks) [] (suc i) l f lt at_i so_far bad = absurd so_far
+  lacks_at (k ∷ ks) (z ∷ zs) (suc i) l f lt at_i so_far bad = inr (z, so_far.0, lacks_at ks zs i l f (omega (arith, lt)) at_i so_far.1 bad)
+
+  pub lacks_memory : (ls : List Local) (f : Fault) → f ≡ Memory → LacksZone held ls f
+  lacks_memory [] f is = is
+  lacks_memory (l ∷ ls) f is = inl (subst (HoldsNoZone held l.file l.origin) (sym is) tt)
+
+pub bad_settings : (held : List ℕ → Option (Option (List ℕ))) (c : Config) → IsStartFault held c Settings
+bad_settings held c = inr (inr (inl refl))
+
+pub wants_memory : (held : List ℕ → Option (Option (List ℕ))) (c : Config) → IsStartFault held c Memory
+wants_memory held c = inr (inr (inr refl))

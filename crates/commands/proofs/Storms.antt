@@ -37,29 +37,30 @@ module _ {X : Type 0} (known : X → Option (Option (List ℕ))) where
       (subst (λ (ys : List X). HoldAsks known ys (map view ss ++ view s ∷ [])) (sym (take_more xs i x lt ∙ ap (λ (y : X). take i xs ++ y ∷ []) (sym at_i)))
       (asks_more (take i xs) (map view ss) x (view s) so_far more))
 
+module _ {X : Type 0} (held : List ℕ → Option (Option (List ℕ))) (bytes : X → List ℕ) where
   -- Those before one that is refused are read.
-  pub refuses_at : (xs : List X) (scripts : List (List Order)) (i : ℕ) (x : X) (f : Fault) → i < length xs → x ≡ get_or xs i x → HoldAsks known (take i xs) scripts
-      → HoldsNoAsks (known x) f → RefusesOne known xs f
+  pub refuses_at : (xs : List X) (scripts : List (List Order)) (i : ℕ) (x : X) (f : Fault) → i < length xs → x ≡ get_or xs i x
+      → HoldAsks (λ p. held (bytes p)) (take i xs) scripts → HoldsNoAsks held (bytes x) f → RefusesOne held bytes xs f
   refuses_at [] scripts i x f lt at_i so_far bad = absurd (omega (arith, lt))
-  refuses_at (y ∷ ys) scripts zero x f lt at_i so_far bad = inl (subst (λ z. HoldsNoAsks (known z) f) at_i bad)
+  refuses_at (y ∷ ys) scripts zero x f lt at_i so_far bad = inl (subst (λ z. HoldsNoAsks held (bytes z) f) at_i bad)
   refuses_at (y ∷ ys) [] (suc i) x f lt at_i so_far bad = absurd so_far
   refuses_at (y ∷ ys) (orders ∷ scripts) (suc i) x f lt at_i so_far bad = inr (orders, so_far.0, refuses_at ys scripts i x f (omega (arith, lt)) at_i so_far.1 bad)
 
-  pub memory_refuses : (xs : List X) (f : Fault) → f ≡ Memory → RefusesOne known xs f
+  pub memory_refuses : (xs : List X) (f : Fault) → f ≡ Memory → RefusesOne held bytes xs f
   memory_refuses [] f is = is
-  memory_refuses (x ∷ xs) f is = inl (subst (HoldsNoAsks (known x)) (sym is) tt)
+  memory_refuses (x ∷ xs) f is = inl (subst (HoldsNoAsks held (bytes x)) (sym is) tt)
 
 -- ---- which fault counts; `held` is what is known to stand at a path, then and now
 
 module _ {X : Type 0} (view : X → List ℕ) (held now : List ℕ → Option (Option (List ℕ))) (world : List ℕ) (W : World) (paths : List X) (same : now ≡ held) (stands : HoldsWorld (held world) W) where
-  pub no_scripts : (f : Fault) → RefusesOne (λ p. now (view p)) paths f → IsNoStorm (λ p. held (view p)) (held world) paths f
+  pub no_scripts : (f : Fault) → RefusesOne now view paths f → IsNoStorm held world view paths f
   no_scripts f refused = inr (record {
     W = W;
     stands = stands;
-    fails = inl (subst (λ (known : List ℕ → Option (Option (List ℕ))). RefusesOne (λ p. known (view p)) paths f) same refused);
+    fails = inl (subst (λ (known : List ℕ → Option (Option (List ℕ))). RefusesOne known view paths f) same refused);
   })
 
-  pub no_close : (scripts : List (List Order)) (f : Fault) → HoldAsks (λ p. now (view p)) paths scripts → IsRunFault f → IsNoStorm (λ p. held (view p)) (held world) paths f
+  pub no_close : (scripts : List (List Order)) (f : Fault) → HoldAsks (λ p. now (view p)) paths scripts → IsRunFault f → IsNoStorm held world view paths f
   no_close scripts f read fault = inr (record {
     W = W;
     stands = stands;

@@ -23,24 +23,24 @@ abbrev pub first_fault : List ℕ → List ℕ → List ℕ → Option Fault
 first_fault origin name kind =
     option_or (fault_of_name (name_of_text origin)) (option_or (fault_of_name (name_of_text name)) (fault_of_type (type_named kind)))
 
--- No word has a fault, and the text at the path holds no zone of the origin.
-abbrev pub HasNoZone : Option (Option (List ℕ)) → List ℕ → List ℕ → List ℕ → Fault → Type 0
-HasNoZone known origin name kind f =
-    (first_fault origin name kind ≡ None) × ((o : List (List ℕ)) × (name_of_text origin ≡ Ok o) × HoldsNoZone known o f)
+-- No word has a fault, and the file holds no zone of the origin. `held` is what is known to stand at a path.
+abbrev pub HasNoZone : (List ℕ → Option (Option (List ℕ))) → List ℕ → List ℕ → List ℕ → List ℕ → Fault → Type 0
+HasNoZone held file origin name kind f =
+    (first_fault origin name kind ≡ None) × ((o : List (List ℕ)) × (name_of_text origin ≡ Ok o) × HoldsNoZone held file o f)
 
 -- The words' faults count before the file's. Want of memory leaves all open.
-abbrev pub IsRefused : Option (Option (List ℕ)) → List ℕ → List ℕ → List ℕ → Fault → Type 0
-IsRefused known origin name kind (BadName e) = first_fault origin name kind ≡ Some (BadName e)
-IsRefused known origin name kind BadType = first_fault origin name kind ≡ Some BadType
-IsRefused known origin name kind (Unreadable path) = HasNoZone known origin name kind (Unreadable path)
-IsRefused known origin name kind (File path e) = HasNoZone known origin name kind (File path e)
-IsRefused known origin name kind (Zone path e) = HasNoZone known origin name kind (Zone path e)
-IsRefused known origin name kind Memory = Unit {0}
-IsRefused known origin name kind Output = ⊥
-IsRefused known origin name kind Settings = ⊥
-IsRefused known origin name kind Socket = ⊥
-IsRefused known origin name kind (Pool e) = ⊥
-IsRefused known origin name kind Threads = ⊥
-IsRefused known origin name kind (Script path e) = ⊥
-IsRefused known origin name kind (Block path line e) = ⊥
-IsRefused known origin name kind (World path e) = ⊥
+abbrev pub IsRefused : (List ℕ → Option (Option (List ℕ))) → List ℕ → List ℕ → List ℕ → List ℕ → Fault → Type 0
+IsRefused held file origin name kind (BadName e) = first_fault origin name kind ≡ Some (BadName e)
+IsRefused held file origin name kind BadType = first_fault origin name kind ≡ Some BadType
+IsRefused held file origin name kind (Unreadable path) = HasNoZone held file origin name kind (Unreadable path)
+IsRefused held file origin name kind (File path e) = HasNoZone held file origin name kind (File path e)
+IsRefused held file origin name kind (Zone path e) = HasNoZone held file origin name kind (Zone path e)
+IsRefused held file origin name kind Memory = Unit {0}
+IsRefused held file origin name kind Output = ⊥
+IsRefused held file origin name kind Settings = ⊥
+IsRefused held file origin name kind Socket = ⊥
+IsRefused held file origin name kind (Pool e) = ⊥
+IsRefused held file origin name kind Threads = ⊥
+IsRefused held file origin name kind (Script path e) = ⊥
+IsRefused held file origin name kind (Block path line e) = ⊥
+IsRefused held file origin name kind (World path e) = ⊥

@@ -18,36 +18,36 @@ abbrev pub PrintsRecords : Option (Option (List ℕ)) → List ℕ → List ℕ 
 PrintsRecords known origin text =
     (o : List (List ℕ)) × (records : List Record) × (name_of_text origin ≡ Ok o) × HoldsRecords known o records × (text ≡ file_text o records)
 
--- The word is no name, or the file holds no zone of that origin.
-abbrev pub IsNoZone : Option (Option (List ℕ)) → List ℕ → Fault → Type 0
-IsNoZone known origin (BadName e) = name_of_text origin ≡ Err e
-IsNoZone known origin BadType = ⊥
-IsNoZone known origin (Unreadable path) = (o : List (List ℕ)) × (name_of_text origin ≡ Ok o) × HoldsNoZone known o (Unreadable path)
-IsNoZone known origin (File path e) = (o : List (List ℕ)) × (name_of_text origin ≡ Ok o) × HoldsNoZone known o (File path e)
-IsNoZone known origin (Zone path e) = (o : List (List ℕ)) × (name_of_text origin ≡ Ok o) × HoldsNoZone known o (Zone path e)
-IsNoZone known origin Memory = Unit {0}
-IsNoZone known origin Output = ⊥
-IsNoZone known origin Settings = ⊥
-IsNoZone known origin Socket = ⊥
-IsNoZone known origin (Pool e) = ⊥
-IsNoZone known origin Threads = ⊥
-IsNoZone known origin (Script path e) = ⊥
-IsNoZone known origin (Block path line e) = ⊥
-IsNoZone known origin (World path e) = ⊥
+-- The word is no name, or the file holds no zone of that origin. `held` is what is known to stand at a path.
+abbrev pub IsNoZone : (List ℕ → Option (Option (List ℕ))) → List ℕ → List ℕ → Fault → Type 0
+IsNoZone held file origin (BadName e) = name_of_text origin ≡ Err e
+IsNoZone held file origin BadType = ⊥
+IsNoZone held file origin (Unreadable path) = (o : List (List ℕ)) × (name_of_text origin ≡ Ok o) × HoldsNoZone held file o (Unreadable path)
+IsNoZone held file origin (File path e) = (o : List (List ℕ)) × (name_of_text origin ≡ Ok o) × HoldsNoZone held file o (File path e)
+IsNoZone held file origin (Zone path e) = (o : List (List ℕ)) × (name_of_text origin ≡ Ok o) × HoldsNoZone held file o (Zone path e)
+IsNoZone held file origin Memory = Unit {0}
+IsNoZone held file origin Output = ⊥
+IsNoZone held file origin Settings = ⊥
+IsNoZone held file origin Socket = ⊥
+IsNoZone held file origin (Pool e) = ⊥
+IsNoZone held file origin Threads = ⊥
+IsNoZone held file origin (Script path e) = ⊥
+IsNoZone held file origin (Block path line e) = ⊥
+IsNoZone held file origin (World path e) = ⊥
 
 -- The word is no name, or the file holds no records.
-abbrev pub IsNoFile : Option (Option (List ℕ)) → List ℕ → Fault → Type 0
-IsNoFile known origin (BadName e) = name_of_text origin ≡ Err e
-IsNoFile known origin BadType = ⊥
-IsNoFile known origin (Unreadable path) = (o : List (List ℕ)) × (name_of_text origin ≡ Ok o) × HoldsNoRecords known o (Unreadable path)
-IsNoFile known origin (File path e) = (o : List (List ℕ)) × (name_of_text origin ≡ Ok o) × HoldsNoRecords known o (File path e)
-IsNoFile known origin (Zone path e) = ⊥
-IsNoFile known origin Memory = Unit {0}
-IsNoFile known origin Output = ⊥
-IsNoFile known origin Settings = ⊥
-IsNoFile known origin Socket = ⊥
-IsNoFile known origin (Pool e) = ⊥
-IsNoFile known origin Threads = ⊥
-IsNoFile known origin (Script path e) = ⊥
-IsNoFile known origin (Block path line e) = ⊥
-IsNoFile known origin (World path e) = ⊥
+abbrev pub IsNoFile : (List ℕ → Option (Option (List ℕ))) → List ℕ → List ℕ → Fault → Type 0
+IsNoFile held file origin (BadName e) = name_of_text origin ≡ Err e
+IsNoFile held file origin BadType = ⊥
+IsNoFile held file origin (Unreadable path) = (o : List (List ℕ)) × (name_of_text origin ≡ Ok o) × HoldsNoRecords held file o (Unreadable path)
+IsNoFile held file origin (File path e) = (o : List (List ℕ)) × (name_of_text origin ≡ Ok o) × HoldsNoRecords held file o (File path e)
+IsNoFile held file origin (Zone path e) = ⊥
+IsNoFile held file origin Memory = Unit {0}
+IsNoFile held file origin Output = ⊥
+IsNoFile held file origin Settings = ⊥
+IsNoFile held file origin Socket = ⊥
+IsNoFile held file origin (Pool e) = ⊥
+IsNoFile held file origin Threads = ⊥
+IsNoFile held file origin (Script path e) = ⊥
+IsNoFile held file origin (Block path line e) = ⊥
+IsNoFile held file origin (World path e) = ⊥

@@ -48,14 +48,14 @@ texts_of A held (Play world script) text = PrintsScript (held (string_bytes worl
 texts_of A held (Storm keep world scripts) text = PrintsStorm (λ p. held (string_bytes p)) (held (string_bytes world)) scripts.items text
 texts_of A held (Serve config) text = PrintsAddress (held (string_bytes config)) text
 
--- The faults of a command, over the same.
+-- The faults of a command, over the same: those of a file are told under its path, as the command names it.
 abbrev pub faults_of : (List ℕ → Option (Option (List ℕ))) → Command → Fault → Type 0
-faults_of held (Ask origin file name kind) f = IsRefused (held (string_bytes file)) (string_bytes origin) (string_bytes name) (string_bytes kind) f
-faults_of held (Check origin file) f = IsNoZone (held (string_bytes file)) (string_bytes origin) f
-faults_of held (Dump origin file) f = IsNoFile (held (string_bytes file)) (string_bytes origin) f
-faults_of held (Play world script) f = IsNoScript (held (string_bytes world)) (held (string_bytes script)) f
-faults_of held (Storm keep world scripts) f = IsNoStorm (λ p. held (string_bytes p)) (held (string_bytes world)) scripts.items f
-faults_of held (Serve config) f = IsNoServer (held (string_bytes config)) f
+faults_of held (Ask origin file name kind) f = IsRefused held (string_bytes file) (string_bytes origin) (string_bytes name) (string_bytes kind) f
+faults_of held (Check origin file) f = IsNoZone held (string_bytes file) (string_bytes origin) f
+faults_of held (Dump origin file) f = IsNoFile held (string_bytes file) (string_bytes origin) f
+faults_of held (Play world script) f = IsNoScript held (string_bytes world) (string_bytes script) f
+faults_of held (Storm keep world scripts) f = IsNoStorm held (string_bytes world) string_bytes scripts.items f
+faults_of held (Serve config) f = IsNoServer held (string_bytes config) f
 
 -- The server that a command starts: `serve` alone starts one.
 abbrev pub StartsFor : (List ℕ → Option (Option (List ℕ))) → Command → ℕ → Option State → Type 0

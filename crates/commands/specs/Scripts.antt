@@ -27,46 +27,48 @@ pub record IsRefusedFor (known : Option (Option (List ℕ))) (fault : WorldFault
 abbrev pub Holds : (List ℕ → Result (List Order) LineError) → Option (Option (List ℕ)) → List Order → Type 0
 Holds read known orders = (text : List ℕ) × MayHold known (Some text) × (read text ≡ Ok orders)
 
--- Want of memory leaves all open.
-abbrev pub HoldsNo : (List ℕ → Result (List Order) LineError) → Option (Option (List ℕ)) → Fault → Type 0
-HoldsNo read known (Unreadable path) = MayHold known None
-HoldsNo read known (Script path e) = (text : List ℕ) × MayHold known (Some text) × (read text ≡ Err e)
-HoldsNo read known Memory = Unit {0}
-HoldsNo read known (File path e) = ⊥
-HoldsNo read known (Zone path e) = ⊥
-HoldsNo read known (Block path line e) = ⊥
-HoldsNo read known (NoWorld path e) = ⊥
-HoldsNo read known (BadName e) = ⊥
-HoldsNo read known BadType = ⊥
-HoldsNo read known Output = ⊥
-HoldsNo read known Settings = ⊥
-HoldsNo read known Socket = ⊥
-HoldsNo read known (Pool e) = ⊥
-HoldsNo read known Threads = ⊥
+-- The text is not there, or can't be read so, which is told under the path that was asked for. `held` is what is known to
+-- stand at a path. Want of memory leaves all open.
+abbrev pub HoldsNo : {T : Type 0} → (List ℕ → Result T LineError) → (List ℕ → Option (Option (List ℕ))) → List ℕ → Fault → Type 0
+HoldsNo read held file (Unreadable path) = (path.now ≡ file) × MayHold (held file) None
+HoldsNo read held file (Script path e) = (path.now ≡ file) × ((text : List ℕ) × MayHold (held file) (Some text) × (read text ≡ Err e))
+HoldsNo read held file Memory = Unit {0}
+HoldsNo read held file (File path e) = ⊥
+HoldsNo read held file (Zone path e) = ⊥
+HoldsNo read held file (Block path line e) = ⊥
+HoldsNo read held file (NoWorld path e) = ⊥
+HoldsNo read held file (BadName e) = ⊥
+HoldsNo read held file BadType = ⊥
+HoldsNo read held file Output = ⊥
+HoldsNo read held file Settings = ⊥
+HoldsNo read held file Socket = ⊥
+HoldsNo read held file (Pool e) = ⊥
+HoldsNo read held file Threads = ⊥
 
 -- As a script.
 abbrev pub HoldsOrders : Option (Option (List ℕ)) → List Order → Type 0
 HoldsOrders known orders = Holds script_of known orders
 
-abbrev pub HoldsNoOrders : Option (Option (List ℕ)) → Fault → Type 0
-HoldsNoOrders known f = HoldsNo script_of known f
+abbrev pub HoldsNoOrders : (List ℕ → Option (Option (List ℕ))) → List ℕ → Fault → Type 0
+HoldsNoOrders held file f = HoldsNo script_of held file f
 
--- The text is not there, or the first of its lines, its blocks and the rules of a world that fails is named.
-abbrev pub HoldsNoWorld : Option (Option (List ℕ)) → Fault → Type 0
-HoldsNoWorld known (Unreadable path) = MayHold known None
-HoldsNoWorld known (Script path e) = IsRefusedFor known (of.Line e)
-HoldsNoWorld known (File path e) = IsRefusedFor known (of.File e)
-HoldsNoWorld known (Block path line e) = IsRefusedFor known (of.Zone line e)
-HoldsNoWorld known (NoWorld path e) = IsRefusedFor known (of.World e)
-HoldsNoWorld known Memory = Unit {0}
-HoldsNoWorld known (Zone path e) = ⊥
-HoldsNoWorld known (BadName e) = ⊥
-HoldsNoWorld known BadType = ⊥
-HoldsNoWorld known Output = ⊥
-HoldsNoWorld known Settings = ⊥
-HoldsNoWorld known Socket = ⊥
-HoldsNoWorld known (Pool e) = ⊥
-HoldsNoWorld known Threads = ⊥
+-- The text is not there, or the first of its lines, its blocks and the rules of a world that fails is named, under the
+-- path that was asked for.
+abbrev pub HoldsNoWorld : (List ℕ → Option (Option (List ℕ))) → List ℕ → Fault → Type 0
+HoldsNoWorld held file (Unreadable path) = (path.now ≡ file) × MayHold (held file) None
+HoldsNoWorld held file (Script path e) = (path.now ≡ file) × IsRefusedFor (held file) (of.Line e)
+HoldsNoWorld held file (File path e) = (path.now ≡ file) × IsRefusedFor (held file) (of.File e)
+HoldsNoWorld held file (Block path line e) = (path.now ≡ file) × IsRefusedFor (held file) (of.Zone line e)
+HoldsNoWorld held file (NoWorld path e) = (path.now ≡ file) × IsRefusedFor (held file) (of.World e)
+HoldsNoWorld held file Memory = Unit {0}
+HoldsNoWorld held file (Zone path e) = ⊥
+HoldsNoWorld held file (BadName e) = ⊥
+HoldsNoWorld held file BadType = ⊥
+HoldsNoWorld held file Output = ⊥
+HoldsNoWorld held file Settings = ⊥
+HoldsNoWorld held file Socket = ⊥
+HoldsNoWorld held file (Pool e) = ⊥
+HoldsNoWorld held file Threads = ⊥
 
 -- What the script's orders print in the world that the text says.
 pub record PrintsScript (world script : Option (Option (List ℕ))) (text : List ℕ) : Type 0 where
@@ -77,11 +79,11 @@ pub record PrintsScript (world script : Option (Option (List ℕ))) (text : List
   pub played : IsPlayed W orders text
 
 -- The world stands, and the script is none.
-pub record FailsBehind (world script : Option (Option (List ℕ))) (fault : Fault) : Type 0 where
+pub record FailsBehind (held : List ℕ → Option (Option (List ℕ))) (world script : List ℕ) (fault : Fault) : Type 0 where
   pub W : World
-  pub stands : HoldsWorld world W
-  pub fails : HoldsNoOrders script fault
+  pub stands : HoldsWorld (held world) W
+  pub fails : HoldsNoOrders held script fault
 
--- The world's faults count before the script's.
-abbrev pub IsNoScript : Option (Option (List ℕ)) → Option (Option (List ℕ)) → Fault → Type 0
-IsNoScript world script f = HoldsNoWorld world f ⊎ FailsBehind world script f
+-- The world's faults count before the script's, each under its own path.
+abbrev pub IsNoScript : (List ℕ → Option (Option (List ℕ))) → List ℕ → List ℕ → Fault → Type 0
+IsNoScript held world script f = HoldsNoWorld held world f ⊎ FailsBehind held world script f

@@ -1,5 +1,6 @@
 -- What is printed of a server, which resolver it is, and why there is none.
-use Rattle.std.specs.Prelude.{◌≡◌, ◌⊎◌, ℕ, List, [], ◌∷◌, ◌++◌, Option, Some, None, IfSome, Ok, Err, codes, decimal}
+use Rattle.std.specs.Prelude.{◌≡◌, ◌⊎◌, ℕ, List, [], ◌∷◌, ◌++◌, Option, Some, None, IfSome, Ok, codes, decimal}
+use Rattle.std.specs.Borrow.{Bor}
 use Rattle.rdata.specs.Text.{ipv4_text}
 use Rattle.zone.specs.Zones.{Zone as ZoneOf}
 use Rattle.exchange.specs.declared.path.Endpoint.{Endpoint}
@@ -7,8 +8,9 @@ use Rattle.config.specs.Configs.{Config, End, Zone as Local, config_of}
 use Rattle.runs.specs.States.{State}
 use Rattle.service.specs.Resolvers.{IsDescribed}
 use Rattle.commands.specs.Faults.{IsReported}
+use Rattle.commands.specs.Scripts.{HoldsNo}
 use Rattle.commands.specs.Texts.{MayHold}
-use Rattle.commands.specs.Zones.{HoldsZone}
+use Rattle.commands.specs.Zones.{HoldsZone, HoldsNoZone}
 use Rattle.commands.specs.declared.fault.Fault.{Fault}
 use Rattle.commands.specs.declared.fault.Fault.TheVariants.{File, Zone, Script, Block, World, Unreadable, BadName, BadType, Settings, Memory, Pool, Socket, Threads, Output}
 
@@ -43,23 +45,6 @@ pub record PrintsAddress (known : Option (Option (List ℕ))) (text : List ℕ) 
   pub holds : HoldsConfig known
   pub names : NamesEnd holds.at text
 
--- Why a file that is read gives no server: a file of its zones, the source of random bytes, or what it sets.
-abbrev pub IsStartFault : Fault → Type 0
-IsStartFault (Unreadable path) = Unit {0}
-IsStartFault (File path e) = Unit {0}
-IsStartFault (Zone path e) = Unit {0}
-IsStartFault Settings = Unit {0}
-IsStartFault Memory = Unit {0}
-IsStartFault (Script path e) = ⊥
-IsStartFault (Block path line e) = ⊥
-IsStartFault (World path e) = ⊥
-IsStartFault (BadName e) = ⊥
-IsStartFault BadType = ⊥
-IsStartFault Socket = ⊥
-IsStartFault (Pool e) = ⊥
-IsStartFault Threads = ⊥
-IsStartFault Output = ⊥
-
 -- Why the sockets are not bound.
 abbrev pub IsUnbound : Fault → Type 0
 IsUnbound Socket = Unit {0}
@@ -77,45 +62,6 @@ IsUnbound (Pool e) = ⊥
 IsUnbound Threads = ⊥
 IsUnbound Output = ⊥
 
--- The text is read as some file of a server.
-abbrev pub IsConfig : List ℕ → Type 0
-IsConfig text = (at : End) × Describes text at
-
--- Why the text of a server's file gives no resolver: a line of it, a file of its zones or the source of random bytes.
--- Want of memory leaves all open.
-abbrev pub Refuses : List ℕ → Fault → Type 0
-Refuses text (Script path e) = config_of text ≡ Err e
-Refuses text (Unreadable path) = IsConfig text
-Refuses text (File path e) = IsConfig text
-Refuses text (Zone path e) = IsConfig text
-Refuses text Settings = IsConfig text
-Refuses text Memory = Unit {0}
-Refuses text (Block path line e) = ⊥
-Refuses text (World path e) = ⊥
-Refuses text (BadName e) = ⊥
-Refuses text BadType = ⊥
-Refuses text Socket = ⊥
-Refuses text (Pool e) = ⊥
-Refuses text Threads = ⊥
-Refuses text Output = ⊥
-
--- The first of these that fails: the file itself, a file of its zones or the source of random bytes, the sockets.
-abbrev pub IsNoServer : Option (Option (List ℕ)) → Fault → Type 0
-IsNoServer known (Script path e) = (text : List ℕ) × MayHold known (Some text) × (config_of text ≡ Err e)
-IsNoServer known (Unreadable path) = MayHold known None ⊎ HoldsConfig known
-IsNoServer known (File path e) = HoldsConfig known
-IsNoServer known (Zone path e) = HoldsConfig known
-IsNoServer known Settings = HoldsConfig known
-IsNoServer known Socket = HoldsConfig known
-IsNoServer known Memory = Unit {0}
-IsNoServer known (Block path line e) = ⊥
-IsNoServer known (World path e) = ⊥
-IsNoServer known (BadName e) = ⊥
-IsNoServer known BadType = ⊥
-IsNoServer known (Pool e) = ⊥
-IsNoServer known Threads = ⊥
-IsNoServer known Output = ⊥
-
 -- ---- The resolver that is started. `held` is what is known to stand at a path.
 
 -- The zones are those in the files, one for each line that names one, in their order.
@@ -124,6 +70,11 @@ AreZonesIn held [] [] = Unit {0}
 AreZonesIn held [] (z ∷ zs) = ⊥
 AreZonesIn held (l ∷ ls) [] = ⊥
 AreZonesIn held (l ∷ ls) (z ∷ zs) = HoldsZone (held l.file) l.origin z × AreZonesIn held ls zs
+
+-- The first of the lines whose file holds no zone counts, under that file's path. Want of memory leaves all open.
+abbrev pub LacksZone : (List ℕ → Option (Option (List ℕ))) → List Local → Fault → Type 0
+LacksZone held [] f = f ≡ Memory
+LacksZone held (l ∷ ls) f = HoldsNoZone held l.file l.origin f ⊎ ((z : ZoneOf) × HoldsZone (held l.file) l.origin z × LacksZone held ls f)
 
 -- It is the seed that the file states, where it states one.
 abbrev pub IsSeedOf : Config → List ℕ → Type 0
@@ -157,6 +108,31 @@ StartsWith made status server = ((status ≡ 0) × (server ≡ Some made)) ⊎ (
 abbrev pub Starts : (List ℕ → Option (Option (List ℕ))) → List ℕ → ℕ → Option State → Type 0
 Starts held path status server =
     ((status ≡ 0) × ((made : State) × (server ≡ Some made) × IsServerAt held path made)) ⊎ ((status ≡ 0 → ⊥) × (server ≡ None))
+
+-- ---- The server that does not start.
+
+-- The file states no seed, and no random bytes can be read.
+pub record LacksSeed (c : Config) (fault : Fault) : Type 0 where
+  pub unstated : c.seed ≡ None
+  pub path : Bor (List ℕ)
+  pub source : path.now ≡ codes "/dev/urandom"
+  pub is : fault ≡ Unreadable path
+
+-- Why a file that is read gives no resolver: a file of its zones, the source of random bytes, or what it sets.
+abbrev pub IsStartFault : (List ℕ → Option (Option (List ℕ))) → Config → Fault → Type 0
+IsStartFault held c f = LacksZone held c.locals f ⊎ (LacksSeed c f ⊎ ((f ≡ Settings) ⊎ (f ≡ Memory)))
+
+-- The text at the path is read, and gives no resolver, or the sockets of that are not bound.
+pub record FailsToStart (held : List ℕ → Option (Option (List ℕ))) (path : List ℕ) (fault : Fault) : Type 0 where
+  pub text : List ℕ
+  pub there : MayHold (held path) (Some text)
+  pub config : Config
+  pub reads : config_of text ≡ Ok config
+  pub fails : IsStartFault held config fault ⊎ IsUnbound fault
+
+-- The faults of the file itself count first, and those of the sockets last.
+abbrev pub IsNoServer : (List ℕ → Option (Option (List ℕ))) → List ℕ → Fault → Type 0
+IsNoServer held path f = HoldsNo config_of held path f ⊎ FailsToStart held path f
 
 -- A server was run: it ended, or the line of a fault was written.
 abbrev pub IsServed : Option (List ℕ) → Option (List ℕ) → ℕ → Type 0

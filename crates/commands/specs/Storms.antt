@@ -16,8 +16,8 @@ use Rattle.commands.specs.declared.fault.Fault.TheVariants.{Memory, Pool}
 abbrev pub HoldsAsks : Option (Option (List ℕ)) → List Order → Type 0
 HoldsAsks known orders = Holds asks_of known orders
 
-abbrev pub HoldsNoAsks : Option (Option (List ℕ)) → Fault → Type 0
-HoldsNoAsks known f = HoldsNo asks_of known f
+abbrev pub HoldsNoAsks : (List ℕ → Option (Option (List ℕ))) → List ℕ → Fault → Type 0
+HoldsNoAsks held file f = HoldsNo asks_of held file f
 
 -- So are several, one after the other; `known` is what is known to stand at a path.
 abbrev pub HoldAsks : {X : Type 0} → (X → Option (Option (List ℕ))) → List X → List (List Order) → Type 0
@@ -26,10 +26,11 @@ HoldAsks known [] (orders ∷ scripts) = ⊥
 HoldAsks known (path ∷ paths) [] = ⊥
 HoldAsks known (path ∷ paths) (orders ∷ scripts) = HoldsAsks (known path) orders × HoldAsks known paths scripts
 
--- The first of them that is refused counts. Want of memory leaves all open.
-abbrev pub RefusesOne : {X : Type 0} → (X → Option (Option (List ℕ))) → List X → Fault → Type 0
-RefusesOne known [] f = f ≡ Memory
-RefusesOne known (path ∷ paths) f = HoldsNoAsks (known path) f ⊎ ((orders : List Order) × HoldsAsks (known path) orders × RefusesOne known paths f)
+-- The first of them that is refused counts, under its own path; `bytes` gives a path's bytes. Want of memory leaves all open.
+abbrev pub RefusesOne : {X : Type 0} → (List ℕ → Option (Option (List ℕ))) → (X → List ℕ) → List X → Fault → Type 0
+RefusesOne held bytes [] f = f ≡ Memory
+RefusesOne held bytes (path ∷ paths) f =
+    HoldsNoAsks held (bytes path) f ⊎ ((orders : List Order) × HoldsAsks (held (bytes path)) orders × RefusesOne held bytes paths f)
 
 -- What the workers did does not close, or memory was wanting.
 abbrev pub IsRunFault : Fault → Type 0
@@ -61,11 +62,11 @@ abbrev pub FailsToClose : {X : Type 0} → (X → Option (Option (List ℕ))) �
 FailsToClose known scripts f = (orders : List (List Order)) × HoldAsks known scripts orders × IsRunFault f
 
 -- The world stands, and a script is none, or what the workers did is refused.
-pub record StormFails {X : Type 0} (known : X → Option (Option (List ℕ))) (world : Option (Option (List ℕ))) (scripts : List X) (fault : Fault) : Type 0 where
+pub record StormFails {X : Type 0} (held : List ℕ → Option (Option (List ℕ))) (world : List ℕ) (bytes : X → List ℕ) (scripts : List X) (fault : Fault) : Type 0 where
   pub W : World
-  pub stands : HoldsWorld world W
-  pub fails : RefusesOne known scripts fault ⊎ FailsToClose known scripts fault
+  pub stands : HoldsWorld (held world) W
+  pub fails : RefusesOne held bytes scripts fault ⊎ FailsToClose (λ p. held (bytes p)) scripts fault
 
 -- The world's faults count before those of the scripts, and these before the workers'.
-abbrev pub IsNoStorm : {X : Type 0} → (X → Option (Option (List ℕ))) → Option (Option (List ℕ)) → List X → Fault → Type 0
-IsNoStorm known world scripts f = HoldsNoWorld world f ⊎ StormFails known world scripts f
+abbrev pub IsNoStorm : {X : Type 0} → (List ℕ → Option (Option (List ℕ))) → List ℕ → (X → List ℕ) → List X → Fault → Type 0
+IsNoStorm held world bytes scripts f = HoldsNoWorld held world f ⊎ StormFails held world bytes scripts f

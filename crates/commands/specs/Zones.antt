@@ -13,40 +13,42 @@ use Rattle.commands.specs.declared.fault.Fault.TheVariants.{File, Zone, Script, 
 abbrev pub HoldsRecords : Option (Option (List ℕ)) → List (List ℕ) → List Record → Type 0
 HoldsRecords known origin records = (text : List ℕ) × MayHold known (Some text) × (read_text origin text ≡ Ok records)
 
--- The first of these that fails. Want of memory leaves all open.
-abbrev pub HoldsNoRecords : Option (Option (List ℕ)) → List (List ℕ) → Fault → Type 0
-HoldsNoRecords known origin (Unreadable path) = MayHold known None
-HoldsNoRecords known origin (File path e) = (text : List ℕ) × MayHold known (Some text) × (read_text origin text ≡ Err e)
-HoldsNoRecords known origin Memory = Unit {0}
-HoldsNoRecords known origin (Zone path e) = ⊥
-HoldsNoRecords known origin (BadName e) = ⊥
-HoldsNoRecords known origin BadType = ⊥
-HoldsNoRecords known origin Output = ⊥
-HoldsNoRecords known origin Settings = ⊥
-HoldsNoRecords known origin Socket = ⊥
-HoldsNoRecords known origin (Pool e) = ⊥
-HoldsNoRecords known origin Threads = ⊥
-HoldsNoRecords known origin (Script path e) = ⊥
-HoldsNoRecords known origin (Block path line e) = ⊥
-HoldsNoRecords known origin (World path e) = ⊥
+-- The first of these that fails, told under the path that was asked for. `held` is what is known to stand at a path. Want
+-- of memory leaves all open.
+abbrev pub HoldsNoRecords : (List ℕ → Option (Option (List ℕ))) → List ℕ → List (List ℕ) → Fault → Type 0
+HoldsNoRecords held file origin (Unreadable path) = (path.now ≡ file) × MayHold (held file) None
+HoldsNoRecords held file origin (File path e) = (path.now ≡ file) × ((text : List ℕ) × MayHold (held file) (Some text) × (read_text origin text ≡ Err e))
+HoldsNoRecords held file origin Memory = Unit {0}
+HoldsNoRecords held file origin (Zone path e) = ⊥
+HoldsNoRecords held file origin (BadName e) = ⊥
+HoldsNoRecords held file origin BadType = ⊥
+HoldsNoRecords held file origin Output = ⊥
+HoldsNoRecords held file origin Settings = ⊥
+HoldsNoRecords held file origin Socket = ⊥
+HoldsNoRecords held file origin (Pool e) = ⊥
+HoldsNoRecords held file origin Threads = ⊥
+HoldsNoRecords held file origin (Script path e) = ⊥
+HoldsNoRecords held file origin (Block path line e) = ⊥
+HoldsNoRecords held file origin (World path e) = ⊥
 
 -- The text's records meet the rules of a zone.
 abbrev pub HoldsZone : Option (Option (List ℕ)) → List (List ℕ) → ZoneOf → Type 0
 HoldsZone known origin zone =
     (records : List Record) × HoldsRecords known origin records × (fault_of (zone_with origin records) ≡ None) × (zone ≡ zone_with origin records)
 
-abbrev pub HoldsNoZone : Option (Option (List ℕ)) → List (List ℕ) → Fault → Type 0
-HoldsNoZone known origin (Unreadable path) = HoldsNoRecords known origin (Unreadable path)
-HoldsNoZone known origin (File path e) = HoldsNoRecords known origin (File path e)
-HoldsNoZone known origin (Zone path e) = (records : List Record) × HoldsRecords known origin records × (fault_of (zone_with origin records) ≡ Some e)
-HoldsNoZone known origin Memory = Unit {0}
-HoldsNoZone known origin (BadName e) = ⊥
-HoldsNoZone known origin BadType = ⊥
-HoldsNoZone known origin Output = ⊥
-HoldsNoZone known origin Settings = ⊥
-HoldsNoZone known origin Socket = ⊥
-HoldsNoZone known origin (Pool e) = ⊥
-HoldsNoZone known origin Threads = ⊥
-HoldsNoZone known origin (Script path e) = ⊥
-HoldsNoZone known origin (Block path line e) = ⊥
-HoldsNoZone known origin (World path e) = ⊥
+abbrev pub HoldsNoZone : (List ℕ → Option (Option (List ℕ))) → List ℕ → List (List ℕ) → Fault → Type 0
+HoldsNoZone held file origin (Unreadable path) = HoldsNoRecords held file origin (Unreadable path)
+HoldsNoZone held file origin (File path e) = HoldsNoRecords held file origin (File path e)
+HoldsNoZone held file origin (Zone path e) =
+    (path.now ≡ file) × ((records : List Record) × HoldsRecords (held file) origin records × (fault_of (zone_with origin records) ≡ Some e))
+HoldsNoZone held file origin Memory = Unit {0}
+HoldsNoZone held file origin (BadName e) = ⊥
+HoldsNoZone held file origin BadType = ⊥
+HoldsNoZone held file origin Output = ⊥
+HoldsNoZone held file origin Settings = ⊥
+HoldsNoZone held file origin Socket = ⊥
+HoldsNoZone held file origin (Pool e) = ⊥
+HoldsNoZone held file origin Threads = ⊥
+HoldsNoZone held file origin (Script path e) = ⊥
+HoldsNoZone held file origin (Block path line e) = ⊥
+HoldsNoZone held file origin (World path e) = ⊥

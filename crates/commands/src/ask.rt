@@ -23,7 +23,7 @@ pub fn ask<'a, A: Heap, T: Texts>(
     kind: &str,
 ) -> Result<String<A>, Fault<'a>>
     ensures ok { IfOk result (λ s. PrintsAnswer A (T.held texts.old file.entry.now) origin.now name.now kind.now (string_bytes s)) }
-    ensures err { IfErr result (IsRefused (T.held texts.old file.entry.now) origin.now name.now kind.now) }
+    ensures err { IfErr result (IsRefused (T.held texts.old) file.entry.now origin.now name.now kind.now) }
 {
     let origin = Name::from_text(alloc, origin)?;
     let name = Name::from_text(alloc, name)?;

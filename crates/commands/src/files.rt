@@ -15,7 +15,7 @@ pub fn check<'a, A: Heap, T: Texts>(
     file: &'a str,
 ) -> Result<String<A>, Fault<'a>>
     ensures ok { IfOk result (λ s. CountsRecords (T.held texts.old file.entry.now) origin.now (string_bytes s)) }
-    ensures err { IfErr result (IsNoZone (T.held texts.old file.entry.now) origin.now) }
+    ensures err { IfErr result (IsNoZone (T.held texts.old) file.entry.now origin.now) }
 {
     let origin = Name::from_text(alloc, origin)?;
     let zone = read_zone(alloc, texts, origin, file)?;
@@ -36,7 +36,7 @@ pub fn dump<'a, A: Heap, T: Texts>(
     file: &'a str,
 ) -> Result<String<A>, Fault<'a>>
     ensures ok { IfOk result (λ s. PrintsRecords (T.held texts.old file.entry.now) origin.now (string_bytes s)) }
-    ensures err { IfErr result (IsNoFile (T.held texts.old file.entry.now) origin.now) }
+    ensures err { IfErr result (IsNoFile (T.held texts.old) file.entry.now origin.now) }
 {
     let origin = Name::from_text(alloc, origin)?;
     let records = read_records(alloc, texts, &origin, file)?;

@@ -18,7 +18,7 @@ pub fn play<'a, A: Heap, T: Texts>(
     script: &'a str,
 ) -> Result<String<A>, Fault<'a>>
     ensures ok { IfOk result (λ s. PrintsScript (T.held texts.old world.entry.now) (T.held texts.old script.entry.now) (string_bytes s)) }
-    ensures err { IfErr result (IsNoScript (T.held texts.old world.entry.now) (T.held texts.old script.entry.now)) }
+    ensures err { IfErr result (IsNoScript (T.held texts.old) world.entry.now script.entry.now) }
 {
     let world = world_at(alloc, texts, world)?;
     let orders = orders_at(alloc, texts, script)?;
@@ -32,7 +32,7 @@ fn world_at<'a, A: Heap, T: Texts>(
     path: &'a str,
 ) -> Result<World<A>, Fault<'a>>
     ensures ok { IfOk result (HoldsWorld (T.held texts.old path.entry.now)) }
-    ensures err { IfErr result (HoldsNoWorld (T.held texts.old path.entry.now)) }
+    ensures err { IfErr result (HoldsNoWorld (T.held texts.old) path.entry.now) }
     ensures keeps { T.held texts.new ≡ T.held texts.old }
 {
     let text = texts.text(alloc, path)?.ok_or(Fault::Unreadable(path))?;
@@ -49,7 +49,7 @@ fn orders_at<'a, A: Heap, T: Texts>(
     path: &'a str,
 ) -> Result<Vec<Order<A>, A>, Fault<'a>>
     ensures ok { IfOk result (λ v. HoldsOrders (T.held texts.old path.entry.now) (map order_seen v.items)) }
-    ensures err { IfErr result (HoldsNoOrders (T.held texts.old path.entry.now)) }
+    ensures err { IfErr result (HoldsNoOrders (T.held texts.old) path.entry.now) }
 {
     let text = texts.text(alloc, path)?.ok_or(Fault::Unreadable(path))?;
     match read_script(alloc, text.as_str()) {

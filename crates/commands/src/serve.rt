@@ -2,9 +2,9 @@
 ghost use Rattle.std.specs.Prelude.{◌≡◌, Some, None, IfOk, IfErr, string_bytes};
 ghost use Rattle.commands.specs.Faults.{IsReported};
 ghost use Rattle.commands.specs.Runs.{IsPrinted, IsRun};
-ghost use Rattle.commands.specs.Servers.{PrintsAddress, IsNoServer, Describes, Refuses, IsStartFault, NamesEnd, IsUnbound, AreZonesIn, IsMadeOf, IsSeedOf, IsServer, StartsWith, Starts, address_line, end_of};
+ghost use Rattle.commands.specs.Servers.{PrintsAddress, IsNoServer, Describes, IsStartFault, LacksSeed, LacksZone, NamesEnd, IsUnbound, AreZonesIn, IsMadeOf, IsSeedOf, IsServer, StartsWith, Starts, address_line, end_of};
 ghost use Rattle.commands.specs.Texts.{MayHold};
-ghost use Rattle.commands.specs.Zones.{HoldsZone};
+ghost use Rattle.commands.specs.Zones.{HoldsZone, HoldsNoZone};
 
 use crate::fault::Fault;
 use crate::host::{Host, RANDOM};
@@ -39,7 +39,7 @@ pub fn serve<A: Heap, T: Texts, H: Host, O: Write, E: Write>(
     out: &mut O,
     err: &mut E,
 ) -> Outcome<A>
-    ensures run { IsRun (PrintsAddress (T.held texts.old path.now)) (IsNoServer (T.held texts.old path.now)) (O.contents out.old) (O.contents out.new) (E.contents err.old) (E.contents err.new) result.status }
+    ensures run { IsRun (PrintsAddress (T.held texts.old path.now)) (IsNoServer (T.held texts.old) path.now) (O.contents out.old) (O.contents out.new) (E.contents err.old) (E.contents err.new) result.status }
     ensures starts { Starts (T.held texts.old) path.now result.status result.server }
 {
     match texts.text(alloc, path) {
@@ -60,7 +60,7 @@ fn serve_text<A: Heap, T: Texts, H: Host, O: Write, E: Write>(
     err: &mut E,
 ) -> Outcome<A>
     requires { MayHold (T.held texts.old path.now) (Some text.now) }
-    ensures run { IsRun (PrintsAddress (T.held texts.old path.now)) (IsNoServer (T.held texts.old path.now)) (O.contents out.old) (O.contents out.new) (E.contents err.old) (E.contents err.new) result.status }
+    ensures run { IsRun (PrintsAddress (T.held texts.old path.now)) (IsNoServer (T.held texts.old) path.now) (O.contents out.old) (O.contents out.new) (E.contents err.old) (E.contents err.new) result.status }
     ensures starts { Starts (T.held texts.old) path.now result.status result.server }
 {
     match prepare(alloc, path, text, texts, host) {
@@ -89,8 +89,9 @@ fn prepare<'t, A: Heap, T: Texts, H: Host>(
     texts: &mut T,
     host: &mut H,
 ) -> Result<Prepared<A>, Fault<'t>>
+    requires { MayHold (T.held texts.old path.now) (Some text.now) }
     ensures ok { IfOk result (λ p. Describes text.entry.now (end_of p.listen) × IsServer (T.held texts.old) text.entry.now p.server) }
-    ensures err { IfErr result (Refuses text.entry.now) }
+    ensures err { IfErr result (IsNoServer (T.held texts.old) path.entry.now) }
 {
     match read_config(alloc, text) {
         Ok(config) => prepare_with(alloc, config, texts, host),
@@ -99,6 +100,7 @@ fn prepare<'t, A: Heap, T: Texts, H: Host>(
 }
 
 // The same, where the text is read.
+#[tactic(auto, using(crate::proofs::Servers::bad_settings, crate::proofs::Servers::wants_memory))]
 fn prepare_with<'t, A: Heap, T: Texts, H: Host>(
     alloc: A,
     config: ServeConfig<'t, A>,
@@ -106,7 +108,7 @@ fn prepare_with<'t, A: Heap, T: Texts, H: Host>(
     host: &mut H,
 ) -> Result<Prepared<A>, Fault<'t>>
     ensures ok { IfOk result (λ p. (config.entry.listen ≡ end_of p.listen) × IsMadeOf (T.held texts.old) config.entry p.server) }
-    ensures err { IfErr result IsStartFault }
+    ensures err { IfErr result (IsStartFault (T.held texts.old) config.entry) }
 {
     let zones = local_zones(alloc, texts, &config.locals)?;
     let seed = seed_of(&config, host)?;
@@ -139,7 +141,7 @@ fn seed_of<'t, A: Allocator, H: Host>(
     host: &mut H,
 ) -> Result<[u8; 32], Fault<'static>>
     ensures ok { IfOk result (IsSeedOf config.now) }
-    ensures err { IfErr result IsStartFault }
+    ensures err { IfErr result (LacksSeed config.now) }
 {
     match config.seed {
         Some(seed) => Ok(seed),
@@ -148,13 +150,14 @@ fn seed_of<'t, A: Allocator, H: Host>(
 }
 
 // The zones that the server holds, each from its file.
+#[tactic(auto, using(crate::proofs::Servers::lacks_memory))]
 fn local_zones<'t, A: Heap, T: Texts>(
     alloc: A,
     texts: &mut T,
     locals: &[LocalFile<'t, A>],
 ) -> Result<Vec<Zone<A>, A>, Fault<'t>>
     ensures ok { IfOk result (λ v. AreZonesIn (T.held texts.old) locals.now v.items) }
-    ensures err { IfErr result IsStartFault }
+    ensures err { IfErr result (LacksZone (T.held texts.old) locals.now) }
     ensures keeps { T.held texts.new ≡ T.held texts.old }
 {
     let mut zones = Vec::new(alloc);
@@ -165,14 +168,13 @@ fn local_zones<'t, A: Heap, T: Texts>(
 }
 
 // The zone of a line of the server's file.
-#[tactic(auto, using(crate::proofs::Servers::no_zone))]
 fn zone_of<'t, A: Heap, T: Texts>(
     alloc: A,
     texts: &mut T,
     local: &LocalFile<'t, A>,
 ) -> Result<Zone<A>, Fault<'t>>
     ensures ok { IfOk result (HoldsZone (T.held texts.old local.now.file) local.now.origin) }
-    ensures err { IfErr result IsStartFault }
+    ensures err { IfErr result (HoldsNoZone (T.held texts.old) local.now.file local.now.origin) }
     ensures keeps { T.held texts.new ≡ T.held texts.old }
 {
     let origin = local.origin.copied(alloc)?;

@@ -31,7 +31,7 @@ pub fn storm<'a, R: Threads + Wait + AllocGlobal + Sync, T: Texts>(
     scripts: &'a [String],
 ) -> Result<String, Fault<'a>>
     ensures ok { IfOk result (λ s. PrintsStorm (λ p. T.held texts.old (string_bytes p)) (T.held texts.old world.entry.now) scripts.entry.now (string_bytes s)) }
-    ensures err { IfErr result (IsNoStorm (λ p. T.held texts.old (string_bytes p)) (T.held texts.old world.entry.now) scripts.entry.now) }
+    ensures err { IfErr result (IsNoStorm (T.held texts.old) world.entry.now string_bytes scripts.entry.now) }
 {
     let alloc = rt.alloc();
     let (world, judge) = worlds_at(alloc, texts, world)?;
@@ -48,7 +48,7 @@ fn worlds_at<'a, T: Texts>(
 ) -> Result<(World, World), Fault<'a>>
     ensures ok { IfOk result (λ w. HoldsWorld (T.held texts.old path.entry.now) w.0) }
     ensures same { IfOk result (λ w. w.1 ≡ w.0) }
-    ensures err { IfErr result (HoldsNoWorld (T.held texts.old path.entry.now)) }
+    ensures err { IfErr result (HoldsNoWorld (T.held texts.old) path.entry.now) }
     ensures keeps { T.held texts.new ≡ T.held texts.old }
 {
     let text = texts.text(alloc, path)?.ok_or(Fault::Unreadable(path))?;
@@ -77,7 +77,7 @@ fn asks_at_all<'a, T: Texts>(
     paths: &'a [String],
 ) -> Result<Vec<Vec<Order>>, Fault<'a>>
     ensures ok { IfOk result (λ v. HoldAsks (λ p. T.held texts.old (string_bytes p)) paths.entry.now (map (λ s. map order_seen s.items) v.items)) }
-    ensures err { IfErr result (RefusesOne (λ p. T.held texts.old (string_bytes p)) paths.entry.now) }
+    ensures err { IfErr result (RefusesOne (T.held texts.old) string_bytes paths.entry.now) }
 {
     let mut scripts = Vec::new(alloc);
     for path in paths {
@@ -94,7 +94,7 @@ fn asks_at<'a, T: Texts>(
     path: &'a str,
 ) -> Result<Vec<Order>, Fault<'a>>
     ensures ok { IfOk result (λ v. HoldsAsks (T.held texts.old path.entry.now) (map order_seen v.items)) }
-    ensures err { IfErr result (HoldsNoAsks (T.held texts.old path.entry.now)) }
+    ensures err { IfErr result (HoldsNoAsks (T.held texts.old) path.entry.now) }
     ensures keeps { T.held texts.new ≡ T.held texts.old }
 {
     let text = texts.text(alloc, path)?.ok_or(Fault::Unreadable(path))?;

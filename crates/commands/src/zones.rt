@@ -16,7 +16,7 @@ pub fn read_records<'a, A: Heap, T: Texts>(
     file: &'a str,
 ) -> Result<Records<A>, Fault<'a>>
     ensures ok { IfOk result (HoldsRecords (T.held texts.old file.entry.now) origin.now) }
-    ensures err { IfErr result (HoldsNoRecords (T.held texts.old file.entry.now) origin.now) }
+    ensures err { IfErr result (HoldsNoRecords (T.held texts.old) file.entry.now origin.now) }
     ensures keeps { T.held texts.new ≡ T.held texts.old }
 {
     let text = texts.text(alloc, file)?.ok_or(Fault::Unreadable(file))?;
@@ -34,7 +34,7 @@ pub fn read_zone<'a, A: Heap, T: Texts>(
     file: &'a str,
 ) -> Result<Zone<A>, Fault<'a>>
     ensures ok { IfOk result (HoldsZone (T.held texts.old file.entry.now) origin) }
-    ensures err { IfErr result (HoldsNoZone (T.held texts.old file.entry.now) origin) }
+    ensures err { IfErr result (HoldsNoZone (T.held texts.old) file.entry.now origin) }
     ensures keeps { T.held texts.new ≡ T.held texts.old }
 {
     let records = read_records(alloc, texts, &origin, file)?;

@@ -16,7 +16,7 @@ returns-in_err-orders-clause-err g c =
     (inr (record {
       W = c.in_ok-world.world;
       stands = c.in_ok-world.ensures.ok;
-      fails = subst (λ (held : List ℕ → Option (Option (List ℕ))). HoldsNoOrders (held c.args.script.now) f) c.world_at.ensures.keeps c.in_err-orders.ensures.err;
+      fails = subst (λ (held : List ℕ → Option (Option (List ℕ))). HoldsNoOrders held c.args.script.now f) c.world_at.ensures.keeps c.in_err-orders.ensures.err;
     }))
 
 pub returns-clause-ok : goal.returns-clause-ok

@@ -27,7 +27,7 @@ returns-clause-ok g c =
 pub returns-in_err-orders-clause-err : goal.returns-in_err-orders-clause-err
 returns-in_err-orders-clause-err g c =
     err_weaker c.from_residual.result _ _
-    (λ (f : Fault) is. subst (λ (e : Fault). RefusesOne {X = String Global} (λ p. g.T.Texts.held c.args.texts.now (string_bytes p)) c.args.paths.now e) (sym is)
-    (refuses_at (λ p. g.T.Texts.held c.args.texts.now (string_bytes p)) c.args.paths.now _ c.loop-path.path-index c.path-item.result _ c.loop-path-test.true c.path-item.is c.loop-path.invariant.1
+    (λ (f : Fault) is. subst (λ (e : Fault). RefusesOne {X = String Global} (g.T.Texts.held c.args.texts.now) string_bytes c.args.paths.now e) (sym is)
+    (refuses_at (g.T.Texts.held c.args.texts.now) (λ (p : String Global). string_bytes p) c.args.paths.now _ c.loop-path.path-index c.path-item.result _ c.loop-path-test.true c.path-item.is c.loop-path.invariant.1
     (rw c.loop-path.invariant.0 at (rw c.as_str.ensures.value at c.in_err-orders.ensures.err))))
     c.from_residual.ensures.1

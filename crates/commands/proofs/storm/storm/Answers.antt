@@ -12,7 +12,7 @@ pub returns-in_err-scripts-clause-err : goal.returns-in_err-scripts-clause-err
 returns-in_err-scripts-clause-err g c =
     err_weaker c.from_residual-in_err-scripts.result _ _
     (λ (f : Fault) is. subst
-    (λ (e : Fault). IsNoStorm {X = String Global} (λ p. g.T.Texts.held c.args.texts.now (string_bytes p)) (g.T.Texts.held c.args.texts.now c.args.world.now) c.args.scripts.now e) (sym is)
+    (λ (e : Fault). IsNoStorm {X = String Global} (g.T.Texts.held c.args.texts.now) c.args.world.now string_bytes c.args.scripts.now e) (sym is)
     (no_scripts (λ (p : String Global). string_bytes p) (g.T.Texts.held c.args.texts.now) _ c.args.world.now c.in_ok-world.world c.args.scripts.now c.worlds_at.ensures.keeps c.in_ok-world.ensures.ok _ c.in_err-scripts.ensures.err))
     c.from_residual-in_err-scripts.ensures.1
 
@@ -20,7 +20,7 @@ pub returns-in_err-totals-clause-err : goal.returns-in_err-totals-clause-err
 returns-in_err-totals-clause-err g c =
     err_weaker c.from_residual-in_err-totals.result _ _
     (λ (f : Fault) is. subst
-    (λ (e : Fault). IsNoStorm {X = String Global} (λ p. g.T.Texts.held c.args.texts.now (string_bytes p)) (g.T.Texts.held c.args.texts.now c.args.world.now) c.args.scripts.now e) (sym is)
+    (λ (e : Fault). IsNoStorm {X = String Global} (g.T.Texts.held c.args.texts.now) c.args.world.now string_bytes c.args.scripts.now e) (sym is)
     (no_close (λ (p : String Global). string_bytes p) (g.T.Texts.held c.args.texts.now) _ c.args.world.now c.in_ok-world.world c.args.scripts.now c.worlds_at.ensures.keeps c.in_ok-world.ensures.ok _ _ c.in_ok-scripts.ensures.ok
     c.in_err-totals.ensures.err))
     c.from_residual-in_err-totals.ensures.1

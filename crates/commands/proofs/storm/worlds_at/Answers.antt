@@ -9,5 +9,5 @@ returns-in-Ok-clause-ok g c = record { text = c.as_str.result.now; held = search
 
 pub returns-clause-err : goal.returns-clause-err
 returns-clause-err g c =
-    subst (HoldsNoWorld (g.T.Texts.held c.args.texts.now c.args.path.now)) (sym c.of_world.ensures)
-    (no_world (g.T.Texts.held c.args.texts.now c.args.path.now) c.args.path c.as_str.result.now c.in-Err.error (search rules) c.in-Err.ensures.says)
+    subst (HoldsNoWorld (g.T.Texts.held c.args.texts.now) c.args.path.now) (sym c.of_world.ensures)
+    (no_world (g.T.Texts.held c.args.texts.now) c.args.path c.as_str.result.now c.in-Err.error (search rules) c.in-Err.ensures.says)
