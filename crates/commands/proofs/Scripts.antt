@@ -1,6 +1,6 @@
--- Which fault of a command a world's text is refused for.
-use Rattle.std.proofs.Common.{refl}
-use Rattle.std.specs.Prelude.{ℕ, List, Option, Some}
+-- Which fault of a command a text of lines is refused for, and which a world's.
+use Rattle.std.proofs.Common.{◌≡◌, refl, sym, subst, ⊎_elim, ℕ, List, Result, Err}
+use Rattle.std.specs.Prelude.{Option, Some}
 use Rattle.std.specs.Borrow.{Bor}
 use Rattle.masterfile.specs.declared.faults.FileKind.{FileKind}
 use Rattle.masterfile.specs.declared.faults.FileKind.TheVariants as file
@@ -10,14 +10,15 @@ use Rattle.zone.specs.declared.fault.ZoneError.TheVariants as zone
 use Rattle.statements.specs.declared.fault.LineKind.{LineKind}
 use Rattle.statements.specs.declared.fault.LineKind.TheVariants as line
 use Rattle.statements.specs.declared.fault.LineError.{LineError}
+use Rattle.statements.specs.Texts.{IsTextFault}
 use Rattle.worlds.specs.declared.fault.WorldError.{WorldError}
 use Rattle.worlds.specs.declared.fault.WorldError.TheVariants as rule
 use Rattle.script.specs.declared.world_fault.WorldFault.{WorldFault}
 use Rattle.script.specs.declared.world_fault.WorldFault.TheVariants as of
 use Rattle.script.specs.Worlds.{IsNoWorld}
 use Rattle.commands.specs.Texts.{MayHold}
-use Rattle.commands.specs.Faults.{kind_fault, line_kind_fault, block_fault, rule_fault, world_fault}
-use Rattle.commands.specs.Scripts.{IsRefusedFor, HoldsNoWorld}
+use Rattle.commands.specs.Faults.{kind_fault, line_fault, line_kind_fault, block_fault, rule_fault, world_fault}
+use Rattle.commands.specs.Scripts.{HoldsNo, IsRefusedFor, HoldsNoWorld}
 
 module _ (held : List ℕ → Option (Option (List ℕ))) (path : Bor (List ℕ)) where
   no_line : (e : LineError) (k : LineKind) → IsRefusedFor (held path.now) (of.Line e) → HoldsNoWorld held path.now (line_kind_fault path e k)
@@ -73,3 +74,21 @@ module _ (held : List ℕ → Option (Option (List ℕ))) (path : Bor (List ℕ)
 
   pub no_world : (text : List ℕ) (e : WorldFault) → MayHold (held path.now) (Some text) → IsNoWorld text e → HoldsNoWorld held path.now (world_fault path e)
   no_world text e there fails = named e (record { text = text; held = there; fails = fails })
+
+-- ---- a text of lines
+
+module _ {T : Type 0} (read : List ℕ → Result T LineError) (held : List ℕ → Option (Option (List ℕ))) (path : Bor (List ℕ)) (text : List ℕ) (there : MayHold (held path.now) (Some text)) where
+  first_line : (e : LineError) (k : LineKind) → read text ≡ Err e → HoldsNo read held path.now (line_kind_fault path e k)
+  first_line e line.UnknownWord why = (refl, (text, (there, why)))
+  first_line e line.BadNumber why = (refl, (text, (there, why)))
+  first_line e line.BadName why = (refl, (text, (there, why)))
+  first_line e line.BadType why = (refl, (text, (there, why)))
+  first_line e line.WordCount why = (refl, (text, (there, why)))
+  first_line e line.BadHex why = (refl, (text, (there, why)))
+  first_line e line.OpenBlock why = (refl, (text, (there, why)))
+  first_line e line.BadAddress why = (refl, (text, (there, why)))
+  first_line e line.Memory why = tt
+
+  pub bad_line : (e : LineError) → IsTextFault e (read text) → HoldsNo read held path.now (line_fault path e)
+  bad_line e =
+      ⊎_elim (λ (is : e.kind ≡ line.Memory). subst (λ (k : LineKind). HoldsNo read held path.now (line_kind_fault path e k)) (sym is) tt) (λ why. first_line e e.kind why)
