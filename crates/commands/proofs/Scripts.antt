@@ -79,14 +79,14 @@ module _ (held : List ℕ → Option (Option (List ℕ))) (path : Bor (List ℕ)
 
 module _ {T : Type 0} (read : List ℕ → Result T LineError) (held : List ℕ → Option (Option (List ℕ))) (path : Bor (List ℕ)) (text : List ℕ) (there : MayHold (held path.now) (Some text)) where
   first_line : (e : LineError) (k : LineKind) → read text ≡ Err e → HoldsNo read held path.now (line_kind_fault path e k)
-  first_line e line.UnknownWord why = (refl, (text, (there, why)))
-  first_line e line.BadNumber why = (refl, (text, (there, why)))
-  first_line e line.BadName why = (refl, (text, (there, why)))
-  first_line e line.BadType why = (refl, (text, (there, why)))
-  first_line e line.WordCount why = (refl, (text, (there, why)))
-  first_line e line.BadHex why = (refl, (text, (there, why)))
-  first_line e line.OpenBlock why = (refl, (text, (there, why)))
-  first_line e line.BadAddress why = (refl, (text, (there, why)))
+  first_line e line.UnknownWord why = (refl, (text, there, why))
+  first_line e line.BadNumber why = (refl, (text, there, why))
+  first_line e line.BadName why = (refl, (text, there, why))
+  first_line e line.BadType why = (refl, (text, there, why))
+  first_line e line.WordCount why = (refl, (text, there, why))
+  first_line e line.BadHex why = (refl, (text, there, why))
+  first_line e line.OpenBlock why = (refl, (text, there, why))
+  first_line e line.BadAddress why = (refl, (text, there, why))
   first_line e line.Memory why = tt
 
   pub bad_line : (e : LineError) → IsTextFault e (read text) → HoldsNo read held path.now (line_fault path e)
