@@ -6,6 +6,4 @@ mod fixtures;
 #[cfg(test)]
 mod referral_tests;
 #[cfg(test)]
-mod starved_tests;
-#[cfg(test)]
 mod tests;

@@ -1,8 +1,8 @@
 //! Two clients wait, and an event for one of them wants memory: what it leaves.
-use crate::fixtures::{QUERY, desk};
 use dname::{Heap, Starved};
 use engine_desk::{Ask, Desk, Out, under};
 use exchange::{Event, Path};
+use rdata::Addr;
 use refusing::Refusing;
 use std::test::Fail;
 
@@ -16,6 +16,9 @@ enum Kind {
     LostOverTcp,
     Late,
 }
+
+// Client 3's query, under ID 5 with RD set.
+const QUERY: &[u8] = b"\0\x05\x01\0\0\x01\0\0\0\0\0\0\x03www\x07example\0\0\x01\0\x01";
 
 // The server's replies behind the ID: truncated, and with an address of www.example.
 const CUT: &[u8] = b"\x86\0\0\x01\0\0\0\0\0\0\x03www\x07example\0\0\x01\0\x01";
@@ -65,7 +68,7 @@ fn begin<A: Heap>(desk: &mut Desk<A>, kind: Kind) -> Ask {
 
 // Both clients have asked.
 fn set_scene<A: Heap>(alloc: A, kind: Kind) -> Result<Scene<A>, Starved> {
-    let mut desk = desk(alloc)?;
+    let mut desk = Desk::new(alloc, Addr([192, 0, 2, 1]))?;
     let mine = begin(&mut desk, kind);
     if matches!(mine.path, Path::Tcp(_)) != is_over_tcp(kind) {
         return Err(Starved);
