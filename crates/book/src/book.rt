@@ -1,8 +1,9 @@
 //! The book: a machine's state, its counts and its last entries, which one history led to.
-ghost use Rattle.std.specs.Prelude.{◌≡◌, ◌<◌, ◌≤◌, ◌↔◌, ◌⊎◌, [], reverse, replicate, length, IfOk, OnErr, IsTrue, option_copied, slice_get};
+ghost use Rattle.std.specs.Prelude.{◌≡◌, ◌<◌, ◌≤◌, ◌↔◌, ◌⊎◌, [], ◌∷◌, reverse, replicate, take, length, IfOk, OnErr, MatchOption, IsTrue, option_copied, slice_get};
+ghost use Rattle.circular_buffer.specs.Buffer.{buffer};
 ghost use Rattle.book.specs.Books.{page, seats, Owns, Reached, IsHistory, Takes, Stands};
 
-use crate::entry::{Entry, copy_out};
+use crate::entry::Entry;
 use crate::machine::Machine;
 use crate::ticket::{Ticket, issue};
 use circular_buffer::HeapCircularBuffer;
@@ -35,9 +36,39 @@ impl<M: Machine, L: Ledger, A: Allocator> Model for Book<M, L, A> {
     ghost invariant = { λ b. (b.shares.total ≡ b.entries) × Reached M.moves M.begins (page b.state b.entries b.counts.items b.tail.items b.tail.capacity) };
 }
 
+// A copy of the event, where entries are kept.
+fn copy_to_keep<M: Machine>(room: usize, event: &M::Event) -> Result<Option<M::Event>, Starved>
+    ensures { IfOk result (λ kept. MatchOption kept (room ≡ 0) (λ e. e ≡ event.now)) }
+{
+    if room == 0 {
+        return Ok(None);
+    }
+    Ok(Some(M::copy_event(event)?))
+}
+
+// Puts the entry before the kept ones, and gives it back or a copy of it; `spare` is a copy of its event, where
+// any entries are kept.
+fn shelve<M: Machine, A: Allocator>(
+    tail: &mut HeapCircularBuffer<Entry<M>, A>,
+    entry: Entry<M>,
+    spare: Option<M::Event>,
+) -> Result<Entry<M>, Starved>
+    requires { MatchOption spare (tail.old.capacity ≡ 0) (λ e. e ≡ entry.event) }
+    ensures kept { tail.new ≡ buffer (take tail.old.capacity (entry ∷ tail.old.items)) tail.old.capacity }
+    ensures answer { IfOk result (λ e. e ≡ entry) }
+{
+    let Some(event) = spare else {
+        tail.capacity();
+        return Ok(entry);
+    };
+    let answer = entry.copy_around(event);
+    tail.push_front(entry);
+    answer
+}
+
 impl<M: Machine, L: Ledger, A: Heap> Book<M, L, A> {
     /// A book without entries, and a ticket for each worker in order. It keeps at most `keep` entries, for
-    /// which it takes the room at once. `blank` is the new ledger that `L` names, with a part for each worker.
+    /// which it takes the room at once; one that keeps none copies nothing. `blank` is the new ledger that `L` names, with a part for each worker.
     pub fn new(
         alloc: A,
         blank: Blank,
@@ -48,7 +79,7 @@ impl<M: Machine, L: Ledger, A: Heap> Book<M, L, A> {
         requires name { blank.name ≡ L.name }
         requires parts { (blank.parts ≡ L.parts) × (blank.parts ≡ workers) }
         requires begins { M.begins start }
-        requires some { (0 < workers) × (0 < keep) }
+        requires some { 0 < workers }
         ensures book { IfOk result (λ r. r.0 ≡ page start 0 (replicate workers 0) [] keep) }
         ensures tickets { IfOk result (λ r. r.1.items ≡ seats workers) }
     {
@@ -69,7 +100,7 @@ impl<M: Machine, L: Ledger, A: Heap> Book<M, L, A> {
 
 impl<M: Machine, L: Ledger, A: Allocator> Book<M, L, A> {
     /// The machine takes one step on `event`, as the worker of `ticket`, and the entry is written; the answer
-    /// is a copy of it. Where the copy of the event that the book keeps is refused, or a count is at its end
+    /// is a copy of it, or, where the book keeps no entries, the entry itself. Where the copy of the event that the book keeps is refused, or a count is at its end
     /// (18,446,744,073,709,551,615), nothing changes. Where the caller's copy of what came out is refused, the
     /// entry stands; the ticket's count has risen then, and in no other refusal.
     pub fn put(&mut self, ticket: &mut Ticket<L>, event: M::Event) -> Result<Entry<M>, Starved>
@@ -77,20 +108,20 @@ impl<M: Machine, L: Ledger, A: Allocator> Book<M, L, A> {
         ensures ok { IfOk result (λ e. Takes M.moves self.old ticket.old event e self.new ticket.new) }
         ensures err { OnErr result (((self.new ≡ self.old) × (ticket.new ≡ ticket.old)) ⊎ Stands M.moves self.old ticket.old event self.new ticket.new) }
     {
-        let kept = M::copy_event(&event)?;
+        let spare = copy_to_keep::<M>(self.tail.capacity(), &event)?;
         let worker = ticket.worker;
         let number = ticket.count;
         if number == u64::MAX || self.entries == u64::MAX {
             return Err(Starved);
         }
         let out = M::step(&mut self.state, &event);
-        let answer = copy_out::<M>(&out);
-        self.tail.push_front(Entry::new(worker, number, kept, out));
+        let entry = Entry::new(worker, number, event, out);
+        let answer = shelve(&mut self.tail, entry, spare);
         self.counts[worker] = number + 1;
         self.entries += 1;
         self.shares.add(&mut ticket.share, 1);
         ticket.count = number + 1;
-        Ok(Entry::new(worker, number, event, answer?))
+        answer
     }
 
     /// Whether the ticket is for one of the book's workers and has its count.

@@ -76,10 +76,18 @@ impl<M: Machine> Entry<M> {
     pub fn copy(&self) -> Result<Entry<M>, Starved>
         ensures { IfOk result (λ e. e ≡ self.now) }
     {
+        self.copy_around(M::copy_event(&self.event)?)
+    }
+
+    // An equal entry, which takes this event for its own.
+    pub(crate) fn copy_around(&self, event: M::Event) -> Result<Entry<M>, Starved>
+        requires { event ≡ self.now.event }
+        ensures { IfOk result (λ e. e ≡ self.now) }
+    {
         Ok(Entry {
             worker: self.worker,
             number: self.number,
-            event: M::copy_event(&self.event)?,
+            event,
             out: copy_out::<M>(&self.out)?,
         })
     }
@@ -103,9 +111,7 @@ impl<M: Machine> Entry<M> {
 }
 
 /// An equal outcome of a step.
-pub(crate) fn copy_out<M: Machine>(
-    out: &Result<M::Out, Starved>,
-) -> Result<Result<M::Out, Starved>, Starved>
+fn copy_out<M: Machine>(out: &Result<M::Out, Starved>) -> Result<Result<M::Out, Starved>, Starved>
     ensures { IfOk result (λ o. o ≡ out.now) }
 {
     match out {

@@ -127,7 +127,6 @@ struct Shown<A: Allocator> {
 fn four_steps<L: Ledger, A: Heap>(alloc: A, blank: Blank, keep: usize) -> Result<Shown<A>, Starved>
     requires name { blank.name ≡ L.name }
     requires parts { (blank.parts ≡ L.parts) × (blank.parts ≡ 2) }
-    requires some { 0 < keep }
 {
     let (mut book, mut tickets) = Book::<Adding, L, A>::new(alloc, blank, 0, 2, keep)?;
     put(&mut book, &mut tickets, 0, 5)?;
@@ -211,16 +210,18 @@ fn each_growth_refused_in_turn(rt: HostRuntime) -> Result<(), Fail> {
     Ok(())
 }
 
-// One event put by worker 0 of one: whether the entry came back, the ticket's count, entries and steps.
+// One event put by worker 0 of one, where the book keeps so many: whether the entry came back, the ticket's count,
+// entries and steps.
 fn after_one_put<L: Ledger>(
     alloc: Global,
     blank: Blank,
     event: u64,
+    keep: usize,
 ) -> Result<(bool, u64, u64, usize), Starved>
     requires name { blank.name ≡ L.name }
     requires parts { (blank.parts ≡ L.parts) × (blank.parts ≡ 1) }
 {
-    let (mut book, mut tickets) = Book::<Noting, L>::new(alloc, blank, Vec::new(alloc), 1, 1)?;
+    let (mut book, mut tickets) = Book::<Noting, L>::new(alloc, blank, Vec::new(alloc), 1, keep)?;
     let given = put(&mut book, &mut tickets, 0, event).is_ok();
     let count = tickets.first().ok_or(Starved)?.count();
     Ok((given, count, book.entries(), book.state().len()))
@@ -229,9 +230,17 @@ fn after_one_put<L: Ledger>(
 #[test]
 fn a_refused_copy(rt: HostRuntime) -> Result<(), Fail> {
     let alloc = rt.alloc();
-    assert!(rt; after_one_put::<Brand>(alloc, Blank::new(1), 0)? == (true, 1, 1, 1));
-    assert!(rt; after_one_put::<Brand>(alloc, Blank::new(1), 1)? == (false, 0, 0, 0));
-    assert!(rt; after_one_put::<Brand>(alloc, Blank::new(1), 2)? == (false, 1, 1, 1));
+    assert!(rt; after_one_put::<Brand>(alloc, Blank::new(1), 0, 1)? == (true, 1, 1, 1));
+    assert!(rt; after_one_put::<Brand>(alloc, Blank::new(1), 1, 1)? == (false, 0, 0, 0));
+    assert!(rt; after_one_put::<Brand>(alloc, Blank::new(1), 2, 1)? == (false, 1, 1, 1));
+    Ok(())
+}
+
+#[test]
+fn a_book_that_keeps_no_entries_copies_nothing(rt: HostRuntime) -> Result<(), Fail> {
+    let alloc = rt.alloc();
+    assert!(rt; after_one_put::<Brand>(alloc, Blank::new(1), 1, 0)? == (true, 1, 1, 1));
+    assert!(rt; after_one_put::<Brand>(alloc, Blank::new(1), 2, 0)? == (true, 1, 1, 1));
     Ok(())
 }
 

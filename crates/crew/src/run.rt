@@ -31,7 +31,7 @@ pub fn run_all<
 ) -> Result<Closed<M>, PoolError>
     requires name { blank.name ≡ L.name }
     requires parts { (blank.parts ≡ L.parts) × (blank.parts ≡ length queries.now) }
-    requires some { (0 < length queries.now) × (0 < keep) }
+    requires some { 0 < length queries.now }
     requires begins { M.begins start }
     ensures { IfOk result (λ c. HaveRun M.moves M.begins M.event_of M.errands (map (λ q. q.items) queries.now) c.history.items (map (λ v. v.items) c.lists.items)) }
 {

@@ -96,7 +96,6 @@ fn run_of_one<L: Ledger + Send + Sync, R: Threads + Wait + Sync>(
 ) -> Result<Vec<Row>, PoolError>
     requires name { blank.name ≡ L.name }
     requires parts { (blank.parts ≡ L.parts) × (blank.parts ≡ 1) }
-    requires some { 0 < keep }
 {
     let mut lists = Vec::new(alloc);
     lists.push(Vec::from_slice(alloc, queries)?)?;

@@ -34,7 +34,7 @@ pub fn run_shared<
 ) -> Result<Closed<Within<P>>, PoolError>
     requires name { blank.name ≡ L.name }
     requires parts { (blank.parts ≡ L.parts) × (blank.parts ≡ length queries.now) }
-    requires some { (0 < length queries.now) × (0 < keep) }
+    requires some { 0 < length queries.now }
     requires begins { P.begins start × ((s : Network) → P.begins s → s ≡ start) }
     requires fresh { Begins start }
     ensures run { IfOk result (λ c. IsRunOf start (map (λ q. q.items) queries.now) c.history.items (map (λ v. v.items) c.lists.items)) }

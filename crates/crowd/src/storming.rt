@@ -36,7 +36,7 @@ pub fn storm<R: Threads + Wait + Sync>(
     scripts: Vec<Vec<Order>>,
     keep: usize,
 ) -> Result<Option<Totals>, PoolError>
-    requires some { (0 < length scripts.items) × (0 < keep) }
+    requires some { 0 < length scripts.items }
     requires fresh { Begins start }
     requires world { world.now ≡ start.world }
     ensures { IfOk result (λ o. IfSome o (IsStorm Global start (map (λ s. map order_seen s.items) scripts.items))) }
@@ -65,7 +65,7 @@ fn storm_in<P: Beginning + Send + Sync, L: Ledger + Send + Sync, R: Threads + Wa
 ) -> Result<Totals, PoolError>
     requires name { blank.name ≡ L.name }
     requires parts { (blank.parts ≡ L.parts) × (blank.parts ≡ length queries.now) }
-    requires some { (0 < length queries.now) × (0 < keep) }
+    requires some { 0 < length queries.now }
     requires begins { P.begins start × ((s : Network) → P.begins s → s ≡ start) }
     requires fresh { Begins start }
     requires world { world.now ≡ start.world }

@@ -30,9 +30,7 @@ fn stormed<R: Threads + Wait + Sync>(
     alloc: Global,
     workers: usize,
     keep: usize,
-) -> Result<(u64, u64), PoolError>
-    requires { 0 < keep }
-{
+) -> Result<(u64, u64), PoolError> {
     let scripts = scripts(alloc, workers)?;
     if scripts.is_empty() {
         return Err(PoolError::Stranger);

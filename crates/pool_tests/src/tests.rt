@@ -104,7 +104,6 @@ fn closing<L: Ledger, A: Heap, R: Wait>(
 ) -> Result<Vec<Row, A>, PoolError>
     requires name { blank.name ≡ L.name }
     requires parts { (blank.parts ≡ L.parts) × (blank.parts ≡ 2) }
-    requires some { 0 < keep }
 {
     let (book, mut tickets) = Book::<Counting, L, A>::new(alloc, blank, 0, 2, keep)?;
     let shared = Shared::new(book);

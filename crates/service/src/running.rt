@@ -16,8 +16,8 @@ use std::sync::ledger::{Blank, Ledger};
 use std::thread::Threads;
 use std::time::Clock;
 
-// How many entries of its history a server keeps: nobody reads them.
-const KEPT: usize = 1;
+// How many entries of its history a server keeps: nobody reads them, so no message is copied for them.
+const KEPT: usize = 0;
 
 /// Serves with this resolver at these ends until the flag is up, with so many workers for asks over TCP.
 pub fn serve<R: Net<Listener = TcpListener, Stream = TcpStream> + Threads + Wait + Clock + Sync>(
