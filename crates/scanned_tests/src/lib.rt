@@ -3,7 +3,11 @@
 #![tactic(auto)]
 
 #[cfg(test)]
+mod example_tests;
+#[cfg(test)]
 mod made;
+#[cfg(test)]
+mod question;
 #[cfg(test)]
 mod room;
 #[cfg(test)]

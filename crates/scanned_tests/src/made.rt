@@ -1,5 +1,9 @@
 //! Trees of zones, and numbers made from a seed.
-use std::alloc::AllocError;
+use crate::question::Question;
+use crate::watched::Watched;
+use dname::Starved;
+use rdata::RType;
+use std::alloc::{AllocError, Global};
 
 /// Numbers that follow from a seed, by a linear congruential generator.
 #[derive(Clone, Copy)]
@@ -102,17 +106,30 @@ impl Tree {
         text.push_str("\n")
     }
 
-    /// The text of a world of these zones.
-    pub fn put_world(&self, text: &mut String) -> Result<(), AllocError> {
+    // The text of a world of these zones.
+    fn put_world(&self, text: &mut String) -> Result<(), AllocError> {
         for zone in 0..ZONES {
             self.put_zone(text, zone)?;
         }
         text.push_str("hint 198.51.100.0\n")
     }
 
-    /// The name that a client asks for: its number, in one of the zones.
-    pub fn put_name(&self, text: &mut String, client: u64) -> Result<(), AllocError> {
-        write!(text, "{client}.")?;
-        self.put_labels(text, client % ZONES)
+    // What a client asks: its number, in one of the zones.
+    fn question(&self, alloc: Global, client: u64) -> Result<Question, Starved> {
+        let mut name = String::new(alloc);
+        write!(&mut name, "{client}.")?;
+        self.put_labels(&mut name, client % ZONES)?;
+        Question::new(alloc, client, name.as_str(), RType::A)
+    }
+
+    /// A network of these zones, in which there are so many clients.
+    pub fn watched(&self, alloc: Global, clients: u64) -> Result<Watched, Starved> {
+        let mut world = String::new(alloc);
+        self.put_world(&mut world)?;
+        let mut questions = Vec::new(alloc);
+        for client in 0..clients {
+            questions.push(self.question(alloc, client)?)?;
+        }
+        Watched::new(alloc, world.as_str(), questions)
     }
 }

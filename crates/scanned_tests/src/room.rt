@@ -7,7 +7,7 @@ use std::alloc::Global;
 // The longest that a query waits, in milliseconds.
 const LONGEST: u64 = 10_000;
 
-/// An ask of a server: how it went and where to, its ID, and the client whose name it asks for.
+/// An ask of a server: how it went and where to, its ID, and the client for whom it asks.
 #[derive(Clone, Copy, PartialEq, Eq)]
 pub struct Ask {
     pub path: Path,

@@ -7,7 +7,7 @@ use dname::Starved;
 use std::alloc::Global;
 use std::test::Fail;
 
-type Step = (u64, Order, Verdict);
+pub type Step = (u64, Order, Verdict);
 
 // Three asks and an answer, and one from the cache.
 const ANSWERED: &[Step] = &[
@@ -76,8 +76,8 @@ const EQUALS: &[Step] = &[
     (10_000, Tick, One),
 ];
 
-// The first step of which something else comes.
-fn first_wrong(watched: &mut Watched, steps: &[Step]) -> Result<Option<usize>, Starved> {
+/// The first step of which something else comes.
+pub fn first_wrong(watched: &mut Watched, steps: &[Step]) -> Result<Option<usize>, Starved> {
     for (place, (moment, order, verdict)) in steps.iter().enumerate() {
         if watched.follow(*moment, *order)? != *verdict {
             return Ok(Some(place));
@@ -96,7 +96,7 @@ fn worked_scripts_serve_whom_a_walk_serves(rt: HostRuntime) -> Result<(), Fail> 
         (TRUNCATED, 7, 0),
         (EQUALS, 10, 0),
     ] {
-        let mut watched = Watched::new(rt.alloc(), CHAIN)?;
+        let mut watched = CHAIN.watched(rt.alloc(), 3)?;
         assert_eq!(rt; first_wrong(&mut watched, steps)?, None);
         assert_eq!(rt; (watched.asks(), watched.waiting()), (asks, waiting));
     }
@@ -116,7 +116,7 @@ fn ticks_of_more(watched: &mut Watched, moment: u64) -> Result<u32, Starved> {
 // 1,024 queries wait, and one more does not; all are due at once, in both rounds.
 #[test]
 fn a_full_room_is_served_in_turn(rt: HostRuntime) -> Result<(), Fail> {
-    let mut watched = Watched::new(rt.alloc(), CHAIN)?;
+    let mut watched = CHAIN.watched(rt.alloc(), 1_025)?;
     for client in 0..1_025 {
         assert_eq!(rt; watched.follow(0, Client(client))?, One);
     }
@@ -136,9 +136,11 @@ fn number(asks: u64, dice: &mut Dice) -> u64 {
     }
 }
 
+const CLIENTS: u64 = 12;
+
 // A client that does not wait asks, some ask is carried or lost, or time passes.
 fn order(watched: &Watched, dice: &mut Dice) -> Order {
-    let client = dice.roll(12);
+    let client = dice.roll(CLIENTS);
     let number = number(watched.asks(), dice);
     match dice.roll(10) {
         0 | 1 if !watched.has(client) => Client(client),
@@ -181,7 +183,7 @@ impl Counts {
 // A script of 100 orders made from a seed: the first on which the resolver and the room differ.
 fn first_differing(alloc: Global, seed: u64, counts: &mut Counts) -> Result<Option<u32>, Starved> {
     let mut dice = Dice::new(seed);
-    let mut watched = Watched::new(alloc, Tree::made(&mut dice))?;
+    let mut watched = Tree::made(&mut dice).watched(alloc, CLIENTS)?;
     let mut moment = 0;
     for place in 0..100u32 {
         moment = moment_after(moment, &mut dice);

@@ -1,13 +1,11 @@
 //! A network, and beside it the room in which its queries wait.
-use crate::made::Tree;
+use crate::question::{Question, ask_alike};
 use crate::room::{Ask, Room, Served};
-use dname::{Name, Starved};
-use exchange::{Bytes, Path};
-use rdata::RType;
+use dname::Starved;
+use exchange::Bytes;
 use script::world_in;
 use simnet::{Sent, Settings, Sim, SimAction, SimActions, SimEvent};
 use std::alloc::Global;
-use tally::query_bytes;
 use wire::Via;
 
 const SETTINGS: Settings = Settings {
@@ -19,7 +17,7 @@ const SETTINGS: Settings = Settings {
     seed: [7; 32],
 };
 
-/// What happens: a client asks for its name, the reply to a numbered ask comes whole, truncated or over TCP, the ask is
+/// What happens: a client asks its question, the reply to a numbered ask comes whole, truncated or over TCP, the ask is
 /// lost, or time passes.
 #[derive(Clone, Copy)]
 pub enum Order {
@@ -29,18 +27,6 @@ pub enum Order {
     Tcp(u64),
     Lose(u64),
     Tick,
-}
-
-impl Order {
-    // How long an ask is waited for that goes out by this path in this step, in milliseconds: twice as long where the
-    // one server of the zone was silent once.
-    fn wait(self, path: Path) -> u64 {
-        match (path, self) {
-            (Path::Tcp(_), _) => 3_000,
-            (Path::Udp(_), Order::Tick | Order::Lose(_)) => 2_000,
-            (Path::Udp(_), _) => 1_000,
-        }
-    }
 }
 
 /// How the resolver and the room agree on a step: not at all, or on whom it served, and whether another was due.
@@ -60,23 +46,20 @@ struct Done {
     more_due: bool,
 }
 
-/// A network of a tree's zones, in which each client asks for a name of its own, and the room beside it.
+/// A network of a world, what is asked in it, and the room beside it.
 #[derive(Drop)]
 pub struct Watched {
-    alloc: Global,
-    tree: Tree,
     sim: Sim,
+    questions: Vec<Question>,
     room: Room,
 }
 
 impl Watched {
-    pub fn new(alloc: Global, tree: Tree) -> Result<Watched, Starved> {
-        let mut text = String::new(alloc);
-        tree.put_world(&mut text)?;
+    /// A network of the world of this text, in which these are all questions.
+    pub fn new(alloc: Global, world: &str, questions: Vec<Question>) -> Result<Watched, Starved> {
         Ok(Watched {
-            alloc,
-            tree,
-            sim: network(alloc, text.as_str())?,
+            sim: network(alloc, world)?,
+            questions,
             room: Room::new(alloc),
         })
     }
@@ -98,7 +81,37 @@ impl Watched {
 
     // The ask of a number.
     fn ask(&self, number: u64) -> Option<Ask> {
-        ask_of(self.sim.sent(number)?)
+        let sent = self.sim.sent(number)?;
+        let bytes = sent.bytes.as_slice();
+        let question = self
+            .questions
+            .iter()
+            .find(|question| question.is_asked(bytes))?;
+        Some(Ask {
+            path: sent.path,
+            server: sent.to.address,
+            id: [*bytes.get(0)?, *bytes.get(1)?],
+            client: question.client,
+        })
+    }
+
+    // How long the newest ask is waited for, which goes out in this step, in milliseconds: twice as long where a server
+    // that was silent before is asked once more.
+    fn wait(&self, order: Order) -> u64 {
+        let newest = self.sim.asks();
+        match (self.sim.sent(newest), order) {
+            (Some(sent), _) if sent.path.via() == Via::Tcp => 3_000,
+            (Some(sent), Order::Tick | Order::Lose(_)) if self.was_asked(sent, newest) => 2_000,
+            _ => 1_000,
+        }
+    }
+
+    // Whether the same was asked of the same server before the ask of this number.
+    fn was_asked(&self, sent: &Sent, number: u64) -> bool {
+        (1..number).any(|earlier| match self.sim.sent(earlier) {
+            Some(before) => is_repeated(before, sent),
+            None => false,
+        })
     }
 
     // Whom the reply to the ask of a number serves, where the ask went this way.
@@ -130,12 +143,16 @@ impl Watched {
         }
     }
 
-    // The query of a client for its name.
+    // What a client asks.
     fn query(&self, client: u64) -> Result<Bytes, Starved> {
-        let mut text = String::new(self.alloc);
-        self.tree.put_name(&mut text, client)?;
-        let name = name(self.alloc, text.as_str())?;
-        Ok(query_bytes(self.alloc, client, name, RType::A, true)?)
+        match self
+            .questions
+            .iter()
+            .find(|question| question.client == client)
+        {
+            Some(question) => question.query(),
+            None => Err(Starved),
+        }
     }
 
     fn event(&self, moment: u64, order: Order) -> Result<SimEvent, Starved> {
@@ -181,10 +198,7 @@ impl Watched {
 
     // The room takes in what came of the step.
     fn settle(&mut self, served: Served, order: Order, done: Done) -> Result<(), Starved> {
-        let wait = match done.ask {
-            Some(ask) => order.wait(ask.path),
-            None => 0,
-        };
+        let wait = self.wait(order);
         self.room.settle(served, done.ask, wait)
     }
 
@@ -217,30 +231,6 @@ fn network(alloc: Global, text: &str) -> Result<Sim, Starved> {
     }
 }
 
-fn name(alloc: Global, text: &str) -> Result<Name, Starved> {
-    match Name::from_text(alloc, text) {
-        Ok(name) => Ok(name),
-        Err(_) => Err(Starved),
-    }
-}
-
-fn ask_of(sent: &Sent) -> Option<Ask> {
-    let bytes = sent.bytes.as_slice();
-    Some(Ask {
-        path: sent.path,
-        server: sent.to.address,
-        id: [*bytes.get(0)?, *bytes.get(1)?],
-        client: asked_client(bytes)?,
-    })
-}
-
-// The client whose number is the first label of a question's name, behind a header of 12 bytes.
-fn asked_client(bytes: &[u8]) -> Option<u64> {
-    let length = usize::from(*bytes.get(12)?);
-    let mut client = 0u64;
-    for digit in bytes.get(13..)?.get(..length)? {
-        let digit = u64::from(digit.wrapping_sub(b'0'));
-        client = client.wrapping_mul(10).wrapping_add(digit);
-    }
-    Some(client)
+fn is_repeated(before: &Sent, sent: &Sent) -> bool {
+    before.to == sent.to && ask_alike(before.bytes.as_slice(), sent.bytes.as_slice())
 }
