@@ -66,7 +66,7 @@ const TRUNCATED: Script = Script {
     waiting: 0,
 };
 
-// No address is known for the server of dark.example., which is silent, nor can it be looked up.
+// The one server of dark.example. is named in that zone itself, and comes without an address.
 const DARK: Script = Script {
     asked: &[(1, "www.dark.example.", A)],
     steps: &[
@@ -283,12 +283,13 @@ fn sixteen(alloc: Global) -> Result<String, AllocError> {
     Ok(world)
 }
 
-// Replies over UDP that come truncated and asks over TCP that are lost, by turns, up to the ask of this number: the
-// first of which something else comes than one query served.
+// The first client asks, and by turns replies over UDP come truncated and asks over TCP are lost, up to the ask of this
+// number: the first of which something else comes than one query served.
 fn cut_and_lost(watched: &mut Watched, last: u64) -> Result<Option<u64>, Starved> {
-    for number in 1..=last {
-        let order = match number % 2 {
-            1 => Truncate(number),
+    for number in 0..=last {
+        let order = match (number, number % 2) {
+            (0, _) => Client(1),
+            (_, 1) => Truncate(number),
             _ => Lose(number),
         };
         if watched.follow(0, order)? != One {
@@ -296,6 +297,20 @@ fn cut_and_lost(watched: &mut Watched, last: u64) -> Result<Option<u64>, Starved
         }
     }
     Ok(None)
+}
+
+// What comes of the asks up to this number, which are cut and lost, and of the steps behind them.
+fn cut_and_followed(
+    alloc: Global,
+    last: u64,
+    steps: &[Step],
+) -> Result<(Option<u64>, Option<usize>, u64, usize), Starved> {
+    let world = sixteen(alloc)?;
+    let questions = questions(alloc, &[(1, "x.", A), (2, "y.", A)])?;
+    let mut watched = Watched::new(alloc, world.as_str(), questions)?;
+    let cut = cut_and_lost(&mut watched, last)?;
+    let wrong = first_wrong(&mut watched, steps)?;
+    Ok((cut, wrong, watched.asks(), watched.waiting()))
 }
 
 // Behind 32 asks each server was silent once; those of the next client are silent too, each for the first time.
@@ -316,18 +331,16 @@ const SECOND_ROUND: &[Step] = &[
     (22_000, Tick, One),
 ];
 
+const NO_STEPS: &[Step] = &[];
+
 // Beside the steps: how many asks are cut and lost before them, how many went out, and how many queries wait.
 #[test]
 fn sixteen_servers_are_waited_for_in_two_rounds(rt: HostRuntime) -> Result<(), Fail> {
-    let world = sixteen(rt.alloc())?;
-    for (last, steps, asks, waiting) in [(40, &[] as &[Step], 40, 0), (32, SECOND_ROUND, 40, 1)] {
-        let asked = questions(rt.alloc(), &[(1, "x.", A), (2, "y.", A)])?;
-        let mut watched = Watched::new(rt.alloc(), world.as_str(), asked)?;
-        let first = watched.follow(0, Client(1))?;
-        let lost = cut_and_lost(&mut watched, last)?;
-        let wrong = first_wrong(&mut watched, steps)?;
-        let seen = (first, lost, wrong, watched.asks(), watched.waiting());
-        assert_eq!(rt; seen, (One, None, None, asks, waiting));
+    for (last, steps, asks, waiting) in [(40, NO_STEPS, 40, 0), (32, SECOND_ROUND, 40, 1)] {
+        assert_eq!(rt;
+            cut_and_followed(rt.alloc(), last, steps)?,
+            (None, None, asks, waiting)
+        );
     }
     Ok(())
 }

@@ -96,7 +96,8 @@ impl Watched {
     }
 
     // How long the newest ask is waited for, which goes out in this step, in milliseconds: twice as long where a server
-    // that was silent before is asked once more.
+    // that was silent before is asked once more. So a question that several queries ask is none of a zone with several
+    // servers.
     fn wait(&self, order: Order) -> u64 {
         let newest = self.sim.asks();
         match (self.sim.sent(newest), order) {
