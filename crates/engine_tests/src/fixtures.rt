@@ -3,6 +3,7 @@ use dname::{Heap, Starved};
 use engine_desk::{Ask, Desk, Out, bounded};
 use exchange::{Bytes, Event};
 use rdata::Addr;
+use refusing::Refusing;
 
 // The server of the root: 192.0.2.1.
 pub const ROOT: u8 = 1;
@@ -71,7 +72,7 @@ pub enum Act {
 }
 
 // A message from 192.0.2.`from` at the socket of the last ask and under its ID.
-pub fn reply<A: Heap>(
+fn reply<A: Heap>(
     desk: &Desk<A>,
     from: u8,
     rest: &[u8],
@@ -92,27 +93,117 @@ fn looks<A: Heap>(desk: &Desk<A>, rest: &[u8], lines: &[Line]) -> Out {
     }
 }
 
-pub fn perform<A: Heap>(desk: &mut Desk<A>, act: Act) -> Out {
+// What the resolver is told by an act. A look tells it nothing.
+fn event<A: Heap>(desk: &Desk<A>, act: Act) -> Result<Event<A>, Starved> {
     match act {
-        Act::Asks(moment, bytes) => {
-            let event = desk.query(3, moment, bytes);
-            desk.take(event)
-        }
-        Act::Told(from, rest, lines) => {
-            let event = reply(desk, from, rest, lines);
-            desk.take(event)
-        }
-        Act::Tick(moment) => desk.step(&Event::Tick { moment }),
-        Act::Looks(rest, lines) => looks(desk, rest, lines),
+        Act::Asks(moment, bytes) => desk.query(3, moment, bytes),
+        Act::Told(from, rest, lines) => reply(desk, from, rest, lines),
+        Act::Tick(moment) => Ok(Event::Tick { moment }),
+        Act::Looks(_, _) => Err(Starved),
     }
 }
 
-// Of a new resolver: the place of the first of these acts of which something else comes.
-pub fn first_wrong<A: Heap>(alloc: A, acts: &[(Act, Out)]) -> Result<Option<usize>, Starved> {
-    let mut desk = desk(alloc)?;
+fn perform<A: Heap>(desk: &mut Desk<A>, act: Act) -> Out {
+    if let Act::Looks(rest, lines) = act {
+        return looks(desk, rest, lines);
+    }
+    let event = event(desk, act);
+    desk.take(event)
+}
+
+// The place of the first of these acts of which something else comes.
+fn first_other<A: Heap>(desk: &mut Desk<A>, acts: &[(Act, Out)]) -> Option<usize> {
     for (place, (act, out)) in acts.iter().enumerate() {
-        if perform(&mut desk, *act) != *out {
-            return Ok(Some(place));
+        if perform(desk, *act) != *out {
+            return Some(place);
+        }
+    }
+    None
+}
+
+// Of these tales, each of a new resolver, the first in which something else comes, and the place of that act.
+pub fn first_wrong<A: Heap>(
+    alloc: A,
+    tales: &[&[(Act, Out)]],
+) -> Result<Option<(usize, usize)>, Starved> {
+    for (number, acts) in tales.iter().enumerate() {
+        let mut desk = desk(alloc)?;
+        if let Some(place) = first_other(&mut desk, *acts) {
+            return Ok(Some((number, place)));
+        }
+    }
+    Ok(None)
+}
+
+// At a new resolver these acts happen, and then a last one, whose step takes more than four growths or none. Where one
+// of them is refused nothing goes out, and then something else happens.
+#[derive(Clone, Copy)]
+pub struct Starving {
+    pub acts: &'static [(Act, Out)],
+    pub last: (Act, Out),
+    pub takes_memory: bool,
+    pub after: &'static [(Act, Out)],
+}
+
+impl Starving {
+    // The desk before the last act. What comes of the acts before it is seen by other rows.
+    fn begin<A: Heap>(self, alloc: A) -> Result<Desk<A>, Starved> {
+        let mut desk = desk(alloc)?;
+        for (act, _) in self.acts {
+            perform(&mut desk, *act);
+        }
+        Ok(desk)
+    }
+
+    // How many growths the last step takes, where none is refused and what was worked comes of it.
+    fn growths<A: Heap>(self, alloc: A) -> Result<Option<u64>, Starved> {
+        let heap = Refusing::new(alloc);
+        let mut desk = self.begin(&heap)?;
+        let event = event(&desk, self.last.0);
+        let before = heap.growths();
+        let out = desk.take(event);
+        let growths = heap.growths().saturating_sub(before);
+        Ok(if out == self.last.1 {
+            Some(growths)
+        } else {
+            None
+        })
+    }
+
+    // Whether all comes as it has to where that growth is refused.
+    fn goes_without<A: Heap>(self, alloc: A, growth: u64) -> Result<bool, Starved> {
+        let heap = Refusing::new(alloc);
+        let mut desk = self.begin(&heap)?;
+        let event = event(&desk, self.last.0);
+        heap.refuse_after(growth);
+        let out = desk.take(event);
+        let other = first_other(&mut desk, self.after);
+        Ok(out == Out::Starved && other.is_none())
+    }
+
+    // Whether it does for each growth.
+    fn goes<A: Heap>(self, alloc: A) -> Result<bool, Starved> {
+        let Some(growths) = self.growths(alloc)? else {
+            return Ok(false);
+        };
+        for growth in 0..growths {
+            if !self.goes_without(alloc, growth)? {
+                return Ok(false);
+            }
+        }
+        Ok(if self.takes_memory {
+            growths > 4
+        } else {
+            growths == 0
+        })
+    }
+}
+
+// The first of these that does not go so.
+pub fn first_not_starving<A: Heap>(alloc: A, rows: &[Starving]) -> Result<Option<usize>, Starved> {
+    for (number, row) in rows.iter().enumerate() {
+        if !row.goes(alloc)? {
+            return Ok(Some(number));
         }
     }
     Ok(None)
