@@ -2,6 +2,8 @@
 #![tactic(auto)]
 
 #[cfg(test)]
+mod done;
+#[cfg(test)]
 mod nowhere;
 #[cfg(test)]
 mod serve_tests;

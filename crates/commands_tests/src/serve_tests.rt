@@ -1,9 +1,9 @@
 //! The start of a server, from texts in memory and without sockets.
+use crate::done::{Done, ROOMY, perform};
 use commandline::Command;
-use commands::{Host, Outcome, Server, Texts, run_command};
+use commands::{Host, Server, Texts};
 use dname::{Heap, Starved};
 use exchange::{Action, Bytes, Endpoint, Event};
-use pages::{Page, WIDE};
 use std::alloc::{AllocError, Global};
 use std::sync::Wait;
 use std::test::Fail;
@@ -44,47 +44,41 @@ impl Host for Place {
 }
 
 // What comes of `serve conf` there.
-fn outcome<R: Threads + Wait + AllocGlobal + Sync>(
+fn serve<R: Threads + Wait + AllocGlobal + Sync>(
     rt: &R,
     text: &'static str,
     place: Place,
-    out: &mut Page,
-    err: &mut Page,
-) -> Result<Outcome, AllocError> {
-    let alloc = rt.alloc();
-    let config = String::from_str(alloc, "conf")?;
+) -> Result<Done<Global>, AllocError> {
+    let config = String::from_str(rt.alloc(), "conf")?;
     let mut source = Folder(text);
     let mut host = place;
     let command = Command::Serve { config };
-    Ok(run_command(rt, alloc, &command, &mut source, &mut host, out, err))
+    Ok(perform(rt, rt.alloc(), &command, &mut source, &mut host, ROOMY))
 }
 
-// The server of a start that prints this and ends with status 0.
-fn started<R: Threads + Wait + AllocGlobal + Sync>(
-    rt: &R,
-    text: &'static str,
-    place: Place,
-    want: &str,
-) -> Result<Option<Server>, AllocError> {
-    let mut out = Page::new(rt.alloc(), WIDE);
-    let mut err = Page::new(rt.alloc(), WIDE);
-    let done = outcome(rt, text, place, &mut out, &mut err)?;
-    let is_well = done.status == 0 && out.holds(want) && err.holds("");
-    Ok(if is_well { done.server } else { None })
-}
+// A server's file and a place, and the status of a start there, what it prints, and the line of its fault. There is a
+// server only where the status is 0.
+type Start = (&'static str, Place, u8, &'static str, &'static str);
 
-// Whether a start ends with this status and this line of a fault, and no server.
-fn is_refused<R: Threads + Wait + AllocGlobal + Sync>(
+fn goes<R: Threads + Wait + AllocGlobal + Sync>(
     rt: &R,
-    text: &'static str,
-    place: Place,
-    status: u8,
-    fault: &str,
+    (text, place, status, printed, fault): Start,
 ) -> Result<bool, AllocError> {
-    let mut out = Page::new(rt.alloc(), WIDE);
-    let mut err = Page::new(rt.alloc(), WIDE);
-    let done = outcome(rt, text, place, &mut out, &mut err)?;
-    Ok(done.status == status && done.server.is_none() && out.holds("") && err.holds(fault))
+    let done = serve(rt, text, place)?;
+    Ok(done.is(status, printed, fault) && done.server.is_some() == (status == 0))
+}
+
+// The place of the first of these that goes otherwise.
+fn first_wrong<R: Threads + Wait + AllocGlobal + Sync>(
+    rt: &R,
+    starts: &[Start],
+) -> Result<Option<usize>, AllocError> {
+    for (place, start) in starts.iter().enumerate() {
+        if !goes(rt, *start)? {
+            return Ok(Some(place));
+        }
+    }
+    Ok(None)
 }
 
 const FREE: Place = Place {
@@ -95,6 +89,11 @@ const FREE: Place = Place {
 const BUSY: Place = Place {
     port: None,
     seed: Some([7; 32]),
+};
+
+const WITHOUT_SEED: Place = Place {
+    port: Some(4242),
+    seed: None,
 };
 
 // ID 4660, one question: db.corp.example. A IN (RFC 1035, section 4.1).
@@ -122,60 +121,68 @@ fn reply_of(alloc: Global, server: Server) -> Result<Option<Vec<u8>>, Fail> {
     }
 }
 
+// What a server that listens there replies to the first client.
+fn served<R: Threads + Wait + AllocGlobal + Sync>(rt: &R) -> Result<Option<Vec<u8>>, Fail> {
+    let text = "listen 127.0.0.1 0\nlocal corp.example. corp.zone\n";
+    let done = serve(rt, text, FREE)?;
+    let is_well = done.is(0, "listening 127.0.0.1 4242\n", "");
+    match done.server {
+        Some(server) if is_well => reply_of(rt.alloc(), server),
+        _ => Ok(None),
+    }
+}
+
 #[test]
 fn a_server_says_where_it_listens_and_answers(rt: HostRuntime) -> Result<(), Fail> {
-    let alloc = rt.alloc();
     assert_eq!(rt; (QUERY.len(), REPLY.len()), (33, 49));
-    let text = "listen 127.0.0.1 0\nlocal corp.example. corp.zone\n";
-    let server = started(&rt, text, FREE, "listening 127.0.0.1 4242\n")?.ok_or("no server")?;
-    let reply = reply_of(alloc, server)?.ok_or("no reply")?;
+    let reply = served(&rt)?.ok_or("no reply")?;
     assert!(rt; reply.as_slice() == REPLY);
     Ok(())
 }
 
-#[test]
-fn a_start_that_fails_says_why(rt: HostRuntime) -> Result<(), Fail> {
-    for (text, status, fault) in [
-        (
-            "listen 127.0.0.1 0\nport 0\n",
-            1,
-            "error: conf:2: script 2\n",
-        ),
-        ("port 53\n", 1, "error: conf:2: script 5\n"),
-        (
-            "listen 127.0.0.1 0\nlocal corp.example. other.zone\n",
-            4,
-            "error: other.zone: unreadable\n",
-        ),
-        (
-            "listen 127.0.0.1 0\nlocal corp.example. conf\n",
-            1,
-            "error: conf:1: file 1\n",
-        ),
-        ("listen 127.0.0.1 0\n", 4, "error: socket\n"),
-    ] {
-        assert!(rt; is_refused(&rt, text, BUSY, status, fault)?, "{fault}");
-    }
-    Ok(())
-}
+const STARTS: &[Start] = &[
+    (
+        "listen 127.0.0.1 0\nport 0\n",
+        BUSY,
+        1,
+        "",
+        "error: conf:2: script 2\n",
+    ),
+    ("port 53\n", BUSY, 1, "", "error: conf:2: script 5\n"),
+    (
+        "listen 127.0.0.1 0\nlocal corp.example. other.zone\n",
+        BUSY,
+        4,
+        "",
+        "error: other.zone: unreadable\n",
+    ),
+    (
+        "listen 127.0.0.1 0\nlocal corp.example. conf\n",
+        BUSY,
+        1,
+        "",
+        "error: conf:1: file 1\n",
+    ),
+    ("listen 127.0.0.1 0\n", BUSY, 4, "", "error: socket\n"),
+    // Random bytes may be wanting, and are not needed where the file has them.
+    (
+        "listen 127.0.0.1 0\n",
+        WITHOUT_SEED,
+        4,
+        "",
+        "error: /dev/urandom: unreadable\n",
+    ),
+    (
+        "listen 127.0.0.1 0\nseed 0707070707070707070707070707070707070707070707070707070707070707\n",
+        WITHOUT_SEED,
+        0,
+        "listening 127.0.0.1 4242\n",
+        "",
+    ),
+];
 
 #[test]
-fn random_bytes_may_be_wanting(rt: HostRuntime) -> Result<(), Fail> {
-    let place = Place {
-        port: Some(4242),
-        seed: None,
-    };
-    let text = "listen 127.0.0.1 0\n";
-    let fault = "error: /dev/urandom: unreadable\n";
-    assert!(rt; is_refused(&rt, text, place, 4, fault)?);
-    assert!(rt;
-        started(
-            &rt,
-            "listen 127.0.0.1 0\nseed 0707070707070707070707070707070707070707070707070707070707070707\n",
-            place,
-            "listening 127.0.0.1 4242\n"
-        )?
-        .is_some()
-    );
+fn a_start_says_why_it_fails(rt: HostRuntime) -> Result<(), Fail> {
+    assert_eq!(rt; first_wrong(&rt, STARTS)?, None);
     Ok(())
 }

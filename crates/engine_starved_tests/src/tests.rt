@@ -8,7 +8,7 @@ use std::test::Fail;
 
 // What comes for client 3, who asks for www.example. A at 0: its query itself (at that event's own moment), the reply
 // to its ask by either way, the failure of its ask over TCP, and the end of its wait.
-#[derive(Clone, Copy, PartialEq, Eq)]
+#[derive(Clone, Copy)]
 enum Kind {
     Query,
     Told,
@@ -35,6 +35,43 @@ const OTHERS_FOUND: &[u8] =
 const OTHERS_REPLY: &[u8] =
     b"\0\x06\x81\x80\0\x01\0\x01\0\0\0\0\x04mail\x07example\0\0\x01\0\x01\xc0\x0c\0\x01\0\x01\0\0\0\x3c\0\x04\xc0\0\x02\x08";
 
+// What happens after the event for client 3.
+#[derive(Clone, Copy)]
+enum Act {
+    // A late reply comes to the client's ask.
+    Late,
+    // One comes to the ask that would have gone out by the event.
+    LateForNext,
+    // The reply to client 4's ask comes.
+    Other,
+    // Time has come to that moment.
+    Tick(u64),
+}
+
+// Each after an event at that moment.
+const SEQUELS: &[(u64, &[(Act, Out)])] = &[
+    (
+        1_000,
+        &[
+            (Act::Late, Out::Nothing),
+            (Act::LateForNext, Out::Nothing),
+            (Act::Other, Out::Replied),
+        ],
+    ),
+    // Client 4's ask went at 500, and waits for 1,000 milliseconds, then for 2,000.
+    (
+        1_000,
+        &[
+            (Act::Tick(1_499), Out::Nothing),
+            (Act::Tick(1_500), Out::Asked(1)),
+            (Act::Tick(3_499), Out::Nothing),
+            (Act::Tick(3_500), Out::Failed(5)),
+        ],
+    ),
+    // The event came as that wait was over: an earlier moment counts as the event's.
+    (1_500, &[(Act::Tick(0), Out::Asked(1))]),
+];
+
 // Two clients wait at the desk, by these asks.
 #[derive(Drop)]
 struct Scene<A: Heap> {
@@ -54,7 +91,7 @@ fn is_over_tcp(kind: Kind) -> bool {
 
 // Client 3 asks, and over TCP where it is to be so.
 fn begin<A: Heap>(desk: &mut Desk<A>, kind: Kind) -> Ask {
-    if kind == Kind::Query {
+    if matches!(kind, Kind::Query) {
         return desk.ask();
     }
     let query = desk.query(3, 0, QUERY);
@@ -70,9 +107,6 @@ fn begin<A: Heap>(desk: &mut Desk<A>, kind: Kind) -> Ask {
 fn set_scene<A: Heap>(alloc: A, kind: Kind) -> Result<Scene<A>, Starved> {
     let mut desk = Desk::new(alloc, Addr([192, 0, 2, 1]))?;
     let mine = begin(&mut desk, kind);
-    if matches!(mine.path, Path::Tcp(_)) != is_over_tcp(kind) {
-        return Err(Starved);
-    }
     let query = desk.query(4, 500, OTHERS);
     desk.take(query);
     let others = desk.ask();
@@ -80,6 +114,11 @@ fn set_scene<A: Heap>(alloc: A, kind: Kind) -> Result<Scene<A>, Starved> {
 }
 
 impl<A: Heap> Scene<A> {
+    // Whether client 3's ask went the way that it had to.
+    fn is_set(&self, kind: Kind) -> bool {
+        matches!(self.mine.path, Path::Tcp(_)) == is_over_tcp(kind)
+    }
+
     // The event for client 3 at that moment.
     fn event(&self, kind: Kind, moment: u64) -> Result<Event<A>, Starved> {
         match kind {
@@ -87,12 +126,6 @@ impl<A: Heap> Scene<A> {
             Kind::Told | Kind::ToldOverTcp => told(self.desk.heap(), self.mine, moment, FOUND),
             Kind::LostOverTcp | Kind::Late => Ok(self.mine.lost(moment)),
         }
-    }
-
-    // A late reply to client 3's ask.
-    fn late(&mut self, ask: Ask) -> Out {
-        let event = told(self.desk.heap(), ask, 1_000, FOUND);
-        self.desk.take(event)
     }
 
     // The reply to client 4's ask, where the client is sent it whole.
@@ -106,135 +139,96 @@ impl<A: Heap> Scene<A> {
         }
     }
 
-    fn tick(&mut self, moment: u64) -> Out {
-        self.desk.step(&Event::Tick { moment })
+    // What comes of an act. `next` is the ask that goes out by the event where memory is not refused.
+    fn perform(&mut self, act: Act, next: Ask) -> Out {
+        let event = match act {
+            Act::Other => return self.other(),
+            Act::Tick(moment) => Ok(Event::Tick { moment }),
+            Act::Late => told(self.desk.heap(), self.mine, 1_000, FOUND),
+            Act::LateForNext => told(self.desk.heap(), next, 1_000, FOUND),
+        };
+        self.desk.take(event)
     }
 }
 
-// How many growths the step takes, and the ask that goes out by it if none is refused.
+// How many growths the step takes, and the ask that goes out by it if none is refused. None count where client 3's ask
+// went another way.
 fn growths<A: Heap>(alloc: A, kind: Kind) -> Result<(u64, Ask), Starved> {
     let heap = Refusing::new(alloc);
     let mut scene = set_scene(&heap, kind)?;
-    let event = scene.event(kind, 1_000)?;
+    let is_set = scene.is_set(kind);
+    let event = scene.event(kind, 1_000);
     let before = heap.growths();
-    scene.desk.step(&event);
+    scene.desk.take(event);
     let growths = heap.growths().saturating_sub(before);
-    Ok((growths, scene.desk.ask()))
+    Ok((if is_set { growths } else { 0 }, scene.desk.ask()))
 }
 
-// The step at that moment, one of its growths being refused.
-fn starve<A: Heap>(
-    heap: &Refusing<A>,
-    kind: Kind,
-    moment: u64,
-    growth: u64,
-) -> Result<(Scene<&Refusing<A>>, Out), Starved> {
-    let mut scene = set_scene(heap, kind)?;
-    let event = scene.event(kind, moment)?;
-    heap.refuse_after(growth);
-    let out = scene.desk.step(&event);
-    Ok((scene, out))
-}
-
-// What late replies to client 3's asks bring then, and the reply to client 4's.
-fn outs_of_replies<A: Heap>(
+// Whether all comes as it has to after a step at the moment, one of whose growths is refused.
+fn goes<A: Heap>(
     alloc: A,
     kind: Kind,
     growth: u64,
     next: Ask,
-) -> Result<[Out; 4], Starved> {
+    (moment, acts): (u64, &[(Act, Out)]),
+) -> Result<bool, Starved> {
     let heap = Refusing::new(alloc);
-    let (mut scene, out) = starve(&heap, kind, 1_000, growth)?;
-    let mine = scene.mine;
-    Ok([out, scene.late(mine), scene.late(next), scene.other()])
-}
-
-// What time brings then: client 4's ask went at 500, and waits for 1,000 milliseconds, then for 2,000.
-fn outs_of_time<A: Heap>(alloc: A, kind: Kind, growth: u64) -> Result<[Out; 5], Starved> {
-    let heap = Refusing::new(alloc);
-    let (mut scene, out) = starve(&heap, kind, 1_000, growth)?;
-    Ok([
-        out,
-        scene.tick(1_499),
-        scene.tick(1_500),
-        scene.tick(3_499),
-        scene.tick(3_500),
-    ])
-}
-
-// What an earlier moment brings where the event came as client 4's wait was over.
-fn outs_of_clock<A: Heap>(alloc: A, kind: Kind, growth: u64) -> Result<[Out; 2], Starved> {
-    let heap = Refusing::new(alloc);
-    let (mut scene, out) = starve(&heap, kind, 1_500, growth)?;
-    Ok([out, scene.tick(0)])
+    let mut scene = set_scene(&heap, kind)?;
+    let event = scene.event(kind, moment);
+    heap.refuse_after(growth);
+    let mut goes = scene.desk.take(event) == Out::Starved;
+    for (act, out) in acts {
+        goes &= scene.perform(*act, next) == *out;
+    }
+    Ok(goes)
 }
 
 // Client 3's query is gone; client 4's ask stands, and is due when it was; the clock is at the event's moment.
 fn leaves_the_rest<A: Heap>(alloc: A, kind: Kind, growth: u64, next: Ask) -> Result<bool, Starved> {
-    let replies = outs_of_replies(alloc, kind, growth, next)?;
-    let time = outs_of_time(alloc, kind, growth)?;
-    let clock = outs_of_clock(alloc, kind, growth)?;
-    Ok(
-        replies == [Out::Starved, Out::Nothing, Out::Nothing, Out::Replied]
-            && time
-                == [
-                    Out::Starved,
-                    Out::Nothing,
-                    Out::Asked(1),
-                    Out::Nothing,
-                    Out::Failed(5),
-                ]
-            && clock == [Out::Starved, Out::Asked(1)],
-    )
-}
-
-// How many growths the step takes, and the first one that leaves something else when it is refused.
-fn first_wrong<A: Heap>(alloc: A, kind: Kind) -> Result<(u64, Option<u64>), Starved> {
-    let (growths, next) = growths(alloc, kind)?;
-    for growth in 0..growths {
-        if !leaves_the_rest(alloc, kind, growth, next)? {
-            return Ok((growths, Some(growth)));
+    for sequel in SEQUELS {
+        if !goes(alloc, kind, growth, next, *sequel)? {
+            return Ok(false);
         }
     }
-    Ok((growths, None))
+    Ok(true)
 }
 
-#[test]
-fn a_query_that_wants_memory_leaves_the_rest(rt: HostRuntime) -> Result<(), Fail> {
-    let (growths, wrong) = first_wrong(rt.alloc(), Kind::Query)?;
-    assert!(rt; growths > 4);
-    assert_eq!(rt; wrong, None);
-    Ok(())
+// The first growth that leaves something else when it is refused. A step of no more than so many growths shows too
+// little, and counts as wrong at the last of them.
+fn wrong_growth<A: Heap>(alloc: A, kind: Kind, least: u64) -> Result<Option<u64>, Starved> {
+    let (growths, next) = growths(alloc, kind)?;
+    if growths <= least {
+        return Ok(Some(growths));
+    }
+    for growth in 0..growths {
+        if !leaves_the_rest(alloc, kind, growth, next)? {
+            return Ok(Some(growth));
+        }
+    }
+    Ok(None)
 }
 
-#[test]
-fn a_datagram_that_wants_memory_leaves_the_rest(rt: HostRuntime) -> Result<(), Fail> {
-    let (growths, wrong) = first_wrong(rt.alloc(), Kind::Told)?;
-    assert!(rt; growths > 4);
-    assert_eq!(rt; wrong, None);
-    Ok(())
+// The place of the first of these events that goes wrong, and the growth.
+fn first_wrong<A: Heap>(alloc: A, kinds: &[(Kind, u64)]) -> Result<Option<(usize, u64)>, Starved> {
+    for (place, (kind, least)) in kinds.iter().enumerate() {
+        if let Some(growth) = wrong_growth(alloc, *kind, *least)? {
+            return Ok(Some((place, growth)));
+        }
+    }
+    Ok(None)
 }
 
-#[test]
-fn a_reply_over_tcp_that_wants_memory_leaves_the_rest(rt: HostRuntime) -> Result<(), Fail> {
-    let (growths, wrong) = first_wrong(rt.alloc(), Kind::ToldOverTcp)?;
-    assert!(rt; growths > 4);
-    assert_eq!(rt; wrong, None);
-    Ok(())
-}
+// Beside each event, how many growths its step takes more than.
+const KINDS: &[(Kind, u64)] = &[
+    (Kind::Query, 4),
+    (Kind::Told, 4),
+    (Kind::ToldOverTcp, 4),
+    (Kind::LostOverTcp, 1),
+    (Kind::Late, 1),
+];
 
 #[test]
-fn a_failure_over_tcp_that_wants_memory_leaves_the_rest(rt: HostRuntime) -> Result<(), Fail> {
-    let (growths, wrong) = first_wrong(rt.alloc(), Kind::LostOverTcp)?;
-    assert!(rt; growths > 1);
-    assert_eq!(rt; wrong, None);
-    Ok(())
-}
-
-#[test]
-fn a_wait_whose_end_wants_memory_leaves_the_rest(rt: HostRuntime) -> Result<(), Fail> {
-    let (growths, wrong) = first_wrong(rt.alloc(), Kind::Late)?;
-    assert!(rt; growths > 1);
-    assert_eq!(rt; wrong, None);
+fn an_event_that_wants_memory_leaves_the_rest(rt: HostRuntime) -> Result<(), Fail> {
+    assert_eq!(rt; first_wrong(rt.alloc(), KINDS)?, None);
     Ok(())
 }

@@ -2,6 +2,8 @@
 #![tactic(auto)]
 
 #[cfg(test)]
+mod done;
+#[cfg(test)]
 mod growths;
 #[cfg(test)]
 mod nowhere;

@@ -1,15 +1,24 @@
 //! Storms in worlds in memory.
 
-use crate::nowhere::Nowhere;
-use crate::plays::{Held, NESTED, SMALL};
+use crate::done::{Ending, Held, perform};
+use crate::plays::{NESTED, SMALL};
 use commandline::Command;
-use commands::run_command;
-use pages::{Page, WIDE};
 use std::alloc::{AllocError, Global};
-use std::process::Abort;
 use std::sync::Wait;
 use std::test::Fail;
 use std::thread::Threads;
+
+// So many workers ask in a world, each by a script of the same lines so many times; how many events are kept, and how
+// the storm ends.
+#[derive(Clone, Copy)]
+struct Storm {
+    world: &'static str,
+    lines: &'static str,
+    times: u32,
+    keep: u32,
+    workers: u32,
+    ending: Ending<'static>,
+}
 
 // `storm` with so many workers, each by the same script.
 fn storm_line(alloc: Global, keep: u32, workers: u32) -> Result<Command, AllocError> {
@@ -33,116 +42,99 @@ fn repeated(alloc: Global, lines: &str, count: u32) -> Result<String, AllocError
     Ok(text)
 }
 
-// What a storm must print and end with.
-fn see<R: Abort + Threads + Wait + AllocGlobal + Sync>(
+impl Storm {
+    // Whether it ends so.
+    fn ends<R: Threads + Wait + AllocGlobal + Sync>(self, rt: &R) -> Result<bool, AllocError> {
+        let script = repeated(rt.alloc(), self.lines, self.times)?;
+        let command = storm_line(rt.alloc(), self.keep, self.workers)?;
+        let held = Held {
+            world: self.world,
+            script: script.as_str(),
+        };
+        Ok(perform(rt, rt.alloc(), &command, held).is(self.ending))
+    }
+}
+
+// Fifty queries a worker.
+const FIFTY: Storm = Storm {
+    world: SMALL,
+    lines: "ask www.lab.example. A\n",
+    times: 50,
+    keep: 65_536,
+    workers: 4,
+    ending: (0, "replies 200\nhistory ok\nright 200\n", ""),
+};
+
+// Ten queries, whatever has to be asked for them, five times: an alias, a name and a type that do not stand, servers
+// whose address is looked up, a local zone and one beneath it.
+const MIXED: Storm = Storm {
+    world: NESTED,
+    lines: "ask www.lab.example. A\nask www.out.example. A\nask www.sub.corp.example. A\nask old.example. A\nask app.example. A\nask gone.example. A\nask www.lab.example. TXT\nask db.corp.example. A\nask www.out.example. A tcp\nask ns.example. A\n",
+    times: 5,
+    keep: 65_536,
+    workers: 1,
+    ending: (0, "replies 50\nhistory ok\nright 50\n", ""),
+};
+
+// A query without recursion is a reply that does not count.
+const LOCAL: Storm = Storm {
+    world: SMALL,
+    lines: "at 5\nask db.corp.example. A\nask db.corp.example. A norec\n",
+    times: 1,
+    keep: 65_536,
+    workers: 1,
+    ending: (0, "replies 2\nhistory ok\nright 1\n", ""),
+};
+
+const STORMS: &[Storm] = &[
+    FIFTY,
+    // A longer history is refused.
+    Storm {
+        keep: 1,
+        ending: (1, "", "error: pool 2\n"),
+        ..FIFTY
+    },
+    MIXED,
+    Storm {
+        workers: 2,
+        ending: (0, "replies 100\nhistory ok\nright 100\n", ""),
+        ..MIXED
+    },
+    Storm {
+        workers: 8,
+        ending: (0, "replies 400\nhistory ok\nright 400\n", ""),
+        ..MIXED
+    },
+    Storm {
+        workers: 16,
+        ending: (0, "replies 800\nhistory ok\nright 800\n", ""),
+        ..MIXED
+    },
+    LOCAL,
+    // A script may only ask.
+    Storm {
+        lines: "at 5\nask db.corp.example. A\nrun\n",
+        workers: 2,
+        ending: (1, "", "error: SCRIPT:3: script 1\n"),
+        ..LOCAL
+    },
+];
+
+// The place of the first of these that ends otherwise.
+fn first_wrong<R: Threads + Wait + AllocGlobal + Sync>(
     rt: &R,
-    held: Held<'_>,
-    command: &Command,
-    want: (u8, &str, &str),
-) {
-    let mut source = held;
-    let mut out = Page::new(rt.alloc(), WIDE);
-    let mut err = Page::new(rt.alloc(), WIDE);
-    let done = run_command(
-        rt,
-        rt.alloc(),
-        command,
-        &mut source,
-        &mut Nowhere,
-        &mut out,
-        &mut err,
-    );
-    let (code, printed, fault) = want;
-    assert!(rt; out.holds(printed), "printed other than {printed}");
-    assert!(rt; err.holds(fault), "no fault {fault}");
-    assert_eq!(rt; done.status, code);
+    storms: &[Storm],
+) -> Result<Option<usize>, AllocError> {
+    for (place, storm) in storms.iter().enumerate() {
+        if !storm.ends(rt)? {
+            return Ok(Some(place));
+        }
+    }
+    Ok(None)
 }
 
 #[test]
-fn four_workers_of_fifty_queries(rt: HostRuntime) -> Result<(), Fail> {
-    let script = repeated(rt.alloc(), "ask www.lab.example. A\n", 50)?;
-    let held = Held {
-        world: SMALL,
-        script: script.as_str(),
-    };
-    let command = storm_line(rt.alloc(), 65_536, 4)?;
-    let want = (0, "replies 200\nhistory ok\nright 200\n", "");
-    see(&rt, held, &command, want);
-    Ok(())
-}
-
-#[test]
-fn a_longer_history_is_refused(rt: HostRuntime) -> Result<(), Fail> {
-    let script = repeated(rt.alloc(), "ask www.lab.example. A\n", 50)?;
-    let held = Held {
-        world: SMALL,
-        script: script.as_str(),
-    };
-    let command = storm_line(rt.alloc(), 1, 4)?;
-    see(&rt, held, &command, (1, "", "error: pool 2\n"));
-    Ok(())
-}
-
-// Ten queries, whatever has to be asked for them: an alias, a name and a type that do not stand, servers whose address is
-// looked up, a local zone and one beneath it.
-static MIXED: &str =
-    "ask www.lab.example. A\nask www.out.example. A\nask www.sub.corp.example. A\nask old.example. A\nask app.example. A\nask gone.example. A\nask www.lab.example. TXT\nask db.corp.example. A\nask www.out.example. A tcp\nask ns.example. A\n";
-
-// So many workers ask each of them five times.
-fn mixed<R: Abort + Threads + Wait + AllocGlobal + Sync>(
-    rt: &R,
-    workers: u32,
-    want: &str,
-) -> Result<(), Fail> {
-    let script = repeated(rt.alloc(), MIXED, 5)?;
-    let held = Held {
-        world: NESTED,
-        script: script.as_str(),
-    };
-    let command = storm_line(rt.alloc(), 65_536, workers)?;
-    see(rt, held, &command, (0, want, ""));
-    Ok(())
-}
-
-#[test]
-fn one_worker(rt: HostRuntime) -> Result<(), Fail> {
-    mixed(&rt, 1, "replies 50\nhistory ok\nright 50\n")
-}
-
-#[test]
-fn two_workers(rt: HostRuntime) -> Result<(), Fail> {
-    mixed(&rt, 2, "replies 100\nhistory ok\nright 100\n")
-}
-
-#[test]
-fn eight_workers(rt: HostRuntime) -> Result<(), Fail> {
-    mixed(&rt, 8, "replies 400\nhistory ok\nright 400\n")
-}
-
-#[test]
-fn sixteen_workers(rt: HostRuntime) -> Result<(), Fail> {
-    mixed(&rt, 16, "replies 800\nhistory ok\nright 800\n")
-}
-
-#[test]
-fn a_query_without_recursion_is_a_reply_that_does_not_count(rt: HostRuntime) -> Result<(), Fail> {
-    let held = Held {
-        world: SMALL,
-        script: "at 5\nask db.corp.example. A\nask db.corp.example. A norec\n",
-    };
-    let command = storm_line(rt.alloc(), 65_536, 1)?;
-    let want = (0, "replies 2\nhistory ok\nright 1\n", "");
-    see(&rt, held, &command, want);
-    Ok(())
-}
-
-#[test]
-fn a_script_may_only_ask(rt: HostRuntime) -> Result<(), Fail> {
-    let held = Held {
-        world: SMALL,
-        script: "at 5\nask db.corp.example. A\nrun\n",
-    };
-    let command = storm_line(rt.alloc(), 65_536, 2)?;
-    see(&rt, held, &command, (1, "", "error: SCRIPT:3: script 1\n"));
+fn storms_end_as_was_worked(rt: HostRuntime) -> Result<(), Fail> {
+    assert_eq!(rt; first_wrong(&rt, STORMS)?, None);
     Ok(())
 }
