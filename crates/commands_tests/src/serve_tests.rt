@@ -126,7 +126,8 @@ fn served<R: Threads + Wait + AllocGlobal + Sync>(rt: &R) -> Result<Option<Vec<u
     let text = "listen 127.0.0.1 0\nlocal corp.example. corp.zone\n";
     let done = serve(rt, text, FREE)?;
     let is_well = done.is(0, "listening 127.0.0.1 4242\n", "");
-    match done.server {
+    let Done { server, .. } = done;
+    match server {
         Some(server) if is_well => reply_of(rt.alloc(), server),
         _ => Ok(None),
     }
