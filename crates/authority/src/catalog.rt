@@ -1,10 +1,10 @@
 //! The local zones, and the look-up in the one with the longest origin over a name.
-ghost use Rattle.std.specs.Prelude.{◌≡◌, ◌≤◌, ◌+◌, length, IfOk, MatchResult, false};
+ghost use Rattle.std.specs.Prelude.{◌≡◌, ◌≤◌, ◌+◌, length, Some, IfOk, MatchResult, false};
 ghost use Rattle.std.specs.Option.{option_copied};
 ghost use Rattle.rdata.specs.Types.{type_number};
 ghost use Rattle.authority.specs.Answers.{local_view};
 ghost use Rattle.authority.specs.Catalogs.{zone_over, looked, among, chosen, has_twins, AreZones, IsLooked};
-ghost use Rattle.authority.specs.CatalogFaults.{catalog_fault_number, CatalogRefuses};
+ghost use Rattle.authority.specs.CatalogFaults.{catalog_fault_number, catalog_fault_text, CatalogRefuses};
 ghost use Rattle.authority.specs.Origins.{ArePlaces};
 
 use crate::answer::Local;
@@ -39,11 +39,13 @@ impl CatalogError {
 }
 
 impl fmt::Display for CatalogError {
+    ghost output = { λ e. Some (catalog_fault_text e) };
+
     fn fmt<W: fmt::Write>(&self, f: &mut fmt::Formatter<W>) -> fmt::Result {
-        match self {
-            CatalogError::Twins => write!(f, "two zones have one origin"),
-            CatalogError::Memory => write!(f, "out of memory"),
-        }
+        f.write_str(match self {
+            CatalogError::Twins => "two zones have one origin",
+            CatalogError::Memory => "out of memory",
+        })
     }
 }
 

@@ -82,7 +82,7 @@ fn without_owner<A: Heap>(
 fn with_owner<A: Heap>(alloc: A, name: &Name<A>, all: &[Unowned<A>]) -> Result<Records<A>, Starved>
     ensures { IfOk result (λ rs. rs ≡ map (owned name.now) all.now) }
 {
-    let mut records = Records::new(alloc);
+    let mut records = Records::with_capacity(alloc, all.len())?;
     for source in all {
         records.push(source.owned(name)?)?;
     }

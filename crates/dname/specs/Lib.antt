@@ -6,6 +6,7 @@ pub mod Wire
 pub mod Order
 pub mod Stars
 pub mod Draft
+pub mod Overflows
 -- Kept: what the code's own values keep.
 pub mod Laws
 pub mod Tokens

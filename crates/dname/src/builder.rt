@@ -1,11 +1,13 @@
 //! A name that is written label by label, within its bounds (RFC 1035, section 2.3.4).
-ghost use Rattle.std.specs.Prelude.{◌≡◌, ◌+◌, ◌≤◌, ◌<◌, List, [], ◌∷◌, ◌++◌, length, Ok, IfOk, OnOk, OnErr, MatchResult};
+ghost use Rattle.std.specs.Prelude.{◌≡◌, ◌+◌, ◌≤◌, ◌<◌, List, [], ◌∷◌, ◌++◌, length, Some, Ok, IfOk, OnOk, OnErr, MatchResult};
 ghost use Rattle.dname.specs.Labels.{wire, folded, folded_label};
 ghost use Rattle.dname.specs.Draft.{empty_draft, Refuses, pushed, shut, labelled};
+ghost use Rattle.dname.specs.Overflows.{overflow_number, overflow_text};
 
 use crate::name::Name;
 use memory::{Heap, Starved};
 use std::alloc::{AllocError, AllocFailed, Allocator, Global};
+use std::fmt;
 use std::marker::Model;
 
 /// Why a byte or a label has no place in a name (RFC 1035, section 2.3.4).
@@ -18,6 +20,33 @@ pub enum Overflow {
     /// A growth was refused.
     Memory,
 }
+
+impl Overflow {
+    /// The refusal's number, 1 to 3 in the order of the variants.
+    pub fn number(self) -> u8
+        ensures { result ≡ overflow_number self }
+    {
+        match self {
+            Overflow::LongLabel => 1,
+            Overflow::LongName => 2,
+            Overflow::Memory => 3,
+        }
+    }
+}
+
+impl fmt::Display for Overflow {
+    ghost output = { λ e. Some (overflow_text e) };
+
+    fn fmt<W: fmt::Write>(&self, f: &mut fmt::Formatter<W>) -> fmt::Result {
+        f.write_str(match self {
+            Overflow::LongLabel => "label over 63 bytes",
+            Overflow::LongName => "name over 255 bytes",
+            Overflow::Memory => "out of memory",
+        })
+    }
+}
+
+impl std::error::Error for Overflow {}
 
 impl From<AllocError> for Overflow {
     ghost use Rattle.dname.specs.declared.builder.Overflow.TheVariants.{Memory};

@@ -40,7 +40,7 @@ fn is_local_first<A: Heap>(links: &[Taken<A>], last: &Taken<A>) -> bool
 fn aliases_of<A: Heap>(alloc: A, chain: Chain<A>, now: u64) -> Result<Records<A>, Starved>
     ensures { IfOk result (λ r. r ≡ aliases_of now chain) }
 {
-    let mut aliases = Records::new(alloc);
+    let mut aliases = Records::with_capacity(alloc, chain.len())?;
     for taken in chain.into_links() {
         if let Link::Alias(record) = taken.into_sent(now) {
             aliases.push(record)?;

@@ -2,6 +2,9 @@
 use Rattle.std.specs.Prelude.{ℕ, Bool, false, ◌&&◌, nat_eq, List}
 use Rattle.std.specs.Cmp.Lexicographic.{pointwise}
 use Rattle.dname.specs.Labels.{same_name}
+use Rattle.rdata.specs.Types.{type_number}
+use Rattle.rdata.specs.declared.rtype.RType.{RType}
+use Rattle.rdata.specs.declared.rtype.RType.TheVariants as kind
 
 -- What an SOA record says (RFC 1035, section 3.3.13): times in seconds.
 pub record Authority : Type 0 where
@@ -24,16 +27,19 @@ pub data Datum : Type 0 where
   Txt : List (List ℕ) → Datum
   Ipv6 : List ℕ → Datum
 
--- Type numbers (RFC 1035, section 3.2.2; RFC 3596, section 2.1).
+-- The type of data, and its number.
+abbrev pub kind_of : Datum → RType
+kind_of (Ipv4 a) = kind.A
+kind_of (Ns n) = kind.Ns
+kind_of (Cname n) = kind.Cname
+kind_of (Soa s) = kind.Soa
+kind_of (Ptr n) = kind.Ptr
+kind_of (Mx p n) = kind.Mx
+kind_of (Txt ts) = kind.Txt
+kind_of (Ipv6 a) = kind.Aaaa
+
 abbrev pub type_of : Datum → ℕ
-type_of (Ipv4 a) = 1
-type_of (Ns n) = 2
-type_of (Cname n) = 5
-type_of (Soa s) = 6
-type_of (Ptr n) = 12
-type_of (Mx p n) = 15
-type_of (Txt ts) = 16
-type_of (Ipv6 a) = 28
+type_of d = type_number (kind_of d)
 
 -- The same data, as a test.
 abbrev pub same_authority : Authority → Authority → Bool

@@ -109,6 +109,15 @@ impl<A: Heap> Records<A> {
         }
     }
 
+    /// No records, with room for so many.
+    pub fn with_capacity(alloc: A, expected: usize) -> Result<Records<A>, Starved>
+        ensures { IfOk result (λ r. r ≡ []) }
+    {
+        Ok(Records {
+            items: Vec::with_capacity(alloc, expected)?,
+        })
+    }
+
     /// One record more, at the end.
     pub fn push(&mut self, added: Record<A>) -> Result<(), Starved>
         ensures ok { OnOk result (self.new ≡ self.old ++ added ∷ []) }

@@ -1,5 +1,5 @@
 -- Why records are no zone: the refusals' numbers, and the refusal that answers.
-use Rattle.std.specs.Prelude.{◌≡◌, ℕ, Option, Some, None, cond}
+use Rattle.std.specs.Prelude.{◌≡◌, ℕ, Option, Some, None, List, codes, cond}
 use Rattle.zone.specs.declared.fault.ZoneError.{ZoneError}
 use Rattle.zone.specs.declared.fault.ZoneError.TheVariants.{Soa, NoServers, ForeignOwner, CnameClash, MixedTtls, DataAtCut, InnerStar, WildcardAuthority, WildcardBeneathCut, Memory}
 use Rattle.zone.specs.Zones.{Zone}
@@ -16,6 +16,18 @@ fault_number InnerStar = 7
 fault_number WildcardAuthority = 8
 fault_number WildcardBeneathCut = 9
 fault_number Memory = 10
+
+abbrev pub fault_text : ZoneError → List ℕ
+fault_text Soa = codes "not exactly one SOA record, at the origin"
+fault_text NoServers = codes "no NS record at the origin"
+fault_text ForeignOwner = codes "an owner outside the zone"
+fault_text CnameClash = codes "a CNAME beside other records"
+fault_text MixedTtls = codes "different TTLs in a record set"
+fault_text DataAtCut = codes "other data than glue at or beneath a cut"
+fault_text InnerStar = codes "a label `*` that is not the first of its owner"
+fault_text WildcardAuthority = codes "NS or SOA at a wildcard"
+fault_text WildcardBeneathCut = codes "a wildcard beneath a cut"
+fault_text Memory = codes "out of memory"
 
 -- The refusal of the lowest number that holds.
 abbrev pub fault_of : Zone → Option ZoneError

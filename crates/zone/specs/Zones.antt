@@ -3,25 +3,27 @@ use Rattle.std.specs.Prelude.{◌≡◌, ◌≢◌, ℕ, ◌≤◌, List, [], �
 use Rattle.dname.specs.Labels.{IsAtOrUnder}
 use Rattle.rdata.specs.Data.{Datum, type_of}
 use Rattle.rdata.specs.Records.{Record}
+use Rattle.rdata.specs.Types.{type_number}
+use Rattle.rdata.specs.declared.rtype.RType.TheVariants as kind
 
 pub record Zone : Type 0 where
   pub origin : List (List ℕ)
   pub records : List Record
 
 abbrev pub a_type : ℕ
-a_type = 1
+a_type = type_number kind.A
 
 abbrev pub ns_type : ℕ
-ns_type = 2
+ns_type = type_number kind.Ns
 
 abbrev pub cname_type : ℕ
-cname_type = 5
+cname_type = type_number kind.Cname
 
 abbrev pub soa_type : ℕ
-soa_type = 6
+soa_type = type_number kind.Soa
 
 abbrev pub aaaa_type : ℕ
-aaaa_type = 28
+aaaa_type = type_number kind.Aaaa
 
 -- Strictly under a name.
 abbrev pub IsBeneath : List (List ℕ) → List (List ℕ) → Type 0

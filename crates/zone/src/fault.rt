@@ -1,6 +1,6 @@
 //! Why records are no zone: the rules by number.
 ghost use Rattle.std.specs.Prelude.{◌≡◌, Some};
-ghost use Rattle.zone.specs.Faults.{fault_number};
+ghost use Rattle.zone.specs.Faults.{fault_number, fault_text};
 
 use dname::Starved;
 use std::alloc::{AllocError, AllocFailed};
@@ -53,6 +53,8 @@ impl ZoneError {
 }
 
 impl fmt::Display for ZoneError {
+    ghost output = { λ e. Some (fault_text e) };
+
     fn fmt<W: fmt::Write>(&self, f: &mut fmt::Formatter<W>) -> fmt::Result {
         f.write_str(match self {
             ZoneError::Soa => "not exactly one SOA record, at the origin",
