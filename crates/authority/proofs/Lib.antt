@@ -1,10 +1,10 @@
 pub mod Ascents
 pub mod Charges
 pub mod Chosen
-pub mod Found
 pub mod OneAnswers
 pub mod Picks
 pub mod Places
+pub mod SetRows
 pub mod SomeAnswers
 pub mod Twins
 pub mod Walks

@@ -9,32 +9,7 @@ use Rattle.zone.specs.Zones.{Zone, ns_type, cname_type}
 use Rattle.zone.specs.Links.{Link, Found, Alias, NoData, NxDomain}
 use Rattle.zone.specs.Look.{is_owned, is_type, at, of_type, add_new, firsts, with_owner, said_alias, said_by, said, said_wild, add_glue, addresses_of, glue_of, ns_of, cut_of, exists, wild, climbed, link_by, local_of, local_by, Linked, Cut}
 use Rattle.zone.proofs.LawExists.{exists_plain, climbed_is}
-use Rattle.authority.specs.Climb.{picked, has_data, has_glue, has_under}
-
-module _ (f : Record → Record) (p : Record → Bool) where
-  one_more : (b : Bool) (kept : List Record) (r : Record) (rest : List Record) → fold add_new kept (map f (cond b (r ∷ rest) rest)) ≡ fold add_new (cond b (add_new kept (f r)) kept) (map f rest)
-  one_more true kept r rest = refl
-  one_more false kept r rest = refl
-
-  last_one : (b : Bool) (kept : List Record) (r : Record) → fold add_new kept (map f (cond b (r ∷ []) [])) ≡ cond b (add_new kept (f r)) kept
-  last_one true kept r = refl
-  last_one false kept r = refl
-
-  gathered_on : (kept xs : List Record) (r : Record) → fold add_new kept (map f (filter p (xs ++ r ∷ []))) ≡ cond (p r) (add_new (fold add_new kept (map f (filter p xs))) (f r)) (fold add_new kept (map f (filter p xs)))
-  gathered_on kept [] r = last_one (p r) kept r
-  gathered_on kept (x ∷ xs) r =
-      one_more (p x) kept x (filter p (xs ++ r ∷ []))
-      ∙ (gathered_on (cond (p x) (add_new kept (f x)) kept) xs r
-      ∙ ap (λ (l : List Record). cond (p r) (add_new l (f r)) l) (sym (one_more (p x) kept x (filter p xs))))
-
-  -- A step of the gathering.
-  pub gathered_more : (rs old new : List Record) (i : ℕ) (r : Record) (b : Bool) → i < length rs → r ≡ get_or rs i r → old ≡ firsts (map f (filter p (take i rs))) → b ≡ p r
-      → new ≡ cond b (add_new old (f r)) old → new ≡ firsts (map f (filter p (take (i + 1) rs)))
-  gathered_more rs old new i r b lt at_i eo eb en =
-      en ∙ (ap (λ (c : Bool). cond c (add_new old (f r)) old) eb
-      ∙ (ap (λ (l : List Record). cond (p r) (add_new l (f r)) l) eo
-      ∙ (sym (gathered_on [] (take i rs) r)
-      ∙ ap (λ (l : List Record). firsts (map f (filter p l))) (ap (λ (x : Record). take i rs ++ x ∷ []) at_i ∙ sym (take_more rs i r lt)))))
+use Rattle.authority.specs.Climb.{picked, has_glue, has_under}
 
 module _ (p : Record → Bool) (soa : Record) (q : List (List ℕ)) where
   found_by_test : (x : Record) (xs : List Record) (r : Record) (b : Bool) → (find p xs ≡ Some r → said_alias soa q (filter p xs) ≡ Alias (with_owner q r))
@@ -77,11 +52,6 @@ kept_some false kept r h e = not_empty kept r e
 some_kept : (kept rs : List Record) → (kept ≡ [] → ⊥) → fold add_new kept rs ≡ [] → ⊥
 some_kept kept [] h e = h e
 some_kept kept (r ∷ rs) h e = some_kept (add_new kept r) rs (kept_some (list_any (λ (s : Record). same_data s.value r.value) kept) kept r h) e
-
--- A record whose data is new.
-pub added_new : (kept new : List Record) (r x : Record) (b : Bool) → b ≡ has_data r.value kept → b ≡ false → x ≡ r → new ≡ kept ++ x ∷ [] → new ≡ add_new kept r
-added_new kept new r x b eb ef ex en =
-    en ∙ (ap (λ (y : Record). kept ++ y ∷ []) ex ∙ ap (λ (c : Bool). cond c kept (kept ++ r ∷ [])) (sym ef ∙ eb))
 
 pub none_picked : (q : List (List ℕ)) (xs : List Record) → firsts (map (with_owner q) xs) ≡ [] → xs ≡ []
 none_picked q [] e = refl
@@ -130,26 +100,26 @@ pub wild_none : (soa : Record) (q : List (List ℕ)) (t : ℕ) (n : List (List �
 wild_none soa q t n rs e = ap (said_wild soa q t) (sym (at_none n rs e))
 
 -- A step of a walk that adds what it picks.
-module _ (add : List Record → Record → List Record) (p : Record → Bool) where
-  add_one : (b : Bool) (kept : List Record) (r : Record) (rest : List Record) → fold add kept (cond b (r ∷ rest) rest) ≡ fold add (cond b (add kept r) kept) rest
+module _ {X : Type 0} (add : X → Record → X) (p : Record → Bool) where
+  add_one : (b : Bool) (kept : X) (r : Record) (rest : List Record) → fold add kept (cond b (r ∷ rest) rest) ≡ fold add (cond b (add kept r) kept) rest
   add_one true kept r rest = refl
   add_one false kept r rest = refl
 
-  add_last : (b : Bool) (kept : List Record) (r : Record) → fold add kept (cond b (r ∷ []) []) ≡ cond b (add kept r) kept
+  add_last : (b : Bool) (kept : X) (r : Record) → fold add kept (cond b (r ∷ []) []) ≡ cond b (add kept r) kept
   add_last true kept r = refl
   add_last false kept r = refl
 
-  added_on : (kept xs : List Record) (r : Record) → fold add kept (filter p (xs ++ r ∷ [])) ≡ cond (p r) (add (fold add kept (filter p xs)) r) (fold add kept (filter p xs))
+  added_on : (kept : X) (xs : List Record) (r : Record) → fold add kept (filter p (xs ++ r ∷ [])) ≡ cond (p r) (add (fold add kept (filter p xs)) r) (fold add kept (filter p xs))
   added_on kept [] r = add_last (p r) kept r
   added_on kept (x ∷ xs) r =
       add_one (p x) kept x (filter p (xs ++ r ∷ []))
-      ∙ (added_on (cond (p x) (add kept x) kept) xs r ∙ ap (λ (l : List Record). cond (p r) (add l r) l) (sym (add_one (p x) kept x (filter p xs))))
+      ∙ (added_on (cond (p x) (add kept x) kept) xs r ∙ ap (λ (l : X). cond (p r) (add l r) l) (sym (add_one (p x) kept x (filter p xs))))
 
-  pub fold_more : (kept rs old new : List Record) (i : ℕ) (r : Record) (b : Bool) → i < length rs → r ≡ get_or rs i r → old ≡ fold add kept (filter p (take i rs)) → b ≡ p r
+  pub fold_more : (kept : X) (rs : List Record) (old new : X) (i : ℕ) (r : Record) (b : Bool) → i < length rs → r ≡ get_or rs i r → old ≡ fold add kept (filter p (take i rs)) → b ≡ p r
       → new ≡ cond b (add old r) old → new ≡ fold add kept (filter p (take (i + 1) rs))
   fold_more kept rs old new i r b lt at_i eo eb en =
       en ∙ (ap (λ (c : Bool). cond c (add old r) old) eb
-      ∙ (ap (λ (l : List Record). cond (p r) (add l r) l) eo
+      ∙ (ap (λ (l : X). cond (p r) (add l r) l) eo
       ∙ (sym (added_on kept (take i rs) r) ∙ ap (λ (l : List Record). fold add kept (filter p l)) (ap (λ (x : Record). take i rs ++ x ∷ []) at_i ∙ sym (take_more rs i r lt)))))
 
 -- A step of the walk over the servers.

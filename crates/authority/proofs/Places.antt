@@ -1,15 +1,15 @@
 -- Zones noted one by one under their origins, and found again.
 use Rattle.std.proofs.Common.{◌≡◌, ◌∙◌, sym, ap, refl, ℕ, ◌+◌, ◌<◌, Bool, true, false, ◌||◌, not, cond, Option, Some, None, List, [], ◌∷◌, ◌++◌, length, take, get_or, Bor}
-use Rattle.std.specs.Prelude.{find, filter, is_some, is_none, slice_get}
+use Rattle.std.specs.Prelude.{find, filter, is_some, is_none, slice_get, Vec}
 use Rattle.std.specs.List.{list_any}
 use Rattle.std.specs.Option.{option_or, option_copied}
 use Rattle.std.proofs.lemmas.List.{take_more}
 use Rattle.std.proofs.lemmas.List.Folds.{find-append}
 use Rattle.std.proofs.lemmas.Option.{slice_get-get_or, slice_get_past, slice_get_read}
 use Rattle.std.specs.Slice.{IsItemAt}
-use Rattle.std.specs.HashMap as hash
 use Rattle.std.specs.HashMap.{HashMap}
-use Rattle.dname.specs.Labels.{same_name}
+use Rattle.dname.specs.Keys.{at_bytes, at_name}
+use Rattle.dname.specs.Labels.{wire, same_name}
 use Rattle.dname.specs.Laws.{same_name-exact}
 use Rattle.zone.specs.Zones.{Zone}
 use Rattle.zone.proofs.LawLists.{find_of}
@@ -42,6 +42,15 @@ unfound (Some z) h = cc
 pub none_is : (o : Option ℕ) → is_none o ≡ not (is_some o)
 none_is None = refl
 none_is (Some i) = refl
+
+by_some : (o : Option ℕ) (b : Bool) → is_some o ≡ not b → b ≡ is_none o
+by_some None true h = refl
+by_some None false h = h
+by_some (Some i) true h = h
+by_some (Some i) false h = refl
+
+pub fresh_is : (o p : Option ℕ) (b : Bool) → is_some o ≡ not b → o ≡ p → b ≡ is_none p
+fresh_is o p b h e = by_some o b h ∙ ap is_none e
 
 -- The zones noted so far, and one more of another origin.
 last_found : (z : Zone) (q : List (List ℕ)) (front : Option Zone) (b : Bool) → at q z ≡ b → (b ≡ true → front ≡ None) → option_or front (find (at q) (z ∷ [])) ≡ cond b (Some z) front
@@ -110,7 +119,7 @@ pub lent_at : (zs : List Zone) (i : ℕ) (r : Option (Bor Zone)) → IsItemAt zs
 lent_at zs i None h = sym (slice_get_past zs i h.3)
 lent_at zs i (Some z) h = sym (slice_get_read zs (length zs) i z.now refl h.3.0 h.1)
 
-pub zone_told : {S : Type 0} (m : HashMap (List (List ℕ)) ℕ S) (zs : List Zone) (listed : Option (List (List (List ℕ)))) (n : List (List ℕ)) (o : Option ℕ) (r : Option Zone) → ArePlaces m zs → o ≡ hash.get same_name m n
-    → r ≡ placed zs o → listed_one listed r ≡ zone_at n (chosen listed zs)
-zone_told m zs listed n o r h eo er =
-    ap (listed_one listed) (er ∙ (ap (placed zs) eo ∙ h.at n)) ∙ sym (zone_listed listed n zs)
+pub zone_told : {S Y : Type 0} (m : HashMap (Vec ℕ Y) ℕ S) (zs : List Zone) (listed : Option (List (List (List ℕ)))) (n : List (List ℕ)) (bs : List ℕ) (o : Option ℕ) (r : Option Zone) → ArePlaces m zs
+    → bs ≡ wire n → o ≡ at_bytes m bs → r ≡ placed zs o → listed_one listed r ≡ zone_at n (chosen listed zs)
+zone_told m zs listed n bs o r h eb eo er =
+    ap (listed_one listed) (er ∙ (ap (placed zs) (eo ∙ ap (at_bytes m) eb) ∙ h.at n)) ∙ sym (zone_listed listed n zs)

@@ -2,7 +2,7 @@
 use Rattle.std.specs.Prelude.{ℕ, Bool, true, false, ◌&&◌, List, [], ◌∷◌, filter}
 use Rattle.std.specs.List.{list_any}
 use Rattle.dname.specs.Labels.{star, is_under, same_name}
-use Rattle.rdata.specs.Data.{Datum, same_data}
+use Rattle.rdata.specs.Data.{same_data}
 use Rattle.rdata.specs.Records.{Record}
 use Rattle.zone.specs.Look.{is_owned, is_type}
 
@@ -17,9 +17,6 @@ is_picked n t r = is_owned n r && is_type t r
 
 abbrev pub picked : List (List ℕ) → ℕ → List Record → List Record
 picked n t rs = filter (is_picked n t) rs
-
-abbrev pub has_data : Datum → List Record → Bool
-has_data d rs = list_any (λ (s : Record). same_data s.value d) rs
 
 abbrev pub has_glue : Record → List Record → Bool
 has_glue r rs = list_any (λ (s : Record). same_name s.owner r.owner && same_data s.value r.value) rs

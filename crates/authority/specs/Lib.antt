@@ -8,4 +8,4 @@ pub mod Climb
 -- Kept: what the code's own values keep.
 pub mod Answers
 pub mod Origins
-pub mod Seen
+pub mod Values

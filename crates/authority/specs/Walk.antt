@@ -7,6 +7,7 @@ use Rattle.zone.specs.Tree.{has_under}
 use Rattle.zone.specs.Zones.{Zone}
 use Rattle.zone.specs.Links.{Link, NxDomain}
 use Rattle.zone.specs.Look.{at, cut_of, climbed, said, said_wild}
+use Rattle.authority.specs.Values.{IsTimed, AreTimedIn}
 use Rattle.authority.specs.declared.walk.Walk.{Walk}
 
 -- The records of a name, and of the wildcard right under it; none where the name has no node.
@@ -44,4 +45,6 @@ pub record IsWalk {H : Type 0} (z : Zone) (q : List (List ℕ)) (w : Walk H) : T
   pub cut : w.cut ≡ cut_of z q
   pub here : Stands q z.records w.here
   pub near : (soa : Record) (t : ℕ) → met soa q t w.near (NxDomain soa) ≡ climbed soa q t z.records q
+  pub here_timed : IsTimed w.here
+  pub near_timed : AreTimedIn w.near
   pub count : w.count ≡ length q

@@ -2,14 +2,14 @@
 ghost use Rattle.std.specs.Prelude.{◌≡◌};
 
 use dname::{Heap, Name};
-use rdata::{Record, Records};
+use rdata::{Record, RecordSet, Records};
 use std::alloc::{AllocError, Allocator, Global};
 
 /// What a zone says of a name and a type (RFC 1034, section 4.3.2; RFC 2308).
 #[derive(Drop)]
 pub enum Link<A: Allocator = Global> {
     /// The RRset (RFC 2181, section 5).
-    Found(Records<A>),
+    Found(RecordSet<A>),
     /// The CNAME record.
     Alias(Record<A>),
     /// NODATA: the name exists without such records; with the zone's SOA.
@@ -23,7 +23,7 @@ impl<A: Heap> Clone for Link<A> {
 
     fn clone(&self) -> Result<Link<A>, AllocError> {
         match self {
-            Link::Found(records) => Ok(Link::Found(records.clone()?)),
+            Link::Found(set) => Ok(Link::Found(set.clone()?)),
             Link::Alias(record) => Ok(Link::Alias(record.clone()?)),
             Link::NoData(soa) => Ok(Link::NoData(soa.clone()?)),
             Link::NxDomain(soa) => Ok(Link::NxDomain(soa.clone()?)),

@@ -87,21 +87,21 @@ fn zone_over<'a, A: Heap>(
     places: &Places<A>,
     listed: Option<&[Name<A>]>,
     name: &Name<A>,
-) -> Result<Option<&'a Zone<A>>, Starved>
+) -> Option<&'a Zone<A>>
     requires { ArePlaces places.now zones.now }
-    ensures { IfOk result (λ z. option_copied z ≡ zone_over (chosen (option_copied listed.entry) zones.now) name.now) }
+    ensures { option_copied result ≡ zone_over (chosen (option_copied listed.entry) zones.now) name.now }
 {
     name.is_well_formed();
-    let mut up = name.clone()?;
+    let mut up = name.suffix();
     if let Some(found) = zone_at(zones, places, listed, &up) {
-        return Ok(Some(found));
+        return Some(found);
     }
     'up: while up.ascend() {
         if let Some(found) = zone_at(zones, places, listed, &up) {
-            return Ok(Some(found));
+            return Some(found);
         }
     }
-    Ok(None)
+    None
 }
 
 impl<A: Heap> Catalog<A> {
@@ -176,7 +176,7 @@ impl<A: Heap> Catalog<A> {
         ensures relation { IfOk result (λ p. IsLooked (chosen (option_copied listed.entry) self.now) name.now (type_number kind) (local_view p.0)) }
         ensures count { IfOk result (λ p. p.1 ≤ length name.now + 1) }
     {
-        match zone_over(&self.zones, &self.places, listed, name)? {
+        match zone_over(&self.zones, &self.places, listed, name) {
             None => Ok((Local::NotHere, 0)),
             Some(zone) => {
                 zone_keeps_rules(zone);

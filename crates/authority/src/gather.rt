@@ -1,37 +1,17 @@
 //! The RRset of an owner and a type, gathered from the records of a zone.
-ghost use Rattle.std.specs.Prelude.{◌≡◌, [], ◌∷◌, ◌++◌, cond, not, IfOk, OnOk, map};
+ghost use Rattle.std.specs.Prelude.{◌≡◌, ◌≢◌, [], IfOk, IfSome, map};
 ghost use Rattle.rdata.specs.Types.{type_number};
-ghost use Rattle.rdata.specs.Data.{same_data};
 ghost use Rattle.rdata.specs.Kept.{datum};
-ghost use Rattle.rdata.specs.Records.{Record as Plain};
-ghost use Rattle.zone.specs.Look.{firsts, with_owner, add_new};
-ghost use Rattle.authority.specs.Climb.{target, picked, has_data};
-ghost use Rattle.authority.specs.Seen.{AreFound};
+ghost use Rattle.rdata.specs.Rows.{in_set};
+ghost use Rattle.zone.specs.Look.{firsts, with_owner};
+ghost use Rattle.authority.specs.Climb.{target, picked};
+ghost use Rattle.authority.specs.Values.{values_of, HaveOneTtl};
 
-use crate::plain::answers;
+use crate::plain::{answers, first_of};
 use dname::{Heap, Name, Starved};
-use rdata::{RData, RType, Record, Records};
+use rdata::{RData, RType, Record, RecordSet, Records, put_chosen};
 use std::alloc::Allocator;
 use std::collections::BTreeSet;
-
-// So many records of a set are compared one by one; those behind them are found by the order of their data.
-const FEW: usize = 16;
-
-// The data of a set behind the first few records.
-type Later<'a, A> = BTreeSet<&'a RData<A>, A>;
-
-fn has_value<A: Allocator>(kept: &Record<A>, value: &RData<A>) -> bool
-    ensures { result ≡ same_data kept.now.value (datum value.now) }
-{
-    kept.value.is_same(value)
-}
-
-// Whether the records have that data.
-fn has<A: Allocator>(set: &[Record<A>], value: &RData<A>) -> bool
-    ensures { result ≡ has_data (datum value.now) set.now }
-{
-    set.iter().any(|kept| has_value(kept, value))
-}
 
 pub(crate) fn owned_by<A: Heap>(owner: &Name<A>, added: &Record<A>) -> Result<Record<A>, Starved>
     ensures { IfOk result (λ r. r ≡ with_owner owner.now added.now) }
@@ -43,59 +23,23 @@ pub(crate) fn owned_by<A: Heap>(owner: &Name<A>, added: &Record<A>) -> Result<Re
     })
 }
 
-// Whether a set lacks that data. From then on it is found there too.
-fn is_new<'a, A: Heap>(
-    set: &[Record<A>],
-    later: &mut Later<'a, A>,
-    value: &'a RData<A>,
-) -> Result<bool, Starved>
-    requires { AreFound later.old set.now }
-    ensures new { IfOk result (λ new. new ≡ not (has_data (datum value.now) set.now)) }
-    ensures found { IfOk result (λ new. (r : Plain) → r.value ≡ datum value.now → AreFound later.new (cond new (set.now ++ r ∷ []) set.now)) }
+// The data of a type there, each once.
+fn values_of<A: Heap>(
+    alloc: A,
+    records: &[Record<A>],
+    kind: RType,
+    name: &Name<A>,
+    wild: bool,
+) -> Result<Vec<RData<A>, A>, Starved>
+    ensures { IfOk result (λ v. map datum v.items ≡ values_of (picked (target wild name.now) (type_number kind) records.now)) }
 {
-    let few = set.len().min(FEW);
-    if has(&set[..few], value) {
-        return Ok(false);
+    let mut values = Vec::new(alloc);
+    let mut later = BTreeSet::new(alloc);
+    for added in records {
+        let chosen = answers(added, name, wild, kind);
+        put_chosen(&mut values, &mut later, &added.value, chosen)?;
     }
-    if set.len() < FEW {
-        return Ok(true);
-    }
-    Ok(later.insert(value)?)
-}
-
-// One record more with that owner, where its data is new.
-fn put_new<'a, A: Heap>(
-    set: &mut Records<A>,
-    later: &mut Later<'a, A>,
-    owner: &Name<A>,
-    added: &'a Record<A>,
-) -> Result<(), Starved>
-    requires { AreFound later.old set.old }
-    ensures set { OnOk result (set.new ≡ add_new set.old (with_owner owner.now added.now)) }
-    ensures found { OnOk result (AreFound later.new set.new) }
-{
-    if is_new(set.as_slice(), later, &added.value)? {
-        set.push(owned_by(owner, added)?)?;
-    }
-    Ok(())
-}
-
-// The same of a record that may have another type or name.
-pub(crate) fn put_picked<'a, A: Heap>(
-    set: &mut Records<A>,
-    later: &mut Later<'a, A>,
-    owner: &Name<A>,
-    added: &'a Record<A>,
-    picked: bool,
-) -> Result<(), Starved>
-    requires { AreFound later.old set.old }
-    ensures set { OnOk result (set.new ≡ cond picked (add_new set.old (with_owner owner.now added.now)) set.old) }
-    ensures found { OnOk result (AreFound later.new set.new) }
-{
-    if picked {
-        put_new(set, later, owner, added)?;
-    }
-    Ok(())
+    Ok(values)
 }
 
 // The set of a type there, each record once, with `owner` as owner.
@@ -106,14 +50,33 @@ pub(crate) fn gathered<A: Heap>(
     kind: RType,
     name: &Name<A>,
     wild: bool,
-) -> Result<Records<A>, Starved>
-    ensures { IfOk result (λ set. set ≡ firsts (map (with_owner owner.now) (picked (target wild name.now) (type_number kind) records.now))) }
+) -> Result<Option<RecordSet<A>>, Starved>
+    requires { HaveOneTtl records.now }
+    ensures value { IfOk result (λ set. in_set set ≡ firsts (map (with_owner owner.now) (picked (target wild name.now) (type_number kind) records.now))) }
+    ensures some { IfOk result (λ set. IfSome set (λ rs. rs ≢ [])) }
 {
-    let mut set = Records::new(alloc);
-    let mut later = BTreeSet::new(alloc);
-    for added in records {
-        let chosen = answers(added, name, wild, kind);
-        put_picked(&mut set, &mut later, owner, added, chosen)?;
+    match first_of(records, name, wild, kind) {
+        None => Ok(None),
+        Some(first) => {
+            let values = values_of(alloc, records, kind, name, wild)?;
+            Ok(Some(RecordSet {
+                owner: owner.clone()?,
+                ttl: first.ttl,
+                values,
+            }))
+        }
     }
-    Ok(set)
+}
+
+// The records of a set that may be there.
+pub(crate) fn records_in<A: Heap>(
+    alloc: A,
+    set: Option<RecordSet<A>>,
+) -> Result<Records<A>, Starved>
+    ensures { IfOk result (λ rs. rs ≡ in_set set) }
+{
+    match set {
+        Some(set) => Ok(set.to_records(alloc)?),
+        None => Ok(Records::new(alloc)),
+    }
 }

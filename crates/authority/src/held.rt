@@ -1,20 +1,40 @@
 //! What the records that stand at a name say.
-ghost use Rattle.std.specs.Prelude.{◌≡◌, find, map, IfOk};
+ghost use Rattle.std.specs.Prelude.{◌≡◌, ◌≢◌, [], find, map, IfOk, IfSome};
 ghost use Rattle.std.specs.List.{list_any};
 ghost use Rattle.std.specs.Option.{option_copied};
+ghost use Rattle.rdata.specs.Kept.{datum};
+ghost use Rattle.rdata.specs.Rows.{in_set};
 ghost use Rattle.rdata.specs.Types.{type_number};
 ghost use Rattle.zone.specs.Zones.{cname_type};
 ghost use Rattle.zone.specs.Look.{is_type, of_type, firsts, with_owner, said, said_alias, said_wild};
 ghost use Rattle.authority.specs.Answers.{link_view};
+ghost use Rattle.authority.specs.Values.{values_of, AreTimed};
 
 use crate::answer::Link;
-use crate::gather::{owned_by, put_picked};
+use crate::gather::owned_by;
 use crate::plain::is_kind;
 use dname::{Heap, Name, Starved};
-use rdata::{RType, Record, Records};
+use rdata::{RData, RType, Record, RecordSet, put_chosen};
 use std::alloc::Allocator;
 use std::collections::BTreeSet;
 use zone::Held;
+
+// Their data of a type, each once.
+fn values_of<A: Heap>(
+    alloc: A,
+    held: &Held<'_, A>,
+    kind: RType,
+) -> Result<Vec<RData<A>, A>, Starved>
+    ensures { IfOk result (λ v. map datum v.items ≡ values_of (of_type (type_number kind) held.now)) }
+{
+    let mut values = Vec::with_capacity(alloc, held.len())?;
+    let mut later = BTreeSet::new(alloc);
+    for index in 0..held.len() {
+        let added = held.get(index);
+        put_chosen(&mut values, &mut later, &added.value, is_kind(added, kind))?;
+    }
+    Ok(values)
+}
 
 // Their set of a type, each record once, with `owner` as owner.
 pub(crate) fn set_of<A: Heap>(
@@ -22,16 +42,22 @@ pub(crate) fn set_of<A: Heap>(
     held: &Held<'_, A>,
     owner: &Name<A>,
     kind: RType,
-) -> Result<Records<A>, Starved>
-    ensures { IfOk result (λ set. set ≡ firsts (map (with_owner owner.now) (of_type (type_number kind) held.now))) }
+) -> Result<Option<RecordSet<A>>, Starved>
+    requires { AreTimed held.now }
+    ensures value { IfOk result (λ set. in_set set ≡ firsts (map (with_owner owner.now) (of_type (type_number kind) held.now))) }
+    ensures some { IfOk result (λ set. IfSome set (λ rs. rs ≢ [])) }
 {
-    let mut set = Records::new(alloc);
-    let mut later = BTreeSet::new(alloc);
-    for index in 0..held.len() {
-        let added = held.get(index);
-        put_picked(&mut set, &mut later, owner, added, is_kind(added, kind))?;
+    match first_of(held, kind) {
+        None => Ok(None),
+        Some(first) => {
+            let values = values_of(alloc, held, kind)?;
+            Ok(Some(RecordSet {
+                owner: owner.clone()?,
+                ttl: first.ttl,
+                values,
+            }))
+        }
     }
-    Ok(set)
 }
 
 // The first one of a type.
@@ -79,13 +105,13 @@ pub(crate) fn say<A: Heap>(
     owner: &Name<A>,
     kind: RType,
 ) -> Result<Link<A>, Starved>
+    requires { AreTimed held.now }
     ensures { IfOk result (λ l. link_view l ≡ said soa.now owner.now (type_number kind) held.now) }
 {
-    let set = set_of(alloc, held, owner, kind)?;
-    if set.is_empty() {
-        return Ok(alias_or_none(held, soa, owner)?);
+    match set_of(alloc, held, owner, kind)? {
+        Some(set) => Ok(Link::Found(set)),
+        None => Ok(alias_or_none(held, soa, owner)?),
     }
-    Ok(Link::Found(set))
 }
 
 // What those of a wildcard say, and NXDOMAIN where there are none.
@@ -96,6 +122,7 @@ pub(crate) fn say_wild<A: Heap>(
     owner: &Name<A>,
     kind: RType,
 ) -> Result<Link<A>, Starved>
+    requires { AreTimed held.now }
     ensures { IfOk result (λ l. link_view l ≡ said_wild soa.now owner.now (type_number kind) held.now) }
 {
     if held.len() == 0 {

@@ -1,21 +1,21 @@
 //! Zones by their origins: where each stands among its like.
 ghost use Rattle.std.specs.Prelude.{◌≡◌, ℕ, List, Some, cond, is_none, IfOk, OnOk, MatchResult};
-ghost use Rattle.std.specs.HashMap as hash;
 ghost use Rattle.std.specs.Option.{option_copied};
+ghost use Rattle.dname.specs.Keys.{at_name};
 ghost use Rattle.dname.specs.Labels.{same_name};
 ghost use Rattle.authority.specs.Catalogs.{zone_at, has_origin_in, is_chosen, chosen, has_twins, IsCatalog};
 ghost use Rattle.authority.specs.CatalogFaults.{CatalogRefuses};
 ghost use Rattle.authority.specs.Origins.{ArePlaces};
 
 use crate::catalog::CatalogError;
-use dname::{Heap, Name, Starved};
+use dname::{Heap, Name, Starved, Suffix};
 use std::alloc::Allocator;
 use std::collections::HashMap;
 use std::hash::{BuildHasherDefault, FoldHasher};
 use zone::{Zone, zone_keeps_rules};
 
-/// The place of each zone in a list of them, by its origin.
-pub(crate) type Places<A> = HashMap<Name<A>, usize, BuildHasherDefault<FoldHasher>, A>;
+/// The place of each zone in a list of them, by the wire form of its origin.
+pub(crate) type Places<A> = HashMap<Vec<u8, A>, usize, BuildHasherDefault<FoldHasher>, A>;
 
 // Notes where the zone stands; false where one of its origin was noted before.
 fn note_place<A: Heap>(
@@ -23,10 +23,12 @@ fn note_place<A: Heap>(
     zone: &Zone<A>,
     place: usize,
 ) -> Result<bool, Starved>
-    ensures fresh { IfOk result (λ b. b ≡ is_none (hash.get same_name places.old zone.now.origin)) }
-    ensures noted { OnOk result ((q : List (List ℕ)) → hash.get same_name places.new q ≡ cond (same_name zone.now.origin q) (Some place) (hash.get same_name places.old q)) }
+    ensures fresh { IfOk result (λ b. b ≡ is_none (at_name places.old zone.now.origin)) }
+    ensures noted { OnOk result ((q : List (List ℕ)) → at_name places.new q ≡ cond (same_name zone.now.origin q) (Some place) (at_name places.old q)) }
 {
-    Ok(places.insert(zone.origin().clone()?, place)?.is_none())
+    let name = zone.origin();
+    let key = Vec::from_slice(name.allocator(), name.wire())?;
+    Ok(places.insert(key, place)?.is_none())
 }
 
 /// The places of zones; refused where two have one origin.
@@ -67,12 +69,12 @@ pub(crate) fn zone_at<'a, A: Heap>(
     zones: &'a [Zone<A>],
     places: &Places<A>,
     listed: Option<&[Name<A>]>,
-    name: &Name<A>,
+    name: &Suffix<'_>,
 ) -> Option<&'a Zone<A>>
     requires { ArePlaces places.now zones.now }
     ensures { option_copied result ≡ zone_at name.now (chosen (option_copied listed.entry) zones.now) }
 {
-    let zone = zones.get(*places.get(name)?)?;
+    let zone = zones.get(*places.get(name.wire())?)?;
     if is_chosen(zone, listed) {
         Some(zone)
     } else {

@@ -9,10 +9,11 @@ ghost use Rattle.rdata.specs.Kept.{datum};
 ghost use Rattle.zone.specs.Zones.{ns_type, cname_type};
 ghost use Rattle.zone.specs.Look.{is_type, is_owned, at, of_type, owns, is_cut, cut_of, firsts, with_owner, said, said_alias, said_wild, ns_of, glue_of, local_by, or_else, add_new, add_glue, is_address, addresses_of, climbed, Cut, link_by};
 ghost use Rattle.authority.specs.Answers.{link_view, local_view};
-ghost use Rattle.authority.specs.Climb.{target, is_picked, picked, has_data, has_glue, has_under};
+ghost use Rattle.authority.specs.Climb.{target, is_picked, picked, has_glue, has_under};
+ghost use Rattle.authority.specs.Values.{HaveOneTtl};
 
 use crate::answer::{Link, Local};
-use crate::gather::{gathered, owned_by};
+use crate::gather::{gathered, owned_by, records_in};
 use dname::{Heap, Name, Starved};
 use rdata::{RData, RType, Record, Records};
 use std::alloc::Allocator;
@@ -74,7 +75,7 @@ fn has_owner_under<A: Allocator>(records: &[Record<A>], name: &Name<A>) -> bool
 }
 
 // The first record of the type there.
-fn first_of<'a, A: Allocator>(
+pub(crate) fn first_of<'a, A: Allocator>(
     records: &'a [Record<A>],
     name: &Name<A>,
     wild: bool,
@@ -113,13 +114,13 @@ fn say<A: Heap>(
     name: &Name<A>,
     wild: bool,
 ) -> Result<Link<A>, Starved>
+    requires { HaveOneTtl records.now }
     ensures { IfOk result (λ l. link_view l ≡ said soa.now owner.now (type_number kind) (at (target wild name.now) records.now)) }
 {
-    let set = gathered(alloc, records, owner, kind, name, wild)?;
-    if set.is_empty() {
-        return Ok(alias_or_none(records, soa, owner, name, wild)?);
+    match gathered(alloc, records, owner, kind, name, wild)? {
+        Some(set) => Ok(Link::Found(set)),
+        None => Ok(alias_or_none(records, soa, owner, name, wild)?),
     }
-    Ok(Link::Found(set))
 }
 
 // The cut that stands right there.
@@ -170,6 +171,7 @@ fn climb<A: Heap>(
     name: &Name<A>,
     kind: RType,
 ) -> Result<Link<A>, Starved>
+    requires { HaveOneTtl records.now }
     ensures { IfOk result (λ l. link_view l ≡ climbed soa.now name.now (type_number kind) records.now name.now) }
 {
     name.is_well_formed();
@@ -191,6 +193,7 @@ fn wildcard<A: Heap>(
     kind: RType,
     encloser: &Name<A>,
 ) -> Result<Link<A>, Starved>
+    requires { HaveOneTtl records.now }
     ensures { IfOk result (λ l. link_view l ≡ said_wild soa.now name.now (type_number kind) (at (target true encloser.now) records.now)) }
 {
     if is_held(records, encloser, true) {
@@ -278,7 +281,8 @@ fn glue<A: Heap>(
 }
 
 /// What a zone's records give for a name and a type, by a walk over all of them: what look-up by the tree is compared
-/// with. `soa` is the SOA of the zone's negative answers.
+/// with. `soa` is the SOA of the zone's negative answers. That records of one owner and type have one TTL is one of a
+/// zone's rules.
 pub fn look_in<A: Heap>(
     alloc: A,
     origin: &Name<A>,
@@ -287,6 +291,7 @@ pub fn look_in<A: Heap>(
     name: &Name<A>,
     kind: RType,
 ) -> Result<Local<A>, Starved>
+    requires { HaveOneTtl records.now }
     ensures { IfOk result (λ l. local_view l ≡ local_by soa.now record { origin = origin.now; records = records.now } name.now (type_number kind)) }
 {
     match cut_over(origin, records, name)? {
@@ -296,9 +301,11 @@ pub fn look_in<A: Heap>(
 }
 
 fn refer<A: Heap>(alloc: A, records: &[Record<A>], cut: Name<A>) -> Result<Local<A>, Starved>
+    requires { HaveOneTtl records.now }
     ensures { IfOk result (λ l. (origin : List (List ℕ)) → local_view l ≡ Cut cut (ns_of record { origin = origin; records = records.now } cut) (glue_of records.now (ns_of record { origin = origin; records = records.now } cut))) }
 {
-    let servers = gathered(alloc, records, &cut, RType::Ns, &cut, false)?;
+    let set = gathered(alloc, records, &cut, RType::Ns, &cut, false)?;
+    let servers = records_in(alloc, set)?;
     let addresses = glue(alloc, records, servers.as_slice())?;
     Ok(Local::Cut(cut, servers, addresses))
 }
@@ -312,7 +319,8 @@ fn link<A: Heap>(
     name: &Name<A>,
     kind: RType,
 ) -> Result<Link<A>, Starved>
-    requires { cut_of record { origin = origin.now; records = records.now } name.now ≡ None }
+    requires uncut { cut_of record { origin = origin.now; records = records.now } name.now ≡ None }
+    requires ttls { HaveOneTtl records.now }
     ensures { IfOk result (λ l. link_view l ≡ link_by soa.now record { origin = origin.now; records = records.now } name.now (type_number kind)) }
 {
     if has_owner_under(records, name) {

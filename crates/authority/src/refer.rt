@@ -4,12 +4,13 @@ ghost use Rattle.zone.specs.Look.{ns_of, glue_of, add_glue, is_address, addresse
 ghost use Rattle.authority.specs.Answers.{local_view};
 
 use crate::answer::Local;
+use crate::gather::records_in;
 use crate::held::set_of;
 use crate::plain::{is_kind, put_glue};
 use dname::{Heap, Name, Starved};
 use rdata::{RData, RType, Record, Records};
 use std::alloc::Allocator;
-use zone::{Held, Zone};
+use zone::{Held, Zone, zone_keeps_rules};
 
 fn is_address<A: Allocator>(added: &Record<A>) -> bool
     ensures { result ≡ is_address added.now }
@@ -59,8 +60,12 @@ fn glue<A: Heap>(alloc: A, zone: &Zone<A>, servers: &[Record<A>]) -> Result<Reco
 fn servers<A: Heap>(alloc: A, zone: &Zone<A>, cut: &Name<A>) -> Result<Records<A>, Starved>
     ensures { IfOk result (λ set. set ≡ ns_of zone.now cut.now) }
 {
+    zone_keeps_rules(zone);
     match zone.stand(cut) {
-        Some(stand) => Ok(set_of(alloc, &stand.own, cut, RType::Ns)?),
+        Some(stand) => {
+            let set = set_of(alloc, &stand.own, cut, RType::Ns)?;
+            Ok(records_in(alloc, set)?)
+        }
         None => Ok(Records::new(alloc)),
     }
 }

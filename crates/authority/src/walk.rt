@@ -7,16 +7,17 @@ ghost use Rattle.zone.specs.Zones.{ns_type};
 ghost use Rattle.zone.specs.Links.{NxDomain};
 ghost use Rattle.zone.specs.Look.{is_type, local_by, said};
 ghost use Rattle.authority.specs.Answers.{link_view, local_view};
+ghost use Rattle.authority.specs.Values.{IsTimed, AreTimedIn};
 ghost use Rattle.authority.specs.Walk.{own_of, wild_of, near_or, met, told, IsWalk};
 
 use crate::answer::{Link, Local};
 use crate::held::{has_type, say, say_wild};
 use crate::plain::first_or;
 use crate::refer::refer;
-use dname::{Heap, Name, Starved};
+use dname::{Heap, Name, Starved, Suffix};
 use rdata::{RType, Record};
 use std::alloc::Allocator;
-use zone::{Held, Stand, Zone};
+use zone::{Held, Stand, Zone, zone_keeps_rules};
 
 // What a walk up from a name finds.
 #[derive(Drop)]
@@ -45,12 +46,12 @@ fn has_servers<A: Allocator>(stand: &Option<Stand<'_, A>>) -> bool
 fn cut_if<A: Heap>(
     zone: &Zone<A>,
     has_servers: bool,
-    name: &Name<A>,
+    name: &Suffix<'_>,
 ) -> Result<Option<Name<A>>, Starved>
     ensures { IfOk result (λ c. c ≡ cond (has_servers && not (same_name name.now zone.now.origin)) (Some name.now) None) }
 {
-    if has_servers && *name != *zone.origin() {
-        return Ok(Some(name.clone()?));
+    if has_servers && !name.is(zone.origin()) {
+        return Ok(Some(name.to_name(zone.origin().allocator())?));
     }
     Ok(None)
 }
@@ -76,13 +77,14 @@ fn walk_up<'a, A: Heap>(zone: &'a Zone<A>, name: &Name<A>) -> Result<Walk<'a, A>
     ensures { IfOk result (λ w. IsWalk zone.now name.now w) }
 {
     name.is_well_formed();
-    let here = zone.stand(name);
-    let mut cut = cut_if(zone, has_servers(&here), name)?;
+    zone_keeps_rules(zone);
+    let mut up = name.suffix();
+    let here = zone.stand_at(&up);
+    let mut cut = cut_if(zone, has_servers(&here), &up)?;
     let mut near = None;
     let mut count = 1;
-    let mut up = name.clone()?;
     'up: while up.ascend() {
-        let stand = zone.stand(&up);
+        let stand = zone.stand_at(&up);
         cut = first_or(cut_if(zone, has_servers(&stand), &up)?, cut);
         near = nearer(near, stand);
         count += 1;
@@ -103,6 +105,7 @@ fn link_above<A: Heap>(
     name: &Name<A>,
     kind: RType,
 ) -> Result<Link<A>, Starved>
+    requires { AreTimedIn near }
     ensures { IfOk result (λ l. link_view l ≡ met soa.now name.now (type_number kind) near.entry (NxDomain soa.now)) }
 {
     match near {
@@ -120,6 +123,8 @@ fn link<A: Heap>(
     name: &Name<A>,
     kind: RType,
 ) -> Result<Link<A>, Starved>
+    requires here { IsTimed here }
+    requires near { AreTimedIn near }
     ensures { IfOk result (λ l. link_view l ≡ told soa.now name.now (type_number kind) here.entry near.entry) }
 {
     match here {

@@ -3,10 +3,10 @@
 use crate::made::Maker;
 use authority::{Catalog, Link, Local, look_in};
 use dname::{Heap, Name, Starved};
-use rdata::{RType, Record};
+use rdata::{RType, Record, RecordSet};
 use std::alloc::Allocator;
 use std::test::Fail;
-use zone::Zone;
+use zone::{Zone, zone_keeps_rules};
 
 fn is_same<A: Allocator>(one: &Record<A>, other: &Record<A>) -> bool {
     one.owner == other.owner && one.ttl == other.ttl && one.value == other.value
@@ -21,9 +21,21 @@ fn are_same<A: Allocator>(these: &[Record<A>], those: &[Record<A>]) -> bool {
             .all(|(one, other)| is_same(one, other))
 }
 
+// The same owner and TTL, and the same data in the same order.
+fn is_same_set<A: Allocator>(these: &RecordSet<A>, those: &RecordSet<A>) -> bool {
+    these.owner == those.owner
+        && these.ttl == those.ttl
+        && these.values.len() == those.values.len()
+        && these
+            .values
+            .iter()
+            .zip(&those.values)
+            .all(|(one, other)| one == other)
+}
+
 fn is_same_link<A: Allocator>(one: &Link<A>, other: &Link<A>) -> bool {
     match (one, other) {
-        (Link::Found(these), Link::Found(those)) => are_same(these.as_slice(), those.as_slice()),
+        (Link::Found(these), Link::Found(those)) => is_same_set(these, those),
         (Link::Alias(one), Link::Alias(other)) => is_same(one, other),
         (Link::NoData(one), Link::NoData(other)) => is_same(one, other),
         (Link::NxDomain(one), Link::NxDomain(other)) => is_same(one, other),
@@ -51,6 +63,7 @@ fn answer_alike<A: Heap>(
     asked: &Name<A>,
     kind: RType,
 ) -> Result<bool, Starved> {
+    zone_keeps_rules(zone);
     let (origin, soa, records) = (zone.origin(), zone.denial(), zone.records());
     let by_list = look_in(alloc, origin, soa, records, asked, kind)?;
     let by_tree = catalog.look(alloc, asked, kind)?;

@@ -107,11 +107,10 @@ fn described<A: Heap>(
 ) -> Result<(&'static str, String<A>, usize, usize), Starved> {
     match said {
         Local::Link(Link::Found(set)) => {
-            let owner = match set.as_slice() {
-                [first, ..] => first.owner.to_text()?,
-                [] => String::new(alloc),
-            };
-            Ok(("found", owner, set.len(), 0))
+            let owner = set.owner.to_text();
+            let count = set.len();
+            drop(set);
+            Ok(("found", owner?, count, 0))
         }
         Local::Link(Link::Alias(alias)) => Ok(("alias", alias.owner.to_text()?, 1, 0)),
         Local::Link(Link::NoData(soa)) => Ok(("no data", soa.owner.to_text()?, 0, 0)),

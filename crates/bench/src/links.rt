@@ -6,7 +6,7 @@ use authority::Link;
 use cache::Cache;
 use dname::{Name, Starved};
 use lru::DefaultHasher;
-use rdata::{Addr, RData, RType, Record, Records};
+use rdata::{Addr, RData, RType, Record, RecordSet};
 use std::alloc::Global;
 use std::hash::BuildHasherDefault;
 use std::num::NonZeroUsize;
@@ -32,13 +32,12 @@ fn hosts(alloc: Global, count: u64) -> Result<Vec<Name>, Starved> {
 }
 
 fn link_of(alloc: Global, owner: &Name) -> Result<Link, Starved> {
-    let mut set = Records::new(alloc);
-    set.push(Record {
+    let only = Record {
         owner: owner.clone()?,
         ttl: 300,
         value: RData::A(Addr([192, 0, 2, 1])),
-    })?;
-    Ok(Link::Found(set))
+    };
+    Ok(Link::Found(RecordSet::alone(alloc, only)?))
 }
 
 fn links(alloc: Global, names: &[Name]) -> Result<Vec<Link>, Starved> {

@@ -2,8 +2,8 @@
 //!
 //! Without words each kind of work (`Work`) is done a few times and its sum printed, the same each time; with the
 //! word `measure` it is done often, and nanoseconds for one time are printed; a step that takes over 1.5 times as long
-//! with 1,024 queries open as with one then makes the status 1. Both print how often one message read or written asks
-//! for memory.
+//! with 1,024 queries open as with one then makes the status 1. Both print how often one message read or written,
+//! and one answer that is known, asks for memory.
 //! Nothing is proved of it but that it is safe.
 //!
 //! ```text
@@ -11,6 +11,7 @@
 //! ```
 #![tactic(auto)]
 
+mod answers;
 mod links;
 mod made_worlds;
 mod messages;
@@ -18,10 +19,11 @@ mod names;
 mod open_asks;
 mod resident;
 mod steps;
+mod sums;
 mod work;
 mod zones;
 
-use crate::work::{ALL, Counted, ON_MESSAGES, ON_STEPS, Work};
+use crate::work::{ALL, COUNTED, Counted, ON_STEPS, Work};
 use anyhow::{Result, ensure};
 use std::env;
 use std::io::Write;
@@ -39,7 +41,7 @@ fn main(rt: HostRuntime) -> Result<()> {
             sample(&rt, work)?;
         }
     }
-    for work in ON_MESSAGES {
+    for work in COUNTED {
         println!(rt; "{work}: {} growths of memory", work.growths(&rt)?)?;
     }
     if measures {

@@ -1,4 +1,5 @@
 //! Work on messages.
+use crate::sums::low;
 use dname::{Heap, Name};
 use rdata::{Addr, RData, Record};
 use wire::{Message, TCP_LIMIT, WireError, decode, encode};
@@ -6,10 +7,6 @@ use wire::{Message, TCP_LIMIT, WireError, decode, encode};
 // The address of www.example., as a local zone gives it.
 const REPLY: &[u8] =
     b"\x124\x85\x80\0\x01\0\x01\0\0\0\0\x03www\x07example\0\0\x01\0\x01\xc0\x0c\0\x01\0\x01\0\0\x01\x2c\0\x04\xc0\0\x02\x01";
-
-fn low(size: usize) -> u64 {
-    (size % 65_536) as u64
-}
 
 fn decoded<A: Heap>(alloc: A, bytes: &[u8], rounds: u64) -> Result<u64, WireError> {
     let mut sum = 0u64;

@@ -1,15 +1,12 @@
 //! Work on names and records.
+use crate::sums::low;
 use dname::{Name, NameError};
-use rdata::{Addr, RData, Record, Records, dedup_set};
+use rdata::{Addr, RData, RType, Record, Records, set_at};
 use std::alloc::Global;
 use std::cmp::Ordering;
 use std::hash::{BuildHasher, BuildHasherDefault, FoldHasher};
 
 const TEXT: &str = "www77.sub.example.com.";
-
-fn low(size: usize) -> u64 {
-    (size % 65_536) as u64
-}
 
 pub fn read(alloc: Global, rounds: u64) -> Result<u64, NameError> {
     let mut sum = 0u64;
@@ -83,9 +80,12 @@ fn addresses(alloc: Global) -> Result<Records, NameError> {
 
 pub fn make_set(alloc: Global, rounds: u64) -> Result<u64, NameError> {
     let records = addresses(alloc)?;
+    let owner = Name::from_text(alloc, TEXT)?;
     let mut sum = 0u64;
     for _ in 0..rounds {
-        sum = sum.wrapping_add(low(dedup_set(alloc, records.as_slice())?.len()));
+        if let Some(set) = set_at(alloc, records.as_slice(), &owner, RType::A)? {
+            sum = sum.wrapping_add(low(set.len()));
+        }
     }
     Ok(sum)
 }

@@ -8,6 +8,7 @@ use rdata::Addr;
 use std::rt::Runtime;
 use std::time::Instant;
 use wire::{TCP_LIMIT, Via};
+use zone::Zone;
 
 const SETTINGS: Settings = Settings {
     cache: 1_024,
@@ -18,9 +19,10 @@ const SETTINGS: Settings = Settings {
     seed: [7; 32],
 };
 
-// The server of the root, and another one.
-const ROOT: Addr = Addr([192, 0, 2, 1]);
+/// The server of the root.
+pub const ROOT: Addr = Addr([192, 0, 2, 1]);
 
+// Another one.
 const STRANGER: Addr = Addr([192, 0, 2, 2]);
 
 // A client's query for www.example. A with RD.
@@ -30,7 +32,8 @@ const QUERY: &[u8] = b"\0\x05\x01\0\0\x01\0\0\0\0\0\0\x03www\x07example\0\0\x01\
 const REPLY: &[u8] =
     b"\x84\0\0\x01\0\x01\0\0\0\0\x03www\x07example\0\0\x01\0\x01\xc0\x0c\0\x01\0\x01\0\0\0\0\0\x04\xc0\0\x02\x09";
 
-fn message<A: Heap>(alloc: A, id: &[u8], rest: &[u8]) -> Result<Bytes<A>, Starved> {
+/// A message of that ID and rest.
+pub fn message<A: Heap>(alloc: A, id: &[u8], rest: &[u8]) -> Result<Bytes<A>, Starved> {
     let mut bytes = Vec::from_slice(alloc, id)?;
     bytes.extend_from_slice(rest)?;
     if bytes.len() > TCP_LIMIT {
@@ -39,7 +42,8 @@ fn message<A: Heap>(alloc: A, id: &[u8], rest: &[u8]) -> Result<Bytes<A>, Starve
     Ok(Bytes::new(bytes))
 }
 
-fn query<A: Heap>(alloc: A) -> Result<Event<A>, Starved> {
+/// A client's query for www.example. A.
+pub fn query<A: Heap>(alloc: A) -> Result<Event<A>, Starved> {
     Ok(Event::Client {
         moment: 0,
         client: 1,
@@ -60,9 +64,10 @@ fn datagram<A: Heap>(alloc: A, socket: u16, from: Addr, id: &[u8]) -> Result<Eve
     })
 }
 
-fn core<A: Heap>(alloc: A) -> Result<Core<A>, Starved> {
+/// A resolver with these local zones.
+pub fn core<A: Heap>(alloc: A, local: Vec<Zone<A>, A>) -> Result<Core<A>, Starved> {
     let config = Config {
-        local: Vec::new(alloc),
+        local,
         hints: Vec::from_slice(alloc, &[ROOT])?,
         settings: SETTINGS,
     };
@@ -74,7 +79,7 @@ fn core<A: Heap>(alloc: A) -> Result<Core<A>, Starved> {
 
 // A resolver with so many open queries.
 fn with_open<A: Heap>(alloc: A, open: u16) -> Result<Core<A>, Starved> {
-    let mut core = core(alloc)?;
+    let mut core = core(alloc, Vec::new(alloc))?;
     let query = query(alloc)?;
     for _ in 0..open {
         core.step(&query)?;

@@ -1,6 +1,7 @@
 //! The kinds of work.
 ghost use Rattle.std.specs.Prelude.{◌<◌};
 
+use crate::answers::{self, Known};
 use crate::{links, made_worlds, messages, names, open_asks, steps, zones};
 use anyhow::Result;
 use dname::Heap;
@@ -56,9 +57,11 @@ pub enum Work {
     PassDatagram(u16),
     /// A client's query and the datagram that answers it, two steps, with so many queries open between them.
     AnswerQuery(u16),
+    /// A client's query whose answer is known.
+    KnownAnswer(Known),
 }
 
-pub const ALL: [Work; 35] = [
+pub const ALL: [Work; 39] = [
     Work::ReadName,
     Work::WriteName,
     Work::HashName,
@@ -94,6 +97,10 @@ pub const ALL: [Work; 35] = [
     Work::PassDatagram(1_024),
     Work::AnswerQuery(1),
     Work::AnswerQuery(1_024),
+    Work::KnownAnswer(Known::Zone),
+    Work::KnownAnswer(Known::Cache(1)),
+    Work::KnownAnswer(Known::Cache(3)),
+    Work::KnownAnswer(Known::Cache(20)),
 ];
 
 /// Steps with one query open, and the same with 1,024: as queries are found by index, they take as long.
@@ -102,12 +109,16 @@ pub const ON_STEPS: [[Work; 2]; 2] = [
     [Work::AnswerQuery(1), Work::AnswerQuery(1_024)],
 ];
 
-/// Work on messages.
-pub const ON_MESSAGES: [Work; 4] = [
+/// Work whose growths of memory are counted.
+pub const COUNTED: [Work; 8] = [
     Work::DecodeReply,
     Work::EncodeReply,
     Work::DecodeTwenty,
     Work::EncodeTwenty,
+    Work::KnownAnswer(Known::Zone),
+    Work::KnownAnswer(Known::Cache(1)),
+    Work::KnownAnswer(Known::Cache(3)),
+    Work::KnownAnswer(Known::Cache(20)),
 ];
 
 /// What was counted beside the time.
@@ -166,6 +177,10 @@ impl fmt::Display for Work {
             Work::FindAskOfMany => "ask found among 1,024",
             Work::PassDatagram(open) => return write!(f, "datagram passed over among {open}"),
             Work::AnswerQuery(open) => return write!(f, "query answered among {open}"),
+            Work::KnownAnswer(Known::Zone) => "answer of a local zone",
+            Work::KnownAnswer(Known::Cache(count)) => {
+                return write!(f, "cached answer of {count}");
+            }
         })
     }
 }
@@ -181,7 +196,7 @@ impl Work {
             Work::FindAskOfOne | Work::FindAskOfMany | Work::PassDatagram(_) => 10_000_000,
             Work::DecodeReply | Work::EncodeReply => 1_000_000,
             Work::KeepLink | Work::FindLink | Work::Look(..) => 1_000_000,
-            Work::AnswerQuery(_) => 1_000_000,
+            Work::AnswerQuery(_) | Work::KnownAnswer(_) => 1_000_000,
             Work::DecodeTwenty | Work::EncodeTwenty => 100_000,
             Work::ReadZone | Work::BuildHundredThousand => 100_000,
             Work::MakeSet | Work::BuildTenThousand => 10_000,
@@ -204,6 +219,7 @@ impl Work {
             Work::FindAskOfMany => open_asks::find(rt, 1_024, rounds),
             Work::PassDatagram(open) => steps::pass(rt, open, rounds),
             Work::AnswerQuery(open) => steps::answer(rt, open, rounds),
+            Work::KnownAnswer(known) => answers::serve(rt, known, rounds),
             _ => {
                 let start = Instant::now(rt)?;
                 let sum = self.times(rt, rounds)?;
@@ -242,8 +258,11 @@ impl Work {
         }
     }
 
-    /// How often memory is asked for when work on a message is done once.
+    /// How often memory is asked for when such work is done once.
     pub fn growths<R: Runtime + AllocGlobal>(self, rt: &R) -> Result<u64> {
+        if let Work::KnownAnswer(known) = self {
+            return answers::growths(rt, known);
+        }
         let before = Refusing::new(rt.alloc());
         self.on_messages(&before, 0)?;
         let once = Refusing::new(rt.alloc());

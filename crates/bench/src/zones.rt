@@ -1,5 +1,6 @@
 //! Work on zones.
 use crate::resident::resident;
+use crate::sums::low;
 use crate::work::{Asked, Counted, Done};
 use anyhow::Result;
 use authority::{Catalog, Local};
@@ -9,10 +10,6 @@ use std::alloc::Global;
 use std::rt::Runtime;
 use std::time::Instant;
 use zone::Zone;
-
-fn low(size: usize) -> u64 {
-    (size % 65_536) as u64
-}
 
 fn origin(alloc: Global) -> Result<Name, Starved> {
     name(alloc, "lab.example.")

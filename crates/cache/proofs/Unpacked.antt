@@ -1,28 +1,59 @@
 -- What the steps on links as they lie in memory are on the links that they stand for.
-use Rattle.std.proofs.Common.{◌≡◌, ℕ, ◌+◌, ◌<◌, Bool, true, false, cond, List, [], ◌∷◌, ◌++◌, map, take, length, get_or, Option, Some, None, sym, ap, ◌∙◌, subst}
+use Rattle.std.proofs.Common.{◌≡◌, ℕ, ◌<◌, Bool, true, false, cond, List, [], ◌∷◌, map, length, get_or, Option, Some, None, refl, sym, ap, ◌∙◌, subst, arith}
 use Rattle.std.specs.Prelude.{option_map}
-use Rattle.std.proofs.lemmas.List.{take_more, map_push}
 use Rattle.std.specs.Map.{lookup, remove_entry}
 use Rattle.lru.specs.LruCache.{LruCache, lru_cache, IsValid, put_entries, promoted}
 use Rattle.dname.specs.Labels.{same_name}
 use Rattle.dname.specs.Laws.{same_name-exact}
+use Rattle.rdata.specs.Data.{Datum}
+use Rattle.rdata.specs.Kept.{datum}
 use Rattle.rdata.specs.Records.{Record}
+use Rattle.rdata.specs.Rows.{row, rows, first_in}
+use Rattle.rdata.specs.declared.data.RData.{RData}
+use Rattle.zone.specs.Links.{Found, Alias}
 use Rattle.recency.proofs.Kept.{put_is_kept, promoted_is_used}
 use Rattle.recency.proofs.Mapped.{valid_mapped, looked_mapped, kept_mapped, used_mapped, removed_mapped}
 use Rattle.cache.specs.Keys.{Key, same_key}
-use Rattle.cache.specs.Cached.{Hit, is_live, live_from, live_at}
-use Rattle.cache.specs.Packed.{Unowned, Packed, owned, hit_of_packed, unpacked}
+use Rattle.cache.specs.Cached.{Hit, as_alias, is_live, live_from, live_at}
+use Rattle.cache.specs.Packed.{Unowned, Packed, owned, unowned, hit_of_packed, unpacked}
 use Rattle.cache.specs.Laws.{same_key_exact}
 
 -- A record of the key's name is known without its owner.
 pub owned_is : (q : List (List ℕ)) (r : Record) (u : Unowned) → same_name r.owner q ≡ true → u.ttl ≡ r.ttl → u.value ≡ r.value → owned q u ≡ r
 owned_is q r u e t v = λ i. record { owner = sym (same_name-exact r.owner q e) i; ttl = t i; value = v i }
 
--- One record more, in a loop.
-pub stripped_more : {X Y : Type 0} (f : X → Y) (xs : List Y) (old new : List X) (i : ℕ) (x : X) (y : Y) → i < length xs → map f old ≡ take i xs → new ≡ old ++ x ∷ [] → f x ≡ y → y ≡ get_or xs i y
-    → map f new ≡ take (i + 1) xs
-stripped_more {X} {Y} f xs old new i x y lt eo en ex ey =
-    ap (map f) en ∙ (map_push f old x ∙ (ap (λ (l : List Y). l ++ f x ∷ []) eo ∙ (ap (λ (z : Y). take i xs ++ z ∷ []) (ex ∙ ey) ∙ sym (take_more xs i y lt))))
+-- A set of the key's name is known without its owner.
+pub owned_rows : {H : Type 0} (q : List (List ℕ)) (t : ℕ) (vs : List (RData H)) → map (owned q) (map (unowned t) (map datum vs)) ≡ rows q t vs
+owned_rows q t [] = refl
+owned_rows q t (v ∷ vs) = ap (λ (l : List Record). row q t v ∷ l) (owned_rows q t vs)
+
+pub set_without : {H : Type 0} (q o : List (List ℕ)) (t : ℕ) (vs ws : List (RData H)) (set : List Record) → same_name o q ≡ true → rows o t vs ≡ set → map datum ws ≡ map datum vs
+    → map (owned q) (map (unowned t) (map datum ws)) ≡ set
+set_without q o t vs ws set e is same =
+    ap (λ (ds : List Datum). map (owned q) (map (unowned t) ds)) same ∙ (owned_rows q t vs ∙ (ap (λ (n : List (List ℕ)). rows n t vs) (sym (same_name-exact o q e)) ∙ is))
+
+pub set_with : {H : Type 0} (q o : List (List ℕ)) (t : ℕ) (vs ws : List (RData H)) (us : List Unowned) → o ≡ q → map (unowned t) (map datum vs) ≡ us → map datum ws ≡ map datum vs → rows o t ws ≡ map (owned q) us
+set_with q o t vs ws us e is same =
+    ap (λ (n : List (List ℕ)). rows n t ws) e ∙ (sym (owned_rows q t ws) ∙ (ap (λ (ds : List Datum). map (owned q) (map (unowned t) ds)) same ∙ ap (map (owned q)) is))
+
+-- A set of one.
+pub only_is : {H : Type 0} (q o : List (List ℕ)) (t : ℕ) (vs : List (RData H)) (v w : RData H) (set : List Record) → same_name o q ≡ true → rows o t vs ≡ set → length vs ≡ 1 → v ≡ get_or vs 0 v → datum w ≡ datum v
+    → owned q (record { ttl = t; value = datum w }) ∷ [] ≡ set
+only_is q o t [] v w set e is one at_0 same = absurd (omega (arith, one))
+only_is q o t (x ∷ []) v w set e is one at_0 same =
+    (λ i. record { owner = sym (same_name-exact o q e) i; ttl = t; value = (same ∙ ap datum at_0) i } ∷ []) ∙ is
+only_is q o t (x ∷ y ∷ vs) v w set e is one at_0 same = absurd (omega (arith, one))
+
+-- The first of a set.
+pub first_with : {H : Type 0} (q o : List (List ℕ)) (t : ℕ) (vs : List (RData H)) (v w : RData H) (us : List Unowned) → o ≡ q → map (unowned t) (map datum vs) ≡ us → 0 < length vs → v ≡ get_or vs 0 v → datum w ≡ datum v
+    → Some (record { owner = o; ttl = t; value = datum w }) ≡ first_in (map (owned q) us)
+first_with q o t [] v w us e is some at_0 same = absurd (omega (arith, some))
+first_with q o t (x ∷ vs) v w us e is some at_0 same =
+    (λ i. Some (record { owner = e i; ttl = t; value = (same ∙ ap datum at_0) i })) ∙ ap (λ (l : List Unowned). first_in (map (owned q) l)) is
+
+pub first_alias : (rs : List Record) (r : Record) → Some r ≡ first_in rs → Some (Alias r) ≡ as_alias (Found rs)
+first_alias [] r e = absurd (cc)
+first_alias (x ∷ rs) r e = ap (option_map Alias) e
 
 abbrev at : Key → Packed → Hit
 at k p = hit_of_packed k.name p

@@ -7,6 +7,6 @@ use Rattle.cache.specs.declared.packed.Form.TheVariants as form
 
 abbrev pub form_view : {H : Type 0} → Form H → packed.Form
 form_view (form.One u) = packed.Set (u ∷ [])
-form_view (form.Many us) = packed.Set us.items
+form_view (form.Many us) = packed.Set us
 form_view (form.Alias u) = packed.Alias u
 form_view (form.Whole l) = packed.Whole (link_view l.value)

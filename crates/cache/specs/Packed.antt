@@ -12,6 +12,9 @@ pub record Unowned : Type 0 where
   pub ttl : ℕ
   pub value : Datum
 
+abbrev pub unowned : ℕ → Datum → Unowned
+unowned ttl d = record { ttl = ttl; value = d }
+
 -- A set and an alias whose owners are the key's name, and any link.
 pub data Form : Type 0 where
   Set : List Unowned → Form

@@ -27,6 +27,8 @@ use std::num::NonZeroUsize;
 #[derive(Drop)]
 pub struct Cache<S: BuildHasher + Drop, A: Allocator = Global> {
     entries: LruCache<Key<A>, Packed<A>, S, A>,
+    // The key of the last look-up: the next one takes its memory.
+    asked: Option<Key<A>>,
 }
 
 impl<S: BuildHasher + Drop, A: Allocator> Model for Cache<S, A> {
@@ -69,6 +71,7 @@ impl<S: BuildHasher + Drop, A: Heap> Cache<S, A> {
     {
         Ok(Cache {
             entries: no_entries(alloc, cap, hasher)?,
+            asked: None,
         })
     }
 
@@ -143,13 +146,52 @@ impl<S: BuildHasher + Drop, A: Heap> Cache<S, A> {
         ensures missed { IfOk result (λ h. IfNone h (IsMiss name.now (type_number kind) now self.old.entries)) }
         ensures members { HasSame self.old.entries self.new.entries }
     {
-        let mut key = Key {
-            name: name.clone()?,
-            slot: Slot::NameError,
-        };
-        let hit = self.find(&mut key, kind, now)?;
+        let mut key = self.key_of(name)?;
+        let hit = self.look_at(&mut key, kind, now)?;
+        self.put_back(key);
+        Ok(hit)
+    }
+
+    // The key of this name's error, in the memory of the last look-up's key.
+    fn key_of(&mut self, name: &Name<A>) -> Result<Key<A>, Starved>
+        ensures key { IfOk result (λ k. k.name ≡ name.now) }
+        ensures same { self.new ≡ self.old }
+    {
+        match self.asked.take() {
+            Some(mut key) => {
+                key.name.copy_from(name)?;
+                Ok(key)
+            }
+            None => Ok(Key {
+                name: name.clone()?,
+                slot: Slot::NameError,
+            }),
+        }
+    }
+
+    fn put_back(&mut self, key: Key<A>)
+        ensures { self.new ≡ self.old }
+    {
+        self.asked = Some(key);
+    }
+
+    // What is kept for the key's name and this type; the key becomes the one that answered.
+    fn look_at(
+        &mut self,
+        key: &mut Key<A>,
+        kind: RType,
+        now: u64,
+    ) -> Result<Option<Hit<A>>, Starved>
+        ensures value { IfOk result (λ h. h ≡ hit_of (lent (alone key.old.name (type_number kind)) now self.old.entries)) }
+        ensures ok { OnOk result (self.new ≡ lru_cache (moved (lent (alone key.old.name (type_number kind)) now self.old.entries) self.old.entries) self.old.cap) }
+        ensures err { OnErr result (self.new ≡ self.old) }
+        ensures held { IfOk result (λ h. IfSome h (IsHeld key.old.name (type_number kind) now self.old.entries)) }
+        ensures missed { IfOk result (λ h. IfNone h (IsMiss key.old.name (type_number kind) now self.old.entries)) }
+        ensures members { HasSame self.old.entries self.new.entries }
+    {
+        let hit = self.find(key, kind, now)?;
         if hit.is_some() {
-            self.entries.promote(&key);
+            self.entries.promote(&*key);
         }
         Ok(hit)
     }

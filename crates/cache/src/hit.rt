@@ -8,7 +8,7 @@ ghost use Rattle.cache.specs.Cached.{is_live, as_set, as_alias, retimed, seconds
 
 use authority::Link;
 use dname::{Heap, Starved};
-use rdata::{Record, Records};
+use rdata::{Record, RecordSet};
 use std::alloc::{AllocError, Allocator, Global};
 use std::marker::Model;
 
@@ -90,9 +90,9 @@ pub fn retimed<A: Allocator>(link: Link<A>, ttl: u32) -> Link<A>
     ensures { link_view result ≡ retimed ttl (link_view link) }
 {
     match link {
-        Link::Found(mut records) => {
-            records.set_ttl(ttl);
-            Link::Found(records)
+        Link::Found(mut set) => {
+            set.set_ttl(ttl);
+            Link::Found(set)
         }
         Link::Alias(record) => Link::Alias(with_ttl(record, ttl)),
         Link::NoData(soa) => Link::NoData(with_ttl(soa, ttl)),
@@ -118,9 +118,7 @@ pub(crate) fn is_young(ttl: u32, since: u64, now: u64) -> bool
 pub(crate) fn set_of_one<A: Heap>(alloc: A, only: Record<A>) -> Result<Link<A>, Starved>
     ensures { IfOk result (λ l. link_view l ≡ Found (only ∷ [])) }
 {
-    let mut records = Records::new(alloc);
-    records.push(only)?;
-    Ok(Link::Found(records))
+    Ok(Link::Found(RecordSet::alone(alloc, only)?))
 }
 
 // The link as the answer for the type under which it stands.
@@ -138,10 +136,7 @@ pub(crate) fn alias_of<A: Heap>(link: &Link<A>) -> Result<Option<Link<A>>, Starv
     ensures { IfOk result (λ l. option_map link_view l ≡ as_alias (link_view link.now)) }
 {
     match link {
-        Link::Found(records) => match records.as_slice().first() {
-            Some(record) => Ok(Some(Link::Alias(record.clone()?))),
-            None => Ok(None),
-        },
+        Link::Found(set) => Ok(Some(Link::Alias(set.first()?))),
         Link::Alias(record) => Ok(Some(Link::Alias(record.clone()?))),
         Link::NoData(_) | Link::NxDomain(_) => Ok(None),
     }

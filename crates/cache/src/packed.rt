@@ -1,6 +1,7 @@
 //! Links as they lie in memory: an owner that is the key's name is not kept once more.
-ghost use Rattle.std.specs.Prelude.{◌≡◌, ◌≤◌, ℕ, List, map, IfOk, IfSome, Some, option_map};
+ghost use Rattle.std.specs.Prelude.{◌≡◌, ◌≤◌, ℕ, List, [], ◌∷◌, map, IfOk, IfSome, Some, option_map};
 ghost use Rattle.rdata.specs.Records.{greatest_ttl};
+ghost use Rattle.rdata.specs.Rows.{first_in};
 ghost use Rattle.authority.specs.Answers.{link_view};
 ghost use Rattle.cache.specs.Cached.{is_live, as_set, as_alias, with_link, as_kept};
 ghost use Rattle.cache.specs.Packed.{owned, link_of, hit_of_packed};
@@ -9,7 +10,7 @@ ghost use Rattle.cache.specs.Forms.{form_view};
 use crate::hit::{Hit, alias_of, is_young, set_of, set_of_one};
 use authority::Link;
 use dname::{Heap, Name, Starved};
-use rdata::{RData, Record, Records};
+use rdata::{RData, Record, RecordSet, copy_values};
 use std::alloc::{Allocator, Global};
 use std::marker::Model;
 
@@ -48,6 +49,19 @@ impl<A: Heap> Unowned<A> {
         }))
     }
 
+    // The record of a set, if it has no other and this name owns it.
+    fn only(name: &Name<A>, source: &RecordSet<A>) -> Result<Option<Unowned<A>>, Starved>
+        ensures { IfOk result (λ u. IfSome u (λ u. owned name.now u ∷ [] ≡ source.now)) }
+    {
+        if source.owner != *name || source.values.len() != 1 {
+            return Ok(None);
+        }
+        Ok(Some(Unowned {
+            ttl: source.ttl,
+            value: source.values[0].clone()?,
+        }))
+    }
+
     // The record of this owner.
     fn owned(&self, name: &Name<A>) -> Result<Record<A>, Starved>
         ensures { IfOk result (λ r. r ≡ owned name.now self.now) }
@@ -60,33 +74,63 @@ impl<A: Heap> Unowned<A> {
     }
 }
 
-// The records, if this name owns them all.
-fn without_owner<A: Heap>(
-    alloc: A,
-    name: &Name<A>,
-    records: &[Record<A>],
-) -> Result<Option<Vec<Unowned<A>, A>>, Starved>
-    ensures { IfOk result (λ us. IfSome us (λ us. map (owned name.now) us.items ≡ records.now)) }
-{
-    let mut all = Vec::with_capacity(alloc, records.len())?;
-    for source in records {
-        match Unowned::of(name, source)? {
-            Some(added) => all.push(added)?,
-            None => return Ok(None),
-        }
-    }
-    Ok(Some(all))
+/// A record set whose owner is the name of the key under which it is kept.
+#[derive(Drop)]
+pub struct UnownedSet<A: Allocator = Global> {
+    ttl: u32,
+    values: Vec<RData<A>, A>,
 }
 
-// The records of this owner.
-fn with_owner<A: Heap>(alloc: A, name: &Name<A>, all: &[Unowned<A>]) -> Result<Records<A>, Starved>
-    ensures { IfOk result (λ rs. rs ≡ map (owned name.now) all.now) }
-{
-    let mut records = Records::with_capacity(alloc, all.len())?;
-    for source in all {
-        records.push(source.owned(name)?)?;
+impl<A: Allocator> Model for UnownedSet<A> {
+    ghost use Rattle.std.specs.Prelude.{◌≤◌, ◌<◌, List, length, map};
+    ghost use Rattle.rdata.specs.Records.{greatest_ttl};
+    ghost use Rattle.cache.specs.Packed.{Unowned as Said, unowned};
+
+    ghost Value = { List Said };
+
+    ghost use Rattle.rdata.specs.Kept.{datum};
+
+    ghost view = { λ s. map (unowned s.ttl) (map datum s.values.items) };
+
+    ghost invariant = { λ s. (s.ttl ≤ greatest_ttl) × (0 < length s.values.items) };
+}
+
+impl<A: Heap> UnownedSet<A> {
+    // The set, if this name owns it.
+    fn of(alloc: A, name: &Name<A>, source: &RecordSet<A>) -> Result<Option<UnownedSet<A>>, Starved>
+        ensures { IfOk result (λ us. IfSome us (λ us. map (owned name.now) us ≡ source.now)) }
+    {
+        if source.owner != *name {
+            return Ok(None);
+        }
+        Ok(Some(UnownedSet {
+            ttl: source.ttl,
+            values: copy_values(alloc, &source.values)?,
+        }))
     }
-    Ok(records)
+
+    // The set of this owner.
+    fn owned(&self, alloc: A, name: &Name<A>) -> Result<RecordSet<A>, Starved>
+        ensures { IfOk result (λ rs. rs ≡ map (owned name.now) self.now) }
+    {
+        let values = copy_values(alloc, &self.values)?;
+        Ok(RecordSet {
+            owner: name.clone()?,
+            ttl: self.ttl,
+            values,
+        })
+    }
+
+    // The first record of it.
+    fn first(&self, name: &Name<A>) -> Result<Record<A>, Starved>
+        ensures { IfOk result (λ r. Some r ≡ first_in (map (owned name.now) self.now)) }
+    {
+        Ok(Record {
+            owner: name.clone()?,
+            ttl: self.ttl,
+            value: self.values[0].clone()?,
+        })
+    }
 }
 
 /// A link as it lies in memory.
@@ -94,8 +138,8 @@ fn with_owner<A: Heap>(alloc: A, name: &Name<A>, all: &[Unowned<A>]) -> Result<R
 pub enum Form<A: Allocator = Global> {
     /// A set of one record, which the key's name owns.
     One(Unowned<A>),
-    /// Any set whose records the key's name owns.
-    Many(Vec<Unowned<A>, A>),
+    /// Any set that the key's name owns.
+    Many(UnownedSet<A>),
     /// An alias of the key's name.
     Alias(Unowned<A>),
     /// Any link.
@@ -107,12 +151,11 @@ impl<A: Heap> Form<A> {
         ensures { IfOk result (λ f. link_of name.now (form_view f) ≡ link_view link.now) }
     {
         match link {
-            Link::Found(records) => {
-                if let [only] = records.as_slice() {
-                    if let Some(one) = Unowned::of(name, only)? {
-                        return Ok(Form::One(one));
-                    }
-                } else if let Some(all) = without_owner(alloc, name, records.as_slice())? {
+            Link::Found(set) => {
+                if let Some(one) = Unowned::only(name, set)? {
+                    return Ok(Form::One(one));
+                }
+                if let Some(all) = UnownedSet::of(alloc, name, set)? {
                     return Ok(Form::Many(all));
                 }
             }
@@ -132,7 +175,7 @@ impl<A: Heap> Form<A> {
     {
         match self {
             Form::One(record) | Form::Alias(record) => Ok(set_of_one(alloc, record.owned(name)?)?),
-            Form::Many(all) => Ok(Link::Found(with_owner(alloc, name, all)?)),
+            Form::Many(all) => Ok(Link::Found(all.owned(alloc, name)?)),
             Form::Whole(link) => Ok(set_of(alloc, link)?),
         }
     }
@@ -143,10 +186,7 @@ impl<A: Heap> Form<A> {
     {
         match self {
             Form::One(record) | Form::Alias(record) => Ok(Some(Link::Alias(record.owned(name)?))),
-            Form::Many(all) => match all.first() {
-                Some(record) => Ok(Some(Link::Alias(record.owned(name)?))),
-                None => Ok(None),
-            },
+            Form::Many(all) => Ok(Some(Link::Alias(all.first(name)?))),
             Form::Whole(link) => Ok(alias_of(link)?),
         }
     }

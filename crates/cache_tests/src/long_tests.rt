@@ -3,7 +3,7 @@ use cache::Cache;
 use dname::{Heap, Name, Starved};
 use lru::DefaultHasher;
 use masterfile::put_record;
-use rdata::{RType, Record, Records, dedup_set};
+use rdata::{RType, Record, RecordSet, Records, set_at};
 use std::hash::BuildHasherDefault;
 use std::num::NonZeroUsize;
 use std::test::Fail;
@@ -22,13 +22,15 @@ fn long_reply<A: Heap>(alloc: A) -> Result<Vec<u8, A>, Starved> {
     Ok(bytes)
 }
 
-fn set_of<A: Heap>(alloc: A, bytes: &[u8]) -> Result<Records<A>, Starved> {
+fn set_of<A: Heap>(alloc: A, bytes: &[u8]) -> Result<RecordSet<A>, Starved> {
     let message = decode(alloc, bytes).map_err(|_| Starved)?;
-    dedup_set(alloc, message.answer.as_slice())
+    let owner = Name::from_text(alloc, "x").map_err(|_| Starved)?;
+    let set = set_at(alloc, message.answer.as_slice(), &owner, RType::Txt)?;
+    set.ok_or(Starved)
 }
 
 // The set as a cache gives it back.
-fn cached<A: Heap>(alloc: A, set: Records<A>) -> Result<Records<A>, Starved> {
+fn cached<A: Heap>(alloc: A, set: RecordSet<A>) -> Result<Records<A>, Starved> {
     let room = NonZeroUsize::new(1).ok_or(Starved)?;
     let owner = Name::from_text(alloc, "x").map_err(|_| Starved)?;
     let hasher: DefaultHasher = BuildHasherDefault::new();
@@ -36,7 +38,7 @@ fn cached<A: Heap>(alloc: A, set: Records<A>) -> Result<Records<A>, Starved> {
     cache.keep(&owner, RType::Txt, &Link::Found(set), 300, 0)?;
     let hit = cache.look(&owner, RType::Txt, 1_000)?.ok_or(Starved)?;
     match hit.link {
-        Link::Found(kept) => Ok(kept),
+        Link::Found(kept) => kept.to_records(alloc),
         _ => Err(Starved),
     }
 }

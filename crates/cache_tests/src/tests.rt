@@ -5,7 +5,7 @@ use authority::Link;
 use cache::Cache;
 use dname::{Heap, Name, Starved};
 use lru::DefaultHasher;
-use rdata::{Addr, RData, RType, Record, Records, Soa};
+use rdata::{Addr, RData, RType, Record, RecordSet, Records, Soa, set_at};
 use refusing::Refusing;
 use std::hash::BuildHasherDefault;
 use std::num::NonZeroUsize;
@@ -39,13 +39,12 @@ enum Shape {
 }
 
 fn set<A: Heap>(alloc: A, owner: &Name<A>, value: RData<A>) -> Result<Link<A>, Starved> {
-    let mut records = Records::new(alloc);
-    records.push(Record {
+    let only = Record {
         owner: owner.clone()?,
         ttl: 300,
         value,
-    })?;
-    Ok(Link::Found(records))
+    };
+    Ok(Link::Found(RecordSet::alone(alloc, only)?))
 }
 
 fn two_addresses<A: Heap>(alloc: A, owner: &Name<A>) -> Result<Link<A>, Starved> {
@@ -57,7 +56,8 @@ fn two_addresses<A: Heap>(alloc: A, owner: &Name<A>) -> Result<Link<A>, Starved>
             value: RData::A(Addr([192, 0, 2, last])),
         })?;
     }
-    Ok(Link::Found(records))
+    let set = set_at(alloc, records.as_slice(), owner, RType::A)?;
+    Ok(Link::Found(set.ok_or(Starved)?))
 }
 
 fn soa<A: Heap>(owner: &Name<A>) -> Result<Record<A>, Starved> {
@@ -136,7 +136,7 @@ impl<A: Heap> Kept<A> {
 
 fn word<A: Heap>(link: &Link<A>) -> &'static str {
     match link {
-        Link::Found(records) if records.len() == 1 => "set of one",
+        Link::Found(set) if set.len() == 1 => "set of one",
         Link::Found(_) => "set",
         Link::Alias(_) => "alias",
         Link::NoData(_) => "no data",
@@ -234,7 +234,7 @@ fn sent_ttls(
         return Ok(None);
     };
     match hit.into_link(sent) {
-        Link::Found(records) => match records.as_slice() {
+        Link::Found(set) => match set.to_records(owner.allocator())?.as_slice() {
             [first, second] => Ok(Some((first.ttl, second.ttl))),
             _ => Ok(None),
         },

@@ -9,7 +9,7 @@ ghost use Rattle.classify.specs.Lifetimes.{received, received_denial, shortest, 
 
 use authority::Link;
 use dname::Heap;
-use rdata::{RData, Record, lowest_ttl};
+use rdata::{RData, Record, RecordSet};
 use std::alloc::Allocator;
 
 /// The most seconds for which records are kept: a week.
@@ -23,9 +23,9 @@ pub fn received<A: Heap>(link: Link<A>) -> Link<A>
     ensures { link_view result ≡ received (link_view link) }
 {
     match link {
-        Link::Found(mut records) => {
-            records.cap_ttl(LONGEST);
-            Link::Found(records)
+        Link::Found(mut set) => {
+            set.cap_ttl(LONGEST);
+            Link::Found(set)
         }
         Link::Alias(record) => Link::Alias(capped(record, LONGEST)),
         Link::NoData(soa) => Link::NoData(received_denial(soa)),
@@ -71,26 +71,23 @@ pub fn referral_lifetime(ttl: u32) -> u32
     ttl.min(LONGEST)
 }
 
-/// For how many seconds a link is kept: the TTL of its record, of several the lowest, of none 0
-/// (RFC 2181, section 5.2).
+/// For how many seconds a link is kept: the TTL of its records (RFC 2181, section 5.2).
 pub fn lifetime<A: Allocator>(link: &Link<A>) -> u32
     ensures value { result ≡ lifetime_of (link_view link.now) }
     ensures most { result ≤ greatest_ttl }
 {
     match link {
-        Link::Found(records) => shortest(records.as_slice()),
+        Link::Found(set) => shortest(set),
         Link::Alias(record) | Link::NoData(record) | Link::NxDomain(record) => record.ttl,
     }
 }
 
-fn shortest<A: Allocator>(records: &[Record<A>]) -> u32
-    ensures value { result ≡ shortest records.now }
+fn shortest<A: Allocator>(set: &RecordSet<A>) -> u32
+    ensures value { result ≡ shortest set.now }
     ensures most { result ≤ greatest_ttl }
 {
-    match records {
-        [] => 0,
-        _ => lowest_ttl(records),
-    }
+    let _ = set.len();
+    set.ttl()
 }
 
 /// What is received differs from what was said in TTLs alone, and is kept for a week at most.

@@ -1,9 +1,10 @@
 //! The table by which a reply is used: its first line that fits.
-ghost use Rattle.std.specs.Prelude.{◌≡◌, ◌&&◌, ◌||◌, ◌++◌, [], ◌∷◌, cond, nat_eq, IfOk, OnOk};
+ghost use Rattle.std.specs.Prelude.{◌≡◌, ℕ, List, ◌&&◌, ◌||◌, ◌++◌, [], ◌∷◌, cond, nat_eq, IfOk, OnOk};
 ghost use Rattle.std.specs.List.Sorted.{IsSorted};
 ghost use Rattle.std.specs.Option.{option_copied};
 ghost use Rattle.dname.specs.Labels.{is_under};
 ghost use Rattle.dname.specs.Order.{name_cmp};
+ghost use Rattle.rdata.specs.Rows.{in_set};
 ghost use Rattle.rdata.specs.Selected.{records_at};
 ghost use Rattle.rdata.specs.Sets.{one_set};
 ghost use Rattle.rdata.specs.Types.{type_number};
@@ -18,7 +19,7 @@ use crate::class::{Class, Failure, Referral};
 use crate::targets::{is_one_of, targets_of};
 use authority::Link;
 use dname::{Heap, Name, Starved};
-use rdata::{RType, Record, Records, lowest_ttl, set_at};
+use rdata::{RType, Record, RecordSet, Records, lowest_ttl, set_at};
 use std::alloc::Allocator;
 use wire::{Message, Via};
 
@@ -94,17 +95,25 @@ fn by_set<A: Heap>(
     zone: &Name<A>,
     name: &Name<A>,
     message: &Message<A>,
-    set: Records<A>,
+    set: Option<RecordSet<A>>,
 ) -> Result<Class<A>, Starved>
-    ensures { IfOk result (λ c. class_view c ≡ by_set zone.now name.now message.now set) }
+    ensures { IfOk result (λ c. class_view c ≡ by_set zone.now name.now message.now (in_set set)) }
 {
-    if set.is_empty() {
-        return Ok(by_alias(alloc, zone, name, message)?);
+    match set {
+        Some(set) => Ok(by_records(message, set)),
+        None => Ok(by_alias(alloc, zone, name, message)?),
     }
+}
+
+// Where there are some.
+fn by_records<A: Heap>(message: &Message<A>, set: RecordSet<A>) -> Class<A>
+    ensures { (f q : List (List ℕ)) → class_view result ≡ by_set f q message.now set }
+{
+    let _ = set.len();
     if is_name_error(message) {
-        return Ok(Class::Failed(Failure::BadCode));
+        return Class::Failed(Failure::BadCode);
     }
-    Ok(answer_by(message, Link::Found(set)))
+    answer_by(message, Link::Found(set))
 }
 
 // By the aliases of the name.
@@ -116,22 +125,13 @@ fn by_alias<A: Heap>(
 ) -> Result<Class<A>, Starved>
     ensures { IfOk result (λ c. class_view c ≡ by_alias zone.now name.now message.now (one_set (records_at name.now cname_type message.now.answer))) }
 {
-    let aliases = set_at(alloc, message.answer.as_slice(), name, RType::Cname)?;
-    Ok(by_first_alias(alloc, zone, name, message, aliases.as_slice())?)
-}
-
-fn by_first_alias<A: Heap>(
-    alloc: A,
-    zone: &Name<A>,
-    name: &Name<A>,
-    message: &Message<A>,
-    aliases: &[Record<A>],
-) -> Result<Class<A>, Starved>
-    ensures { IfOk result (λ c. class_view c ≡ by_alias zone.now name.now message.now aliases.now) }
-{
-    match aliases {
-        [first, ..] => Ok(answer_by(message, Link::Alias(first.clone()?))),
-        [] => Ok(by_denial(alloc, zone, name, message)?),
+    match set_at(alloc, message.answer.as_slice(), name, RType::Cname)? {
+        Some(aliases) => {
+            let first = aliases.first();
+            drop(aliases);
+            Ok(answer_by(message, Link::Alias(first?)))
+        }
+        None => Ok(by_denial(alloc, zone, name, message)?),
     }
 }
 
@@ -165,7 +165,7 @@ fn by_servers<A: Heap>(
 {
     match first_of(message.authority.as_slice(), RType::Ns) {
         Some(first) if leads_down(zone, name, &first.owner) => {
-            let servers = set_at(alloc, message.authority.as_slice(), &first.owner, RType::Ns)?;
+            let servers = set_of(alloc, message.authority.as_slice(), &first.owner, RType::Ns)?;
             Ok(refer(alloc, zone, first.owner.clone()?, servers, message)?)
         }
         Some(_) => Ok(Class::Failed(Failure::Foreign)),
@@ -216,6 +216,21 @@ fn denial_by<A: Allocator>(rcode: u8, soa: Record<A>) -> Link<A>
         Link::NxDomain(soa)
     } else {
         Link::NoData(soa)
+    }
+}
+
+// The records of the RRset of that name and type; none where there are none.
+fn set_of<A: Heap>(
+    alloc: A,
+    records: &[Record<A>],
+    name: &Name<A>,
+    kind: RType,
+) -> Result<Records<A>, Starved>
+    ensures { IfOk result (λ rs. rs ≡ one_set (records_at name.now (type_number kind) records.now)) }
+{
+    match set_at(alloc, records, name, kind)? {
+        Some(set) => Ok(set.to_records(alloc)?),
+        None => Ok(Records::new(alloc)),
     }
 }
 

@@ -1,7 +1,7 @@
 use authority::Link;
 use classify::{Class, Referral, classify, lifetime, received};
 use dname::{Heap, Name, Starved, put_name};
-use rdata::{Addr, RData, RType, Record, Records, Soa, put_data};
+use rdata::{Addr, RData, RType, Record, RecordSet, Records, Soa, put_data, set_at};
 use refusing::Refusing;
 use std::test::Fail;
 use wire::{Header, Message, Questions, Via};
@@ -71,6 +71,13 @@ fn records<A: Heap>(alloc: A, lines: &[Line]) -> Result<Records<A>, Starved> {
     Ok(records)
 }
 
+// The lines as one RRset.
+fn set_of<A: Heap>(alloc: A, lines: &[Line]) -> Result<RecordSet<A>, Starved> {
+    let records = records(alloc, lines)?;
+    let owner = name(alloc, W)?;
+    set_at(alloc, records.as_slice(), &owner, RType::A)?.ok_or(Starved)
+}
+
 fn header(code: Code, aa: bool, tc: bool) -> Header {
     Header {
         id: 1,
@@ -122,9 +129,9 @@ fn put_records<A: Heap>(out: &mut String<A>, records: &Records<A>) -> Result<(),
 fn link_text<A: Heap>(alloc: A, link: &Link<A>) -> Result<String<A>, Starved> {
     let mut out = String::new(alloc);
     match link {
-        Link::Found(records) => {
+        Link::Found(set) => {
             write!(out, "found")?;
-            put_records(&mut out, records)?;
+            put_records(&mut out, &set.to_records(alloc)?)?;
         }
         Link::Alias(record) => {
             write!(out, "alias")?;
@@ -344,20 +351,51 @@ fn the_shortest_life_is_that_of_an_address(rt: HostRuntime) -> Result<(), Fail> 
     Ok(())
 }
 
-// RFC 2181, section 8; RFC 2308, sections 3 and 5.
+// For how many seconds what is received is kept, and what it is then.
+fn kept<A: Heap>(alloc: A, link: Link<A>) -> Result<(u32, String<A>), Starved> {
+    let link = received(link);
+    let seconds = lifetime(&link);
+    let text = link_text(alloc, &link);
+    drop(link);
+    Ok((seconds, text?))
+}
+
+fn kept_set<A: Heap>(alloc: A, lines: &[Line]) -> Result<(u32, String<A>), Starved> {
+    let set = set_of(alloc, lines)?;
+    kept(alloc, Link::Found(set))
+}
+
+const LONG: [Line; 2] = [(W, 604_801, Value::A(1)), (W, 604_801, Value::A(2))];
+
+const MIXED: [Line; 2] = [(W, 604_801, Value::A(1)), (W, 604_799, Value::A(2))];
+
+// RFC 2181, sections 5.2 and 8.
 #[test]
 fn lifetimes_of_sets(rt: HostRuntime) -> Result<(), Fail> {
-    let set: [Line; 2] = [(W, 604_801, Value::A(1)), (W, 604_799, Value::A(2))];
-    let kept = received(Link::Found(records(rt.alloc(), &set)?));
-    assert_eq!(rt; lifetime(&kept), 604_799);
-    assert_eq!(rt;
-        link_text(rt.alloc(), &kept)?.as_str(),
-        "found; w.a.example. 604800 A 192.0.2.1; w.a.example. 604799 A 192.0.2.2"
-    );
-    assert_eq!(rt; lifetime(&Link::Found(Records::new(rt.alloc()))), 0);
+    let rows: [(&[Line], u32, &str); 2] = [
+        (
+            &LONG,
+            604_800,
+            "found; w.a.example. 604800 A 192.0.2.1; w.a.example. 604800 A 192.0.2.2",
+        ),
+        (
+            &MIXED,
+            604_799,
+            "found; w.a.example. 604799 A 192.0.2.1; w.a.example. 604799 A 192.0.2.2",
+        ),
+    ];
+    for (lines, seconds, text) in &rows {
+        let (kept, said) = kept_set(rt.alloc(), *lines)?;
+        assert!(rt;
+            kept == *seconds && said.as_str() == *text,
+            "{}",
+            said.as_str()
+        );
+    }
     Ok(())
 }
 
+// RFC 2181, section 8; RFC 2308, sections 3 and 5.
 #[test]
 fn lifetimes_of_aliases_and_denials(rt: HostRuntime) -> Result<(), Fail> {
     let alias = line(rt.alloc(), (W, 604_801, Value::Cname("x.")))?;

@@ -1,4 +1,5 @@
 pub mod Drafts
+pub mod Keyed
 pub mod Split
 pub mod Under
 pub mod WrittenNames

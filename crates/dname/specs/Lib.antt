@@ -7,6 +7,7 @@ pub mod Order
 pub mod Stars
 pub mod Draft
 pub mod Overflows
+pub mod Keys
 -- Kept: what the code's own values keep.
 pub mod Laws
 pub mod Tokens

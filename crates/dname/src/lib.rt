@@ -4,7 +4,8 @@
 //! `Name::from_text` reads a name that stands alone, `Name::under` one of a master file, relative to its origin;
 //! `to_text` and `put_name` write it. `Builder` makes a name label by label. `wire` is its wire form, over which
 //! `next_label` walks. `is_at_or_under`, `parent` and `ascend` are what zones and bailiwick need, `is_wildcard` and
-//! `is_wildcard_of` what wildcards do (RFC 4592). `Ord` is the order of RFC 4034, section 6.1.
+//! `is_wildcard_of` what wildcards do (RFC 4592). A `Suffix` is a name lent from the bytes of one beneath it. `Ord`
+//! is the order of RFC 4034, section 6.1.
 //!
 //! Promised: a name is labels of 1 to 63 bytes, at most 255 bytes on the wire (`is_well_formed`, `IsName`); a text
 //! is read exactly where it writes a name (`text_writes_name`), else refused by its first fault
@@ -24,11 +25,13 @@ mod builder;
 mod name;
 mod order;
 mod stars;
+mod suffix;
 mod text;
 mod walk;
 
 pub use builder::{Builder, Overflow};
 pub use memory::{Heap, Starved};
 pub use name::Name;
+pub use suffix::Suffix;
 pub use text::{NameError, first_fault_counts, put_name, text_is_read_back, text_writes_name};
 pub use walk::next_label;

@@ -1,5 +1,5 @@
 //! A name, and how it lies to others: equal, at or under, above.
-ghost use Rattle.std.specs.Prelude.{◌≡◌, ℕ, ◌+◌, ◌≤◌, ◌<◌, ◌↔◌, List, [], ◌∷◌, ◌++◌, length, true, false, None, Some, IsTrue, IfOk, IfSome, MatchOption};
+ghost use Rattle.std.specs.Prelude.{◌≡◌, ℕ, ◌+◌, ◌≤◌, ◌<◌, ◌↔◌, List, [], ◌∷◌, ◌++◌, length, true, false, None, Some, IsTrue, IfOk, OnOk, OnErr, IfSome, MatchOption};
 ghost use Rattle.std.specs.Bool.{OnTrue, OnFalse};
 ghost use Rattle.std.specs.Hash as fed;
 ghost use Rattle.dname.specs.Labels.{wire, root, star, same_name, is_under, parent_of, IsAtOrUnder, IsName};
@@ -103,6 +103,19 @@ impl<A: Heap> Name<A> {
                 Ok(Some(Name { bytes }))
             }
         }
+    }
+}
+
+impl<A: Heap> Name<A> {
+    /// Makes it the other name, in its own memory, which grows where that is too small. Want of memory changes
+    /// nothing.
+    pub fn copy_from<B: Allocator>(&mut self, other: &Name<B>) -> Result<(), Starved>
+        ensures ok { OnOk result (self.new ≡ other.now) }
+        ensures err { OnErr result (self.new ≡ self.old) }
+    {
+        self.bytes.resize(other.bytes.len(), 0)?;
+        self.bytes.copy_from_slice(&other.bytes);
+        Ok(())
     }
 }
 

@@ -22,6 +22,30 @@ fn names_above(rt: HostRuntime) -> Result<(), Fail> {
 }
 
 #[test]
+fn lent_names_above(rt: HostRuntime) -> Result<(), Fail> {
+    let name = Name::from_text(rt.alloc(), "a.b.")?;
+    let mut up = name.suffix();
+    assert!(rt; up.is(&name));
+    for above in ["b.", "."] {
+        assert!(rt; up.ascend() && !up.is(&name));
+        assert_eq!(rt; up.to_name(rt.alloc())?.to_text()?.as_str(), above);
+    }
+    assert!(rt; !up.ascend());
+    assert_eq!(rt; up.wire(), [0].as_slice());
+    Ok(())
+}
+
+#[test]
+fn a_name_takes_the_place_of_another(rt: HostRuntime) -> Result<(), Fail> {
+    let mut name = Name::from_text(rt.alloc(), "a.")?;
+    for text in ["longer.example.", "b.", "."] {
+        name.copy_from(&Name::from_text(rt.alloc(), text)?)?;
+        assert_eq!(rt; name.to_text()?.as_str(), text);
+    }
+    Ok(())
+}
+
+#[test]
 fn names_under_others(rt: HostRuntime) -> Result<(), Fail> {
     let name = Name::from_text(rt.alloc(), "www.Example.com")?;
     for (other, under) in [

@@ -64,7 +64,7 @@ fn end_of<A: Heap>(alloc: A, link: Link<A>) -> Result<End<A>, Starved>
 fn only<A: Heap>(alloc: A, soa: Record<A>) -> Result<Records<A>, Starved>
     ensures { IfOk result (λ r. r ≡ soa ∷ []) }
 {
-    let mut records = Records::new(alloc);
+    let mut records = Records::with_capacity(alloc, 1)?;
     records.push(soa)?;
     Ok(records)
 }

@@ -100,7 +100,7 @@ pub fn alias_target<A: Allocator>(alias: &Record<A>) -> &Name<A>
 fn alone<A: Heap>(alloc: A, only: Record<A>) -> Result<Records<A>, Starved>
     ensures { IfOk result (λ records. records ≡ only ∷ []) }
 {
-    let mut records = Records::new(alloc);
+    let mut records = Records::with_capacity(alloc, 1)?;
     records.push(only)?;
     Ok(records)
 }

@@ -5,7 +5,7 @@ ghost use Rattle.wire.specs.Drafts.{asked_by};
 
 use crate::echo::Echo;
 use dname::{Heap, Starved};
-use rdata::Record;
+use rdata::{Record, RecordSet};
 use std::alloc::{Allocator, Global};
 use std::marker::Model;
 use wire::{Draft, Header, Spelling, TCP_LIMIT, WireError, encode_draft};
@@ -18,19 +18,20 @@ pub struct Parts<'a, A: Allocator = Global> {
     pub question: Option<&'a Echo<A>>,
     /// The answer is `first` and then `second`.
     pub first: &'a [Record<A>],
-    pub second: &'a [Record<A>],
+    pub second: Option<&'a RecordSet<A>>,
     pub authority: &'a [Record<A>],
     pub additional: &'a [Record<A>],
 }
 
 impl<'a, A: Allocator> Model for Parts<'a, A> {
     ghost use Rattle.std.specs.Prelude.{◌++◌, option_copied};
+    ghost use Rattle.rdata.specs.Rows.{in_set};
     ghost use Rattle.layout.specs.Messages.{Message};
     ghost use Rattle.wire.specs.Drafts.{asked_alone};
 
     ghost Value = { Message };
 
-    ghost view = { λ p. record { header = p.header; questions = asked_alone (option_copied p.question); answer = p.first.now ++ p.second.now; authority = p.authority.now; additional = p.additional.now } };
+    ghost view = { λ p. record { header = p.header; questions = asked_alone (option_copied p.question); answer = p.first.now ++ in_set (option_copied p.second); authority = p.authority.now; additional = p.additional.now } };
 }
 
 impl<A: Heap> Parts<'_, A> {

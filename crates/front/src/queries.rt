@@ -1,12 +1,14 @@
 //! What a client asks, and what it is to be answered.
 ghost use Rattle.std.specs.Prelude.{◌≡◌, ◌<◌};
+ghost use Rattle.std.specs.Option.{option_copied};
+ghost use Rattle.rdata.specs.Rows.{in_set};
 ghost use Rattle.front.specs.Replies.{refusal_rcode, end_rcode, found_in, denied_by};
 
 use crate::echo::Echo;
 use crate::start::Start;
 use causes::Cause;
 use dname::Name;
-use rdata::{RType, Record, Records};
+use rdata::{RType, Record, RecordSet, Records};
 use std::alloc::{Allocator, Global};
 
 /// Why a query is refused before it is looked at.
@@ -56,7 +58,7 @@ pub enum Asked<A: Allocator = Global> {
 #[derive(Drop)]
 pub enum End<A: Allocator = Global> {
     /// The RRset that was asked for.
-    Found(Records<A>),
+    Found(RecordSet<A>),
     /// NODATA: the name has no such records; with the zone's SOA alone.
     NoData(Records<A>),
     /// NXDOMAIN: the name does not exist; with the zone's SOA alone.
@@ -77,13 +79,13 @@ impl<A: Allocator> End<A> {
         }
     }
 
-    /// The records that stand behind the CNAME chain in the answer.
-    pub fn found(&self) -> &[Record<A>]
-        ensures { result.now ≡ found_in self.now }
+    /// The RRset that stands behind the CNAME chain in the answer.
+    pub fn found(&self) -> Option<&RecordSet<A>>
+        ensures { in_set (option_copied result) ≡ found_in self.now }
     {
         match self {
-            End::Found(set) => set.as_slice(),
-            _ => &[],
+            End::Found(set) => Some(set),
+            _ => None,
         }
     }
 

@@ -124,7 +124,7 @@ fn empty_draft<'a, A: Allocator>(start: Start, echo: Option<&'a Echo<A>>, rcode:
         header: header(start, false, false, rcode),
         question: echo,
         first: &[],
-        second: &[],
+        second: None,
         authority: &[],
         additional: &[],
     }
@@ -140,7 +140,7 @@ fn truncated<'a, A: Allocator>(whole: &Parts<'a, A>) -> Parts<'a, A>
         header,
         question: whole.question,
         first: &[],
-        second: &[],
+        second: None,
         authority: &[],
         additional: &[],
     }
@@ -163,7 +163,7 @@ fn draft_of<'a, A: Allocator>(query: &'a Query<A>, outcome: &'a Outcome<A>) -> P
             header: header(query.start, false, false, 0),
             question: Some(&query.echo),
             first: &[],
-            second: &[],
+            second: None,
             authority: ns.as_slice(),
             additional: glue.as_slice(),
         },

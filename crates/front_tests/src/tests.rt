@@ -4,7 +4,7 @@ ghost use Rattle.std.specs.Prelude.{◌≤◌};
 use causes::Cause;
 use dname::{Heap, Starved};
 use front::{Asked, End, Outcome, Via, read_query, refusal_bytes, reply_bytes};
-use rdata::{CharacterString, RData, Record, Records, Texts};
+use rdata::{CharacterString, RData, RType, Record, Records, Texts, set_at};
 use std::test::Fail;
 
 // Whether these bytes are dropped.
@@ -58,29 +58,31 @@ fn what_is_not_served_is_refused(rt: HostRuntime) -> Result<(), Fail> {
 // t.example. TXT, with ID 9 and RD set.
 const QUERY: &[u8] = b"\0\x09\x01\0\0\x01\0\0\0\0\0\0\x01t\x07example\0\0\x10\0\x01";
 
-// What a client of that query is given where the name has this set, and the cause of a SERVFAIL.
+// What a client of that query is given where the name has the set of these records, and the cause of a SERVFAIL.
 fn reply<A: Heap>(
     alloc: A,
-    set: Records<A>,
+    records: &Records<A>,
     via: Via,
 ) -> Result<(Vec<u8, A>, Option<Cause>), Starved> {
     let Asked::Query(query) = read_query(alloc, QUERY)? else {
         return Err(Starved);
     };
+    let set = set_at(alloc, records.as_slice(), &query.name, RType::Txt)?.ok_or(Starved)?;
     let outcome = Outcome::Answer(true, Records::new(alloc), End::Found(set));
     reply_bytes(alloc, &query, &outcome, via)
 }
 
-// A TXT record of so many strings of 255 bytes, and one of `last` bytes.
+// A TXT record of so many strings of 255 bytes, and one of `last` bytes, all of one letter.
 fn put_text<A: Heap>(
     alloc: A,
     set: &mut Records<A>,
+    letter: u8,
     strings: usize,
     last: usize,
 ) -> Result<(), Starved>
     requires { last ≤ 255 }
 {
-    let letters = [b'a'; 255];
+    let letters = [letter; 255];
     let last = CharacterString::new(Vec::from_slice(alloc, &letters[..last])?);
     let mut texts = Texts::new(alloc, last)?;
     for _ in 0..strings {
@@ -101,8 +103,8 @@ fn reply_of_one<A: Heap>(alloc: A, second: usize, via: Via) -> Result<Vec<u8, A>
     requires { second ≤ 255 }
 {
     let mut set = Records::new(alloc);
-    put_text(alloc, &mut set, 1, second)?;
-    let (bytes, _) = reply(alloc, set, via)?;
+    put_text(alloc, &mut set, b'a', 1, second)?;
+    let (bytes, _) = reply(alloc, &set, via)?;
     Ok(bytes)
 }
 
@@ -123,10 +125,10 @@ fn a_reply_over_512_bytes_is_truncated_on_udp(rt: HostRuntime) -> Result<(), Fai
 fn a_reply_over_65535_bytes_is_a_failure_on_tcp(rt: HostRuntime) -> Result<(), Fail> {
     let alloc = rt.alloc();
     let mut set = Records::new(alloc);
-    for _ in 0..20 {
-        put_text(alloc, &mut set, 13, 171)?;
+    for letter in b'a'..b'u' {
+        put_text(alloc, &mut set, letter, 13, 171)?;
     }
-    let (bytes, cause) = reply(alloc, set, Via::Tcp)?;
+    let (bytes, cause) = reply(alloc, &set, Via::Tcp)?;
     assert_eq!(rt; cause, Some(Cause::Large));
     assert!(rt;
         bytes.as_slice()

@@ -19,14 +19,14 @@ use authority::Link;
 use causes::Cause;
 use dname::{Heap, Name, Starved};
 use known::{Found, Home, Stores, Taken, find, found_addresses};
-use rdata::{RType, Record};
+use rdata::{RType, RecordSet};
 use referral::Cut;
 use std::hash::BuildHasher;
 
 // The addresses that were found for a server's name; those that are not known yet are asked next.
 fn add_set<S: BuildHasher + Drop, A: Heap>(
     search: &mut Search<A>,
-    set: &[Record<A>],
+    set: &RecordSet<A>,
     stores: &Stores<S, A>,
 ) -> Result<(), Starved>
     ensures { OnOk result (IsAdded stores.now set.now search.old search.new) }
@@ -40,7 +40,7 @@ fn add_set<S: BuildHasher + Drop, A: Heap>(
 fn go_on_with<S: BuildHasher + Drop, A: Heap>(
     job: &mut Job<A>,
     mut search: Search<A>,
-    set: &[Record<A>],
+    set: &RecordSet<A>,
     stores: &Stores<S, A>,
 ) -> Result<(), Starved>
     ensures { OnOk result ((after : Sought) × IsAdded stores.now set.now search after × (job.new ≡ with_search job.old after)) }
@@ -68,7 +68,7 @@ pub(crate) fn hear_of<S: BuildHasher + Drop, A: Heap>(
 {
     match link.link() {
         Link::Found(set) => {
-            go_on_with(job, search, set.as_slice(), stores)?;
+            go_on_with(job, search, set, stores)?;
             Ok(())
         }
         Link::Alias(_) | Link::NoData(_) | Link::NxDomain(_) => {

@@ -7,7 +7,7 @@ use dname::{Heap, Name, Starved};
 use iterate::{Input, Job, Next, advance};
 use known::{Capacities, Hashers, Home, Stores};
 use lru::DefaultHasher;
-use rdata::{Addr, RData, RType, Record, Records, Soa};
+use rdata::{Addr, RData, RType, Record, RecordSet, Records, Soa};
 use std::hash::BuildHasherDefault;
 use std::num::NonZeroUsize;
 use wire::{Header, Message, Questions, Via};
@@ -295,16 +295,16 @@ fn last_byte_of<A: Heap>(value: &RData<A>) -> u8 {
     }
 }
 
-fn found<A: Heap>(aliases: usize, set: &[Record<A>]) -> Out {
-    match set {
-        [only] => Out::Address(aliases, last_byte_of(&only.value)),
+fn found<A: Heap>(aliases: usize, set: &RecordSet<A>) -> Out {
+    match set.values.as_slice() {
+        [only] => Out::Address(aliases, last_byte_of(only)),
         _ => Out::Other,
     }
 }
 
 fn done<A: Heap>(aliases: usize, link: &Link<A>) -> Out {
     match link {
-        Link::Found(set) => found(aliases, set.as_slice()),
+        Link::Found(set) => found(aliases, set),
         Link::NoData(_) | Link::NxDomain(_) => Out::Denied(aliases),
         Link::Alias(_) => Out::Other,
     }

@@ -1,13 +1,17 @@
 -- Lists of hints, and of what records give.
-use Rattle.std.proofs.Common.{◌≡◌, ℕ, ◌+◌, ◌<◌, List, [], ◌∷◌, ◌++◌, length, take, get_or, refl, sym, ap, ◌∙◌, append-nil}
+use Rattle.std.proofs.Common.{◌≡◌, ℕ, ◌+◌, ◌<◌, ◌≤◌, List, [], ◌∷◌, ◌++◌, length, take, get_or, refl, sym, ap, subst, ◌∙◌, append-nil}
 use Rattle.std.specs.Prelude.{map}
 use Rattle.std.specs.List.{flat_map}
 use Rattle.std.proofs.lemmas.List.{take_more}
 use Rattle.std.proofs.lemmas.Grind.{flat_map-append}
 use Rattle.dname.specs.Labels.{Name}
 use Rattle.rdata.specs.Data.{Datum, Ipv4, Ns, Cname, Soa, Ptr, Mx, Txt, Ipv6}
+use Rattle.rdata.specs.Kept.{datum}
 use Rattle.rdata.specs.Records.{Record}
+use Rattle.rdata.specs.Rows.{row, rows}
 use Rattle.rdata.specs.declared.addr.Addr.{Addr}
+use Rattle.rdata.specs.declared.data.RData.{RData}
+use Rattle.rdata.proofs.SetRows.{rows_long, row_at, rows_whole}
 use Rattle.zone.specs.Zones.{Zone}
 use Rattle.classify.specs.Targets as classify
 use Rattle.referral.specs.Cuts.{ServerAddress, Cut}
@@ -76,3 +80,14 @@ pub found_more : (set : List Record) (i : ℕ) (r : Record) (old new : List Addr
     → AreAddressesOf (take (i + 1) set) new
 found_more set i r old new lt is walked put =
     put ∙ (ap (λ (l : List (List ℕ)). l ++ ipv4_of r.value) walked ∙ sym (flat_more (λ (x : Record). ipv4_of x.value) set i r lt is))
+
+-- A walk over a set's data is one over its records.
+pub found_later : {H : Type 0} (q : Name) (t : ℕ) (xs : List (RData H)) (set : List Record) (i : ℕ) (x : RData H) (old new : List Addr) → rows q t xs ≡ set → i < length xs → x ≡ get_or xs i x
+    → AreAddressesOf (take i set) old → map bytes_of new ≡ map bytes_of old ++ ipv4_of (datum x) → AreAddressesOf (take (i + 1) set) new
+found_later q t xs set i x old new is lt at_i walked put =
+    subst (λ (rs : List Record). AreAddressesOf (take (i + 1) rs) new) is
+    (found_more (rows q t xs) i (row q t x) old new (rows_long q t xs i lt) (row_at q t xs i x lt at_i) (subst (λ (rs : List Record). AreAddressesOf (take i rs) old) (sym is) walked) put)
+
+pub found_whole : {H : Type 0} (q : Name) (t : ℕ) (xs : List (RData H)) (set : List Record) (i : ℕ) (found : List Addr) → rows q t xs ≡ set → length xs ≤ i → AreAddressesOf (take i set) found → AreAddressesOf set found
+found_whole q t xs set i found is le walked =
+    subst (λ (rs : List Record). AreAddressesOf rs found) (rows_whole q t xs set (take i set) i is le refl) walked

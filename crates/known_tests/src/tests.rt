@@ -2,7 +2,7 @@ use authority::{Catalog, Link};
 use dname::{Heap, Name, Starved};
 use known::{Capacities, Found, Hashers, Home, Stores, Taken, cut_of, find, found_addresses};
 use lru::DefaultHasher;
-use rdata::{Addr, RData, RType, Record, Records, Soa};
+use rdata::{Addr, RData, RType, Record, RecordSet, Records, Soa};
 use referral::Cut;
 use refusing::Refusing;
 use std::hash::BuildHasherDefault;
@@ -143,10 +143,9 @@ impl<A: Heap> Resolver<A> {
 
     // Keeps an address that lives for five seconds.
     fn learn(&mut self, owner: &str, now: u64) -> Result<(), Starved> {
-        let mut records = Records::new(self.alloc);
-        records.push(record(self.alloc, owner, 5, RData::A(REMOTE))?)?;
+        let only = record(self.alloc, owner, 5, RData::A(REMOTE))?;
         let owner = name(self.alloc, owner)?;
-        let link = Link::Found(records);
+        let link = Link::Found(RecordSet::alone(self.alloc, only)?);
         self.stores.keep_link(&owner, RType::A, &link, now)
     }
 
@@ -157,14 +156,11 @@ impl<A: Heap> Resolver<A> {
 }
 
 fn address_of<A: Heap>(link: Link<A>) -> Option<(Addr, u32)> {
-    let Link::Found(records) = link else {
+    let Link::Found(set) = link else {
         return None;
     };
-    let [only] = records.as_slice() else {
-        return None;
-    };
-    match &only.value {
-        RData::A(address) => Some((*address, only.ttl)),
+    match set.values.as_slice() {
+        [RData::A(address)] => Some((*address, set.ttl)),
         _ => None,
     }
 }
@@ -284,9 +280,8 @@ fn asked_once_found<A: Heap>(
     stores: &mut Stores<DefaultHasher, A>,
 ) -> Result<Option<Addr>, Starved> {
     let cut = cut(alloc, "test")?;
-    let mut set = Records::new(alloc);
-    set.push(record(alloc, "ns.test", 60, RData::A(HINT))?)?;
-    let found = found_addresses(alloc, set.as_slice())?;
+    let set = RecordSet::alone(alloc, record(alloc, "ns.test", 60, RData::A(HINT))?)?;
+    let found = found_addresses(alloc, &set)?;
     let mut frame = stores.open(alloc, &cut, 0)?;
     frame.next_address();
     stores.add(&mut frame, &found)?;
@@ -375,6 +370,6 @@ fn growths_of_find<A: Heap>(alloc: A) -> Result<Option<u64>, Starved> {
 
 #[test]
 fn growths_of_a_cached_answer(rt: HostRuntime) -> Result<(), Fail> {
-    assert_eq!(rt; growths_of_find(rt.alloc())?, Some(5));
+    assert_eq!(rt; growths_of_find(rt.alloc())?, Some(4));
     Ok(())
 }

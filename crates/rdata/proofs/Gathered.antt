@@ -1,12 +1,11 @@
 -- A walk that keeps what is new makes the set.
-use Rattle.std.proofs.Common.{◌≡◌, ℕ, ◌+◌, ◌<◌, ◌≤◌, Bool, true, false, ◌&&◌, ◌||◌, not, cond, List, [], ◌∷◌, ◌++◌, length, take, take_all, get_or, map, filter, fold, append-nil, append_assoc, refl, sym, ◌∙◌, ap}
-use Rattle.std.proofs.lemmas.List.{take_more}
+use Rattle.std.proofs.Common.{◌≡◌, ℕ, Bool, true, false, ◌&&◌, ◌||◌, not, cond, List, [], ◌∷◌, ◌++◌, map, filter, fold, append-nil, append_assoc, refl, sym, ◌∙◌, ap}
 use Rattle.std.proofs.lemmas.Bool.{and_parts}
 use Rattle.dname.specs.Labels.{same_name}
 use Rattle.dname.specs.Laws.{same_name-exact}
 use Rattle.rdata.specs.Data.{same_data}
 use Rattle.rdata.specs.Records.{Record}
-use Rattle.rdata.specs.Sets.{is_repeat, once, lowest_ttl, with_ttl, one_set}
+use Rattle.rdata.specs.Sets.{is_repeat, once, with_ttl}
 use Rattle.rdata.specs.Gathering.{has, add_once, gathered}
 use Rattle.rdata.proofs.Exact.{same_data-exact}
 
@@ -52,7 +51,7 @@ swapped true false c = refl
 swapped false true c = refl
 swapped false false c = refl
 
-pub any_last : (kept : List Record) (t : ℕ) (r s : Record) → has (kept ++ with_ttl t r ∷ []) s ≡ (is_repeat r s || has kept s)
+any_last : (kept : List Record) (t : ℕ) (r s : Record) → has (kept ++ with_ttl t r ∷ []) s ≡ (is_repeat r s || has kept s)
 any_last [] t r s = refl
 any_last (k ∷ kept) t r s = ap (λ (b : Bool). is_repeat k s || b) (any_last kept t r s) ∙ swapped (is_repeat k s) (is_repeat r s) (has kept s)
 
@@ -100,15 +99,3 @@ fold_last t kept (x ∷ xs) r = fold_last t (add_once t kept x) xs r
 pub gathered_last : (t : ℕ) (xs : List Record) (r : Record) → gathered t (xs ++ r ∷ []) ≡ add_once t (gathered t xs) r
 unfolding gathered
 gathered_last t xs r = fold_last t [] xs r
-
-pub gathered_more : (t : ℕ) (rs old new : List Record) (i : ℕ) (r : Record) → i < length rs → r ≡ get_or rs i r → old ≡ gathered t (take i rs)
-    → new ≡ add_once t old r → new ≡ gathered t (take (i + 1) rs)
-unfolding gathered
-gathered_more t rs old new i r lt at_i eo en =
-    en ∙ (ap (λ (l : List Record). add_once t l r) eo
-    ∙ (sym (fold_last t [] (take i rs) r)
-    ∙ ap (gathered t) (ap (λ (x : Record). take i rs ++ x ∷ []) at_i ∙ sym (take_more rs i r lt))))
-
-pub gathered_whole : (t i : ℕ) (rs set : List Record) → t ≡ lowest_ttl rs → length rs ≤ i → set ≡ gathered t (take i rs) → set ≡ one_set rs
-gathered_whole t i rs set et ei es =
-    es ∙ (ap (gathered t) (take_all i rs ei) ∙ (gathered_once t rs ∙ ap (λ (n : ℕ). map (with_ttl n) (once rs)) et))

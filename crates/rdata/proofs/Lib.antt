@@ -5,4 +5,6 @@ pub mod Found
 pub mod Gathered
 pub mod Selected
 pub mod SetMembers
+pub mod SetRows
+pub mod Values
 pub mod Words

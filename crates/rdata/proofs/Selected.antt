@@ -1,11 +1,11 @@
 -- A walk that takes what is chosen makes the set of what is chosen.
-use Rattle.std.proofs.Common.{◌≡◌, ℕ, ◌+◌, ◌<◌, ◌≤◌, Bool, true, false, cond, min, List, [], ◌∷◌, ◌++◌, length, take, take_all, get_or, filter, map, append-nil, refl, sym, ◌∙◌, ap, arith}
+use Rattle.std.proofs.Common.{◌≡◌, ℕ, ◌+◌, ◌<◌, ◌≤◌, Bool, true, false, cond, min, List, [], ◌∷◌, ◌++◌, length, take, take_all, get_or, filter, append-nil, refl, sym, ◌∙◌, ap, arith}
 use Rattle.std.proofs.lemmas.List.{take_more}
 use Rattle.std.proofs.lemmas.List.Elements.{filter-append}
 use Rattle.rdata.specs.Records.{Record, greatest_ttl}
-use Rattle.rdata.specs.Sets.{lowest_ttl, with_ttl, once, one_set}
+use Rattle.rdata.specs.Sets.{lowest_ttl}
 use Rattle.rdata.specs.Gathering.{add_once, gathered}
-use Rattle.rdata.proofs.Gathered.{gathered_last, gathered_once}
+use Rattle.rdata.proofs.Gathered.{gathered_last}
 
 one_later : (rs : List Record) (i : ℕ) (r : Record) → i < length rs → r ≡ get_or rs i r → take (i + 1) rs ≡ take i rs ++ r ∷ []
 one_later rs i r lt at_i = take_more rs i r lt ∙ ap (λ (x : Record). take i rs ++ x ∷ []) (sym at_i)
@@ -35,11 +35,6 @@ module _ (p : Record → Bool) where
       en ∙ (ap (λ (l : List Record). cond b (add_once t l r) l) eo
       ∙ (by_choice t (filter p (take i rs)) r b
       ∙ ap (gathered t) (sym (filter_later (take i rs) r b eb) ∙ ap (filter p) (sym (one_later rs i r lt at_i)))))
-
-  pub chosen_whole : (t i : ℕ) (rs set : List Record) → t ≡ lowest_ttl (filter p rs) → length rs ≤ i → set ≡ gathered t (filter p (take i rs)) → set ≡ one_set (filter p rs)
-  chosen_whole t i rs set et ei es =
-      es ∙ (ap (λ (l : List Record). gathered t (filter p l)) (take_all i rs ei)
-      ∙ (gathered_once t (filter p rs) ∙ ap (λ (n : ℕ). map (with_ttl n) (once (filter p rs))) et))
 
   -- A walk that keeps what is chosen, as it is.
   by_keeping : (xs : List Record) (r : Record) (b : Bool) → b ≡ p r → cond b (filter p xs ++ r ∷ []) (filter p xs) ≡ filter p (xs ++ r ∷ [])

@@ -1,6 +1,7 @@
 -- A set in the making.
 use Rattle.std.specs.Prelude.{ℕ, Bool, cond, List, [], ◌∷◌, ◌++◌, fold}
 use Rattle.std.specs.List.{list_any}
+use Rattle.rdata.specs.Data.{Datum, same_data}
 use Rattle.rdata.specs.Records.{Record}
 use Rattle.rdata.specs.Sets.{is_repeat, with_ttl}
 
@@ -14,3 +15,10 @@ add_once ttl set added = cond (has set added) set (set ++ with_ttl ttl added ∷
 
 unfoldable pub gathered : ℕ → List Record → List Record
 gathered ttl rs = fold (add_once ttl) [] rs
+
+-- The same of data alone.
+abbrev pub has_datum : List Datum → Datum → Bool
+has_datum ds added = list_any (λ (d : Datum). same_data d added) ds
+
+abbrev pub add_datum : List Datum → Datum → List Datum
+add_datum ds added = cond (has_datum ds added) ds (ds ++ added ∷ [])

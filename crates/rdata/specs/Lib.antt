@@ -11,4 +11,5 @@ pub mod Order
 -- Kept: what the code's own values keep.
 pub mod Kept
 pub mod Gathering
+pub mod Rows
 pub mod Later

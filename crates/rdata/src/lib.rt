@@ -1,9 +1,9 @@
 //! Resource records of class IN and of eight types (RFC 1035, sections 3.2 and 3.3): A, NS, CNAME, SOA, PTR, MX,
 //! TXT and AAAA (RFC 3596); and RRsets (RFC 2181, section 5).
 //!
-//! `Record` is an owner, a TTL and `RData`; `Records` lists them. `RType` is a served type, by number
-//! (`from_number`, `number`) or by word (`from_word`, `word`). `set_at` picks the RRset of an owner and a type,
-//! `dedup_set` makes one of records: repeats dropped, all TTLs the lowest. `put_data` writes RDATA as a master file
+//! `Record` is an owner, a TTL and `RData`; `Records` lists them, and a `RecordSet` is those of one owner and one
+//! TTL. `RType` is a served type, by number (`from_number`, `number`) or by word (`from_word`, `word`). `set_at` picks
+//! the RRset of an owner and a type: repeats dropped, all TTLs the lowest. `put_data` writes RDATA as a master file
 //! has it.
 //!
 //! Promised: each result exactly, by the functions of `specs` (`one_set`, `type_by`, `data_text`); the test for
@@ -15,7 +15,7 @@
 //! let mut records = Records::new(alloc);
 //! records.push(Record { owner: name.clone()?, ttl: 300, value: RData::A(Addr([192, 0, 2, 1])) })?;
 //! let set = set_at(alloc, records.as_slice(), &name, RType::A)?;
-//! assert!(set.len() == 1 && lowest_ttl(set.as_slice()) == 300);
+//! assert!(set.is_some_and(|set| set.len() == 1 && set.ttl() == 300));
 //! ```
 #![tactic(auto)]
 
@@ -23,6 +23,7 @@ mod addr;
 mod data;
 mod laws;
 mod order;
+mod record_set;
 mod records;
 mod rtype;
 mod sets;
@@ -33,9 +34,10 @@ mod texts;
 pub use addr::Addr;
 pub use data::RData;
 pub use laws::{number_names_type_law, same_data_law, word_names_type_law};
+pub use record_set::{RecordSet, copy_values};
 pub use records::{GREATEST_TTL, Record, Records};
 pub use rtype::{INTERNET, RType, is_same_word};
-pub use sets::{dedup_set, lowest_ttl, same_set, set_at};
+pub use sets::{Later, lowest_ttl, put_chosen, same_set, set_at};
 pub use soa::Soa;
 pub use text::{put_data, put_ipv4};
 pub use texts::{CharacterString, Texts};

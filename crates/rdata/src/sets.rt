@@ -1,24 +1,29 @@
-//! RRsets: records made one set (RFC 2181, sections 5 and 5.2).
-ghost use Rattle.std.specs.Prelude.{◌≡◌, ℕ, ◌≤◌, [], ◌∷◌, ◌++◌, not, cond, min, IfOk, OnOk};
-ghost use Rattle.rdata.specs.Gathering.{has, add_once};
+//! Records made one RRset (RFC 2181, sections 5 and 5.2).
+ghost use Rattle.std.specs.Prelude.{◌≡◌, ℕ, ◌≤◌, ◌∷◌, ◌++◌, [], not, cond, map, min, IfOk, OnOk};
+ghost use Rattle.std.specs.List.{list_any};
+ghost use Rattle.rdata.specs.Gathering.{gathered, has_datum, add_datum};
+ghost use Rattle.rdata.specs.Kept.{datum};
 ghost use Rattle.rdata.specs.Later.{AreFound};
+ghost use Rattle.rdata.specs.Order.{same_kept};
 ghost use Rattle.rdata.specs.Records.{same_set, greatest_ttl};
+ghost use Rattle.rdata.specs.Rows.{rows, in_set};
 ghost use Rattle.rdata.specs.Selected.{is_at, records_at};
-ghost use Rattle.rdata.specs.Sets.{is_repeat, lowest_ttl, with_ttl, one_set};
+ghost use Rattle.rdata.specs.Sets.{lowest_ttl, one_set};
 ghost use Rattle.rdata.specs.Types.{type_number};
 
 use crate::data::RData;
-use crate::records::{GREATEST_TTL, Record, Records};
+use crate::record_set::RecordSet;
+use crate::records::{GREATEST_TTL, Record};
 use crate::rtype::RType;
 use dname::{Heap, Name, Starved};
 use std::alloc::Allocator;
 use std::collections::BTreeSet;
 
-// So many records of a set are compared one by one; those behind them are found by their order.
+// So many data of a set are compared one by one; those behind them are found by their order.
 const FEW: usize = 16;
 
-// The records of a set behind the first few, without their TTLs.
-type Later<'a, A> = BTreeSet<(&'a RData<A>, &'a Name<A>), A>;
+/// The data of a set in the making behind the first few, lent.
+pub type Later<'a, A> = BTreeSet<&'a RData<A>, A>;
 
 /// Whether both are of one RRset: same owner, same type (RFC 2181, section 5).
 pub fn same_set<A: Allocator>(a: &Record<A>, b: &Record<A>) -> bool
@@ -27,38 +32,49 @@ pub fn same_set<A: Allocator>(a: &Record<A>, b: &Record<A>) -> bool
     a.owner == b.owner && a.is(b.value.kind())
 }
 
-/// The records as one RRset: the first of equal ones, in order, all with the lowest TTL of all
-/// (RFC 2181, sections 5 and 5.2). Of n records it makes some n log n comparisons; up to 16 in the set take no
-/// memory but theirs.
-pub fn dedup_set<A: Heap>(alloc: A, records: &[Record<A>]) -> Result<Records<A>, Starved>
-    ensures { IfOk result (λ set. set ≡ one_set records.now) }
-{
-    let ttl = lowest_ttl(records);
-    let mut set = Records::new(alloc);
-    let mut later = BTreeSet::new(alloc);
-    for added in records {
-        put_once(&mut set, &mut later, added, ttl)?;
-    }
-    Ok(set)
-}
-
-/// The records of that owner and type as one RRset: the first of equal ones, in order, all with the lowest TTL
-/// of theirs (RFC 2181, sections 5 and 5.2). Costs are those of `dedup_set`.
+/// The records of that owner and type as one RRset, where there are any: the first of equal ones, in order, all
+/// with the lowest TTL of theirs (RFC 2181, sections 5 and 5.2). Of n records it makes some n log n comparisons; up
+/// to 16 in the set take no memory but the set's.
 pub fn set_at<A: Heap>(
     alloc: A,
     records: &[Record<A>],
     owner: &Name<A>,
     kind: RType,
-) -> Result<Records<A>, Starved>
-    ensures { IfOk result (λ set. set ≡ one_set (records_at owner.now (type_number kind) records.now)) }
+) -> Result<Option<RecordSet<A>>, Starved>
+    ensures { IfOk result (λ set. in_set set ≡ one_set (records_at owner.now (type_number kind) records.now)) }
 {
     let ttl = lowest_ttl_at(records, owner, kind);
-    let mut set = Records::new(alloc);
+    let values = values_at(alloc, records, owner, kind)?;
+    if values.is_empty() {
+        return Ok(None);
+    }
+    Ok(Some(RecordSet {
+        owner: owner.clone()?,
+        ttl,
+        values,
+    }))
+}
+
+// Their data, each once.
+fn values_at<A: Heap>(
+    alloc: A,
+    records: &[Record<A>],
+    owner: &Name<A>,
+    kind: RType,
+) -> Result<Vec<RData<A>, A>, Starved>
+    ensures { IfOk result (λ v. (t : ℕ) → rows owner.now t v.items ≡ gathered t (records_at owner.now (type_number kind) records.now)) }
+{
+    let most = records
+        .iter()
+        .filter(|tested| is_at(tested, owner, kind))
+        .count();
+    let mut values = Vec::with_capacity(alloc, most)?;
     let mut later = BTreeSet::new(alloc);
     for added in records {
-        put_chosen(&mut set, &mut later, added, ttl, is_at(added, owner, kind))?;
+        let chosen = is_at(added, owner, kind);
+        put_chosen(&mut values, &mut later, &added.value, chosen)?;
     }
-    Ok(set)
+    Ok(values)
 }
 
 fn is_at<A: Allocator>(tested: &Record<A>, owner: &Name<A>, kind: RType) -> bool
@@ -90,61 +106,58 @@ fn lower_by<A: Allocator>(lowest: u32, tested: &Record<A>, chosen: bool) -> u32
     }
 }
 
-// One record more, where it is chosen and new.
-fn put_chosen<'a, A: Heap>(
-    set: &mut Records<A>,
+/// One more of the data of a set in the making, where it is chosen and new. `later` finds what stands behind the first
+/// sixteen again.
+pub fn put_chosen<'a, A: Heap>(
+    values: &mut Vec<RData<A>, A>,
     later: &mut Later<'a, A>,
-    added: &'a Record<A>,
-    ttl: u32,
+    added: &'a RData<A>,
     chosen: bool,
 ) -> Result<(), Starved>
-    requires ttl { ttl ≤ greatest_ttl }
-    requires found { AreFound later.old set.old }
-    ensures set { OnOk result (set.new ≡ cond chosen (add_once ttl set.old added.now) set.old) }
-    ensures found { OnOk result (AreFound later.new set.new) }
+    requires { AreFound later.old (map datum values.old.items) }
+    ensures values { OnOk result (map datum values.new.items ≡ cond chosen (add_datum (map datum values.old.items) (datum added.now)) (map datum values.old.items)) }
+    ensures found { OnOk result (AreFound later.new (map datum values.new.items)) }
 {
     if chosen {
-        put_once(set, later, added, ttl)?;
+        put_once(values, later, added)?;
     }
     Ok(())
 }
 
-// One record more, where it is new.
+// One more, where it is new.
 fn put_once<'a, A: Heap>(
-    set: &mut Records<A>,
+    values: &mut Vec<RData<A>, A>,
     later: &mut Later<'a, A>,
-    added: &'a Record<A>,
-    ttl: u32,
+    added: &'a RData<A>,
 ) -> Result<(), Starved>
-    requires ttl { ttl ≤ greatest_ttl }
-    requires found { AreFound later.old set.old }
-    ensures set { OnOk result (set.new ≡ add_once ttl set.old added.now) }
-    ensures found { OnOk result (AreFound later.new set.new) }
+    requires { AreFound later.old (map datum values.old.items) }
+    ensures values { OnOk result (map datum values.new.items ≡ add_datum (map datum values.old.items) (datum added.now)) }
+    ensures found { OnOk result (AreFound later.new (map datum values.new.items)) }
 {
-    if is_new(set.as_slice(), later, added)? {
-        set.push(with_ttl(added, ttl)?)?;
+    if is_new(values, later, added)? {
+        values.push(added.clone()?)?;
     }
     Ok(())
 }
 
-// Whether a record is no repeat of those of a set; from then on it is found there too.
+// Whether data are no repeat of those of a set; from then on they are found there too.
 fn is_new<'a, A: Heap>(
-    set: &[Record<A>],
+    values: &[RData<A>],
     later: &mut Later<'a, A>,
-    added: &'a Record<A>,
+    added: &'a RData<A>,
 ) -> Result<bool, Starved>
-    requires { AreFound later.old set.now }
-    ensures new { IfOk result (λ new. new ≡ not (has set.now added.now)) }
-    ensures found { IfOk result (λ new. (t : ℕ) → AreFound later.new (cond new (set.now ++ with_ttl t added.now ∷ []) set.now)) }
+    requires { AreFound later.old (map datum values.now) }
+    ensures new { IfOk result (λ new. new ≡ not (has_datum (map datum values.now) (datum added.now))) }
+    ensures found { IfOk result (λ new. AreFound later.new (cond new (map datum values.now ++ datum added.now ∷ []) (map datum values.now))) }
 {
-    let few = set.len().min(FEW);
-    if has(&set[..few], added) {
+    let few = values.len().min(FEW);
+    if has(&values[..few], added) {
         return Ok(false);
     }
-    if set.len() < FEW {
+    if values.len() < FEW {
         return Ok(true);
     }
-    Ok(later.insert((&added.value, &added.owner))?)
+    Ok(later.insert(added)?)
 }
 
 /// The lowest TTL in seconds; of no records the greatest that there is (RFC 2181, sections 5.2 and 8).
@@ -159,26 +172,8 @@ pub fn lowest_ttl<A: Allocator>(records: &[Record<A>]) -> u32
     least
 }
 
-fn with_ttl<A: Heap>(source: &Record<A>, ttl: u32) -> Result<Record<A>, Starved>
-    requires { ttl ≤ greatest_ttl }
-    ensures { IfOk result (λ r. r ≡ with_ttl ttl source.now) }
+fn has<A: Allocator>(values: &[RData<A>], added: &RData<A>) -> bool
+    ensures { result ≡ list_any (λ kept. same_kept kept added.now) values.now }
 {
-    Ok(Record {
-        owner: source.owner.clone()?,
-        ttl,
-        value: source.value.clone()?,
-    })
-}
-
-// Data first: in a set they differ, and the owners are the same.
-fn is_repeat<A: Allocator>(kept: &Record<A>, added: &Record<A>) -> bool
-    ensures { result ≡ is_repeat kept.now added.now }
-{
-    kept.value.is_same(&added.value) && kept.owner == added.owner
-}
-
-fn has<A: Allocator>(set: &[Record<A>], added: &Record<A>) -> bool
-    ensures { result ≡ has set.now added.now }
-{
-    set.iter().any(|kept| is_repeat(kept, added))
+    values.iter().any(|kept| kept.is_same(added))
 }

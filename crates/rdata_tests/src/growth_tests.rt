@@ -1,5 +1,5 @@
 use dname::{Heap, Name, NameError, Starved, put_name};
-use rdata::{Addr, CharacterString, RData, Record, Records, Texts, dedup_set, put_data};
+use rdata::{Addr, CharacterString, RData, RType, Record, Records, Texts, put_data, set_at};
 use refusing::Refusing;
 use std::test::Fail;
 
@@ -30,7 +30,21 @@ fn records<A: Heap>(alloc: A) -> Result<Records<A>, NameError> {
     Ok(records)
 }
 
-// Names and records read, copied, made a set and written.
+fn put_set<A: Heap>(
+    out: &mut String<A>,
+    alloc: A,
+    lent: &Records<A>,
+    kind: RType,
+) -> Result<(), NameError> {
+    let owner = Name::from_text(alloc, "a.example")?;
+    let set = set_at(alloc, lent.as_slice(), &owner, kind)?.ok_or(Starved)?;
+    for added in set.clone()?.to_records(alloc)?.as_slice() {
+        put_line(out, added)?;
+    }
+    Ok(())
+}
+
+// Names and records read, copied, made sets and written.
 fn play<A: Heap>(alloc: A, lent: &Records<A>) -> Result<String<A>, NameError> {
     let origin = Name::from_text(alloc, "Example.COM")?;
     let name = Name::under(alloc, b"a\\.b", &origin)?;
@@ -39,15 +53,14 @@ fn play<A: Heap>(alloc: A, lent: &Records<A>) -> Result<String<A>, NameError> {
         put_name(&mut out, &parent)?;
     }
     out.push('\n')?;
-    for added in dedup_set(alloc, lent.as_slice())?.clone()?.as_slice() {
-        put_line(&mut out, added)?;
-    }
+    put_set(&mut out, alloc, lent, RType::Txt)?;
+    put_set(&mut out, alloc, lent, RType::Mx)?;
     Ok(out)
 }
 
 const PLAYED: &str = "a\\.b.example.com.example.com.
 a.example. 60 TXT \"words\"
-a.example. 60 MX 10 mail.example.
+a.example. 90 MX 10 mail.example.
 ";
 
 #[test]
@@ -98,14 +111,20 @@ fn each_growth_of_a_long_set_is_refused(rt: HostRuntime) -> Result<(), Fail> {
             value: RData::A(Addr([192, 0, 2, last])),
         })?;
     }
+    let root = Name::root(&heap)?;
     let before = heap.growths();
-    assert_eq!(rt; dedup_set(&heap, lent.as_slice())?.len(), 20);
+    let set = set_at(&heap, lent.as_slice(), &root, RType::A)?.ok_or(Starved)?;
     let growths = heap.growths().saturating_sub(before);
-    assert!(rt; growths > 20);
+    assert_eq!(rt; set.len(), 20);
+    // The data, their order behind the first sixteen, and the owner.
+    assert_eq!(rt; growths, 3);
     for n in 0..growths {
         heap.refuse_after(n);
         assert!(rt;
-            matches!(dedup_set(&heap, lent.as_slice()), Err(Starved)),
+            matches!(
+                set_at(&heap, lent.as_slice(), &root, RType::A),
+                Err(Starved)
+            ),
             "growth {n}"
         );
     }

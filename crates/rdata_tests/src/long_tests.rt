@@ -1,5 +1,5 @@
 use dname::{Name, NameError, Starved};
-use rdata::{Addr, CharacterString, RData, Record, Records, Texts, dedup_set, lowest_ttl};
+use rdata::{Addr, CharacterString, RData, RType, Record, Records, Texts, lowest_ttl, set_at};
 use std::alloc::Global;
 use std::test::Fail;
 
@@ -34,10 +34,11 @@ fn the_lowest_of_many(rt: HostRuntime) -> Result<(), Fail> {
 #[test]
 fn many_records_made_one_set(rt: HostRuntime) -> Result<(), Fail> {
     let records = addresses(rt.alloc(), 99_000, 1_000)?;
-    let set = dedup_set(rt.alloc(), records.as_slice())?;
+    let owner = Name::from_text(rt.alloc(), "a.example")?;
+    let set = set_at(rt.alloc(), records.as_slice(), &owner, RType::A)?.ok_or(Starved)?;
     assert_eq!(rt; set.len(), 99_000);
     let mut number = 0u32;
-    for made in set.as_slice() {
+    for made in set.to_records(rt.alloc())?.as_slice() {
         assert_eq!(rt; made.ttl, 300);
         assert!(rt; made.value == RData::A(Addr(number.to_be_bytes())));
         number = number.saturating_add(1);

@@ -2,7 +2,7 @@ ghost use Rattle.std.specs.Prelude.{◌≤◌, length};
 
 use dname::{Name, NameError, Starved};
 use rdata::{
-    Addr, CharacterString, RData, RType, Record, Records, Soa, Texts, dedup_set, lowest_ttl,
+    Addr, CharacterString, RData, RType, Record, RecordSet, Records, Soa, Texts, lowest_ttl,
     put_data, same_set, set_at,
 };
 use std::alloc::Global;
@@ -154,8 +154,11 @@ fn is_one_two_three(set: &[Record]) -> bool {
 #[test]
 fn records_made_one_set(rt: HostRuntime) -> Result<(), Fail> {
     let records = four(rt.alloc())?;
-    let set = dedup_set(rt.alloc(), records.as_slice())?;
-    assert!(rt; is_one_two_three(set.as_slice()));
+    let owner = name(rt.alloc(), "a.example")?;
+    let set = set_at(rt.alloc(), records.as_slice(), &owner, RType::A)?.ok_or(Starved)?;
+    assert_eq!(rt; set.len(), 3);
+    assert!(rt; is_at(&set.first()?, 1));
+    assert!(rt; is_one_two_three(set.clone()?.to_records(rt.alloc())?.as_slice()));
     Ok(())
 }
 
@@ -180,11 +183,24 @@ fn the_set_of_an_owner_and_type(rt: HostRuntime) -> Result<(), Fail> {
         value: RData::Ns(name(rt.alloc(), "ns.example")?),
     })?;
     let owner = name(rt.alloc(), "a.example")?;
-    let set = set_at(rt.alloc(), records.as_slice(), &owner, RType::A)?;
-    assert!(rt; is_one_two_three(set.as_slice()));
-    assert!(rt; set.as_slice().first().is_some_and(|made| made.is(RType::A)));
+    let set = set_at(rt.alloc(), records.as_slice(), &owner, RType::A)?.ok_or(Starved)?;
+    assert!(rt; is_one_two_three(set.to_records(rt.alloc())?.as_slice()));
+    assert!(rt; set.first()?.is(RType::A));
     let none = set_at(rt.alloc(), records.as_slice(), &owner, RType::Mx)?;
-    assert!(rt; none.is_empty());
+    assert!(rt; none.is_none());
+    Ok(())
+}
+
+// RFC 2181, sections 5.2 and 8.
+#[test]
+fn set_with_other_ttls(rt: HostRuntime) -> Result<(), Fail> {
+    let mut set = RecordSet::alone(rt.alloc(), address(rt.alloc(), "a.example", 300, 1)?)?;
+    set.cap_ttl(600);
+    assert_eq!(rt; set.ttl(), 300);
+    set.cap_ttl(90);
+    assert_eq!(rt; set.ttl(), 90);
+    set.set_ttl(120);
+    assert_eq!(rt; set.first()?.ttl, 120);
     Ok(())
 }
 

@@ -1,5 +1,6 @@
 pub mod Walks
 pub mod Rows
+pub mod SetRows
 pub mod Whole
 pub mod Writing
 pub mod Bytes

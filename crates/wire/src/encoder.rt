@@ -1,8 +1,10 @@
 //! A message written, from itself or from borrowed parts.
 ghost use Rattle.std.specs.Prelude.{◌≡◌, ◌≤◌, ◌<◌, ◌+◌, ◌%◌, length, flat_map, OnOk, IfOk, IfErr};
 ghost use Rattle.std.specs.List.{AllByRecursion};
+ghost use Rattle.std.specs.Option.{option_copied};
+ghost use Rattle.rdata.specs.Rows.{in_set};
 ghost use Rattle.layout.specs.Pieces.{after};
-ghost use Rattle.layout.specs.Messages.{encoding, question_pieces, IsQuestion, IsMessage, folded_message};
+ghost use Rattle.layout.specs.Messages.{encoding, question_pieces, record_pieces, IsQuestion, IsRecord, IsMessage, folded_message};
 ghost use Rattle.wire.specs.Drafts.{RefusesText, drafted, asked_alone, asked_by};
 
 use crate::error::WireError;
@@ -12,7 +14,7 @@ use crate::spelling::Spelling;
 use crate::via::TCP_LIMIT;
 use crate::writer::{Tally, Writer};
 use dname::{Heap, Starved};
-use rdata::Record;
+use rdata::{Record, RecordSet};
 use std::alloc::{Allocator, Global};
 
 /// A message that is written from borrowed parts: no record is cloned for it.
@@ -22,7 +24,7 @@ pub struct Draft<'a, A: Allocator = Global> {
     pub question: Option<(&'a Spelling<A>, u16, u16)>,
     /// The answer is `first` and then `second`.
     pub first: &'a [Record<A>],
-    pub second: &'a [Record<A>],
+    pub second: Option<&'a RecordSet<A>>,
     pub authority: &'a [Record<A>],
     pub additional: &'a [Record<A>],
 }
@@ -62,11 +64,21 @@ fn count_of<A: Heap>(question: &Option<(&Spelling<A>, u16, u16)>) -> usize
     }
 }
 
-// The lowest 16 bits of the number of records in both, and perhaps one bit more.
-fn low_count<A: Heap>(first: &[Record<A>], second: &[Record<A>]) -> usize
-    ensures { result ≡ length first.now % 65536 + length second.now % 65536 }
+// How many records a set has, where there is one.
+fn len_of<A: Heap>(set: &Option<&RecordSet<A>>) -> usize
+    ensures { result ≡ length (in_set (option_copied set.now)) }
 {
-    first.len() % 65_536 + second.len() % 65_536
+    match set {
+        None => 0,
+        Some(set) => set.len(),
+    }
+}
+
+// The lowest 16 bits of the sum of two numbers of records, and perhaps one bit more.
+fn low_count(first: usize, second: usize) -> usize
+    ensures { result ≡ first % 65536 + second % 65536 }
+{
+    first % 65_536 + second % 65_536
 }
 
 fn put_alone<A: Heap>(
@@ -82,6 +94,17 @@ fn put_alone<A: Heap>(
     }
 }
 
+// The records of a set, where there is one.
+fn put_lent<A: Heap>(writer: &mut Writer<A>, set: &Option<&RecordSet<A>>) -> Result<(), Starved>
+    ensures written { OnOk result (writer.new ≡ after writer.old (flat_map record_pieces (in_set (option_copied set.now)))) }
+    ensures fits { OnOk result (AllByRecursion IsRecord (in_set (option_copied set.now))) }
+{
+    match set {
+        None => Ok(()),
+        Some(set) => writer.put_set(set),
+    }
+}
+
 /// The encoding of the message of these parts, its question in its own letters: bytes that are this message,
 /// that name in lower case. Refused as `encode` is.
 pub fn encode_draft<A: Heap>(
@@ -90,23 +113,23 @@ pub fn encode_draft<A: Heap>(
     limit: usize,
 ) -> Result<Vec<u8, A>, WireError>
     requires { limit ≤ TCP_LIMIT }
-    ensures ok { let m = drafted draft.now.header (asked_by (λ s. s.now) draft.now.question) draft.now.first.now draft.now.second.now draft.now.authority.now draft.now.additional.now in IfOk result (λ v. (v.items ≡ encoding m) × (length (encoding m) ≤ limit)) }
-    ensures message { let m = drafted draft.now.header (asked_by (λ s. s.now) draft.now.question) draft.now.first.now draft.now.second.now draft.now.authority.now draft.now.additional.now in IfOk result (λ v. IsMessage v.items (folded_message m)) }
-    ensures err { let m = drafted draft.now.header (asked_by (λ s. s.now) draft.now.question) draft.now.first.now draft.now.second.now draft.now.authority.now draft.now.additional.now in IfErr result (λ e. RefusesText e (encoding m) limit) }
+    ensures ok { let m = drafted draft.now.header (asked_by (λ s. s.now) draft.now.question) draft.now.first.now (in_set (option_copied draft.now.second)) draft.now.authority.now draft.now.additional.now in IfOk result (λ v. (v.items ≡ encoding m) × (length (encoding m) ≤ limit)) }
+    ensures message { let m = drafted draft.now.header (asked_by (λ s. s.now) draft.now.question) draft.now.first.now (in_set (option_copied draft.now.second)) draft.now.authority.now draft.now.additional.now in IfOk result (λ v. IsMessage v.items (folded_message m)) }
+    ensures err { let m = drafted draft.now.header (asked_by (λ s. s.now) draft.now.question) draft.now.first.now (in_set (option_copied draft.now.second)) draft.now.authority.now draft.now.additional.now in IfErr result (λ e. RefusesText e (encoding m) limit) }
 {
     let mut writer = Writer::new(alloc)?;
     writer.put_header(
         draft.header,
         Tally {
             questions: count_of(&draft.question),
-            answer: low_count(draft.first, draft.second),
+            answer: low_count(draft.first.len(), len_of(&draft.second)),
             authority: draft.authority.len(),
             additional: draft.additional.len(),
         },
     )?;
     put_alone(&mut writer, &draft.question)?;
     writer.put_records(draft.first)?;
-    writer.put_records(draft.second)?;
+    put_lent(&mut writer, &draft.second)?;
     writer.put_records(draft.authority)?;
     writer.put_records(draft.additional)?;
     writer.finish(limit)

@@ -30,6 +30,7 @@ mod parts;
 mod reader;
 mod records;
 mod served;
+mod sets;
 mod spelling;
 mod values;
 mod via;

@@ -5,6 +5,8 @@ ghost use Rattle.std.specs.List.{AllByRecursion};
 ghost use Rattle.dname.specs.Labels.{IsName};
 ghost use Rattle.rdata.specs.Data as plain;
 ghost use Rattle.rdata.specs.Kept.{datum};
+ghost use Rattle.rdata.specs.Records.{greatest_ttl};
+ghost use Rattle.rdata.specs.Rows.{row};
 ghost use Rattle.layout.specs.Pieces.{put_flat, put_flats, put, after, empty, plain_bytes, packed_name, asked_name, sized_group};
 ghost use Rattle.layout.specs.Packing.{pointer};
 ghost use Rattle.layout.specs.Messages.{data_flats, record_pieces, question_pieces, header_pieces, strings_bytes, FitsRdata, AreNamesOf, IsSpelling, IsHeader, IsQuestion, IsRecord};
@@ -203,16 +205,30 @@ impl<A: Heap> Writer<A> {
         Ok(())
     }
 
+    // A record of these parts.
     #[tactic(auto, unfolding(layout::specs::Pieces::put))]
+    pub(crate) fn put_row(
+        &mut self,
+        owner: &Name<A>,
+        ttl: u32,
+        value: &RData<A>,
+    ) -> Result<(), Starved>
+        requires { ttl ≤ greatest_ttl }
+        ensures written { OnOk result (self.new ≡ after self.old (record_pieces (row owner.now ttl value.now))) }
+        ensures fits { OnOk result (IsRecord (row owner.now ttl value.now)) }
+    {
+        self.put_name(owner)?;
+        self.put_two(value.kind().number())?;
+        self.put_two(INTERNET)?;
+        self.put_four(ttl)?;
+        self.put_group(value)
+    }
+
     fn put_record(&mut self, added: &Record<A>) -> Result<(), Starved>
         ensures written { OnOk result (self.new ≡ after self.old (record_pieces added.now)) }
         ensures fits { OnOk result (IsRecord added.now) }
     {
-        self.put_name(&added.owner)?;
-        self.put_two(added.value.kind().number())?;
-        self.put_two(INTERNET)?;
-        self.put_four(added.ttl)?;
-        self.put_group(&added.value)
+        self.put_row(&added.owner, added.ttl, &added.value)
     }
 
     /// The records in order. The walk over them finds that each fits its bits and that its names are names.

@@ -111,7 +111,7 @@ fn referral<'a, A: Allocator>(
         header: header(query.start, false, 0),
         question: Some(&query.echo),
         first: &[],
-        second: &[],
+        second: None,
         authority: ns.as_slice(),
         additional: glue.as_slice(),
     }

@@ -12,7 +12,7 @@ use crate::world::World;
 use authority::Link;
 use dname::{Heap, Name, Starved};
 use front::MOST_ALIASES;
-use rdata::{INTERNET, RData, RType, Record};
+use rdata::{INTERNET, RData, RType, Record, RecordSet};
 use std::alloc::Allocator;
 use wire::{Message, Question, WireError, decode};
 
@@ -73,15 +73,16 @@ fn is_none<A: Allocator>(records: &[Record<A>]) -> bool
 }
 
 // Whether a reply ends with that set.
-fn is_found<A: Allocator>(
-    set: &[Record<A>],
+fn is_found<A: Heap>(
+    set: &RecordSet<A>,
     answer: &[Record<A>],
     rcode: u8,
     authority: &[Record<A>],
-) -> bool
-    ensures { result ≡ (is_set answer.now set.now && nat_eq rcode 0 && is_none authority.now) }
+) -> Result<bool, Starved>
+    ensures { IfOk result (λ b. b ≡ (is_set answer.now set.now && nat_eq rcode 0 && is_none authority.now)) }
 {
-    is_set(answer, set) && rcode == 0 && is_none(authority)
+    let records = set.to_records(set.owner.allocator())?;
+    Ok(is_set(answer, records.as_slice()) && rcode == 0 && is_none(authority))
 }
 
 // Whether a reply ends with that denial and RCODE.
@@ -152,7 +153,7 @@ fn is_rest<A: Heap>(
     world.is_well_formed();
     match world.link(name, kind)? {
         Link::Alias(alias) => Ok(goes_on(world, &alias, kind, answer, left, rcode, authority)?),
-        Link::Found(set) => Ok(is_found(set.as_slice(), answer, rcode, authority)),
+        Link::Found(set) => Ok(is_found(&set, answer, rcode, authority)?),
         Link::NoData(soa) => Ok(is_denied(&soa, 0, answer, rcode, authority)),
         Link::NxDomain(soa) => Ok(is_denied(&soa, 3, answer, rcode, authority)),
     }

@@ -13,7 +13,7 @@ use crate::rules::{has_name, has_origin, makes_cut};
 use crate::world::Host;
 use authority::{Catalog, Link, Local};
 use dname::{Heap, Name, Starved};
-use rdata::{Addr, RData, RType, Record};
+use rdata::{Addr, RData, RType, Record, RecordSet};
 use std::alloc::Allocator;
 use zone::Zone;
 
@@ -101,24 +101,39 @@ fn some_zone_misses<A: Allocator>(
     zones.iter().any(|zone| zone_misses(zone, name, cut, hosts))
 }
 
-fn link_misses<A: Allocator>(link: Link<A>, cut: &Name<A>, hosts: &[Host<A>]) -> bool
-    ensures { result ≡ link_misses hosts.now cut.now (link_view link) }
+fn set_misses<A: Heap>(
+    set: &RecordSet<A>,
+    cut: &Name<A>,
+    hosts: &[Host<A>],
+) -> Result<bool, Starved>
+    ensures { IfOk result (λ b. b ≡ some_missed hosts.now cut.now set.now) }
+{
+    let records = set.to_records(cut.allocator())?;
+    Ok(some_missed(records.as_slice(), cut, hosts))
+}
+
+fn link_misses<A: Heap>(link: &Link<A>, cut: &Name<A>, hosts: &[Host<A>]) -> Result<bool, Starved>
+    ensures { IfOk result (λ b. b ≡ link_misses hosts.now cut.now (link_view link.now)) }
 {
     match link {
-        Link::Found(set) => some_missed(set.as_slice(), cut, hosts),
-        Link::Alias(_) => false,
-        Link::NoData(_) => false,
-        Link::NxDomain(_) => false,
+        Link::Found(set) => Ok(set_misses(set, cut, hosts)?),
+        Link::Alias(_) => Ok(false),
+        Link::NoData(_) => Ok(false),
+        Link::NxDomain(_) => Ok(false),
     }
 }
 
-fn local_misses<A: Allocator>(local: Local<A>, cut: &Name<A>, hosts: &[Host<A>]) -> bool
-    ensures { result ≡ look_misses hosts.now cut.now (local_view local) }
+fn local_misses<A: Heap>(
+    local: &Local<A>,
+    cut: &Name<A>,
+    hosts: &[Host<A>],
+) -> Result<bool, Starved>
+    ensures { IfOk result (λ b. b ≡ look_misses hosts.now cut.now (local_view local.now)) }
 {
     match local {
-        Local::Link(link) => link_misses(link, cut, hosts),
-        Local::Cut(_, _, _) => false,
-        Local::NotHere => false,
+        Local::Link(link) => Ok(link_misses(link, cut, hosts)?),
+        Local::Cut(_, _, _) => Ok(false),
+        Local::NotHere => Ok(false),
     }
 }
 
@@ -132,7 +147,7 @@ fn look_misses<A: Heap>(
     ensures { IfOk result (λ b. b ≡ look_misses hosts.now cut.now (looked catalog.now name.now a_type)) }
 {
     let found = catalog.look(name.allocator(), name, RType::A)?;
-    Ok(local_misses(found, cut, hosts))
+    Ok(local_misses(&found, cut, hosts)?)
 }
 
 fn name_misses<A: Heap>(

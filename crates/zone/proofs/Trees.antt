@@ -8,7 +8,8 @@ use Rattle.dname.proofs.Under.{under_is}
 use Rattle.rdata.specs.Records.{Record}
 use Rattle.zone.proofs.LawLists.{under_length}
 use Rattle.zone.specs.Look.{is_owned}
-use Rattle.zone.specs.Tree.{has_under, places_from, places, Spot, spot_of, more, put_place, or_empty, spot_after, picks, AreWithin}
+use Rattle.zone.specs.Tree.{has_under, places_from, places, Spot, spot_of, seen, spot, more, put_place, or_empty, spot_after, picks, AreWithin}
+use Rattle.zone.specs.declared.nodes.Node.{Node}
 
 -- The records at the places of those that pass are those that pass.
 drop_front : (front rs : List Record) → drop (length front) (front ++ rs) ≡ rs
@@ -147,6 +148,12 @@ spot_push n xs r i e =
     ap (λ (b : Bool). cond b (Some (spot_at n (xs ++ r ∷ []))) None) (any_push n xs r)
     ∙ spot_by (has_under n xs) (is_under r.owner n) n r.owner i (spot_at n (xs ++ r ∷ [])) (spot_at n xs) (spot_pushed n xs r i e) (λ f. spot_stays n r i (spot_at n xs) f) (λ g. spot_none n xs g)
 
+-- The node of a name, put or put anew.
+pub put_one : {H : Type 0} (b : Bool) (n owner : List (List ℕ)) (i : ℕ) (s : Spot) (node : Node H) (old new : Option (Node H)) → (b ≡ true → or_empty (spot old) ≡ s) → new ≡ cond b (Some node) old
+    → seen node ≡ put_place n owner i s → spot new ≡ spot_after b n owner i (spot old)
+put_one true n owner i s node old new h e p = ap spot e ∙ ap Some (p ∙ ap (put_place n owner i) (sym (h refl)))
+put_one false n owner i s node old new h e p = ap spot e
+
 -- A name and those above it are put once each.
 longer_not_over : (a b : List (List ℕ)) → length a < length b → is_under a b ≡ false
 longer_not_over a b lt = false_from_ne_true (is_under a b) (λ t. let most = under_length a b (under_is a b t) in omega (arith, lt, most))
@@ -244,6 +251,6 @@ picks_at rs (i ∷ is) (suc k) x h lt e =
     picks_at rs is k x h.1 (omega (arith, lt)) e ∙ sym (ap (λ (l : List Record). get_or (l ++ picks rs is) (suc k) x) (taken_one rs i x h.0))
 
 -- A fact of all lists of labels is one of a name.
-pub at_name : (n : List (List ℕ)) (f g : List (List ℕ) → Option Spot) → AreLabels n → ((l : List ℕ) (ls : List (List ℕ)) → f (l ∷ ls) ≡ g (l ∷ ls)) → f n ≡ g n
-at_name [] f g h e = absurd h
-at_name (l ∷ ls) f g h e = e l ls
+pub each_name : (n : List (List ℕ)) (f g : List (List ℕ) → Option Spot) → AreLabels n → ((l : List ℕ) (ls : List (List ℕ)) → f (l ∷ ls) ≡ g (l ∷ ls)) → f n ≡ g n
+each_name [] f g h e = absurd h
+each_name (l ∷ ls) f g h e = e l ls

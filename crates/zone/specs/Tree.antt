@@ -1,9 +1,9 @@
 -- A zone's records by name: a node for each name that an owner is at or under, with the places of the
 -- records at that name and at `*` right under it (RFC 1034, sections 3.1 and 4.3.3).
-use Rattle.std.specs.Prelude.{◌≡◌, ◌<◌, ℕ, suc, Bool, true, cond, Option, Some, None, List, [], ◌∷◌, ◌++◌, take, drop}
+use Rattle.std.specs.Prelude.{◌≡◌, ◌<◌, ℕ, suc, Bool, true, cond, Option, Some, None, List, [], ◌∷◌, ◌++◌, take, drop, Vec}
 use Rattle.std.specs.List.{list_any, flat_map}
-use Rattle.std.specs.HashMap as hash
 use Rattle.std.specs.HashMap.{HashMap}
+use Rattle.dname.specs.Keys.{at_name}
 use Rattle.dname.specs.Labels.{star, same_name, is_under}
 use Rattle.rdata.specs.Records.{Record}
 use Rattle.zone.specs.Look.{is_owned, at}
@@ -59,9 +59,9 @@ abbrev pub AreWithin : ℕ → List ℕ → Type 0
 AreWithin n [] = Unit {0}
 AreWithin n (i ∷ is) = (i < n) × AreWithin n is
 
--- A map that gives for each name what the record list says of it.
-pub record IsTree {H S : Type 0} (m : HashMap (List (List ℕ)) (Node H) S) (rs : List Record) : Type 0 where
-  pub at : (l : List ℕ) (ls : List (List ℕ)) → spot (hash.get same_name m (l ∷ ls)) ≡ spot_of (l ∷ ls) rs
+-- A map that gives for each name what the record list says of it. Its keys are names in wire form.
+pub record IsTree {H S : Type 0} (m : HashMap (Vec ℕ H) (Node H) S) (rs : List Record) : Type 0 where
+  pub at : (l : List ℕ) (ls : List (List ℕ)) → spot (at_name m (l ∷ ls)) ≡ spot_of (l ∷ ls) rs
 
 -- What stands at a name that some owner is at or under.
 pub record IsStand (n : List (List ℕ)) (rs os ws : List Record) : Type 0 where

@@ -1,6 +1,6 @@
 //! The nodes of a zone's tree.
 ghost use Rattle.std.specs.Prelude.{◌≡◌, ◌∷◌, ℕ, List, IfOk, OnOk};
-ghost use Rattle.std.specs.HashMap as hash;
+ghost use Rattle.dname.specs.Keys.{at_name};
 ghost use Rattle.dname.specs.Labels.{same_name, is_under};
 ghost use Rattle.zone.specs.Tree.{more, put_place, or_empty, seen, spot, spot_after, IsTree};
 
@@ -18,8 +18,8 @@ pub struct Node<A: Allocator> {
     pub wild: Vec<usize, A>,
 }
 
-/// The nodes of a zone by their names.
-pub type Nodes<A> = HashMap<Name<A>, Node<A>, BuildHasherDefault<FoldHasher>, A>;
+/// The nodes of a zone by the wire forms of their names, so that a name that is lent finds one.
+pub type Nodes<A> = HashMap<Vec<u8, A>, Node<A>, BuildHasherDefault<FoldHasher>, A>;
 
 fn put_if<A: Heap>(places: &mut Vec<usize, A>, place: usize, is_there: bool) -> Result<(), Starved>
     ensures { OnOk result (places.new.items ≡ more is_there places.old.items place) }
@@ -51,9 +51,9 @@ fn put_node<A: Heap>(
     owner: &Name<A>,
     place: usize,
 ) -> Result<(), Starved>
-    ensures { OnOk result ((q : List (List ℕ)) → spot (hash.get same_name nodes.new q) ≡ spot_after (same_name name.now q) name.now owner.now place (spot (hash.get same_name nodes.old q))) }
+    ensures { OnOk result ((q : List (List ℕ)) → spot (at_name nodes.new q) ≡ spot_after (same_name name.now q) name.now owner.now place (spot (at_name nodes.old q))) }
 {
-    if let Some(node) = nodes.get_mut(name) {
+    if let Some(node) = nodes.get_mut(name.wire()) {
         put_place(node, name, owner, place)?;
         return Ok(());
     }
@@ -62,7 +62,8 @@ fn put_node<A: Heap>(
         wild: Vec::new(name.allocator()),
     };
     put_place(&mut node, name, owner, place)?;
-    nodes.insert(name.clone()?, node)?;
+    let key = Vec::from_slice(name.allocator(), name.wire())?;
+    nodes.insert(key, node)?;
     Ok(())
 }
 
@@ -73,7 +74,7 @@ fn put_up<A: Heap>(
     owner: &Name<A>,
     place: usize,
 ) -> Result<(), Starved>
-    ensures { OnOk result ((l : List ℕ) (ls : List (List ℕ)) → spot (hash.get same_name nodes.new (l ∷ ls)) ≡ spot_after (is_under up.old (l ∷ ls)) (l ∷ ls) owner.now place (spot (hash.get same_name nodes.old (l ∷ ls)))) }
+    ensures { OnOk result ((l : List ℕ) (ls : List (List ℕ)) → spot (at_name nodes.new (l ∷ ls)) ≡ spot_after (is_under up.old (l ∷ ls)) (l ∷ ls) owner.now place (spot (at_name nodes.old (l ∷ ls)))) }
 {
     put_node(nodes, up, owner, place)?;
     if up.ascend() {

@@ -3,7 +3,7 @@ ghost use Rattle.std.specs.Prelude.{◌≡◌, ◌<◌, false, length, get_or, I
 ghost use Rattle.zone.specs.Tree.{has_under, IsTree, IsStand};
 
 use crate::nodes::{Nodes, nodes_of};
-use dname::{Heap, Name, Starved};
+use dname::{Heap, Starved, Suffix};
 use rdata::{Record, Records};
 use std::alloc::{AllocError, Allocator};
 use std::marker::Model;
@@ -58,13 +58,13 @@ pub struct Stand<'a, A: Allocator> {
 fn stand_at<'a, A: Allocator>(
     nodes: &'a Nodes<A>,
     records: &'a [Record<A>],
-    name: &Name<A>,
+    name: &Suffix<'_>,
 ) -> Option<Stand<'a, A>>
     requires { IsTree nodes.now records.now }
     ensures { MatchOption result (has_under name.now records.now ≡ false) (λ s. IsStand name.now records.now s.own s.wild) }
 {
     name.is_well_formed();
-    match nodes.get(name) {
+    match nodes.get(name.wire()) {
         None => None,
         Some(node) => Some(Stand {
             own: Held {
@@ -130,7 +130,7 @@ impl<A: Allocator> Tree<A> {
     }
 
     /// What stands at a name.
-    pub fn stand(&self, name: &Name<A>) -> Option<Stand<'_, A>>
+    pub fn stand(&self, name: &Suffix<'_>) -> Option<Stand<'_, A>>
         ensures { MatchOption result (has_under name.now self.now ≡ false) (λ s. IsStand name.now self.now s.own s.wild) }
     {
         stand_at(&self.nodes, self.records.as_slice(), name)

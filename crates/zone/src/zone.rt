@@ -9,7 +9,7 @@ use crate::denial::denial_in;
 use crate::fault::ZoneError;
 use crate::rules::check;
 use crate::tree::{Stand, Tree};
-use dname::{Heap, Name};
+use dname::{Heap, Name, Suffix};
 use rdata::{Record, Records};
 use std::alloc::{AllocError, Allocator, Global};
 use std::marker::Model;
@@ -93,6 +93,13 @@ impl<A: Allocator> Zone<A> {
     /// What stands at a name that an owner is at or under, and nothing where none is. It is found by the
     /// name alone, whatever the zone's size.
     pub fn stand(&self, name: &Name<A>) -> Option<Stand<'_, A>>
+        ensures { MatchOption result (has_under name.now self.now.records ≡ false) (λ s. IsStand name.now self.now.records s.own s.wild) }
+    {
+        self.tree.stand(&name.suffix())
+    }
+
+    /// The same at a name that is lent.
+    pub fn stand_at(&self, name: &Suffix<'_>) -> Option<Stand<'_, A>>
         ensures { MatchOption result (has_under name.now self.now.records ≡ false) (λ s. IsStand name.now self.now.records s.own s.wild) }
     {
         self.tree.stand(name)

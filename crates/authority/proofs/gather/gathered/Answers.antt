@@ -1,18 +1,35 @@
+-- No record of the type, or all of it with the first one's TTL.
+use Rattle.std.proofs.Common.{rules, [], ap}
+use Rattle.rdata.specs.Kept.{datum}
+use Rattle.rdata.specs.Records.{Record}
+use Rattle.rdata.specs.Rows.{rows}
 use Rattle.rdata.specs.Types.{type_number}
-use Rattle.std.proofs.Common.{◌∙◌, ap, map}
-use Rattle.std.proofs.lemmas.List.{take_all}
-use Rattle.zone.specs.Look.{firsts, with_owner}
-use Rattle.authority.specs.Climb.{target, is_picked, picked}
-use Rattle.authority.proofs.Found.{none_found}
-use Rattle.authority.proofs.Picks.{gathered_more}
+use Rattle.zone.specs.Zones.{Zone}
+use Rattle.authority.specs.Climb.{target, is_picked}
+use Rattle.authority.proofs.SetRows.{no_set, named_set, is_filled, some_rows, timed_picked}
 use Rattle.authority.proofs.gather.gathered.Goals as goal
 
-pub loop-added-init : goal.loop-added-init
-loop-added-init g c = record { made = c.new-set.ensures; found = none_found c.new-later.result c.new-set.result c.new-later.ensures.empty c.new-set.ensures }
+pub returns-in-None-clause-value : goal.returns-in-None-clause-value
+returns-in-None-clause-value g c = no_set (is_picked (target c.args.wild c.args.name.now) (type_number c.args.kind)) c.args.owner.now c.args.records.now c.in-None.ensures
 
-pub loop-added-preserved : goal.loop-added-preserved
-loop-added-preserved g c = record {
-  made = gathered_more (with_owner c.args.owner.now) (is_picked (target c.args.wild c.args.name.now) (type_number c.args.kind)) c.args.records.now c.loop-added.set c.put_picked.new.set c.loop-added.added-index
-      c.added-item.result c.answers-chosen.result c.loop-added-test.true c.added-item.is c.loop-added.invariant.made c.answers-chosen.ensures c.in_ok-put_picked.ensures.set;
-  found = c.in_ok-put_picked.ensures.found;
-}
+pub invariant_of-result : goal.invariant_of-result
+invariant_of-result g c =
+    let z : Zone = record { origin = []; records = c.args.records.now } in
+    let p = is_picked (target c.args.wild c.args.name.now) (type_number c.args.kind) in
+    let same = timed_picked (target c.args.wild c.args.name.now) (type_number c.args.kind) z c.in-Some.first.now c.requires c.in-Some.ensures in
+    (search rules, is_filled p c.args.owner.now c.args.records.now c.in-Some.first.now c.in_ok-values-in-Some.values.items same c.in-Some.ensures c.in_ok-values-in-Some.ensures)
+
+pub returns-in_ok-clone-in-Some-clause-value : goal.returns-in_ok-clone-in-Some-clause-value
+returns-in_ok-clone-in-Some-clause-value g c =
+    let z : Zone = record { origin = []; records = c.args.records.now } in
+    let p = is_picked (target c.args.wild c.args.name.now) (type_number c.args.kind) in
+    let same = timed_picked (target c.args.wild c.args.name.now) (type_number c.args.kind) z c.in-Some.first.now c.requires c.in-Some.ensures in
+    named_set p c.args.owner.now c.args.records.now c.in-Some.first.now c.in_ok-clone-in-Some.field-0 c.first.inside.ttl c.in_ok-values-in-Some.values.items
+    c.in_ok-clone-in-Some.ensures.cases (ap (λ (r : Record). r.ttl) c.first.view_is) same c.in_ok-values-in-Some.ensures
+
+pub returns-in_ok-clone-in-Some-clause-some : goal.returns-in_ok-clone-in-Some-clause-some
+returns-in_ok-clone-in-Some-clause-some g c =
+    let z : Zone = record { origin = []; records = c.args.records.now } in
+    let p = is_picked (target c.args.wild c.args.name.now) (type_number c.args.kind) in
+    let same = timed_picked (target c.args.wild c.args.name.now) (type_number c.args.kind) z c.in-Some.first.now c.requires c.in-Some.ensures in
+    some_rows c.in_ok-clone-in-Some.field-0 c.first.inside.ttl c.in_ok-values-in-Some.values.items (is_filled p c.args.owner.now c.args.records.now c.in-Some.first.now c.in_ok-values-in-Some.values.items same c.in-Some.ensures c.in_ok-values-in-Some.ensures)

@@ -1,12 +1,29 @@
-use Rattle.std.proofs.Common.{arith}
+-- No record of the type, or all of it with the first one's TTL.
+use Rattle.std.proofs.Common.{rules, ap}
+use Rattle.rdata.specs.Records.{Record}
 use Rattle.rdata.specs.Types.{type_number}
-use Rattle.zone.specs.Look.{is_type, with_owner}
-use Rattle.authority.proofs.Picks.{gathered_more}
+use Rattle.zone.specs.Look.{is_type}
+use Rattle.authority.proofs.SetRows.{no_set, named_set, is_filled, some_rows, timed_held}
 use Rattle.authority.proofs.held.set_of.Goals as goal
 
-pub loop-index-preserved : goal.loop-index-preserved
-loop-index-preserved g c = record {
-  made = gathered_more (with_owner c.args.owner.now) (is_type (type_number c.args.kind)) c.args.held.now c.loop-index.set c.put_picked.new.set c.loop-index.index c.get-added.result.now c.is_kind.result
-      (omega (arith, c.loop-index-test.true, c.len-index-end.ensures)) c.get-added.ensures c.loop-index.invariant.made c.is_kind.ensures c.in_ok-put_picked.ensures.set;
-  found = c.in_ok-put_picked.ensures.found;
-}
+pub returns-in-None-clause-value : goal.returns-in-None-clause-value
+returns-in-None-clause-value g c = no_set (is_type (type_number c.args.kind)) c.args.owner.now c.args.held.now c.in-None.ensures
+
+pub invariant_of-result : goal.invariant_of-result
+invariant_of-result g c =
+    let p = is_type (type_number c.args.kind) in
+    let same = timed_held (type_number c.args.kind) c.args.held.now c.in-Some.first.now c.requires c.in-Some.ensures in
+    (search rules, is_filled p c.args.owner.now c.args.held.now c.in-Some.first.now c.in_ok-values-in-Some.values.items same c.in-Some.ensures c.in_ok-values-in-Some.ensures)
+
+pub returns-in_ok-clone-in-Some-clause-value : goal.returns-in_ok-clone-in-Some-clause-value
+returns-in_ok-clone-in-Some-clause-value g c =
+    let p = is_type (type_number c.args.kind) in
+    let same = timed_held (type_number c.args.kind) c.args.held.now c.in-Some.first.now c.requires c.in-Some.ensures in
+    named_set p c.args.owner.now c.args.held.now c.in-Some.first.now c.in_ok-clone-in-Some.field-0 c.first.inside.ttl c.in_ok-values-in-Some.values.items
+    c.in_ok-clone-in-Some.ensures.cases (ap (λ (r : Record). r.ttl) c.first.view_is) same c.in_ok-values-in-Some.ensures
+
+pub returns-in_ok-clone-in-Some-clause-some : goal.returns-in_ok-clone-in-Some-clause-some
+returns-in_ok-clone-in-Some-clause-some g c =
+    let p = is_type (type_number c.args.kind) in
+    let same = timed_held (type_number c.args.kind) c.args.held.now c.in-Some.first.now c.requires c.in-Some.ensures in
+    some_rows c.in_ok-clone-in-Some.field-0 c.first.inside.ttl c.in_ok-values-in-Some.values.items (is_filled p c.args.owner.now c.args.held.now c.in-Some.first.now c.in_ok-values-in-Some.values.items same c.in-Some.ensures c.in_ok-values-in-Some.ensures)

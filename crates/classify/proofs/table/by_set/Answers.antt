@@ -1,14 +1,10 @@
-use Rattle.std.proofs.Common.{refl, sym, ◌∙◌}
-use Rattle.classify.specs.Views.{class_view}
-use Rattle.classify.proofs.Sets.{none_there, denied_there, found_there}
+use Rattle.std.proofs.Common.{sym, ◌∙◌, ap}
+use Rattle.rdata.specs.Rows.{in_set}
+use Rattle.classify.specs.Classes.{by_set}
 use Rattle.classify.proofs.table.by_set.Goals as goal
 
-pub returns-then-is_empty : goal.returns-then-is_empty
-returns-then-is_empty g c =
-    none_there c.args.zone.now c.args.name.now c.args.message.now (class_view c.in_ok-by_alias.field-0) c.args.set (c.if-is_empty.ensures.0 refl) c.in_ok-by_alias.ensures
+pub returns-in-Some : goal.returns-in-Some
+returns-in-Some g c = c.by_records.ensures c.args.zone.now c.args.name.now ∙ ap (λ o. by_set c.args.zone.now c.args.name.now c.args.message.now (in_set o)) (sym c.in-Some.is)
 
-pub returns-then-is_name_error : goal.returns-then-is_name_error
-returns-then-is_name_error g c = denied_there c.args.zone.now c.args.name.now c.args.message.now c.args.set c.if-is_empty.ensures.1 (sym c.is_name_error.ensures ∙ c.if-is_name_error.true)
-
-pub returns : goal.returns
-returns g c = found_there c.args.zone.now c.args.name.now c.args.message.now (class_view c.answer_by.result) c.args.set c.if-is_empty.ensures.1 (sym c.is_name_error.ensures ∙ c.if-is_name_error.false) c.answer_by.ensures
+pub returns-in_ok-by_alias-in-None : goal.returns-in_ok-by_alias-in-None
+returns-in_ok-by_alias-in-None g c = c.in_ok-by_alias-in-None.ensures ∙ ap (λ o. by_set c.args.zone.now c.args.name.now c.args.message.now (in_set o)) (sym c.in-None.is)

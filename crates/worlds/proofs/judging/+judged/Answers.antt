@@ -34,12 +34,11 @@ goes_on-returns-then-not-is_same g t c = λ q link. never
     (not_same c.args.world.now (type_number c.args.kind) q c.args.alias.now c.args.left c.args.answer.now c.args.rcode c.args.authority.now c.first-item.result c.is_well_formed.ensures link
     c.in-len1-up.len_at_least c.first-item.is (sym c.is_same.ensures ∙ c.if-not-is_same.true))
 
-pub is_rest-returns-in-Found : goal.is_rest-returns-in-Found
-is_rest-returns-in-Found g t c =
+pub is_rest-returns-in_ok-is_found-in-Found : goal.is_rest-returns-in_ok-is_found-in-Found
+is_rest-returns-in_ok-is_found-in-Found g t c =
     let link = subst (λ l. IsTrueLink c.args.world.now c.args.name.now (type_number c.args.kind) (link_view l)) c.in-Found.is c.in_ok-alias.ensures in
-    clause c.is_found.result c.is_found.ensures
-    (found_so c.args.world.now (type_number c.args.kind) c.args.name.now c.args.left c.as_slice.result.now c.args.answer.now c.args.rcode c.args.authority.now c.is_well_formed.ensures
-    (subst (λ (rs : List Record). IsTrueLink c.args.world.now c.args.name.now (type_number c.args.kind) (Found rs)) (sym c.as_slice.ensures) link))
+    clause c.in_ok-is_found-in-Found.field-0 c.in_ok-is_found-in-Found.ensures
+    (found_so c.args.world.now (type_number c.args.kind) c.args.name.now c.args.left c.in-Found.set c.args.answer.now c.args.rcode c.args.authority.now c.is_well_formed.ensures link)
 
 pub is_rest-returns-in-NoData : goal.is_rest-returns-in-NoData
 is_rest-returns-in-NoData g t c =

@@ -1,37 +1,36 @@
-use Rattle.std.proofs.Common.{◌≡◌, sym, ap, ◌∙◌}
+-- What is kept of the name, by the key that is made of it.
+use Rattle.std.proofs.Common.{◌∙◌, sym, subst, ℕ, List}
+use Rattle.std.specs.Prelude.{IfSome, IfNone}
+use Rattle.lru.specs.LruCache.{LruCache, lru_cache}
 use Rattle.rdata.specs.Types.{type_number}
-use Rattle.cache.specs.Cached.{under, answer}
-use Rattle.cache.proofs.Steps.{hit_is_held, moved_some, moved_none, moved_members}
-use Rattle.cache.proofs.Given.{miss_is_missed}
-use Rattle.cache.proofs.Unpacked.{promoted_shows}
+use Rattle.recency.specs.Orders.{HasSame}
+use Rattle.cache.specs.Keys.{Key}
+use Rattle.cache.specs.Cached.{Hit, alone, hit_of, lent, moved, IsHeld, IsMiss}
 use Rattle.cache.proofs.cache.Cache.look.Goals as goal
-use Rattle.cache.proofs.cache.Cache.look.Goals.{then-is_some, else-is_some}
 
-pub returns-clause-held : goal.returns-clause-held
-returns-clause-held g c =
-    let found : under c.find.new.key c.in_ok-hit.hit ≡ answer c.args.name.now (type_number c.args.kind) c.args.now c.args.self.now.entries =
-    c.in_ok-hit.ensures ∙ ap (λ q. answer q (type_number c.args.kind) c.args.now c.args.self.now.entries) c.in_ok-clone.ensures.cases in
-    hit_is_held c.args.name.now (type_number c.args.kind) c.args.now c.args.self.now.entries c.find.new.key c.in_ok-hit.hit found
-
-pub returns-clause-missed : goal.returns-clause-missed
-returns-clause-missed g c =
-    let found : under c.find.new.key c.in_ok-hit.hit ≡ answer c.args.name.now (type_number c.args.kind) c.args.now c.args.self.now.entries =
-    c.in_ok-hit.ensures ∙ ap (λ q. answer q (type_number c.args.kind) c.args.now c.args.self.now.entries) c.in_ok-clone.ensures.cases in
-    miss_is_missed c.args.name.now (type_number c.args.kind) c.args.now c.args.self.now.entries c.find.new.key c.in_ok-hit.hit found
+pub returns-clause-value : goal.returns-clause-value
+returns-clause-value g c =
+    let name = c.in_ok-key.ensures.key in
+    let same = c.in_ok-key.ensures.same in
+    c.in_ok-hit.ensures.value ∙ (λ i. hit_of (lent (alone (name i) (type_number c.args.kind)) c.args.now (same i).entries))
 
 pub returns-clause-ok : goal.returns-clause-ok
 returns-clause-ok g c =
-    let found : under c.find.new.key c.in_ok-hit.hit ≡ answer c.args.name.now (type_number c.args.kind) c.args.now c.args.self.now.entries =
-    c.in_ok-hit.ensures ∙ ap (λ q. answer q (type_number c.args.kind) c.args.now c.args.self.now.entries) c.in_ok-clone.ensures.cases in
-    let before = c.args.self.now in
-    let after = c.if-is_some.self in
-    let at = answer c.args.name.now (type_number c.args.kind) c.args.now c.args.self.now.entries in
-    elim c.if-is_some.branch [
-      | then-is_some w ↦ moved_some before after c.find.new.key c.in_ok-hit.hit at found (sym c.is_some.ensures ∙ w.if-is_some.true)
-          (w.self-is ∙ promoted_shows c.args.self.now c.self.inside.entries c.self.view_is c.find.new.key w.promote.new.self w.promote.ensures.entries)
-      | else-is_some w ↦ moved_none before after c.find.new.key c.in_ok-hit.hit at found (sym c.is_some.ensures ∙ w.if-is_some.false) w.self-is
-    ]
+    let name = c.in_ok-key.ensures.key in
+    let same = c.in_ok-key.ensures.same in
+    c.put_back.ensures ∙ (c.in_ok-hit.ensures.ok ∙ (λ i. lru_cache (moved (lent (alone (name i) (type_number c.args.kind)) c.args.now (same i).entries) (same i).entries) (same i).cap))
+
+pub returns-clause-held : goal.returns-clause-held
+returns-clause-held g c =
+    subst (λ (n : List (List ℕ)). IfSome c.in_ok-hit.hit (IsHeld n (type_number c.args.kind) c.args.now c.args.self.now.entries)) c.in_ok-key.ensures.key
+    (subst (λ (d : LruCache Key Hit). IfSome c.in_ok-hit.hit (IsHeld (c.in_ok-key.key).name (type_number c.args.kind) c.args.now d.entries)) c.in_ok-key.ensures.same c.in_ok-hit.ensures.held)
+
+pub returns-clause-missed : goal.returns-clause-missed
+returns-clause-missed g c =
+    subst (λ (n : List (List ℕ)). IfNone c.in_ok-hit.hit (IsMiss n (type_number c.args.kind) c.args.now c.args.self.now.entries)) c.in_ok-key.ensures.key
+    (subst (λ (d : LruCache Key Hit). IfNone c.in_ok-hit.hit (IsMiss (c.in_ok-key.key).name (type_number c.args.kind) c.args.now d.entries)) c.in_ok-key.ensures.same c.in_ok-hit.ensures.missed)
 
 pub returns-clause-members : goal.returns-clause-members
 returns-clause-members g c =
-    moved_members c.args.self.now c.if-is_some.self (answer c.args.name.now (type_number c.args.kind) c.args.now c.args.self.now.entries) (returns-clause-ok g c)
+    subst (λ (d : LruCache Key Hit). HasSame c.args.self.now.entries d.entries) (sym c.put_back.ensures)
+    (subst (λ (d : LruCache Key Hit). HasSame d.entries c.look_at.new.self.entries) c.in_ok-key.ensures.same c.in_ok-hit.ensures.members)

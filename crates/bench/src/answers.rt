@@ -1,0 +1,116 @@
+//! Answers that a resolver gives without asking anybody.
+use crate::steps::{ROOT, core, message, query};
+use crate::sums::low;
+use crate::work::{Counted, Done};
+use anyhow::Result;
+use dname::{Heap, Name, Starved};
+use engine::Core;
+use exchange::{Action, Actions, Bytes, Endpoint, Event};
+use rdata::Records;
+use refusing::Refusing;
+use std::rt::Runtime;
+use std::time::Instant;
+use zone::Zone;
+
+/// Where the answer is known from.
+#[derive(Clone, Copy)]
+pub enum Known {
+    /// A local zone: one address.
+    Zone,
+    /// The cache: so many addresses.
+    Cache(u8),
+}
+
+const ZONE: &str = "$TTL 300\n@ SOA ns h 1 2 3 4 60\n@ NS ns\nwww A 192.0.2.9\n";
+
+fn name<A: Heap>(alloc: A, text: &str) -> Result<Name<A>, Starved> {
+    Name::from_text(alloc, text).map_err(|_| Starved)
+}
+
+// The local zone, where the answer is known from it.
+fn zones<A: Heap>(alloc: A, known: Known) -> Result<Vec<Zone<A>, A>, Starved> {
+    let mut zones = Vec::new(alloc);
+    if let Known::Zone = known {
+        let origin = name(alloc, "example.")?;
+        let records: Records<A> = masterfile::read(alloc, &origin, ZONE).map_err(|_| Starved)?;
+        zones.push(Zone::build(origin, records).map_err(|_| Starved)?)?;
+    }
+    Ok(zones)
+}
+
+// A server's reply with so many addresses of www.example., each with a TTL of 300 seconds.
+fn reply<A: Heap>(alloc: A, id: &[u8], count: u8) -> Result<Bytes<A>, Starved> {
+    let mut rest = Vec::new(alloc);
+    rest.extend_from_slice(b"\x84\0\0\x01\0")?;
+    rest.extend_from_slice(&[count])?;
+    rest.extend_from_slice(b"\0\0\0\0\x03www\x07example\0\0\x01\0\x01")?;
+    for last in 0..count {
+        rest.extend_from_slice(b"\xc0\x0c\0\x01\0\x01\0\0\x01\x2c\0\x04\xc0\0\x02")?;
+        rest.extend_from_slice(&[last])?;
+    }
+    message(alloc, id, rest.as_slice())
+}
+
+// The cache has so many addresses of the name.
+fn learn<A: Heap>(alloc: A, core: &mut Core<A>, count: u8) -> Result<(), Starved> {
+    let asked = core.step(&query(alloc)?)?;
+    if let Some(Action::Send { socket, bytes, .. }) = &asked.first
+        && let [high, low, ..] = bytes.as_slice()
+    {
+        core.step(&Event::Datagram {
+            moment: 0,
+            socket: *socket,
+            from: Endpoint {
+                address: ROOT,
+                port: 53,
+            },
+            bytes: reply(alloc, &[*high, *low], count)?,
+        })?;
+    }
+    Ok(())
+}
+
+// A resolver that knows the answer.
+fn knowing<A: Heap>(alloc: A, known: Known) -> Result<Core<A>, Starved> {
+    let mut core = core(alloc, zones(alloc, known)?)?;
+    if let Known::Cache(count) = known {
+        learn(alloc, &mut core, count)?;
+    }
+    Ok(core)
+}
+
+// The size of the reply, in bytes.
+fn size<A: Heap>(actions: &Actions<A>) -> u64 {
+    match &actions.first {
+        Some(Action::Reply { bytes, .. }) => low(bytes.as_slice().len()),
+        _ => 0,
+    }
+}
+
+/// A client's query, answered so often.
+pub fn serve<R: Runtime + AllocGlobal>(rt: &R, known: Known, rounds: u64) -> Result<Done> {
+    let alloc = rt.alloc();
+    let mut core = knowing(alloc, known)?;
+    let query = query(alloc)?;
+    let start = Instant::now(rt)?;
+    let mut sum = 0u64;
+    for _ in 0..rounds {
+        sum = sum.wrapping_add(size(&core.step(&query)?));
+    }
+    Ok(Done {
+        sum,
+        taken: start.elapsed(rt)?,
+        counted: Counted::Nothing,
+    })
+}
+
+/// How often memory is asked for by the second of two such answers.
+pub fn growths<R: Runtime + AllocGlobal>(rt: &R, known: Known) -> Result<u64> {
+    let heap = Refusing::new(rt.alloc());
+    let mut core = knowing(&heap, known)?;
+    let query = query(&heap)?;
+    core.step(&query)?;
+    let before = heap.growths();
+    core.step(&query)?;
+    Ok(heap.growths().saturating_sub(before))
+}

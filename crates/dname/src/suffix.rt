@@ -1,0 +1,81 @@
+//! A name or one above it, lent.
+ghost use Rattle.std.specs.Prelude.{◌≡◌, Some, IfOk};
+ghost use Rattle.std.specs.Bool.{OnTrue, OnFalse};
+ghost use Rattle.dname.specs.Labels.{wire, root, same_name, parent_of, IsName};
+
+use crate::name::Name;
+use crate::walk::next_label;
+use memory::{Heap, Starved};
+use std::alloc::Allocator;
+use std::marker::Model;
+
+/// A name, lent from the bytes of one that is at or under it: the way up from a name takes no memory. Contracts
+/// see its labels, as of a `Name`.
+#[derive(Drop)]
+pub struct Suffix<'a> {
+    bytes: &'a [u8],
+}
+
+impl<'a> Model for Suffix<'a> {
+    ghost use Rattle.std.specs.Prelude.{List, ℕ};
+    ghost use Rattle.dname.specs.Wire.{labels_of, IsNameWire};
+
+    ghost Value = { List (List ℕ) };
+
+    ghost view = { λ s. labels_of s.bytes.now };
+
+    ghost invariant = { λ s. IsNameWire s.bytes.now };
+}
+
+impl<A: Allocator> Name<A> {
+    /// The name itself, lent.
+    pub fn suffix(&self) -> Suffix<'_>
+        ensures { result ≡ self.now }
+    {
+        Suffix { bytes: &self.bytes }
+    }
+}
+
+impl<'a> Suffix<'a> {
+    /// Makes it the name above; false, and no change, at the root.
+    pub fn ascend(&mut self) -> bool
+        ensures above { OnTrue result (parent_of self.old ≡ Some self.new) }
+        ensures root { OnFalse result ((self.old ≡ root) × (self.new ≡ self.old)) }
+    {
+        match next_label(self.bytes) {
+            None => false,
+            Some((_, rest)) => {
+                self.bytes = rest;
+                true
+            }
+        }
+    }
+
+    /// Its wire form.
+    pub fn wire(&self) -> &'a [u8]
+        ensures { result.now ≡ wire self.now }
+    {
+        self.bytes
+    }
+
+    /// Whether this is that name.
+    pub fn is<A: Allocator>(&self, name: &Name<A>) -> bool
+        ensures { result ≡ same_name self.now name.now }
+    {
+        self.bytes == name.wire()
+    }
+
+    /// The name, with memory of its own.
+    pub fn to_name<A: Heap>(&self, alloc: A) -> Result<Name<A>, Starved>
+        ensures { IfOk result (λ n. n ≡ self.now) }
+    {
+        Ok(Name::from_wire(Vec::from_slice(alloc, self.bytes)?))
+    }
+
+    /// Every name is labels of 1 to 63 bytes and the root's, at most 255 bytes in all.
+    pub fn is_well_formed(&self)
+        ensures { IsName self.now }
+    {
+        let _ = self.bytes.len();
+    }
+}

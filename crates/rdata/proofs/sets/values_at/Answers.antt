@@ -1,0 +1,25 @@
+use Rattle.std.proofs.Common.{ap}
+use Rattle.rdata.specs.Kept.{datum}
+use Rattle.rdata.specs.Records.{Record}
+use Rattle.rdata.specs.Types.{type_number}
+use Rattle.rdata.proofs.Found.{none_found}
+use Rattle.rdata.proofs.Values.{values_more, values_none, values_whole}
+use Rattle.rdata.proofs.sets.values_at.Goals as goal
+
+pub loop-added-init : goal.loop-added-init
+loop-added-init g c = record {
+  made = λ t. values_none c.args.owner.now t c.in_ok-values.values.items c.in_ok-values.ensures.items;
+  found = none_found c.new-later.result c.in_ok-values.values.items c.new-later.ensures.empty c.in_ok-values.ensures.items;
+}
+
+pub loop-added-preserved : goal.loop-added-preserved
+loop-added-preserved g c = record {
+  made = λ t. values_more c.args.owner.now (type_number c.args.kind) t c.args.records.now c.loop-added.values.items c.put_chosen.new.values.items c.loop-added.added-index
+      c.added-item.result (datum c.added.inside.value) c.is_at-chosen.result c.loop-added-test.true c.added-item.is c.is_at-chosen.ensures (ap (λ (r : Record). r.value) c.added.view_is)
+      (c.loop-added.invariant.made t) c.in_ok-put_chosen.ensures.values;
+  found = c.in_ok-put_chosen.ensures.found;
+}
+
+pub returns : goal.returns
+returns g c t =
+    values_whole c.args.owner.now (type_number c.args.kind) t c.loop-added.added-index c.args.records.now c.loop-added.values.items c.loop-added-test.false (c.loop-added.invariant.made t)

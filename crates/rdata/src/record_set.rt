@@ -1,0 +1,137 @@
+//! RRsets as values (RFC 2181, section 5).
+ghost use Rattle.std.specs.Prelude.{◌≡◌, ◌≤◌, ◌<◌, [], ◌∷◌, Some, length, map, IfOk};
+ghost use Rattle.rdata.specs.Caps.{capped};
+ghost use Rattle.rdata.specs.Kept.{datum};
+ghost use Rattle.rdata.specs.Records.{greatest_ttl};
+ghost use Rattle.rdata.specs.Rows.{row, first_in};
+ghost use Rattle.rdata.specs.Sets.{lowest_ttl, with_ttl};
+
+use crate::data::RData;
+use crate::records::{Record, Records};
+use dname::{Heap, Name, Starved};
+use std::alloc::{AllocError, Allocator, Global};
+use std::marker::Model;
+
+/// An RRset: data of one owner, under one TTL, in order, one or more (RFC 2181, section 5). Contracts see the
+/// list of its records.
+#[derive(Drop)]
+pub struct RecordSet<A: Allocator = Global> {
+    pub owner: Name<A>,
+    /// Time to live in seconds, at most `GREATEST_TTL` (RFC 2181, sections 5.2 and 8).
+    pub ttl: u32,
+    pub values: Vec<RData<A>, A>,
+}
+
+impl<A: Allocator> Model for RecordSet<A> {
+    ghost use Rattle.std.specs.Prelude.{◌≤◌, ◌<◌, List, length};
+    ghost use Rattle.rdata.specs.Records.{Record, greatest_ttl};
+    ghost use Rattle.rdata.specs.Rows.{rows};
+
+    ghost Value = { List Record };
+
+    ghost view = { λ s. rows s.owner s.ttl s.values.items };
+
+    ghost invariant = { λ s. (s.ttl ≤ greatest_ttl) × (0 < length s.values.items) };
+}
+
+/// Copies of data.
+pub fn copy_values<A: Heap>(alloc: A, values: &[RData<A>]) -> Result<Vec<RData<A>, A>, AllocError>
+    ensures { IfOk result (λ v. map datum v.items ≡ map datum values.now) }
+{
+    let mut items = Vec::with_capacity(alloc, values.len())?;
+    for value in values {
+        items.push(value.clone()?)?;
+    }
+    Ok(items)
+}
+
+fn row<A: Heap>(owner: &Name<A>, ttl: u32, value: &RData<A>) -> Result<Record<A>, Starved>
+    requires { ttl ≤ greatest_ttl }
+    ensures { IfOk result (λ r. r ≡ row owner.now ttl value.now) }
+{
+    Ok(Record {
+        owner: owner.clone()?,
+        ttl,
+        value: value.clone()?,
+    })
+}
+
+impl<A: Heap> Clone for RecordSet<A> {
+    ghost is_clone = { λ x y. y ≡ x };
+
+    fn clone(&self) -> Result<RecordSet<A>, AllocError> {
+        let values = copy_values(*self.values.allocator(), &self.values)?;
+        Ok(RecordSet {
+            owner: self.owner.clone()?,
+            ttl: self.ttl,
+            values,
+        })
+    }
+}
+
+impl<A: Heap> RecordSet<A> {
+    /// The set of this record alone.
+    pub fn alone(alloc: A, only: Record<A>) -> Result<RecordSet<A>, Starved>
+        ensures { IfOk result (λ set. set ≡ only ∷ []) }
+    {
+        let mut values = Vec::with_capacity(alloc, 1)?;
+        values.push(only.value)?;
+        Ok(RecordSet {
+            owner: only.owner,
+            ttl: only.ttl,
+            values,
+        })
+    }
+
+    /// Its first record.
+    pub fn first(&self) -> Result<Record<A>, Starved>
+        ensures { IfOk result (λ r. Some r ≡ first_in self.now) }
+    {
+        Ok(row(&self.owner, self.ttl, &self.values[0])?)
+    }
+
+    /// Its records.
+    pub fn to_records(&self, alloc: A) -> Result<Records<A>, Starved>
+        ensures { IfOk result (λ rs. rs ≡ self.now) }
+    {
+        let mut records = Records::with_capacity(alloc, self.values.len())?;
+        for value in &self.values {
+            records.push(row(&self.owner, self.ttl, value)?)?;
+        }
+        Ok(records)
+    }
+}
+
+impl<A: Allocator> RecordSet<A> {
+    /// How many records there are.
+    pub fn len(&self) -> usize
+        ensures len { result ≡ length self.now }
+        ensures some { 0 < length self.now }
+    {
+        self.values.len()
+    }
+
+    /// The TTL of its records, in seconds.
+    pub fn ttl(&self) -> u32
+        ensures lowest { result ≡ lowest_ttl self.now }
+        ensures most { result ≤ greatest_ttl }
+    {
+        self.ttl
+    }
+
+    /// Gives its records a TTL of at most so many seconds: their own one, or that where their own is longer
+    /// (RFC 2181, section 8).
+    pub fn cap_ttl(&mut self, most: u32)
+        ensures { self.new ≡ map (capped most) self.old }
+    {
+        self.ttl = self.ttl.min(most);
+    }
+
+    /// Gives its records this TTL, in seconds.
+    pub fn set_ttl(&mut self, ttl: u32)
+        requires { ttl ≤ greatest_ttl }
+        ensures { self.new ≡ map (with_ttl ttl) self.old }
+    {
+        self.ttl = ttl;
+    }
+}
