@@ -13,8 +13,13 @@ use std::sync::Wait;
 use std::sync::ledger::Ledger;
 use std::time::{Clock, Instant};
 
-// How long a reply is waited for, in milliseconds: longer than a query stays open.
+// How long a query stays open at most, in milliseconds.
+const OPEN_MS: u128 = 10_000;
+
+// How long a reply is waited for, in milliseconds: longer than a query stays open, so that its reply comes before.
 const REPLY_MS: u128 = 12_000;
+
+const _: () = prove!(OPEN_MS < REPLY_MS);
 
 /// Takes the streams of clients, one after the other, until the flag is up. Where none can be taken, as for want of
 /// descriptors, the loop rests for a while.
