@@ -25,10 +25,12 @@ bench: ask
 	cd crates/bench && rt run -- measure
 	tools/pace
 
-# The gate: every proof, every edit that must fail, every test and every run, and the examples with the proved program.
+# The gate: every proof, every edit that must fail, every test and every run, and the examples with the proved program;
+# of the other edits, that they can still be applied.
 test: kit
 	tools/layers --check
 	tools/definitions
+	tools/turned --texts
 	RT_JOBS=$$(tools/lanes) rt ci
 	tools/examples
 
