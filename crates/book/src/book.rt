@@ -68,7 +68,8 @@ fn shelve<M: Machine, A: Allocator>(
 
 impl<M: Machine, L: Ledger, A: Heap> Book<M, L, A> {
     /// A book without entries, and a ticket for each worker in order. It keeps at most `keep` entries, for
-    /// which it takes the room at once; one that keeps none copies nothing. `blank` is the new ledger that `L` names, with a part for each worker.
+    /// which it takes the room at once; one that keeps none copies nothing. `blank` is the new ledger that `L`
+    /// names, with a part for each worker.
     pub fn new(
         alloc: A,
         blank: Blank,
@@ -100,9 +101,10 @@ impl<M: Machine, L: Ledger, A: Heap> Book<M, L, A> {
 
 impl<M: Machine, L: Ledger, A: Allocator> Book<M, L, A> {
     /// The machine takes one step on `event`, as the worker of `ticket`, and the entry is written; the answer
-    /// is a copy of it, or, where the book keeps no entries, the entry itself. Where the copy of the event that the book keeps is refused, or a count is at its end
-    /// (18,446,744,073,709,551,615), nothing changes. Where the caller's copy of what came out is refused, the
-    /// entry stands; the ticket's count has risen then, and in no other refusal.
+    /// is a copy of it, or, where the book keeps no entries, the entry itself. Where the copy of the event that
+    /// the book keeps is refused, or a count is at its end (18,446,744,073,709,551,615), nothing changes. Where
+    /// the caller's copy of what came out is refused, the entry stands; the ticket's count has risen then, and
+    /// in no other refusal.
     pub fn put(&mut self, ticket: &mut Ticket<L>, event: M::Event) -> Result<Entry<M>, Starved>
         requires { Owns self.old ticket.old }
         ensures ok { IfOk result (λ e. Takes M.moves self.old ticket.old event e self.new ticket.new) }

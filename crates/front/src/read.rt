@@ -8,7 +8,7 @@ use crate::queries::{Asked, Query, Refusal};
 use crate::start::Start;
 use dname::{Heap, Starved};
 use rdata::{INTERNET, RType};
-use wire::{Question, Spelling, WireError, decode, question_spelling};
+use wire::{Question, Spelling, WireError, decode_question};
 
 /// What the bytes from a client ask, in this order: under 12 bytes or QR set, nothing; no message, or other
 /// than one question, a format error; another operation than a query, a class other than IN or a type that
@@ -22,21 +22,11 @@ pub fn read_query<A: Heap>(alloc: A, bytes: &[u8]) -> Result<Asked<A>, Starved>
         return Ok(Asked::Drop);
     }
     let start = start_at(bytes);
-    let message = match decode(alloc, bytes) {
-        Ok(message) => message,
-        Err(WireError::Memory) => return Err(Starved),
-        Err(_) => return Ok(Asked::Refuse(Refusal::FormErr, start, None)),
-    };
-    let Some(question) = message.questions.into_only() else {
-        return Ok(Asked::Refuse(Refusal::FormErr, start, None));
-    };
-    match question_spelling(alloc, bytes) {
-        Ok(spelling) => Ok(sort_question(start, question, spelling)),
+    match decode_question(alloc, bytes) {
+        Ok(Some((question, spelling))) => Ok(sort_question(start, question, spelling)),
+        Ok(None) => Ok(Asked::Refuse(Refusal::FormErr, start, None)),
         Err(WireError::Memory) => Err(Starved),
-        Err(_) => {
-            prove!(false);
-            Err(Starved)
-        }
+        Err(_) => Ok(Asked::Refuse(Refusal::FormErr, start, None)),
     }
 }
 

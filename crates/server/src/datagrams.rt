@@ -1,6 +1,6 @@
 //! The loop that takes clients' datagrams.
 use crate::desk::Desk;
-use crate::ends::endpoint_of;
+use crate::ends::{MOST_BYTES, endpoint_of};
 use book::{Machine, Ticket};
 use delivery::asked;
 use exchange::{Actions, Event};
@@ -15,7 +15,7 @@ pub(crate) fn take_datagrams<M: Machine<Event = Event, Out = Actions>, L: Ledger
     ticket: &mut Ticket<L>,
 ) {
     let ends = desk.ends;
-    let mut buffer = [0u8; 65_535];
+    let mut buffer = [0u8; MOST_BYTES];
     for _ in rt.forever() {
         if desk.is_over() {
             return;

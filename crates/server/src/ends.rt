@@ -19,6 +19,9 @@ pub(crate) const SLICE_MS: u64 = 100;
 // How many bytes of datagrams that nobody took yet a socket holds, where the system allows it.
 const ROOM: u32 = 4_194_304;
 
+/// Bytes of a datagram at most: its length stands in 16 bits (RFC 768).
+pub(crate) const MOST_BYTES: usize = 65_535;
+
 /// How long a read or an accept waits at most.
 pub(crate) fn slice() -> Duration
     ensures { IsShort result }

@@ -1,6 +1,6 @@
 //! The loops that take other servers' datagrams.
 use crate::desk::Desk;
-use crate::ends::endpoint_of;
+use crate::ends::{MOST_BYTES, endpoint_of};
 use book::{Machine, Ticket};
 use delivery::heard;
 use exchange::{Actions, Event};
@@ -19,7 +19,7 @@ pub(crate) fn take_answers<M: Machine<Event = Event, Out = Actions>, L: Ledger, 
     let Some(socket) = ends.upstream.get(usize::from(number)) else {
         return;
     };
-    let mut buffer = [0u8; 65_535];
+    let mut buffer = [0u8; MOST_BYTES];
     for _ in rt.forever() {
         if desk.is_over() {
             return;

@@ -2,6 +2,7 @@ pub mod Walks
 pub mod Rows
 pub mod SetRows
 pub mod Whole
+pub mod Alone
 pub mod Writing
 pub mod Bytes
 pub mod Fitting

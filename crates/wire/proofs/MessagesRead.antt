@@ -3,17 +3,14 @@ use Rattle.std.proofs.Common.{◌≡◌, ℕ, zero, suc, ◌≤◌, true, false,
 use Rattle.std.specs.Prelude.{nat_eq, nat_lt}
 use Rattle.std.proofs.lemmas.Bool.Decides.{nat_tests}
 use Rattle.dname.specs.Spelling.{AreBytes}
-use Rattle.layout.specs.Names.{SpeltAt}
 use Rattle.layout.specs.Messages.{Message, QuestionsAt, SectionAt, IsMessage}
 use Rattle.wire.specs.declared.error.WireError.{WireError}
 use Rattle.wire.specs.declared.error.WireError.TheVariants.{Short, BadLabel, PointerNotEarlier, NameTooLong, BadRdataLength, BadRdataName, TrailingBytes, OverLimit, Memory}
 use Rattle.wire.specs.Numbers.{two_at}
-use Rattle.wire.specs.Parts.{message_faults, spelt_at}
 use Rattle.wire.specs.Results.{Fails, Gives, and_then}
-use Rattle.wire.specs.Entries.{section_from, questions_from, message_first, message_second, message_third, message_whole, message_of, labels_alone, spelling_of}
+use Rattle.wire.specs.Entries.{section_from, questions_from, message_first, message_second, message_third, message_whole, message_of}
 use Rattle.wire.proofs.Bytes.{AreSmall, test_read, then_read, was_read, test_yes, test_no}
 use Rattle.wire.proofs.Heading.{counts_at, header_stands, header_fits, header_takes}
-use Rattle.wire.proofs.NamesRead.{spelt_stands, spelt_takes, spelling_within}
 use Rattle.wire.proofs.EntriesRead.{section_stands, section_read, questions_stand, questions_read}
 
 pub are_small : (bytes : List ℕ) → AreBytes bytes → AreSmall bytes
@@ -110,40 +107,3 @@ pub none_handed_on : {X : Type 0} (bytes : List ℕ) (r : Result X WireError) (e
     → IfErr r (λ y. (y ≡ Memory) ⊎ ((m : Message) → IsMessage bytes m → ⊥))
 none_handed_on bytes (Ok x) e h k = tt
 none_handed_on bytes (Err y) e h k = no_message bytes y (subst (λ (z : WireError). Fails z (message_of bytes)) (sym h) k)
-
--- ---- spellings
-
-spelling_stands : (bytes : List ℕ) (at : ℕ) → AreSmall bytes → IfOk (spelling_of bytes at) (λ x. (end : ℕ) × SpeltAt bytes at x end)
-unfolding spelling_of
-spelling_stands bytes at small =
-    then_read (λ x. SpeltAt bytes at x.0 x.1 × (x.1 ≤ length bytes)) (λ x. (end : ℕ) × SpeltAt bytes at x end) (spelt_at bytes message_faults (length bytes) at) labels_alone
-    (spelt_stands bytes message_faults (length bytes) at small (omega arith)) (λ x h. (x.1, h.0))
-
-pub spelling_there : (bytes : List ℕ) (at : ℕ) (labels : List (List ℕ)) → AreSmall bytes → spelling_of bytes at ≡ Ok labels → (end : ℕ) × SpeltAt bytes at labels end
-spelling_there bytes at labels small = was_read (λ x. (end : ℕ) × SpeltAt bytes at x end) (spelling_of bytes at) labels (spelling_stands bytes at small)
-
-pub spelling_read : (bytes : List ℕ) (at : ℕ) (labels : List (List ℕ)) (end : ℕ) → SpeltAt bytes at labels end → spelling_of bytes at ≡ Ok labels
-unfolding spelling_of
-spelling_read bytes at labels end h =
-    ap (λ x. and_then x labels_alone) (spelt_takes bytes message_faults (length bytes) at labels end h (omega arith) (spelling_within bytes at labels end h))
-
-abbrev IsSpeltThere : List ℕ → ℕ → List (List ℕ) → Type 0
-IsSpeltThere bytes at labels = (end : ℕ) × SpeltAt bytes at labels end
-
-abbrev NoneSpelt : List ℕ → ℕ → WireError → Type 0
-NoneSpelt bytes at e = (e ≡ Memory) ⊎ ((labels : List (List ℕ)) (end : ℕ) → SpeltAt bytes at labels end → ⊥)
-
-no_spelling : (bytes : List ℕ) (at : ℕ) (e : WireError) → Fails e (spelling_of bytes at) → NoneSpelt bytes at e
-no_spelling bytes at e h =
-    ⊎_elim (λ m. inl m) (λ no. inr (λ labels end k. no labels (end, k)))
-    (fails_all (IsSpeltThere bytes at) (spelling_of bytes at) e (λ labels k. (labels, spelling_read bytes at labels k.0 k.1)) h)
-
-pub given_spelling : (bytes : List ℕ) (at : ℕ) (r : Result (List (List ℕ)) WireError) → AreSmall bytes → Gives (λ s. s) r (spelling_of bytes at)
-    → IfOk r (λ s. (end : ℕ) × SpeltAt bytes at s end)
-given_spelling bytes at (Ok s) small h = spelling_there bytes at s small h
-given_spelling bytes at (Err e) small h = tt
-
-pub given_no_spelling : (bytes : List ℕ) (at : ℕ) (r : Result (List (List ℕ)) WireError) → Gives (λ s. s) r (spelling_of bytes at)
-    → IfErr r (λ e. (e ≡ Memory) ⊎ ((labels : List (List ℕ)) (end : ℕ) → SpeltAt bytes at labels end → ⊥))
-given_no_spelling bytes at (Ok s) h = tt
-given_no_spelling bytes at (Err e) h = no_spelling bytes at e h

@@ -20,7 +20,6 @@ use Rattle.layout.specs.Messages.{AreSpelled}
 use Rattle.dname.specs.Wire.{labels_of}
 use Rattle.dname.specs.Laws.{labels_of-wire}
 use Rattle.wire.specs.Spellings.{IsSpelt}
-use Rattle.wire.specs.Entries.{spelling_of, labels_alone}
 use Rattle.wire.specs.Parts.{message_faults, part_at, behind_label, ends_at, followed, spelt_from, spelt_at, in_lower_case, name_at}
 
 abbrev done : {X E : Type 0} → X → Result X E
@@ -287,29 +286,23 @@ abbrev pub AllSpelled : List (List ℕ) → Type 0
 AllSpelled [] = Unit {0}
 AllSpelled (l ∷ rest) = (0 < length l) × (length l < 64) × AllSpelled rest
 
-pub record SpeltWalk (bytes : List ℕ) (at : ℕ) (d : Draft) (letters : List ℕ) (start place stop : ℕ) (border : WireError) (room : ℕ) : Type 0 where
+pub record SpeltWalk (bytes : List ℕ) (at : ℕ) (d : Draft) (letters : List ℕ) (start place stop : ℕ) (border : WireError) (room : ℕ) (end : Option ℕ) : Type 0 where
   pub front : List (List ℕ)
-  pub end : Option ℕ
   pub walk : Walk bytes message_faults (length bytes) (spelt_at bytes message_faults (length bytes) at) front start place stop border room end
   pub opened : d.opened ≡ []
   pub closed : d.closed ≡ folded_labels front
   pub form : letters ≡ wire front
   pub spelled : AllSpelled front
 
-pub spelt_begins : (bytes : List ℕ) (at : ℕ) (d : Draft) (letters : List ℕ) → d ≡ empty_draft → letters ≡ [] → SpeltWalk bytes at d letters at at (length bytes) Short 255
+pub spelt_begins : (bytes : List ℕ) (at : ℕ) (d : Draft) (letters : List ℕ) → d ≡ empty_draft → letters ≡ [] → SpeltWalk bytes at d letters at at (length bytes) Short 255 None
 spelt_begins bytes at d letters none e = record {
   front = [];
-  end = None;
   walk = walk_begins bytes message_faults (length bytes) at (omega arith);
   opened = ap (λ x. x.opened) none;
   closed = ap (λ x. x.closed) none;
   form = e;
   spelled = tt;
 }
-
-pub spelling_refused : (bytes : List ℕ) (at : ℕ) (e : WireError) → spelt_at bytes message_faults (length bytes) at ≡ Err e → Fails e (spelling_of bytes at)
-unfolding spelling_of
-spelling_refused bytes at e h = fails_is e (spelling_of bytes at) (ap (λ x. and_then x labels_alone) h)
 
 spelled-append : (a : List (List ℕ)) (l : List ℕ) → AllSpelled a → 0 < length l → length l < 64 → AllSpelled (a ++ l ∷ [])
 spelled-append [] l h some few = (some, few, tt)
@@ -321,12 +314,12 @@ are_spelled (l ∷ []) h = (h.0, h.1, refl)
 are_spelled (l ∷ m ∷ a) h = (h.0, h.1, are_spelled (m ∷ a) h.2)
 
 pub spelt_label : (bytes : List ℕ) (at : ℕ) (d n : Draft) (letters next : List ℕ) (start place stop : ℕ) (border : WireError) (room : ℕ)
-    (w : SpeltWalk bytes at d letters start place stop border room) (size : ℕ) (p : Result Part WireError) → p ≡ part_at bytes stop border BadLabel place
+    (end : Option ℕ) (w : SpeltWalk bytes at d letters start place stop border room end) (size : ℕ) (p : Result Part WireError) → p ≡ part_at bytes stop border BadLabel place
     → p ≡ Ok (Label size) → size + 2 ≤ room → size ≤ stop - place - 1 → place < stop → 0 < size → size < 64
     → labelled d (slice_range bytes (place + 1) (place + 1 + size)) ≡ Ok n
     → next ≡ (letters ++ size ∷ []) ++ slice_range bytes (place + 1) (place + 1 + size)
-    → SpeltWalk bytes at n next start (place + (1 + size)) stop border (room - (size + 1))
-spelt_label bytes at d n letters next start place stop border room w size p is label room_is fits within some few named put =
+    → SpeltWalk bytes at n next start (place + (1 + size)) stop border (room - (size + 1)) end
+spelt_label bytes at d n letters next start place stop border room end w size p is label room_is fits within some few named put =
     let text = slice_range bytes (place + 1) (place + 1 + size) in
     let inside = w.walk.fits in
     let long : length text ≡ size = label_long bytes place size (omega arith) in
@@ -337,8 +330,7 @@ spelt_label bytes at d n letters next start place stop border room w size p is l
     put ∙ (append_assoc letters (size ∷ []) text ∙ (ap (λ x. x ++ size ∷ text) w.form ∙ sym (joined ∙ ap (λ x. wire w.front ++ x) last))) in
     record {
       front = w.front ++ text ∷ [];
-      end = w.end;
-      walk = walk_label bytes message_faults (length bytes) (spelt_at bytes message_faults (length bytes) at) w.front start place stop border room w.end w.walk size p is label room_is fits within;
+      walk = walk_label bytes message_faults (length bytes) (spelt_at bytes message_faults (length bytes) at) w.front start place stop border room end w.walk size p is label room_is fits within;
       opened = ap (λ x. x.opened) pushed;
       closed = ap (λ x. x.closed) pushed ∙ (ap (λ x. x ++ folded_label text ∷ []) w.closed ∙ sym (map-append folded_label w.front (text ∷ [])));
       form = whole;
@@ -346,12 +338,11 @@ spelt_label bytes at d n letters next start place stop border room w size p is l
     }
 
 pub spelt_pointer : (bytes : List ℕ) (at : ℕ) (d : Draft) (letters : List ℕ) (start place stop : ℕ) (border : WireError) (room : ℕ)
-    (w : SpeltWalk bytes at d letters start place stop border room) (target : ℕ) (p : Result Part WireError) → p ≡ part_at bytes stop border BadLabel place
-    → p ≡ Ok (Pointer target) → target < start → place + 1 < stop → SpeltWalk bytes at d letters target target (length bytes) Short room
-spelt_pointer bytes at d letters start place stop border room w target p is pointer earlier within = record {
+    (end : Option ℕ) (w : SpeltWalk bytes at d letters start place stop border room end) (target : ℕ) (p : Result Part WireError) → p ≡ part_at bytes stop border BadLabel place
+    → p ≡ Ok (Pointer target) → target < start → place + 1 < stop → SpeltWalk bytes at d letters target target (length bytes) Short room (option_or end (Some (place + 2)))
+spelt_pointer bytes at d letters start place stop border room end w target p is pointer earlier within = record {
   front = w.front;
-  end = option_or w.end (Some (place + 2));
-  walk = walk_pointer bytes message_faults (length bytes) (spelt_at bytes message_faults (length bytes) at) w.front start place stop border room w.end w.walk target p is pointer earlier within;
+  walk = walk_pointer bytes message_faults (length bytes) (spelt_at bytes message_faults (length bytes) at) w.front start place stop border room end w.walk target p is pointer earlier within;
   opened = w.opened;
   closed = w.closed;
   form = w.form;
@@ -359,12 +350,12 @@ spelt_pointer bytes at d letters start place stop border room w target p is poin
 }
 
 pub spelt_done : (bytes : List ℕ) (at : ℕ) (d : Draft) (letters next : List ℕ) (start place stop : ℕ) (border : WireError) (room : ℕ)
-    (w : SpeltWalk bytes at d letters start place stop border room) (p : Result Part WireError) → p ≡ part_at bytes stop border BadLabel place → p ≡ Ok End
-    → next ≡ letters ++ 0 ∷ [] → IsSpelt next (d.closed ++ [] ∷ []) × (spelling_of bytes at ≡ Ok (labels_of next))
-unfolding spelling_of
-spelt_done bytes at d letters next start place stop border room w p is ends put =
+    (end : Option ℕ) (w : SpeltWalk bytes at d letters start place stop border room end) (p : Result Part WireError) → p ≡ part_at bytes stop border BadLabel place → p ≡ Ok End
+    → next ≡ letters ++ 0 ∷ []
+    → IsSpelt next (d.closed ++ [] ∷ []) × (spelt_at bytes message_faults (length bytes) at ≡ Ok (labels_of next, unwrap_or end (place + 1)))
+spelt_done bytes at d letters next start place stop border room end w p is ends put =
     let labels = w.front ++ [] ∷ [] in
-    let read = walk_ends bytes message_faults (length bytes) (spelt_at bytes message_faults (length bytes) at) w.front start place stop border room w.end w.walk p is ends in
+    let read = walk_ends bytes message_faults (length bytes) (spelt_at bytes message_faults (length bytes) at) w.front start place stop border room end w.walk p is ends in
     let form : next ≡ wire labels = put ∙ (ap (λ x. x ++ 0 ∷ []) w.form ∙ sym (wire-append w.front ([] ∷ []))) in
     let seen : labels_of next ≡ labels = ap labels_of form ∙ labels_of-wire labels in
     let folds : d.closed ++ [] ∷ [] ≡ folded_labels labels = ap (λ x. x ++ [] ∷ []) w.closed ∙ sym (map-append folded_label w.front ([] ∷ [])) in
@@ -376,5 +367,5 @@ spelt_done bytes at d letters next start place stop border room w p is ends put 
         short = omega (arith, ap length (put ∙ ap (λ x. x ++ 0 ∷ []) w.form), length-append (wire w.front) (0 ∷ []));
         folds = folds ∙ ap folded_labels (sym seen);
       },
-      ap (λ x. and_then x labels_alone) read ∙ (λ i. Ok (sym seen i)),
+      read ∙ (λ i. Ok (sym seen i, unwrap_or end (place + 1))),
     )

@@ -9,7 +9,7 @@ use Rattle.layout.specs.Messages.{strings_bytes, string_bytes_of}
 use Rattle.layout.proofs.Letters.{after-append, flats_both, headed, questioned, encoding_parts}
 use Rattle.rdata.specs.Records.{Record}
 use Rattle.wire.specs.Drafts.{asked_alone, drafted}
-use Rattle.layout.specs.Pieces.{flat_piece, short_number}
+use Rattle.layout.specs.Pieces.{flat_piece, short_number, long_number}
 use Rattle.layout.specs.Messages.{Header, Question, high_flags, low_flags, Message, header_pieces, question_pieces, record_pieces, encoding}
 use Rattle.wire.specs.declared.error.WireError.{WireError}
 use Rattle.wire.specs.declared.error.WireError.TheVariants.{OverLimit}
@@ -113,6 +113,48 @@ plain_both t a b =
     plain_put (put_flat t (plain_bytes a)) b
     ∙ (ap (λ u. record { start = u.start; bytes = u.bytes ++ b; notes = u.notes }) (plain_put t a)
     ∙ ((λ i. record { start = t.start; bytes = append_assoc t.bytes a b i; notes = t.notes }) ∙ sym (plain_put t (a ++ b))))
+
+-- Plain bytes behind a text that is plain bytes behind another.
+plain_more : (t u : Text) (a b : List ℕ) → u ≡ put_flat t (plain_bytes a) → put_flat u (plain_bytes b) ≡ put_flat t (plain_bytes (a ++ b))
+plain_more t u a b h = ap (λ v. put_flat v (plain_bytes b)) h ∙ plain_both t a b
+
+-- Numbers in one row of bytes, each taken apart.
+abbrev two_of : List ℕ → List ℕ
+two_of xs = get_or xs 0 0 ∷ get_or xs 1 0 ∷ []
+
+abbrev four_of : List ℕ → List ℕ
+four_of xs = get_or xs 0 0 ∷ get_or xs 1 0 ∷ get_or xs 2 0 ∷ get_or xs 3 0 ∷ []
+
+pub two_put : (t : Text) (a b : List ℕ) (k c : ℕ) → a ≡ bytes_high_first 2 k → b ≡ bytes_high_first 2 c
+    → put_flat t (plain_bytes (two_of a ++ two_of b)) ≡ put_flat (put_flat t (short_number k)) (short_number c)
+two_put t a b k c h g = sym (plain_both t (two_of a) (two_of b)) ∙ (λ i. put_flat (put_flat t (plain_bytes (two_of (h i)))) (plain_bytes (two_of (g i))))
+
+pub three_put : (t : Text) (a b d : List ℕ) (k c n : ℕ) → a ≡ bytes_high_first 2 k → b ≡ bytes_high_first 2 c → d ≡ bytes_high_first 4 n
+    → put_flat t (plain_bytes ((two_of a ++ two_of b) ++ four_of d)) ≡ put_flat (put_flat (put_flat t (short_number k)) (short_number c)) (long_number n)
+three_put t a b d k c n h g e =
+    sym (plain_more t (put_flat (put_flat t (plain_bytes (two_of a))) (plain_bytes (two_of b))) (two_of a ++ two_of b) (four_of d) (plain_both t (two_of a) (two_of b)))
+    ∙ (λ i. put_flat (put_flat (put_flat t (plain_bytes (two_of (h i)))) (plain_bytes (two_of (g i)))) (plain_bytes (four_of (e i))))
+
+pub header_put : (t : Text) (h : Header) (questions answer authority additional high low : ℕ) (i q a n x : List ℕ) → i ≡ bytes_high_first 2 h.id → high ≡ high_flags h → low ≡ low_flags h
+    → q ≡ bytes_high_first 2 questions → a ≡ bytes_high_first 2 answer → n ≡ bytes_high_first 2 authority → x ≡ bytes_high_first 2 additional
+    → put_flat t (plain_bytes (((((two_of i ++ high ∷ low ∷ []) ++ two_of q) ++ two_of a) ++ two_of n) ++ two_of x))
+    ≡ after t (header_pieces h (record { questions = questions; answer = answer; authority = authority; additional = additional }))
+unfolding put
+header_put t h questions answer authority additional high low i q a n x e1 e2 e3 e4 e5 e6 e7 =
+    let f = high ∷ low ∷ [] in
+    let one = put_flat t (plain_bytes (two_of i)) in
+    let two = put_flat one (plain_bytes f) in
+    let three = put_flat two (plain_bytes (two_of q)) in
+    let four = put_flat three (plain_bytes (two_of a)) in
+    let five = put_flat four (plain_bytes (two_of n)) in
+    let second = plain_both t (two_of i) f in
+    let third = plain_more t two (two_of i ++ f) (two_of q) second in
+    let fourth = plain_more t three ((two_of i ++ f) ++ two_of q) (two_of a) third in
+    let fifth = plain_more t four (((two_of i ++ f) ++ two_of q) ++ two_of a) (two_of n) fourth in
+    let sixth = plain_more t five ((((two_of i ++ f) ++ two_of q) ++ two_of a) ++ two_of n) (two_of x) fifth in
+    sym sixth
+    ∙ (λ j. put_flat (put_flat (put_flat (put_flat (put_flat (put_flat t (plain_bytes (two_of (e1 j)))) (plain_bytes (e2 j ∷ e3 j ∷ []))) (plain_bytes (two_of (e4 j))))
+    (plain_bytes (two_of (e5 j)))) (plain_bytes (two_of (e6 j)))) (plain_bytes (two_of (e7 j))))
 
 pub nothing_put : (t : Text) → t ≡ put_flat t (plain_bytes [])
 nothing_put t = (λ i. record { start = t.start; bytes = sym (append-nil t.bytes) i; notes = t.notes }) ∙ sym (plain_put t [])

@@ -8,7 +8,7 @@ use Rattle.wire.specs.declared.error.WireError.{WireError}
 use Rattle.wire.specs.declared.error.WireError.TheVariants.{Short, TrailingBytes}
 use Rattle.wire.specs.Numbers.{two_at, four_at}
 use Rattle.wire.specs.Heads.{header_of}
-use Rattle.wire.specs.Parts.{message_faults, name_at, spelt_at}
+use Rattle.wire.specs.Parts.{message_faults, name_at}
 use Rattle.wire.specs.Values.{value_at}
 use Rattle.wire.specs.Results.{and_then}
 
@@ -81,10 +81,3 @@ message_first bytes (questions, at) = and_then (section_from (two_at bytes 6) by
 unfoldable pub message_of : List ℕ → Result Message WireError
 message_of bytes =
     if nat_lt (length bytes) 12 then Err Short else and_then (questions_from (two_at bytes 4) bytes 12) (message_first bytes)
-
-abbrev pub labels_alone : List (List ℕ) × ℕ → Result (List (List ℕ)) WireError
-labels_alone (labels, end) = Ok labels
-
--- The labels at a place in their own letters.
-unfoldable pub spelling_of : List ℕ → ℕ → Result (List (List ℕ)) WireError
-spelling_of bytes at = and_then (spelt_at bytes message_faults (length bytes) at) labels_alone

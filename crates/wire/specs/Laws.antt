@@ -1,9 +1,8 @@
 -- The laws about reading that the functions of this crate state.
 use Rattle.std.specs.Prelude.{◌≡◌, ℕ, ◌≤◌, Ok, List, length}
 use Rattle.dname.specs.Spelling.{AreBytes}
-use Rattle.layout.specs.Names.{SpeltAt}
 use Rattle.layout.specs.Messages.{Message, IsWritable, IsMessage, encoding, folded_message}
-use Rattle.wire.specs.Entries.{message_of, spelling_of}
+use Rattle.wire.specs.Entries.{message_of}
 
 -- A message that is read is what the bytes are.
 abbrev pub ReadIsMessage : Type 0
@@ -12,14 +11,6 @@ ReadIsMessage = (bytes : List ℕ) (m : Message) → AreBytes bytes → message_
 -- The message that the bytes are is read.
 abbrev pub MessageIsRead : Type 0
 MessageIsRead = (bytes : List ℕ) (m : Message) → IsMessage bytes m → message_of bytes ≡ Ok m
-
--- Labels that are read at a place stand there.
-abbrev pub ReadIsSpelling : Type 0
-ReadIsSpelling = (bytes : List ℕ) (at : ℕ) (labels : List (List ℕ)) → AreBytes bytes → spelling_of bytes at ≡ Ok labels → (end : ℕ) × SpeltAt bytes at labels end
-
--- The labels that stand at a place are read there.
-abbrev pub SpellingIsRead : Type 0
-SpellingIsRead = (bytes : List ℕ) (at : ℕ) (labels : List (List ℕ)) (end : ℕ) → SpeltAt bytes at labels end → spelling_of bytes at ≡ Ok labels
 
 -- An encoding of at most 65,535 bytes is read back as the message that was encoded, its questions' names in lower case.
 abbrev pub EncodingIsReadBack : Type 0

@@ -3,6 +3,7 @@ pub mod Limits
 pub mod Errors
 pub mod Results
 pub mod Drafts
+pub mod Asked
 pub mod Laws
 -- Computed: functions that the code is compared with.
 pub mod Entries

@@ -1,16 +1,10 @@
 //! Laws of the definitions: functions that do nothing, whose clauses are proved.
-ghost use Rattle.wire.specs.Laws.{ReadIsMessage, MessageIsRead, ReadIsSpelling, SpellingIsRead, EncodingIsReadBack};
+ghost use Rattle.wire.specs.Laws.{ReadIsMessage, MessageIsRead, EncodingIsReadBack};
 
 /// What is read of bytes is the message that they are (RFC 1035, section 4), and each message is read.
 pub fn decoding_is_message()
     ensures read { ReadIsMessage }
     ensures found { MessageIsRead }
-{}
-
-/// The labels that are read at a place stand there (RFC 1035, section 4.1.4), and all that stand are read.
-pub fn reading_is_spelling()
-    ensures read { ReadIsSpelling }
-    ensures found { SpellingIsRead }
 {}
 
 /// What is written is read back.

@@ -2,7 +2,7 @@
 //!
 //! `decode` reads a `Message`: its `Header`, its questions, and the records of its three sections; names are
 //! unfolded from their pointers, and records of types and classes that are not served are left out.
-//! `question_spelling` gives the first question's name in the letters that it came in. `encode` writes a message
+//! `decode_question` reads the one question of a query alone, with the letters that it came in. `encode` writes a message
 //! with compression, `encode_draft` one of borrowed parts and with its question in its own letters; `Via::limit` is
 //! what a datagram or a stream allows.
 //!
@@ -39,8 +39,8 @@ mod writer;
 pub use encoder::{Draft, encode, encode_draft};
 pub use error::WireError;
 pub use header::Header;
-pub use laws::{decoding_is_message, encoding_is_read_back, reading_is_spelling};
+pub use laws::{decoding_is_message, encoding_is_read_back};
 pub use message::{Message, Question, Questions};
-pub use reader::{decode, question_spelling};
+pub use reader::{decode, decode_question};
 pub use spelling::Spelling;
 pub use via::{TCP_LIMIT, UDP_LIMIT, Via};

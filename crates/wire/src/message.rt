@@ -1,5 +1,5 @@
 //! Messages and questions as values.
-ghost use Rattle.std.specs.Prelude.{◌≡◌, [], ◌∷◌, ◌++◌, length, ◌↔◌, IsTrue, OnOk, OnErr, MatchOption, ◌⊎◌};
+ghost use Rattle.std.specs.Prelude.{◌≡◌, [], ◌∷◌, ◌++◌, length, ◌↔◌, IsTrue, OnOk, OnErr};
 
 use crate::header::Header;
 use dname::{Heap, Name, Starved};
@@ -78,17 +78,6 @@ impl<A: Allocator> Questions<A> {
         ensures { result.now ≡ self.now }
     {
         &self.items
-    }
-
-    /// The one question; none where there are none or several.
-    pub fn into_only(mut self) -> Option<Question<A>>
-        ensures { MatchOption result (length self ≡ 1 → ⊥) (λ q. self ≡ q ∷ []) }
-    {
-        if self.items.len() == 1 {
-            self.items.pop()
-        } else {
-            None
-        }
     }
 }
 

@@ -4,7 +4,6 @@ ghost use Rattle.dname.specs.Labels.{wire};
 ghost use Rattle.dname.specs.Draft.{labelled};
 ghost use Rattle.wire.specs.Parts.{message_faults, spelt_at, name_at};
 ghost use Rattle.wire.specs.Chains.{AreChainEnds};
-ghost use Rattle.wire.specs.Entries.{spelling_of};
 ghost use Rattle.wire.specs.Results.{Gives, and_then};
 ghost use Rattle.wire.specs.Skips.{end_alone};
 
@@ -124,9 +123,14 @@ pub fn name_end(bytes: &[u8], ends: &[u16], at: usize) -> Result<usize, WireErro
     }
 }
 
-// The name at a place as `name_at` reads it, and beside it its own letters.
-pub fn spelling_at<A: Heap>(alloc: A, bytes: &[u8], at: usize) -> Result<Spelling<A>, WireError>
-    ensures { Gives {Y = List (List ℕ)} (λ s. s) result (spelling_of bytes.now at) }
+// The name at a place of a message as `name_at` reads it, with its own letters, and the end of what lies there.
+pub fn spelling_at<A: Heap>(
+    alloc: A,
+    bytes: &[u8],
+    at: usize,
+) -> Result<(Spelling<A>, usize), WireError>
+    ensures is { Gives {Y = List (List ℕ) × ℕ} (λ x. (x.0, x.1)) result (spelt_at bytes.now message_faults (length bytes.now) at) }
+    ensures within { IfOk result (λ x. x.1 ≤ length bytes.now) }
 {
     let mut name = Builder::new(alloc)?;
     let mut letters = Vec::with_capacity(alloc, 64)?;
@@ -135,11 +139,13 @@ pub fn spelling_at<A: Heap>(alloc: A, bytes: &[u8], at: usize) -> Result<Spellin
     let mut border = WireError::Short;
     let mut place = at;
     let mut room = 255;
+    let mut end = None;
     'parts: loop {
         match part_at(bytes, stop, border, WireError::BadLabel, place)? {
             Part::End => {
                 letters.push(0)?;
-                return Ok(Spelling::from_wire(letters, name.finish()));
+                let spelling = Spelling::from_wire(letters, name.finish());
+                return Ok((spelling, end.unwrap_or(place + 1)));
             }
             Part::Label(size) => {
                 if room < size + 2 {
@@ -158,6 +164,7 @@ pub fn spelling_at<A: Heap>(alloc: A, bytes: &[u8], at: usize) -> Result<Spellin
                 if target >= start {
                     return Err(WireError::PointerNotEarlier);
                 }
+                end = end.or(Some(place + 2));
                 start = target;
                 stop = bytes.len();
                 border = WireError::Short;

@@ -1,18 +1,18 @@
 //! Bytes read as a message.
-ghost use Rattle.std.specs.Prelude.{◌≡◌, ◌⊎◌, List, ℕ, IfOk, IfErr};
+ghost use Rattle.std.specs.Prelude.{◌≡◌, ◌≤◌, ◌⊎◌, List, length, IfOk, IfErr, MatchOption};
 ghost use Rattle.layout.specs.Messages as layouts;
 ghost use Rattle.layout.specs.Messages.{IsMessage};
-ghost use Rattle.layout.specs.Names.{SpeltAt};
 ghost use Rattle.wire.specs.declared.error.WireError.TheVariants.{Memory};
 ghost use Rattle.wire.specs.Chains.{AreChainEnds};
-ghost use Rattle.wire.specs.Entries.{message_of, spelling_of};
-ghost use Rattle.wire.specs.Results.{Gives};
+ghost use Rattle.wire.specs.Entries.{message_first, message_of};
+ghost use Rattle.wire.specs.Asked.{AreBehind, IsOnlyQuestion, HasNotOne};
+ghost use Rattle.wire.specs.Results.{Fails, Gives};
 
 use crate::chains::chain_ends;
 use crate::error::WireError;
 use crate::fields::two_at;
 use crate::header::Header;
-use crate::message::Message;
+use crate::message::{Message, Question};
 use crate::names::spelling_at;
 use crate::records::{questions_at, section_at};
 use crate::spelling::Spelling;
@@ -57,12 +57,47 @@ pub fn decode<A: Heap>(alloc: A, bytes: &[u8]) -> Result<Message<A>, WireError>
     message_of(alloc, bytes, &ends)
 }
 
-/// The name of the first question in its own letters, where a question stands behind the header. Refused
-/// as `decode` refuses that name.
-pub fn question_spelling<A: Heap>(alloc: A, bytes: &[u8]) -> Result<Spelling<A>, WireError>
-    ensures exact { Gives {Y = List (List ℕ)} (λ s. s) result (spelling_of bytes.now 12) }
-    ensures read { IfOk result (λ s. (end : ℕ) × SpeltAt bytes.now 12 s end) }
-    ensures refused { IfErr result (λ e. (e ≡ Memory) ⊎ ((labels : List (List ℕ)) (end : ℕ) → SpeltAt bytes.now 12 labels end → ⊥)) }
+// Whether the three sections of records stand from a place on, up to the end of the bytes, as `message_of` reads
+// them. Records that are skipped take no memory.
+fn check_sections<A: Heap>(alloc: A, bytes: &[u8], at: usize) -> Result<(), WireError>
+    requires { 12 ≤ length bytes.now }
+    ensures read { IfOk result (λ _. AreBehind bytes.now at) }
+    ensures refused { IfErr result (λ e. (questions : List layouts.Question) → message_of bytes.now ≡ message_first bytes.now (questions, at) → Fails e (message_of bytes.now)) }
 {
-    spelling_at(alloc, bytes, 12)
+    let ends = chain_ends(alloc, bytes)?;
+    let (_, authority) = section_at(alloc, bytes, &ends, two_at(bytes, 6), at)?;
+    let (_, additional) = section_at(alloc, bytes, &ends, two_at(bytes, 8), authority)?;
+    let (_, end) = section_at(alloc, bytes, &ends, two_at(bytes, 10), additional)?;
+    if end != bytes.len() {
+        return Err(WireError::TrailingBytes);
+    }
+    Ok(())
+}
+
+/// The question of a message that has one, and its name in its own letters, read in one walk; nothing where the
+/// header announces none or several, of which the rest is not looked at. Refused where the bytes are no message.
+pub fn decode_question<A: Heap>(
+    alloc: A,
+    bytes: &[u8],
+) -> Result<Option<(Question<A>, Spelling<A>)>, WireError>
+    ensures read { IfOk result (λ o. MatchOption o (HasNotOne bytes.now) (λ q. IsOnlyQuestion bytes.now q.0 q.1)) }
+    ensures refused { IfErr result (λ e. (e ≡ Memory) ⊎ ((m : layouts.Message) → IsMessage bytes.now m → ⊥)) }
+{
+    if bytes.len() < 12 {
+        return Err(WireError::Short);
+    }
+    if two_at(bytes, 4) != 1 {
+        return Ok(None);
+    }
+    let (spelling, at) = spelling_at(alloc, bytes, 12)?;
+    if bytes.len() - at < 4 {
+        return Err(WireError::Short);
+    }
+    check_sections(alloc, bytes, at + 4)?;
+    let question = Question {
+        name: spelling.name().clone()?,
+        qtype: two_at(bytes, at),
+        qclass: two_at(bytes, at + 2),
+    };
+    Ok(Some((question, spelling)))
 }

@@ -7,7 +7,7 @@ ghost use Rattle.rdata.specs.Data as plain;
 ghost use Rattle.rdata.specs.Kept.{datum};
 ghost use Rattle.rdata.specs.Records.{greatest_ttl};
 ghost use Rattle.rdata.specs.Rows.{row};
-ghost use Rattle.layout.specs.Pieces.{put_flat, put_flats, put, after, empty, plain_bytes, packed_name, asked_name, sized_group};
+ghost use Rattle.layout.specs.Pieces.{put_flat, put_flats, put, after, empty, plain_bytes, short_number, long_number, packed_name, asked_name, sized_group};
 ghost use Rattle.layout.specs.Packing.{pointer};
 ghost use Rattle.layout.specs.Messages.{data_flats, record_pieces, question_pieces, header_pieces, strings_bytes, FitsRdata, AreNamesOf, IsSpelling, IsHeader, IsQuestion, IsRecord};
 ghost use Rattle.wire.specs.Drafts.{counts_by};
@@ -57,6 +57,13 @@ fn pointer_to(place: u16) -> [u8; 2]
     [192 + (place / 256) as u8, (place % 256) as u8]
 }
 
+// A count: its lowest 16 bits. A message with more than 65,535 of anything is over every limit.
+fn low_bytes(count: usize) -> [u8; 2]
+    ensures { result ≡ bytes_high_first 2 count }
+{
+    [(count / 256 % 256) as u8, (count % 256) as u8]
+}
+
 impl<A: Heap> Writer<A> {
     // Nothing written yet: one growth serves a message that fits a datagram.
     pub fn new(alloc: A) -> Result<Writer<A>, Starved>
@@ -94,11 +101,23 @@ impl<A: Heap> Writer<A> {
         self.put_bytes(&four)
     }
 
-    // A count: its lowest 16 bits. A message with more than 65,535 of anything is over every limit.
-    fn put_count(&mut self, count: usize) -> Result<(), Starved>
-        ensures { OnOk result (self.new ≡ put_flat self.old (plain_bytes (bytes_high_first 2 count))) }
+    // A question's type and class.
+    fn put_type_and_class(&mut self, kind: u16, class: u16) -> Result<(), Starved>
+        ensures { OnOk result (self.new ≡ put_flat (put_flat self.old (short_number kind)) (short_number class)) }
     {
-        self.put_bytes(&[(count / 256 % 256) as u8, (count % 256) as u8])
+        let [k, l] = kind.to_be_bytes();
+        let [c, d] = class.to_be_bytes();
+        self.put_bytes(&[k, l, c, d])
+    }
+
+    // A record's type, class IN and TTL.
+    fn put_type_and_ttl(&mut self, kind: u16, ttl: u32) -> Result<(), Starved>
+        ensures { OnOk result (self.new ≡ put_flat (put_flat (put_flat self.old (short_number kind)) (short_number INTERNET)) (long_number ttl)) }
+    {
+        let [k, l] = kind.to_be_bytes();
+        let [c, d] = INTERNET.to_be_bytes();
+        let [t, u, v, w] = ttl.to_be_bytes();
+        self.put_bytes(&[k, l, c, d, t, u, v, w])
     }
 
     // A name, compressed (RFC 1035, section 4.1.4).
@@ -218,9 +237,7 @@ impl<A: Heap> Writer<A> {
         ensures fits { OnOk result (IsRecord (row owner.now ttl value.now)) }
     {
         self.put_name(owner)?;
-        self.put_two(value.kind().number())?;
-        self.put_two(INTERNET)?;
-        self.put_four(ttl)?;
+        self.put_type_and_ttl(value.kind().number(), ttl)?;
         self.put_group(value)
     }
 
@@ -248,8 +265,7 @@ impl<A: Heap> Writer<A> {
         ensures fits { OnOk result (IsQuestion question.now) }
     {
         self.put_asked(&question.name)?;
-        self.put_two(question.qtype)?;
-        self.put_two(question.qclass)
+        self.put_type_and_class(question.qtype, question.qclass)
     }
 
     /// The questions in order. The walk over them finds that each fits its bits.
@@ -275,8 +291,7 @@ impl<A: Heap> Writer<A> {
         ensures fits { OnOk result (IsQuestion (record { name = spelling.now; qtype = qtype; qclass = qclass })) }
     {
         self.put_spelling(spelling)?;
-        self.put_two(qtype)?;
-        self.put_two(qclass)
+        self.put_type_and_class(qtype, qclass)
     }
 
     #[tactic(auto, unfolding(layout::specs::Pieces::put))]
@@ -291,12 +306,12 @@ impl<A: Heap> Writer<A> {
             + u8::from(header.tc) * 2
             + u8::from(header.rd);
         let low = u8::from(header.ra) * 128 + header.z * 16 + header.rcode;
-        self.put_two(header.id)?;
-        self.put_bytes(&[high, low])?;
-        self.put_count(counts.questions)?;
-        self.put_count(counts.answer)?;
-        self.put_count(counts.authority)?;
-        self.put_count(counts.additional)
+        let [i, d] = header.id.to_be_bytes();
+        let [q, r] = low_bytes(counts.questions);
+        let [a, b] = low_bytes(counts.answer);
+        let [n, o] = low_bytes(counts.authority);
+        let [x, y] = low_bytes(counts.additional);
+        self.put_bytes(&[i, d, high, low, q, r, a, b, n, o, x, y])
     }
 
     /// What was written, where it is within the limit.

@@ -1,7 +1,7 @@
 use dname::Heap;
 use refusing::Refusing;
 use std::test::Fail;
-use wire::{WireError, decode, encode, question_spelling};
+use wire::{WireError, decode, decode_question, encode};
 
 // A denial: the zone's SOA in the authority section, its names by pointers.
 const DENIAL: &[u8] =
@@ -30,16 +30,14 @@ fn each_growth_is_refused_in_turn(rt: HostRuntime) -> Result<(), Fail> {
 }
 
 #[test]
-fn each_growth_of_a_spelling_is_refused(rt: HostRuntime) -> Result<(), Fail> {
+fn each_growth_of_a_question_is_refused(rt: HostRuntime) -> Result<(), Fail> {
     let heap = Refusing::new(rt.alloc());
-    assert!(rt;
-        question_spelling(&heap, DENIAL)?.wire() == b"\x01b\x03lab\x07example\0".as_slice()
-    );
+    assert!(rt; decode_question(&heap, DENIAL)?.is_some());
     let growths = heap.growths();
     for n in 0..growths {
         heap.refuse_after(n);
         assert!(rt;
-            matches!(question_spelling(&heap, DENIAL), Err(WireError::Memory)),
+            matches!(decode_question(&heap, DENIAL), Err(WireError::Memory)),
             "growth {n}"
         );
     }

@@ -1,7 +1,7 @@
 use dname::Name;
 use rdata::{Addr, RData};
 use std::test::Fail;
-use wire::{WireError, decode, encode, question_spelling};
+use wire::{WireError, decode, decode_question, encode};
 
 // ID 4660, RD, one question: www.example. A IN (RFC 1035, section 4.1).
 const QUERY: &[u8] = b"\x124\x01\0\0\x01\0\0\0\0\0\0\x03www\x07example\0\0\x01\0\x01";
@@ -81,9 +81,22 @@ fn messages_are_written_as_they_stood(rt: HostRuntime) -> Result<(), Fail> {
 
 #[test]
 fn a_question_keeps_its_letters(rt: HostRuntime) -> Result<(), Fail> {
-    let bytes = b"\0\x01\0\0\0\x01\0\0\0\0\0\0\x03wWw\x01X\0\0\x01\0\x01";
-    let spelling = question_spelling(rt.alloc(), bytes)?;
+    let bytes = b"\0\x01\0\0\0\x01\0\0\0\0\0\0\x03wWw\x01X\0\0\x0f\0\x01";
+    let Some((question, spelling)) = decode_question(rt.alloc(), bytes)? else {
+        return Err(Fail::new("no question"));
+    };
     assert!(rt; spelling.wire() == b"\x03wWw\x01X\0".as_slice());
-    assert_eq!(rt; spelling.name().to_text()?.as_str(), "www.x.");
+    assert_eq!(rt; question.name.to_text()?.as_str(), "www.x.");
+    assert_eq!(rt; (question.qtype, question.qclass), (15, 1));
+    Ok(())
+}
+
+#[test]
+fn a_header_that_announces_none_or_two_has_no_one_question(rt: HostRuntime) -> Result<(), Fail> {
+    for count in [0, 2] {
+        let mut bytes = Vec::from_slice(rt.alloc(), QUERY)?;
+        bytes[5] = count;
+        assert!(rt; decode_question(rt.alloc(), &bytes)?.is_none(), "{count}");
+    }
     Ok(())
 }

@@ -2,43 +2,42 @@ use Rattle.std.proofs.Common.{◌∙◌, sym, ap, Ok, length, ◌++◌, ◌+◌,
 use Rattle.std.specs.Prelude.{slice_range}
 use Rattle.wire.specs.declared.error.WireError.TheVariants.{NameTooLong, PointerNotEarlier}
 use Rattle.wire.specs.Parts.{message_faults, spelt_at}
-use Rattle.wire.specs.Entries.{spelling_of}
-use Rattle.wire.proofs.Walks.{gives_failed, spelt_begins, spelling_refused, walk_refused, walk_too_long, walk_over, walk_forward, spelt_label, spelt_pointer, spelt_done, label_long, label_room}
+use Rattle.wire.proofs.Walks.{gives_failed, fails_is, spelt_begins, walk_refused, walk_too_long, walk_over, walk_forward, spelt_label, spelt_pointer, spelt_done, label_long, label_room}
 use Rattle.wire.proofs.names.spelling_at.Goals as goal
 
 pub parts-init : goal.parts-init
 parts-init g c = spelt_begins c.args.bytes.now c.args.at c.in_ok-name.name c.in_ok-letters.letters.items c.in_ok-name.ensures c.in_ok-letters.ensures.items
 
-pub returns-in_err-part_at : goal.returns-in_err-part_at
-returns-in_err-part_at g c =
+pub returns-in_err-part_at-clause-is : goal.returns-in_err-part_at-clause-is
+returns-in_err-part_at-clause-is g c =
     let w = c.parts.invariant in
-    gives_failed (λ s. s) c.from_residual-in_err-part_at.result c.in_err-part_at.field-0.0 (spelling_of c.args.bytes.now c.args.at) c.from_residual-in_err-part_at.ensures.1
-    (spelling_refused c.args.bytes.now c.args.at c.in_err-part_at.field-0.0
-    (walk_refused c.args.bytes.now message_faults (length c.args.bytes.now) (spelt_at c.args.bytes.now message_faults (length c.args.bytes.now) c.args.at) w.front c.parts.start c.parts.place c.parts.stop c.parts.border c.parts.room w.end w.walk c.in_err-part_at.field-0.0 c.part_at.result c.part_at.ensures.is c.in_err-part_at.was))
+    gives_failed (λ x. (x.0, x.1)) c.from_residual-in_err-part_at.result c.in_err-part_at.field-0.0 (spelt_at c.args.bytes.now message_faults (length c.args.bytes.now) c.args.at) c.from_residual-in_err-part_at.ensures.1
+    (fails_is c.in_err-part_at.field-0.0 (spelt_at c.args.bytes.now message_faults (length c.args.bytes.now) c.args.at)
+    (walk_refused c.args.bytes.now message_faults (length c.args.bytes.now) (spelt_at c.args.bytes.now message_faults (length c.args.bytes.now) c.args.at) w.front c.parts.start c.parts.place c.parts.stop c.parts.border c.parts.room c.parts.end w.walk c.in_err-part_at.field-0.0 c.part_at.result c.part_at.ensures.is c.in_err-part_at.was))
 
-pub from_wire-requires : goal.from_wire-requires
-from_wire-requires g c =
+pub from_wire-spelling-requires : goal.from_wire-spelling-requires
+from_wire-spelling-requires g c =
     rw c.finish.ensures
     ((spelt_done c.args.bytes.now c.args.at c.parts.name c.parts.letters.items c.push.new.self.items c.parts.start c.parts.place c.parts.stop c.parts.border c.parts.room
-    c.parts.invariant c.part_at.result c.part_at.ensures.is (c.in_ok-part_at.was ∙ ap (λ p. Ok p) c.in-End.is) c.in_ok-push-in-End.ensures.items).0)
+    c.parts.end c.parts.invariant c.part_at.result c.part_at.ensures.is (c.in_ok-part_at.was ∙ ap (λ p. Ok p) c.in-End.is) c.in_ok-push-in-End.ensures.items).0)
 
-pub returns-in-End : goal.returns-in-End
-returns-in-End g c =
+pub returns-in-End-clause-is : goal.returns-in-End-clause-is
+returns-in-End-clause-is g c =
     (spelt_done c.args.bytes.now c.args.at c.parts.name c.parts.letters.items c.push.new.self.items c.parts.start c.parts.place c.parts.stop c.parts.border c.parts.room
-    c.parts.invariant c.part_at.result c.part_at.ensures.is (c.in_ok-part_at.was ∙ ap (λ p. Ok p) c.in-End.is) c.in_ok-push-in-End.ensures.items).1
-    ∙ ap (λ s. Ok s) (sym c.from_wire.ensures)
+    c.parts.end c.parts.invariant c.part_at.result c.part_at.ensures.is (c.in_ok-part_at.was ∙ ap (λ p. Ok p) c.in-End.is) c.in_ok-push-in-End.ensures.items).1
+    ∙ (λ i. Ok (sym c.from_wire-spelling.ensures i, sym c.unwrap_or.ensures i))
 
-pub returns-then-room-size : goal.returns-then-room-size
-returns-then-room-size g c =
+pub returns-then-room-size-clause-is : goal.returns-then-room-size-clause-is
+returns-then-room-size-clause-is g c =
     let w = c.parts.invariant in
-    spelling_refused c.args.bytes.now c.args.at NameTooLong
-    (walk_too_long c.args.bytes.now message_faults (length c.args.bytes.now) (spelt_at c.args.bytes.now message_faults (length c.args.bytes.now) c.args.at) w.front c.parts.start c.parts.place c.parts.stop c.parts.border c.parts.room w.end w.walk c.in-Label.size c.part_at.result c.part_at.ensures.is (c.in_ok-part_at.was ∙ ap (λ p. Ok p) c.in-Label.is) c.if-room-size.true)
+    fails_is NameTooLong (spelt_at c.args.bytes.now message_faults (length c.args.bytes.now) c.args.at)
+    (walk_too_long c.args.bytes.now message_faults (length c.args.bytes.now) (spelt_at c.args.bytes.now message_faults (length c.args.bytes.now) c.args.at) w.front c.parts.start c.parts.place c.parts.stop c.parts.border c.parts.room c.parts.end w.walk c.in-Label.size c.part_at.result c.part_at.ensures.is (c.in_ok-part_at.was ∙ ap (λ p. Ok p) c.in-Label.is) c.if-room-size.true)
 
-pub returns-then-stop-place : goal.returns-then-stop-place
-returns-then-stop-place g c =
+pub returns-then-stop-place-clause-is : goal.returns-then-stop-place-clause-is
+returns-then-stop-place-clause-is g c =
     let w = c.parts.invariant in
-    spelling_refused c.args.bytes.now c.args.at c.parts.border
-    (walk_over c.args.bytes.now message_faults (length c.args.bytes.now) (spelt_at c.args.bytes.now message_faults (length c.args.bytes.now) c.args.at) w.front c.parts.start c.parts.place c.parts.stop c.parts.border c.parts.room w.end w.walk c.in-Label.size c.part_at.result c.part_at.ensures.is (c.in_ok-part_at.was ∙ ap (λ p. Ok p) c.in-Label.is) c.if-room-size.false c.if-stop-place.true (rw c.in-Label.is at c.in_ok-part_at.ensures.shape).0)
+    fails_is c.parts.border (spelt_at c.args.bytes.now message_faults (length c.args.bytes.now) c.args.at)
+    (walk_over c.args.bytes.now message_faults (length c.args.bytes.now) (spelt_at c.args.bytes.now message_faults (length c.args.bytes.now) c.args.at) w.front c.parts.start c.parts.place c.parts.stop c.parts.border c.parts.room c.parts.end w.walk c.in-Label.size c.part_at.result c.part_at.ensures.is (c.in_ok-part_at.was ∙ ap (λ p. Ok p) c.in-Label.is) c.if-room-size.false c.if-stop-place.true (rw c.in-Label.is at c.in_ok-part_at.ensures.shape).0)
 
 pub put_label-requires-clause-room : goal.put_label-requires-clause-room
 put_label-requires-clause-room g c =
@@ -55,17 +54,17 @@ pub parts-preserved-in-Label : goal.parts-preserved-in-Label
 parts-preserved-in-Label g c =
     let shape = rw c.in-Label.is at c.in_ok-part_at.ensures.shape in
     spelt_label c.args.bytes.now c.args.at c.parts.name c.put_label.new.name c.parts.letters.items c.extend_from_slice.new.self.items c.parts.start c.parts.place c.parts.stop c.parts.border c.parts.room
-    c.parts.invariant c.in-Label.size c.part_at.result c.part_at.ensures.is (c.in_ok-part_at.was ∙ ap (λ p. Ok p) c.in-Label.is) c.if-room-size.false c.if-stop-place.false
+    c.parts.end c.parts.invariant c.in-Label.size c.part_at.result c.part_at.ensures.is (c.in_ok-part_at.was ∙ ap (λ p. Ok p) c.in-Label.is) c.if-room-size.false c.if-stop-place.false
     shape.0 shape.1 shape.2 c.in_ok-put_label-in-Label.ensures
     (c.in_ok-extend_from_slice-in-Label.ensures.items ∙ ap (λ x. x ++ slice_range c.args.bytes.now (c.parts.place + 1) (c.parts.place + 1 + c.in-Label.size)) c.in_ok-push-in-Label.ensures.items)
 
-pub returns-then-target-start : goal.returns-then-target-start
-returns-then-target-start g c =
+pub returns-then-target-start-clause-is : goal.returns-then-target-start-clause-is
+returns-then-target-start-clause-is g c =
     let w = c.parts.invariant in
-    spelling_refused c.args.bytes.now c.args.at PointerNotEarlier
-    (walk_forward c.args.bytes.now message_faults (length c.args.bytes.now) (spelt_at c.args.bytes.now message_faults (length c.args.bytes.now) c.args.at) w.front c.parts.start c.parts.place c.parts.stop c.parts.border c.parts.room w.end w.walk c.in-Pointer.target c.part_at.result c.part_at.ensures.is (c.in_ok-part_at.was ∙ ap (λ p. Ok p) c.in-Pointer.is) c.if-target-start.true)
+    fails_is PointerNotEarlier (spelt_at c.args.bytes.now message_faults (length c.args.bytes.now) c.args.at)
+    (walk_forward c.args.bytes.now message_faults (length c.args.bytes.now) (spelt_at c.args.bytes.now message_faults (length c.args.bytes.now) c.args.at) w.front c.parts.start c.parts.place c.parts.stop c.parts.border c.parts.room c.parts.end w.walk c.in-Pointer.target c.part_at.result c.part_at.ensures.is (c.in_ok-part_at.was ∙ ap (λ p. Ok p) c.in-Pointer.is) c.if-target-start.true)
 
 pub parts-preserved : goal.parts-preserved
 parts-preserved g c =
-    spelt_pointer c.args.bytes.now c.args.at c.parts.name c.parts.letters.items c.parts.start c.parts.place c.parts.stop c.parts.border c.parts.room c.parts.invariant c.in-Pointer.target
-    c.part_at.result c.part_at.ensures.is (c.in_ok-part_at.was ∙ ap (λ p. Ok p) c.in-Pointer.is) c.if-target-start.false (rw c.in-Pointer.is at c.in_ok-part_at.ensures.shape).0
+    rw c.or-end.ensures (spelt_pointer c.args.bytes.now c.args.at c.parts.name c.parts.letters.items c.parts.start c.parts.place c.parts.stop c.parts.border c.parts.room c.parts.end c.parts.invariant c.in-Pointer.target
+    c.part_at.result c.part_at.ensures.is (c.in_ok-part_at.was ∙ ap (λ p. Ok p) c.in-Pointer.is) c.if-target-start.false (rw c.in-Pointer.is at c.in_ok-part_at.ensures.shape).0)

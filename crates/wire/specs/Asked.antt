@@ -1,0 +1,21 @@
+-- The one question of a message, read alone.
+use Rattle.std.specs.Prelude.{◌≡◌, ◌⊎◌, ℕ, Ok, List, [], ◌∷◌, length}
+use Rattle.layout.specs.Names.{SpeltAt}
+use Rattle.layout.specs.Messages.{Question, Message, IsMessage}
+use Rattle.wire.specs.Entries.{message_first, message_of}
+
+-- From a place on stand the sections of a message, whatever its questions before that place are.
+abbrev pub AreBehind : List ℕ → ℕ → Type 0
+AreBehind bytes at = (questions : List Question) → message_of bytes ≡ message_first bytes (questions, at) → (m : Message) × (message_of bytes ≡ Ok m) × (m.questions ≡ questions)
+
+-- The bytes are a message of this one question, whose name stands there in these letters.
+pub record IsOnlyQuestion (bytes : List ℕ) (q : Question) (letters : List (List ℕ)) : Type 0 where
+  pub message : Message
+  pub is : IsMessage bytes message
+  pub only : message.questions ≡ q ∷ []
+  pub end : ℕ
+  pub spelt : SpeltAt bytes 12 letters end
+
+-- The bytes are no message, or one of no question or of several.
+abbrev pub HasNotOne : List ℕ → Type 0
+HasNotOne bytes = ((m : Message) → IsMessage bytes m → ⊥) ⊎ ((m : Message) × IsMessage bytes m × (length m.questions ≡ 1 → ⊥))
