@@ -44,6 +44,7 @@ not_one_read bytes s whole query (inl none) opens = inr (record {
 not_one_read bytes s whole query (inr (m, is, several)) opens = other_read bytes m m.questions s whole query is refl several opens
 
 -- A message of one question.
-pub only_read : {A : Type 0} (bytes : List ℕ) (q : Question) (letters : List (List ℕ)) (s : Opening) (asked : Asked A) → 12 ≤ length bytes → slice_index bytes 2 < 128
-    → IsOnlyQuestion bytes q letters → s ≡ opening_of bytes → asked ≡ by_question s q letters → IsAsked bytes asked
-only_read bytes q letters s asked whole query h opens sorted = one_read bytes h.message q letters s asked whole query h.is h.only (h.end, h.spelt) opens sorted
+pub only_read : {A : Type 0} (bytes : List ℕ) (name : List (List ℕ)) (echo : Question) (s : Opening) (asked : Asked A) → 12 ≤ length bytes → slice_index bytes 2 < 128
+    → IsOnlyQuestion bytes name echo → s ≡ opening_of bytes → asked ≡ by_question s (record { name = name; qtype = echo.qtype; qclass = echo.qclass }) echo.name → IsAsked bytes asked
+only_read bytes name echo s asked whole query h opens sorted =
+    one_read bytes h.message (record { name = name; qtype = echo.qtype; qclass = echo.qclass }) echo.name s asked whole query h.is h.only (h.end, h.spelt) opens sorted

@@ -4,12 +4,12 @@ ghost use Rattle.std.specs.Option.{option_copied};
 ghost use Rattle.rdata.specs.Rows.{in_set};
 ghost use Rattle.front.specs.Replies.{refusal_rcode, end_rcode, found_in, denied_by};
 
-use crate::echo::Echo;
 use crate::start::Start;
 use causes::Cause;
 use dname::Name;
 use rdata::{RType, Record, RecordSet, Records};
 use std::alloc::{Allocator, Global};
+use wire::Echo;
 
 /// Why a query is refused before it is looked at.
 #[derive(Clone, Copy, Debug, PartialEq, Eq)]

@@ -3,12 +3,11 @@ ghost use Rattle.std.specs.Prelude.{◌≡◌, ℕ, ◌≤◌, ◌<◌, IfOk, Is
 ghost use Rattle.front.specs.Openings.{opening_of};
 ghost use Rattle.front.specs.Queries.{IsAsked, by_question};
 
-use crate::echo::Echo;
 use crate::queries::{Asked, Query, Refusal};
 use crate::start::Start;
-use dname::{Heap, Starved};
+use dname::{Heap, Name, Starved};
 use rdata::{INTERNET, RType};
-use wire::{Question, Spelling, WireError, decode_question};
+use wire::{Echo, WireError, decode_question};
 
 /// What the bytes from a client ask, in this order: under 12 bytes or QR set, nothing; no message, or other
 /// than one question, a format error; another operation than a query, a class other than IN or a type that
@@ -23,7 +22,7 @@ pub fn read_query<A: Heap>(alloc: A, bytes: &[u8]) -> Result<Asked<A>, Starved>
     }
     let start = start_at(bytes);
     match decode_question(alloc, bytes) {
-        Ok(Some((question, spelling))) => Ok(sort_question(start, question, spelling)),
+        Ok(Some((name, echo))) => Ok(sort_question(start, name, echo)),
         Ok(None) => Ok(Asked::Refuse(Refusal::FormErr, start, None)),
         Err(WireError::Memory) => Err(Starved),
         Err(_) => Ok(Asked::Refuse(Refusal::FormErr, start, None)),
@@ -39,21 +38,11 @@ fn start_at(bytes: &[u8]) -> Start
 }
 
 // A message of one question: a query, or nothing that is served.
-fn sort_question<A: Heap>(start: Start, question: Question<A>, spelling: Spelling<A>) -> Asked<A>
-    ensures { result ≡ by_question start question spelling }
+fn sort_question<A: Heap>(start: Start, name: Name<A>, echo: Echo<A>) -> Asked<A>
+    ensures { result ≡ by_question start (record { name = name; qtype = echo.qtype; qclass = echo.qclass }) echo.name }
 {
-    let Question {
-        name,
-        qtype,
-        qclass,
-    } = question;
-    let echo = Echo {
-        spelling,
-        qtype,
-        qclass,
-    };
-    match RType::from_number(qtype) {
-        Some(kind) if start.opcode() == 0 && qclass == INTERNET => Asked::Query(Query {
+    match RType::from_number(echo.qtype) {
+        Some(kind) if start.opcode() == 0 && echo.qclass == INTERNET => Asked::Query(Query {
             start,
             name,
             kind,

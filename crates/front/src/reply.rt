@@ -6,14 +6,12 @@ ghost use Rattle.layout.specs.Messages.{IsMessage, encoding, folded_message};
 ghost use Rattle.front.specs.Replies.{reply_header, whole_reply, truncated_reply, bare, reply_of, failure_of, refusal_reply};
 ghost use Rattle.wire.specs.Limits.{limit_of};
 
-use crate::echo::Echo;
-use crate::parts::Parts;
 use crate::queries::{Outcome, Query, Refusal};
 use crate::start::Start;
 use causes::Cause;
 use dname::{Heap, Starved};
 use std::alloc::Allocator;
-use wire::{Header, TCP_LIMIT, UDP_LIMIT, Via};
+use wire::{Draft, Echo, Header, TCP_LIMIT, UDP_LIMIT, Via};
 
 /// The bytes of the reply, and the cause of a SERVFAIL. A reply over 512 bytes on UDP keeps header and
 /// question, with TC set; one over 65,535 bytes on TCP is a SERVFAIL. The bytes are read back as the reply, its
@@ -67,14 +65,14 @@ pub fn refusal_bytes<A: Heap>(
 }
 
 // The bytes of a message that is short enough for its limit.
-fn short_bytes<A: Heap>(alloc: A, parts: &Parts<'_, A>, limit: usize) -> Result<Vec<u8, A>, Starved>
+fn short_bytes<A: Heap>(alloc: A, draft: &Draft<'_, A>, limit: usize) -> Result<Vec<u8, A>, Starved>
     requires limit { limit ≤ TCP_LIMIT }
-    requires fits { length (encoding parts.now) ≤ limit }
-    ensures bytes { IfOk result (λ r. r.items ≡ encoding parts.now) }
-    ensures message { IfOk result (λ r. IsMessage r.items (folded_message parts.now)) }
+    requires fits { length (encoding draft.now) ≤ limit }
+    ensures bytes { IfOk result (λ r. r.items ≡ encoding draft.now) }
+    ensures message { IfOk result (λ r. IsMessage r.items (folded_message draft.now)) }
     ensures short { IfOk result (λ r. length r.items ≤ limit) }
 {
-    match parts.encode(alloc, limit)? {
+    match draft.encode(alloc, limit)? {
         Some(bytes) => Ok(bytes),
         None => unreachable!(),
     }
@@ -116,11 +114,11 @@ fn header(start: Start, aa: bool, tc: bool, rcode: u8) -> Header
 }
 
 // A reply without records.
-fn empty_draft<'a, A: Allocator>(start: Start, echo: Option<&'a Echo<A>>, rcode: u8) -> Parts<'a, A>
+fn empty_draft<'a, A: Allocator>(start: Start, echo: Option<&'a Echo<A>>, rcode: u8) -> Draft<'a, A>
     requires { rcode < 16 }
     ensures { result ≡ bare start (asked_alone (option_copied echo.entry)) false rcode }
 {
-    Parts {
+    Draft {
         header: header(start, false, false, rcode),
         question: echo,
         first: &[],
@@ -131,12 +129,12 @@ fn empty_draft<'a, A: Allocator>(start: Start, echo: Option<&'a Echo<A>>, rcode:
 }
 
 // The reply without its records, and with TC.
-fn truncated<'a, A: Allocator>(whole: &Parts<'a, A>) -> Parts<'a, A>
+fn truncated<'a, A: Allocator>(whole: &Draft<'a, A>) -> Draft<'a, A>
     ensures { result ≡ truncated_reply whole.now }
 {
     let mut header = whole.header;
     header.tc = true;
-    Parts {
+    Draft {
         header,
         question: whole.question,
         first: &[],
@@ -147,11 +145,11 @@ fn truncated<'a, A: Allocator>(whole: &Parts<'a, A>) -> Parts<'a, A>
 }
 
 // The whole reply.
-fn draft_of<'a, A: Allocator>(query: &'a Query<A>, outcome: &'a Outcome<A>) -> Parts<'a, A>
+fn draft_of<'a, A: Allocator>(query: &'a Query<A>, outcome: &'a Outcome<A>) -> Draft<'a, A>
     ensures { result ≡ whole_reply query.now outcome.now }
 {
     match outcome {
-        Outcome::Answer(aa, aliases, end) => Parts {
+        Outcome::Answer(aa, aliases, end) => Draft {
             header: header(query.start, *aa, false, end.rcode()),
             question: Some(&query.echo),
             first: aliases.as_slice(),
@@ -159,7 +157,7 @@ fn draft_of<'a, A: Allocator>(query: &'a Query<A>, outcome: &'a Outcome<A>) -> P
             authority: end.denial(),
             additional: &[],
         },
-        Outcome::Referral(ns, glue) => Parts {
+        Outcome::Referral(ns, glue) => Draft {
             header: header(query.start, false, false, 0),
             question: Some(&query.echo),
             first: &[],

@@ -84,17 +84,17 @@ letters_stand bytes letters at small h =
     (was_read (λ x. SpeltAt bytes 12 x.0 x.1 × (x.1 ≤ length bytes)) (spelt_at bytes message_faults (length bytes) 12) (letters, at)
     (spelt_stands bytes message_faults (length bytes) 12 small (omega arith)) h).0
 
-pub question_alone : (bytes : List ℕ) (letters : List (List ℕ)) (n at : ℕ) (q : Question) → AreSmall bytes → 12 ≤ length bytes → n ≡ two_at bytes 4 → n ≡ 1
-    → spelt_at bytes message_faults (length bytes) 12 ≡ Ok (letters, at) → at ≤ length bytes → 4 ≤ length bytes - at → AreBehind bytes (at + 4)
-    → q ≡ asked bytes (folded_labels letters) at → IsOnlyQuestion bytes q letters
-question_alone bytes letters n at q small long is one h within room behind same =
-    let read = behind (asked bytes (folded_labels letters) at ∷ []) (question_first bytes letters n at long is one h within room) in
+pub question_alone : (bytes : List ℕ) (name : List (List ℕ)) (echo : Question) (n at : ℕ) → AreSmall bytes → 12 ≤ length bytes → n ≡ two_at bytes 4 → n ≡ 1
+    → spelt_at bytes message_faults (length bytes) 12 ≡ Ok (echo.name, at) → at ≤ length bytes → 4 ≤ length bytes - at → AreBehind bytes (at + 4)
+    → name ≡ folded_labels echo.name → echo.qtype ≡ two_at bytes at → echo.qclass ≡ two_at bytes (at + 2) → IsOnlyQuestion bytes name echo
+question_alone bytes name echo n at small long is one h within room behind folds qtype qclass =
+    let read = behind (asked bytes (folded_labels echo.name) at ∷ []) (question_first bytes echo.name n at long is one h within room) in
     record {
       message = read.0;
       is = message_there bytes read.0 small read.1;
-      only = read.2 ∙ ap (λ x. x ∷ []) (sym same);
+      only = read.2 ∙ (λ i. record { name = sym folds i; qtype = sym qtype i; qclass = sym qclass i } ∷ []);
       end = at;
-      spelt = letters_stand bytes letters at small h;
+      spelt = letters_stand bytes echo.name at small h;
     }
 
 -- Where the header announces another number, no message has one question.

@@ -1,7 +1,7 @@
 -- What is written fits its bits, so that it is the message that is read back.
-use Rattle.std.proofs.Common.{◌≡◌, ℕ, ◌+◌, ◌<◌, ◌≤◌, List, [], ◌∷◌, ◌++◌, length, take, get_or, Result, Ok, Err, sym, ◌∙◌, ap, subst, arith}
+use Rattle.std.proofs.Common.{◌≡◌, ℕ, ◌+◌, ◌<◌, ◌≤◌, List, [], ◌∷◌, ◌++◌, length, take, get_or, Option, Some, None, Result, Ok, Err, sym, ◌∙◌, ap, subst, arith}
 use Rattle.std.proofs.lemmas.List.{take_more}
-use Rattle.std.specs.Prelude.{IfOk}
+use Rattle.std.specs.Prelude.{IfOk, IfSome, MatchOption}
 use Rattle.std.specs.List.{AllByRecursion}
 use Rattle.dname.specs.Labels.{AreLabels, IsName}
 use Rattle.layout.specs.Messages.{AreSpelled, IsSpelling, Message, IsWritable, IsMessage, encoding, folded_message}
@@ -35,3 +35,10 @@ message_ok items (Ok v) m limit few is h =
     let short : length (encoding m) ≤ 65535 = omega (arith, h.1, few) in
     subst (λ (x : List ℕ). IsMessage x (folded_message m)) (sym h.0) (encoding_holds m is short)
 message_ok items (Err x) m limit few is h = h
+
+pub message_some : {X : Type 0} (items : X → List ℕ) (o : Option X) (m : Message) (limit : ℕ) → limit ≤ 65535 → IsWritable m
+    → MatchOption o (limit < length (encoding m)) (λ v. (items v ≡ encoding m) × (length (items v) ≤ limit)) → IfSome o (λ v. IsMessage (items v) (folded_message m))
+message_some items None m limit few is h = tt
+message_some items (Some v) m limit few is h =
+    let short : length (encoding m) ≤ 65535 = omega (arith, h.1, few, ap length h.0) in
+    subst (λ (x : List ℕ). IsMessage x (folded_message m)) (sym h.0) (encoding_holds m is short)

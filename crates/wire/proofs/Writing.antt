@@ -3,7 +3,8 @@ use Rattle.std.proofs.Common.{◌/◌, ◌%◌, set, ◌≡◌, ℕ, suc, ◌+�
 use Rattle.std.proofs.lemmas.List.{append-nil, take_more}
 use Rattle.std.proofs.Math.Seq.{take-append-add, set-append_seam}
 use Rattle.std.specs.Int.{bytes_high_first}
-use Rattle.std.specs.Prelude.{OnOk, IfOk, IfErr, flat_map}
+use Rattle.std.specs.Option.{ok_or}
+use Rattle.std.specs.Prelude.{OnOk, IfOk, IfErr, MatchOption, flat_map}
 use Rattle.std.proofs.lemmas.Grind.{flat_map-append}
 use Rattle.layout.specs.Messages.{strings_bytes, string_bytes_of}
 use Rattle.layout.proofs.Letters.{after-append, flats_both, headed, questioned, encoding_parts}
@@ -294,17 +295,30 @@ message_text m w h q a b c n1 n2 n3 n4 new head c1 c2 c3 c4 asked first second t
     let joined : after q (an ++ au ++ ad) ≡ after (after (after q an) au) ad = after-append (an ++ au) ad q ∙ ap (λ t. after t ad) (after-append an au q) in
     ap (λ t. t.bytes) (all ∙ (sym joined ∙ ap (λ t. after t (an ++ au ++ ad)) questioned_is)) ∙ sym (encoding_parts m)
 
-pub text_ok : {X : Type 0} (items : X → List ℕ) (r : Result X WireError) (b e : List ℕ) (limit : ℕ) → b ≡ e
-    → IfOk r (λ v. (items v ≡ b) × (length b ≤ limit)) → IfOk r (λ v. (items v ≡ e) × (length e ≤ limit))
-text_ok items (Ok v) b e limit same h = (h.0 ∙ same, subst (λ (x : List ℕ). length x ≤ limit) same h.1)
-text_ok items (Err x) b e limit same h = h
+-- The text of a message, where it is within the limit.
+abbrev IsText : {X : Type 0} → (X → List ℕ) → Option X → List ℕ → ℕ → Type 0
+IsText items o text limit = MatchOption o (limit < length text) (λ v. (items v ≡ text) × (length text ≤ limit))
 
-pub text_err : {X : Type 0} (r : Result X WireError) (b e : List ℕ) (limit : ℕ) → b ≡ e
-    → IfErr r (λ x. (x ≡ OverLimit) × (limit < length b)) → IfErr r (λ x. RefusesText x e limit)
-text_err (Ok v) b e limit same h = h
-text_err (Err x) b e limit same h =
-    let over : limit < length e = subst (λ (y : List ℕ). limit < length y) same h.1 in
-    subst (λ (y : WireError). RefusesText y e limit) (sym h.0) over
+text_of : {X : Type 0} (items : X → List ℕ) (o : Option X) (b e : List ℕ) (limit : ℕ) → b ≡ e → IsText items o b limit → IsText items o e limit
+text_of items o b e limit same h = subst (λ (x : List ℕ). IsText items o x limit) same h
+
+pub text_given : {X : Type 0} (items : X → List ℕ) (o : Option X) (b e : List ℕ) (limit : ℕ) → b ≡ e → IsText items o b limit
+    → MatchOption o (limit < length e) (λ v. (items v ≡ e) × (length (items v) ≤ limit))
+text_given items None b e limit same h = text_of items None b e limit same h
+text_given items (Some v) b e limit same h =
+    let is = text_of items (Some v) b e limit same h in
+    (is.0, subst (λ (x : List ℕ). length x ≤ limit) (sym is.0) is.1)
+
+pub text_ok : {X : Type 0} (items : X → List ℕ) (o : Option X) (r : Result X WireError) (b e : List ℕ) (limit : ℕ) → b ≡ e → IsText items o b limit → r ≡ ok_or o OverLimit
+    → IfOk r (λ v. (items v ≡ e) × (length e ≤ limit))
+text_ok items None r b e limit same h is = subst (λ (x : Result _ WireError). IfOk x (λ v. (items v ≡ e) × (length e ≤ limit))) (sym is) tt
+text_ok items (Some v) r b e limit same h is =
+    subst (λ (x : Result _ WireError). IfOk x (λ v. (items v ≡ e) × (length e ≤ limit))) (sym is) (text_of items (Some v) b e limit same h)
+
+pub text_err : {X : Type 0} (items : X → List ℕ) (o : Option X) (r : Result X WireError) (b e : List ℕ) (limit : ℕ) → b ≡ e → IsText items o b limit → r ≡ ok_or o OverLimit
+    → IfErr r (λ x. RefusesText x e limit)
+text_err items None r b e limit same h is = subst (λ (x : Result _ WireError). IfErr x (λ y. RefusesText y e limit)) (sym is) (text_of items None b e limit same h)
+text_err items (Some v) r b e limit same h is = subst (λ (x : Result _ WireError). IfErr x (λ y. RefusesText y e limit)) (sym is) tt
 
 low_two : (a b : ℕ) → bytes_high_first 2 (a % 65536 + b % 65536) ≡ bytes_high_first 2 (a + b)
 low_two a b =

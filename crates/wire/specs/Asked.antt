@@ -8,13 +8,13 @@ use Rattle.wire.specs.Entries.{message_first, message_of}
 abbrev pub AreBehind : List ℕ → ℕ → Type 0
 AreBehind bytes at = (questions : List Question) → message_of bytes ≡ message_first bytes (questions, at) → (m : Message) × (message_of bytes ≡ Ok m) × (m.questions ≡ questions)
 
--- The bytes are a message of this one question, whose name stands there in these letters.
-pub record IsOnlyQuestion (bytes : List ℕ) (q : Question) (letters : List (List ℕ)) : Type 0 where
+-- The bytes are a message of one question, of this name; the echo is that question in the letters that stand there.
+pub record IsOnlyQuestion (bytes : List ℕ) (name : List (List ℕ)) (echo : Question) : Type 0 where
   pub message : Message
   pub is : IsMessage bytes message
-  pub only : message.questions ≡ q ∷ []
+  pub only : message.questions ≡ record { name = name; qtype = echo.qtype; qclass = echo.qclass } ∷ []
   pub end : ℕ
-  pub spelt : SpeltAt bytes 12 letters end
+  pub spelt : SpeltAt bytes 12 echo.name end
 
 -- The bytes are no message, or one of no question or of several.
 abbrev pub HasNotOne : List ℕ → Type 0

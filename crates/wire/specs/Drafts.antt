@@ -28,8 +28,3 @@ drafted header question first second authority additional = record {
   authority = authority;
   additional = additional;
 }
-
--- The question of a draft: a spelling, a type and a class.
-abbrev pub asked_by : {R : Type 0} → (R → List (List ℕ)) → Option (R × ℕ × ℕ) → Option Question
-asked_by spelling None = None
-asked_by spelling (Some (name, qtype, qclass)) = Some (record { name = spelling name; qtype = qtype; qclass = qclass })

@@ -1,32 +1,45 @@
 //! A message written, from itself or from borrowed parts.
-ghost use Rattle.std.specs.Prelude.{◌≡◌, ◌≤◌, ◌<◌, ◌+◌, ◌%◌, length, flat_map, OnOk, IfOk, IfErr};
+ghost use Rattle.std.specs.Prelude.{◌≡◌, ◌≤◌, ◌<◌, ◌+◌, ◌%◌, length, flat_map, OnOk, IfOk, IfErr, IfSome, MatchOption};
 ghost use Rattle.std.specs.List.{AllByRecursion};
 ghost use Rattle.std.specs.Option.{option_copied};
 ghost use Rattle.rdata.specs.Rows.{in_set};
 ghost use Rattle.layout.specs.Pieces.{after};
 ghost use Rattle.layout.specs.Messages.{encoding, question_pieces, record_pieces, IsQuestion, IsRecord, IsMessage, folded_message};
-ghost use Rattle.wire.specs.Drafts.{RefusesText, drafted, asked_alone, asked_by};
+ghost use Rattle.wire.specs.Drafts.{RefusesText, asked_alone};
 
+use crate::echo::Echo;
 use crate::error::WireError;
 use crate::header::Header;
 use crate::message::Message;
-use crate::spelling::Spelling;
 use crate::via::TCP_LIMIT;
 use crate::writer::{Tally, Writer};
 use dname::{Heap, Starved};
 use rdata::{Record, RecordSet};
 use std::alloc::{Allocator, Global};
+use std::marker::Model;
 
-/// A message that is written from borrowed parts: no record is cloned for it.
+/// A reply that is lent part by part: no record is cloned for it. Contracts see the message.
+#[derive(Drop)]
 pub struct Draft<'a, A: Allocator = Global> {
     pub header: Header,
-    /// The question, where there is one: its name in its own letters, its type and class.
-    pub question: Option<(&'a Spelling<A>, u16, u16)>,
+    /// The one question, if there is one.
+    pub question: Option<&'a Echo<A>>,
     /// The answer is `first` and then `second`.
     pub first: &'a [Record<A>],
     pub second: Option<&'a RecordSet<A>>,
     pub authority: &'a [Record<A>],
     pub additional: &'a [Record<A>],
+}
+
+impl<'a, A: Allocator> Model for Draft<'a, A> {
+    ghost use Rattle.std.specs.Option.{option_copied};
+    ghost use Rattle.rdata.specs.Rows.{in_set};
+    ghost use Rattle.layout.specs.Messages.{Message};
+    ghost use Rattle.wire.specs.Drafts.{drafted};
+
+    ghost Value = { Message };
+
+    ghost view = { λ d. drafted d.header (option_copied d.question) d.first.now (in_set (option_copied d.second)) d.authority.now d.additional.now };
 }
 
 /// The encoding of a message (RFC 1035, section 4), names compressed: bytes that are this message, its
@@ -51,12 +64,12 @@ pub fn encode<A: Heap>(alloc: A, m: &Message<A>, limit: usize) -> Result<Vec<u8,
     writer.put_records(m.answer.as_slice())?;
     writer.put_records(m.authority.as_slice())?;
     writer.put_records(m.additional.as_slice())?;
-    writer.finish(limit)
+    writer.finish(limit).ok_or(WireError::OverLimit)
 }
 
 // How many questions there are.
-fn count_of<A: Heap>(question: &Option<(&Spelling<A>, u16, u16)>) -> usize
-    ensures { result ≡ length (asked_alone (asked_by (λ s. s.now) question.now)) }
+fn count_of<A: Allocator>(question: Option<&Echo<A>>) -> usize
+    ensures { result ≡ length (asked_alone (option_copied question.entry)) }
 {
     match question {
         None => 0,
@@ -65,8 +78,8 @@ fn count_of<A: Heap>(question: &Option<(&Spelling<A>, u16, u16)>) -> usize
 }
 
 // How many records a set has, where there is one.
-fn len_of<A: Heap>(set: &Option<&RecordSet<A>>) -> usize
-    ensures { result ≡ length (in_set (option_copied set.now)) }
+fn len_of<A: Heap>(set: Option<&RecordSet<A>>) -> usize
+    ensures { result ≡ length (in_set (option_copied set.entry)) }
 {
     match set {
         None => 0,
@@ -81,23 +94,20 @@ fn low_count(first: usize, second: usize) -> usize
     first % 65_536 + second % 65_536
 }
 
-fn put_alone<A: Heap>(
-    writer: &mut Writer<A>,
-    question: &Option<(&Spelling<A>, u16, u16)>,
-) -> Result<(), Starved>
-    ensures written { OnOk result (writer.new ≡ after writer.old (flat_map question_pieces (asked_alone (asked_by (λ s. s.now) question.now)))) }
-    ensures fits { OnOk result (AllByRecursion IsQuestion (asked_alone (asked_by (λ s. s.now) question.now))) }
+fn put_alone<A: Heap>(writer: &mut Writer<A>, question: Option<&Echo<A>>) -> Result<(), Starved>
+    ensures written { OnOk result (writer.new ≡ after writer.old (flat_map question_pieces (asked_alone (option_copied question.entry)))) }
+    ensures fits { OnOk result (AllByRecursion IsQuestion (asked_alone (option_copied question.entry))) }
 {
     match question {
         None => Ok(()),
-        Some((spelling, qtype, qclass)) => writer.put_spelled(spelling, *qtype, *qclass),
+        Some(echo) => writer.put_echo(echo),
     }
 }
 
 // The records of a set, where there is one.
-fn put_lent<A: Heap>(writer: &mut Writer<A>, set: &Option<&RecordSet<A>>) -> Result<(), Starved>
-    ensures written { OnOk result (writer.new ≡ after writer.old (flat_map record_pieces (in_set (option_copied set.now)))) }
-    ensures fits { OnOk result (AllByRecursion IsRecord (in_set (option_copied set.now))) }
+fn put_lent<A: Heap>(writer: &mut Writer<A>, set: Option<&RecordSet<A>>) -> Result<(), Starved>
+    ensures written { OnOk result (writer.new ≡ after writer.old (flat_map record_pieces (in_set (option_copied set.entry)))) }
+    ensures fits { OnOk result (AllByRecursion IsRecord (in_set (option_copied set.entry))) }
 {
     match set {
         None => Ok(()),
@@ -105,32 +115,29 @@ fn put_lent<A: Heap>(writer: &mut Writer<A>, set: &Option<&RecordSet<A>>) -> Res
     }
 }
 
-/// The encoding of the message of these parts, its question in its own letters: bytes that are this message,
-/// that name in lower case. Refused as `encode` is.
-pub fn encode_draft<A: Heap>(
-    alloc: A,
-    draft: &Draft<'_, A>,
-    limit: usize,
-) -> Result<Vec<u8, A>, WireError>
-    requires { limit ≤ TCP_LIMIT }
-    ensures ok { let m = drafted draft.now.header (asked_by (λ s. s.now) draft.now.question) draft.now.first.now (in_set (option_copied draft.now.second)) draft.now.authority.now draft.now.additional.now in IfOk result (λ v. (v.items ≡ encoding m) × (length (encoding m) ≤ limit)) }
-    ensures message { let m = drafted draft.now.header (asked_by (λ s. s.now) draft.now.question) draft.now.first.now (in_set (option_copied draft.now.second)) draft.now.authority.now draft.now.additional.now in IfOk result (λ v. IsMessage v.items (folded_message m)) }
-    ensures err { let m = drafted draft.now.header (asked_by (λ s. s.now) draft.now.question) draft.now.first.now (in_set (option_copied draft.now.second)) draft.now.authority.now draft.now.additional.now in IfErr result (λ e. RefusesText e (encoding m) limit) }
-{
-    let mut writer = Writer::new(alloc)?;
-    writer.put_header(
-        draft.header,
-        Tally {
-            questions: count_of(&draft.question),
-            answer: low_count(draft.first.len(), len_of(&draft.second)),
-            authority: draft.authority.len(),
-            additional: draft.additional.len(),
-        },
-    )?;
-    put_alone(&mut writer, &draft.question)?;
-    writer.put_records(draft.first)?;
-    put_lent(&mut writer, &draft.second)?;
-    writer.put_records(draft.authority)?;
-    writer.put_records(draft.additional)?;
-    writer.finish(limit)
+impl<A: Heap> Draft<'_, A> {
+    /// The bytes of the message, in its one encoding; none where they are more than `limit`, which is at most
+    /// 65,535 (RFC 1035, sections 4.1 and 4.2). They are read back as the message, its question in lower case.
+    pub fn encode(&self, alloc: A, limit: usize) -> Result<Option<Vec<u8, A>>, Starved>
+        requires { limit ≤ TCP_LIMIT }
+        ensures bytes { IfOk result (λ o. MatchOption o (limit < length (encoding self.now)) (λ v. (v.items ≡ encoding self.now) × (length v.items ≤ limit))) }
+        ensures message { IfOk result (λ o. IfSome o (λ v. IsMessage v.items (folded_message self.now))) }
+    {
+        let mut writer = Writer::new(alloc)?;
+        writer.put_header(
+            self.header,
+            Tally {
+                questions: count_of(self.question),
+                answer: low_count(self.first.len(), len_of(self.second)),
+                authority: self.authority.len(),
+                additional: self.additional.len(),
+            },
+        )?;
+        put_alone(&mut writer, self.question)?;
+        writer.put_records(self.first)?;
+        put_lent(&mut writer, self.second)?;
+        writer.put_records(self.authority)?;
+        writer.put_records(self.additional)?;
+        Ok(writer.finish(limit))
+    }
 }

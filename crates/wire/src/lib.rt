@@ -2,9 +2,9 @@
 //!
 //! `decode` reads a `Message`: its `Header`, its questions, and the records of its three sections; names are
 //! unfolded from their pointers, and records of types and classes that are not served are left out.
-//! `decode_question` reads the one question of a query alone, with the letters that it came in. `encode` writes a message
-//! with compression, `encode_draft` one of borrowed parts and with its question in its own letters; `Via::limit` is
-//! what a datagram or a stream allows.
+//! `decode_question` reads the one question of a query alone, with the letters that it came in. `encode` writes a
+//! message with compression, `Draft::encode` one of borrowed parts and with its question in its own letters;
+//! `Via::limit` is what a datagram or a stream allows.
 //!
 //! Promised: what is read is the message that the bytes are, and every message is read (`decoding_is_message`, over
 //! `layout`'s `IsMessage`), else the first fault from the left is answered (`WireError`); what is written is
@@ -19,6 +19,7 @@
 #![tactic(auto)]
 
 mod chains;
+mod echo;
 mod encoder;
 mod error;
 mod fields;
@@ -36,7 +37,8 @@ mod values;
 mod via;
 mod writer;
 
-pub use encoder::{Draft, encode, encode_draft};
+pub use echo::Echo;
+pub use encoder::{Draft, encode};
 pub use error::WireError;
 pub use header::Header;
 pub use laws::{decoding_is_message, encoding_is_read_back};

@@ -9,14 +9,14 @@ ghost use Rattle.wire.specs.Asked.{AreBehind, IsOnlyQuestion, HasNotOne};
 ghost use Rattle.wire.specs.Results.{Fails, Gives};
 
 use crate::chains::chain_ends;
+use crate::echo::Echo;
 use crate::error::WireError;
 use crate::fields::two_at;
 use crate::header::Header;
-use crate::message::{Message, Question};
+use crate::message::Message;
 use crate::names::spelling_at;
 use crate::records::{questions_at, section_at};
-use crate::spelling::Spelling;
-use dname::Heap;
+use dname::{Heap, Name};
 
 // The message that these bytes are, where it is known how the chains of pointers end in its first bytes.
 #[tactic(auto, using(crate::proofs::Walks::fails_with), unfolding(crate::specs::Entries::message_of))]
@@ -74,12 +74,13 @@ fn check_sections<A: Heap>(alloc: A, bytes: &[u8], at: usize) -> Result<(), Wire
     Ok(())
 }
 
-/// The question of a message that has one, and its name in its own letters, read in one walk; nothing where the
-/// header announces none or several, of which the rest is not looked at. Refused where the bytes are no message.
+/// The question of a message that has one: its name in lower case, and the question in its own letters, read in one
+/// walk; nothing where the header announces none or several, of which the rest is not looked at. Refused where the
+/// bytes are no message.
 pub fn decode_question<A: Heap>(
     alloc: A,
     bytes: &[u8],
-) -> Result<Option<(Question<A>, Spelling<A>)>, WireError>
+) -> Result<Option<(Name<A>, Echo<A>)>, WireError>
     ensures read { IfOk result (λ o. MatchOption o (HasNotOne bytes.now) (λ q. IsOnlyQuestion bytes.now q.0 q.1)) }
     ensures refused { IfErr result (λ e. (e ≡ Memory) ⊎ ((m : layouts.Message) → IsMessage bytes.now m → ⊥)) }
 {
@@ -94,10 +95,11 @@ pub fn decode_question<A: Heap>(
         return Err(WireError::Short);
     }
     check_sections(alloc, bytes, at + 4)?;
-    let question = Question {
-        name: spelling.name().clone()?,
+    let name = spelling.name().clone()?;
+    let echo = Echo {
+        spelling,
         qtype: two_at(bytes, at),
         qclass: two_at(bytes, at + 2),
     };
-    Ok(Some((question, spelling)))
+    Ok(Some((name, echo)))
 }

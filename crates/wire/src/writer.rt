@@ -1,5 +1,5 @@
 //! Bytes of a message as they are written, names compressed.
-ghost use Rattle.std.specs.Prelude.{◌≡◌, ℕ, ◌+◌, ◌<◌, ◌≤◌, ◌++◌, [], ◌∷◌, length, OnOk, IfOk, IfErr, flat_map};
+ghost use Rattle.std.specs.Prelude.{◌≡◌, ℕ, ◌+◌, ◌<◌, ◌≤◌, ◌++◌, [], ◌∷◌, length, OnOk, IfOk, MatchOption, flat_map};
 ghost use Rattle.std.specs.Int.{bytes_high_first};
 ghost use Rattle.std.specs.List.{AllByRecursion};
 ghost use Rattle.dname.specs.Labels.{IsName};
@@ -12,7 +12,7 @@ ghost use Rattle.layout.specs.Packing.{pointer};
 ghost use Rattle.layout.specs.Messages.{data_flats, record_pieces, question_pieces, header_pieces, strings_bytes, FitsRdata, AreNamesOf, IsSpelling, IsHeader, IsQuestion, IsRecord};
 ghost use Rattle.wire.specs.Drafts.{counts_by};
 
-use crate::error::WireError;
+use crate::echo::Echo;
 use crate::header::Header;
 use crate::message::Question;
 use crate::spelling::Spelling;
@@ -281,17 +281,12 @@ impl<A: Heap> Writer<A> {
 
     #[tactic(auto, unfolding(layout::specs::Pieces::put))]
     /// A question in its own letters.
-    pub fn put_spelled(
-        &mut self,
-        spelling: &Spelling<A>,
-        qtype: u16,
-        qclass: u16,
-    ) -> Result<(), Starved>
-        ensures written { OnOk result (self.new ≡ after self.old (question_pieces (record { name = spelling.now; qtype = qtype; qclass = qclass }))) }
-        ensures fits { OnOk result (IsQuestion (record { name = spelling.now; qtype = qtype; qclass = qclass })) }
+    pub fn put_echo(&mut self, echo: &Echo<A>) -> Result<(), Starved>
+        ensures written { OnOk result (self.new ≡ after self.old (question_pieces echo.now)) }
+        ensures fits { OnOk result (IsQuestion echo.now) }
     {
-        self.put_spelling(spelling)?;
-        self.put_type_and_class(qtype, qclass)
+        self.put_spelling(&echo.spelling)?;
+        self.put_type_and_class(echo.qtype, echo.qclass)
     }
 
     #[tactic(auto, unfolding(layout::specs::Pieces::put))]
@@ -315,15 +310,14 @@ impl<A: Heap> Writer<A> {
     }
 
     /// What was written, where it is within the limit.
-    pub fn finish(self, limit: usize) -> Result<Vec<u8, A>, WireError>
-        ensures ok { IfOk result (λ v. (v.items ≡ self.bytes) × (length self.bytes ≤ limit)) }
-        ensures over { IfErr result (λ e. (e ≡ WireError.OverLimit) × (limit < length self.bytes)) }
+    pub fn finish(self, limit: usize) -> Option<Vec<u8, A>>
+        ensures { MatchOption result (limit < length self.bytes) (λ v. (v.items ≡ self.bytes) × (length self.bytes ≤ limit)) }
     {
         let Writer { bytes, names: _ } = self;
         if bytes.len() > limit {
-            Err(WireError::OverLimit)
+            None
         } else {
-            Ok(bytes)
+            Some(bytes)
         }
     }
 }

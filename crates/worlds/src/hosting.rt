@@ -12,7 +12,7 @@ use crate::world::{Host, World};
 use authority::{Catalog, Link, Local};
 use dname::{Heap, Name, Starved};
 use front::{
-    Asked, End, MOST_ALIASES, Parts, Query, Start, Step, alias_target, echo_is_question,
+    Asked, Draft, End, MOST_ALIASES, Query, Start, Step, alias_target, echo_is_question,
     read_query, reading_is_one,
 };
 use rdata::{Addr, RType, Records};
@@ -104,10 +104,10 @@ fn referral<'a, A: Allocator>(
     query: &'a Query<A>,
     ns: &'a Records<A>,
     glue: &'a Records<A>,
-) -> Parts<'a, A>
+) -> Draft<'a, A>
     ensures { result ≡ referral_to query.now ns.now glue.now }
 {
-    Parts {
+    Draft {
         header: header(query.start, false, 0),
         question: Some(&query.echo),
         first: &[],
@@ -121,10 +121,10 @@ fn answer<'a, A: Allocator>(
     query: &'a Query<A>,
     aliases: &'a Records<A>,
     end: &'a End<A>,
-) -> Parts<'a, A>
+) -> Draft<'a, A>
     ensures { result ≡ answer_to query.now aliases.now end.now }
 {
-    Parts {
+    Draft {
         header: header(query.start, true, end.rcode()),
         question: Some(&query.echo),
         first: aliases.as_slice(),
@@ -135,7 +135,7 @@ fn answer<'a, A: Allocator>(
 }
 
 // The bytes of a reply, where they are few enough.
-fn sent<A: Heap>(alloc: A, reply: &Parts<'_, A>) -> Result<Option<Vec<u8, A>>, Starved>
+fn sent<A: Heap>(alloc: A, reply: &Draft<'_, A>) -> Result<Option<Vec<u8, A>>, Starved>
     ensures { IfOk result (λ r. IsSent (Some reply.now) (option_map (λ v. v.items) r)) }
 {
     reply.encode(alloc, TCP_LIMIT)

@@ -17,7 +17,7 @@ returns-clause-ok g c =
     (c.in_ok-put_records-2.ensures.written ∙ ap (λ x. after c.put_records.new.self (flat_map record_pieces x)) c.as_slice-3.ensures)
     (c.in_ok-put_records-3.ensures.written ∙ ap (λ x. after c.put_records-2.new.self (flat_map record_pieces x)) c.as_slice-4.ensures)
     ∙ ap encoding c.m.view_is in
-    text_ok (λ v. v.items) c.finish.result c.put_records-3.new.self.bytes (encoding c.args.m.now) c.args.limit text c.finish.ensures.ok
+    text_ok (λ v. v.items) c.finish.result c.ok_or.result c.put_records-3.new.self.bytes (encoding c.args.m.now) c.args.limit text c.finish.ensures c.ok_or.ensures.value
 
 pub returns-clause-err : goal.returns-clause-err
 returns-clause-err g c =
@@ -29,7 +29,7 @@ returns-clause-err g c =
     (c.in_ok-put_records-2.ensures.written ∙ ap (λ x. after c.put_records.new.self (flat_map record_pieces x)) c.as_slice-3.ensures)
     (c.in_ok-put_records-3.ensures.written ∙ ap (λ x. after c.put_records-2.new.self (flat_map record_pieces x)) c.as_slice-4.ensures)
     ∙ ap encoding c.m.view_is in
-    text_err c.finish.result c.put_records-3.new.self.bytes (encoding c.args.m.now) c.args.limit text c.finish.ensures.over
+    text_err (λ v. v.items) c.finish.result c.ok_or.result c.put_records-3.new.self.bytes (encoding c.args.m.now) c.args.limit text c.finish.ensures c.ok_or.ensures.value
 
 pub returns-clause-message : goal.returns-clause-message
 returns-clause-message g c =
@@ -41,4 +41,4 @@ returns-clause-message g c =
       authority = subst (AllByRecursion IsRecord) c.as_slice-3.ensures c.in_ok-put_records-2.ensures.fits;
       additional = subst (AllByRecursion IsRecord) c.as_slice-4.ensures c.in_ok-put_records-3.ensures.fits;
     } in
-    message_ok (λ v. v.items) c.finish.result c.args.m.now c.args.limit c.requires (subst IsWritable c.m.view_is is) (returns-clause-ok g c)
+    message_ok (λ v. v.items) c.ok_or.result c.args.m.now c.args.limit c.requires (subst IsWritable c.m.view_is is) (returns-clause-ok g c)

@@ -1,7 +1,5 @@
-use Rattle.std.proofs.Common.{arith, ◌∙◌, ◌≡◌}
-use Rattle.dname.specs.Labels.{folded_labels}
+use Rattle.std.proofs.Common.{arith, ◌∙◌}
 use Rattle.wire.specs.declared.error.WireError.TheVariants.{Short}
-use Rattle.wire.specs.Numbers.{two_at}
 use Rattle.wire.proofs.MessagesRead.{no_message, none_handed_on}
 use Rattle.wire.proofs.Alone.{letters_fail, question_short, question_first, question_alone, not_one}
 use Rattle.wire.proofs.reader.decode_question.Goals as goal
@@ -29,7 +27,6 @@ returns-in_err-check_sections-clause-refused g c =
 
 pub returns-clause-read : goal.returns-clause-read
 returns-clause-read g c =
-    let name : c.in_ok-clone.field-0 ≡ folded_labels c.in_ok-spelling.spelling = c.in_ok-clone.ensures.cases ∙ c.name.ensures in
-    question_alone c.args.bytes.now c.in_ok-spelling.spelling c.two_at.result c.in_ok-spelling.at _ (λ i. omega (arith, c.type_inv.bytes i)) c.if-bytes-lt12.false c.two_at.ensures
-    c.if-two_at-ne1.false c.in_ok-spelling.ensures.is c.in_ok-spelling.ensures.within c.if-bytes-at-lt4.false c.in_ok-check_sections.ensures.read
-    (λ i. record { name = name i; qtype = c.two_at-2.ensures i; qclass = c.two_at-3.ensures i })
+    question_alone c.args.bytes.now _ _ c.two_at.result c.in_ok-spelling.at (λ i. omega (arith, c.type_inv.bytes i)) c.if-bytes-lt12.false c.two_at.ensures c.if-two_at-ne1.false
+    c.in_ok-spelling.ensures.is c.in_ok-spelling.ensures.within c.if-bytes-at-lt4.false c.in_ok-check_sections.ensures.read (c.in_ok-name.ensures.cases ∙ c.name.ensures) c.two_at-2.ensures
+    c.two_at-3.ensures

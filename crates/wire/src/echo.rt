@@ -1,7 +1,7 @@
 //! The question that a reply repeats.
+use crate::spelling::Spelling;
 use std::alloc::{Allocator, Global};
 use std::marker::Model;
-use wire::Spelling;
 
 /// A question in the client's own letters.
 #[derive(Drop)]
