@@ -82,12 +82,12 @@ fn messages_are_written_as_they_stood(rt: HostRuntime) -> Result<(), Fail> {
 #[test]
 fn a_question_keeps_its_letters(rt: HostRuntime) -> Result<(), Fail> {
     let bytes = b"\0\x01\0\0\0\x01\0\0\0\0\0\0\x03wWw\x01X\0\0\x0f\0\x01";
-    let Some((question, spelling)) = decode_question(rt.alloc(), bytes)? else {
+    let Some((name, echo)) = decode_question(rt.alloc(), bytes)? else {
         return Err(Fail::new("no question"));
     };
-    assert!(rt; spelling.wire() == b"\x03wWw\x01X\0".as_slice());
-    assert_eq!(rt; question.name.to_text()?.as_str(), "www.x.");
-    assert_eq!(rt; (question.qtype, question.qclass), (15, 1));
+    assert!(rt; echo.spelling.wire() == b"\x03wWw\x01X\0".as_slice());
+    assert_eq!(rt; name.to_text()?.as_str(), "www.x.");
+    assert_eq!(rt; (echo.qtype, echo.qclass), (15, 1));
     Ok(())
 }
 
