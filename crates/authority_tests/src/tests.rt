@@ -1,93 +1,53 @@
 use authority::{Catalog, CatalogError, Link, Local};
-use dname::{Heap, Name, Starved};
-use rdata::{Addr, CharacterString, RData, RType, Record, Records, Soa, Texts};
+use dname::{Heap, Starved};
+use fixtures::{Row, Value, name, record, records};
+use rdata::{RType, Records};
 use refusing::Refusing;
 use std::process::Abort;
 use std::test::Fail;
 use zone::Zone;
 
-fn name<A: Heap>(alloc: A, text: &str) -> Result<Name<A>, Starved> {
-    match Name::from_text(alloc, text) {
-        Ok(name) => Ok(name),
-        Err(_) => Err(Starved),
-    }
-}
+const EXAMPLE: [Row<'static>; 2] = [
+    ("example", 3600, Value::Soa(60)),
+    ("example", 3600, Value::Ns("ns.example")),
+];
 
-fn words<A: Heap>(alloc: A) -> Result<RData<A>, Starved> {
-    let string = CharacterString::new(Vec::from_slice(alloc, b"words")?);
-    Ok(RData::Txt(Texts::new(alloc, string)?))
-}
+// RFC 4592, section 2.2.1, in small: a wildcard, a name between owners and the origin, a cut, an alias.
+const LAB: [Row<'static>; 8] = [
+    ("lab.example", 3600, Value::Soa(60)),
+    ("lab.example", 3600, Value::Ns("ns.example")),
+    ("*.lab.example", 60, Value::Txt("words")),
+    ("*.lab.example", 60, Value::Txt("words")),
+    ("a.b.lab.example", 60, Value::A(1)),
+    ("www.lab.example", 60, Value::Cname("a.b.lab.example")),
+    ("sub.lab.example", 60, Value::Ns("ns.sub.lab.example")),
+    ("ns.sub.lab.example", 60, Value::A(2)),
+];
 
-fn put<A: Heap>(
-    alloc: A,
-    records: &mut Records<A>,
-    owner: &str,
-    ttl: u16,
-    value: RData<A>,
-) -> Result<(), Starved> {
-    let owner = name(alloc, owner)?;
-    records.push(Record {
-        owner,
-        ttl: ttl as u32,
-        value,
-    })
-}
-
-// The SOA and the server of a zone.
-fn top<A: Heap>(alloc: A, origin: &str) -> Result<Records<A>, Starved> {
-    let mut records = Records::new(alloc);
-    let soa = Soa {
-        primary: name(alloc, "ns.example")?,
-        mailbox: name(alloc, "root.example")?,
-        serial: 1,
-        refresh: 7200,
-        retry: 600,
-        expire: 3_600_000,
-        minimum: 60,
-    };
-    put(
-        alloc,
-        &mut records,
-        origin,
-        3600,
-        RData::Soa(Box::new(alloc, soa)?),
-    )?;
-    let server = RData::Ns(name(alloc, "ns.example")?);
-    put(alloc, &mut records, origin, 3600, server)?;
-    Ok(records)
-}
-
-fn zone<A: Heap>(alloc: A, origin: &str, records: Records<A>) -> Result<Zone<A>, Starved> {
+fn built<A: Heap>(alloc: A, origin: &str, records: Records<A>) -> Result<Zone<A>, Starved> {
     match Zone::build(name(alloc, origin)?, records) {
         Ok(zone) => Ok(zone),
         Err(_) => Err(Starved),
     }
 }
 
-// RFC 4592, section 2.2.1, in small: a wildcard, a name between owners and the origin, a cut, an alias.
-fn lab<A: Heap>(alloc: A) -> Result<Zone<A>, Starved> {
-    let mut records = top(alloc, "lab.example")?;
-    put(alloc, &mut records, "*.lab.example", 60, words(alloc)?)?;
-    put(alloc, &mut records, "*.lab.example", 60, words(alloc)?)?;
-    let address = RData::A(Addr([192, 0, 2, 1]));
-    put(alloc, &mut records, "a.b.lab.example", 60, address)?;
-    let target = RData::Cname(name(alloc, "a.b.lab.example")?);
-    put(alloc, &mut records, "www.lab.example", 60, target)?;
-    let server = RData::Ns(name(alloc, "ns.sub.lab.example")?);
-    put(alloc, &mut records, "sub.lab.example", 60, server)?;
-    let glue = RData::A(Addr([192, 0, 2, 2]));
-    put(alloc, &mut records, "ns.sub.lab.example", 60, glue)?;
-    zone(alloc, "lab.example", records)
+fn zone<A: Heap>(alloc: A, origin: &str, rows: &[Row<'_>]) -> Result<Zone<A>, Starved> {
+    let records = records(alloc, rows)?;
+    Ok(built(alloc, origin, records)?)
 }
 
-fn catalog<A: Heap>(alloc: A) -> Result<Catalog<A>, Starved> {
-    let mut zones = Vec::new(alloc);
-    zones.push(zone(alloc, "example", top(alloc, "example")?)?)?;
-    zones.push(lab(alloc)?)?;
+fn known<A: Heap>(zones: Vec<Zone<A>, A>) -> Result<Catalog<A>, Starved> {
     match Catalog::new(zones) {
         Ok(catalog) => Ok(catalog),
         Err(_) => Err(Starved),
     }
+}
+
+fn catalog<A: Heap>(alloc: A) -> Result<Catalog<A>, Starved> {
+    let mut zones = Vec::new(alloc);
+    zones.push(zone(alloc, "example", &EXAMPLE)?)?;
+    zones.push(zone(alloc, "lab.example", &LAB)?)?;
+    Ok(known(zones)?)
 }
 
 // The answer's kind, the name that it speaks of, and how many records and addresses it has.
@@ -124,7 +84,7 @@ fn described<A: Heap>(
 
 // A name and a type that are asked for; the answer's kind, and the name that it speaks of; how many records and addresses
 // it has.
-type Row = (
+type Answer = (
     &'static str,
     RType,
     &'static str,
@@ -134,7 +94,7 @@ type Row = (
 );
 
 // The zones answer so.
-fn answers<R: Abort + AllocGlobal>(rt: &R, rows: &[Row]) -> Result<(), Fail> {
+fn answers<R: Abort + AllocGlobal>(rt: &R, rows: &[Answer]) -> Result<(), Fail> {
     let zones = catalog(rt.alloc())?;
     for (asked, kind, answer, owner, records, addresses) in rows {
         let (word, name, set, glue) = told(rt.alloc(), &zones, *asked, *kind)?;
@@ -148,7 +108,7 @@ fn answers<R: Abort + AllocGlobal>(rt: &R, rows: &[Row]) -> Result<(), Fail> {
 #[test]
 fn a_wildcard_answers_where_no_name_is_closer(rt: HostRuntime) -> Result<(), Fail> {
     let kind = RType::Txt;
-    let rows: [Row; 5] = [
+    let rows: [Answer; 5] = [
         ("x.lab.example", kind, "found", "x.lab.example.", 1, 0),
         ("x.y.lab.example", kind, "found", "x.y.lab.example.", 1, 0),
         ("x.lab.example", RType::A, "no data", "lab.example.", 0, 0),
@@ -161,7 +121,7 @@ fn a_wildcard_answers_where_no_name_is_closer(rt: HostRuntime) -> Result<(), Fai
 #[test]
 fn records_aliases_and_cuts_answer(rt: HostRuntime) -> Result<(), Fail> {
     let kind = RType::A;
-    let rows: [Row; 5] = [
+    let rows: [Answer; 5] = [
         ("a.b.lab.example", kind, "found", "a.b.lab.example.", 1, 0),
         ("www.lab.example", kind, "alias", "www.lab.example.", 1, 0),
         ("x.sub.lab.example", kind, "cut", "sub.lab.example.", 1, 1),
@@ -181,7 +141,7 @@ fn records_aliases_and_cuts_answer(rt: HostRuntime) -> Result<(), Fail> {
 #[test]
 fn the_zone_of_the_longest_origin_answers(rt: HostRuntime) -> Result<(), Fail> {
     let kind = RType::Txt;
-    let rows: [Row; 4] = [
+    let rows: [Answer; 4] = [
         ("x.lab.example", kind, "found", "x.lab.example.", 1, 0),
         ("other.example", kind, "no name", "example.", 0, 0),
         ("example", kind, "no data", "example.", 0, 0),
@@ -199,13 +159,11 @@ fn told_among<A: Heap>(
 ) -> Result<(&'static str, String<A>, usize, usize), Starved> {
     let mut origins = Vec::new(alloc);
     for origin in listed {
-        origins.push(name(alloc, origin)?)?;
+        origins.push(name(alloc, *origin)?)?;
     }
     let asked = name(alloc, asked)?;
-    described(
-        alloc,
-        zones.look_among(alloc, &origins, &asked, RType::Txt)?,
-    )
+    let said = zones.look_among(alloc, &origins, &asked, RType::Txt)?;
+    described(alloc, said)
 }
 
 #[test]
@@ -242,11 +200,7 @@ fn answers_from_listed_zones_alone(rt: HostRuntime) -> Result<(), Fail> {
 fn refuses_twins(rt: HostRuntime) -> Result<(), Fail> {
     let mut zones = Vec::new(rt.alloc());
     for _ in 0..2 {
-        let twin = lab(rt.alloc());
-        assert!(rt; twin.is_ok());
-        if let Ok(twin) = twin {
-            zones.push(twin)?;
-        }
+        zones.push(zone(rt.alloc(), "lab.example", &LAB)?)?;
     }
     let refused = Catalog::new(zones);
     assert!(rt; refused.is_err());
@@ -256,12 +210,21 @@ fn refuses_twins(rt: HostRuntime) -> Result<(), Fail> {
     Ok(())
 }
 
+// The zone of an origin, with nothing in it.
+fn bare<A: Heap>(alloc: A, origin: &str) -> Result<Zone<A>, Starved> {
+    let rows = [
+        (origin, 3600, Value::Soa(60)),
+        (origin, 3600, Value::Ns("ns.example")),
+    ];
+    Ok(zone(alloc, origin, &rows)?)
+}
+
 // Zones of so many origins.
 fn many_zones<A: Heap>(alloc: A, count: u32) -> Result<Vec<Zone<A>, A>, Starved> {
     let mut zones = Vec::new(alloc);
     for n in 0..count {
         let origin = format!(in alloc; "zone-{n}.example")?;
-        zones.push(zone(alloc, origin.as_str(), top(alloc, origin.as_str())?)?)?;
+        zones.push(bare(alloc, origin.as_str())?)?;
     }
     Ok(zones)
 }
@@ -270,7 +233,7 @@ fn many_zones<A: Heap>(alloc: A, count: u32) -> Result<Vec<Zone<A>, A>, Starved>
 fn tells_twins<A: Heap>(alloc: A) -> Result<bool, Starved> {
     let parted = Catalog::new(many_zones(alloc, 10_000)?).is_ok();
     let mut zones = many_zones(alloc, 10_000)?;
-    zones.push(zone(alloc, "ZONE-0.example", top(alloc, "zone-0.example")?)?)?;
+    zones.push(bare(alloc, "ZONE-0.example")?)?;
     let refused = Catalog::new(zones);
     Ok(parted && matches!(refused, Err(CatalogError::Twins)))
 }
@@ -281,19 +244,20 @@ fn ten_thousand_zones_are_a_catalog(rt: HostRuntime) -> Result<(), Fail> {
     Ok(())
 }
 
-// How many of forty addresses, each of them twice, a zone has at a name.
-fn found_twice<A: Heap>(alloc: A) -> Result<usize, Starved> {
-    let mut records = top(alloc, "example")?;
+// The records of a zone of eighty addresses of one name, each of them twice.
+fn twice<A: Heap>(alloc: A) -> Result<Records<A>, Starved> {
+    let mut records = records(alloc, &EXAMPLE)?;
     for n in 0..80_u8 {
-        let address = RData::A(Addr([192, 0, 2, n % 40]));
-        put(alloc, &mut records, "many.example", 60, address)?;
+        records.push(record(alloc, ("many.example", 60, Value::A(n % 40)))?)?;
     }
+    Ok(records)
+}
+
+// How many addresses that zone has at the name.
+fn found_twice<A: Heap>(alloc: A) -> Result<usize, Starved> {
     let mut zones = Vec::new(alloc);
-    zones.push(zone(alloc, "example", records)?)?;
-    let Ok(zones) = Catalog::new(zones) else {
-        return Err(Starved);
-    };
-    let (_, _, found, _) = told(alloc, &zones, "many.example", RType::A)?;
+    zones.push(built(alloc, "example", twice(alloc)?)?)?;
+    let (_, _, found, _) = told(alloc, &known(zones)?, "many.example", RType::A)?;
     Ok(found)
 }
 

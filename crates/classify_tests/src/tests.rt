@@ -1,7 +1,8 @@
 use authority::Link;
 use classify::{Class, Referral, classify, lifetime, received};
-use dname::{Heap, Name, Starved, put_name};
-use rdata::{Addr, RData, RType, Record, RecordSet, Records, Soa, put_data, set_at};
+use dname::{Heap, Starved, put_name};
+use fixtures::{Row, Value, name, record, records};
+use rdata::{RType, Record, RecordSet, Records, put_data, set_at};
 use refusing::Refusing;
 use std::test::Fail;
 use wire::{Header, Message, Questions, Via};
@@ -13,67 +14,9 @@ enum Code {
     Refused,
 }
 
-// Data of a record: an address in 192.0.2.0/24, one of IPv6, a name, an SOA's MINIMUM.
-#[derive(Clone, Copy)]
-enum Value {
-    A(u8),
-    Aaaa,
-    Ns(&'static str),
-    Cname(&'static str),
-    Soa(u32),
-}
-
-// Owner, TTL and data.
-type Line = (&'static str, u32, Value);
-
-fn name<A: Heap>(alloc: A, text: &str) -> Result<Name<A>, Starved> {
-    match Name::from_text(alloc, text) {
-        Ok(name) => Ok(name),
-        Err(_) => Err(Starved),
-    }
-}
-
-fn data<A: Heap>(alloc: A, value: Value) -> Result<RData<A>, Starved> {
-    Ok(match value {
-        Value::A(last) => RData::A(Addr([192, 0, 2, last])),
-        Value::Aaaa => RData::Aaaa([0x20, 1, 0xd, 0xb8, 0, 0, 0, 0, 0, 0, 0, 0, 0, 0, 0, 1]),
-        Value::Ns(target) => RData::Ns(name(alloc, target)?),
-        Value::Cname(target) => RData::Cname(name(alloc, target)?),
-        Value::Soa(minimum) => RData::Soa(Box::new(
-            alloc,
-            Soa {
-                primary: name(alloc, "ns.")?,
-                mailbox: name(alloc, "h.")?,
-                serial: 1,
-                refresh: 2,
-                retry: 3,
-                expire: 4,
-                minimum,
-            },
-        )?),
-    })
-}
-
-fn line<A: Heap>(alloc: A, line: Line) -> Result<Record<A>, Starved> {
-    let (owner, ttl, value) = line;
-    Ok(Record {
-        owner: name(alloc, owner)?,
-        ttl: ttl.min(2_147_483_647),
-        value: data(alloc, value)?,
-    })
-}
-
-fn records<A: Heap>(alloc: A, lines: &[Line]) -> Result<Records<A>, Starved> {
-    let mut records = Records::new(alloc);
-    for added in lines {
-        records.push(line(alloc, *added)?)?;
-    }
-    Ok(records)
-}
-
-// The lines as one RRset.
-fn set_of<A: Heap>(alloc: A, lines: &[Line]) -> Result<RecordSet<A>, Starved> {
-    let records = records(alloc, lines)?;
+// The rows as one RRset.
+fn set_of<A: Heap>(alloc: A, rows: &[Row<'static>]) -> Result<RecordSet<A>, Starved> {
+    let records = records(alloc, rows)?;
     let owner = name(alloc, W)?;
     set_at(alloc, records.as_slice(), &owner, RType::A)?.ok_or(Starved)
 }
@@ -99,9 +42,9 @@ fn header(code: Code, aa: bool, tc: bool) -> Header {
 fn reply<A: Heap>(
     alloc: A,
     header: Header,
-    answer: &[Line],
-    authority: &[Line],
-    additional: &[Line],
+    answer: &[Row<'static>],
+    authority: &[Row<'static>],
+    additional: &[Row<'static>],
 ) -> Result<Message<A>, Starved> {
     Ok(Message {
         header,
@@ -181,7 +124,7 @@ fn used<A: Heap>(
 
 const W: &str = "w.a.example.";
 
-const ADDRESS: Line = (W, 60, Value::A(1));
+const ADDRESS: Row<'static> = (W, 60, Value::A(1));
 
 // RFC 2181, section 9.
 #[test]
@@ -202,14 +145,14 @@ fn truncated_replies(rt: HostRuntime) -> Result<(), Fail> {
 // RFC 2181, sections 5 and 5.2.
 #[test]
 fn answers(rt: HostRuntime) -> Result<(), Fail> {
-    let doubled: [Line; 5] = [
+    let doubled: [Row<'static>; 5] = [
         ADDRESS,
         ("v.a.example.", 10, Value::A(3)),
         (W, 5, Value::Aaaa),
         (W, 30, Value::A(1)),
         (W, 60, Value::A(2)),
     ];
-    let rows: [(Code, bool, &[Line], &str); 5] = [
+    let rows: [(Code, bool, &[Row<'static>], &str); 5] = [
         (Code::Refused, true, &[ADDRESS], "failed 1"),
         (Code::NameError, true, &[ADDRESS], "failed 1"),
         (Code::NoError, false, &[ADDRESS], "failed 2"),
@@ -229,7 +172,7 @@ fn answers(rt: HostRuntime) -> Result<(), Fail> {
     Ok(())
 }
 
-const ALIASES: [Line; 2] = [
+const ALIASES: [Row<'static>; 2] = [
     (W, 60, Value::Cname("x.example.")),
     (W, 30, Value::Cname("y.example.")),
 ];
@@ -261,15 +204,15 @@ fn an_alias_that_is_asked_for_is_an_answer(rt: HostRuntime) -> Result<(), Fail> 
     Ok(())
 }
 
-const SOA: Line = ("example.", 3600, Value::Soa(60));
+const SOA: Row<'static> = ("example.", 3600, Value::Soa(60));
 
 // RFC 2308, sections 2 and 5.
 #[test]
 fn denials(rt: HostRuntime) -> Result<(), Fail> {
-    let beside: Line = ("b.example.", 3600, Value::Soa(60));
-    let above: Line = (".", 3600, Value::Soa(60));
-    let server: Line = ("a.example.", 60, Value::Ns("ns.a.example."));
-    let rows: [(Code, bool, &[Line], &str); 8] = [
+    let beside: Row<'static> = ("b.example.", 3600, Value::Soa(60));
+    let above: Row<'static> = (".", 3600, Value::Soa(60));
+    let server: Row<'static> = ("a.example.", 60, Value::Ns("ns.a.example."));
+    let rows: [(Code, bool, &[Row<'static>], &str); 8] = [
         (Code::NameError, true, &[], "failed 3"),
         (Code::NameError, true, &[server], "failed 3"),
         (Code::NameError, true, &[beside, SOA], "failed 4"),
@@ -297,17 +240,17 @@ fn denials(rt: HostRuntime) -> Result<(), Fail> {
     Ok(())
 }
 
-const SERVERS: [Line; 4] = [
+const SERVERS: [Row<'static>; 4] = [
     ("a.example.", 3600, Value::Ns("ns.a.example.")),
     ("b.example.", 5, Value::Ns("ns.b.example.")),
     ("a.example.", 3600, Value::Ns("ns.")),
     ("a.example.", 1800, Value::Ns("ns.a.example.")),
 ];
 
-const SERVER_ADDRESS: Line = ("ns.a.example.", 60, Value::A(1));
+const SERVER_ADDRESS: Row<'static> = ("ns.a.example.", 60, Value::A(1));
 
 // Of other types, of servers of other names, of strangers, outside of the zone.
-const OTHERS: [Line; 4] = [
+const OTHERS: [Row<'static>; 4] = [
     ("ns.a.example.", 50, Value::Aaaa),
     ("ns.b.example.", 40, Value::A(2)),
     ("x.a.example.", 30, Value::A(3)),
@@ -317,7 +260,7 @@ const OTHERS: [Line; 4] = [
 // RFC 1034, section 4.3.2, step 3b.
 #[test]
 fn referrals(rt: HostRuntime) -> Result<(), Fail> {
-    let rows: [(&[Line], &str); 5] = [
+    let rows: [(&[Row<'static>], &str); 5] = [
         (&[("example.", 60, Value::Ns("ns."))], "failed 4"),
         (&[("b.example.", 60, Value::Ns("ns."))], "failed 4"),
         (
@@ -360,19 +303,19 @@ fn kept<A: Heap>(alloc: A, link: Link<A>) -> Result<(u32, String<A>), Starved> {
     Ok((seconds, text?))
 }
 
-fn kept_set<A: Heap>(alloc: A, lines: &[Line]) -> Result<(u32, String<A>), Starved> {
-    let set = set_of(alloc, lines)?;
+fn kept_set<A: Heap>(alloc: A, rows: &[Row<'static>]) -> Result<(u32, String<A>), Starved> {
+    let set = set_of(alloc, rows)?;
     kept(alloc, Link::Found(set))
 }
 
-const LONG: [Line; 2] = [(W, 604_801, Value::A(1)), (W, 604_801, Value::A(2))];
+const LONG: [Row<'static>; 2] = [(W, 604_801, Value::A(1)), (W, 604_801, Value::A(2))];
 
-const MIXED: [Line; 2] = [(W, 604_801, Value::A(1)), (W, 604_799, Value::A(2))];
+const MIXED: [Row<'static>; 2] = [(W, 604_801, Value::A(1)), (W, 604_799, Value::A(2))];
 
 // RFC 2181, sections 5.2 and 8.
 #[test]
 fn lifetimes_of_sets(rt: HostRuntime) -> Result<(), Fail> {
-    let rows: [(&[Line], u32, &str); 2] = [
+    let rows: [(&[Row<'static>], u32, &str); 2] = [
         (
             &LONG,
             604_800,
@@ -384,8 +327,8 @@ fn lifetimes_of_sets(rt: HostRuntime) -> Result<(), Fail> {
             "found; w.a.example. 604799 A 192.0.2.1; w.a.example. 604799 A 192.0.2.2",
         ),
     ];
-    for (lines, seconds, text) in &rows {
-        let (kept, said) = kept_set(rt.alloc(), *lines)?;
+    for (rows, seconds, text) in &rows {
+        let (kept, said) = kept_set(rt.alloc(), *rows)?;
         assert!(rt;
             kept == *seconds && said.as_str() == *text,
             "{}",
@@ -398,7 +341,7 @@ fn lifetimes_of_sets(rt: HostRuntime) -> Result<(), Fail> {
 // RFC 2181, section 8; RFC 2308, sections 3 and 5.
 #[test]
 fn lifetimes_of_aliases_and_denials(rt: HostRuntime) -> Result<(), Fail> {
-    let alias = line(rt.alloc(), (W, 604_801, Value::Cname("x.")))?;
+    let alias = record(rt.alloc(), (W, 604_801, Value::Cname("x.")))?;
     assert_eq!(rt; lifetime(&received(Link::Alias(alias))), 604_800);
     let rows = [
         (10_801, 20_000, 10_800),
@@ -408,10 +351,10 @@ fn lifetimes_of_aliases_and_denials(rt: HostRuntime) -> Result<(), Fail> {
         (3600, 2_147_483_648, 0),
     ];
     for (ttl, minimum, want) in rows {
-        let soa: Line = ("example.", ttl, Value::Soa(minimum));
-        let none = Link::NoData(line(rt.alloc(), soa)?);
+        let soa: Row<'static> = ("example.", ttl, Value::Soa(minimum));
+        let none = Link::NoData(record(rt.alloc(), soa)?);
         assert_eq!(rt; lifetime(&received(none)), want);
-        let error = Link::NxDomain(line(rt.alloc(), soa)?);
+        let error = Link::NxDomain(record(rt.alloc(), soa)?);
         assert_eq!(rt; lifetime(&received(error)), want);
     }
     Ok(())
@@ -427,7 +370,7 @@ fn lifetimes_of_referrals(rt: HostRuntime) -> Result<(), Fail> {
         (2_147_483_647, 604_800),
         (0, 0),
     ] {
-        let server: Line = ("a.example.", ttl, Value::Ns("ns."));
+        let server: Row<'static> = ("a.example.", ttl, Value::Ns("ns."));
         let referral = Referral {
             at: name(rt.alloc(), "a.example.")?,
             servers: records(rt.alloc(), &[server])?,
@@ -448,7 +391,7 @@ for 60 to a.example.; a.example. 1800 NS ns.a.example.; a.example. 1800 NS ns.; 
 // A set, an alias, a denial and a referral.
 fn four_messages<A: Heap>(alloc: A) -> Result<Vec<Message<A>, A>, Starved> {
     let yes = header(Code::NoError, true, false);
-    let alias: Line = (W, 60, Value::Cname("x."));
+    let alias: Row<'static> = (W, 60, Value::Cname("x."));
     let mut messages = Vec::new(alloc);
     messages.push(reply(alloc, yes, &[ADDRESS], &[], &[])?)?;
     messages.push(reply(alloc, yes, &[alias], &[], &[])?)?;

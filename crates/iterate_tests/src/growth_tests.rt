@@ -1,6 +1,7 @@
 //! Want of memory, and how much of it a query takes.
-use crate::fixtures::{Asked, EXAMPLE, Event, Out, ROOT, Value, first_wrong};
+use crate::resolver::{Asked, EXAMPLE, Event, Out, ROOT, first_wrong};
 use dname::{Heap, Starved};
+use fixtures::Value;
 use iterate::Input;
 use refusing::Refusing;
 use std::test::Fail;

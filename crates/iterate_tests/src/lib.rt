@@ -2,10 +2,10 @@
 #![tactic(auto)]
 
 #[cfg(test)]
-mod fixtures;
-#[cfg(test)]
 mod growth_tests;
 #[cfg(test)]
 mod limit_tests;
+#[cfg(test)]
+mod resolver;
 #[cfg(test)]
 mod tests;

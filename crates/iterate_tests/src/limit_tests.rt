@@ -1,7 +1,8 @@
 //! Limits of a query, each at its last value and at the first one beyond.
-use crate::fixtures::{Asked, EXAMPLE, Event, Out, ROOT, Value, first_wrong};
+use crate::resolver::{Asked, EXAMPLE, Event, Out, ROOT, first_wrong};
 use causes::Cause;
 use dname::{Heap, Starved};
+use fixtures::Value;
 use std::test::Fail;
 
 const WWW: &str = "www.example";

@@ -1,11 +1,12 @@
 //! Each rule by which a query is resolved, by messages made by hand.
-use crate::fixtures::{EXAMPLE, Event, Line, Out, ROOT, SUB, Value, first_wrong};
+use crate::resolver::{EXAMPLE, Event, Out, ROOT, SUB, first_wrong};
 use causes::Cause;
+use fixtures::{Row, Value};
 use std::test::Fail;
 
 const WWW: &str = "www.example";
 
-const ADDRESS: Line<'static> = (WWW, 300, Value::A(9));
+const ADDRESS: Row<'static> = (WWW, 300, Value::A(9));
 
 // The zone at hand says an address, a denial, and a cut.
 #[test]
@@ -59,9 +60,9 @@ fn an_alias_leads_on(rt: HostRuntime) -> Result<(), Fail> {
     Ok(())
 }
 
-const SHORT_ALIAS: Line<'static> = (WWW, 1, Value::Cname("web.test"));
+const SHORT_ALIAS: Row<'static> = (WWW, 1, Value::Cname("web.test"));
 
-const TARGET: Line<'static> = ("web.test", 300, Value::A(8));
+const TARGET: Row<'static> = ("web.test", 300, Value::A(8));
 
 // The alias is known from an earlier query, and lives to the last millisecond of its second.
 #[test]
@@ -132,7 +133,7 @@ fn a_server_without_address_is_no_use(rt: HostRuntime) -> Result<(), Fail> {
     Ok(())
 }
 
-const FAR_ADDRESS: Line<'static> = ("ns.test", 300, Value::A(EXAMPLE));
+const FAR_ADDRESS: Row<'static> = ("ns.test", 300, Value::A(EXAMPLE));
 
 // It is kept: the next query knows it.
 #[test]

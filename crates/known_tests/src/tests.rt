@@ -1,8 +1,9 @@
 use authority::{Catalog, Link};
 use dname::{Heap, Name, Starved};
+use fixtures::{Row, Value, name, record, records};
 use known::{Capacities, Found, Hashers, Home, Stores, Taken, cut_of, find, found_addresses};
 use lru::DefaultHasher;
-use rdata::{Addr, RData, RType, Record, RecordSet, Records, Soa};
+use rdata::{Addr, RData, RType, RecordSet};
 use referral::Cut;
 use refusing::Refusing;
 use std::hash::BuildHasherDefault;
@@ -14,50 +15,20 @@ const LOCAL: Addr = Addr([192, 0, 2, 1]);
 
 const REMOTE: Addr = Addr([192, 0, 2, 9]);
 
-const HINT: Addr = Addr([198, 51, 100, 1]);
-
-fn name<A: Heap>(alloc: A, text: &str) -> Result<Name<A>, Starved> {
-    match Name::from_text(alloc, text) {
-        Ok(name) => Ok(name),
-        Err(_) => Err(Starved),
-    }
-}
-
-fn record<A: Heap>(alloc: A, owner: &str, ttl: u16, value: RData<A>) -> Result<Record<A>, Starved> {
-    let owner = name(alloc, owner)?;
-    Ok(Record {
-        owner,
-        ttl: ttl as u32,
-        value,
-    })
-}
-
-fn soa<A: Heap>(alloc: A) -> Result<RData<A>, Starved> {
-    Ok(RData::Soa(Box::new(
-        alloc,
-        Soa {
-            primary: name(alloc, "ns.example")?,
-            mailbox: name(alloc, "root.example")?,
-            serial: 1,
-            refresh: 7200,
-            retry: 600,
-            expire: 3_600_000,
-            minimum: 60,
-        },
-    )?))
-}
+const HINT: Addr = Addr([192, 0, 2, 3]);
 
 // A zone with an address of www.example, which leaves sub.example to another server.
+const ZONE: [Row<'static>; 5] = [
+    ("example", 3600, Value::Soa(60)),
+    ("example", 3600, Value::Ns("ns.example")),
+    ("www.example", 3600, Value::A(1)),
+    ("sub.example", 3600, Value::Ns("ns.sub.example")),
+    ("ns.sub.example", 3600, Value::A(1)),
+];
+
 fn zone<A: Heap>(alloc: A) -> Result<Zone<A>, Starved> {
-    let mut records = Records::new(alloc);
-    records.push(record(alloc, "example", 3600, soa(alloc)?)?)?;
-    let server = RData::Ns(name(alloc, "ns.example")?);
-    records.push(record(alloc, "example", 3600, server)?)?;
-    records.push(record(alloc, "www.example", 3600, RData::A(LOCAL))?)?;
-    let server = RData::Ns(name(alloc, "ns.sub.example")?);
-    records.push(record(alloc, "sub.example", 3600, server)?)?;
-    records.push(record(alloc, "ns.sub.example", 3600, RData::A(LOCAL))?)?;
-    match Zone::build(name(alloc, "example")?, records) {
+    let origin = name(alloc, "example")?;
+    match Zone::build(origin, records(alloc, &ZONE)?) {
         Ok(zone) => Ok(zone),
         Err(_) => Err(Starved),
     }
@@ -143,7 +114,7 @@ impl<A: Heap> Resolver<A> {
 
     // Keeps an address that lives for five seconds.
     fn learn(&mut self, owner: &str, now: u64) -> Result<(), Starved> {
-        let only = record(self.alloc, owner, 5, RData::A(REMOTE))?;
+        let only = record(self.alloc, (owner, 5, Value::A(9)))?;
         let owner = name(self.alloc, owner)?;
         let link = Link::Found(RecordSet::alone(self.alloc, only)?);
         self.stores.keep_link(&owner, RType::A, &link, now)
@@ -166,13 +137,12 @@ fn address_of<A: Heap>(link: Link<A>) -> Option<(Addr, u32)> {
 }
 
 // A cut with two addresses.
+const GLUE: [Row<'static>; 2] = [("ns.test", 60, Value::A(1)), ("ns.test", 60, Value::A(9))];
+
 fn cut<A: Heap>(alloc: A, at: &str) -> Result<Cut<A>, Starved> {
-    let servers = Records::new(alloc);
-    let mut glue = Records::new(alloc);
-    glue.push(record(alloc, "ns.test", 60, RData::A(LOCAL))?)?;
-    glue.push(record(alloc, "ns.test", 60, RData::A(REMOTE))?)?;
+    let glue = records(alloc, &GLUE)?;
     let at = name(alloc, at)?;
-    cut_of(alloc, at, servers.as_slice(), glue.as_slice())
+    cut_of(alloc, at, &[], glue.as_slice())
 }
 
 // What is done with a resolver that has asked nobody, and what has to come of it.
@@ -280,7 +250,7 @@ fn asked_once_found<A: Heap>(
     stores: &mut Stores<DefaultHasher, A>,
 ) -> Result<Option<Addr>, Starved> {
     let cut = cut(alloc, "test")?;
-    let set = RecordSet::alone(alloc, record(alloc, "ns.test", 60, RData::A(HINT))?)?;
+    let set = RecordSet::alone(alloc, record(alloc, ("ns.test", 60, Value::A(3)))?)?;
     let found = found_addresses(alloc, &set)?;
     let mut frame = stores.open(alloc, &cut, 0)?;
     frame.next_address();
@@ -309,8 +279,7 @@ fn frames_open_by_penalties(rt: HostRuntime) -> Result<(), Fail> {
 
 // An alias without time to live, accepted at moment 1,000.
 fn accepted<A: Heap>(alloc: A) -> Result<Taken<A>, Starved> {
-    let target = RData::Cname(name(alloc, "www.test")?);
-    let alias = Link::Alias(record(alloc, "a.test", 0, target)?);
+    let alias = Link::Alias(record(alloc, ("a.test", 0, Value::Cname("www.test")))?);
     Ok(Taken::accepted(name(alloc, "a.test")?, alias, 1_000))
 }
 

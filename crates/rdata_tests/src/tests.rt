@@ -1,16 +1,13 @@
 ghost use Rattle.std.specs.Prelude.{◌≤◌, length};
 
-use dname::{Name, NameError, Starved};
+use dname::Starved;
+use fixtures::{Row, Value, data, name, record, records};
 use rdata::{
-    Addr, CharacterString, RData, RType, Record, RecordSet, Records, Soa, Texts, lowest_ttl,
-    put_data, same_set, set_at,
+    Addr, CharacterString, RData, RType, Record, RecordSet, Records, Texts, lowest_ttl, put_data,
+    same_set, set_at,
 };
 use std::alloc::Global;
 use std::test::Fail;
-
-fn name(alloc: Global, text: &str) -> Result<Name, NameError> {
-    Name::from_text(alloc, text)
-}
 
 fn string(alloc: Global, bytes: &[u8]) -> Result<CharacterString, Starved>
     requires { length bytes.now ≤ 255 }
@@ -64,50 +61,41 @@ fn written(alloc: Global, value: &RData) -> Result<String, Starved> {
     Ok(out)
 }
 
-fn soa(alloc: Global) -> Result<Soa, NameError> {
-    Ok(Soa {
-        primary: name(alloc, "ns.example")?,
-        mailbox: name(alloc, "host\\.master.example")?,
-        serial: 1,
-        refresh: 2,
-        retry: 3,
-        expire: 4,
-        minimum: 4_294_967_295,
-    })
-}
-
-// RFC 1035, section 5.1.
+// RFC 1035, section 5.1; the longer address in eight groups (RFC 4291, section 2.2).
 #[test]
-fn data_with_names(rt: HostRuntime) -> Result<(), Fail> {
-    let ns = RData::Ns(name(rt.alloc(), "ns.example")?);
-    assert_eq!(rt; written(rt.alloc(), &ns)?.as_str(), "NS ns.example.");
-    let cname = RData::Cname(name(rt.alloc(), ".")?);
-    assert_eq!(rt; written(rt.alloc(), &cname)?.as_str(), "CNAME .");
+fn data_in_print(rt: HostRuntime) -> Result<(), Fail> {
+    let rows = [
+        (Value::Ns("ns.example"), "NS ns.example."),
+        (Value::Cname("."), "CNAME ."),
+        (Value::Mx("m.example"), "MX 10 m.example."),
+        (Value::Soa(4_294_967_295), "SOA ns. h. 1 2 3 4 4294967295"),
+        (Value::A(1), "A 192.0.2.1"),
+        (Value::Aaaa, "AAAA 2001:db8:0:0:0:0:0:1"),
+        (Value::Txt("a \"b\"\\"), "TXT \"a \\\"b\\\"\\\\\""),
+    ];
+    for (value, wanted) in rows {
+        let said = data(rt.alloc(), value)?;
+        assert_eq!(rt; written(rt.alloc(), &said)?.as_str(), wanted);
+    }
     Ok(())
 }
 
+// Each part at its end: the highest preference, a dot inside a label, letters in a group.
 #[test]
-fn data_with_names_and_numbers(rt: HostRuntime) -> Result<(), Fail> {
-    let mx = RData::Mx(65535, name(rt.alloc(), "m.example")?);
-    assert_eq!(rt; written(rt.alloc(), &mx)?.as_str(), "MX 65535 m.example.");
-    let soa = RData::Soa(Box::new(rt.alloc(), soa(rt.alloc())?)?);
-    let wanted = "SOA ns.example. host\\.master.example. 1 2 3 4 4294967295";
-    assert_eq!(rt; written(rt.alloc(), &soa)?.as_str(), wanted);
-    Ok(())
-}
-
-// The longer address in eight groups (RFC 4291, section 2.2).
-#[test]
-fn data_with_bytes(rt: HostRuntime) -> Result<(), Fail> {
-    let a = RData::A(Addr([192, 0, 2, 1]));
-    assert_eq!(rt; written(rt.alloc(), &a)?.as_str(), "A 192.0.2.1");
-    let aaaa = RData::Aaaa([
+fn data_at_its_ends(rt: HostRuntime) -> Result<(), Fail> {
+    let exchange = name(rt.alloc(), "m.example")?;
+    let mailbox = name(rt.alloc(), "host\\.master.example")?;
+    let group = [
         0x20, 1, 0xd, 0xb8, 0, 0, 0, 0, 0, 0, 0, 0, 0, 0xa, 0xff, 0xfe,
-    ]);
-    assert_eq!(rt;
-        written(rt.alloc(), &aaaa)?.as_str(),
-        "AAAA 2001:db8:0:0:0:0:a:fffe"
-    );
+    ];
+    let rows = [
+        (RData::Mx(65535, exchange), "MX 65535 m.example."),
+        (RData::Ns(mailbox), "NS host\\.master.example."),
+        (RData::Aaaa(group), "AAAA 2001:db8:0:0:0:0:a:fffe"),
+    ];
+    for (said, wanted) in rows.as_slice() {
+        assert_eq!(rt; written(rt.alloc(), said)?.as_str(), *wanted);
+    }
     Ok(())
 }
 
@@ -121,22 +109,13 @@ fn data_with_strings(rt: HostRuntime) -> Result<(), Fail> {
     Ok(())
 }
 
-fn address(alloc: Global, owner: &str, ttl: u16, last: u8) -> Result<Record, NameError> {
-    Ok(Record {
-        owner: name(alloc, owner)?,
-        ttl: u32::from(ttl),
-        value: RData::A(Addr([192, 0, 2, last])),
-    })
-}
-
-fn four(alloc: Global) -> Result<Records, NameError> {
-    let mut records = Records::new(alloc);
-    records.push(address(alloc, "a.example", 300, 1)?)?;
-    records.push(address(alloc, "A.Example", 60, 2)?)?;
-    records.push(address(alloc, "a.example", 600, 1)?)?;
-    records.push(address(alloc, "a.example", 90, 3)?)?;
-    Ok(records)
-}
+// Three addresses of one name, the first of them twice, under four TTLs.
+const FOUR: [Row<'static>; 4] = [
+    ("a.example", 300, Value::A(1)),
+    ("A.Example", 60, Value::A(2)),
+    ("a.example", 600, Value::A(1)),
+    ("a.example", 90, Value::A(3)),
+];
 
 // Whether a record has the TTL 60 and this last byte in its address.
 fn is_at(record: &Record, last: u8) -> bool {
@@ -153,7 +132,7 @@ fn is_one_two_three(set: &[Record]) -> bool {
 // RFC 2181, sections 5 and 5.2.
 #[test]
 fn records_made_one_set(rt: HostRuntime) -> Result<(), Fail> {
-    let records = four(rt.alloc())?;
+    let records = records(rt.alloc(), &FOUR)?;
     let owner = name(rt.alloc(), "a.example")?;
     let set = set_at(rt.alloc(), records.as_slice(), &owner, RType::A)?.ok_or(Starved)?;
     assert_eq!(rt; set.len(), 3);
@@ -164,24 +143,30 @@ fn records_made_one_set(rt: HostRuntime) -> Result<(), Fail> {
 
 #[test]
 fn records_of_one_set(rt: HostRuntime) -> Result<(), Fail> {
-    let one = address(rt.alloc(), "a.example", 300, 1)?;
-    let other = address(rt.alloc(), "A.example", 60, 2)?;
-    let elsewhere = address(rt.alloc(), "b.example", 300, 1)?;
-    assert!(rt; same_set(&one, &other));
-    assert!(rt; !same_set(&one, &elsewhere));
+    let rows = [
+        ("a.example", 300, Value::A(1)),
+        ("A.example", 60, Value::A(2)),
+        ("b.example", 300, Value::A(1)),
+    ];
+    let records = records(rt.alloc(), &rows)?;
+    let are_told = match records.as_slice() {
+        [one, other, elsewhere] => same_set(one, other) && !same_set(one, elsewhere),
+        _ => false,
+    };
+    assert!(rt; are_told);
     Ok(())
 }
 
 // RFC 2181, sections 5 and 5.2: one owner, one type, one TTL, no record twice.
 #[test]
 fn the_set_of_an_owner_and_type(rt: HostRuntime) -> Result<(), Fail> {
-    let mut records = four(rt.alloc())?;
-    records.push(address(rt.alloc(), "b.example", 5, 4)?)?;
-    records.push(Record {
-        owner: name(rt.alloc(), "a.example")?,
-        ttl: 5,
-        value: RData::Ns(name(rt.alloc(), "ns.example")?),
-    })?;
+    let mut records = records(rt.alloc(), &FOUR)?;
+    for row in [
+        ("b.example", 5, Value::A(4)),
+        ("a.example", 5, Value::Ns("ns.example")),
+    ] {
+        records.push(record(rt.alloc(), row)?)?;
+    }
     let owner = name(rt.alloc(), "a.example")?;
     let set = set_at(rt.alloc(), records.as_slice(), &owner, RType::A)?.ok_or(Starved)?;
     assert!(rt; is_one_two_three(set.to_records(rt.alloc())?.as_slice()));
@@ -194,7 +179,10 @@ fn the_set_of_an_owner_and_type(rt: HostRuntime) -> Result<(), Fail> {
 // RFC 2181, sections 5.2 and 8.
 #[test]
 fn set_with_other_ttls(rt: HostRuntime) -> Result<(), Fail> {
-    let mut set = RecordSet::alone(rt.alloc(), address(rt.alloc(), "a.example", 300, 1)?)?;
+    let mut set = RecordSet::alone(
+        rt.alloc(),
+        record(rt.alloc(), ("a.example", 300, Value::A(1)))?,
+    )?;
     set.cap_ttl(600);
     assert_eq!(rt; set.ttl(), 300);
     set.cap_ttl(90);
@@ -216,7 +204,7 @@ fn have_ttls(records: &[Record], ttls: [u32; 4]) -> bool {
 fn lowest_and_capped(rt: HostRuntime) -> Result<(), Fail> {
     let none: Records = Records::new(rt.alloc());
     assert_eq!(rt; lowest_ttl(none.as_slice()), 2_147_483_647);
-    let mut records = four(rt.alloc())?;
+    let mut records = records(rt.alloc(), &FOUR)?;
     assert_eq!(rt; lowest_ttl(records.as_slice()), 60);
     records.cap_ttl(90);
     assert!(rt; have_ttls(records.as_slice(), [90, 60, 90, 90]));
@@ -225,13 +213,25 @@ fn lowest_and_capped(rt: HostRuntime) -> Result<(), Fail> {
 
 #[test]
 fn data_in_order(rt: HostRuntime) -> Result<(), Fail> {
-    let lowest = RData::A(Addr([192, 0, 2, 1]));
-    let next = RData::Mx(10, name(rt.alloc(), "b.example")?);
-    let last = RData::Mx(20, name(rt.alloc(), "a.example")?);
-    assert!(rt; lowest < next);
-    assert!(rt; next < last);
-    let soa = RData::Soa(Box::new(rt.alloc(), soa(rt.alloc())?)?);
-    assert_eq!(rt; soa.cmp(&soa.clone()?), std::cmp::Ordering::Equal);
-    assert!(rt; soa < next);
+    let rows = [
+        ("a.", 1, Value::A(1)),
+        ("a.", 1, Value::Soa(60)),
+        ("a.", 1, Value::Mx("a.example")),
+        ("a.", 1, Value::Mx("b.example")),
+    ];
+    let mut records = records(rt.alloc(), &rows)?;
+    records.push(Record {
+        owner: name(rt.alloc(), "a.")?,
+        ttl: 1,
+        value: RData::Mx(20, name(rt.alloc(), "a.example")?),
+    })?;
+    for pair in records.as_slice().windows(2) {
+        let [low, high] = pair else { continue };
+        assert!(rt; low.value < high.value);
+        assert_eq!(rt;
+            low.value.cmp(&low.value.clone()?),
+            std::cmp::Ordering::Equal
+        );
+    }
     Ok(())
 }

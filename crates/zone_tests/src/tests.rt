@@ -1,80 +1,33 @@
-use dname::{Heap, Name, NameError};
-use rdata::{Addr, RData, Record, Records, Soa};
+use dname::{Heap, Starved};
+use fixtures::{Row, Value, name, records};
 use refusing::Refusing;
 use std::process::Abort;
 use std::test::Fail;
 use zone::{Zone, ZoneError};
 
-// The data of a row, in few words.
-#[derive(Clone, Copy)]
-enum Said {
-    Address(u8),
-    Address6,
-    Server,
-    Alias(&'static str),
-    Authority,
-    Exchange,
+const SOA: Row<'static> = ("example.com", 3600, Value::Soa(60));
+
+const NS: Row<'static> = ("example.com", 3600, Value::Ns("ns.example.com"));
+
+const CUT: Row<'static> = ("sub.example.com", 60, Value::Ns("ns.example.com"));
+
+fn zone_of<A: Heap>(
+    alloc: A,
+    rows: &[Row<'static>],
+) -> Result<Result<Zone<A>, ZoneError>, Starved> {
+    let origin = name(alloc, "Example.COM")?;
+    Ok(Zone::build(origin, records(alloc, rows)?))
 }
 
-// An owner, a TTL and the data.
-type Row = (&'static str, u32, Said);
+const ALIAS: Row<'static> = ("a.example.com", 60, Value::Cname("b"));
 
-const SOA: Row = ("example.com", 3600, Said::Authority);
-
-const NS: Row = ("example.com", 3600, Said::Server);
-
-const CUT: Row = ("sub.example.com", 60, Said::Server);
-
-// What the SOA says.
-fn authority<A: Heap>(alloc: A) -> Result<Box<Soa<A>, A>, NameError> {
-    let soa = Soa {
-        primary: Name::from_text(alloc, "ns.example.com")?,
-        mailbox: Name::from_text(alloc, "host.example.com")?,
-        serial: 1,
-        refresh: 2,
-        retry: 3,
-        expire: 4,
-        minimum: 60,
-    };
-    match Box::new(alloc, soa) {
-        Ok(soa) => Ok(soa),
-        Err(_) => Err(NameError::Memory),
-    }
-}
-
-fn data_of<A: Heap>(alloc: A, said: Said) -> Result<RData<A>, NameError> {
-    Ok(match said {
-        Said::Address(last) => RData::A(Addr([192, 0, 2, last])),
-        Said::Address6 => RData::Aaaa([0; 16]),
-        Said::Server => RData::Ns(Name::from_text(alloc, "ns.example.com")?),
-        Said::Alias(target) => RData::Cname(Name::from_text(alloc, target)?),
-        Said::Exchange => RData::Mx(10, Name::from_text(alloc, "mail.example.com")?),
-        Said::Authority => RData::Soa(authority(alloc)?),
-    })
-}
-
-fn records_of<A: Heap>(alloc: A, rows: &[Row]) -> Result<Records<A>, NameError> {
-    let mut records = Records::new(alloc);
-    for (owner, ttl, said) in rows {
-        let owner = Name::from_text(alloc, *owner)?;
-        let value = data_of(alloc, *said)?;
-        let ttl = *ttl % 100_000;
-        records.push(Record { owner, ttl, value })?;
-    }
-    Ok(records)
-}
-
-fn zone_of<A: Heap>(alloc: A, rows: &[Row]) -> Result<Result<Zone<A>, ZoneError>, NameError> {
-    let origin = Name::from_text(alloc, "Example.COM")?;
-    Ok(Zone::build(origin, records_of(alloc, rows)?))
-}
-
-const ALIAS: Row = ("a.example.com", 60, Said::Alias("b"));
-
-const ADDRESS: Row = ("a.example.com", 60, Said::Address(1));
+const ADDRESS: Row<'static> = ("a.example.com", 60, Value::A(1));
 
 // Each of these zones is refused so.
-fn refuses<R: Abort + AllocGlobal>(rt: &R, rows: &[(&[Row], ZoneError)]) -> Result<(), Fail> {
+fn refuses<R: Abort + AllocGlobal>(
+    rt: &R,
+    rows: &[(&[Row<'static>], ZoneError)],
+) -> Result<(), Fail> {
     for (zone, fault) in rows {
         let built = zone_of(rt.alloc(), *zone)?;
         assert!(rt; matches!(built, Err(found) if found == *fault), "{fault}");
@@ -84,13 +37,10 @@ fn refuses<R: Abort + AllocGlobal>(rt: &R, rows: &[(&[Row], ZoneError)]) -> Resu
 
 #[test]
 fn a_zone_has_one_soa_and_servers(rt: HostRuntime) -> Result<(), Fail> {
-    let rows: [(&[Row], ZoneError); 4] = [
+    let rows: [(&[Row<'static>], ZoneError); 4] = [
         (&[NS], ZoneError::Soa),
         (&[SOA, SOA, NS], ZoneError::Soa),
-        (
-            &[("a.example.com", 60, Said::Authority), NS],
-            ZoneError::Soa,
-        ),
+        (&[("a.example.com", 60, Value::Soa(60)), NS], ZoneError::Soa),
         (&[SOA, CUT], ZoneError::NoServers),
     ];
     refuses(&rt, &rows)
@@ -98,8 +48,8 @@ fn a_zone_has_one_soa_and_servers(rt: HostRuntime) -> Result<(), Fail> {
 
 #[test]
 fn owners_are_at_or_under_the_origin(rt: HostRuntime) -> Result<(), Fail> {
-    let address = Said::Address(1);
-    let rows: [(&[Row], ZoneError); 2] = [
+    let address = Value::A(1);
+    let rows: [(&[Row<'static>], ZoneError); 2] = [
         (
             &[SOA, NS, ("example.org", 60, address)],
             ZoneError::ForeignOwner,
@@ -111,22 +61,22 @@ fn owners_are_at_or_under_the_origin(rt: HostRuntime) -> Result<(), Fail> {
 
 #[test]
 fn an_alias_stands_alone_and_a_set_has_one_ttl(rt: HostRuntime) -> Result<(), Fail> {
-    let rows: [(&[Row], ZoneError); 5] = [
+    let rows: [(&[Row<'static>], ZoneError); 5] = [
         (&[SOA, NS, ALIAS, ADDRESS], ZoneError::CnameClash),
         (
-            &[SOA, NS, ALIAS, ("a.example.com", 60, Said::Alias("c"))],
+            &[SOA, NS, ALIAS, ("a.example.com", 60, Value::Cname("c"))],
             ZoneError::CnameClash,
         ),
         (
-            &[SOA, NS, ("example.com", 60, Said::Alias("b"))],
+            &[SOA, NS, ("example.com", 60, Value::Cname("b"))],
             ZoneError::CnameClash,
         ),
         (
-            &[SOA, NS, ADDRESS, ("a.example.com", 61, Said::Address(2))],
+            &[SOA, NS, ADDRESS, ("a.example.com", 61, Value::A(2))],
             ZoneError::MixedTtls,
         ),
         (
-            &[SOA, NS, ALIAS, ("a.example.com", 61, Said::Alias("b"))],
+            &[SOA, NS, ALIAS, ("a.example.com", 61, Value::Cname("b"))],
             ZoneError::MixedTtls,
         ),
     ];
@@ -135,14 +85,24 @@ fn an_alias_stands_alone_and_a_set_has_one_ttl(rt: HostRuntime) -> Result<(), Fa
 
 #[test]
 fn cuts_and_wildcards_are_held_apart(rt: HostRuntime) -> Result<(), Fail> {
-    let address = Said::Address(1);
-    let rows: [(&[Row], ZoneError); 5] = [
+    let address = Value::A(1);
+    let rows: [(&[Row<'static>], ZoneError); 5] = [
         (
-            &[SOA, NS, CUT, ("sub.example.com", 60, Said::Exchange)],
+            &[
+                SOA,
+                NS,
+                CUT,
+                ("sub.example.com", 60, Value::Mx("mail.example.com")),
+            ],
             ZoneError::DataAtCut,
         ),
         (
-            &[SOA, NS, CUT, ("a.sub.example.com", 60, Said::Server)],
+            &[
+                SOA,
+                NS,
+                CUT,
+                ("a.sub.example.com", 60, Value::Ns("ns.example.com")),
+            ],
             ZoneError::DataAtCut,
         ),
         (
@@ -150,7 +110,7 @@ fn cuts_and_wildcards_are_held_apart(rt: HostRuntime) -> Result<(), Fail> {
             ZoneError::InnerStar,
         ),
         (
-            &[SOA, NS, ("*.example.com", 60, Said::Server)],
+            &[SOA, NS, ("*.example.com", 60, Value::Ns("ns.example.com"))],
             ZoneError::WildcardAuthority,
         ),
         (
@@ -163,27 +123,21 @@ fn cuts_and_wildcards_are_held_apart(rt: HostRuntime) -> Result<(), Fail> {
 
 #[test]
 fn the_lowest_refusal_answers(rt: HostRuntime) -> Result<(), Fail> {
-    let foreign: Row = ("org", 60, Said::Address(1));
-    let rows: [(&[Row], ZoneError); 3] = [
+    let foreign: Row<'static> = ("org", 60, Value::A(1));
+    let rows: [(&[Row<'static>], ZoneError); 3] = [
         (&[SOA, ALIAS, ADDRESS, foreign], ZoneError::NoServers),
         (
             &[
                 SOA,
                 NS,
                 CUT,
-                ("sub.example.com", 60, Said::Exchange),
+                ("sub.example.com", 60, Value::Mx("mail.example.com")),
                 foreign,
             ],
             ZoneError::ForeignOwner,
         ),
         (
-            &[
-                SOA,
-                NS,
-                ALIAS,
-                ADDRESS,
-                ("a.example.com", 61, Said::Address(2)),
-            ],
+            &[SOA, NS, ALIAS, ADDRESS, ("a.example.com", 61, Value::A(2))],
             ZoneError::CnameClash,
         ),
     ];
@@ -192,33 +146,33 @@ fn the_lowest_refusal_answers(rt: HostRuntime) -> Result<(), Fail> {
 
 #[test]
 fn zones_that_meet_all_rules(rt: HostRuntime) -> Result<(), Fail> {
-    let rows: [&[Row]; 5] = [
+    let rows: [&[Row<'static>]; 5] = [
         &[SOA, NS],
         &[
             SOA,
             NS,
             CUT,
-            ("sub.example.com", 60, Said::Address(1)),
-            ("ns.sub.example.com", 5, Said::Address6),
+            ("sub.example.com", 60, Value::A(1)),
+            ("ns.sub.example.com", 5, Value::Aaaa),
         ],
         &[
             SOA,
             NS,
-            ("a.example.com", 60, Said::Alias("b")),
-            ("A.Example.com", 60, Said::Alias("B")),
+            ("a.example.com", 60, Value::Cname("b")),
+            ("A.Example.com", 60, Value::Cname("B")),
         ],
         &[
             SOA,
             NS,
-            ("*.example.com", 60, Said::Address(1)),
-            ("*.a.example.com", 9, Said::Alias("b")),
+            ("*.example.com", 60, Value::A(1)),
+            ("*.a.example.com", 9, Value::Cname("b")),
         ],
         &[
-            ("example.com", 30, Said::Authority),
+            ("example.com", 30, Value::Soa(60)),
             NS,
             NS,
-            ("x.example.com", 7, Said::Address(1)),
-            ("x.example.com", 7, Said::Address(2)),
+            ("x.example.com", 7, Value::A(1)),
+            ("x.example.com", 7, Value::A(2)),
         ],
     ];
     for zone in &rows {
@@ -235,7 +189,7 @@ fn zones_that_meet_all_rules(rt: HostRuntime) -> Result<(), Fail> {
 #[test]
 fn denials_have_the_lesser_ttl(rt: HostRuntime) -> Result<(), Fail> {
     for (ttl, wanted) in [(3600, 60), (60, 60), (30, 30)] {
-        let rows = [("example.com", ttl, Said::Authority), NS];
+        let rows = [("example.com", ttl, Value::Soa(60)), NS];
         let built = zone_of(rt.alloc(), &rows)?;
         assert!(rt; matches!(&built, Ok(zone) if zone.denial().ttl == wanted));
     }
@@ -243,13 +197,13 @@ fn denials_have_the_lesser_ttl(rt: HostRuntime) -> Result<(), Fail> {
 }
 
 // All kinds of sets that the rules keep: aliases, cuts, TTLs.
-const FULL: [Row; 6] = [
+const FULL: [Row<'static>; 6] = [
     SOA,
     NS,
     CUT,
-    ("ns.sub.example.com", 60, Said::Address(1)),
-    ("a.example.com", 60, Said::Alias("b")),
-    ("*.example.com", 60, Said::Exchange),
+    ("ns.sub.example.com", 60, Value::A(1)),
+    ("a.example.com", 60, Value::Cname("b")),
+    ("*.example.com", 60, Value::Mx("mail.example.com")),
 ];
 
 #[test]
@@ -262,7 +216,7 @@ fn each_growth_is_refused_in_turn(rt: HostRuntime) -> Result<(), Fail> {
         assert!(rt;
             matches!(
                 zone_of(&heap, &FULL),
-                Err(NameError::Memory) | Ok(Err(ZoneError::Memory))
+                Err(Starved) | Ok(Err(ZoneError::Memory))
             ),
             "growth {n}"
         );
@@ -273,10 +227,10 @@ fn each_growth_is_refused_in_turn(rt: HostRuntime) -> Result<(), Fail> {
 }
 
 // A zone of these records, copied. One that is refused counts as want of memory.
-fn copy_of<A: Heap>(alloc: A, rows: &[Row]) -> Result<Zone<A>, NameError> {
+fn copy_of<A: Heap>(alloc: A, rows: &[Row<'static>]) -> Result<Zone<A>, Starved> {
     match zone_of(alloc, rows)? {
         Ok(zone) => Ok(zone.clone()?),
-        Err(_) => Err(NameError::Memory),
+        Err(_) => Err(Starved),
     }
 }
 
@@ -290,10 +244,7 @@ fn copies_are_whole(rt: HostRuntime) -> Result<(), Fail> {
     let growths = heap.growths();
     for n in 0..growths {
         heap.refuse_after(n);
-        assert!(rt;
-            matches!(copy_of(&heap, &FULL), Err(NameError::Memory)),
-            "growth {n}"
-        );
+        assert!(rt; matches!(copy_of(&heap, &FULL), Err(Starved)), "growth {n}");
     }
     Ok(())
 }

@@ -3,11 +3,12 @@ ghost use Rattle.std.specs.Prelude.{◌<◌};
 
 use authority::{Catalog, Link};
 use causes::Cause;
-use dname::{Heap, Name, Starved};
+use dname::{Heap, Starved};
+use fixtures::{Row, Value, address, name, record, records};
 use iterate::{Input, Job, Next, advance};
 use known::{Capacities, Hashers, Home, Stores};
 use lru::DefaultHasher;
-use rdata::{Addr, RData, RType, Record, RecordSet, Records, Soa};
+use rdata::{RData, RType, RecordSet, Records};
 use std::hash::BuildHasherDefault;
 use std::num::NonZeroUsize;
 use wire::{Header, Message, Questions, Via};
@@ -21,21 +22,9 @@ pub const EXAMPLE: u8 = 2;
 
 pub const SUB: u8 = 3;
 
-// Data of a record.
-#[derive(Clone, Copy)]
-pub enum Value<'a> {
-    A(u8),
-    Ns(&'a str),
-    Cname(&'a str),
-    Soa,
-}
-
-// Owner, TTL and data.
-pub type Line<'a> = (&'a str, u16, Value<'a>);
-
 // The zone at hand: an address, an alias that leads out of it, and a cut.
-const ZONE_LINES: [Line<'static>; 6] = [
-    ("local", 60, Value::Soa),
+const ZONE_ROWS: [Row<'static>; 6] = [
+    ("local", 60, Value::Soa(60)),
     ("local", 60, Value::Ns("www.local")),
     ("www.local", 60, Value::A(7)),
     ("alias.local", 60, Value::Cname("www.example")),
@@ -43,7 +32,7 @@ const ZONE_LINES: [Line<'static>; 6] = [
     ("ns.sub.local", 60, Value::A(SUB)),
 ];
 
-const ROOT_SOA: Line<'static> = (".", 60, Value::Soa);
+const ROOT_SOA: Row<'static> = (".", 60, Value::Soa(60));
 
 // What comes in.
 #[derive(Clone, Copy)]
@@ -51,7 +40,7 @@ pub enum Event<'a> {
     // A query for the address of this name.
     Query(&'a str),
     // A server gives one record for an answer.
-    Answer(u8, Line<'a>),
+    Answer(u8, Row<'a>),
     // A server of the root says that there is no such name.
     NoName,
     // A server of the root refers to a zone: its servers, and addresses of the first one.
@@ -79,54 +68,6 @@ pub enum Out {
 
 // The moment, what comes in, and what has to go out.
 pub type Step<'a> = (u32, Event<'a>, Out);
-
-fn name<A: Heap>(alloc: A, text: &str) -> Result<Name<A>, Starved> {
-    match Name::from_text(alloc, text) {
-        Ok(name) => Ok(name),
-        Err(_) => Err(Starved),
-    }
-}
-
-fn soa<A: Heap>(alloc: A) -> Result<RData<A>, Starved> {
-    Ok(RData::Soa(Box::new(
-        alloc,
-        Soa {
-            primary: name(alloc, "ns.")?,
-            mailbox: name(alloc, "h.")?,
-            serial: 1,
-            refresh: 2,
-            retry: 3,
-            expire: 4,
-            minimum: 60,
-        },
-    )?))
-}
-
-fn data<A: Heap>(alloc: A, value: Value<'_>) -> Result<RData<A>, Starved> {
-    match value {
-        Value::A(last) => Ok(RData::A(Addr([192, 0, 2, last]))),
-        Value::Ns(target) => Ok(RData::Ns(name(alloc, target)?)),
-        Value::Cname(target) => Ok(RData::Cname(name(alloc, target)?)),
-        Value::Soa => Ok(soa(alloc)?),
-    }
-}
-
-fn record<A: Heap>(alloc: A, line: Line<'_>) -> Result<Record<A>, Starved> {
-    let (owner, ttl, value) = line;
-    Ok(Record {
-        owner: name(alloc, owner)?,
-        ttl: u32::from(ttl),
-        value: data(alloc, value)?,
-    })
-}
-
-fn records<A: Heap>(alloc: A, lines: &[Line<'_>]) -> Result<Records<A>, Starved> {
-    let mut records = Records::new(alloc);
-    for line in lines {
-        records.push(record(alloc, *line)?)?;
-    }
-    Ok(records)
-}
 
 // RCODE is a number of four bits (RFC 1035, section 4.1.1).
 fn header(rcode: u8, aa: bool, tc: bool) -> Header
@@ -170,9 +111,9 @@ fn bare<A: Heap>(alloc: A, header: Header) -> Message<A> {
     message(alloc, header, empty(alloc), empty(alloc), empty(alloc))
 }
 
-fn answer<A: Heap>(alloc: A, line: Line<'_>) -> Result<Message<A>, Starved> {
+fn answer<A: Heap>(alloc: A, row: Row<'_>) -> Result<Message<A>, Starved> {
     let header = header(0, true, false);
-    let answer = records(alloc, &[line])?;
+    let answer = records(alloc, &[row])?;
     Ok(message(alloc, header, answer, empty(alloc), empty(alloc)))
 }
 
@@ -221,10 +162,6 @@ fn referral<A: Heap>(
     Ok(message(alloc, header, empty(alloc), servers, addresses))
 }
 
-fn address(last: u8) -> Addr {
-    Addr([192, 0, 2, last])
-}
-
 fn told<A: Heap>(server: u8, message: Message<A>) -> Input<A> {
     Input::Told(Via::Udp, address(server), message)
 }
@@ -232,7 +169,7 @@ fn told<A: Heap>(server: u8, message: Message<A>) -> Input<A> {
 fn input<A: Heap>(alloc: A, event: Event<'_>) -> Result<Input<A>, Starved> {
     match event {
         Event::Query(_) => Ok(Input::Start),
-        Event::Answer(server, line) => Ok(told(server, answer(alloc, line)?)),
+        Event::Answer(server, row) => Ok(told(server, answer(alloc, row)?)),
         Event::NoName => Ok(told(ROOT, denial(alloc)?)),
         Event::Referral(zone, names, glue) => Ok(told(ROOT, referral(alloc, zone, names, glue)?)),
         Event::Truncated(server) => Ok(told(server, bare(alloc, header(0, true, true)))),
@@ -244,7 +181,7 @@ fn input<A: Heap>(alloc: A, event: Event<'_>) -> Result<Input<A>, Starved> {
 
 fn zone<A: Heap>(alloc: A) -> Result<Zone<A>, Starved> {
     let origin = name(alloc, "local")?;
-    match Zone::build(origin, records(alloc, &ZONE_LINES)?) {
+    match Zone::build(origin, records(alloc, &ZONE_ROWS)?) {
         Ok(zone) => Ok(zone),
         Err(_) => Err(Starved),
     }
