@@ -47,9 +47,9 @@ impl<A: Heap> Maker<A> {
         others: &'static [&'static str],
     ) -> Result<String<A>, Starved> {
         let mut text = String::new(self.alloc);
-        for labels in [first, others, others] {
-            text.push_str(self.one_of(labels))?;
-        }
+        text.push_str(self.one_of(first))?;
+        text.push_str(self.one_of(others))?;
+        text.push_str(self.one_of(others))?;
         text.push_str(ORIGIN)?;
         Ok(text)
     }

@@ -6,7 +6,7 @@ use authority::Link;
 use cache::Cache;
 use dname::{Name, Starved};
 use lru::DefaultHasher;
-use rdata::{Addr, RData, RType, Record, RecordSet};
+use rdata::{Addr, RData, RType, Record, RecordSet, Records, set_at};
 use std::alloc::Global;
 use std::hash::BuildHasherDefault;
 use std::num::NonZeroUsize;
@@ -95,6 +95,40 @@ pub fn find<R: Runtime + AllocGlobal>(rt: &R, rounds: u64) -> Result<Done> {
     Ok(Done {
         sum,
         taken,
+        counted: Counted::Nothing,
+    })
+}
+
+// A set of so many addresses of one name.
+fn set_of(alloc: Global, owner: &Name, count: u8) -> Result<Link, Starved> {
+    let mut records = Records::new(alloc);
+    for last in 0..count {
+        records.push(Record {
+            owner: owner.clone()?,
+            ttl: 300,
+            value: RData::A(Addr([192, 0, 2, last])),
+        })?;
+    }
+    let set = set_at(alloc, records.as_slice(), owner, RType::A)?;
+    Ok(Link::Found(set.ok_or(Starved)?))
+}
+
+/// A set of so many addresses, found so often.
+pub fn find_set<R: Runtime + AllocGlobal>(rt: &R, count: u8, rounds: u64) -> Result<Done> {
+    let alloc = rt.alloc();
+    let name = host(alloc, 0)?;
+    let mut cache: Cache<DefaultHasher> = Cache::new(alloc, room()?, BuildHasherDefault::new())?;
+    cache.keep(&name, RType::A, &set_of(alloc, &name, count)?, 300, 0)?;
+    let start = Instant::now(rt)?;
+    let mut sum = 0u64;
+    for _ in 0..rounds {
+        if cache.look(&name, RType::A, 1_000)?.is_some() {
+            sum = sum.wrapping_add(1);
+        }
+    }
+    Ok(Done {
+        sum,
+        taken: start.elapsed(rt)?,
         counted: Counted::Nothing,
     })
 }

@@ -50,6 +50,8 @@ pub enum Work {
     /// A link kept in a cache, each for another name; and found again.
     KeepLink,
     FindLink,
+    /// A set of so many addresses found in a cache that has nothing else.
+    FindSet(u8),
     /// A datagram's query found among so many open ones, and the query that is due first.
     FindAskOfOne,
     FindAskOfMany,
@@ -61,7 +63,7 @@ pub enum Work {
     KnownAnswer(Known),
 }
 
-pub const ALL: [Work; 39] = [
+pub const ALL: [Work; 41] = [
     Work::ReadName,
     Work::WriteName,
     Work::HashName,
@@ -91,6 +93,8 @@ pub const ALL: [Work; 39] = [
     Work::CheckWorld,
     Work::KeepLink,
     Work::FindLink,
+    Work::FindSet(1),
+    Work::FindSet(20),
     Work::FindAskOfOne,
     Work::FindAskOfMany,
     Work::PassDatagram(1),
@@ -173,6 +177,7 @@ impl fmt::Display for Work {
             Work::CheckWorld => "zone of a world of 1,000 checked",
             Work::KeepLink => "link kept",
             Work::FindLink => "link found",
+            Work::FindSet(count) => return write!(f, "set of {count} found"),
             Work::FindAskOfOne => "ask found among 1",
             Work::FindAskOfMany => "ask found among 1,024",
             Work::PassDatagram(open) => return write!(f, "datagram passed over among {open}"),
@@ -195,7 +200,7 @@ impl Work {
             Work::HashName | Work::CompareNames | Work::TestUnder => 10_000_000,
             Work::FindAskOfOne | Work::FindAskOfMany | Work::PassDatagram(_) => 10_000_000,
             Work::DecodeReply | Work::EncodeReply => 1_000_000,
-            Work::KeepLink | Work::FindLink | Work::Look(..) => 1_000_000,
+            Work::KeepLink | Work::FindLink | Work::FindSet(_) | Work::Look(..) => 1_000_000,
             Work::AnswerQuery(_) | Work::KnownAnswer(_) => 1_000_000,
             Work::DecodeTwenty | Work::EncodeTwenty => 100_000,
             Work::ReadZone | Work::BuildHundredThousand => 100_000,
@@ -215,6 +220,7 @@ impl Work {
             Work::CheckWorld => made_worlds::check(rt, rounds),
             Work::KeepLink => links::keep(rt, rounds),
             Work::FindLink => links::find(rt, rounds),
+            Work::FindSet(count) => links::find_set(rt, count, rounds),
             Work::FindAskOfOne => open_asks::find(rt, 1, rounds),
             Work::FindAskOfMany => open_asks::find(rt, 1_024, rounds),
             Work::PassDatagram(open) => steps::pass(rt, open, rounds),

@@ -9,7 +9,7 @@ ghost use Rattle.commands.specs.Exchanges.{query_for, AreMessage, AreLinesOf, Ar
 use authority::Catalog;
 use causes::Cause;
 use dname::{Heap, Name, Starved};
-use front::{Asked, Query, Via, answer_local, read_query, refusal_bytes, reply_bytes};
+use front::{Asked, Query, Via, Writer, answer_local, read_query, refusal_bytes, reply_bytes};
 use lines::put_reply_bytes;
 use rdata::{INTERNET, RType, Records};
 use wire::{Header, Message, Question, Questions, UDP_LIMIT, encode};
@@ -39,7 +39,7 @@ fn lines_of<A: Heap>(alloc: A, catalog: &Catalog<A>, asked: Asked<A>) -> Result<
     match asked {
         Asked::Drop => Ok(String::new(alloc)),
         Asked::Refuse(refusal, start, echo) => {
-            let reply = refusal_bytes(alloc, refusal, start, echo.as_ref())?;
+            let reply = refusal_bytes(&mut Writer::new(alloc)?, refusal, start, echo.as_ref())?;
             Ok(printed(alloc, &reply, None)?)
         }
         Asked::Query(query) => Ok(answer_lines(alloc, catalog, &query)?),
@@ -55,7 +55,7 @@ fn answer_lines<A: Heap>(
     ensures { IfOk result (λ s. AreLinesOf catalog.now (asked.Query query.now) (string_bytes s)) }
 {
     let outcome = answer_local(alloc, query, catalog)?;
-    let (reply, cause) = reply_bytes(alloc, query, &outcome, Via::Udp)?;
+    let (reply, cause) = reply_bytes(&mut Writer::new(alloc)?, query, &outcome, Via::Udp)?;
     Ok(printed(alloc, &reply, cause)?)
 }
 

@@ -8,16 +8,16 @@ use Rattle.front.specs.declared.queries.Refusal.{Refusal}
 use Rattle.front.specs.declared.queries.Query.{Query as Question}
 use Rattle.front.specs.declared.queries.Asked.{Asked}
 use Rattle.front.specs.declared.queries.Asked.TheVariants as heard
-use Rattle.resolution.specs.Jobs.{Stores, Job, Start, Next}
+use Rattle.resolution.specs.Jobs.{Stores, Taken, Job, Start, Next, Done}
 use Rattle.resolution.specs.Rules.{Advances, Stops}
 use Rattle.runs.specs.States.{Client, Action, Plain, Asker, asker, recursive, Served, Own, Open, job_for, State}
-use Rattle.runs.specs.Messages.{IsRefusal}
-use Rattle.runs.specs.Steps.{AreOthers, AnswersAtHand, IsOpened, at_once, crowded, admitted}
+use Rattle.runs.specs.Messages.{IsRefusal, outcome_of}
+use Rattle.runs.specs.Steps.{AreOthers, Ends, AnswersAtHand, IsOpened, at_once, crowded, admitted}
 use Rattle.engine.specs.Works.{IsSound}
 use Rattle.engine.specs.Moves.{Halts, Falls, Opens}
 use Rattle.engine.specs.Calls.{Handles, IsResolved, Begins, IsGone}
 use Rattle.engine.specs.Turns.{Turns}
-use Rattle.engine.proofs.Begun.{next_is_fresh}
+use Rattle.engine.proofs.Begun.{next_is_fresh, opens_at_once}
 use Rattle.engine.proofs.Lift.{others_same, lift, ends_too, falls_after}
 
 pub at_err : {T E P : Type 0} (r : Result T E) → P → OnErr r P
@@ -28,6 +28,9 @@ at_err (Err e) h = h
 
 pub lost_none : (s : State) → IsSound s → IsGone s s
 lost_none s sound = record { queries = others_same s.queries s.opened (next_is_fresh s sound); stores = inl refl; generator = inl refl; state = refl }
+
+pub lost_same : (s new : State) → IsSound s → new ≡ s → IsGone s new
+lost_same s new sound same = subst (IsGone s) (sym same) (lost_none s sound)
 
 falls_lost : (s : State) (job : Job) (new : State) → IsSound s → Falls s job Start new → IsGone s new
 falls_lost s job new sound h =
@@ -65,6 +68,13 @@ begins s mid who next after stores out new sound e advances h =
       served = k.served;
       resolves = record { next = next; job = after; stores = stores; advances = advances; opened = opened_before s who stores next after k.served out new sound k.opened };
     }
+
+-- What is known at once is the answer, of a query that is not opened.
+pub begins_known : (s mid : State) (who : Asker) (chain : List Taken) (last : Taken) (over : Job) (stores : Stores) (out : List Action) (new : State) → IsSound s → mid ≡ record s { stores = stores } → chain ≡ []
+    → Advances (s.site).home s.clock Start (job_for s.clock who.query) s.stores (Done [] last) over stores → Ends mid who mid.opened (outcome_of mid.clock chain last) mid.stores out new → Begins s who out new
+begins_known s mid who chain last over stores out new sound e none advances ends =
+    begins s mid who (Done [] last) over stores out new sound e advances
+    (opens_at_once mid who (Done [] last) over out new (λ asks. asks) (subst (λ (links : List Taken). Ends mid who mid.opened (outcome_of mid.clock links last) mid.stores out new) none ends))
 
 -- ---- a query
 

@@ -90,6 +90,10 @@ falls_after s mid job input next after stores new e advances h =
       state = is ∙ ap (λ (x : Stores). record s { stores = x; generator = new.generator }) (sym st);
     }
 
+-- Nothing changed.
+pub halts_same : (s new : State) → new ≡ s → Halts s new
+halts_same s new same = subst (Halts s) (sym same) (record { generator = inl refl; state = refl })
+
 pub falls_in : (s : State) (job : Job) (input : Input) (stores : Stores) → Stops input s.clock job s.stores stores → Falls s job input (record s { stores = stores })
 falls_in s job input stores stops = record { stores = inr stops; generator = inl refl; state = refl }
 

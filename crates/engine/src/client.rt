@@ -1,5 +1,8 @@
 //! What clients send.
 ghost use Rattle.std.specs.Prelude.{◌≡◌, ℕ, ◌<◌, ◌≤◌, Some, None, IfOk, IsOk, OnErr, length};
+ghost use Rattle.resolution.specs.Jobs.{Start as Starting};
+ghost use Rattle.resolution.specs.Rules.{Stops};
+ghost use Rattle.iterate.specs.Beginnings.{BeginsWith};
 ghost use Rattle.front.specs.declared.queries.Asked.TheVariants as heard;
 ghost use Rattle.runs.specs.States.{Client, Own, latest, recursive, job_for};
 ghost use Rattle.runs.specs.Messages.{IsRefusal};
@@ -11,20 +14,34 @@ ghost use Rattle.engine.specs.Replies.{alone, if_any};
 ghost use Rattle.engine.specs.Calls.{Handles, IsResolved, Begins, IsGone};
 ghost use Rattle.engine.specs.Turns.{Turns};
 
-use crate::works::Works;
+use crate::works::{Hasher, Works};
 use dname::{Heap, Starved};
 use exchange::{Action, Asker, local_answer_is_plain, read_asked, refuse, reply_to};
 use front::{Asked, Echo, Refusal, Start, answer_local};
-use iterate::{Input, Job, advance};
-use wire::Via;
+use iterate::{Begun, Chain, begin};
+use known::{Home, Stores};
+use wire::{Via, Writer};
 
-// The work on a query that comes now, at `now` milliseconds.
-fn first_job<A: Heap>(alloc: A, asker: &Asker<A>, now: u64) -> Result<Job<A>, Starved>
+// What comes at once of a query at `now` milliseconds.
+fn begun<A: Heap>(
+    alloc: A,
+    asker: &Asker<A>,
+    home: &Home<A>,
+    stores: &mut Stores<Hasher, A>,
+    now: u64,
+) -> Result<Begun<A>, Starved>
     requires { now ≤ latest }
-    ensures { IfOk result (λ j. j ≡ job_for now asker.now.query) }
+    ensures begins { IfOk result (λ b. BeginsWith home.now now (job_for now asker.now.query) stores.old b stores.new) }
+    ensures stops { OnErr result (Stops Starting now (job_for now asker.now.query) stores.old stores.new) }
 {
-    let name = asker.query.name.copied(alloc)?;
-    Ok(Job::new(name, asker.query.kind, now))
+    begin(
+        alloc,
+        &asker.query.name,
+        asker.query.kind,
+        home,
+        stores,
+        now,
+    )
 }
 
 // Whether the answer is to be found for the client (RFC 1035, section 4.1.1).
@@ -36,7 +53,7 @@ fn is_recursive<A: Heap>(asker: &Asker<A>) -> bool
 
 // What is refused goes out with the question that it repeats.
 fn refused<A: Heap>(
-    alloc: A,
+    writer: &mut Writer<A>,
     client: u64,
     way: Via,
     refusal: Refusal,
@@ -45,7 +62,7 @@ fn refused<A: Heap>(
 ) -> Result<Action<A>, Starved>
     ensures { IfOk result (λ a. IsRefusal client way refusal start echo (action_view a)) }
 {
-    refuse(alloc, client, way, refusal, start, echo.as_ref())
+    refuse(writer, client, way, refusal, start, echo.as_ref())
 }
 
 impl<A: Heap> Works<A> {
@@ -80,7 +97,7 @@ impl<A: Heap> Works<A> {
         match asked {
             Asked::Drop => Ok(None),
             Asked::Refuse(refusal, start, echo) => {
-                Ok(Some(refused(self.alloc, client, way, refusal, start, echo)?))
+                Ok(Some(refused(&mut self.writer, client, way, refusal, start, echo)?))
             }
             Asked::Query(query) => Ok(Some(self.resolve(Asker { client, way, query })?)),
         }
@@ -100,29 +117,24 @@ impl<A: Heap> Works<A> {
     }
 
     // The zones at hand alone answer.
-    fn at_hand(&self, asker: &Asker<A>) -> Result<Action<A>, Starved>
-        ensures { IfOk result (λ a. AnswersAtHand (state_of self.now) asker.now Own (alone a) (state_of self.now)) }
+    fn at_hand(&mut self, asker: &Asker<A>) -> Result<Action<A>, Starved>
+        ensures ok { IfOk result (λ a. AnswersAtHand (state_of self.old) asker.now Own (alone a) (state_of self.new)) }
+        ensures same { state_of self.new ≡ state_of self.old }
     {
         local_answer_is_plain(self.alloc);
         let outcome = answer_local(self.alloc, &asker.query, self.home.catalog())?;
-        reply_to(self.alloc, asker, &outcome)
+        reply_to(&mut self.writer, asker, &outcome)
     }
 
-    // A recursive query: its work begins.
+    // A recursive query: what is known answers it, or its work begins.
     fn begin(&mut self, asker: Asker<A>) -> Result<Action<A>, Starved>
         requires sound { IsSound (state_of self.old) }
         ensures ok { IfOk result (λ a. Begins (state_of self.old) asker (alone a) (state_of self.new)) }
         ensures err { OnErr result (IsGone (state_of self.old) (state_of self.new)) }
     {
-        let mut job = first_job(self.alloc, &asker, self.clock)?;
-        let next = advance(
-            self.alloc,
-            &mut job,
-            Input::Start,
-            &self.home,
-            &mut self.stores,
-            self.clock,
-        )?;
-        self.admit(asker, job, next)
+        match begun(self.alloc, &asker, &self.home, &mut self.stores, self.clock)? {
+            Begun::Known(last) => { self.answer(self.opened, &asker, Chain::new(self.alloc), last) }
+            Begun::Works(job, next) => self.admit(asker, job, next),
+        }
     }
 }

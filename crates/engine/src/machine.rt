@@ -20,6 +20,7 @@ use rand_chacha::ChaCha20Rng;
 use rand_core::SeedableRng;
 use std::alloc::{Allocator, Global};
 use std::marker::Model;
+use wire::Writer;
 
 /// A resolver: the zones and hints that it holds, what it learnt, and the open queries.
 #[derive(Drop)]
@@ -63,6 +64,7 @@ impl<A: Heap> Core<A> {
         let catalog = Catalog::new(config.local)?;
         let home = Home::new(alloc, catalog, &hints)?;
         let stores = stores(alloc, room)?;
+        let writer = Writer::new(alloc)?;
         Ok(Core {
             works: Works {
                 alloc,
@@ -75,6 +77,7 @@ impl<A: Heap> Core<A> {
                 opened: 0,
                 asked: 0,
                 generator: ChaCha20Rng::from_seed(settings.seed),
+                writer,
             },
         })
     }

@@ -23,27 +23,34 @@ use known::Taken;
 
 impl<A: Heap> Works<A> {
     // The answer of a chain and its end goes out, and the query of that number is over.
-    fn answer(
-        &self,
+    pub fn answer(
+        &mut self,
         number: u64,
         asker: &Asker<A>,
         chain: Chain<A>,
         last: Taken<A>,
     ) -> Result<Action<A>, Starved>
-        requires { HasNo self.now.queries number }
-        ensures { IfOk result (λ a. Ends (state_of self.now) asker.now number (outcome_of self.now.clock chain last) self.now.stores (alone a) (state_of self.now)) }
+        requires { HasNo self.old.queries number }
+        ensures ok { IfOk result (λ a. Ends (state_of self.old) asker.now number (outcome_of self.old.clock chain last) self.old.stores (alone a) (state_of self.new)) }
+        ensures same { state_of self.new ≡ state_of self.old }
     {
         let outcome = outcome_of(self.alloc, chain, last, self.clock)?;
-        reply_to(self.alloc, asker, &outcome)
+        reply_to(&mut self.writer, asker, &outcome)
     }
 
     // The failure goes out, and the query of that number is over.
-    pub fn fail(&self, number: u64, asker: &Asker<A>, cause: Cause) -> Result<Action<A>, Starved>
-        requires { HasNo self.now.queries number }
-        ensures { IfOk result (λ a. Ends (state_of self.now) asker.now number (outcome.Fail cause) self.now.stores (alone a) (state_of self.now)) }
+    pub fn fail(
+        &mut self,
+        number: u64,
+        asker: &Asker<A>,
+        cause: Cause,
+    ) -> Result<Action<A>, Starved>
+        requires { HasNo self.old.queries number }
+        ensures ok { IfOk result (λ a. Ends (state_of self.old) asker.now number (outcome.Fail cause) self.old.stores (alone a) (state_of self.new)) }
+        ensures same { state_of self.new ≡ state_of self.old }
     {
         let outcome = Outcome::Fail(cause);
-        reply_to(self.alloc, asker, &outcome)
+        reply_to(&mut self.writer, asker, &outcome)
     }
 
     // What the work gave goes out: an ask, or the reply.

@@ -5,6 +5,7 @@ use queries::Queries;
 use rand_chacha::ChaCha20Rng;
 use std::alloc::{Allocator, Global};
 use std::hash::{BuildHasherDefault, FoldHasher};
+use wire::Writer;
 
 // What hashes the keys of the stores.
 pub type Hasher = BuildHasherDefault<FoldHasher>;
@@ -23,4 +24,6 @@ pub struct Works<A: Allocator = Global> {
     pub opened: u64,
     pub asked: u64,
     pub generator: ChaCha20Rng,
+    // What replies are written with.
+    pub writer: Writer<A>,
 }

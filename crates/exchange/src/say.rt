@@ -15,7 +15,7 @@ use crate::path::{Endpoint, Path};
 use dname::{Heap, Starved};
 use front::{Echo, Outcome, Refusal, Start, Via, refusal_bytes, reply_bytes};
 use rdata::{INTERNET, Records};
-use wire::{Header, Message, Question, Questions, UDP_LIMIT, WireError, encode};
+use wire::{Header, Message, Question, Questions, UDP_LIMIT, WireError, Writer, encode};
 
 /// An iterative query as it goes out on its path, to the server's `port`: one question in class IN, RD clear, at most 512
 /// bytes (RFC 1035, sections 2.3.4 and 4.1.2).
@@ -100,14 +100,14 @@ fn ask_header(id: u16) -> Header
 /// The reply of an outcome to the client who asked, by its way and within its limit, with the cause of a
 /// SERVFAIL.
 pub fn reply_to<A: Heap>(
-    alloc: A,
+    writer: &mut Writer<A>,
     asker: &Asker<A>,
     outcome: &Outcome<A>,
 ) -> Result<Action<A>, Starved>
     ensures reply { IfOk result (λ a. IsReply asker.now (plain_outcome outcome.now) (action_view a)) }
     ensures short { IfOk result (λ a. length (bytes_in (action_view a)) ≤ limit_of asker.now.way) }
 {
-    let (bytes, cause) = reply_bytes(alloc, &asker.query, outcome, asker.way)?;
+    let (bytes, cause) = reply_bytes(writer, &asker.query, outcome, asker.way)?;
     Ok(Action::Reply {
         client: asker.client,
         way: asker.way,
@@ -119,7 +119,7 @@ pub fn reply_to<A: Heap>(
 /// The refusal of bytes that are no query to be answered, to the client who sent them, by its way; with the
 /// question, where there is one to repeat.
 pub fn refuse<A: Heap>(
-    alloc: A,
+    writer: &mut Writer<A>,
     client: u64,
     way: Via,
     refusal: Refusal,
@@ -129,7 +129,7 @@ pub fn refuse<A: Heap>(
     ensures reply { IfOk result (λ a. IsRefusal client way refusal start (option_copied echo.entry) (action_view a)) }
     ensures short { IfOk result (λ a. length (bytes_in (action_view a)) ≤ UDP_LIMIT) }
 {
-    let bytes = refusal_bytes(alloc, refusal, start, echo)?;
+    let bytes = refusal_bytes(writer, refusal, start, echo)?;
     Ok(Action::Reply {
         client,
         way,

@@ -9,7 +9,7 @@ use front::{Asked, Outcome, Via};
 use rdata::{Addr, RType};
 use refusing::Refusing;
 use std::test::Fail;
-use wire::TCP_LIMIT;
+use wire::{TCP_LIMIT, Writer};
 
 const SERVER: Addr = Addr([192, 0, 2, 1]);
 
@@ -213,7 +213,11 @@ fn late_reply<A: Heap>(alloc: A) -> Result<Action<A>, Starved> {
         way: Via::Tcp,
         query,
     };
-    reply_to(alloc, &asker, &Outcome::Fail(Cause::Deadline))
+    reply_to(
+        &mut Writer::new(alloc)?,
+        &asker,
+        &Outcome::Fail(Cause::Deadline),
+    )
 }
 
 // SERVFAIL, with QR, RD and RA, and the question in the client's letters.
@@ -238,7 +242,14 @@ fn a_reply_goes_to_the_client_who_asked(rt: HostRuntime) -> Result<(), Fail> {
 fn refusal<A: Heap>(alloc: A) -> Result<Action<A>, Starved> {
     match read_asked(alloc, b"\0\x05\0\0\0\x01\0\0\0\0\0\0\x01A\0\0\x10\0\x03")? {
         Asked::Refuse(refusal, start, echo) => {
-            refuse(alloc, 4, Via::Udp, refusal, start, echo.as_ref())
+            refuse(
+                &mut Writer::new(alloc)?,
+                4,
+                Via::Udp,
+                refusal,
+                start,
+                echo.as_ref(),
+            )
         }
         _ => Err(Starved),
     }

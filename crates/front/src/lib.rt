@@ -32,4 +32,4 @@ pub use queries::{Asked, End, Outcome, Query, Refusal};
 pub use read::read_query;
 pub use reply::{refusal_bytes, reply_bytes};
 pub use start::Start;
-pub use wire::{Draft, Echo, Via};
+pub use wire::{Draft, Echo, Via, Writer};

@@ -11,13 +11,13 @@ use crate::start::Start;
 use causes::Cause;
 use dname::{Heap, Starved};
 use std::alloc::Allocator;
-use wire::{Draft, Echo, Header, TCP_LIMIT, UDP_LIMIT, Via};
+use wire::{Draft, Echo, Header, TCP_LIMIT, UDP_LIMIT, Via, Writer};
 
 /// The bytes of the reply, and the cause of a SERVFAIL. A reply over 512 bytes on UDP keeps header and
 /// question, with TC set; one over 65,535 bytes on TCP is a SERVFAIL. The bytes are read back as the reply, its
 /// question in lower case.
 pub fn reply_bytes<A: Heap>(
-    alloc: A,
+    writer: &mut Writer<A>,
     query: &Query<A>,
     outcome: &Outcome<A>,
     via: Via,
@@ -30,19 +30,22 @@ pub fn reply_bytes<A: Heap>(
     let cause = cause_in(outcome);
     let whole = draft_of(query, outcome);
     match via {
-        Via::Udp => match whole.encode(alloc, UDP_LIMIT)? {
+        Via::Udp => match whole.encode(writer, UDP_LIMIT)? {
             Some(bytes) => Ok((bytes, cause)),
             None => {
                 is_short(Some(&query.echo));
-                Ok((short_bytes(alloc, &truncated(&whole), UDP_LIMIT)?, cause))
+                Ok((short_bytes(writer, &truncated(&whole), UDP_LIMIT)?, cause))
             }
         },
-        Via::Tcp => match whole.encode(alloc, TCP_LIMIT)? {
+        Via::Tcp => match whole.encode(writer, TCP_LIMIT)? {
             Some(bytes) => Ok((bytes, cause)),
             None => {
                 is_short(Some(&query.echo));
                 let failure = empty_draft(query.start, Some(&query.echo), 2);
-                Ok((short_bytes(alloc, &failure, TCP_LIMIT)?, Some(Cause::Large)))
+                Ok((
+                    short_bytes(writer, &failure, TCP_LIMIT)?,
+                    Some(Cause::Large),
+                ))
             }
         },
     }
@@ -51,7 +54,7 @@ pub fn reply_bytes<A: Heap>(
 /// The bytes of the reply to a query that is refused before it is looked at: header, and the question if it
 /// was read. They are read back as that reply, its question in lower case.
 pub fn refusal_bytes<A: Heap>(
-    alloc: A,
+    writer: &mut Writer<A>,
     refusal: Refusal,
     start: Start,
     echo: Option<&Echo<A>>,
@@ -61,18 +64,26 @@ pub fn refusal_bytes<A: Heap>(
     ensures short { IfOk result (λ r. length r.items ≤ UDP_LIMIT) }
 {
     is_short(echo);
-    short_bytes(alloc, &empty_draft(start, echo, refusal.rcode()), UDP_LIMIT)
+    short_bytes(
+        writer,
+        &empty_draft(start, echo, refusal.rcode()),
+        UDP_LIMIT,
+    )
 }
 
 // The bytes of a message that is short enough for its limit.
-fn short_bytes<A: Heap>(alloc: A, draft: &Draft<'_, A>, limit: usize) -> Result<Vec<u8, A>, Starved>
+fn short_bytes<A: Heap>(
+    writer: &mut Writer<A>,
+    draft: &Draft<'_, A>,
+    limit: usize,
+) -> Result<Vec<u8, A>, Starved>
     requires limit { limit ≤ TCP_LIMIT }
     requires fits { length (encoding draft.now) ≤ limit }
     ensures bytes { IfOk result (λ r. r.items ≡ encoding draft.now) }
     ensures message { IfOk result (λ r. IsMessage r.items (folded_message draft.now)) }
     ensures short { IfOk result (λ r. length r.items ≤ limit) }
 {
-    match draft.encode(alloc, limit)? {
+    match draft.encode(writer, limit)? {
         Some(bytes) => Ok(bytes),
         None => unreachable!(),
     }

@@ -1,7 +1,7 @@
 //! A query that a local zone answers, bytes to bytes.
 use authority::Catalog;
 use dname::{Heap, Name, Starved};
-use front::{Asked, Via, answer_local, read_query, reply_bytes};
+use front::{Asked, Via, Writer, answer_local, read_query, reply_bytes};
 use rdata::{Addr, RData, RType, Record, Records, Soa};
 use refusing::Refusing;
 use std::test::Fail;
@@ -110,7 +110,7 @@ fn answer<A: Heap>(alloc: A, catalog: &Catalog<A>, bytes: &[u8]) -> Result<Vec<u
         return Err(Starved);
     };
     let outcome = answer_local(alloc, &query, catalog)?;
-    let (reply, _) = reply_bytes(alloc, &query, &outcome, Via::Udp)?;
+    let (reply, _) = reply_bytes(&mut Writer::new(alloc)?, &query, &outcome, Via::Udp)?;
     Ok(reply)
 }
 

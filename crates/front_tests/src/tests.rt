@@ -3,7 +3,7 @@ ghost use Rattle.std.specs.Prelude.{◌≤◌};
 
 use causes::Cause;
 use dname::{Heap, Starved};
-use front::{Asked, End, Outcome, Via, read_query, refusal_bytes, reply_bytes};
+use front::{Asked, End, Outcome, Via, Writer, read_query, refusal_bytes, reply_bytes};
 use rdata::{CharacterString, RData, RType, Record, Records, Texts, set_at};
 use std::test::Fail;
 
@@ -16,7 +16,7 @@ fn is_dropped<A: Heap>(alloc: A, bytes: &[u8]) -> bool {
 fn refusal<A: Heap>(alloc: A, bytes: &[u8]) -> Result<Vec<u8, A>, Starved> {
     match read_query(alloc, bytes)? {
         Asked::Refuse(refusal, start, echo) => {
-            Ok(refusal_bytes(alloc, refusal, start, echo.as_ref())?)
+            Ok(refusal_bytes(&mut Writer::new(alloc)?, refusal, start, echo.as_ref())?)
         }
         _ => Ok(Vec::new(alloc)),
     }
@@ -69,7 +69,7 @@ fn reply<A: Heap>(
     };
     let set = set_at(alloc, records.as_slice(), &query.name, RType::Txt)?.ok_or(Starved)?;
     let outcome = Outcome::Answer(true, Records::new(alloc), End::Found(set));
-    reply_bytes(alloc, &query, &outcome, via)
+    reply_bytes(&mut Writer::new(alloc)?, &query, &outcome, via)
 }
 
 // A TXT record of so many strings of 255 bytes, and one of `last` bytes, all of one letter.

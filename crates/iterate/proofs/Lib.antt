@@ -1,4 +1,5 @@
 pub mod Accepted
 pub mod Alive
 pub mod Sought
+pub mod Started
 pub mod Turns

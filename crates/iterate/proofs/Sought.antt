@@ -13,7 +13,7 @@ use Rattle.known.specs.declared.lookup.Found.TheVariants as found
 use Rattle.iterate.specs.Moves.{with_search}
 
 module _ {A : Type 0} (home : Home) (now : ℕ) (n m : Name) (t u : ℕ) (old : Stores) (f : Found A) (new : Stores) (named : n ≡ m) (typed : t ≡ u) (h : IsFound home now n t old f new) where
-  found_at : IsFound home now m u old f new
+  pub found_at : IsFound home now m u old f new
   found_at = subst (λ (x : Name). IsFound home now x u old f new) named (subst (λ (x : ℕ). IsFound home now n x old f new) typed h)
 
   pub finds_at : (l : Taken) → f ≡ found.Known l → Finds home now m u old l new

@@ -14,8 +14,8 @@ use dname::{Heap, Starved};
 use known::{Home, Stores};
 use std::hash::BuildHasher;
 
-// Does what is due, task by task, until something goes out.
-fn run<S: BuildHasher + Drop, A: Heap>(
+/// Does what is due, task by task, until something goes out.
+pub(crate) fn run<S: BuildHasher + Drop, A: Heap>(
     alloc: A,
     job: &mut Job<A>,
     first: Task<A>,

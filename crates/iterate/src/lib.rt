@@ -1,10 +1,11 @@
 //! The work on one query (RFC 1034, section 5.3.3): what is due for it, which servers are asked, and what comes of
 //! what they say.
 //!
-//! `Job::new` is the work on a query that comes, with ten seconds for it. `advance` takes what came in, an `Input`:
-//! the query itself, the message that was accepted for its ask, a time-out, an ask over TCP that failed. It answers
-//! with the `Next` thing that goes out: an ask of a server in a datagram or over TCP, the CNAME chain and its end,
-//! or the cause of a failure.
+//! `begin` takes a query that comes: where what is known of its name is no alias that is the answer, without a job;
+//! else a `Job` is made, with ten seconds for it. `advance` takes what came in for a job, an `Input`: the query
+//! itself, the message that was accepted for its ask, a time-out, an ask over TCP that failed. Both answer with the
+//! `Next` thing that goes out: an ask of a server in a datagram or over TCP, the CNAME chain and its end, or the
+//! cause of a failure.
 //!
 //! Promised: each call is one by the rules of `resolution` (`Advances`); where memory is wanting the stores have
 //! nothing new but what was accepted (`Stops`). At most 40 asks, eight aliases, and look-ups of servers' addresses
@@ -12,18 +13,19 @@
 //! Not here: which message is a reply (`exchange`), identifiers, sockets and many queries at once (`engine`).
 //!
 //! ```text
-//! let mut job = Job::new(name, RType::A, now);
-//! match advance(alloc, &mut job, Input::Start, &home, &mut stores, now)? {
-//!     Next::Ask(server, name, kind) => { /* later: Input::Told(Via::Udp, ..), or Input::TimedOut(server) */ }
-//!     Next::AskTcp(server, name, kind) => { /* later: Input::Told(Via::Tcp, ..), or Input::TcpFailed(server) */ }
-//!     Next::Done(chain, last) => { /* the aliases, and what ends them */ }
-//!     Next::Fail(cause) => { /* SERVFAIL */ }
+//! match begin(alloc, &name, RType::A, &home, &mut stores, now)? {
+//!     Begun::Known(last) => { /* the answer */ }
+//!     Begun::Works(job, Next::Ask(server, name, kind)) => { /* later: advance with Input::Told(Via::Udp, ..), or Input::TimedOut(server) */ }
+//!     Begun::Works(job, Next::AskTcp(server, name, kind)) => { /* later: Input::Told(Via::Tcp, ..), or Input::TcpFailed(server) */ }
+//!     Begun::Works(_, Next::Done(chain, last)) => { /* the aliases, and what ends them */ }
+//!     Begun::Works(_, Next::Fail(cause)) => { /* SERVFAIL */ }
 //! }
 //! ```
 #![tactic(auto)]
 
 mod advancing;
 mod asking;
+mod beginning;
 mod calls;
 mod chain;
 mod chaining;
@@ -36,6 +38,7 @@ mod task;
 mod turn;
 
 pub use advancing::advance;
+pub use beginning::{Begun, begin};
 pub use calls::{Input, Next};
 pub use chain::Chain;
 pub use job::Job;

@@ -1,7 +1,9 @@
 //! One move of a query at work.
-ghost use Rattle.std.specs.Prelude.{◌≡◌, IfOk, OnOk};
+ghost use Rattle.std.specs.Prelude.{◌≡◌, ℕ, IfOk, OnOk};
 ghost use Rattle.frames.specs.Frames.{opened};
-ghost use Rattle.resolution.specs.Jobs.{Seek as Seeking, point, search_at, level_of, IsFreshTask};
+ghost use Rattle.resolution.specs.Jobs.{Home as Grounds, Stores as Learnt, Seek as Seeking, point, search_at, level_of, IsFreshTask};
+ghost use Rattle.resolution.specs.Rules.{Rule};
+ghost use Rattle.known.specs.Found.{IsFound};
 ghost use Rattle.known.specs.Uses.{OnlyUses};
 ghost use Rattle.iterate.specs.Moves.{IsMove, begun};
 ghost use Rattle.iterate.specs.Views.{task_view, turn_view};
@@ -33,6 +35,26 @@ fn begin<S: BuildHasher + Drop, A: Heap>(
     Ok(())
 }
 
+/// What is due after what was found for the query's name: the link is used, or servers are sought for it.
+pub(crate) fn due_after<S: BuildHasher + Drop, A: Heap>(
+    alloc: A,
+    job: &mut Job<A>,
+    found: Found<A>,
+    stores: &Stores<S, A>,
+) -> Result<Task<A>, Starved>
+    ensures { (home : Grounds) (now : ℕ) (before : Learnt) → IsFound home now (job.old).name (job.old).kind before found stores.now → IfOk result (λ t. Rule home now (point Seeking job.old before) (point (task_view t) job.new stores.now)) }
+{
+    match found {
+        Found::Known(link) => Ok(Task::Take(link)),
+        Found::Start(cut) => {
+            let begun = begin(alloc, job, &cut, stores);
+            drop(cut);
+            begun?;
+            Ok(Task::Go)
+        }
+    }
+}
+
 // What is known of the query's name is used, or servers are sought for it.
 fn seek<S: BuildHasher + Drop, A: Heap>(
     alloc: A,
@@ -44,15 +66,8 @@ fn seek<S: BuildHasher + Drop, A: Heap>(
     ensures is { IfOk result (λ t. IsMove home.now now (point Seeking job.old stores.old) (turn_view t) job.new stores.new) }
     ensures only { OnlyUses stores.old stores.new }
 {
-    match find(alloc, home, job.name(), job.kind(), stores, now)? {
-        Found::Known(link) => Ok(Turn::Onward(Task::Take(link))),
-        Found::Start(cut) => {
-            let begun = begin(alloc, job, &cut, stores);
-            drop(cut);
-            begun?;
-            Ok(Turn::Onward(Task::Go))
-        }
-    }
+    let found = find(alloc, home, job.name(), job.kind(), stores, now)?;
+    Ok(Turn::Onward(due_after(alloc, job, found, stores)?))
 }
 
 /// One move: the task is done, by one rule, or something goes out. Of the job nothing is said where memory was

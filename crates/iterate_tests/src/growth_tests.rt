@@ -1,8 +1,7 @@
 //! Want of memory, and how much of it a query takes.
 use crate::resolver::{Asked, EXAMPLE, Event, Out, ROOT, first_wrong};
 use dname::{Heap, Starved};
-use fixtures::Value;
-use iterate::Input;
+use fixtures::{Value, name};
 use refusing::Refusing;
 use std::test::Fail;
 
@@ -41,22 +40,22 @@ fn each_growth_is_refused_in_turn(rt: HostRuntime) -> Result<(), Fail> {
     Ok(())
 }
 
-// A resolver that has the answer to the query at work, which has not begun.
+// A resolver that has the answer to a query.
 fn with_answer<A: Heap>(alloc: A) -> Result<Asked<A>, Starved> {
     let mut asked = Asked::new(alloc)?;
     let _first = asked.hear(0, Event::Query(WWW))?;
     let _answer = asked.hear(0, Event::Answer(ROOT, (WWW, 300, Value::A(9))))?;
-    asked.begin(WWW, 0)?;
     Ok(asked)
 }
 
-// A cached answer of one address, from the start to the end of its query.
+// A cached answer of one address: the set's owner and its data.
 #[test]
-fn a_cached_answer_takes_five_growths(rt: HostRuntime) -> Result<(), Fail> {
+fn a_cached_answer_takes_two_growths(rt: HostRuntime) -> Result<(), Fail> {
     let heap = Refusing::new(rt.alloc());
     let mut asked = with_answer(&heap)?;
+    let name = name(&heap, WWW)?;
     let before = heap.growths();
-    assert_eq!(rt; asked.advance(Input::Start, 0)?, Out::Address(0, 9));
-    assert!(rt; heap.growths().saturating_sub(before) <= 5);
+    assert_eq!(rt; asked.query(&name, 0)?, Out::Address(0, 9));
+    assert!(rt; heap.growths().saturating_sub(before) <= 2);
     Ok(())
 }

@@ -3,9 +3,9 @@ ghost use Rattle.std.specs.Prelude.{◌<◌};
 
 use authority::{Catalog, Link};
 use causes::Cause;
-use dname::{Heap, Starved};
+use dname::{Heap, Name, Starved};
 use fixtures::{Row, Value, address, name, record, records};
-use iterate::{Input, Job, Next, advance};
+use iterate::{Begun, Input, Job, Next, advance, begin};
 use known::{Capacities, Hashers, Home, Stores};
 use lru::DefaultHasher;
 use rdata::{RData, RType, RecordSet, Records};
@@ -276,10 +276,22 @@ impl<A: Heap> Asked<A> {
         })
     }
 
-    // Another query of the same resolver is at work; nothing came in for it yet.
-    pub fn begin(&mut self, text: &str, now: u32) -> Result<(), Starved> {
-        self.job = job(self.alloc, text, now)?;
-        Ok(())
+    // What goes out at this moment for another query that comes.
+    pub fn query(&mut self, name: &Name<A>, now: u32) -> Result<Out, Starved> {
+        match begin(
+            self.alloc,
+            name,
+            RType::A,
+            &self.home,
+            &mut self.stores,
+            u64::from(now),
+        )? {
+            Begun::Known(last) => Ok(done(0, last.link())),
+            Begun::Works(job, next) => {
+                self.job = job;
+                Ok(short(&next))
+            }
+        }
     }
 
     pub fn advance(&mut self, input: Input<A>, now: u32) -> Result<Out, Starved> {
@@ -297,7 +309,7 @@ impl<A: Heap> Asked<A> {
     // What goes out at this moment for what comes in.
     pub fn hear(&mut self, now: u32, event: Event<'_>) -> Result<Out, Starved> {
         if let Event::Query(text) = event {
-            self.begin(text, now)?;
+            return self.query(&name(self.alloc, text)?, now);
         }
         let input = input(self.alloc, event)?;
         Ok(self.advance(input, now)?)

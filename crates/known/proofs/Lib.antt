@@ -1,3 +1,4 @@
 pub mod Lists
+pub mod Owners
 pub mod Uses
 pub mod Kept

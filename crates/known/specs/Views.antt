@@ -1,10 +1,10 @@
 -- What the resolver holds and takes, seen as the plain values of the rules.
-use Rattle.std.specs.Prelude.{ℕ, ◌≤◌, Bool, true, false, List, [], map}
-use Rattle.dname.specs.Labels.{Name}
-use Rattle.rdata.specs.Records.{greatest_ttl}
+use Rattle.std.specs.Prelude.{ℕ, ◌≤◌, Bool, true, false, Option, Some, None, List, [], ◌∷◌, map}
+use Rattle.dname.specs.Labels.{Name, root}
+use Rattle.rdata.specs.Records.{Record, greatest_ttl}
 use Rattle.rdata.specs.declared.addr.Addr.{Addr}
 use Rattle.zone.specs.Zones.{Zone}
-use Rattle.zone.specs.Links.{Link}
+use Rattle.zone.specs.Links.{Link, Found, Alias, NoData, NxDomain}
 use Rattle.classify.specs.Lifetimes.{lifetime_of, referral_lifetime}
 use Rattle.referral.specs.Cuts.{ServerAddress, Cut}
 use Rattle.referral.specs.Cuts as referral
@@ -23,6 +23,21 @@ hints_of c = map (λ (s : ServerAddress). s.address) c.addresses
 
 abbrev pub home_of : List Zone → Cut → Home
 home_of zones root = home_at zones (hints_of root)
+
+-- The owner of a link's own records, and the name that a link is of: another one where that is given.
+abbrev pub owner_of_all : List Record → Name
+owner_of_all [] = root
+owner_of_all (r ∷ rs) = r.owner
+
+abbrev pub owner_in : Link → Name
+owner_in (Found set) = owner_of_all set
+owner_in (Alias r) = r.owner
+owner_in (NoData soa) = soa.owner
+owner_in (NxDomain soa) = soa.owner
+
+abbrev pub name_of : Option Name → Link → Name
+name_of None l = owner_in l
+name_of (Some n) l = n
 
 -- Where a link comes from.
 abbrev pub source_view : Origin → Source

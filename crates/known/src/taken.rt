@@ -5,7 +5,7 @@ ghost use Rattle.zone.specs.Links.{Alias as Alternative};
 ghost use Rattle.authority.specs.Answers.{link_view};
 ghost use Rattle.front.specs.Chains.{target_of};
 ghost use Rattle.resolution.specs.Jobs.{local_link, kept_link, is_dead, has_ended, IsEnding, sent};
-ghost use Rattle.known.specs.Views.{source_view, is_at_hand, IsBounded, taken_at, accepted_link};
+ghost use Rattle.known.specs.Views.{owner_in, source_view, is_at_hand, IsBounded, taken_at, accepted_link};
 
 use authority::Link;
 use cache::{Hit, retimed, seconds_left};
@@ -42,7 +42,9 @@ impl Source {
 /// What is known of a name: the name, a link, and where it comes from.
 #[derive(Drop)]
 pub struct Taken<A: Allocator = Global> {
-    name: Name<A>,
+    // The name, where the link's own records have another owner. An RRset and a CNAME record nearly always have
+    // the name as their owner, so that no copy of it is made for them.
+    name: Option<Name<A>>,
     link: Link<A>,
     source: Source,
 }
@@ -50,23 +52,53 @@ pub struct Taken<A: Allocator = Global> {
 impl<A: Allocator> Model for Taken<A> {
     ghost use Rattle.authority.specs.Answers.{link_view};
     ghost use Rattle.resolution.specs.Jobs.{Taken as Said};
-    ghost use Rattle.known.specs.Views.{source_view, IsBounded};
+    ghost use Rattle.known.specs.Views.{name_of, source_view, IsBounded};
 
     ghost Value = { Said };
 
-    ghost view = { λ t. record { name = t.name; link = link_view t.link; source = source_view t.source } };
+    ghost view = { λ t. record { name = name_of t.name (link_view t.link); link = link_view t.link; source = source_view t.source } };
 
     ghost invariant = { λ t. IsBounded (source_view t.source) };
 }
 
-// The link of a copy of the name.
+// The owner of the link's own records; of a denial's SOA.
+fn owner<A: Allocator>(link: &Link<A>) -> &Name<A>
+    ensures { result.now ≡ owner_in (link_view link.now) }
+{
+    match link {
+        Link::Found(set) => &set.owner,
+        Link::Alias(record) | Link::NoData(record) | Link::NxDomain(record) => &record.owner,
+    }
+}
+
+fn into_owner<A: Allocator>(link: Link<A>) -> Name<A>
+    ensures { result ≡ owner_in (link_view link) }
+{
+    match link {
+        Link::Found(set) => set.owner,
+        Link::Alias(record) | Link::NoData(record) | Link::NxDomain(record) => record.owner,
+    }
+}
+
+// The link of a name.
 fn named<A: Heap>(name: &Name<A>, link: Link<A>, source: Source) -> Result<Taken<A>, Starved>
     requires { IsBounded (source_view source) }
     ensures { IfOk result (λ t. t ≡ taken_at name.now (link_view link) (source_view source)) }
 {
+    if *owner(&link) == *name {
+        return Ok(Taken {
+            name: None,
+            link,
+            source,
+        });
+    }
     let copy: Result<Name<A>, AllocError> = name.clone();
     match copy {
-        Ok(name) => Ok(Taken { name, link, source }),
+        Ok(name) => Ok(Taken {
+            name: Some(name),
+            link,
+            source,
+        }),
         Err(_) => {
             drop(link);
             Err(Starved)
@@ -99,21 +131,39 @@ impl<A: Allocator> Taken<A> {
     {
         let ttl = lifetime(&link);
         let source = Source::Accepted { ttl, since: now };
-        Taken { name, link, source }
+        if *owner(&link) == name {
+            return Taken {
+                name: None,
+                link,
+                source,
+            };
+        }
+        Taken {
+            name: Some(name),
+            link,
+            source,
+        }
     }
 
     /// The name that the link is of.
     pub fn name(&self) -> &Name<A>
         ensures { result.now ≡ self.now.name }
     {
-        &self.name
+        match &self.name {
+            Some(name) => name,
+            None => owner(&self.link),
+        }
     }
 
     /// The name alone.
     pub fn into_name(self) -> Name<A>
         ensures { result ≡ self.name }
     {
-        self.name
+        let Taken { name, link, .. } = self;
+        match name {
+            Some(name) => name,
+            None => into_owner(link),
+        }
     }
 
     /// Whether it comes from the zones at hand.

@@ -3,7 +3,7 @@ use dname::{Heap, Name, Starved};
 use fixtures::{Row, Value, name, record, records};
 use known::{Capacities, Found, Hashers, Home, Stores, Taken, cut_of, find, found_addresses};
 use lru::DefaultHasher;
-use rdata::{Addr, RData, RType, RecordSet};
+use rdata::{Addr, RData, RType, RecordSet, Records};
 use referral::Cut;
 use refusing::Refusing;
 use std::hash::BuildHasherDefault;
@@ -140,9 +140,10 @@ fn address_of<A: Heap>(link: Link<A>) -> Option<(Addr, u32)> {
 const GLUE: [Row<'static>; 2] = [("ns.test", 60, Value::A(1)), ("ns.test", 60, Value::A(9))];
 
 fn cut<A: Heap>(alloc: A, at: &str) -> Result<Cut<A>, Starved> {
+    let servers = Records::new(alloc);
     let glue = records(alloc, &GLUE)?;
     let at = name(alloc, at)?;
-    cut_of(alloc, at, &[], glue.as_slice())
+    cut_of(alloc, at, servers.as_slice(), glue.as_slice())
 }
 
 // What is done with a resolver that has asked nobody, and what has to come of it.
@@ -339,6 +340,6 @@ fn growths_of_find<A: Heap>(alloc: A) -> Result<Option<u64>, Starved> {
 
 #[test]
 fn growths_of_a_cached_answer(rt: HostRuntime) -> Result<(), Fail> {
-    assert_eq!(rt; growths_of_find(rt.alloc())?, Some(4));
+    assert_eq!(rt; growths_of_find(rt.alloc())?, Some(3));
     Ok(())
 }

@@ -141,6 +141,14 @@ impl<A: Heap> Suffixes<A> {
 }
 
 impl<A: Allocator> Suffixes<A> {
+    /// Forgets all names, and keeps their room.
+    pub fn clear(&mut self)
+        ensures { self.new ≡ [] }
+    {
+        self.notes.clear();
+        self.names.clear();
+    }
+
     // The place of the earliest note of a suffix.
     fn find(&self, suffix: &[u8]) -> Option<u16>
         requires { IsWire suffix.now }

@@ -1,11 +1,12 @@
 -- What is written fits its bits, so that it is the message that is read back.
-use Rattle.std.proofs.Common.{◌≡◌, ℕ, ◌+◌, ◌<◌, ◌≤◌, List, [], ◌∷◌, ◌++◌, length, take, get_or, Option, Some, None, Result, Ok, Err, sym, ◌∙◌, ap, subst, arith}
+use Rattle.std.proofs.Common.{◌≡◌, ℕ, ◌+◌, ◌<◌, ◌≤◌, List, [], ◌∷◌, ◌++◌, length, take, get_or, Option, Some, None, Result, Ok, Err, refl, sym, ◌∙◌, ap, subst, arith}
 use Rattle.std.proofs.lemmas.List.{take_more}
 use Rattle.std.specs.Prelude.{IfOk, IfSome, MatchOption}
 use Rattle.std.specs.List.{AllByRecursion}
 use Rattle.dname.specs.Labels.{AreLabels, IsName}
 use Rattle.layout.specs.Messages.{AreSpelled, IsSpelling, Message, IsWritable, IsMessage, encoding, folded_message}
 use Rattle.layout.proofs.Whole.{encoding_holds}
+use Rattle.wire.specs.Spellings.{letters_of}
 use Rattle.wire.specs.declared.error.WireError.{WireError}
 
 pub all_both : {X : Type 0} (P : X → Type 0) (xs ys : List X) → AllByRecursion P xs → AllByRecursion P ys → AllByRecursion P (xs ++ ys)
@@ -42,3 +43,8 @@ message_some items None m limit few is h = tt
 message_some items (Some v) m limit few is h =
     let short : length (encoding m) ≤ 65535 = omega (arith, h.1, few, ap length h.0) in
     subst (λ (x : List ℕ). IsMessage x (folded_message m)) (sym h.0) (encoding_holds m is short)
+
+-- Letters that are there are kept as they are.
+pub letters_kept : (letters : List ℕ) (name : List (List ℕ)) → 0 < length letters → letters_of letters name ≡ letters
+letters_kept [] name some = absurd (omega (arith, some))
+letters_kept (b ∷ bs) name some = refl

@@ -118,12 +118,17 @@ fn put_lent<A: Heap>(writer: &mut Writer<A>, set: Option<&RecordSet<A>>) -> Resu
 impl<A: Heap> Draft<'_, A> {
     /// The bytes of the message, in its one encoding; none where they are more than `limit`, which is at most
     /// 65,535 (RFC 1035, sections 4.1 and 4.2). They are read back as the message, its question in lower case.
-    pub fn encode(&self, alloc: A, limit: usize) -> Result<Option<Vec<u8, A>>, Starved>
+    /// The writer may have written other messages before.
+    pub fn encode(
+        &self,
+        writer: &mut Writer<A>,
+        limit: usize,
+    ) -> Result<Option<Vec<u8, A>>, Starved>
         requires { limit ≤ TCP_LIMIT }
         ensures bytes { IfOk result (λ o. MatchOption o (limit < length (encoding self.now)) (λ v. (v.items ≡ encoding self.now) × (length v.items ≤ limit))) }
         ensures message { IfOk result (λ o. IfSome o (λ v. IsMessage v.items (folded_message self.now))) }
     {
-        let mut writer = Writer::new(alloc)?;
+        writer.begin()?;
         writer.put_header(
             self.header,
             Tally {
@@ -133,9 +138,9 @@ impl<A: Heap> Draft<'_, A> {
                 additional: self.additional.len(),
             },
         )?;
-        put_alone(&mut writer, self.question)?;
+        put_alone(writer, self.question)?;
         writer.put_records(self.first)?;
-        put_lent(&mut writer, self.second)?;
+        put_lent(writer, self.second)?;
         writer.put_records(self.authority)?;
         writer.put_records(self.additional)?;
         Ok(writer.finish(limit))

@@ -46,3 +46,4 @@ pub use message::{Message, Question, Questions};
 pub use reader::{decode, decode_question};
 pub use spelling::Spelling;
 pub use via::{TCP_LIMIT, UDP_LIMIT, Via};
+pub use writer::Writer;

@@ -1,5 +1,6 @@
 //! Names read at a place of a message, their pointers followed (RFC 1035, section 4.1.4).
-ghost use Rattle.std.specs.Prelude.{◌≡◌, ℕ, ◌≤◌, ◌<◌, ◌+◌, List, [], Ok, length, IfOk, OnOk};
+ghost use Rattle.std.specs.Prelude.{◌≡◌, ℕ, ◌≤◌, ◌<◌, ◌+◌, List, [], ◌∷◌, ◌++◌, Ok, length, IfOk, OnOk};
+ghost use Rattle.arrayvec.specs.ArrayVec.{array_vec_len};
 ghost use Rattle.dname.specs.Labels.{wire};
 ghost use Rattle.dname.specs.Draft.{labelled};
 ghost use Rattle.wire.specs.Parts.{message_faults, spelt_at, name_at};
@@ -11,6 +12,7 @@ use crate::chains::chain_behind;
 use crate::error::WireError;
 use crate::parts::{Faults, Part, part_at};
 use crate::spelling::Spelling;
+use arrayvec::ArrayVec;
 use dname::{Builder, Heap, Name, Overflow, Starved};
 
 // A label more of a name that has room for it: only memory can be refused.
@@ -27,6 +29,18 @@ fn put_label<A: Heap>(name: &mut Builder<A>, label: &[u8]) -> Result<(), Starved
             prove!(matches!(refused, Overflow::Memory));
             Err(Starved)
         }
+    }
+}
+
+// A label more of a spelling that has room for it, behind its length.
+fn put_letters(letters: &mut ArrayVec<u8, 255>, label: &[u8])
+    requires short { length label.now < 64 }
+    requires room { array_vec_len letters.old + length label.now < 255 }
+    ensures { letters.new.items ≡ (letters.old.items ++ length label.now ∷ []) ++ label.now }
+{
+    letters.push(label.len() as u8);
+    if letters.try_extend_from_slice(label).is_err() {
+        unreachable!();
     }
 }
 
@@ -133,7 +147,7 @@ pub fn spelling_at<A: Heap>(
     ensures within { IfOk result (λ x. x.1 ≤ length bytes.now) }
 {
     let mut name = Builder::new(alloc)?;
-    let mut letters = Vec::with_capacity(alloc, 64)?;
+    let mut letters = ArrayVec::new();
     let mut start = at;
     let mut stop = bytes.len();
     let mut border = WireError::Short;
@@ -143,8 +157,8 @@ pub fn spelling_at<A: Heap>(
     'parts: loop {
         match part_at(bytes, stop, border, WireError::BadLabel, place)? {
             Part::End => {
-                letters.push(0)?;
-                let spelling = Spelling::from_wire(letters, name.finish());
+                letters.push(0);
+                let spelling = Spelling::from_wire(alloc, &letters, name.finish())?;
                 return Ok((spelling, end.unwrap_or(place + 1)));
             }
             Part::Label(size) => {
@@ -155,8 +169,7 @@ pub fn spelling_at<A: Heap>(
                     return Err(border);
                 }
                 put_label(&mut name, &bytes[place + 1..place + 1 + size])?;
-                letters.push(size as u8)?;
-                letters.extend_from_slice(&bytes[place + 1..place + 1 + size])?;
+                put_letters(&mut letters, &bytes[place + 1..place + 1 + size]);
                 place += 1 + size;
                 room -= size + 1;
             }

@@ -22,9 +22,9 @@ impl<A: Heap> Writer<A> {
         Ok(())
     }
 
-    /// The records of a set in order. That they fit their bits and that their names are names is found as by
-    /// `put_records`.
-    pub fn put_set(&mut self, set: &RecordSet<A>) -> Result<(), Starved>
+    // The records of a set in order. That they fit their bits and that their names are names is found as by
+    // `put_records`.
+    pub(crate) fn put_set(&mut self, set: &RecordSet<A>) -> Result<(), Starved>
         ensures written { OnOk result (self.new ≡ after self.old (flat_map record_pieces set.now)) }
         ensures fits { OnOk result (AllByRecursion IsRecord set.now) }
     {

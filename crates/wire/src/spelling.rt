@@ -1,11 +1,11 @@
 //! A name with the letters in which it was asked for.
-ghost use Rattle.std.specs.Prelude.{◌≡◌, ◌≤◌, length};
+ghost use Rattle.std.specs.Prelude.{◌≡◌, ◌<◌, ◌≤◌, IfOk, length};
 ghost use Rattle.dname.specs.Labels.{wire, folded_labels};
 ghost use Rattle.dname.specs.Wire.{labels_of};
 ghost use Rattle.layout.specs.Messages.{IsSpelling};
 ghost use Rattle.wire.specs.Spellings.{IsSpelt};
 
-use dname::Name;
+use dname::{Heap, Name, Starved};
 use std::alloc::{Allocator, Global};
 use std::marker::Model;
 
@@ -13,8 +13,9 @@ use std::marker::Model;
 /// the root's empty one last.
 #[derive(Drop)]
 pub struct Spelling<A: Allocator = Global> {
-    // In wire form: each label behind its length, the root's zero last.
-    bytes: Vec<u8, A>,
+    // In wire form: each label behind its length, the root's zero last; nothing where these are the name's own
+    // letters, as most clients ask in lower case.
+    letters: Vec<u8, A>,
     // The same in lower case.
     name: Name<A>,
 }
@@ -22,37 +23,54 @@ pub struct Spelling<A: Allocator = Global> {
 impl<A: Allocator> Model for Spelling<A> {
     ghost use Rattle.std.specs.Prelude.{List, ℕ};
     ghost use Rattle.dname.specs.Wire.{labels_of};
-    ghost use Rattle.wire.specs.Spellings.{IsSpelt};
+    ghost use Rattle.wire.specs.Spellings.{IsSpelt, letters_of};
 
     ghost Value = { List (List ℕ) };
 
-    ghost view = { λ s. labels_of s.bytes.items };
+    ghost view = { λ s. labels_of (letters_of s.letters.items s.name) };
 
-    ghost invariant = { λ s. IsSpelt s.bytes.items s.name };
+    ghost invariant = { λ s. IsSpelt (letters_of s.letters.items s.name) s.name };
+}
+
+impl<A: Heap> Spelling<A> {
+    // A spelling from its wire form and the name in lower case. It takes memory if they differ.
+    #[tactic(auto, using(crate::proofs::Fitting::letters_kept))]
+    pub(crate) fn from_wire(alloc: A, letters: &[u8], name: Name<A>) -> Result<Spelling<A>, Starved>
+        requires spelt { IsSpelt letters.now name }
+        requires some { 0 < length letters.now }
+        ensures { IfOk result (λ s. s ≡ labels_of letters.now) }
+    {
+        if letters == name.wire() {
+            return Ok(Spelling {
+                letters: Vec::new(alloc),
+                name,
+            });
+        }
+        let letters = Vec::from_slice(alloc, letters);
+        Ok(Spelling {
+            letters: letters?,
+            name,
+        })
+    }
 }
 
 impl<A: Allocator> Spelling<A> {
-    // A spelling from its wire form and the name in lower case.
-    pub(crate) fn from_wire(bytes: Vec<u8, A>, name: Name<A>) -> Spelling<A>
-        requires { IsSpelt bytes.items name }
-        ensures { result ≡ labels_of bytes.items }
-    {
-        Spelling { bytes, name }
-    }
-
     /// The spelling in wire form.
     pub fn wire(&self) -> &[u8]
         ensures is { result.now ≡ wire self.now }
         ensures short { length result.now ≤ 255 }
     {
-        &self.bytes
+        match self.letters.as_slice() {
+            [] => self.name.wire(),
+            letters => letters,
+        }
     }
 
     // Every spelling is labels of 1 to 63 bytes and the root's, at most 255 bytes in all.
     pub(crate) fn is_well_formed(&self)
         ensures { IsSpelling self.now }
     {
-        let _ = self.bytes.len();
+        let _ = self.name.size();
     }
 
     /// The name in lower case.

@@ -22,6 +22,7 @@ use dname::{Heap, Name, Starved};
 use rdata::{INTERNET, RData, Record, Soa, Texts};
 use std::alloc::{Allocator, Global};
 use std::marker::Model;
+use std::mem;
 use suffixes::Suffixes;
 
 // How many questions and records a header announces.
@@ -33,8 +34,9 @@ pub struct Tally {
     pub additional: usize,
 }
 
-// A message that is being written. Contracts see its bytes and the notes of its names. What is put fits its
-// bits by its type's own bounds (the clauses `fits`), so the bytes are read back as the message.
+/// What messages are written with, one after the other: lent to each, so that it takes memory for its bytes alone.
+/// Contracts see the bytes of the message that is being written, and the notes of its names.
+// What is put fits its bits by its type's own bounds (the clauses `fits`), so the bytes are read back as the message.
 #[derive(Drop)]
 pub struct Writer<A: Allocator = Global> {
     bytes: Vec<u8, A>,
@@ -65,7 +67,7 @@ fn low_bytes(count: usize) -> [u8; 2]
 }
 
 impl<A: Heap> Writer<A> {
-    // Nothing written yet: one growth serves a message that fits a datagram.
+    /// Nothing written yet: one growth serves a message that fits a datagram, two the names of most.
     pub fn new(alloc: A) -> Result<Writer<A>, Starved>
         ensures { IfOk result (λ w. w ≡ empty) }
     {
@@ -248,8 +250,8 @@ impl<A: Heap> Writer<A> {
         self.put_row(&added.owner, added.ttl, &added.value)
     }
 
-    /// The records in order. The walk over them finds that each fits its bits and that its names are names.
-    pub fn put_records(&mut self, records: &[Record<A>]) -> Result<(), Starved>
+    // The records in order. The walk over them finds that each fits its bits and that its names are names.
+    pub(crate) fn put_records(&mut self, records: &[Record<A>]) -> Result<(), Starved>
         ensures written { OnOk result (self.new ≡ after self.old (flat_map record_pieces records.now)) }
         ensures fits { OnOk result (AllByRecursion IsRecord records.now) }
     {
@@ -268,8 +270,8 @@ impl<A: Heap> Writer<A> {
         self.put_type_and_class(question.qtype, question.qclass)
     }
 
-    /// The questions in order. The walk over them finds that each fits its bits.
-    pub fn put_questions(&mut self, questions: &[Question<A>]) -> Result<(), Starved>
+    // The questions in order. The walk over them finds that each fits its bits.
+    pub(crate) fn put_questions(&mut self, questions: &[Question<A>]) -> Result<(), Starved>
         ensures written { OnOk result (self.new ≡ after self.old (flat_map question_pieces questions.now)) }
         ensures fits { OnOk result (AllByRecursion IsQuestion questions.now) }
     {
@@ -280,8 +282,8 @@ impl<A: Heap> Writer<A> {
     }
 
     #[tactic(auto, unfolding(layout::specs::Pieces::put))]
-    /// A question in its own letters.
-    pub fn put_echo(&mut self, echo: &Echo<A>) -> Result<(), Starved>
+    // A question in its own letters.
+    pub(crate) fn put_echo(&mut self, echo: &Echo<A>) -> Result<(), Starved>
         ensures written { OnOk result (self.new ≡ after self.old (question_pieces echo.now)) }
         ensures fits { OnOk result (IsQuestion echo.now) }
     {
@@ -290,8 +292,8 @@ impl<A: Heap> Writer<A> {
     }
 
     #[tactic(auto, unfolding(layout::specs::Pieces::put))]
-    /// A header with its counts.
-    pub fn put_header(&mut self, header: Header, counts: Tally) -> Result<(), Starved>
+    // A header with its counts.
+    pub(crate) fn put_header(&mut self, header: Header, counts: Tally) -> Result<(), Starved>
         ensures written { OnOk result (self.new ≡ after self.old (header_pieces header (counts_by counts))) }
         ensures fits { OnOk result (IsHeader header) }
     {
@@ -309,15 +311,24 @@ impl<A: Heap> Writer<A> {
         self.put_bytes(&[i, d, high, low, q, r, a, b, n, o, x, y])
     }
 
-    /// What was written, where it is within the limit.
-    pub fn finish(self, limit: usize) -> Option<Vec<u8, A>>
-        ensures { MatchOption result (limit < length self.bytes) (λ v. (v.items ≡ self.bytes) × (length self.bytes ≤ limit)) }
+    // Begins another message.
+    pub(crate) fn begin(&mut self) -> Result<(), Starved>
+        ensures { OnOk result (self.new ≡ empty) }
     {
-        let Writer { bytes, names: _ } = self;
-        if bytes.len() > limit {
-            None
-        } else {
-            Some(bytes)
+        self.names.clear();
+        self.bytes.clear();
+        self.bytes.reserve(UDP_LIMIT)?;
+        Ok(())
+    }
+
+    // What was written, where it is within the limit.
+    pub(crate) fn finish(&mut self, limit: usize) -> Option<Vec<u8, A>>
+        ensures { MatchOption result (limit < length (self.old).bytes) (λ v. (v.items ≡ (self.old).bytes) × (length (self.old).bytes ≤ limit)) }
+    {
+        if self.bytes.len() > limit {
+            return None;
         }
+        let empty = Vec::new(*self.bytes.allocator());
+        Some(mem::replace(&mut self.bytes, empty))
     }
 }

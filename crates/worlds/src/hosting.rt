@@ -17,7 +17,7 @@ use front::{
 };
 use rdata::{Addr, RType, Records};
 use std::alloc::Allocator;
-use wire::{Header, TCP_LIMIT};
+use wire::{Header, TCP_LIMIT, Writer};
 
 fn put_names<A: Heap>(names: &mut Vec<Name<A>, A>, more: &[Name<A>]) -> Result<(), Starved>
     ensures { OnOk result (names.new.items ≡ names.old.items ++ more.now) }
@@ -138,7 +138,7 @@ fn answer<'a, A: Allocator>(
 fn sent<A: Heap>(alloc: A, reply: &Draft<'_, A>) -> Result<Option<Vec<u8, A>>, Starved>
     ensures { IfOk result (λ r. IsSent (Some reply.now) (option_map (λ v. v.items) r)) }
 {
-    reply.encode(alloc, TCP_LIMIT)
+    reply.encode(&mut Writer::new(alloc)?, TCP_LIMIT)
 }
 
 // What the server replies to a query.

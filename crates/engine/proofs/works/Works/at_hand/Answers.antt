@@ -10,8 +10,8 @@ use Rattle.exchange.specs.Plain.{plain_outcome}
 use Rattle.exchange.specs.Views.{action_view}
 use Rattle.engine.proofs.works.Works.at_hand.Goals as goal
 
-pub returns : goal.returns
-returns g c =
+pub returns-clause-ok : goal.returns-clause-ok
+returns-clause-ok g c =
     IfOk-weaker c.reply_to.result _ _
     (λ a h. record {
       served_is = refl;

@@ -1,35 +1,54 @@
-use Rattle.std.proofs.Common.{refl, subst}
+use Rattle.std.proofs.Common.{[], refl}
 use Rattle.std.proofs.lemmas.Result.{IfOk-weaker, on_err_weaker}
-use Rattle.resolution.specs.Jobs.{Job, Start}
-use Rattle.resolution.specs.Rules.{Advances}
 use Rattle.iterate.specs.Views.{next_view}
-use Rattle.runs.specs.States.{State}
+use Rattle.resolution.specs.Jobs.{Done}
+use Rattle.runs.specs.States.{State, job_for}
 use Rattle.engine.specs.Works.{state_of}
 use Rattle.engine.specs.Replies.{alone}
-use Rattle.engine.proofs.Called.{at_err, lost_none, lost_in, lost_after, begins}
+use Rattle.engine.proofs.Begun.{next_is_fresh}
+use Rattle.engine.proofs.Lift.{halts_same}
+use Rattle.engine.proofs.Called.{at_err, lost_in, lost_after, begins, begins_known}
 use Rattle.engine.proofs.works.Works.begin.Goals as goal
+
+pub answer-requires : goal.answer-requires
+answer-requires g c = next_is_fresh (state_of c.args.self.now) c.requires.sound
 
 pub admit-requires : goal.admit-requires
 admit-requires g c =
     record { sockets = c.requires.sound.sockets; clock = c.requires.sound.clock; few = c.requires.sound.few; opened = c.requires.sound.opened; asked = c.requires.sound.asked }
 
-pub returns-in_err-job-clause-err : goal.returns-in_err-job-clause-err
-returns-in_err-job-clause-err g c = at_err c.from_residual.result (lost_none (state_of c.args.self.now) c.requires.sound)
+pub returns-in_err-last-clause-err : goal.returns-in_err-last-clause-err
+returns-in_err-last-clause-err g c =
+    at_err c.from_residual.result (lost_in (state_of c.args.self.now) (job_for c.args.self.now.clock c.args.asker.query) c.begun.new.stores c.requires.sound c.in_err-last.ensures.stops)
 
-pub returns-in_err-next-clause-err : goal.returns-in_err-next-clause-err
-returns-in_err-next-clause-err g c = at_err c.from_residual-in_err-next.result (lost_in (state_of c.args.self.now) c.in_ok-job.job c.advance.new.stores c.requires.sound c.in_err-next.ensures.stops)
+pub returns-in-Known-clause-ok : goal.returns-in-Known-clause-ok
+returns-in-Known-clause-ok g c =
+    let s : State = state_of c.args.self.now in
+    let known = rw c.in-Known.is at c.in_ok-last.ensures.begins in
+    IfOk-weaker c.answer.result _ _
+    (λ a h. begins_known s (record s { stores = c.begun.new.stores }) c.args.asker c.new.result c.in-Known.last known.0 c.begun.new.stores (alone a) (state_of c.answer.new.self) c.requires.sound refl c.new.ensures known.1 h)
+    c.answer.ensures.ok
 
-pub returns-clause-ok : goal.returns-clause-ok
-returns-clause-ok g c =
+pub returns-in-Known-clause-err : goal.returns-in-Known-clause-err
+returns-in-Known-clause-err g c =
+    let s : State = state_of c.args.self.now in
+    let mid : State = record s { stores = c.begun.new.stores } in
+    let known = rw c.in-Known.is at c.in_ok-last.ensures.begins in
+    at_err c.answer.result
+    (lost_after s mid (job_for s.clock c.args.asker.query) (Done [] c.in-Known.last) known.0 c.begun.new.stores (state_of c.answer.new.self) c.requires.sound refl known.1 (halts_same mid (state_of c.answer.new.self) c.answer.ensures.same))
+
+pub returns-in-Works-clause-ok : goal.returns-in-Works-clause-ok
+returns-in-Works-clause-ok g c =
     let s : State = state_of c.args.self.now in
     IfOk-weaker c.admit.result _ _
-    (λ a h. begins s (record s { stores = c.advance.new.stores }) c.args.asker (next_view c.in_ok-next.next) c.advance.new.job c.advance.new.stores (alone a) (state_of c.admit.new.self) c.requires.sound refl
-    (subst (λ (j : Job). Advances (s.site).home s.clock Start j s.stores (next_view c.in_ok-next.next) c.advance.new.job c.advance.new.stores) c.in_ok-job.ensures c.in_ok-next.ensures.advances) h)
+    (λ a h. begins s (record s { stores = c.begun.new.stores }) c.args.asker (next_view c.in-Works.next) c.in-Works.job c.begun.new.stores (alone a) (state_of c.admit.new.self) c.requires.sound refl
+    (rw c.in-Works.is at c.in_ok-last.ensures.begins) h)
     c.admit.ensures.ok
 
-pub returns-clause-err : goal.returns-clause-err
-returns-clause-err g c =
+pub returns-in-Works-clause-err : goal.returns-in-Works-clause-err
+returns-in-Works-clause-err g c =
     let s : State = state_of c.args.self.now in
     on_err_weaker c.admit.result
-    (lost_after s (record s { stores = c.advance.new.stores }) c.in_ok-job.job (next_view c.in_ok-next.next) c.advance.new.job c.advance.new.stores (state_of c.admit.new.self) c.requires.sound refl c.in_ok-next.ensures.advances)
+    (lost_after s (record s { stores = c.begun.new.stores }) (job_for s.clock c.args.asker.query) (next_view c.in-Works.next) c.in-Works.job c.begun.new.stores (state_of c.admit.new.self) c.requires.sound refl
+    (rw c.in-Works.is at c.in_ok-last.ensures.begins))
     c.admit.ensures.err

@@ -1,7 +1,10 @@
+use Rattle.std.proofs.Common.{sym, subst, refl}
 use Rattle.std.proofs.lemmas.Result.{IfOk-weaker}
 use Rattle.runs.specs.States.{State}
 use Rattle.engine.specs.Works.{state_of}
+use Rattle.engine.specs.Moves.{Forgets}
 use Rattle.engine.specs.Replies.{alone}
+use Rattle.engine.proofs.Called.{at_err}
 use Rattle.engine.proofs.Lift.{none_of}
 use Rattle.engine.proofs.Found.{expires}
 use Rattle.engine.proofs.works.Works.end.Goals as goal
@@ -12,7 +15,13 @@ fail-requires g c = none_of c.args.number c.args.self.now.queries c.take.new.sel
 pub returns-clause-ok : goal.returns-clause-ok
 returns-clause-ok g c =
     let s : State = state_of c.args.self.now in
-    let mid : State = record s { queries = c.take.new.self } in
+    let mid : State = state_of c.fail.new.self in
     IfOk-weaker c.fail.result _ _
     (λ a h. expires s c.args.number c.in-Some.open c.take.new.self c.into_work-asker.result.0 (alone a) mid c.in-Some.ensures c.into_work-asker.ensures.asker h)
-    c.fail.ensures
+    c.fail.ensures.ok
+
+pub returns-clause-err : goal.returns-clause-err
+returns-clause-err g c =
+    let s : State = state_of c.args.self.now in
+    at_err c.fail.result
+    (subst (Forgets s c.args.number) (sym c.fail.ensures.same) (record { query = c.in-Some.open; taken = c.in-Some.ensures; state = refl }))

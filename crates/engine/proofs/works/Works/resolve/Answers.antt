@@ -1,7 +1,7 @@
 use Rattle.std.proofs.Common.{sym, ◌∙◌}
 use Rattle.engine.specs.Works.{state_of}
 use Rattle.engine.specs.Replies.{alone}
-use Rattle.engine.proofs.Called.{at_err, lost_none, resolved, answered}
+use Rattle.engine.proofs.Called.{at_err, lost_same, resolved, answered}
 use Rattle.engine.proofs.works.Works.resolve.Goals as goal
 
 pub returns-in_ok-begin-clause-ok : goal.returns-in_ok-begin-clause-ok
@@ -10,7 +10,7 @@ returns-in_ok-begin-clause-ok g c =
 
 pub returns-in_ok-at_hand-clause-ok : goal.returns-in_ok-at_hand-clause-ok
 returns-in_ok-at_hand-clause-ok g c =
-    answered (state_of c.args.self.now) c.args.asker (alone c.in_ok-at_hand.field-0) (state_of c.args.self.now) (sym c.is_recursive.ensures ∙ c.if-is_recursive.false) c.in_ok-at_hand.ensures
+    answered (state_of c.args.self.now) c.args.asker (alone c.in_ok-at_hand.field-0) (state_of c.at_hand.new.self) (sym c.is_recursive.ensures ∙ c.if-is_recursive.false) c.in_ok-at_hand.ensures.ok
 
 pub returns-in_err-at_hand-clause-err : goal.returns-in_err-at_hand-clause-err
-returns-in_err-at_hand-clause-err g c = at_err _ (lost_none (state_of c.args.self.now) c.requires.sound)
+returns-in_err-at_hand-clause-err g c = at_err _ (lost_same (state_of c.args.self.now) (state_of c.at_hand.new.self) c.requires.sound c.in_err-at_hand.ensures.same)

@@ -11,8 +11,8 @@ pub returns-clause-bytes : goal.returns-clause-bytes
 returns-clause-bytes g c =
     let d = c.self.inside in
     let text = draft_text d.header (option_copied d.question) d.first.now (in_set (option_copied d.second)) d.authority.now d.additional.now
-    c.in_ok-writer.writer c.put_header.new.self c.put_alone.new.writer c.put_records.new.self c.put_lent.new.writer c.put_records-2.new.self c.put_records-3.new.self
-    c.count_of.result c.low_count.result (length d.authority.now) (length d.additional.now) c.in_ok-writer.ensures c.in_ok-put_header.ensures.written c.count_of.ensures
+    c.begin.new.self c.put_header.new.self c.put_alone.new.writer c.put_records.new.self c.put_lent.new.writer c.put_records-2.new.self c.put_records-3.new.self
+    c.count_of.result c.low_count.result (length d.authority.now) (length d.additional.now) c.in_ok-begin.ensures c.in_ok-put_header.ensures.written c.count_of.ensures
     (c.low_count.ensures ∙ ap (λ n. length d.first.now % 65536 + n % 65536) c.len_of.ensures) refl refl
     c.in_ok-put_alone.ensures.written c.in_ok-put_records.ensures.written c.in_ok-put_lent.ensures.written c.in_ok-put_records-2.ensures.written c.in_ok-put_records-3.ensures.written in
     text_given (λ v. v.items) c.finish.result c.put_records-3.new.self.bytes (encoding c.args.self.now) c.args.limit (text ∙ ap encoding c.self.view_is) c.finish.ensures

@@ -1,0 +1,84 @@
+//! A query that comes: its answer where that is known, or else the work on it.
+ghost use Rattle.std.specs.Prelude.{◌+◌, ◌^◌, ◌<◌, ◌↔◌, IsTrue, IfOk, OnErr};
+ghost use Rattle.rdata.specs.Types.{type_number};
+ghost use Rattle.resolution.specs.Jobs.{Stores as Learnt, Start, job_at, IsEnding};
+ghost use Rattle.resolution.specs.Rules.{Stops};
+ghost use Rattle.known.specs.Found.{IsFound};
+ghost use Rattle.known.specs.Uses.{OnlyUses};
+ghost use Rattle.iterate.specs.Beginnings.{BeginsWith};
+
+use crate::advancing::run;
+use crate::calls::Next;
+use crate::job::Job;
+use crate::turn::due_after;
+use dname::{Heap, Name, Starved};
+use known::{Found, Home, Stores, Taken, find};
+use rdata::RType;
+use std::alloc::{Allocator, Global};
+use std::hash::BuildHasher;
+
+/// What comes of a query at once.
+#[derive(Drop)]
+pub enum Begun<A: Allocator = Global> {
+    /// Its answer, without an alias before it: no work is left.
+    Known(Taken<A>),
+    /// The work on it, and what goes out for it.
+    Works(Job<A>, Next<A>),
+}
+
+// Whether the link ends a chain.
+fn is_end<A: Allocator>(link: &Taken<A>) -> bool
+    ensures { IsTrue result ↔ IsEnding link.now.link }
+{
+    match link.alias_target() {
+        Some(_) => false,
+        None => true,
+    }
+}
+
+// The work on a query, from what was found for its name on.
+fn work<S: BuildHasher + Drop, A: Heap>(
+    alloc: A,
+    name: &Name<A>,
+    kind: RType,
+    found: Found<A>,
+    home: &Home<A>,
+    stores: &mut Stores<S, A>,
+    now: u64,
+) -> Result<Begun<A>, Starved>
+    requires time { now + 10000 < 2 ^ 64 }
+    requires found { (before : Learnt) × IsFound home.now now name.now (type_number kind) before found stores.old }
+    ensures begins { (before : Learnt) → IsFound home.now now name.now (type_number kind) before found stores.old → IfOk result (λ b. BeginsWith home.now now (job_at name.now (type_number kind) now) before b stores.new) }
+    ensures only { OnErr result (OnlyUses stores.old stores.new) }
+{
+    let mut job = Job::new(name.copied(alloc)?, kind, now);
+    let first = due_after(alloc, &mut job, found, stores)?;
+    let next = run(alloc, &mut job, first, home, stores, now)?;
+    Ok(Begun::Works(job, next))
+}
+
+/// What comes of a query for a name and a type at the moment `now`, in milliseconds. Where what is known of the
+/// name is no alias it is the answer, and neither a job is made nor the name copied for it; else the work begins,
+/// as by `advance` with `Input::Start`. Want of memory leaves the stores with the same entries.
+pub fn begin<S: BuildHasher + Drop, A: Heap>(
+    alloc: A,
+    name: &Name<A>,
+    kind: RType,
+    home: &Home<A>,
+    stores: &mut Stores<S, A>,
+    now: u64,
+) -> Result<Begun<A>, Starved>
+    requires { now + 10000 < 2 ^ 64 }
+    ensures begins { IfOk result (λ b. BeginsWith home.now now (job_at name.now (type_number kind) now) stores.old b stores.new) }
+    ensures stops { OnErr result (Stops Start now (job_at name.now (type_number kind) now) stores.old stores.new) }
+{
+    match find(alloc, home, name, kind, stores, now)? {
+        Found::Known(last) => {
+            if is_end(&last) {
+                return Ok(Begun::Known(last));
+            }
+            work(alloc, name, kind, Found::Known(last), home, stores, now)
+        }
+        Found::Start(cut) => work(alloc, name, kind, Found::Start(cut), home, stores, now),
+    }
+}
