@@ -1,5 +1,5 @@
 -- A change at one name of a map whose keys are names in wire form.
-use Rattle.std.proofs.Common.{◌≡◌, ℕ, Bool, true, false, cond, Option, List, refl, sym, ◌∙◌, ap, subst, ⊎_elim}
+use Rattle.std.proofs.Common.{◌≡◌, ℕ, Bool, true, false, cond, Option, List, sym, ◌∙◌, ap, ⊎_elim}
 use Rattle.std.specs.Prelude.{nat_eq, Vec}
 use Rattle.std.specs.Cmp.Lexicographic.{pointwise, bytes_decides, nat_list_eq_equiv}
 use Rattle.std.specs.HashMap as hash

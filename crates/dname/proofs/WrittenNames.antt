@@ -105,7 +105,14 @@ labels_alone (l ∷ []) h ne = absurd (ne (ap (λ x. x ∷ []) h))
 labels_alone ([] ∷ m ∷ ls) h ne = absurd (omega (arith, h.0.nonempty))
 labels_alone ((b ∷ bs) ∷ m ∷ ls) h ne = or_dot-long (labels_text ((b ∷ bs) ∷ m ∷ ls)) (text_size b bs (labels_text (m ∷ ls)))
 
+-- One label more is written.
+pub label_written : (l : List ℕ) (ls : List (List ℕ)) (done whole : List ℕ) → 0 < length l → done ++ labels_text (l ∷ ls) ≡ whole → (done ++ (label_text l ++ 46 ∷ [])) ++ labels_text ls ≡ whole
+label_written [] ls done whole h e = absurd (omega arith)
+label_written (b ∷ bs) ls done whole h e =
+    append_assoc done (label_text (b ∷ bs) ++ 46 ∷ []) (labels_text ls)
+    ∙ ap (λ x. done ++ x) (append_assoc (label_text (b ∷ bs)) (46 ∷ []) (labels_text ls))
+    ∙ e
+
 -- All labels are written once only the root's is left.
-pub all_written : (old out : List ℕ) (n rest : List (List ℕ)) → AreLabels n → (n ≡ root → ⊥) → rest ≡ root → out ++ labels_text rest ≡ old ++ labels_text n → out ≡ old ++ name_text n
-all_written old out n rest h ne e w =
-    sym (append-nil out) ∙ ap (λ x. out ++ labels_text x) (sym e) ∙ w ∙ ap (λ x. old ++ x) (sym (labels_alone n h ne))
+pub all_written : (done : List ℕ) (n rest : List (List ℕ)) → AreLabels n → (n ≡ root → ⊥) → rest ≡ root → done ++ labels_text rest ≡ labels_text n → done ≡ name_text n
+all_written done n rest h ne e w = sym (append-nil done) ∙ ap (λ x. done ++ labels_text x) (sym e) ∙ w ∙ sym (labels_alone n h ne)

@@ -116,9 +116,12 @@ IsFault BadByte read = read ≡ Err BadByte
 abbrev pub is_special : ℕ → Bool
 is_special b = nat_eq b 46 || nat_eq b 92 || nat_eq b 34 || nat_eq b 59 || nat_eq b 40 || nat_eq b 41 || nat_eq b 64 || nat_eq b 36
 
+-- A byte as three digits behind a backslash.
+abbrev pub number_text : ℕ → List ℕ
+number_text b = 92 ∷ (48 + b / 100) ∷ (48 + b / 10 % 10) ∷ (48 + b % 10) ∷ []
+
 abbrev pub byte_text : ℕ → List ℕ
-byte_text b = cond (is_special b) (92 ∷ b ∷ [])
-    (cond (nat_le 33 b && nat_le b 126) (b ∷ []) (92 ∷ (48 + b / 100) ∷ (48 + b / 10 % 10) ∷ (48 + b % 10) ∷ []))
+byte_text b = cond (is_special b) (92 ∷ b ∷ []) (cond (nat_le 33 b && nat_le b 126) (b ∷ []) (number_text b))
 
 abbrev pub label_text : List ℕ → List ℕ
 label_text [] = []

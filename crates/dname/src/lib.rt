@@ -2,10 +2,10 @@
 //! differ in the case of letters alone are equal.
 //!
 //! `Name::from_text` reads a name that stands alone, `Name::under` one of a master file, relative to its origin;
-//! `to_text` and `put_name` write it. `Builder` makes a name label by label. `wire` is its wire form, over which
-//! `next_label` walks. `is_at_or_under`, `parent` and `ascend` are what zones and bailiwick need, `is_wildcard` and
-//! `is_wildcard_of` what wildcards do (RFC 4592). A `Suffix` is a name lent from the bytes of one beneath it. `Ord`
-//! is the order of RFC 4034, section 6.1.
+//! `Display` and `Debug` write it, `to_text` and `put_name` into a string. `Builder` makes a name label by label.
+//! `wire` is its wire form, over which `next_label` walks. `is_at_or_under`, `parent` and `ascend` are what zones and
+//! bailiwick need, `is_wildcard` and `is_wildcard_of` what wildcards do (RFC 4592). A `Suffix` is a name lent from the
+//! bytes of one beneath it. `Ord` is the order of RFC 4034, section 6.1.
 //!
 //! Promised: a name is labels of 1 to 63 bytes, at most 255 bytes on the wire (`is_well_formed`, `IsName`); a text
 //! is read exactly where it writes a name (`text_writes_name`), else refused by its first fault

@@ -1,8 +1,9 @@
 //! Names in text (RFC 1035, section 5.1).
 
 ghost use Rattle.std.specs.Prelude.{◌≡◌, ◌<◌, ◌≤◌, [], ◌∷◌, ◌++◌, length, string_bytes, Some, Ok, OnOk, IfOk, MatchOption, MatchResult};
+ghost use Rattle.std.specs.Fmt.{WritesOnOk};
 ghost use Rattle.dname.specs.Tokens.{token_of};
-ghost use Rattle.dname.specs.Text.{tokens, tokens_behind, escaped_token, spelled, with_origin, name_under, name_of_text, IsFault, fault_of, byte_text, label_text, name_text, fault_number, fault_text, TextIsReadBack};
+ghost use Rattle.dname.specs.Text.{tokens, tokens_behind, escaped_token, spelled, with_origin, name_under, name_of_text, IsFault, fault_of, is_special, number_text, byte_text, label_text, name_text, fault_number, fault_text, TextIsReadBack};
 ghost use Rattle.dname.specs.Draft.{empty_draft};
 ghost use Rattle.dname.specs.Spelling.{TextWritesName, FirstFaultCounts};
 ghost use Rattle.dname.specs.Wire.{labels_of, IsNameWire};
@@ -94,64 +95,89 @@ impl From<Overflow> for NameError {
 
 // ---- written
 
-/// Appends the name as text: each label and a dot, the root as a dot alone. The bytes that mean something in a master
-/// file have a backslash, and those outside 33 to 126 are three decimal digits behind one (RFC 1035, section 5.1).
-/// Where memory is refused, a part of it stands.
+/// The name as text: each label and a dot, the root as a dot alone. The bytes that mean something in a master file have
+/// a backslash, and those outside 33 to 126 are three decimal digits behind one (RFC 1035, section 5.1).
+impl<A: Allocator> fmt::Display for Name<A> {
+    ghost output = { λ n. Some (name_text n) };
+
+    fn fmt<W: fmt::Write>(&self, f: &mut fmt::Formatter<W>) -> fmt::Result {
+        if self.is_root() {
+            return f.write_str(".");
+        }
+        let mut rest = self.bytes.as_slice();
+        while let Some((label, after)) = next_label(rest) {
+            write_label(f, label)?;
+            f.write_str(".")?;
+            rest = after;
+        }
+        Ok(())
+    }
+}
+
+/// The name's text.
+impl<A: Allocator> fmt::Debug for Name<A> {
+    ghost debug_output = { λ n. Some (name_text n) };
+
+    fn fmt<W: fmt::Write>(&self, f: &mut fmt::Formatter<W>) -> fmt::Result {
+        fmt::Display::fmt(self, f)
+    }
+}
+
+fn write_label<W: fmt::Write>(f: &mut fmt::Formatter<W>, label: &[u8]) -> fmt::Result
+    ensures { WritesOnOk W.write_str_gives f.old result (label_text label.now) f.new }
+{
+    for byte in label {
+        write_byte(f, *byte)?;
+    }
+    Ok(())
+}
+
+// Whether a byte means something in a master file, where it stands in a name.
+fn is_special(byte: u8) -> bool
+    ensures { result ≡ is_special byte }
+{
+    matches!(byte, b'.' | b'\\' | b'"' | b';' | b'(' | b')' | b'@' | b'$')
+}
+
+fn write_byte<W: fmt::Write>(f: &mut fmt::Formatter<W>, byte: u8) -> fmt::Result
+    ensures { WritesOnOk W.write_str_gives f.old result (byte_text byte) f.new }
+{
+    if is_special(byte) {
+        f.write_char('\\')?;
+        f.write_char(char::from(byte))
+    } else if (33..=126).contains(&byte) {
+        f.write_char(char::from(byte))
+    } else {
+        write_number(f, byte)
+    }
+}
+
+// A byte as three decimal digits behind a backslash.
+fn write_number<W: fmt::Write>(f: &mut fmt::Formatter<W>, byte: u8) -> fmt::Result
+    ensures { WritesOnOk W.write_str_gives f.old result (number_text byte) f.new }
+{
+    f.write_char('\\')?;
+    f.write_char(char::from(b'0' + byte / 100))?;
+    f.write_char(char::from(b'0' + byte / 10 % 10))?;
+    f.write_char(char::from(b'0' + byte % 10))
+}
+
+/// Appends the name as text, as it is displayed. Where memory is refused, nothing is appended.
 pub fn put_name<A: Allocator, B: Allocator>(
     out: &mut String<B>,
     name: &Name<A>,
 ) -> Result<(), Starved>
     ensures { OnOk result (string_bytes out.new ≡ string_bytes out.old ++ name_text name.now) }
 {
-    if name.is_root() {
-        out.push('.')?;
-        return Ok(());
-    }
-    let mut rest = name.bytes.as_slice();
-    while let Some((label, after)) = next_label(rest) {
-        put_label(out, label)?;
-        out.push('.')?;
-        rest = after;
-    }
-    Ok(())
-}
-
-fn put_label<A: Allocator>(out: &mut String<A>, label: &[u8]) -> Result<(), Starved>
-    ensures { OnOk result (string_bytes out.new ≡ string_bytes out.old ++ label_text label.now) }
-{
-    for byte in label {
-        put_byte(out, *byte)?;
-    }
-    Ok(())
-}
-
-fn put_byte<A: Allocator>(out: &mut String<A>, byte: u8) -> Result<(), Starved>
-    ensures { OnOk result (string_bytes out.new ≡ string_bytes out.old ++ byte_text byte) }
-{
-    match byte {
-        b'.' | b'\\' | b'"' | b';' | b'(' | b')' | b'@' | b'$' => {
-            out.push('\\')?;
-            out.push(char::from(byte))?;
-        }
-        33..=126 => out.push(char::from(byte))?,
-        _ => {
-            out.push('\\')?;
-            out.push(char::from(b'0' + byte / 100))?;
-            out.push(char::from(b'0' + byte / 10 % 10))?;
-            out.push(char::from(b'0' + byte % 10))?;
-        }
-    }
-    Ok(())
+    Ok(out.write(name)?)
 }
 
 impl<A: Heap> Name<A> {
-    /// The name as text, as `put_name` writes it, on the name's allocator.
+    /// The name as text, as it is displayed, on the name's allocator.
     pub fn to_text(&self) -> Result<String<A>, Starved>
         ensures { IfOk result (λ s. string_bytes s ≡ name_text self.now) }
     {
-        let mut out = String::new(*self.bytes.allocator());
-        put_name(&mut out, self)?;
-        Ok(out)
+        Ok(self.to_string(*self.bytes.allocator())?)
     }
 }
 
