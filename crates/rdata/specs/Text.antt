@@ -1,8 +1,9 @@
 -- The data of a record in text, as a master file has them (RFC 1035, sections 3.3 and 5.1; AAAA: RFC 4291,
 -- section 2.2, without `::`).
-use Rattle.std.specs.Prelude.{ℕ, ◌+◌, ◌*◌, ◌/◌, ◌%◌, false, ◌&&◌, ◌||◌, cond, nat_eq, nat_le, List, [], ◌∷◌, ◌++◌, slice_index, flat_map, codes, decimal}
+use Rattle.std.specs.Prelude.{ℕ, ◌+◌, ◌*◌, false, ◌&&◌, ◌||◌, cond, nat_eq, nat_le, List, [], ◌∷◌, ◌++◌, slice_index, flat_map, codes, decimal}
 use Rattle.std.specs.Fmt.{digits}
-use Rattle.dname.specs.Text.{name_text}
+use Rattle.dname.specs.Text.{name_text, number_text}
+use Rattle.rdata.specs.Records.{Record}
 use Rattle.rdata.specs.Data.{Authority, Datum, Ipv4, Ns, Cname, Soa, Ptr, Mx, Txt, Ipv6}
 
 -- Four numbers parted by dots.
@@ -36,7 +37,7 @@ ipv6_text a =
 abbrev pub glyph : ℕ → List ℕ
 glyph b =
     cond (nat_eq b 34 || nat_eq b 92) (92 ∷ b ∷ [])
-    (cond (nat_le 32 b && nat_le b 126) (b ∷ []) (92 ∷ (48 + b / 100) ∷ (48 + b / 10 % 10) ∷ (48 + b % 10) ∷ []))
+    (cond (nat_le 32 b && nat_le b 126) (b ∷ []) (number_text b))
 
 -- A character-string in quotes.
 abbrev pub quoted : List ℕ → List ℕ
@@ -52,9 +53,10 @@ spaced_name n = codes " " ++ name_text n
 abbrev pub spaced_string : List ℕ → List ℕ
 spaced_string string = codes " " ++ quoted string
 
+-- The fields of an SOA record, parted by spaces.
 abbrev pub soa_text : Authority → List ℕ
 soa_text s =
-    codes "SOA" ++ spaced_name s.primary ++ spaced_name s.mailbox ++ spaced_number s.serial ++ spaced_number s.refresh
+    name_text s.primary ++ spaced_name s.mailbox ++ spaced_number s.serial ++ spaced_number s.refresh
     ++ spaced_number s.retry ++ spaced_number s.expire ++ spaced_number s.minimum
 
 -- Type and data, as they stand in a line of a master file.
@@ -62,8 +64,12 @@ abbrev pub data_text : Datum → List ℕ
 data_text (Ipv4 a) = codes "A " ++ ipv4_text a
 data_text (Ns n) = codes "NS" ++ spaced_name n
 data_text (Cname n) = codes "CNAME" ++ spaced_name n
-data_text (Soa s) = soa_text s
+data_text (Soa s) = codes "SOA " ++ soa_text s
 data_text (Ptr n) = codes "PTR" ++ spaced_name n
 data_text (Mx p n) = codes "MX" ++ spaced_number p ++ spaced_name n
 data_text (Txt ts) = codes "TXT" ++ flat_map spaced_string ts
 data_text (Ipv6 a) = codes "AAAA " ++ ipv6_text a
+
+-- A record, as it stands in a line of a master file.
+abbrev pub record_text : Record → List ℕ
+record_text r = name_text r.owner ++ (codes " " ++ decimal r.ttl ++ codes " IN ") ++ data_text r.value

@@ -3,8 +3,8 @@
 //!
 //! `Record` is an owner, a TTL and `RData`; `Records` lists them, and a `RecordSet` is those of one owner and one
 //! TTL. `RType` is a served type, by number (`from_number`, `number`) or by word (`from_word`, `word`). `set_at` picks
-//! the RRset of an owner and a type: repeats dropped, all TTLs the lowest. `put_data` writes RDATA as a master file
-//! has it.
+//! the RRset of an owner and a type: repeats dropped, all TTLs the lowest. `Display` writes a record, and its RDATA, as
+//! a master file has them; `put_data` does so into a string.
 //!
 //! Promised: each result exactly, by the functions of `specs` (`one_set`, `type_by`, `data_text`); the test for
 //! equal data finds equal data alone (`same_data_law`); each type is named by its number and its word

@@ -1,168 +1,185 @@
 //! Data in text, as a master file and the program's output lines have them (RFC 1035, section 5.1).
-ghost use Rattle.std.specs.Prelude.{◌≡◌, ◌++◌, OnOk, string_bytes, flat_map};
+ghost use Rattle.std.specs.Prelude.{◌≡◌, ◌++◌, Some, OnOk, string_bytes, flat_map};
+ghost use Rattle.std.specs.Fmt.{WritesOnOk};
 ghost use Rattle.rdata.specs.Kept.{datum};
-ghost use Rattle.rdata.specs.Text.{data_text, soa_text, spaced_name, spaced_number, spaced_string, ipv4_text, ipv6_text, group_text, next_group_text, glyph, quoted};
+ghost use Rattle.rdata.specs.Text.{record_text, data_text, soa_text, spaced_string, ipv4_text, ipv6_text, group_text, next_group_text, glyph, quoted};
+ghost use Rattle.dname.specs.Text.{number_text};
 
+use crate::addr::Addr;
 use crate::data::RData;
+use crate::records::Record;
 use crate::soa::Soa;
-use crate::texts::Texts;
-use dname::{Name, Starved, put_name};
+use crate::texts::{CharacterString, Texts};
+use dname::Starved;
 use std::alloc::Allocator;
+use std::fmt;
 
-/// Appends type and data as they stand in a line of a master file: the type's word, then each field behind
-/// a space. Names are absolute, addresses of IPv6 in eight groups, strings in quotes. Where memory is refused,
-/// a part of it stands.
+/// The record as it stands in a line of a master file: `OWNER TTL IN TYPE DATA`.
+impl<A: Allocator> fmt::Display for Record<A> {
+    ghost output = { λ r. Some (record_text r) };
+
+    fn fmt<W: fmt::Write>(&self, f: &mut fmt::Formatter<W>) -> fmt::Result {
+        let Record { owner, ttl, value } = self;
+        write!(f, "{owner} {ttl} IN {value}")
+    }
+}
+
+/// Type and data as they stand in a line of a master file: the type's word, then each field behind a space. Names
+/// are absolute, addresses of IPv6 in eight groups, strings in quotes.
+impl<A: Allocator> fmt::Display for RData<A> {
+    ghost output = { λ d. Some (data_text (datum d)) };
+
+    fn fmt<W: fmt::Write>(&self, f: &mut fmt::Formatter<W>) -> fmt::Result {
+        match self {
+            RData::A(address) => write!(f, "A {address}"),
+            RData::Ns(name) => write!(f, "NS {name}"),
+            RData::Cname(name) => write!(f, "CNAME {name}"),
+            RData::Soa(soa) => write!(f, "SOA {soa}"),
+            RData::Ptr(name) => write!(f, "PTR {name}"),
+            RData::Mx(preference, name) => write!(f, "MX {preference} {name}"),
+            RData::Txt(texts) => write!(f, "TXT{texts}"),
+            RData::Aaaa(address) => write!(f, "AAAA {}", Groups(*address)),
+        }
+    }
+}
+
+/// The record's line.
+impl<A: Allocator> fmt::Debug for Record<A> {
+    ghost debug_output = { λ r. Some (record_text r) };
+
+    fn fmt<W: fmt::Write>(&self, f: &mut fmt::Formatter<W>) -> fmt::Result {
+        fmt::Display::fmt(self, f)
+    }
+}
+
+/// Type and data, as they are displayed.
+impl<A: Allocator> fmt::Debug for RData<A> {
+    ghost debug_output = { λ d. Some (data_text (datum d)) };
+
+    fn fmt<W: fmt::Write>(&self, f: &mut fmt::Formatter<W>) -> fmt::Result {
+        fmt::Display::fmt(self, f)
+    }
+}
+
+/// The fields, parted by spaces.
+impl<A: Allocator> fmt::Display for Soa<A> {
+    ghost output = { λ s. Some (soa_text s) };
+
+    fn fmt<W: fmt::Write>(&self, f: &mut fmt::Formatter<W>) -> fmt::Result {
+        let (serial, refresh, retry) = (self.serial, self.refresh, self.retry);
+        let (expire, minimum) = (self.expire, self.minimum);
+        write!(f, "{} {}", self.primary, self.mailbox)?;
+        write!(f, " {serial} {refresh} {retry} {expire} {minimum}")
+    }
+}
+
+/// Each string in quotes, behind a space.
+impl<A: Allocator> fmt::Display for Texts<A> {
+    ghost output = { λ strings. Some (flat_map spaced_string strings) };
+
+    fn fmt<W: fmt::Write>(&self, f: &mut fmt::Formatter<W>) -> fmt::Result {
+        for string in self.strings() {
+            write!(f, " {string}")?;
+        }
+        Ok(())
+    }
+}
+
+/// The string in quotes, with escapes where a byte needs one.
+impl<A: Allocator> fmt::Display for CharacterString<A> {
+    ghost output = { λ s. Some (quoted s) };
+
+    fn fmt<W: fmt::Write>(&self, f: &mut fmt::Formatter<W>) -> fmt::Result {
+        f.write_str("\"")?;
+        for byte in self.bytes() {
+            write_byte(f, *byte)?;
+        }
+        f.write_str("\"")
+    }
+}
+
+fn write_byte<W: fmt::Write>(f: &mut fmt::Formatter<W>, byte: u8) -> fmt::Result
+    ensures { WritesOnOk W.write_str_gives f.old result (glyph byte) f.new }
+{
+    if matches!(byte, b'"' | b'\\') {
+        f.write_char('\\')?;
+        f.write_char(char::from(byte))
+    } else if (32..=126).contains(&byte) {
+        f.write_char(char::from(byte))
+    } else {
+        write_number(f, byte)
+    }
+}
+
+// A byte as three decimal digits behind a backslash.
+fn write_number<W: fmt::Write>(f: &mut fmt::Formatter<W>, byte: u8) -> fmt::Result
+    ensures { WritesOnOk W.write_str_gives f.old result (number_text byte) f.new }
+{
+    f.write_char('\\')?;
+    f.write_char(char::from(b'0' + byte / 100))?;
+    f.write_char(char::from(b'0' + byte / 10 % 10))?;
+    f.write_char(char::from(b'0' + byte % 10))
+}
+
+// Two bytes as a group of an IPv6 address: hexadecimal digits in lower case, without zeros in front.
+#[derive(Clone, Copy)]
+struct Group(u8, u8);
+
+impl fmt::Display for Group {
+    ghost output = { λ g. Some (group_text g.0 g.1) };
+
+    fn fmt<W: fmt::Write>(&self, f: &mut fmt::Formatter<W>) -> fmt::Result {
+        let group = u16::from(self.0) * 256 + u16::from(self.1);
+        write!(f, "{group:x}")
+    }
+}
+
+// A further group, behind its colon.
+#[derive(Clone, Copy)]
+struct Next(u8, u8);
+
+impl fmt::Display for Next {
+    ghost output = { λ g. Some (next_group_text g.0 g.1) };
+
+    fn fmt<W: fmt::Write>(&self, f: &mut fmt::Formatter<W>) -> fmt::Result {
+        write!(f, ":{}", Group(self.0, self.1))
+    }
+}
+
+// An IPv6 address: eight groups, parted by colons.
+#[derive(Clone, Copy)]
+struct Groups([u8; 16]);
+
+impl fmt::Display for Groups {
+    ghost output = { λ g. Some (ipv6_text g.0) };
+
+    fn fmt<W: fmt::Write>(&self, f: &mut fmt::Formatter<W>) -> fmt::Result {
+        let bytes = self.0;
+        let a = Group(bytes[0], bytes[1]);
+        let b = Next(bytes[2], bytes[3]);
+        let c = Next(bytes[4], bytes[5]);
+        let d = Next(bytes[6], bytes[7]);
+        let e = Next(bytes[8], bytes[9]);
+        let g = Next(bytes[10], bytes[11]);
+        let h = Next(bytes[12], bytes[13]);
+        let i = Next(bytes[14], bytes[15]);
+        write!(f, "{a}{b}{c}{d}{e}{g}{h}{i}")
+    }
+}
+
+/// Appends type and data as they are displayed. Where memory is refused, nothing is appended.
 pub fn put_data<A: Allocator, B: Allocator>(
     out: &mut String<B>,
     value: &RData<A>,
 ) -> Result<(), Starved>
     ensures { OnOk result (string_bytes out.new ≡ string_bytes out.old ++ data_text (datum value.now)) }
 {
-    match value {
-        RData::A(address) => {
-            out.push_str("A ")?;
-            put_ipv4(out, &address.0)
-        }
-        RData::Ns(name) => put_target(out, "NS", name),
-        RData::Cname(name) => put_target(out, "CNAME", name),
-        RData::Soa(soa) => put_soa(out, soa),
-        RData::Ptr(name) => put_target(out, "PTR", name),
-        RData::Mx(preference, name) => {
-            write!(out, "MX {preference} ")?;
-            put_name(out, name)
-        }
-        RData::Txt(texts) => {
-            out.push_str("TXT")?;
-            put_strings(out, texts)
-        }
-        RData::Aaaa(address) => {
-            out.push_str("AAAA ")?;
-            put_ipv6(out, address)
-        }
-    }
-}
-
-// A type's word and the one name of its data.
-fn put_target<A: Allocator, B: Allocator>(
-    out: &mut String<B>,
-    word: &str,
-    name: &Name<A>,
-) -> Result<(), Starved>
-    ensures { OnOk result (string_bytes out.new ≡ string_bytes out.old ++ (word.now ++ spaced_name name.now)) }
-{
-    out.push_str(word)?;
-    put_spaced_name(out, name)
-}
-
-fn put_spaced_name<A: Allocator, B: Allocator>(
-    out: &mut String<B>,
-    name: &Name<A>,
-) -> Result<(), Starved>
-    ensures { OnOk result (string_bytes out.new ≡ string_bytes out.old ++ spaced_name name.now) }
-{
-    out.push(' ')?;
-    put_name(out, name)
-}
-
-fn put_spaced_number<B: Allocator>(out: &mut String<B>, number: u32) -> Result<(), Starved>
-    ensures { OnOk result (string_bytes out.new ≡ string_bytes out.old ++ spaced_number number) }
-{
-    write!(out, " {number}")?;
-    Ok(())
-}
-
-fn put_soa<A: Allocator, B: Allocator>(out: &mut String<B>, soa: &Soa<A>) -> Result<(), Starved>
-    ensures { OnOk result (string_bytes out.new ≡ string_bytes out.old ++ soa_text soa.now) }
-{
-    out.push_str("SOA")?;
-    put_spaced_name(out, &soa.primary)?;
-    put_spaced_name(out, &soa.mailbox)?;
-    put_spaced_number(out, soa.serial)?;
-    put_spaced_number(out, soa.refresh)?;
-    put_spaced_number(out, soa.retry)?;
-    put_spaced_number(out, soa.expire)?;
-    put_spaced_number(out, soa.minimum)
-}
-
-fn put_strings<A: Allocator, B: Allocator>(
-    out: &mut String<B>,
-    texts: &Texts<A>,
-) -> Result<(), Starved>
-    ensures { OnOk result (string_bytes out.new ≡ string_bytes out.old ++ flat_map spaced_string texts.now) }
-{
-    for string in texts.strings() {
-        out.push(' ')?;
-        put_quoted(out, string.bytes())?;
-    }
-    Ok(())
+    Ok(out.write(value)?)
 }
 
 /// Appends an IPv4 address: four numbers parted by dots.
 pub fn put_ipv4<A: Allocator>(out: &mut String<A>, address: &[u8; 4]) -> Result<(), Starved>
     ensures { OnOk result (string_bytes out.new ≡ string_bytes out.old ++ ipv4_text address.now) }
 {
-    let (a, b, c, d) = (address[0], address[1], address[2], address[3]);
-    write!(out, "{a}.{b}.{c}.{d}")?;
-    Ok(())
-}
-
-/// Appends an IPv6 address: eight groups of hexadecimal digits in lower case, parted by colons.
-pub fn put_ipv6<A: Allocator>(out: &mut String<A>, address: &[u8; 16]) -> Result<(), Starved>
-    ensures { OnOk result (string_bytes out.new ≡ string_bytes out.old ++ ipv6_text address.now) }
-{
-    put_group(out, address[0], address[1])?;
-    put_next_group(out, address[2], address[3])?;
-    put_next_group(out, address[4], address[5])?;
-    put_next_group(out, address[6], address[7])?;
-    put_next_group(out, address[8], address[9])?;
-    put_next_group(out, address[10], address[11])?;
-    put_next_group(out, address[12], address[13])?;
-    put_next_group(out, address[14], address[15])
-}
-
-fn put_group<A: Allocator>(out: &mut String<A>, high: u8, low: u8) -> Result<(), Starved>
-    ensures { OnOk result (string_bytes out.new ≡ string_bytes out.old ++ group_text high low) }
-{
-    let group = u16::from(high) * 256 + u16::from(low);
-    write!(out, "{group:x}")?;
-    Ok(())
-}
-
-// A further group of an IPv6 address, behind its colon.
-fn put_next_group<A: Allocator>(out: &mut String<A>, high: u8, low: u8) -> Result<(), Starved>
-    ensures { OnOk result (string_bytes out.new ≡ string_bytes out.old ++ next_group_text high low) }
-{
-    out.push(':')?;
-    put_group(out, high, low)
-}
-
-/// Appends a character-string in quotes, with escapes where a byte needs one.
-pub fn put_quoted<A: Allocator>(out: &mut String<A>, string: &[u8]) -> Result<(), Starved>
-    ensures { OnOk result (string_bytes out.new ≡ string_bytes out.old ++ quoted string.now) }
-{
-    out.push('"')?;
-    for byte in string {
-        put_byte(out, *byte)?;
-    }
-    out.push('"')?;
-    Ok(())
-}
-
-fn put_byte<A: Allocator>(out: &mut String<A>, byte: u8) -> Result<(), Starved>
-    ensures { OnOk result (string_bytes out.new ≡ string_bytes out.old ++ glyph byte) }
-{
-    match byte {
-        b'"' | b'\\' => {
-            out.push('\\')?;
-            out.push(char::from(byte))?;
-        }
-        32..=126 => out.push(char::from(byte))?,
-        _ => {
-            out.push('\\')?;
-            out.push(char::from(b'0' + byte / 100))?;
-            out.push(char::from(b'0' + byte / 10 % 10))?;
-            out.push(char::from(b'0' + byte % 10))?;
-        }
-    }
-    Ok(())
+    Ok(out.write(Addr(*address))?)
 }

@@ -1,8 +1,10 @@
 -- The bytes so far are written.
-use Rattle.std.proofs.Common.{◌≡◌, ◌++◌, take, string_bytes}
+use Rattle.std.proofs.Common.{◌∷◌, take}
 use Rattle.std.specs.List.{flat_map}
+use Rattle.std.specs.Fmt.{HasWritten, IsPlainFormatter}
 use Rattle.rdata.specs.Text.{glyph}
-use Rattle.rdata.proofs.text.put_quoted.Given as goal
+use Rattle.rdata.proofs.text.CharacterStringDisplay.fmt.Given as goal
 
 abbrev pub invariant-loop-byte : goal.invariant-loop-byte
-invariant-loop-byte g l = string_bytes l.out ≡ string_bytes l.initial.out ++ flat_map glyph (take l.byte-index l.string)
+invariant-loop-byte g l =
+    IsPlainFormatter l.fn.f → HasWritten g.W.Write.write_str_gives l.fn.f (34 ∷ flat_map glyph (take l.byte-index l.byte-items)) l.f
