@@ -1,13 +1,10 @@
 -- Records as a zone text (RFC 1035, section 5.1).
-use Rattle.std.specs.Prelude.{ℕ, List, ◌++◌, flat_map, codes, decimal}
+use Rattle.std.specs.Prelude.{ℕ, List, ◌++◌, flat_map, codes}
 use Rattle.dname.specs.Text.{name_text}
-use Rattle.rdata.specs.Text.{data_text}
+use Rattle.rdata.specs.Text.{record_text}
 use Rattle.rdata.specs.Records.{Record}
 
--- `OWNER TTL IN TYPE DATA`.
-abbrev pub record_text : Record → List ℕ
-record_text r = name_text r.owner ++ (codes " " ++ decimal r.ttl ++ codes " IN ") ++ data_text r.value
-
+-- A record and the end of its line.
 abbrev pub line_text : Record → List ℕ
 line_text r = record_text r ++ codes "\n"
 

@@ -1,11 +1,12 @@
 //! Records printed as a zone text.
 ghost use Rattle.std.specs.Prelude.{◌≡◌, ◌++◌, IfOk, OnOk, string_bytes};
-ghost use Rattle.masterfile.specs.Printed.{record_text, line_text, file_text};
+ghost use Rattle.rdata.specs.Text.{record_text};
+ghost use Rattle.masterfile.specs.Printed.{line_text, file_text};
 ghost use Rattle.masterfile.specs.ReadBack.{FitMessages, IsReadAs};
 
 use crate::sound::record_is_sound;
 use dname::{Heap, Name, Starved, put_name};
-use rdata::{Record, put_data};
+use rdata::Record;
 use std::alloc::Allocator;
 
 /// The records as a zone text: a line `$ORIGIN NAME`, then a line `OWNER TTL IN TYPE DATA` a record, with one space
@@ -42,15 +43,12 @@ fn put_line<A: Allocator, B: Allocator>(
     Ok(())
 }
 
-/// Appends a record as `OWNER TTL IN TYPE DATA`. Where memory is refused, a part of it stands.
+/// Appends a record as it is displayed, `OWNER TTL IN TYPE DATA`. Where memory is refused, nothing is appended.
 pub fn put_record<A: Allocator, B: Allocator>(
     out: &mut String<B>,
     record: &Record<A>,
 ) -> Result<(), Starved>
     ensures { OnOk result (string_bytes out.new ≡ string_bytes out.old ++ record_text record.now) }
 {
-    let ttl = record.ttl;
-    put_name(out, &record.owner)?;
-    write!(out, " {ttl} IN ")?;
-    put_data(out, &record.value)
+    Ok(out.write(record)?)
 }
