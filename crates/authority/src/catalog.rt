@@ -91,7 +91,7 @@ fn zone_over<'a, A: Heap>(
     requires { ArePlaces places.now zones.now }
     ensures { option_copied result ≡ zone_over (chosen (option_copied listed.entry) zones.now) name.now }
 {
-    name.is_well_formed();
+    name.well_formed_law();
     let mut up = name.suffix();
     if let Some(found) = zone_at(zones, places, listed, &up) {
         return Some(found);

@@ -39,7 +39,7 @@ pub(crate) fn places_of<A: Heap>(alloc: A, zones: &[Zone<A>]) -> Result<Places<A
     let mut place = 0;
     for zone in zones {
         zone_keeps_rules(zone);
-        zone.origin().is_well_formed();
+        zone.origin().well_formed_law();
         if !note_place(&mut places, zone, place)? {
             return Err(CatalogError::Twins);
         }

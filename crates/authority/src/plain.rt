@@ -154,7 +154,7 @@ fn cut_over<A: Heap>(
 ) -> Result<Option<Name<A>>, Starved>
     ensures { IfOk result (λ c. c ≡ cut_of record { origin = origin.now; records = records.now } name.now) }
 {
-    name.is_well_formed();
+    name.well_formed_law();
     let mut up = name.clone()?;
     let mut found = cut_at(origin, records, &up)?;
     'up: while up.ascend() {
@@ -174,7 +174,7 @@ fn climb<A: Heap>(
     requires { HaveOneTtl records.now }
     ensures { IfOk result (λ l. link_view l ≡ climbed soa.now name.now (type_number kind) records.now name.now) }
 {
-    name.is_well_formed();
+    name.well_formed_law();
     let mut up = name.clone()?;
     'up: while up.ascend() {
         if has_owner_under(records, &up) {

@@ -76,7 +76,7 @@ fn nearer<'a, A: Allocator>(
 fn walk_up<'a, A: Heap>(zone: &'a Zone<A>, name: &Name<A>) -> Result<Walk<'a, A>, Starved>
     ensures { IfOk result (λ w. IsWalk zone.now name.now w) }
 {
-    name.is_well_formed();
+    name.well_formed_law();
     zone_keeps_rules(zone);
     let mut up = name.suffix();
     let here = zone.stand_at(&up);
@@ -145,7 +145,7 @@ pub(crate) fn look_counted<A: Heap>(
     ensures value { IfOk result (λ p. local_view p.0 ≡ local_by soa.now zone.now name.now (type_number kind)) }
     ensures count { IfOk result (λ p. p.1 ≤ length name.now + 1) }
 {
-    name.is_well_formed();
+    name.well_formed_law();
     let Walk {
         cut,
         here,

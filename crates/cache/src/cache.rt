@@ -76,7 +76,7 @@ impl<S: BuildHasher + Drop, A: Heap> Cache<S, A> {
     }
 
     /// No two entries have one key, and there are no more of them than the capacity.
-    pub fn is_well_formed(&self)
+    pub fn well_formed_law(&self)
         ensures { IsValid same_key self.now }
     {
         let _ = self.entries.len();

@@ -137,7 +137,7 @@ fn network_of(alloc: Global, world: World) -> Result<Sim, Starved>
     ensures begins { IfOk result (λ s. Begins s) }
     ensures world { IfOk result (λ s. s.world ≡ world) }
 {
-    world.is_well_formed();
+    world.well_formed_law();
     match Sim::new(alloc, world, settings()) {
         Ok(network) => Ok(network),
         Err(_) => Err(Starved),

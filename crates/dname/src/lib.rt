@@ -7,7 +7,7 @@
 //! bailiwick need, `is_wildcard` and `is_wildcard_of` what wildcards do (RFC 4592). A `Suffix` is a name lent from the
 //! bytes of one beneath it. `Ord` is the order of RFC 4034, section 6.1.
 //!
-//! Promised: a name is labels of 1 to 63 bytes, at most 255 bytes on the wire (`is_well_formed`, `IsName`); a text
+//! Promised: a name is labels of 1 to 63 bytes, at most 255 bytes on the wire (`well_formed_law`, `IsName`); a text
 //! is read exactly where it writes a name (`text_writes_name`), else refused by its first fault
 //! (`first_fault_counts`); what is written is read back (`text_is_read_back`).
 //! Not here: compression pointers (`wire`, `suffixes`), the case of a question's letters (`wire::Spelling`).

@@ -73,7 +73,7 @@ impl<'a> Suffix<'a> {
     }
 
     /// Every name is labels of 1 to 63 bytes and the root's, at most 255 bytes in all.
-    pub fn is_well_formed(&self)
+    pub fn well_formed_law(&self)
         ensures { IsName self.now }
     {
         let _ = self.bytes.len();

@@ -54,7 +54,7 @@ fn find_kept<S: BuildHasher + Drop, A: Heap>(
     ensures kept { IfOk result (λ k. IsKept now name.now (type_number kind) stores.old k stores.new) }
     ensures only { OnlyUses stores.old stores.new }
 {
-    name.is_well_formed();
+    name.well_formed_law();
     match stores.look(name, kind, now)? {
         Some(hit) => Ok(Kept::Hit(Taken::cached(name, hit)?)),
         None => Ok(Kept::Best(stores.best(name, now)?)),

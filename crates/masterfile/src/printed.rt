@@ -20,7 +20,7 @@ pub fn print<A: Heap, B: Allocator>(
     ensures text { IfOk result (λ s. string_bytes s ≡ file_text origin.now records.now) }
     ensures back { IfOk result (λ s. FitMessages records.now → IsReadAs (string_bytes s) records.now) }
 {
-    origin.is_well_formed();
+    origin.well_formed_law();
     let mut out = String::new(alloc);
     out.push_str("$ORIGIN ")?;
     put_name(&mut out, origin)?;

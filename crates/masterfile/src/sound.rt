@@ -14,7 +14,7 @@ use std::alloc::Allocator;
 pub(crate) fn record_is_sound<A: Allocator>(record: &Record<A>)
     ensures { FitsMessage «record».now.value → IsSound «record».now }
 {
-    record.owner.is_well_formed();
+    record.owner.well_formed_law();
     data_is_sound(&record.value);
 }
 
@@ -23,10 +23,10 @@ fn data_is_sound<A: Allocator>(value: &RData<A>)
 {
     match value {
         RData::A(address) => are_bytes(&address.0),
-        RData::Ns(name) => name.is_well_formed(),
-        RData::Cname(name) => name.is_well_formed(),
+        RData::Ns(name) => name.well_formed_law(),
+        RData::Cname(name) => name.well_formed_law(),
         RData::Soa(soa) => authority_is_sound(soa),
-        RData::Ptr(name) => name.is_well_formed(),
+        RData::Ptr(name) => name.well_formed_law(),
         RData::Mx(preference, name) => exchange_is_sound(*preference, name),
         RData::Txt(texts) => are_strings(texts.strings()),
         RData::Aaaa(address) => are_bytes(address),
@@ -36,14 +36,14 @@ fn data_is_sound<A: Allocator>(value: &RData<A>)
 fn exchange_is_sound<A: Allocator>(preference: u16, name: &Name<A>)
     ensures { (preference ≤ greatest_16) × IsName name.now }
 {
-    name.is_well_formed();
+    name.well_formed_law();
 }
 
 fn authority_is_sound<A: Allocator>(soa: &Soa<A>)
     ensures { IsAuthority soa.now }
 {
-    soa.primary.is_well_formed();
-    soa.mailbox.is_well_formed();
+    soa.primary.well_formed_law();
+    soa.mailbox.well_formed_law();
     number_is_sound(soa.serial);
     number_is_sound(soa.refresh);
     number_is_sound(soa.retry);

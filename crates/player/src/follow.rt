@@ -33,7 +33,7 @@ pub fn play<A: Heap>(
     ensures { IfOk result (λ text. IsPlayed world (map order_seen orders.items) (string_bytes text)) }
 {
     network_law();
-    world.is_well_formed();
+    world.well_formed_law();
     let mut player = Player::new(alloc, world)?;
     player.follow_all(orders)?;
     player.end()

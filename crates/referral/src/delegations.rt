@@ -46,7 +46,7 @@ impl<S: BuildHasher + Drop, A: Heap> Delegations<S, A> {
 
     /// Each entry stands under the owner of its cut, no two under one, and there are no more of them than
     /// the capacity.
-    pub fn is_well_formed(&self)
+    pub fn well_formed_law(&self)
         ensures named { AreNamed self.now.entries }
         ensures valid { IsValid same_name self.now }
     {
@@ -105,7 +105,7 @@ impl<S: BuildHasher + Drop, A: Heap> Delegations<S, A> {
         ensures { IfOk result (λ s. under at.new (option_map (known_of at.new) s) ≡ nearest at.old now self.now.entries) }
     {
         loop {
-            at.is_well_formed();
+            at.well_formed_law();
             if let Some(servers) = self.live_at(at, now)? {
                 return Ok(Some(servers));
             }

@@ -70,7 +70,7 @@ impl<S: BuildHasher + Drop, A: Allocator> Penalties<S, A> {
 
     /// Every penalty that is kept is at most 8; no two are of one address, and there are no more of them than
     /// the capacity.
-    pub fn is_well_formed(&self)
+    pub fn well_formed_law(&self)
         ensures most { AreAtMost 8 self.now.entries }
         ensures valid { IsValid same_addr self.now }
     {

@@ -41,7 +41,7 @@ impl<A: Heap> Plan<A> {
         ensures relation { IfOk result (λ p. IsByPenalty (λ a. penalty a penalties.now.entries) addresses.now p.order) }
     {
         let mut order = Vec::from_slice(alloc, addresses)?;
-        penalties.is_well_formed();
+        penalties.well_formed_law();
         order.sort_by_key(|addr| penalties.of(*addr))?;
         Ok(Plan { order, given: 0 })
     }

@@ -26,7 +26,7 @@ pub fn given<A: Heap>(
     ensures asks { IfOk result (λ r. IfSome r (λ v. AsksOne v.items)) }
     ensures short { IfOk result (λ r. IfSome r (λ v. length v.items ≤ 65535)) }
 {
-    world.is_well_formed();
+    world.well_formed_law();
     echo_is_question(alloc);
     Ok(host_reply(alloc, world, sent.to.address, sent.bytes.as_slice())?)
 }
@@ -36,7 +36,7 @@ fn are_names<A: Allocator>(message: &Message<A>)
     ensures { (q : layouts.Question) → message.now.questions ≡ q ∷ [] → IsName q.name }
 {
     if let [question] = message.questions.as_slice() {
-        question.name.is_well_formed();
+        question.name.well_formed_law();
     }
 }
 

@@ -130,7 +130,7 @@ impl<A: Heap> Suffixes<A> {
         if written == 0 || at >= POINTER_LIMIT {
             return Ok(());
         }
-        name.is_well_formed();
+        name.well_formed_law();
         let bytes = name.wire();
         let start = self.names.len();
         self.notes.reserve(written.min(bytes.len()))?;
@@ -169,7 +169,7 @@ impl<A: Allocator> Suffixes<A> {
         ensures is { result ≡ longest self.now name.now }
         ensures within { IfSome result (λ f. (f.labels < length name.now) × (f.bytes < length (wire name.now)) × (f.place < 16384)) }
     {
-        name.is_well_formed();
+        name.well_formed_law();
         let mut rest = name.wire();
         let mut labels = 0;
         let mut bytes = 0;

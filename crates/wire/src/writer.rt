@@ -127,7 +127,7 @@ impl<A: Heap> Writer<A> {
         ensures written { OnOk result (self.new ≡ put_flat self.old (packed_name name.now)) }
         ensures named { IsName name.now }
     {
-        name.is_well_formed();
+        name.well_formed_law();
         let at = self.bytes.len();
         match self.names.longest(name) {
             None => {
@@ -148,7 +148,7 @@ impl<A: Heap> Writer<A> {
         ensures written { OnOk result (self.new ≡ put_flat self.old (asked_name name.now)) }
         ensures named { IsName name.now }
     {
-        name.is_well_formed();
+        name.well_formed_law();
         let at = self.bytes.len();
         self.bytes.extend_from_slice(name.wire())?;
         self.names.note(name, name.labels(), at)
@@ -159,9 +159,9 @@ impl<A: Heap> Writer<A> {
         ensures written { OnOk result (self.new ≡ put_flat self.old (asked_name spelling.now)) }
         ensures spelt { IsSpelling spelling.now }
     {
-        spelling.is_well_formed();
+        spelling.well_formed_law();
         let name = spelling.name();
-        name.is_well_formed();
+        name.well_formed_law();
         let at = self.bytes.len();
         self.bytes.extend_from_slice(spelling.wire())?;
         self.names.note(name, name.labels(), at)

@@ -177,7 +177,7 @@ pub fn host_reply<A: Heap>(
     ensures is { IfOk result (λ r. IsHostReply A world.now address.0 bytes.now (option_map (λ v. v.items) r)) }
     ensures honest { IfOk result (λ r. IfSome r (λ v. IsHonestReply A world.now address.0 bytes.now v.items)) }
 {
-    world.is_well_formed();
+    world.well_formed_law();
     reading_is_one(alloc);
     echo_is_question(alloc);
     match read_query(alloc, bytes)? {

@@ -121,7 +121,7 @@ fn goes_on<A: Heap>(
 ) -> Result<bool, Starved>
     ensures { (q : List (List ℕ)) → IsTrueLink world.now q (type_number kind) (Alias alias.now) → IfOk result (λ b. IsTrue b ↔ IsRest world.now (type_number kind) q left answer.now rcode authority.now) }
 {
-    world.is_well_formed();
+    world.well_formed_law();
     let [first, others @ ..] = answer else {
         return Ok(false);
     };
@@ -150,7 +150,7 @@ fn is_rest<A: Heap>(
 ) -> Result<bool, Starved>
     ensures { IfOk result (λ b. IsTrue b ↔ IsRest world.now (type_number kind) name.now left answer.now rcode authority.now) }
 {
-    world.is_well_formed();
+    world.well_formed_law();
     match world.link(name, kind)? {
         Link::Alias(alias) => Ok(goes_on(world, &alias, kind, answer, left, rcode, authority)?),
         Link::Found(set) => Ok(is_found(&set, answer, rcode, authority)?),

@@ -6,7 +6,7 @@
 //! referral at a zone cut, else with AA the CNAME chain through its zones and its end. `World::link` is what the
 //! zone in charge of a name says, and `judge` tells whether bytes are the right reply to a question.
 //!
-//! Promised: a world is well formed (`is_well_formed`, `IsWorld`), and refused exactly where it is not
+//! Promised: a world is well formed (`well_formed_law`, `IsWorld`), and refused exactly where it is not
 //! (`IsRefused`); what a server replies may honestly be served (clause `honest`); `judge` says yes exactly of right
 //! replies (`IsRight`).
 //! Not here: asks, loss and time (`network`, `simnet`).

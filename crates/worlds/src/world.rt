@@ -141,7 +141,7 @@ fn held_zones<A: Heap>(
 
 impl<A: Allocator> World<A> {
     /// A law: each world is well formed. Costs nothing.
-    pub fn is_well_formed(&self)
+    pub fn well_formed_law(&self)
         ensures { IsWorld self.now }
     {
         let _ = &self.hosts;
@@ -179,7 +179,7 @@ impl<A: Heap> World<A> {
         ensures are { IfOk result (λ v. AreHeld self.now v.items) }
         ensures parted { IfOk result (λ v. Parted v.items) }
     {
-        self.is_well_formed();
+        self.well_formed_law();
         let zones = self.catalog().zones();
         Ok(held_zones(*self.hosts.allocator(), zones, self.locals())?)
     }
@@ -189,8 +189,8 @@ impl<A: Heap> World<A> {
     pub fn link(&self, name: &Name<A>, kind: RType) -> Result<Link<A>, Starved>
         ensures { IfOk result (λ l. IsTrueLink self.now name.now (type_number kind) (link_view l)) }
     {
-        self.is_well_formed();
-        name.is_well_formed();
+        self.well_formed_law();
+        name.well_formed_law();
         match self.catalog.look(name.allocator(), name, kind)? {
             Local::Link(link) => Ok(link),
             Local::Cut(_, _, _) | Local::NotHere => unreachable!(),

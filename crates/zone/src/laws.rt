@@ -94,5 +94,5 @@ pub fn zone_keeps_rules<A: Allocator>(zone: &KeptZone<A>)
     ensures rules { IsZone zone.now }
 {
     zone.is_sound();
-    zone.origin().is_well_formed();
+    zone.origin().well_formed_law();
 }

@@ -63,7 +63,7 @@ fn stand_at<'a, A: Allocator>(
     requires { IsTree nodes.now records.now }
     ensures { MatchOption result (has_under name.now records.now ≡ false) (λ s. IsStand name.now records.now s.own s.wild) }
 {
-    name.is_well_formed();
+    name.well_formed_law();
     match nodes.get(name.wire()) {
         None => None,
         Some(node) => Some(Stand {

@@ -6,12 +6,12 @@ use Rattle.authority.proofs.catalog.zone_over.Goals as goal
 
 pub returns-in-Some : goal.returns-in-Some
 returns-in-Some g c =
-    let labels : AreLabels c.suffix-up.result = subst (λ (n : List (List ℕ)). AreLabels n) (sym c.suffix-up.ensures) c.is_well_formed.ensures.labels in
+    let labels : AreLabels c.suffix-up.result = subst (λ (n : List (List ℕ)). AreLabels n) (sym c.suffix-up.ensures) c.well_formed_law.ensures.labels in
     zone_stops (chosen (option_copied c.args.listed) c.args.zones.now) c.suffix-up.result c.in-Some.found.now labels (c.in-Some.ensures) ∙ ap (zone_over (chosen (option_copied c.args.listed) c.args.zones.now)) c.suffix-up.ensures
 
 pub up-init : goal.up-init
 up-init g c =
-    let labels : AreLabels c.suffix-up.result = subst (λ (n : List (List ℕ)). AreLabels n) (sym c.suffix-up.ensures) c.is_well_formed.ensures.labels in
+    let labels : AreLabels c.suffix-up.result = subst (λ (n : List (List ℕ)). AreLabels n) (sym c.suffix-up.ensures) c.well_formed_law.ensures.labels in
     zone_goes_on (chosen (option_copied c.args.listed) c.args.zones.now) c.suffix-up.result labels (c.in_default.ensures) ∙ ap (zone_over (chosen (option_copied c.args.listed) c.args.zones.now)) c.suffix-up.ensures
 
 pub returns-in-Some-zone_at : goal.returns-in-Some-zone_at

@@ -23,7 +23,7 @@ loop-zone-preserved g c =
       λ q. place_more zs i z q _ _ c.loop-zone-test.true c.zone-item.is alone (c.loop-zone.invariant.2 q)
           (c.in_ok-note_place.ensures.noted q ∙ ap (λ (n : ℕ). cond (same_name z.origin q) (Some n) (at_name c.loop-zone.places q)) c.loop-zone.invariant.0),
       apart_more zs i z _ _ c.loop-zone-test.true c.zone-item.is c.loop-zone.invariant.3 known fresh c.if-not-branch.false,
-      zones_more zs i z c.origin.result.now c.loop-zone-test.true c.zone-item.is c.loop-zone.invariant.4 c.zone_keeps_rules.ensures.rules c.origin.ensures c.is_well_formed.ensures,
+      zones_more zs i z c.origin.result.now c.loop-zone-test.true c.zone-item.is c.loop-zone.invariant.4 c.zone_keeps_rules.ensures.rules c.origin.ensures c.well_formed_law.ensures,
     )
 
 pub returns-then-not-branch : goal.returns-then-not-branch

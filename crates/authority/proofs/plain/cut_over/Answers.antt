@@ -9,7 +9,7 @@ use Rattle.authority.proofs.plain.cut_over.Goals as goal
 pub up-init : goal.up-init
 up-init g c =
     let z : Zone = record { origin = c.args.origin.now; records = c.args.records.now } in
-    let labels : AreLabels c.in_ok-up.up = subst (λ (n : List (List ℕ)). AreLabels n) (sym c.in_ok-up.ensures.cases) c.is_well_formed.ensures.labels in
+    let labels : AreLabels c.in_ok-up.up = subst (λ (n : List (List ℕ)). AreLabels n) (sym c.in_ok-up.ensures.cases) c.well_formed_law.ensures.labels in
     subst (λ (n : List (List ℕ)). or_else (cut_of z (above c.in_ok-up.up)) c.in_ok-found.found ≡ cut_of z n) c.in_ok-up.ensures.cases (cut_first z c.in_ok-up.up c.in_ok-found.found labels c.in_ok-found.ensures)
 
 pub up-smaller : goal.up-smaller

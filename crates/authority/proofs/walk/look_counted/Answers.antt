@@ -6,7 +6,7 @@ use Rattle.authority.proofs.Walks.{walk_told, labels_within}
 use Rattle.authority.proofs.walk.look_counted.Goals as goal
 
 pub overflow_add-result : goal.overflow_add-result
-overflow_add-result g c = omega (arith, c.in_ok-cut.ensures.count, labels_within c.args.name.now, c.is_well_formed.ensures.short)
+overflow_add-result g c = omega (arith, c.in_ok-cut.ensures.count, labels_within c.args.name.now, c.well_formed_law.ensures.short)
 
 pub returns-in_ok-link-in-None-clause-value : goal.returns-in_ok-link-in-None-clause-value
 returns-in_ok-link-in-None-clause-value g c =

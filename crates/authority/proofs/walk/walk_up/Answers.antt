@@ -12,7 +12,7 @@ pub up-init : goal.up-init
 up-init g c =
     let z = c.args.zone.now in
     let n = c.suffix-up.result in
-    let labels : AreLabels n = subst (λ (m : List (List ℕ)). AreLabels m) (sym c.suffix-up.ensures) c.is_well_formed.ensures.labels in
+    let labels : AreLabels n = subst (λ (m : List (List ℕ)). AreLabels m) (sym c.suffix-up.ensures) c.well_formed_law.ensures.labels in
     let at = cut_is z n c.stand_at-here.result c.has_servers.result c.in_ok-cut.cut (stands n z.records c.stand_at-here.result c.stand_at-here.ensures) c.has_servers.ensures c.in_ok-cut.ensures in
     record {
       cut = cut_first z n c.in_ok-cut.cut labels at ∙ ap (cut_of z) c.suffix-up.ensures;
@@ -22,7 +22,7 @@ up-init g c =
     }
 
 pub overflow_add-count : goal.overflow_add-count
-overflow_add-count g c = omega (arith, c.up.invariant.count, labels_within c.args.name.now, c.is_well_formed.ensures.short)
+overflow_add-count g c = omega (arith, c.up.invariant.count, labels_within c.args.name.now, c.well_formed_law.ensures.short)
 
 pub up-smaller : goal.up-smaller
 up-smaller g c = shorter c.up.up c.ascend.new.self c.up-test.ensures.above

@@ -5,7 +5,7 @@ pub returns-in-Ok-clause-begins : goal.returns-in-Ok-clause-begins
 returns-in-Ok-clause-begins c = record {
   world = c.args.world;
   site = (c.in-Ok.network.resolver).site;
-  well_formed = c.is_well_formed.ensures;
+  well_formed = c.well_formed_law.ensures;
   home = (c.in-Ok.ensures.resolver).home;
   fresh = c.in-Ok.ensures.fresh;
 }

@@ -17,5 +17,5 @@ pub returns-clause-back : goal.returns-clause-back
 returns-clause-back g c =
     let rs = c.args.records.now in
     let done : length (drop c.loop-record.record-index rs) ≡ 0 = omega (arith, length-drop c.loop-record.record-index rs) in
-    λ fit. text_is_read c.args.origin.now rs (string_bytes c.loop-record.out) (grind (arith, common_steps)) c.is_well_formed.ensures
+    λ fit. text_is_read c.args.origin.now rs (string_bytes c.loop-record.out) (grind (arith, common_steps)) c.well_formed_law.ensures
     (all_sound rs (c.loop-record.invariant.kept (none_kept (drop c.loop-record.record-index rs) done)) fit)

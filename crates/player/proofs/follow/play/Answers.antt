@@ -10,5 +10,5 @@ pub returns : goal.returns
 returns g c =
     IfOk-weaker c.end.result _ _
     (λ text is. is_played c.args.world (map order_seen c.args.orders.items) (state_of c.in_ok-player.player) (state_of c.follow_all.new.self) (string_bytes text) c.network_law.ensures
-    c.is_well_formed.ensures c.in_ok-player.ensures c.in_ok-follow_all.ensures is)
+    c.well_formed_law.ensures c.in_ok-player.ensures c.in_ok-follow_all.ensures is)
     c.end.ensures

@@ -14,7 +14,7 @@ returns-clause-is g c =
 
 pub returns-clause-asks : goal.returns-clause-asks
 returns-clause-asks g c =
-    asks_one _ c.args.world.now c.sent.inside.to.address.0 c.as_slice.result.now (λ v. v.items) c.in_ok-host_reply.field-0 c.echo_is_question.ensures c.is_well_formed.ensures c.in_ok-host_reply.ensures.is
+    asks_one _ c.args.world.now c.sent.inside.to.address.0 c.as_slice.result.now (λ v. v.items) c.in_ok-host_reply.field-0 c.echo_is_question.ensures c.well_formed_law.ensures c.in_ok-host_reply.ensures.is
 
 pub returns-clause-short : goal.returns-clause-short
 returns-clause-short g c =

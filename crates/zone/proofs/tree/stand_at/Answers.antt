@@ -10,7 +10,7 @@ pub invariant_of-result : goal.invariant_of-result
 invariant_of-result g c =
     let n = c.args.name.now in
     let rs = c.args.records.now in
-    let all = each_name n (λ q. spot (at_name c.args.nodes.now q)) (λ q. spot_of q rs) c.is_well_formed.ensures.labels c.requires.at in
+    let all = each_name n (λ q. spot (at_name c.args.nodes.now q)) (λ q. spot_of q rs) c.well_formed_law.ensures.labels c.requires.at in
     let s : IsSpot n rs (seen c.in-Some.node.now) = some_spot n rs (seen c.in-Some.node.now) (ap spot (c.in-Some.ensures.value ∙ ap (at_bytes c.args.nodes.now) c.wire.ensures) ∙ all) in
     within_is (is_owned n) rs c.deref.result.now (c.deref.ensures.value ∙ s.own)
 
@@ -18,7 +18,7 @@ pub invariant_of-result-in-Some : goal.invariant_of-result-in-Some
 invariant_of-result-in-Some g c =
     let n = c.args.name.now in
     let rs = c.args.records.now in
-    let all = each_name n (λ q. spot (at_name c.args.nodes.now q)) (λ q. spot_of q rs) c.is_well_formed.ensures.labels c.requires.at in
+    let all = each_name n (λ q. spot (at_name c.args.nodes.now q)) (λ q. spot_of q rs) c.well_formed_law.ensures.labels c.requires.at in
     let s : IsSpot n rs (seen c.in-Some.node.now) = some_spot n rs (seen c.in-Some.node.now) (ap spot (c.in-Some.ensures.value ∙ ap (at_bytes c.args.nodes.now) c.wire.ensures) ∙ all) in
     within_is (is_owned (star ∷ n)) rs c.deref-in-Some.result.now (c.deref-in-Some.ensures.value ∙ s.wild)
 
@@ -26,14 +26,14 @@ pub returns-in-None : goal.returns-in-None
 returns-in-None g c =
     let n = c.args.name.now in
     let rs = c.args.records.now in
-    let all = each_name n (λ q. spot (at_name c.args.nodes.now q)) (λ q. spot_of q rs) c.is_well_formed.ensures.labels c.requires.at in
+    let all = each_name n (λ q. spot (at_name c.args.nodes.now q)) (λ q. spot_of q rs) c.well_formed_law.ensures.labels c.requires.at in
     no_spot n rs (ap spot (c.in-None.ensures.value ∙ ap (at_bytes c.args.nodes.now) c.wire.ensures) ∙ all)
 
 pub returns-in-Some : goal.returns-in-Some
 returns-in-Some g c =
     let n = c.args.name.now in
     let rs = c.args.records.now in
-    let all = each_name n (λ q. spot (at_name c.args.nodes.now q)) (λ q. spot_of q rs) c.is_well_formed.ensures.labels c.requires.at in
+    let all = each_name n (λ q. spot (at_name c.args.nodes.now q)) (λ q. spot_of q rs) c.well_formed_law.ensures.labels c.requires.at in
     let s : IsSpot n rs (seen c.in-Some.node.now) = some_spot n rs (seen c.in-Some.node.now) (ap spot (c.in-Some.ensures.value ∙ ap (at_bytes c.args.nodes.now) c.wire.ensures) ∙ all) in
     record {
       under = s.under;

@@ -6,5 +6,5 @@ use Rattle.referral.proofs.delegations.Delegations.find.Goals as goal
 
 pub returns-in-Some : goal.returns-in-Some
 returns-in-Some g c =
-    found_here c.args.at.now c.loop-servers.at c.args.now c.args.self.now.entries (known_of c.loop-servers.at c.in-Some.servers) c.is_well_formed.ensures c.loop-servers.invariant
+    found_here c.args.at.now c.loop-servers.at c.args.now c.args.self.now.entries (known_of c.loop-servers.at c.in-Some.servers) c.well_formed_law.ensures c.loop-servers.invariant
     (ap (option_map (known_of c.loop-servers.at)) (sym c.in-Some.is) ∙ c.in_ok-servers.ensures)

@@ -18,4 +18,4 @@ pub returns-clause-value : goal.returns-clause-value
 returns-clause-value g c =
     let level : Addr → ℕ = λ a. penalty a c.args.penalties.now.entries in
     ap (λ o. record { order = o; given = 0 })
-    (order_is level c.args.addresses.now c.sort_by_key.new.self.items (λ a. looked_most 8 (same_addr a) c.args.penalties.now.entries c.is_well_formed.ensures.most) (returns-clause-relation g c))
+    (order_is level c.args.addresses.now c.sort_by_key.new.self.items (λ a. looked_most 8 (same_addr a) c.args.penalties.now.entries c.well_formed_law.ensures.most) (returns-clause-relation g c))

@@ -6,7 +6,7 @@ pub note_labels-requires-clause-wire : goal.note_labels-requires-clause-wire
 note_labels-requires-clause-wire g c =
     let names : c.deref.result.now ≡ c.self.inside.names.items ++ c.wire-bytes.result.now = c.deref.ensures.value ∙ c.in_ok-extend_from_slice.ensures.items in
     let start : c.len-start.result ≡ length c.self.inside.names.items = search rules in
-    name_is_wire c.args.name.now _ c.is_well_formed.ensures (last_name c.self.inside.names.items _ _ _ names start ∙ c.wire-bytes.ensures)
+    name_is_wire c.args.name.now _ c.well_formed_law.ensures (last_name c.self.inside.names.items _ _ _ names start ∙ c.wire-bytes.ensures)
 
 pub returns-clause-ok : goal.returns-clause-ok
 returns-clause-ok g c =

@@ -17,4 +17,4 @@ pub returns-clause-parted : goal.returns-clause-parted
 returns-clause-parted g c =
     let all = c.zones-zones.ensures.value ∙ c.catalog.ensures in
     subst Parted (sym c.in_ok-held_zones.ensures)
-    (parted_some _ c.zones-zones.result.now (subst Parted (sym all) (c.is_well_formed.ensures.parted)))
+    (parted_some _ c.zones-zones.result.now (subst Parted (sym all) (c.well_formed_law.ensures.parted)))

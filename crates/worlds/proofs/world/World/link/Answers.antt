@@ -10,9 +10,9 @@ pub unreachable-requires : goal.unreachable-requires
 unreachable-requires g c =
     let looked = subst (λ (W : World). IsLooked W.zones c.args.name.now (type_number c.args.kind) (local_view c.in_ok-link.field-0)) c.self.view_is c.in_ok-link.ensures.relation in
     elim c.in-Cut.is [
-      | inl (cut, servers, addresses, e) ↦ no_cut c.args.self.now c.args.name.now (type_number c.args.kind) cut servers addresses c.is_well_formed.ensures
+      | inl (cut, servers, addresses, e) ↦ no_cut c.args.self.now c.args.name.now (type_number c.args.kind) cut servers addresses c.well_formed_law.ensures
           (subst (λ l. IsLooked c.args.self.now.zones c.args.name.now (type_number c.args.kind) (local_view l)) e looked)
-      | inr e ↦ not_nowhere c.args.self.now c.args.name.now (type_number c.args.kind) c.is_well_formed.ensures c.is_well_formed-2.ensures
+      | inr e ↦ not_nowhere c.args.self.now c.args.name.now (type_number c.args.kind) c.well_formed_law.ensures c.well_formed_law-2.ensures
           (subst (λ l. IsLooked c.args.self.now.zones c.args.name.now (type_number c.args.kind) (local_view l)) e looked)
     ]
 

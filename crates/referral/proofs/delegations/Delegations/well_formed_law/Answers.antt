@@ -1,5 +1,5 @@
 use Rattle.referral.proofs.Shown.{seen_named, seen_valid}
-use Rattle.referral.proofs.delegations.Delegations.is_well_formed.Goals as goal
+use Rattle.referral.proofs.delegations.Delegations.well_formed_law.Goals as goal
 
 pub returns-clause-named : goal.returns-clause-named
 returns-clause-named g c = seen_named c.args.self.now c.self.inside.entries c.self.view_is
