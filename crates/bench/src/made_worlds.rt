@@ -1,4 +1,4 @@
-//! Work on worlds.
+//! A world of so many zones, read from its text, built and held to its rules.
 use crate::work::{Counted, Done};
 use anyhow::Result;
 use script::{WorldFault, read_world};

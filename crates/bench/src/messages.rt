@@ -1,4 +1,4 @@
-//! Work on messages.
+//! Replies of one and of twenty addresses, decoded and encoded.
 use crate::sums::low;
 use dname::{Heap, Name};
 use rdata::{Addr, RData, Record};

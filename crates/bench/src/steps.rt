@@ -22,7 +22,7 @@ const SETTINGS: Settings = Settings {
 /// The server of the root.
 pub const ROOT: Addr = Addr([192, 0, 2, 1]);
 
-// Another one.
+// An address that no ask went to.
 const STRANGER: Addr = Addr([192, 0, 2, 2]);
 
 // A client's query for www.example. A with RD.

@@ -1,4 +1,4 @@
-//! The kinds of work.
+//! Which kinds of work are measured, and how each is named and done.
 ghost use Rattle.std.specs.Prelude.{◌<◌};
 
 use crate::answers::{self, Known};
@@ -24,7 +24,7 @@ pub enum Asked {
     UnderCut,
 }
 
-/// A kind of work.
+/// A kind of work, done so many times in a measurement.
 #[derive(Clone, Copy)]
 pub enum Work {
     ReadName,

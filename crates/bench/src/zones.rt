@@ -1,4 +1,4 @@
-//! Work on zones.
+//! Zone files read, zones built, and names looked up in them.
 use crate::resident::resident;
 use crate::sums::low;
 use crate::work::{Asked, Counted, Done};

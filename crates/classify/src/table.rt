@@ -59,7 +59,7 @@ fn truncated_over<A: Allocator>(via: Via) -> Class<A>
     }
 }
 
-// A whole message.
+// A whole message: its RCODE decides first (RFC 1035, section 4.1.1).
 fn by_code<A: Heap>(
     alloc: A,
     zone: &Name<A>,
@@ -105,7 +105,7 @@ fn by_set<A: Heap>(
     }
 }
 
-// Where there are some.
+// Records of the name and type asked for: the answer, unless the RCODE says that the name does not exist.
 fn by_records<A: Heap>(message: &Message<A>, set: RecordSet<A>) -> Class<A>
     ensures { (f q : List (List ℕ)) → class_view result ≡ by_set f q message.now set }
 {
@@ -116,7 +116,7 @@ fn by_records<A: Heap>(message: &Message<A>, set: RecordSet<A>) -> Class<A>
     answer_by(message, Link::Found(set))
 }
 
-// By the aliases of the name.
+// Without such records: a CNAME of the name, if there is one, is followed (RFC 1034, section 5.3.3).
 fn by_alias<A: Heap>(
     alloc: A,
     zone: &Name<A>,
@@ -135,7 +135,7 @@ fn by_alias<A: Heap>(
     }
 }
 
-// By the first SOA.
+// Without a CNAME: an SOA in the authority section makes it a denial (RFC 2308, section 2).
 fn by_denial<A: Heap>(
     alloc: A,
     zone: &Name<A>,

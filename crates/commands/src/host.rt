@@ -1,4 +1,4 @@
-//! Where a server runs.
+//! The machine under a server: where its random bytes and its sockets come from. Tests put another in its place.
 ghost use Rattle.std.specs.Prelude.{◌≡◌, ◌⊎◌, IfSome};
 
 use exchange::Endpoint;

@@ -44,7 +44,7 @@ impl<R: Files> Texts for Disk<'_, R> {
     }
 }
 
-// The text of a file.
+// The text of a file, whole; bytes that are not UTF-8 are a fault.
 fn read_file<A: Heap, R: Files>(alloc: A, runtime: &R, path: &str) -> io::Result<String<A>> {
     io::read_to_string(alloc, fs::open(runtime, path)?)
 }

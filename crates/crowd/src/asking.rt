@@ -1,4 +1,4 @@
-//! What a worker asks.
+//! A query that a worker of a storm sends, and when.
 use exchange::Bytes;
 use front::Via;
 use std::alloc::{Allocator, Global};

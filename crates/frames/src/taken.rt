@@ -19,7 +19,7 @@ const MOST_TAKEN: usize = 16;
 // So many found addresses are compared one by one; of more, each is sought by the order of addresses.
 const FEW: usize = 16;
 
-// The bytes of addresses.
+// The addresses that were taken, by their bytes: whether one is a repeat is found in log n.
 type Seen<A> = BTreeSet<[u8; 4], A>;
 
 pub(crate) fn has_address(addresses: &[Addr], sought: Addr) -> bool

@@ -42,7 +42,7 @@ pub enum Order<A: Allocator = Global> {
     Tick,
 }
 
-// The greatest moment.
+// The greatest moment of a script, in milliseconds: moments that follow it still fit 64 bits.
 const GREATEST_MOMENT: u64 = 4_611_686_018_427_387_904;
 
 /// What the words behind a keyword order.

@@ -47,7 +47,7 @@ fn read_orders<A: Heap>(alloc: A, scope: Scope, text: &str) -> Result<Vec<Order<
     Ok(orders)
 }
 
-// One line more.
+// Takes a line of the script: an order, or nothing where it is blank or a comment.
 fn take<A: Heap>(
     alloc: A,
     scope: Scope,

@@ -1,4 +1,4 @@
-//! Scripts, by examples.
+//! Each kind of line of a script read, each fault named, each growth refused.
 use crate::{LineKind, Order, read_asks, read_script};
 use dname::Heap;
 use rdata::RType;

@@ -1,4 +1,4 @@
-//! What happens, printed.
+//! The events of a network and what the resolver does at each, as the lines of a play.
 ghost use Rattle.std.specs.Prelude.{◌≡◌, ◌∷◌, Some, None, OnOk, codes};
 ghost use Rattle.network.specs.Networks.{Reply};
 ghost use Rattle.simnet.specs.Views.{due_listed, sim_action_view, sim_event_view};

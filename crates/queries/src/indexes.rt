@@ -18,7 +18,7 @@ pub type Keys<A> = HashMap<u64, usize, BuildHasherDefault<FoldHasher>, A>;
 // The number of the query of an ask over TCP, by the ask's own number.
 pub type Streams<A> = HashMap<u64, u64, BuildHasherDefault<FoldHasher>, A>;
 
-// The key of this number.
+// The slot in the slab of the query with this number.
 pub fn key_of<A: Allocator>(keys: &Keys<A>, number: u64) -> Option<usize>
     ensures { result ≡ lookup (nat_eq number) keys.now.entries }
 {

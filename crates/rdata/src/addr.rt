@@ -1,4 +1,4 @@
-//! IPv4 addresses.
+//! An IPv4 address: the data of an A record (RFC 1035, section 3.4.1).
 ghost use Rattle.std.specs.Prelude.{Some};
 ghost use Rattle.rdata.specs.Text.{ipv4_text};
 

@@ -55,7 +55,7 @@ pub fn set_at<A: Heap>(
     }))
 }
 
-// Their data, each once.
+// The data of an owner's records of a type, each once, in order.
 fn values_at<A: Heap>(
     alloc: A,
     records: &[Record<A>],
@@ -124,7 +124,7 @@ pub fn put_chosen<'a, A: Heap>(
     Ok(())
 }
 
-// One more, where it is new.
+// One more of the data of a set, where it is no repeat (RFC 2181, section 5).
 fn put_once<'a, A: Heap>(
     values: &mut Vec<RData<A>, A>,
     later: &mut Later<'a, A>,

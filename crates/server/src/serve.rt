@@ -1,4 +1,4 @@
-//! A server that runs.
+//! The loops of a server, a thread for each, from their start until all have ended.
 ghost use Rattle.server.specs.Staff.{IsStaffed};
 
 use crate::clock::pass_time;

@@ -1,4 +1,4 @@
-//! A resolver that runs.
+//! A resolver at its sockets: its state in a book, which the loops of a server take turns at.
 ghost use Rattle.std.specs.Prelude.{◌≡◌, ℕ, ◌+◌};
 ghost use Rattle.engine.specs.Beginnings.{IsBegun};
 

@@ -1,4 +1,4 @@
-//! Asks that went out.
+//! An ask on its way through the network in memory.
 use exchange::{Bytes, Endpoint, Path};
 use std::alloc::{Allocator, Global};
 use std::marker::Model;

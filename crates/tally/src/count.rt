@@ -1,4 +1,4 @@
-//! Replies counted and judged.
+//! How many replies to recursive queries served their client, and how many of these were right.
 ghost use Rattle.std.specs.Prelude.{◌≡◌, ◌+◌, ◌↔◌, IfOk, IsTrue, nat_eq};
 ghost use Rattle.exchange.specs.Plain.{plain};
 ghost use Rattle.tally.specs.Counts.{IsFailure, IsCounted};
