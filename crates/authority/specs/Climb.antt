@@ -1,15 +1,17 @@
 -- What a look-up over a list of records picks.
-use Rattle.std.specs.Prelude.{ℕ, Bool, true, false, ◌&&◌, List, [], ◌∷◌, filter}
+use Rattle.std.specs.Prelude.{ℕ, Bool, ◌&&◌, List, [], ◌∷◌, filter}
 use Rattle.std.specs.List.{list_any}
 use Rattle.dname.specs.Labels.{star, is_under, same_name}
 use Rattle.rdata.specs.Data.{same_data}
 use Rattle.rdata.specs.Records.{Record}
+use Rattle.authority.specs.declared.plain.Whose.{Whose}
+use Rattle.authority.specs.declared.plain.Whose.TheVariants.{Own, Wildcard}
 use Rattle.zone.specs.Look.{is_owned, is_type}
 
 -- The name itself, or the wildcard right under it.
-abbrev pub target : Bool → List (List ℕ) → List (List ℕ)
-target true n = star ∷ n
-target false n = n
+abbrev pub target : Whose → List (List ℕ) → List (List ℕ)
+target Own n = n
+target Wildcard n = star ∷ n
 
 -- A record of that owner and type.
 abbrev pub is_picked : List (List ℕ) → ℕ → Record → Bool

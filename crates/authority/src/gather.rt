@@ -7,7 +7,7 @@ ghost use Rattle.zone.specs.Look.{firsts, with_owner};
 ghost use Rattle.authority.specs.Climb.{target, picked};
 ghost use Rattle.authority.specs.Values.{values_of, HaveOneTtl};
 
-use crate::plain::{answers, first_of};
+use crate::plain::{Whose, answers, first_of};
 use dname::{Heap, Name, Starved};
 use rdata::{RData, RType, Record, RecordSet, Records, put_chosen};
 use std::alloc::Allocator;
@@ -29,14 +29,14 @@ fn values_of<A: Heap>(
     records: &[Record<A>],
     kind: RType,
     name: &Name<A>,
-    wild: bool,
+    whose: Whose,
 ) -> Result<Vec<RData<A>, A>, Starved>
-    ensures { IfOk result (λ v. map datum v.items ≡ values_of (picked (target wild name.now) (type_number kind) records.now)) }
+    ensures { IfOk result (λ v. map datum v.items ≡ values_of (picked (target whose name.now) (type_number kind) records.now)) }
 {
     let mut values = Vec::new(alloc);
     let mut later = BTreeSet::new(alloc);
     for added in records {
-        let chosen = answers(added, name, wild, kind);
+        let chosen = answers(added, name, whose, kind);
         put_chosen(&mut values, &mut later, &added.value, chosen)?;
     }
     Ok(values)
@@ -49,16 +49,16 @@ pub(crate) fn gathered<A: Heap>(
     owner: &Name<A>,
     kind: RType,
     name: &Name<A>,
-    wild: bool,
+    whose: Whose,
 ) -> Result<Option<RecordSet<A>>, Starved>
     requires { HaveOneTtl records.now }
-    ensures value { IfOk result (λ set. in_set set ≡ firsts (map (with_owner owner.now) (picked (target wild name.now) (type_number kind) records.now))) }
+    ensures value { IfOk result (λ set. in_set set ≡ firsts (map (with_owner owner.now) (picked (target whose name.now) (type_number kind) records.now))) }
     ensures some { IfOk result (λ set. IfSome set (λ rs. rs ≢ [])) }
 {
-    match first_of(records, name, wild, kind) {
+    match first_of(records, name, whose, kind) {
         None => Ok(None),
         Some(first) => {
-            let values = values_of(alloc, records, kind, name, wild)?;
+            let values = values_of(alloc, records, kind, name, whose)?;
             Ok(Some(RecordSet {
                 owner: owner.clone()?,
                 ttl: first.ttl,

@@ -60,7 +60,7 @@ pub(crate) fn set_of<A: Heap>(
     }
 }
 
-// The first one of a type.
+// The first of the held records that has the type.
 fn first_of<'a, A: Allocator>(held: &Held<'a, A>, kind: RType) -> Option<&'a Record<A>>
     ensures { option_copied result ≡ find (is_type (type_number kind)) held.now }
 {
@@ -97,7 +97,7 @@ fn alias_or_none<A: Heap>(
     }
 }
 
-// What they say of a type.
+// What the held records answer for a type: their set of it, their CNAME, or NODATA.
 pub(crate) fn say<A: Heap>(
     alloc: A,
     held: &Held<'_, A>,

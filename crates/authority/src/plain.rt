@@ -11,6 +11,7 @@ ghost use Rattle.zone.specs.Look.{is_type, is_owned, at, of_type, owns, is_cut, 
 ghost use Rattle.authority.specs.Answers.{link_view, local_view};
 ghost use Rattle.authority.specs.Climb.{target, is_picked, picked, has_glue, has_under};
 ghost use Rattle.authority.specs.Values.{HaveOneTtl};
+ghost use Rattle.authority.specs.declared.plain.Whose.TheVariants.{Wildcard};
 
 use crate::answer::{Link, Local};
 use crate::gather::{gathered, owned_by, records_in};
@@ -18,14 +19,20 @@ use dname::{Heap, Name, Starved};
 use rdata::{RData, RType, Record, Records};
 use std::alloc::Allocator;
 
+// Whose records are meant: those of a name itself, or of the wildcard right under it (RFC 4592, section 2.1.1).
+#[derive(Clone, Copy)]
+pub(crate) enum Whose {
+    Own,
+    Wildcard,
+}
+
 // Whether a record stands at the name, or at the wildcard right under it.
-fn stands<A: Allocator>(added: &Record<A>, name: &Name<A>, wild: bool) -> bool
-    ensures { result ≡ is_owned (target wild name.now) added.now }
+fn stands<A: Allocator>(added: &Record<A>, name: &Name<A>, whose: Whose) -> bool
+    ensures { result ≡ is_owned (target whose name.now) added.now }
 {
-    if wild {
-        added.owner.is_wildcard_of(name)
-    } else {
-        added.owner == *name
+    match whose {
+        Whose::Own => added.owner == *name,
+        Whose::Wildcard => added.owner.is_wildcard_of(name),
     }
 }
 
@@ -39,26 +46,28 @@ pub(crate) fn is_kind<A: Allocator>(added: &Record<A>, kind: RType) -> bool
 pub(crate) fn answers<A: Allocator>(
     added: &Record<A>,
     name: &Name<A>,
-    wild: bool,
+    whose: Whose,
     kind: RType,
 ) -> bool
-    ensures { result ≡ is_picked (target wild name.now) (type_number kind) added.now }
+    ensures { result ≡ is_picked (target whose name.now) (type_number kind) added.now }
 {
-    stands(added, name, wild) && is_kind(added, kind)
+    stands(added, name, whose) && is_kind(added, kind)
 }
 
 // Whether some record of the type stands there.
-fn has_any<A: Allocator>(records: &[Record<A>], name: &Name<A>, wild: bool, kind: RType) -> bool
-    ensures { result ≡ list_any (is_picked (target wild name.now) (type_number kind)) records.now }
+fn has_any<A: Allocator>(records: &[Record<A>], name: &Name<A>, whose: Whose, kind: RType) -> bool
+    ensures { result ≡ list_any (is_picked (target whose name.now) (type_number kind)) records.now }
 {
-    records.iter().any(|added| answers(added, name, wild, kind))
+    records
+        .iter()
+        .any(|added| answers(added, name, whose, kind))
 }
 
 // Whether any record stands there.
-fn is_held<A: Allocator>(records: &[Record<A>], name: &Name<A>, wild: bool) -> bool
-    ensures { result ≡ list_any (is_owned (target wild name.now)) records.now }
+fn is_held<A: Allocator>(records: &[Record<A>], name: &Name<A>, whose: Whose) -> bool
+    ensures { result ≡ list_any (is_owned (target whose name.now)) records.now }
 {
-    records.iter().any(|added| stands(added, name, wild))
+    records.iter().any(|added| stands(added, name, whose))
 }
 
 fn is_owner_under<A: Allocator>(added: &Record<A>, name: &Name<A>) -> bool
@@ -78,14 +87,14 @@ fn has_owner_under<A: Allocator>(records: &[Record<A>], name: &Name<A>) -> bool
 pub(crate) fn first_of<'a, A: Allocator>(
     records: &'a [Record<A>],
     name: &Name<A>,
-    wild: bool,
+    whose: Whose,
     kind: RType,
 ) -> Option<&'a Record<A>>
-    ensures { option_copied result ≡ find (is_picked (target wild name.now) (type_number kind)) records.now }
+    ensures { option_copied result ≡ find (is_picked (target whose name.now) (type_number kind)) records.now }
 {
     records
         .iter()
-        .find(|added| answers(added, name, wild, kind))
+        .find(|added| answers(added, name, whose, kind))
 }
 
 // A CNAME there, with `owner` as owner, or NODATA.
@@ -94,17 +103,17 @@ fn alias_or_none<A: Heap>(
     soa: &Record<A>,
     owner: &Name<A>,
     name: &Name<A>,
-    wild: bool,
+    whose: Whose,
 ) -> Result<Link<A>, Starved>
-    ensures { IfOk result (λ l. link_view l ≡ said_alias soa.now owner.now (picked (target wild name.now) cname_type records.now)) }
+    ensures { IfOk result (λ l. link_view l ≡ said_alias soa.now owner.now (picked (target whose name.now) cname_type records.now)) }
 {
-    match first_of(records, name, wild, RType::Cname) {
+    match first_of(records, name, whose, RType::Cname) {
         Some(alias) => Ok(Link::Alias(owned_by(owner, alias)?)),
         None => Ok(Link::NoData(soa.clone()?)),
     }
 }
 
-// What the records there say.
+// What the records there answer for a type: their set of it, their CNAME, or NODATA.
 fn say<A: Heap>(
     alloc: A,
     records: &[Record<A>],
@@ -112,14 +121,14 @@ fn say<A: Heap>(
     owner: &Name<A>,
     kind: RType,
     name: &Name<A>,
-    wild: bool,
+    whose: Whose,
 ) -> Result<Link<A>, Starved>
     requires { HaveOneTtl records.now }
-    ensures { IfOk result (λ l. link_view l ≡ said soa.now owner.now (type_number kind) (at (target wild name.now) records.now)) }
+    ensures { IfOk result (λ l. link_view l ≡ said soa.now owner.now (type_number kind) (at (target whose name.now) records.now)) }
 {
-    match gathered(alloc, records, owner, kind, name, wild)? {
+    match gathered(alloc, records, owner, kind, name, whose)? {
         Some(set) => Ok(Link::Found(set)),
-        None => Ok(alias_or_none(records, soa, owner, name, wild)?),
+        None => Ok(alias_or_none(records, soa, owner, name, whose)?),
     }
 }
 
@@ -131,7 +140,7 @@ fn cut_at<A: Heap>(
 ) -> Result<Option<Name<A>>, Starved>
     ensures { IfOk result (λ c. c ≡ cond (is_cut record { origin = origin.now; records = records.now } name.now) (Some name.now) None) }
 {
-    if has_any(records, name, false, RType::Ns) && *name != *origin {
+    if has_any(records, name, Whose::Own, RType::Ns) && *name != *origin {
         return Ok(Some(name.clone()?));
     }
     Ok(None)
@@ -194,10 +203,10 @@ fn wildcard<A: Heap>(
     encloser: &Name<A>,
 ) -> Result<Link<A>, Starved>
     requires { HaveOneTtl records.now }
-    ensures { IfOk result (λ l. link_view l ≡ said_wild soa.now name.now (type_number kind) (at (target true encloser.now) records.now)) }
+    ensures { IfOk result (λ l. link_view l ≡ said_wild soa.now name.now (type_number kind) (at (target Wildcard encloser.now) records.now)) }
 {
-    if is_held(records, encloser, true) {
-        return Ok(say(alloc, records, soa, name, kind, encloser, true)?);
+    if is_held(records, encloser, Whose::Wildcard) {
+        return Ok(say(alloc, records, soa, name, kind, encloser, Whose::Wildcard)?);
     }
     Ok(Link::NxDomain(soa.clone()?))
 }
@@ -304,7 +313,7 @@ fn refer<A: Heap>(alloc: A, records: &[Record<A>], cut: Name<A>) -> Result<Local
     requires { HaveOneTtl records.now }
     ensures { IfOk result (λ l. (origin : List (List ℕ)) → local_view l ≡ Cut cut (ns_of record { origin = origin; records = records.now } cut) (glue_of records.now (ns_of record { origin = origin; records = records.now } cut))) }
 {
-    let set = gathered(alloc, records, &cut, RType::Ns, &cut, false)?;
+    let set = gathered(alloc, records, &cut, RType::Ns, &cut, Whose::Own)?;
     let servers = records_in(alloc, set)?;
     let addresses = glue(alloc, records, servers.as_slice())?;
     Ok(Local::Cut(cut, servers, addresses))
@@ -324,7 +333,7 @@ fn link<A: Heap>(
     ensures { IfOk result (λ l. link_view l ≡ link_by soa.now record { origin = origin.now; records = records.now } name.now (type_number kind)) }
 {
     if has_owner_under(records, name) {
-        return Ok(say(alloc, records, soa, name, kind, name, false)?);
+        return Ok(say(alloc, records, soa, name, kind, name, Whose::Own)?);
     }
     Ok(climb(alloc, records, soa, name, kind)?)
 }

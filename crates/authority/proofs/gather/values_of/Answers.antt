@@ -14,7 +14,7 @@ loop-added-init g c = record { made = ap (map datum) c.new-values.ensures.items;
 
 pub loop-added-preserved : goal.loop-added-preserved
 loop-added-preserved g c = record {
-  made = value_more (is_picked (target c.args.wild c.args.name.now) (type_number c.args.kind)) c.args.records.now (map datum c.loop-added.values.items) (map datum c.put_chosen.new.values.items) c.loop-added.added-index
+  made = value_more (is_picked (target c.args.whose c.args.name.now) (type_number c.args.kind)) c.args.records.now (map datum c.loop-added.values.items) (map datum c.put_chosen.new.values.items) c.loop-added.added-index
       c.added-item.result (datum c.added.inside.value) c.answers-chosen.result c.loop-added-test.true c.added-item.is c.answers-chosen.ensures (ap (λ (r : Record). r.value) c.added.view_is) c.loop-added.invariant.made
       c.in_ok-put_chosen.ensures.values;
   found = c.in_ok-put_chosen.ensures.found;
@@ -22,4 +22,4 @@ loop-added-preserved g c = record {
 
 pub returns : goal.returns
 returns g c =
-    c.loop-added.invariant.made ∙ ap (λ rs. values_of (picked (target c.args.wild c.args.name.now) (type_number c.args.kind) rs)) (take_all c.loop-added.added-index c.args.records.now c.loop-added-test.false)
+    c.loop-added.invariant.made ∙ ap (λ rs. values_of (picked (target c.args.whose c.args.name.now) (type_number c.args.kind) rs)) (take_all c.loop-added.added-index c.args.records.now c.loop-added-test.false)
