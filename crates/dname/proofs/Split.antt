@@ -2,7 +2,7 @@
 use Rattle.std.proofs.Common.{◌≡◌, ℕ, ◌+◌, ◌<◌, ◌≤◌, List, [], ◌∷◌, ◌++◌, length, take, drop, get_or, Some, suc, ◌-◌, refl, sym, ◌∙◌, ap, subst, arith, length-append}
 use Rattle.std.proofs.Math.Seq.{take-append_seam, drop-append_seam, take-length, paste}
 use Rattle.std.specs.List.{copy_within}
-use Rattle.dname.specs.Labels.{wire, root, AreLabels, IsLabel, parent_of}
+use Rattle.dname.specs.Labels.{wire, root, before_root, AreLabels, IsLabel, parent_of}
 use Rattle.dname.specs.Wire.{labels_of, IsWire, IsSplit, IsNameWire}
 use Rattle.dname.specs.Laws.{labels_of-wire}
 
@@ -84,3 +84,15 @@ ascended bs label rest items h s e =
 pub ascended_parent : (bs label rest items : List ℕ) → IsSplit bs label rest → items ≡ rest → parent_of (labels_of bs) ≡ Some (labels_of items)
 ascended_parent bs label rest items s e =
     ap parent_of s.labels ∙ (parent_is label (labels_of rest) s.wire.labels ∙ ap (λ (x : List ℕ). Some (labels_of x)) (sym e))
+
+before_root_more : (l : List ℕ) (ls : List (List ℕ)) → AreLabels ls → before_root (l ∷ ls) ≡ l ∷ before_root ls
+before_root_more l [] h = absurd h
+before_root_more l (m ∷ ls) h = refl
+
+-- The first of the labels before the root's, and those that follow it.
+pub labels_split : (bs label rest : List ℕ) → IsSplit bs label rest → before_root (labels_of bs) ≡ label ∷ before_root (labels_of rest)
+labels_split bs label rest s = ap before_root s.labels ∙ before_root_more label (labels_of rest) s.wire.labels
+
+-- What stands behind the first label of a name is a name.
+pub rest_is_name : (bs label rest : List ℕ) → IsNameWire bs → IsSplit bs label rest → IsNameWire rest
+rest_is_name bs label rest h s = ascended bs label rest rest h s refl

@@ -3,7 +3,7 @@ use Rattle.std.proofs.Common.{◌≡◌, ℕ, ◌+◌, ◌<◌, ◌≤◌, false
 use Rattle.std.proofs.lemmas.List.{append-nil}
 use Rattle.std.proofs.lemmas.Bool.Decides.{nat_tests}
 use Rattle.std.specs.Cmp.Lexicographic.{pointwise}
-use Rattle.dname.specs.Labels.{root, wire, folded, AreFolded, AreLabels}
+use Rattle.dname.specs.Labels.{root, before_root, wire, folded, AreFolded, AreLabels}
 use Rattle.dname.specs.Draft.{Draft, empty_draft}
 use Rattle.dname.specs.declared.text.NameError.{NameError}
 use Rattle.dname.specs.declared.text.NameError.TheVariants.{EmptyLabel}
@@ -39,12 +39,6 @@ label_back front opened (b ∷ bs) cs f s t =
 wire_size : (a b : List (List ℕ)) → length (wire (a ++ b)) ≡ length (wire a) + length (wire b)
 wire_size [] b = sym (zero-add (length (wire b)))
 wire_size (l ∷ ls) b = omega (arith, wire_size ls b, length-append l (wire (ls ++ b)), length-append l (wire ls))
-
--- Labels without the root's.
-abbrev before_root : List (List ℕ) → List (List ℕ)
-before_root [] = []
-before_root (l ∷ []) = []
-before_root (l ∷ m ∷ ls) = l ∷ before_root (m ∷ ls)
 
 before_root-root : (n : List (List ℕ)) → AreLabels n → before_root n ++ root ≡ n
 before_root-root [] h = absurd h

@@ -18,6 +18,12 @@ root = [] ∷ []
 abbrev pub star : Label
 star = 42 ∷ []
 
+-- The labels of a name without the root's.
+abbrev pub before_root : List (List ℕ) → List (List ℕ)
+before_root [] = []
+before_root (l ∷ []) = []
+before_root (l ∷ m ∷ ls) = l ∷ before_root (m ∷ ls)
+
 -- A letter from A to Z as the letter from a to z (RFC 1035, section 2.3.3).
 abbrev pub folded : ℕ → ℕ
 folded b = cond (nat_le 65 b && nat_le b 90) (b + 32) b

@@ -3,9 +3,9 @@
 //!
 //! `Name::from_text` reads a name that stands alone, `Name::under` one of a master file, relative to its origin;
 //! `Display` and `Debug` write it, `to_text` and `put_name` into a string. `Builder` makes a name label by label.
-//! `wire` is its wire form, over which `next_label` walks. `is_at_or_under`, `parent` and `ascend` are what zones and
-//! bailiwick need, `is_wildcard` and `is_wildcard_of` what wildcards do (RFC 4592). A `Suffix` is a name lent from the
-//! bytes of one beneath it. `Ord` is the order of RFC 4034, section 6.1.
+//! `iter` gives its labels; `wire` is its wire form, over which `next_label` walks. `is_at_or_under`, `parent` and
+//! `ascend` are what zones and bailiwick need, `is_wildcard` and `is_wildcard_of` what wildcards do (RFC 4592). A
+//! `Suffix` is a name lent from the bytes of one beneath it. `Ord` is the order of RFC 4034, section 6.1.
 //!
 //! Promised: a name is labels of 1 to 63 bytes, at most 255 bytes on the wire (`well_formed_law`, `IsName`); a text
 //! is read exactly where it writes a name (`text_writes_name`), else refused by its first fault
@@ -22,6 +22,7 @@
 
 mod allocated;
 mod builder;
+mod labels;
 mod name;
 mod order;
 mod stars;
@@ -30,6 +31,7 @@ mod text;
 mod walk;
 
 pub use builder::{Builder, Overflow};
+pub use labels::Labels;
 pub use memory::{Heap, Starved};
 pub use name::Name;
 pub use suffix::Suffix;

@@ -36,6 +36,25 @@ fn lent_names_above(rt: HostRuntime) -> Result<(), Fail> {
 }
 
 #[test]
+fn the_labels_of_a_name(rt: HostRuntime) -> Result<(), Fail> {
+    let name = Name::from_text(rt.alloc(), "www.Example.")?;
+    let mut labels = name.iter();
+    for label in [b"www".as_slice(), b"example".as_slice()] {
+        assert!(rt; labels.next() == Some(label));
+    }
+    assert!(rt; labels.next().is_none() && labels.next().is_none());
+    Ok(())
+}
+
+#[test]
+fn a_name_is_displayed(rt: HostRuntime) -> Result<(), Fail> {
+    let name = Name::from_text(rt.alloc(), "A\\.b.Example")?;
+    let text = format!(in rt.alloc(); "{name} {name:?}")?;
+    assert_eq!(rt; text.as_str(), "a\\.b.example. a\\.b.example.");
+    Ok(())
+}
+
+#[test]
 fn a_name_takes_the_place_of_another(rt: HostRuntime) -> Result<(), Fail> {
     let mut name = Name::from_text(rt.alloc(), "a.")?;
     for text in ["longer.example.", "b.", "."] {
