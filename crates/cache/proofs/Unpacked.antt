@@ -15,41 +15,41 @@ use Rattle.recency.proofs.Kept.{put_is_kept, promoted_is_used}
 use Rattle.recency.proofs.Mapped.{valid_mapped, looked_mapped, kept_mapped, used_mapped, removed_mapped}
 use Rattle.cache.specs.Keys.{Key, same_key}
 use Rattle.cache.specs.Cached.{Hit, as_alias, is_live, live_from, live_at}
-use Rattle.cache.specs.Packed.{Unowned, Packed, owned, unowned, hit_of_packed, unpacked}
+use Rattle.cache.specs.Packed.{Packed, owned, hit_of_packed, unpacked}
 use Rattle.cache.specs.Laws.{same_key_exact}
 
--- A record of the key's name is known without its owner.
-pub owned_is : (q : List (List ℕ)) (r : Record) (u : Unowned) → same_name r.owner q ≡ true → u.ttl ≡ r.ttl → u.value ≡ r.value → owned q u ≡ r
-owned_is q r u e t v = λ i. record { owner = sym (same_name-exact r.owner q e) i; ttl = t i; value = v i }
+-- An alias of the key's name is known without its owner.
+pub alias_is : (q : List (List ℕ)) (r : Record) (d : Datum) → same_name r.owner q ≡ true → d ≡ r.value → owned q r.ttl d ≡ r
+alias_is q r d e v = λ i. record { owner = sym (same_name-exact r.owner q e) i; ttl = r.ttl; value = v i }
 
 -- A set of the key's name is known without its owner.
-pub owned_rows : {H : Type 0} (q : List (List ℕ)) (t : ℕ) (vs : List (RData H)) → map (owned q) (map (unowned t) (map datum vs)) ≡ rows q t vs
+pub owned_rows : {H : Type 0} (q : List (List ℕ)) (t : ℕ) (vs : List (RData H)) → map (owned q t) (map datum vs) ≡ rows q t vs
 owned_rows q t [] = refl
 owned_rows q t (v ∷ vs) = ap (λ (l : List Record). row q t v ∷ l) (owned_rows q t vs)
 
 pub set_without : {H : Type 0} (q o : List (List ℕ)) (t : ℕ) (vs ws : List (RData H)) (set : List Record) → same_name o q ≡ true → rows o t vs ≡ set → map datum ws ≡ map datum vs
-    → map (owned q) (map (unowned t) (map datum ws)) ≡ set
+    → map (owned q t) (map datum ws) ≡ set
 set_without q o t vs ws set e is same =
-    ap (λ (ds : List Datum). map (owned q) (map (unowned t) ds)) same ∙ (owned_rows q t vs ∙ (ap (λ (n : List (List ℕ)). rows n t vs) (sym (same_name-exact o q e)) ∙ is))
+    ap (map (owned q t)) same ∙ (owned_rows q t vs ∙ (ap (λ (n : List (List ℕ)). rows n t vs) (sym (same_name-exact o q e)) ∙ is))
 
-pub set_with : {H : Type 0} (q o : List (List ℕ)) (t : ℕ) (vs ws : List (RData H)) (us : List Unowned) → o ≡ q → map (unowned t) (map datum vs) ≡ us → map datum ws ≡ map datum vs → rows o t ws ≡ map (owned q) us
-set_with q o t vs ws us e is same =
-    ap (λ (n : List (List ℕ)). rows n t ws) e ∙ (sym (owned_rows q t ws) ∙ (ap (λ (ds : List Datum). map (owned q) (map (unowned t) ds)) same ∙ ap (map (owned q)) is))
+pub set_with : {H : Type 0} (q o : List (List ℕ)) (t : ℕ) (vs ws : List (RData H)) (ds : List Datum) → o ≡ q → map datum vs ≡ ds → map datum ws ≡ map datum vs → rows o t ws ≡ map (owned q t) ds
+set_with q o t vs ws ds e is same =
+    ap (λ (n : List (List ℕ)). rows n t ws) e ∙ (sym (owned_rows q t ws) ∙ (ap (map (owned q t)) (same ∙ is)))
 
 -- A set of one.
 pub only_is : {H : Type 0} (q o : List (List ℕ)) (t : ℕ) (vs : List (RData H)) (v w : RData H) (set : List Record) → same_name o q ≡ true → rows o t vs ≡ set → length vs ≡ 1 → v ≡ get_or vs 0 v → datum w ≡ datum v
-    → owned q (record { ttl = t; value = datum w }) ∷ [] ≡ set
+    → owned q t (datum w) ∷ [] ≡ set
 only_is q o t [] v w set e is one at_0 same = absurd (omega (arith, one))
 only_is q o t (x ∷ []) v w set e is one at_0 same =
     (λ i. record { owner = sym (same_name-exact o q e) i; ttl = t; value = (same ∙ ap datum at_0) i } ∷ []) ∙ is
 only_is q o t (x ∷ y ∷ vs) v w set e is one at_0 same = absurd (omega (arith, one))
 
 -- The first of a set.
-pub first_with : {H : Type 0} (q o : List (List ℕ)) (t : ℕ) (vs : List (RData H)) (v w : RData H) (us : List Unowned) → o ≡ q → map (unowned t) (map datum vs) ≡ us → 0 < length vs → v ≡ get_or vs 0 v → datum w ≡ datum v
-    → Some (record { owner = o; ttl = t; value = datum w }) ≡ first_in (map (owned q) us)
-first_with q o t [] v w us e is some at_0 same = absurd (omega (arith, some))
-first_with q o t (x ∷ vs) v w us e is some at_0 same =
-    (λ i. Some (record { owner = e i; ttl = t; value = (same ∙ ap datum at_0) i })) ∙ ap (λ (l : List Unowned). first_in (map (owned q) l)) is
+pub first_with : {H : Type 0} (q : List (List ℕ)) (t : ℕ) (vs : List (RData H)) (v : RData H) (r : Record) (ds : List Datum) → map datum vs ≡ ds → 0 < length vs → v ≡ get_or vs 0 v → r ≡ owned q t (datum v)
+    → Some r ≡ first_in (map (owned q t) ds)
+first_with q t [] v r ds is some at_0 made = absurd (omega (arith, some))
+first_with q t (x ∷ vs) v r ds is some at_0 made =
+    ap Some (made ∙ ap (λ (y : RData _). owned q t (datum y)) at_0) ∙ ap (λ (l : List Datum). first_in (map (owned q t) l)) is
 
 pub first_alias : (rs : List Record) (r : Record) → Some r ≡ first_in rs → Some (Alias r) ≡ as_alias (Found rs)
 first_alias [] r e = absurd (cc)

@@ -1,12 +1,13 @@
 -- Links as they lie in memory, seen as plain values.
 use Rattle.std.specs.Prelude.{[], ◌∷◌}
+use Rattle.rdata.specs.Kept.{datum}
 use Rattle.authority.specs.Answers.{link_view}
 use Rattle.cache.specs.Packed as packed
 use Rattle.cache.specs.declared.packed.Form.{Form}
 use Rattle.cache.specs.declared.packed.Form.TheVariants as form
 
 abbrev pub form_view : {H : Type 0} → Form H → packed.Form
-form_view (form.One u) = packed.Set (u ∷ [])
-form_view (form.Many us) = packed.Set us
-form_view (form.Alias u) = packed.Alias u
+form_view (form.One v) = packed.Set (datum v ∷ [])
+form_view (form.Many ds) = packed.Set ds
+form_view (form.Alias v) = packed.Alias (datum v)
 form_view (form.Whole l) = packed.Whole (link_view l.value)

@@ -35,4 +35,4 @@ pub use laws::{aging_law, given_law, members_law};
 #[doc(hidden)]
 pub use key::{Key, Slot};
 #[doc(hidden)]
-pub use packed::{Form, Packed, Unowned, UnownedSet};
+pub use packed::{Form, Packed, Values};

@@ -1,7 +1,9 @@
-//! Links as they lie in memory: an owner that is the key's name is not kept once more.
+//! Links as they lie in memory: an owner that is the key's name is not kept once more, and the TTL of records once.
 ghost use Rattle.std.specs.Prelude.{◌≡◌, ◌≤◌, ℕ, List, [], ◌∷◌, map, IfOk, IfSome, Some, option_map};
+ghost use Rattle.rdata.specs.Kept.{datum};
 ghost use Rattle.rdata.specs.Records.{greatest_ttl};
 ghost use Rattle.rdata.specs.Rows.{first_in};
+ghost use Rattle.zone.specs.Links.{Found};
 ghost use Rattle.authority.specs.Answers.{link_view};
 ghost use Rattle.cache.specs.Cached.{is_live, as_set, as_alias, with_link, as_kept};
 ghost use Rattle.cache.specs.Packed.{owned, link_of, hit_of_packed};
@@ -14,179 +16,139 @@ use rdata::{RData, Record, RecordSet, copy_values};
 use std::alloc::{Allocator, Global};
 use std::marker::Model;
 
-/// A record whose owner is the name of the key under which it is kept.
+/// The data of a record set, one or more, whose owner and TTL stand elsewhere.
 #[derive(Drop)]
-pub struct Unowned<A: Allocator = Global> {
-    ttl: u32,
-    value: RData<A>,
+pub struct Values<A: Allocator = Global> {
+    items: Vec<RData<A>, A>,
 }
 
-impl<A: Allocator> Model for Unowned<A> {
-    ghost use Rattle.std.specs.Prelude.{◌≤◌};
-    ghost use Rattle.rdata.specs.Records.{greatest_ttl};
-    ghost use Rattle.cache.specs.Packed.{Unowned as Said};
-
-    ghost Value = { Said };
-
+impl<A: Allocator> Model for Values<A> {
+    ghost use Rattle.std.specs.Prelude.{◌<◌, List, length, map};
+    ghost use Rattle.rdata.specs.Data.{Datum};
     ghost use Rattle.rdata.specs.Kept.{datum};
 
-    ghost view = { λ u. record { ttl = u.ttl; value = datum u.value } };
+    ghost Value = { List Datum };
 
-    ghost invariant = { λ u. u.ttl ≤ greatest_ttl };
+    ghost view = { λ s. map datum s.items.items };
+
+    ghost invariant = { λ s. 0 < length s.items.items };
 }
 
-impl<A: Heap> Unowned<A> {
-    // The record, if this name owns it.
-    fn of(name: &Name<A>, source: &Record<A>) -> Result<Option<Unowned<A>>, Starved>
-        ensures { IfOk result (λ u. IfSome u (λ u. owned name.now u ≡ source.now)) }
-    {
-        if source.owner != *name {
-            return Ok(None);
-        }
-        Ok(Some(Unowned {
-            ttl: source.ttl,
-            value: source.value.clone()?,
-        }))
-    }
-
-    // The record of a set, if it has no other and this name owns it.
-    fn only(name: &Name<A>, source: &RecordSet<A>) -> Result<Option<Unowned<A>>, Starved>
-        ensures { IfOk result (λ u. IfSome u (λ u. owned name.now u ∷ [] ≡ source.now)) }
-    {
-        if source.owner != *name || source.values.len() != 1 {
-            return Ok(None);
-        }
-        Ok(Some(Unowned {
-            ttl: source.ttl,
-            value: source.values[0].clone()?,
-        }))
-    }
-
-    // The record of this owner.
-    fn owned(&self, name: &Name<A>) -> Result<Record<A>, Starved>
-        ensures { IfOk result (λ r. r ≡ owned name.now self.now) }
-    {
-        Ok(Record {
-            owner: name.clone()?,
-            ttl: self.ttl,
-            value: self.value.clone()?,
-        })
-    }
+// The record with these data and this TTL, in seconds, that the name owns.
+fn owned<A: Heap>(name: &Name<A>, ttl: u32, value: &RData<A>) -> Result<Record<A>, Starved>
+    requires { ttl ≤ greatest_ttl }
+    ensures { IfOk result (λ r. r ≡ owned name.now ttl (datum value.now)) }
+{
+    Ok(Record {
+        owner: name.clone()?,
+        ttl,
+        value: value.clone()?,
+    })
 }
 
-/// A record set whose owner is the name of the key under which it is kept.
-#[derive(Drop)]
-pub struct UnownedSet<A: Allocator = Global> {
-    ttl: u32,
-    values: Vec<RData<A>, A>,
-}
-
-impl<A: Allocator> Model for UnownedSet<A> {
-    ghost use Rattle.std.specs.Prelude.{◌≤◌, ◌<◌, List, length, map};
-    ghost use Rattle.rdata.specs.Records.{greatest_ttl};
-    ghost use Rattle.cache.specs.Packed.{Unowned as Said, unowned};
-
-    ghost Value = { List Said };
-
-    ghost use Rattle.rdata.specs.Kept.{datum};
-
-    ghost view = { λ s. map (unowned s.ttl) (map datum s.values.items) };
-
-    ghost invariant = { λ s. (s.ttl ≤ greatest_ttl) × (0 < length s.values.items) };
-}
-
-impl<A: Heap> UnownedSet<A> {
-    // The set, if this name owns it.
-    fn of(alloc: A, name: &Name<A>, source: &RecordSet<A>) -> Result<Option<UnownedSet<A>>, Starved>
-        ensures { IfOk result (λ us. IfSome us (λ us. map (owned name.now) us ≡ source.now)) }
+impl<A: Heap> Values<A> {
+    // The set of this owner with this TTL, in seconds.
+    fn owned(&self, alloc: A, name: &Name<A>, ttl: u32) -> Result<RecordSet<A>, Starved>
+        requires { ttl ≤ greatest_ttl }
+        ensures { IfOk result (λ rs. rs ≡ map (owned name.now ttl) self.now) }
     {
-        if source.owner != *name {
-            return Ok(None);
-        }
-        Ok(Some(UnownedSet {
-            ttl: source.ttl,
-            values: copy_values(alloc, &source.values)?,
-        }))
-    }
-
-    // The set of this owner.
-    fn owned(&self, alloc: A, name: &Name<A>) -> Result<RecordSet<A>, Starved>
-        ensures { IfOk result (λ rs. rs ≡ map (owned name.now) self.now) }
-    {
-        let values = copy_values(alloc, &self.values)?;
+        let values = copy_values(alloc, &self.items)?;
         Ok(RecordSet {
             owner: name.clone()?,
-            ttl: self.ttl,
+            ttl,
             values,
         })
     }
 
-    // The first record of it.
-    fn first(&self, name: &Name<A>) -> Result<Record<A>, Starved>
-        ensures { IfOk result (λ r. Some r ≡ first_in (map (owned name.now) self.now)) }
+    // The first record of that set.
+    fn first(&self, name: &Name<A>, ttl: u32) -> Result<Record<A>, Starved>
+        requires { ttl ≤ greatest_ttl }
+        ensures { IfOk result (λ r. Some r ≡ first_in (map (owned name.now ttl) self.now)) }
     {
-        Ok(Record {
-            owner: name.clone()?,
-            ttl: self.ttl,
-            value: self.values[0].clone()?,
-        })
+        Ok(owned(name, ttl, &self.items[0])?)
     }
 }
 
-/// A link as it lies in memory.
+/// What a link says, as it lies in memory beside the TTL of its records.
 #[derive(Drop)]
 pub enum Form<A: Allocator = Global> {
-    /// A set of one record, which the key's name owns.
-    One(Unowned<A>),
-    /// Any set that the key's name owns.
-    Many(UnownedSet<A>),
-    /// An alias of the key's name.
-    Alias(Unowned<A>),
+    /// A set of one record, which the key's name owns: its data.
+    One(RData<A>),
+    /// Any set that the key's name owns: the data of its records.
+    Many(Values<A>),
+    /// An alias of the key's name: the data of its record.
+    Alias(RData<A>),
     /// Any link.
     Whole(Box<Link<A>, A>),
 }
 
+// A set that the name owns, and its TTL in seconds.
+fn set_of_name<A: Heap>(
+    alloc: A,
+    name: &Name<A>,
+    set: &RecordSet<A>,
+) -> Result<Option<(Form<A>, u32)>, Starved>
+    ensures said { IfOk result (λ p. IfSome p (λ p. link_of name.now p.1 (form_view p.0) ≡ Found set.now)) }
+    ensures most { IfOk result (λ p. IfSome p (λ p. p.1 ≤ greatest_ttl)) }
+{
+    if set.owner != *name {
+        return Ok(None);
+    }
+    if set.values.len() == 1 {
+        return Ok(Some((Form::One(set.values[0].clone()?), set.ttl)));
+    }
+    let items = copy_values(alloc, &set.values)?;
+    Ok(Some((Form::Many(Values { items }), set.ttl)))
+}
+
 impl<A: Heap> Form<A> {
-    fn of(alloc: A, name: &Name<A>, link: &Link<A>) -> Result<Form<A>, Starved>
-        ensures { IfOk result (λ f. link_of name.now (form_view f) ≡ link_view link.now) }
+    // The form of a link to be kept under a key of this name, and the TTL of its records in seconds; 0 beside a link
+    // that is kept whole.
+    fn of(alloc: A, name: &Name<A>, link: &Link<A>) -> Result<(Form<A>, u32), Starved>
+        ensures said { IfOk result (λ p. link_of name.now p.1 (form_view p.0) ≡ link_view link.now) }
+        ensures most { IfOk result (λ p. p.1 ≤ greatest_ttl) }
     {
         match link {
             Link::Found(set) => {
-                if let Some(one) = Unowned::only(name, set)? {
-                    return Ok(Form::One(one));
-                }
-                if let Some(all) = UnownedSet::of(alloc, name, set)? {
-                    return Ok(Form::Many(all));
+                if let Some(packed) = set_of_name(alloc, name, set)? {
+                    return Ok(packed);
                 }
             }
-            Link::Alias(record) => {
-                if let Some(alias) = Unowned::of(name, record)? {
-                    return Ok(Form::Alias(alias));
+            Link::Alias(alias) => {
+                if alias.owner == *name {
+                    return Ok((Form::Alias(alias.value.clone()?), alias.ttl));
                 }
             }
             Link::NoData(_) | Link::NxDomain(_) => {}
         }
-        Ok(Form::Whole(Box::new(alloc, link.clone()?)?))
+        Ok((Form::Whole(Box::new(alloc, link.clone()?)?), 0))
     }
 
     // The link as the answer for the type under which it stands.
-    fn as_set(&self, alloc: A, name: &Name<A>) -> Result<Link<A>, Starved>
-        ensures { IfOk result (λ l. link_view l ≡ as_set (link_of name.now (form_view self.now))) }
+    fn as_set(&self, alloc: A, name: &Name<A>, ttl: u32) -> Result<Link<A>, Starved>
+        requires { ttl ≤ greatest_ttl }
+        ensures { IfOk result (λ l. link_view l ≡ as_set (link_of name.now ttl (form_view self.now))) }
     {
         match self {
-            Form::One(record) | Form::Alias(record) => Ok(set_of_one(alloc, record.owned(name)?)?),
-            Form::Many(all) => Ok(Link::Found(all.owned(alloc, name)?)),
+            Form::One(value) | Form::Alias(value) => Ok(set_of_one(
+                alloc,
+                owned(name, ttl, value)?,
+            )?),
+            Form::Many(values) => Ok(Link::Found(values.owned(alloc, name, ttl)?)),
             Form::Whole(link) => Ok(set_of(alloc, link)?),
         }
     }
 
     // The link as an alias, for another type.
-    fn as_alias(&self, name: &Name<A>) -> Result<Option<Link<A>>, Starved>
-        ensures { IfOk result (λ l. option_map link_view l ≡ as_alias (link_of name.now (form_view self.now))) }
+    fn as_alias(&self, name: &Name<A>, ttl: u32) -> Result<Option<Link<A>>, Starved>
+        requires { ttl ≤ greatest_ttl }
+        ensures { IfOk result (λ l. option_map link_view l ≡ as_alias (link_of name.now ttl (form_view self.now))) }
     {
         match self {
-            Form::One(record) | Form::Alias(record) => Ok(Some(Link::Alias(record.owned(name)?))),
-            Form::Many(all) => Ok(Some(Link::Alias(all.first(name)?))),
+            Form::One(value) | Form::Alias(value) => Ok(Some(Link::Alias(owned(
+                name, ttl, value,
+            )?))),
+            Form::Many(values) => Ok(Some(Link::Alias(values.first(name, ttl)?))),
             Form::Whole(link) => Ok(alias_of(link)?),
         }
     }
@@ -198,6 +160,8 @@ pub struct Packed<A: Allocator = Global> {
     form: Form<A>,
     since: u64,
     ttl: u32,
+    // That of the link's records, in seconds, where the form leaves it out.
+    records_ttl: u32,
 }
 
 impl<A: Allocator> Model for Packed<A> {
@@ -207,12 +171,12 @@ impl<A: Allocator> Model for Packed<A> {
 
     ghost use Rattle.cache.specs.Forms.{form_view};
 
-    ghost view = { λ p. record { form = form_view p.form; ttl = p.ttl; since = p.since } };
+    ghost view = { λ p. record { form = form_view p.form; records_ttl = p.records_ttl; ttl = p.ttl; since = p.since } };
 
     ghost use Rattle.std.specs.Prelude.{◌≤◌};
     ghost use Rattle.rdata.specs.Records.{greatest_ttl};
 
-    ghost invariant = { λ p. p.ttl ≤ greatest_ttl };
+    ghost invariant = { λ p. (p.ttl ≤ greatest_ttl) × (p.records_ttl ≤ greatest_ttl) };
 }
 
 impl<A: Heap> Packed<A> {
@@ -227,19 +191,21 @@ impl<A: Heap> Packed<A> {
         requires { ttl ≤ greatest_ttl }
         ensures { IfOk result (λ p. hit_of_packed name.now p ≡ as_kept (link_view link.now) ttl since) }
     {
+        let (form, records_ttl) = Form::of(alloc, name, link)?;
         Ok(Packed {
-            form: Form::of(alloc, name, link)?,
+            form,
             since,
             ttl,
+            records_ttl,
         })
     }
 
     // The hit as the answer for the type under which it stands.
     pub(crate) fn as_set(&self, alloc: A, name: &Name<A>) -> Result<Hit<A>, Starved>
-        ensures { IfOk result (λ h. Some h ≡ with_link (hit_of_packed name.now self.now) (Some (as_set (link_of name.now self.now.form)))) }
+        ensures { IfOk result (λ h. Some h ≡ with_link (hit_of_packed name.now self.now) (Some (as_set (link_of name.now self.now.records_ttl self.now.form)))) }
     {
         Ok(Hit {
-            link: self.form.as_set(alloc, name)?,
+            link: self.form.as_set(alloc, name, self.records_ttl)?,
             ttl: self.ttl,
             since: self.since,
         })
@@ -247,9 +213,9 @@ impl<A: Heap> Packed<A> {
 
     // The hit as an alias, for another type.
     pub(crate) fn as_alias(&self, name: &Name<A>) -> Result<Option<Hit<A>>, Starved>
-        ensures { IfOk result (λ h. h ≡ with_link (hit_of_packed name.now self.now) (as_alias (link_of name.now self.now.form))) }
+        ensures { IfOk result (λ h. h ≡ with_link (hit_of_packed name.now self.now) (as_alias (link_of name.now self.now.records_ttl self.now.form))) }
     {
-        match self.form.as_alias(name)? {
+        match self.form.as_alias(name, self.records_ttl)? {
             Some(link) => Ok(Some(Hit {
                 link,
                 ttl: self.ttl,

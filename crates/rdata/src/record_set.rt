@@ -40,7 +40,12 @@ pub fn copy_values<A: Heap>(alloc: A, values: &[RData<A>]) -> Result<Vec<RData<A
 {
     let mut items = Vec::with_capacity(alloc, values.len())?;
     for value in values {
-        items.push(value.clone()?)?;
+        // Most sets are of addresses, which take no memory of their own.
+        match value {
+            RData::A(addr) => items.push(RData::A(*addr))?,
+            RData::Aaaa(bytes) => items.push(RData::Aaaa(*bytes))?,
+            _ => items.push(value.clone()?)?,
+        }
     }
     Ok(items)
 }

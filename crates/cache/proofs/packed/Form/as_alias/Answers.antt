@@ -8,4 +8,4 @@ use Rattle.cache.proofs.packed.Form.as_alias.Goals as goal
 pub returns-in_ok-first-in-Many : goal.returns-in_ok-first-in-Many
 returns-in_ok-first-in-Many g c =
     first_alias _ c.in_ok-first-in-Many.field-0 c.in_ok-first-in-Many.ensures
-    ∙ sym (ap (λ f. as_alias (link_of c.args.name.now (form_view f))) c.in-Many.is)
+    ∙ sym (ap (λ f. as_alias (link_of c.args.name.now c.args.ttl (form_view f))) c.in-Many.is)
