@@ -42,9 +42,9 @@ pub fn copy_values<A: Heap>(alloc: A, values: &[RData<A>]) -> Result<Vec<RData<A
     for value in values {
         // Most sets are of addresses, which take no memory of their own.
         match value {
-            RData::A(addr) => items.push(RData::A(*addr))?,
-            RData::Aaaa(bytes) => items.push(RData::Aaaa(*bytes))?,
-            _ => items.push(value.clone()?)?,
+            RData::A(addr) => items.push_reserved(RData::A(*addr)),
+            RData::Aaaa(bytes) => items.push_reserved(RData::Aaaa(*bytes)),
+            _ => items.push_reserved(value.clone()?),
         }
     }
     Ok(items)
