@@ -1,3 +1,5 @@
+ghost use Rattle.std.specs.Prelude.{◌<◌};
+
 use authority::Link;
 use classify::{Class, Referral, classify, lifetime, received};
 use dname::{Heap, Starved, put_name};
@@ -14,51 +16,98 @@ enum Code {
     Refused,
 }
 
-// The rows as one RRset.
-fn set_of<A: Heap>(alloc: A, rows: &[Row<'static>]) -> Result<RecordSet<A>, Starved> {
-    let records = records(alloc, rows)?;
-    let owner = name(alloc, W)?;
-    set_at(alloc, records.as_slice(), &owner, RType::A)?.ok_or(Starved)
-}
-
-fn header(code: Code, aa: bool, tc: bool) -> Header {
-    Header {
-        id: 1,
-        qr: true,
-        opcode: 0,
-        aa,
-        tc,
-        rd: false,
-        ra: false,
-        z: 0,
-        rcode: match code {
+impl Code {
+    fn number(self) -> u8
+        ensures { result < 16 }
+    {
+        match self {
             Code::NoError => 0,
             Code::NameError => 3,
             Code::Refused => 5,
-        },
+        }
     }
 }
 
-fn reply<A: Heap>(
-    alloc: A,
-    header: Header,
-    answer: &[Row<'static>],
-    authority: &[Row<'static>],
-    additional: &[Row<'static>],
-) -> Result<Message<A>, Starved> {
-    Ok(Message {
-        header,
-        questions: Questions::new(alloc),
-        answer: records(alloc, answer)?,
-        authority: records(alloc, authority)?,
-        additional: records(alloc, additional)?,
-    })
+// A reply, and what it is used for where w.a.example. was asked for of a server of example.
+struct Case {
+    kind: RType,
+    via: Via,
+    code: Code,
+    aa: bool,
+    tc: bool,
+    answer: &'static [Row<'static>],
+    authority: &'static [Row<'static>],
+    additional: &'static [Row<'static>],
+    want: &'static str,
+}
+
+// A reply over UDP to a question for an address, whose parts are empty but for those that a case says otherwise of.
+const PLAIN: Case = Case {
+    kind: RType::A,
+    via: Via::Udp,
+    code: Code::NoError,
+    aa: true,
+    tc: false,
+    answer: &[],
+    authority: &[],
+    additional: &[],
+    want: "failed 3",
+};
+
+impl Case {
+    fn header(&self) -> Header {
+        Header {
+            id: 1,
+            qr: true,
+            opcode: 0,
+            aa: self.aa,
+            tc: self.tc,
+            rd: false,
+            ra: false,
+            z: 0,
+            rcode: self.code.number(),
+        }
+    }
+
+    fn reply<A: Heap>(&self, alloc: A) -> Result<Message<A>, Starved> {
+        Ok(Message {
+            header: self.header(),
+            questions: Questions::new(alloc),
+            answer: records(alloc, self.answer)?,
+            authority: records(alloc, self.authority)?,
+            additional: records(alloc, self.additional)?,
+        })
+    }
+
+    // What the reply is used for.
+    fn class<A: Heap>(&self, alloc: A) -> Result<Class<A>, Starved> {
+        let zone = name(alloc, "example.")?;
+        let asked = name(alloc, W)?;
+        let reply = self.reply(alloc)?;
+        Ok(classify(alloc, &zone, &asked, self.kind, self.via, &reply)?)
+    }
+
+    fn is_met<A: Heap>(&self, alloc: A) -> Result<bool, Starved> {
+        let class = self.class(alloc)?;
+        Ok(text(alloc, &class)?.as_str() == self.want)
+    }
+}
+
+// The first case of which something else comes.
+fn first_wrong<A: Heap>(alloc: A, cases: &[Case]) -> Result<Option<usize>, Starved> {
+    for (place, case) in cases.iter().enumerate() {
+        if !case.is_met(alloc)? {
+            return Ok(Some(place));
+        }
+    }
+    Ok(None)
 }
 
 fn put_record<A: Heap>(out: &mut String<A>, record: &Record<A>) -> Result<(), Starved> {
+    let ttl = record.ttl;
     write!(out, "; ")?;
     put_name(out, &record.owner)?;
-    write!(out, " {} ", record.ttl)?;
+    write!(out, " {ttl} ")?;
     put_data(out, &record.value)
 }
 
@@ -92,34 +141,22 @@ fn link_text<A: Heap>(alloc: A, link: &Link<A>) -> Result<String<A>, Starved> {
     Ok(out)
 }
 
-fn text<A: Heap>(alloc: A, class: &Class<A>) -> Result<String<A>, Starved> {
+fn referral_text<A: Heap>(alloc: A, referral: &Referral<A>) -> Result<String<A>, Starved> {
     let mut out = String::new(alloc);
-    match class {
-        Class::Answer(link) => return Ok(link_text(alloc, link)?),
-        Class::Referral(referral) => {
-            write!(out, "for {} to ", referral.ttl)?;
-            put_name(&mut out, &referral.at)?;
-            put_records(&mut out, &referral.servers)?;
-            write!(out, "; with")?;
-            put_records(&mut out, &referral.addresses)?;
-        }
-        Class::Truncated => write!(out, "truncated")?,
-        Class::Failed(failure) => write!(out, "failed {}", failure.number())?,
-    }
+    write!(out, "for {} to {}", referral.ttl, referral.at)?;
+    put_records(&mut out, &referral.servers)?;
+    write!(out, "; with")?;
+    put_records(&mut out, &referral.addresses)?;
     Ok(out)
 }
 
-// What a reply is used for, asked for w.a.example. of a server of example.
-fn used<A: Heap>(
-    alloc: A,
-    kind: RType,
-    via: Via,
-    message: &Message<A>,
-) -> Result<String<A>, Starved> {
-    let zone = name(alloc, "example.")?;
-    let asked = name(alloc, "w.a.example.")?;
-    let class = classify(alloc, &zone, &asked, kind, via, message)?;
-    text(alloc, &class)
+fn text<A: Heap>(alloc: A, class: &Class<A>) -> Result<String<A>, Starved> {
+    match class {
+        Class::Answer(link) => Ok(link_text(alloc, link)?),
+        Class::Referral(referral) => Ok(referral_text(alloc, referral)?),
+        Class::Truncated => Ok(String::from_str(alloc, "truncated")?),
+        Class::Failed(failure) => Ok(format!(in alloc; "failed {}", failure.number())?),
+    }
 }
 
 const W: &str = "w.a.example.";
@@ -127,120 +164,150 @@ const W: &str = "w.a.example.";
 const ADDRESS: Row<'static> = (W, 60, Value::A(1));
 
 // RFC 2181, section 9.
-#[test]
-fn truncated_replies(rt: HostRuntime) -> Result<(), Fail> {
-    let truncated = header(Code::NoError, true, true);
-    let message = reply(rt.alloc(), truncated, &[ADDRESS], &[], &[])?;
-    assert_eq!(rt;
-        used(rt.alloc(), RType::A, Via::Udp, &message)?.as_str(),
-        "truncated"
-    );
-    assert_eq!(rt;
-        used(rt.alloc(), RType::A, Via::Tcp, &message)?.as_str(),
-        "failed 5"
-    );
-    Ok(())
-}
-
-// RFC 2181, sections 5 and 5.2.
-#[test]
-fn answers(rt: HostRuntime) -> Result<(), Fail> {
-    let doubled: [Row<'static>; 5] = [
-        ADDRESS,
-        ("v.a.example.", 10, Value::A(3)),
-        (W, 5, Value::Aaaa),
-        (W, 30, Value::A(1)),
-        (W, 60, Value::A(2)),
-    ];
-    let rows: [(Code, bool, &[Row<'static>], &str); 5] = [
-        (Code::Refused, true, &[ADDRESS], "failed 1"),
-        (Code::NameError, true, &[ADDRESS], "failed 1"),
-        (Code::NoError, false, &[ADDRESS], "failed 2"),
-        (
-            Code::NoError,
-            true,
-            &doubled,
-            "found; w.a.example. 30 A 192.0.2.1; w.a.example. 30 A 192.0.2.2",
-        ),
-        (Code::NoError, true, &[], "failed 3"),
-    ];
-    for (code, aa, answer, want) in &rows {
-        let message = reply(rt.alloc(), header(*code, *aa, false), *answer, &[], &[])?;
-        let class = used(rt.alloc(), RType::A, Via::Udp, &message)?;
-        assert_eq!(rt; class.as_str(), *want);
-    }
-    Ok(())
-}
-
-const ALIASES: [Row<'static>; 2] = [
-    (W, 60, Value::Cname("x.example.")),
-    (W, 30, Value::Cname("y.example.")),
+const TRUNCATED: &[Case] = &[
+    Case {
+        tc: true,
+        answer: &[ADDRESS],
+        want: "truncated",
+        ..PLAIN
+    },
+    Case {
+        via: Via::Tcp,
+        tc: true,
+        answer: &[ADDRESS],
+        want: "failed 5",
+        ..PLAIN
+    },
 ];
 
-// RFC 1034, section 5.3.3.
-#[test]
-fn aliases(rt: HostRuntime) -> Result<(), Fail> {
-    let first = "alias; w.a.example. 30 CNAME x.example.";
-    for (code, aa, want) in [
-        (Code::NoError, true, first),
-        (Code::NameError, true, first),
-        (Code::NameError, false, "failed 2"),
-    ] {
-        let message = reply(rt.alloc(), header(code, aa, false), &ALIASES, &[], &[])?;
-        let class = used(rt.alloc(), RType::A, Via::Udp, &message)?;
-        assert_eq!(rt; class.as_str(), want);
-    }
-    Ok(())
-}
+const DOUBLED: &[Row<'static>] = &[
+    ADDRESS,
+    ("v.a.example.", 10, Value::A(3)),
+    (W, 5, Value::Aaaa),
+    (W, 30, Value::A(1)),
+    (W, 60, Value::A(2)),
+];
 
-#[test]
-fn an_alias_that_is_asked_for_is_an_answer(rt: HostRuntime) -> Result<(), Fail> {
-    let lawful = header(Code::NoError, true, false);
-    let message = reply(rt.alloc(), lawful, &ALIASES[..1], &[], &[])?;
-    assert_eq!(rt;
-        used(rt.alloc(), RType::Cname, Via::Tcp, &message)?.as_str(),
-        "found; w.a.example. 60 CNAME x.example."
-    );
-    Ok(())
-}
+// RFC 2181, sections 5 and 5.2.
+const ANSWERS: &[Case] = &[
+    Case {
+        code: Code::Refused,
+        answer: &[ADDRESS],
+        want: "failed 1",
+        ..PLAIN
+    },
+    Case {
+        code: Code::NameError,
+        answer: &[ADDRESS],
+        want: "failed 1",
+        ..PLAIN
+    },
+    Case {
+        aa: false,
+        answer: &[ADDRESS],
+        want: "failed 2",
+        ..PLAIN
+    },
+    Case {
+        answer: DOUBLED,
+        want: "found; w.a.example. 30 A 192.0.2.1; w.a.example. 30 A 192.0.2.2",
+        ..PLAIN
+    },
+    PLAIN,
+];
+
+const ALIAS: Row<'static> = (W, 60, Value::Cname("x.example."));
+
+const TWO_ALIASES: &[Row<'static>] = &[ALIAS, (W, 30, Value::Cname("y.example."))];
+
+const FIRST_ALIAS: &str = "alias; w.a.example. 30 CNAME x.example.";
+
+// RFC 1034, section 5.3.3.
+const ALIASES: &[Case] = &[
+    Case {
+        answer: TWO_ALIASES,
+        want: FIRST_ALIAS,
+        ..PLAIN
+    },
+    Case {
+        code: Code::NameError,
+        answer: TWO_ALIASES,
+        want: FIRST_ALIAS,
+        ..PLAIN
+    },
+    Case {
+        code: Code::NameError,
+        aa: false,
+        answer: TWO_ALIASES,
+        want: "failed 2",
+        ..PLAIN
+    },
+    Case {
+        kind: RType::Cname,
+        via: Via::Tcp,
+        answer: &[ALIAS],
+        want: "found; w.a.example. 60 CNAME x.example.",
+        ..PLAIN
+    },
+];
 
 const SOA: Row<'static> = ("example.", 3600, Value::Soa(60));
 
-// RFC 2308, sections 2 and 5.
-#[test]
-fn denials(rt: HostRuntime) -> Result<(), Fail> {
-    let beside: Row<'static> = ("b.example.", 3600, Value::Soa(60));
-    let above: Row<'static> = (".", 3600, Value::Soa(60));
-    let server: Row<'static> = ("a.example.", 60, Value::Ns("ns.a.example."));
-    let rows: [(Code, bool, &[Row<'static>], &str); 8] = [
-        (Code::NameError, true, &[], "failed 3"),
-        (Code::NameError, true, &[server], "failed 3"),
-        (Code::NameError, true, &[beside, SOA], "failed 4"),
-        (Code::NameError, true, &[above], "failed 4"),
-        (Code::NameError, false, &[SOA], "failed 2"),
-        (
-            Code::NameError,
-            true,
-            &[SOA, beside],
-            "no name; example. 3600 SOA ns. h. 1 2 3 4 60",
-        ),
-        (
-            Code::NoError,
-            true,
-            &[server, SOA],
-            "no data; example. 3600 SOA ns. h. 1 2 3 4 60",
-        ),
-        (Code::NoError, false, &[server, SOA], "failed 2"),
-    ];
-    for (code, aa, authority, want) in &rows {
-        let message = reply(rt.alloc(), header(*code, *aa, false), &[], *authority, &[])?;
-        let class = used(rt.alloc(), RType::A, Via::Tcp, &message)?;
-        assert_eq!(rt; class.as_str(), *want);
-    }
-    Ok(())
-}
+const BESIDE: Row<'static> = ("b.example.", 3600, Value::Soa(60));
 
-const SERVERS: [Row<'static>; 4] = [
+const SERVER: Row<'static> = ("a.example.", 60, Value::Ns("ns.a.example."));
+
+// RFC 2308, sections 2 and 5.
+const DENIALS: &[Case] = &[
+    Case {
+        code: Code::NameError,
+        ..PLAIN
+    },
+    Case {
+        code: Code::NameError,
+        authority: &[SERVER],
+        ..PLAIN
+    },
+    Case {
+        code: Code::NameError,
+        authority: &[BESIDE, SOA],
+        want: "failed 4",
+        ..PLAIN
+    },
+    Case {
+        code: Code::NameError,
+        authority: &[(".", 3600, Value::Soa(60))],
+        want: "failed 4",
+        ..PLAIN
+    },
+    Case {
+        code: Code::NameError,
+        aa: false,
+        authority: &[SOA],
+        want: "failed 2",
+        ..PLAIN
+    },
+    Case {
+        code: Code::NameError,
+        authority: &[SOA, BESIDE],
+        want: "no name; example. 3600 SOA ns. h. 1 2 3 4 60",
+        ..PLAIN
+    },
+    Case {
+        via: Via::Tcp,
+        authority: &[SERVER, SOA],
+        want: "no data; example. 3600 SOA ns. h. 1 2 3 4 60",
+        ..PLAIN
+    },
+    Case {
+        aa: false,
+        authority: &[SERVER, SOA],
+        want: "failed 2",
+        ..PLAIN
+    },
+];
+
+const SERVERS: &[Row<'static>] = &[
     ("a.example.", 3600, Value::Ns("ns.a.example.")),
     ("b.example.", 5, Value::Ns("ns.b.example.")),
     ("a.example.", 3600, Value::Ns("ns.")),
@@ -249,48 +316,80 @@ const SERVERS: [Row<'static>; 4] = [
 
 const SERVER_ADDRESS: Row<'static> = ("ns.a.example.", 60, Value::A(1));
 
-// Of other types, of servers of other names, of strangers, outside of the zone.
-const OTHERS: [Row<'static>; 4] = [
+// Of another type, of servers of other names, of strangers, outside of the zone.
+const STRANGERS: &[Row<'static>] = &[
     ("ns.a.example.", 50, Value::Aaaa),
     ("ns.b.example.", 40, Value::A(2)),
     ("x.a.example.", 30, Value::A(3)),
     ("ns.", 20, Value::A(4)),
 ];
 
-// RFC 1034, section 4.3.2, step 3b.
-#[test]
-fn referrals(rt: HostRuntime) -> Result<(), Fail> {
-    let rows: [(&[Row<'static>], &str); 5] = [
-        (&[("example.", 60, Value::Ns("ns."))], "failed 4"),
-        (&[("b.example.", 60, Value::Ns("ns."))], "failed 4"),
-        (
-            &SERVERS,
-            "for 1800 to a.example.; a.example. 1800 NS ns.a.example.; a.example. 1800 NS ns.; with",
-        ),
-        (
-            &[(W, 60, Value::Ns("ns.")), SERVERS[0]],
-            "for 60 to w.a.example.; w.a.example. 60 NS ns.; with",
-        ),
-        (&[], "failed 3"),
-    ];
-    for (authority, want) in &rows {
-        let refers = header(Code::NoError, false, false);
-        let message = reply(rt.alloc(), refers, &[], *authority, &OTHERS)?;
-        let class = used(rt.alloc(), RType::A, Via::Udp, &message)?;
-        assert_eq!(rt; class.as_str(), *want);
+const AMONG_STRANGERS: &[Row<'static>] = &[
+    ("ns.a.example.", 50, Value::Aaaa),
+    ("ns.b.example.", 40, Value::A(2)),
+    ("x.a.example.", 30, Value::A(3)),
+    ("ns.", 20, Value::A(4)),
+    SERVER_ADDRESS,
+];
+
+// A reply that refers, without an answer of its own.
+const REFERRING: Case = Case {
+    aa: false,
+    additional: STRANGERS,
+    ..PLAIN
+};
+
+// RFC 1034, section 4.3.2, step 3b. The shortest life in the last one is that of an address.
+const REFERRALS: &[Case] = &[
+    Case {
+        authority: &[("example.", 60, Value::Ns("ns."))],
+        want: "failed 4",
+        ..REFERRING
+    },
+    Case {
+        authority: &[("b.example.", 60, Value::Ns("ns."))],
+        want: "failed 4",
+        ..REFERRING
+    },
+    Case {
+        authority: SERVERS,
+        want: "for 1800 to a.example.; a.example. 1800 NS ns.a.example.; a.example. 1800 NS ns.; with",
+        ..REFERRING
+    },
+    Case {
+        authority: &[
+            (W, 60, Value::Ns("ns.")),
+            ("a.example.", 3600, Value::Ns("ns.a.example.")),
+        ],
+        want: "for 60 to w.a.example.; w.a.example. 60 NS ns.; with",
+        ..REFERRING
+    },
+    REFERRING,
+    Case {
+        authority: SERVERS,
+        additional: AMONG_STRANGERS,
+        want: "for 60 to a.example.; a.example. 1800 NS ns.a.example.; a.example. 1800 NS ns.; with; ns.a.example. 60 A 192.0.2.1",
+        ..REFERRING
+    },
+];
+
+// The first case that goes wrong, by its table and its place there.
+fn first_wrong_of<A: Heap>(
+    alloc: A,
+    tables: &[&[Case]],
+) -> Result<Option<(usize, usize)>, Starved> {
+    for (table, cases) in tables.iter().enumerate() {
+        if let Some(place) = first_wrong(alloc, *cases)? {
+            return Ok(Some((table, place)));
+        }
     }
-    Ok(())
+    Ok(None)
 }
 
 #[test]
-fn the_shortest_life_is_that_of_an_address(rt: HostRuntime) -> Result<(), Fail> {
-    let refers = header(Code::NoError, false, false);
-    let additional = [OTHERS[0], OTHERS[1], OTHERS[2], OTHERS[3], SERVER_ADDRESS];
-    let message = reply(rt.alloc(), refers, &[], &SERVERS, &additional)?;
-    assert_eq!(rt;
-        used(rt.alloc(), RType::A, Via::Udp, &message)?.as_str(),
-        "for 60 to a.example.; a.example. 1800 NS ns.a.example.; a.example. 1800 NS ns.; with; ns.a.example. 60 A 192.0.2.1"
-    );
+fn replies_are_used_as_was_worked(rt: HostRuntime) -> Result<(), Fail> {
+    let tables = &[TRUNCATED, ANSWERS, ALIASES, DENIALS, REFERRALS];
+    assert_eq!(rt; first_wrong_of(rt.alloc(), tables)?, None);
     Ok(())
 }
 
@@ -303,130 +402,145 @@ fn kept<A: Heap>(alloc: A, link: Link<A>) -> Result<(u32, String<A>), Starved> {
     Ok((seconds, text?))
 }
 
-fn kept_set<A: Heap>(alloc: A, rows: &[Row<'static>]) -> Result<(u32, String<A>), Starved> {
-    let set = set_of(alloc, rows)?;
-    kept(alloc, Link::Found(set))
+// The rows as one RRset.
+fn set_of<A: Heap>(alloc: A, rows: &[Row<'static>]) -> Result<RecordSet<A>, Starved> {
+    let records = records(alloc, rows)?;
+    let owner = name(alloc, W)?;
+    set_at(alloc, records.as_slice(), &owner, RType::A)?.ok_or(Starved)
 }
 
-const LONG: [Row<'static>; 2] = [(W, 604_801, Value::A(1)), (W, 604_801, Value::A(2))];
-
-const MIXED: [Row<'static>; 2] = [(W, 604_801, Value::A(1)), (W, 604_799, Value::A(2))];
+// Whether a set of these addresses is kept for so many seconds, each with that TTL.
+fn set_is_kept<A: Heap>(alloc: A, ttls: [u32; 2], seconds: u32) -> Result<bool, Starved> {
+    let rows = [(W, ttls[0], Value::A(1)), (W, ttls[1], Value::A(2))];
+    let (kept, said) = kept(alloc, Link::Found(set_of(alloc, &rows)?))?;
+    let want = format!(in alloc; "found; {W} {seconds} A 192.0.2.1; {W} {seconds} A 192.0.2.2")?;
+    Ok(kept == seconds && said.as_str() == want.as_str())
+}
 
 // RFC 2181, sections 5.2 and 8.
 #[test]
 fn lifetimes_of_sets(rt: HostRuntime) -> Result<(), Fail> {
-    let rows: [(&[Row<'static>], u32, &str); 2] = [
-        (
-            &LONG,
-            604_800,
-            "found; w.a.example. 604800 A 192.0.2.1; w.a.example. 604800 A 192.0.2.2",
-        ),
-        (
-            &MIXED,
-            604_799,
-            "found; w.a.example. 604799 A 192.0.2.1; w.a.example. 604799 A 192.0.2.2",
-        ),
-    ];
-    for (rows, seconds, text) in &rows {
-        let (kept, said) = kept_set(rt.alloc(), *rows)?;
-        assert!(rt;
-            kept == *seconds && said.as_str() == *text,
-            "{}",
-            said.as_str()
-        );
-    }
+    assert!(rt; set_is_kept(rt.alloc(), [604_801, 604_801], 604_800)?);
+    assert!(rt; set_is_kept(rt.alloc(), [604_801, 604_799], 604_799)?);
     Ok(())
+}
+
+fn lifetime_of<A: Heap>(link: Link<A>) -> u32 {
+    lifetime(&received(link))
+}
+
+fn alias_lifetime<A: Heap>(alloc: A, ttl: u32) -> Result<u32, Starved> {
+    let alias = record(alloc, (W, ttl, Value::Cname("x.")))?;
+    Ok(lifetime_of(Link::Alias(alias)))
+}
+
+// For how many seconds a denial with this TTL and this MINIMUM is kept: NODATA, and NXDOMAIN.
+fn denial_lifetimes<A: Heap>(alloc: A, ttl: u32, minimum: u32) -> Result<(u32, u32), Starved> {
+    let soa = ("example.", ttl, Value::Soa(minimum));
+    let none = lifetime_of(Link::NoData(record(alloc, soa)?));
+    let error = lifetime_of(Link::NxDomain(record(alloc, soa)?));
+    Ok((none, error))
+}
+
+// TTL, MINIMUM, and for how long it is kept, all in seconds.
+const DENIED: &[(u32, u32, u32)] = &[
+    (10_801, 20_000, 10_800),
+    (20_000, 10_801, 10_800),
+    (3600, 60, 60),
+    (60, 3600, 60),
+    (3600, 2_147_483_648, 0),
+];
+
+fn denials_are_kept<A: Heap>(alloc: A) -> Result<bool, Starved> {
+    for (ttl, minimum, seconds) in DENIED {
+        if denial_lifetimes(alloc, *ttl, *minimum)? != (*seconds, *seconds) {
+            return Ok(false);
+        }
+    }
+    Ok(true)
 }
 
 // RFC 2181, section 8; RFC 2308, sections 3 and 5.
 #[test]
 fn lifetimes_of_aliases_and_denials(rt: HostRuntime) -> Result<(), Fail> {
-    let alias = record(rt.alloc(), (W, 604_801, Value::Cname("x.")))?;
-    assert_eq!(rt; lifetime(&received(Link::Alias(alias))), 604_800);
-    let rows = [
-        (10_801, 20_000, 10_800),
-        (20_000, 10_801, 10_800),
-        (3600, 60, 60),
-        (60, 3600, 60),
-        (3600, 2_147_483_648, 0),
-    ];
-    for (ttl, minimum, want) in rows {
-        let soa: Row<'static> = ("example.", ttl, Value::Soa(minimum));
-        let none = Link::NoData(record(rt.alloc(), soa)?);
-        assert_eq!(rt; lifetime(&received(none)), want);
-        let error = Link::NxDomain(record(rt.alloc(), soa)?);
-        assert_eq!(rt; lifetime(&received(error)), want);
-    }
+    assert_eq!(rt; alias_lifetime(rt.alloc(), 604_801)?, 604_800);
+    assert!(rt; denials_are_kept(rt.alloc())?);
     Ok(())
+}
+
+fn referral_lifetime<A: Heap>(alloc: A, ttl: u32) -> Result<u32, Starved> {
+    let referral = Referral {
+        at: name(alloc, "a.example.")?,
+        servers: records(alloc, &[("a.example.", ttl, Value::Ns("ns."))])?,
+        addresses: Records::new(alloc),
+        ttl: ttl.min(rdata::GREATEST_TTL),
+    };
+    Ok(referral.lifetime())
+}
+
+// A TTL, and for how long it is kept.
+const REFERRED: &[(u32, u32)] = &[
+    (604_799, 604_799),
+    (604_800, 604_800),
+    (604_801, 604_800),
+    (2_147_483_647, 604_800),
+    (0, 0),
+];
+
+fn referrals_are_kept<A: Heap>(alloc: A) -> Result<bool, Starved> {
+    for (ttl, seconds) in REFERRED {
+        if referral_lifetime(alloc, *ttl)? != *seconds {
+            return Ok(false);
+        }
+    }
+    Ok(true)
 }
 
 // RFC 2181, section 8: a referral of 2,147,483,647 seconds is kept for a week.
 #[test]
 fn lifetimes_of_referrals(rt: HostRuntime) -> Result<(), Fail> {
-    for (ttl, want) in [
-        (604_799, 604_799),
-        (604_800, 604_800),
-        (604_801, 604_800),
-        (2_147_483_647, 604_800),
-        (0, 0),
-    ] {
-        let server: Row<'static> = ("a.example.", ttl, Value::Ns("ns."));
-        let referral = Referral {
-            at: name(rt.alloc(), "a.example.")?,
-            servers: records(rt.alloc(), &[server])?,
-            addresses: Records::new(rt.alloc()),
-            ttl,
-        };
-        assert_eq!(rt; referral.lifetime(), want);
-    }
+    assert!(rt; referrals_are_kept(rt.alloc())?);
     Ok(())
 }
-
-const USED: &str = "found; w.a.example. 60 A 192.0.2.1
-alias; w.a.example. 60 CNAME x.
-no data; example. 3600 SOA ns. h. 1 2 3 4 60
-for 60 to a.example.; a.example. 1800 NS ns.a.example.; a.example. 1800 NS ns.; with; ns.a.example. 60 A 192.0.2.1
-";
 
 // A set, an alias, a denial and a referral.
-fn four_messages<A: Heap>(alloc: A) -> Result<Vec<Message<A>, A>, Starved> {
-    let yes = header(Code::NoError, true, false);
-    let alias: Row<'static> = (W, 60, Value::Cname("x."));
-    let mut messages = Vec::new(alloc);
-    messages.push(reply(alloc, yes, &[ADDRESS], &[], &[])?)?;
-    messages.push(reply(alloc, yes, &[alias], &[], &[])?)?;
-    messages.push(reply(alloc, yes, &[], &[SOA], &[])?)?;
-    messages.push(reply(alloc, yes, &[], &SERVERS, &[SERVER_ADDRESS])?)?;
-    Ok(messages)
-}
-
-fn put_used<A: Heap>(out: &mut String<A>, alloc: A, message: &Message<A>) -> Result<(), Starved> {
-    let class = used(alloc, RType::A, Via::Udp, message)?;
-    out.push_str(class.as_str())?;
-    out.push('\n')?;
-    Ok(())
-}
-
-fn are_used<A: Heap>(alloc: A, messages: &[Message<A>]) -> Result<bool, Starved> {
-    let mut out = String::new(alloc);
-    for message in messages {
-        put_used(&mut out, alloc, message)?;
-    }
-    Ok(out.as_str() == USED)
-}
+const EACH: &[Case] = &[
+    Case {
+        answer: &[ADDRESS],
+        want: "found; w.a.example. 60 A 192.0.2.1",
+        ..PLAIN
+    },
+    Case {
+        answer: &[ALIAS],
+        want: "alias; w.a.example. 60 CNAME x.example.",
+        ..PLAIN
+    },
+    Case {
+        authority: &[SOA],
+        want: "no data; example. 3600 SOA ns. h. 1 2 3 4 60",
+        ..PLAIN
+    },
+    Case {
+        authority: SERVERS,
+        additional: &[SERVER_ADDRESS],
+        want: "for 60 to a.example.; a.example. 1800 NS ns.a.example.; a.example. 1800 NS ns.; with; ns.a.example. 60 A 192.0.2.1",
+        ..PLAIN
+    },
+];
 
 #[test]
 fn each_growth_is_refused_in_turn(rt: HostRuntime) -> Result<(), Fail> {
     let heap = Refusing::new(rt.alloc());
-    let messages = four_messages(&heap)?;
-    let before = heap.growths();
-    assert!(rt; are_used(&heap, &messages)?);
-    let growths = heap.growths().saturating_sub(before);
+    assert!(rt; matches!(first_wrong(&heap, EACH), Ok(None)));
+    let growths = heap.growths();
     assert!(rt; growths > 20);
     for n in 0..growths {
         heap.refuse_after(n);
-        assert!(rt; are_used(&heap, &messages).is_err(), "growth {n}");
-        assert!(rt; are_used(&heap, &messages)?, "after growth {n}");
+        assert!(rt; first_wrong(&heap, EACH).is_err(), "growth {n}");
+        assert!(rt;
+            matches!(first_wrong(&heap, EACH), Ok(None)),
+            "after growth {n}"
+        );
     }
     Ok(())
 }
