@@ -8,4 +8,5 @@ pub mod Aging
 pub mod Forms
 pub mod Kinds
 pub mod Laws
+pub mod Denials
 pub mod Packed

@@ -6,11 +6,14 @@ use Rattle.zone.specs.Links as said
 use Rattle.recency.specs.Orders.{mapped}
 use Rattle.cache.specs.Keys.{Key}
 use Rattle.cache.specs.Cached.{Hit}
+use Rattle.cache.specs.Denials.{Denied, denied}
 
--- The data of a set and of an alias whose owners are the key's name, and any link.
+-- The data of a set and of an alias whose owners are the key's name, denials by an SOA record, and any link.
 pub data Form : Type 0 where
   Set : List Datum → Form
   Alias : Datum → Form
+  NoData : Denied → Form
+  NxDomain : Denied → Form
   Whole : said.Link → Form
 
 -- The form, the TTL of the records whose data it has, and how long and since when the link is kept.
@@ -26,6 +29,8 @@ owned q ttl d = record { owner = q; ttl = ttl; value = d }
 abbrev pub link_of : List (List ℕ) → ℕ → Form → said.Link
 link_of q ttl (Set ds) = said.Found (map (owned q ttl) ds)
 link_of q ttl (Alias d) = said.Alias (owned q ttl d)
+link_of q ttl (NoData d) = said.NoData (denied ttl d)
+link_of q ttl (NxDomain d) = said.NxDomain (denied ttl d)
 link_of q ttl (Whole l) = l
 
 -- What is kept under a key.

@@ -23,6 +23,7 @@
 #![tactic(auto)]
 
 mod cache;
+mod denial;
 mod hit;
 mod key;
 mod laws;
@@ -33,6 +34,7 @@ pub use hit::{Hit, retimed, seconds_left};
 pub use laws::{aging_law, given_law, members_law};
 // A crate can name a cache in a contract only if the types of its fields are exported.
 #[doc(hidden)]
-pub use key::{Key, Slot};
+pub use denial::Denial;
 #[doc(hidden)]
+pub use key::{Key, Slot};
 pub use packed::{Form, Packed, Values};

@@ -9,6 +9,7 @@ ghost use Rattle.cache.specs.Cached.{is_live, as_set, as_alias, with_link, as_ke
 ghost use Rattle.cache.specs.Packed.{owned, link_of, hit_of_packed};
 ghost use Rattle.cache.specs.Forms.{form_view};
 
+use crate::denial::Denial;
 use crate::hit::{Hit, alias_of, is_young, set_of, set_of_one};
 use authority::Link;
 use dname::{Heap, Name, Starved};
@@ -78,6 +79,10 @@ pub enum Form<A: Allocator = Global> {
     Many(Values<A>),
     /// An alias of the key's name: the data of its record.
     Alias(RData<A>),
+    /// A denial of the type (NODATA), by an SOA record.
+    NoData(Denial<A>),
+    /// A denial of the name (NXDOMAIN), by an SOA record.
+    NxDomain(Denial<A>),
     /// Any link.
     Whole(Box<Link<A>, A>),
 }
@@ -119,7 +124,16 @@ impl<A: Heap> Form<A> {
                     return Ok((Form::Alias(alias.value.clone()?), alias.ttl));
                 }
             }
-            Link::NoData(_) | Link::NxDomain(_) => {}
+            Link::NoData(soa) => {
+                if let Some(denial) = Denial::of(alloc, soa)? {
+                    return Ok((Form::NoData(denial), soa.ttl));
+                }
+            }
+            Link::NxDomain(soa) => {
+                if let Some(denial) = Denial::of(alloc, soa)? {
+                    return Ok((Form::NxDomain(denial), soa.ttl));
+                }
+            }
         }
         Ok((Form::Whole(Box::new(alloc, link.clone()?)?), 0))
     }
@@ -135,6 +149,8 @@ impl<A: Heap> Form<A> {
                 owned(name, ttl, value)?,
             )?),
             Form::Many(values) => Ok(Link::Found(values.owned(alloc, name, ttl)?)),
+            Form::NoData(denial) => Ok(Link::NoData(denial.record(alloc, ttl)?)),
+            Form::NxDomain(denial) => Ok(Link::NxDomain(denial.record(alloc, ttl)?)),
             Form::Whole(link) => Ok(set_of(alloc, link)?),
         }
     }
@@ -149,6 +165,7 @@ impl<A: Heap> Form<A> {
                 name, ttl, value,
             )?))),
             Form::Many(values) => Ok(Some(Link::Alias(values.first(name, ttl)?))),
+            Form::NoData(_) | Form::NxDomain(_) => Ok(None),
             Form::Whole(link) => Ok(alias_of(link)?),
         }
     }

@@ -206,4 +206,12 @@ impl<A: Allocator> Name<A> {
     {
         let _ = self.bytes.len();
     }
+
+    /// The wire form of every name can be lent as a name, which is this name.
+    pub fn wire_law(&self)
+        ensures form { IsNameWire (wire self.now) }
+        ensures labels { labels_of (wire self.now) ≡ self.now }
+    {
+        let _ = self.bytes.len();
+    }
 }

@@ -2,6 +2,7 @@
 ghost use Rattle.std.specs.Prelude.{◌≡◌, Some, IfOk};
 ghost use Rattle.std.specs.Bool.{OnTrue, OnFalse};
 ghost use Rattle.dname.specs.Labels.{wire, root, same_name, parent_of, IsName};
+ghost use Rattle.dname.specs.Wire.{labels_of, IsNameWire};
 
 use crate::name::Name;
 use crate::walk::next_label;
@@ -37,6 +38,14 @@ impl<A: Allocator> Name<A> {
 }
 
 impl<'a> Suffix<'a> {
+    /// The name that these bytes are the wire form of.
+    pub fn of_wire(bytes: &'a [u8]) -> Suffix<'a>
+        requires { IsNameWire bytes.now }
+        ensures { result ≡ labels_of bytes.now }
+    {
+        Suffix { bytes }
+    }
+
     /// Makes it the name above; false, and no change, at the root.
     pub fn ascend(&mut self) -> bool
         ensures above { OnTrue result (parent_of self.old ≡ Some self.new) }
