@@ -5,6 +5,7 @@ pub mod Results
 pub mod Drafts
 pub mod Asked
 pub mod Laws
+pub mod Shown
 -- Computed: functions that the code is compared with.
 pub mod Entries
 pub mod Heads

@@ -32,6 +32,7 @@ mod reader;
 mod records;
 mod served;
 mod sets;
+mod shown;
 mod spelling;
 mod values;
 mod via;

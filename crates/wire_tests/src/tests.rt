@@ -1,5 +1,3 @@
-use dname::Name;
-use rdata::{Addr, RData};
 use std::test::Fail;
 use wire::{WireError, decode, decode_question, encode};
 
@@ -14,19 +12,28 @@ const REPLY: &[u8] =
 const DENIAL: &[u8] =
     b"\0\x01\x84\x80\0\x01\0\0\0\x01\0\0\x01b\x03lab\x07example\0\0\x10\0\x01\xc0\x0e\0\x06\0\x01\0\0\0\x3c\0\x1d\x02ns\xc0\x0e\x01h\xc0\x0e\0\0\0\x01\0\0\0\x02\0\0\0\x03\0\0\0\x04\0\0\0\x3c";
 
+// What each says in words: header, question and records.
+const SHOWN: [(&[u8], &str); 3] = [
+    (
+        QUERY,
+        "id 4660 opcode 0 rcode 0 rd\n  qd www.example. class 1 type 1",
+    ),
+    (
+        REPLY,
+        "id 4660 opcode 0 rcode 0 qr aa rd ra\n  qd www.example. class 1 type 1\n  an www.example. 300 IN A 192.0.2.1",
+    ),
+    (
+        DENIAL,
+        "id 1 opcode 0 rcode 0 qr aa ra\n  qd b.lab.example. class 1 type 16\n  ns lab.example. 60 IN SOA ns.lab.example. h.lab.example. 1 2 3 4 60",
+    ),
+];
+
 #[test]
-fn a_query_is_read(rt: HostRuntime) -> Result<(), Fail> {
-    let m = decode(rt.alloc(), QUERY)?;
-    assert_eq!(rt;
-        (m.header.id, m.header.rd, m.header.qr),
-        (4660, true, false)
-    );
-    for asked in m.questions.as_slice() {
-        assert_eq!(rt; asked.name.to_text()?.as_str(), "www.example.");
-        assert_eq!(rt; (asked.qtype, asked.qclass), (1, 1));
+fn messages_are_read(rt: HostRuntime) -> Result<(), Fail> {
+    for (bytes, text) in SHOWN {
+        let m = decode(rt.alloc(), bytes)?;
+        assert_eq!(rt; format!(in rt.alloc(); "{m}")?.as_str(), text);
     }
-    assert_eq!(rt; m.questions.len(), 1);
-    assert!(rt; m.answer.is_empty() && m.authority.is_empty() && m.additional.is_empty());
     Ok(())
 }
 
@@ -41,23 +48,6 @@ fn each_front_of_a_query_is_short(rt: HostRuntime) -> Result<(), Fail> {
     let mut longer = Vec::from_slice(rt.alloc(), QUERY)?;
     longer.push(0)?;
     assert!(rt; matches!(decode(rt.alloc(), &longer), Err(WireError::TrailingBytes)));
-    Ok(())
-}
-
-#[test]
-fn a_reply_is_read(rt: HostRuntime) -> Result<(), Fail> {
-    assert_eq!(rt; REPLY.len(), 45);
-    let m = decode(rt.alloc(), REPLY)?;
-    assert_eq!(rt;
-        (m.header.qr, m.header.aa, m.header.ra, m.header.tc),
-        (true, true, true, false)
-    );
-    assert_eq!(rt; m.answer.len(), 1);
-    for found in m.answer.as_slice() {
-        assert_eq!(rt; found.owner.to_text()?.as_str(), "www.example.");
-        assert_eq!(rt; found.ttl, 300);
-        assert!(rt; found.value.is_same(&RData::A(Addr([192, 0, 2, 1]))));
-    }
     Ok(())
 }
 
