@@ -35,5 +35,7 @@ pub use labels::Labels;
 pub use memory::{Heap, Starved};
 pub use name::Name;
 pub use suffix::Suffix;
-pub use text::{NameError, first_fault_counts, put_name, text_is_read_back, text_writes_name};
+pub use text::{
+    NameError, escape, first_fault_counts, put_name, text_is_read_back, text_writes_name,
+};
 pub use walk::next_label;

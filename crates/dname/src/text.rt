@@ -1,9 +1,9 @@
 //! Names in text (RFC 1035, section 5.1).
 
-ghost use Rattle.std.specs.Prelude.{◌≡◌, ◌<◌, ◌≤◌, [], ◌∷◌, ◌++◌, length, string_bytes, Some, Ok, OnOk, IfOk, MatchOption, MatchResult};
+ghost use Rattle.std.specs.Prelude.{◌≡◌, ◌<◌, ◌≤◌, [], ◌∷◌, ◌++◌, length, drop, string_bytes, Some, Ok, OnOk, IfOk, MatchOption, MatchResult};
 ghost use Rattle.std.specs.Fmt.{WritesOnOk};
 ghost use Rattle.dname.specs.Tokens.{token_of};
-ghost use Rattle.dname.specs.Text.{tokens, tokens_behind, escaped_token, spelled, with_origin, name_under, name_of_text, IsFault, fault_of, is_special, number_text, byte_text, label_text, name_text, fault_number, fault_text, TextIsReadBack};
+ghost use Rattle.dname.specs.Text.{Byte, Bad, tokens, escaped_token, spelled, with_origin, name_under, name_of_text, IsFault, fault_of, is_special, number_text, byte_text, label_text, name_text, fault_number, fault_text, TextIsReadBack};
 ghost use Rattle.dname.specs.Draft.{empty_draft};
 ghost use Rattle.dname.specs.Spelling.{TextWritesName, FirstFaultCounts};
 ghost use Rattle.dname.specs.Wire.{labels_of, IsNameWire};
@@ -198,29 +198,31 @@ fn first(text: &[u8]) -> Option<(Spelt, &[u8])>
 {
     match text {
         [] => None,
-        [b'\\', rest @ ..] => Some(escaped(rest)),
+        [b'\\', rest @ ..] => match escape(rest) {
+            Some((byte, after)) => Some((Spelt::Byte(byte), after)),
+            None => Some((Spelt::Bad, rest)),
+        },
         [b'.', rest @ ..] => Some((Spelt::Dot, rest)),
         [byte @ 33..=126, rest @ ..] => Some((Spelt::Byte(*byte), rest)),
         [_, rest @ ..] => Some((Spelt::Bad, rest)),
     }
 }
 
-// What a backslash before `text` makes of its head.
-fn escaped(text: &[u8]) -> (Spelt, &[u8])
-    ensures token { token_of result.0 ≡ (escaped_token text.now).0 }
-    ensures rest { tokens result.1.now ≡ tokens_behind (escaped_token text.now).1 text.now }
-    ensures shorter { length result.1.now ≤ length text.now }
+/// The byte that an escape writes, whose backslash stands before this text, and the text behind the escape; `None`
+/// where it is bad (RFC 1035, section 5.1).
+pub fn escape(text: &[u8]) -> Option<(u8, &[u8])>
+    ensures byte { MatchOption result ((escaped_token text.now).0 ≡ Bad) (λ p. (escaped_token text.now).0 ≡ Byte p.0) }
+    ensures rest { MatchOption result ((escaped_token text.now).1 ≡ 0) (λ p. p.1.now ≡ drop (escaped_token text.now).1 text.now) }
+    ensures shorter { MatchOption result (Unit {0}) (λ p. length p.1.now < length text.now) }
 {
     match text {
         [d @ b'0'..=b'9', e @ b'0'..=b'9', f @ b'0'..=b'9', rest @ ..] => {
             let value = 100 * u16::from(d - b'0') + 10 * u16::from(e - b'0') + u16::from(f - b'0');
-            match u8::try_from(value) {
-                Ok(byte) => (Spelt::Byte(byte), rest),
-                Err(_) => (Spelt::Bad, text),
-            }
+            let byte = u8::try_from(value).ok()?;
+            Some((byte, rest))
         }
-        [b'0'..=b'9', ..] | [] => (Spelt::Bad, text),
-        [byte, rest @ ..] => (Spelt::Byte(*byte), rest),
+        [b'0'..=b'9', ..] | [] => None,
+        [byte, rest @ ..] => Some((*byte, rest)),
     }
 }
 

@@ -25,10 +25,6 @@ bytes_behind taken [] = Some []
 bytes_behind zero (c ∷ cs) = token_onto (string_token c cs).0 (bytes_behind (string_token c cs).1 cs)
 bytes_behind (suc taken) (c ∷ cs) = bytes_behind taken cs
 
--- The bytes of a text behind a backslash.
-abbrev pub escaped_bytes : List ℕ → Option (List ℕ)
-escaped_bytes cs = token_onto (escaped_token cs).0 (bytes_behind (escaped_token cs).1 cs)
-
 abbrev pub unescaped : List ℕ → Option (List ℕ)
 unescaped cs = bytes_behind 0 cs
 

@@ -1,28 +1,12 @@
 //! Character-strings of TXT records, read: quotes and escapes.
 ghost use Rattle.std.specs.Prelude.{◌≡◌, ◌<◌, [], length, None, Ok, IfOk, MatchOption, MatchResult};
 ghost use Rattle.masterfile.specs.declared.faults.FileKind.TheVariants.{BadData};
-ghost use Rattle.masterfile.specs.Strings.{unescaped, escaped_bytes, byte_onto, string_of};
+ghost use Rattle.masterfile.specs.Strings.{unescaped, byte_onto, string_of};
 ghost use Rattle.masterfile.specs.Faults.{FaultIn};
 
 use crate::faults::FileKind;
-use dname::Heap;
+use dname::{Heap, escape};
 use rdata::CharacterString;
-
-/// The first byte that a text writes, and the text behind it; `None` where the escape is bad.
-fn escaped(text: &[u8]) -> Option<(u8, &[u8])>
-    ensures value { MatchOption result (escaped_bytes text.now ≡ None) (λ p. escaped_bytes text.now ≡ byte_onto p.0 (unescaped p.1.now)) }
-    ensures shorter { MatchOption result (Unit {0}) (λ p. length p.1.now < length text.now) }
-{
-    match text {
-        [d @ b'0'..=b'9', e @ b'0'..=b'9', f @ b'0'..=b'9', rest @ ..] => {
-            let value = 100 * u16::from(d - b'0') + 10 * u16::from(e - b'0') + u16::from(f - b'0');
-            let byte = u8::try_from(value).ok()?;
-            Some((byte, rest))
-        }
-        [b'0'..=b'9', ..] | [] => None,
-        [byte, rest @ ..] => Some((*byte, rest)),
-    }
-}
 
 /// The first byte that a text writes, and the text behind it; `None` at its end.
 fn next_byte(text: &[u8]) -> Result<Option<(u8, &[u8])>, FileKind>
@@ -31,7 +15,7 @@ fn next_byte(text: &[u8]) -> Result<Option<(u8, &[u8])>, FileKind>
 {
     match text {
         [] => Ok(None),
-        [b'\\', rest @ ..] => match escaped(rest) {
+        [b'\\', rest @ ..] => match escape(rest) {
             Some(found) => Ok(Some(found)),
             None => Err(FileKind::BadData),
         },
