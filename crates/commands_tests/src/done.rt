@@ -15,9 +15,12 @@ pub struct Done<A: Heap> {
     pub err: Page,
 }
 
+/// A status, an output and the line of a fault.
+pub type Ending<'a> = (u8, &'a str, &'a str);
+
 impl<A: Heap> Done<A> {
-    /// Whether it ended with this status, output and line of a fault.
-    pub fn is(&self, status: u8, printed: &str, fault: &str) -> bool {
+    /// Whether it ended so.
+    pub fn is(&self, (status, printed, fault): Ending<'_>) -> bool {
         self.status == status && self.out.holds(printed) && self.err.holds(fault)
     }
 }

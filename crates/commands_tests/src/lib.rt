@@ -1,11 +1,19 @@
-//! The tests of `commands`, from outside: by what it makes public.
+//! The tests of `commands`, from outside: by what it makes public, and by scripts that are played in worlds in memory.
 #![tactic(auto)]
 
 #[cfg(test)]
 mod done;
 #[cfg(test)]
+mod growths;
+#[cfg(test)]
 mod nowhere;
 #[cfg(test)]
+mod plays;
+#[cfg(test)]
+mod scripts;
+#[cfg(test)]
 mod serve_tests;
+#[cfg(test)]
+mod storms;
 #[cfg(test)]
 mod tests;

@@ -65,7 +65,7 @@ fn goes<R: Threads + Wait + AllocGlobal + Sync>(
     (text, place, status, printed, fault): Start,
 ) -> Result<bool, AllocError> {
     let done = serve(rt, text, place)?;
-    Ok(done.is(status, printed, fault) && done.server.is_some() == (status == 0))
+    Ok(done.is((status, printed, fault)) && done.server.is_some() == (status == 0))
 }
 
 // The place of the first of these that goes otherwise.
@@ -125,7 +125,7 @@ fn reply_of(alloc: Global, server: Server) -> Result<Option<Vec<u8>>, Fail> {
 fn served<R: Threads + Wait + AllocGlobal + Sync>(rt: &R) -> Result<Option<Vec<u8>>, Fail> {
     let text = "listen 127.0.0.1 0\nlocal corp.example. corp.zone\n";
     let done = serve(rt, text, FREE)?;
-    let is_well = done.is(0, "listening 127.0.0.1 4242\n", "");
+    let is_well = done.is((0, "listening 127.0.0.1 4242\n", ""));
     let Done { server, .. } = done;
     match server {
         Some(server) if is_well => reply_of(rt.alloc(), server),

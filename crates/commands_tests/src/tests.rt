@@ -1,6 +1,6 @@
 //! Commands over texts in memory.
 
-use crate::done::{ROOMY, Rooms, perform};
+use crate::done::{Ending, ROOMY, Rooms, perform};
 use crate::nowhere::Nowhere;
 use commandline::{Command, LineFault};
 use commands::{Texts, refuse_line, run_words};
@@ -61,21 +61,18 @@ impl Line {
     }
 }
 
-// A status, an output and the line of a fault.
-type Ending<'a> = (u8, &'a str, &'a str);
-
 // Whether a command that is done in this memory ends so.
 fn ends<R: Threads + Wait + AllocGlobal + Sync, A: Heap>(
     rt: &R,
     alloc: A,
     (line, held): (Line, Held<'_>),
     rooms: Rooms,
-    (status, printed, fault): Ending<'_>,
+    ending: Ending<'_>,
 ) -> Result<bool, AllocError> {
     let command = line.command(rt.alloc())?;
     let mut texts = held;
     let done = perform(rt, alloc, &command, &mut texts, &mut Nowhere, rooms);
-    Ok(done.is(status, printed, fault))
+    Ok(done.is(ending))
 }
 
 // A command, the text that it finds, and how it ends.

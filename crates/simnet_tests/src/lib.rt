@@ -1,5 +1,18 @@
-//! The tests of `simnet`, from outside: by what it makes public.
+//! The tests of `simnet`, from outside: by what it makes public, and by whole scripts, in which the resolver serves by
+//! index the very query that a walk through all waiting ones serves.
 #![tactic(auto)]
 
 #[cfg(test)]
+mod example_tests;
+#[cfg(test)]
+mod made;
+#[cfg(test)]
+mod question;
+#[cfg(test)]
+mod room;
+#[cfg(test)]
+mod scan_tests;
+#[cfg(test)]
 mod tests;
+#[cfg(test)]
+mod watched;

@@ -1,9 +1,10 @@
 //! Worked scripts while memory is refused somewhere.
 
-use crate::done::{Done, Held};
+use crate::done::Done;
 use crate::plays::{
     ALIAS, DENIED, KEPT, LOOKED_UP, NESTED, RUN_OUT, SMALL, TRUNCATED, Worked, play,
 };
+use crate::scripts::Held;
 use dname::Heap;
 use refusing::Refusing;
 use std::alloc::AllocError;
@@ -14,12 +15,12 @@ use std::test::Fail;
 use std::thread::Threads;
 
 // Whether it ended for want of memory alone.
-fn is_cut_off(done: &Done) -> bool {
+fn is_cut_off<A: Heap>(done: &Done<A>) -> bool {
     done.is((3, "", "error: memory\n"))
 }
 
 // Whether a step starved, the rest was done, and each reply that counts is right.
-fn is_starved(done: &Done) -> bool {
+fn is_starved<A: Heap>(done: &Done<A>) -> bool {
     let Ok(text) = from_utf8(done.out.bytes.as_slice()) else {
         return false;
     };

@@ -1,7 +1,8 @@
 //! Storms in worlds in memory.
 
-use crate::done::{Ending, Held, perform};
+use crate::done::Ending;
 use crate::plays::{NESTED, SMALL};
+use crate::scripts::{Held, perform_over};
 use commandline::Command;
 use std::alloc::{AllocError, Global};
 use std::sync::Wait;
@@ -51,7 +52,7 @@ impl Storm {
             world: self.world,
             script: script.as_str(),
         };
-        Ok(perform(rt, rt.alloc(), &command, held).is(self.ending))
+        Ok(perform_over(rt, rt.alloc(), &command, held).is(self.ending))
     }
 }
 

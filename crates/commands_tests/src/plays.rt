@@ -1,6 +1,7 @@
 //! Scripts played in worlds in memory.
 
-use crate::done::{Done, Ending, Held, perform};
+use crate::done::{Done, Ending};
+use crate::scripts::{Held, perform_over};
 use commandline::Command;
 use dname::Heap;
 use std::alloc::{AllocError, Global};
@@ -15,12 +16,12 @@ fn play_at<R: Threads + Wait + AllocGlobal + Sync, A: Heap>(
     alloc: A,
     [world, script]: [&str; 2],
     held: Held<'_>,
-) -> Result<Done, AllocError> {
+) -> Result<Done<A>, AllocError> {
     let command = Command::Play {
         world: String::from_str(rt.alloc(), world)?,
         script: String::from_str(rt.alloc(), script)?,
     };
-    Ok(perform(rt, alloc, &command, held))
+    Ok(perform_over(rt, alloc, &command, held))
 }
 
 // What comes of `play WORLD SCRIPT`, in this memory.
@@ -28,7 +29,7 @@ pub fn play<R: Threads + Wait + AllocGlobal + Sync, A: Heap>(
     rt: &R,
     alloc: A,
     held: Held<'_>,
-) -> Result<Done, AllocError> {
+) -> Result<Done<A>, AllocError> {
     play_at(rt, alloc, ["WORLD", "SCRIPT"], held)
 }
 

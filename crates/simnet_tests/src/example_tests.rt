@@ -1,7 +1,7 @@
 //! The scripts of the examples, and what else may come of asks in their worlds: aliases, servers whose addresses must be
 //! looked up, servers that stay silent, sixteen servers of one zone.
 use crate::question::Question;
-use crate::tests::{Step, first_wrong};
+use crate::scan_tests::{Step, first_wrong};
 use crate::watched::Order::{Carry, Client, Lose, Tcp, Tick, Truncate};
 use crate::watched::Verdict::{Nobody, One, OneOfMore};
 use crate::watched::Watched;
