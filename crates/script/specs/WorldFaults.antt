@@ -1,5 +1,9 @@
 -- Which refusal of a world text a refusal of its parts is. Want of memory is one, wherever it was met.
-use Rattle.std.specs.Prelude.{ℕ}
+use Rattle.std.specs.Prelude.{ℕ, List, ◌++◌, codes, decimal}
+use Rattle.zone.specs.Faults.{fault_text as zone_text}
+use Rattle.statements.specs.Faults.{error_text as line_text}
+use Rattle.masterfile.specs.Faults.{error_text as file_text}
+use Rattle.worlds.specs.Refusals.{world_fault_text}
 use Rattle.zone.specs.declared.fault.ZoneError.{ZoneError}
 use Rattle.zone.specs.declared.fault.ZoneError.TheVariants.{Memory as zone_memory}
 use Rattle.statements.specs.declared.fault.LineKind.{LineKind}
@@ -28,3 +32,11 @@ zone_fault line e = Zone line e
 abbrev pub rule_fault : WorldError → WorldFault
 rule_fault rule_memory = Memory
 rule_fault e = World e
+
+-- The words of a refusal.
+abbrev pub fault_text : WorldFault → List ℕ
+fault_text (Line e) = line_text e
+fault_text (File e) = file_text e
+fault_text (Zone line e) = codes "line " ++ decimal line ++ codes ": " ++ zone_text e
+fault_text (World e) = world_fault_text e
+fault_text Memory = codes "out of memory"

@@ -1,6 +1,6 @@
 //! Why a world text stands for no world.
-ghost use Rattle.std.specs.Prelude.{◌≡◌};
-ghost use Rattle.script.specs.WorldFaults.{line_fault, file_fault, zone_fault, rule_fault};
+ghost use Rattle.std.specs.Prelude.{◌≡◌, Some};
+ghost use Rattle.script.specs.WorldFaults.{line_fault, file_fault, zone_fault, rule_fault, fault_text};
 ghost use Rattle.script.specs.declared.world_fault.WorldFault.TheVariants.{Memory};
 
 use dname::Starved;
@@ -27,6 +27,8 @@ pub enum WorldFault {
 }
 
 impl fmt::Display for WorldFault {
+    ghost output = { λ e. Some (fault_text e) };
+
     fn fmt<W: fmt::Write>(&self, f: &mut fmt::Formatter<W>) -> fmt::Result {
         match self {
             WorldFault::Line(error) => write!(f, "{error}"),
