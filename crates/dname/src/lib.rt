@@ -37,5 +37,6 @@ pub use name::Name;
 pub use suffix::Suffix;
 pub use text::{
     NameError, escape, first_fault_counts, put_name, text_is_read_back, text_writes_name,
+    write_number,
 };
 pub use walk::next_label;

@@ -152,8 +152,8 @@ fn write_byte<W: fmt::Write>(f: &mut fmt::Formatter<W>, byte: u8) -> fmt::Result
     }
 }
 
-// A byte as three decimal digits behind a backslash.
-fn write_number<W: fmt::Write>(f: &mut fmt::Formatter<W>, byte: u8) -> fmt::Result
+/// Writes a byte as three decimal digits behind a backslash (RFC 1035, section 5.1).
+pub fn write_number<W: fmt::Write>(f: &mut fmt::Formatter<W>, byte: u8) -> fmt::Result
     ensures { WritesOnOk W.write_str_gives f.old result (number_text byte) f.new }
 {
     f.write_char('\\')?;

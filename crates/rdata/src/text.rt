@@ -3,14 +3,13 @@ ghost use Rattle.std.specs.Prelude.{◌≡◌, ◌++◌, Some, OnOk, string_byte
 ghost use Rattle.std.specs.Fmt.{WritesOnOk};
 ghost use Rattle.rdata.specs.Kept.{datum};
 ghost use Rattle.rdata.specs.Text.{record_text, data_text, soa_text, spaced_string, ipv4_text, ipv6_text, group_text, next_group_text, glyph, quoted};
-ghost use Rattle.dname.specs.Text.{number_text};
 
 use crate::addr::Addr;
 use crate::data::RData;
 use crate::records::Record;
 use crate::soa::Soa;
 use crate::texts::{CharacterString, Texts};
-use dname::Starved;
+use dname::{Starved, write_number};
 use std::alloc::Allocator;
 use std::fmt;
 
@@ -109,16 +108,6 @@ fn write_byte<W: fmt::Write>(f: &mut fmt::Formatter<W>, byte: u8) -> fmt::Result
     } else {
         write_number(f, byte)
     }
-}
-
-// A byte as three decimal digits behind a backslash.
-fn write_number<W: fmt::Write>(f: &mut fmt::Formatter<W>, byte: u8) -> fmt::Result
-    ensures { WritesOnOk W.write_str_gives f.old result (number_text byte) f.new }
-{
-    f.write_char('\\')?;
-    f.write_char(char::from(b'0' + byte / 100))?;
-    f.write_char(char::from(b'0' + byte / 10 % 10))?;
-    f.write_char(char::from(b'0' + byte % 10))
 }
 
 // Two bytes as a group of an IPv6 address: hexadecimal digits in lower case, without zeros in front.
