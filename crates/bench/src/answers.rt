@@ -8,6 +8,7 @@ use engine::Core;
 use exchange::{Action, Actions, Bytes, Endpoint, Event};
 use rdata::Records;
 use refusing::Refusing;
+use std::fmt;
 use std::rt::Runtime;
 use std::time::Instant;
 use zone::Zone;
@@ -19,6 +20,23 @@ pub enum Known {
     Zone,
     /// The cache: so many addresses.
     Cache(u8),
+}
+
+/// The answers that are measured.
+pub const EACH: [Known; 4] = [
+    Known::Zone,
+    Known::Cache(1),
+    Known::Cache(3),
+    Known::Cache(20),
+];
+
+impl fmt::Display for Known {
+    fn fmt<W: fmt::Write>(&self, f: &mut fmt::Formatter<W>) -> fmt::Result {
+        match self {
+            Known::Zone => f.write_str("answer of a local zone"),
+            Known::Cache(count) => write!(f, "cached answer of {count}"),
+        }
+    }
 }
 
 const ZONE: &str = "$TTL 300\n@ SOA ns h 1 2 3 4 60\n@ NS ns\nwww A 192.0.2.9\n";

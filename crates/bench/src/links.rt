@@ -6,7 +6,7 @@ use authority::Link;
 use cache::Cache;
 use dname::{Name, Starved};
 use lru::DefaultHasher;
-use rdata::{Addr, RData, RType, Record, RecordSet, Records, set_at};
+use rdata::{Addr, RData, RType, Record, RecordSet, Records, Soa, set_at};
 use std::alloc::Global;
 use std::hash::BuildHasherDefault;
 use std::num::NonZeroUsize;
@@ -20,7 +20,7 @@ fn room() -> Result<NonZeroUsize, Starved> {
 
 fn host(alloc: Global, number: u64) -> Result<Name, Starved> {
     let text = format!(in alloc; "www{number}.sub.example.com.")?;
-    Name::from_text(alloc, text.as_str()).map_err(|_| Starved)
+    name(alloc, text.as_str())
 }
 
 fn hosts(alloc: Global, count: u64) -> Result<Vec<Name>, Starved> {
@@ -31,7 +31,16 @@ fn hosts(alloc: Global, count: u64) -> Result<Vec<Name>, Starved> {
     Ok(names)
 }
 
-fn link_of(alloc: Global, owner: &Name) -> Result<Link, Starved> {
+/// What a link says of its name.
+#[derive(Clone, Copy)]
+pub enum Says {
+    /// It has one address.
+    Address,
+    /// It is not there.
+    NxDomain,
+}
+
+fn address(alloc: Global, owner: &Name) -> Result<Link, Starved> {
     let only = Record {
         owner: owner.clone()?,
         ttl: 300,
@@ -40,10 +49,34 @@ fn link_of(alloc: Global, owner: &Name) -> Result<Link, Starved> {
     Ok(Link::Found(RecordSet::alone(alloc, only)?))
 }
 
-fn links(alloc: Global, names: &[Name]) -> Result<Vec<Link>, Starved> {
+fn name(alloc: Global, text: &str) -> Result<Name, Starved> {
+    Name::from_text(alloc, text).map_err(|_| Starved)
+}
+
+fn denial(alloc: Global) -> Result<Link, Starved> {
+    let soa = Soa {
+        primary: name(alloc, "ns.example.com.")?,
+        mailbox: name(alloc, "hostmaster.example.com.")?,
+        serial: 1,
+        refresh: 7_200,
+        retry: 3_600,
+        expire: 1_209_600,
+        minimum: 300,
+    };
+    Ok(Link::NxDomain(Record {
+        owner: name(alloc, "example.com.")?,
+        ttl: 300,
+        value: RData::Soa(Box::new(alloc, soa)?),
+    }))
+}
+
+fn links(alloc: Global, says: Says, names: &[Name]) -> Result<Vec<Link>, Starved> {
     let mut links = Vec::new(alloc);
     for name in names {
-        links.push(link_of(alloc, name)?)?;
+        links.push(match says {
+            Says::Address => address(alloc, name)?,
+            Says::NxDomain => denial(alloc)?,
+        })?;
     }
     Ok(links)
 }
@@ -67,10 +100,11 @@ fn find_all(cache: &mut Cache<DefaultHasher>, names: &[Name]) -> Result<u64, Sta
     Ok(sum)
 }
 
-pub fn keep<R: Runtime + AllocGlobal>(rt: &R, rounds: u64) -> Result<Done> {
+/// Links of so many names, kept.
+pub fn keep<R: Runtime + AllocGlobal>(rt: &R, says: Says, rounds: u64) -> Result<Done> {
     let alloc = rt.alloc();
     let names = hosts(alloc, rounds)?;
-    let links = links(alloc, &names)?;
+    let links = links(alloc, says, &names)?;
     let before = resident(rt);
     let mut cache = Cache::new(alloc, room()?, BuildHasherDefault::new())?;
     let start = Instant::now(rt)?;
@@ -83,10 +117,11 @@ pub fn keep<R: Runtime + AllocGlobal>(rt: &R, rounds: u64) -> Result<Done> {
     })
 }
 
+/// Links of so many names, found.
 pub fn find<R: Runtime + AllocGlobal>(rt: &R, rounds: u64) -> Result<Done> {
     let alloc = rt.alloc();
     let names = hosts(alloc, rounds)?;
-    let links = links(alloc, &names)?;
+    let links = links(alloc, Says::Address, &names)?;
     let mut cache = Cache::new(alloc, room()?, BuildHasherDefault::new())?;
     fill(&mut cache, &names, &links)?;
     let start = Instant::now(rt)?;

@@ -23,7 +23,7 @@ mod sums;
 mod work;
 mod zones;
 
-use crate::work::{ALL, COUNTED, Counted, ON_STEPS, Work};
+use crate::work::{ALL, Counted, ON_STEPS, Work};
 use anyhow::{Result, ensure};
 use std::env;
 use std::io::Write;
@@ -41,8 +41,14 @@ fn main(rt: HostRuntime) -> Result<()> {
             sample(&rt, work)?;
         }
     }
-    for work in COUNTED {
+    for work in messages::EACH {
         println!(rt; "{work}: {} growths of memory", work.growths(&rt)?)?;
+    }
+    for known in answers::EACH {
+        println!(rt;
+            "{known}: {} growths of memory",
+            answers::growths(&rt, known)?
+        )?;
     }
     if measures {
         for [one, many] in ON_STEPS {

@@ -1,8 +1,72 @@
 //! Replies of one and of twenty addresses, decoded and encoded.
+ghost use Rattle.std.specs.Prelude.{◌<◌};
+
 use crate::sums::low;
 use dname::{Heap, Name};
 use rdata::{Addr, RData, Record};
+use refusing::Refusing;
+use std::fmt;
+use std::rt::Runtime;
 use wire::{Message, TCP_LIMIT, WireError, decode, encode};
+
+/// A kind of work on messages.
+#[derive(Clone, Copy)]
+pub enum OnMessages {
+    DecodeReply,
+    EncodeReply,
+    DecodeTwenty,
+    EncodeTwenty,
+}
+
+/// All of it.
+pub const EACH: [OnMessages; 4] = [
+    OnMessages::DecodeReply,
+    OnMessages::EncodeReply,
+    OnMessages::DecodeTwenty,
+    OnMessages::EncodeTwenty,
+];
+
+impl fmt::Display for OnMessages {
+    fn fmt<W: fmt::Write>(&self, f: &mut fmt::Formatter<W>) -> fmt::Result {
+        f.write_str(match self {
+            OnMessages::DecodeReply => "reply of 45 bytes decoded",
+            OnMessages::EncodeReply => "reply of 45 bytes encoded",
+            OnMessages::DecodeTwenty => "reply of 20 addresses decoded",
+            OnMessages::EncodeTwenty => "reply of 20 addresses encoded",
+        })
+    }
+}
+
+impl OnMessages {
+    /// How often it is done to be measured.
+    pub fn rounds(self) -> u64
+        ensures { 0 < result }
+    {
+        match self {
+            OnMessages::DecodeReply | OnMessages::EncodeReply => 1_000_000,
+            OnMessages::DecodeTwenty | OnMessages::EncodeTwenty => 100_000,
+        }
+    }
+
+    /// Does it so often.
+    pub fn times<A: Heap>(self, alloc: A, rounds: u64) -> Result<u64, WireError> {
+        match self {
+            OnMessages::DecodeReply => decode_reply(alloc, rounds),
+            OnMessages::EncodeReply => encode_reply(alloc, rounds),
+            OnMessages::DecodeTwenty => decode_twenty(alloc, rounds),
+            OnMessages::EncodeTwenty => encode_twenty(alloc, rounds),
+        }
+    }
+
+    /// How often memory is asked for when it is done once.
+    pub fn growths<R: Runtime + AllocGlobal>(self, rt: &R) -> Result<u64, WireError> {
+        let before = Refusing::new(rt.alloc());
+        self.times(&before, 0)?;
+        let once = Refusing::new(rt.alloc());
+        self.times(&once, 1)?;
+        Ok(once.growths().saturating_sub(before.growths()))
+    }
+}
 
 // The address of www.example., as a local zone gives it.
 const REPLY: &[u8] =
@@ -40,19 +104,19 @@ fn twenty<A: Heap>(alloc: A) -> Result<Message<A>, WireError> {
     Ok(reply)
 }
 
-pub fn decode_reply<A: Heap>(alloc: A, rounds: u64) -> Result<u64, WireError> {
+fn decode_reply<A: Heap>(alloc: A, rounds: u64) -> Result<u64, WireError> {
     decoded(alloc, REPLY, rounds)
 }
 
-pub fn encode_reply<A: Heap>(alloc: A, rounds: u64) -> Result<u64, WireError> {
+fn encode_reply<A: Heap>(alloc: A, rounds: u64) -> Result<u64, WireError> {
     encoded(alloc, &decode(alloc, REPLY)?, rounds)
 }
 
-pub fn decode_twenty<A: Heap>(alloc: A, rounds: u64) -> Result<u64, WireError> {
+fn decode_twenty<A: Heap>(alloc: A, rounds: u64) -> Result<u64, WireError> {
     let bytes = encode(alloc, &twenty(alloc)?, TCP_LIMIT)?;
     decoded(alloc, &bytes, rounds)
 }
 
-pub fn encode_twenty<A: Heap>(alloc: A, rounds: u64) -> Result<u64, WireError> {
+fn encode_twenty<A: Heap>(alloc: A, rounds: u64) -> Result<u64, WireError> {
     encoded(alloc, &twenty(alloc)?, rounds)
 }

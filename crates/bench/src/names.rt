@@ -1,14 +1,66 @@
 //! Work on names and records.
+ghost use Rattle.std.specs.Prelude.{◌<◌};
+
 use crate::sums::low;
 use dname::{Name, NameError};
 use rdata::{Addr, RData, RType, Record, Records, set_at};
 use std::alloc::Global;
 use std::cmp::Ordering;
+use std::fmt;
 use std::hash::{BuildHasher, BuildHasherDefault, FoldHasher};
+
+/// A kind of work on names or on records with one.
+#[derive(Clone, Copy)]
+pub enum OnNames {
+    Read,
+    Write,
+    Hash,
+    Compare,
+    TestUnder,
+    MakeSet,
+}
+
+impl fmt::Display for OnNames {
+    fn fmt<W: fmt::Write>(&self, f: &mut fmt::Formatter<W>) -> fmt::Result {
+        f.write_str(match self {
+            OnNames::Read => "name from text",
+            OnNames::Write => "name to text",
+            OnNames::Hash => "name hashed",
+            OnNames::Compare => "names compared",
+            OnNames::TestUnder => "name at or under another",
+            OnNames::MakeSet => "100 records made a set",
+        })
+    }
+}
+
+impl OnNames {
+    /// How often it is done to be measured.
+    pub fn rounds(self) -> u64
+        ensures { 0 < result }
+    {
+        match self {
+            OnNames::Read | OnNames::Write => 2_000_000,
+            OnNames::Hash | OnNames::Compare | OnNames::TestUnder => 10_000_000,
+            OnNames::MakeSet => 10_000,
+        }
+    }
+
+    /// Does it so often.
+    pub fn times(self, alloc: Global, rounds: u64) -> Result<u64, NameError> {
+        match self {
+            OnNames::Read => read(alloc, rounds),
+            OnNames::Write => write(alloc, rounds),
+            OnNames::Hash => hash(alloc, rounds),
+            OnNames::Compare => compare(alloc, rounds),
+            OnNames::TestUnder => test_under(alloc, rounds),
+            OnNames::MakeSet => make_set(alloc, rounds),
+        }
+    }
+}
 
 const TEXT: &str = "www77.sub.example.com.";
 
-pub fn read(alloc: Global, rounds: u64) -> Result<u64, NameError> {
+fn read(alloc: Global, rounds: u64) -> Result<u64, NameError> {
     let mut sum = 0u64;
     for _ in 0..rounds {
         sum = sum.wrapping_add(low(Name::from_text(alloc, TEXT)?.size()));
@@ -16,7 +68,7 @@ pub fn read(alloc: Global, rounds: u64) -> Result<u64, NameError> {
     Ok(sum)
 }
 
-pub fn write(alloc: Global, rounds: u64) -> Result<u64, NameError> {
+fn write(alloc: Global, rounds: u64) -> Result<u64, NameError> {
     let name = Name::from_text(alloc, TEXT)?;
     let mut sum = 0u64;
     for _ in 0..rounds {
@@ -25,7 +77,7 @@ pub fn write(alloc: Global, rounds: u64) -> Result<u64, NameError> {
     Ok(sum)
 }
 
-pub fn hash(alloc: Global, rounds: u64) -> Result<u64, NameError> {
+fn hash(alloc: Global, rounds: u64) -> Result<u64, NameError> {
     let name = Name::from_text(alloc, TEXT)?;
     let hasher = BuildHasherDefault::<FoldHasher>::default();
     let mut sum = 0u64;
@@ -35,7 +87,7 @@ pub fn hash(alloc: Global, rounds: u64) -> Result<u64, NameError> {
     Ok(sum)
 }
 
-pub fn compare(alloc: Global, rounds: u64) -> Result<u64, NameError> {
+fn compare(alloc: Global, rounds: u64) -> Result<u64, NameError> {
     let name = Name::from_text(alloc, TEXT)?;
     let others = [
         Name::from_text(alloc, "www78.sub.example.com.")?,
@@ -50,7 +102,7 @@ pub fn compare(alloc: Global, rounds: u64) -> Result<u64, NameError> {
     Ok(less)
 }
 
-pub fn test_under(alloc: Global, rounds: u64) -> Result<u64, NameError> {
+fn test_under(alloc: Global, rounds: u64) -> Result<u64, NameError> {
     let name = Name::from_text(alloc, TEXT)?;
     let others = [
         Name::from_text(alloc, "example.com.")?,
@@ -78,7 +130,7 @@ fn addresses(alloc: Global) -> Result<Records, NameError> {
     Ok(records)
 }
 
-pub fn make_set(alloc: Global, rounds: u64) -> Result<u64, NameError> {
+fn make_set(alloc: Global, rounds: u64) -> Result<u64, NameError> {
     let records = addresses(alloc)?;
     let owner = Name::from_text(alloc, TEXT)?;
     let mut sum = 0u64;
