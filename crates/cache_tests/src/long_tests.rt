@@ -1,6 +1,7 @@
 use authority::Link;
-use cache::Cache;
-use dname::{Heap, Name, Starved};
+use cache::{Cache, Hit};
+use dname::{Heap, Starved};
+use fixtures::name;
 use lru::DefaultHasher;
 use masterfile::put_record;
 use rdata::{RType, Record, RecordSet, Records, set_at};
@@ -22,23 +23,36 @@ fn long_reply<A: Heap>(alloc: A) -> Result<Vec<u8, A>, Starved> {
     Ok(bytes)
 }
 
+// Both records are the same, so that one is left of them.
 fn set_of<A: Heap>(alloc: A, bytes: &[u8]) -> Result<RecordSet<A>, Starved> {
     let message = decode(alloc, bytes).map_err(|_| Starved)?;
-    let owner = Name::from_text(alloc, "x").map_err(|_| Starved)?;
-    let set = set_at(alloc, message.answer.as_slice(), &owner, RType::Txt)?;
-    set.ok_or(Starved)
+    let owner = name(alloc, "x")?;
+    set_at(alloc, message.answer.as_slice(), &owner, RType::Txt)?.ok_or(Starved)
 }
 
-// The set as a cache gives it back.
-fn cached<A: Heap>(alloc: A, set: RecordSet<A>) -> Result<Records<A>, Starved> {
+fn empty<A: Heap>(alloc: A) -> Result<Cache<DefaultHasher, A>, Starved> {
     let room = NonZeroUsize::new(1).ok_or(Starved)?;
-    let owner = Name::from_text(alloc, "x").map_err(|_| Starved)?;
-    let hasher: DefaultHasher = BuildHasherDefault::new();
-    let mut cache = Cache::new(alloc, room, hasher)?;
-    cache.keep(&owner, RType::Txt, &Link::Found(set), 300, 0)?;
-    let hit = cache.look(&owner, RType::Txt, 1_000)?.ok_or(Starved)?;
-    match hit.link {
-        Link::Found(kept) => kept.to_records(alloc),
+    Cache::new(alloc, room, BuildHasherDefault::new())
+}
+
+// The link as a cache gives it back.
+fn cached<A: Heap>(alloc: A, link: &Link<A>) -> Result<Option<Hit<A>>, Starved> {
+    let owner = name(alloc, "x")?;
+    let mut cache = empty(alloc)?;
+    cache.keep(&owner, RType::Txt, link, 300, 0)?;
+    cache.look(&owner, RType::Txt, 1_000)
+}
+
+fn records_of<A: Heap>(alloc: A, hit: Option<Hit<A>>) -> Result<Records<A>, Starved> {
+    match hit {
+        Some(hit) => Ok(records_in(alloc, &hit.link)?),
+        None => Err(Starved),
+    }
+}
+
+fn records_in<A: Heap>(alloc: A, link: &Link<A>) -> Result<Records<A>, Starved> {
+    match link {
+        Link::Found(kept) => Ok(kept.to_records(alloc)?),
         _ => Err(Starved),
     }
 }
@@ -51,16 +65,31 @@ fn printed<A: Heap>(alloc: A, records: &[Record<A>]) -> Result<String<A>, Starve
     Ok(out)
 }
 
+fn long_link<A: Heap>(alloc: A) -> Result<Link<A>, Starved> {
+    let bytes = long_reply(alloc)?;
+    Ok(Link::Found(set_of(alloc, &bytes)?))
+}
+
+fn long_hit<A: Heap>(alloc: A) -> Result<Option<Hit<A>>, Starved> {
+    let link = long_link(alloc)?;
+    cached(alloc, &link)
+}
+
+fn kept_records<A: Heap>(alloc: A) -> Result<Records<A>, Starved> {
+    let hit = long_hit(alloc)?;
+    records_of(alloc, hit)
+}
+
+// How many records come back, and how many bytes they are in a master file.
+fn sizes<A: Heap>(alloc: A) -> Result<(usize, usize), Starved> {
+    let kept = kept_records(alloc)?;
+    let text = printed(alloc, kept.as_slice())?;
+    Ok((kept.len(), text.len()))
+}
+
 // None of these calls takes stack for each string.
 #[test]
 fn texts_of_32_000_strings_go_through(rt: HostRuntime) -> Result<(), Fail> {
-    let bytes = long_reply(rt.alloc())?;
-    let set = set_of(rt.alloc(), &bytes)?;
-    let kept = cached(rt.alloc(), set)?;
-    assert_eq!(rt; kept.len(), 1);
-    assert_eq!(rt;
-        printed(rt.alloc(), kept.as_slice())?.len(),
-        13 + 32_000 * 3
-    );
+    assert_eq!(rt; sizes(rt.alloc())?, (1, 13 + 32_000 * 3));
     Ok(())
 }

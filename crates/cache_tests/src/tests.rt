@@ -2,136 +2,63 @@ ghost use Rattle.std.specs.Prelude.{◌≤◌};
 ghost use Rattle.rdata.specs.Records.{greatest_ttl};
 
 use authority::Link;
-use cache::Cache;
+use cache::{Cache, Hit};
 use dname::{Heap, Name, Starved};
+use fixtures::{Row, Value, name, record, records};
 use lru::DefaultHasher;
-use rdata::{Addr, RData, RType, Record, RecordSet, Records, Soa, set_at};
+use rdata::{GREATEST_TTL, RType, Record, RecordSet, Records, set_at};
 use refusing::Refusing;
+use std::alloc::Allocator;
 use std::hash::BuildHasherDefault;
 use std::num::NonZeroUsize;
 use std::test::Fail;
 
-fn hasher() -> DefaultHasher {
-    BuildHasherDefault::new()
-}
-
-fn room(links: usize) -> Result<NonZeroUsize, Starved> {
-    NonZeroUsize::new(links).ok_or(Starved)
-}
-
-fn name<A: Heap>(alloc: A, text: &str) -> Result<Name<A>, Starved> {
-    match Name::from_text(alloc, text) {
-        Ok(name) => Ok(name),
-        Err(_) => Err(Starved),
-    }
-}
-
-// The links that the tests keep.
+// The links that the tests keep, of the name under which they are kept but for that of another.
 #[derive(Clone, Copy)]
 enum Shape {
-    Address,
+    Set(Value<'static>),
+    SetOfAnother(Row<'static>),
     TwoAddresses,
-    AddressOfAnother,
-    Target,
-    Alias,
+    Alias(&'static str),
     NoData,
     NameError,
 }
 
-fn set<A: Heap>(alloc: A, owner: &Name<A>, value: RData<A>) -> Result<Link<A>, Starved> {
-    let only = Record {
-        owner: owner.clone()?,
-        ttl: 300,
-        value,
-    };
+fn alone<A: Heap>(alloc: A, row: Row<'_>) -> Result<Link<A>, Starved> {
+    let only = record(alloc, row)?;
     Ok(Link::Found(RecordSet::alone(alloc, only)?))
 }
 
-fn two_addresses<A: Heap>(alloc: A, owner: &Name<A>) -> Result<Link<A>, Starved> {
-    let mut records = Records::new(alloc);
-    for last in 1..3u8 {
-        records.push(Record {
-            owner: owner.clone()?,
-            ttl: 300,
-            value: RData::A(Addr([192, 0, 2, last])),
-        })?;
-    }
-    let set = set_at(alloc, records.as_slice(), owner, RType::A)?;
-    Ok(Link::Found(set.ok_or(Starved)?))
+fn two_addresses<A: Heap>(alloc: A, owner: &str) -> Result<RecordSet<A>, Starved> {
+    let rows = [(owner, 300, Value::A(1)), (owner, 300, Value::A(2))];
+    let records = records(alloc, &rows)?;
+    let owner = name(alloc, owner)?;
+    set_at(alloc, records.as_slice(), &owner, RType::A)?.ok_or(Starved)
 }
 
-fn soa<A: Heap>(owner: &Name<A>) -> Result<Record<A>, Starved> {
-    let soa = Soa {
-        primary: owner.clone()?,
-        mailbox: owner.clone()?,
-        serial: 1,
-        refresh: 7200,
-        retry: 600,
-        expire: 3_600_000,
-        minimum: 60,
-    };
-    Ok(Record {
-        owner: owner.clone()?,
-        ttl: 60,
-        value: RData::Soa(Box::new(owner.allocator(), soa)?),
-    })
-}
-
-fn link<A: Heap>(alloc: A, owner: &Name<A>, shape: Shape) -> Result<Link<A>, Starved> {
+fn link<A: Heap>(alloc: A, owner: &str, shape: Shape) -> Result<Link<A>, Starved> {
+    let soa = (owner, 60, Value::Soa(60));
     match shape {
-        Shape::Address => Ok(set(alloc, owner, RData::A(Addr([192, 0, 2, 1])))?),
-        Shape::TwoAddresses => Ok(two_addresses(alloc, owner)?),
-        Shape::AddressOfAnother => {
-            let another = name(alloc, "another")?;
-            Ok(set(alloc, &another, RData::A(Addr([192, 0, 2, 1])))?)
-        }
-        Shape::Target => Ok(set(alloc, owner, RData::Cname(owner.clone()?))?),
-        Shape::Alias => Ok(Link::Alias(Record {
-            owner: owner.clone()?,
-            ttl: 300,
-            value: RData::Cname(owner.clone()?),
-        })),
-        Shape::NoData => Ok(Link::NoData(soa(owner)?)),
-        Shape::NameError => Ok(Link::NxDomain(soa(owner)?)),
+        Shape::Set(value) => Ok(alone(alloc, (owner, 300, value))?),
+        Shape::SetOfAnother(row) => Ok(alone(alloc, row)?),
+        Shape::TwoAddresses => Ok(Link::Found(two_addresses(alloc, owner)?)),
+        Shape::Alias(to) => Ok(Link::Alias(record(alloc, (owner, 300, Value::Cname(to)))?)),
+        Shape::NoData => Ok(Link::NoData(record(alloc, soa)?)),
+        Shape::NameError => Ok(Link::NxDomain(record(alloc, soa)?)),
     }
 }
 
-// A cache and the allocator that it stands on.
-#[derive(Drop)]
-struct Kept<A: Heap> {
-    alloc: A,
-    cache: Cache<DefaultHasher, A>,
-}
-
-impl<A: Heap> Kept<A> {
-    fn keep(
-        &mut self,
-        text: &str,
-        kind: RType,
-        shape: Shape,
-        ttl: u32,
-        now: u64,
-    ) -> Result<(), Starved>
-        requires { ttl ≤ greatest_ttl }
-    {
-        let owner = name(self.alloc, text)?;
-        let link = link(self.alloc, &owner, shape)?;
-        self.cache.keep(&owner, kind, &link, ttl, now)
-    }
-
-    // What kind of link a look-up gives, its time to live and the moment since which it is kept.
-    fn seen(
-        &mut self,
-        text: &str,
-        kind: RType,
-        now: u64,
-    ) -> Result<Option<(&'static str, u32, u64)>, Starved> {
-        let owner = name(self.alloc, text)?;
-        match self.cache.look(&owner, kind, now)? {
-            Some(hit) => Ok(Some((word(&hit.link), hit.ttl, hit.since))),
-            None => Ok(None),
-        }
-    }
+// What a cache is told and asked, and what it has to say. Moments are milliseconds, times to live seconds.
+#[derive(Clone, Copy)]
+enum Step {
+    // A link is kept for a name and a type, for so long from a moment on.
+    Keep(&'static str, RType, Shape, u32, u64),
+    // A look-up at a moment gives this kind of link, with its time to live and the moment since which it is kept.
+    Sees(&'static str, RType, u64, (&'static str, u32, u64)),
+    // A look-up at a moment gives nothing.
+    Misses(&'static str, RType, u64),
+    // Two addresses that are found at one moment and sent at another have this TTL.
+    Sends(&'static str, u64, u64, u32),
 }
 
 fn word<A: Heap>(link: &Link<A>) -> &'static str {
@@ -144,191 +71,327 @@ fn word<A: Heap>(link: &Link<A>) -> &'static str {
     }
 }
 
-#[test]
-fn the_least_used_link_goes(rt: HostRuntime) -> Result<(), Fail> {
-    let cache = Cache::new(rt.alloc(), room(2)?, hasher())?;
-    let mut kept = Kept {
-        alloc: rt.alloc(),
-        cache,
-    };
-    kept.keep("a", RType::A, Shape::Address, 10, 0)?;
-    kept.keep("b", RType::A, Shape::Address, 10, 0)?;
-    assert!(rt; kept.seen("a", RType::A, 5_000)? == Some(("set of one", 10, 0)));
-    kept.keep("c", RType::A, Shape::Address, 10, 5_000)?;
-    assert!(rt; kept.seen("b", RType::A, 5_000)?.is_none());
-    assert!(rt; kept.seen("a", RType::A, 9_999)? == Some(("set of one", 10, 0)));
-    assert!(rt; kept.seen("a", RType::A, 10_000)?.is_none());
-    Ok(())
+fn said<A: Heap>(hit: &Hit<A>) -> (&'static str, u32, u64) {
+    (word(&hit.link), hit.ttl, hit.since)
 }
 
-#[test]
-fn a_link_removes_the_names_error(rt: HostRuntime) -> Result<(), Fail> {
-    let cache = Cache::new(rt.alloc(), room(9)?, hasher())?;
-    let mut kept = Kept {
-        alloc: rt.alloc(),
-        cache,
-    };
-    kept.keep("a", RType::A, Shape::NameError, 60, 0)?;
-    assert!(rt; kept.seen("a", RType::Txt, 0)? == Some(("name error", 60, 0)));
-    kept.keep("a", RType::A, Shape::Address, 10, 0)?;
-    assert!(rt; kept.seen("a", RType::A, 0)? == Some(("set of one", 10, 0)));
-    assert!(rt; kept.seen("a", RType::Txt, 0)?.is_none());
-    kept.keep("a", RType::A, Shape::NameError, 60, 0)?;
-    kept.keep("a", RType::A, Shape::Address, 0, 0)?;
-    assert!(rt; kept.seen("a", RType::A, 0)?.is_none());
-    Ok(())
-}
-
-#[test]
-fn an_alias_answers_every_type(rt: HostRuntime) -> Result<(), Fail> {
-    let cache = Cache::new(rt.alloc(), room(9)?, hasher())?;
-    let mut kept = Kept {
-        alloc: rt.alloc(),
-        cache,
-    };
-    kept.keep("a", RType::A, Shape::Alias, 10, 0)?;
-    assert!(rt; kept.seen("a", RType::A, 0)? == Some(("alias", 10, 0)));
-    assert!(rt; kept.seen("a", RType::Mx, 0)? == Some(("alias", 10, 0)));
-    assert!(rt; kept.seen("a", RType::Cname, 0)? == Some(("set of one", 10, 0)));
-    kept.keep("b", RType::Cname, Shape::Target, 10, 0)?;
-    assert!(rt; kept.seen("b", RType::A, 0)? == Some(("alias", 10, 0)));
-    assert!(rt; kept.seen("b", RType::Cname, 0)? == Some(("set of one", 10, 0)));
-    Ok(())
-}
-
-#[test]
-fn the_want_of_an_alias_is_none(rt: HostRuntime) -> Result<(), Fail> {
-    let cache = Cache::new(rt.alloc(), room(9)?, hasher())?;
-    let mut kept = Kept {
-        alloc: rt.alloc(),
-        cache,
-    };
-    kept.keep("a", RType::Cname, Shape::NoData, 10, 0)?;
-    assert!(rt; kept.seen("a", RType::A, 0)?.is_none());
-    assert!(rt; kept.seen("a", RType::Cname, 0)? == Some(("no data", 10, 0)));
-    Ok(())
-}
-
-#[test]
-fn a_clock_that_goes_back_gives_age_zero(rt: HostRuntime) -> Result<(), Fail> {
-    let cache = Cache::new(rt.alloc(), room(9)?, hasher())?;
-    let mut kept = Kept {
-        alloc: rt.alloc(),
-        cache,
-    };
-    kept.keep("a", RType::A, Shape::Address, 10, 50_000)?;
-    assert!(rt; kept.seen("a", RType::A, 0)? == Some(("set of one", 10, 50_000)));
-    assert!(rt; kept.seen("a", RType::A, 59_999)? == Some(("set of one", 10, 50_000)));
-    assert!(rt; kept.seen("a", RType::A, 60_000)?.is_none());
-    Ok(())
-}
-
-// The TTLs of two addresses that are found at one moment and sent at another.
-fn sent_ttls(
-    cache: &mut Cache<DefaultHasher>,
-    owner: &Name,
-    found: u64,
-    sent: u64,
-) -> Result<Option<(u32, u32)>, Starved> {
-    let Some(hit) = cache.look(owner, RType::A, found)? else {
-        return Ok(None);
-    };
-    match hit.into_link(sent) {
-        Link::Found(set) => match set.to_records(owner.allocator())?.as_slice() {
-            [first, second] => Ok(Some((first.ttl, second.ttl))),
-            _ => Ok(None),
-        },
-        _ => Ok(None),
+// The records of a set; none of any other link.
+fn records_of<A: Heap>(alloc: A, link: Link<A>) -> Result<Records<A>, Starved> {
+    match link {
+        Link::Found(set) => Ok(set.to_records(alloc)?),
+        _ => Ok(Records::new(alloc)),
     }
 }
 
-#[test]
-fn ttls_count_down_by_whole_seconds(rt: HostRuntime) -> Result<(), Fail> {
-    let owner = name(rt.alloc(), "a")?;
-    let mut cache = Cache::new(rt.alloc(), room(2)?, hasher())?;
-    cache.keep(
-        &owner,
-        RType::A,
-        &two_addresses(rt.alloc(), &owner)?,
-        60,
-        1_000,
-    )?;
-    for (now, left) in [(0, 60), (1_999, 60), (2_000, 59), (60_999, 1)] {
-        assert!(rt;
-            sent_ttls(&mut cache, &owner, now, now)? == Some((left, left)),
-            "at {now}"
-        );
+fn have_ttl<A: Heap>(two: &[Record<A>], ttl: u32) -> bool {
+    match two {
+        [first, second] => first.ttl == ttl && second.ttl == ttl,
+        _ => false,
     }
-    assert!(rt; sent_ttls(&mut cache, &owner, 1_000, 90_000)? == Some((0, 0)));
+}
+
+// A cache and the allocator that it stands on.
+#[derive(Drop)]
+struct Kept<A: Heap> {
+    alloc: A,
+    cache: Cache<DefaultHasher, A>,
+}
+
+fn empty<A: Heap>(alloc: A, room: usize) -> Result<Kept<A>, Starved> {
+    let room = NonZeroUsize::new(room).ok_or(Starved)?;
+    let cache = Cache::new(alloc, room, BuildHasherDefault::new())?;
+    Ok(Kept { alloc, cache })
+}
+
+impl<A: Heap> Kept<A> {
+    fn keep(
+        &mut self,
+        text: &str,
+        kind: RType,
+        shape: Shape,
+        ttl: u32,
+        now: u64,
+    ) -> Result<(), Starved> {
+        let owner = name(self.alloc, text)?;
+        let link = link(self.alloc, text, shape)?;
+        self.keep_link(&owner, kind, &link, ttl.min(GREATEST_TTL), now)
+    }
+
+    fn keep_link(
+        &mut self,
+        owner: &Name<A>,
+        kind: RType,
+        link: &Link<A>,
+        ttl: u32,
+        now: u64,
+    ) -> Result<(), Starved>
+        requires { ttl ≤ greatest_ttl }
+    {
+        self.cache.keep(owner, kind, link, ttl, now)
+    }
+
+    fn look(&mut self, text: &str, kind: RType, now: u64) -> Result<Option<Hit<A>>, Starved> {
+        let owner = name(self.alloc, text)?;
+        self.cache.look(&owner, kind, now)
+    }
+
+    fn seen(
+        &mut self,
+        text: &str,
+        kind: RType,
+        now: u64,
+    ) -> Result<Option<(&'static str, u32, u64)>, Starved> {
+        match self.look(text, kind, now)? {
+            Some(hit) => Ok(Some(said(&hit))),
+            None => Ok(None),
+        }
+    }
+
+    fn sent(&mut self, text: &str, found: u64, sent: u64) -> Result<Records<A>, Starved> {
+        match self.look(text, RType::A, found)? {
+            Some(hit) => Ok(records_of(self.alloc, hit.into_link(sent))?),
+            None => Ok(Records::new(self.alloc)),
+        }
+    }
+
+    fn goes(&mut self, step: Step) -> Result<bool, Starved> {
+        match step {
+            Step::Keep(owner, kind, shape, ttl, now) => {
+                self.keep(owner, kind, shape, ttl, now)?;
+                Ok(true)
+            }
+            Step::Sees(owner, kind, now, what) => Ok(self.seen(owner, kind, now)? == Some(what)),
+            Step::Misses(owner, kind, now) => Ok(self.seen(owner, kind, now)?.is_none()),
+            Step::Sends(owner, found, sent, ttl) => {
+                let records = self.sent(owner, found, sent)?;
+                Ok(have_ttl(records.as_slice(), ttl))
+            }
+        }
+    }
+
+    // The place of the first step of which something else comes.
+    fn first_wrong(&mut self, steps: &[Step]) -> Result<Option<usize>, Starved> {
+        for (place, step) in steps.iter().enumerate() {
+            if !self.goes(*step)? {
+                return Ok(Some(place));
+            }
+        }
+        Ok(None)
+    }
+}
+
+// How many links there is room for, and what the cache is told and asked.
+type Case = (usize, &'static [Step]);
+
+fn first_wrong_step<A: Heap>(alloc: A, case: Case) -> Result<Option<usize>, Starved> {
+    let (room, steps) = case;
+    let mut kept = empty(alloc, room)?;
+    kept.first_wrong(steps)
+}
+
+// The first case that goes wrong, and the step in it.
+fn first_wrong<A: Heap>(alloc: A, cases: &[Case]) -> Result<Option<(usize, usize)>, Starved> {
+    for (place, case) in cases.iter().enumerate() {
+        if let Some(step) = first_wrong_step(alloc, *case)? {
+            return Ok(Some((place, step)));
+        }
+    }
+    Ok(None)
+}
+
+const ADDRESS: Shape = Shape::Set(Value::A(1));
+
+const LEAST_USED_GOES: Case = (
+    2,
+    &[
+        Step::Keep("a", RType::A, ADDRESS, 10, 0),
+        Step::Keep("b", RType::A, ADDRESS, 10, 0),
+        Step::Sees("a", RType::A, 5_000, ("set of one", 10, 0)),
+        Step::Keep("c", RType::A, ADDRESS, 10, 5_000),
+        Step::Misses("b", RType::A, 5_000),
+        Step::Sees("a", RType::A, 9_999, ("set of one", 10, 0)),
+        Step::Misses("a", RType::A, 10_000),
+    ],
+);
+
+const A_LINK_REMOVES_THE_NAMES_ERROR: Case = (
+    9,
+    &[
+        Step::Keep("a", RType::A, Shape::NameError, 60, 0),
+        Step::Sees("a", RType::Txt, 0, ("name error", 60, 0)),
+        Step::Keep("a", RType::A, ADDRESS, 10, 0),
+        Step::Sees("a", RType::A, 0, ("set of one", 10, 0)),
+        Step::Misses("a", RType::Txt, 0),
+        Step::Keep("a", RType::A, Shape::NameError, 60, 0),
+        Step::Keep("a", RType::A, ADDRESS, 0, 0),
+        Step::Misses("a", RType::A, 0),
+    ],
+);
+
+const AN_ALIAS_ANSWERS_EVERY_TYPE: Case = (
+    9,
+    &[
+        Step::Keep("a", RType::A, Shape::Alias("a"), 10, 0),
+        Step::Sees("a", RType::A, 0, ("alias", 10, 0)),
+        Step::Sees("a", RType::Mx, 0, ("alias", 10, 0)),
+        Step::Sees("a", RType::Cname, 0, ("set of one", 10, 0)),
+        Step::Keep("b", RType::Cname, Shape::Set(Value::Cname("b")), 10, 0),
+        Step::Sees("b", RType::A, 0, ("alias", 10, 0)),
+        Step::Sees("b", RType::Cname, 0, ("set of one", 10, 0)),
+    ],
+);
+
+const THE_WANT_OF_AN_ALIAS_IS_NONE: Case = (
+    9,
+    &[
+        Step::Keep("a", RType::Cname, Shape::NoData, 10, 0),
+        Step::Misses("a", RType::A, 0),
+        Step::Sees("a", RType::Cname, 0, ("no data", 10, 0)),
+    ],
+);
+
+const A_CLOCK_THAT_GOES_BACK_GIVES_AGE_ZERO: Case = (
+    9,
+    &[
+        Step::Keep("a", RType::A, ADDRESS, 10, 50_000),
+        Step::Sees("a", RType::A, 0, ("set of one", 10, 50_000)),
+        Step::Sees("a", RType::A, 59_999, ("set of one", 10, 50_000)),
+        Step::Misses("a", RType::A, 60_000),
+    ],
+);
+
+const TTLS_COUNT_DOWN_BY_WHOLE_SECONDS: Case = (
+    2,
+    &[
+        Step::Keep("a", RType::A, Shape::TwoAddresses, 60, 1_000),
+        Step::Sends("a", 0, 0, 60),
+        Step::Sends("a", 1_999, 1_999, 60),
+        Step::Sends("a", 2_000, 2_000, 59),
+        Step::Sends("a", 60_999, 60_999, 1),
+        Step::Sends("a", 1_000, 90_000, 0),
+    ],
+);
+
+const SETS_COME_BACK: Case = (
+    9,
+    &[
+        Step::Keep("a", RType::A, Shape::TwoAddresses, 10, 0),
+        Step::Keep(
+            "b",
+            RType::A,
+            Shape::SetOfAnother(("another", 300, Value::A(1))),
+            10,
+            0,
+        ),
+        Step::Sees("a", RType::A, 0, ("set", 10, 0)),
+        Step::Sees("b", RType::A, 0, ("set of one", 10, 0)),
+    ],
+);
+
+const CASES: &[Case] = &[
+    LEAST_USED_GOES,
+    A_LINK_REMOVES_THE_NAMES_ERROR,
+    AN_ALIAS_ANSWERS_EVERY_TYPE,
+    THE_WANT_OF_AN_ALIAS_IS_NONE,
+    A_CLOCK_THAT_GOES_BACK_GIVES_AGE_ZERO,
+    TTLS_COUNT_DOWN_BY_WHOLE_SECONDS,
+    SETS_COME_BACK,
+];
+
+#[test]
+fn links_are_kept_as_was_worked(rt: HostRuntime) -> Result<(), Fail> {
+    assert_eq!(rt; first_wrong(rt.alloc(), CASES)?, None);
     Ok(())
 }
 
 // Keeps an alias, and is told of it for its own type.
+const PLAYED: Case = (
+    2,
+    &[
+        Step::Keep("a", RType::A, Shape::Alias("a"), 10, 0),
+        Step::Keep("a", RType::A, Shape::NoData, 0, 0),
+        Step::Sees("a", RType::Cname, 0, ("set of one", 10, 0)),
+    ],
+);
+
 fn play<A: Heap>(alloc: A) -> Result<bool, Starved> {
-    let cache = Cache::new(alloc, room(2)?, hasher())?;
-    let mut kept = Kept { alloc, cache };
-    kept.keep("a", RType::A, Shape::Alias, 10, 0)?;
-    kept.keep("a", RType::A, Shape::NoData, 0, 0)?;
-    Ok(kept.seen("a", RType::Cname, 0)? == Some(("set of one", 10, 0)))
+    Ok(first_wrong_step(alloc, PLAYED)?.is_none())
 }
 
-#[test]
-fn each_growth_refused_in_turn(rt: HostRuntime) -> Result<(), Fail> {
-    let heap = Refusing::new(rt.alloc());
-    assert!(rt; play(&heap)?);
-    let growths = heap.growths();
-    assert!(rt; growths > 10);
+// The first growth whose refusal goes unsaid, or after which something else comes.
+fn first_unsaid<B: Allocator>(heap: &Refusing<B>, growths: u64) -> Option<u64> {
     for n in 0..growths {
         heap.refuse_after(n);
-        assert!(rt; play(&heap).is_err(), "growth {n}");
-        assert!(rt; play(&heap)?, "after growth {n}");
+        if play(heap).is_ok() || !matches!(play(heap), Ok(true)) {
+            return Some(n);
+        }
     }
-    Ok(())
+    None
 }
 
 #[test]
-fn sets_come_back(rt: HostRuntime) -> Result<(), Fail> {
-    let cache = Cache::new(rt.alloc(), room(9)?, hasher())?;
-    let mut kept = Kept {
-        alloc: rt.alloc(),
-        cache,
-    };
-    kept.keep("a", RType::A, Shape::TwoAddresses, 10, 0)?;
-    kept.keep("b", RType::A, Shape::AddressOfAnother, 10, 0)?;
-    assert!(rt; kept.seen("a", RType::A, 0)? == Some(("set", 10, 0)));
-    assert!(rt; kept.seen("b", RType::A, 0)? == Some(("set of one", 10, 0)));
+fn each_growth_is_refused_in_turn(rt: HostRuntime) -> Result<(), Fail> {
+    let heap = Refusing::new(rt.alloc());
+    assert!(rt; matches!(play(&heap), Ok(true)));
+    let growths = heap.growths();
+    assert!(rt; growths > 10);
+    assert_eq!(rt; first_unsaid(&heap, growths), None);
     Ok(())
 }
 
-// Each growth of a `keep` is refused in turn, those of the name and the link that are made for it among
-// them, and what was kept before still answers.
+const ERROR: Step = Step::Sees("a", RType::A, 0, ("name error", 60, 0));
+
+// The first growth of a `keep` that may be refused unsaid, or after whose refusal the name's error does not
+// answer any more; growths of the name and the link that are made for it are among them.
+fn first_change<'a, B: Allocator>(
+    heap: &'a Refusing<B>,
+    kept: &mut Kept<&'a Refusing<B>>,
+    shape: Shape,
+    growths: u64,
+) -> Result<Option<u64>, Starved> {
+    for n in 0..growths {
+        heap.refuse_after(n);
+        if kept.keep("a", RType::A, shape, 10, 0).is_ok() || !kept.goes(ERROR)? {
+            return Ok(Some(n));
+        }
+    }
+    Ok(None)
+}
+
+// Whether a `keep` of that link takes so many growths and no more, and the name's error stays as it is until none
+// of them is refused.
+fn is_kept_whole<B: Allocator>(
+    heap: &Refusing<B>,
+    shape: Shape,
+    growths: u64,
+) -> Result<bool, Starved> {
+    let mut kept = empty(heap, 2)?;
+    kept.keep("a", RType::A, Shape::NameError, 60, 0)?;
+    let change = first_change(heap, &mut kept, shape, growths)?;
+    heap.refuse_after(growths);
+    kept.keep("a", RType::A, shape, 10, 0)?;
+    heap.refuse_after(u64::MAX);
+    Ok(change.is_none() && !kept.goes(ERROR)?)
+}
+
+// Links, and how many growths a `keep` of each takes.
+const REFUSED: &[(Shape, u64)] = &[(ADDRESS, 6), (Shape::TwoAddresses, 11), (Shape::NoData, 10)];
+
+fn first_spoilt<B: Allocator>(
+    heap: &Refusing<B>,
+    rows: &[(Shape, u64)],
+) -> Result<Option<usize>, Starved> {
+    for (place, (shape, growths)) in rows.iter().enumerate() {
+        if !is_kept_whole(heap, *shape, *growths)? {
+            return Ok(Some(place));
+        }
+    }
+    Ok(None)
+}
+
 #[test]
 fn a_refused_link_changes_nothing(rt: HostRuntime) -> Result<(), Fail> {
     let heap = Refusing::new(rt.alloc());
-    for (shape, growths) in [
-        (Shape::Address, 6),
-        (Shape::TwoAddresses, 8),
-        (Shape::NoData, 11),
-    ] {
-        let cache = Cache::new(&heap, room(2)?, hasher())?;
-        let mut kept = Kept {
-            alloc: &heap,
-            cache,
-        };
-        kept.keep("a", RType::A, Shape::NameError, 60, 0)?;
-        for n in 0..growths {
-            heap.refuse_after(n);
-            assert!(rt;
-                kept.keep("a", RType::A, shape, 10, 0).is_err(),
-                "growth {n}"
-            );
-            assert!(rt;
-                kept.seen("a", RType::A, 0)? == Some(("name error", 60, 0)),
-                "growth {n}"
-            );
-        }
-        kept.keep("a", RType::A, shape, 10, 0)?;
-        assert!(rt; kept.seen("a", RType::A, 0)? != Some(("name error", 60, 0)));
-    }
+    assert_eq!(rt; first_spoilt(&heap, REFUSED)?, None);
     Ok(())
 }

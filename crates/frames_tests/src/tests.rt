@@ -1,70 +1,126 @@
 use dname::{Heap, Name, Starved};
+use fixtures::{Row, Value, address, name, records};
 use frames::{Failed, Frame, trimmed};
 use lru::DefaultHasher;
 use rdata::Addr;
-use referral::{Addresses, Cut, Names, ServerAddress};
+use referral::Cut;
 use refusing::Refusing;
 use retry::Penalties;
+use std::alloc::Allocator;
 use std::hash::BuildHasherDefault;
 use std::num::NonZeroUsize;
 use std::test::Fail;
 
-fn addr(last: u8) -> Addr {
-    Addr([192, 0, 2, last])
+// What is done with a frame, and what has to come of it.
+#[derive(Clone, Copy)]
+enum Step {
+    // So deep the look-up stands.
+    Nests(u8),
+    // So many addresses are known.
+    Knows(usize),
+    // So many names had no address at the start, and this is the last one of them.
+    Lacks(usize, &'static str),
+    // These addresses of 192.0.2.0/24 are asked next, by their last bytes.
+    Asks(&'static [u8]),
+    // The address that was asked last is waited for so many milliseconds.
+    Waits(u32),
+    // No address is left to ask.
+    Ends,
+    // These addresses are found; whether one of them is new.
+    Finds(&'static [Addr], bool),
+    // This name is looked up next.
+    LooksUp(&'static str),
+    // No name is left to look up.
+    GivesUp,
 }
 
-fn name<A: Heap>(alloc: A, text: &str) -> Result<Name<A>, Starved> {
-    match Name::from_text(alloc, text) {
-        Ok(name) => Ok(name),
-        Err(_) => Err(Starved),
-    }
+// A cut of example, the frame that is opened there, and what is done with it.
+#[derive(Clone, Copy)]
+struct Case {
+    servers: &'static [Row<'static>],
+    // Addresses, each with its server's name.
+    glue: &'static [Row<'static>],
+    // Whether the cut is trimmed first.
+    trims: bool,
+    nesting: u8,
+    // The address that was silent before.
+    silent: Option<u8>,
+    // Names whose look-up failed, each with the nesting of that look-up.
+    failed: &'static [(&'static str, u8)],
+    steps: &'static [Step],
 }
 
-fn empty<A: Heap>(alloc: A) -> Result<Cut<A>, Starved> {
-    Ok(Cut {
-        at: name(alloc, "example")?,
-        names: Names::new(alloc),
-        addresses: Addresses::new(alloc),
-    })
-}
-
-// One name more.
-fn serve<A: Heap>(cut: &mut Cut<A>, alloc: A, server: &str) -> Result<(), Starved> {
-    cut.names.push(name(alloc, server)?)
-}
-
-// One address more, of this server.
-fn locate<A: Heap>(cut: &mut Cut<A>, alloc: A, server: &str, last: u8) -> Result<(), Starved> {
-    let name = name(alloc, server)?;
-    let address = addr(last);
-    cut.addresses.push(ServerAddress { name, address })
-}
+// A cut without servers.
+const EMPTY: Case = Case {
+    servers: &[],
+    glue: &[],
+    trims: false,
+    nesting: 0,
+    silent: None,
+    failed: &[],
+    steps: &[],
+};
 
 fn no_penalties<A: Heap>(alloc: A) -> Result<Penalties<DefaultHasher, A>, Starved> {
     let room = NonZeroUsize::new(100).ok_or(Starved)?;
     Penalties::new(alloc, room, BuildHasherDefault::new())
 }
 
-fn start<A: Heap>(alloc: A, cut: &Cut<A>, nesting: u8) -> Result<Frame<A>, Starved> {
-    let penalties = no_penalties(alloc)?;
-    Frame::start(alloc, cut, nesting, &penalties)
-}
-
-const SEVENTEEN: [&str; 17] = [
-    "a.net", "b.net", "c.net", "d.net", "e.net", "f.net", "g.net", "h.net", "i.net", "j.net",
-    "k.net", "l.net", "m.net", "n.net", "o.net", "p.net", "q.net",
-];
-
-fn seventeen<A: Heap>(alloc: A) -> Result<Cut<A>, Starved> {
-    let mut cut = empty(alloc)?;
-    for last in 0..17 {
-        serve(&mut cut, alloc, SEVENTEEN[last as usize])?;
-        locate(&mut cut, alloc, "x.net", last)?;
+fn penalties<A: Heap>(
+    alloc: A,
+    silent: Option<u8>,
+) -> Result<Penalties<DefaultHasher, A>, Starved> {
+    let mut penalties = no_penalties(alloc)?;
+    if let Some(last) = silent {
+        penalties.timed_out(address(last))?;
     }
-    Ok(cut)
+    Ok(penalties)
 }
 
-fn is_last<A: Heap>(names: &[Name<A>], alloc: A, expected: &str) -> Result<bool, Starved> {
+fn mark<A: Heap>(failed: &mut Failed<A>, alloc: A, text: &str, nesting: u8) -> Result<(), Starved> {
+    let name = name(alloc, text)?;
+    failed.mark(&name, nesting)
+}
+
+fn failures<A: Heap>(alloc: A, rows: &[(&str, u8)]) -> Result<Failed<A>, Starved> {
+    let mut failed = Failed::new(alloc);
+    for (text, nesting) in rows {
+        mark(&mut failed, alloc, *text, *nesting)?;
+    }
+    Ok(failed)
+}
+
+impl Case {
+    fn whole_cut<A: Heap>(&self, alloc: A) -> Result<Cut<A>, Starved> {
+        let servers = records(alloc, self.servers)?;
+        let glue = records(alloc, self.glue)?;
+        let at = name(alloc, "example")?;
+        Cut::of_records(alloc, at, servers.as_slice(), glue.as_slice())
+    }
+
+    fn cut<A: Heap>(&self, alloc: A) -> Result<Cut<A>, Starved> {
+        let whole = self.whole_cut(alloc)?;
+        if self.trims {
+            return trimmed(alloc, &whole);
+        }
+        Ok(whole)
+    }
+
+    fn open<A: Heap>(&self, alloc: A) -> Result<Frame<A>, Starved> {
+        let cut = self.cut(alloc)?;
+        let penalties = penalties(alloc, self.silent)?;
+        Frame::start(alloc, &cut, self.nesting, &penalties)
+    }
+
+    // The place of the first step of which something else comes.
+    fn first_wrong<A: Heap>(&self, alloc: A) -> Result<Option<usize>, Starved> {
+        let failed = failures(alloc, self.failed)?;
+        let mut frame = self.open(alloc)?;
+        first_wrong_step(alloc, &mut frame, &failed, self.steps)
+    }
+}
+
+fn is_last<A: Heap>(alloc: A, names: &[Name<A>], expected: &str) -> Result<bool, Starved> {
     let expected = name(alloc, expected)?;
     match names {
         [.., last] => Ok(*last == expected),
@@ -72,69 +128,26 @@ fn is_last<A: Heap>(names: &[Name<A>], alloc: A, expected: &str) -> Result<bool,
     }
 }
 
-#[test]
-fn sixteen_of_seventeen_names_are_taken(rt: HostRuntime) -> Result<(), Fail> {
-    let cut = seventeen(rt.alloc())?;
-    let frame = start(rt.alloc(), &cut, 2)?;
-    assert_eq!(rt; frame.unknown_names().len(), 16);
-    assert!(rt; is_last(frame.unknown_names(), rt.alloc(), "p.net")?);
-    assert_eq!(rt; frame.nesting(), 2);
-    Ok(())
-}
-
-// They are asked in the order of the cut.
-#[test]
-fn sixteen_of_seventeen_addresses_are_taken(rt: HostRuntime) -> Result<(), Fail> {
-    let cut = seventeen(rt.alloc())?;
-    let mut frame = start(rt.alloc(), &cut, 2)?;
-    assert_eq!(rt; frame.addresses().len(), 16);
-    for last in 0..16 {
-        assert!(rt; frame.next_address() == Some(addr(last)));
+fn asks<A: Heap>(frame: &mut Frame<A>, lasts: &[u8]) -> bool {
+    for last in lasts {
+        if frame.next_address() != Some(address(*last)) {
+            return false;
+        }
     }
-    assert!(rt; frame.next_address() == Some(addr(0)));
-    Ok(())
+    true
 }
 
-// The first server's address is the seventeenth, the second one's is also the third one's.
-fn late_address<A: Heap>(alloc: A) -> Result<Cut<A>, Starved> {
-    let mut cut = empty(alloc)?;
-    serve(&mut cut, alloc, "a.net")?;
-    serve(&mut cut, alloc, "b.net")?;
-    locate(&mut cut, alloc, "c.net", 1)?;
-    locate(&mut cut, alloc, "b.net", 1)?;
-    for last in 2..17 {
-        locate(&mut cut, alloc, "x.net", last)?;
-    }
-    locate(&mut cut, alloc, "a.net", 17)?;
-    Ok(cut)
-}
-
-#[test]
-fn servers_of_taken_addresses_are_known(rt: HostRuntime) -> Result<(), Fail> {
-    let cut = late_address(rt.alloc())?;
-    let frame = start(rt.alloc(), &cut, 0)?;
-    assert_eq!(rt; frame.addresses().len(), 16);
-    assert_eq!(rt; frame.unknown_names().len(), 1);
-    Ok(())
-}
-
-// One address is kept twice, for two of the servers that have it; the seventeenth one not at all.
-#[test]
-fn trimmed_cut_opens_the_same_frame(rt: HostRuntime) -> Result<(), Fail> {
-    let cut = trimmed(rt.alloc(), &late_address(rt.alloc())?)?;
-    assert_eq!(rt; cut.names.as_slice().len(), 2);
-    assert_eq!(rt; cut.addresses.as_slice().len(), 17);
-    let frame = start(rt.alloc(), &cut, 0)?;
-    assert_eq!(rt; frame.addresses().len(), 16);
-    assert_eq!(rt; frame.unknown_names().len(), 1);
-    Ok(())
+// Whether one of those that are found is new.
+fn add<A: Heap>(alloc: A, frame: &mut Frame<A>, found: &[Addr]) -> Result<bool, Starved> {
+    let penalties = no_penalties(alloc)?;
+    frame.add(found, &penalties)
 }
 
 // Whether the name whose turn it is is this one.
 fn gives<A: Heap>(
+    alloc: A,
     frame: &mut Frame<A>,
     failed: &Failed<A>,
-    alloc: A,
     expected: &str,
 ) -> Result<bool, Starved> {
     let expected = name(alloc, expected)?;
@@ -144,97 +157,236 @@ fn gives<A: Heap>(
     }
 }
 
-fn five_servers<A: Heap>(alloc: A) -> Result<Cut<A>, Starved> {
-    let mut cut = empty(alloc)?;
-    serve(&mut cut, alloc, "ns.example")?;
-    serve(&mut cut, alloc, "a.net")?;
-    serve(&mut cut, alloc, "b.net")?;
-    serve(&mut cut, alloc, "c.net")?;
-    serve(&mut cut, alloc, "d.net")?;
-    Ok(cut)
+fn gives_none<A: Heap>(frame: &mut Frame<A>, failed: &Failed<A>) -> Result<bool, Starved> {
+    match frame.next_name(failed)? {
+        Some(_) => Ok(false),
+        None => Ok(true),
+    }
 }
 
-fn three_failures<A: Heap>(alloc: A) -> Result<Failed<A>, Starved> {
-    let mut failed = Failed::new(alloc);
-    failed.mark(&name(alloc, "a.net")?, 1)?;
-    failed.mark(&name(alloc, "b.net")?, 2)?;
-    failed.mark(&name(alloc, "c.net")?, 3)?;
-    Ok(failed)
+fn goes<A: Heap>(
+    alloc: A,
+    frame: &mut Frame<A>,
+    failed: &Failed<A>,
+    step: Step,
+) -> Result<bool, Starved> {
+    match step {
+        Step::Nests(nesting) => Ok(frame.nesting() == nesting),
+        Step::Knows(count) => Ok(frame.addresses().len() == count),
+        Step::Lacks(count, last) => {
+            let unknown = frame.unknown_names();
+            Ok(unknown.len() == count && is_last(alloc, unknown, last)?)
+        }
+        Step::Asks(lasts) => Ok(asks(frame, lasts)),
+        Step::Waits(time) => Ok(frame.wait_ms() == time),
+        Step::Ends => Ok(frame.next_address().is_none()),
+        Step::Finds(found, is_new) => Ok(add(alloc, frame, found)? == is_new),
+        Step::LooksUp(text) => Ok(gives(alloc, frame, failed, text)?),
+        Step::GivesUp => Ok(gives_none(frame, failed)?),
+    }
 }
 
-#[test]
-fn names_that_lead_nowhere_are_skipped(rt: HostRuntime) -> Result<(), Fail> {
-    let cut = five_servers(rt.alloc())?;
-    let failed = three_failures(rt.alloc())?;
-    let mut frame = start(rt.alloc(), &cut, 1)?;
-    assert!(rt; gives(&mut frame, &failed, rt.alloc(), "c.net")?);
-    assert!(rt; gives(&mut frame, &failed, rt.alloc(), "d.net")?);
-    assert!(rt; frame.next_name(&failed)?.is_none());
-    Ok(())
-}
-
-#[test]
-fn no_name_is_looked_up_four_deep(rt: HostRuntime) -> Result<(), Fail> {
-    let cut = five_servers(rt.alloc())?;
-    let failed = Failed::new(rt.alloc());
-    let mut deepest = start(rt.alloc(), &cut, 3)?;
-    assert!(rt; deepest.next_name(&failed)?.is_none());
-    Ok(())
-}
-
-fn asks<A: Heap>(frame: &mut Frame<A>, addresses: &[Addr]) -> bool {
-    for address in addresses {
-        if frame.next_address() != Some(*address) {
-            return false;
+fn first_wrong_step<A: Heap>(
+    alloc: A,
+    frame: &mut Frame<A>,
+    failed: &Failed<A>,
+    steps: &[Step],
+) -> Result<Option<usize>, Starved> {
+    for (place, step) in steps.iter().enumerate() {
+        if !goes(alloc, frame, failed, *step)? {
+            return Ok(Some(place));
         }
     }
-    true
+    Ok(None)
 }
 
-// Two addresses, one of them twice; the first one's server was silent.
-fn by_penalties<A: Heap>(alloc: A) -> Result<Frame<A>, Starved> {
-    let mut cut = empty(alloc)?;
-    locate(&mut cut, alloc, "a.net", 1)?;
-    locate(&mut cut, alloc, "b.net", 2)?;
-    locate(&mut cut, alloc, "c.net", 1)?;
-    let mut penalties = no_penalties(alloc)?;
-    penalties.timed_out(addr(1))?;
-    Frame::start(alloc, &cut, 0, &penalties)
+// The first case that goes wrong, and the step in it.
+fn first_wrong<A: Heap>(alloc: A, cases: &[Case]) -> Result<Option<(usize, usize)>, Starved> {
+    for (place, case) in cases.iter().enumerate() {
+        if let Some(step) = case.first_wrong(alloc)? {
+            return Ok(Some((place, step)));
+        }
+    }
+    Ok(None)
 }
+
+// Sixteen of seventeen names and of seventeen addresses are taken; they are asked in the order of the cut.
+const SEVENTEEN: Case = Case {
+    servers: &[
+        ("example", 60, Value::Ns("a.net")),
+        ("example", 60, Value::Ns("b.net")),
+        ("example", 60, Value::Ns("c.net")),
+        ("example", 60, Value::Ns("d.net")),
+        ("example", 60, Value::Ns("e.net")),
+        ("example", 60, Value::Ns("f.net")),
+        ("example", 60, Value::Ns("g.net")),
+        ("example", 60, Value::Ns("h.net")),
+        ("example", 60, Value::Ns("i.net")),
+        ("example", 60, Value::Ns("j.net")),
+        ("example", 60, Value::Ns("k.net")),
+        ("example", 60, Value::Ns("l.net")),
+        ("example", 60, Value::Ns("m.net")),
+        ("example", 60, Value::Ns("n.net")),
+        ("example", 60, Value::Ns("o.net")),
+        ("example", 60, Value::Ns("p.net")),
+        ("example", 60, Value::Ns("q.net")),
+    ],
+    glue: &[
+        ("x.net", 60, Value::A(0)),
+        ("x.net", 60, Value::A(1)),
+        ("x.net", 60, Value::A(2)),
+        ("x.net", 60, Value::A(3)),
+        ("x.net", 60, Value::A(4)),
+        ("x.net", 60, Value::A(5)),
+        ("x.net", 60, Value::A(6)),
+        ("x.net", 60, Value::A(7)),
+        ("x.net", 60, Value::A(8)),
+        ("x.net", 60, Value::A(9)),
+        ("x.net", 60, Value::A(10)),
+        ("x.net", 60, Value::A(11)),
+        ("x.net", 60, Value::A(12)),
+        ("x.net", 60, Value::A(13)),
+        ("x.net", 60, Value::A(14)),
+        ("x.net", 60, Value::A(15)),
+        ("x.net", 60, Value::A(16)),
+    ],
+    nesting: 2,
+    steps: &[
+        Step::Lacks(16, "p.net"),
+        Step::Nests(2),
+        Step::Knows(16),
+        Step::Asks(&[0, 1, 2, 3, 4, 5, 6, 7, 8, 9, 10, 11, 12, 13, 14, 15]),
+        Step::Asks(&[0]),
+    ],
+    ..EMPTY
+};
+
+// The first server's address is the seventeenth, the second one's is also the third one's. Servers of taken
+// addresses are known.
+const LATE: Case = Case {
+    servers: &[
+        ("example", 60, Value::Ns("a.net")),
+        ("example", 60, Value::Ns("b.net")),
+    ],
+    glue: &[
+        ("c.net", 60, Value::A(1)),
+        ("b.net", 60, Value::A(1)),
+        ("x.net", 60, Value::A(2)),
+        ("x.net", 60, Value::A(3)),
+        ("x.net", 60, Value::A(4)),
+        ("x.net", 60, Value::A(5)),
+        ("x.net", 60, Value::A(6)),
+        ("x.net", 60, Value::A(7)),
+        ("x.net", 60, Value::A(8)),
+        ("x.net", 60, Value::A(9)),
+        ("x.net", 60, Value::A(10)),
+        ("x.net", 60, Value::A(11)),
+        ("x.net", 60, Value::A(12)),
+        ("x.net", 60, Value::A(13)),
+        ("x.net", 60, Value::A(14)),
+        ("x.net", 60, Value::A(15)),
+        ("x.net", 60, Value::A(16)),
+        ("a.net", 60, Value::A(17)),
+    ],
+    steps: &[Step::Knows(16), Step::Lacks(1, "a.net")],
+    ..EMPTY
+};
+
+// It opens the same frame.
+const TRIMMED: Case = Case {
+    trims: true,
+    ..LATE
+};
+
+const FIVE: &[Row<'static>] = &[
+    ("example", 60, Value::Ns("ns.example")),
+    ("example", 60, Value::Ns("a.net")),
+    ("example", 60, Value::Ns("b.net")),
+    ("example", 60, Value::Ns("c.net")),
+    ("example", 60, Value::Ns("d.net")),
+];
+
+// Names that lead nowhere are skipped.
+const FAILED: Case = Case {
+    servers: FIVE,
+    nesting: 1,
+    failed: &[("a.net", 1), ("b.net", 2), ("c.net", 3)],
+    steps: &[
+        Step::LooksUp("c.net"),
+        Step::LooksUp("d.net"),
+        Step::GivesUp,
+    ],
+    ..EMPTY
+};
+
+// No name is looked up four deep.
+const DEEPEST: Case = Case {
+    servers: FIVE,
+    nesting: 3,
+    steps: &[Step::GivesUp],
+    ..EMPTY
+};
+
+// Two addresses, one of them twice; the first one's server was silent. They are asked by their penalties.
+const SILENT: Case = Case {
+    glue: &[
+        ("a.net", 60, Value::A(1)),
+        ("b.net", 60, Value::A(2)),
+        ("c.net", 60, Value::A(1)),
+    ],
+    silent: Some(1),
+    steps: &[
+        Step::Asks(&[2, 1]),
+        Step::Waits(1_000),
+        Step::Asks(&[2]),
+        Step::Waits(2_000),
+        Step::Asks(&[1]),
+        Step::Ends,
+    ],
+    ..EMPTY
+};
+
+// Addresses that are new make a new plan.
+const FOUND: Case = Case {
+    steps: &[
+        Step::Asks(&[2]),
+        Step::Finds(&[Addr([192, 0, 2, 1])], false),
+        Step::Asks(&[1]),
+        Step::Finds(
+            &[
+                Addr([192, 0, 2, 4]),
+                Addr([192, 0, 2, 1]),
+                Addr([192, 0, 2, 3]),
+                Addr([192, 0, 2, 4]),
+            ],
+            true,
+        ),
+        Step::Knows(4),
+        Step::Asks(&[4, 3, 4, 3]),
+        Step::Ends,
+    ],
+    ..SILENT
+};
+
+const CASES: &[Case] = &[SEVENTEEN, LATE, TRIMMED, FAILED, DEEPEST, SILENT, FOUND];
 
 #[test]
-fn addresses_are_asked_by_their_penalties(rt: HostRuntime) -> Result<(), Fail> {
-    let mut frame = by_penalties(rt.alloc())?;
-    assert!(rt; asks(&mut frame, &[addr(2), addr(1)]));
-    assert_eq!(rt; frame.wait_ms(), 1_000);
-    assert!(rt; asks(&mut frame, &[addr(2)]));
-    assert_eq!(rt; frame.wait_ms(), 2_000);
-    assert!(rt; asks(&mut frame, &[addr(1)]));
-    assert!(rt; frame.next_address().is_none());
+fn frames_go_as_was_worked(rt: HostRuntime) -> Result<(), Fail> {
+    assert_eq!(rt; first_wrong(rt.alloc(), CASES)?, None);
     Ok(())
 }
 
-fn add<A: Heap>(frame: &mut Frame<A>, alloc: A, found: &[Addr]) -> Result<bool, Starved> {
-    let penalties = no_penalties(alloc)?;
-    frame.add(found, &penalties)
+// How many names and how many addresses the cut has.
+fn sizes<A: Heap>(alloc: A, case: &Case) -> Result<(usize, usize), Starved> {
+    let cut = case.cut(alloc)?;
+    let names = cut.names.as_slice().len();
+    Ok((names, cut.addresses.as_slice().len()))
 }
 
+// One address is kept twice, for two of the servers that have it; the seventeenth one not at all.
 #[test]
-fn addresses_that_are_new_make_a_new_plan(rt: HostRuntime) -> Result<(), Fail> {
-    let mut frame = by_penalties(rt.alloc())?;
-    assert!(rt; asks(&mut frame, &[addr(2)]));
-    assert!(rt; !add(&mut frame, rt.alloc(), &[addr(1)])?);
-    assert!(rt; asks(&mut frame, &[addr(1)]));
-    assert!(rt;
-        add(
-            &mut frame,
-            rt.alloc(),
-            &[addr(4), addr(1), addr(3), addr(4)]
-        )?
-    );
-    assert_eq!(rt; frame.addresses().len(), 4);
-    assert!(rt; asks(&mut frame, &[addr(4), addr(3), addr(4), addr(3)]));
-    assert!(rt; frame.next_address().is_none());
+fn a_cut_is_trimmed(rt: HostRuntime) -> Result<(), Fail> {
+    assert_eq!(rt; sizes(rt.alloc(), &TRIMMED)?, (2, 17));
     Ok(())
 }
 
@@ -250,43 +402,71 @@ fn five_rounds<A: Heap>(alloc: A, count: u16) -> Result<Vec<Addr, A>, Starved> {
     Ok(found)
 }
 
-// The first time two of them are known, the second time all.
+const TWO: &[Addr] = &[Addr([10, 0, 3, 231]), Addr([10, 0, 0, 1])];
+
+// Whether the first and the third of the thousand are asked next.
+fn asks_others<A: Heap>(frame: &mut Frame<A>) -> bool {
+    let first = frame.next_address();
+    let third = frame.next_address();
+    first == Some(Addr([10, 0, 0, 0])) && third == Some(Addr([10, 0, 0, 2]))
+}
+
+// Whether the thousand addresses are taken once where TWO of them are known, and none where all are.
+fn takes_once<A: Heap>(alloc: A, frame: &mut Frame<A>, thousand: &[Addr]) -> Result<bool, Starved> {
+    let is_new = add(alloc, frame, thousand)?;
+    let is_asked = frame.addresses().len() == 1_000 && asks_others(frame);
+    Ok(is_new && is_asked && !add(alloc, frame, thousand)?)
+}
+
+fn are_taken_once<A: Heap>(alloc: A) -> Result<bool, Starved> {
+    let thousand = five_rounds(alloc, 1_000)?;
+    let mut frame = EMPTY.open(alloc)?;
+    let is_new = add(alloc, &mut frame, TWO);
+    let is_taken = takes_once(alloc, &mut frame, &thousand);
+    drop(frame);
+    drop(thousand);
+    Ok(is_new? && is_taken?)
+}
+
 #[test]
 fn addresses_that_come_often_are_taken_once(rt: HostRuntime) -> Result<(), Fail> {
-    let found = five_rounds(rt.alloc(), 1_000)?;
-    let mut frame = start(rt.alloc(), &empty(rt.alloc())?, 0)?;
-    assert!(rt;
-        add(
-            &mut frame,
-            rt.alloc(),
-            &[Addr([10, 0, 3, 231]), Addr([10, 0, 0, 1])]
-        )?
-    );
-    assert!(rt; add(&mut frame, rt.alloc(), &found)?);
-    assert_eq!(rt; frame.addresses().len(), 1_000);
-    assert!(rt; asks(&mut frame, &[Addr([10, 0, 0, 0]), Addr([10, 0, 0, 2])]));
-    assert!(rt; !add(&mut frame, rt.alloc(), &found)?);
+    assert!(rt; are_taken_once(rt.alloc())?);
     Ok(())
 }
 
+// A name and many addresses of a trimmed cut.
+const PLAYED: Case = Case {
+    trims: true,
+    steps: &[Step::LooksUp("c.net")],
+    ..FAILED
+};
+
 fn play<A: Heap>(alloc: A) -> Result<bool, Starved> {
-    let cut = trimmed(alloc, &five_servers(alloc)?)?;
-    let failed = three_failures(alloc)?;
-    let mut frame = start(alloc, &cut, 1)?;
-    let given = gives(&mut frame, &failed, alloc, "c.net")?;
-    Ok(add(&mut frame, alloc, &five_rounds(alloc, 20)?)? && given)
+    let found = five_rounds(alloc, 20)?;
+    let mut frame = PLAYED.open(alloc)?;
+    let is_new = add(alloc, &mut frame, &found);
+    drop(frame);
+    drop(found);
+    Ok(is_new? && PLAYED.first_wrong(alloc)?.is_none())
+}
+
+// The first growth whose refusal goes unsaid, or after which something else comes.
+fn first_unsaid<B: Allocator>(heap: &Refusing<B>, growths: u64) -> Option<u64> {
+    for n in 0..growths {
+        heap.refuse_after(n);
+        if play(heap).is_ok() || !matches!(play(heap), Ok(true)) {
+            return Some(n);
+        }
+    }
+    None
 }
 
 #[test]
-fn each_growth_refused_in_turn(rt: HostRuntime) -> Result<(), Fail> {
+fn each_growth_is_refused_in_turn(rt: HostRuntime) -> Result<(), Fail> {
     let heap = Refusing::new(rt.alloc());
-    assert!(rt; play(&heap)?);
+    assert!(rt; matches!(play(&heap), Ok(true)));
     let growths = heap.growths();
     assert!(rt; growths > 10);
-    for n in 0..growths {
-        heap.refuse_after(n);
-        assert!(rt; play(&heap).is_err(), "growth {n}");
-        assert!(rt; play(&heap)?, "after growth {n}");
-    }
+    assert_eq!(rt; first_unsaid(&heap, growths), None);
     Ok(())
 }

@@ -1,11 +1,13 @@
 use authority::{Catalog, Link};
 use dname::{Heap, Name, Starved};
 use fixtures::{Row, Value, name, record, records};
+use frames::Frame;
 use known::{Capacities, Found, Hashers, Home, Stores, Taken, cut_of, find, found_addresses};
 use lru::DefaultHasher;
 use rdata::{Addr, RData, RType, RecordSet, Records};
 use referral::Cut;
 use refusing::Refusing;
+use std::alloc::Allocator;
 use std::hash::BuildHasherDefault;
 use std::num::NonZeroUsize;
 use std::test::Fail;
@@ -18,7 +20,7 @@ const REMOTE: Addr = Addr([192, 0, 2, 9]);
 const HINT: Addr = Addr([192, 0, 2, 3]);
 
 // A zone with an address of www.example, which leaves sub.example to another server.
-const ZONE: [Row<'static>; 5] = [
+const ZONE: &[Row<'static>] = &[
     ("example", 3600, Value::Soa(60)),
     ("example", 3600, Value::Ns("ns.example")),
     ("www.example", 3600, Value::A(1)),
@@ -28,19 +30,25 @@ const ZONE: [Row<'static>; 5] = [
 
 fn zone<A: Heap>(alloc: A) -> Result<Zone<A>, Starved> {
     let origin = name(alloc, "example")?;
-    match Zone::build(origin, records(alloc, &ZONE)?) {
+    let records = records(alloc, ZONE)?;
+    match Zone::build(origin, records) {
         Ok(zone) => Ok(zone),
         Err(_) => Err(Starved),
     }
 }
 
-fn home<A: Heap>(alloc: A) -> Result<Home<A>, Starved> {
+fn catalog<A: Heap>(alloc: A) -> Result<Catalog<A>, Starved> {
     let mut zones = Vec::new(alloc);
     zones.push(zone(alloc)?)?;
     match Catalog::new(zones) {
-        Ok(catalog) => Home::new(alloc, catalog, &[HINT]),
+        Ok(catalog) => Ok(catalog),
         Err(_) => Err(Starved),
     }
+}
+
+fn home<A: Heap>(alloc: A) -> Result<Home<A>, Starved> {
+    let catalog = catalog(alloc)?;
+    Home::new(alloc, catalog, &[HINT])
 }
 
 fn hasher() -> DefaultHasher {
@@ -106,23 +114,33 @@ impl<A: Heap> Resolver<A> {
     // Whether servers of a name are sought at this cut.
     fn starts(&mut self, asked: &str, at: &str, now: u64) -> Result<bool, Starved> {
         let at = name(self.alloc, at)?;
-        match self.find(asked, now)? {
-            Found::Known(_) => Ok(false),
-            Found::Start(cut) => Ok(cut.at == at),
-        }
+        let found = self.find(asked, now)?;
+        Ok(is_start(&found, &at))
     }
 
     // Keeps an address that lives for five seconds.
     fn learn(&mut self, owner: &str, now: u64) -> Result<(), Starved> {
-        let only = record(self.alloc, (owner, 5, Value::A(9)))?;
-        let owner = name(self.alloc, owner)?;
-        let link = Link::Found(RecordSet::alone(self.alloc, only)?);
-        self.stores.keep_link(&owner, RType::A, &link, now)
+        let at = name(self.alloc, owner)?;
+        let set = alone(self.alloc, (owner, 5, Value::A(9)))?;
+        let link = Link::Found(set);
+        self.stores.keep_link(&at, RType::A, &link, now)
     }
 
     fn learn_cut(&mut self, at: &str, ttl: u32, now: u64) -> Result<(), Starved> {
         let cut = cut(self.alloc, at)?;
         self.stores.keep_cut(self.alloc, &cut, ttl, now)
+    }
+}
+
+fn alone<A: Heap>(alloc: A, row: Row<'_>) -> Result<RecordSet<A>, Starved> {
+    let only = record(alloc, row)?;
+    RecordSet::alone(alloc, only)
+}
+
+fn is_start<A: Heap>(found: &Found<A>, at: &Name<A>) -> bool {
+    match found {
+        Found::Known(_) => false,
+        Found::Start(cut) => cut.at == *at,
     }
 }
 
@@ -137,11 +155,11 @@ fn address_of<A: Heap>(link: Link<A>) -> Option<(Addr, u32)> {
 }
 
 // A cut with two addresses.
-const GLUE: [Row<'static>; 2] = [("ns.test", 60, Value::A(1)), ("ns.test", 60, Value::A(9))];
+const GLUE: &[Row<'static>] = &[("ns.test", 60, Value::A(1)), ("ns.test", 60, Value::A(9))];
 
 fn cut<A: Heap>(alloc: A, at: &str) -> Result<Cut<A>, Starved> {
     let servers = Records::new(alloc);
-    let glue = records(alloc, &GLUE)?;
+    let glue = records(alloc, GLUE)?;
     let at = name(alloc, at)?;
     cut_of(alloc, at, servers.as_slice(), glue.as_slice())
 }
@@ -189,85 +207,105 @@ fn first_wrong<A: Heap>(alloc: A, steps: &[Step]) -> Result<Option<usize>, Starv
     Ok(None)
 }
 
-#[test]
-fn zones_at_hand_come_first(rt: HostRuntime) -> Result<(), Fail> {
-    let steps = [
-        Step::Learn("www.example", 0),
-        Step::Known("www.example", 4_000, LOCAL, 3600),
-    ];
-    assert_eq!(rt; first_wrong(rt.alloc(), &steps)?, None);
-    Ok(())
-}
+const ZONES_AT_HAND_COME_FIRST: &[Step] = &[
+    Step::Learn("www.example", 0),
+    Step::Known("www.example", 4_000, LOCAL, 3600),
+];
 
-#[test]
-fn a_link_is_known_to_its_last_millisecond(rt: HostRuntime) -> Result<(), Fail> {
-    let steps = [
-        Step::Learn("www.test", 1_000),
-        Step::Known("www.test", 5_999, REMOTE, 1),
-        Step::Starts("www.test", 6_000, "."),
-    ];
-    assert_eq!(rt; first_wrong(rt.alloc(), &steps)?, None);
-    Ok(())
-}
+const A_LINK_IS_KNOWN_TO_ITS_LAST_MILLISECOND: &[Step] = &[
+    Step::Learn("www.test", 1_000),
+    Step::Known("www.test", 5_999, REMOTE, 1),
+    Step::Starts("www.test", 6_000, "."),
+];
 
-#[test]
-fn a_kept_cut_counts_beneath_the_local_one(rt: HostRuntime) -> Result<(), Fail> {
-    let steps = [
-        Step::LearnCut("example", 60, 0),
-        Step::Starts("a.b.sub.example", 0, "sub.example"),
-        Step::LearnCut("b.sub.example", 60, 0),
-        Step::Starts("a.b.sub.example", 0, "b.sub.example"),
-        Step::Starts("c.sub.example", 0, "sub.example"),
-    ];
-    assert_eq!(rt; first_wrong(rt.alloc(), &steps)?, None);
-    Ok(())
-}
+const A_KEPT_CUT_COUNTS_BENEATH_THE_LOCAL_ONE: &[Step] = &[
+    Step::LearnCut("example", 60, 0),
+    Step::Starts("a.b.sub.example", 0, "sub.example"),
+    Step::LearnCut("b.sub.example", 60, 0),
+    Step::Starts("a.b.sub.example", 0, "b.sub.example"),
+    Step::Starts("c.sub.example", 0, "sub.example"),
+];
 
 // A week is 604,800 seconds.
+const A_CUT_IS_KEPT_FOR_A_WEEK_AT_MOST: &[Step] = &[
+    Step::LearnCut("test", 604_801, 0),
+    Step::Starts("www.test", 604_799_999, "test"),
+    Step::Starts("www.test", 604_800_000, "."),
+];
+
+const TABLES: &[&[Step]] = &[
+    ZONES_AT_HAND_COME_FIRST,
+    A_LINK_IS_KNOWN_TO_ITS_LAST_MILLISECOND,
+    A_KEPT_CUT_COUNTS_BENEATH_THE_LOCAL_ONE,
+    A_CUT_IS_KEPT_FOR_A_WEEK_AT_MOST,
+];
+
+// The first table that goes wrong, and the step in it.
+fn first_wrong_of<A: Heap>(
+    alloc: A,
+    tables: &[&[Step]],
+) -> Result<Option<(usize, usize)>, Starved> {
+    for (table, steps) in tables.iter().enumerate() {
+        if let Some(place) = first_wrong(alloc, *steps)? {
+            return Ok(Some((table, place)));
+        }
+    }
+    Ok(None)
+}
+
 #[test]
-fn a_cut_is_kept_for_a_week_at_most(rt: HostRuntime) -> Result<(), Fail> {
-    let steps = [
-        Step::LearnCut("test", 604_801, 0),
-        Step::Starts("www.test", 604_799_999, "test"),
-        Step::Starts("www.test", 604_800_000, "."),
-    ];
-    assert_eq!(rt; first_wrong(rt.alloc(), &steps)?, None);
+fn names_are_found_as_was_worked(rt: HostRuntime) -> Result<(), Fail> {
+    assert_eq!(rt; first_wrong_of(rt.alloc(), TABLES)?, None);
     Ok(())
 }
 
-// Whom a frame at the cut asks first.
+// A frame at the cut.
+fn open<A: Heap>(alloc: A, stores: &Stores<DefaultHasher, A>) -> Result<Frame<A>, Starved> {
+    let cut = cut(alloc, "test")?;
+    stores.open(alloc, &cut, 0)
+}
+
 fn first_asked<A: Heap>(
     alloc: A,
-    stores: &mut Stores<DefaultHasher, A>,
+    stores: &Stores<DefaultHasher, A>,
 ) -> Result<Option<Addr>, Starved> {
-    let cut = cut(alloc, "test")?;
-    let mut frame = stores.open(alloc, &cut, 0)?;
+    let mut frame = open(alloc, stores)?;
     Ok(frame.next_address())
 }
 
-// Whom it asks next, once another address was found.
+fn hint<A: Heap>(alloc: A) -> Result<Vec<Addr, A>, Starved> {
+    let set = alone(alloc, ("ns.test", 60, Value::A(3)))?;
+    found_addresses(alloc, &set)
+}
+
+// Whom a frame asks after the first, once another address was found.
 fn asked_once_found<A: Heap>(
     alloc: A,
-    stores: &mut Stores<DefaultHasher, A>,
+    stores: &Stores<DefaultHasher, A>,
 ) -> Result<Option<Addr>, Starved> {
-    let cut = cut(alloc, "test")?;
-    let set = RecordSet::alone(alloc, record(alloc, ("ns.test", 60, Value::A(3)))?)?;
-    let found = found_addresses(alloc, &set)?;
-    let mut frame = stores.open(alloc, &cut, 0)?;
+    let found = hint(alloc)?;
+    let mut frame = open(alloc, stores)?;
     frame.next_address();
     stores.add(&mut frame, &found)?;
     Ok(frame.next_address())
 }
 
-// Whom frames ask after LOCAL was silent, after it answered twice, and once HINT was found.
+fn asked_of<A: Heap>(
+    alloc: A,
+    stores: &mut Stores<DefaultHasher, A>,
+) -> Result<[Option<Addr>; 3], Starved> {
+    stores.timed_out(LOCAL)?;
+    let slow = first_asked(alloc, stores)?;
+    stores.answered(LOCAL);
+    stores.answered(LOCAL);
+    let quick = first_asked(alloc, stores)?;
+    Ok([slow, quick, asked_once_found(alloc, stores)?])
+}
+
+// Whom frames ask first after LOCAL was silent, and after it answered twice; and next, once HINT was found.
 fn asked<A: Heap>(alloc: A) -> Result<[Option<Addr>; 3], Starved> {
     let mut stores = stores(alloc)?;
-    stores.timed_out(LOCAL)?;
-    let slow = first_asked(alloc, &mut stores)?;
-    stores.answered(LOCAL);
-    stores.answered(LOCAL);
-    let quick = first_asked(alloc, &mut stores)?;
-    Ok([slow, quick, asked_once_found(alloc, &mut stores)?])
+    asked_of(alloc, &mut stores)
 }
 
 // They are asked by their penalties, and found ones join them.
@@ -280,18 +318,30 @@ fn frames_open_by_penalties(rt: HostRuntime) -> Result<(), Fail> {
 
 // An alias without time to live, accepted at moment 1,000.
 fn accepted<A: Heap>(alloc: A) -> Result<Taken<A>, Starved> {
-    let alias = Link::Alias(record(alloc, ("a.test", 0, Value::Cname("www.test")))?);
-    Ok(Taken::accepted(name(alloc, "a.test")?, alias, 1_000))
+    let owner = name(alloc, "a.test")?;
+    let alias = record(alloc, ("a.test", 0, Value::Cname("www.test")))?;
+    Ok(Taken::accepted(owner, Link::Alias(alias), 1_000))
+}
+
+fn target_labels<A: Heap>(taken: &Taken<A>) -> Option<usize> {
+    match taken.alias_target() {
+        Some(to) => Some(to.labels()),
+        None => None,
+    }
+}
+
+fn is_alias_of<A: Heap>(taken: &Taken<A>, owner: &Name<A>) -> bool {
+    matches!(taken.link(), Link::Alias(_)) && *taken.name() == *owner
 }
 
 // Whether it is dead later on, how many labels its target has, and whether it is a link of its name.
 fn shown<A: Heap>(alloc: A) -> Result<(bool, Option<usize>, bool), Starved> {
     let owner = name(alloc, "a.test")?;
     let taken = accepted(alloc)?;
-    let labels = taken.alias_target().map(|to| to.labels());
-    let is_alias = matches!(taken.link(), Link::Alias(_)) && *taken.name() == owner;
+    let labels = target_labels(&taken);
     let dead = taken.is_dead(9_000);
-    Ok((dead, labels, is_alias && taken.into_name() == owner))
+    let is_alias = is_alias_of(&taken, &owner);
+    Ok((dead, labels, taken.into_name() == owner && is_alias))
 }
 
 // What a server gives for the query itself is used even if it is over at once; what is kept is not.
@@ -302,7 +352,7 @@ fn accepted_links_do_not_die(rt: HostRuntime) -> Result<(), Fail> {
 }
 
 // One look-up of each kind.
-const EACH: [Step; 7] = [
+const EACH: &[Step] = &[
     Step::Learn("www.test", 0),
     Step::LearnCut("b.sub.example", 60, 0),
     Step::Known("www.example", 0, LOCAL, 3600),
@@ -312,34 +362,51 @@ const EACH: [Step; 7] = [
     Step::Starts("b.sub.example", 0, "b.sub.example"),
 ];
 
-#[test]
-fn each_growth_refused_in_turn(rt: HostRuntime) -> Result<(), Fail> {
-    let heap = Refusing::new(rt.alloc());
-    assert_eq!(rt; first_wrong(&heap, &EACH)?, None);
-    let growths = heap.growths();
-    assert!(rt; growths >= 50);
+// The first growth whose refusal goes unsaid.
+fn first_unsaid<B: Allocator>(heap: &Refusing<B>, growths: u64) -> Option<u64> {
     for n in 0..growths {
         heap.refuse_after(n);
-        assert!(rt; first_wrong(&heap, &EACH).is_err(), "growth {n}");
+        if first_wrong(heap, EACH).is_ok() {
+            return Some(n);
+        }
     }
+    None
+}
+
+#[test]
+fn each_growth_is_refused_in_turn(rt: HostRuntime) -> Result<(), Fail> {
+    let heap = Refusing::new(rt.alloc());
+    assert!(rt; matches!(first_wrong(&heap, EACH), Ok(None)));
+    let growths = heap.growths();
+    assert!(rt; growths >= 50);
+    assert_eq!(rt; first_unsaid(&heap, growths), None);
     Ok(())
 }
 
-// How many growths a cached answer of one address takes.
-fn growths_of_find<A: Heap>(alloc: A) -> Result<Option<u64>, Starved> {
-    let heap = Refusing::new(alloc);
-    let asked = name(&heap, "www.test")?;
-    let mut resolver = fresh(&heap)?;
-    resolver.learn("www.test", 0)?;
+// How many growths the look-up of a known name takes.
+fn growths_of<'a, B: Allocator>(
+    heap: &'a Refusing<B>,
+    resolver: &mut Resolver<&'a Refusing<B>>,
+    asked: &Name<&'a Refusing<B>>,
+) -> Result<Option<u64>, Starved> {
     let before = heap.growths();
-    match resolver.find_name(&asked, 0)? {
+    match resolver.find_name(asked, 0)? {
         Found::Known(_) => Ok(Some(heap.growths().saturating_sub(before))),
         Found::Start(_) => Ok(None),
     }
 }
 
+// How many growths a cached answer of one address takes.
+fn growths_of_find<B: Allocator>(heap: &Refusing<B>) -> Result<Option<u64>, Starved> {
+    let asked = name(heap, "www.test")?;
+    let mut resolver = fresh(heap)?;
+    resolver.learn("www.test", 0)?;
+    growths_of(heap, &mut resolver, &asked)
+}
+
 #[test]
 fn growths_of_a_cached_answer(rt: HostRuntime) -> Result<(), Fail> {
-    assert_eq!(rt; growths_of_find(rt.alloc())?, Some(3));
+    let heap = Refusing::new(rt.alloc());
+    assert_eq!(rt; growths_of_find(&heap)?, Some(3));
     Ok(())
 }

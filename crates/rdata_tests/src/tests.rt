@@ -1,111 +1,149 @@
 ghost use Rattle.std.specs.Prelude.{◌≤◌, length};
 
-use dname::Starved;
+use dname::{Heap, Starved};
 use fixtures::{Row, Value, data, name, record, records};
 use rdata::{
-    Addr, CharacterString, RData, RType, Record, RecordSet, Records, Texts, lowest_ttl, put_data,
-    same_set, set_at,
+    Addr, CharacterString, GREATEST_TTL, RData, RType, Record, RecordSet, Records, Texts,
+    lowest_ttl, put_data, same_set, set_at,
 };
-use std::alloc::Global;
+use std::cmp::Ordering;
 use std::test::Fail;
 
-fn string(alloc: Global, bytes: &[u8]) -> Result<CharacterString, Starved>
+// Number and word of each type, and the word in other letters (RFC 1035, sections 3.2.2 and 5.1; RFC 3596, section 2.1).
+const TYPES: &[(u16, &str, &str)] = &[
+    (1, "A", "a"),
+    (2, "NS", "ns"),
+    (5, "CNAME", "CName"),
+    (6, "SOA", "soA"),
+    (12, "PTR", "ptr"),
+    (15, "MX", "mX"),
+    (16, "TXT", "Txt"),
+    (28, "AAAA", "aAaA"),
+];
+
+const OTHER_NUMBERS: &[u16] = &[0, 3, 7, 13, 17, 27, 29, 255, 65535];
+
+const OTHER_WORDS: &[&str] = &["", "AA", "AAA", "N", "NSS", "TYPE1", "ANY"];
+
+fn is_said(kind: RType, number: u16, word: &str, other: &str) -> bool {
+    kind.number() == number
+        && kind.word() == word
+        && RType::from_word(other.as_bytes()) == Some(kind)
+}
+
+fn is_displayed<A: Heap>(alloc: A, kind: RType) -> Result<bool, Starved> {
+    Ok(format!(in alloc; "{kind}")?.as_str() == kind.word())
+}
+
+// The first row that is not as it says.
+fn first_unknown<A: Heap>(alloc: A) -> Result<Option<usize>, Starved> {
+    for (place, (number, word, other)) in TYPES.iter().enumerate() {
+        let Some(kind) = RType::from_number(*number) else {
+            return Ok(Some(place));
+        };
+        if !is_said(kind, *number, *word, *other) || !is_displayed(alloc, kind)? {
+            return Ok(Some(place));
+        }
+    }
+    Ok(None)
+}
+
+// The first number, or else the first word, that is a type.
+fn first_type() -> Option<usize> {
+    for (place, number) in OTHER_NUMBERS.iter().enumerate() {
+        if RType::from_number(*number).is_some() {
+            return Some(place);
+        }
+    }
+    for (place, word) in OTHER_WORDS.iter().enumerate() {
+        if RType::from_word(word.as_bytes()).is_some() {
+            return Some(place);
+        }
+    }
+    None
+}
+
+#[test]
+fn types_by_number_and_word(rt: HostRuntime) -> Result<(), Fail> {
+    assert_eq!(rt; first_unknown(rt.alloc())?, None);
+    assert_eq!(rt; first_type(), None);
+    Ok(())
+}
+
+fn is_written<A: Heap>(alloc: A, said: &RData<A>, wanted: &str) -> Result<bool, Starved> {
+    let mut out = String::new(alloc);
+    put_data(&mut out, said)?;
+    Ok(out.as_str() == wanted)
+}
+
+// RFC 1035, section 5.1; the longer address in eight groups (RFC 4291, section 2.2).
+const PRINTED: &[(Value<'static>, &str)] = &[
+    (Value::Ns("ns.example"), "NS ns.example."),
+    (
+        Value::Ns("host\\.master.example"),
+        "NS host\\.master.example.",
+    ),
+    (Value::Cname("."), "CNAME ."),
+    (Value::Mx("m.example"), "MX 10 m.example."),
+    (Value::Soa(4_294_967_295), "SOA ns. h. 1 2 3 4 4294967295"),
+    (Value::A(1), "A 192.0.2.1"),
+    (Value::Aaaa, "AAAA 2001:db8:0:0:0:0:0:1"),
+    (Value::Txt("a \"b\"\\"), "TXT \"a \\\"b\\\"\\\\\""),
+];
+
+fn first_misprint<A: Heap>(alloc: A) -> Result<Option<usize>, Starved> {
+    for (place, (value, wanted)) in PRINTED.iter().enumerate() {
+        let said = data(alloc, *value)?;
+        if !is_written(alloc, &said, *wanted)? {
+            return Ok(Some(place));
+        }
+    }
+    Ok(None)
+}
+
+#[test]
+fn data_in_print(rt: HostRuntime) -> Result<(), Fail> {
+    assert_eq!(rt; first_misprint(rt.alloc())?, None);
+    Ok(())
+}
+
+// Letters in a group.
+const GROUPS: [u8; 16] = [
+    0x20, 1, 0xd, 0xb8, 0, 0, 0, 0, 0, 0, 0, 0, 0, 0xa, 0xff, 0xfe,
+];
+
+fn highest_is_written<A: Heap>(alloc: A) -> Result<bool, Starved> {
+    let highest = RData::Mx(65535, name(alloc, "m.example")?);
+    Ok(is_written(alloc, &highest, "MX 65535 m.example.")?)
+}
+
+fn groups_are_written<A: Heap>(alloc: A) -> Result<bool, Starved> {
+    let said = RData::Aaaa(GROUPS);
+    Ok(is_written(alloc, &said, "AAAA 2001:db8:0:0:0:0:a:fffe")?)
+}
+
+fn string<A: Heap>(alloc: A, bytes: &[u8]) -> Result<CharacterString<A>, Starved>
     requires { length bytes.now ≤ 255 }
 {
     Ok(CharacterString::new(Vec::from_slice(alloc, bytes)?))
 }
 
-// RFC 1035, sections 3.2.2 and 5.1; RFC 3596, section 2.1.
-#[test]
-fn types_by_number_and_word(rt: HostRuntime) -> Result<(), Fail> {
-    let rows = [
-        (1, "A", "a"),
-        (2, "NS", "ns"),
-        (5, "CNAME", "CName"),
-        (6, "SOA", "soA"),
-        (12, "PTR", "ptr"),
-        (15, "MX", "mX"),
-        (16, "TXT", "Txt"),
-        (28, "AAAA", "aAaA"),
-    ];
-    for (number, word, other) in rows {
-        let kind = RType::from_number(number);
-        assert!(rt; kind.is_some(), "{word}");
-        assert_eq!(rt; RType::from_word(other.as_bytes()), kind, "{word}");
-        if let Some(kind) = kind {
-            assert_eq!(rt; kind.number(), number);
-            assert_eq!(rt; kind.word(), word);
-            assert_eq!(rt; format!(in rt.alloc(); "{kind}")?.as_str(), word);
-        }
-    }
-    for number in [0, 3, 7, 13, 17, 27, 29, 255, 65535] {
-        assert_eq!(rt; RType::from_number(number), None, "{number}");
-    }
-    for word in [
-        b"".as_slice(),
-        b"AA",
-        b"AAA",
-        b"N",
-        b"NSS",
-        b"TYPE1",
-        b"ANY",
-    ] {
-        assert_eq!(rt; RType::from_word(word), None);
-    }
-    Ok(())
+fn two_strings<A: Heap>(alloc: A) -> Result<Texts<A>, Starved> {
+    let mut texts = Texts::new(alloc, string(alloc, b"a \"b\"\\\x00\xff")?)?;
+    texts.push(string(alloc, b"")?)?;
+    Ok(texts)
 }
 
-fn written(alloc: Global, value: &RData) -> Result<String, Starved> {
-    let mut out = String::new(alloc);
-    put_data(&mut out, value)?;
-    Ok(out)
+fn strings_are_written<A: Heap>(alloc: A) -> Result<bool, Starved> {
+    let said = RData::Txt(two_strings(alloc)?);
+    Ok(is_written(alloc, &said, "TXT \"a \\\"b\\\"\\\\\\000\\255\" \"\"")?)
 }
 
-// RFC 1035, section 5.1; the longer address in eight groups (RFC 4291, section 2.2).
-#[test]
-fn data_in_print(rt: HostRuntime) -> Result<(), Fail> {
-    let rows = [
-        (Value::Ns("ns.example"), "NS ns.example."),
-        (Value::Cname("."), "CNAME ."),
-        (Value::Mx("m.example"), "MX 10 m.example."),
-        (Value::Soa(4_294_967_295), "SOA ns. h. 1 2 3 4 4294967295"),
-        (Value::A(1), "A 192.0.2.1"),
-        (Value::Aaaa, "AAAA 2001:db8:0:0:0:0:0:1"),
-        (Value::Txt("a \"b\"\\"), "TXT \"a \\\"b\\\"\\\\\""),
-    ];
-    for (value, wanted) in rows {
-        let said = data(rt.alloc(), value)?;
-        assert_eq!(rt; written(rt.alloc(), &said)?.as_str(), wanted);
-    }
-    Ok(())
-}
-
-// Each part at its end: the highest preference, a dot inside a label, letters in a group.
 #[test]
 fn data_at_its_ends(rt: HostRuntime) -> Result<(), Fail> {
-    let exchange = name(rt.alloc(), "m.example")?;
-    let mailbox = name(rt.alloc(), "host\\.master.example")?;
-    let group = [
-        0x20, 1, 0xd, 0xb8, 0, 0, 0, 0, 0, 0, 0, 0, 0, 0xa, 0xff, 0xfe,
-    ];
-    let rows = [
-        (RData::Mx(65535, exchange), "MX 65535 m.example."),
-        (RData::Ns(mailbox), "NS host\\.master.example."),
-        (RData::Aaaa(group), "AAAA 2001:db8:0:0:0:0:a:fffe"),
-    ];
-    for (said, wanted) in rows.as_slice() {
-        assert_eq!(rt; written(rt.alloc(), said)?.as_str(), *wanted);
-    }
-    Ok(())
-}
-
-#[test]
-fn data_with_strings(rt: HostRuntime) -> Result<(), Fail> {
-    let mut texts = Texts::new(rt.alloc(), string(rt.alloc(), b"a \"b\"\\\x00\xff")?)?;
-    texts.push(string(rt.alloc(), b"")?)?;
-    let txt = RData::Txt(texts);
-    let wanted = "TXT \"a \\\"b\\\"\\\\\\000\\255\" \"\"";
-    assert_eq!(rt; written(rt.alloc(), &txt)?.as_str(), wanted);
+    assert!(rt; highest_is_written(rt.alloc())?);
+    assert!(rt; groups_are_written(rt.alloc())?);
+    assert!(rt; strings_are_written(rt.alloc())?);
     Ok(())
 }
 
@@ -118,120 +156,172 @@ const FOUR: [Row<'static>; 4] = [
 ];
 
 // Whether a record has the TTL 60 and this last byte in its address.
-fn is_at(record: &Record, last: u8) -> bool {
+fn is_at<A: Heap>(record: &Record<A>, last: u8) -> bool {
     record.ttl == 60 && record.value.is_same(&RData::A(Addr([192, 0, 2, last])))
 }
 
-fn is_one_two_three(set: &[Record]) -> bool {
+fn is_one_two_three<A: Heap>(set: &[Record<A>]) -> bool {
     match set {
         [a, b, c] => is_at(a, 1) && is_at(b, 2) && is_at(c, 3),
         _ => false,
     }
 }
 
-// RFC 2181, sections 5 and 5.2.
-#[test]
-fn records_made_one_set(rt: HostRuntime) -> Result<(), Fail> {
-    let records = records(rt.alloc(), &FOUR)?;
-    let owner = name(rt.alloc(), "a.example")?;
-    let set = set_at(rt.alloc(), records.as_slice(), &owner, RType::A)?.ok_or(Starved)?;
-    assert_eq!(rt; set.len(), 3);
-    assert!(rt; is_at(&set.first()?, 1));
-    assert!(rt; is_one_two_three(set.clone()?.to_records(rt.alloc())?.as_slice()));
-    Ok(())
+// The set of the name among these rows of that type, copied once.
+fn set_in<A: Heap>(
+    alloc: A,
+    rows: &[Row<'static>],
+    kind: RType,
+) -> Result<Option<RecordSet<A>>, Starved> {
+    let records = records(alloc, rows)?;
+    let owner = name(alloc, "a.example")?;
+    Ok(set_at(alloc, records.as_slice(), &owner, kind)?)
 }
 
-#[test]
-fn records_of_one_set(rt: HostRuntime) -> Result<(), Fail> {
-    let rows = [
-        ("a.example", 300, Value::A(1)),
-        ("A.example", 60, Value::A(2)),
-        ("b.example", 300, Value::A(1)),
-    ];
-    let records = records(rt.alloc(), &rows)?;
-    let are_told = match records.as_slice() {
-        [one, other, elsewhere] => same_set(one, other) && !same_set(one, elsewhere),
-        _ => false,
+fn are_one_two_three<A: Heap>(alloc: A, rows: &[Row<'static>]) -> Result<bool, Starved> {
+    let Some(set) = set_in(alloc, rows, RType::A)? else {
+        return Ok(false);
     };
-    assert!(rt; are_told);
-    Ok(())
+    let copies = set.clone()?.to_records(alloc)?;
+    let first = set.first()?;
+    Ok(
+        set.len() == 3
+            && is_at(&first, 1)
+            && first.is(RType::A)
+            && is_one_two_three(copies.as_slice()),
+    )
 }
+
+// Among records of another owner and of another type.
+const AMONG_OTHERS: &[Row<'static>] = &[
+    ("a.example", 300, Value::A(1)),
+    ("A.Example", 60, Value::A(2)),
+    ("a.example", 600, Value::A(1)),
+    ("a.example", 90, Value::A(3)),
+    ("b.example", 5, Value::A(4)),
+    ("a.example", 5, Value::Ns("ns.example")),
+];
 
 // RFC 2181, sections 5 and 5.2: one owner, one type, one TTL, no record twice.
 #[test]
 fn the_set_of_an_owner_and_type(rt: HostRuntime) -> Result<(), Fail> {
-    let mut records = records(rt.alloc(), &FOUR)?;
-    for row in [
-        ("b.example", 5, Value::A(4)),
-        ("a.example", 5, Value::Ns("ns.example")),
-    ] {
-        records.push(record(rt.alloc(), row)?)?;
-    }
-    let owner = name(rt.alloc(), "a.example")?;
-    let set = set_at(rt.alloc(), records.as_slice(), &owner, RType::A)?.ok_or(Starved)?;
-    assert!(rt; is_one_two_three(set.to_records(rt.alloc())?.as_slice()));
-    assert!(rt; set.first()?.is(RType::A));
-    let none = set_at(rt.alloc(), records.as_slice(), &owner, RType::Mx)?;
-    assert!(rt; none.is_none());
+    assert!(rt; are_one_two_three(rt.alloc(), &FOUR)?);
+    assert!(rt; are_one_two_three(rt.alloc(), AMONG_OTHERS)?);
+    assert!(rt; set_in(rt.alloc(), AMONG_OTHERS, RType::Mx)?.is_none());
     Ok(())
+}
+
+const OF_TWO_OWNERS: [Row<'static>; 3] = [
+    ("a.example", 300, Value::A(1)),
+    ("A.example", 60, Value::A(2)),
+    ("b.example", 300, Value::A(1)),
+];
+
+fn sets_are_told<A: Heap>(alloc: A) -> Result<bool, Starved> {
+    let records = records(alloc, &OF_TWO_OWNERS)?;
+    Ok(match records.as_slice() {
+        [one, other, elsewhere] => same_set(one, other) && !same_set(one, elsewhere),
+        _ => false,
+    })
+}
+
+#[test]
+fn records_of_one_set(rt: HostRuntime) -> Result<(), Fail> {
+    assert!(rt; sets_are_told(rt.alloc())?);
+    Ok(())
+}
+
+fn alone<A: Heap>(alloc: A, row: Row<'static>) -> Result<RecordSet<A>, Starved> {
+    Ok(RecordSet::alone(alloc, record(alloc, row)?)?)
+}
+
+// The TTL of a set with 300 seconds that is capped by these.
+fn capped<A: Heap>(alloc: A, caps: &[u32]) -> Result<u32, Starved> {
+    let mut set = alone(alloc, FOUR[0])?;
+    for most in caps {
+        set.cap_ttl(*most);
+    }
+    Ok(set.ttl())
+}
+
+fn set_to<A: Heap>(alloc: A, ttl: u32) -> Result<u32, Starved> {
+    let mut set = alone(alloc, FOUR[0])?;
+    set.set_ttl(ttl.min(GREATEST_TTL));
+    Ok(set.first()?.ttl)
 }
 
 // RFC 2181, sections 5.2 and 8.
 #[test]
 fn set_with_other_ttls(rt: HostRuntime) -> Result<(), Fail> {
-    let mut set = RecordSet::alone(
-        rt.alloc(),
-        record(rt.alloc(), ("a.example", 300, Value::A(1)))?,
-    )?;
-    set.cap_ttl(600);
-    assert_eq!(rt; set.ttl(), 300);
-    set.cap_ttl(90);
-    assert_eq!(rt; set.ttl(), 90);
-    set.set_ttl(120);
-    assert_eq!(rt; set.first()?.ttl, 120);
+    assert_eq!(rt; capped(rt.alloc(), &[600])?, 300);
+    assert_eq!(rt; capped(rt.alloc(), &[600, 90])?, 90);
+    assert_eq!(rt; set_to(rt.alloc(), 120)?, 120);
     Ok(())
 }
 
-fn have_ttls(records: &[Record], ttls: [u32; 4]) -> bool {
+fn have_ttls<A: Heap>(records: &[Record<A>], ttls: [u32; 4]) -> bool {
     match records {
         [a, b, c, d] => [a.ttl, b.ttl, c.ttl, d.ttl] == ttls,
         _ => false,
     }
 }
 
+fn lowest<A: Heap>(alloc: A, rows: &[Row<'static>]) -> Result<u32, Starved> {
+    Ok(lowest_ttl(records(alloc, rows)?.as_slice()))
+}
+
+fn are_capped<A: Heap>(alloc: A) -> Result<bool, Starved> {
+    let mut records = records(alloc, &FOUR)?;
+    records.cap_ttl(90);
+    Ok(have_ttls(records.as_slice(), [90, 60, 90, 90]))
+}
+
 // RFC 2181, section 8.
 #[test]
 fn lowest_and_capped(rt: HostRuntime) -> Result<(), Fail> {
-    let none: Records = Records::new(rt.alloc());
-    assert_eq!(rt; lowest_ttl(none.as_slice()), 2_147_483_647);
-    let mut records = records(rt.alloc(), &FOUR)?;
-    assert_eq!(rt; lowest_ttl(records.as_slice()), 60);
-    records.cap_ttl(90);
-    assert!(rt; have_ttls(records.as_slice(), [90, 60, 90, 90]));
+    assert_eq!(rt; lowest(rt.alloc(), &[])?, 2_147_483_647);
+    assert_eq!(rt; lowest(rt.alloc(), &FOUR)?, 60);
+    assert!(rt; are_capped(rt.alloc())?);
     Ok(())
+}
+
+// By type, then by what the data say; a preference goes before an exchange.
+const IN_ORDER: [Row<'static>; 4] = [
+    ("a.", 1, Value::A(1)),
+    ("a.", 1, Value::Soa(60)),
+    ("a.", 1, Value::Mx("a.example")),
+    ("a.", 1, Value::Mx("b.example")),
+];
+
+fn ordered<A: Heap>(alloc: A) -> Result<Records<A>, Starved> {
+    let mut records = records(alloc, &IN_ORDER)?;
+    records.push(Record {
+        owner: name(alloc, "a.")?,
+        ttl: 1,
+        value: RData::Mx(20, name(alloc, "a.example")?),
+    })?;
+    Ok(records)
+}
+
+fn is_equal_to_its_copy<A: Heap>(value: &RData<A>) -> Result<bool, Starved> {
+    let copy = value.clone()?;
+    Ok(value.cmp(&copy) == Ordering::Equal)
+}
+
+// The first pair of neighbours that is out of order.
+fn first_out_of_order<A: Heap>(records: &[Record<A>]) -> Result<Option<usize>, Starved> {
+    for (place, pair) in records.windows(2).enumerate() {
+        let [low, high] = pair else { continue };
+        if low.value >= high.value || !is_equal_to_its_copy(&low.value)? {
+            return Ok(Some(place));
+        }
+    }
+    Ok(None)
 }
 
 #[test]
 fn data_in_order(rt: HostRuntime) -> Result<(), Fail> {
-    let rows = [
-        ("a.", 1, Value::A(1)),
-        ("a.", 1, Value::Soa(60)),
-        ("a.", 1, Value::Mx("a.example")),
-        ("a.", 1, Value::Mx("b.example")),
-    ];
-    let mut records = records(rt.alloc(), &rows)?;
-    records.push(Record {
-        owner: name(rt.alloc(), "a.")?,
-        ttl: 1,
-        value: RData::Mx(20, name(rt.alloc(), "a.example")?),
-    })?;
-    for pair in records.as_slice().windows(2) {
-        let [low, high] = pair else { continue };
-        assert!(rt; low.value < high.value);
-        assert_eq!(rt;
-            low.value.cmp(&low.value.clone()?),
-            std::cmp::Ordering::Equal
-        );
-    }
+    let records = ordered(rt.alloc())?;
+    assert_eq!(rt; first_out_of_order(records.as_slice())?, None);
     Ok(())
 }

@@ -1,64 +1,32 @@
-use dname::{Heap, Name, Starved};
+use dname::{Heap, Starved};
+use fixtures::{Row, Value, name, records};
 use lru::DefaultHasher;
-use rdata::{Addr, RData, Record};
-use referral::{Addresses, Cut, Delegations, Names, ServerAddress};
+use rdata::Addr;
+use referral::{Cut, Delegations, ServerAddress};
 use refusing::Refusing;
+use std::alloc::Allocator;
 use std::hash::BuildHasherDefault;
 use std::num::NonZeroUsize;
 use std::test::Fail;
 
-fn hasher() -> DefaultHasher {
-    BuildHasherDefault::new()
-}
-
-fn room(cuts: usize) -> Result<NonZeroUsize, Starved> {
-    NonZeroUsize::new(cuts).ok_or(Starved)
-}
-
-fn name<A: Heap>(alloc: A, text: &str) -> Result<Name<A>, Starved> {
-    match Name::from_text(alloc, text) {
-        Ok(name) => Ok(name),
-        Err(_) => Err(Starved),
-    }
+// A cut there that these records make.
+fn cut_of<A: Heap>(
+    alloc: A,
+    at: &str,
+    servers: &[Row<'_>],
+    glue: &[Row<'_>],
+) -> Result<Cut<A>, Starved> {
+    let servers = records(alloc, servers)?;
+    let glue = records(alloc, glue)?;
+    let at = name(alloc, at)?;
+    Cut::of_records(alloc, at, servers.as_slice(), glue.as_slice())
 }
 
 // A zone with one server, which has this address.
 fn cut<A: Heap>(alloc: A, at: &str, last: u8) -> Result<Cut<A>, Starved> {
-    let mut names = Names::new(alloc);
-    names.push(name(alloc, "ns.example")?)?;
-    let mut addresses = Addresses::new(alloc);
-    addresses.push(ServerAddress {
-        name: name(alloc, "ns.example")?,
-        address: Addr([192, 0, 2, last]),
-    })?;
-    Ok(Cut {
-        at: name(alloc, at)?,
-        names,
-        addresses,
-    })
-}
-
-// Delegations and the allocator that they stand on.
-#[derive(Drop)]
-struct Kept<A: Heap> {
-    alloc: A,
-    delegations: Delegations<DefaultHasher, A>,
-}
-
-impl<A: Heap> Kept<A> {
-    fn keep(&mut self, at: &str, last: u8, ttl: u32) -> Result<(), Starved> {
-        let cut = cut(self.alloc, at, last)?;
-        self.delegations.keep(&cut, ttl, 0)
-    }
-
-    // The last byte of the address of the best cut.
-    fn best(&mut self, text: &str, now: u64) -> Result<Option<u8>, Starved> {
-        let name = name(self.alloc, text)?;
-        match self.delegations.best(&name, now)? {
-            Some(cut) => Ok(last_byte(cut.addresses.as_slice())),
-            None => Ok(None),
-        }
-    }
+    let servers = [(at, 60, Value::Ns("ns.example"))];
+    let glue = [("ns.example", 60, Value::A(last))];
+    cut_of(alloc, at, &servers, &glue)
 }
 
 fn last_byte<A: Heap>(addresses: &[ServerAddress<A>]) -> Option<u8> {
@@ -68,108 +36,214 @@ fn last_byte<A: Heap>(addresses: &[ServerAddress<A>]) -> Option<u8> {
     }
 }
 
-#[test]
-fn the_deepest_live_cut_is_best(rt: HostRuntime) -> Result<(), Fail> {
-    let delegations = Delegations::new(rt.alloc(), room(9)?, hasher())?;
-    let mut kept = Kept {
-        alloc: rt.alloc(),
-        delegations,
-    };
-    kept.keep("example", 1, 60)?;
-    kept.keep("sub.example", 2, 10)?;
-    assert!(rt; kept.best("www.sub.example", 9_999)? == Some(2));
-    assert!(rt; kept.best("sub.example", 9_999)? == Some(2));
-    assert!(rt; kept.best("www.sub.example", 10_000)? == Some(1));
-    assert!(rt; kept.best("other", 0)?.is_none());
-    kept.keep(".", 3, 60)?;
-    assert!(rt; kept.best("other", 0)? == Some(3));
-    Ok(())
+// What delegations are told and asked, and what they have to say.
+#[derive(Clone, Copy)]
+enum Step {
+    // A cut whose server's address ends in this byte is kept for so many seconds from the moment 0 on.
+    Keep(&'static str, u8, u32),
+    // The last byte of the address of the best cut over a name at a moment, in milliseconds.
+    Best(&'static str, u64, Option<u8>),
 }
+
+// Delegations and the allocator that they stand on.
+#[derive(Drop)]
+struct Kept<A: Heap> {
+    alloc: A,
+    delegations: Delegations<DefaultHasher, A>,
+}
+
+fn empty<A: Heap>(alloc: A, room: usize) -> Result<Kept<A>, Starved> {
+    let room = NonZeroUsize::new(room).ok_or(Starved)?;
+    let delegations = Delegations::new(alloc, room, BuildHasherDefault::new())?;
+    Ok(Kept { alloc, delegations })
+}
+
+impl<A: Heap> Kept<A> {
+    fn keep(&mut self, at: &str, last: u8, ttl: u32) -> Result<(), Starved> {
+        let cut = cut(self.alloc, at, last)?;
+        self.delegations.keep(&cut, ttl, 0)
+    }
+
+    fn best_cut(&mut self, text: &str, now: u64) -> Result<Option<Cut<A>>, Starved> {
+        let name = name(self.alloc, text)?;
+        self.delegations.best(&name, now)
+    }
+
+    fn best(&mut self, text: &str, now: u64) -> Result<Option<u8>, Starved> {
+        match self.best_cut(text, now)? {
+            Some(cut) => Ok(last_byte(cut.addresses.as_slice())),
+            None => Ok(None),
+        }
+    }
+
+    fn goes(&mut self, step: Step) -> Result<bool, Starved> {
+        match step {
+            Step::Keep(at, last, ttl) => {
+                self.keep(at, last, ttl)?;
+                Ok(true)
+            }
+            Step::Best(text, now, last) => Ok(self.best(text, now)? == last),
+        }
+    }
+
+    // The place of the first step of which something else comes.
+    fn first_wrong(&mut self, steps: &[Step]) -> Result<Option<usize>, Starved> {
+        for (place, step) in steps.iter().enumerate() {
+            if !self.goes(*step)? {
+                return Ok(Some(place));
+            }
+        }
+        Ok(None)
+    }
+}
+
+// How many cuts there is room for, and what the delegations are told and asked.
+type Case = (usize, &'static [Step]);
+
+fn first_wrong_step<A: Heap>(alloc: A, case: Case) -> Result<Option<usize>, Starved> {
+    let (room, steps) = case;
+    let mut kept = empty(alloc, room)?;
+    kept.first_wrong(steps)
+}
+
+// The first case that goes wrong, and the step in it.
+fn first_wrong<A: Heap>(alloc: A, cases: &[Case]) -> Result<Option<(usize, usize)>, Starved> {
+    for (place, case) in cases.iter().enumerate() {
+        if let Some(step) = first_wrong_step(alloc, *case)? {
+            return Ok(Some((place, step)));
+        }
+    }
+    Ok(None)
+}
+
+const THE_DEEPEST_LIVE_CUT_IS_BEST: Case = (
+    9,
+    &[
+        Step::Keep("example", 1, 60),
+        Step::Keep("sub.example", 2, 10),
+        Step::Best("www.sub.example", 9_999, Some(2)),
+        Step::Best("sub.example", 9_999, Some(2)),
+        Step::Best("www.sub.example", 10_000, Some(1)),
+        Step::Best("other", 0, None),
+        Step::Keep(".", 3, 60),
+        Step::Best("other", 0, Some(3)),
+    ],
+);
+
+const TTL_ZERO_FORGETS_A_CUT: Case = (
+    9,
+    &[
+        Step::Keep("example", 1, 60),
+        Step::Keep("sub.example", 2, 60),
+        Step::Keep("sub.example", 2, 0),
+        Step::Best("sub.example", 0, Some(1)),
+    ],
+);
+
+const THE_LEAST_USED_CUT_GOES: Case = (
+    2,
+    &[
+        Step::Keep("a", 1, 60),
+        Step::Keep("b", 2, 60),
+        Step::Best("x.a", 0, Some(1)),
+        Step::Keep("c", 3, 60),
+        Step::Best("x.b", 0, None),
+        Step::Best("x.a", 0, Some(1)),
+    ],
+);
+
+const CASES: &[Case] = &[
+    THE_DEEPEST_LIVE_CUT_IS_BEST,
+    TTL_ZERO_FORGETS_A_CUT,
+    THE_LEAST_USED_CUT_GOES,
+];
 
 #[test]
-fn ttl_zero_forgets_a_cut(rt: HostRuntime) -> Result<(), Fail> {
-    let delegations = Delegations::new(rt.alloc(), room(9)?, hasher())?;
-    let mut kept = Kept {
-        alloc: rt.alloc(),
-        delegations,
-    };
-    kept.keep("example", 1, 60)?;
-    kept.keep("sub.example", 2, 60)?;
-    kept.keep("sub.example", 2, 0)?;
-    assert!(rt; kept.best("sub.example", 0)? == Some(1));
+fn cuts_are_kept_as_was_worked(rt: HostRuntime) -> Result<(), Fail> {
+    assert_eq!(rt; first_wrong(rt.alloc(), CASES)?, None);
     Ok(())
-}
-
-#[test]
-fn the_least_used_cut_goes(rt: HostRuntime) -> Result<(), Fail> {
-    let delegations = Delegations::new(rt.alloc(), room(2)?, hasher())?;
-    let mut kept = Kept {
-        alloc: rt.alloc(),
-        delegations,
-    };
-    kept.keep("a", 1, 60)?;
-    kept.keep("b", 2, 60)?;
-    assert!(rt; kept.best("x.a", 0)? == Some(1));
-    kept.keep("c", 3, 60)?;
-    assert!(rt; kept.best("x.b", 0)?.is_none());
-    assert!(rt; kept.best("x.a", 0)? == Some(1));
-    Ok(())
-}
-
-fn play<A: Heap>(alloc: A) -> Result<bool, Starved> {
-    let delegations = Delegations::new(alloc, room(2)?, hasher())?;
-    let mut kept = Kept { alloc, delegations };
-    kept.keep("example", 1, 60)?;
-    Ok(kept.best("www.example", 0)? == Some(1))
-}
-
-fn record<A: Heap>(alloc: A, owner: &str, value: RData<A>) -> Result<Record<A>, Starved> {
-    Ok(Record {
-        owner: name(alloc, owner)?,
-        ttl: 300,
-        value,
-    })
 }
 
 // The delegation of a zone to two servers, of which one has an address of each kind.
+const SERVERS: &[Row<'static>] = &[
+    ("example", 300, Value::Ns("ns1.example")),
+    ("example", 300, Value::Ns("ns2.other")),
+];
+
+const GLUE: &[Row<'static>] = &[
+    ("ns1.example", 300, Value::Aaaa),
+    ("ns1.example", 300, Value::A(1)),
+];
+
+// Whether it is a cut there, with two servers, of which this is the second, and one address, of this last byte.
+fn is_cut<A: Heap>(
+    alloc: A,
+    cut: &Cut<A>,
+    at: &str,
+    second: &str,
+    last: u8,
+) -> Result<bool, Starved> {
+    let at = name(alloc, at)?;
+    let second = name(alloc, second)?;
+    let is_second = matches!(cut.names.as_slice(), [_, it] if *it == second);
+    Ok(cut.at == at && is_second && last_byte(cut.addresses.as_slice()) == Some(last))
+}
+
+fn is_made_of_records<A: Heap>(alloc: A) -> Result<bool, Starved> {
+    let cut = cut_of(alloc, "example", SERVERS, GLUE)?;
+    is_cut(alloc, &cut, "example", "ns2.other", 1)
+}
+
 #[test]
 fn a_cut_is_made_of_records(rt: HostRuntime) -> Result<(), Fail> {
-    let alloc = rt.alloc();
-    let servers = [
-        record(alloc, "example", RData::Ns(name(alloc, "ns1.example")?))?,
-        record(alloc, "example", RData::Ns(name(alloc, "ns2.other")?))?,
-    ];
-    let glue = [
-        record(alloc, "ns1.example", RData::Aaaa([0; 16]))?,
-        record(alloc, "ns1.example", RData::A(Addr([192, 0, 2, 1])))?,
-    ];
-    let cut = Cut::of_records(alloc, name(alloc, "example")?, &servers, &glue)?;
-    assert!(rt; cut.at == name(alloc, "example")?);
-    let expected = name(alloc, "ns2.other")?;
-    assert!(rt; matches!(cut.names.as_slice(), [_, second] if *second == expected));
-    assert!(rt; last_byte(cut.addresses.as_slice()) == Some(1));
+    assert!(rt; is_made_of_records(rt.alloc())?);
     Ok(())
+}
+
+// Whether the cut of these hints is the root's, without names; and the last byte of its address.
+fn of_hints<A: Heap>(alloc: A, hints: &[Addr]) -> Result<(bool, Option<u8>), Starved> {
+    let root = name(alloc, ".")?;
+    let cut = Cut::of_hints(alloc, hints)?;
+    let is_bare = cut.at == root && cut.names.as_slice().is_empty();
+    Ok((is_bare, last_byte(cut.addresses.as_slice())))
 }
 
 #[test]
 fn hints_make_a_cut_at_the_root(rt: HostRuntime) -> Result<(), Fail> {
-    let cut = Cut::of_hints(rt.alloc(), &[Addr([198, 41, 0, 4])])?;
-    assert!(rt; cut.at == Name::root(rt.alloc())?);
-    assert!(rt; cut.names.as_slice().is_empty());
-    assert!(rt; last_byte(cut.addresses.as_slice()) == Some(4));
+    let hints = &[Addr([198, 41, 0, 4])];
+    assert_eq!(rt; of_hints(rt.alloc(), hints)?, (true, Some(4)));
     Ok(())
 }
 
-#[test]
-fn each_growth_refused_in_turn(rt: HostRuntime) -> Result<(), Fail> {
-    let heap = Refusing::new(rt.alloc());
-    assert!(rt; play(&heap)?);
-    let growths = heap.growths();
-    assert!(rt; growths > 10);
+const PLAYED: Case = (
+    2,
+    &[
+        Step::Keep("example", 1, 60),
+        Step::Best("www.example", 0, Some(1)),
+    ],
+);
+
+fn play<A: Heap>(alloc: A) -> Result<bool, Starved> {
+    Ok(first_wrong_step(alloc, PLAYED)?.is_none())
+}
+
+// The first growth whose refusal goes unsaid, or after which something else comes.
+fn first_unsaid<B: Allocator>(heap: &Refusing<B>, growths: u64) -> Option<u64> {
     for n in 0..growths {
         heap.refuse_after(n);
-        assert!(rt; play(&heap).is_err(), "growth {n}");
-        assert!(rt; play(&heap)?, "after growth {n}");
+        if play(heap).is_ok() || !matches!(play(heap), Ok(true)) {
+            return Some(n);
+        }
     }
+    None
+}
+
+#[test]
+fn each_growth_is_refused_in_turn(rt: HostRuntime) -> Result<(), Fail> {
+    let heap = Refusing::new(rt.alloc());
+    assert!(rt; matches!(play(&heap), Ok(true)));
+    let growths = heap.growths();
+    assert!(rt; growths > 10);
+    assert_eq!(rt; first_unsaid(&heap, growths), None);
     Ok(())
 }
