@@ -3,7 +3,7 @@
 use crate::made::Maker;
 use authority::{Catalog, Link, Local, look_in};
 use dname::{Heap, Name, Starved};
-use rdata::{RType, Record, RecordSet};
+use rdata::{RData, RType, Record, RecordSet};
 use std::alloc::Allocator;
 use std::test::Fail;
 use zone::{Zone, zone_keeps_rules};
@@ -14,23 +14,29 @@ fn is_same<A: Allocator>(one: &Record<A>, other: &Record<A>) -> bool {
 
 // The same records in the same order.
 fn are_same<A: Allocator>(these: &[Record<A>], those: &[Record<A>]) -> bool {
+    for (one, other) in these.iter().zip(those) {
+        if !is_same(one, other) {
+            return false;
+        }
+    }
     these.len() == those.len()
-        && these
-            .iter()
-            .zip(those)
-            .all(|(one, other)| is_same(one, other))
+}
+
+// The same data in the same order.
+fn are_same_values<A: Allocator>(these: &[RData<A>], those: &[RData<A>]) -> bool {
+    for (one, other) in these.iter().zip(those) {
+        if *one != *other {
+            return false;
+        }
+    }
+    these.len() == those.len()
 }
 
 // The same owner and TTL, and the same data in the same order.
 fn is_same_set<A: Allocator>(these: &RecordSet<A>, those: &RecordSet<A>) -> bool {
     these.owner == those.owner
         && these.ttl == those.ttl
-        && these.values.len() == those.values.len()
-        && these
-            .values
-            .iter()
-            .zip(&those.values)
-            .all(|(one, other)| one == other)
+        && are_same_values(&these.values, &those.values)
 }
 
 fn is_same_link<A: Allocator>(one: &Link<A>, other: &Link<A>) -> bool {
@@ -55,6 +61,18 @@ fn says_same<A: Allocator>(one: &Local<A>, other: &Local<A>) -> bool {
     }
 }
 
+// What the list of the zone's records says.
+fn by_list<A: Heap>(
+    alloc: A,
+    zone: &Zone<A>,
+    asked: &Name<A>,
+    kind: RType,
+) -> Result<Local<A>, Starved> {
+    zone_keeps_rules(zone);
+    let (origin, soa, records) = (zone.origin(), zone.denial(), zone.records());
+    Ok(look_in(alloc, origin, soa, records, asked, kind)?)
+}
+
 // Whether the tree and the list answer a question alike.
 fn answer_alike<A: Heap>(
     alloc: A,
@@ -63,9 +81,7 @@ fn answer_alike<A: Heap>(
     asked: &Name<A>,
     kind: RType,
 ) -> Result<bool, Starved> {
-    zone_keeps_rules(zone);
-    let (origin, soa, records) = (zone.origin(), zone.denial(), zone.records());
-    let by_list = look_in(alloc, origin, soa, records, asked, kind)?;
+    let by_list = by_list(alloc, zone, asked, kind)?;
     let by_tree = catalog.look(alloc, asked, kind)?;
     Ok(says_same(&by_tree, &by_list))
 }
@@ -77,20 +93,30 @@ fn asked_alike<A: Heap>(
     zone: &Zone<A>,
 ) -> Result<bool, Starved> {
     let (asked, kind) = maker.question()?;
-    answer_alike(alloc, catalog, zone, &asked, kind)
+    Ok(answer_alike(alloc, catalog, zone, &asked, kind)?)
 }
 
-// How many of so many questions to the zone of a seed they answer alike.
-fn alike_in<A: Heap>(alloc: A, seed: u8, questions: u32) -> Result<u32, Starved> {
-    let mut maker = Maker::new(alloc, seed);
-    let zone = maker.zone()?;
-    let catalog = catalog_of(alloc, zone.clone()?)?;
+// How many of so many questions they answer alike.
+fn count_alike<A: Heap>(
+    maker: &mut Maker<A>,
+    alloc: A,
+    zone: &Zone<A>,
+    questions: u32,
+) -> Result<u32, Starved> {
+    let catalog = catalog_of(alloc, zone)?;
     let mut count = 0u32;
     for _ in 0..questions {
-        let alike = asked_alike(&mut maker, alloc, &catalog, &zone)?;
+        let alike = asked_alike(maker, alloc, &catalog, zone)?;
         count = count.saturating_add(alike as u32);
     }
     Ok(count)
+}
+
+// The same of questions to the zone of a seed.
+fn alike_in<A: Heap>(alloc: A, seed: u8, questions: u32) -> Result<u32, Starved> {
+    let mut maker = Maker::new(alloc, seed);
+    let zone = maker.zone()?;
+    Ok(count_alike(&mut maker, alloc, &zone, questions)?)
 }
 
 // The same of so many zones.
@@ -102,10 +128,15 @@ fn alike<A: Heap>(alloc: A, zones: u8, questions: u32) -> Result<u32, Starved> {
     Ok(count)
 }
 
-fn catalog_of<A: Heap>(alloc: A, zone: Zone<A>) -> Result<Catalog<A>, Starved> {
+fn copied<A: Heap>(alloc: A, zone: &Zone<A>) -> Result<Vec<Zone<A>, A>, Starved> {
+    let zone = zone.clone()?;
     let mut zones = Vec::new(alloc);
     zones.push(zone)?;
-    match Catalog::new(zones) {
+    Ok(zones)
+}
+
+fn catalog_of<A: Heap>(alloc: A, zone: &Zone<A>) -> Result<Catalog<A>, Starved> {
+    match Catalog::new(copied(alloc, zone)?) {
         Ok(catalog) => Ok(catalog),
         Err(_) => Err(Starved),
     }

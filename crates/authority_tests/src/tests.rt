@@ -1,19 +1,18 @@
 use authority::{Catalog, CatalogError, Link, Local};
-use dname::{Heap, Starved};
+use dname::{Heap, Name, Starved};
 use fixtures::{Row, Value, name, record, records};
 use rdata::{RType, Records};
 use refusing::Refusing;
-use std::process::Abort;
 use std::test::Fail;
 use zone::Zone;
 
-const EXAMPLE: [Row<'static>; 2] = [
+const EXAMPLE: &[Row<'static>] = &[
     ("example", 3600, Value::Soa(60)),
     ("example", 3600, Value::Ns("ns.example")),
 ];
 
 // RFC 4592, section 2.2.1, in small: a wildcard, a name between owners and the origin, a cut, an alias.
-const LAB: [Row<'static>; 8] = [
+const LAB: &[Row<'static>] = &[
     ("lab.example", 3600, Value::Soa(60)),
     ("lab.example", 3600, Value::Ns("ns.example")),
     ("*.lab.example", 60, Value::Txt("words")),
@@ -43,170 +42,302 @@ fn known<A: Heap>(zones: Vec<Zone<A>, A>) -> Result<Catalog<A>, Starved> {
     }
 }
 
+fn put<A: Heap>(
+    zones: &mut Vec<Zone<A>, A>,
+    alloc: A,
+    origin: &str,
+    rows: &[Row<'_>],
+) -> Result<(), Starved> {
+    let zone = zone(alloc, origin, rows)?;
+    zones.push(zone)?;
+    Ok(())
+}
+
 fn catalog<A: Heap>(alloc: A) -> Result<Catalog<A>, Starved> {
     let mut zones = Vec::new(alloc);
-    zones.push(zone(alloc, "example", &EXAMPLE)?)?;
-    zones.push(zone(alloc, "lab.example", &LAB)?)?;
+    put(&mut zones, alloc, "example", EXAMPLE)?;
+    put(&mut zones, alloc, "lab.example", LAB)?;
     Ok(known(zones)?)
 }
 
-// The answer's kind, the name that it speaks of, and how many records and addresses it has.
-fn told<A: Heap>(
-    alloc: A,
-    zones: &Catalog<A>,
-    asked: &str,
+// What is asked for, and the answer: its kind, the name that it speaks of, if any, and how many records and
+// addresses it has.
+struct Case {
+    asked: &'static str,
     kind: RType,
-) -> Result<(&'static str, String<A>, usize, usize), Starved> {
-    let asked = name(alloc, asked)?;
-    described(alloc, zones.look(alloc, &asked, kind)?)
+    answer: &'static str,
+    owner: &'static str,
+    records: usize,
+    addresses: usize,
 }
 
-fn described<A: Heap>(
-    alloc: A,
-    said: Local<A>,
-) -> Result<(&'static str, String<A>, usize, usize), Starved> {
-    match said {
-        Local::Link(Link::Found(set)) => {
-            let owner = set.owner.to_text();
-            let count = set.len();
-            drop(set);
-            Ok(("found", owner?, count, 0))
-        }
-        Local::Link(Link::Alias(alias)) => Ok(("alias", alias.owner.to_text()?, 1, 0)),
-        Local::Link(Link::NoData(soa)) => Ok(("no data", soa.owner.to_text()?, 0, 0)),
-        Local::Link(Link::NxDomain(soa)) => Ok(("no name", soa.owner.to_text()?, 0, 0)),
-        Local::Cut(cut, servers, addresses) => {
-            Ok(("cut", cut.to_text()?, servers.len(), addresses.len()))
-        }
-        Local::NotHere => Ok(("not here", String::new(alloc), 0, 0)),
+// An answer of one record to a question for a text.
+const FOUND: Case = Case {
+    asked: "x.lab.example",
+    kind: RType::Txt,
+    answer: "found",
+    owner: "x.lab.example.",
+    records: 1,
+    addresses: 0,
+};
+
+// An answer without records: what the zone of that SOA has not.
+const DENIED: Case = Case {
+    asked: "x.lab.example",
+    kind: RType::Txt,
+    answer: "no data",
+    owner: "lab.example.",
+    records: 0,
+    addresses: 0,
+};
+
+// No zone at hand is over the name.
+const NOT_HERE: Case = Case {
+    asked: "x.lab.example",
+    kind: RType::Txt,
+    answer: "not here",
+    owner: "",
+    records: 0,
+    addresses: 0,
+};
+
+fn is_name<A: Heap>(name: &Name<A>, text: &str) -> Result<bool, Starved> {
+    let said = name.to_text()?;
+    Ok(said.as_str() == text)
+}
+
+// The kind of a link, the name that it speaks of, and how many records it has.
+fn link_said<A: Heap>(link: &Link<A>) -> (&'static str, &Name<A>, usize) {
+    match link {
+        Link::Found(set) => ("found", &set.owner, set.len()),
+        Link::Alias(alias) => ("alias", &alias.owner, 1),
+        Link::NoData(soa) => ("no data", &soa.owner, 0),
+        Link::NxDomain(soa) => ("no name", &soa.owner, 0),
     }
 }
 
-// A name and a type that are asked for; the answer's kind, and the name that it speaks of; how many records and addresses
-// it has.
-type Answer = (
-    &'static str,
-    RType,
-    &'static str,
-    &'static str,
-    usize,
-    usize,
-);
-
-// The zones answer so.
-fn answers<R: Abort + AllocGlobal>(rt: &R, rows: &[Answer]) -> Result<(), Fail> {
-    let zones = catalog(rt.alloc())?;
-    for (asked, kind, answer, owner, records, addresses) in rows {
-        let (word, name, set, glue) = told(rt.alloc(), &zones, *asked, *kind)?;
-        assert_eq!(rt; word, *answer, "for {asked}");
-        assert_eq!(rt; name.as_str(), *owner, "for {asked}");
-        assert_eq!(rt; (set, glue), (*records, *addresses), "for {asked}");
+impl Case {
+    fn is_said_so<A: Heap>(
+        &self,
+        said: (&str, &Name<A>, usize),
+        addresses: usize,
+    ) -> Result<bool, Starved> {
+        let (answer, owner, records) = said;
+        let counts = records == self.records && addresses == self.addresses;
+        Ok(is_name(owner, self.owner)? && answer == self.answer && counts)
     }
-    Ok(())
+
+    fn is_answer<A: Heap>(&self, said: &Local<A>) -> Result<bool, Starved> {
+        match said {
+            Local::Link(link) => Ok(self.is_said_so(link_said(link), 0)?),
+            Local::Cut(cut, servers, glue) => {
+                Ok(self.is_said_so(("cut", cut, servers.len()), glue.len())?)
+            }
+            Local::NotHere => Ok(self.answer == "not here"),
+        }
+    }
+
+    fn is_met<A: Heap>(&self, alloc: A, zones: &Catalog<A>) -> Result<bool, Starved> {
+        let asked = name(alloc, self.asked)?;
+        let said = zones.look(alloc, &asked, self.kind)?;
+        Ok(self.is_answer(&said)?)
+    }
+
+    // The same of the zones with these origins.
+    fn is_met_among<A: Heap>(
+        &self,
+        alloc: A,
+        zones: &Catalog<A>,
+        listed: &[&str],
+    ) -> Result<bool, Starved> {
+        let origins = names(alloc, listed)?;
+        let asked = name(alloc, self.asked)?;
+        let said = zones.look_among(alloc, &origins, &asked, self.kind)?;
+        Ok(self.is_answer(&said)?)
+    }
 }
 
-#[test]
-fn a_wildcard_answers_where_no_name_is_closer(rt: HostRuntime) -> Result<(), Fail> {
-    let kind = RType::Txt;
-    let rows: [Answer; 5] = [
-        ("x.lab.example", kind, "found", "x.lab.example.", 1, 0),
-        ("x.y.lab.example", kind, "found", "x.y.lab.example.", 1, 0),
-        ("x.lab.example", RType::A, "no data", "lab.example.", 0, 0),
-        ("x.b.lab.example", kind, "no name", "lab.example.", 0, 0),
-        ("b.lab.example", kind, "no data", "lab.example.", 0, 0),
-    ];
-    answers(&rt, &rows)
+fn names<A: Heap>(alloc: A, texts: &[&str]) -> Result<Vec<Name<A>, A>, Starved> {
+    let mut names = Vec::new(alloc);
+    for text in texts {
+        names.push(name(alloc, *text)?)?;
+    }
+    Ok(names)
 }
 
-#[test]
-fn records_aliases_and_cuts_answer(rt: HostRuntime) -> Result<(), Fail> {
-    let kind = RType::A;
-    let rows: [Answer; 5] = [
-        ("a.b.lab.example", kind, "found", "a.b.lab.example.", 1, 0),
-        ("www.lab.example", kind, "alias", "www.lab.example.", 1, 0),
-        ("x.sub.lab.example", kind, "cut", "sub.lab.example.", 1, 1),
-        (
-            "sub.lab.example",
-            RType::Ns,
-            "cut",
-            "sub.lab.example.",
-            1,
-            1,
-        ),
-        ("lab.example", RType::Ns, "found", "lab.example.", 1, 0),
-    ];
-    answers(&rt, &rows)
-}
-
-#[test]
-fn the_zone_of_the_longest_origin_answers(rt: HostRuntime) -> Result<(), Fail> {
-    let kind = RType::Txt;
-    let rows: [Answer; 4] = [
-        ("x.lab.example", kind, "found", "x.lab.example.", 1, 0),
-        ("other.example", kind, "no name", "example.", 0, 0),
-        ("example", kind, "no data", "example.", 0, 0),
-        ("test", RType::A, "not here", "", 0, 0),
-    ];
-    answers(&rt, &rows)
-}
-
-// The same of the zones whose origins are listed.
-fn told_among<A: Heap>(
+// The first case of which these zones answer something else.
+fn first_wrong_in<A: Heap>(
     alloc: A,
     zones: &Catalog<A>,
-    listed: &[&str],
-    asked: &str,
-) -> Result<(&'static str, String<A>, usize, usize), Starved> {
-    let mut origins = Vec::new(alloc);
-    for origin in listed {
-        origins.push(name(alloc, *origin)?)?;
+    cases: &[Case],
+) -> Result<Option<usize>, Starved> {
+    for (place, case) in cases.iter().enumerate() {
+        if !case.is_met(alloc, zones)? {
+            return Ok(Some(place));
+        }
     }
-    let asked = name(alloc, asked)?;
-    let said = zones.look_among(alloc, &origins, &asked, RType::Txt)?;
-    described(alloc, said)
+    Ok(None)
 }
 
+// The same of the zones above.
+fn first_wrong<A: Heap>(alloc: A, cases: &[Case]) -> Result<Option<usize>, Starved> {
+    let zones = catalog(alloc)?;
+    Ok(first_wrong_in(alloc, &zones, cases)?)
+}
+
+// A wildcard answers where no name is closer.
+const WILDCARD: &[Case] = &[
+    FOUND,
+    Case {
+        asked: "x.y.lab.example",
+        owner: "x.y.lab.example.",
+        ..FOUND
+    },
+    Case {
+        kind: RType::A,
+        ..DENIED
+    },
+    Case {
+        asked: "x.b.lab.example",
+        answer: "no name",
+        ..DENIED
+    },
+    Case {
+        asked: "b.lab.example",
+        ..DENIED
+    },
+];
+
+const RECORDS: &[Case] = &[
+    Case {
+        asked: "a.b.lab.example",
+        kind: RType::A,
+        owner: "a.b.lab.example.",
+        ..FOUND
+    },
+    Case {
+        asked: "www.lab.example",
+        kind: RType::A,
+        answer: "alias",
+        owner: "www.lab.example.",
+        ..FOUND
+    },
+    Case {
+        asked: "x.sub.lab.example",
+        kind: RType::A,
+        answer: "cut",
+        owner: "sub.lab.example.",
+        addresses: 1,
+        ..FOUND
+    },
+    Case {
+        asked: "sub.lab.example",
+        kind: RType::Ns,
+        answer: "cut",
+        owner: "sub.lab.example.",
+        addresses: 1,
+        ..FOUND
+    },
+    Case {
+        asked: "lab.example",
+        kind: RType::Ns,
+        owner: "lab.example.",
+        ..FOUND
+    },
+];
+
+// The zone of the longest origin answers.
+const ZONES: &[Case] = &[
+    FOUND,
+    Case {
+        asked: "other.example",
+        answer: "no name",
+        owner: "example.",
+        ..DENIED
+    },
+    Case {
+        asked: "example",
+        owner: "example.",
+        ..DENIED
+    },
+    Case {
+        asked: "test",
+        kind: RType::A,
+        ..NOT_HERE
+    },
+];
+
 #[test]
-fn answers_from_listed_zones_alone(rt: HostRuntime) -> Result<(), Fail> {
-    let zones = catalog(rt.alloc())?;
-    for (listed, asked, answer, owner) in [
-        (
-            ["example", "lab.example"].as_slice(),
-            "x.lab.example",
-            "found",
-            "x.lab.example.",
-        ),
-        (&["lab.example"], "x.lab.example", "found", "x.lab.example."),
-        // The shorter origin, where the longer one is not listed.
-        (&["example"], "x.lab.example", "no name", "example."),
-        // Listed, but not over the name; without a zone; none at all.
-        (&["lab.example"], "x.example", "not here", ""),
-        (
-            &["test", "b.lab.example"],
-            "a.b.lab.example",
-            "not here",
-            "",
-        ),
-        (&[], "x.lab.example", "not here", ""),
-    ] {
-        let (word, name, _, _) = told_among(rt.alloc(), &zones, listed, asked)?;
-        assert_eq!(rt; word, answer, "for {asked}");
-        assert_eq!(rt; name.as_str(), owner, "for {asked}");
-    }
+fn zones_answer(rt: HostRuntime) -> Result<(), Fail> {
+    assert_eq!(rt; first_wrong(rt.alloc(), WILDCARD)?, None);
+    assert_eq!(rt; first_wrong(rt.alloc(), RECORDS)?, None);
+    assert_eq!(rt; first_wrong(rt.alloc(), ZONES)?, None);
     Ok(())
 }
 
+// Origins that are listed, and what the zones of them answer.
+const LISTED: &[(&[&str], Case)] = &[
+    (&["example", "lab.example"], FOUND),
+    (&["lab.example"], FOUND),
+    // The shorter origin, where the longer one is not listed.
+    (
+        &["example"],
+        Case {
+            answer: "no name",
+            owner: "example.",
+            ..DENIED
+        },
+    ),
+    // Listed, but not over the name; without a zone; none at all.
+    (
+        &["lab.example"],
+        Case {
+            asked: "x.example",
+            ..NOT_HERE
+        },
+    ),
+    (
+        &["test", "b.lab.example"],
+        Case {
+            asked: "a.b.lab.example",
+            ..NOT_HERE
+        },
+    ),
+    (&[], NOT_HERE),
+];
+
+fn first_wrong_among<A: Heap>(alloc: A) -> Result<Option<usize>, Starved> {
+    let zones = catalog(alloc)?;
+    for (place, row) in LISTED.iter().enumerate() {
+        let (listed, case) = row;
+        if !case.is_met_among(alloc, &zones, *listed)? {
+            return Ok(Some(place));
+        }
+    }
+    Ok(None)
+}
+
 #[test]
-fn refuses_twins(rt: HostRuntime) -> Result<(), Fail> {
-    let mut zones = Vec::new(rt.alloc());
-    for _ in 0..2 {
-        zones.push(zone(rt.alloc(), "lab.example", &LAB)?)?;
-    }
-    let refused = Catalog::new(zones);
-    assert!(rt; refused.is_err());
-    if let Err(error) = refused {
-        assert_eq!(rt; error, CatalogError::Twins);
-    }
+fn listed_zones_alone_answer(rt: HostRuntime) -> Result<(), Fail> {
+    assert_eq!(rt; first_wrong_among(rt.alloc())?, None);
+    Ok(())
+}
+
+// Whether a zone twice is refused.
+fn refuses_twins<A: Heap>(alloc: A) -> Result<bool, Starved> {
+    let mut zones = Vec::new(alloc);
+    put(&mut zones, alloc, "lab.example", LAB)?;
+    put(&mut zones, alloc, "lab.example", LAB)?;
+    Ok(is_refused(zones))
+}
+
+fn is_refused<A: Heap>(zones: Vec<Zone<A>, A>) -> bool {
+    matches!(Catalog::new(zones), Err(CatalogError::Twins))
+}
+
+#[test]
+fn twins_are_refused(rt: HostRuntime) -> Result<(), Fail> {
+    assert!(rt; refuses_twins(rt.alloc())?);
     Ok(())
 }
 
@@ -219,73 +350,105 @@ fn bare<A: Heap>(alloc: A, origin: &str) -> Result<Zone<A>, Starved> {
     Ok(zone(alloc, origin, &rows)?)
 }
 
+fn numbered<A: Heap>(alloc: A, number: u32) -> Result<Zone<A>, Starved> {
+    let origin = format!(in alloc; "zone-{number}.example")?;
+    Ok(bare(alloc, origin.as_str())?)
+}
+
 // Zones of so many origins.
 fn many_zones<A: Heap>(alloc: A, count: u32) -> Result<Vec<Zone<A>, A>, Starved> {
     let mut zones = Vec::new(alloc);
-    for n in 0..count {
-        let origin = format!(in alloc; "zone-{n}.example")?;
-        zones.push(bare(alloc, origin.as_str())?)?;
+    for number in 0..count {
+        zones.push(numbered(alloc, number)?)?;
     }
     Ok(zones)
 }
 
-// Whether ten thousand zones are a catalog, and with one of them twice at its ends refused.
-fn tells_twins<A: Heap>(alloc: A) -> Result<bool, Starved> {
-    let parted = Catalog::new(many_zones(alloc, 10_000)?).is_ok();
+fn is_catalog_of_many<A: Heap>(alloc: A) -> Result<bool, Starved> {
+    Ok(Catalog::new(many_zones(alloc, 10_000)?).is_ok())
+}
+
+// Whether they are refused with one of them twice, at both ends.
+fn are_twins_of_many<A: Heap>(alloc: A) -> Result<bool, Starved> {
+    let twin = bare(alloc, "ZONE-0.example")?;
     let mut zones = many_zones(alloc, 10_000)?;
-    zones.push(bare(alloc, "ZONE-0.example")?)?;
-    let refused = Catalog::new(zones);
-    Ok(parted && matches!(refused, Err(CatalogError::Twins)))
+    zones.push(twin)?;
+    Ok(is_refused(zones))
 }
 
 #[test]
 fn ten_thousand_zones_are_a_catalog(rt: HostRuntime) -> Result<(), Fail> {
-    assert!(rt; matches!(tells_twins(rt.alloc()), Ok(true)));
+    assert!(rt; matches!(is_catalog_of_many(rt.alloc()), Ok(true)));
+    assert!(rt; matches!(are_twins_of_many(rt.alloc()), Ok(true)));
     Ok(())
 }
 
 // The records of a zone of eighty addresses of one name, each of them twice.
 fn twice<A: Heap>(alloc: A) -> Result<Records<A>, Starved> {
-    let mut records = records(alloc, &EXAMPLE)?;
+    let mut records = records(alloc, EXAMPLE)?;
     for n in 0..80_u8 {
         records.push(record(alloc, ("many.example", 60, Value::A(n % 40)))?)?;
     }
     Ok(records)
 }
 
-// How many addresses that zone has at the name.
-fn found_twice<A: Heap>(alloc: A) -> Result<usize, Starved> {
+fn catalog_of_twice<A: Heap>(alloc: A) -> Result<Catalog<A>, Starved> {
+    let zone = built(alloc, "example", twice(alloc)?)?;
     let mut zones = Vec::new(alloc);
-    zones.push(built(alloc, "example", twice(alloc)?)?)?;
-    let (_, _, found, _) = told(alloc, &known(zones)?, "many.example", RType::A)?;
-    Ok(found)
+    zones.push(zone)?;
+    Ok(known(zones)?)
+}
+
+// Each address once.
+const MANY: &[Case] = &[Case {
+    asked: "many.example",
+    kind: RType::A,
+    owner: "many.example.",
+    records: 40,
+    ..FOUND
+}];
+
+fn first_wrong_of_twice<A: Heap>(alloc: A) -> Result<Option<usize>, Starved> {
+    let zones = catalog_of_twice(alloc)?;
+    Ok(first_wrong_in(alloc, &zones, MANY)?)
 }
 
 #[test]
 fn repeats_are_found_in_long_sets(rt: HostRuntime) -> Result<(), Fail> {
-    assert!(rt; matches!(found_twice(rt.alloc()), Ok(40)));
+    assert_eq!(rt; first_wrong_of_twice(rt.alloc())?, None);
     Ok(())
 }
 
-// What two zones say of a name beneath a wildcard, and of one beneath a cut.
-fn both_told<A: Heap>(alloc: A) -> Result<(usize, usize), Starved> {
-    let zones = catalog(alloc)?;
-    let (_, _, found, _) = told(alloc, &zones, "x.lab.example", RType::Txt)?;
-    let (_, _, _, glue) = told(alloc, &zones, "x.sub.lab.example", RType::A)?;
-    told_among(alloc, &zones, &["example"], "x.lab.example")?;
-    Ok((found, glue))
+// A name beneath a wildcard, and one beneath a cut.
+const BOTH: &[Case] = &[
+    FOUND,
+    Case {
+        asked: "x.sub.lab.example",
+        kind: RType::A,
+        answer: "cut",
+        owner: "sub.lab.example.",
+        addresses: 1,
+        ..FOUND
+    },
+];
+
+// Whether zones answer as was worked, and those that are listed do.
+fn is_answered<A: Heap>(alloc: A) -> Result<bool, Starved> {
+    let of_all = first_wrong(alloc, BOTH)?;
+    let of_listed = first_wrong_among(alloc)?;
+    Ok(of_all.is_none() && of_listed.is_none())
 }
 
 #[test]
 fn each_growth_is_refused_in_turn(rt: HostRuntime) -> Result<(), Fail> {
     let heap = Refusing::new(rt.alloc());
-    assert!(rt; matches!(both_told(&heap), Ok((1, 1))));
+    assert!(rt; matches!(is_answered(&heap), Ok(true)));
     let growths = heap.growths();
     for n in 0..growths {
         heap.refuse_after(n);
-        assert!(rt; both_told(&heap).is_err(), "growth {n}");
+        assert!(rt; is_answered(&heap).is_err(), "growth {n}");
     }
     heap.refuse_after(growths);
-    assert!(rt; matches!(both_told(&heap), Ok((1, 1))));
+    assert!(rt; matches!(is_answered(&heap), Ok(true)));
     Ok(())
 }

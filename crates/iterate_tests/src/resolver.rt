@@ -23,7 +23,7 @@ pub const EXAMPLE: u8 = 2;
 pub const SUB: u8 = 3;
 
 // The zone at hand: an address, an alias that leads out of it, and a cut.
-const ZONE_ROWS: [Row<'static>; 6] = [
+const ZONE_ROWS: &[Row<'static>] = &[
     ("local", 60, Value::Soa(60)),
     ("local", 60, Value::Ns("www.local")),
     ("www.local", 60, Value::A(7)),
@@ -36,15 +36,15 @@ const ROOT_SOA: Row<'static> = (".", 60, Value::Soa(60));
 
 // What comes in.
 #[derive(Clone, Copy)]
-pub enum Event<'a> {
+pub enum Event {
     // A query for the address of this name.
-    Query(&'a str),
+    Query(&'static str),
     // A server gives one record for an answer.
-    Answer(u8, Row<'a>),
+    Answer(u8, Row<'static>),
     // A server of the root says that there is no such name.
     NoName,
     // A server of the root refers to a zone: its servers, and addresses of the first one.
-    Referral(&'a str, &'a [&'a str], &'a [u8]),
+    Referral(&'static str, &'static [&'static str], &'static [u8]),
     // A server's reply comes truncated.
     Truncated(u8),
     // A server has no use for the question.
@@ -67,7 +67,10 @@ pub enum Out {
 }
 
 // The moment, what comes in, and what has to go out.
-pub type Step<'a> = (u32, Event<'a>, Out);
+pub type Step = (u32, Event, Out);
+
+// A rule in words, and steps that show it, of a resolver that has learnt nothing.
+pub type Script = (&'static str, &'static [Step]);
 
 // RCODE is a number of four bits (RFC 1035, section 4.1.1).
 fn header(rcode: u8, aa: bool, tc: bool) -> Header
@@ -162,18 +165,24 @@ fn referral<A: Heap>(
     Ok(message(alloc, header, empty(alloc), servers, addresses))
 }
 
-fn told<A: Heap>(server: u8, message: Message<A>) -> Input<A> {
-    Input::Told(Via::Udp, address(server), message)
+// A message over UDP from that server.
+fn told<A: Heap>(server: u8, message: Result<Message<A>, Starved>) -> Result<Input<A>, Starved> {
+    Ok(Input::Told(Via::Udp, address(server), message?))
 }
 
-fn input<A: Heap>(alloc: A, event: Event<'_>) -> Result<Input<A>, Starved> {
+// A message without records from that server.
+fn told_nothing<A: Heap>(alloc: A, server: u8, header: Header) -> Input<A> {
+    Input::Told(Via::Udp, address(server), bare(alloc, header))
+}
+
+fn input<A: Heap>(alloc: A, event: Event) -> Result<Input<A>, Starved> {
     match event {
         Event::Query(_) => Ok(Input::Start),
-        Event::Answer(server, row) => Ok(told(server, answer(alloc, row)?)),
-        Event::NoName => Ok(told(ROOT, denial(alloc)?)),
-        Event::Referral(zone, names, glue) => Ok(told(ROOT, referral(alloc, zone, names, glue)?)),
-        Event::Truncated(server) => Ok(told(server, bare(alloc, header(0, true, true)))),
-        Event::Refused(server) => Ok(told(server, bare(alloc, header(5, true, false)))),
+        Event::Answer(server, row) => Ok(told(server, answer(alloc, row))?),
+        Event::NoName => Ok(told(ROOT, denial(alloc))?),
+        Event::Referral(zone, names, glue) => Ok(told(ROOT, referral(alloc, zone, names, glue))?),
+        Event::Truncated(server) => Ok(told_nothing(alloc, server, header(0, true, true))),
+        Event::Refused(server) => Ok(told_nothing(alloc, server, header(5, true, false))),
         Event::TimedOut(server) => Ok(Input::TimedOut(address(server))),
         Event::TcpFailed(server) => Ok(Input::TcpFailed(address(server))),
     }
@@ -181,16 +190,20 @@ fn input<A: Heap>(alloc: A, event: Event<'_>) -> Result<Input<A>, Starved> {
 
 fn zone<A: Heap>(alloc: A) -> Result<Zone<A>, Starved> {
     let origin = name(alloc, "local")?;
-    match Zone::build(origin, records(alloc, &ZONE_ROWS)?) {
+    match Zone::build(origin, records(alloc, ZONE_ROWS)?) {
         Ok(zone) => Ok(zone),
         Err(_) => Err(Starved),
     }
 }
 
-fn catalog<A: Heap>(alloc: A) -> Result<Catalog<A>, Starved> {
+fn zones<A: Heap>(alloc: A) -> Result<Vec<Zone<A>, A>, Starved> {
     let mut zones = Vec::new(alloc);
     zones.push(zone(alloc)?)?;
-    match Catalog::new(zones) {
+    Ok(zones)
+}
+
+fn catalog<A: Heap>(alloc: A) -> Result<Catalog<A>, Starved> {
+    match Catalog::new(zones(alloc)?) {
         Ok(catalog) => Ok(catalog),
         Err(_) => Err(Starved),
     }
@@ -205,6 +218,15 @@ fn hasher() -> DefaultHasher {
     BuildHasherDefault::new()
 }
 
+fn hashers() -> Hashers<DefaultHasher> {
+    Hashers {
+        links: hasher(),
+        cuts: hasher(),
+        servers: hasher(),
+    }
+}
+
+// Room for twenty of each.
 fn stores<A: Heap>(alloc: A) -> Result<Stores<DefaultHasher, A>, Starved> {
     let room = NonZeroUsize::new(20).ok_or(Starved)?;
     let capacities = Capacities {
@@ -212,12 +234,7 @@ fn stores<A: Heap>(alloc: A) -> Result<Stores<DefaultHasher, A>, Starved> {
         cuts: room,
         servers: room,
     };
-    let hashers = Hashers {
-        links: hasher(),
-        cuts: hasher(),
-        servers: hasher(),
-    };
-    Ok(Stores::new(alloc, capacities, hashers)?)
+    Ok(Stores::new(alloc, capacities, hashers())?)
 }
 
 fn job<A: Heap>(alloc: A, text: &str, now: u32) -> Result<Job<A>, Starved> {
@@ -268,33 +285,46 @@ pub struct Asked<A: Heap> {
 impl<A: Heap> Asked<A> {
     // One that has learnt nothing.
     pub fn new(alloc: A) -> Result<Asked<A>, Starved> {
+        let job = job(alloc, ".", 0)?;
+        let home = home(alloc)?;
         Ok(Asked {
             alloc,
-            home: home(alloc)?,
+            home,
             stores: stores(alloc)?,
-            job: job(alloc, ".", 0)?,
+            job,
         })
+    }
+
+    // What goes out for a query whose work has begun.
+    fn begun(&mut self, begun: Begun<A>) -> Out {
+        match begun {
+            Begun::Known(last) => done(0, last.link()),
+            Begun::Works(job, next) => {
+                self.job = job;
+                short(&next)
+            }
+        }
     }
 
     // What goes out at this moment for another query that comes.
     pub fn query(&mut self, name: &Name<A>, now: u32) -> Result<Out, Starved> {
-        match begin(
+        let begun = begin(
             self.alloc,
             name,
             RType::A,
             &self.home,
             &mut self.stores,
             u64::from(now),
-        )? {
-            Begun::Known(last) => Ok(done(0, last.link())),
-            Begun::Works(job, next) => {
-                self.job = job;
-                Ok(short(&next))
-            }
-        }
+        )?;
+        Ok(self.begun(begun))
     }
 
-    pub fn advance(&mut self, input: Input<A>, now: u32) -> Result<Out, Starved> {
+    fn ask(&mut self, text: &str, now: u32) -> Result<Out, Starved> {
+        let name = name(self.alloc, text)?;
+        Ok(self.query(&name, now)?)
+    }
+
+    fn advance(&mut self, input: Input<A>, now: u32) -> Result<Out, Starved> {
         let next = advance(
             self.alloc,
             &mut self.job,
@@ -307,18 +337,18 @@ impl<A: Heap> Asked<A> {
     }
 
     // What goes out at this moment for what comes in.
-    pub fn hear(&mut self, now: u32, event: Event<'_>) -> Result<Out, Starved> {
+    pub fn hear(&mut self, now: u32, event: Event) -> Result<Out, Starved> {
         if let Event::Query(text) = event {
-            return self.query(&name(self.alloc, text)?, now);
+            return Ok(self.ask(text, now)?);
         }
         let input = input(self.alloc, event)?;
         Ok(self.advance(input, now)?)
     }
 
     // The first of these steps after which something else went out, by its place, and what it was.
-    pub fn first_wrong(&mut self, steps: &[Step<'_>]) -> Result<Option<(usize, Out)>, Starved> {
-        for place in 0..steps.len() {
-            let (now, event, want) = steps[place];
+    pub fn first_wrong(&mut self, steps: &[Step]) -> Result<Option<(usize, Out)>, Starved> {
+        for (place, step) in steps.iter().enumerate() {
+            let (now, event, want) = *step;
             let out = self.hear(now, event)?;
             if out != want {
                 return Ok(Some((place, out)));
@@ -328,7 +358,7 @@ impl<A: Heap> Asked<A> {
     }
 
     // After how many such events the query fails, and why.
-    pub fn until_failure(&mut self, event: Event<'_>) -> Result<(u32, Cause), Starved> {
+    pub fn until_failure(&mut self, event: Event) -> Result<(u32, Cause), Starved> {
         for events in 1..100u32 {
             if let Out::Failed(cause) = self.hear(0, event)? {
                 return Ok((events, cause));
@@ -339,7 +369,21 @@ impl<A: Heap> Asked<A> {
 }
 
 // The first wrong step of a resolver that has learnt nothing.
-pub fn first_wrong<A: Heap>(alloc: A, steps: &[Step<'_>]) -> Result<Option<(usize, Out)>, Starved> {
+pub fn first_wrong<A: Heap>(alloc: A, steps: &[Step]) -> Result<Option<(usize, Out)>, Starved> {
     let mut asked = Asked::new(alloc)?;
     Ok(asked.first_wrong(steps)?)
+}
+
+// The first script that goes wrong: its rule, the place of the step, and what went out after it.
+pub fn first_broken<A: Heap>(
+    alloc: A,
+    scripts: &[Script],
+) -> Result<Option<(&'static str, usize, Out)>, Starved> {
+    for script in scripts {
+        let (rule, steps) = *script;
+        if let Some((place, out)) = first_wrong(alloc, steps)? {
+            return Ok(Some((rule, place, out)));
+        }
+    }
+    Ok(None)
 }

@@ -9,35 +9,46 @@ const DENIAL: &[u8] =
 
 fn rewritten<A: Heap>(alloc: A) -> Result<Vec<u8, A>, WireError> {
     let m = decode(alloc, DENIAL)?;
-    encode(alloc, &m, 65_535)
+    Ok(encode(alloc, &m, 65_535)?)
+}
+
+// Whether it is written as it was read.
+fn is_rewritten<A: Heap>(alloc: A) -> Result<bool, WireError> {
+    let bytes = rewritten(alloc)?;
+    Ok(bytes.as_slice() == DENIAL)
 }
 
 #[test]
 fn each_growth_is_refused_in_turn(rt: HostRuntime) -> Result<(), Fail> {
     let heap = Refusing::new(rt.alloc());
-    assert!(rt; rewritten(&heap)?.as_slice() == DENIAL);
+    assert!(rt; matches!(is_rewritten(&heap), Ok(true)));
     let growths = heap.growths();
     assert!(rt; growths > 8);
     for n in 0..growths {
         heap.refuse_after(n);
         assert!(rt;
-            matches!(rewritten(&heap), Err(WireError::Memory)),
+            matches!(is_rewritten(&heap), Err(WireError::Memory)),
             "growth {n}"
         );
-        assert!(rt; rewritten(&heap)?.as_slice() == DENIAL, "after growth {n}");
+        assert!(rt; matches!(is_rewritten(&heap), Ok(true)), "after growth {n}");
     }
     Ok(())
+}
+
+// Whether it has one question.
+fn has_question<A: Heap>(alloc: A) -> Result<bool, WireError> {
+    Ok(decode_question(alloc, DENIAL)?.is_some())
 }
 
 #[test]
 fn each_growth_of_a_question_is_refused(rt: HostRuntime) -> Result<(), Fail> {
     let heap = Refusing::new(rt.alloc());
-    assert!(rt; decode_question(&heap, DENIAL)?.is_some());
+    assert!(rt; matches!(has_question(&heap), Ok(true)));
     let growths = heap.growths();
     for n in 0..growths {
         heap.refuse_after(n);
         assert!(rt;
-            matches!(decode_question(&heap, DENIAL), Err(WireError::Memory)),
+            matches!(has_question(&heap), Err(WireError::Memory)),
             "growth {n}"
         );
     }
@@ -45,12 +56,18 @@ fn each_growth_of_a_question_is_refused(rt: HostRuntime) -> Result<(), Fail> {
 }
 
 // Two records of a type that is not served: one owner in full, one by a pointer to it.
+const SKIPPED: &[u8] =
+    b"\0\x01\x80\0\0\0\0\x02\0\0\0\0\x01a\x07example\0\0\x63\0\x01\0\0\0\x01\0\x01x\xc0\x0c\0\x63\0\x01\0\0\0\x01\0\0";
+
+fn answers<A: Heap>(alloc: A) -> Result<usize, WireError> {
+    let m = decode(alloc, SKIPPED)?;
+    Ok(m.answer.len())
+}
+
 #[test]
 fn skipped_records_take_no_memory(rt: HostRuntime) -> Result<(), Fail> {
-    let bytes =
-        b"\0\x01\x80\0\0\0\0\x02\0\0\0\0\x01a\x07example\0\0\x63\0\x01\0\0\0\x01\0\x01x\xc0\x0c\0\x63\0\x01\0\0\0\x01\0\0";
     let heap = Refusing::new(rt.alloc());
-    assert!(rt; decode(&heap, bytes)?.answer.is_empty());
+    assert!(rt; matches!(answers(&heap), Ok(0)));
     assert_eq!(rt; heap.growths(), 0);
     Ok(())
 }

@@ -1,15 +1,14 @@
-use crate::fixtures::{Line, name, root_world, section, world};
+use crate::fixtures::{Code, Line, bytes_of, name, root_world, world};
 use dname::{Heap, Starved};
 use rdata::RType;
 use refusing::Refusing;
-use std::alloc::{AllocError, Global};
 use std::ops::Range;
 use std::test::Fail;
-use wire::{Header, Message, Question, Questions, encode};
+use wire::Header;
 use worlds::{World, judge};
 
 // A set of two, aliases to it, and an alias to a name that does not exist.
-const WORLD: [Line; 3] = [
+const WORLD: &[Line] = &[
     Line::Zone(
         ".",
         ". 60 SOA r. h. 1 2 3 4 60\n. 60 NS ns.\nns. 60 A 198.51.100.1\nw. 60 A 192.0.2.1\nw. 60 A 192.0.2.2\na. 60 CNAME b.\nb. 60 CNAME w.\nd. 60 CNAME gone.\n",
@@ -27,13 +26,23 @@ const OTHER_SOA: &str = ". 7 SOA r. h. 2 2 3 4 60\n";
 struct Reply<'a> {
     name: &'a str,
     tc: bool,
-    rcode: u8,
+    code: Code,
     answer: &'a str,
     authority: &'a str,
     additional: &'a str,
 }
 
-fn header(tc: bool, rcode: u8) -> Header {
+// A whole reply about w. whose sections are empty, but for what a case says otherwise.
+const PLAIN: Reply<'static> = Reply {
+    name: "w.",
+    tc: false,
+    code: Code::NoError,
+    answer: "",
+    authority: "",
+    additional: "",
+};
+
+fn header(tc: bool, code: Code) -> Header {
     Header {
         id: 7,
         qr: true,
@@ -43,150 +52,240 @@ fn header(tc: bool, rcode: u8) -> Header {
         rd: false,
         ra: true,
         z: 0,
-        rcode: rcode % 16,
+        rcode: code.number(),
     }
 }
 
-fn bytes_of<A: Heap>(alloc: A, reply: Reply<'_>) -> Result<Vec<u8, A>, Starved> {
-    let mut questions = Questions::new(alloc);
-    questions.push(Question {
-        name: name(alloc, reply.name)?,
-        qtype: 1,
-        qclass: 1,
-    })?;
-    let message = Message {
-        header: header(reply.tc, reply.rcode),
-        questions,
-        answer: section(alloc, reply.answer)?,
-        authority: section(alloc, reply.authority)?,
-        additional: section(alloc, reply.additional)?,
-    };
-    match encode(alloc, &message, 65_535) {
-        Ok(bytes) => Ok(bytes),
-        Err(_) => Err(Starved),
-    }
+fn bytes<A: Heap>(alloc: A, reply: &Reply<'_>) -> Result<Vec<u8, A>, Starved> {
+    let header = header(reply.tc, reply.code);
+    let sections = [reply.answer, reply.authority, reply.additional];
+    Ok(bytes_of(alloc, header, reply.name, RType::A, sections)?)
 }
 
-fn judged<A: Heap>(alloc: A, world: &World<A>, reply: Reply<'_>) -> Result<bool, Starved> {
-    let bytes = bytes_of(alloc, reply)?;
-    judge(world, &name(alloc, reply.name)?, RType::A, &bytes)
+// Whether the reply is judged right.
+fn judged<A: Heap>(alloc: A, world: &World<A>, reply: &Reply<'_>) -> Result<bool, Starved> {
+    let name = name(alloc, reply.name)?;
+    let bytes = bytes(alloc, reply)?;
+    Ok(judge(world, &name, RType::A, &bytes)?)
 }
 
-// A whole reply without additional records.
-const fn plain<'a>(name: &'a str, rcode: u8, answer: &'a str, authority: &'a str) -> Reply<'a> {
-    Reply {
-        name,
-        tc: false,
-        rcode,
-        answer,
-        authority,
-        additional: "",
-    }
-}
+// A reply, and whether it is right.
+type Case = (Reply<'static>, bool);
 
-fn judges_so<A: Heap>(alloc: A, rows: &[(Reply<'_>, bool)]) -> Result<bool, Starved> {
-    let Ok(world) = world(alloc, &WORLD)? else {
-        return Ok(false);
-    };
-    for (reply, right) in rows {
-        if judged(alloc, &world, *reply)? != *right {
-            return Ok(false);
+// The first case that is judged otherwise.
+fn first_wrong<A: Heap>(alloc: A, cases: &[Case]) -> Result<Option<usize>, Starved> {
+    let world = world(alloc, WORLD)?;
+    for (place, case) in cases.iter().enumerate() {
+        let (reply, right) = case;
+        if judged(alloc, &world, reply)? != *right {
+            return Ok(Some(place));
         }
     }
-    Ok(true)
+    Ok(None)
+}
+
+const SET: &str = "w. 1 A 192.0.2.1\nw. 1 A 192.0.2.2\n";
+
+const SETS: &[Case] = &[
+    (
+        Reply {
+            answer: SET,
+            ..PLAIN
+        },
+        true,
+    ),
+    // Another order, and other TTLs.
+    (
+        Reply {
+            answer: "w. 2 A 192.0.2.2\nw. 3 A 192.0.2.1\n",
+            ..PLAIN
+        },
+        true,
+    ),
+    // One missing, one twice, one of another owner; another RCODE, and an SOA too many.
+    (
+        Reply {
+            answer: "w. 1 A 192.0.2.1\n",
+            ..PLAIN
+        },
+        false,
+    ),
+    (
+        Reply {
+            answer: "w. 1 A 192.0.2.1\nw. 1 A 192.0.2.2\nw. 1 A 192.0.2.1\n",
+            ..PLAIN
+        },
+        false,
+    ),
+    (
+        Reply {
+            answer: "w. 1 A 192.0.2.1\nx. 1 A 192.0.2.2\n",
+            ..PLAIN
+        },
+        false,
+    ),
+    (
+        Reply {
+            code: Code::NameError,
+            answer: SET,
+            ..PLAIN
+        },
+        false,
+    ),
+    (
+        Reply {
+            answer: SET,
+            authority: SOA,
+            ..PLAIN
+        },
+        false,
+    ),
+];
+
+// Aliases stand in their order.
+const ALIASES: &[Case] = &[
+    (
+        Reply {
+            name: "a.",
+            answer: "a. 1 CNAME b.\nb. 1 CNAME w.\nw. 1 A 192.0.2.2\nw. 1 A 192.0.2.1\n",
+            ..PLAIN
+        },
+        true,
+    ),
+    (
+        Reply {
+            name: "a.",
+            answer: "b. 1 CNAME w.\na. 1 CNAME b.\nw. 1 A 192.0.2.2\nw. 1 A 192.0.2.1\n",
+            ..PLAIN
+        },
+        false,
+    ),
+    (
+        Reply {
+            name: "a.",
+            answer: "a. 1 CNAME b.\n",
+            ..PLAIN
+        },
+        false,
+    ),
+];
+
+// A name error behind an alias.
+const BEHIND_ALIAS: Reply<'static> = Reply {
+    name: "d.",
+    code: Code::NameError,
+    answer: "d. 1 CNAME gone.\n",
+    authority: SOA,
+    ..PLAIN
+};
+
+const DENIALS: &[Case] = &[
+    // A name error, behind an alias too.
+    (
+        Reply {
+            name: "gone.",
+            code: Code::NameError,
+            authority: SOA,
+            ..PLAIN
+        },
+        true,
+    ),
+    (
+        Reply {
+            name: "gone.",
+            authority: SOA,
+            ..PLAIN
+        },
+        false,
+    ),
+    (BEHIND_ALIAS, true),
+    (
+        Reply {
+            code: Code::NoError,
+            ..BEHIND_ALIAS
+        },
+        false,
+    ),
+    (
+        Reply {
+            authority: OTHER_SOA,
+            ..BEHIND_ALIAS
+        },
+        false,
+    ),
+    (
+        Reply {
+            authority: "",
+            ..BEHIND_ALIAS
+        },
+        false,
+    ),
+    // No data: the root has no address.
+    (
+        Reply {
+            name: ".",
+            authority: SOA,
+            ..PLAIN
+        },
+        true,
+    ),
+    (
+        Reply {
+            name: ".",
+            code: Code::NameError,
+            authority: SOA,
+            ..PLAIN
+        },
+        false,
+    ),
+];
+
+const TRUNCATED: &[Case] = &[
+    (Reply { tc: true, ..PLAIN }, true),
+    (
+        Reply {
+            tc: true,
+            answer: SET,
+            ..PLAIN
+        },
+        false,
+    ),
+    (
+        Reply {
+            tc: true,
+            authority: SOA,
+            ..PLAIN
+        },
+        false,
+    ),
+    (PLAIN, false),
+    (
+        Reply {
+            answer: SET,
+            additional: "ns. 1 A 198.51.100.1\n",
+            ..PLAIN
+        },
+        false,
+    ),
+];
+
+// The first case that is judged otherwise, by its table and its place there.
+fn first_wrong_of<A: Heap>(
+    alloc: A,
+    tables: &[&[Case]],
+) -> Result<Option<(usize, usize)>, Starved> {
+    for (table, cases) in tables.iter().enumerate() {
+        if let Some(place) = first_wrong(alloc, *cases)? {
+            return Ok(Some((table, place)));
+        }
+    }
+    Ok(None)
 }
 
 #[test]
-fn a_set_is_judged(rt: HostRuntime) -> Result<(), Fail> {
-    let set = "w. 1 A 192.0.2.1\nw. 1 A 192.0.2.2\n";
-    let reordered = "w. 2 A 192.0.2.2\nw. 3 A 192.0.2.1\n";
-    let doubled = "w. 1 A 192.0.2.1\nw. 1 A 192.0.2.2\nw. 1 A 192.0.2.1\n";
-    let foreign = "w. 1 A 192.0.2.1\nx. 1 A 192.0.2.2\n";
-    let rows = [
-        (plain("w.", 0, set, ""), true),
-        // Another order, and other TTLs.
-        (plain("w.", 0, reordered, ""), true),
-        // One missing, one twice, one of another owner; another RCODE, and an SOA too many.
-        (plain("w.", 0, "w. 1 A 192.0.2.1\n", ""), false),
-        (plain("w.", 0, doubled, ""), false),
-        (plain("w.", 0, foreign, ""), false),
-        (plain("w.", 3, set, ""), false),
-        (plain("w.", 0, set, SOA), false),
-    ];
-    assert!(rt; judges_so(rt.alloc(), &rows)?);
-    Ok(())
-}
-
-#[test]
-fn aliases_are_judged_in_their_order(rt: HostRuntime) -> Result<(), Fail> {
-    let chain = "a. 1 CNAME b.\nb. 1 CNAME w.\nw. 1 A 192.0.2.2\nw. 1 A 192.0.2.1\n";
-    let reordered = "b. 1 CNAME w.\na. 1 CNAME b.\nw. 1 A 192.0.2.2\nw. 1 A 192.0.2.1\n";
-    let rows = [
-        (plain("a.", 0, chain, ""), true),
-        (plain("a.", 0, reordered, ""), false),
-        (plain("a.", 0, "a. 1 CNAME b.\n", ""), false),
-    ];
-    assert!(rt; judges_so(rt.alloc(), &rows)?);
-    Ok(())
-}
-
-#[test]
-fn denials_are_judged(rt: HostRuntime) -> Result<(), Fail> {
-    let rows = [
-        // A name error, behind an alias too.
-        (plain("gone.", 3, "", SOA), true),
-        (plain("gone.", 0, "", SOA), false),
-        (plain("d.", 3, "d. 1 CNAME gone.\n", SOA), true),
-        (plain("d.", 0, "d. 1 CNAME gone.\n", SOA), false),
-        (plain("d.", 3, "d. 1 CNAME gone.\n", OTHER_SOA), false),
-        (plain("d.", 3, "d. 1 CNAME gone.\n", ""), false),
-        // No data: the root has no address.
-        (plain(".", 0, "", SOA), true),
-        (plain(".", 3, "", SOA), false),
-    ];
-    assert!(rt; judges_so(rt.alloc(), &rows)?);
-    Ok(())
-}
-
-#[test]
-fn truncated_replies_are_judged(rt: HostRuntime) -> Result<(), Fail> {
-    let bare = Reply {
-        name: "w.",
-        tc: true,
-        rcode: 0,
-        answer: "",
-        authority: "",
-        additional: "",
-    };
-    let set = "w. 1 A 192.0.2.1\nw. 1 A 192.0.2.2\n";
-    let rows = [
-        (bare, true),
-        (
-            Reply {
-                answer: set,
-                ..bare
-            },
-            false,
-        ),
-        (
-            Reply {
-                authority: SOA,
-                ..bare
-            },
-            false,
-        ),
-        (Reply { tc: false, ..bare }, false),
-        (
-            Reply {
-                tc: false,
-                answer: set,
-                additional: "ns. 1 A 198.51.100.1\n",
-                ..bare
-            },
-            false,
-        ),
-    ];
-    assert!(rt; judges_so(rt.alloc(), &rows)?);
+fn replies_are_judged(rt: HostRuntime) -> Result<(), Fail> {
+    let tables = &[SETS, ALIASES, DENIALS, TRUNCATED];
+    assert_eq!(rt; first_wrong_of(rt.alloc(), tables)?, None);
     Ok(())
 }
 
@@ -194,49 +293,67 @@ fn truncated_replies_are_judged(rt: HostRuntime) -> Result<(), Fail> {
 const MOST: u32 = 4_094;
 
 // The addresses of w. with these numbers, a line each.
-fn put_addresses(text: &mut String, numbers: Range<u32>) -> Result<(), AllocError> {
+fn put_addresses<A: Heap>(text: &mut String<A>, numbers: Range<u32>) -> Result<(), Starved> {
     for number in numbers {
-        write!(text, "w. 60 A 10.0.{}.{}\n", number / 256, number % 256)?;
+        let high = number / 256;
+        let low = number % 256;
+        write!(text, "w. 60 A 10.0.{high}.{low}\n")?;
     }
     Ok(())
 }
 
-// A world in which w. has so many addresses.
-fn world_of_many(alloc: Global, addresses: u32) -> Result<World, Starved> {
+// A world in which w. has one address fewer than that.
+fn world_of_many<A: Heap>(alloc: A) -> Result<World<A>, Starved> {
     let mut text = String::from_str(
         alloc,
         ". 60 SOA r. h. 1 2 3 4 60\n. 60 NS ns.\nns. 60 A 198.51.100.1\n",
     )?;
-    put_addresses(&mut text, 0..addresses)?;
-    root_world(alloc, text.as_str())
+    put_addresses(&mut text, 0..MOST - 1)?;
+    Ok(root_world(alloc, text.as_str())?)
+}
+
+// Whether a reply is right that has all its addresses, and those from this number on a second time.
+fn judged_many<A: Heap>(alloc: A, world: &World<A>, doubled: u32) -> Result<bool, Starved> {
+    let mut answer = String::new(alloc);
+    put_addresses(&mut answer, 0..MOST - 1)?;
+    put_addresses(&mut answer, doubled..MOST - 1)?;
+    let reply = Reply {
+        name: "w.",
+        tc: false,
+        code: Code::NoError,
+        answer: answer.as_str(),
+        authority: "",
+        additional: "",
+    };
+    Ok(judged(alloc, world, &reply)?)
+}
+
+// Each once, and the last one twice.
+fn judged_longest<A: Heap>(alloc: A) -> Result<(bool, bool), Starved> {
+    let world = world_of_many(alloc)?;
+    let whole = judged_many(alloc, &world, MOST - 1)?;
+    let doubled = judged_many(alloc, &world, MOST - 2)?;
+    Ok((whole, doubled))
 }
 
 #[test]
 fn the_longest_replies_are_judged(rt: HostRuntime) -> Result<(), Fail> {
-    let alloc = rt.alloc();
-    let world = world_of_many(alloc, MOST - 1)?;
-    let mut answer = String::new(alloc);
-    put_addresses(&mut answer, 0..MOST - 1)?;
-    assert!(rt; judged(alloc, &world, plain("w.", 0, answer.as_str(), ""))?);
-    put_addresses(&mut answer, MOST - 2..MOST - 1)?;
-    assert!(rt; !judged(alloc, &world, plain("w.", 0, answer.as_str(), ""))?);
+    assert_eq!(rt; judged_longest(rt.alloc())?, (true, false));
     Ok(())
 }
+
+const RIGHT: &[Case] = &[(BEHIND_ALIAS, true)];
 
 #[test]
 fn each_growth_of_a_judge_is_refused_in_turn(rt: HostRuntime) -> Result<(), Fail> {
     let heap = Refusing::new(rt.alloc());
-    let reply = plain("d.", 3, "d. 1 CNAME gone.\n", SOA);
-    assert!(rt; matches!(judges_so(&heap, &[(reply, true)]), Ok(true)));
+    assert!(rt; matches!(first_wrong(&heap, RIGHT), Ok(None)));
     let growths = heap.growths();
     for n in 0..growths {
         heap.refuse_after(n);
-        assert!(rt;
-            !matches!(judges_so(&heap, &[(reply, false)]), Ok(true)),
-            "growth {n}"
-        );
+        assert!(rt; first_wrong(&heap, RIGHT).is_err(), "growth {n}");
     }
     heap.refuse_after(growths);
-    assert!(rt; matches!(judges_so(&heap, &[(reply, true)]), Ok(true)));
+    assert!(rt; matches!(first_wrong(&heap, RIGHT), Ok(None)));
     Ok(())
 }
