@@ -13,17 +13,26 @@ pub enum Change {
     Turned(usize, u8),
 }
 
-pub fn changed<A: Heap>(alloc: A, bytes: &[u8], change: Change) -> Result<Vec<u8, A>, Starved> {
-    let mut copy = Vec::from_slice(alloc, bytes)?;
+// Bytes of a message, from one place on and before another.
+pub type Places = (usize, usize);
+
+fn turn<A: Heap>(bytes: &mut Vec<u8, A>, place: usize, bits: u8) {
+    if let Some(byte) = bytes.get_mut(place) {
+        *byte ^= bits;
+    }
+}
+
+fn make<A: Heap>(bytes: &mut Vec<u8, A>, change: Change) {
     match change {
         Change::Nothing => {}
-        Change::CutAt(length) => copy.truncate(length),
-        Change::Turned(place, bits) => {
-            if let Some(byte) = copy.get_mut(place) {
-                *byte ^= bits;
-            }
-        }
+        Change::CutAt(length) => bytes.truncate(length),
+        Change::Turned(place, bits) => turn(bytes, place, bits),
     }
+}
+
+pub fn changed<A: Heap>(alloc: A, bytes: &[u8], change: Change) -> Result<Vec<u8, A>, Starved> {
+    let mut copy = Vec::from_slice(alloc, bytes)?;
+    make(&mut copy, change);
     Ok(copy)
 }
 

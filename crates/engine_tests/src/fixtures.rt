@@ -37,7 +37,20 @@ impl Line {
     }
 }
 
-// A message: its ID, the rest of its header, the question, and records.
+fn put_lines<A: Heap>(bytes: &mut Vec<u8, A>, lines: &[Line]) -> Result<(), Starved> {
+    for line in lines {
+        bytes.extend_from_slice(&line.bytes())?;
+    }
+    Ok(())
+}
+
+// What stands behind the ID of a message: the rest of its header, the question, and records.
+fn put_rest<A: Heap>(bytes: &mut Vec<u8, A>, rest: &[u8], lines: &[Line]) -> Result<(), Starved> {
+    bytes.extend_from_slice(rest)?;
+    bytes.extend_from_slice(QUESTION)?;
+    Ok(put_lines(bytes, lines)?)
+}
+
 fn message<A: Heap>(
     alloc: A,
     id: [u8; 2],
@@ -45,12 +58,8 @@ fn message<A: Heap>(
     lines: &[Line],
 ) -> Result<Bytes<A>, Starved> {
     let mut bytes = Vec::from_slice(alloc, &id)?;
-    bytes.extend_from_slice(rest)?;
-    bytes.extend_from_slice(QUESTION)?;
-    for line in lines {
-        bytes.extend_from_slice(&line.bytes())?;
-    }
-    bounded(bytes)
+    put_rest(&mut bytes, rest, lines)?;
+    Ok(bounded(bytes)?)
 }
 
 // A desk at which the server of the root is known.
@@ -86,9 +95,14 @@ fn reply<A: Heap>(
     Ok(ask.told(0, bytes))
 }
 
+fn has_sent<A: Heap>(desk: &Desk<A>, rest: &[u8], lines: &[Line]) -> Result<bool, Starved> {
+    let wanted = message(desk.heap(), [0, 5], rest, lines)?;
+    Ok(desk.has_sent(3, wanted.as_slice()))
+}
+
 fn looks<A: Heap>(desk: &Desk<A>, rest: &[u8], lines: &[Line]) -> Out {
-    match message(desk.heap(), [0, 5], rest, lines) {
-        Ok(wanted) if desk.has_sent(3, wanted.as_slice()) => Out::Replied,
+    match has_sent(desk, rest, lines) {
+        Ok(true) => Out::Replied,
         _ => Out::Other,
     }
 }
@@ -96,8 +110,8 @@ fn looks<A: Heap>(desk: &Desk<A>, rest: &[u8], lines: &[Line]) -> Out {
 // What the resolver is told by an act. A look tells it nothing.
 fn event<A: Heap>(desk: &Desk<A>, act: Act) -> Result<Event<A>, Starved> {
     match act {
-        Act::Asks(moment, bytes) => desk.query(3, moment, bytes),
-        Act::Told(from, rest, lines) => reply(desk, from, rest, lines),
+        Act::Asks(moment, bytes) => Ok(desk.query(3, moment, bytes)?),
+        Act::Told(from, rest, lines) => Ok(reply(desk, from, rest, lines)?),
         Act::Tick(moment) => Ok(Event::Tick { moment }),
         Act::Looks(_, _) => Err(Starved),
     }
@@ -121,18 +135,28 @@ fn first_other<A: Heap>(desk: &mut Desk<A>, acts: &[(Act, Out)]) -> Option<usize
     None
 }
 
+fn wrong_act<A: Heap>(alloc: A, acts: &[(Act, Out)]) -> Result<Option<usize>, Starved> {
+    let mut desk = desk(alloc)?;
+    Ok(first_other(&mut desk, acts))
+}
+
 // Of these tales, each of a new resolver, the first in which something else comes, and the place of that act.
 pub fn first_wrong<A: Heap>(
     alloc: A,
     tales: &[&[(Act, Out)]],
 ) -> Result<Option<(usize, usize)>, Starved> {
     for (number, acts) in tales.iter().enumerate() {
-        let mut desk = desk(alloc)?;
-        if let Some(place) = first_other(&mut desk, *acts) {
+        if let Some(place) = wrong_act(alloc, *acts)? {
             return Ok(Some((number, place)));
         }
     }
     Ok(None)
+}
+
+fn perform_all<A: Heap>(desk: &mut Desk<A>, acts: &[(Act, Out)]) {
+    for (act, _) in acts {
+        perform(desk, *act);
+    }
 }
 
 // At a new resolver these acts happen, and then a last one, whose step takes more than four growths or none. Where one
@@ -149,53 +173,55 @@ impl Starving {
     // The desk before the last act. What comes of the acts before it is seen by other rows.
     fn begin<A: Heap>(self, alloc: A) -> Result<Desk<A>, Starved> {
         let mut desk = desk(alloc)?;
-        for (act, _) in self.acts {
-            perform(&mut desk, *act);
-        }
+        perform_all(&mut desk, self.acts);
         Ok(desk)
     }
 
-    // How many growths the last step takes, where none is refused and what was worked comes of it.
-    fn growths<A: Heap>(self, alloc: A) -> Result<Option<u64>, Starved> {
+    // How many growths the last step takes where none is refused, and what comes of it.
+    fn last_step<A: Heap>(self, alloc: A) -> Result<(u64, Out), Starved> {
         let heap = Refusing::new(alloc);
         let mut desk = self.begin(&heap)?;
         let event = event(&desk, self.last.0);
         let before = heap.growths();
         let out = desk.take(event);
-        let growths = heap.growths().saturating_sub(before);
-        Ok(if out == self.last.1 {
-            Some(growths)
-        } else {
-            None
-        })
+        Ok((heap.growths().saturating_sub(before), out))
     }
 
-    // Whether all comes as it has to where that growth is refused.
-    fn goes_without<A: Heap>(self, alloc: A, growth: u64) -> Result<bool, Starved> {
+    // What comes of the last step where that growth is refused, and whether all comes then as it has to.
+    fn without<A: Heap>(self, alloc: A, growth: u64) -> Result<(Out, bool), Starved> {
         let heap = Refusing::new(alloc);
         let mut desk = self.begin(&heap)?;
         let event = event(&desk, self.last.0);
         heap.refuse_after(growth);
         let out = desk.take(event);
-        let other = first_other(&mut desk, self.after);
-        Ok(out == Out::Starved && other.is_none())
+        Ok((out, first_other(&mut desk, self.after).is_none()))
     }
 
-    // Whether it does for each growth.
-    fn goes<A: Heap>(self, alloc: A) -> Result<bool, Starved> {
-        let Some(growths) = self.growths(alloc)? else {
-            return Ok(false);
-        };
+    // Whether nothing goes out, whichever of so many growths is refused, and all comes then as it has to.
+    fn goes_without<A: Heap>(self, alloc: A, growths: u64) -> Result<bool, Starved> {
         for growth in 0..growths {
-            if !self.goes_without(alloc, growth)? {
+            if self.without(alloc, growth)? != (Out::Starved, true) {
                 return Ok(false);
             }
         }
-        Ok(if self.takes_memory {
+        Ok(true)
+    }
+
+    fn takes(self, growths: u64) -> bool {
+        if self.takes_memory {
             growths > 4
         } else {
             growths == 0
-        })
+        }
+    }
+
+    // Whether the last step takes memory or none, and does what was worked with it.
+    fn goes<A: Heap>(self, alloc: A) -> Result<bool, Starved> {
+        let (growths, out) = self.last_step(alloc)?;
+        if out != self.last.1 || !self.takes(growths) {
+            return Ok(false);
+        }
+        Ok(self.goes_without(alloc, growths)?)
     }
 }
 

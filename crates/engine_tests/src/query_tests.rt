@@ -1,5 +1,5 @@
 //! A client's query of which the first bytes alone come, and each change of one byte of it.
-use crate::bytes::{Change, changed};
+use crate::bytes::{Change, Places, changed};
 use dname::{Heap, Starved};
 use engine_desk::{Desk, Out};
 use exchange::Event;
@@ -10,6 +10,8 @@ use std::test::Fail;
 const QUERY: &[u8] = b"\0\x05\x01\0\0\x01\0\0\0\0\0\0\x03www\x07example\0\0\x01\0\x01";
 
 const REFUSAL: &[u8] = b"\0\x05\x81\x81\0\0\0\0\0\0\0\0";
+
+const WHOLE: usize = QUERY.len();
 
 fn event<A: Heap>(desk: &Desk<A>, change: Change) -> Result<Event<A>, Starved> {
     let bytes = changed(desk.heap(), QUERY, change)?;
@@ -22,39 +24,73 @@ fn asked<A: Heap>(desk: &mut Desk<A>, change: Change) -> Out {
     desk.take(event)
 }
 
+fn new_desk<A: Heap>(alloc: A) -> Result<Desk<A>, Starved> {
+    Ok(Desk::new(alloc, Addr([192, 0, 2, 1]))?)
+}
+
 // What its first bytes bring, and whether that is the word of a format error.
 fn after_front<A: Heap>(alloc: A, length: usize) -> Result<(Out, bool), Starved> {
-    let mut desk = Desk::new(alloc, Addr([192, 0, 2, 1]))?;
+    let mut desk = new_desk(alloc)?;
     let out = asked(&mut desk, Change::CutAt(length));
     Ok((out, desk.has_sent(3, REFUSAL)))
 }
 
-// Under 12 bytes there is no header to answer (RFC 1035, section 4.1.1).
-#[test]
-fn fronts_without_a_header_are_dropped(rt: HostRuntime) -> Result<(), Fail> {
-    for length in 0..12 {
-        let seen = after_front(rt.alloc(), length)?;
-        assert_eq!(rt; seen, (Out::Nothing, false), "{length} bytes");
+// How long fronts are, and what they bring. Under 12 bytes there is no header to answer (RFC 1035, section 4.1.1).
+const FRONTS: &[(Places, (Out, bool))] = &[
+    ((0, 12), (Out::Nothing, false)),
+    ((12, WHOLE), (Out::Replied, true)),
+];
+
+// The length of the first front that brings something else.
+fn wrong_length<A: Heap>(
+    alloc: A,
+    lengths: Places,
+    want: (Out, bool),
+) -> Result<Option<usize>, Starved> {
+    for length in lengths.0..lengths.1 {
+        if after_front(alloc, length)? != want {
+            return Ok(Some(length));
+        }
     }
-    Ok(())
+    Ok(None)
+}
+
+fn first_wrong_length<A: Heap>(alloc: A) -> Result<Option<usize>, Starved> {
+    for (lengths, want) in FRONTS {
+        if let Some(length) = wrong_length(alloc, *lengths, *want)? {
+            return Ok(Some(length));
+        }
+    }
+    Ok(None)
 }
 
 #[test]
-fn longer_fronts_are_refused(rt: HostRuntime) -> Result<(), Fail> {
-    for length in 12..QUERY.len() {
-        let seen = after_front(rt.alloc(), length)?;
-        assert_eq!(rt; seen, (Out::Replied, true), "{length} bytes");
-    }
+fn fronts_are_dropped_or_refused(rt: HostRuntime) -> Result<(), Fail> {
+    assert_eq!(rt; first_wrong_length(rt.alloc())?, None);
     Ok(())
 }
 
 // The first change of that byte by which the query is not dropped, or refused, or the server of the root asked.
-fn wrong_bits<A: Heap>(alloc: A, place: usize) -> Result<Option<u8>, Starved> {
-    let mut desk = Desk::new(alloc, Addr([192, 0, 2, 1]))?;
+fn wrong_turn<A: Heap>(desk: &mut Desk<A>, place: usize) -> Option<u8> {
     for bits in 1..=255u8 {
-        let out = asked(&mut desk, Change::Turned(place, bits));
+        let out = asked(desk, Change::Turned(place, bits));
         if !matches!(out, Out::Nothing | Out::Replied | Out::Asked(1)) {
-            return Ok(Some(bits));
+            return Some(bits);
+        }
+    }
+    None
+}
+
+fn wrong_bits<A: Heap>(alloc: A, place: usize) -> Result<Option<u8>, Starved> {
+    let mut desk = new_desk(alloc)?;
+    Ok(wrong_turn(&mut desk, place))
+}
+
+// The first byte of which a change brings something else, and the bits.
+fn first_wrong_byte<A: Heap>(alloc: A) -> Result<Option<(usize, u8)>, Starved> {
+    for place in 0..WHOLE {
+        if let Some(bits) = wrong_bits(alloc, place)? {
+            return Ok(Some((place, bits)));
         }
     }
     Ok(None)
@@ -62,8 +98,6 @@ fn wrong_bits<A: Heap>(alloc: A, place: usize) -> Result<Option<u8>, Starved> {
 
 #[test]
 fn a_changed_byte_of_a_query_is_dealt_with(rt: HostRuntime) -> Result<(), Fail> {
-    for place in 0..QUERY.len() {
-        assert_eq!(rt; wrong_bits(rt.alloc(), place)?, None, "byte {place}");
-    }
+    assert_eq!(rt; first_wrong_byte(rt.alloc())?, None);
     Ok(())
 }

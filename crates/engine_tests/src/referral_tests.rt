@@ -12,18 +12,13 @@ const LABELS: usize = 60;
 const ASKS: usize = 40;
 
 // The name, the type A and the class IN.
-fn put_question<A: Heap>(bytes: &mut Vec<u8, A>) -> Result<(), Starved> {
-    for _ in 0..LABELS {
-        bytes.extend_from_slice(b"\x01a")?;
-    }
-    bytes.extend_from_slice(b"\0\0\x01\0\x01")?;
-    Ok(())
-}
+const QUESTION: &[u8] =
+    b"\x01a\x01a\x01a\x01a\x01a\x01a\x01a\x01a\x01a\x01a\x01a\x01a\x01a\x01a\x01a\x01a\x01a\x01a\x01a\x01a\x01a\x01a\x01a\x01a\x01a\x01a\x01a\x01a\x01a\x01a\x01a\x01a\x01a\x01a\x01a\x01a\x01a\x01a\x01a\x01a\x01a\x01a\x01a\x01a\x01a\x01a\x01a\x01a\x01a\x01a\x01a\x01a\x01a\x01a\x01a\x01a\x01a\x01a\x01a\x01a\0\0\x01\0\x01";
 
 // The client's query, under ID 5 with RD set.
 fn query<A: Heap>(alloc: A) -> Result<Vec<u8, A>, Starved> {
     let mut bytes = Vec::from_slice(alloc, b"\0\x05\x01\0\0\x01\0\0\0\0\0\0")?;
-    put_question(&mut bytes)?;
+    bytes.extend_from_slice(QUESTION)?;
     Ok(bytes)
 }
 
@@ -43,34 +38,57 @@ fn put_referral<A: Heap>(bytes: &mut Vec<u8, A>, cut: [u8; 2]) -> Result<(), Sta
     Ok(())
 }
 
-// The server's reply under an ID: a referral to the last so many labels.
+// What stands behind the ID of the server's reply: a referral to the last so many labels.
+fn put_rest<A: Heap>(bytes: &mut Vec<u8, A>, labels: usize) -> Result<(), Starved> {
+    bytes.extend_from_slice(b"\x80\0\0\x01\0\0\0\x01\0\x01")?;
+    bytes.extend_from_slice(QUESTION)?;
+    Ok(put_referral(bytes, pointer(labels))?)
+}
+
 fn referral<A: Heap>(alloc: A, id: [u8; 2], labels: usize) -> Result<Bytes<A>, Starved> {
     let mut bytes = Vec::from_slice(alloc, &id)?;
-    bytes.extend_from_slice(b"\x80\0\0\x01\0\0\0\x01\0\x01")?;
-    put_question(&mut bytes)?;
-    put_referral(&mut bytes, pointer(labels))?;
-    bounded(bytes)
+    put_rest(&mut bytes, labels)?;
+    Ok(bounded(bytes)?)
+}
+
+// What the client asks.
+fn asked<A: Heap>(desk: &Desk<A>) -> Result<Event<A>, Starved> {
+    let query = query(desk.heap())?;
+    Ok(desk.query(3, 0, query.as_slice())?)
 }
 
 // What the last ask's server says.
 fn told<A: Heap>(desk: &Desk<A>, labels: usize) -> Result<Event<A>, Starved> {
     let ask = desk.ask();
-    Ok(ask.told(0, referral(desk.heap(), ask.id, labels)?))
+    let bytes = referral(desk.heap(), ask.id, labels)?;
+    Ok(ask.told(0, bytes))
+}
+
+fn ask<A: Heap>(desk: &mut Desk<A>) -> Out {
+    let event = asked(desk);
+    desk.take(event)
+}
+
+fn refer<A: Heap>(desk: &mut Desk<A>, labels: usize) -> Out {
+    let event = told(desk, labels);
+    desk.take(event)
 }
 
 // How many referrals lead to another ask, and what the next one brings.
-fn referred<A: Heap>(alloc: A) -> Result<(usize, Out), Starved> {
-    let mut desk = desk(alloc)?;
-    let first = desk.query(3, 0, query(alloc)?.as_slice());
-    let mut out = desk.take(first);
+fn referred_at<A: Heap>(desk: &mut Desk<A>) -> (usize, Out) {
+    let mut out = ask(desk);
     for labels in 1..LABELS {
         if out != Out::Asked(1) {
-            return Ok((labels - 1, out));
+            return (labels - 1, out);
         }
-        let event = told(&desk, labels);
-        out = desk.take(event);
+        out = refer(desk, labels);
     }
-    Ok((LABELS, out))
+    (LABELS, out)
+}
+
+fn referred<A: Heap>(alloc: A) -> Result<(usize, Out), Starved> {
+    let mut desk = desk(alloc)?;
+    Ok(referred_at(&mut desk))
 }
 
 // Forty asks, each of which a referral answers; after the last one the query fails (cause 4).

@@ -48,8 +48,10 @@ enum Act {
     Tick(u64),
 }
 
-// Each after an event at that moment.
-const SEQUELS: &[(u64, &[(Act, Out)])] = &[
+// The moment of an event, and what comes of acts after it.
+type Sequel = (u64, &'static [(Act, Out)]);
+
+const SEQUELS: &[Sequel] = &[
     (
         1_000,
         &[
@@ -89,27 +91,34 @@ fn is_over_tcp(kind: Kind) -> bool {
     matches!(kind, Kind::ToldOverTcp | Kind::LostOverTcp)
 }
 
+// A client asks at that moment.
+fn ask<A: Heap>(desk: &mut Desk<A>, client: u64, moment: u64, bytes: &[u8]) -> Ask {
+    let query = desk.query(client, moment, bytes);
+    desk.take(query);
+    desk.ask()
+}
+
+// The reply to the last ask comes truncated.
+fn cut<A: Heap>(desk: &mut Desk<A>) -> Ask {
+    let cut = told(desk.heap(), desk.ask(), 0, CUT);
+    desk.take(cut);
+    desk.ask()
+}
+
 // Client 3 asks, and over TCP where it is to be so.
 fn begin<A: Heap>(desk: &mut Desk<A>, kind: Kind) -> Ask {
     if matches!(kind, Kind::Query) {
         return desk.ask();
     }
-    let query = desk.query(3, 0, QUERY);
-    desk.take(query);
-    if is_over_tcp(kind) {
-        let cut = told(desk.heap(), desk.ask(), 0, CUT);
-        desk.take(cut);
-    }
-    desk.ask()
+    let asked = ask(desk, 3, 0, QUERY);
+    if is_over_tcp(kind) { cut(desk) } else { asked }
 }
 
 // Both clients have asked.
 fn set_scene<A: Heap>(alloc: A, kind: Kind) -> Result<Scene<A>, Starved> {
     let mut desk = Desk::new(alloc, Addr([192, 0, 2, 1]))?;
     let mine = begin(&mut desk, kind);
-    let query = desk.query(4, 500, OTHERS);
-    desk.take(query);
-    let others = desk.ask();
+    let others = ask(&mut desk, 4, 500, OTHERS);
     Ok(Scene { desk, mine, others })
 }
 
@@ -119,35 +128,49 @@ impl<A: Heap> Scene<A> {
         matches!(self.mine.path, Path::Tcp(_)) == is_over_tcp(kind)
     }
 
+    // The reply with an address to client 3's ask, or to another one.
+    fn found(&self, ask: Ask, moment: u64) -> Result<Event<A>, Starved> {
+        Ok(told(self.desk.heap(), ask, moment, FOUND)?)
+    }
+
     // The event for client 3 at that moment.
     fn event(&self, kind: Kind, moment: u64) -> Result<Event<A>, Starved> {
         match kind {
-            Kind::Query => self.desk.query(3, moment, QUERY),
-            Kind::Told | Kind::ToldOverTcp => told(self.desk.heap(), self.mine, moment, FOUND),
+            Kind::Query => Ok(self.desk.query(3, moment, QUERY)?),
+            Kind::Told | Kind::ToldOverTcp => Ok(self.found(self.mine, moment)?),
             Kind::LostOverTcp | Kind::Late => Ok(self.mine.lost(moment)),
         }
     }
 
-    // The reply to client 4's ask, where the client is sent it whole.
-    fn other(&mut self) -> Out {
-        let event = told(self.desk.heap(), self.others, 1_000, OTHERS_FOUND);
-        let out = self.desk.take(event);
-        if self.desk.has_sent(4, OTHERS_REPLY) {
-            out
-        } else {
-            Out::Other
+    // The event that is an act. `next` is the ask that goes out by the event for client 3 where memory is not refused.
+    fn event_of(&self, act: Act, next: Ask) -> Result<Event<A>, Starved> {
+        match act {
+            Act::Late => Ok(self.found(self.mine, 1_000)?),
+            Act::LateForNext => Ok(self.found(next, 1_000)?),
+            Act::Other => Ok(told(self.desk.heap(), self.others, 1_000, OTHERS_FOUND)?),
+            Act::Tick(moment) => Ok(Event::Tick { moment }),
         }
     }
 
-    // What comes of an act. `next` is the ask that goes out by the event where memory is not refused.
+    // What comes of an act; something else where client 4 is not sent the whole reply that it is owed.
     fn perform(&mut self, act: Act, next: Ask) -> Out {
-        let event = match act {
-            Act::Other => return self.other(),
-            Act::Tick(moment) => Ok(Event::Tick { moment }),
-            Act::Late => told(self.desk.heap(), self.mine, 1_000, FOUND),
-            Act::LateForNext => told(self.desk.heap(), next, 1_000, FOUND),
-        };
-        self.desk.take(event)
+        let event = self.event_of(act, next);
+        let out = self.desk.take(event);
+        if matches!(act, Act::Other) && !self.desk.has_sent(4, OTHERS_REPLY) {
+            Out::Other
+        } else {
+            out
+        }
+    }
+
+    // Whether all comes of these acts as it has to.
+    fn goes_on(&mut self, acts: &[(Act, Out)], next: Ask) -> bool {
+        for (act, out) in acts {
+            if self.perform(*act, next) != *out {
+                return false;
+            }
+        }
+        true
     }
 }
 
@@ -164,29 +187,27 @@ fn growths<A: Heap>(alloc: A, kind: Kind) -> Result<(u64, Ask), Starved> {
     Ok((if is_set { growths } else { 0 }, scene.desk.ask()))
 }
 
-// Whether all comes as it has to after a step at the moment, one of whose growths is refused.
-fn goes<A: Heap>(
+// What comes of the step at the moment of a sequel where one of its growths is refused, and whether all goes on as it has
+// to then.
+fn without<A: Heap>(
     alloc: A,
     kind: Kind,
     growth: u64,
     next: Ask,
-    (moment, acts): (u64, &[(Act, Out)]),
-) -> Result<bool, Starved> {
+    sequel: Sequel,
+) -> Result<(Out, bool), Starved> {
     let heap = Refusing::new(alloc);
     let mut scene = set_scene(&heap, kind)?;
-    let event = scene.event(kind, moment);
+    let event = scene.event(kind, sequel.0);
     heap.refuse_after(growth);
-    let mut goes = scene.desk.take(event) == Out::Starved;
-    for (act, out) in acts {
-        goes &= scene.perform(*act, next) == *out;
-    }
-    Ok(goes)
+    let out = scene.desk.take(event);
+    Ok((out, scene.goes_on(sequel.1, next)))
 }
 
 // Client 3's query is gone; client 4's ask stands, and is due when it was; the clock is at the event's moment.
 fn leaves_the_rest<A: Heap>(alloc: A, kind: Kind, growth: u64, next: Ask) -> Result<bool, Starved> {
     for sequel in SEQUELS {
-        if !goes(alloc, kind, growth, next, *sequel)? {
+        if without(alloc, kind, growth, next, *sequel)? != (Out::Starved, true) {
             return Ok(false);
         }
     }

@@ -151,17 +151,18 @@ const LAST_MOMENT: &[(Act, Out)] = &[
     (Act::Tick(u64::MAX), Out::Nothing),
 ];
 
+const TALES: &[&[(Act, Out)]] = &[
+    ASKED_SERVER,
+    UNANSWERED,
+    ADDITIONAL,
+    SET_OF_TWO,
+    TTL_OF_ZERO,
+    LAST_MOMENT,
+];
+
 #[test]
 fn steps_bring_what_was_worked(rt: HostRuntime) -> Result<(), Fail> {
-    let tales = [
-        ASKED_SERVER,
-        UNANSWERED,
-        ADDITIONAL,
-        SET_OF_TWO,
-        TTL_OF_ZERO,
-        LAST_MOMENT,
-    ];
-    assert_eq!(rt; first_wrong(rt.alloc(), &tales)?, None);
+    assert_eq!(rt; first_wrong(rt.alloc(), TALES)?, None);
     Ok(())
 }
 

@@ -1,27 +1,18 @@
 //! The replies of the servers of examples/small.world: the first bytes of each alone, and each change of one byte.
-use crate::bytes::{Change, told};
+use crate::bytes::{Change, Places, told};
 use dname::{Heap, Starved};
 use engine_desk::{Desk, Out};
 use rdata::Addr;
 use std::test::Fail;
 
-// A client's query, the replies behind their IDs that lead to the last ask, and the reply to that one.
+// A client's query, the replies behind their IDs that lead to the last ask, the reply to that one, and what the whole of
+// it brings.
 #[derive(Clone, Copy)]
 struct Talk {
     query: &'static [u8],
     before: &'static [&'static [u8]],
     reply: &'static [u8],
-}
-
-// Bytes of a message, from one place on and before another.
-#[derive(Clone, Copy)]
-struct Places {
-    from: usize,
-    to: usize,
-}
-
-const fn between(from: usize, to: usize) -> Places {
-    Places { from, to }
+    out: Out,
 }
 
 // www.lab.example. A: example. has the server 198.51.100.2, lab.example. has 198.51.100.3, which says 192.0.2.1.
@@ -58,60 +49,80 @@ const TALK_WITH_ROOT: Talk = Talk {
     query: WWW,
     before: &[],
     reply: TO_EXAMPLE,
+    out: Out::Asked(2),
 };
 
 const TALK_WITH_EXAMPLE: Talk = Talk {
     query: WWW,
     before: &[TO_EXAMPLE],
     reply: TO_LAB,
+    out: Out::Asked(3),
 };
 
 const TALK_WITH_LAB: Talk = Talk {
     query: WWW,
     before: &[TO_EXAMPLE, TO_LAB],
     reply: FOUND,
+    out: Out::Replied,
 };
 
 const TALK_OF_GONE: Talk = Talk {
     query: GONE,
     before: &[GONE_TO_EXAMPLE],
     reply: DENIED,
+    out: Out::Replied,
 };
 
 const TALK_OF_APP: Talk = Talk {
     query: APP,
     before: &[APP_TO_EXAMPLE],
     reply: ALIAS,
+    out: Out::Asked(2),
 };
+
+const TALKS: &[Talk] = &[
+    TALK_WITH_ROOT,
+    TALK_WITH_EXAMPLE,
+    TALK_WITH_LAB,
+    TALK_OF_GONE,
+    TALK_OF_APP,
+];
+
+// The client asks, and all but the last ask are answered.
+fn lead<A: Heap>(desk: &mut Desk<A>, talk: Talk) {
+    let query = desk.query(3, 0, talk.query);
+    desk.take(query);
+    for reply in talk.before {
+        told(desk, reply, Change::Nothing);
+    }
+}
 
 // A resolver that waits for the reply of a talk.
 fn waiting<A: Heap>(alloc: A, talk: Talk) -> Result<Desk<A>, Starved> {
     let mut desk = Desk::new(alloc, Addr([198, 51, 100, 1]))?;
-    let query = desk.query(3, 0, talk.query);
-    desk.take(query);
-    for reply in talk.before {
-        told(&mut desk, reply, Change::Nothing);
-    }
+    lead(&mut desk, talk);
     Ok(desk)
 }
 
-// What the whole reply brings.
-fn whole<A: Heap>(alloc: A, talk: Talk) -> Result<Out, Starved> {
+// Whether the whole reply brings what it has to.
+fn is_taken<A: Heap>(alloc: A, talk: Talk) -> Result<bool, Starved> {
     let mut desk = waiting(alloc, talk)?;
-    Ok(told(&mut desk, talk.reply, Change::Nothing))
+    Ok(told(&mut desk, talk.reply, Change::Nothing) == talk.out)
+}
+
+// The first talk whose whole reply brings something else.
+fn first_not_taken<A: Heap>(alloc: A) -> Result<Option<usize>, Starved> {
+    for (number, talk) in TALKS.iter().enumerate() {
+        if !is_taken(alloc, *talk)? {
+            return Ok(Some(number));
+        }
+    }
+    Ok(None)
 }
 
 #[test]
 fn whole_replies_are_taken(rt: HostRuntime) -> Result<(), Fail> {
-    for (talk, out) in [
-        (TALK_WITH_ROOT, Out::Asked(2)),
-        (TALK_WITH_EXAMPLE, Out::Asked(3)),
-        (TALK_WITH_LAB, Out::Replied),
-        (TALK_OF_GONE, Out::Replied),
-        (TALK_OF_APP, Out::Asked(2)),
-    ] {
-        assert_eq!(rt; whole(rt.alloc(), talk)?, out);
-    }
+    assert_eq!(rt; first_not_taken(rt.alloc())?, None);
     Ok(())
 }
 
@@ -121,28 +132,44 @@ fn goes_on<A: Heap>(desk: &mut Desk<A>, talk: Talk) -> bool {
     !matches!(out, Out::Nothing | Out::Starved | Out::Other)
 }
 
-// Whether each front of the reply is ignored, and the whole reply taken then.
-fn ignores_fronts<A: Heap>(alloc: A, talk: Talk) -> Result<bool, Starved> {
-    let mut desk = waiting(alloc, talk)?;
-    for length in 0..talk.reply.len() + 2 {
-        if told(&mut desk, talk.reply, Change::CutAt(length)) != Out::Nothing {
-            return Ok(false);
+// The length of the first front of the reply that is not ignored; that of a whole message where it is not taken then.
+fn wrong_length<A: Heap>(desk: &mut Desk<A>, talk: Talk) -> Option<usize> {
+    let whole = talk.reply.len() + 2;
+    for length in 0..whole {
+        if told(desk, talk.reply, Change::CutAt(length)) != Out::Nothing {
+            return Some(length);
         }
     }
-    Ok(goes_on(&mut desk, talk))
+    if goes_on(desk, talk) {
+        None
+    } else {
+        Some(whole)
+    }
+}
+
+fn wrong_front<A: Heap>(alloc: A, talk: Talk) -> Result<Option<usize>, Starved> {
+    let mut desk = waiting(alloc, talk)?;
+    Ok(wrong_length(&mut desk, talk))
+}
+
+// The first talk with such a front, and its length.
+fn first_wrong_front<A: Heap>(alloc: A) -> Result<Option<(usize, usize)>, Starved> {
+    for (number, talk) in TALKS.iter().enumerate() {
+        if let Some(length) = wrong_front(alloc, *talk)? {
+            return Ok(Some((number, length)));
+        }
+    }
+    Ok(None)
 }
 
 #[test]
 fn fronts_of_replies_are_ignored(rt: HostRuntime) -> Result<(), Fail> {
-    for talk in [
-        TALK_WITH_ROOT,
-        TALK_WITH_EXAMPLE,
-        TALK_WITH_LAB,
-        TALK_OF_GONE,
-        TALK_OF_APP,
-    ] {
-        assert!(rt; ignores_fronts(rt.alloc(), talk)?);
-    }
+    assert_eq!(rt; first_wrong_front(rt.alloc())?, None);
+    Ok(())
+}
+
+fn renew<A: Heap>(desk: &mut Desk<A>, talk: Talk) -> Result<(), Starved> {
+    *desk = waiting(desk.heap(), talk)?;
     Ok(())
 }
 
@@ -152,26 +179,30 @@ fn tell<A: Heap>(desk: &mut Desk<A>, talk: Talk, change: Change) -> Result<bool,
         Out::Nothing => Ok(true),
         Out::Starved | Out::Other => Ok(false),
         _ => {
-            *desk = waiting(desk.heap(), talk)?;
+            renew(desk, talk)?;
             Ok(true)
         }
     }
 }
 
 // Whether each change of that byte of the reply is ignored or brings something, and the whole reply is taken then.
-fn stands<A: Heap>(alloc: A, talk: Talk, place: usize) -> Result<bool, Starved> {
-    let mut desk = waiting(alloc, talk)?;
+fn stands_at<A: Heap>(desk: &mut Desk<A>, talk: Talk, place: usize) -> Result<bool, Starved> {
     for bits in 1..=255u8 {
-        if !tell(&mut desk, talk, Change::Turned(place, bits))? {
+        if !tell(desk, talk, Change::Turned(place, bits))? {
             return Ok(false);
         }
     }
-    Ok(goes_on(&mut desk, talk))
+    Ok(goes_on(desk, talk))
+}
+
+fn stands<A: Heap>(alloc: A, talk: Talk, place: usize) -> Result<bool, Starved> {
+    let mut desk = waiting(alloc, talk)?;
+    Ok(stands_at(&mut desk, talk, place)?)
 }
 
 // The first of these bytes of which a change does not stand.
-fn first_wrong<A: Heap>(alloc: A, talk: Talk, places: Places) -> Result<Option<usize>, Starved> {
-    for place in places.from..places.to {
+fn wrong_place<A: Heap>(alloc: A, talk: Talk, places: Places) -> Result<Option<usize>, Starved> {
+    for place in places.0..places.1 {
         if !stands(alloc, talk, place)? {
             return Ok(Some(place));
         }
@@ -179,87 +210,62 @@ fn first_wrong<A: Heap>(alloc: A, talk: Talk, places: Places) -> Result<Option<u
     Ok(None)
 }
 
+// The first of these parts with such a byte, and its place.
+fn first_wrong<A: Heap>(
+    alloc: A,
+    parts: &[(Talk, Places)],
+) -> Result<Option<(usize, usize)>, Starved> {
+    for (number, (talk, places)) in parts.iter().enumerate() {
+        if let Some(place) = wrong_place(alloc, *talk, *places)? {
+            return Ok(Some((number, place)));
+        }
+    }
+    Ok(None)
+}
+
 // The header and the question.
+const BEGINNINGS: &[(Talk, Places)] = &[
+    (TALK_WITH_ROOT, (0, 33)),
+    (TALK_WITH_EXAMPLE, (0, 33)),
+    (TALK_WITH_LAB, (0, 33)),
+    (TALK_OF_GONE, (0, 30)),
+    (TALK_OF_APP, (0, 29)),
+];
+
 #[test]
 fn a_changed_beginning_of_a_reply_stops_nobody(rt: HostRuntime) -> Result<(), Fail> {
-    for (talk, places) in [
-        (TALK_WITH_ROOT, between(0, 33)),
-        (TALK_WITH_EXAMPLE, between(0, 33)),
-        (TALK_WITH_LAB, between(0, 33)),
-        (TALK_OF_GONE, between(0, 30)),
-        (TALK_OF_APP, between(0, 29)),
-    ] {
-        assert_eq!(rt; first_wrong(rt.alloc(), talk, places)?, None);
-    }
+    assert_eq!(rt; first_wrong(rt.alloc(), BEGINNINGS)?, None);
     Ok(())
 }
 
+const REFERRALS: &[(Talk, Places)] = &[
+    // The server of example., and its address.
+    (TALK_WITH_ROOT, (33, 50)),
+    (TALK_WITH_ROOT, (50, 66)),
+    // The server of lab.example., and its address.
+    (TALK_WITH_EXAMPLE, (33, 50)),
+    (TALK_WITH_EXAMPLE, (50, 66)),
+];
+
 #[test]
-fn a_changed_server_of_example_stops_nobody(rt: HostRuntime) -> Result<(), Fail> {
-    let places = between(33, 50);
-    assert_eq!(rt; first_wrong(rt.alloc(), TALK_WITH_ROOT, places)?, None);
+fn a_changed_referral_stops_nobody(rt: HostRuntime) -> Result<(), Fail> {
+    assert_eq!(rt; first_wrong(rt.alloc(), REFERRALS)?, None);
     Ok(())
 }
 
-#[test]
-fn a_changed_address_of_its_server_stops_nobody(rt: HostRuntime) -> Result<(), Fail> {
-    let places = between(50, 66);
-    assert_eq!(rt; first_wrong(rt.alloc(), TALK_WITH_ROOT, places)?, None);
-    Ok(())
-}
-
-#[test]
-fn a_changed_server_of_lab_stops_nobody(rt: HostRuntime) -> Result<(), Fail> {
-    let places = between(33, 50);
-    assert_eq!(rt; first_wrong(rt.alloc(), TALK_WITH_EXAMPLE, places)?, None);
-    Ok(())
-}
-
-#[test]
-fn a_changed_address_of_that_server_stops_nobody(rt: HostRuntime) -> Result<(), Fail> {
-    let places = between(50, 66);
-    assert_eq!(rt; first_wrong(rt.alloc(), TALK_WITH_EXAMPLE, places)?, None);
-    Ok(())
-}
+const ANSWERS: &[(Talk, Places)] = &[
+    (TALK_WITH_LAB, (33, 49)),
+    // The names and the numbers of a denial.
+    (TALK_OF_GONE, (30, 51)),
+    (TALK_OF_GONE, (51, 71)),
+    // An alias, and the names and the numbers beside it.
+    (TALK_OF_APP, (29, 51)),
+    (TALK_OF_APP, (51, 72)),
+    (TALK_OF_APP, (72, 92)),
+];
 
 #[test]
 fn a_changed_answer_stops_nobody(rt: HostRuntime) -> Result<(), Fail> {
-    let places = between(33, 49);
-    assert_eq!(rt; first_wrong(rt.alloc(), TALK_WITH_LAB, places)?, None);
-    Ok(())
-}
-
-#[test]
-fn changed_names_of_a_denial_stop_nobody(rt: HostRuntime) -> Result<(), Fail> {
-    let places = between(30, 51);
-    assert_eq!(rt; first_wrong(rt.alloc(), TALK_OF_GONE, places)?, None);
-    Ok(())
-}
-
-#[test]
-fn changed_numbers_of_a_denial_stop_nobody(rt: HostRuntime) -> Result<(), Fail> {
-    let places = between(51, 71);
-    assert_eq!(rt; first_wrong(rt.alloc(), TALK_OF_GONE, places)?, None);
-    Ok(())
-}
-
-#[test]
-fn a_changed_alias_stops_nobody(rt: HostRuntime) -> Result<(), Fail> {
-    let places = between(29, 51);
-    assert_eq!(rt; first_wrong(rt.alloc(), TALK_OF_APP, places)?, None);
-    Ok(())
-}
-
-#[test]
-fn changed_names_beside_an_alias_stop_nobody(rt: HostRuntime) -> Result<(), Fail> {
-    let places = between(51, 72);
-    assert_eq!(rt; first_wrong(rt.alloc(), TALK_OF_APP, places)?, None);
-    Ok(())
-}
-
-#[test]
-fn changed_numbers_beside_an_alias_stop_nobody(rt: HostRuntime) -> Result<(), Fail> {
-    let places = between(72, 92);
-    assert_eq!(rt; first_wrong(rt.alloc(), TALK_OF_APP, places)?, None);
+    assert_eq!(rt; first_wrong(rt.alloc(), ANSWERS)?, None);
     Ok(())
 }

@@ -3,7 +3,11 @@
 #![tactic(auto)]
 
 #[cfg(test)]
+mod ask_tests;
+#[cfg(test)]
 mod example_tests;
+#[cfg(test)]
+mod fixtures;
 #[cfg(test)]
 mod made;
 #[cfg(test)]
@@ -12,6 +16,8 @@ mod question;
 mod room;
 #[cfg(test)]
 mod scan_tests;
+#[cfg(test)]
+mod steps;
 #[cfg(test)]
 mod tests;
 #[cfg(test)]

@@ -1,29 +1,26 @@
 //! Questions, and for whom they are asked.
-use dname::{Name, Starved};
+use dname::{Heap, Name, Starved};
 use exchange::Bytes;
 use rdata::RType;
-use std::alloc::Global;
 use tally::query_bytes;
 
 /// A question, and the client for whom it is asked of servers. What a client itself asks is the first one of its own.
 #[derive(Drop)]
-pub struct Question {
+pub struct Question<A: Heap> {
     pub client: u64,
-    query: Bytes,
+    query: Bytes<A>,
 }
 
-impl Question {
-    pub fn new(alloc: Global, client: u64, name: &str, kind: RType) -> Result<Question, Starved> {
+impl<A: Heap> Question<A> {
+    pub fn new(alloc: A, client: u64, name: &str, kind: RType) -> Result<Question<A>, Starved> {
         let name = name_of(alloc, name)?;
-        Ok(Question {
-            client,
-            query: query_bytes(alloc, client, name, kind, true)?,
-        })
+        let query = query_bytes(alloc, client, name, kind, true)?;
+        Ok(Question { client, query })
     }
 
     /// The query of the client.
-    pub fn query(&self) -> Result<Bytes, Starved> {
-        self.query.copied()
+    pub fn query(&self) -> Result<Bytes<A>, Starved> {
+        Ok(self.query.copied()?)
     }
 
     /// Whether these bytes ask it.
@@ -40,7 +37,7 @@ pub fn ask_alike(one: &[u8], other: &[u8]) -> bool {
     }
 }
 
-fn name_of(alloc: Global, text: &str) -> Result<Name, Starved> {
+fn name_of<A: Heap>(alloc: A, text: &str) -> Result<Name<A>, Starved> {
     match Name::from_text(alloc, text) {
         Ok(name) => Ok(name),
         Err(_) => Err(Starved),

@@ -1,8 +1,7 @@
 //! Queries that wait, each looked up by a walk through all of them.
-use dname::Starved;
+use dname::{Heap, Starved};
 use exchange::Path;
 use rdata::Addr;
-use std::alloc::Global;
 
 // The longest that a query waits, in milliseconds.
 const LONGEST: u64 = 10_000;
@@ -35,13 +34,13 @@ pub enum Served {
 
 /// The queries that wait, in the order in which they came, and the latest moment so far.
 #[derive(Drop)]
-pub struct Room {
-    waiting: Vec<Waiting>,
+pub struct Room<A: Heap> {
+    waiting: Vec<Waiting, A>,
     clock: u64,
 }
 
-impl Room {
-    pub fn new(alloc: Global) -> Room {
+impl<A: Heap> Room<A> {
+    pub fn new(alloc: A) -> Room<A> {
         Room {
             waiting: Vec::new(alloc),
             clock: 0,
@@ -59,15 +58,22 @@ impl Room {
 
     /// Whether a query of this client waits.
     pub fn has(&self, client: u64) -> bool {
-        self.waiting.iter().any(|query| query.ask.client == client)
+        for query in self.waiting.iter() {
+            if query.ask.client == client {
+                return true;
+            }
+        }
+        false
     }
 
     /// Whom the reply to this ask serves.
     pub fn asking(&self, ask: Ask) -> Served {
-        match self.waiting.iter().position(|query| query.ask == ask) {
-            Some(place) => Served::At(place),
-            None => Served::Nobody,
+        for (place, query) in self.waiting.iter().enumerate() {
+            if query.ask == ask {
+                return Served::At(place);
+            }
         }
+        Served::Nobody
     }
 
     /// Whom time serves: of those that are due the one that was due first, the oldest of equals.
@@ -85,7 +91,15 @@ impl Room {
 
     /// Whether any is due.
     pub fn is_due(&self) -> bool {
-        self.waiting.iter().any(|query| query.due <= self.clock)
+        matches!(self.due_first(), Served::At(_))
+    }
+
+    // The client of the query at a place.
+    fn client_at(&self, place: usize) -> Option<u64> {
+        match self.waiting.get(place) {
+            Some(query) => Some(query.ask.client),
+            None => None,
+        }
     }
 
     /// The client who is served.
@@ -93,51 +107,47 @@ impl Room {
         match served {
             Served::Nobody => None,
             Served::Newcomer(client) => Some(client),
-            Served::At(place) => Some(self.waiting.get(place)?.ask.client),
+            Served::At(place) => self.client_at(place),
         }
     }
 
-    // A query waits so long from now on for the reply to this ask, but not past its deadline.
-    fn put_off(&self, ask: Ask, wait: u64, deadline: u64) -> Waiting {
-        Waiting {
-            ask,
-            due: self.clock.saturating_add(wait).min(deadline),
-            deadline,
-        }
+    // When a query that waits so long from now on is due.
+    fn due_in(&self, wait: u64) -> u64 {
+        self.clock.saturating_add(wait)
     }
 
     // A newcomer stays.
     fn enter(&mut self, ask: Ask, wait: u64) -> Result<(), Starved> {
-        let deadline = self.clock.saturating_add(LONGEST);
-        let query = self.put_off(ask, wait, deadline);
-        self.waiting.push(query)?;
+        let deadline = self.due_in(LONGEST);
+        let due = self.due_in(wait).min(deadline);
+        self.waiting.push(Waiting { ask, due, deadline })?;
         Ok(())
     }
 
-    // The query at a place asks on, or is over.
-    fn go_on(&mut self, place: usize, ask: Option<Ask>, wait: u64) {
-        if place >= self.waiting.len() {
-            return;
+    // The query at a place waits so long from now on for the reply to this ask, but not past its deadline.
+    fn put_off(&mut self, place: usize, ask: Ask, wait: u64) {
+        let due = self.due_in(wait);
+        if let Some(query) = self.waiting.get_mut(place) {
+            query.ask = ask;
+            query.due = due.min(query.deadline);
         }
-        match ask {
-            Some(ask) => {
-                self.waiting[place] = self.put_off(ask, wait, self.waiting[place].deadline)
-            }
-            None => {
-                self.waiting.remove(place);
-            }
+    }
+
+    // The query at a place is over.
+    fn end(&mut self, place: usize) {
+        if place < self.waiting.len() {
+            self.waiting.remove(place);
         }
     }
 
     /// Who is served waits so long for the reply to this ask; without one it is over.
     pub fn settle(&mut self, served: Served, ask: Option<Ask>, wait: u64) -> Result<(), Starved> {
         match (served, ask) {
-            (Served::Newcomer(_), Some(ask)) => self.enter(ask, wait),
-            (Served::At(place), ask) => {
-                self.go_on(place, ask, wait);
-                Ok(())
-            }
-            _ => Ok(()),
+            (Served::Newcomer(_), Some(ask)) => self.enter(ask, wait)?,
+            (Served::At(place), Some(ask)) => self.put_off(place, ask, wait),
+            (Served::At(place), None) => self.end(place),
+            _ => {}
         }
+        Ok(())
     }
 }

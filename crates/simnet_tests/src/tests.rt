@@ -1,275 +1,13 @@
 //! A network of three zones and their servers, from outside.
-use dname::{Heap, Name, Starved};
+use crate::fixtures::{LONG, SETTINGS, WWW, message_bytes, network, world};
+use dname::{Heap, Starved};
 use engine::Settings;
-use exchange::{Bytes, Endpoint, Event, Path};
+use exchange::Path;
 use rdata::Addr;
 use refusing::Refusing;
-use simnet::{
-    Sent, Sim, SimAction, SimActions, SimError, SimEvent, lost, over_tcp, truncated_over_udp,
-    whole_over_udp,
-};
+use simnet::{Sim, SimAction, SimActions, SimError, SimEvent};
 use std::test::Fail;
-use wire::{TCP_LIMIT, Via};
-use worlds::{Host, World};
-use zone::Zone;
-
-const ROOT: &str =
-    ". 60 IN SOA r. h. 1 2 3 4 60\n. 60 IN NS ns.\nns. 60 IN A 198.51.100.1\nexample. 60 IN NS ns.example.\nns.example. 60 IN A 198.51.100.2\n";
-
-const EXAMPLE: &str =
-    "$TTL 3600\n@ SOA ns h 1 2 3 4 60\n@ NS ns\nns A 198.51.100.2\nwww A 192.0.2.1\n";
-
-const LOCAL: &str = "$TTL 60\n@ SOA ns h 1 2 3 4 60\n@ NS ns\nns A 10.0.0.1\n";
-
-fn name<A: Heap>(alloc: A, text: &str) -> Result<Name<A>, Starved> {
-    match Name::from_text(alloc, text) {
-        Ok(name) => Ok(name),
-        Err(_) => Err(Starved),
-    }
-}
-
-fn zone<A: Heap>(alloc: A, origin: &str, text: &str) -> Result<Zone<A>, Starved> {
-    let origin = name(alloc, origin)?;
-    let Ok(records) = masterfile::read(alloc, &origin, text) else {
-        return Err(Starved);
-    };
-    match Zone::build(origin, records) {
-        Ok(zone) => Ok(zone),
-        Err(_) => Err(Starved),
-    }
-}
-
-fn host<A: Heap>(alloc: A, last: u8, origin: &str) -> Result<Host<A>, Starved> {
-    let mut origins = Vec::new(alloc);
-    origins.push(name(alloc, origin)?)?;
-    Ok(Host {
-        address: server(last),
-        origins,
-    })
-}
-
-const fn server(last: u8) -> Addr {
-    Addr([198, 51, 100, last])
-}
-
-// The zone example. with so many addresses of a.example.
-fn example<A: Heap>(alloc: A, addresses: u8) -> Result<String<A>, Starved> {
-    let mut text = String::new(alloc);
-    text.push_str(EXAMPLE)?;
-    for last in 0..addresses {
-        write!(text, "a A 192.0.2.{last}\n")?;
-    }
-    Ok(text)
-}
-
-// The root, example. and a local zone.
-fn zones<A: Heap>(alloc: A, example: &str) -> Result<Vec<Zone<A>, A>, Starved> {
-    let mut zones = Vec::new(alloc);
-    for (origin, text) in [(".", ROOT), ("example.", example), ("local.", LOCAL)] {
-        zones.push(zone(alloc, origin, text)?)?;
-    }
-    Ok(zones)
-}
-
-// The servers of the root and of example.
-fn hosts<A: Heap>(alloc: A) -> Result<Vec<Host<A>, A>, Starved> {
-    let mut hosts = Vec::new(alloc);
-    for (last, origin) in [(1, "."), (2, "example.")] {
-        hosts.push(host(alloc, last, origin)?)?;
-    }
-    Ok(hosts)
-}
-
-fn locals<A: Heap>(alloc: A) -> Result<Vec<Name<A>, A>, Starved> {
-    let mut locals = Vec::new(alloc);
-    locals.push(name(alloc, "local.")?)?;
-    Ok(locals)
-}
-
-fn world<A: Heap>(alloc: A, addresses: u8) -> Result<World<A>, Starved> {
-    let example = example(alloc, addresses)?;
-    let zones = zones(alloc, example.as_str())?;
-    let hosts = hosts(alloc)?;
-    let hints = Vec::from_slice(alloc, &[server(1)])?;
-    let locals = locals(alloc)?;
-    match World::check(zones, hosts, hints, locals) {
-        Ok(world) => Ok(world),
-        Err(_) => Err(Starved),
-    }
-}
-
-const SETTINGS: Settings = Settings {
-    cache: 16,
-    delegations: 16,
-    penalties: 16,
-    sockets: 1,
-    port: 53,
-    seed: [7; 32],
-};
-
-fn network<A: Heap>(alloc: A, addresses: u8) -> Result<Sim<A>, Starved> {
-    match Sim::new(alloc, world(alloc, addresses)?, SETTINGS) {
-        Ok(sim) => Ok(sim),
-        Err(_) => Err(Starved),
-    }
-}
-
-fn message_bytes<A: Heap>(alloc: A, bytes: &[u8]) -> Result<Bytes<A>, Starved> {
-    if bytes.len() > TCP_LIMIT {
-        return Err(Starved);
-    }
-    Ok(Bytes::new(Vec::from_slice(alloc, bytes)?))
-}
-
-// www.example. A and a.example. A, under ID 5 with RD.
-const WWW: &[u8] = b"\0\x05\x01\0\0\x01\0\0\0\0\0\0\x03www\x07example\0\0\x01\0\x01";
-
-const LONG: &[u8] = b"\0\x05\x01\0\0\x01\0\0\0\0\0\0\x01a\x07example\0\0\x01\0\x01";
-
-// An ask of a server.
-fn ask<A: Heap>(alloc: A, path: Path, last: u8, query: &[u8]) -> Result<Sent<A>, Starved> {
-    Ok(Sent {
-        path,
-        to: Endpoint {
-            address: server(last),
-            port: 53,
-        },
-        bytes: message_bytes(alloc, query)?,
-    })
-}
-
-// What comes of an ask.
-#[derive(Clone, Copy)]
-enum Way {
-    Whole,
-    Truncated,
-    Stream,
-    Lost,
-}
-
-// What comes, in short.
-#[derive(Clone, Copy, Debug, PartialEq, Eq)]
-enum Come {
-    Nothing,
-    // So many bytes in a datagram from the server of example., and whether TC is set.
-    Datagram(usize, bool),
-    Stream(usize),
-    Failure,
-    Other,
-}
-
-// What this is, for an ask from socket 7 or in stream 3, at moment 9.
-fn come_of<A: Heap>(event: &Event<A>) -> Come {
-    match event {
-        Event::Datagram {
-            moment: 9,
-            socket: 7,
-            from,
-            bytes,
-        } if from.address == server(2) && from.port == 53 => in_datagram(bytes.as_slice()),
-        Event::TcpReply {
-            moment: 9,
-            number: 3,
-            bytes,
-        } => Come::Stream(bytes.as_slice().len()),
-        Event::TcpFailed {
-            moment: 9,
-            number: 3,
-        } => Come::Failure,
-        _ => Come::Other,
-    }
-}
-
-fn in_datagram(bytes: &[u8]) -> Come {
-    match bytes {
-        [_, _, flags, ..] => Come::Datagram(bytes.len(), flags & 2 == 2),
-        _ => Come::Other,
-    }
-}
-
-fn event_by<A: Heap>(
-    alloc: A,
-    world: &World<A>,
-    ask: &Sent<A>,
-    way: Way,
-) -> Result<Option<Event<A>>, Starved> {
-    match way {
-        Way::Whole => whole_over_udp(alloc, world, ask, 9),
-        Way::Truncated => truncated_over_udp(alloc, world, ask, 9),
-        Way::Stream => over_tcp(alloc, world, ask, 9),
-        Way::Lost => Ok(lost(ask, 9)),
-    }
-}
-
-// What comes of that ask in the world with so many addresses.
-fn comes<A: Heap>(alloc: A, addresses: u8, ask: &Sent<A>, way: Way) -> Result<Come, Starved> {
-    let world = world(alloc, addresses)?;
-    match event_by(alloc, &world, ask, way)? {
-        Some(event) => Ok(come_of(&event)),
-        None => Ok(Come::Nothing),
-    }
-}
-
-const SOCKET: Path = Path::Udp(7);
-
-const STREAM: Path = Path::Tcp(3);
-
-// A header of 12 bytes, a question of 15, and 16 for each address.
-#[test]
-fn a_datagram_has_at_most_512_bytes(rt: HostRuntime) -> Result<(), Fail> {
-    let ask = ask(rt.alloc(), SOCKET, 2, LONG)?;
-    for (addresses, way, come) in [
-        (30, Way::Whole, Come::Datagram(507, false)),
-        (31, Way::Whole, Come::Datagram(27, true)),
-        (30, Way::Truncated, Come::Datagram(27, true)),
-        (31, Way::Truncated, Come::Datagram(27, true)),
-    ] {
-        assert_eq!(rt;
-            comes(rt.alloc(), addresses, &ask, way)?,
-            come,
-            "{addresses}"
-        );
-    }
-    Ok(())
-}
-
-#[test]
-fn a_stream_carries_more(rt: HostRuntime) -> Result<(), Fail> {
-    let ask = ask(rt.alloc(), STREAM, 2, LONG)?;
-    assert_eq!(rt;
-        comes(rt.alloc(), 31, &ask, Way::Stream)?,
-        Come::Stream(523)
-    );
-    Ok(())
-}
-
-// No server has the address 198.51.100.99.
-#[test]
-fn a_silent_server_and_a_loss_fail_a_stream_alone(rt: HostRuntime) -> Result<(), Fail> {
-    for (path, way, come) in [
-        (STREAM, Way::Stream, Come::Failure),
-        (STREAM, Way::Lost, Come::Failure),
-        (SOCKET, Way::Whole, Come::Nothing),
-        (SOCKET, Way::Lost, Come::Nothing),
-    ] {
-        let ask = ask(rt.alloc(), path, 99, WWW)?;
-        assert_eq!(rt; comes(rt.alloc(), 0, &ask, way)?, come);
-    }
-    Ok(())
-}
-
-#[test]
-fn an_ask_comes_by_its_own_way(rt: HostRuntime) -> Result<(), Fail> {
-    for (path, way) in [
-        (SOCKET, Way::Stream),
-        (STREAM, Way::Whole),
-        (STREAM, Way::Truncated),
-    ] {
-        let ask = ask(rt.alloc(), path, 2, WWW)?;
-        assert_eq!(rt; comes(rt.alloc(), 0, &ask, way)?, Come::Nothing);
-    }
-    Ok(())
-}
+use wire::Via;
 
 // The query of client 4, over UDP.
 fn query_of_client<A: Heap>(alloc: A, query: &[u8]) -> Result<SimEvent<A>, Starved> {
@@ -300,7 +38,7 @@ fn event_of<A: Heap>(order: Order, moment: u64) -> SimEvent<A> {
 }
 
 // What came out of a step, in short.
-#[derive(Clone, Copy, Debug, PartialEq, Eq)]
+#[derive(Clone, Copy, PartialEq, Eq)]
 enum Out {
     Nothing,
     Sent(u64),
@@ -325,24 +63,154 @@ fn out_of<A: Heap>(sim: &mut Sim<A>, event: SimEvent<A>) -> Result<Out, Starved>
     Ok(shown_of(&actions))
 }
 
-// What comes out of the query and then of the last order, each a millisecond after the one before.
-fn follow<A: Heap>(sim: &mut Sim<A>, query: SimEvent<A>, orders: &[Order]) -> Result<Out, Starved> {
-    let mut out = out_of(sim, query)?;
-    for (order, moment) in orders.iter().zip(1..) {
+// What comes out of the query of client 4.
+fn ask<A: Heap>(alloc: A, sim: &mut Sim<A>, query: &[u8]) -> Result<Out, Starved> {
+    let event = query_of_client(alloc, query)?;
+    Ok(out_of(sim, event)?)
+}
+
+// What comes out of the last order, each a millisecond after the one before; without any, what came out before.
+fn follow<A: Heap>(sim: &mut Sim<A>, before: Out, orders: &[Order]) -> Result<Out, Starved> {
+    let mut out = before;
+    let mut moment = 0u64;
+    for order in orders {
+        moment = moment.saturating_add(1);
         out = out_of(sim, event_of(*order, moment))?;
     }
     Ok(out)
 }
 
-fn outcome<A: Heap>(
-    alloc: A,
+// In a network with so many addresses of a.example. client 4 asks: what comes out of that, or of the last order.
+#[derive(Clone, Copy)]
+struct Tale {
     addresses: u8,
-    query: &[u8],
-    orders: &[Order],
-) -> Result<Out, Starved> {
-    let query = query_of_client(alloc, query)?;
-    let mut sim = network(alloc, addresses)?;
-    follow(&mut sim, query, orders)
+    query: &'static [u8],
+    orders: &'static [Order],
+    out: Out,
+}
+
+impl Tale {
+    fn comes_in<A: Heap>(self, alloc: A, sim: &mut Sim<A>) -> Result<Out, Starved> {
+        let first = ask(alloc, sim, self.query)?;
+        Ok(follow(sim, first, self.orders)?)
+    }
+
+    fn comes<A: Heap>(self, alloc: A) -> Result<Out, Starved> {
+        let mut sim = network(alloc, self.addresses)?;
+        Ok(self.comes_in(alloc, &mut sim)?)
+    }
+}
+
+const NOTHING: Tale = Tale {
+    addresses: 0,
+    query: WWW,
+    orders: &[],
+    out: Out::Nothing,
+};
+
+// A query for ns.local. A.
+const OF_LOCAL: &[u8] = b"\0\x05\x01\0\0\x01\0\0\0\0\0\0\x02ns\x05local\0\0\x01\0\x01";
+
+const TALES: &[Tale] = &[
+    // Nobody has these numbers, and no ask went over TCP.
+    Tale {
+        orders: &[Order::Carry(0)],
+        ..NOTHING
+    },
+    Tale {
+        orders: &[Order::Carry(0), Order::Carry(1)],
+        out: Out::Sent(2),
+        ..NOTHING
+    },
+    Tale {
+        orders: &[Order::Carry(2)],
+        ..NOTHING
+    },
+    Tale {
+        orders: &[Order::Carry(2), Order::Carry(1)],
+        out: Out::Sent(2),
+        ..NOTHING
+    },
+    Tale {
+        orders: &[Order::Lose(u64::MAX)],
+        ..NOTHING
+    },
+    Tale {
+        orders: &[Order::Lose(u64::MAX), Order::Carry(1)],
+        out: Out::Sent(2),
+        ..NOTHING
+    },
+    Tale {
+        orders: &[Order::Tcp(1)],
+        ..NOTHING
+    },
+    Tale {
+        orders: &[Order::Tcp(1), Order::Carry(1)],
+        out: Out::Sent(2),
+        ..NOTHING
+    },
+    // What is truncated is asked again over TCP; over UDP the client has the reply truncated.
+    Tale {
+        addresses: 31,
+        query: LONG,
+        orders: &[Order::Carry(1), Order::Carry(2)],
+        out: Out::Asked(3),
+    },
+    Tale {
+        addresses: 31,
+        query: LONG,
+        orders: &[Order::Carry(1), Order::Carry(2), Order::Tcp(3)],
+        out: Out::Reply(27, false),
+    },
+    // A server is asked at most twice over UDP for one question.
+    Tale {
+        orders: &[Order::Carry(1), Order::Truncate(2), Order::Lose(2)],
+        ..NOTHING
+    },
+    Tale {
+        orders: &[
+            Order::Carry(1),
+            Order::Truncate(2),
+            Order::Lose(2),
+            Order::Lose(3),
+        ],
+        out: Out::Sent(4),
+        ..NOTHING
+    },
+    Tale {
+        orders: &[
+            Order::Carry(1),
+            Order::Truncate(2),
+            Order::Lose(2),
+            Order::Lose(3),
+            Order::Truncate(4),
+            Order::Lose(5),
+        ],
+        out: Out::Reply(29, true),
+        ..NOTHING
+    },
+    // Local zones are the resolver's: a header of 12 bytes, a question of 14, an address of 16.
+    Tale {
+        query: OF_LOCAL,
+        out: Out::Reply(42, false),
+        ..NOTHING
+    },
+];
+
+// The first tale of which something else comes.
+fn first_wrong_tale<A: Heap>(alloc: A) -> Result<Option<usize>, Starved> {
+    for (place, tale) in TALES.iter().enumerate() {
+        if tale.comes(alloc)? != tale.out {
+            return Ok(Some(place));
+        }
+    }
+    Ok(None)
+}
+
+#[test]
+fn orders_bring_what_was_worked(rt: HostRuntime) -> Result<(), Fail> {
+    assert_eq!(rt; first_wrong_tale(rt.alloc())?, None);
+    Ok(())
 }
 
 // QR, RD and RA, and one record of TTL 3600 whose owner is the question's.
@@ -365,35 +233,26 @@ fn is_answer<A: Heap>(actions: &SimActions<A>) -> bool {
 
 // A network in which client 4 asked, and the ask of the root was carried.
 fn on_the_way<A: Heap>(alloc: A) -> Result<Sim<A>, Starved> {
-    let query = query_of_client(alloc, WWW)?;
     let mut sim = network(alloc, 0)?;
-    follow(&mut sim, query, &[Order::Carry(1)])?;
+    ask(alloc, &mut sim, WWW)?;
+    out_of(&mut sim, event_of(Order::Carry(1), 1))?;
     Ok(sim)
+}
+
+// Whether the second ask brings the answer.
+fn is_answered<A: Heap>(sim: &mut Sim<A>) -> Result<bool, Starved> {
+    let carried = sim.step(event_of(Order::Carry(2), 2))?;
+    Ok(is_answer(&carried))
+}
+
+fn leads_to_answer<A: Heap>(alloc: A) -> Result<bool, Starved> {
+    let mut sim = on_the_way(alloc)?;
+    Ok(is_answered(&mut sim)?)
 }
 
 #[test]
 fn a_query_is_followed_to_its_answer(rt: HostRuntime) -> Result<(), Fail> {
-    let mut sim = on_the_way(rt.alloc())?;
-    let carried = sim.step(event_of(Order::Carry(2), 2))?;
-    assert!(rt; is_answer(&carried));
-    Ok(())
-}
-
-// Nobody has these numbers, and no ask went over TCP.
-#[test]
-fn numbers_without_an_ask_are_nothing(rt: HostRuntime) -> Result<(), Fail> {
-    for order in [
-        Order::Carry(0),
-        Order::Carry(2),
-        Order::Lose(u64::MAX),
-        Order::Tcp(1),
-    ] {
-        assert_eq!(rt; outcome(rt.alloc(), 0, WWW, &[order])?, Out::Nothing);
-        assert_eq!(rt;
-            outcome(rt.alloc(), 0, WWW, &[order, Order::Carry(1)])?,
-            Out::Sent(2)
-        );
-    }
+    assert!(rt; leads_to_answer(rt.alloc())?);
     Ok(())
 }
 
@@ -405,54 +264,46 @@ fn asked<A: Heap>(sim: &Sim<A>, number: u64) -> Option<Addr> {
     }
 }
 
+// Numbers of asks, and the servers that were asked.
+const SERVERS: &[(u64, Option<Addr>)] = &[
+    (0, None),
+    (1, Some(Addr([198, 51, 100, 1]))),
+    (2, Some(Addr([198, 51, 100, 2]))),
+    (3, None),
+];
+
+// The first of these numbers of which another server was asked.
+fn wrong_number<A: Heap>(sim: &Sim<A>) -> Option<u64> {
+    for (number, server) in SERVERS {
+        if asked(sim, *number) != *server {
+            return Some(*number);
+        }
+    }
+    None
+}
+
+// Beside that, how many asks went out, and how many hints there are.
+fn stand<A: Heap>(alloc: A) -> Result<(Option<u64>, u64, usize), Starved> {
+    let sim = on_the_way(alloc)?;
+    Ok((wrong_number(&sim), sim.asks(), sim.world().hints().len()))
+}
+
 #[test]
 fn asks_stand_under_their_numbers(rt: HostRuntime) -> Result<(), Fail> {
-    let sim = on_the_way(rt.alloc())?;
-    let servers = [None, Some(server(1)), Some(server(2)), None];
-    for (number, asked_one) in servers.iter().enumerate() {
-        assert_eq!(rt; asked(&sim, number as u64), *asked_one);
-    }
-    assert_eq!(rt; sim.asks(), 2);
-    assert_eq!(rt; sim.world().hints().len(), 1);
+    assert_eq!(rt; stand(rt.alloc())?, (None, 2, 1));
     Ok(())
 }
 
-// What is truncated is asked again over TCP; over UDP the client has the reply truncated.
-#[test]
-fn a_long_reply_goes_over_tcp(rt: HostRuntime) -> Result<(), Fail> {
-    let orders = [Order::Carry(1), Order::Carry(2), Order::Tcp(3)];
-    assert_eq!(rt; outcome(rt.alloc(), 31, LONG, &orders[..2])?, Out::Asked(3));
-    assert_eq!(rt;
-        outcome(rt.alloc(), 31, LONG, &orders)?,
-        Out::Reply(27, false)
-    );
-    Ok(())
-}
-
-// A server is asked at most twice over UDP for one question.
-#[test]
-fn lost_streams_end_a_query(rt: HostRuntime) -> Result<(), Fail> {
-    let orders = [
-        Order::Carry(1),
-        Order::Truncate(2),
-        Order::Lose(2),
-        Order::Lose(3),
-        Order::Truncate(4),
-        Order::Lose(5),
-    ];
-    assert_eq!(rt; outcome(rt.alloc(), 0, WWW, &orders[..3])?, Out::Nothing);
-    assert_eq!(rt; outcome(rt.alloc(), 0, WWW, &orders[..4])?, Out::Sent(4));
-    assert_eq!(rt; outcome(rt.alloc(), 0, WWW, &orders)?, Out::Reply(29, true));
-    Ok(())
-}
-
-// A header of 12 bytes, a question of 14, an address of 16.
-#[test]
-fn local_zones_are_the_resolvers(rt: HostRuntime) -> Result<(), Fail> {
-    let query = b"\0\x05\x01\0\0\x01\0\0\0\0\0\0\x02ns\x05local\0\0\x01\0\x01";
-    assert_eq!(rt; outcome(rt.alloc(), 0, query, &[])?, Out::Reply(42, false));
-    Ok(())
-}
+const BEYOND: &[Settings] = &[
+    Settings {
+        cache: 0,
+        ..SETTINGS
+    },
+    Settings {
+        sockets: 17,
+        ..SETTINGS
+    },
+];
 
 // Whether a network with these settings is refused for a setting.
 fn is_refused<A: Heap>(alloc: A, settings: Settings) -> Result<bool, Starved> {
@@ -460,37 +311,58 @@ fn is_refused<A: Heap>(alloc: A, settings: Settings) -> Result<bool, Starved> {
     Ok(matches!(Sim::new(alloc, world, settings), Err(SimError::Setting)))
 }
 
+// The first of these settings that are not.
+fn first_not_refused<A: Heap>(alloc: A) -> Result<Option<usize>, Starved> {
+    for (place, settings) in BEYOND.iter().enumerate() {
+        if !is_refused(alloc, *settings)? {
+            return Ok(Some(place));
+        }
+    }
+    Ok(None)
+}
+
 #[test]
 fn settings_have_limits(rt: HostRuntime) -> Result<(), Fail> {
-    for settings in [
-        Settings {
-            cache: 0,
-            ..SETTINGS
-        },
-        Settings {
-            sockets: 17,
-            ..SETTINGS
-        },
-    ] {
-        assert!(rt; is_refused(rt.alloc(), settings)?);
-    }
-    assert_eq!(rt; SimError::Setting.number(), 1);
-    assert_eq!(rt; SimError::Memory.number(), 2);
+    assert_eq!(rt; first_not_refused(rt.alloc())?, None);
+    assert_eq!(rt;
+        (SimError::Setting.number(), SimError::Memory.number()),
+        (1, 2)
+    );
     Ok(())
+}
+
+const ANSWERED: Tale = Tale {
+    orders: &[Order::Carry(1), Order::Carry(2)],
+    out: Out::Reply(45, false),
+    ..NOTHING
+};
+
+// Whether client 4 is answered.
+fn answers<A: Heap>(alloc: A) -> bool {
+    match ANSWERED.comes(alloc) {
+        Ok(out) => out == ANSWERED.out,
+        Err(_) => false,
+    }
+}
+
+// The first of so many growths without which it is all the same.
+fn first_spared<A: Heap>(heap: &Refusing<A>, growths: u64) -> Option<u64> {
+    for n in 0..growths {
+        heap.refuse_after(n);
+        if answers(heap) {
+            return Some(n);
+        }
+    }
+    None
 }
 
 #[test]
 fn each_growth_is_refused_in_turn(rt: HostRuntime) -> Result<(), Fail> {
-    let orders = [Order::Carry(1), Order::Carry(2)];
     let heap = Refusing::new(rt.alloc());
-    assert_eq!(rt; outcome(&heap, 0, WWW, &orders)?, Out::Reply(45, false));
+    assert!(rt; answers(&heap));
     let growths = heap.growths();
-    for n in 0..growths {
-        heap.refuse_after(n);
-        let refused = outcome(&heap, 0, WWW, &orders);
-        assert!(rt; !matches!(refused, Ok(Out::Reply(45, false))), "growth {n}");
-    }
+    assert_eq!(rt; first_spared(&heap, growths), None);
     heap.refuse_after(growths);
-    assert_eq!(rt; outcome(&heap, 0, WWW, &orders)?, Out::Reply(45, false));
+    assert!(rt; answers(&heap));
     Ok(())
 }

@@ -1,11 +1,10 @@
 //! A network, and beside it the room in which its queries wait.
 use crate::question::{Question, ask_alike};
 use crate::room::{Ask, Room, Served};
-use dname::Starved;
+use dname::{Heap, Starved};
 use exchange::Bytes;
 use script::world_in;
 use simnet::{Sent, Settings, Sim, SimAction, SimActions, SimEvent};
-use std::alloc::Global;
 use wire::Via;
 
 const SETTINGS: Settings = Settings {
@@ -29,6 +28,17 @@ pub enum Order {
     Tick,
 }
 
+impl Order {
+    // Whether a server that was silent may be asked once more by it.
+    fn may_repeat(self) -> bool {
+        matches!(self, Order::Tick | Order::Lose(_))
+    }
+
+    fn is_tick(self) -> bool {
+        matches!(self, Order::Tick)
+    }
+}
+
 /// How the resolver and the room agree on a step: not at all, or on whom it served, and whether another was due.
 #[derive(Clone, Copy, Debug, PartialEq, Eq)]
 pub enum Verdict {
@@ -46,19 +56,39 @@ struct Done {
     more_due: bool,
 }
 
-/// A network of a world, what is asked in it, and the room beside it.
-#[derive(Drop)]
-pub struct Watched {
-    sim: Sim,
-    questions: Vec<Question>,
-    room: Room,
+impl Done {
+    // Whether the room has this client served and a further query due, and which.
+    fn verdict(self, client: Option<u64>, more_due: bool) -> Verdict {
+        if self.client != client || self.more_due != more_due {
+            Verdict::Differ
+        } else if more_due {
+            Verdict::OneOfMore
+        } else if client.is_some() {
+            Verdict::One
+        } else {
+            Verdict::Nobody
+        }
+    }
 }
 
-impl Watched {
+/// A network of a world, what is asked in it, and the room beside it.
+#[derive(Drop)]
+pub struct Watched<A: Heap> {
+    sim: Sim<A>,
+    questions: Vec<Question<A>, A>,
+    room: Room<A>,
+}
+
+impl<A: Heap> Watched<A> {
     /// A network of the world of this text, in which these are all questions.
-    pub fn new(alloc: Global, world: &str, questions: Vec<Question>) -> Result<Watched, Starved> {
+    pub fn new(
+        alloc: A,
+        world: &str,
+        questions: Vec<Question<A>, A>,
+    ) -> Result<Watched<A>, Starved> {
+        let sim = network(alloc, world)?;
         Ok(Watched {
-            sim: network(alloc, world)?,
+            sim,
             questions,
             room: Room::new(alloc),
         })
@@ -69,9 +99,9 @@ impl Watched {
         self.sim.asks()
     }
 
-    /// How many queries wait.
-    pub fn waiting(&self) -> usize {
-        self.room.len()
+    /// Whether so many asks went out, and so many queries wait.
+    pub fn stands_at(&self, asks: u64, waiting: usize) -> bool {
+        self.asks() == asks && self.room.len() == waiting
     }
 
     /// Whether a query of this client waits.
@@ -79,19 +109,29 @@ impl Watched {
         self.room.has(client)
     }
 
+    fn sent(&self, number: u64) -> Option<&Sent<A>> {
+        self.sim.sent(number)
+    }
+
+    // The client for whom these bytes ask.
+    fn asker(&self, bytes: &[u8]) -> Option<u64> {
+        for question in self.questions.iter() {
+            if question.is_asked(bytes) {
+                return Some(question.client);
+            }
+        }
+        None
+    }
+
     // The ask of a number.
     fn ask(&self, number: u64) -> Option<Ask> {
-        let sent = self.sim.sent(number)?;
-        let bytes = sent.bytes.as_slice();
-        let question = self
-            .questions
-            .iter()
-            .find(|question| question.is_asked(bytes))?;
+        let sent = self.sent(number)?;
+        let client = self.asker(sent.bytes.as_slice())?;
         Some(Ask {
             path: sent.path,
             server: sent.to.address,
-            id: [*bytes.get(0)?, *bytes.get(1)?],
-            client: question.client,
+            id: id_of(sent.bytes.as_slice()),
+            client,
         })
     }
 
@@ -99,20 +139,30 @@ impl Watched {
     // that was silent before is asked once more. So a question that several queries ask is none of a zone with several
     // servers.
     fn wait(&self, order: Order) -> u64 {
-        let newest = self.sim.asks();
-        match (self.sim.sent(newest), order) {
-            (Some(sent), _) if sent.path.via() == Via::Tcp => 3_000,
-            (Some(sent), Order::Tick | Order::Lose(_)) if self.was_asked(sent, newest) => 2_000,
+        let newest = self.asks();
+        match self.sent(newest) {
+            Some(sent) if sent.path.via() == Via::Tcp => 3_000,
+            Some(sent) if order.may_repeat() && self.was_asked(sent, newest) => 2_000,
             _ => 1_000,
         }
     }
 
-    // Whether the same was asked of the same server before the ask of this number.
-    fn was_asked(&self, sent: &Sent, number: u64) -> bool {
-        (1..number).any(|earlier| match self.sim.sent(earlier) {
-            Some(before) => is_repeated(before, sent),
+    // Whether the ask of a number asked the same of the same server.
+    fn is_repeated(&self, number: u64, sent: &Sent<A>) -> bool {
+        match self.sent(number) {
+            Some(before) => before.to == sent.to && say_alike(before, sent),
             None => false,
-        })
+        }
+    }
+
+    // Whether the same was asked of the same server before the ask of this number.
+    fn was_asked(&self, sent: &Sent<A>, number: u64) -> bool {
+        for earlier in 1..number {
+            if self.is_repeated(earlier, sent) {
+                return true;
+            }
+        }
+        false
     }
 
     // Whom the reply to the ask of a number serves, where the ask went this way.
@@ -126,6 +176,12 @@ impl Watched {
         }
     }
 
+    // Whom time serves.
+    fn ticked(&mut self, moment: u64) -> Served {
+        self.room.pass(moment);
+        self.room.due_first()
+    }
+
     // Whom the order serves.
     fn served(&mut self, moment: u64, order: Order) -> Served {
         match order {
@@ -137,54 +193,54 @@ impl Watched {
                 self.heard(moment, number, Via::Udp)
             }
             Order::Tcp(number) | Order::Lose(number) => self.heard(moment, number, Via::Tcp),
-            Order::Tick => {
-                self.room.pass(moment);
-                self.room.due_first()
-            }
+            Order::Tick => self.ticked(moment),
         }
     }
 
     // What a client asks.
-    fn query(&self, client: u64) -> Result<Bytes, Starved> {
-        match self
-            .questions
-            .iter()
-            .find(|question| question.client == client)
-        {
-            Some(question) => question.query(),
-            None => Err(Starved),
+    fn query(&self, client: u64) -> Result<Bytes<A>, Starved> {
+        for question in self.questions.iter() {
+            if question.client == client {
+                return Ok(question.query()?);
+            }
         }
+        Err(Starved)
     }
 
-    fn event(&self, moment: u64, order: Order) -> Result<SimEvent, Starved> {
-        Ok(match order {
-            Order::Client(client) => SimEvent::Client {
-                moment,
-                client,
-                way: Via::Udp,
-                bytes: self.query(client)?,
-            },
-            Order::Carry(number) => SimEvent::Carry { moment, number },
-            Order::Truncate(number) => SimEvent::CarryTruncated { moment, number },
-            Order::Tcp(number) => SimEvent::CarryTcp { moment, number },
-            Order::Lose(number) => SimEvent::Lose { moment, number },
-            Order::Tick => SimEvent::Tick { moment },
+    fn client_event(&self, moment: u64, client: u64) -> Result<SimEvent<A>, Starved> {
+        let bytes = self.query(client)?;
+        Ok(SimEvent::Client {
+            moment,
+            client,
+            way: Via::Udp,
+            bytes,
         })
     }
 
-    fn done(&self, actions: &SimActions) -> Done {
-        let ask = match &actions.first {
-            Some(SimAction::Sent { number }) | Some(SimAction::Asked { number }) => {
-                self.ask(*number)
-            }
+    fn event(&self, moment: u64, order: Order) -> Result<SimEvent<A>, Starved> {
+        match order {
+            Order::Client(client) => Ok(self.client_event(moment, client)?),
+            Order::Carry(number) => Ok(SimEvent::Carry { moment, number }),
+            Order::Truncate(number) => Ok(SimEvent::CarryTruncated { moment, number }),
+            Order::Tcp(number) => Ok(SimEvent::CarryTcp { moment, number }),
+            Order::Lose(number) => Ok(SimEvent::Lose { moment, number }),
+            Order::Tick => Ok(SimEvent::Tick { moment }),
+        }
+    }
+
+    // The ask that went out by these actions.
+    fn asked(&self, actions: &SimActions<A>) -> Option<Ask> {
+        match &actions.first {
+            Some(SimAction::Sent { number }) => self.ask(*number),
+            Some(SimAction::Asked { number }) => self.ask(*number),
             _ => None,
-        };
-        let client = match &actions.first {
-            Some(SimAction::Reply { client, .. }) => Some(*client),
-            _ => ask.map(|ask| ask.client),
-        };
+        }
+    }
+
+    fn done(&self, actions: &SimActions<A>) -> Done {
+        let ask = self.asked(actions);
         Done {
-            client,
+            client: client_of(actions, ask),
             ask,
             more_due: actions.more_due,
         }
@@ -200,7 +256,7 @@ impl Watched {
     // The room takes in what came of the step.
     fn settle(&mut self, served: Served, order: Order, done: Done) -> Result<(), Starved> {
         let wait = self.wait(order);
-        self.room.settle(served, done.ask, wait)
+        Ok(self.room.settle(served, done.ask, wait)?)
     }
 
     /// The order is followed at this moment.
@@ -209,20 +265,12 @@ impl Watched {
         let client = self.room.client(served);
         let done = self.step(moment, order)?;
         self.settle(served, order, done)?;
-        let more_due = matches!(order, Order::Tick) && self.room.is_due();
-        Ok(if done.client != client || done.more_due != more_due {
-            Verdict::Differ
-        } else if more_due {
-            Verdict::OneOfMore
-        } else if client.is_some() {
-            Verdict::One
-        } else {
-            Verdict::Nobody
-        })
+        let more_due = order.is_tick() && self.room.is_due();
+        Ok(done.verdict(client, more_due))
     }
 }
 
-fn network(alloc: Global, text: &str) -> Result<Sim, Starved> {
+fn network<A: Heap>(alloc: A, text: &str) -> Result<Sim<A>, Starved> {
     let Ok(world) = world_in(alloc, text) else {
         return Err(Starved);
     };
@@ -232,6 +280,23 @@ fn network(alloc: Global, text: &str) -> Result<Sim, Starved> {
     }
 }
 
-fn is_repeated(before: &Sent, sent: &Sent) -> bool {
-    before.to == sent.to && ask_alike(before.bytes.as_slice(), sent.bytes.as_slice())
+// The two bytes that a message begins with (RFC 1035, section 4.1.1).
+fn id_of(bytes: &[u8]) -> [u8; 2] {
+    match bytes {
+        [high, low, ..] => [*high, *low],
+        _ => [0, 0],
+    }
+}
+
+fn say_alike<A: Heap>(before: &Sent<A>, sent: &Sent<A>) -> bool {
+    ask_alike(before.bytes.as_slice(), sent.bytes.as_slice())
+}
+
+// Whom these actions are for: the one for whom is asked, or the one who is answered.
+fn client_of<A: Heap>(actions: &SimActions<A>, ask: Option<Ask>) -> Option<u64> {
+    match (ask, &actions.first) {
+        (Some(ask), _) => Some(ask.client),
+        (None, Some(SimAction::Reply { client, .. })) => Some(*client),
+        _ => None,
+    }
 }
