@@ -83,9 +83,8 @@ pub fn read_config<'t, A: Heap>(alloc: A, text: &'t str) -> Result<ServeConfig<'
     ensures { MatchResult result (λ c. config_of text.entry.now ≡ Ok c) (λ e. IsTextFault e (config_of text.entry.now)) }
 {
     let mut draft = Draft::new(alloc);
-    let mut lines = TextLines::new(text);
     let mut number = 1usize;
-    while let Some(line) = lines.next() {
+    for line in TextLines::new(text) {
         match draft.take(alloc, line) {
             Ok(()) => {}
             Err(kind) => {

@@ -33,9 +33,8 @@ fn read_orders<A: Heap>(alloc: A, scope: Scope, text: &str) -> Result<Vec<Order<
     ensures { MatchResult result (λ v. orders_of scope text.now ≡ Ok (map order_seen v.items)) (λ e. IsTextFault e (orders_of scope text.now)) }
 {
     let mut orders = Vec::new(alloc);
-    let mut lines = TextLines::new(text);
     let mut number = 1usize;
-    while let Some(line) = lines.next() {
+    for line in TextLines::new(text) {
         match take(alloc, scope, &mut orders, line) {
             Ok(()) => {}
             Err(kind) => {

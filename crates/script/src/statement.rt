@@ -75,7 +75,7 @@ fn origins<A: Heap>(alloc: A, mut words: LineWords<'_>) -> Result<Vec<Name<A>, A
 {
     let mut origins = Vec::new(alloc);
     origins.push(words.name(alloc)?)?;
-    while let Some(word) = words.next() {
+    for word in words {
         origins.push(name(alloc, word)?)?;
     }
     Ok(origins)

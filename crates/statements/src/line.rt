@@ -46,23 +46,6 @@ impl<'t> LineWords<'t> {
         }
     }
 
-    /// The next word, if there is one.
-    pub fn next(&mut self) -> Option<&'t str>
-        ensures { MatchOption result ((self.old ≡ []) × (self.new ≡ [])) (λ w. self.old ≡ w.now ∷ self.new) }
-    {
-        let mut rest = self.rest;
-        while !rest.is_empty() {
-            let (piece, behind) = first_piece(rest);
-            rest = behind;
-            if !piece.is_empty() {
-                self.rest = rest;
-                return Some(piece);
-            }
-        }
-        self.rest = rest;
-        None
-    }
-
     /// The next word, which has to be there.
     pub fn word(&mut self) -> Result<&'t str, LineKind>
         ensures { MatchResult result (λ w. next Ok self.old ≡ Ok (w.now, self.new)) (λ e. next Ok self.old ≡ Err e) }
@@ -114,6 +97,30 @@ impl<'t> LineWords<'t> {
             None => Ok(()),
             Some(_) => Err(LineKind::WordCount),
         }
+    }
+}
+
+impl<'t> Iterator for LineWords<'t> {
+    ghost use Rattle.std.specs.Iterator.{YieldsFirstRef, item_count};
+
+    type Item = &'t str;
+
+    ghost next_gives = { YieldsFirstRef (λ words. words) };
+
+    ghost remaining = { item_count (λ words. words) };
+
+    fn next(&mut self) -> Option<&'t str> {
+        let mut rest = self.rest;
+        while !rest.is_empty() {
+            let (piece, behind) = first_piece(rest);
+            rest = behind;
+            if !piece.is_empty() {
+                self.rest = rest;
+                return Some(piece);
+            }
+        }
+        self.rest = rest;
+        None
     }
 }
 

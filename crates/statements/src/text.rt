@@ -1,5 +1,5 @@
 //! The lines of a text.
-ghost use Rattle.std.specs.Prelude.{◌≡◌, ◌∷◌, [], MatchOption};
+ghost use Rattle.std.specs.Prelude.{◌≡◌, [], MatchOption};
 ghost use Rattle.statements.specs.Lines.{lines, is_line_end, IsFirstLine};
 ghost use Rattle.std.specs.List.{before_first, after_first};
 
@@ -27,11 +27,18 @@ impl<'t> TextLines<'t> {
     {
         TextLines { rest: text }
     }
+}
 
-    /// The next line, if there is one.
-    pub fn next(&mut self) -> Option<&'t str>
-        ensures { MatchOption result ((self.old ≡ []) × (self.new ≡ [])) (λ l. self.old ≡ l.now ∷ self.new) }
-    {
+impl<'t> Iterator for TextLines<'t> {
+    ghost use Rattle.std.specs.Iterator.{YieldsFirstRef, item_count};
+
+    type Item = &'t str;
+
+    ghost next_gives = { YieldsFirstRef (λ lines. lines) };
+
+    ghost remaining = { item_count (λ lines. lines) };
+
+    fn next(&mut self) -> Option<&'t str> {
         let (line, behind) = first_line(self.rest)?;
         self.rest = behind;
         Some(line)

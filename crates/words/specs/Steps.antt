@@ -1,9 +1,10 @@
 -- What a place of a text holds, and what a step from it finds.
-use Rattle.std.specs.Prelude.{◌≡◌, []}
+use Rattle.std.specs.Prelude.{◌≡◌, [], ◌∷◌, Option, MatchOption}
 use Rattle.words.specs.Entries.{Text, next_entry, with_word, text_from}
 use Rattle.words.specs.declared.cursor.Place.{Place}
 use Rattle.words.specs.declared.cursor.Step.{Step}
 use Rattle.words.specs.declared.cursor.Step.TheVariants.{Word, Line, Nothing}
+use Rattle.words.specs.declared.lexemes.Word.{Word as RawWord}
 use Rattle.words.specs.Views.{word_of, lead_of}
 
 abbrev pub text_at : Place → Text
@@ -14,3 +15,7 @@ abbrev pub IsStep : Step → Text → Place → Type 0
 IsStep (Word w) t p = t ≡ with_word (word_of w) (text_at p)
 IsStep (Line l) t p = t ≡ next_entry p.line (lead_of l) (text_at p)
 IsStep Nothing t p = t ≡ record { words = []; later = [] }
+
+-- The next word of the open entry; none at the entry's end, where nothing changes.
+abbrev pub IsNextWord : Text → Option RawWord → Text → Type 0
+IsNextWord t word u = MatchOption word ((t.words ≡ []) × (u ≡ t)) (λ w. (t.words ≡ word_of w ∷ u.words) × (u.later ≡ t.later))

@@ -132,20 +132,6 @@ impl<'a> Words<'a> {
         }
     }
 
-    /// The next word of the open entry; `None` at the entry's end, where the cursor stays.
-    pub fn next(&mut self) -> Option<Word<'a>>
-        ensures { MatchOption result ((self.old.words ≡ []) × (self.new ≡ self.old)) (λ w. (self.old.words ≡ word_of w ∷ self.new.words) × (self.new.later ≡ self.old.later)) }
-    {
-        let (step, place) = advance(self.place);
-        match step {
-            Step::Word(word) => {
-                self.place = place;
-                Some(word)
-            }
-            _ => None,
-        }
-    }
-
     /// Whether the open entry has no more words.
     pub fn is_at_end(&self) -> bool
         ensures { IsTrue result ↔ (self.now.words ≡ []) }
@@ -164,6 +150,29 @@ impl<'a> Words<'a> {
             Step::Line(lead) => {
                 self.place = place;
                 Some((place.line, lead))
+            }
+            _ => None,
+        }
+    }
+}
+
+// The words of the open entry; `None` at the entry's end, where the cursor stays.
+impl<'a> Iterator for Words<'a> {
+    ghost use Rattle.std.specs.Iterator.{item_count};
+    ghost use Rattle.words.specs.Steps.{IsNextWord};
+
+    type Item = Word<'a>;
+
+    ghost next_gives = { IsNextWord };
+
+    ghost remaining = { item_count (λ t. t.words) };
+
+    fn next(&mut self) -> Option<Word<'a>> {
+        let (step, place) = advance(self.place);
+        match step {
+            Step::Word(word) => {
+                self.place = place;
+                Some(word)
             }
             _ => None,
         }

@@ -1,8 +1,8 @@
 //! Master files parted into entries of raw words (RFC 1035, section 5.1): comments, quotes, parentheses and line
 //! ends are read here, and nothing else.
 //!
-//! `Words` is a cursor over a text. `next` gives the words of the open entry one by one, as slices of the text with
-//! their escapes unread; `next_entry` opens the entry behind it, with its line and how that line begins (`Lead`:
+//! `Words` is a cursor over a text: an iterator of the words of the open entry, as slices of the text with their escapes
+//! unread; `next_entry` opens the entry behind it, with its line and how that line begins (`Lead`:
 //! with a word, with a blank, or past its margin). No memory is taken.
 //!
 //! Promised: the entries that the cursor shows are the text's parts by those rules, and every text that parts so is
@@ -13,7 +13,7 @@
 //! ```text
 //! let mut words = Words::new(b"www 300 A 192.0.2.1 ; a host\nftp 300 A 192.0.2.2\n", 1);
 //! assert!(matches!(words.next(), Some(Word::Plain(b"www"))));
-//! while words.next().is_some() {}
+//! assert_eq!(words.by_ref().count(), 3);
 //! assert!(matches!(words.next_entry(), Some((2, Lead::Margin))));
 //! ```
 #![tactic(auto)]

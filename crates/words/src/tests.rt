@@ -1,11 +1,6 @@
 use super::*;
 use std::test::Fail;
 
-/// How many words the open entry still has.
-fn count_words(words: &mut Words<'_>) -> usize {
-    (0..1000).take_while(|_| words.next().is_some()).count()
-}
-
 // The first lines of the example of RFC 1035, section 5.3.
 #[test]
 fn reads_the_example_of_the_rfc(rt: HostRuntime) -> Result<(), Fail> {
@@ -14,7 +9,7 @@ fn reads_the_example_of_the_rfc(rt: HostRuntime) -> Result<(), Fail> {
     let mut words = Words::new(text, 1);
     assert!(rt; matches!(Lead::of_line(text), Lead::Margin));
     let mut counts = Vec::new(rt.alloc());
-    counts.push((1, count_words(&mut words)))?;
+    counts.push((1, words.by_ref().take(1_000).count()))?;
     for _ in 0..1000 {
         if !words.is_at_end() {
             break;
@@ -22,7 +17,7 @@ fn reads_the_example_of_the_rfc(rt: HostRuntime) -> Result<(), Fail> {
         let Some((line, _)) = words.next_entry() else {
             break;
         };
-        counts.push((line, count_words(&mut words)))?;
+        counts.push((line, words.by_ref().take(1_000).count()))?;
     }
     assert_eq!(rt;
         counts.as_slice(),

@@ -1,10 +1,7 @@
-use Rattle.std.proofs.Common.{◌≡◌, length}
+use Rattle.std.proofs.Common.{◌≡◌}
 use Rattle.statements.specs.Texts.{said_from}
 use Rattle.config.specs.Configs.{said, whole, config_of}
 use Rattle.config.proofs.config.read_config.Given as goal
 
 abbrev pub invariant-loop-line : goal.invariant-loop-line
-invariant-loop-line g l = said_from said whole l.number l.draft l.lines ≡ config_of l.fn.text
-
-abbrev pub decreases-loop-line : goal.decreases-loop-line
-decreases-loop-line g l = length l.lines
+invariant-loop-line g l = said_from said whole l.number l.draft l.line-iterator ≡ config_of l.fn.text

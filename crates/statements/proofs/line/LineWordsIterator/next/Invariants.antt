@@ -1,7 +1,7 @@
 use Rattle.std.proofs.Common.{length, ◌≡◌}
 use Rattle.std.specs.Str.{IsUtf8}
 use Rattle.statements.specs.Lines.{words}
-use Rattle.statements.proofs.line.LineWords.next.Given as goal
+use Rattle.statements.proofs.line.LineWordsIterator.next.Given as goal
 
 abbrev pub invariant-loop-rest : goal.invariant-loop-rest
 invariant-loop-rest l = record {
