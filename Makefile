@@ -43,8 +43,10 @@ turned:
 try:
 	cd $(PROGRAM) && rt try -- $(QUESTION)
 
-# Puts the proved program to $(PREFIX)/bin.
+# Puts the proved program to $(PREFIX)/bin, and its manual page beside it.
 install:
 	cd $(PROGRAM) && rt run -- $(QUESTION)
 	install -d $(DESTDIR)$(PREFIX)/bin
 	install -m 755 $(PROGRAM)/out/resolverd $(DESTDIR)$(PREFIX)/bin/resolverd
+	install -d $(DESTDIR)$(PREFIX)/share/man/man8
+	install -m 644 man/resolverd.8 $(DESTDIR)$(PREFIX)/share/man/man8/resolverd.8
