@@ -1,13 +1,14 @@
 //! Answers that a resolver gives without asking anybody.
-use crate::steps::{ROOT, core, message, query};
+use crate::steps::{ROOT, Sent, ask, core, message, query};
 use crate::sums::low;
-use crate::work::{Counted, Done};
+use crate::work::{Done, plain, taken};
 use anyhow::Result;
 use dname::{Heap, Name, Starved};
 use engine::Core;
 use exchange::{Action, Actions, Bytes, Endpoint, Event};
 use rdata::Records;
 use refusing::Refusing;
+use std::alloc::Allocator;
 use std::fmt;
 use std::rt::Runtime;
 use std::time::Instant;
@@ -69,23 +70,30 @@ fn reply<A: Heap>(alloc: A, id: &[u8], count: u8) -> Result<Bytes<A>, Starved> {
     message(alloc, id, rest.as_slice())
 }
 
+// A server's reply to an ask.
+fn told<A: Heap>(alloc: A, (socket, id): Sent, count: u8) -> Result<Event<A>, Starved> {
+    Ok(Event::Datagram {
+        moment: 0,
+        socket,
+        from: Endpoint {
+            address: ROOT,
+            port: 53,
+        },
+        bytes: reply(alloc, &id, count)?,
+    })
+}
+
+fn take<A: Heap>(core: &mut Core<A>, event: &Event<A>) -> Result<(), Starved> {
+    core.step(event)?;
+    Ok(())
+}
+
 // The cache has so many addresses of the name.
 fn learn<A: Heap>(alloc: A, core: &mut Core<A>, count: u8) -> Result<(), Starved> {
-    let asked = core.step(&query(alloc)?)?;
-    if let Some(Action::Send { socket, bytes, .. }) = &asked.first
-        && let [high, low, ..] = bytes.as_slice()
-    {
-        core.step(&Event::Datagram {
-            moment: 0,
-            socket: *socket,
-            from: Endpoint {
-                address: ROOT,
-                port: 53,
-            },
-            bytes: reply(alloc, &[*high, *low], count)?,
-        })?;
-    }
-    Ok(())
+    let query = query(alloc)?;
+    let asked = ask(core, &query)?;
+    let told = told(alloc, asked, count)?;
+    take(core, &told)
 }
 
 // A resolver that knows the answer.
@@ -105,30 +113,48 @@ fn size<A: Heap>(actions: &Actions<A>) -> u64 {
     }
 }
 
-/// A client's query, answered so often.
-pub fn serve<R: Runtime + AllocGlobal>(rt: &R, known: Known, rounds: u64) -> Result<Done> {
-    let alloc = rt.alloc();
-    let mut core = knowing(alloc, known)?;
-    let query = query(alloc)?;
-    let start = Instant::now(rt)?;
+// The sizes of the replies to so many queries.
+fn answer_all<A: Heap>(core: &mut Core<A>, query: &Event<A>, rounds: u64) -> Result<u64, Starved> {
     let mut sum = 0u64;
     for _ in 0..rounds {
-        sum = sum.wrapping_add(size(&core.step(&query)?));
+        sum = sum.wrapping_add(size(&core.step(query)?));
     }
-    Ok(Done {
-        sum,
-        taken: start.elapsed(rt)?,
-        counted: Counted::Nothing,
-    })
+    Ok(sum)
+}
+
+/// A client's query, answered so often.
+pub fn serve<R: Runtime + AllocGlobal>(rt: &R, known: Known, rounds: u64) -> Result<Done> {
+    let query = query(rt.alloc())?;
+    let mut core = knowing(rt.alloc(), known)?;
+    let start = Instant::now(rt);
+    let sum = answer_all(&mut core, &query, rounds);
+    let taken = taken(rt, start);
+    drop(core);
+    drop(query);
+    Ok(plain(sum?, taken?))
+}
+
+// How often memory is asked for by a step.
+fn growths_of<'a, B: Allocator>(
+    heap: &'a Refusing<B>,
+    core: &mut Core<&'a Refusing<B>>,
+    query: &Event<&'a Refusing<B>>,
+) -> Result<u64, Starved> {
+    let before = heap.growths();
+    take(core, query)?;
+    Ok(heap.growths().saturating_sub(before))
+}
+
+fn growths_in<B: Allocator>(heap: &Refusing<B>, known: Known) -> Result<u64, Starved> {
+    let query = query(heap)?;
+    let mut core = knowing(heap, known)?;
+    take(&mut core, &query)?;
+    growths_of(heap, &mut core, &query)
 }
 
 /// How often memory is asked for by the second of two such answers.
 pub fn growths<R: Runtime + AllocGlobal>(rt: &R, known: Known) -> Result<u64> {
     let heap = Refusing::new(rt.alloc());
-    let mut core = knowing(&heap, known)?;
-    let query = query(&heap)?;
-    core.step(&query)?;
-    let before = heap.growths();
-    core.step(&query)?;
-    Ok(heap.growths().saturating_sub(before))
+    let growths = growths_in(&heap, known);
+    Ok(growths?)
 }

@@ -1,6 +1,6 @@
 //! Work on a cache of links.
 use crate::resident::resident;
-use crate::work::{Counted, Done};
+use crate::work::{Counted, Done, plain, taken};
 use anyhow::Result;
 use authority::Link;
 use cache::Cache;
@@ -100,38 +100,48 @@ fn find_all(cache: &mut Cache<DefaultHasher>, names: &[Name]) -> Result<u64, Sta
     Ok(sum)
 }
 
+fn empty(alloc: Global) -> Result<Cache<DefaultHasher>, Starved> {
+    Cache::new(alloc, room()?, BuildHasherDefault::new())
+}
+
 /// Links of so many names, kept.
 pub fn keep<R: Runtime + AllocGlobal>(rt: &R, says: Says, rounds: u64) -> Result<Done> {
-    let alloc = rt.alloc();
-    let names = hosts(alloc, rounds)?;
-    let links = links(alloc, says, &names)?;
+    let names = hosts(rt.alloc(), rounds)?;
+    let links = links(rt.alloc(), says, &names)?;
     let before = resident(rt);
-    let mut cache = Cache::new(alloc, room()?, BuildHasherDefault::new())?;
-    let start = Instant::now(rt)?;
-    let sum = fill(&mut cache, &names, &links)?;
-    let taken = start.elapsed(rt)?;
+    let mut cache = empty(rt.alloc())?;
+    let start = Instant::now(rt);
+    let sum = fill(&mut cache, &names, &links);
+    let taken = taken(rt, start);
+    let grown = resident(rt).saturating_sub(before);
+    drop(cache);
+    drop(links);
+    drop(names);
     Ok(Done {
-        sum,
-        taken,
-        counted: Counted::Resident(resident(rt).saturating_sub(before)),
+        sum: sum?,
+        taken: taken?,
+        counted: Counted::Resident(grown),
     })
+}
+
+// A cache of these names' links.
+fn filled(alloc: Global, names: &[Name]) -> Result<Cache<DefaultHasher>, Starved> {
+    let links = links(alloc, Says::Address, names)?;
+    let mut cache = empty(alloc)?;
+    fill(&mut cache, names, &links)?;
+    Ok(cache)
 }
 
 /// Links of so many names, found.
 pub fn find<R: Runtime + AllocGlobal>(rt: &R, rounds: u64) -> Result<Done> {
-    let alloc = rt.alloc();
-    let names = hosts(alloc, rounds)?;
-    let links = links(alloc, Says::Address, &names)?;
-    let mut cache = Cache::new(alloc, room()?, BuildHasherDefault::new())?;
-    fill(&mut cache, &names, &links)?;
-    let start = Instant::now(rt)?;
-    let sum = find_all(&mut cache, &names)?;
-    let taken = start.elapsed(rt)?;
-    Ok(Done {
-        sum,
-        taken,
-        counted: Counted::Nothing,
-    })
+    let names = hosts(rt.alloc(), rounds)?;
+    let mut cache = filled(rt.alloc(), &names)?;
+    let start = Instant::now(rt);
+    let sum = find_all(&mut cache, &names);
+    let taken = taken(rt, start);
+    drop(cache);
+    drop(names);
+    Ok(plain(sum?, taken?))
 }
 
 // A set of so many addresses of one name.
@@ -148,22 +158,32 @@ fn set_of(alloc: Global, owner: &Name, count: u8) -> Result<Link, Starved> {
     Ok(Link::Found(set.ok_or(Starved)?))
 }
 
-/// A set of so many addresses, found so often.
-pub fn find_set<R: Runtime + AllocGlobal>(rt: &R, count: u8, rounds: u64) -> Result<Done> {
-    let alloc = rt.alloc();
-    let name = host(alloc, 0)?;
-    let mut cache: Cache<DefaultHasher> = Cache::new(alloc, room()?, BuildHasherDefault::new())?;
-    cache.keep(&name, RType::A, &set_of(alloc, &name, count)?, 300, 0)?;
-    let start = Instant::now(rt)?;
+// A cache of that set alone.
+fn with_set(alloc: Global, owner: &Name, count: u8) -> Result<Cache<DefaultHasher>, Starved> {
+    let set = set_of(alloc, owner, count)?;
+    let mut cache = empty(alloc)?;
+    cache.keep(owner, RType::A, &set, 300, 0)?;
+    Ok(cache)
+}
+
+fn find_often(cache: &mut Cache<DefaultHasher>, name: &Name, rounds: u64) -> Result<u64, Starved> {
     let mut sum = 0u64;
     for _ in 0..rounds {
-        if cache.look(&name, RType::A, 1_000)?.is_some() {
+        if cache.look(name, RType::A, 1_000)?.is_some() {
             sum = sum.wrapping_add(1);
         }
     }
-    Ok(Done {
-        sum,
-        taken: start.elapsed(rt)?,
-        counted: Counted::Nothing,
-    })
+    Ok(sum)
+}
+
+/// A set of so many addresses, found so often.
+pub fn find_set<R: Runtime + AllocGlobal>(rt: &R, count: u8, rounds: u64) -> Result<Done> {
+    let name = host(rt.alloc(), 0)?;
+    let mut cache = with_set(rt.alloc(), &name, count)?;
+    let start = Instant::now(rt);
+    let sum = find_often(&mut cache, &name, rounds);
+    let taken = taken(rt, start);
+    drop(cache);
+    drop(name);
+    Ok(plain(sum?, taken?))
 }

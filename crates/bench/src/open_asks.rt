@@ -1,5 +1,5 @@
 //! Work on open asks: what finds a datagram's query, and the query that is due first.
-use crate::work::{Counted, Done};
+use crate::work::{Done, plain, taken};
 use anyhow::Result;
 use asks::{Asks, UdpAsk};
 use dname::{Heap, Starved};
@@ -47,12 +47,9 @@ fn find_all<A: Heap>(asks: &Asks<A>, count: u16, rounds: u64) -> u64 {
 /// A datagram that comes while so many asks are open: whose it is, and when a query is due next.
 pub fn find<R: Runtime + AllocGlobal>(rt: &R, count: u16, rounds: u64) -> Result<Done> {
     let asks = opened(rt.alloc(), count)?;
-    let start = Instant::now(rt)?;
+    let start = Instant::now(rt);
     let sum = find_all(&asks, count, rounds);
-    let taken = start.elapsed(rt)?;
-    Ok(Done {
-        sum,
-        taken,
-        counted: Counted::Nothing,
-    })
+    let taken = taken(rt, start);
+    drop(asks);
+    Ok(plain(sum, taken?))
 }

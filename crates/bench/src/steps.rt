@@ -1,5 +1,5 @@
 //! Steps of a resolver with so many queries open.
-use crate::work::{Counted, Done};
+use crate::work::{Done, plain, taken};
 use anyhow::Result;
 use dname::{Heap, Starved};
 use engine::{Config, Core, Settings};
@@ -77,76 +77,106 @@ pub fn core<A: Heap>(alloc: A, local: Vec<Zone<A>, A>) -> Result<Core<A>, Starve
     }
 }
 
+// As many of these queries come.
+fn open_all<A: Heap>(core: &mut Core<A>, query: &Event<A>, open: u16) -> Result<(), Starved> {
+    for _ in 0..open {
+        core.step(query)?;
+    }
+    Ok(())
+}
+
 // A resolver with so many open queries.
 fn with_open<A: Heap>(alloc: A, open: u16) -> Result<Core<A>, Starved> {
-    let mut core = core(alloc, Vec::new(alloc))?;
     let query = query(alloc)?;
-    for _ in 0..open {
-        core.step(&query)?;
-    }
+    let mut core = core(alloc, Vec::new(alloc))?;
+    open_all(&mut core, &query, open)?;
     Ok(core)
+}
+
+// Whether a datagram is passed over.
+fn is_passed<A: Heap>(core: &mut Core<A>, datagram: &Event<A>) -> Result<bool, Starved> {
+    Ok(core.step(datagram)?.first.is_none())
 }
 
 // How many of these datagrams are passed over.
 fn pass_all<A: Heap>(core: &mut Core<A>, datagram: &Event<A>, rounds: u64) -> Result<u64, Starved> {
     let mut sum = 0u64;
     for _ in 0..rounds {
-        if core.step(datagram)?.first.is_none() {
-            sum = sum.wrapping_add(1);
-        }
+        sum = sum.wrapping_add(u64::from(is_passed(core, datagram)?));
     }
     Ok(sum)
 }
 
-// The reply to the ask that went out.
-fn reply_to<A: Heap>(alloc: A, asked: &Actions<A>) -> Result<Event<A>, Starved> {
-    match &asked.first {
-        Some(Action::Send { socket, bytes, .. }) => match bytes.as_slice() {
-            [high, low, ..] => datagram(alloc, *socket, ROOT, &[*high, *low]),
-            _ => Err(Starved),
-        },
-        _ => Err(Starved),
+/// The socket of an ask that went out in a datagram, and its ID.
+pub type Sent = (u16, [u8; 2]);
+
+fn sent<A: Heap>(actions: &Actions<A>) -> Option<Sent> {
+    let Some(Action::Send { socket, bytes, .. }) = &actions.first else {
+        return None;
+    };
+    match bytes.as_slice() {
+        [high, low, ..] => Some((*socket, [*high, *low])),
+        _ => None,
     }
+}
+
+/// The ask that goes out for a client's query.
+pub fn ask<A: Heap>(core: &mut Core<A>, query: &Event<A>) -> Result<Sent, Starved> {
+    let actions = core.step(query)?;
+    sent(&actions).ok_or(Starved)
+}
+
+fn is_answer<A: Heap>(actions: &Actions<A>) -> bool {
+    matches!(actions.first, Some(Action::Reply { cause: None, .. }))
+}
+
+// Whether the reply to an ask brings the client's.
+fn is_answered<A: Heap>(alloc: A, core: &mut Core<A>, (socket, id): Sent) -> Result<bool, Starved> {
+    let reply = datagram(alloc, socket, ROOT, &id)?;
+    let actions = core.step(&reply)?;
+    Ok(is_answer(&actions))
 }
 
 // How many of so many queries, one after another, are answered.
-fn answer_all<A: Heap>(alloc: A, core: &mut Core<A>, rounds: u64) -> Result<u64, Starved> {
-    let query = query(alloc)?;
+fn answer_all<A: Heap>(
+    alloc: A,
+    core: &mut Core<A>,
+    query: &Event<A>,
+    rounds: u64,
+) -> Result<u64, Starved> {
     let mut sum = 0u64;
     for _ in 0..rounds {
-        let asked = core.step(&query)?;
-        let reply = reply_to(alloc, &asked)?;
-        if let Some(Action::Reply { cause: None, .. }) = core.step(&reply)?.first {
-            sum = sum.wrapping_add(1);
-        }
+        let asked = ask(core, query)?;
+        sum = sum.wrapping_add(u64::from(is_answered(alloc, core, asked)?));
     }
     Ok(sum)
 }
 
-fn done<R: Runtime>(rt: &R, start: Instant, sum: u64) -> Result<Done> {
-    let taken = start.elapsed(rt)?;
-    Ok(Done {
-        sum,
-        taken,
-        counted: Counted::Nothing,
-    })
+// A datagram of a server that was not asked.
+fn foreign<A: Heap>(alloc: A) -> Result<Event<A>, Starved> {
+    datagram(alloc, 0, STRANGER, &[0, 1])
 }
 
 /// A datagram of a server that was not asked, while so many queries are open: it is passed over.
 pub fn pass<R: Runtime + AllocGlobal>(rt: &R, open: u16, rounds: u64) -> Result<Done> {
-    let alloc = rt.alloc();
-    let mut core = with_open(alloc, open)?;
-    let foreign = datagram(alloc, 0, STRANGER, &[0, 1])?;
-    let start = Instant::now(rt)?;
-    let sum = pass_all(&mut core, &foreign, rounds)?;
-    done(rt, start, sum)
+    let foreign = foreign(rt.alloc())?;
+    let mut core = with_open(rt.alloc(), open)?;
+    let start = Instant::now(rt);
+    let sum = pass_all(&mut core, &foreign, rounds);
+    let taken = taken(rt, start);
+    drop(core);
+    drop(foreign);
+    Ok(plain(sum?, taken?))
 }
 
 /// A client's query and the datagram that answers it, so that so many queries are open between the two.
 pub fn answer<R: Runtime + AllocGlobal>(rt: &R, open: u16, rounds: u64) -> Result<Done> {
-    let alloc = rt.alloc();
-    let mut core = with_open(alloc, open.saturating_sub(1))?;
-    let start = Instant::now(rt)?;
-    let sum = answer_all(alloc, &mut core, rounds)?;
-    done(rt, start, sum)
+    let query = query(rt.alloc())?;
+    let mut core = with_open(rt.alloc(), open.saturating_sub(1))?;
+    let start = Instant::now(rt);
+    let sum = answer_all(rt.alloc(), &mut core, &query, rounds);
+    let taken = taken(rt, start);
+    drop(core);
+    drop(query);
+    Ok(plain(sum?, taken?))
 }

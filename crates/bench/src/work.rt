@@ -7,9 +7,9 @@ use crate::messages::OnMessages;
 use crate::names::OnNames;
 use crate::{made_worlds, open_asks, steps, zones};
 use anyhow::Result;
-use std::fmt;
 use std::rt::Runtime;
-use std::time::{Duration, Instant};
+use std::time::{Clock, Duration, Instant};
+use std::{fmt, io};
 
 /// Where a name that is looked up stands in its zone.
 #[derive(Clone, Copy)]
@@ -161,13 +161,18 @@ impl fmt::Display for Work {
     }
 }
 
-// What came out where nothing else was counted.
-fn plain(sum: u64, taken: Duration) -> Done {
+/// What came out where nothing else was counted.
+pub fn plain(sum: u64, taken: Duration) -> Done {
     Done {
         sum,
         taken,
         counted: Counted::Nothing,
     }
+}
+
+/// How long it is since a moment, where the clock can be read.
+pub fn taken<R: Clock>(rt: &R, start: io::Result<Instant>) -> io::Result<Duration> {
+    start?.elapsed(rt)
 }
 
 impl Work {

@@ -1,7 +1,7 @@
 //! Zone files read, zones built, and names looked up in them.
 use crate::resident::resident;
 use crate::sums::low;
-use crate::work::{Asked, Counted, Done};
+use crate::work::{Asked, Counted, Done, plain, taken};
 use anyhow::Result;
 use authority::{Catalog, Local};
 use dname::{Name, Starved};
@@ -84,29 +84,40 @@ fn asked_name(alloc: Global, asked: Asked) -> Result<Name, Starved> {
     }
 }
 
+fn catalog(alloc: Global, hosts: u64) -> Result<Catalog, Starved> {
+    let mut zones = Vec::new(alloc);
+    zones.push(zone(alloc, hosts)?)?;
+    Catalog::new(zones).map_err(|_| Starved)
+}
+
+// Whether the catalog says anything of the name.
+fn is_here(alloc: Global, catalog: &Catalog, asked: &Name) -> Result<bool, Starved> {
+    Ok(match catalog.look(alloc, asked, RType::A)? {
+        Local::Link(_) | Local::Cut(..) => true,
+        Local::NotHere => false,
+    })
+}
+
+fn look_all(alloc: Global, catalog: &Catalog, asked: &Name, rounds: u64) -> Result<u64, Starved> {
+    let mut sum = 0u64;
+    for _ in 0..rounds {
+        sum = sum.wrapping_add(u64::from(is_here(alloc, catalog, asked)?));
+    }
+    Ok(sum)
+}
+
 pub fn look<R: Runtime + AllocGlobal>(
     rt: &R,
     asked: Asked,
     hosts: u64,
     rounds: u64,
 ) -> Result<Done> {
-    let alloc = rt.alloc();
-    let mut zones = Vec::new(alloc);
-    zones.push(zone(alloc, hosts)?)?;
-    let catalog = Catalog::new(zones).map_err(|_| Starved)?;
-    let asked = asked_name(alloc, asked)?;
-    let start = Instant::now(rt)?;
-    let mut sum = 0u64;
-    for _ in 0..rounds {
-        match catalog.look(alloc, &asked, RType::A)? {
-            Local::Link(_) | Local::Cut(..) => sum = sum.wrapping_add(1),
-            Local::NotHere => {}
-        }
-    }
-    let taken = start.elapsed(rt)?;
-    Ok(Done {
-        sum,
-        taken,
-        counted: Counted::Nothing,
-    })
+    let asked = asked_name(rt.alloc(), asked)?;
+    let catalog = catalog(rt.alloc(), hosts)?;
+    let start = Instant::now(rt);
+    let sum = look_all(rt.alloc(), &catalog, &asked, rounds);
+    let taken = taken(rt, start);
+    drop(catalog);
+    drop(asked);
+    Ok(plain(sum?, taken?))
 }
