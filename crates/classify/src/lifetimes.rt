@@ -1,16 +1,15 @@
 //! How long what a server says is kept (RFC 2181, section 8; RFC 2308, sections 3 and 5).
 ghost use Rattle.std.specs.Prelude.{◌≡◌, ◌≤◌};
 ghost use Rattle.rdata.specs.Caps.{capped};
-ghost use Rattle.rdata.specs.Kept.{datum};
 ghost use Rattle.rdata.specs.Records.{greatest_ttl};
-ghost use Rattle.zone.specs.Links.{counted, denial_ttl};
 ghost use Rattle.authority.specs.Answers.{link_view};
 ghost use Rattle.classify.specs.Lifetimes.{received, received_denial, shortest, lifetime_of, referral_lifetime, ReceivedIsSame, ReceivedIsShort};
 
 use authority::Link;
 use dname::Heap;
-use rdata::{RData, Record, RecordSet};
+use rdata::{Record, RecordSet};
 use std::alloc::Allocator;
+use zone::denial_ttl;
 
 /// The most seconds for which records are kept: a week.
 pub const LONGEST: u32 = 604_800;
@@ -45,23 +44,6 @@ fn received_denial<A: Allocator>(mut soa: Record<A>) -> Record<A>
 {
     soa.ttl = denial_ttl(soa.ttl, &soa.value).min(LONGEST_DENIAL);
     soa
-}
-
-// The TTL of a negative answer: the lesser of its SOA's TTL and MINIMUM.
-fn denial_ttl<A: Allocator>(ttl: u32, value: &RData<A>) -> u32
-    ensures { result ≡ denial_ttl ttl (datum value.now) }
-{
-    match value {
-        RData::Soa(soa) => ttl.min(counted(soa.minimum)),
-        _ => ttl,
-    }
-}
-
-// A MINIMUM with its top bit set counts as 0 (RFC 2181, section 8).
-fn counted(minimum: u32) -> u32
-    ensures { result ≡ counted minimum }
-{
-    if minimum < 2_147_483_648 { minimum } else { 0 }
 }
 
 /// For how many seconds a delegation is kept whose lowest TTL this is: a week at most (RFC 2181, sections 5.2 and 8).

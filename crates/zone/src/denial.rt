@@ -17,7 +17,9 @@ fn counted(minimum: u32) -> u32
     if minimum < 2_147_483_648 { minimum } else { 0 }
 }
 
-fn denial_ttl<A: Allocator>(ttl: u32, value: &RData<A>) -> u32
+/// The TTL of a negative answer by its SOA's TTL and data: the lesser of the TTL and MINIMUM, in seconds (RFC 2308,
+/// section 3). Data of another type change nothing.
+pub fn denial_ttl<A: Allocator>(ttl: u32, value: &RData<A>) -> u32
     ensures { result ≡ denial_ttl ttl (datum value.now) }
 {
     match value {

@@ -32,6 +32,7 @@ mod tree;
 mod ttls;
 mod zone;
 
+pub use denial::denial_ttl;
 pub use fault::ZoneError;
 pub use laws::{
     cut_law, delegated_name_law, encloser_law, existence_law, link_law, local_law, name_error_law,
