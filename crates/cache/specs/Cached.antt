@@ -1,10 +1,11 @@
 -- What a cache of links gives for a question, and what it holds after each call.
-use Rattle.std.specs.Prelude.{◌≡◌, ◌≢◌, ℕ, ◌-◌, ◌*◌, ◌/◌, Bool, true, false, cond, nat_lt, nat_eq, ◌⊎◌, Option, Some, None, List, [], ◌∷◌, map, Contains}
+use Rattle.std.specs.Prelude.{◌≡◌, ◌≢◌, ℕ, ◌-◌, ◌/◌, Bool, true, false, cond, nat_eq, ◌⊎◌, Option, Some, None, List, [], ◌∷◌, map, Contains}
 use Rattle.std.specs.Map.{lookup, remove_entry}
 use Rattle.rdata.specs.Records.{Record}
 use Rattle.rdata.specs.Sets.{with_ttl}
 use Rattle.zone.specs.Links.{Link, Found, Alias, NoData, NxDomain}
 use Rattle.zone.specs.Zones.{cname_type}
+use Rattle.recency.specs.Ages.{is_young}
 use Rattle.recency.specs.Orders.{kept, used, MayGo}
 use Rattle.cache.specs.Keys.{Key, same_key, kind_key, error_key, key_for}
 
@@ -19,7 +20,7 @@ as_kept l ttl now = record { link = l; ttl = ttl; since = now }
 
 -- Younger than its time to live. A link that was kept in what is now the future has age 0.
 abbrev pub is_live : ℕ → Hit → Bool
-is_live now h = nat_lt (now - h.since) (1000 * h.ttl)
+is_live now h = is_young now h.ttl h.since
 
 -- The link with this TTL on each record.
 abbrev pub retimed : ℕ → Link → Link

@@ -1,5 +1,5 @@
 //! A link that is kept, and what age leaves of its TTL.
-ghost use Rattle.std.specs.Prelude.{◌≡◌, ◌-◌, ◌*◌, ◌≤◌, nat_lt, [], ◌∷◌, IfOk, option_map};
+ghost use Rattle.std.specs.Prelude.{◌≡◌, ◌≤◌, [], ◌∷◌, IfOk, option_map};
 ghost use Rattle.rdata.specs.Records.{greatest_ttl};
 ghost use Rattle.rdata.specs.Sets.{with_ttl};
 ghost use Rattle.zone.specs.Links.{Found};
@@ -9,6 +9,7 @@ ghost use Rattle.cache.specs.Cached.{is_live, as_set, as_alias, retimed, seconds
 use authority::Link;
 use dname::{Heap, Starved};
 use rdata::{Record, RecordSet};
+use recency::is_young;
 use std::alloc::{AllocError, Allocator, Global};
 use std::marker::Model;
 
@@ -106,13 +107,6 @@ fn with_ttl<A: Allocator>(mut timed: Record<A>, ttl: u32) -> Record<A>
 {
     timed.ttl = ttl;
     timed
-}
-
-// Whether what is kept since that moment, in milliseconds, is younger than so many seconds.
-pub(crate) fn is_young(ttl: u32, since: u64, now: u64) -> bool
-    ensures { result ≡ nat_lt (now - since) (1000 * ttl) }
-{
-    now.saturating_sub(since) < 1_000 * u64::from(ttl)
 }
 
 pub(crate) fn set_of_one<A: Heap>(alloc: A, only: Record<A>) -> Result<Link<A>, Starved>

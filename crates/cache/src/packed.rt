@@ -10,10 +10,11 @@ ghost use Rattle.cache.specs.Packed.{owned, link_of, hit_of_packed};
 ghost use Rattle.cache.specs.Forms.{form_view};
 
 use crate::denial::Denial;
-use crate::hit::{Hit, alias_of, is_young, set_of, set_of_one};
+use crate::hit::{Hit, alias_of, set_of, set_of_one};
 use authority::Link;
 use dname::{Heap, Name, Starved};
 use rdata::{RData, Record, RecordSet, copy_values};
+use recency::is_young;
 use std::alloc::{Allocator, Global};
 use std::marker::Model;
 

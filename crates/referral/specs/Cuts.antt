@@ -1,8 +1,9 @@
 -- Delegations that are kept: which servers are named for a zone and beneath it (RFC 1034, section 5.3.3).
-use Rattle.std.specs.Prelude.{◌≡◌, ◌≢◌, ℕ, ◌-◌, ◌*◌, ◌≤◌, Bool, true, cond, nat_lt, nat_eq, Option, Some, None, List, [], ◌∷◌, length, Contains}
+use Rattle.std.specs.Prelude.{◌≡◌, ◌≢◌, ℕ, ◌≤◌, Bool, true, cond, nat_eq, Option, Some, None, List, [], ◌∷◌, length, Contains}
 use Rattle.std.specs.Map.{lookup, remove_entry}
 use Rattle.dname.specs.Labels.{same_name, IsAtOrUnder}
 use Rattle.rdata.specs.declared.addr.Addr.{Addr}
+use Rattle.recency.specs.Ages.{is_young}
 use Rattle.recency.specs.Orders.{kept, used, mapped, MayGo}
 
 -- An address of a server, and the server's name: the root's where the name is not known, as of hints.
@@ -44,7 +45,7 @@ as_kept c ttl now = record { cut = c; ttl = ttl; since = now }
 
 -- Younger than its time to live. A cut that was kept in what is now the future has age 0.
 abbrev pub is_live : ℕ → Known → Bool
-is_live now k = nat_lt (now - k.since) (1000 * k.ttl)
+is_live now k = is_young now k.ttl k.since
 
 abbrev pub live_from : ℕ → Option Known → Option Known
 live_from now None = None

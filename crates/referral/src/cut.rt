@@ -4,6 +4,7 @@ ghost use Rattle.referral.specs.Cuts.{is_live, as_kept, known_of};
 
 use crate::lists::{Addresses, Names};
 use dname::{Heap, Name, Starved};
+use recency::is_young;
 use std::alloc::{AllocError, Allocator, Global};
 use std::marker::Model;
 
@@ -91,7 +92,7 @@ impl<A: Allocator> Servers<A> {
     pub(crate) fn is_live(&self, now: u64) -> bool
         ensures { (n : List (List ℕ)) → result ≡ is_live now (known_of n self.now) }
     {
-        now.saturating_sub(self.since) < 1_000 * u64::from(self.ttl)
+        is_young(self.ttl, self.since, now)
     }
 
     // The cut of this name.
