@@ -1,6 +1,6 @@
 //! A command that is done over texts and in a place of the test's own.
 use commandline::Command;
-use commands::{Host, Server, Texts, run_command};
+use commands::{Host, Outcome, Server, Texts, run_command};
 use dname::Heap;
 use pages::{Page, WIDE};
 use std::sync::Wait;
@@ -8,9 +8,10 @@ use std::thread::Threads;
 
 /// What a command ended with and wrote.
 #[derive(Drop)]
-pub struct Done<A: Heap> {
+pub struct Done {
     pub status: u8,
-    pub server: Option<Server<A>>,
+    /// Whether it started a server.
+    pub serves: bool,
     pub out: Page,
     pub err: Page,
 }
@@ -18,7 +19,7 @@ pub struct Done<A: Heap> {
 /// A status, an output and the line of a fault.
 pub type Ending<'a> = (u8, &'a str, &'a str);
 
-impl<A: Heap> Done<A> {
+impl Done {
     /// Whether it ended so.
     pub fn is(&self, (status, printed, fault): Ending<'_>) -> bool {
         self.status == status && self.out.holds(printed) && self.err.holds(fault)
@@ -31,22 +32,39 @@ pub type Rooms = (usize, usize);
 /// As many as a command may want.
 pub const ROOMY: Rooms = (WIDE, WIDE);
 
-/// Does a command in this memory. What it writes takes other memory.
-pub fn perform<R: Threads + Wait + AllocGlobal + Sync, A: Heap, T: Texts, H: Host>(
+/// Does a command in this memory, and hands out the server that it started. What it writes takes other memory.
+pub fn start<R: Threads + Wait + AllocGlobal + Sync, A: Heap, T: Texts, H: Host>(
     rt: &R,
     alloc: A,
     command: &Command,
     texts: &mut T,
     host: &mut H,
     (room, fault_room): Rooms,
-) -> Done<A> {
+) -> (Done, Option<Server<A>>) {
     let mut out = Page::new(rt.alloc(), room);
     let mut err = Page::new(rt.alloc(), fault_room);
-    let outcome = run_command(rt, alloc, command, texts, host, &mut out, &mut err);
-    Done {
-        status: outcome.status,
-        server: outcome.server,
+    let Outcome { status, server } = run_command(
+        rt, alloc, command, texts, host, &mut out, &mut err,
+    );
+    let serves = server.is_some();
+    let done = Done {
+        status,
+        serves,
         out,
         err,
-    }
+    };
+    (done, server)
+}
+
+/// The same, where the server is not wanted.
+pub fn perform<R: Threads + Wait + AllocGlobal + Sync, A: Heap, T: Texts, H: Host>(
+    rt: &R,
+    alloc: A,
+    command: &Command,
+    texts: &mut T,
+    host: &mut H,
+    rooms: Rooms,
+) -> Done {
+    let (done, _server) = start(rt, alloc, command, texts, host, rooms);
+    done
 }

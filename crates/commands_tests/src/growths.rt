@@ -15,12 +15,12 @@ use std::test::Fail;
 use std::thread::Threads;
 
 // Whether it ended for want of memory alone.
-fn is_cut_off<A: Heap>(done: &Done<A>) -> bool {
+fn is_cut_off(done: &Done) -> bool {
     done.is((3, "", "error: memory\n"))
 }
 
 // Whether a step starved, the rest was done, and each reply that counts is right.
-fn is_starved<A: Heap>(done: &Done<A>) -> bool {
+fn is_starved(done: &Done) -> bool {
     let Ok(text) = from_utf8(done.out.bytes.as_slice()) else {
         return false;
     };

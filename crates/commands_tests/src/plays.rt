@@ -16,7 +16,7 @@ fn play_at<R: Threads + Wait + AllocGlobal + Sync, A: Heap>(
     alloc: A,
     [world, script]: [&str; 2],
     held: Held<'_>,
-) -> Result<Done<A>, AllocError> {
+) -> Result<Done, AllocError> {
     let command = Command::Play {
         world: String::from_str(rt.alloc(), world)?,
         script: String::from_str(rt.alloc(), script)?,
@@ -29,7 +29,7 @@ pub fn play<R: Threads + Wait + AllocGlobal + Sync, A: Heap>(
     rt: &R,
     alloc: A,
     held: Held<'_>,
-) -> Result<Done<A>, AllocError> {
+) -> Result<Done, AllocError> {
     play_at(rt, alloc, ["WORLD", "SCRIPT"], held)
 }
 

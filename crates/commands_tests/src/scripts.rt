@@ -30,7 +30,7 @@ pub fn perform_over<R: Threads + Wait + AllocGlobal + Sync, A: Heap>(
     alloc: A,
     command: &Command,
     held: Held<'_>,
-) -> Done<A> {
+) -> Done {
     let mut source = held;
     perform(rt, alloc, command, &mut source, &mut Nowhere, ROOMY)
 }

@@ -1,14 +1,14 @@
 //! The start of a server, from texts in memory and without sockets.
-use crate::done::{Done, ROOMY, perform};
+use crate::done::{Done, ROOMY, start};
 use commandline::Command;
 use commands::{Host, Server, Texts};
 use dname::{Heap, Starved};
-use exchange::{Action, Bytes, Endpoint, Event};
+use engine_desk::{Desk, Out};
+use exchange::Endpoint;
 use std::alloc::{AllocError, Global};
 use std::sync::Wait;
 use std::test::Fail;
 use std::thread::Threads;
-use wire::Via;
 
 static CORP: &str = "$TTL 300\n@ SOA ns h 1 2 3 4 60\n@ NS ns\ndb A 10.0.0.5\n";
 
@@ -43,17 +43,17 @@ impl Host for Place {
     }
 }
 
-// What comes of `serve conf` there.
+// What comes of `serve conf` there, and the server.
 fn serve<R: Threads + Wait + AllocGlobal + Sync>(
     rt: &R,
     text: &'static str,
     place: Place,
-) -> Result<Done<Global>, AllocError> {
+) -> Result<(Done, Option<Server>), AllocError> {
     let config = String::from_str(rt.alloc(), "conf")?;
     let mut source = Folder(text);
     let mut host = place;
     let command = Command::Serve { config };
-    Ok(perform(rt, rt.alloc(), &command, &mut source, &mut host, ROOMY))
+    Ok(start(rt, rt.alloc(), &command, &mut source, &mut host, ROOMY))
 }
 
 // A server's file and a place, and the status of a start there, what it prints, and the line of its fault. There is a
@@ -64,8 +64,8 @@ fn goes<R: Threads + Wait + AllocGlobal + Sync>(
     rt: &R,
     (text, place, status, printed, fault): Start,
 ) -> Result<bool, AllocError> {
-    let done = serve(rt, text, place)?;
-    Ok(done.is((status, printed, fault)) && done.server.is_some() == (status == 0))
+    let (done, _server) = serve(rt, text, place)?;
+    Ok(done.is((status, printed, fault)) && done.serves == (status == 0))
 }
 
 // The place of the first of these that goes otherwise.
@@ -103,41 +103,34 @@ const QUERY: &[u8] = b"\x124\0\0\0\x01\0\0\0\0\0\0\x02db\x04corp\x07example\0\0\
 const REPLY: &[u8] =
     b"\x124\x84\x80\0\x01\0\x01\0\0\0\0\x02db\x04corp\x07example\0\0\x01\0\x01\xc0\x0c\0\x01\0\x01\0\0\x01\x2c\0\x04\x0a\0\0\x05";
 
-// What the server's resolver replies to the first client.
-fn reply_of(alloc: Global, server: Server) -> Result<Option<Vec<u8>>, Fail> {
-    let mut core = server.into_core();
-    let event = Event::Client {
-        moment: 0,
-        client: 1,
-        way: Via::Udp,
-        bytes: Bytes::new(Vec::from_slice(alloc, QUERY)?),
-    };
-    let Ok(actions) = core.step(&event) else {
-        return Ok(None);
-    };
-    match actions.first {
-        Some(Action::Reply { bytes, .. }) => Ok(Some(Vec::from_slice(alloc, bytes.as_slice())?)),
-        _ => Ok(None),
-    }
+// Whether the first client is replied to so.
+fn replies(desk: &mut Desk<Global>) -> Result<bool, Starved> {
+    let query = desk.query(1, 0, QUERY)?;
+    Ok(desk.step(&query) == Out::Replied && desk.has_sent(1, REPLY))
 }
 
-// What a server that listens there replies to the first client.
-fn served<R: Threads + Wait + AllocGlobal + Sync>(rt: &R) -> Result<Option<Vec<u8>>, Fail> {
+// Whether the server's resolver replies so.
+fn serves_so(alloc: Global, server: Server) -> Result<bool, Starved> {
+    let mut desk = Desk::of(alloc, server.into_core());
+    Ok(replies(&mut desk)?)
+}
+
+// Whether a server that listens there replies so.
+fn is_served<R: Threads + Wait + AllocGlobal + Sync>(rt: &R) -> Result<bool, Starved> {
     let text = "listen 127.0.0.1 0\nlocal corp.example. corp.zone\n";
-    let done = serve(rt, text, FREE)?;
-    let is_well = done.is((0, "listening 127.0.0.1 4242\n", ""));
-    let Done { server, .. } = done;
+    let (done, server) = serve(rt, text, FREE)?;
     match server {
-        Some(server) if is_well => reply_of(rt.alloc(), server),
-        _ => Ok(None),
+        Some(server) if done.is((0, "listening 127.0.0.1 4242\n", "")) => {
+            Ok(serves_so(rt.alloc(), server)?)
+        }
+        _ => Ok(false),
     }
 }
 
 #[test]
 fn a_server_says_where_it_listens_and_answers(rt: HostRuntime) -> Result<(), Fail> {
     assert_eq!(rt; (QUERY.len(), REPLY.len()), (33, 49));
-    let reply = served(&rt)?.ok_or("no reply")?;
-    assert!(rt; reply.as_slice() == REPLY);
+    assert!(rt; is_served(&rt)?);
     Ok(())
 }
 

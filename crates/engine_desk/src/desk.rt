@@ -47,19 +47,24 @@ fn ask_of<A: Heap>(actions: &Actions<A>) -> Option<Ask> {
 impl<A: Heap> Desk<A> {
     /// A new resolver with that server of the root, and no zones of its own.
     pub fn new(alloc: A, hint: Addr) -> Result<Desk<A>, Starved> {
-        Ok(Desk {
+        Ok(Desk::of(alloc, core(alloc, hint)?))
+    }
+
+    /// This resolver, which has asked nothing yet.
+    pub fn of(alloc: A, core: Core<A>) -> Desk<A> {
+        Desk {
             alloc,
-            core: core(alloc, hint)?,
+            core,
             ask: Ask {
                 path: Path::Udp(0),
-                server: hint,
+                server: Addr([0, 0, 0, 0]),
                 id: [0, 0],
             },
             last: Actions {
                 first: None,
                 more_due: false,
             },
-        })
+        }
     }
 
     /// Whence its memory comes.
