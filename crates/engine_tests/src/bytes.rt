@@ -1,10 +1,10 @@
-//! Messages that are cut short or changed.
+//! Bytes of messages, put together, cut short or changed.
 use dname::{Heap, Starved};
 use engine_desk::{Desk, Out, bounded, under};
 use exchange::{Bytes, Event};
 
 // What becomes of a message on its way.
-#[derive(Clone, Copy, Debug)]
+#[derive(Clone, Copy)]
 pub enum Change {
     Nothing,
     // The first so many bytes come alone.
@@ -15,6 +15,20 @@ pub enum Change {
 
 // Bytes of a message, from one place on and before another.
 pub type Places = (usize, usize);
+
+fn put_all<A: Heap>(bytes: &mut Vec<u8, A>, parts: &[&[u8]]) -> Result<(), Starved> {
+    for part in parts {
+        bytes.extend_from_slice(*part)?;
+    }
+    Ok(())
+}
+
+// These, one behind the other.
+pub fn joined<A: Heap>(alloc: A, parts: &[&[u8]]) -> Result<Vec<u8, A>, Starved> {
+    let mut bytes = Vec::new(alloc);
+    put_all(&mut bytes, parts)?;
+    Ok(bytes)
+}
 
 fn turn<A: Heap>(bytes: &mut Vec<u8, A>, place: usize, bits: u8) {
     if let Some(byte) = bytes.get_mut(place) {

@@ -1,4 +1,5 @@
 //! A resolver with one server of the root, and messages about www.example, for tests.
+use crate::bytes::joined;
 use dname::{Heap, Starved};
 use engine_desk::{Ask, Desk, Out, bounded};
 use exchange::{Bytes, Event};
@@ -44,27 +45,26 @@ fn put_lines<A: Heap>(bytes: &mut Vec<u8, A>, lines: &[Line]) -> Result<(), Star
     Ok(())
 }
 
-// What stands behind the ID of a message: the rest of its header, the question, and records.
-fn put_rest<A: Heap>(bytes: &mut Vec<u8, A>, rest: &[u8], lines: &[Line]) -> Result<(), Starved> {
-    bytes.extend_from_slice(rest)?;
-    bytes.extend_from_slice(QUESTION)?;
-    Ok(put_lines(bytes, lines)?)
-}
-
+// A message: its ID, the rest of its header, the question, and records.
 fn message<A: Heap>(
     alloc: A,
     id: [u8; 2],
     rest: &[u8],
     lines: &[Line],
 ) -> Result<Bytes<A>, Starved> {
-    let mut bytes = Vec::from_slice(alloc, &id)?;
-    put_rest(&mut bytes, rest, lines)?;
+    let mut bytes = joined(alloc, &[&id, rest, QUESTION])?;
+    put_lines(&mut bytes, lines)?;
     Ok(bounded(bytes)?)
 }
 
 // A desk at which the server of the root is known.
 pub fn desk<A: Heap>(alloc: A) -> Result<Desk<A>, Starved> {
     Ok(Desk::new(alloc, Addr([192, 0, 2, ROOT]))?)
+}
+
+// A desk is done with. All its parts are dropped here alone: each exit of a function that drops one spells them out.
+pub fn end<A: Heap>(desk: Desk<A>) {
+    drop(desk);
 }
 
 // What happens at a desk.
@@ -137,7 +137,9 @@ fn first_other<A: Heap>(desk: &mut Desk<A>, acts: &[(Act, Out)]) -> Option<usize
 
 fn wrong_act<A: Heap>(alloc: A, acts: &[(Act, Out)]) -> Result<Option<usize>, Starved> {
     let mut desk = desk(alloc)?;
-    Ok(first_other(&mut desk, acts))
+    let place = first_other(&mut desk, acts);
+    end(desk);
+    Ok(place)
 }
 
 // Of these tales, each of a new resolver, the first in which something else comes, and the place of that act.
@@ -184,7 +186,9 @@ impl Starving {
         let event = event(&desk, self.last.0);
         let before = heap.growths();
         let out = desk.take(event);
-        Ok((heap.growths().saturating_sub(before), out))
+        let growths = heap.growths().saturating_sub(before);
+        end(desk);
+        Ok((growths, out))
     }
 
     // What comes of the last step where that growth is refused, and whether all comes then as it has to.
@@ -194,7 +198,9 @@ impl Starving {
         let event = event(&desk, self.last.0);
         heap.refuse_after(growth);
         let out = desk.take(event);
-        Ok((out, first_other(&mut desk, self.after).is_none()))
+        let goes_on = first_other(&mut desk, self.after).is_none();
+        end(desk);
+        Ok((out, goes_on))
     }
 
     // Whether nothing goes out, whichever of so many growths is refused, and all comes then as it has to.

@@ -15,6 +15,8 @@ mod reply_tests;
 #[cfg(test)]
 mod starved_tests;
 #[cfg(test)]
+mod talks;
+#[cfg(test)]
 mod tests;
 #[cfg(test)]
 mod world_tests;

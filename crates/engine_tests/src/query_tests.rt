@@ -1,14 +1,12 @@
 //! A client's query of which the first bytes alone come, and each change of one byte of it.
 use crate::bytes::{Change, Places, changed};
+use crate::fixtures::{QUERY, desk, end};
 use dname::{Heap, Starved};
 use engine_desk::{Desk, Out};
 use exchange::Event;
-use rdata::Addr;
 use std::test::Fail;
 
-// www.example. A, under ID 5 with RD set; and the word of a format error, which repeats ID and RD.
-const QUERY: &[u8] = b"\0\x05\x01\0\0\x01\0\0\0\0\0\0\x03www\x07example\0\0\x01\0\x01";
-
+// The word of a format error, which repeats ID and RD.
 const REFUSAL: &[u8] = b"\0\x05\x81\x81\0\0\0\0\0\0\0\0";
 
 const WHOLE: usize = QUERY.len();
@@ -24,15 +22,13 @@ fn asked<A: Heap>(desk: &mut Desk<A>, change: Change) -> Out {
     desk.take(event)
 }
 
-fn new_desk<A: Heap>(alloc: A) -> Result<Desk<A>, Starved> {
-    Ok(Desk::new(alloc, Addr([192, 0, 2, 1]))?)
-}
-
 // What its first bytes bring, and whether that is the word of a format error.
 fn after_front<A: Heap>(alloc: A, length: usize) -> Result<(Out, bool), Starved> {
-    let mut desk = new_desk(alloc)?;
+    let mut desk = desk(alloc)?;
     let out = asked(&mut desk, Change::CutAt(length));
-    Ok((out, desk.has_sent(3, REFUSAL)))
+    let is_refused = desk.has_sent(3, REFUSAL);
+    end(desk);
+    Ok((out, is_refused))
 }
 
 // How long fronts are, and what they bring. Under 12 bytes there is no header to answer (RFC 1035, section 4.1.1).
@@ -82,8 +78,10 @@ fn wrong_turn<A: Heap>(desk: &mut Desk<A>, place: usize) -> Option<u8> {
 }
 
 fn wrong_bits<A: Heap>(alloc: A, place: usize) -> Result<Option<u8>, Starved> {
-    let mut desk = new_desk(alloc)?;
-    Ok(wrong_turn(&mut desk, place))
+    let mut desk = desk(alloc)?;
+    let bits = wrong_turn(&mut desk, place);
+    end(desk);
+    Ok(bits)
 }
 
 // The first byte of which a change brings something else, and the bits.

@@ -1,5 +1,6 @@
 //! A server that refers one label further, again and again.
-use crate::fixtures::desk;
+use crate::bytes::joined;
+use crate::fixtures::{desk, end};
 use dname::{Heap, Starved};
 use engine_desk::{Desk, Out, bounded};
 use exchange::{Bytes, Event};
@@ -15,12 +16,10 @@ const ASKS: usize = 40;
 const QUESTION: &[u8] =
     b"\x01a\x01a\x01a\x01a\x01a\x01a\x01a\x01a\x01a\x01a\x01a\x01a\x01a\x01a\x01a\x01a\x01a\x01a\x01a\x01a\x01a\x01a\x01a\x01a\x01a\x01a\x01a\x01a\x01a\x01a\x01a\x01a\x01a\x01a\x01a\x01a\x01a\x01a\x01a\x01a\x01a\x01a\x01a\x01a\x01a\x01a\x01a\x01a\x01a\x01a\x01a\x01a\x01a\x01a\x01a\x01a\x01a\x01a\x01a\x01a\0\0\x01\0\x01";
 
-// The client's query, under ID 5 with RD set.
-fn query<A: Heap>(alloc: A) -> Result<Vec<u8, A>, Starved> {
-    let mut bytes = Vec::from_slice(alloc, b"\0\x05\x01\0\0\x01\0\0\0\0\0\0")?;
-    bytes.extend_from_slice(QUESTION)?;
-    Ok(bytes)
-}
+// The client's query before that, under ID 5 with RD set; a server's reply before it, behind the ID.
+const QUERY: &[u8] = b"\0\x05\x01\0\0\x01\0\0\0\0\0\0";
+
+const REFERRAL: &[u8] = b"\x80\0\0\x01\0\0\0\x01\0\x01";
 
 // The place in the message at which the last so many labels of the name begin, as a pointer (RFC 1035, section 4.1.4).
 fn pointer(labels: usize) -> [u8; 2] {
@@ -28,32 +27,25 @@ fn pointer(labels: usize) -> [u8; 2] {
     [0xc0, place as u8]
 }
 
-// The server `ns` of the last so many labels, and its address 192.0.2.1.
-fn put_referral<A: Heap>(bytes: &mut Vec<u8, A>, cut: [u8; 2]) -> Result<(), Starved> {
-    bytes.extend_from_slice(&cut)?;
-    bytes.extend_from_slice(b"\0\x02\0\x01\0\0\0\x3c\0\x05\x02ns")?;
-    bytes.extend_from_slice(&cut)?;
-    // The name of the server stands behind the question of 125 bytes and twelve bytes of the record.
-    bytes.extend_from_slice(b"\xc0\x95\0\x01\0\x01\0\0\0\x3c\0\x04\xc0\0\x02\x01")?;
-    Ok(())
+// The server `ns` of the last so many labels, and its address 192.0.2.1. The name of the server stands behind the
+// question of 125 bytes and twelve bytes of the record.
+fn records(labels: usize) -> [u8; 33] {
+    let [high, low] = pointer(labels);
+    [
+        high, low, 0, 2, 0, 1, 0, 0, 0, 60, 0, 5, 2, b'n', b's', high, low, 0xc0, 0x95, 0, 1, 0, 1,
+        0, 0, 0, 60, 0, 4, 192, 0, 2, 1,
+    ]
 }
 
-// What stands behind the ID of the server's reply: a referral to the last so many labels.
-fn put_rest<A: Heap>(bytes: &mut Vec<u8, A>, labels: usize) -> Result<(), Starved> {
-    bytes.extend_from_slice(b"\x80\0\0\x01\0\0\0\x01\0\x01")?;
-    bytes.extend_from_slice(QUESTION)?;
-    Ok(put_referral(bytes, pointer(labels))?)
-}
-
+// The server's reply: a referral to the last so many labels.
 fn referral<A: Heap>(alloc: A, id: [u8; 2], labels: usize) -> Result<Bytes<A>, Starved> {
-    let mut bytes = Vec::from_slice(alloc, &id)?;
-    put_rest(&mut bytes, labels)?;
+    let bytes = joined(alloc, &[&id, REFERRAL, QUESTION, &records(labels)])?;
     Ok(bounded(bytes)?)
 }
 
 // What the client asks.
 fn asked<A: Heap>(desk: &Desk<A>) -> Result<Event<A>, Starved> {
-    let query = query(desk.heap())?;
+    let query = joined(desk.heap(), &[QUERY, QUESTION])?;
     Ok(desk.query(3, 0, query.as_slice())?)
 }
 
@@ -88,7 +80,9 @@ fn referred_at<A: Heap>(desk: &mut Desk<A>) -> (usize, Out) {
 
 fn referred<A: Heap>(alloc: A) -> Result<(usize, Out), Starved> {
     let mut desk = desk(alloc)?;
-    Ok(referred_at(&mut desk))
+    let last = referred_at(&mut desk);
+    end(desk);
+    Ok(last)
 }
 
 // Forty asks, each of which a referral answers; after the last one the query fails (cause 4).

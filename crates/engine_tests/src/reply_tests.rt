@@ -1,12 +1,11 @@
-//! A reply of which the first bytes alone come, and each change of one byte of it.
-use crate::bytes::{Change, Places, changed, told};
+//! Each change of one byte of a reply.
+use crate::bytes::{Change, Places, changed, joined, told};
+use crate::fixtures::{QUERY, end};
+use crate::talks::{Talk, goes_on, renew, waiting};
 use dname::{Heap, Starved};
 use engine_desk::{Desk, Out};
 use rdata::Addr;
 use std::test::Fail;
-
-// What client 3 asks: www.example. A, under ID 5 with RD set.
-const QUERY: &[u8] = b"\0\x05\x01\0\0\x01\0\0\0\0\0\0\x03www\x07example\0\0\x01\0\x01";
 
 // The reply of the server 192.0.2.1 behind the ID: the address 192.0.2.9, for 300 seconds. What the client gets of it.
 const FOUND: &[u8] =
@@ -34,46 +33,16 @@ const ADDRESS: usize = 41;
 
 const WHOLE: usize = 45;
 
-fn ask<A: Heap>(desk: &mut Desk<A>) -> Out {
-    let query = desk.query(3, 0, QUERY);
-    desk.take(query)
-}
-
-// A resolver whose client waits for the server of the root.
-fn waiting<A: Heap>(alloc: A) -> Result<Desk<A>, Starved> {
-    let mut desk = Desk::new(alloc, Addr([192, 0, 2, 1]))?;
-    if ask(&mut desk) == Out::Asked(1) {
-        Ok(desk)
-    } else {
-        Err(Starved)
-    }
-}
-
-// Whether the whole reply, when it comes, is what the client is sent.
-fn goes_on<A: Heap>(desk: &mut Desk<A>) -> bool {
-    told(desk, FOUND, Change::Nothing) == Out::Replied && desk.has_sent(3, REPLY)
-}
-
-// The length of the first front of the reply that is not ignored; that of the whole where it is not taken then.
-fn wrong_length<A: Heap>(desk: &mut Desk<A>) -> Option<usize> {
-    for length in 0..WHOLE {
-        if told(desk, FOUND, Change::CutAt(length)) != Out::Nothing {
-            return Some(length);
-        }
-    }
-    if goes_on(desk) { None } else { Some(WHOLE) }
-}
-
-fn first_wrong_length<A: Heap>(alloc: A) -> Result<Option<usize>, Starved> {
-    let mut desk = waiting(alloc)?;
-    Ok(wrong_length(&mut desk))
-}
-
-#[test]
-fn the_first_bytes_of_a_reply_are_nothing(rt: HostRuntime) -> Result<(), Fail> {
-    assert_eq!(rt; first_wrong_length(rt.alloc())?, None);
-    Ok(())
-}
+// Client 3 asks for www.example. A, and the server of the root says that.
+pub const TALK_OF_ADDRESS: Talk = Talk {
+    root: Addr([192, 0, 2, 1]),
+    query: QUERY,
+    before: &[],
+    asked: Out::Asked(1),
+    reply: FOUND,
+    out: Out::Replied,
+    sent: Some(REPLY),
+};
 
 // Where one of these bits of one of these bytes is turned, one of these two comes.
 type Row = (Places, u8, Out, Out);
@@ -143,10 +112,8 @@ fn turned_ttl(place: usize, bits: u8) -> u32 {
 
 // What the client gets with this TTL.
 fn reply_with<A: Heap>(alloc: A, ttl: u32) -> Result<Vec<u8, A>, Starved> {
-    let mut reply = Vec::from_slice(alloc, REPLY_BEFORE)?;
-    reply.extend_from_slice(&ttl.to_be_bytes())?;
-    reply.extend_from_slice(REPLY_BEHIND)?;
-    Ok(reply)
+    let ttl = ttl.to_be_bytes();
+    Ok(joined(alloc, &[REPLY_BEFORE, &ttl, REPLY_BEHIND])?)
 }
 
 // What the client gets where the reply is taken with some bits of that byte turned.
@@ -167,53 +134,65 @@ fn has_sent_wanted<A: Heap>(desk: &Desk<A>, place: usize, bits: u8) -> Result<bo
 
 // Whether what was brought is well: where the server is asked again, the whole reply is taken when it comes; where the
 // client is answered, what it was sent is right.
-fn is_well<A: Heap>(desk: &mut Desk<A>, out: Out, place: usize, bits: u8) -> Result<bool, Starved> {
+fn is_well<A: Heap>(
+    desk: &mut Desk<A>,
+    talk: Talk,
+    out: Out,
+    place: usize,
+    bits: u8,
+) -> Result<bool, Starved> {
     match out {
-        Out::Asked(1) => Ok(goes_on(desk)),
+        Out::Asked(1) => Ok(goes_on(desk, talk)),
         Out::Replied => Ok(has_sent_wanted(desk, place, bits)?),
         _ => Ok(out == Out::AskedOverTcp(1)),
     }
 }
 
-fn renew<A: Heap>(desk: &mut Desk<A>) -> Result<(), Starved> {
-    *desk = waiting(desk.heap())?;
-    Ok(())
-}
-
 // A resolver that waits is told the reply with some bits of that byte turned. Where that brings something, another one
 // waits then.
-fn stands<A: Heap>(desk: &mut Desk<A>, place: usize, bits: u8) -> Result<bool, Starved> {
-    let out = told(desk, FOUND, Change::Turned(place, bits));
+fn stands<A: Heap>(
+    desk: &mut Desk<A>,
+    talk: Talk,
+    place: usize,
+    bits: u8,
+) -> Result<bool, Starved> {
+    let out = told(desk, talk.reply, Change::Turned(place, bits));
     if !may_come(out, place, bits) {
         return Ok(false);
     }
     if out == Out::Nothing {
         return Ok(true);
     }
-    let is_well = is_well(desk, out, place, bits)?;
-    renew(desk)?;
+    let is_well = is_well(desk, talk, out, place, bits)?;
+    renew(desk, talk)?;
     Ok(is_well)
 }
 
 // The first change of that byte that does not stand; 0 where the whole reply is not taken behind all of them.
-fn wrong_turn<A: Heap>(desk: &mut Desk<A>, place: usize) -> Result<Option<u8>, Starved> {
+fn wrong_turn<A: Heap>(
+    desk: &mut Desk<A>,
+    talk: Talk,
+    place: usize,
+) -> Result<Option<u8>, Starved> {
     for bits in 1..=255u8 {
-        if !stands(desk, place, bits)? {
+        if !stands(desk, talk, place, bits)? {
             return Ok(Some(bits));
         }
     }
-    Ok(if goes_on(desk) { None } else { Some(0) })
+    Ok(if goes_on(desk, talk) { None } else { Some(0) })
 }
 
-fn wrong_bits<A: Heap>(alloc: A, place: usize) -> Result<Option<u8>, Starved> {
-    let mut desk = waiting(alloc)?;
-    Ok(wrong_turn(&mut desk, place)?)
+fn wrong_bits<A: Heap>(alloc: A, talk: Talk, place: usize) -> Result<Option<u8>, Starved> {
+    let mut desk = waiting(alloc, talk)?;
+    let bits = wrong_turn(&mut desk, talk, place);
+    end(desk);
+    bits
 }
 
 // The first byte of which a change does not stand, and the bits.
-fn first_wrong_byte<A: Heap>(alloc: A) -> Result<Option<(usize, u8)>, Starved> {
+fn first_wrong_byte<A: Heap>(alloc: A, talk: Talk) -> Result<Option<(usize, u8)>, Starved> {
     for place in 0..WHOLE {
-        if let Some(bits) = wrong_bits(alloc, place)? {
+        if let Some(bits) = wrong_bits(alloc, talk, place)? {
             return Ok(Some((place, bits)));
         }
     }
@@ -222,6 +201,6 @@ fn first_wrong_byte<A: Heap>(alloc: A) -> Result<Option<(usize, u8)>, Starved> {
 
 #[test]
 fn a_changed_byte_of_a_reply_misleads_nobody(rt: HostRuntime) -> Result<(), Fail> {
-    assert_eq!(rt; first_wrong_byte(rt.alloc())?, None);
+    assert_eq!(rt; first_wrong_byte(rt.alloc(), TALK_OF_ADDRESS)?, None);
     Ok(())
 }

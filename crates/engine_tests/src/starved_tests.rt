@@ -1,4 +1,5 @@
 //! Two clients wait, and an event for one of them wants memory: what it leaves.
+use crate::fixtures::end;
 use dname::{Heap, Starved};
 use engine_desk::{Ask, Desk, Out, under};
 use exchange::{Event, Path};
@@ -123,6 +124,16 @@ fn set_scene<A: Heap>(alloc: A, kind: Kind) -> Result<Scene<A>, Starved> {
 }
 
 impl<A: Heap> Scene<A> {
+    // It is done with.
+    fn end(self) {
+        let Scene {
+            desk,
+            mine: _,
+            others: _,
+        } = self;
+        end(desk);
+    }
+
     // Whether client 3's ask went the way that it had to.
     fn is_set(&self, kind: Kind) -> bool {
         matches!(self.mine.path, Path::Tcp(_)) == is_over_tcp(kind)
@@ -184,7 +195,9 @@ fn growths<A: Heap>(alloc: A, kind: Kind) -> Result<(u64, Ask), Starved> {
     let before = heap.growths();
     scene.desk.take(event);
     let growths = heap.growths().saturating_sub(before);
-    Ok((if is_set { growths } else { 0 }, scene.desk.ask()))
+    let next = scene.desk.ask();
+    scene.end();
+    Ok((if is_set { growths } else { 0 }, next))
 }
 
 // What comes of the step at the moment of a sequel where one of its growths is refused, and whether all goes on as it has
@@ -201,7 +214,9 @@ fn without<A: Heap>(
     let event = scene.event(kind, sequel.0);
     heap.refuse_after(growth);
     let out = scene.desk.take(event);
-    Ok((out, scene.goes_on(sequel.1, next)))
+    let goes_on = scene.goes_on(sequel.1, next);
+    scene.end();
+    Ok((out, goes_on))
 }
 
 // Client 3's query is gone; client 4's ask stands, and is due when it was; the clock is at the event's moment.

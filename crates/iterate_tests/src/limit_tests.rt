@@ -293,13 +293,17 @@ const ASKS: &[Asks] = &[
     ),
 ];
 
-// Whether a query fails after so many asks.
-fn ends_so<A: Heap>(alloc: A, row: Asks) -> Result<bool, Starved> {
+fn fails_so<A: Heap>(asked: &mut Asked<A>, row: Asks) -> Result<bool, Starved> {
     let (steps, event, end) = row;
-    let mut asked = Asked::new(alloc)?;
     let wrong = asked.first_wrong(steps)?;
     let last = asked.until_failure(event)?;
     Ok(wrong.is_none() && last == end)
+}
+
+// Whether a query fails after so many asks.
+fn ends_so<A: Heap>(alloc: A, row: Asks) -> Result<bool, Starved> {
+    let mut asked = Asked::new(alloc)?;
+    fails_so(&mut asked, row)
 }
 
 fn first_other_end<A: Heap>(alloc: A, rows: &[Asks]) -> Result<Option<usize>, Starved> {

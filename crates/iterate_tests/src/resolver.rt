@@ -1,5 +1,5 @@
 //! A resolver in memory for tests: what comes in for a query, and what goes out, in short.
-ghost use Rattle.std.specs.Prelude.{◌<◌};
+ghost use Rattle.std.specs.Prelude.{◌<◌, ◌+◌, ◌^◌};
 
 use authority::{Catalog, Link};
 use causes::Cause;
@@ -126,10 +126,15 @@ fn denial<A: Heap>(alloc: A) -> Result<Message<A>, Starved> {
     Ok(message(alloc, header, empty(alloc), soa, empty(alloc)))
 }
 
+fn push<A: Heap>(records: &mut Records<A>, alloc: A, row: Row<'_>) -> Result<(), Starved> {
+    let added = record(alloc, row)?;
+    records.push(added)
+}
+
 fn servers<A: Heap>(alloc: A, zone: &str, names: &[&str]) -> Result<Records<A>, Starved> {
     let mut servers = Records::new(alloc);
     for name in names {
-        servers.push(record(alloc, (zone, 300, Value::Ns(*name)))?)?;
+        push(&mut servers, alloc, (zone, 300, Value::Ns(*name)))?;
     }
     Ok(servers)
 }
@@ -137,7 +142,7 @@ fn servers<A: Heap>(alloc: A, zone: &str, names: &[&str]) -> Result<Records<A>, 
 fn addresses<A: Heap>(alloc: A, name: &str, glue: &[u8]) -> Result<Records<A>, Starved> {
     let mut addresses = Records::new(alloc);
     for last in glue {
-        addresses.push(record(alloc, (name, 300, Value::A(*last)))?)?;
+        push(&mut addresses, alloc, (name, 300, Value::A(*last)))?;
     }
     Ok(addresses)
 }
@@ -237,9 +242,19 @@ fn stores<A: Heap>(alloc: A) -> Result<Stores<DefaultHasher, A>, Starved> {
     Ok(Stores::new(alloc, capacities, hashers())?)
 }
 
-fn job<A: Heap>(alloc: A, text: &str, now: u32) -> Result<Job<A>, Starved> {
-    let name = name(alloc, text)?;
-    Ok(Job::new(name, RType::A, u64::from(now)))
+// A moment at which a query may come: its deadline, ten seconds later, is a number of milliseconds too.
+fn moment(now: u32) -> u64
+    ensures { result + 10000 < 2 ^ 64 }
+{
+    u64::from(now)
+}
+
+fn job_of<A: Heap>(name: Name<A>) -> Job<A> {
+    Job::new(name, RType::A, moment(0))
+}
+
+fn job<A: Heap>(alloc: A, text: &str) -> Result<Job<A>, Starved> {
+    Ok(job_of(name(alloc, text)?))
 }
 
 fn last_byte_of<A: Heap>(value: &RData<A>) -> u8 {
@@ -285,7 +300,7 @@ pub struct Asked<A: Heap> {
 impl<A: Heap> Asked<A> {
     // One that has learnt nothing.
     pub fn new(alloc: A) -> Result<Asked<A>, Starved> {
-        let job = job(alloc, ".", 0)?;
+        let job = job(alloc, ".")?;
         let home = home(alloc)?;
         Ok(Asked {
             alloc,
@@ -314,7 +329,7 @@ impl<A: Heap> Asked<A> {
             RType::A,
             &self.home,
             &mut self.stores,
-            u64::from(now),
+            moment(now),
         )?;
         Ok(self.begun(begun))
     }
@@ -345,22 +360,38 @@ impl<A: Heap> Asked<A> {
         Ok(self.advance(input, now)?)
     }
 
+    // What goes out in place of what has to.
+    fn wrong(&mut self, step: Step) -> Result<Option<Out>, Starved> {
+        let (now, event, want) = step;
+        let out = self.hear(now, event)?;
+        if out == want {
+            return Ok(None);
+        }
+        Ok(Some(out))
+    }
+
     // The first of these steps after which something else went out, by its place, and what it was.
     pub fn first_wrong(&mut self, steps: &[Step]) -> Result<Option<(usize, Out)>, Starved> {
         for (place, step) in steps.iter().enumerate() {
-            let (now, event, want) = *step;
-            let out = self.hear(now, event)?;
-            if out != want {
+            if let Some(out) = self.wrong(*step)? {
                 return Ok(Some((place, out)));
             }
         }
         Ok(None)
     }
 
+    // Why the query fails after such an event, where it does.
+    fn failure(&mut self, event: Event) -> Result<Option<Cause>, Starved> {
+        match self.hear(0, event)? {
+            Out::Failed(cause) => Ok(Some(cause)),
+            _ => Ok(None),
+        }
+    }
+
     // After how many such events the query fails, and why.
     pub fn until_failure(&mut self, event: Event) -> Result<(u32, Cause), Starved> {
         for events in 1..100u32 {
-            if let Out::Failed(cause) = self.hear(0, event)? {
+            if let Some(cause) = self.failure(event)? {
                 return Ok((events, cause));
             }
         }

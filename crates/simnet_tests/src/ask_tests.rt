@@ -104,15 +104,19 @@ impl Asked {
         })
     }
 
+    fn comes_in<A: Heap>(self, alloc: A, world: &World<A>, ask: &Sent<A>) -> Result<Come, Starved> {
+        let event = event_by(alloc, world, ask, self.way)?;
+        Ok(come_in(&event))
+    }
+
     fn comes_of<A: Heap>(self, alloc: A, ask: &Sent<A>) -> Result<Come, Starved> {
         let world = world(alloc, self.addresses)?;
-        let event = event_by(alloc, &world, ask, self.way)?;
-        Ok(come_in(&event))
+        self.comes_in(alloc, &world, ask)
     }
 
     fn comes<A: Heap>(self, alloc: A) -> Result<Come, Starved> {
         let ask = self.ask(alloc)?;
-        Ok(self.comes_of(alloc, &ask)?)
+        self.comes_of(alloc, &ask)
     }
 }
 

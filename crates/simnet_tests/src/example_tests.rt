@@ -402,7 +402,9 @@ fn questions<A: Heap>(alloc: A, asked: &[Asked]) -> Result<Vec<Question<A>, A>, 
 fn wrong_step<A: Heap>(alloc: A, world: &str, script: Script) -> Result<Option<usize>, Starved> {
     let questions = questions(alloc, script.asked)?;
     let mut watched = Watched::new(alloc, world, questions)?;
-    Ok(script.steps.first_wrong(&mut watched)?)
+    let place = script.steps.first_wrong(&mut watched);
+    watched.end();
+    place
 }
 
 // The first script that goes wrong, and its first wrong step.

@@ -99,7 +99,9 @@ const WORKED: &[Steps] = &[ANSWERED, REPEATED, SILENT, TRUNCATED, EQUALS];
 // The first wrong step of these in a chain of zones with three clients.
 fn wrong_step<A: Heap>(alloc: A, steps: Steps) -> Result<Option<usize>, Starved> {
     let mut watched = CHAIN.watched(alloc, 3)?;
-    Ok(steps.first_wrong(&mut watched)?)
+    let place = steps.first_wrong(&mut watched);
+    watched.end();
+    place
 }
 
 // The first script that goes wrong, and its first wrong step.
@@ -160,11 +162,17 @@ fn first_wrong_round<A: Heap>(watched: &mut Watched<A>) -> Result<Option<usize>,
 }
 
 // Of a full room: the first client, and then the first moment, of which something else comes.
+fn fill<A: Heap>(watched: &mut Watched<A>) -> Result<(Option<u64>, Option<usize>), Starved> {
+    let client = first_other(watched)?;
+    let round = first_wrong_round(watched)?;
+    Ok((client, round))
+}
+
 fn full_room<A: Heap>(alloc: A) -> Result<(Option<u64>, Option<usize>), Starved> {
     let mut watched = CHAIN.watched(alloc, CROWD)?;
-    let client = first_other(&mut watched)?;
-    let round = first_wrong_round(&mut watched)?;
-    Ok((client, round))
+    let wrong = fill(&mut watched);
+    watched.end();
+    wrong
 }
 
 // 1,024 queries wait, and one more does not; all are due at once, in both rounds.
@@ -279,7 +287,9 @@ fn differing_of<A: Heap>(alloc: A, seed: u64, counts: &mut Counts) -> Result<Opt
     let mut dice = Dice::new(seed);
     let tree = Tree::made(&mut dice);
     let mut watched = tree.watched(alloc, CLIENTS)?;
-    Ok(first_differing(&mut watched, &mut dice, counts)?)
+    let place = first_differing(&mut watched, &mut dice, counts);
+    watched.end();
+    place
 }
 
 // Of 200 seeds the first whose script goes wrong, and the place of that order.

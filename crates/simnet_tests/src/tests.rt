@@ -1,5 +1,5 @@
 //! A network of three zones and their servers, from outside.
-use crate::fixtures::{LONG, SETTINGS, WWW, message_bytes, network, world};
+use crate::fixtures::{LONG, SETTINGS, WWW, end, message_bytes, network, world};
 use dname::{Heap, Starved};
 use engine::Settings;
 use exchange::Path;
@@ -97,7 +97,9 @@ impl Tale {
 
     fn comes<A: Heap>(self, alloc: A) -> Result<Out, Starved> {
         let mut sim = network(alloc, self.addresses)?;
-        Ok(self.comes_in(alloc, &mut sim)?)
+        let out = self.comes_in(alloc, &mut sim);
+        end(sim);
+        out
     }
 }
 
@@ -231,29 +233,10 @@ fn is_answer<A: Heap>(actions: &SimActions<A>) -> bool {
     }
 }
 
-// A network in which client 4 asked, and the ask of the root was carried.
-fn on_the_way<A: Heap>(alloc: A) -> Result<Sim<A>, Starved> {
-    let mut sim = network(alloc, 0)?;
-    ask(alloc, &mut sim, WWW)?;
-    out_of(&mut sim, event_of(Order::Carry(1), 1))?;
-    Ok(sim)
-}
-
 // Whether the second ask brings the answer.
 fn is_answered<A: Heap>(sim: &mut Sim<A>) -> Result<bool, Starved> {
     let carried = sim.step(event_of(Order::Carry(2), 2))?;
     Ok(is_answer(&carried))
-}
-
-fn leads_to_answer<A: Heap>(alloc: A) -> Result<bool, Starved> {
-    let mut sim = on_the_way(alloc)?;
-    Ok(is_answered(&mut sim)?)
-}
-
-#[test]
-fn a_query_is_followed_to_its_answer(rt: HostRuntime) -> Result<(), Fail> {
-    assert!(rt; leads_to_answer(rt.alloc())?);
-    Ok(())
 }
 
 // The server that the ask of this number went to, from the one socket.
@@ -282,15 +265,33 @@ fn wrong_number<A: Heap>(sim: &Sim<A>) -> Option<u64> {
     None
 }
 
-// Beside that, how many asks went out, and how many hints there are.
-fn stand<A: Heap>(alloc: A) -> Result<(Option<u64>, u64, usize), Starved> {
-    let sim = on_the_way(alloc)?;
-    Ok((wrong_number(&sim), sim.asks(), sim.world().hints().len()))
+// Client 4 asks, and the ask of the root is carried.
+const ON_THE_WAY: Tale = Tale {
+    orders: &[Order::Carry(1)],
+    out: Out::Sent(2),
+    ..NOTHING
+};
+
+// Where asks stand under their numbers (the first number of which another server was asked, how many asks went out, and
+// how many hints there are), and whether the second ask brings the answer.
+type Way = ((Option<u64>, u64, usize), bool);
+
+fn way_in<A: Heap>(alloc: A, sim: &mut Sim<A>) -> Result<Way, Starved> {
+    ON_THE_WAY.comes_in(alloc, sim)?;
+    let stand = (wrong_number(sim), sim.asks(), sim.world().hints().len());
+    Ok((stand, is_answered(sim)?))
+}
+
+fn way<A: Heap>(alloc: A) -> Result<Way, Starved> {
+    let mut sim = network(alloc, 0)?;
+    let way = way_in(alloc, &mut sim);
+    end(sim);
+    way
 }
 
 #[test]
-fn asks_stand_under_their_numbers(rt: HostRuntime) -> Result<(), Fail> {
-    assert_eq!(rt; stand(rt.alloc())?, (None, 2, 1));
+fn numbered_asks_lead_a_query_to_its_answer(rt: HostRuntime) -> Result<(), Fail> {
+    assert_eq!(rt; way(rt.alloc())?, ((None, 2, 1), true));
     Ok(())
 }
 
@@ -308,7 +309,13 @@ const BEYOND: &[Settings] = &[
 // Whether a network with these settings is refused for a setting.
 fn is_refused<A: Heap>(alloc: A, settings: Settings) -> Result<bool, Starved> {
     let world = world(alloc, 0)?;
-    Ok(matches!(Sim::new(alloc, world, settings), Err(SimError::Setting)))
+    match Sim::new(alloc, world, settings) {
+        Ok(sim) => {
+            end(sim);
+            Ok(false)
+        }
+        Err(error) => Ok(error == SimError::Setting),
+    }
 }
 
 // The first of these settings that are not.

@@ -1,9 +1,9 @@
 //! A network, and beside it the room in which its queries wait.
+use crate::fixtures::{end, network_of};
 use crate::question::{Question, ask_alike};
 use crate::room::{Ask, Room, Served};
 use dname::{Heap, Starved};
 use exchange::Bytes;
-use script::world_in;
 use simnet::{Sent, Settings, Sim, SimAction, SimActions, SimEvent};
 use wire::Via;
 
@@ -86,12 +86,24 @@ impl<A: Heap> Watched<A> {
         world: &str,
         questions: Vec<Question<A>, A>,
     ) -> Result<Watched<A>, Starved> {
-        let sim = network(alloc, world)?;
+        let sim = network_of(alloc, world, SETTINGS)?;
         Ok(Watched {
             sim,
             questions,
             room: Room::new(alloc),
         })
+    }
+
+    /// It is done with.
+    pub fn end(self) {
+        let Watched {
+            sim,
+            questions,
+            room,
+        } = self;
+        end(sim);
+        drop(questions);
+        drop(room);
     }
 
     /// How many asks went out.
@@ -267,16 +279,6 @@ impl<A: Heap> Watched<A> {
         self.settle(served, order, done)?;
         let more_due = order.is_tick() && self.room.is_due();
         Ok(done.verdict(client, more_due))
-    }
-}
-
-fn network<A: Heap>(alloc: A, text: &str) -> Result<Sim<A>, Starved> {
-    let Ok(world) = world_in(alloc, text) else {
-        return Err(Starved);
-    };
-    match Sim::new(alloc, world, SETTINGS) {
-        Ok(sim) => Ok(sim),
-        Err(_) => Err(Starved),
     }
 }
 

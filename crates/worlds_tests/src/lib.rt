@@ -1,11 +1,7 @@
-//! The tests of `worlds`, from outside: by what it makes public.
+//! The tests of `worlds` and `script`, from outside: by what they make public.
 #![tactic(auto)]
 
 #[cfg(test)]
-mod fixtures;
+mod script_tests;
 #[cfg(test)]
-mod host_tests;
-#[cfg(test)]
-mod judge_tests;
-#[cfg(test)]
-mod tests;
+mod worlds_tests;

@@ -1,0 +1,9 @@
+//! The tests of `exchange`, `queries` and `delivery`, from outside: by what they make public.
+#![tactic(auto)]
+
+#[cfg(test)]
+mod delivery_tests;
+#[cfg(test)]
+mod exchange_tests;
+#[cfg(test)]
+mod queries_tests;

@@ -1,4 +1,0 @@
-use Rattle.book_tests.proofs.tests.entries_are_compared.Given as goal
-
-abbrev pub ghosts-compared : goal.ghosts-compared
-ghosts-compared g a = record { name = a.blank.name; parts = a.blank.parts }

@@ -1,4 +1,0 @@
-use Rattle.book_tests.proofs.tests.the_last_entries_are_kept.Given as goal
-
-abbrev pub ghosts-four_steps : goal.ghosts-four_steps
-ghosts-four_steps g a = record { name = a.blank.name; parts = a.blank.parts }

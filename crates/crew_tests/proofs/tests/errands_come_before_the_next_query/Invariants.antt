@@ -1,4 +1,0 @@
-use Rattle.crew_tests.proofs.tests.errands_come_before_the_next_query.Given as goal
-
-abbrev pub ghosts-run_of_one : goal.ghosts-run_of_one
-ghosts-run_of_one g a = record { name = a.blank.name; parts = a.blank.parts }

@@ -1,0 +1,607 @@
+ghost use Rattle.std.specs.Prelude.{◌<◌};
+
+use authority::Link;
+use classify::{Class, Referral, classify, lifetime, received};
+use dname::{Heap, Starved, put_name};
+use fixtures::{Row, Value, name, record, records};
+use rdata::{RType, Record, RecordSet, Records, put_data, set_at};
+use refusing::Refusing;
+use std::alloc::Allocator;
+use std::test::Fail;
+use wire::{Header, Message, Questions, Via};
+
+#[derive(Clone, Copy)]
+enum Code {
+    NoError,
+    NameError,
+    Refused,
+}
+
+impl Code {
+    fn number(self) -> u8
+        ensures { result < 16 }
+    {
+        match self {
+            Code::NoError => 0,
+            Code::NameError => 3,
+            Code::Refused => 5,
+        }
+    }
+}
+
+// A reply, and what it is used for where w.a.example. was asked for of a server of example.
+struct Case {
+    kind: RType,
+    via: Via,
+    code: Code,
+    aa: bool,
+    tc: bool,
+    answer: &'static [Row<'static>],
+    authority: &'static [Row<'static>],
+    additional: &'static [Row<'static>],
+    want: &'static str,
+}
+
+// A reply over UDP to a question for an address, whose parts are empty but for those that a case says otherwise of.
+const PLAIN: Case = Case {
+    kind: RType::A,
+    via: Via::Udp,
+    code: Code::NoError,
+    aa: true,
+    tc: false,
+    answer: &[],
+    authority: &[],
+    additional: &[],
+    want: "failed 3",
+};
+
+impl Case {
+    fn header(&self) -> Header {
+        Header {
+            id: 1,
+            qr: true,
+            opcode: 0,
+            aa: self.aa,
+            tc: self.tc,
+            rd: false,
+            ra: false,
+            z: 0,
+            rcode: self.code.number(),
+        }
+    }
+
+    fn reply<A: Heap>(&self, alloc: A) -> Result<Message<A>, Starved> {
+        Ok(Message {
+            header: self.header(),
+            questions: Questions::new(alloc),
+            answer: records(alloc, self.answer)?,
+            authority: records(alloc, self.authority)?,
+            additional: records(alloc, self.additional)?,
+        })
+    }
+
+    // What the reply is used for.
+    fn class<A: Heap>(&self, alloc: A) -> Result<Class<A>, Starved> {
+        let zone = name(alloc, "example.")?;
+        let asked = name(alloc, W)?;
+        let reply = self.reply(alloc)?;
+        Ok(classify(alloc, &zone, &asked, self.kind, self.via, &reply)?)
+    }
+
+    fn said<A: Heap>(&self, alloc: A) -> Result<String<A>, Starved> {
+        let class = self.class(alloc)?;
+        text(alloc, &class)
+    }
+
+    fn is_met<A: Heap>(&self, alloc: A) -> Result<bool, Starved> {
+        Ok(self.said(alloc)?.as_str() == self.want)
+    }
+}
+
+// The first case of which something else comes.
+fn first_wrong<A: Heap>(alloc: A, cases: &[Case]) -> Result<Option<usize>, Starved> {
+    for (place, case) in cases.iter().enumerate() {
+        if !case.is_met(alloc)? {
+            return Ok(Some(place));
+        }
+    }
+    Ok(None)
+}
+
+// Owner and TTL.
+fn put_head<A: Heap>(out: &mut String<A>, record: &Record<A>) -> Result<(), Starved> {
+    put_name(out, &record.owner)?;
+    write!(out, " {} ", record.ttl)?;
+    Ok(())
+}
+
+fn put_record<A: Heap>(out: &mut String<A>, record: &Record<A>) -> Result<(), Starved> {
+    out.push_str("; ")?;
+    put_head(out, record)?;
+    put_data(out, &record.value)?;
+    Ok(())
+}
+
+fn put_records<A: Heap>(out: &mut String<A>, records: &Records<A>) -> Result<(), Starved> {
+    for record in records.as_slice() {
+        put_record(out, record)?;
+    }
+    Ok(())
+}
+
+fn put_found<A: Heap>(out: &mut String<A>, alloc: A, set: &RecordSet<A>) -> Result<(), Starved> {
+    out.push_str("found")?;
+    let records = set.to_records(alloc)?;
+    Ok(put_records(out, &records)?)
+}
+
+// What a link is, and its one record.
+fn put_said<A: Heap>(out: &mut String<A>, word: &str, record: &Record<A>) -> Result<(), Starved> {
+    out.push_str(word)?;
+    put_record(out, record)?;
+    Ok(())
+}
+
+fn put_link<A: Heap>(out: &mut String<A>, alloc: A, link: &Link<A>) -> Result<(), Starved> {
+    match link {
+        Link::Found(set) => Ok(put_found(out, alloc, set)?),
+        Link::Alias(record) => Ok(put_said(out, "alias", record)?),
+        Link::NoData(soa) => Ok(put_said(out, "no data", soa)?),
+        Link::NxDomain(soa) => Ok(put_said(out, "no name", soa)?),
+    }
+}
+
+fn link_text<A: Heap>(alloc: A, link: &Link<A>) -> Result<String<A>, Starved> {
+    let mut out = String::new(alloc);
+    put_link(&mut out, alloc, link)?;
+    Ok(out)
+}
+
+fn put_cut<A: Heap>(out: &mut String<A>, referral: &Referral<A>) -> Result<(), Starved> {
+    write!(out, "for {} to {}", referral.ttl, referral.at)?;
+    Ok(())
+}
+
+fn put_servers<A: Heap>(out: &mut String<A>, referral: &Referral<A>) -> Result<(), Starved> {
+    put_records(out, &referral.servers)?;
+    out.push_str("; with")?;
+    put_records(out, &referral.addresses)?;
+    Ok(())
+}
+
+fn referral_text<A: Heap>(alloc: A, referral: &Referral<A>) -> Result<String<A>, Starved> {
+    let mut out = String::new(alloc);
+    put_cut(&mut out, referral)?;
+    put_servers(&mut out, referral)?;
+    Ok(out)
+}
+
+fn text<A: Heap>(alloc: A, class: &Class<A>) -> Result<String<A>, Starved> {
+    match class {
+        Class::Answer(link) => Ok(link_text(alloc, link)?),
+        Class::Referral(referral) => Ok(referral_text(alloc, referral)?),
+        Class::Truncated => Ok(String::from_str(alloc, "truncated")?),
+        Class::Failed(failure) => Ok(format!(in alloc; "failed {}", failure.number())?),
+    }
+}
+
+const W: &str = "w.a.example.";
+
+const ADDRESS: Row<'static> = (W, 60, Value::A(1));
+
+// RFC 2181, section 9.
+const TRUNCATED: &[Case] = &[
+    Case {
+        tc: true,
+        answer: &[ADDRESS],
+        want: "truncated",
+        ..PLAIN
+    },
+    Case {
+        via: Via::Tcp,
+        tc: true,
+        answer: &[ADDRESS],
+        want: "failed 5",
+        ..PLAIN
+    },
+];
+
+const DOUBLED: &[Row<'static>] = &[
+    ADDRESS,
+    ("v.a.example.", 10, Value::A(3)),
+    (W, 5, Value::Aaaa),
+    (W, 30, Value::A(1)),
+    (W, 60, Value::A(2)),
+];
+
+// RFC 2181, sections 5 and 5.2.
+const ANSWERS: &[Case] = &[
+    Case {
+        code: Code::Refused,
+        answer: &[ADDRESS],
+        want: "failed 1",
+        ..PLAIN
+    },
+    Case {
+        code: Code::NameError,
+        answer: &[ADDRESS],
+        want: "failed 1",
+        ..PLAIN
+    },
+    Case {
+        aa: false,
+        answer: &[ADDRESS],
+        want: "failed 2",
+        ..PLAIN
+    },
+    Case {
+        answer: DOUBLED,
+        want: "found; w.a.example. 30 A 192.0.2.1; w.a.example. 30 A 192.0.2.2",
+        ..PLAIN
+    },
+    PLAIN,
+];
+
+const ALIAS: Row<'static> = (W, 60, Value::Cname("x.example."));
+
+const TWO_ALIASES: &[Row<'static>] = &[ALIAS, (W, 30, Value::Cname("y.example."))];
+
+const FIRST_ALIAS: &str = "alias; w.a.example. 30 CNAME x.example.";
+
+// RFC 1034, section 5.3.3.
+const ALIASES: &[Case] = &[
+    Case {
+        answer: TWO_ALIASES,
+        want: FIRST_ALIAS,
+        ..PLAIN
+    },
+    Case {
+        code: Code::NameError,
+        answer: TWO_ALIASES,
+        want: FIRST_ALIAS,
+        ..PLAIN
+    },
+    Case {
+        code: Code::NameError,
+        aa: false,
+        answer: TWO_ALIASES,
+        want: "failed 2",
+        ..PLAIN
+    },
+    Case {
+        kind: RType::Cname,
+        via: Via::Tcp,
+        answer: &[ALIAS],
+        want: "found; w.a.example. 60 CNAME x.example.",
+        ..PLAIN
+    },
+];
+
+const SOA: Row<'static> = ("example.", 3600, Value::Soa(60));
+
+const BESIDE: Row<'static> = ("b.example.", 3600, Value::Soa(60));
+
+const SERVER: Row<'static> = ("a.example.", 60, Value::Ns("ns.a.example."));
+
+// RFC 2308, sections 2 and 5.
+const DENIALS: &[Case] = &[
+    Case {
+        code: Code::NameError,
+        ..PLAIN
+    },
+    Case {
+        code: Code::NameError,
+        authority: &[SERVER],
+        ..PLAIN
+    },
+    Case {
+        code: Code::NameError,
+        authority: &[BESIDE, SOA],
+        want: "failed 4",
+        ..PLAIN
+    },
+    Case {
+        code: Code::NameError,
+        authority: &[(".", 3600, Value::Soa(60))],
+        want: "failed 4",
+        ..PLAIN
+    },
+    Case {
+        code: Code::NameError,
+        aa: false,
+        authority: &[SOA],
+        want: "failed 2",
+        ..PLAIN
+    },
+    Case {
+        code: Code::NameError,
+        authority: &[SOA, BESIDE],
+        want: "no name; example. 3600 SOA ns. h. 1 2 3 4 60",
+        ..PLAIN
+    },
+    Case {
+        via: Via::Tcp,
+        authority: &[SERVER, SOA],
+        want: "no data; example. 3600 SOA ns. h. 1 2 3 4 60",
+        ..PLAIN
+    },
+    Case {
+        aa: false,
+        authority: &[SERVER, SOA],
+        want: "failed 2",
+        ..PLAIN
+    },
+];
+
+const SERVERS: &[Row<'static>] = &[
+    ("a.example.", 3600, Value::Ns("ns.a.example.")),
+    ("b.example.", 5, Value::Ns("ns.b.example.")),
+    ("a.example.", 3600, Value::Ns("ns.")),
+    ("a.example.", 1800, Value::Ns("ns.a.example.")),
+];
+
+const SERVER_ADDRESS: Row<'static> = ("ns.a.example.", 60, Value::A(1));
+
+// Of another type, of servers of other names, of strangers, outside of the zone.
+const STRANGERS: &[Row<'static>] = &[
+    ("ns.a.example.", 50, Value::Aaaa),
+    ("ns.b.example.", 40, Value::A(2)),
+    ("x.a.example.", 30, Value::A(3)),
+    ("ns.", 20, Value::A(4)),
+];
+
+const AMONG_STRANGERS: &[Row<'static>] = &[
+    ("ns.a.example.", 50, Value::Aaaa),
+    ("ns.b.example.", 40, Value::A(2)),
+    ("x.a.example.", 30, Value::A(3)),
+    ("ns.", 20, Value::A(4)),
+    SERVER_ADDRESS,
+];
+
+// A reply that refers, without an answer of its own.
+const REFERRING: Case = Case {
+    aa: false,
+    additional: STRANGERS,
+    ..PLAIN
+};
+
+// RFC 1034, section 4.3.2, step 3b. The shortest life in the last one is that of an address.
+const REFERRALS: &[Case] = &[
+    Case {
+        authority: &[("example.", 60, Value::Ns("ns."))],
+        want: "failed 4",
+        ..REFERRING
+    },
+    Case {
+        authority: &[("b.example.", 60, Value::Ns("ns."))],
+        want: "failed 4",
+        ..REFERRING
+    },
+    Case {
+        authority: SERVERS,
+        want: "for 1800 to a.example.; a.example. 1800 NS ns.a.example.; a.example. 1800 NS ns.; with",
+        ..REFERRING
+    },
+    Case {
+        authority: &[
+            (W, 60, Value::Ns("ns.")),
+            ("a.example.", 3600, Value::Ns("ns.a.example.")),
+        ],
+        want: "for 60 to w.a.example.; w.a.example. 60 NS ns.; with",
+        ..REFERRING
+    },
+    REFERRING,
+    Case {
+        authority: SERVERS,
+        additional: AMONG_STRANGERS,
+        want: "for 60 to a.example.; a.example. 1800 NS ns.a.example.; a.example. 1800 NS ns.; with; ns.a.example. 60 A 192.0.2.1",
+        ..REFERRING
+    },
+];
+
+// The first case that goes wrong, by its table and its place there.
+fn first_wrong_of<A: Heap>(
+    alloc: A,
+    tables: &[&[Case]],
+) -> Result<Option<(usize, usize)>, Starved> {
+    for (table, cases) in tables.iter().enumerate() {
+        if let Some(place) = first_wrong(alloc, *cases)? {
+            return Ok(Some((table, place)));
+        }
+    }
+    Ok(None)
+}
+
+const TABLES: &[&[Case]] = &[TRUNCATED, ANSWERS, ALIASES, DENIALS, REFERRALS];
+
+#[test]
+fn replies_are_used_as_was_worked(rt: HostRuntime) -> Result<(), Fail> {
+    assert_eq!(rt; first_wrong_of(rt.alloc(), TABLES)?, None);
+    Ok(())
+}
+
+// For how many seconds what is received is kept, and what it is then.
+fn kept<A: Heap>(alloc: A, link: Link<A>) -> Result<(u32, String<A>), Starved> {
+    let link = received(link);
+    let seconds = lifetime(&link);
+    let text = link_text(alloc, &link);
+    drop(link);
+    Ok((seconds, text?))
+}
+
+fn set_at_w<A: Heap>(alloc: A, records: &[Record<A>]) -> Result<Option<RecordSet<A>>, Starved> {
+    let owner = name(alloc, W)?;
+    Ok(set_at(alloc, records, &owner, RType::A)?)
+}
+
+// The rows as one RRset.
+fn set_of<A: Heap>(alloc: A, rows: &[Row<'static>]) -> Result<RecordSet<A>, Starved> {
+    let records = records(alloc, rows)?;
+    match set_at_w(alloc, records.as_slice())? {
+        Some(set) => Ok(set),
+        None => Err(Starved),
+    }
+}
+
+fn found<A: Heap>(alloc: A, ttls: [u32; 2]) -> Result<Link<A>, Starved> {
+    let rows = [(W, ttls[0], Value::A(1)), (W, ttls[1], Value::A(2))];
+    Ok(Link::Found(set_of(alloc, &rows)?))
+}
+
+fn is_kept_as<A: Heap>(
+    alloc: A,
+    ttls: [u32; 2],
+    seconds: u32,
+    want: &str,
+) -> Result<bool, Starved> {
+    let (kept, said) = kept(alloc, found(alloc, ttls)?)?;
+    Ok(kept == seconds && said.as_str() == want)
+}
+
+// Whether a set of these addresses is kept for so many seconds, each with that TTL.
+fn set_is_kept<A: Heap>(alloc: A, ttls: [u32; 2], seconds: u32) -> Result<bool, Starved> {
+    let want = format!(in alloc; "found; {W} {seconds} A 192.0.2.1; {W} {seconds} A 192.0.2.2")?;
+    Ok(is_kept_as(alloc, ttls, seconds, want.as_str())?)
+}
+
+// RFC 2181, sections 5.2 and 8.
+#[test]
+fn lifetimes_of_sets(rt: HostRuntime) -> Result<(), Fail> {
+    assert!(rt; set_is_kept(rt.alloc(), [604_801, 604_801], 604_800)?);
+    assert!(rt; set_is_kept(rt.alloc(), [604_801, 604_799], 604_799)?);
+    Ok(())
+}
+
+fn lifetime_of<A: Heap>(link: Link<A>) -> u32 {
+    lifetime(&received(link))
+}
+
+fn alias_lifetime<A: Heap>(alloc: A, ttl: u32) -> Result<u32, Starved> {
+    let alias = record(alloc, (W, ttl, Value::Cname("x.")))?;
+    Ok(lifetime_of(Link::Alias(alias)))
+}
+
+// For how many seconds a denial of data with this TTL and this MINIMUM is kept.
+fn no_data_lifetime<A: Heap>(alloc: A, ttl: u32, minimum: u32) -> Result<u32, Starved> {
+    let soa = record(alloc, ("example.", ttl, Value::Soa(minimum)))?;
+    Ok(lifetime_of(Link::NoData(soa)))
+}
+
+// For how many seconds a denial of the name is kept.
+fn no_name_lifetime<A: Heap>(alloc: A, ttl: u32, minimum: u32) -> Result<u32, Starved> {
+    let soa = record(alloc, ("example.", ttl, Value::Soa(minimum)))?;
+    Ok(lifetime_of(Link::NxDomain(soa)))
+}
+
+// TTL, MINIMUM, and for how long it is kept, all in seconds.
+const DENIED: &[(u32, u32, u32)] = &[
+    (10_801, 20_000, 10_800),
+    (20_000, 10_801, 10_800),
+    (3600, 60, 60),
+    (60, 3600, 60),
+    (3600, 2_147_483_648, 0),
+];
+
+fn denials_are_kept<A: Heap>(alloc: A) -> Result<bool, Starved> {
+    for (ttl, minimum, seconds) in DENIED {
+        if no_data_lifetime(alloc, *ttl, *minimum)? != *seconds
+            || no_name_lifetime(alloc, *ttl, *minimum)? != *seconds
+        {
+            return Ok(false);
+        }
+    }
+    Ok(true)
+}
+
+// RFC 2181, section 8; RFC 2308, sections 3 and 5.
+#[test]
+fn lifetimes_of_aliases_and_denials(rt: HostRuntime) -> Result<(), Fail> {
+    assert_eq!(rt; alias_lifetime(rt.alloc(), 604_801)?, 604_800);
+    assert!(rt; denials_are_kept(rt.alloc())?);
+    Ok(())
+}
+
+fn referral_with<A: Heap>(alloc: A, ttl: u32) -> Result<Referral<A>, Starved> {
+    let at = name(alloc, "a.example.")?;
+    Ok(Referral {
+        at,
+        servers: records(alloc, &[("a.example.", ttl, Value::Ns("ns."))])?,
+        addresses: Records::new(alloc),
+        ttl: ttl.min(rdata::GREATEST_TTL),
+    })
+}
+
+fn referral_lifetime<A: Heap>(alloc: A, ttl: u32) -> Result<u32, Starved> {
+    Ok(referral_with(alloc, ttl)?.lifetime())
+}
+
+// A TTL, and for how long it is kept.
+const REFERRED: &[(u32, u32)] = &[
+    (604_799, 604_799),
+    (604_800, 604_800),
+    (604_801, 604_800),
+    (2_147_483_647, 604_800),
+    (0, 0),
+];
+
+fn referrals_are_kept<A: Heap>(alloc: A) -> Result<bool, Starved> {
+    for (ttl, seconds) in REFERRED {
+        if referral_lifetime(alloc, *ttl)? != *seconds {
+            return Ok(false);
+        }
+    }
+    Ok(true)
+}
+
+// RFC 2181, section 8: a referral of 2,147,483,647 seconds is kept for a week.
+#[test]
+fn lifetimes_of_referrals(rt: HostRuntime) -> Result<(), Fail> {
+    assert!(rt; referrals_are_kept(rt.alloc())?);
+    Ok(())
+}
+
+// A set, an alias, a denial and a referral.
+const EACH: &[Case] = &[
+    Case {
+        answer: &[ADDRESS],
+        want: "found; w.a.example. 60 A 192.0.2.1",
+        ..PLAIN
+    },
+    Case {
+        answer: &[ALIAS],
+        want: "alias; w.a.example. 60 CNAME x.example.",
+        ..PLAIN
+    },
+    Case {
+        authority: &[SOA],
+        want: "no data; example. 3600 SOA ns. h. 1 2 3 4 60",
+        ..PLAIN
+    },
+    Case {
+        authority: SERVERS,
+        additional: &[SERVER_ADDRESS],
+        want: "for 60 to a.example.; a.example. 1800 NS ns.a.example.; a.example. 1800 NS ns.; with; ns.a.example. 60 A 192.0.2.1",
+        ..PLAIN
+    },
+];
+
+// The first growth whose refusal goes unsaid, or after which something else comes of a case.
+fn first_unsaid<B: Allocator>(heap: &Refusing<B>, growths: u64) -> Option<u64> {
+    for n in 0..growths {
+        heap.refuse_after(n);
+        if first_wrong(heap, EACH).is_ok() || !matches!(first_wrong(heap, EACH), Ok(None)) {
+            return Some(n);
+        }
+    }
+    None
+}
+
+#[test]
+fn each_growth_is_refused_in_turn(rt: HostRuntime) -> Result<(), Fail> {
+    let heap = Refusing::new(rt.alloc());
+    assert!(rt; matches!(first_wrong(&heap, EACH), Ok(None)));
+    let growths = heap.growths();
+    assert!(rt; growths > 20);
+    assert_eq!(rt; first_unsaid(&heap, growths), None);
+    Ok(())
+}

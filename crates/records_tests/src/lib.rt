@@ -1,0 +1,13 @@
+//! The tests of `memory`, `pages`, `dname`, `rdata` and `asks`, from outside: by what they make public.
+#![tactic(auto)]
+
+#[cfg(test)]
+mod asks_tests;
+#[cfg(test)]
+mod dname_tests;
+#[cfg(test)]
+mod memory_tests;
+#[cfg(test)]
+mod pages_tests;
+#[cfg(test)]
+mod rdata_tests;

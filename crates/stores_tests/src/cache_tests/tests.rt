@@ -1,0 +1,415 @@
+ghost use Rattle.std.specs.Prelude.{◌≤◌};
+ghost use Rattle.rdata.specs.Records.{greatest_ttl};
+
+use super::{empty_cache, records_of, set_of};
+use authority::Link;
+use cache::{Cache, Hit};
+use dname::{Heap, Name, Starved};
+use fixtures::{Row, Value, name, record, records};
+use lru::DefaultHasher;
+use rdata::{GREATEST_TTL, RType, Record, RecordSet};
+use refusing::Refusing;
+use std::alloc::Allocator;
+use std::test::Fail;
+
+// The links that the tests keep, of the name under which they are kept but for that of another.
+#[derive(Clone, Copy)]
+enum Shape {
+    Set(Value<'static>),
+    SetOfAnother(Row<'static>),
+    TwoAddresses,
+    Alias(&'static str),
+    NoData,
+    NameError,
+}
+
+fn alone<A: Heap>(alloc: A, row: Row<'_>) -> Result<RecordSet<A>, Starved> {
+    let only = record(alloc, row)?;
+    RecordSet::alone(alloc, only)
+}
+
+fn two_addresses<A: Heap>(alloc: A, owner: &str) -> Result<RecordSet<A>, Starved> {
+    let rows = [(owner, 300, Value::A(1)), (owner, 300, Value::A(2))];
+    let records = records(alloc, &rows)?;
+    set_of(alloc, records.as_slice(), owner, RType::A)
+}
+
+fn link<A: Heap>(alloc: A, owner: &str, shape: Shape) -> Result<Link<A>, Starved> {
+    let soa = (owner, 60, Value::Soa(60));
+    match shape {
+        Shape::Set(value) => Ok(Link::Found(alone(alloc, (owner, 300, value))?)),
+        Shape::SetOfAnother(row) => Ok(Link::Found(alone(alloc, row)?)),
+        Shape::TwoAddresses => Ok(Link::Found(two_addresses(alloc, owner)?)),
+        Shape::Alias(to) => Ok(Link::Alias(record(alloc, (owner, 300, Value::Cname(to)))?)),
+        Shape::NoData => Ok(Link::NoData(record(alloc, soa)?)),
+        Shape::NameError => Ok(Link::NxDomain(record(alloc, soa)?)),
+    }
+}
+
+// What a cache is told and asked, and what it has to say. Moments are milliseconds, times to live seconds.
+#[derive(Clone, Copy)]
+enum Step {
+    // A link is kept for a name and a type, for so long from a moment on.
+    Keep(&'static str, RType, Shape, u32, u64),
+    // A look-up at a moment gives this kind of link, with its time to live and the moment since which it is kept.
+    Sees(&'static str, RType, u64, (&'static str, u32, u64)),
+    // A look-up at a moment gives nothing.
+    Misses(&'static str, RType, u64),
+    // Two addresses that are found at one moment and sent at another have this TTL.
+    Sends(&'static str, u64, u64, u32),
+}
+
+fn word<A: Heap>(link: &Link<A>) -> &'static str {
+    match link {
+        Link::Found(set) if set.len() == 1 => "set of one",
+        Link::Found(_) => "set",
+        Link::Alias(_) => "alias",
+        Link::NoData(_) => "no data",
+        Link::NxDomain(_) => "name error",
+    }
+}
+
+fn said<A: Heap>(hit: &Hit<A>) -> (&'static str, u32, u64) {
+    (word(&hit.link), hit.ttl, hit.since)
+}
+
+fn have_ttl<A: Heap>(two: &[Record<A>], ttl: u32) -> bool {
+    match two {
+        [first, second] => first.ttl == ttl && second.ttl == ttl,
+        _ => false,
+    }
+}
+
+// Whether the link is two addresses with this TTL.
+fn has_ttl<A: Heap>(alloc: A, link: &Link<A>, ttl: u32) -> Result<bool, Starved> {
+    let records = records_of(alloc, link)?;
+    Ok(have_ttl(records.as_slice(), ttl))
+}
+
+// A cache and the allocator that it stands on.
+#[derive(Drop)]
+struct Kept<A: Heap> {
+    alloc: A,
+    cache: Cache<DefaultHasher, A>,
+}
+
+fn empty<A: Heap>(alloc: A, room: usize) -> Result<Kept<A>, Starved> {
+    let cache = empty_cache(alloc, room)?;
+    Ok(Kept { alloc, cache })
+}
+
+impl<A: Heap> Kept<A> {
+    fn keep(
+        &mut self,
+        text: &str,
+        kind: RType,
+        shape: Shape,
+        ttl: u32,
+        now: u64,
+    ) -> Result<(), Starved> {
+        let owner = name(self.alloc, text)?;
+        let link = link(self.alloc, text, shape)?;
+        self.keep_link(&owner, kind, &link, ttl.min(GREATEST_TTL), now)
+    }
+
+    fn keep_link(
+        &mut self,
+        owner: &Name<A>,
+        kind: RType,
+        link: &Link<A>,
+        ttl: u32,
+        now: u64,
+    ) -> Result<(), Starved>
+        requires { ttl ≤ greatest_ttl }
+    {
+        self.cache.keep(owner, kind, link, ttl, now)
+    }
+
+    fn look(&mut self, text: &str, kind: RType, now: u64) -> Result<Option<Hit<A>>, Starved> {
+        let owner = name(self.alloc, text)?;
+        self.cache.look(&owner, kind, now)
+    }
+
+    fn seen(
+        &mut self,
+        text: &str,
+        kind: RType,
+        now: u64,
+    ) -> Result<Option<(&'static str, u32, u64)>, Starved> {
+        match self.look(text, kind, now)? {
+            Some(hit) => Ok(Some(said(&hit))),
+            None => Ok(None),
+        }
+    }
+
+    fn sends(&mut self, text: &str, found: u64, sent: u64, ttl: u32) -> Result<bool, Starved> {
+        match self.look(text, RType::A, found)? {
+            Some(hit) => Ok(has_ttl(self.alloc, &hit.into_link(sent), ttl)?),
+            None => Ok(false),
+        }
+    }
+
+    fn goes(&mut self, step: Step) -> Result<bool, Starved> {
+        match step {
+            Step::Keep(owner, kind, shape, ttl, now) => {
+                self.keep(owner, kind, shape, ttl, now)?;
+                Ok(true)
+            }
+            Step::Sees(owner, kind, now, what) => Ok(self.seen(owner, kind, now)? == Some(what)),
+            Step::Misses(owner, kind, now) => Ok(self.seen(owner, kind, now)?.is_none()),
+            Step::Sends(owner, found, sent, ttl) => Ok(self.sends(owner, found, sent, ttl)?),
+        }
+    }
+
+    // The place of the first step of which something else comes.
+    fn first_wrong(&mut self, steps: &[Step]) -> Result<Option<usize>, Starved> {
+        for (place, step) in steps.iter().enumerate() {
+            if !self.goes(*step)? {
+                return Ok(Some(place));
+            }
+        }
+        Ok(None)
+    }
+}
+
+// How many links there is room for, and what the cache is told and asked.
+type Case = (usize, &'static [Step]);
+
+fn first_wrong_step<A: Heap>(alloc: A, case: Case) -> Result<Option<usize>, Starved> {
+    let (room, steps) = case;
+    let mut kept = empty(alloc, room)?;
+    kept.first_wrong(steps)
+}
+
+// The first case that goes wrong, and the step in it.
+fn first_wrong<A: Heap>(alloc: A, cases: &[Case]) -> Result<Option<(usize, usize)>, Starved> {
+    for (place, case) in cases.iter().enumerate() {
+        if let Some(step) = first_wrong_step(alloc, *case)? {
+            return Ok(Some((place, step)));
+        }
+    }
+    Ok(None)
+}
+
+const ADDRESS: Shape = Shape::Set(Value::A(1));
+
+const LEAST_USED_GOES: Case = (
+    2,
+    &[
+        Step::Keep("a", RType::A, ADDRESS, 10, 0),
+        Step::Keep("b", RType::A, ADDRESS, 10, 0),
+        Step::Sees("a", RType::A, 5_000, ("set of one", 10, 0)),
+        Step::Keep("c", RType::A, ADDRESS, 10, 5_000),
+        Step::Misses("b", RType::A, 5_000),
+        Step::Sees("a", RType::A, 9_999, ("set of one", 10, 0)),
+        Step::Misses("a", RType::A, 10_000),
+    ],
+);
+
+const A_LINK_REMOVES_THE_NAMES_ERROR: Case = (
+    9,
+    &[
+        Step::Keep("a", RType::A, Shape::NameError, 60, 0),
+        Step::Sees("a", RType::Txt, 0, ("name error", 60, 0)),
+        Step::Keep("a", RType::A, ADDRESS, 10, 0),
+        Step::Sees("a", RType::A, 0, ("set of one", 10, 0)),
+        Step::Misses("a", RType::Txt, 0),
+        Step::Keep("a", RType::A, Shape::NameError, 60, 0),
+        Step::Keep("a", RType::A, ADDRESS, 0, 0),
+        Step::Misses("a", RType::A, 0),
+    ],
+);
+
+const AN_ALIAS_ANSWERS_EVERY_TYPE: Case = (
+    9,
+    &[
+        Step::Keep("a", RType::A, Shape::Alias("a"), 10, 0),
+        Step::Sees("a", RType::A, 0, ("alias", 10, 0)),
+        Step::Sees("a", RType::Mx, 0, ("alias", 10, 0)),
+        Step::Sees("a", RType::Cname, 0, ("set of one", 10, 0)),
+        Step::Keep("b", RType::Cname, Shape::Set(Value::Cname("b")), 10, 0),
+        Step::Sees("b", RType::A, 0, ("alias", 10, 0)),
+        Step::Sees("b", RType::Cname, 0, ("set of one", 10, 0)),
+    ],
+);
+
+const THE_WANT_OF_AN_ALIAS_IS_NONE: Case = (
+    9,
+    &[
+        Step::Keep("a", RType::Cname, Shape::NoData, 10, 0),
+        Step::Misses("a", RType::A, 0),
+        Step::Sees("a", RType::Cname, 0, ("no data", 10, 0)),
+    ],
+);
+
+const A_CLOCK_THAT_GOES_BACK_GIVES_AGE_ZERO: Case = (
+    9,
+    &[
+        Step::Keep("a", RType::A, ADDRESS, 10, 50_000),
+        Step::Sees("a", RType::A, 0, ("set of one", 10, 50_000)),
+        Step::Sees("a", RType::A, 59_999, ("set of one", 10, 50_000)),
+        Step::Misses("a", RType::A, 60_000),
+    ],
+);
+
+const TTLS_COUNT_DOWN_BY_WHOLE_SECONDS: Case = (
+    2,
+    &[
+        Step::Keep("a", RType::A, Shape::TwoAddresses, 60, 1_000),
+        Step::Sends("a", 0, 0, 60),
+        Step::Sends("a", 1_999, 1_999, 60),
+        Step::Sends("a", 2_000, 2_000, 59),
+        Step::Sends("a", 60_999, 60_999, 1),
+        Step::Sends("a", 1_000, 90_000, 0),
+    ],
+);
+
+const SETS_COME_BACK: Case = (
+    9,
+    &[
+        Step::Keep("a", RType::A, Shape::TwoAddresses, 10, 0),
+        Step::Keep(
+            "b",
+            RType::A,
+            Shape::SetOfAnother(("another", 300, Value::A(1))),
+            10,
+            0,
+        ),
+        Step::Sees("a", RType::A, 0, ("set", 10, 0)),
+        Step::Sees("b", RType::A, 0, ("set of one", 10, 0)),
+    ],
+);
+
+const CASES: &[Case] = &[
+    LEAST_USED_GOES,
+    A_LINK_REMOVES_THE_NAMES_ERROR,
+    AN_ALIAS_ANSWERS_EVERY_TYPE,
+    THE_WANT_OF_AN_ALIAS_IS_NONE,
+    A_CLOCK_THAT_GOES_BACK_GIVES_AGE_ZERO,
+    TTLS_COUNT_DOWN_BY_WHOLE_SECONDS,
+    SETS_COME_BACK,
+];
+
+#[test]
+fn links_are_kept_as_was_worked(rt: HostRuntime) -> Result<(), Fail> {
+    assert_eq!(rt; first_wrong(rt.alloc(), CASES)?, None);
+    Ok(())
+}
+
+// Keeps an alias, and is told of it for its own type.
+const PLAYED: Case = (
+    2,
+    &[
+        Step::Keep("a", RType::A, Shape::Alias("a"), 10, 0),
+        Step::Keep("a", RType::A, Shape::NoData, 0, 0),
+        Step::Sees("a", RType::Cname, 0, ("set of one", 10, 0)),
+    ],
+);
+
+fn play<A: Heap>(alloc: A) -> Result<bool, Starved> {
+    Ok(first_wrong_step(alloc, PLAYED)?.is_none())
+}
+
+// The first growth whose refusal goes unsaid, or after which something else comes.
+fn first_unsaid<B: Allocator>(heap: &Refusing<B>, growths: u64) -> Option<u64> {
+    for n in 0..growths {
+        heap.refuse_after(n);
+        if play(heap).is_ok() || !matches!(play(heap), Ok(true)) {
+            return Some(n);
+        }
+    }
+    None
+}
+
+#[test]
+fn each_growth_is_refused_in_turn(rt: HostRuntime) -> Result<(), Fail> {
+    let heap = Refusing::new(rt.alloc());
+    assert!(rt; matches!(play(&heap), Ok(true)));
+    let growths = heap.growths();
+    assert!(rt; growths > 10);
+    assert_eq!(rt; first_unsaid(&heap, growths), None);
+    Ok(())
+}
+
+const ERROR: Step = Step::Sees("a", RType::A, 0, ("name error", 60, 0));
+
+// Whether a `keep` is refused, and the name's error still answers.
+fn stays<A: Heap>(kept: &mut Kept<A>, shape: Shape) -> Result<bool, Starved> {
+    if kept.keep("a", RType::A, shape, 10, 0).is_ok() {
+        return Ok(false);
+    }
+    Ok(kept.goes(ERROR)?)
+}
+
+// The first growth of a `keep` that may be refused unsaid, or after whose refusal the name's error does not
+// answer any more; growths of the name and the link that are made for it are among them.
+fn first_change<'a, B: Allocator>(
+    heap: &'a Refusing<B>,
+    kept: &mut Kept<&'a Refusing<B>>,
+    shape: Shape,
+    growths: u64,
+) -> Result<Option<u64>, Starved> {
+    for n in 0..growths {
+        heap.refuse_after(n);
+        if !stays(kept, shape)? {
+            return Ok(Some(n));
+        }
+    }
+    Ok(None)
+}
+
+// Whether a `keep` of that link takes no more growths than these, and the name's error is gone then.
+fn replaces<'a, B: Allocator>(
+    heap: &'a Refusing<B>,
+    kept: &mut Kept<&'a Refusing<B>>,
+    shape: Shape,
+    growths: u64,
+) -> Result<bool, Starved> {
+    heap.refuse_after(growths);
+    kept.keep("a", RType::A, shape, 10, 0)?;
+    heap.refuse_after(u64::MAX);
+    Ok(!kept.goes(ERROR)?)
+}
+
+// A cache that keeps the name's error.
+fn with_error<A: Heap>(alloc: A) -> Result<Kept<A>, Starved> {
+    let mut kept = empty(alloc, 2)?;
+    kept.keep("a", RType::A, Shape::NameError, 60, 0)?;
+    Ok(kept)
+}
+
+// Whether a `keep` of that link takes so many growths and no more, and the name's error stays as it is until none
+// of them is refused.
+fn is_kept_whole<B: Allocator>(
+    heap: &Refusing<B>,
+    shape: Shape,
+    growths: u64,
+) -> Result<bool, Starved> {
+    let mut kept = with_error(heap)?;
+    let change = first_change(heap, &mut kept, shape, growths);
+    let is_replaced = replaces(heap, &mut kept, shape, growths);
+    drop(kept);
+    Ok(change?.is_none() && is_replaced?)
+}
+
+// Links, and how many growths a `keep` of each takes.
+const REFUSED: &[(Shape, u64)] = &[(ADDRESS, 6), (Shape::TwoAddresses, 11), (Shape::NoData, 10)];
+
+fn first_spoilt<B: Allocator>(
+    heap: &Refusing<B>,
+    rows: &[(Shape, u64)],
+) -> Result<Option<usize>, Starved> {
+    for (place, (shape, growths)) in rows.iter().enumerate() {
+        if !is_kept_whole(heap, *shape, *growths)? {
+            return Ok(Some(place));
+        }
+    }
+    Ok(None)
+}
+
+#[test]
+fn a_refused_link_changes_nothing(rt: HostRuntime) -> Result<(), Fail> {
+    let heap = Refusing::new(rt.alloc());
+    assert_eq!(rt; first_spoilt(&heap, REFUSED)?, None);
+    Ok(())
+}

@@ -1,0 +1,480 @@
+use crate::shared::{capacity, cut_of};
+use dname::{Heap, Name, Starved};
+use fixtures::{Row, Value, address, name};
+use frames::{Failed, Frame, trimmed};
+use lru::DefaultHasher;
+use rdata::Addr;
+use referral::Cut;
+use refusing::Refusing;
+use retry::Penalties;
+use std::alloc::Allocator;
+use std::hash::BuildHasherDefault;
+use std::test::Fail;
+
+// What is done with a frame, and what has to come of it.
+#[derive(Clone, Copy)]
+enum Step {
+    // So deep the look-up stands.
+    Nests(u8),
+    // So many addresses are known.
+    Knows(usize),
+    // So many names had no address at the start, and this is the last one of them.
+    Lacks(usize, &'static str),
+    // These addresses of 192.0.2.0/24 are asked next, by their last bytes.
+    Asks(&'static [u8]),
+    // The address that was asked last is waited for so many milliseconds.
+    Waits(u32),
+    // No address is left to ask.
+    Ends,
+    // These addresses are found; whether one of them is new.
+    Finds(&'static [Addr], bool),
+    // This name is looked up next.
+    LooksUp(&'static str),
+    // No name is left to look up.
+    GivesUp,
+}
+
+// A cut of example, the frame that is opened there, and what is done with it.
+#[derive(Clone, Copy)]
+struct Case {
+    servers: &'static [Row<'static>],
+    // Addresses, each with its server's name.
+    glue: &'static [Row<'static>],
+    // Whether the cut is trimmed first.
+    trims: bool,
+    nesting: u8,
+    // The address that was silent before.
+    silent: Option<u8>,
+    // Names whose look-up failed, each with the nesting of that look-up.
+    failed: &'static [(&'static str, u8)],
+    steps: &'static [Step],
+}
+
+// A cut without servers.
+const EMPTY: Case = Case {
+    servers: &[],
+    glue: &[],
+    trims: false,
+    nesting: 0,
+    silent: None,
+    failed: &[],
+    steps: &[],
+};
+
+fn no_penalties<A: Heap>(alloc: A) -> Result<Penalties<DefaultHasher, A>, Starved> {
+    Penalties::new(alloc, capacity(100)?, BuildHasherDefault::new())
+}
+
+fn penalties<A: Heap>(
+    alloc: A,
+    silent: Option<u8>,
+) -> Result<Penalties<DefaultHasher, A>, Starved> {
+    let mut penalties = no_penalties(alloc)?;
+    if let Some(last) = silent {
+        penalties.timed_out(address(last))?;
+    }
+    Ok(penalties)
+}
+
+fn mark<A: Heap>(failed: &mut Failed<A>, alloc: A, text: &str, nesting: u8) -> Result<(), Starved> {
+    let name = name(alloc, text)?;
+    failed.mark(&name, nesting)
+}
+
+fn failures<A: Heap>(alloc: A, rows: &[(&str, u8)]) -> Result<Failed<A>, Starved> {
+    let mut failed = Failed::new(alloc);
+    for (text, nesting) in rows {
+        mark(&mut failed, alloc, *text, *nesting)?;
+    }
+    Ok(failed)
+}
+
+impl Case {
+    fn cut<A: Heap>(&self, alloc: A) -> Result<Cut<A>, Starved> {
+        let whole = cut_of(alloc, "example", self.servers, self.glue)?;
+        if self.trims {
+            return trimmed(alloc, &whole);
+        }
+        Ok(whole)
+    }
+
+    fn open<A: Heap>(&self, alloc: A) -> Result<Frame<A>, Starved> {
+        let cut = self.cut(alloc)?;
+        let penalties = penalties(alloc, self.silent)?;
+        Frame::start(alloc, &cut, self.nesting, &penalties)
+    }
+
+    // The place of the first step of which something else comes.
+    fn first_wrong<A: Heap>(&self, alloc: A) -> Result<Option<usize>, Starved> {
+        let failed = failures(alloc, self.failed)?;
+        let mut frame = self.open(alloc)?;
+        first_wrong_step(alloc, &mut frame, &failed, self.steps)
+    }
+}
+
+fn ends_with<A: Heap>(names: &[Name<A>], expected: &Name<A>) -> bool {
+    matches!(names, [.., last] if last == expected)
+}
+
+fn is_last<A: Heap>(alloc: A, names: &[Name<A>], expected: &str) -> Result<bool, Starved> {
+    let expected = name(alloc, expected)?;
+    Ok(ends_with(names, &expected))
+}
+
+fn asks<A: Heap>(frame: &mut Frame<A>, lasts: &[u8]) -> bool {
+    for last in lasts {
+        if frame.next_address() != Some(address(*last)) {
+            return false;
+        }
+    }
+    true
+}
+
+// Whether one of those that are found is new.
+fn add<A: Heap>(alloc: A, frame: &mut Frame<A>, found: &[Addr]) -> Result<bool, Starved> {
+    let penalties = no_penalties(alloc)?;
+    frame.add(found, &penalties)
+}
+
+// Whether the name whose turn it is is this one.
+fn gives<A: Heap>(
+    alloc: A,
+    frame: &mut Frame<A>,
+    failed: &Failed<A>,
+    expected: &str,
+) -> Result<bool, Starved> {
+    let expected = name(alloc, expected)?;
+    match frame.next_name(failed)? {
+        Some(name) => Ok(name == expected),
+        None => Ok(false),
+    }
+}
+
+fn gives_none<A: Heap>(frame: &mut Frame<A>, failed: &Failed<A>) -> Result<bool, Starved> {
+    match frame.next_name(failed)? {
+        Some(_) => Ok(false),
+        None => Ok(true),
+    }
+}
+
+fn goes<A: Heap>(
+    alloc: A,
+    frame: &mut Frame<A>,
+    failed: &Failed<A>,
+    step: Step,
+) -> Result<bool, Starved> {
+    match step {
+        Step::Nests(nesting) => Ok(frame.nesting() == nesting),
+        Step::Knows(count) => Ok(frame.addresses().len() == count),
+        Step::Lacks(count, last) => {
+            let unknown = frame.unknown_names();
+            Ok(unknown.len() == count && is_last(alloc, unknown, last)?)
+        }
+        Step::Asks(lasts) => Ok(asks(frame, lasts)),
+        Step::Waits(time) => Ok(frame.wait_ms() == time),
+        Step::Ends => Ok(frame.next_address().is_none()),
+        Step::Finds(found, is_new) => Ok(add(alloc, frame, found)? == is_new),
+        Step::LooksUp(text) => Ok(gives(alloc, frame, failed, text)?),
+        Step::GivesUp => Ok(gives_none(frame, failed)?),
+    }
+}
+
+fn first_wrong_step<A: Heap>(
+    alloc: A,
+    frame: &mut Frame<A>,
+    failed: &Failed<A>,
+    steps: &[Step],
+) -> Result<Option<usize>, Starved> {
+    for (place, step) in steps.iter().enumerate() {
+        if !goes(alloc, frame, failed, *step)? {
+            return Ok(Some(place));
+        }
+    }
+    Ok(None)
+}
+
+// The first case that goes wrong, and the step in it.
+fn first_wrong<A: Heap>(alloc: A, cases: &[Case]) -> Result<Option<(usize, usize)>, Starved> {
+    for (place, case) in cases.iter().enumerate() {
+        if let Some(step) = case.first_wrong(alloc)? {
+            return Ok(Some((place, step)));
+        }
+    }
+    Ok(None)
+}
+
+// Sixteen of seventeen names and of seventeen addresses are taken; they are asked in the order of the cut.
+const SEVENTEEN: Case = Case {
+    servers: &[
+        ("example", 60, Value::Ns("a.net")),
+        ("example", 60, Value::Ns("b.net")),
+        ("example", 60, Value::Ns("c.net")),
+        ("example", 60, Value::Ns("d.net")),
+        ("example", 60, Value::Ns("e.net")),
+        ("example", 60, Value::Ns("f.net")),
+        ("example", 60, Value::Ns("g.net")),
+        ("example", 60, Value::Ns("h.net")),
+        ("example", 60, Value::Ns("i.net")),
+        ("example", 60, Value::Ns("j.net")),
+        ("example", 60, Value::Ns("k.net")),
+        ("example", 60, Value::Ns("l.net")),
+        ("example", 60, Value::Ns("m.net")),
+        ("example", 60, Value::Ns("n.net")),
+        ("example", 60, Value::Ns("o.net")),
+        ("example", 60, Value::Ns("p.net")),
+        ("example", 60, Value::Ns("q.net")),
+    ],
+    glue: &[
+        ("x.net", 60, Value::A(0)),
+        ("x.net", 60, Value::A(1)),
+        ("x.net", 60, Value::A(2)),
+        ("x.net", 60, Value::A(3)),
+        ("x.net", 60, Value::A(4)),
+        ("x.net", 60, Value::A(5)),
+        ("x.net", 60, Value::A(6)),
+        ("x.net", 60, Value::A(7)),
+        ("x.net", 60, Value::A(8)),
+        ("x.net", 60, Value::A(9)),
+        ("x.net", 60, Value::A(10)),
+        ("x.net", 60, Value::A(11)),
+        ("x.net", 60, Value::A(12)),
+        ("x.net", 60, Value::A(13)),
+        ("x.net", 60, Value::A(14)),
+        ("x.net", 60, Value::A(15)),
+        ("x.net", 60, Value::A(16)),
+    ],
+    nesting: 2,
+    steps: &[
+        Step::Lacks(16, "p.net"),
+        Step::Nests(2),
+        Step::Knows(16),
+        Step::Asks(&[0, 1, 2, 3, 4, 5, 6, 7, 8, 9, 10, 11, 12, 13, 14, 15]),
+        Step::Asks(&[0]),
+    ],
+    ..EMPTY
+};
+
+// The first server's address is the seventeenth, the second one's is also the third one's. Servers of taken
+// addresses are known.
+const LATE: Case = Case {
+    servers: &[
+        ("example", 60, Value::Ns("a.net")),
+        ("example", 60, Value::Ns("b.net")),
+    ],
+    glue: &[
+        ("c.net", 60, Value::A(1)),
+        ("b.net", 60, Value::A(1)),
+        ("x.net", 60, Value::A(2)),
+        ("x.net", 60, Value::A(3)),
+        ("x.net", 60, Value::A(4)),
+        ("x.net", 60, Value::A(5)),
+        ("x.net", 60, Value::A(6)),
+        ("x.net", 60, Value::A(7)),
+        ("x.net", 60, Value::A(8)),
+        ("x.net", 60, Value::A(9)),
+        ("x.net", 60, Value::A(10)),
+        ("x.net", 60, Value::A(11)),
+        ("x.net", 60, Value::A(12)),
+        ("x.net", 60, Value::A(13)),
+        ("x.net", 60, Value::A(14)),
+        ("x.net", 60, Value::A(15)),
+        ("x.net", 60, Value::A(16)),
+        ("a.net", 60, Value::A(17)),
+    ],
+    steps: &[Step::Knows(16), Step::Lacks(1, "a.net")],
+    ..EMPTY
+};
+
+// It opens the same frame.
+const TRIMMED: Case = Case {
+    trims: true,
+    ..LATE
+};
+
+const FIVE: &[Row<'static>] = &[
+    ("example", 60, Value::Ns("ns.example")),
+    ("example", 60, Value::Ns("a.net")),
+    ("example", 60, Value::Ns("b.net")),
+    ("example", 60, Value::Ns("c.net")),
+    ("example", 60, Value::Ns("d.net")),
+];
+
+// Names that lead nowhere are skipped.
+const FAILED: Case = Case {
+    servers: FIVE,
+    nesting: 1,
+    failed: &[("a.net", 1), ("b.net", 2), ("c.net", 3)],
+    steps: &[
+        Step::LooksUp("c.net"),
+        Step::LooksUp("d.net"),
+        Step::GivesUp,
+    ],
+    ..EMPTY
+};
+
+// No name is looked up four deep.
+const DEEPEST: Case = Case {
+    servers: FIVE,
+    nesting: 3,
+    steps: &[Step::GivesUp],
+    ..EMPTY
+};
+
+// Two addresses, one of them twice; the first one's server was silent. They are asked by their penalties.
+const SILENT: Case = Case {
+    glue: &[
+        ("a.net", 60, Value::A(1)),
+        ("b.net", 60, Value::A(2)),
+        ("c.net", 60, Value::A(1)),
+    ],
+    silent: Some(1),
+    steps: &[
+        Step::Asks(&[2, 1]),
+        Step::Waits(1_000),
+        Step::Asks(&[2]),
+        Step::Waits(2_000),
+        Step::Asks(&[1]),
+        Step::Ends,
+    ],
+    ..EMPTY
+};
+
+// Addresses that are new make a new plan.
+const FOUND: Case = Case {
+    steps: &[
+        Step::Asks(&[2]),
+        Step::Finds(&[Addr([192, 0, 2, 1])], false),
+        Step::Asks(&[1]),
+        Step::Finds(
+            &[
+                Addr([192, 0, 2, 4]),
+                Addr([192, 0, 2, 1]),
+                Addr([192, 0, 2, 3]),
+                Addr([192, 0, 2, 4]),
+            ],
+            true,
+        ),
+        Step::Knows(4),
+        Step::Asks(&[4, 3, 4, 3]),
+        Step::Ends,
+    ],
+    ..SILENT
+};
+
+const CASES: &[Case] = &[SEVENTEEN, LATE, TRIMMED, FAILED, DEEPEST, SILENT, FOUND];
+
+#[test]
+fn frames_go_as_was_worked(rt: HostRuntime) -> Result<(), Fail> {
+    assert_eq!(rt; first_wrong(rt.alloc(), CASES)?, None);
+    Ok(())
+}
+
+// How many names and how many addresses the cut has.
+fn sizes_of<A: Heap>(cut: &Cut<A>) -> (usize, usize) {
+    (cut.names.as_slice().len(), cut.addresses.as_slice().len())
+}
+
+fn sizes<A: Heap>(alloc: A, case: &Case) -> Result<(usize, usize), Starved> {
+    let cut = case.cut(alloc)?;
+    Ok(sizes_of(&cut))
+}
+
+// One address is kept twice, for two of the servers that have it; the seventeenth one not at all.
+#[test]
+fn a_cut_is_trimmed(rt: HostRuntime) -> Result<(), Fail> {
+    assert_eq!(rt; sizes(rt.alloc(), &TRIMMED)?, (2, 17));
+    Ok(())
+}
+
+// The addresses 10.0.0.0, 10.0.0.1 and so on, as many as are counted.
+fn push_round<A: Heap>(found: &mut Vec<Addr, A>, count: u16) -> Result<(), Starved> {
+    for n in 0..count {
+        let [high, low] = n.to_be_bytes();
+        found.push(Addr([10, 0, high, low]))?;
+    }
+    Ok(())
+}
+
+// The same addresses five times over.
+fn five_rounds<A: Heap>(alloc: A, count: u16) -> Result<Vec<Addr, A>, Starved> {
+    let mut found = Vec::new(alloc);
+    for _ in 0..5 {
+        push_round(&mut found, count)?;
+    }
+    Ok(found)
+}
+
+const TWO: &[Addr] = &[Addr([10, 0, 3, 231]), Addr([10, 0, 0, 1])];
+
+// Whether the first and the third of the thousand are asked next.
+fn asks_others<A: Heap>(frame: &mut Frame<A>) -> bool {
+    let first = frame.next_address();
+    let third = frame.next_address();
+    first == Some(Addr([10, 0, 0, 0])) && third == Some(Addr([10, 0, 0, 2]))
+}
+
+// Whether the thousand addresses are taken once where TWO of them are known, and none where all are.
+fn takes_once<A: Heap>(alloc: A, frame: &mut Frame<A>, thousand: &[Addr]) -> Result<bool, Starved> {
+    let is_new = add(alloc, frame, thousand)?;
+    let is_asked = frame.addresses().len() == 1_000 && asks_others(frame);
+    Ok(is_new && is_asked && !add(alloc, frame, thousand)?)
+}
+
+fn are_taken_once<A: Heap>(alloc: A) -> Result<bool, Starved> {
+    let thousand = five_rounds(alloc, 1_000)?;
+    let mut frame = EMPTY.open(alloc)?;
+    let is_new = add(alloc, &mut frame, TWO);
+    let is_taken = takes_once(alloc, &mut frame, &thousand);
+    drop(frame);
+    drop(thousand);
+    Ok(is_new? && is_taken?)
+}
+
+#[test]
+fn addresses_that_come_often_are_taken_once(rt: HostRuntime) -> Result<(), Fail> {
+    assert!(rt; are_taken_once(rt.alloc())?);
+    Ok(())
+}
+
+// A name and many addresses of a trimmed cut.
+const PLAYED: Case = Case {
+    trims: true,
+    steps: &[Step::LooksUp("c.net")],
+    ..FAILED
+};
+
+fn add_twenty<A: Heap>(alloc: A, frame: &mut Frame<A>) -> Result<bool, Starved> {
+    let found = five_rounds(alloc, 20)?;
+    add(alloc, frame, &found)
+}
+
+// Whether one of twenty addresses is new to the frame.
+fn finds_new<A: Heap>(alloc: A) -> Result<bool, Starved> {
+    let mut frame = PLAYED.open(alloc)?;
+    add_twenty(alloc, &mut frame)
+}
+
+fn play<A: Heap>(alloc: A) -> Result<bool, Starved> {
+    Ok(finds_new(alloc)? && PLAYED.first_wrong(alloc)?.is_none())
+}
+
+// The first growth whose refusal goes unsaid, or after which something else comes.
+fn first_unsaid<B: Allocator>(heap: &Refusing<B>, growths: u64) -> Option<u64> {
+    for n in 0..growths {
+        heap.refuse_after(n);
+        if play(heap).is_ok() || !matches!(play(heap), Ok(true)) {
+            return Some(n);
+        }
+    }
+    None
+}
+
+#[test]
+fn each_growth_is_refused_in_turn(rt: HostRuntime) -> Result<(), Fail> {
+    let heap = Refusing::new(rt.alloc());
+    assert!(rt; matches!(play(&heap), Ok(true)));
+    let growths = heap.growths();
+    assert!(rt; growths > 10);
+    assert_eq!(rt; first_unsaid(&heap, growths), None);
+    Ok(())
+}

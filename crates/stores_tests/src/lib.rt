@@ -1,0 +1,11 @@
+//! The tests of `cache`, `referral` and `frames`, from outside: by what they make public.
+#![tactic(auto)]
+
+#[cfg(test)]
+mod cache_tests;
+#[cfg(test)]
+mod frames_tests;
+#[cfg(test)]
+mod referral_tests;
+#[cfg(test)]
+mod shared;

@@ -1,0 +1,244 @@
+use crate::shared::{capacity, cut_of};
+use dname::{Heap, Name, Starved};
+use fixtures::{Row, Value, name};
+use lru::DefaultHasher;
+use rdata::Addr;
+use referral::{Cut, Delegations, ServerAddress};
+use refusing::Refusing;
+use std::alloc::{Allocator, Global};
+use std::hash::BuildHasherDefault;
+use std::test::Fail;
+
+// A zone with one server, which has this address.
+fn cut<A: Heap>(alloc: A, at: &str, last: u8) -> Result<Cut<A>, Starved> {
+    let servers = [(at, 60, Value::Ns("ns.example"))];
+    let glue = [("ns.example", 60, Value::A(last))];
+    cut_of(alloc, at, &servers, &glue)
+}
+
+fn last_byte<A: Heap>(addresses: &[ServerAddress<A>]) -> Option<u8> {
+    match addresses {
+        [server] => Some(server.address.0[3]),
+        _ => None,
+    }
+}
+
+// What delegations are told and asked, and what they have to say.
+#[derive(Clone, Copy)]
+enum Step {
+    // A cut whose server's address ends in this byte is kept for so many seconds from the moment 0 on.
+    Keep(&'static str, u8, u32),
+    // The last byte of the address of the best cut over a name at a moment, in milliseconds.
+    Best(&'static str, u64, Option<u8>),
+}
+
+// Delegations and the allocator that they stand on.
+#[derive(Drop)]
+struct Kept<A: Heap> {
+    alloc: A,
+    delegations: Delegations<DefaultHasher, A>,
+}
+
+fn empty<A: Heap>(alloc: A, room: usize) -> Result<Kept<A>, Starved> {
+    let delegations = Delegations::new(alloc, capacity(room)?, BuildHasherDefault::new())?;
+    Ok(Kept { alloc, delegations })
+}
+
+impl<A: Heap> Kept<A> {
+    fn keep(&mut self, at: &str, last: u8, ttl: u32) -> Result<(), Starved> {
+        let cut = cut(self.alloc, at, last)?;
+        self.delegations.keep(&cut, ttl, 0)
+    }
+
+    fn best_cut(&mut self, text: &str, now: u64) -> Result<Option<Cut<A>>, Starved> {
+        let name = name(self.alloc, text)?;
+        self.delegations.best(&name, now)
+    }
+
+    fn best(&mut self, text: &str, now: u64) -> Result<Option<u8>, Starved> {
+        match self.best_cut(text, now)? {
+            Some(cut) => Ok(last_byte(cut.addresses.as_slice())),
+            None => Ok(None),
+        }
+    }
+
+    fn goes(&mut self, step: Step) -> Result<bool, Starved> {
+        match step {
+            Step::Keep(at, last, ttl) => {
+                self.keep(at, last, ttl)?;
+                Ok(true)
+            }
+            Step::Best(text, now, last) => Ok(self.best(text, now)? == last),
+        }
+    }
+
+    // The place of the first step of which something else comes.
+    fn first_wrong(&mut self, steps: &[Step]) -> Result<Option<usize>, Starved> {
+        for (place, step) in steps.iter().enumerate() {
+            if !self.goes(*step)? {
+                return Ok(Some(place));
+            }
+        }
+        Ok(None)
+    }
+}
+
+// How many cuts there is room for, and what the delegations are told and asked.
+type Case = (usize, &'static [Step]);
+
+fn first_wrong_step<A: Heap>(alloc: A, case: Case) -> Result<Option<usize>, Starved> {
+    let (room, steps) = case;
+    let mut kept = empty(alloc, room)?;
+    kept.first_wrong(steps)
+}
+
+// The first case that goes wrong, and the step in it.
+fn first_wrong<A: Heap>(alloc: A, cases: &[Case]) -> Result<Option<(usize, usize)>, Starved> {
+    for (place, case) in cases.iter().enumerate() {
+        if let Some(step) = first_wrong_step(alloc, *case)? {
+            return Ok(Some((place, step)));
+        }
+    }
+    Ok(None)
+}
+
+const THE_DEEPEST_LIVE_CUT_IS_BEST: Case = (
+    9,
+    &[
+        Step::Keep("example", 1, 60),
+        Step::Keep("sub.example", 2, 10),
+        Step::Best("www.sub.example", 9_999, Some(2)),
+        Step::Best("sub.example", 9_999, Some(2)),
+        Step::Best("www.sub.example", 10_000, Some(1)),
+        Step::Best("other", 0, None),
+        Step::Keep(".", 3, 60),
+        Step::Best("other", 0, Some(3)),
+    ],
+);
+
+const TTL_ZERO_FORGETS_A_CUT: Case = (
+    9,
+    &[
+        Step::Keep("example", 1, 60),
+        Step::Keep("sub.example", 2, 60),
+        Step::Keep("sub.example", 2, 0),
+        Step::Best("sub.example", 0, Some(1)),
+    ],
+);
+
+const THE_LEAST_USED_CUT_GOES: Case = (
+    2,
+    &[
+        Step::Keep("a", 1, 60),
+        Step::Keep("b", 2, 60),
+        Step::Best("x.a", 0, Some(1)),
+        Step::Keep("c", 3, 60),
+        Step::Best("x.b", 0, None),
+        Step::Best("x.a", 0, Some(1)),
+    ],
+);
+
+const CASES: &[Case] = &[
+    THE_DEEPEST_LIVE_CUT_IS_BEST,
+    TTL_ZERO_FORGETS_A_CUT,
+    THE_LEAST_USED_CUT_GOES,
+];
+
+#[test]
+fn cuts_are_kept_as_was_worked(rt: HostRuntime) -> Result<(), Fail> {
+    assert_eq!(rt; first_wrong(rt.alloc(), CASES)?, None);
+    Ok(())
+}
+
+// The delegation of a zone to two servers, of which one has an address of each kind.
+const SERVERS: &[Row<'static>] = &[
+    ("example", 300, Value::Ns("ns1.example")),
+    ("example", 300, Value::Ns("ns2.other")),
+];
+
+const GLUE: &[Row<'static>] = &[
+    ("ns1.example", 300, Value::Aaaa),
+    ("ns1.example", 300, Value::A(1)),
+];
+
+// Whether the second of two names is this one.
+fn is_second<A: Heap>(names: &[Name<A>], expected: &Name<A>) -> bool {
+    matches!(names, [_, second] if second == expected)
+}
+
+// Whether it is a cut there, with two servers, of which this is the second, and one address, of this last byte.
+fn is_cut<A: Heap>(
+    alloc: A,
+    cut: &Cut<A>,
+    at: &str,
+    second: &str,
+    last: u8,
+) -> Result<bool, Starved> {
+    let at = name(alloc, at)?;
+    let second = name(alloc, second)?;
+    let is_there = cut.at == at && is_second(cut.names.as_slice(), &second);
+    Ok(is_there && last_byte(cut.addresses.as_slice()) == Some(last))
+}
+
+fn is_made_of_records<A: Heap>(alloc: A) -> Result<bool, Starved> {
+    let cut = cut_of(alloc, "example", SERVERS, GLUE)?;
+    is_cut(alloc, &cut, "example", "ns2.other", 1)
+}
+
+#[test]
+fn a_cut_is_made_of_records(rt: HostRuntime) -> Result<(), Fail> {
+    assert!(rt; is_made_of_records(rt.alloc())?);
+    Ok(())
+}
+
+// Whether the cut is one there, without names.
+fn is_bare<A: Heap>(cut: &Cut<A>, at: &Name<A>) -> bool {
+    cut.at == *at && cut.names.as_slice().is_empty()
+}
+
+// Whether the cut of these hints is the root's, without names; and the last byte of its address.
+fn of_hints(alloc: Global, hints: &[Addr]) -> Result<(bool, Option<u8>), Starved> {
+    let root = name(alloc, ".")?;
+    let cut = Cut::of_hints(alloc, hints)?;
+    Ok((is_bare(&cut, &root), last_byte(cut.addresses.as_slice())))
+}
+
+#[test]
+fn hints_make_a_cut_at_the_root(rt: HostRuntime) -> Result<(), Fail> {
+    let hints = &[Addr([198, 41, 0, 4])];
+    assert_eq!(rt; of_hints(rt.alloc(), hints)?, (true, Some(4)));
+    Ok(())
+}
+
+const PLAYED: Case = (
+    2,
+    &[
+        Step::Keep("example", 1, 60),
+        Step::Best("www.example", 0, Some(1)),
+    ],
+);
+
+fn play<A: Heap>(alloc: A) -> Result<bool, Starved> {
+    Ok(first_wrong_step(alloc, PLAYED)?.is_none())
+}
+
+// The first growth whose refusal goes unsaid, or after which something else comes.
+fn first_unsaid<B: Allocator>(heap: &Refusing<B>, growths: u64) -> Option<u64> {
+    for n in 0..growths {
+        heap.refuse_after(n);
+        if play(heap).is_ok() || !matches!(play(heap), Ok(true)) {
+            return Some(n);
+        }
+    }
+    None
+}
+
+#[test]
+fn each_growth_is_refused_in_turn(rt: HostRuntime) -> Result<(), Fail> {
+    let heap = Refusing::new(rt.alloc());
+    assert!(rt; matches!(play(&heap), Ok(true)));
+    let growths = heap.growths();
+    assert!(rt; growths > 10);
+    assert_eq!(rt; first_unsaid(&heap, growths), None);
+    Ok(())
+}

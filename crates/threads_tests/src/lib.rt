@@ -1,0 +1,9 @@
+//! The tests of `book`, `pool` and `crew`, from outside: by what they make public.
+#![tactic(auto)]
+
+#[cfg(test)]
+mod book_tests;
+#[cfg(test)]
+mod crew_tests;
+#[cfg(test)]
+mod pool_tests;

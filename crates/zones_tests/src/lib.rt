@@ -1,0 +1,9 @@
+//! The tests of `zone`, `authority` and `masterfile`, from outside: by what they make public.
+#![tactic(auto)]
+
+#[cfg(test)]
+mod authority_tests;
+#[cfg(test)]
+mod masterfile_tests;
+#[cfg(test)]
+mod zone_tests;
