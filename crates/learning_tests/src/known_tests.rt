@@ -52,7 +52,7 @@ fn catalog<A: Heap>(alloc: A) -> Result<Catalog<A>, Starved> {
 
 fn home<A: Heap>(alloc: A) -> Result<Home<A>, Starved> {
     let catalog = catalog(alloc)?;
-    Ok(Home::new(alloc, catalog, &[HINT])?)
+    Home::new(alloc, catalog, &[HINT])
 }
 
 fn hasher() -> DefaultHasher {
@@ -71,7 +71,7 @@ fn stores<A: Heap>(alloc: A) -> Result<Stores<DefaultHasher, A>, Starved> {
         cuts: hasher(),
         servers: hasher(),
     };
-    Ok(Stores::new(alloc, capacities, hashers)?)
+    Stores::new(alloc, capacities, hashers)
 }
 
 // A resolver that has asked nobody.
@@ -93,7 +93,7 @@ fn fresh<A: Heap>(alloc: A) -> Result<Resolver<A>, Starved> {
 impl<A: Heap> Resolver<A> {
     fn find(&mut self, asked: &str, now: u64) -> Result<Found<A>, Starved> {
         let asked = name(self.alloc, asked)?;
-        Ok(self.find_name(&asked, now)?)
+        self.find_name(&asked, now)
     }
 
     fn find_name(&mut self, asked: &Name<A>, now: u64) -> Result<Found<A>, Starved> {
@@ -114,12 +114,12 @@ impl<A: Heap> Resolver<A> {
     // Whether servers of a name are sought at this cut.
     fn starts(&mut self, asked: &str, at: &str, now: u64) -> Result<bool, Starved> {
         let at = name(self.alloc, at)?;
-        Ok(self.starts_at(asked, &at, now)?)
+        self.starts_at(asked, &at, now)
     }
 
     fn keep(&mut self, owner: &str, link: &Link<A>, now: u64) -> Result<(), Starved> {
         let at = name(self.alloc, owner)?;
-        Ok(self.stores.keep_link(&at, RType::A, link, now)?)
+        self.stores.keep_link(&at, RType::A, link, now)
     }
 
     // Keeps an address that lives for five seconds.
@@ -130,7 +130,7 @@ impl<A: Heap> Resolver<A> {
 
     fn learn_cut(&mut self, at: &str, ttl: u32, now: u64) -> Result<(), Starved> {
         let cut = cut(self.alloc, at)?;
-        Ok(self.stores.keep_cut(self.alloc, &cut, ttl, now)?)
+        self.stores.keep_cut(self.alloc, &cut, ttl, now)
     }
 }
 
@@ -173,7 +173,7 @@ fn cut<A: Heap>(alloc: A, at: &str) -> Result<Cut<A>, Starved> {
     let at = name(alloc, at)?;
     let servers = Records::new(alloc);
     let glue = records(alloc, GLUE)?;
-    Ok(cut_of(alloc, at, servers.as_slice(), glue.as_slice())?)
+    cut_of(alloc, at, servers.as_slice(), glue.as_slice())
 }
 
 // What is done with a resolver that has asked nobody, and what has to come of it.
@@ -203,7 +203,7 @@ impl<A: Heap> Resolver<A> {
             Step::Known(asked, now, address, ttl) => {
                 Ok(self.known(asked, now)? == Some((address, ttl)))
             }
-            Step::Starts(asked, now, at) => Ok(self.starts(asked, at, now)?),
+            Step::Starts(asked, now, at) => self.starts(asked, at, now),
         }
     }
 }
@@ -211,7 +211,7 @@ impl<A: Heap> Resolver<A> {
 // The place of the first of these steps of which something else comes.
 fn first_wrong<A: Heap>(alloc: A, steps: &[Step]) -> Result<Option<usize>, Starved> {
     let mut resolver = fresh(alloc)?;
-    Ok(first_wrong_with(&mut resolver, steps)?)
+    first_wrong_with(&mut resolver, steps)
 }
 
 fn first_wrong_with<A: Heap>(
@@ -281,7 +281,7 @@ fn names_are_found_as_was_worked(rt: HostRuntime) -> Result<(), Fail> {
 // A frame at the cut.
 fn open<A: Heap>(alloc: A, stores: &Stores<DefaultHasher, A>) -> Result<Frame<A>, Starved> {
     let cut = cut(alloc, "test")?;
-    Ok(stores.open(alloc, &cut, 0)?)
+    stores.open(alloc, &cut, 0)
 }
 
 fn first_asked<A: Heap>(
@@ -294,7 +294,7 @@ fn first_asked<A: Heap>(
 
 fn hint<A: Heap>(alloc: A) -> Result<Vec<Addr, A>, Starved> {
     let set = alone(alloc, ("ns.test", 60, Value::A(3)))?;
-    Ok(found_addresses(alloc, &set)?)
+    found_addresses(alloc, &set)
 }
 
 fn asked_after<A: Heap>(
@@ -314,7 +314,7 @@ fn asked_once_found<A: Heap>(
 ) -> Result<Option<Addr>, Starved> {
     let found = hint(alloc)?;
     let mut frame = open(alloc, stores)?;
-    Ok(asked_after(&mut frame, stores, &found)?)
+    asked_after(&mut frame, stores, &found)
 }
 
 fn asked_of<A: Heap>(
@@ -332,7 +332,7 @@ fn asked_of<A: Heap>(
 // Whom frames ask first after LOCAL was silent, and after it answered twice; and next, once HINT was found.
 fn asked<A: Heap>(alloc: A) -> Result<[Option<Addr>; 3], Starved> {
     let mut stores = stores(alloc)?;
-    Ok(asked_of(alloc, &mut stores)?)
+    asked_of(alloc, &mut stores)
 }
 
 // They are asked by their penalties, and found ones join them.
@@ -410,6 +410,10 @@ fn each_growth_is_refused_in_turn(rt: HostRuntime) -> Result<(), Fail> {
     Ok(())
 }
 
+fn is_known<A: Heap>(found: &Found<A>) -> bool {
+    matches!(found, Found::Known(_))
+}
+
 // How many growths the look-up of a known name takes.
 fn growths_of<'a, B: Allocator>(
     heap: &'a Refusing<B>,
@@ -417,10 +421,9 @@ fn growths_of<'a, B: Allocator>(
     asked: &Name<&'a Refusing<B>>,
 ) -> Result<Option<u64>, Starved> {
     let before = heap.growths();
-    match resolver.find_name(asked, 0)? {
-        Found::Known(_) => Ok(Some(heap.growths().saturating_sub(before))),
-        Found::Start(_) => Ok(None),
-    }
+    let found = resolver.find_name(asked, 0)?;
+    let growths = heap.growths().saturating_sub(before);
+    Ok(is_known(&found).then_some(growths))
 }
 
 fn growths_once_learnt<'a, B: Allocator>(
@@ -429,14 +432,14 @@ fn growths_once_learnt<'a, B: Allocator>(
     asked: &Name<&'a Refusing<B>>,
 ) -> Result<Option<u64>, Starved> {
     resolver.learn("www.test", 0)?;
-    Ok(growths_of(heap, resolver, asked)?)
+    growths_of(heap, resolver, asked)
 }
 
 // How many growths a cached answer of one address takes.
 fn growths_of_find<B: Allocator>(heap: &Refusing<B>) -> Result<Option<u64>, Starved> {
     let asked = name(heap, "www.test")?;
     let mut resolver = fresh(heap)?;
-    Ok(growths_once_learnt(heap, &mut resolver, &asked)?)
+    growths_once_learnt(heap, &mut resolver, &asked)
 }
 
 #[test]
