@@ -6,8 +6,7 @@ use Rattle.std.proofs.lemmas.Bool.Decides.{nat_tests}
 use Rattle.dname.specs.Labels.{wire, folded, folded_label, AreFolded, AreLabels, IsLabel}
 use Rattle.dname.specs.Wire.{labels_of, IsNameWire}
 use Rattle.dname.specs.Laws.{labels_of-wire}
-use Rattle.dname.specs.Draft.{Draft, IsDraft, AllLabels, empty_draft, shut, labelled}
-use Rattle.dname.specs.declared.builder.Overflow.TheVariants.{LongName}
+use Rattle.dname.specs.Draft.{Draft, IsDraft, AllLabels, empty_draft, shut}
 use Rattle.dname.specs.Written.{written, draft_of, IsWritten}
 use Rattle.std.proofs.lemmas.List.{length-map}
 use Rattle.dname.proofs.Split.{wire_is}
@@ -156,47 +155,3 @@ finish_names bytes start d h e o =
     let opened : (draft_of bytes start).opened ≡ [] = ap (λ (x : Draft). x.opened) e ∙ o in
     subst (λ (x : Draft). Names bytes (x.closed ++ [] ∷ [])) e
     (named (draft_of bytes start).closed bytes h.draft.labels h.draft.room (h.all ∙ ap (λ (x : List ℕ). wire (draft_of bytes start).closed ++ 0 ∷ x) opened))
-
--- A whole label, in lower case, in the open label's place.
-all_folded : (l : List ℕ) → ((i : ℕ) → get_or l i 0 < 256) → AreFolded (folded_label l)
-all_folded [] h = tt
-all_folded (b ∷ l) h = (folded_fits b (h 0), folded_twice b, all_folded l (λ i. h (suc i)))
-
-pub labelled_writes : (bytes label : List ℕ) (start : ℕ) (d : Draft) (new : List ℕ) → IsWritten bytes start → draft_of bytes start ≡ d → d.opened ≡ [] → ((i : ℕ) → get_or label i 0 < 256) → length label < 64
-    → length bytes + length label < 255 → new ≡ bytes ++ folded_label label → Writes new start (record { closed = d.closed; opened = folded_label label })
-labelled_writes bytes label start d new h e o fit few room en =
-    let opened : (draft_of bytes start).opened ≡ [] = ap (λ (x : Draft). x.opened) e ∙ o in
-    let s = written_size bytes start h in
-    let none : length (draft_of bytes start).opened ≡ 0 = ap length opened in
-    let same : length (folded_label label) ≡ length label = length-map label folded in
-    let all : new ≡ wire (draft_of bytes start).closed ++ 0 ∷ folded_label label =
-    en ∙ (ap (λ (x : List ℕ). x ++ folded_label label) (h.all ∙ ap (λ (x : List ℕ). wire (draft_of bytes start).closed ++ 0 ∷ x) opened) ∙ append_assoc (wire (draft_of bytes start).closed) (0 ∷ []) (folded_label label)) in
-    subst (λ (x : Draft). Writes new start (record { closed = x.closed; opened = folded_label label })) e
-    (writes (record { closed = (draft_of bytes start).closed; opened = folded_label label }) new start
-    (record { labels = h.draft.labels; folded_bytes = all_folded label fit; short = omega arith; room = h.draft.room; open_room = λ _. omega arith }) all h.begins)
-
-pub closed_writes : (bytes label : List ℕ) (start next : ℕ) (d : Draft) (grown new : List ℕ) → IsWritten bytes start → draft_of bytes start ≡ d → d.opened ≡ []
-    → ((i : ℕ) → get_or label i 0 < 256) → 0 < length label → length label < 64 → length bytes + length label < 255
-    → grown ≡ bytes ++ folded_label label ++ 0 ∷ [] → new ≡ slice_set grown start (length label) → next ≡ length grown - 1
-    → Writes new next (record { closed = d.closed ++ folded_label label ∷ []; opened = [] })
-closed_writes bytes label start next d grown new h e o fit some few room eg en el =
-    let open_part : Writes (bytes ++ folded_label label) start (record { closed = d.closed; opened = folded_label label }) = labelled_writes bytes label start d (bytes ++ folded_label label) h e o fit few room refl in
-    let size : length (folded_label label) ≡ length label = length-map label folded in
-    let its : length (draft_of (bytes ++ folded_label label) start).opened ≡ length label = ap (λ (x : Draft). length x.opened) open_part.same ∙ size in
-    let whole = written_size (bytes ++ folded_label label) start open_part.good in
-    let b = open_part.good.begins in
-    let more : length grown ≡ length (bytes ++ folded_label label) + 1 = ap length eg ∙ length-append (bytes ++ folded_label label) (0 ∷ []) in
-    let shut_part : Writes new next (shut (draft_of (bytes ++ folded_label label) start)) =
-    shut_writes (bytes ++ folded_label label) grown new start (length label) next open_part.good (omega arith) (omega arith) eg en (omega arith) in
-    record { good = shut_part.good; same = shut_part.same ∙ ap shut open_part.same }
-
-pub labelled_fits : (bytes label : List ℕ) (start : ℕ) (d : Draft) → IsWritten bytes start → draft_of bytes start ≡ d → d.opened ≡ [] → length bytes + length label < 255
-    → labelled d label ≡ Ok (record { closed = d.closed ++ folded_label label ∷ []; opened = [] })
-labelled_fits bytes label start d h e o room =
-    let s = written_size bytes start h in
-    let closed : length (wire (draft_of bytes start).closed) ≡ length (wire d.closed) = ap (λ (x : Draft). length (wire x.closed)) e in
-    let fits : nat_le 254 (length (wire d.closed) + length label) ≡ false = within (length (wire d.closed) + length label) (omega arith) in
-    ap (λ (b : Bool). cond b (Err LongName) (Ok (record { closed = d.closed ++ folded_label label ∷ []; opened = [] }))) fits
-  where
-    within : (n : ℕ) → n < 254 → nat_le 254 n ≡ false
-    within n k = grind (arith, nat_tests)

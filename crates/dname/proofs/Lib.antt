@@ -1,6 +1,7 @@
 pub mod Drafts
 pub mod Keyed
 pub mod Split
+pub mod Folds
 pub mod Under
 pub mod WrittenNames
 pub mod Origins

@@ -17,10 +17,6 @@ abbrev pub pushed : Draft → ℕ → Result Draft Overflow
 pushed d b = cond (nat_le 63 (length d.opened)) (Err LongLabel) (cond (nat_le 254 (length (wire d.closed) + 1 + length d.opened)) (Err LongName)
     (Ok (record { closed = d.closed; opened = d.opened ++ folded b ∷ [] })))
 
--- With a whole label more.
-abbrev pub labelled : Draft → List ℕ → Result Draft Overflow
-labelled d l = cond (nat_le 254 (length (wire d.closed) + length l)) (Err LongName) (Ok (record { closed = d.closed ++ folded_label l ∷ []; opened = [] }))
-
 -- The open label closed.
 abbrev pub shut : Draft → Draft
 shut d = record { closed = d.closed ++ d.opened ∷ []; opened = [] }

@@ -57,6 +57,12 @@ AreLabels [] = ⊥
 AreLabels (l ∷ []) = l ≡ []
 AreLabels (l ∷ m ∷ ls) = IsLabel l × AreLabels (m ∷ ls)
 
+-- Labels in any letters that end in the root's, and each other has 1 to 63 bytes.
+abbrev pub AreSpelled : List (List ℕ) → Type 0
+AreSpelled [] = ⊥
+AreSpelled (l ∷ []) = l ≡ []
+AreSpelled (l ∷ m ∷ ls) = (0 < length l) × (length l < 64) × AreSpelled (m ∷ ls)
+
 -- A name: at most 255 bytes with the length bytes and the closing zero (RFC 1035, section 2.3.4).
 pub record IsName (n : List (List ℕ)) : Type 0 where
   pub labels : AreLabels n

@@ -1,6 +1,6 @@
 -- Names as they are kept: in wire form, and read back from it.
 use Rattle.std.specs.Prelude.{◌≡◌, ℕ, zero, suc, ◌+◌, ◌<◌, ◌≤◌, List, [], ◌∷◌, ◌++◌, length, take}
-use Rattle.dname.specs.Labels.{wire, AreLabels}
+use Rattle.dname.specs.Labels.{wire, AreLabels, AreSpelled}
 
 -- The labels from a length byte on, after the given number of bytes that are passed over.
 abbrev pub labels_after : ℕ → List ℕ → List (List ℕ)
@@ -20,6 +20,12 @@ pub record IsWire (bs : List ℕ) : Type 0 where
 -- The wire form of a name.
 pub record IsNameWire (bs : List ℕ) : Type 0 where
   pub wire : IsWire bs
+  pub short : length bs ≤ 255
+
+-- The wire form of a name in any letters.
+pub record IsSpellingWire (bs : List ℕ) : Type 0 where
+  pub labels : AreSpelled (labels_of bs)
+  pub bytes : wire (labels_of bs) ≡ bs
   pub short : length bs ≤ 255
 
 -- The first label of wire bytes, and the wire bytes behind it.

@@ -1,7 +1,7 @@
 //! A name that is written label by label, within its bounds (RFC 1035, section 2.3.4).
 ghost use Rattle.std.specs.Prelude.{◌≡◌, ◌+◌, ◌≤◌, ◌<◌, List, [], ◌∷◌, ◌++◌, length, Some, Ok, IfOk, OnOk, OnErr, MatchResult};
-ghost use Rattle.dname.specs.Labels.{wire, folded, folded_label};
-ghost use Rattle.dname.specs.Draft.{empty_draft, Refuses, pushed, shut, labelled};
+ghost use Rattle.dname.specs.Labels.{wire, folded};
+ghost use Rattle.dname.specs.Draft.{empty_draft, Refuses, pushed, shut};
 ghost use Rattle.dname.specs.Overflows.{overflow_number, overflow_text};
 
 use crate::name::Name;
@@ -107,20 +107,6 @@ fn fold(byte: u8) -> u8
     }
 }
 
-// Appends the label in lower case, and a zero behind it; all or nothing.
-fn put_closed<A: Allocator>(out: &mut Vec<u8, A>, label: &[u8]) -> Result<(), AllocError>
-    requires { length label.now < 64 }
-    ensures ok { OnOk result (out.new.items ≡ out.old.items ++ folded_label label.now ++ 0 ∷ []) }
-    ensures err { OnErr result (out.new.items ≡ out.old.items) }
-{
-    out.reserve(label.len() + 1)?;
-    for byte in label {
-        out.push_reserved(fold(*byte));
-    }
-    out.push_reserved(0);
-    Ok(())
-}
-
 impl<A: Heap> Builder<A> {
     /// Nothing written yet.
     pub fn new(alloc: A) -> Result<Builder<A>, Starved>
@@ -162,23 +148,6 @@ impl<A: Heap> Builder<A> {
         let size = self.bytes.len() - self.start - 1;
         self.bytes.push(0)?;
         self.bytes[self.start] = size as u8;
-        self.start = self.bytes.len() - 1;
-        Ok(())
-    }
-
-    /// Writes a whole label, in lower case. Refused, and nothing changed, where the name would be too long or
-    /// a growth is refused.
-    pub fn push_label(&mut self, label: &[u8]) -> Result<(), Overflow>
-        requires shut { self.old.opened ≡ [] }
-        requires some { 0 < length label.now }
-        requires short { length label.now < 64 }
-        ensures { MatchResult result (λ _. labelled self.old label.now ≡ Ok self.new) (λ e. Refuses e (labelled self.old label.now) × (self.new ≡ self.old)) }
-    {
-        if self.bytes.len() + label.len() >= 255 {
-            return Err(Overflow::LongName);
-        }
-        put_closed(&mut self.bytes, label)?;
-        self.bytes[self.start] = label.len() as u8;
         self.start = self.bytes.len() - 1;
         Ok(())
     }

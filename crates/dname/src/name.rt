@@ -2,8 +2,8 @@
 ghost use Rattle.std.specs.Prelude.{◌≡◌, ℕ, ◌+◌, ◌≤◌, ◌<◌, ◌↔◌, List, [], ◌∷◌, ◌++◌, length, true, false, None, Some, IsTrue, IfOk, OnOk, OnErr, IfSome, MatchOption};
 ghost use Rattle.std.specs.Bool.{OnTrue, OnFalse};
 ghost use Rattle.std.specs.Hash as fed;
-ghost use Rattle.dname.specs.Labels.{wire, root, star, same_name, is_under, parent_of, IsAtOrUnder, IsName};
-ghost use Rattle.dname.specs.Wire.{labels_of, IsNameWire};
+ghost use Rattle.dname.specs.Labels.{wire, root, star, folded_labels, same_name, is_under, parent_of, IsAtOrUnder, IsName};
+ghost use Rattle.dname.specs.Wire.{labels_of, IsNameWire, IsSpellingWire};
 ghost use Rattle.dname.specs.Laws.{same_name_per, same_name_equiv, same_name_fed};
 
 use crate::walk::{has_end, next_label};
@@ -82,6 +82,14 @@ impl<A: Heap> Name<A> {
     {
         let bytes = Vec::from_slice(alloc, &[0])?;
         Ok(Name { bytes })
+    }
+
+    /// The name in lower case that these bytes are in any letters and in wire form.
+    pub fn of_letters(alloc: A, letters: &[u8]) -> Result<Name<A>, Starved>
+        requires { IsSpellingWire letters.now }
+        ensures { IfOk result (λ n. n ≡ folded_labels (labels_of letters.now)) }
+    {
+        Ok(Name::from_wire(letters.to_ascii_lowercase(alloc)?))
     }
 
     /// The same name on another allocator.

@@ -131,7 +131,8 @@ fn empty_draft<'a, A: Allocator>(start: Start, echo: Option<&'a Echo<A>>, rcode:
 {
     Draft {
         header: header(start, false, false, rcode),
-        question: echo,
+        questions: &[],
+        echo,
         first: &[],
         second: None,
         authority: &[],
@@ -147,7 +148,8 @@ fn truncated<'a, A: Allocator>(whole: &Draft<'a, A>) -> Draft<'a, A>
     header.tc = true;
     Draft {
         header,
-        question: whole.question,
+        questions: whole.questions,
+        echo: whole.echo,
         first: &[],
         second: None,
         authority: &[],
@@ -162,7 +164,8 @@ fn draft_of<'a, A: Allocator>(query: &'a Query<A>, outcome: &'a Outcome<A>) -> D
     match outcome {
         Outcome::Answer(aa, aliases, end) => Draft {
             header: header(query.start, *aa, false, end.rcode()),
-            question: Some(&query.echo),
+            questions: &[],
+            echo: Some(&query.echo),
             first: aliases.as_slice(),
             second: end.found(),
             authority: end.denial(),
@@ -170,7 +173,8 @@ fn draft_of<'a, A: Allocator>(query: &'a Query<A>, outcome: &'a Outcome<A>) -> D
         },
         Outcome::Referral(ns, glue) => Draft {
             header: header(query.start, false, false, 0),
-            question: Some(&query.echo),
+            questions: &[],
+            echo: Some(&query.echo),
             first: &[],
             second: None,
             authority: ns.as_slice(),

@@ -5,10 +5,9 @@ use Rattle.std.specs.List.{AllByRecursion}
 use Rattle.std.specs.Cmp.Lexicographic.{bytes_decides}
 use Rattle.std.proofs.Math.Seq.{drop-append_seam, take-append_seam, drop-append-add}
 use Rattle.std.proofs.lemmas.Bool.Decides.{nat_tests}
-use Rattle.dname.specs.Labels.{folded_label, folded_labels, wire, same_name, IsLabel, AreLabels, AreFolded}
+use Rattle.dname.specs.Labels.{folded_label, folded_labels, wire, same_name, IsLabel, AreLabels, AreSpelled, AreFolded}
 use Rattle.layout.specs.Names.{IsLabelAt, IsPointerAt, Stands, root_here, label_here, pointer_here, as_written}
 use Rattle.layout.specs.Packing.{Note, find, pointer, pointer_or, packed, noted, notes_or, packed_notes, full_notes}
-use Rattle.layout.specs.Messages.{AreSpelled}
 use Rattle.layout.proofs.Reading.{folds_to, folded_long}
 use Rattle.layout.proofs.Growing.{stands-grown}
 

@@ -1,7 +1,7 @@
 -- Messages (RFC 1035, section 4): as plain values, as rows of pieces, and which bytes are which message.
 use Rattle.std.specs.Prelude.{◌≡◌, ℕ, ◌+◌, ◌*◌, ◌^◌, ◌<◌, ◌≤◌, Bool, cond, nat_eq, nat_lt, if◌then◌else◌, Option, None, List, [], ◌∷◌, ◌++◌, length, map, flat_map}
 use Rattle.std.specs.List.{AllByRecursion}
-use Rattle.dname.specs.Labels.{folded_labels, wire, IsName}
+use Rattle.dname.specs.Labels.{folded_labels, wire, IsName, AreSpelled}
 use Rattle.rdata.specs.Types.{type_by}
 use Rattle.rdata.specs.declared.rtype.RType.{RType}
 use Rattle.rdata.specs.Data.{Datum, Ipv4, Ns, Cname, Soa, Ptr, Mx, Txt, Ipv6, type_of}
@@ -216,12 +216,6 @@ pub record IsMessage (bytes : List ℕ) (m : Message) : Type 0 where
   pub additional : SectionAt bytes behind_authority counts.additional m.additional (length bytes)
 
 -- ---- messages that can be written
-
--- Labels in any letters, of 1 to 63 bytes, the root's empty one last.
-abbrev pub AreSpelled : List (List ℕ) → Type 0
-AreSpelled [] = ⊥
-AreSpelled (l ∷ []) = l ≡ []
-AreSpelled (l ∷ m ∷ rest) = (0 < length l) × (length l < 64) × AreSpelled (m ∷ rest)
 
 -- A name in its own letters.
 pub record IsSpelling (labels : List (List ℕ)) : Type 0 where

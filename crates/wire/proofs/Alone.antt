@@ -1,21 +1,20 @@
 -- The one question of a message, read alone.
-use Rattle.std.proofs.Common.{◌≡◌, ℕ, ◌+◌, ◌-◌, ◌<◌, ◌≤◌, true, false, ◌⊎◌, inl, inr, List, [], ◌∷◌, length, Result, Ok, Err, IfErr, IsErrAnd, refl, sym, ◌∙◌, ap, subst, arith}
+use Rattle.std.proofs.Common.{◌≡◌, ℕ, ◌+◌, ◌-◌, ◌<◌, ◌≤◌, true, false, inl, inr, List, [], ◌∷◌, length, Result, Ok, Err, IfErr, IsErrAnd, refl, sym, ◌∙◌, ap, subst, arith}
 use Rattle.std.specs.Prelude.{nat_lt, if◌then◌else◌}
 use Rattle.std.proofs.lemmas.Bool.Decides.{nat_tests}
 use Rattle.dname.specs.Labels.{folded_labels}
-use Rattle.rdata.specs.Records.{Record}
 use Rattle.layout.specs.Names.{SpeltAt}
 use Rattle.layout.specs.Messages.{Question, Message, IsMessage}
 use Rattle.wire.specs.declared.error.WireError.{WireError}
-use Rattle.wire.specs.declared.error.WireError.TheVariants.{Short, Memory}
+use Rattle.wire.specs.declared.error.WireError.TheVariants.{Short}
 use Rattle.wire.specs.Numbers.{two_at}
 use Rattle.wire.specs.Parts.{message_faults, spelt_at, name_at, in_lower_case}
-use Rattle.wire.specs.Results.{Fails, Gives, and_then}
+use Rattle.wire.specs.Results.{Fails, and_then}
 use Rattle.wire.specs.Entries.{question_behind, question_at, questions_from, with_question, message_first, message_of}
 use Rattle.wire.specs.Asked.{AreBehind, IsOnlyQuestion, HasNotOne}
 use Rattle.wire.proofs.Bytes.{AreSmall, was_read}
 use Rattle.wire.proofs.Walks.{fails_with}
-use Rattle.wire.proofs.Whole.{First, first, questions_fail}
+use Rattle.wire.proofs.Whole.{first, questions_fail}
 use Rattle.wire.proofs.Heading.{header_takes}
 use Rattle.wire.proofs.NamesRead.{spelt_stands}
 use Rattle.wire.proofs.MessagesRead.{message_read, message_there}

@@ -1,5 +1,5 @@
 -- The message that bytes are is the one that is read.
-use Rattle.std.proofs.Common.{◌≡◌, ℕ, zero, suc, ◌≤◌, true, false, ◌⊎◌, List, [], ◌∷◌, length, Result, Ok, Err, IfOk, IfErr, IsErrAnd, ⊎_elim, inl, inr, refl, sym, ◌∙◌, ap, subst, arith}
+use Rattle.std.proofs.Common.{◌≡◌, ℕ, zero, suc, ◌≤◌, true, false, ◌⊎◌, List, [], ◌∷◌, length, Result, Ok, Err, IfOk, IfErr, IsErrAnd, inl, inr, refl, sym, ◌∙◌, ap, subst, arith}
 use Rattle.std.specs.Prelude.{nat_eq, nat_lt}
 use Rattle.std.proofs.lemmas.Bool.Decides.{nat_tests}
 use Rattle.dname.specs.Spelling.{AreBytes}
@@ -7,7 +7,7 @@ use Rattle.layout.specs.Messages.{Message, QuestionsAt, SectionAt, IsMessage}
 use Rattle.wire.specs.declared.error.WireError.{WireError}
 use Rattle.wire.specs.declared.error.WireError.TheVariants.{Short, BadLabel, PointerNotEarlier, NameTooLong, BadRdataLength, BadRdataName, TrailingBytes, OverLimit, Memory}
 use Rattle.wire.specs.Numbers.{two_at}
-use Rattle.wire.specs.Results.{Fails, Gives, and_then}
+use Rattle.wire.specs.Results.{Fails, and_then}
 use Rattle.wire.specs.Entries.{section_from, questions_from, message_first, message_second, message_third, message_whole, message_of}
 use Rattle.wire.proofs.Bytes.{AreSmall, test_read, then_read, was_read, test_yes, test_no}
 use Rattle.wire.proofs.Heading.{counts_at, header_stands, header_fits, header_takes}

@@ -3,6 +3,7 @@ use Rattle.std.proofs.Common.{◌≡◌, ℕ, ◌+◌, ◌-◌, ◌*◌, ◌<◌
 use Rattle.std.specs.Prelude.{is_some, nat_eq, nat_le, nat_lt, if◌then◌else◌, slice_index}
 use Rattle.std.proofs.lemmas.Bool.Decides.{nat_tests}
 use Rattle.dname.specs.Labels.{folded_labels}
+use Rattle.dname.specs.Wire.{labels_of}
 use Rattle.rdata.specs.Data.{Datum}
 use Rattle.rdata.specs.Records.{Record}
 use Rattle.rdata.specs.declared.rtype.RType.{RType}
@@ -17,20 +18,27 @@ use Rattle.wire.specs.Values.{value_at}
 use Rattle.wire.specs.Results.{and_then}
 use Rattle.wire.specs.Entries.{kept_value, entry_kept, entry_sized, entry_behind, entry_at}
 use Rattle.wire.specs.Skips.{end_alone, IsSkipping}
+use Rattle.wire.specs.Spellings.{spelt_by}
 use Rattle.std.specs.Result.{IsErrAnd}
 use Rattle.wire.proofs.Walks.{Spelt, unfueled}
 
 -- ---- the end of a name
 
-pub end_refused : (bytes : List ℕ) (at : ℕ) (e : WireError) → spelt_at bytes message_faults (length bytes) at ≡ Err e
+end_refused : (bytes : List ℕ) (at : ℕ) (e : WireError) → spelt_at bytes message_faults (length bytes) at ≡ Err e
     → Err e ≡ and_then (name_at bytes message_faults (length bytes) at) end_alone
 unfolding name_at
 end_refused bytes at e h = sym (ap (λ x. and_then (and_then x in_lower_case) end_alone) h)
 
-pub end_found : (bytes : List ℕ) (at : ℕ) (labels : List (List ℕ)) (past : ℕ) → spelt_at bytes message_faults (length bytes) at ≡ Ok (labels, past)
+end_found : (bytes : List ℕ) (at : ℕ) (labels : List (List ℕ)) (past : ℕ) → spelt_at bytes message_faults (length bytes) at ≡ Ok (labels, past)
     → Ok past ≡ and_then (name_at bytes message_faults (length bytes) at) end_alone
 unfolding name_at
 end_found bytes at labels past h = sym (ap (λ x. and_then (and_then x in_lower_case) end_alone) h)
+
+-- What the walk over a name's letters tells of its end.
+pub end_by : (bytes letters : List ℕ) (at : ℕ) (r : Result ℕ WireError) → spelt_by letters r ≡ spelt_at bytes message_faults (length bytes) at
+    → r ≡ and_then (name_at bytes message_faults (length bytes) at) end_alone
+end_by bytes letters at (Ok end) h = end_found bytes at (labels_of letters) end (sym h)
+end_by bytes letters at (Err e) h = end_refused bytes at e (sym h)
 
 name_by_end : (r : Spelt) (past : ℕ) → Ok past ≡ and_then r end_alone → (name : List (List ℕ)) × (r ≡ Ok (name, past))
 name_by_end (Ok (name, end)) past h = let same : past ≡ end = cc in (name, λ i. Ok (name, sym same i))

@@ -1,26 +1,22 @@
 -- A name read part by part, as far as a loop has come.
 use Rattle.std.proofs.Common.{◌≡◌, ℕ, zero, suc, ◌+◌, ◌-◌, ◌<◌, ◌≤◌, Bool, true, false, List, [], ◌∷◌, ◌++◌, length, Option, Some, None, Result, Ok, Err, refl, sym, ◌∙◌, ap, subst, arith, append_assoc}
-use Rattle.std.specs.Prelude.{nat_lt, nat_le, cond, if◌then◌else◌, slice_range}
+use Rattle.std.specs.Prelude.{nat_lt, if◌then◌else◌, slice_range}
 use Rattle.std.specs.Option.{unwrap_or, option_or}
 use Rattle.std.specs.Result.{IsErrAnd}
 use Rattle.std.proofs.lemmas.Bool.Decides.{nat_tests}
-use Rattle.std.proofs.lemmas.List.{map-append, append-nil, length-take}
+use Rattle.std.proofs.lemmas.List.{append-nil, length-take}
 use Rattle.std.proofs.Common.{length-append, length-drop, drop}
-use Rattle.dname.specs.Labels.{wire, folded_label, folded_labels}
-use Rattle.dname.specs.declared.builder.Overflow.TheVariants.{LongName}
-use Rattle.dname.specs.Draft.{Draft, empty_draft, labelled}
-use Rattle.layout.proofs.Whole.{wire_folded_long}
+use Rattle.dname.specs.Labels.{wire, folded_labels, AreSpelled}
 use Rattle.wire.specs.declared.error.WireError.{WireError}
 use Rattle.wire.specs.declared.error.WireError.TheVariants.{Short, BadLabel, PointerNotEarlier, NameTooLong, BadRdataLength, BadRdataName, TrailingBytes, OverLimit, Memory}
 use Rattle.wire.specs.declared.parts.Part.{Part}
 use Rattle.wire.specs.declared.parts.Part.TheVariants.{End, Label, Pointer}
 use Rattle.wire.specs.declared.parts.Faults.{Faults}
 use Rattle.wire.specs.Results.{Fails, Gives, and_then}
-use Rattle.layout.specs.Messages.{AreSpelled}
-use Rattle.dname.specs.Wire.{labels_of}
+use Rattle.dname.specs.Wire.{labels_of, IsSpellingWire}
 use Rattle.dname.specs.Laws.{labels_of-wire}
 use Rattle.wire.specs.Spellings.{IsSpelt}
-use Rattle.wire.specs.Parts.{message_faults, part_at, behind_label, ends_at, followed, spelt_from, spelt_at, in_lower_case, name_at}
+use Rattle.wire.specs.Parts.{part_at, behind_label, ends_at, followed, spelt_from, spelt_at, in_lower_case, name_at}
 
 abbrev done : {X E : Type 0} → X → Result X E
 done x = Ok x
@@ -235,50 +231,14 @@ walk_pointer bytes faults limit whole front start place stop border room end w t
 
 -- ---- the name in lower case
 
-labelled_is : (d n : Draft) (label : List ℕ) → labelled d label ≡ Ok n → n ≡ record { closed = d.closed ++ folded_label label ∷ []; opened = [] }
-labelled_is d n label h = by (nat_le 254 (length (wire d.closed) + length label)) h
-  where
-    by : (b : Bool) → cond b (Err LongName) (Ok (record { closed = d.closed ++ folded_label label ∷ []; opened = [] })) ≡ Ok n
-        → n ≡ record { closed = d.closed ++ folded_label label ∷ []; opened = [] }
-    by true k = cc
-    by false k = let same : record { closed = d.closed ++ folded_label label ∷ []; opened = [] } ≡ n = ok_is k in sym same
-
-pub record NameWalk (bytes : List ℕ) (faults : Faults) (limit at : ℕ) (d : Draft) (start place stop : ℕ) (border : WireError) (room : ℕ) (end : Option ℕ) : Type 0 where
-  pub front : List (List ℕ)
-  pub walk : Walk bytes faults limit (spelt_at bytes faults limit at) front start place stop border room end
-  pub opened : d.opened ≡ []
-  pub closed : d.closed ≡ folded_labels front
-
 pub name_refused : (bytes : List ℕ) (faults : Faults) (limit at : ℕ) (e : WireError) → spelt_at bytes faults limit at ≡ Err e → Fails e (name_at bytes faults limit at)
 unfolding name_at
 name_refused bytes faults limit at e h = fails_is e (name_at bytes faults limit at) (ap (λ x. and_then x in_lower_case) h)
 
-pub name_found : (bytes : List ℕ) (faults : Faults) (limit at : ℕ) (front : List (List ℕ)) (closed : List (List ℕ)) (past : ℕ) → spelt_at bytes faults limit at ≡ Ok (front ++ [] ∷ [], past)
-    → closed ≡ folded_labels front → name_at bytes faults limit at ≡ Ok (closed ++ [] ∷ [], past)
+pub name_found : (bytes : List ℕ) (faults : Faults) (limit at : ℕ) (labels : List (List ℕ)) (past : ℕ) → spelt_at bytes faults limit at ≡ Ok (labels, past)
+    → name_at bytes faults limit at ≡ Ok (folded_labels labels, past)
 unfolding name_at
-name_found bytes faults limit at front closed past h e =
-    let joined : folded_labels (front ++ [] ∷ []) ≡ closed ++ [] ∷ [] = map-append folded_label front ([] ∷ []) ∙ ap (λ x. x ++ [] ∷ []) (sym e) in
-    ap (λ x. and_then x in_lower_case) h ∙ (λ i. Ok (joined i, past))
-
-pub name_label : (bytes : List ℕ) (faults : Faults) (limit at : ℕ) (d n : Draft) (start place stop : ℕ) (border : WireError) (room : ℕ) (end : Option ℕ)
-    (w : NameWalk bytes faults limit at d start place stop border room end) (size : ℕ) (p : Result Part WireError) → p ≡ part_at bytes stop border faults.bad_label place
-    → p ≡ Ok (Label size) → size + 2 ≤ room → size ≤ stop - place - 1 → place < stop → labelled d (slice_range bytes (place + 1) (place + 1 + size)) ≡ Ok n
-    → NameWalk bytes faults limit at n start (place + (1 + size)) stop border (room - (size + 1)) end
-name_label bytes faults limit at d n start place stop border room end w size p is label room_is fits within put =
-    let text = slice_range bytes (place + 1) (place + 1 + size) in
-    let pushed = labelled_is d n text put in
-    record {
-      front = w.front ++ text ∷ [];
-      walk = walk_label bytes faults limit (spelt_at bytes faults limit at) w.front start place stop border room end w.walk size p is label room_is fits within;
-      opened = ap (λ x. x.opened) pushed;
-      closed = ap (λ x. x.closed) pushed ∙ (ap (λ x. x ++ folded_label text ∷ []) w.closed ∙ sym (map-append folded_label w.front (text ∷ [])));
-    }
-
--- The room of a label that was tested.
-pub label_room : (d : Draft) (front : List (List ℕ)) (room size : ℕ) (label : List ℕ) → d.closed ≡ folded_labels front → room + length (wire front) ≡ 255 → size + 2 ≤ room
-    → length label ≡ size → length (wire d.closed) + length label < 254
-label_room d front room size label closed taken fits long =
-    omega (arith, ap (λ x. length (wire x)) closed, wire_folded_long front)
+name_found bytes faults limit at labels past h = ap (λ x. and_then x in_lower_case) h
 
 -- ---- the name in its own letters
 
@@ -286,23 +246,14 @@ abbrev pub AllSpelled : List (List ℕ) → Type 0
 AllSpelled [] = Unit {0}
 AllSpelled (l ∷ rest) = (0 < length l) × (length l < 64) × AllSpelled rest
 
-pub record SpeltWalk (bytes : List ℕ) (at : ℕ) (d : Draft) (letters : List ℕ) (start place stop : ℕ) (border : WireError) (room : ℕ) (end : Option ℕ) : Type 0 where
+pub record LettersWalk (bytes : List ℕ) (faults : Faults) (limit at : ℕ) (letters : List ℕ) (start place stop : ℕ) (border : WireError) (room : ℕ) (end : Option ℕ) : Type 0 where
   pub front : List (List ℕ)
-  pub walk : Walk bytes message_faults (length bytes) (spelt_at bytes message_faults (length bytes) at) front start place stop border room end
-  pub opened : d.opened ≡ []
-  pub closed : d.closed ≡ folded_labels front
+  pub walk : Walk bytes faults limit (spelt_at bytes faults limit at) front start place stop border room end
   pub form : letters ≡ wire front
   pub spelled : AllSpelled front
 
-pub spelt_begins : (bytes : List ℕ) (at : ℕ) (d : Draft) (letters : List ℕ) → d ≡ empty_draft → letters ≡ [] → SpeltWalk bytes at d letters at at (length bytes) Short 255 None
-spelt_begins bytes at d letters none e = record {
-  front = [];
-  walk = walk_begins bytes message_faults (length bytes) at (omega arith);
-  opened = ap (λ x. x.opened) none;
-  closed = ap (λ x. x.closed) none;
-  form = e;
-  spelled = tt;
-}
+pub letters_begin : (bytes : List ℕ) (faults : Faults) (limit at : ℕ) (letters : List ℕ) → limit ≤ length bytes → letters ≡ [] → LettersWalk bytes faults limit at letters at at limit faults.border 255 None
+letters_begin bytes faults limit at letters fits none = record { front = []; walk = walk_begins bytes faults limit at fits; form = none; spelled = tt }
 
 spelled-append : (a : List (List ℕ)) (l : List ℕ) → AllSpelled a → 0 < length l → length l < 64 → AllSpelled (a ++ l ∷ [])
 spelled-append [] l h some few = (some, few, tt)
@@ -313,59 +264,45 @@ are_spelled [] h = refl
 are_spelled (l ∷ []) h = (h.0, h.1, refl)
 are_spelled (l ∷ m ∷ a) h = (h.0, h.1, are_spelled (m ∷ a) h.2)
 
-pub spelt_label : (bytes : List ℕ) (at : ℕ) (d n : Draft) (letters next : List ℕ) (start place stop : ℕ) (border : WireError) (room : ℕ)
-    (end : Option ℕ) (w : SpeltWalk bytes at d letters start place stop border room end) (size : ℕ) (p : Result Part WireError) → p ≡ part_at bytes stop border BadLabel place
+pub letters_label : (bytes : List ℕ) (faults : Faults) (limit at : ℕ) (letters next : List ℕ) (start place stop : ℕ) (border : WireError) (room : ℕ)
+    (end : Option ℕ) (w : LettersWalk bytes faults limit at letters start place stop border room end) (size : ℕ) (p : Result Part WireError) → p ≡ part_at bytes stop border faults.bad_label place
     → p ≡ Ok (Label size) → size + 2 ≤ room → size ≤ stop - place - 1 → place < stop → 0 < size → size < 64
-    → labelled d (slice_range bytes (place + 1) (place + 1 + size)) ≡ Ok n
     → next ≡ (letters ++ size ∷ []) ++ slice_range bytes (place + 1) (place + 1 + size)
-    → SpeltWalk bytes at n next start (place + (1 + size)) stop border (room - (size + 1)) end
-spelt_label bytes at d n letters next start place stop border room end w size p is label room_is fits within some few named put =
+    → LettersWalk bytes faults limit at next start (place + (1 + size)) stop border (room - (size + 1)) end
+letters_label bytes faults limit at letters next start place stop border room end w size p is label room_is fits within some few put =
     let text = slice_range bytes (place + 1) (place + 1 + size) in
     let inside = w.walk.fits in
     let long : length text ≡ size = label_long bytes place size (omega arith) in
-    let pushed = labelled_is d n text named in
     let joined : wire (w.front ++ text ∷ []) ≡ wire w.front ++ (length text ∷ (text ++ [])) = wire-append w.front (text ∷ []) in
     let last : length text ∷ (text ++ []) ≡ size ∷ text = λ i. long i ∷ append-nil text i in
     let whole : next ≡ wire (w.front ++ text ∷ []) =
     put ∙ (append_assoc letters (size ∷ []) text ∙ (ap (λ x. x ++ size ∷ text) w.form ∙ sym (joined ∙ ap (λ x. wire w.front ++ x) last))) in
     record {
       front = w.front ++ text ∷ [];
-      walk = walk_label bytes message_faults (length bytes) (spelt_at bytes message_faults (length bytes) at) w.front start place stop border room end w.walk size p is label room_is fits within;
-      opened = ap (λ x. x.opened) pushed;
-      closed = ap (λ x. x.closed) pushed ∙ (ap (λ x. x ++ folded_label text ∷ []) w.closed ∙ sym (map-append folded_label w.front (text ∷ [])));
+      walk = walk_label bytes faults limit (spelt_at bytes faults limit at) w.front start place stop border room end w.walk size p is label room_is fits within;
       form = whole;
       spelled = spelled-append w.front text w.spelled (omega arith) (omega arith);
     }
 
-pub spelt_pointer : (bytes : List ℕ) (at : ℕ) (d : Draft) (letters : List ℕ) (start place stop : ℕ) (border : WireError) (room : ℕ)
-    (end : Option ℕ) (w : SpeltWalk bytes at d letters start place stop border room end) (target : ℕ) (p : Result Part WireError) → p ≡ part_at bytes stop border BadLabel place
-    → p ≡ Ok (Pointer target) → target < start → place + 1 < stop → SpeltWalk bytes at d letters target target (length bytes) Short room (option_or end (Some (place + 2)))
-spelt_pointer bytes at d letters start place stop border room end w target p is pointer earlier within = record {
-  front = w.front;
-  walk = walk_pointer bytes message_faults (length bytes) (spelt_at bytes message_faults (length bytes) at) w.front start place stop border room end w.walk target p is pointer earlier within;
-  opened = w.opened;
-  closed = w.closed;
-  form = w.form;
-  spelled = w.spelled;
-}
-
-pub spelt_done : (bytes : List ℕ) (at : ℕ) (d : Draft) (letters next : List ℕ) (start place stop : ℕ) (border : WireError) (room : ℕ)
-    (end : Option ℕ) (w : SpeltWalk bytes at d letters start place stop border room end) (p : Result Part WireError) → p ≡ part_at bytes stop border BadLabel place → p ≡ Ok End
+pub letters_done : (bytes : List ℕ) (faults : Faults) (limit at : ℕ) (letters next : List ℕ) (start place stop : ℕ) (border : WireError) (room : ℕ)
+    (end : Option ℕ) (w : LettersWalk bytes faults limit at letters start place stop border room end) (p : Result Part WireError) → p ≡ part_at bytes stop border faults.bad_label place → p ≡ Ok End
     → next ≡ letters ++ 0 ∷ []
-    → IsSpelt next (d.closed ++ [] ∷ []) × (spelt_at bytes message_faults (length bytes) at ≡ Ok (labels_of next, unwrap_or end (place + 1)))
-spelt_done bytes at d letters next start place stop border room end w p is ends put =
+    → IsSpellingWire next × (spelt_at bytes faults limit at ≡ Ok (labels_of next, unwrap_or end (place + 1)))
+letters_done bytes faults limit at letters next start place stop border room end w p is ends put =
     let labels = w.front ++ [] ∷ [] in
-    let read = walk_ends bytes message_faults (length bytes) (spelt_at bytes message_faults (length bytes) at) w.front start place stop border room end w.walk p is ends in
+    let read = walk_ends bytes faults limit (spelt_at bytes faults limit at) w.front start place stop border room end w.walk p is ends in
     let form : next ≡ wire labels = put ∙ (ap (λ x. x ++ 0 ∷ []) w.form ∙ sym (wire-append w.front ([] ∷ []))) in
     let seen : labels_of next ≡ labels = ap labels_of form ∙ labels_of-wire labels in
-    let folds : d.closed ++ [] ∷ [] ≡ folded_labels labels = ap (λ x. x ++ [] ∷ []) w.closed ∙ sym (map-append folded_label w.front ([] ∷ [])) in
     let taken = w.walk.taken in
     let some = w.walk.some_room in (
       record {
         labels = subst (λ (x : List (List ℕ)). AreSpelled x) (sym seen) (are_spelled w.front w.spelled);
-        form = ap wire seen ∙ sym form;
+        bytes = ap wire seen ∙ sym form;
         short = omega (arith, ap length (put ∙ ap (λ x. x ++ 0 ∷ []) w.form), length-append (wire w.front) (0 ∷ []));
-        folds = folds ∙ ap folded_labels (sym seen);
       },
       read ∙ (λ i. Ok (sym seen i, unwrap_or end (place + 1))),
     )
+
+-- A name that is kept in its own letters and in lower case.
+pub spelt_of : (letters : List ℕ) (name : List (List ℕ)) → IsSpellingWire letters → name ≡ folded_labels (labels_of letters) → IsSpelt letters name
+spelt_of letters name h folds = record { labels = h.labels; form = h.bytes; short = h.short; folds = folds }

@@ -4,14 +4,14 @@ use Rattle.std.proofs.lemmas.List.{append-nil, take_more}
 use Rattle.std.proofs.Math.Seq.{take-append-add, set-append_seam}
 use Rattle.std.specs.Int.{bytes_high_first}
 use Rattle.std.specs.Option.{ok_or}
-use Rattle.std.specs.Prelude.{OnOk, IfOk, IfErr, MatchOption, flat_map}
+use Rattle.std.specs.Prelude.{OnOk, IfOk, IfErr, IfSome, MatchOption, flat_map}
 use Rattle.std.proofs.lemmas.Grind.{flat_map-append}
 use Rattle.layout.specs.Messages.{strings_bytes, string_bytes_of}
 use Rattle.layout.proofs.Letters.{after-append, flats_both, headed, questioned, encoding_parts}
 use Rattle.rdata.specs.Records.{Record}
 use Rattle.wire.specs.Drafts.{asked_alone, drafted}
 use Rattle.layout.specs.Pieces.{flat_piece, short_number, long_number}
-use Rattle.layout.specs.Messages.{Header, Question, high_flags, low_flags, Message, header_pieces, question_pieces, record_pieces, encoding}
+use Rattle.layout.specs.Messages.{Header, Question, high_flags, low_flags, Message, IsMessage, folded_message, header_pieces, question_pieces, record_pieces, encoding}
 use Rattle.wire.specs.declared.error.WireError.{WireError}
 use Rattle.wire.specs.declared.error.WireError.TheVariants.{OverLimit}
 use Rattle.wire.specs.Drafts.{RefusesText}
@@ -302,6 +302,9 @@ IsText items o text limit = MatchOption o (limit < length text) (λ v. (items v 
 text_of : {X : Type 0} (items : X → List ℕ) (o : Option X) (b e : List ℕ) (limit : ℕ) → b ≡ e → IsText items o b limit → IsText items o e limit
 text_of items o b e limit same h = subst (λ (x : List ℕ). IsText items o x limit) same h
 
+abbrev pub IsGiven : {X : Type 0} → (X → List ℕ) → Option X → Message → ℕ → Type 0
+IsGiven items o m limit = MatchOption o (limit < length (encoding m)) (λ v. (items v ≡ encoding m) × (length (items v) ≤ limit))
+
 pub text_given : {X : Type 0} (items : X → List ℕ) (o : Option X) (b e : List ℕ) (limit : ℕ) → b ≡ e → IsText items o b limit
     → MatchOption o (limit < length e) (λ v. (items v ≡ e) × (length (items v) ≤ limit))
 text_given items None b e limit same h = text_of items None b e limit same h
@@ -309,37 +312,61 @@ text_given items (Some v) b e limit same h =
     let is = text_of items (Some v) b e limit same h in
     (is.0, subst (λ (x : List ℕ). length x ≤ limit) (sym is.0) is.1)
 
-pub text_ok : {X : Type 0} (items : X → List ℕ) (o : Option X) (r : Result X WireError) (b e : List ℕ) (limit : ℕ) → b ≡ e → IsText items o b limit → r ≡ ok_or o OverLimit
-    → IfOk r (λ v. (items v ≡ e) × (length e ≤ limit))
-text_ok items None r b e limit same h is = subst (λ (x : Result _ WireError). IfOk x (λ v. (items v ≡ e) × (length e ≤ limit))) (sym is) tt
-text_ok items (Some v) r b e limit same h is =
-    subst (λ (x : Result _ WireError). IfOk x (λ v. (items v ≡ e) × (length e ≤ limit))) (sym is) (text_of items (Some v) b e limit same h)
-
-pub text_err : {X : Type 0} (items : X → List ℕ) (o : Option X) (r : Result X WireError) (b e : List ℕ) (limit : ℕ) → b ≡ e → IsText items o b limit → r ≡ ok_or o OverLimit
-    → IfErr r (λ x. RefusesText x e limit)
-text_err items None r b e limit same h is = subst (λ (x : Result _ WireError). IfErr x (λ y. RefusesText y e limit)) (sym is) (text_of items None b e limit same h)
-text_err items (Some v) r b e limit same h is = subst (λ (x : Result _ WireError). IfErr x (λ y. RefusesText y e limit)) (sym is) tt
-
 low_two : (a b : ℕ) → bytes_high_first 2 (a % 65536 + b % 65536) ≡ bytes_high_first 2 (a + b)
 low_two a b =
     let high : (a % 65536 + b % 65536) / 256 % 256 ≡ (a + b) / 256 % 256 = omega arith in
     let low : (a % 65536 + b % 65536) % 256 ≡ (a + b) % 256 = omega arith in
     λ i. high i ∷ low i ∷ []
 
-pub draft_text : (hd : Header) (question : Option Question) (first second authority additional : List Record) (w h q a0 a b c : Text) (n1 n2 n3 n4 : ℕ) → w ≡ empty
+pub draft_text : (hd : Header) (questions : List Question) (echo : Option Question) (first second authority additional : List Record) (w h q0 q a0 a b c : Text) (n1 n2 n3 n4 : ℕ) → w ≡ empty
     → h ≡ after w (header_pieces hd (record { questions = n1; answer = n2; authority = n3; additional = n4 }))
-    → n1 ≡ length (asked_alone question) → n2 ≡ length first % 65536 + length second % 65536 → n3 ≡ length authority → n4 ≡ length additional
-    → q ≡ after h (flat_map question_pieces (asked_alone question)) → a0 ≡ after q (flat_map record_pieces first) → a ≡ after a0 (flat_map record_pieces second)
+    → n1 ≡ length questions % 65536 + length (asked_alone echo) % 65536 → n2 ≡ length first % 65536 + length second % 65536 → n3 ≡ length authority → n4 ≡ length additional
+    → q0 ≡ after h (flat_map question_pieces questions) → q ≡ after q0 (flat_map question_pieces (asked_alone echo))
+    → a0 ≡ after q (flat_map record_pieces first) → a ≡ after a0 (flat_map record_pieces second)
     → b ≡ after a (flat_map record_pieces authority) → c ≡ after b (flat_map record_pieces additional)
-    → c.bytes ≡ encoding (drafted hd question first second authority additional)
-draft_text hd question first second authority additional w h q a0 a b c n1 n2 n3 n4 new head c1 c2 c3 c4 asked one two third fourth =
-    let m = drafted hd question first second authority additional in
-    let both : flat_map record_pieces (first ++ second) ≡ flat_map record_pieces first ++ flat_map record_pieces second = flat_map-append record_pieces first second in
-    let answer : a ≡ after q (flat_map record_pieces (first ++ second)) =
-    two ∙ (ap (λ t. after t (flat_map record_pieces second)) one ∙ (sym (after-append (flat_map record_pieces first) (flat_map record_pieces second) q) ∙ ap (after q) (sym both))) in
-    let low : bytes_high_first 2 n2 ≡ bytes_high_first 2 (length (first ++ second)) =
-    ap (bytes_high_first 2) c2 ∙ (low_two (length first) (length second) ∙ ap (bytes_high_first 2) (sym (length-append first second))) in
-    let counted : h ≡ after w (header_pieces hd (record { questions = n1; answer = length (first ++ second); authority = n3; additional = n4 })) =
-    head ∙ ap (λ x. after w (flat_piece (short_number hd.id) ∷ flat_piece (plain_bytes (high_flags hd ∷ low_flags hd ∷ [])) ∷ flat_piece (short_number n1) ∷ flat_piece (plain_bytes x)
-    ∷ flat_piece (short_number n3) ∷ flat_piece (short_number n4) ∷ [])) low in
-    message_text m w h q a b c n1 (length (first ++ second)) n3 n4 new counted c1 refl c3 c4 asked answer third fourth
+    → c.bytes ≡ encoding (drafted hd questions echo first second authority additional)
+draft_text hd questions echo first second authority additional w h q0 q a0 a b c n1 n2 n3 n4 new head c1 c2 c3 c4 listed repeated one two third fourth =
+    let m = drafted hd questions echo first second authority additional in
+    let low : bytes_high_first 2 n1 ≡ bytes_high_first 2 (length (questions ++ asked_alone echo)) = low_both questions (asked_alone echo) n1 c1 in
+    let low-2 : bytes_high_first 2 n2 ≡ bytes_high_first 2 (length (first ++ second)) = low_both first second n2 c2 in
+    let counted : h ≡ after w (header_pieces hd (record { questions = length (questions ++ asked_alone echo); answer = length (first ++ second); authority = n3; additional = n4 })) =
+    head ∙ (λ i. after w (flat_piece (short_number hd.id) ∷ flat_piece (plain_bytes (high_flags hd ∷ low_flags hd ∷ [])) ∷ flat_piece (plain_bytes (low i)) ∷ flat_piece (plain_bytes (low-2 i))
+    ∷ flat_piece (short_number n3) ∷ flat_piece (short_number n4) ∷ [])) in
+    message_text m w h q a b c (length (questions ++ asked_alone echo)) (length (first ++ second)) n3 n4 new counted refl refl c3 c4
+    (in_parts question_pieces questions (asked_alone echo) h q0 q listed repeated) (in_parts record_pieces first second q a0 a one two) third fourth
+  where
+    low_both : {X : Type 0} (xs ys : List X) (n : ℕ) → n ≡ length xs % 65536 + length ys % 65536 → bytes_high_first 2 n ≡ bytes_high_first 2 (length (xs ++ ys))
+    low_both xs ys n c = ap (bytes_high_first 2) c ∙ (low_two (length xs) (length ys) ∙ ap (bytes_high_first 2) (sym (length-append xs ys)))
+
+    in_parts : {X : Type 0} (f : X → List Piece) (xs ys : List X) (t u v : Text) → u ≡ after t (flat_map f xs) → v ≡ after u (flat_map f ys) → v ≡ after t (flat_map f (xs ++ ys))
+    in_parts f xs ys t u v one two =
+        two ∙ (ap (λ x. after x (flat_map f ys)) one ∙ (sym (after-append (flat_map f xs) (flat_map f ys) t) ∙ ap (after t) (sym (flat_map-append f xs ys))))
+
+-- A message is the draft that lends all of it.
+pub lent_is : (hd : Header) (questions : List Question) (answer authority additional : List Record)
+    → drafted hd questions None answer [] authority additional ≡ record { header = hd; questions = questions; answer = answer; authority = authority; additional = additional }
+lent_is hd questions answer authority additional = λ i. record { header = hd; questions = append-nil questions i; answer = append-nil answer i; authority = authority; additional = additional }
+
+module _ {X : Type 0} (items : X → List ℕ) (o : Option X) (r : Result X WireError) (d m : Message) (limit : ℕ) (is : d ≡ m) (given : IsGiven items o d limit) (by : r ≡ ok_or o OverLimit) where
+  pub lent_ok : IfOk r (λ v. (items v ≡ encoding m) × (length (encoding m) ≤ limit))
+  lent_ok = subst (λ (x : Result X WireError). IfOk x (λ v. (items v ≡ encoding m) × (length (encoding m) ≤ limit))) (sym by) (of o (subst (λ (x : Message). IsGiven items o x limit) is given))
+    where
+      of : (p : Option X) → IsGiven items p m limit → IfOk (ok_or p OverLimit) (λ v. (items v ≡ encoding m) × (length (encoding m) ≤ limit))
+      of None h = tt
+      of (Some v) h = (h.0, subst (λ (x : List ℕ). length x ≤ limit) h.0 h.1)
+
+  pub lent_err : IfErr r (λ x. RefusesText x (encoding m) limit)
+  lent_err = subst (λ (x : Result X WireError). IfErr x (λ y. RefusesText y (encoding m) limit)) (sym by) (of o (subst (λ (x : Message). IsGiven items o x limit) is given))
+    where
+      of : (p : Option X) → IsGiven items p m limit → IfErr (ok_or p OverLimit) (λ y. RefusesText y (encoding m) limit)
+      of None h = h
+      of (Some v) h = tt
+
+pub lent_message : {X : Type 0} (items : X → List ℕ) (o : Option X) (r : Result X WireError) (d m : Message) → d ≡ m → IfSome o (λ v. IsMessage (items v) (folded_message d)) → r ≡ ok_or o OverLimit
+    → IfOk r (λ v. IsMessage (items v) (folded_message m))
+lent_message {X} items o r d m is given by =
+    subst (λ (x : Result X WireError). IfOk x (λ v. IsMessage (items v) (folded_message m))) (sym by) (of o (subst (λ (x : Message). IfSome o (λ v. IsMessage (items v) (folded_message x))) is given))
+  where
+    of : (p : Option X) → IfSome p (λ v. IsMessage (items v) (folded_message m)) → IfOk (ok_or p OverLimit) (λ v. IsMessage (items v) (folded_message m))
+    of None h = tt
+    of (Some v) h = h

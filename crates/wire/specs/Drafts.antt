@@ -19,11 +19,11 @@ abbrev pub asked_alone : Option Question → List Question
 asked_alone None = []
 asked_alone (Some q) = q ∷ []
 
--- The message of a header, at most one question in its own letters, an answer in two parts, and two sections.
-abbrev pub drafted : Header → Option Question → List Record → List Record → List Record → List Record → Message
-drafted header question first second authority additional = record {
+-- The message of a header, questions and perhaps one in its own letters, an answer in two parts, and two sections.
+abbrev pub drafted : Header → List Question → Option Question → List Record → List Record → List Record → List Record → Message
+drafted header questions echo first second authority additional = record {
   header = header;
-  questions = asked_alone question;
+  questions = questions ++ asked_alone echo;
   answer = first ++ second;
   authority = authority;
   additional = additional;

@@ -1,4 +1,4 @@
-//! A message written, from itself or from borrowed parts.
+//! A message written, from itself or from parts that are lent.
 ghost use Rattle.std.specs.Prelude.{◌≡◌, ◌≤◌, ◌<◌, ◌+◌, ◌%◌, length, flat_map, OnOk, IfOk, IfErr, IfSome, MatchOption};
 ghost use Rattle.std.specs.List.{AllByRecursion};
 ghost use Rattle.std.specs.Option.{option_copied};
@@ -10,7 +10,7 @@ ghost use Rattle.wire.specs.Drafts.{RefusesText, asked_alone};
 use crate::echo::Echo;
 use crate::error::WireError;
 use crate::header::Header;
-use crate::message::Message;
+use crate::message::{Message, Question};
 use crate::via::TCP_LIMIT;
 use crate::writer::{Tally, Writer};
 use dname::{Heap, Starved};
@@ -18,12 +18,13 @@ use rdata::{Record, RecordSet};
 use std::alloc::{Allocator, Global};
 use std::marker::Model;
 
-/// A reply that is lent part by part: no record is cloned for it. Contracts see the message.
+/// A message that is lent part by part: no record is cloned for it. Contracts see the message.
 #[derive(Drop)]
 pub struct Draft<'a, A: Allocator = Global> {
     pub header: Header,
-    /// The one question, if there is one.
-    pub question: Option<&'a Echo<A>>,
+    /// The questions are these, in lower case, and then the one that a reply repeats, in the client's own letters.
+    pub questions: &'a [Question<A>],
+    pub echo: Option<&'a Echo<A>>,
     /// The answer is `first` and then `second`.
     pub first: &'a [Record<A>],
     pub second: Option<&'a RecordSet<A>>,
@@ -39,7 +40,7 @@ impl<'a, A: Allocator> Model for Draft<'a, A> {
 
     ghost Value = { Message };
 
-    ghost view = { λ d. drafted d.header (option_copied d.question) d.first.now (in_set (option_copied d.second)) d.authority.now d.additional.now };
+    ghost view = { λ d. drafted d.header d.questions.now (option_copied d.echo) d.first.now (in_set (option_copied d.second)) d.authority.now d.additional.now };
 }
 
 /// The encoding of a message (RFC 1035, section 4), names compressed: bytes that are this message, its
@@ -50,28 +51,24 @@ pub fn encode<A: Heap>(alloc: A, m: &Message<A>, limit: usize) -> Result<Vec<u8,
     ensures message { IfOk result (λ v. IsMessage v.items (folded_message m.now)) }
     ensures err { IfErr result (λ e. RefusesText e (encoding m.now) limit) }
 {
+    let lent = Draft {
+        header: m.header,
+        questions: m.questions.as_slice(),
+        echo: None,
+        first: m.answer.as_slice(),
+        second: None,
+        authority: m.authority.as_slice(),
+        additional: m.additional.as_slice(),
+    };
     let mut writer = Writer::new(alloc)?;
-    writer.put_header(
-        m.header,
-        Tally {
-            questions: m.questions.len(),
-            answer: m.answer.len(),
-            authority: m.authority.len(),
-            additional: m.additional.len(),
-        },
-    )?;
-    writer.put_questions(m.questions.as_slice())?;
-    writer.put_records(m.answer.as_slice())?;
-    writer.put_records(m.authority.as_slice())?;
-    writer.put_records(m.additional.as_slice())?;
-    writer.finish(limit).ok_or(WireError::OverLimit)
+    lent.encode(&mut writer, limit)?.ok_or(WireError::OverLimit)
 }
 
-// How many questions there are.
-fn count_of<A: Allocator>(question: Option<&Echo<A>>) -> usize
-    ensures { result ≡ length (asked_alone (option_copied question.entry)) }
+// How many questions a reply repeats.
+fn count_of<A: Allocator>(echo: Option<&Echo<A>>) -> usize
+    ensures { result ≡ length (asked_alone (option_copied echo.entry)) }
 {
-    match question {
+    match echo {
         None => 0,
         Some(_) => 1,
     }
@@ -87,18 +84,19 @@ fn len_of<A: Heap>(set: Option<&RecordSet<A>>) -> usize
     }
 }
 
-// The lowest 16 bits of the sum of two numbers of records, and perhaps one bit more.
+// The lowest 16 bits of the sum of two counts, and perhaps one bit more.
 fn low_count(first: usize, second: usize) -> usize
     ensures { result ≡ first % 65536 + second % 65536 }
 {
     first % 65_536 + second % 65_536
 }
 
-fn put_alone<A: Heap>(writer: &mut Writer<A>, question: Option<&Echo<A>>) -> Result<(), Starved>
-    ensures written { OnOk result (writer.new ≡ after writer.old (flat_map question_pieces (asked_alone (option_copied question.entry)))) }
-    ensures fits { OnOk result (AllByRecursion IsQuestion (asked_alone (option_copied question.entry))) }
+// The question that a reply repeats, where there is one.
+fn put_repeated<A: Heap>(writer: &mut Writer<A>, echo: Option<&Echo<A>>) -> Result<(), Starved>
+    ensures written { OnOk result (writer.new ≡ after writer.old (flat_map question_pieces (asked_alone (option_copied echo.entry)))) }
+    ensures fits { OnOk result (AllByRecursion IsQuestion (asked_alone (option_copied echo.entry))) }
 {
-    match question {
+    match echo {
         None => Ok(()),
         Some(echo) => writer.put_echo(echo),
     }
@@ -132,13 +130,14 @@ impl<A: Heap> Draft<'_, A> {
         writer.put_header(
             self.header,
             Tally {
-                questions: count_of(self.question),
+                questions: low_count(self.questions.len(), count_of(self.echo)),
                 answer: low_count(self.first.len(), len_of(self.second)),
                 authority: self.authority.len(),
                 additional: self.additional.len(),
             },
         )?;
-        put_alone(writer, self.question)?;
+        writer.put_questions(self.questions)?;
+        put_repeated(writer, self.echo)?;
         writer.put_records(self.first)?;
         put_lent(writer, self.second)?;
         writer.put_records(self.authority)?;

@@ -1,36 +1,19 @@
 //! Names read at a place of a message, their pointers followed (RFC 1035, section 4.1.4).
-ghost use Rattle.std.specs.Prelude.{◌≡◌, ℕ, ◌≤◌, ◌<◌, ◌+◌, List, [], ◌∷◌, ◌++◌, Ok, length, IfOk, OnOk};
+ghost use Rattle.std.specs.Prelude.{◌≡◌, ℕ, ◌≤◌, ◌<◌, ◌+◌, List, [], ◌∷◌, ◌++◌, length, IfOk};
 ghost use Rattle.arrayvec.specs.ArrayVec.{array_vec_len};
-ghost use Rattle.dname.specs.Labels.{wire};
-ghost use Rattle.dname.specs.Draft.{labelled};
+ghost use Rattle.dname.specs.Wire.{IsSpellingWire};
 ghost use Rattle.wire.specs.Parts.{message_faults, spelt_at, name_at};
 ghost use Rattle.wire.specs.Chains.{AreChainEnds};
 ghost use Rattle.wire.specs.Results.{Gives, and_then};
 ghost use Rattle.wire.specs.Skips.{end_alone};
+ghost use Rattle.wire.specs.Spellings.{spelt_by};
 
 use crate::chains::chain_behind;
 use crate::error::WireError;
 use crate::parts::{Faults, Part, part_at};
 use crate::spelling::Spelling;
 use arrayvec::ArrayVec;
-use dname::{Builder, Heap, Name, Overflow, Starved};
-
-// A label more of a name that has room for it: only memory can be refused.
-fn put_label<A: Heap>(name: &mut Builder<A>, label: &[u8]) -> Result<(), Starved>
-    requires shut { name.old.opened ≡ [] }
-    requires some { 0 < length label.now }
-    requires short { length label.now < 64 }
-    requires room { length (wire name.old.closed) + length label.now < 254 }
-    ensures { OnOk result (labelled name.old label.now ≡ Ok name.new) }
-{
-    match name.push_label(label) {
-        Ok(()) => Ok(()),
-        Err(refused) => {
-            prove!(matches!(refused, Overflow::Memory));
-            Err(Starved)
-        }
-    }
-}
+use dname::{Heap, Name};
 
 // A label more of a spelling that has room for it, behind its length.
 fn put_letters(letters: &mut ArrayVec<u8, 255>, label: &[u8])
@@ -44,22 +27,24 @@ fn put_letters(letters: &mut ArrayVec<u8, 255>, label: &[u8])
     }
 }
 
-// The name at a place (RFC 1035, section 4.1.4), whose own part ends at the limit at the latest, and the
-// end of what lies there. Chains of pointers whose ends are known are passed in one step.
-pub fn name_at<A: Heap>(
-    alloc: A,
+// Gathers the name at a place in its own letters and in wire form (RFC 1035, section 4.1.4): the one walk over names.
+// Gives the end of what lies there, which ends at the limit at the latest. Chains of pointers whose ends are known are
+// passed in one step. It takes no memory.
+fn letters_at(
+    letters: &mut ArrayVec<u8, 255>,
     bytes: &[u8],
     ends: &[u16],
     faults: Faults,
     limit: usize,
     at: usize,
-) -> Result<(Name<A>, usize), WireError>
+) -> Result<usize, WireError>
+    requires empty { letters.old.items ≡ [] }
     requires fits { limit ≤ length bytes.now }
     requires known { AreChainEnds bytes.now ends.now }
-    ensures is { Gives {Y = List (List ℕ) × ℕ} (λ x. (x.0, x.1)) result (name_at bytes.now faults limit at) }
-    ensures within { IfOk result (λ x. x.1 ≤ limit) }
+    ensures is { spelt_by letters.new.items result ≡ spelt_at bytes.now faults limit at }
+    ensures spelling { IfOk result (λ _. IsSpellingWire letters.new.items) }
+    ensures within { IfOk result (λ end. end ≤ limit) }
 {
-    let mut name = Builder::new(alloc)?;
     let mut start = at;
     let mut stop = limit;
     let mut border = faults.border;
@@ -68,7 +53,10 @@ pub fn name_at<A: Heap>(
     let mut end = None;
     'parts: loop {
         match part_at(bytes, stop, border, faults.bad_label, place)? {
-            Part::End => return Ok((name.finish(), end.unwrap_or(place + 1))),
+            Part::End => {
+                letters.push(0);
+                return Ok(end.unwrap_or(place + 1));
+            }
             Part::Label(size) => {
                 if room < size + 2 {
                     return Err(faults.too_long);
@@ -76,7 +64,7 @@ pub fn name_at<A: Heap>(
                 if stop - place - 1 < size {
                     return Err(border);
                 }
-                put_label(&mut name, &bytes[place + 1..place + 1 + size])?;
+                put_letters(letters, &bytes[place + 1..place + 1 + size]);
                 place += 1 + size;
                 room -= size + 1;
             }
@@ -95,46 +83,40 @@ pub fn name_at<A: Heap>(
     }
 }
 
+// The name at a place, whose own part ends at the limit at the latest, and the end of what lies there.
+pub fn name_at<A: Heap>(
+    alloc: A,
+    bytes: &[u8],
+    ends: &[u16],
+    faults: Faults,
+    limit: usize,
+    at: usize,
+) -> Result<(Name<A>, usize), WireError>
+    requires fits { limit ≤ length bytes.now }
+    requires known { AreChainEnds bytes.now ends.now }
+    ensures is { Gives {Y = List (List ℕ) × ℕ} (λ x. (x.0, x.1)) result (name_at bytes.now faults limit at) }
+    ensures within { IfOk result (λ x. x.1 ≤ limit) }
+{
+    let mut letters = ArrayVec::new();
+    let end = letters_at(&mut letters, bytes, ends, faults, limit, at)?;
+    Ok((Name::of_letters(alloc, &letters)?, end))
+}
+
 // The end of the name at a place of a message: whether one stands there, as `name_at` decides it. None is built.
 pub fn name_end(bytes: &[u8], ends: &[u16], at: usize) -> Result<usize, WireError>
     requires { AreChainEnds bytes.now ends.now }
     ensures is { result ≡ and_then (name_at bytes.now message_faults (length bytes.now) at) end_alone }
     ensures within { IfOk result (λ end. end ≤ length bytes.now) }
 {
-    let mut start = at;
-    let mut place = at;
-    let mut room = 255;
-    let mut end = None;
-    'parts: loop {
-        match part_at(
-            bytes,
-            bytes.len(),
-            WireError::Short,
-            WireError::BadLabel,
-            place,
-        )? {
-            Part::End => return Ok(end.unwrap_or(place + 1)),
-            Part::Label(size) => {
-                if room < size + 2 {
-                    return Err(WireError::NameTooLong);
-                }
-                if bytes.len() - place - 1 < size {
-                    return Err(WireError::Short);
-                }
-                place += 1 + size;
-                room -= size + 1;
-            }
-            Part::Pointer(target) => {
-                if target >= start {
-                    return Err(WireError::PointerNotEarlier);
-                }
-                end = end.or(Some(place + 2));
-                let next = chain_behind(ends, target);
-                start = next;
-                place = next;
-            }
-        }
-    }
+    let mut letters = ArrayVec::new();
+    letters_at(
+        &mut letters,
+        bytes,
+        ends,
+        Faults::in_message(),
+        bytes.len(),
+        at,
+    )
 }
 
 // The name at a place of a message as `name_at` reads it, with its own letters, and the end of what lies there.
@@ -146,43 +128,14 @@ pub fn spelling_at<A: Heap>(
     ensures is { Gives {Y = List (List ℕ) × ℕ} (λ x. (x.0, x.1)) result (spelt_at bytes.now message_faults (length bytes.now) at) }
     ensures within { IfOk result (λ x. x.1 ≤ length bytes.now) }
 {
-    let mut name = Builder::new(alloc)?;
     let mut letters = ArrayVec::new();
-    let mut start = at;
-    let mut stop = bytes.len();
-    let mut border = WireError::Short;
-    let mut place = at;
-    let mut room = 255;
-    let mut end = None;
-    'parts: loop {
-        match part_at(bytes, stop, border, WireError::BadLabel, place)? {
-            Part::End => {
-                letters.push(0);
-                let spelling = Spelling::from_wire(alloc, &letters, name.finish())?;
-                return Ok((spelling, end.unwrap_or(place + 1)));
-            }
-            Part::Label(size) => {
-                if room < size + 2 {
-                    return Err(WireError::NameTooLong);
-                }
-                if stop - place - 1 < size {
-                    return Err(border);
-                }
-                put_label(&mut name, &bytes[place + 1..place + 1 + size])?;
-                put_letters(&mut letters, &bytes[place + 1..place + 1 + size]);
-                place += 1 + size;
-                room -= size + 1;
-            }
-            Part::Pointer(target) => {
-                if target >= start {
-                    return Err(WireError::PointerNotEarlier);
-                }
-                end = end.or(Some(place + 2));
-                start = target;
-                stop = bytes.len();
-                border = WireError::Short;
-                place = target;
-            }
-        }
-    }
+    let end = letters_at(
+        &mut letters,
+        bytes,
+        &[],
+        Faults::in_message(),
+        bytes.len(),
+        at,
+    )?;
+    Ok((Spelling::of_letters(alloc, &letters)?, end))
 }

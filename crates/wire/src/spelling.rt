@@ -1,9 +1,8 @@
 //! A name with the letters in which it was asked for.
-ghost use Rattle.std.specs.Prelude.{◌≡◌, ◌<◌, ◌≤◌, IfOk, length};
+ghost use Rattle.std.specs.Prelude.{◌≡◌, ◌≤◌, IfOk, length};
 ghost use Rattle.dname.specs.Labels.{wire, folded_labels};
-ghost use Rattle.dname.specs.Wire.{labels_of};
+ghost use Rattle.dname.specs.Wire.{labels_of, IsSpellingWire};
 ghost use Rattle.layout.specs.Messages.{IsSpelling};
-ghost use Rattle.wire.specs.Spellings.{IsSpelt};
 
 use dname::{Heap, Name, Starved};
 use std::alloc::{Allocator, Global};
@@ -33,24 +32,20 @@ impl<A: Allocator> Model for Spelling<A> {
 }
 
 impl<A: Heap> Spelling<A> {
-    // A spelling from its wire form and the name in lower case. It takes memory if they differ.
-    #[tactic(auto, using(crate::proofs::Fitting::letters_kept))]
-    pub(crate) fn from_wire(alloc: A, letters: &[u8], name: Name<A>) -> Result<Spelling<A>, Starved>
-        requires spelt { IsSpelt letters.now name }
-        requires some { 0 < length letters.now }
+    // A spelling from its wire form, which takes memory of its own if it differs from that of the name in lower case.
+    pub(crate) fn of_letters(alloc: A, letters: &[u8]) -> Result<Spelling<A>, Starved>
+        requires { IsSpellingWire letters.now }
         ensures { IfOk result (λ s. s ≡ labels_of letters.now) }
     {
+        let name = Name::of_letters(alloc, letters)?;
         if letters == name.wire() {
             return Ok(Spelling {
                 letters: Vec::new(alloc),
                 name,
             });
         }
-        let letters = Vec::from_slice(alloc, letters);
-        Ok(Spelling {
-            letters: letters?,
-            name,
-        })
+        let letters = Vec::from_slice(alloc, letters)?;
+        Ok(Spelling { letters, name })
     }
 }
 

@@ -109,7 +109,8 @@ fn referral<'a, A: Allocator>(
 {
     Draft {
         header: header(query.start, false, 0),
-        question: Some(&query.echo),
+        questions: &[],
+        echo: Some(&query.echo),
         first: &[],
         second: None,
         authority: ns.as_slice(),
@@ -126,7 +127,8 @@ fn answer<'a, A: Allocator>(
 {
     Draft {
         header: header(query.start, true, end.rcode()),
-        question: Some(&query.echo),
+        questions: &[],
+        echo: Some(&query.echo),
         first: aliases.as_slice(),
         second: end.found(),
         authority: end.denial(),

@@ -1,0 +1,9 @@
+use Rattle.std.proofs.Common.{◌∙◌, arith}
+use Rattle.dname.proofs.Folds.{lower_names}
+use Rattle.dname.proofs.name.Name.of_letters.Goals as goal
+
+pub from_wire-requires : goal.from_wire-requires
+from_wire-requires g c = (lower_names c.args.letters.now c.in_ok-to_ascii_lowercase.field-0.items c.requires (λ i. omega (arith, c.type_inv.letters i)) c.in_ok-to_ascii_lowercase.ensures.ok).good
+
+pub returns : goal.returns
+returns g c = c.from_wire.ensures ∙ (lower_names c.args.letters.now c.in_ok-to_ascii_lowercase.field-0.items c.requires (λ i. omega (arith, c.type_inv.letters i)) c.in_ok-to_ascii_lowercase.ensures.ok).same
