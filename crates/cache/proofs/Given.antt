@@ -8,7 +8,8 @@ use Rattle.zone.specs.Links.{Link, Found, Alias, NoData, NxDomain}
 use Rattle.zone.specs.Zones.{cname_type}
 use Rattle.recency.specs.Orders.{kept}
 use Rattle.recency.proofs.Kept.{by_test, kept_found, kept_others, removed_others_of}
-use Rattle.recency.proofs.Keys.{kept_valid, used_valid, removed_valid, removed_missed}
+use Rattle.recency.proofs.Keys.{used_valid, removed_valid, removed_missed}
+use Rattle.recency.proofs.Stored as stores
 use Rattle.cache.specs.Keys.{Kind, Key, same_key, kind_key, error_key, key_for}
 use Rattle.cache.specs.Cached.{Hit, as_kept, as_alias, with_link, is_live, live_from, live_at, set_from, set_at, alias_from, alias_at, under, or_else, answer, hit_of, moved, after_look, is_error, stored, after_keep, Lives, IsMiss, ComesFirst, IsHeld}
 use Rattle.cache.specs.Laws.{same_key_exact}
@@ -153,11 +154,7 @@ kind_from_error q t e = apart_from_error q t (Found []) refl e
 
 module _ (cap : ℕ) (q : List (List ℕ)) (t : ℕ) (h : Hit) (es : List (Key × Hit)) (valid : IsValid same_key (lru_cache es cap)) where
   stored_valid : IsValid same_key (lru_cache (stored cap (key_for q t h.link) h es) cap)
-  stored_valid = by_bool (nat_eq h.ttl 0)
-    where
-      by_bool : (b : Bool) → IsValid same_key (lru_cache (cond b (remove_entry (same_key (key_for q t h.link)) es) (kept same_key cap (key_for q t h.link) h es)) cap)
-      by_bool true = removed_valid same_key same_key_exact cap (key_for q t h.link) es valid
-      by_bool false = kept_valid same_key same_key_exact cap (key_for q t h.link) h es valid
+  stored_valid = stores.stored_valid same_key same_key_exact cap (key_for q t h.link) h h.ttl es valid
 
   pub keep_valid : IsValid same_key (lru_cache (after_keep cap q t h es) cap)
   keep_valid = by_bool (is_error h.link)

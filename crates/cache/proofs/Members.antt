@@ -1,12 +1,14 @@
 -- Which entries a look-up and a keep leave, over plain lists.
 use Rattle.std.proofs.Common.{◌≡◌, ◌≢◌, ℕ, List, Contains, Option, Some, None, subst}
 use Rattle.recency.specs.Orders.{KeepsOnly, LosesOnly, HasSame}
-use Rattle.cache.specs.Keys.{Key, key_for}
+use Rattle.recency.proofs.Stored.{moved_same}
+use Rattle.cache.specs.Keys.{Key, same_key, key_for}
 use Rattle.cache.specs.Cached.{Hit, answer, hit_of, after_look, after_keep, IsKept, IsGone, IsHeld}
-use Rattle.cache.proofs.Steps.{AreHeld, answers_held, moved_same, after_there, after_only, after_gone}
+use Rattle.cache.specs.Laws.{same_key_exact}
+use Rattle.cache.proofs.Steps.{AreHeld, answers_held, after_there, after_only, after_gone}
 
 pub looked_members : (q : List (List ℕ)) (t now : ℕ) (es : List (Key × Hit)) → HasSame es (after_look q t now es)
-looked_members q t now es = moved_same (answer q t now es) es
+looked_members q t now es = moved_same same_key same_key_exact (answer q t now es) es
 
 pub kept_members : (cap : ℕ) (q : List (List ℕ)) (t : ℕ) (h : Hit) (es : List (Key × Hit)) → KeepsOnly es (IsKept q t h) (after_keep cap q t h es)
 kept_members cap q t h es = after_only cap q t h es

@@ -1,13 +1,14 @@
 -- What the steps of a cache leave.
-use Rattle.std.proofs.Common.{◌≡◌, ◌≢◌, ℕ, Bool, true, false, cond, nat_eq, ◌⊎◌, inl, inr, List, Contains, Option, Some, None, is_some, refl, sym, ap, ◌∙◌, subst, eqb-true, eq-eqb}
+use Rattle.std.proofs.Common.{◌≡◌, ◌≢◌, ℕ, Bool, true, false, cond, nat_eq, ◌⊎◌, inl, inr, List, Contains, Option, Some, None, is_some, refl, sym, ap, ◌∙◌, subst, eq-eqb}
 use Rattle.std.specs.Prelude.{IfSome}
 use Rattle.std.specs.Map.{lookup, remove_entry}
-use Rattle.lru.specs.LruCache.{LruCache, lru_cache, put_entries, promoted}
+use Rattle.lru.specs.LruCache.{LruCache, lru_cache, promoted}
 use Rattle.lru.proofs.CallerLemmas.{Contains-lookup, Contains-remove_entry}
 use Rattle.zone.specs.Links.{Link, Found, Alias, NoData, NxDomain}
 use Rattle.zone.specs.Zones.{cname_type}
-use Rattle.recency.specs.Orders.{kept, KeepsOnly, LosesOnly, HasSame, MayGo}
-use Rattle.recency.proofs.Kept.{put_is_kept, promoted_is_used, kept_there, kept_only, kept_gone, removed_gone, used_members}
+use Rattle.recency.specs.Orders.{KeepsOnly, LosesOnly, HasSame}
+use Rattle.recency.proofs.Kept.{promoted_is_used, removed_gone}
+use Rattle.recency.proofs.Stored as stores
 use Rattle.cache.specs.Keys.{Kind, NameError, Key, same_key, kind_key, error_key, key_for}
 use Rattle.cache.specs.Cached.{Hit, as_set, as_alias, with_link, live_from, set_from, alias_from, set_at, alias_at, is_live, under, or_else, answer, moved, is_error, swept, stored, after_keep, IsKept, IsGone, Answers, IsHeld}
 use Rattle.cache.specs.Laws.{same_key_exact}
@@ -85,50 +86,13 @@ module _ (c d : LruCache Key Hit) (k : Key) (h : Option Hit) (a : Option (Key ×
       by None e = refl
       by (Some h) e = cc
 
-pub moved_same : (a : Option (Key × Hit)) (es : List (Key × Hit)) → HasSame es (moved a es)
-moved_same None es = (λ e c. c, λ e c. c)
-moved_same (Some a) es = used_members same_key same_key_exact a.0 es
-
 pub moved_members : (c d : LruCache Key Hit) (a : Option (Key × Hit)) → d ≡ lru_cache (moved a c.entries) c.cap → HasSame c.entries d.entries
-moved_members c d a e = subst (λ x. HasSame c.entries x.entries) (sym e) (moved_same a c.entries)
+moved_members c d a e = stores.moved_members same_key same_key_exact c d a e
 
 -- ---- links that are kept
 
-pub put_stored : (c : LruCache Key Hit) (k : Key) (h : Hit) → nat_eq h.ttl 0 ≡ false → lru_cache (put_entries same_key c k h) c.cap ≡ lru_cache (stored c.cap k h c.entries) c.cap
-put_stored c k h some =
-    ap (λ es. lru_cache es c.cap) (put_is_kept same_key same_key_exact k c.cap h c.entries
-    ∙ ap (λ x. cond x (remove_entry (same_key k) c.entries) (kept same_key c.cap k h c.entries)) (sym some))
-
-pub removed_stored : (cap : ℕ) (k : Key) (h : Hit) (es : List (Key × Hit)) → nat_eq h.ttl 0 ≡ true → remove_entry (same_key k) es ≡ stored cap k h es
-removed_stored cap k h es none = ap (λ x. cond x (remove_entry (same_key k) es) (kept same_key cap k h es)) (sym none)
-
 pub swept_is : (q : List (List ℕ)) (l : Link) (es : List (Key × Hit)) → is_error l ≡ false → remove_entry (same_key (error_key q)) es ≡ swept q l es
 swept_is q l es e = ap (λ x. cond x es (remove_entry (same_key (error_key q)) es)) (sym e)
-
-module _ (cap : ℕ) (k : Key) (h : Hit) (es : List (Key × Hit)) where
-  not_zero : nat_eq h.ttl 0 ≡ false → h.ttl ≢ 0
-  not_zero e is = let same = eq-eqb h.ttl 0 is in absurd (cc)
-
-  stored_only : KeepsOnly es (λ e. (e ≡ (k, h)) × (h.ttl ≢ 0)) (stored cap k h es)
-  stored_only e = by (nat_eq h.ttl 0) refl
-    where
-      by : (b : Bool) → nat_eq h.ttl 0 ≡ b → Contains (cond b (remove_entry (same_key k) es) (kept same_key cap k h es)) e → Contains es e ⊎ ((e ≡ (k, h)) × (h.ttl ≢ 0))
-      by true z c = inl (Contains-remove_entry (same_key k) es e c)
-      by false z c = elim (kept_only same_key k cap h es e c) [ inl d ↦ inl d | inr is ↦ inr (is, not_zero z) ]
-
-  stored_gone : LosesOnly es (MayGo same_key cap k es) (stored cap k h es)
-  stored_gone e c = by (nat_eq h.ttl 0)
-    where
-      by : (b : Bool) → Contains (cond b (remove_entry (same_key k) es) (kept same_key cap k h es)) e ⊎ MayGo same_key cap k es e
-      by true = elim (removed_gone same_key same_key_exact k es e c) [ inl d ↦ inl d | inr is ↦ inr (inl is) ]
-      by false = kept_gone same_key same_key_exact k cap h es e c
-
-  stored_there : h.ttl ≢ 0 → Contains (stored cap k h es) (k, h)
-  stored_there some = by (nat_eq h.ttl 0) refl
-    where
-      by : (b : Bool) → nat_eq h.ttl 0 ≡ b → Contains (cond b (remove_entry (same_key k) es) (kept same_key cap k h es)) (k, h)
-      by true z = absurd (some (eqb-true h.ttl 0 z))
-      by false z = kept_there same_key k cap h es
 
 module _ (q : List (List ℕ)) (l : Link) (es : List (Key × Hit)) where
   swept_only : (e : Key × Hit) → Contains (swept q l es) e → Contains es e
@@ -156,18 +120,18 @@ module _ (cap : ℕ) (q : List (List ℕ)) (t : ℕ) (h : Hit) (es : List (Key �
   pub after_there : h.ttl ≢ 0 → Contains (after_keep cap q t h es) (key_for q t h.link, h)
   after_there some =
       let k = key_for q t h.link in
-      elim (swept_gone q h.link (stored cap k h es) (k, h) (stored_there cap k h es some)) [
+      elim (swept_gone q h.link (stored cap k h es) (k, h) (stores.stored_there same_key cap k h h.ttl es some)) [
         | inl c ↦ c
         | inr e ↦ absurd (apart_from_error q t h.link e.1 e.0)
       ]
 
   pub after_only : KeepsOnly es (IsKept q t h) (after_keep cap q t h es)
-  after_only e c = let k = key_for q t h.link in stored_only cap k h es e (swept_only q h.link (stored cap k h es) e c)
+  after_only e c = let k = key_for q t h.link in stores.stored_only same_key cap k h h.ttl es e (swept_only q h.link (stored cap k h es) e c)
 
   pub after_gone : LosesOnly es (IsGone cap q t h es) (after_keep cap q t h es)
   after_gone e c =
       let k = key_for q t h.link in
-      elim (stored_gone cap k h es e c) [
+      elim (stores.stored_gone same_key same_key_exact cap k h h.ttl es e c) [
         | inl d ↦ elim (swept_gone q h.link (stored cap k h es) e d) [ inl s ↦ inl s | inr is ↦ inr (inl is) ]
         | inr go ↦ inr (inr go)
       ]

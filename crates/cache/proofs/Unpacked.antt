@@ -1,8 +1,8 @@
 -- What the steps on links as they lie in memory are on the links that they stand for.
-use Rattle.std.proofs.Common.{◌≡◌, ℕ, ◌<◌, Bool, true, false, cond, List, [], ◌∷◌, map, length, get_or, Option, Some, None, refl, sym, ap, ◌∙◌, subst, arith}
+use Rattle.std.proofs.Common.{◌≡◌, ℕ, ◌<◌, Bool, true, false, List, [], ◌∷◌, map, length, get_or, Some, None, refl, sym, ap, ◌∙◌, arith}
 use Rattle.std.specs.Prelude.{option_map}
 use Rattle.std.specs.Map.{lookup, remove_entry}
-use Rattle.lru.specs.LruCache.{LruCache, lru_cache, IsValid, put_entries, promoted}
+use Rattle.lru.specs.LruCache.{LruCache, lru_cache, IsValid, promoted}
 use Rattle.dname.specs.Labels.{same_name}
 use Rattle.dname.specs.Laws.{same_name-exact}
 use Rattle.rdata.specs.Data.{Datum}
@@ -11,10 +11,11 @@ use Rattle.rdata.specs.Records.{Record}
 use Rattle.rdata.specs.Rows.{row, rows, first_in}
 use Rattle.rdata.specs.declared.data.RData.{RData}
 use Rattle.zone.specs.Links.{Found, Alias}
-use Rattle.recency.proofs.Kept.{put_is_kept, promoted_is_used}
-use Rattle.recency.proofs.Mapped.{valid_mapped, looked_mapped, kept_mapped, used_mapped, removed_mapped}
+use Rattle.recency.specs.Stores as stores
+use Rattle.recency.specs.Stores.{put_for}
+use Rattle.recency.proofs.Seen.{seen_valid, live_seen, dead_seen, none_seen, popped_seen, promoted_seen, stored_seen}
 use Rattle.cache.specs.Keys.{Key, same_key}
-use Rattle.cache.specs.Cached.{Hit, as_alias, is_live, live_from, live_at}
+use Rattle.cache.specs.Cached.{Hit, as_alias, is_live, live_at, stored}
 use Rattle.cache.specs.Packed.{Packed, owned, hit_of_packed, unpacked}
 use Rattle.cache.specs.Laws.{same_key_exact}
 
@@ -66,37 +67,24 @@ shown_as e es n is = ap shown is
 
 module _ (c : LruCache Key Hit) (e : LruCache Key Packed) (view : shown e ≡ c) where
   pub valid_shows : IsValid same_key e → IsValid same_key c
-  valid_shows h = subst (IsValid same_key) view (valid_mapped at same_key e.cap e.entries h)
-
-  pub live_is : (now : ℕ) (k : Key) (o : Option Packed) → lookup (same_key k) e.entries ≡ o → live_at now k c.entries ≡ live_from now (option_map (hit_of_packed k.name) o)
-  live_is now k o found =
-      ap (λ x. live_at now k x.entries) (sym view)
-      ∙ ap (live_from now) (looked_mapped at same_key same_key_exact k e.entries ∙ ap (option_map (hit_of_packed k.name)) found)
+  valid_shows h = seen_valid at same_key same_key_exact c e view h
 
   -- The answer r of the test of age decides.
   pub live_found : (now : ℕ) (k : Key) (p : Packed) (r : Bool) → lookup (same_key k) e.entries ≡ Some p → r ≡ is_live now (at k p) → r ≡ true → Some (at k p) ≡ live_at now k c.entries
-  live_found now k p r found is live = sym (live_is now k (Some p) found ∙ ap (λ b. cond b (Some (at k p)) None) (sym is ∙ live))
+  live_found now k p r found is live = live_seen at same_key same_key_exact c e view (is_live now) k p r found is live
 
   pub dead_found : (now : ℕ) (k : Key) (p : Packed) (r : Bool) → lookup (same_key k) e.entries ≡ Some p → r ≡ is_live now (at k p) → r ≡ false → None ≡ live_at now k c.entries
-  dead_found now k p r found is dead = sym (live_is now k (Some p) found ∙ ap (λ b. cond b (Some (at k p)) None) (sym is ∙ dead))
+  dead_found now k p r found is dead = dead_seen at same_key same_key_exact c e view (is_live now) k p r found is dead
 
   pub none_found : (now : ℕ) (k : Key) → lookup (same_key k) e.entries ≡ None → None ≡ live_at now k c.entries
-  none_found now k found = sym (live_is now k None found)
+  none_found now k found = none_seen at same_key same_key_exact c e view (is_live now) k found
 
   pub popped_shows : (test : Key → Bool) (d : LruCache Key Packed) → d ≡ lru_cache (remove_entry test e.entries) e.cap → shown d ≡ lru_cache (remove_entry test c.entries) c.cap
-  popped_shows test d is =
-      ap shown is ∙ (ap (λ es. lru_cache es e.cap) (sym (removed_mapped at test e.entries)) ∙ ap (λ x. lru_cache (remove_entry test x.entries) x.cap) view)
+  popped_shows test d is = popped_seen at same_key same_key_exact c e view test d is
 
   pub promoted_shows : (k : Key) (d : LruCache Key Packed) → d ≡ lru_cache (promoted (same_key k) e.entries) e.cap → shown d ≡ lru_cache (promoted (same_key k) c.entries) c.cap
-  promoted_shows k d is =
-      ap shown is
-      ∙ (ap (λ es. lru_cache es e.cap) (ap unpacked (promoted_is_used same_key same_key_exact k e.entries)
-      ∙ (sym (used_mapped at same_key same_key_exact k e.entries) ∙ sym (promoted_is_used same_key same_key_exact k (unpacked e.entries))))
-      ∙ ap (λ x. lru_cache (promoted (same_key k) x.entries) x.cap) view)
+  promoted_shows k d is = promoted_seen at same_key same_key_exact c e view k d is
 
-  pub put_shows : (k : Key) (p : Packed) (d : LruCache Key Packed) → d ≡ lru_cache (put_entries same_key e k p) e.cap → shown d ≡ lru_cache (put_entries same_key c k (hit_of_packed k.name p)) c.cap
-  put_shows k p d is =
-      ap shown is
-      ∙ (ap (λ es. lru_cache es e.cap) (ap unpacked (put_is_kept same_key same_key_exact k e.cap p e.entries)
-      ∙ (sym (kept_mapped at same_key same_key_exact k e.cap p e.entries) ∙ sym (put_is_kept same_key same_key_exact k e.cap (at k p) (unpacked e.entries))))
-      ∙ ap (λ x. lru_cache (put_entries same_key x k (at k p)) x.cap) view)
+  pub stored_shows : (k : Key) (p : Packed) (ttl : ℕ) (d : LruCache Key Packed) → d ≡ lru_cache (put_for same_key e k p ttl) e.cap → ttl ≡ p.ttl
+      → shown d ≡ lru_cache (stored c.cap k (at k p) c.entries) c.cap
+  stored_shows k p ttl d is its = stored_seen at same_key same_key_exact c e view k p ttl d is ∙ ap (λ n. lru_cache (stores.stored same_key c.cap k (at k p) n c.entries) c.cap) its

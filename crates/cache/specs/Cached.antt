@@ -6,7 +6,8 @@ use Rattle.rdata.specs.Sets.{with_ttl}
 use Rattle.zone.specs.Links.{Link, Found, Alias, NoData, NxDomain}
 use Rattle.zone.specs.Zones.{cname_type}
 use Rattle.recency.specs.Ages.{is_young}
-use Rattle.recency.specs.Orders.{kept, used, MayGo}
+use Rattle.recency.specs.Orders.{MayGo}
+use Rattle.recency.specs.Stores as stores
 use Rattle.cache.specs.Keys.{Key, same_key, kind_key, error_key, key_for}
 
 -- A link as it is kept: its time to live in seconds, and the moment since which it is kept, in milliseconds.
@@ -60,8 +61,7 @@ with_link h None = None
 with_link h (Some l) = Some (record { link = l; ttl = h.ttl; since = h.since })
 
 abbrev pub live_from : ℕ → Option Hit → Option Hit
-live_from now None = None
-live_from now (Some h) = cond (is_live now h) (Some h) None
+live_from now o = stores.live_from (is_live now) o
 
 abbrev pub set_from : Option Hit → Option Hit
 set_from None = None
@@ -73,7 +73,7 @@ alias_from (Some h) = with_link h (as_alias h.link)
 
 -- What is kept under the key and lives.
 abbrev pub live_at : ℕ → Key → List (Key × Hit) → Option Hit
-live_at now k es = live_from now (lookup (same_key k) es)
+live_at now k es = stores.live_at same_key (is_live now) k es
 
 abbrev pub set_at : ℕ → Key → List (Key × Hit) → Option Hit
 set_at now k es = set_from (live_at now k es)
@@ -82,12 +82,10 @@ abbrev pub alias_at : ℕ → Key → List (Key × Hit) → Option Hit
 alias_at now k es = alias_from (live_at now k es)
 
 abbrev pub under : Key → Option Hit → Option (Key × Hit)
-under k None = None
-under k (Some h) = Some (k, h)
+under k o = stores.under k o
 
 abbrev pub or_else : Option (Key × Hit) → Option (Key × Hit) → Option (Key × Hit)
-or_else None later = later
-or_else (Some hit) later = Some hit
+or_else first later = stores.or_else first later
 
 -- The answer and the key under which it stands: the name's error, then the asked type, then, for a type
 -- other than CNAME, the alias. The first that lives answers.
@@ -125,8 +123,7 @@ abbrev pub lent : Asked → ℕ → List (Key × Hit) → Option (Key × Hit)
 lent a now es = or_above a.above now es (answer a.name a.kind now es)
 
 abbrev pub moved : Option (Key × Hit) → List (Key × Hit) → List (Key × Hit)
-moved None es = es
-moved (Some a) es = used same_key a.0 es
+moved a es = stores.moved same_key a es
 
 -- The entry that answers goes first.
 abbrev pub after_look : List (List ℕ) → ℕ → ℕ → List (Key × Hit) → List (Key × Hit)
@@ -144,7 +141,7 @@ swept q l es = cond (is_error l) es (remove_entry (same_key (error_key q)) es)
 
 -- The link goes first under its key; with TTL 0 it is not kept, and what stood under its key goes.
 abbrev pub stored : ℕ → Key → Hit → List (Key × Hit) → List (Key × Hit)
-stored cap k h es = cond (nat_eq h.ttl 0) (remove_entry (same_key k) es) (kept same_key cap k h es)
+stored cap k h es = stores.stored same_key cap k h h.ttl es
 
 abbrev pub after_keep : ℕ → List (List ℕ) → ℕ → Hit → List (Key × Hit) → List (Key × Hit)
 after_keep cap q t h es = swept q h.link (stored cap (key_for q t h.link) h es)

@@ -1,6 +1,6 @@
 -- What a denial says, and how it lies in memory: its three names in wire form, one behind the other.
 use Rattle.std.specs.Prelude.{ℕ, ◌≤◌, List, take, drop, length}
-use Rattle.dname.specs.Wire.{labels_of, IsNameWire}
+use Rattle.dname.specs.Wire.{IsNameWire}
 use Rattle.rdata.specs.Data.{Authority, Soa}
 use Rattle.rdata.specs.Records.{Record}
 

@@ -17,6 +17,7 @@ use authority::Link;
 use dname::{Heap, Name, Starved};
 use lru::LruCache;
 use rdata::RType;
+use recency::keep_for;
 use std::alloc::{Allocator, Global};
 use std::hash::BuildHasher;
 use std::marker::Model;
@@ -118,12 +119,8 @@ impl<S: BuildHasher + Drop, A: Heap> Cache<S, A> {
         ensures ok { OnOk result (self.new ≡ lru_cache (stored self.old.cap key (hit_of_packed key.name packed) self.old.entries) self.old.cap) }
         ensures err { OnErr result (self.new ≡ self.old) }
     {
-        if packed.ttl() == 0 {
-            drop(self.entries.pop(&key));
-            return Ok(());
-        }
-        drop(self.entries.put(key, packed)?);
-        Ok(())
+        let ttl = packed.ttl();
+        keep_for(&mut self.entries, key, packed, ttl)
     }
 
     fn sweep(&mut self, error: &Key<A>, link: &Link<A>)

@@ -2,3 +2,5 @@ pub mod Kept
 pub mod Keys
 pub mod Mapped
 pub mod Places
+pub mod Seen
+pub mod Stored

@@ -21,6 +21,8 @@
 
 mod ages;
 mod laws;
+mod store;
 
 pub use ages::is_young;
 pub use laws::{kept_law, keys_law, mapped_law, places_law, removed_law, used_law};
+pub use store::keep_for;

@@ -1,14 +1,12 @@
 -- What the steps on servers as they lie in memory are on the cuts that they stand for.
-use Rattle.std.proofs.Common.{◌≡◌, ℕ, zero, suc, take, Bool, true, false, cond, nat_eq, List, [], ◌∷◌, Option, Some, None, inl, inr, refl, sym, ap, ◌∙◌, subst}
-use Rattle.std.specs.Prelude.{option_map}
-use Rattle.std.specs.Map.{lookup, remove_entry}
-use Rattle.lru.specs.LruCache.{LruCache, lru_cache, IsValid, put_entries, promoted}
+use Rattle.std.proofs.Common.{◌≡◌, ℕ, zero, suc, take, Bool, true, false, List, [], ◌∷◌, Some, None, inl, inr, refl, ap, ◌∙◌, subst}
+use Rattle.std.specs.Map.{lookup}
+use Rattle.lru.specs.LruCache.{LruCache, lru_cache, IsValid, promoted}
 use Rattle.lru.proofs.Splits.{Contains-cons, Contains-nil}
 use Rattle.dname.specs.Labels.{same_name}
-use Rattle.recency.specs.Orders.{kept}
-use Rattle.recency.proofs.Kept.{put_is_kept, promoted_is_used}
-use Rattle.recency.proofs.Mapped.{valid_mapped, looked_mapped, kept_mapped, used_mapped, removed_mapped}
-use Rattle.referral.specs.Cuts.{Servers, Known, known_of, shown, AreNamed, is_live, live_from, live_at, after_keep}
+use Rattle.recency.specs.Stores.{stored, put_for}
+use Rattle.recency.proofs.Seen as stores
+use Rattle.referral.specs.Cuts.{Servers, Known, known_of, shown, AreNamed, is_live, live_at, after_keep}
 use Rattle.referral.proofs.Exact.{same_name_exact}
 
 abbrev no_servers : List (List (List ℕ) × Servers)
@@ -32,45 +30,24 @@ module _ (c : LruCache (List (List ℕ)) Known) (e : LruCache (List (List ℕ)) 
   seen_named = subst (λ (x : LruCache (List (List ℕ)) Known). AreNamed x.entries) view (shown_named e.entries)
 
   pub seen_valid : IsValid same_name e → IsValid same_name c
-  seen_valid h = subst (IsValid same_name) view (valid_mapped known_of same_name e.cap e.entries h)
-
-  live_is : (now : ℕ) (n : List (List ℕ)) (o : Option Servers) → lookup (same_name n) e.entries ≡ o → live_at now n c.entries ≡ live_from now (option_map (known_of n) o)
-  live_is now n o found =
-      ap (λ x. live_at now n x.entries) (sym view)
-      ∙ ap (live_from now) (looked_mapped known_of same_name same_name_exact n e.entries ∙ ap (option_map (known_of n)) found)
+  seen_valid h = stores.seen_valid known_of same_name same_name_exact c e view h
 
   -- The answer r of the test of age decides.
   pub live_found : (now : ℕ) (n : List (List ℕ)) (s : Servers) (r : Bool) → lookup (same_name n) e.entries ≡ Some s → r ≡ is_live now (known_of n s) → r ≡ true → Some (known_of n s) ≡ live_at now n c.entries
-  live_found now n s r found is live = sym (live_is now n (Some s) found ∙ ap (λ b. cond b (Some (known_of n s)) None) (sym is ∙ live))
+  live_found now n s r found is live = stores.live_seen known_of same_name same_name_exact c e view (is_live now) n s r found is live
 
   pub dead_found : (now : ℕ) (n : List (List ℕ)) (s : Servers) (r : Bool) → lookup (same_name n) e.entries ≡ Some s → r ≡ is_live now (known_of n s) → r ≡ false → None ≡ live_at now n c.entries
-  dead_found now n s r found is dead = sym (live_is now n (Some s) found ∙ ap (λ b. cond b (Some (known_of n s)) None) (sym is ∙ dead))
+  dead_found now n s r found is dead = stores.dead_seen known_of same_name same_name_exact c e view (is_live now) n s r found is dead
 
   pub none_found : (now : ℕ) (n : List (List ℕ)) → lookup (same_name n) e.entries ≡ None → None ≡ live_at now n c.entries
-  none_found now n found = sym (live_is now n None found)
-
-  pub popped_shows : (test : List (List ℕ) → Bool) (d : LruCache (List (List ℕ)) Servers) → d ≡ lru_cache (remove_entry test e.entries) e.cap → seen d ≡ lru_cache (remove_entry test c.entries) c.cap
-  popped_shows test d is =
-      ap seen is ∙ (ap (λ es. lru_cache es e.cap) (sym (removed_mapped known_of test e.entries)) ∙ ap (λ x. lru_cache (remove_entry test x.entries) x.cap) view)
+  none_found now n found = stores.none_seen known_of same_name same_name_exact c e view (is_live now) n found
 
   pub promoted_shows : (n : List (List ℕ)) (d : LruCache (List (List ℕ)) Servers) → d ≡ lru_cache (promoted (same_name n) e.entries) e.cap → seen d ≡ lru_cache (promoted (same_name n) c.entries) c.cap
-  promoted_shows n d is =
-      ap seen is
-      ∙ (ap (λ es. lru_cache es e.cap) (ap shown (promoted_is_used same_name same_name_exact n e.entries)
-      ∙ (sym (used_mapped known_of same_name same_name_exact n e.entries) ∙ sym (promoted_is_used same_name same_name_exact n (shown e.entries))))
-      ∙ ap (λ x. lru_cache (promoted (same_name n) x.entries) x.cap) view)
+  promoted_shows n d is = stores.promoted_seen known_of same_name same_name_exact c e view n d is
 
-  pub put_shows : (n : List (List ℕ)) (s : Servers) (d : LruCache (List (List ℕ)) Servers) → d ≡ lru_cache (put_entries same_name e n s) e.cap → seen d ≡ lru_cache (kept same_name c.cap n (known_of n s) c.entries) c.cap
-  put_shows n s d is =
-      ap seen is
-      ∙ (ap (λ es. lru_cache es e.cap) (ap shown (put_is_kept same_name same_name_exact n e.cap s e.entries) ∙ sym (kept_mapped known_of same_name same_name_exact n e.cap s e.entries))
-      ∙ ap (λ x. lru_cache (kept same_name x.cap n (known_of n s) x.entries) x.cap) view)
-
-pub kept_stored : (cap : ℕ) (n : List (List ℕ)) (s : Servers) (es : List (List (List ℕ) × Known)) → nat_eq s.ttl 0 ≡ false → lru_cache (kept same_name cap n (known_of n s) es) cap ≡ lru_cache (after_keep cap (known_of n s) es) cap
-kept_stored cap n s es some = ap (λ b. lru_cache (cond b (remove_entry (same_name n) es) (kept same_name cap n (known_of n s) es)) cap) (sym some)
-
-pub removed_stored : (cap : ℕ) (n : List (List ℕ)) (s : Servers) (es : List (List (List ℕ) × Known)) → nat_eq s.ttl 0 ≡ true → lru_cache (remove_entry (same_name n) es) cap ≡ lru_cache (after_keep cap (known_of n s) es) cap
-removed_stored cap n s es none = ap (λ b. lru_cache (cond b (remove_entry (same_name n) es) (kept same_name cap n (known_of n s) es)) cap) (sym none)
+  pub stored_shows : (n : List (List ℕ)) (s : Servers) (ttl : ℕ) (d : LruCache (List (List ℕ)) Servers) → d ≡ lru_cache (put_for same_name e n s ttl) e.cap → ttl ≡ s.ttl
+      → seen d ≡ lru_cache (after_keep c.cap (known_of n s) c.entries) c.cap
+  stored_shows n s ttl d is its = stores.stored_seen known_of same_name same_name_exact c e view n s ttl d is ∙ ap (λ m. lru_cache (stored same_name c.cap n (known_of n s) m c.entries) c.cap) its
 
 -- ---- a new store
 

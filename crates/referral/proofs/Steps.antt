@@ -1,11 +1,12 @@
 -- What the steps of a store of cuts leave, and which cut is found.
-use Rattle.std.proofs.Common.{◌≡◌, ◌≢◌, ℕ, suc, ◌≤◌, Bool, true, false, cond, nat_eq, ◌⊎◌, inl, inr, List, [], ◌∷◌, ◌++◌, length, Contains, Option, Some, None, refl, sym, ap, ◌∙◌, subst, arith, eqb-true, eq-eqb, length-append}
-use Rattle.std.specs.Map.{lookup, remove_entry}
+use Rattle.std.proofs.Common.{◌≡◌, ◌≢◌, ℕ, suc, ◌≤◌, Bool, true, false, cond, ◌⊎◌, inl, inr, List, [], ◌∷◌, ◌++◌, length, Contains, Option, Some, None, refl, sym, ap, ◌∙◌, subst, arith, length-append}
+use Rattle.std.specs.Map.{lookup}
 use Rattle.lru.specs.LruCache.{LruCache, lru_cache, promoted}
-use Rattle.lru.proofs.CallerLemmas.{Contains-lookup, Contains-remove_entry}
+use Rattle.lru.proofs.CallerLemmas.{Contains-lookup}
 use Rattle.dname.specs.Labels.{same_name, root, parent_of, IsName, IsAtOrUnder}
-use Rattle.recency.specs.Orders.{kept, KeepsOnly, LosesOnly, HasSame}
-use Rattle.recency.proofs.Kept.{promoted_is_used, kept_there, kept_only, kept_gone, removed_gone, used_members}
+use Rattle.recency.specs.Orders.{KeepsOnly, LosesOnly, HasSame}
+use Rattle.recency.proofs.Kept.{promoted_is_used}
+use Rattle.recency.proofs.Stored as stores
 use Rattle.referral.specs.Cuts.{Cut, Known, is_live, live_from, live_at, under, or_else, nearest, cut_of, moved, after_keep, Lives, IsDeepest, IsBest, IsKept, IsGone}
 use Rattle.referral.proofs.Exact.{same_name_exact}
 
@@ -153,38 +154,22 @@ moved_some c d n k a found is =
     is ∙ (ap (λ es. lru_cache es c.cap) (promoted_is_used same_name same_name_exact n c.entries) ∙ ap (λ x. lru_cache (moved x c.entries) c.cap) found)
 
 pub moved_same : (a : Option (List (List ℕ) × Known)) (es : Entries) → HasSame es (moved a es)
-moved_same None es = (λ e c. c, λ e c. c)
-moved_same (Some a) es = used_members same_name same_name_exact a.0 es
+moved_same a es = stores.moved_same same_name same_name_exact a es
 
 pub moved_members : (c d : LruCache (List (List ℕ)) Known) (a : Option (List (List ℕ) × Known)) → d ≡ lru_cache (moved a c.entries) c.cap → HasSame c.entries d.entries
-moved_members c d a e = subst (λ x. HasSame c.entries x.entries) (sym e) (moved_same a c.entries)
+moved_members c d a e = stores.moved_members same_name same_name_exact c d a e
 
 -- ---- cuts that are kept
 
 module _ (cap : ℕ) (k : Known) (es : Entries) where
-  not_zero : nat_eq k.ttl 0 ≡ false → k.ttl ≢ 0
-  not_zero e is = let same = eq-eqb k.ttl 0 is in absurd (cc)
-
   pub after_only : KeepsOnly es (IsKept k) (after_keep cap k es)
-  after_only e = by (nat_eq k.ttl 0) refl
-    where
-      by : (b : Bool) → nat_eq k.ttl 0 ≡ b → Contains (cond b (remove_entry (same_name (k.cut).owner) es) (kept same_name cap (k.cut).owner k es)) e → Contains es e ⊎ IsKept k e
-      by true z c = inl (Contains-remove_entry (same_name (k.cut).owner) es e c)
-      by false z c = elim (kept_only same_name (k.cut).owner cap k es e c) [ inl d ↦ inl d | inr is ↦ inr (is, not_zero z) ]
+  after_only = stores.stored_only same_name cap (k.cut).owner k k.ttl es
 
   pub after_gone : LosesOnly es (IsGone cap k es) (after_keep cap k es)
-  after_gone e c = by (nat_eq k.ttl 0)
-    where
-      by : (b : Bool) → Contains (cond b (remove_entry (same_name (k.cut).owner) es) (kept same_name cap (k.cut).owner k es)) e ⊎ IsGone cap k es e
-      by true = elim (removed_gone same_name same_name_exact (k.cut).owner es e c) [ inl d ↦ inl d | inr is ↦ inr (inl is) ]
-      by false = kept_gone same_name same_name_exact (k.cut).owner cap k es e c
+  after_gone = stores.stored_gone same_name same_name_exact cap (k.cut).owner k k.ttl es
 
   pub after_there : k.ttl ≢ 0 → Contains (after_keep cap k es) ((k.cut).owner, k)
-  after_there some = by (nat_eq k.ttl 0) refl
-    where
-      by : (b : Bool) → nat_eq k.ttl 0 ≡ b → Contains (cond b (remove_entry (same_name (k.cut).owner) es) (kept same_name cap (k.cut).owner k es)) ((k.cut).owner, k)
-      by true z = absurd (some (eqb-true k.ttl 0 z))
-      by false z = kept_there same_name (k.cut).owner cap k es
+  after_there = stores.stored_there same_name cap (k.cut).owner k k.ttl es
 
 module _ (c d : LruCache (List (List ℕ)) Known) (k : Known) (is : d ≡ lru_cache (after_keep c.cap k c.entries) c.cap) where
   pub keep_there : k.ttl ≢ 0 → Contains d.entries ((k.cut).owner, k)

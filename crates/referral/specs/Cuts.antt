@@ -1,10 +1,11 @@
 -- Delegations that are kept: which servers are named for a zone and beneath it (RFC 1034, section 5.3.3).
-use Rattle.std.specs.Prelude.{◌≡◌, ◌≢◌, ℕ, ◌≤◌, Bool, true, cond, nat_eq, Option, Some, None, List, [], ◌∷◌, length, Contains}
-use Rattle.std.specs.Map.{lookup, remove_entry}
+use Rattle.std.specs.Prelude.{◌≡◌, ◌≢◌, ℕ, ◌≤◌, Bool, true, Option, Some, None, List, [], ◌∷◌, length, Contains}
+use Rattle.std.specs.Map.{lookup}
 use Rattle.dname.specs.Labels.{same_name, IsAtOrUnder}
 use Rattle.rdata.specs.declared.addr.Addr.{Addr}
 use Rattle.recency.specs.Ages.{is_young}
-use Rattle.recency.specs.Orders.{kept, used, mapped, MayGo}
+use Rattle.recency.specs.Orders.{mapped, MayGo}
+use Rattle.recency.specs.Stores as stores
 
 -- An address of a server, and the server's name: the root's where the name is not known, as of hints.
 pub record ServerAddress : Type 0 where
@@ -48,20 +49,17 @@ abbrev pub is_live : ℕ → Known → Bool
 is_live now k = is_young now k.ttl k.since
 
 abbrev pub live_from : ℕ → Option Known → Option Known
-live_from now None = None
-live_from now (Some k) = cond (is_live now k) (Some k) None
+live_from now o = stores.live_from (is_live now) o
 
 -- What is kept of this very name and lives.
 abbrev pub live_at : ℕ → List (List ℕ) → List (List (List ℕ) × Known) → Option Known
-live_at now n es = live_from now (lookup (same_name n) es)
+live_at now n es = stores.live_at same_name (is_live now) n es
 
 abbrev pub under : List (List ℕ) → Option Known → Option (List (List ℕ) × Known)
-under n None = None
-under n (Some k) = Some (n, k)
+under n o = stores.under n o
 
 abbrev pub or_else : Option (List (List ℕ) × Known) → Option (List (List ℕ) × Known) → Option (List (List ℕ) × Known)
-or_else None later = later
-or_else (Some found) later = Some found
+or_else first later = stores.or_else first later
 
 -- The first of the name and the names above it of which a cut lives, and that cut.
 abbrev pub nearest : List (List ℕ) → ℕ → List (List (List ℕ) × Known) → Option (List (List ℕ) × Known)
@@ -73,8 +71,7 @@ cut_of None = None
 cut_of (Some found) = Some (found.1).cut
 
 abbrev pub moved : Option (List (List ℕ) × Known) → List (List (List ℕ) × Known) → List (List (List ℕ) × Known)
-moved None es = es
-moved (Some found) es = used same_name found.0 es
+moved found es = stores.moved same_name found es
 
 -- The cut that is found goes first.
 abbrev pub after_best : List (List ℕ) → ℕ → List (List (List ℕ) × Known) → List (List (List ℕ) × Known)
@@ -82,7 +79,7 @@ after_best q now es = moved (nearest q now es) es
 
 -- The cut goes first under its name; with TTL 0 it is not kept, and what stood under its name goes.
 abbrev pub after_keep : ℕ → Known → List (List (List ℕ) × Known) → List (List (List ℕ) × Known)
-after_keep cap k es = cond (nat_eq k.ttl 0) (remove_entry (same_name (k.cut).owner) es) (kept same_name cap (k.cut).owner k es)
+after_keep cap k es = stores.stored same_name cap (k.cut).owner k k.ttl es
 
 -- ---- the same in other words
 

@@ -9,6 +9,7 @@ ghost use Rattle.referral.specs.Cuts.{as_kept, known_of, AreNamed, live_at, unde
 use crate::cut::{Cut, Servers};
 use dname::{Heap, Name, Starved};
 use lru::LruCache;
+use recency::keep_for;
 use std::alloc::{Allocator, Global};
 use std::hash::BuildHasher;
 use std::marker::Model;
@@ -72,12 +73,8 @@ impl<S: BuildHasher + Drop, A: Heap> Delegations<S, A> {
         ensures ok { OnOk result (self.new ≡ lru_cache (after_keep self.old.cap (known_of at servers) self.old.entries) self.old.cap) }
         ensures err { OnErr result (self.new ≡ self.old) }
     {
-        if servers.ttl() == 0 {
-            drop(self.entries.pop(&at));
-            return Ok(());
-        }
-        drop(self.entries.put(at, servers)?);
-        Ok(())
+        let ttl = servers.ttl();
+        keep_for(&mut self.entries, at, servers, ttl)
     }
 
     /// The deepest cut that lives at the moment `now`, in milliseconds, and that the name is at or under. It

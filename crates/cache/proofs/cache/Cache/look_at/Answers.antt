@@ -1,4 +1,4 @@
-use Rattle.std.proofs.Common.{◌≡◌, sym, ap, ◌∙◌}
+use Rattle.std.proofs.Common.{◌≡◌, sym, ◌∙◌}
 use Rattle.rdata.specs.Types.{type_number}
 use Rattle.cache.specs.Cached.{under, answer}
 use Rattle.cache.proofs.Steps.{hit_is_held, moved_some, moved_none, moved_members}
