@@ -71,8 +71,9 @@ fn values_at<A: Heap>(
     let mut values = Vec::with_capacity(alloc, most)?;
     let mut later = BTreeSet::new(alloc);
     for added in records {
-        let chosen = is_at(added, owner, kind);
-        put_chosen(&mut values, &mut later, &added.value, chosen)?;
+        if is_at(added, owner, kind) {
+            put_once(&mut values, &mut later, &added.value)?;
+        }
     }
     Ok(values)
 }
@@ -90,20 +91,11 @@ fn lowest_ttl_at<A: Allocator>(records: &[Record<A>], owner: &Name<A>, kind: RTy
 {
     let mut lowest = GREATEST_TTL;
     for tested in records {
-        lowest = lower_by(lowest, tested, is_at(tested, owner, kind));
+        if is_at(tested, owner, kind) {
+            lowest = tested.ttl.min(lowest);
+        }
     }
     lowest
-}
-
-// The lower one of a TTL and that of a record, where it is chosen.
-fn lower_by<A: Allocator>(lowest: u32, tested: &Record<A>, chosen: bool) -> u32
-    ensures { result ≡ cond chosen (min tested.now.ttl lowest) lowest }
-{
-    if chosen {
-        tested.ttl.min(lowest)
-    } else {
-        lowest
-    }
 }
 
 /// One more of the data of a set in the making, where it is chosen and new. `later` finds what stands behind the first

@@ -21,15 +21,6 @@ pub struct Node<A: Allocator> {
 /// The nodes of a zone by the wire forms of their names, so that a name that is lent finds one.
 pub type Nodes<A> = HashMap<Vec<u8, A>, Node<A>, BuildHasherDefault<FoldHasher>, A>;
 
-fn put_if<A: Heap>(places: &mut Vec<usize, A>, place: usize, is_there: bool) -> Result<(), Starved>
-    ensures { OnOk result (places.new.items ≡ more is_there places.old.items place) }
-{
-    if is_there {
-        places.push(place)?;
-    }
-    Ok(())
-}
-
 // The record's place at the node of a name, where the record is the name's own or its wildcard's.
 fn put_place<A: Heap>(
     node: &mut Node<A>,
@@ -39,8 +30,12 @@ fn put_place<A: Heap>(
 ) -> Result<(), Starved>
     ensures { OnOk result (seen node.new ≡ put_place name.now owner.now place (seen node.old)) }
 {
-    put_if(&mut node.own, place, *owner == *name)?;
-    put_if(&mut node.wild, place, owner.is_wildcard_of(name))?;
+    if *owner == *name {
+        node.own.push(place)?;
+    }
+    if owner.is_wildcard_of(name) {
+        node.wild.push(place)?;
+    }
     Ok(())
 }
 

@@ -1,10 +1,11 @@
-use Rattle.std.proofs.Common.{ap}
+use Rattle.std.proofs.Common.{◌∙◌, true, false, map, sym, ap}
 use Rattle.rdata.specs.Kept.{datum}
 use Rattle.rdata.specs.Records.{Record}
 use Rattle.rdata.specs.Types.{type_number}
 use Rattle.rdata.proofs.Found.{none_found}
 use Rattle.rdata.proofs.Values.{values_more, values_none, values_whole}
 use Rattle.rdata.proofs.sets.values_at.Goals as goal
+use Rattle.rdata.proofs.sets.values_at.Goals.{then-is_at+in_ok-put_once, else-is_at}
 
 pub loop-added-init : goal.loop-added-init
 loop-added-init g c = record {
@@ -13,12 +14,20 @@ loop-added-init g c = record {
 }
 
 pub loop-added-preserved : goal.loop-added-preserved
-loop-added-preserved g c = record {
-  made = λ t. values_more c.args.owner.now (type_number c.args.kind) t c.args.records.now c.loop-added.values.items c.put_chosen.new.values.items c.loop-added.added-index
-      c.added-item.result (datum c.added.inside.value) c.is_at-chosen.result c.loop-added-test.true c.added-item.is c.is_at-chosen.ensures (ap (λ (r : Record). r.value) c.added.view_is)
-      (c.loop-added.invariant.made t) c.in_ok-put_chosen.ensures.values;
-  found = c.in_ok-put_chosen.ensures.found;
-}
+loop-added-preserved g c = elim c.if-is_at.branch [
+  | then-is_at+in_ok-put_once w ↦ record {
+    made = λ t. values_more c.args.owner.now (type_number c.args.kind) t c.args.records.now c.loop-added.values.items c.if-is_at.values.items c.loop-added.added-index
+        c.added-item.result (datum c.added.inside.value) true c.loop-added-test.true c.added-item.is (sym w.if-is_at.true ∙ c.is_at.ensures) (ap (λ (r : Record). r.value) c.added.view_is)
+        (c.loop-added.invariant.made t) (ap (λ v. map datum v.items) w.values-is ∙ w.in_ok-put_once.ensures.values);
+    found = rw w.later-is (rw w.values-is w.in_ok-put_once.ensures.found);
+  }
+  | else-is_at w ↦ record {
+    made = λ t. values_more c.args.owner.now (type_number c.args.kind) t c.args.records.now c.loop-added.values.items c.if-is_at.values.items c.loop-added.added-index
+        c.added-item.result (datum c.added.inside.value) false c.loop-added-test.true c.added-item.is (sym w.if-is_at.false ∙ c.is_at.ensures) (ap (λ (r : Record). r.value) c.added.view_is)
+        (c.loop-added.invariant.made t) (ap (λ v. map datum v.items) w.values-is);
+    found = rw w.later-is (rw w.values-is c.loop-added.invariant.found);
+  }
+]
 
 pub returns : goal.returns
 returns g c t =
