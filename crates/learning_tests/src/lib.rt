@@ -5,3 +5,5 @@
 mod classify_tests;
 #[cfg(test)]
 mod known_tests;
+#[cfg(test)]
+mod lifetime_tests;
