@@ -1,11 +1,11 @@
--- One step of a search among notes, and of a walk over a name.
-use Rattle.std.proofs.Common.{◌≡◌, ℕ, zero, suc, ◌+◌, ◌-◌, ◌<◌, ◌≤◌, Bool, true, false, List, [], ◌∷◌, ◌++◌, length, take, drop, get_or, Option, Some, None, refl, sym, ◌∙◌, ap, subst, arith, add-one, drop-cons, append_assoc, length-append}
+-- One step of a walk over a name, and of the notes of it.
+use Rattle.std.proofs.Common.{◌≡◌, ℕ, zero, suc, ◌+◌, ◌-◌, ◌<◌, ◌≤◌, Bool, true, false, List, [], ◌∷◌, ◌++◌, length, take, drop, Option, Some, None, refl, sym, ◌∙◌, ap, subst, arith, append_assoc, length-append}
 use Rattle.std.specs.Prelude.{if◌then◌else◌, nat_lt}
 use Rattle.std.proofs.lemmas.Bool.Decides.{nat_tests}
-use Rattle.std.proofs.lemmas.List.{append-nil, map-append, take-append-le, drop-append-le, drop-drop, drop_all, length-drop}
-use Rattle.std.proofs.lemmas.List.Elements.{All-nil, All-cons, All-head, All-tail, All-same, All-append, All-get_or}
+use Rattle.std.proofs.lemmas.List.{append-nil, map-append, take-append-le, drop-append-le, drop-drop, length-drop}
+use Rattle.std.proofs.lemmas.List.Elements.{All-nil, All-cons, All-head, All-tail, All-same, All-append}
 use Rattle.std.proofs.Math.Seq.{drop-append_seam, take-length}
-use Rattle.dname.specs.Labels.{same_name, root, wire, AreLabels, IsName}
+use Rattle.dname.specs.Labels.{root, wire, AreLabels, IsName}
 use Rattle.dname.specs.Wire.{labels_of, IsWire, IsSplit}
 use Rattle.dname.specs.Laws.{labels_of-wire}
 use Rattle.dname.proofs.Split.{wire_is}
@@ -14,51 +14,6 @@ use Rattle.suffixes.specs.declared.earlier.Found.{Found}
 use Rattle.suffixes.specs.declared.earlier.Noted.{Noted}
 use Rattle.suffixes.specs.Kept.{kept_bytes, note_of, notes_of, IsKept, AreKept}
 use Rattle.suffixes.specs.Longest.{one_more, here_or, longest, first_notes}
-
-abbrev pub or_else : Option ℕ → Option ℕ → Option ℕ
-or_else None later = later
-or_else (Some p) later = Some p
-
-find_head : (x : Note) (later : List Note) (name : List (List ℕ)) → find (x ∷ later) name ≡ or_else (find (x ∷ []) name) (find later name)
-find_head x later name = by (same_name x.suffix name)
-  where
-    by : (b : Bool) → (if b then Some x.place else find later name) ≡ or_else (if b then Some x.place else None) (find later name)
-    by true = refl
-    by false = refl
-
--- What is searched for among the notes from an index on, whose bytes are kept.
-pub record Searching (names : List ℕ) (notes : List Noted) (i : ℕ) (name : List (List ℕ)) (whole : Option ℕ) : Type 0 where
-  pub kept : AreKept names notes
-  pub so_far : find (notes_of names (drop i notes)) name ≡ whole
-
-find_step : (names : List ℕ) (notes : List Noted) (i : ℕ) (x : Noted) (name : List (List ℕ)) → i < length notes → x ≡ get_or notes i x
-    → find (notes_of names (drop i notes)) name ≡ or_else (find (note_of names x ∷ []) name) (find (notes_of names (drop (i + 1) notes)) name)
-find_step names notes i x name h e =
-    let d : drop i notes ≡ x ∷ drop (i + 1) notes = drop-cons notes i x h ∙ (ap (λ y. y ∷ drop (suc i) notes) (sym e) ∙ ap (λ n. x ∷ drop n notes) (sym (add-one i))) in
-    ap (λ ns. find (notes_of names ns) name) d ∙ find_head (note_of names x) (notes_of names (drop (i + 1) notes)) name
-
-pub searching_kept : (names : List ℕ) (notes : List Noted) (i : ℕ) (x : Noted) (name : List (List ℕ)) (whole : Option ℕ) → Searching names notes i name whole
-    → i < length notes → x ≡ get_or notes i x → IsKept names x
-searching_kept names notes i x name whole h l e = subst (λ (y : Noted). IsKept names y) (sym e) (All-get_or (IsKept names) notes i x l h.kept)
-
-pub searching_found : (names : List ℕ) (notes : List Noted) (i p : ℕ) (x : Noted) (name : List (List ℕ)) (o whole : Option ℕ) → Searching names notes i name whole
-    → i < length notes → x ≡ get_or notes i x → o ≡ find (note_of names x ∷ []) name → o ≡ Some p → Some p ≡ whole
-searching_found names notes i p x name o whole h l e is some =
-    let s = find_step names notes i x name l e in
-    let k : find (note_of names x ∷ []) name ≡ Some p = sym is ∙ some in
-    sym (ap (λ y. or_else y (find (notes_of names (drop (i + 1) notes)) name)) k) ∙ (sym s ∙ h.so_far)
-
-pub searching_on : (names : List ℕ) (notes : List Noted) (i : ℕ) (x : Noted) (name : List (List ℕ)) (o whole : Option ℕ) → Searching names notes i name whole
-    → i < length notes → x ≡ get_or notes i x → o ≡ find (note_of names x ∷ []) name → o ≡ None → Searching names notes (i + 1) name whole
-searching_on names notes i x name o whole h l e is none =
-    let s = find_step names notes i x name l e in
-    let k : find (note_of names x ∷ []) name ≡ None = sym is ∙ none in
-    record { kept = h.kept; so_far = sym (ap (λ y. or_else y (find (notes_of names (drop (i + 1) notes)) name)) k) ∙ (sym s ∙ h.so_far) }
-
-pub searching_ends : (names : List ℕ) (notes : List Noted) (i : ℕ) (name : List (List ℕ)) (whole : Option ℕ) → Searching names notes i name whole → length notes ≤ i → None ≡ whole
-searching_ends names notes i name whole h l = sym (ap (λ ns. find (notes_of names ns) name) (drop_all i notes l)) ∙ h.so_far
-
--- ---- a walk over a name
 
 pub name_is_wire : (name : List (List ℕ)) (w : List ℕ) → IsName name → w ≡ wire name → IsWire w
 name_is_wire name w h e = subst (λ (x : List ℕ). IsWire x) (sym e) (wire_is name h.labels)

@@ -3,7 +3,7 @@ ghost use Rattle.std.specs.Prelude.{◌≡◌, ℕ, ◌<◌, ◌≤◌, ◌++◌
 ghost use Rattle.dname.specs.Labels.{wire};
 ghost use Rattle.dname.specs.Wire.{labels_of, IsWire};
 ghost use Rattle.layout.specs.Packing.{find};
-ghost use Rattle.suffixes.specs.Kept.{note_of, notes_of, IsKept, AreKept};
+ghost use Rattle.suffixes.specs.Kept.{note_of, notes_of, IsKept, AreKept, AreLinked};
 ghost use Rattle.suffixes.specs.Longest.{longest, first_notes};
 
 use dname::{Heap, Name, Starved, next_label};
@@ -15,6 +15,9 @@ const POINTER_LIMIT: usize = 16_384;
 
 // Room at first for any one name (RFC 1035, section 2.3.4).
 const COMMON_BYTES: usize = 255;
+
+// The sizes of suffixes: 1 to 255 bytes (RFC 1035, section 2.3.4).
+const SIZES: usize = 256;
 
 // Room at first for the suffixes of a few names.
 const COMMON_NOTES: usize = 16;
@@ -35,6 +38,8 @@ pub struct Noted {
     start: usize,
     size: usize,
     place: u16,
+    // The number of the notes up to the last one before it of its size: 0 where none has that.
+    before: usize,
 }
 
 /// The suffixes of the names that a message has so far. Contracts see them with their places, in the order
@@ -44,18 +49,27 @@ pub struct Suffixes<A: Allocator = Global> {
     // The names in wire form, one behind the other: the suffixes of a name are ends of it and share its bytes.
     names: Vec<u8, A>,
     notes: Vec<Noted, A>,
+    // By size, the number of the notes up to the last one of that size: 0 where none has it.
+    ends: [usize; SIZES],
 }
 
 impl<A: Allocator> Model for Suffixes<A> {
     ghost use Rattle.std.specs.Prelude.{List};
     ghost use Rattle.layout.specs.Packing.{Note};
-    ghost use Rattle.suffixes.specs.Kept.{notes_of, AreKept};
+    ghost use Rattle.suffixes.specs.Kept.{notes_of, AreKept, AreLinked};
 
     ghost Value = { List Note };
 
     ghost view = { λ s. notes_of s.names.items s.notes.items };
 
-    ghost invariant = { λ s. AreKept s.names.items s.notes.items };
+    ghost invariant = { λ s. (AreKept s.names.items s.notes.items) × (AreLinked s.notes.items s.ends) };
+}
+
+// The table without notes.
+fn no_ends() -> [usize; SIZES]
+    ensures { AreLinked [] result }
+{
+    [0; SIZES]
 }
 
 impl Noted {
@@ -79,6 +93,7 @@ impl Noted {
 // is room for them.
 fn note_labels<A: Allocator>(
     notes: &mut Vec<Noted, A>,
+    ends: &mut [usize; SIZES],
     names: &[u8],
     start: usize,
     written: usize,
@@ -86,9 +101,12 @@ fn note_labels<A: Allocator>(
 )
     requires starts { start ≤ length names.now }
     requires wire { IsWire (drop start names.now) }
+    requires short { length (drop start names.now) < 256 }
     requires kept { AreKept names.now notes.old.items }
+    requires linked { AreLinked notes.old.items ends.old }
     requires room { vec_len notes.old + min written (length (drop start names.now)) ≤ vec_capacity notes.old }
     ensures kept { AreKept names.now notes.new.items }
+    ensures linked { AreLinked notes.new.items ends.new }
     ensures noted { notes_of names.now notes.new.items ≡ notes_of names.now notes.old.items ++ first_notes written at (labels_of (drop start names.now)) }
 {
     let (_, mut rest) = names.split_at(start);
@@ -100,11 +118,14 @@ fn note_labels<A: Allocator>(
         if place >= POINTER_LIMIT {
             return;
         }
+        let size = rest.len();
         notes.push_reserved(Noted {
-            start: names.len() - rest.len(),
-            size: rest.len(),
+            start: names.len() - size,
+            size,
             place: place as u16,
+            before: ends[size],
         });
+        ends[size] = notes.len();
         place += 1 + label.len();
         rest = after;
     }
@@ -118,6 +139,7 @@ impl<A: Heap> Suffixes<A> {
         Ok(Suffixes {
             names: Vec::with_capacity(alloc, COMMON_BYTES)?,
             notes: Vec::with_capacity(alloc, COMMON_NOTES)?,
+            ends: no_ends(),
         })
     }
 
@@ -135,7 +157,14 @@ impl<A: Heap> Suffixes<A> {
         let start = self.names.len();
         self.notes.reserve(written.min(bytes.len()))?;
         self.names.extend_from_slice(bytes)?;
-        note_labels(&mut self.notes, &self.names, start, written, at);
+        note_labels(
+            &mut self.notes,
+            &mut self.ends,
+            &self.names,
+            start,
+            written,
+            at,
+        );
         Ok(())
     }
 }
@@ -147,20 +176,25 @@ impl<A: Allocator> Suffixes<A> {
     {
         self.notes.clear();
         self.names.clear();
+        self.ends.fill(0);
     }
 
-    // The place of the earliest note of a suffix.
+    // The place of the earliest note of a suffix. Goes over the notes of its size alone, the newest first: so
+    // what it finds last is the earliest.
     fn find(&self, suffix: &[u8]) -> Option<u16>
-        requires { IsWire suffix.now }
+        requires wire { IsWire suffix.now }
+        requires short { length suffix.now < 256 }
         ensures is { result ≡ find self.now (labels_of suffix.now) }
         ensures reach { IfSome result (λ place. place < 16384) }
     {
-        for note in &self.notes {
-            if let Some(place) = note.place_of(&self.names, suffix) {
-                return Some(place);
-            }
+        let mut left = self.ends[suffix.len()];
+        let mut found = None;
+        while left > 0 {
+            let note = &self.notes[left - 1];
+            found = note.place_of(&self.names, suffix).or(found);
+            left = note.before;
         }
-        None
+        found
     }
 
     /// The longest suffix of a name, other than the root, that was noted, at its earliest place. Takes no

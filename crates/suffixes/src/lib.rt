@@ -3,6 +3,7 @@
 //!
 //! The writer of a message calls `longest` before it writes a name, and `note` behind it: every suffix that begins
 //! with a label that was written, and that a pointer can reach (places below 16,384), is noted with its place.
+//! A suffix is compared with the noted ones of its own length alone, of which each name has at most one.
 //!
 //! Promised: `longest` gives the longest suffix that was noted, at its earliest place, and never the root
 //! (`longest`, in `specs`); what is noted is exactly what was written (`first_notes`); after a refusal nothing is.

@@ -97,6 +97,27 @@ fn the_earliest_among_equals(rt: HostRuntime) -> Result<(), Fail> {
     Ok(())
 }
 
+// Names of one length: each has its own place, the first where a name stands twice.
+#[test]
+fn suffixes_of_one_length(rt: HostRuntime) -> Result<(), Fail> {
+    let mut names = Suffixes::new(rt.alloc())?;
+    for (text, at) in [("a.one", 12), ("b.two", 20), ("a.one", 30), ("c.six", 40)] {
+        note(&mut names, rt.alloc(), text, 2, at)?;
+    }
+    let rows = [
+        ("a.one", Some((0, 0, 12))),
+        ("b.two", Some((0, 0, 20))),
+        ("c.six", Some((0, 0, 40))),
+        ("c.one", Some((1, 2, 14))),
+        ("a.two", Some((1, 2, 22))),
+        ("a.ten", None),
+    ];
+    for (text, place) in rows {
+        assert_eq!(rt; found(&names, rt.alloc(), text)?, place, "{text}");
+    }
+    Ok(())
+}
+
 fn example_place<A: Heap>(alloc: A) -> Result<Option<(usize, usize, u16)>, NameError> {
     let mut names = Suffixes::new(alloc)?;
     note(&mut names, alloc, "f.isi.arpa", 3, 20)?;

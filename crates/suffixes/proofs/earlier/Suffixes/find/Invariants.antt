@@ -1,8 +1,8 @@
-use Rattle.dname.specs.Wire.{labels_of}
-use Rattle.layout.specs.Packing.{find}
-use Rattle.suffixes.specs.Kept.{notes_of}
-use Rattle.suffixes.proofs.Steps.{Searching}
+use Rattle.suffixes.proofs.Search.{Searching}
 use Rattle.suffixes.proofs.earlier.Suffixes.find.Given as goal
 
-abbrev pub invariant-loop-note : goal.invariant-loop-note
-invariant-loop-note g l = Searching l.self-inside.names.items l.note-items l.note-index (labels_of l.suffix) (find (notes_of l.self-inside.names.items l.note-items) (labels_of l.suffix))
+abbrev pub invariant-loop-left : goal.invariant-loop-left
+invariant-loop-left g l = Searching l.self-inside.names.items l.self-inside.notes.items l.suffix l.left l.found
+
+abbrev pub decreases-loop-left : goal.decreases-loop-left
+decreases-loop-left g l = l.left

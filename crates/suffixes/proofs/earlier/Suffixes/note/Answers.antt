@@ -12,4 +12,4 @@ pub returns-clause-ok : goal.returns-clause-ok
 returns-clause-ok g c =
     let names : c.deref.result.now ≡ c.self.inside.names.items ++ c.wire-bytes.result.now = c.deref.ensures.value ∙ c.in_ok-extend_from_slice.ensures.items in
     let start : c.len-start.result ≡ length c.self.inside.names.items = search rules in
-    rw (← c.deref.ensures.value) (noted_behind c.self.inside.names.items _ c.wire-bytes.result.now _ _ _ _ _ _ _ names c.wire-bytes.ensures start c.self.invariant c.self.view_is (rw c.reserve.ensures.items at c.note_labels.ensures.noted))
+    rw (← c.deref.ensures.value) (noted_behind c.self.inside.names.items _ c.wire-bytes.result.now _ _ _ _ _ _ _ names c.wire-bytes.ensures start c.self.invariant.0 c.self.view_is (rw c.reserve.ensures.items at c.note_labels.ensures.noted))
