@@ -106,8 +106,8 @@ fn put_records<A: Allocator, B: Allocator>(
 ) -> Result<(), Starved>
     ensures { OnOk result (string_bytes out.new ≡ string_bytes out.old ++ flat_map (record_line section.now) records.now) }
 {
-    for printed in records {
-        put_record(out, section, printed)?;
+    for rr in records {
+        put_record(out, section, rr)?;
     }
     Ok(())
 }
@@ -116,15 +116,15 @@ fn put_records<A: Allocator, B: Allocator>(
 fn put_record<A: Allocator, B: Allocator>(
     out: &mut String<B>,
     section: &str,
-    printed: &Record<A>,
+    rr: &Record<A>,
 ) -> Result<(), Starved>
-    ensures { OnOk result (string_bytes out.new ≡ string_bytes out.old ++ record_line section.now printed.now) }
+    ensures { OnOk result (string_bytes out.new ≡ string_bytes out.old ++ record_line section.now rr.now) }
 {
     write!(out, "  {section} ")?;
-    put_name(out, &printed.owner)?;
-    let ttl = printed.ttl;
+    put_name(out, &rr.owner)?;
+    let ttl = rr.ttl;
     write!(out, " {ttl} ")?;
-    put_data(out, &printed.value)?;
+    put_data(out, &rr.value)?;
     out.push('\n')?;
     Ok(())
 }

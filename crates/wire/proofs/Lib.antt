@@ -8,6 +8,7 @@ pub mod Bytes
 pub mod Fitting
 pub mod Heading
 pub mod NamesRead
+pub mod Putting
 pub mod DataRead
 pub mod EntriesRead
 pub mod Skipping

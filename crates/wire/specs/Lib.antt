@@ -14,6 +14,7 @@ pub mod Numbers
 pub mod Values
 pub mod Skips
 -- Kept: what the code's own values keep.
+pub mod Puts
 pub mod Chains
 pub mod Shapes
 pub mod Spellings

@@ -6,6 +6,7 @@ ghost use Rattle.rdata.specs.Rows.{in_set};
 ghost use Rattle.layout.specs.Pieces.{after};
 ghost use Rattle.layout.specs.Messages.{encoding, question_pieces, record_pieces, IsQuestion, IsRecord, IsMessage, folded_message};
 ghost use Rattle.wire.specs.Drafts.{RefusesText, asked_alone};
+ghost use Rattle.wire.specs.Puts.{Puts};
 
 use crate::echo::Echo;
 use crate::error::WireError;
@@ -102,21 +103,24 @@ fn put_repeated<A: Heap>(writer: &mut Writer<A>, echo: Option<&Echo<A>>) -> Resu
     }
 }
 
-// The records of a set, where there is one.
-fn put_lent<A: Heap>(writer: &mut Writer<A>, set: Option<&RecordSet<A>>) -> Result<(), Starved>
-    ensures written { OnOk result (writer.new ≡ after writer.old (flat_map record_pieces (in_set (option_copied set.entry)))) }
-    ensures fits { OnOk result (AllByRecursion IsRecord (in_set (option_copied set.entry))) }
+// The records of a set, where there is one, as far as `Writer::put_records` goes.
+fn put_lent<A: Heap>(
+    writer: &mut Writer<A>,
+    set: Option<&RecordSet<A>>,
+    limit: usize,
+) -> Result<(), Starved>
+    ensures { OnOk result (Puts limit (AllByRecursion IsRecord (in_set (option_copied set.entry))) (flat_map record_pieces (in_set (option_copied set.entry))) writer.old writer.new) }
 {
     match set {
         None => Ok(()),
-        Some(set) => writer.put_set(set),
+        Some(set) => writer.put_set(set, limit),
     }
 }
 
 impl<A: Heap> Draft<'_, A> {
     /// The bytes of the message, in its one encoding; none where they are more than `limit`, which is at most
     /// 65,535 (RFC 1035, sections 4.1 and 4.2). They are read back as the message, its question in lower case.
-    /// The writer may have written other messages before.
+    /// Past the limit no record more is written. The writer may have written other messages before.
     pub fn encode(
         &self,
         writer: &mut Writer<A>,
@@ -138,10 +142,10 @@ impl<A: Heap> Draft<'_, A> {
         )?;
         writer.put_questions(self.questions)?;
         put_repeated(writer, self.echo)?;
-        writer.put_records(self.first)?;
-        put_lent(writer, self.second)?;
-        writer.put_records(self.authority)?;
-        writer.put_records(self.additional)?;
+        writer.put_records(self.first, limit)?;
+        put_lent(writer, self.second, limit)?;
+        writer.put_records(self.authority, limit)?;
+        writer.put_records(self.additional, limit)?;
         Ok(writer.finish(limit))
     }
 }

@@ -1,9 +1,10 @@
 //! Bytes read as a message.
-ghost use Rattle.std.specs.Prelude.{◌≡◌, ◌≤◌, ◌⊎◌, List, length, IfOk, IfErr, MatchOption};
+ghost use Rattle.std.specs.Prelude.{◌≡◌, ◌≢◌, ◌≤◌, ◌⊎◌, List, length, IfOk, IfErr, IfNone, IsOk, MatchOption};
 ghost use Rattle.layout.specs.Messages as layouts;
 ghost use Rattle.layout.specs.Messages.{IsMessage};
 ghost use Rattle.wire.specs.declared.error.WireError.TheVariants.{Memory};
 ghost use Rattle.wire.specs.Chains.{AreChainEnds};
+ghost use Rattle.wire.specs.Numbers.{two_at};
 ghost use Rattle.wire.specs.Entries.{message_first, message_of};
 ghost use Rattle.wire.specs.Asked.{AreBehind, IsOnlyQuestion, HasNotOne};
 ghost use Rattle.wire.specs.Results.{Fails, Gives};
@@ -75,14 +76,16 @@ fn check_sections<A: Heap>(alloc: A, bytes: &[u8], at: usize) -> Result<(), Wire
 }
 
 /// The question of a message that has one: its name in lower case, and the question in its own letters, read in one
-/// walk; nothing where the header announces none or several, of which the rest is not looked at. Refused where the
-/// bytes are no message.
+/// walk; nothing where the header announces none or several, of which the rest is not looked at. Refused where there is
+/// no header, or one question and bytes that are no message.
 pub fn decode_question<A: Heap>(
     alloc: A,
     bytes: &[u8],
 ) -> Result<Option<(Name<A>, Echo<A>)>, WireError>
     ensures read { IfOk result (λ o. MatchOption o (HasNotOne bytes.now) (λ q. IsOnlyQuestion bytes.now q.0 q.1)) }
     ensures refused { IfErr result (λ e. (e ≡ Memory) ⊎ ((m : layouts.Message) → IsMessage bytes.now m → ⊥)) }
+    ensures none { IfOk result (λ o. IfNone o (two_at bytes.now 4 ≢ 1)) }
+    ensures passed { 12 ≤ length bytes.now → two_at bytes.now 4 ≢ 1 → IsOk result }
 {
     if bytes.len() < 12 {
         return Err(WireError::Short);

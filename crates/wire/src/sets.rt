@@ -1,33 +1,39 @@
 //! Record sets written: a record for each of their data, with the owner and the TTL of the set.
-ghost use Rattle.std.specs.Prelude.{◌≡◌, ◌≤◌, OnOk, flat_map};
+ghost use Rattle.std.specs.Prelude.{◌≤◌, OnOk, flat_map};
 ghost use Rattle.std.specs.List.{AllByRecursion};
 ghost use Rattle.rdata.specs.Records.{greatest_ttl};
 ghost use Rattle.rdata.specs.Rows.{rows};
-ghost use Rattle.layout.specs.Pieces.{after};
 ghost use Rattle.layout.specs.Messages.{record_pieces, IsRecord};
+ghost use Rattle.wire.specs.Puts.{Puts};
 
 use crate::writer::Writer;
 use dname::{Heap, Name, Starved};
 use rdata::{RData, RecordSet};
 
 impl<A: Heap> Writer<A> {
-    fn put_rows(&mut self, owner: &Name<A>, ttl: u32, values: &[RData<A>]) -> Result<(), Starved>
+    fn put_rows(
+        &mut self,
+        owner: &Name<A>,
+        ttl: u32,
+        values: &[RData<A>],
+        limit: usize,
+    ) -> Result<(), Starved>
         requires { ttl ≤ greatest_ttl }
-        ensures written { OnOk result (self.new ≡ after self.old (flat_map record_pieces (rows owner.now ttl values.now))) }
-        ensures fits { OnOk result (AllByRecursion IsRecord (rows owner.now ttl values.now)) }
+        ensures { OnOk result (Puts limit (AllByRecursion IsRecord (rows owner.now ttl values.now)) (flat_map record_pieces (rows owner.now ttl values.now)) self.old self.new) }
     {
         for value in values {
+            if self.is_over(limit) {
+                return Ok(());
+            }
             self.put_row(owner, ttl, value)?;
         }
         Ok(())
     }
 
-    // The records of a set in order. That they fit their bits and that their names are names is found as by
-    // `put_records`.
-    pub(crate) fn put_set(&mut self, set: &RecordSet<A>) -> Result<(), Starved>
-        ensures written { OnOk result (self.new ≡ after self.old (flat_map record_pieces set.now)) }
-        ensures fits { OnOk result (AllByRecursion IsRecord set.now) }
+    // The records of a set in order, as far as `put_records` goes.
+    pub(crate) fn put_set(&mut self, set: &RecordSet<A>, limit: usize) -> Result<(), Starved>
+        ensures { OnOk result (Puts limit (AllByRecursion IsRecord set.now) (flat_map record_pieces set.now) self.old self.new) }
     {
-        self.put_rows(&set.owner, set.ttl, &set.values)
+        self.put_rows(&set.owner, set.ttl, &set.values, limit)
     }
 }

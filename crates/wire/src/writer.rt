@@ -1,5 +1,5 @@
 //! Bytes of a message as they are written, names compressed.
-ghost use Rattle.std.specs.Prelude.{◌≡◌, ℕ, ◌+◌, ◌<◌, ◌≤◌, ◌++◌, [], ◌∷◌, length, OnOk, IfOk, MatchOption, flat_map};
+ghost use Rattle.std.specs.Prelude.{◌≡◌, ℕ, ◌+◌, ◌<◌, ◌≤◌, ◌++◌, [], ◌∷◌, length, OnOk, IfOk, IsTrue, ◌↔◌, MatchOption, flat_map};
 ghost use Rattle.std.specs.Int.{bytes_high_first};
 ghost use Rattle.std.specs.List.{AllByRecursion};
 ghost use Rattle.dname.specs.Labels.{IsName};
@@ -11,6 +11,7 @@ ghost use Rattle.layout.specs.Pieces.{put_flat, put_flats, put, after, empty, pl
 ghost use Rattle.layout.specs.Packing.{pointer};
 ghost use Rattle.layout.specs.Messages.{data_flats, record_pieces, question_pieces, header_pieces, strings_bytes, FitsRdata, AreNamesOf, IsSpelling, IsHeader, IsQuestion, IsRecord};
 ghost use Rattle.wire.specs.Drafts.{counts_by};
+ghost use Rattle.wire.specs.Puts.{Puts};
 
 use crate::echo::Echo;
 use crate::header::Header;
@@ -243,20 +244,30 @@ impl<A: Heap> Writer<A> {
         self.put_group(value)
     }
 
-    fn put_record(&mut self, added: &Record<A>) -> Result<(), Starved>
-        ensures written { OnOk result (self.new ≡ after self.old (record_pieces added.now)) }
-        ensures fits { OnOk result (IsRecord added.now) }
+    fn put_record(&mut self, rr: &Record<A>) -> Result<(), Starved>
+        ensures written { OnOk result (self.new ≡ after self.old (record_pieces rr.now)) }
+        ensures fits { OnOk result (IsRecord rr.now) }
     {
-        self.put_row(&added.owner, added.ttl, &added.value)
+        self.put_row(&rr.owner, rr.ttl, &rr.value)
     }
 
-    // The records in order. The walk over them finds that each fits its bits and that its names are names.
-    pub(crate) fn put_records(&mut self, records: &[Record<A>]) -> Result<(), Starved>
-        ensures written { OnOk result (self.new ≡ after self.old (flat_map record_pieces records.now)) }
-        ensures fits { OnOk result (AllByRecursion IsRecord records.now) }
+    // Whether the message is longer than the limit.
+    pub(crate) fn is_over(&self, limit: usize) -> bool
+        ensures { IsTrue result ↔ (limit < length (self.now).bytes) }
     {
-        for added in records {
-            self.put_record(added)?;
+        self.bytes.len() > limit
+    }
+
+    // The records in order, until the message is longer than the limit. The walk over them finds that each fits its bits
+    // and that its names are names.
+    pub(crate) fn put_records(&mut self, records: &[Record<A>], limit: usize) -> Result<(), Starved>
+        ensures { OnOk result (Puts limit (AllByRecursion IsRecord records.now) (flat_map record_pieces records.now) self.old self.new) }
+    {
+        for rr in records {
+            if self.is_over(limit) {
+                return Ok(());
+            }
+            self.put_record(rr)?;
         }
         Ok(())
     }
@@ -325,7 +336,7 @@ impl<A: Heap> Writer<A> {
     pub(crate) fn finish(&mut self, limit: usize) -> Option<Vec<u8, A>>
         ensures { MatchOption result (limit < length (self.old).bytes) (λ v. (v.items ≡ (self.old).bytes) × (length (self.old).bytes ≤ limit)) }
     {
-        if self.bytes.len() > limit {
+        if self.is_over(limit) {
             return None;
         }
         let empty = Vec::new(*self.bytes.allocator());

@@ -3,6 +3,6 @@ use Rattle.lines.specs.Lines.{record_line}
 use Rattle.lines.proofs.Printed.{printed_more}
 use Rattle.lines.proofs.reply.put_records.Goals as goal
 
-pub loop-printed-preserved : goal.loop-printed-preserved
-loop-printed-preserved g c =
-    printed_more (record_line c.args.section.now) _ _ c.printed-item.result _ _ _ c.loop-printed-test.true c.printed-item.is c.loop-printed.invariant c.in_ok-put_record.ensures
+pub loop-rr-preserved : goal.loop-rr-preserved
+loop-rr-preserved g c =
+    printed_more (record_line c.args.section.now) _ _ c.rr-item.result _ _ _ c.loop-rr-test.true c.rr-item.is c.loop-rr.invariant c.in_ok-put_record.ensures

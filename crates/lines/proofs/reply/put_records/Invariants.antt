@@ -4,5 +4,5 @@ use Rattle.std.specs.List.{flat_map}
 use Rattle.lines.specs.Lines.{record_line}
 use Rattle.lines.proofs.reply.put_records.Given as goal
 
-abbrev pub invariant-loop-printed : goal.invariant-loop-printed
-invariant-loop-printed g l = string_bytes l.out ≡ string_bytes l.initial.out ++ flat_map (record_line l.section) (take l.printed-index l.records)
+abbrev pub invariant-loop-rr : goal.invariant-loop-rr
+invariant-loop-rr g l = string_bytes l.out ≡ string_bytes l.initial.out ++ flat_map (record_line l.section) (take l.rr-index l.records)

@@ -5,6 +5,6 @@ use Rattle.layout.specs.Pieces.{after}
 use Rattle.layout.specs.Messages.{record_pieces, IsRecord}
 use Rattle.wire.proofs.writer.Writer.put_records.Given as goal
 
-abbrev pub invariant-loop-added : goal.invariant-loop-added
-invariant-loop-added g l =
-    (l.self ≡ after l.initial.self (flat_map record_pieces (take l.added-index l.records))) × AllByRecursion IsRecord (take l.added-index l.records)
+abbrev pub invariant-loop-rr : goal.invariant-loop-rr
+invariant-loop-rr g l =
+    (l.self ≡ after l.initial.self (flat_map record_pieces (take l.rr-index l.records))) × AllByRecursion IsRecord (take l.rr-index l.records)
