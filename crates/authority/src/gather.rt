@@ -9,17 +9,17 @@ ghost use Rattle.authority.specs.Values.{values_of, HaveOneTtl};
 
 use crate::plain::{Whose, answers, first_of};
 use dname::{Heap, Name, Starved};
-use rdata::{RData, RType, Record, RecordSet, Records, put_chosen};
+use rdata::{RData, RType, Record, RecordSet, Records, put_once};
 use std::alloc::Allocator;
 use std::collections::BTreeSet;
 
-pub(crate) fn owned_by<A: Heap>(owner: &Name<A>, added: &Record<A>) -> Result<Record<A>, Starved>
-    ensures { IfOk result (λ r. r ≡ with_owner owner.now added.now) }
+pub(crate) fn owned_by<A: Heap>(owner: &Name<A>, rr: &Record<A>) -> Result<Record<A>, Starved>
+    ensures { IfOk result (λ r. r ≡ with_owner owner.now rr.now) }
 {
     Ok(Record {
         owner: owner.clone()?,
-        ttl: added.ttl,
-        value: added.value.clone()?,
+        ttl: rr.ttl,
+        value: rr.value.clone()?,
     })
 }
 
@@ -35,9 +35,10 @@ fn values_of<A: Heap>(
 {
     let mut values = Vec::new(alloc);
     let mut later = BTreeSet::new(alloc);
-    for added in records {
-        let chosen = answers(added, name, whose, kind);
-        put_chosen(&mut values, &mut later, &added.value, chosen)?;
+    for rr in records {
+        if answers(rr, name, whose, kind) {
+            put_once(&mut values, &mut later, &rr.value)?;
+        }
     }
     Ok(values)
 }

@@ -14,7 +14,7 @@ use crate::answer::Link;
 use crate::gather::owned_by;
 use crate::plain::is_kind;
 use dname::{Heap, Name, Starved};
-use rdata::{RData, RType, Record, RecordSet, put_chosen};
+use rdata::{RData, RType, Record, RecordSet, put_once};
 use std::alloc::Allocator;
 use std::collections::BTreeSet;
 use zone::Held;
@@ -30,8 +30,10 @@ fn values_of<A: Heap>(
     let mut values = Vec::with_capacity(alloc, held.len())?;
     let mut later = BTreeSet::new(alloc);
     for index in 0..held.len() {
-        let added = held.get(index);
-        put_chosen(&mut values, &mut later, &added.value, is_kind(added, kind))?;
+        let rr = held.get(index);
+        if is_kind(rr, kind) {
+            put_once(&mut values, &mut later, &rr.value)?;
+        }
     }
     Ok(values)
 }
@@ -65,9 +67,9 @@ fn first_of<'a, A: Allocator>(held: &Held<'a, A>, kind: RType) -> Option<&'a Rec
     ensures { option_copied result ≡ find (is_type (type_number kind)) held.now }
 {
     for index in 0..held.len() {
-        let added = held.get(index);
-        if is_kind(added, kind) {
-            return Some(added);
+        let rr = held.get(index);
+        if is_kind(rr, kind) {
+            return Some(rr);
         }
     }
     None

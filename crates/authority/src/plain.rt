@@ -27,60 +27,58 @@ pub(crate) enum Whose {
 }
 
 // Whether a record stands at the name, or at the wildcard right under it.
-fn stands<A: Allocator>(added: &Record<A>, name: &Name<A>, whose: Whose) -> bool
-    ensures { result ≡ is_owned (target whose name.now) added.now }
+fn stands<A: Allocator>(rr: &Record<A>, name: &Name<A>, whose: Whose) -> bool
+    ensures { result ≡ is_owned (target whose name.now) rr.now }
 {
     match whose {
-        Whose::Own => added.owner == *name,
-        Whose::Wildcard => added.owner.is_wildcard_of(name),
+        Whose::Own => rr.owner == *name,
+        Whose::Wildcard => rr.owner.is_wildcard_of(name),
     }
 }
 
-pub(crate) fn is_kind<A: Allocator>(added: &Record<A>, kind: RType) -> bool
-    ensures { result ≡ is_type (type_number kind) added.now }
+pub(crate) fn is_kind<A: Allocator>(rr: &Record<A>, kind: RType) -> bool
+    ensures { result ≡ is_type (type_number kind) rr.now }
 {
-    added.is(kind)
+    rr.is(kind)
 }
 
 // Whether it stands there and has the type.
 pub(crate) fn answers<A: Allocator>(
-    added: &Record<A>,
+    rr: &Record<A>,
     name: &Name<A>,
     whose: Whose,
     kind: RType,
 ) -> bool
-    ensures { result ≡ is_picked (target whose name.now) (type_number kind) added.now }
+    ensures { result ≡ is_picked (target whose name.now) (type_number kind) rr.now }
 {
-    stands(added, name, whose) && is_kind(added, kind)
+    stands(rr, name, whose) && is_kind(rr, kind)
 }
 
 // Whether some record of the type stands there.
 fn has_any<A: Allocator>(records: &[Record<A>], name: &Name<A>, whose: Whose, kind: RType) -> bool
     ensures { result ≡ list_any (is_picked (target whose name.now) (type_number kind)) records.now }
 {
-    records
-        .iter()
-        .any(|added| answers(added, name, whose, kind))
+    records.iter().any(|rr| answers(rr, name, whose, kind))
 }
 
 // Whether any record stands there.
 fn is_held<A: Allocator>(records: &[Record<A>], name: &Name<A>, whose: Whose) -> bool
     ensures { result ≡ list_any (is_owned (target whose name.now)) records.now }
 {
-    records.iter().any(|added| stands(added, name, whose))
+    records.iter().any(|rr| stands(rr, name, whose))
 }
 
-fn is_owner_under<A: Allocator>(added: &Record<A>, name: &Name<A>) -> bool
-    ensures { result ≡ is_under added.now.owner name.now }
+fn is_owner_under<A: Allocator>(rr: &Record<A>, name: &Name<A>) -> bool
+    ensures { result ≡ is_under rr.now.owner name.now }
 {
-    added.owner.is_at_or_under(name)
+    rr.owner.is_at_or_under(name)
 }
 
 // Whether some owner is at or under the name.
 fn has_owner_under<A: Allocator>(records: &[Record<A>], name: &Name<A>) -> bool
     ensures { result ≡ has_under name.now records.now }
 {
-    records.iter().any(|added| is_owner_under(added, name))
+    records.iter().any(|rr| is_owner_under(rr, name))
 }
 
 // The first record of the type there.
@@ -92,9 +90,7 @@ pub(crate) fn first_of<'a, A: Allocator>(
 ) -> Option<&'a Record<A>>
     ensures { option_copied result ≡ find (is_picked (target whose name.now) (type_number kind)) records.now }
 {
-    records
-        .iter()
-        .find(|added| answers(added, name, whose, kind))
+    records.iter().find(|rr| answers(rr, name, whose, kind))
 }
 
 // A CNAME there, with `owner` as owner, or NODATA.
@@ -211,39 +207,32 @@ fn wildcard<A: Heap>(
     Ok(Link::NxDomain(soa.clone()?))
 }
 
-fn is_address_of<A: Allocator>(added: &Record<A>, name: &Name<A>) -> bool
-    ensures { result ≡ (is_owned name.now added.now && is_address added.now) }
+fn is_address_of<A: Allocator>(rr: &Record<A>, name: &Name<A>) -> bool
+    ensures { result ≡ (is_owned name.now rr.now && is_address rr.now) }
 {
-    added.owner == *name && (is_kind(added, RType::A) || is_kind(added, RType::Aaaa))
+    rr.owner == *name && (is_kind(rr, RType::A) || is_kind(rr, RType::Aaaa))
 }
 
-fn is_repeat<A: Allocator>(kept: &Record<A>, added: &Record<A>) -> bool
-    ensures { result ≡ (same_name kept.now.owner added.now.owner && same_data kept.now.value added.now.value) }
+fn is_repeat<A: Allocator>(kept: &Record<A>, rr: &Record<A>) -> bool
+    ensures { result ≡ (same_name kept.now.owner rr.now.owner && same_data kept.now.value rr.now.value) }
 {
-    kept.owner == added.owner && kept.value.is_same(&added.value)
+    kept.owner == rr.owner && kept.value.is_same(&rr.value)
 }
 
-fn has_repeat<A: Allocator>(set: &[Record<A>], added: &Record<A>) -> bool
-    ensures { result ≡ has_glue added.now set.now }
+fn has_repeat<A: Allocator>(set: &[Record<A>], rr: &Record<A>) -> bool
+    ensures { result ≡ has_glue rr.now set.now }
 {
-    set.iter().any(|kept| is_repeat(kept, added))
+    set.iter().any(|kept| is_repeat(kept, rr))
 }
 
 // One address more, where it is new.
-pub(crate) fn put_glue<A: Heap>(
-    set: &mut Records<A>,
-    added: &Record<A>,
-    picked: bool,
-) -> Result<(), Starved>
-    ensures { OnOk result (set.new ≡ cond picked (add_glue set.old added.now) set.old) }
+pub(crate) fn put_glue<A: Heap>(set: &mut Records<A>, rr: &Record<A>) -> Result<(), Starved>
+    ensures { OnOk result (set.new ≡ add_glue set.old rr.now) }
 {
-    if !picked {
+    if has_repeat(set.as_slice(), rr) {
         return Ok(());
     }
-    if has_repeat(set.as_slice(), added) {
-        return Ok(());
-    }
-    set.push(added.clone()?)?;
+    set.push(rr.clone()?)?;
     Ok(())
 }
 
@@ -255,8 +244,10 @@ fn put_addresses<A: Heap>(
 ) -> Result<(), Starved>
     ensures { OnOk result (set.new ≡ fold add_glue set.old (filter (λ r. is_owned name.now r && is_address r) records.now)) }
 {
-    for added in records {
-        put_glue(set, added, is_address_of(added, name))?;
+    for rr in records {
+        if is_address_of(rr, name) {
+            put_glue(set, rr)?;
+        }
     }
     Ok(())
 }

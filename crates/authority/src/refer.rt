@@ -12,10 +12,10 @@ use rdata::{RData, RType, Record, Records};
 use std::alloc::Allocator;
 use zone::{Held, Zone, zone_keeps_rules};
 
-fn is_address<A: Allocator>(added: &Record<A>) -> bool
-    ensures { result ≡ is_address added.now }
+fn is_address<A: Allocator>(rr: &Record<A>) -> bool
+    ensures { result ≡ is_address rr.now }
 {
-    is_kind(added, RType::A) || is_kind(added, RType::Aaaa)
+    is_kind(rr, RType::A) || is_kind(rr, RType::Aaaa)
 }
 
 // The addresses among the records that stand at a name.
@@ -23,8 +23,10 @@ fn put_addresses<A: Heap>(set: &mut Records<A>, held: &Held<'_, A>) -> Result<()
     ensures { OnOk result (set.new ≡ fold add_glue set.old (filter is_address held.now)) }
 {
     for index in 0..held.len() {
-        let added = held.get(index);
-        put_glue(set, added, is_address(added))?;
+        let rr = held.get(index);
+        if is_address(rr) {
+            put_glue(set, rr)?;
+        }
     }
     Ok(())
 }

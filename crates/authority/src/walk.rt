@@ -43,14 +43,14 @@ fn has_servers<A: Allocator>(stand: &Option<Stand<'_, A>>) -> bool
 }
 
 // The name where it is a cut: NS records stand there, and it is not the origin.
-fn cut_if<A: Heap>(
+fn cut_at<A: Heap>(
     zone: &Zone<A>,
-    has_servers: bool,
+    stand: &Option<Stand<'_, A>>,
     name: &Suffix<'_>,
 ) -> Result<Option<Name<A>>, Starved>
-    ensures { IfOk result (λ c. c ≡ cond (has_servers && not (same_name name.now zone.now.origin)) (Some name.now) None) }
+    ensures { IfOk result (λ c. c ≡ cond (list_any (is_type ns_type) (own_of stand.now) && not (same_name name.now zone.now.origin)) (Some name.now) None) }
 {
-    if has_servers && !name.is(zone.origin()) {
+    if has_servers(stand) && !name.is(zone.origin()) {
         return Ok(Some(name.to_name(zone.origin().allocator())?));
     }
     Ok(None)
@@ -80,12 +80,12 @@ fn walk_up<'a, A: Heap>(zone: &'a Zone<A>, name: &Name<A>) -> Result<Walk<'a, A>
     zone_keeps_rules(zone);
     let mut up = name.suffix();
     let here = zone.stand_at(&up);
-    let mut cut = cut_if(zone, has_servers(&here), &up)?;
+    let mut cut = cut_at(zone, &here, &up)?;
     let mut near = None;
     let mut count = 1;
     'up: while up.ascend() {
         let stand = zone.stand_at(&up);
-        cut = first_or(cut_if(zone, has_servers(&stand), &up)?, cut);
+        cut = first_or(cut_at(zone, &stand, &up)?, cut);
         near = nearer(near, stand);
         count += 1;
     }

@@ -238,7 +238,7 @@ fn set_of<A: Heap>(
 fn first_of<A: Allocator>(records: &[Record<A>], kind: RType) -> Option<&Record<A>>
     ensures { option_copied result ≡ first_of (type_number kind) records.now }
 {
-    records.iter().find(|tested| tested.is(kind))
+    records.iter().find(|rr| rr.is(kind))
 }
 
 // Whether a zone of that origin may deny the name to one that asked a server of `zone`.
@@ -267,29 +267,17 @@ fn addresses_of<A: Heap>(
 {
     let targets = targets_of(alloc, servers)?;
     let mut addresses = Records::new(alloc);
-    for added in additional {
-        put_chosen(&mut addresses, added, is_taken(added, zone, &targets))?;
+    for rr in additional {
+        if is_taken(rr, zone, &targets) {
+            addresses.push(rr.clone()?)?;
+        }
     }
     Ok(addresses)
 }
 
-// One record more, where it is chosen.
-fn put_chosen<A: Heap>(
-    records: &mut Records<A>,
-    added: &Record<A>,
-    chosen: bool,
-) -> Result<(), Starved>
-    ensures { OnOk result (records.new ≡ cond chosen (records.old ++ added.now ∷ []) records.old) }
-{
-    if chosen {
-        records.push(added.clone()?)?;
-    }
-    Ok(())
-}
-
-fn is_taken<A: Allocator>(added: &Record<A>, zone: &Name<A>, targets: &[Name<A>]) -> bool
+fn is_taken<A: Allocator>(rr: &Record<A>, zone: &Name<A>, targets: &[Name<A>]) -> bool
     requires { IsSorted name_cmp targets.now }
-    ensures { result ≡ (is_type a_type added.now && is_under added.now.owner zone.now && is_one_of added.now.owner targets.now) }
+    ensures { result ≡ (is_type a_type rr.now && is_under rr.now.owner zone.now && is_one_of rr.now.owner targets.now) }
 {
-    added.is(RType::A) && added.owner.is_at_or_under(zone) && is_one_of(&added.owner, targets)
+    rr.is(RType::A) && rr.owner.is_at_or_under(zone) && is_one_of(&rr.owner, targets)
 }

@@ -119,11 +119,11 @@ impl<A: Heap> Records<A> {
     }
 
     /// One record more, at the end.
-    pub fn push(&mut self, added: Record<A>) -> Result<(), Starved>
-        ensures ok { OnOk result (self.new ≡ self.old ++ added ∷ []) }
+    pub fn push(&mut self, rr: Record<A>) -> Result<(), Starved>
+        ensures ok { OnOk result (self.new ≡ self.old ++ rr ∷ []) }
         ensures err { OnErr result (self.new ≡ self.old) }
     {
-        self.items.push(added)?;
+        self.items.push(rr)?;
         Ok(())
     }
 }

@@ -70,18 +70,18 @@ fn values_at<A: Heap>(
         .count();
     let mut values = Vec::with_capacity(alloc, most)?;
     let mut later = BTreeSet::new(alloc);
-    for added in records {
-        if is_at(added, owner, kind) {
-            put_once(&mut values, &mut later, &added.value)?;
+    for rr in records {
+        if is_at(rr, owner, kind) {
+            put_once(&mut values, &mut later, &rr.value)?;
         }
     }
     Ok(values)
 }
 
-fn is_at<A: Allocator>(tested: &Record<A>, owner: &Name<A>, kind: RType) -> bool
-    ensures { result ≡ is_at owner.now (type_number kind) tested.now }
+fn is_at<A: Allocator>(rr: &Record<A>, owner: &Name<A>, kind: RType) -> bool
+    ensures { result ≡ is_at owner.now (type_number kind) rr.now }
 {
-    tested.owner == *owner && tested.is(kind)
+    rr.owner == *owner && rr.is(kind)
 }
 
 // The lowest TTL of the records of that owner and type.
@@ -90,34 +90,17 @@ fn lowest_ttl_at<A: Allocator>(records: &[Record<A>], owner: &Name<A>, kind: RTy
     ensures most { result ≤ greatest_ttl }
 {
     let mut lowest = GREATEST_TTL;
-    for tested in records {
-        if is_at(tested, owner, kind) {
-            lowest = tested.ttl.min(lowest);
+    for rr in records {
+        if is_at(rr, owner, kind) {
+            lowest = rr.ttl.min(lowest);
         }
     }
     lowest
 }
 
-/// One more of the data of a set in the making, where it is chosen and new. `later` finds what stands behind the first
-/// sixteen again.
-pub fn put_chosen<'a, A: Heap>(
-    values: &mut Vec<RData<A>, A>,
-    later: &mut Later<'a, A>,
-    added: &'a RData<A>,
-    chosen: bool,
-) -> Result<(), Starved>
-    requires { AreFound later.old (map datum values.old.items) }
-    ensures values { OnOk result (map datum values.new.items ≡ cond chosen (add_datum (map datum values.old.items) (datum added.now)) (map datum values.old.items)) }
-    ensures found { OnOk result (AreFound later.new (map datum values.new.items)) }
-{
-    if chosen {
-        put_once(values, later, added)?;
-    }
-    Ok(())
-}
-
-// One more of the data of a set, where it is no repeat (RFC 2181, section 5).
-fn put_once<'a, A: Heap>(
+/// One more of the data of a set in the making, where it is no repeat (RFC 2181, section 5). `later` finds what stands
+/// behind the first sixteen again.
+pub fn put_once<'a, A: Heap>(
     values: &mut Vec<RData<A>, A>,
     later: &mut Later<'a, A>,
     added: &'a RData<A>,
@@ -158,8 +141,8 @@ pub fn lowest_ttl<A: Allocator>(records: &[Record<A>]) -> u32
     ensures most { result ≤ greatest_ttl }
 {
     let mut least = GREATEST_TTL;
-    for tested in records {
-        least = tested.ttl.min(least);
+    for rr in records {
+        least = rr.ttl.min(least);
     }
     least
 }

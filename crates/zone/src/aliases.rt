@@ -19,13 +19,13 @@ use std::hash::{BuildHasherDefault, FoldHasher};
 type Targets<A> = HashMap<Name<A>, Name<A>, BuildHasherDefault<FoldHasher>, A>;
 
 // Keeps the target where the record is a CNAME.
-fn note_alias<A: Heap>(targets: &mut Targets<A>, subject: &Record<A>) -> Result<(), Starved>
-    ensures { OnOk result ((q : List (List ℕ)) → hash.get same_name targets.new q ≡ kept_after (same_name subject.now.owner q) (alias_of subject.now) (hash.get same_name targets.old q)) }
+fn note_alias<A: Heap>(targets: &mut Targets<A>, rr: &Record<A>) -> Result<(), Starved>
+    ensures { OnOk result ((q : List (List ℕ)) → hash.get same_name targets.new q ≡ kept_after (same_name rr.now.owner q) (alias_of rr.now) (hash.get same_name targets.old q)) }
 {
-    let RData::Cname(target) = &subject.value else {
+    let RData::Cname(target) = &rr.value else {
         return Ok(());
     };
-    targets.insert(subject.owner.clone()?, target.clone()?)?;
+    targets.insert(rr.owner.clone()?, target.clone()?)?;
     Ok(())
 }
 
@@ -49,12 +49,12 @@ fn is_alias_to<A: Allocator>(value: &RData<A>, target: &Name<A>) -> bool
 }
 
 // Whether the record's owner has a CNAME and this is none of its repeats.
-fn is_beside<A: Allocator>(subject: &Record<A>, targets: &Targets<A>) -> bool
-    ensures { result ≡ is_beside subject.now.value (hash.get same_name targets.now subject.now.owner) }
+fn is_beside<A: Allocator>(rr: &Record<A>, targets: &Targets<A>) -> bool
+    ensures { result ≡ is_beside rr.now.value (hash.get same_name targets.now rr.now.owner) }
 {
-    match targets.get(&subject.owner) {
+    match targets.get(&rr.owner) {
         None => false,
-        Some(target) => !is_alias_to(&subject.value, target),
+        Some(target) => !is_alias_to(&rr.value, target),
     }
 }
 

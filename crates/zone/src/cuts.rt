@@ -41,13 +41,13 @@ impl<'a, A: Allocator> Model for Cuts<'a, A> {
 }
 
 // Keeps the owner where the record is of type NS.
-fn note_owner<A: Heap>(owners: &mut Owners<A>, subject: &Record<A>) -> Result<(), Starved>
-    ensures { OnOk result ((q : List (List ℕ)) → bag.contains same_name owners.new q ≡ (bag.contains same_name owners.old q || (is_owned q subject.now && is_type ns_type subject.now))) }
+fn note_owner<A: Heap>(owners: &mut Owners<A>, rr: &Record<A>) -> Result<(), Starved>
+    ensures { OnOk result ((q : List (List ℕ)) → bag.contains same_name owners.new q ≡ (bag.contains same_name owners.old q || (is_owned q rr.now && is_type ns_type rr.now))) }
 {
-    if !is_type(subject, RType::Ns) {
+    if !is_type(rr, RType::Ns) {
         return Ok(());
     }
-    owners.insert(subject.owner.clone()?)?;
+    owners.insert(rr.owner.clone()?)?;
     Ok(())
 }
 

@@ -93,6 +93,6 @@ pub fn zone_keeps_rules<A: Allocator>(zone: &KeptZone<A>)
     ensures named { IsNamed zone.now }
     ensures rules { IsZone zone.now }
 {
-    zone.is_sound();
+    zone.sound_law();
     zone.origin().well_formed_law();
 }

@@ -42,16 +42,16 @@ fn has_foreign_owner<A: Allocator>(origin: &Name<A>, records: &[Record<A>]) -> b
 }
 
 // Beneath a cut anything but an address, or at a cut anything but NS and addresses.
-fn is_out_of_place<A: Heap>(cuts: &Cuts<A>, subject: &Record<A>) -> Result<bool, Starved>
-    ensures { IfOk result (λ b. b ≡ is_out_of_place cuts.now subject.now) }
+fn is_out_of_place<A: Heap>(cuts: &Cuts<A>, rr: &Record<A>) -> Result<bool, Starved>
+    ensures { IfOk result (λ b. b ≡ is_out_of_place cuts.now rr.now) }
 {
-    if is_address(subject) {
+    if is_address(rr) {
         return Ok(false);
     }
-    if cuts.is_cut(&subject.owner) && !is_type(subject, RType::Ns) {
+    if cuts.is_cut(&rr.owner) && !is_type(rr, RType::Ns) {
         return Ok(true);
     }
-    cuts.is_beneath_cut(&subject.owner)
+    cuts.is_beneath_cut(&rr.owner)
 }
 
 fn some_is_out_of_place<A: Heap>(cuts: &Cuts<A>, records: &[Record<A>]) -> Result<bool, Starved>
@@ -72,10 +72,10 @@ fn some_has_inner_star<A: Allocator>(records: &[Record<A>]) -> bool
     records.iter().any(|record| record.owner.has_inner_star())
 }
 
-fn is_wildcard_authority<A: Allocator>(subject: &Record<A>) -> bool
-    ensures { result ≡ is_wildcard_authority subject.now }
+fn is_wildcard_authority<A: Allocator>(rr: &Record<A>) -> bool
+    ensures { result ≡ is_wildcard_authority rr.now }
 {
-    subject.owner.is_wildcard() && (is_type(subject, RType::Ns) || is_type(subject, RType::Soa))
+    rr.owner.is_wildcard() && (is_type(rr, RType::Ns) || is_type(rr, RType::Soa))
 }
 
 // NS or SOA at a wildcard.

@@ -7,29 +7,29 @@ use dname::Name;
 use rdata::{RType, Record};
 use std::alloc::Allocator;
 
-pub fn is_type<A: Allocator>(subject: &Record<A>, kind: RType) -> bool
-    ensures { result ≡ is_type (type_number kind) subject.now }
+pub fn is_type<A: Allocator>(rr: &Record<A>, kind: RType) -> bool
+    ensures { result ≡ is_type (type_number kind) rr.now }
 {
-    subject.is(kind)
+    rr.is(kind)
 }
 
-pub fn is_address<A: Allocator>(subject: &Record<A>) -> bool
-    ensures { result ≡ is_address subject.now }
+pub fn is_address<A: Allocator>(rr: &Record<A>) -> bool
+    ensures { result ≡ is_address rr.now }
 {
-    is_type(subject, RType::A) || is_type(subject, RType::Aaaa)
+    is_type(rr, RType::A) || is_type(rr, RType::Aaaa)
 }
 
-pub fn is_owned<A: Allocator>(subject: &Record<A>, name: &Name<A>) -> bool
-    ensures { result ≡ is_owned name.now subject.now }
+pub fn is_owned<A: Allocator>(rr: &Record<A>, name: &Name<A>) -> bool
+    ensures { result ≡ is_owned name.now rr.now }
 {
-    subject.owner == *name
+    rr.owner == *name
 }
 
 // Whether the record stands at that name and is of that type.
-pub fn stands_at<A: Allocator>(subject: &Record<A>, name: &Name<A>, kind: RType) -> bool
-    ensures { result ≡ (is_owned name.now subject.now && is_type (type_number kind) subject.now) }
+pub fn stands_at<A: Allocator>(rr: &Record<A>, name: &Name<A>, kind: RType) -> bool
+    ensures { result ≡ (is_owned name.now rr.now && is_type (type_number kind) rr.now) }
 {
-    is_owned(subject, name) && is_type(subject, kind)
+    is_owned(rr, name) && is_type(rr, kind)
 }
 
 // Whether some record of that type stands at that name.

@@ -16,17 +16,17 @@ use std::hash::{BuildHasherDefault, FoldHasher};
 type Ttls<A> = HashMap<(Name<A>, u16), u32, BuildHasherDefault<FoldHasher>, A>;
 
 // The RRset of a record (RFC 2181, section 5).
-fn set_of<A: Heap>(subject: &Record<A>) -> Result<(Name<A>, u16), Starved>
-    ensures { IfOk result (λ k. k ≡ set_of subject.now) }
+fn set_of<A: Heap>(rr: &Record<A>) -> Result<(Name<A>, u16), Starved>
+    ensures { IfOk result (λ k. k ≡ set_of rr.now) }
 {
-    Ok((subject.owner.clone()?, subject.value.kind().number()))
+    Ok((rr.owner.clone()?, rr.value.kind().number()))
 }
 
 // Keeps the record's TTL for its set.
-fn note_ttl<A: Heap>(ttls: &mut Ttls<A>, subject: &Record<A>) -> Result<(), Starved>
-    ensures { OnOk result ((q : SetKey) → hash.get same_key ttls.new q ≡ kept_after (same_key (set_of subject.now) q) (ttl_of subject.now) (hash.get same_key ttls.old q)) }
+fn note_ttl<A: Heap>(ttls: &mut Ttls<A>, rr: &Record<A>) -> Result<(), Starved>
+    ensures { OnOk result ((q : SetKey) → hash.get same_key ttls.new q ≡ kept_after (same_key (set_of rr.now) q) (ttl_of rr.now) (hash.get same_key ttls.old q)) }
 {
-    ttls.insert(set_of(subject)?, subject.ttl)?;
+    ttls.insert(set_of(rr)?, rr.ttl)?;
     Ok(())
 }
 
@@ -41,13 +41,13 @@ fn last_ttls<A: Heap>(alloc: A, records: &[Record<A>]) -> Result<Ttls<A>, Starve
 }
 
 // Whether the last record of the same set has another TTL.
-fn is_other_ttl<A: Heap>(subject: &Record<A>, ttls: &Ttls<A>) -> Result<bool, Starved>
-    ensures { IfOk result (λ b. b ≡ is_other_ttl subject.now.ttl (hash.get same_key ttls.now (set_of subject.now))) }
+fn is_other_ttl<A: Heap>(rr: &Record<A>, ttls: &Ttls<A>) -> Result<bool, Starved>
+    ensures { IfOk result (λ b. b ≡ is_other_ttl rr.now.ttl (hash.get same_key ttls.now (set_of rr.now))) }
 {
-    let set = set_of(subject)?;
+    let set = set_of(rr)?;
     match ttls.get(&set) {
         None => Ok(false),
-        Some(ttl) => Ok(subject.ttl != *ttl),
+        Some(ttl) => Ok(rr.ttl != *ttl),
     }
 }
 

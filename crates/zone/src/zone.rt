@@ -114,7 +114,7 @@ impl<A: Allocator> Zone<A> {
     }
 
     /// A law: its records meet all rules.
-    pub(crate) fn is_sound(&self)
+    pub(crate) fn sound_law(&self)
         ensures { fault_of self.now ≡ None }
     {
         let _ = &self.origin;

@@ -6,8 +6,8 @@ use Rattle.authority.specs.Climb.{target, picked}
 use Rattle.authority.specs.Values.{values_of}
 use Rattle.authority.proofs.gather.values_of.Given as goal
 
-abbrev pub invariant-loop-added : goal.invariant-loop-added
-invariant-loop-added g l = record {
-  made : map datum l.values.items ≡ values_of (picked (target l.whose l.name) (type_number l.kind) (take l.added-index l.records));
+abbrev pub invariant-loop-rr : goal.invariant-loop-rr
+invariant-loop-rr g l = record {
+  made : map datum l.values.items ≡ values_of (picked (target l.whose l.name) (type_number l.kind) (take l.rr-index l.records));
   found : AreFound l.later (map datum l.values.items);
 }

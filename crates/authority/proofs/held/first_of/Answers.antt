@@ -6,10 +6,10 @@ use Rattle.authority.proofs.held.first_of.Goals as goal
 
 pub returns-then-is_kind : goal.returns-then-is_kind
 returns-then-is_kind g c =
-    find_here (is_type (type_number c.args.kind)) c.args.held.now c.loop-index.index c.get-added.result.now (omega (arith, c.loop-index-test.true, c.len-index-end.ensures)) c.get-added.ensures c.loop-index.invariant
+    find_here (is_type (type_number c.args.kind)) c.args.held.now c.loop-index.index c.get-rr.result.now (omega (arith, c.loop-index-test.true, c.len-index-end.ensures)) c.get-rr.ensures c.loop-index.invariant
     (sym c.is_kind.ensures ∙ c.if-is_kind.true)
 
 pub loop-index-preserved : goal.loop-index-preserved
 loop-index-preserved g c =
-    find_on (is_type (type_number c.args.kind)) c.args.held.now c.loop-index.index c.get-added.result.now (omega (arith, c.loop-index-test.true, c.len-index-end.ensures)) c.get-added.ensures c.loop-index.invariant
+    find_on (is_type (type_number c.args.kind)) c.args.held.now c.loop-index.index c.get-rr.result.now (omega (arith, c.loop-index-test.true, c.len-index-end.ensures)) c.get-rr.ensures c.loop-index.invariant
     (sym c.is_kind.ensures ∙ c.if-is_kind.false)

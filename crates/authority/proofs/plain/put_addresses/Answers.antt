@@ -1,10 +1,14 @@
-use Rattle.std.proofs.Common.{◌&&◌}
+use Rattle.std.proofs.Common.{◌∙◌, ◌&&◌, true, false, sym}
 use Rattle.rdata.specs.Records.{Record}
 use Rattle.zone.specs.Look.{add_glue, is_owned, is_address}
 use Rattle.authority.proofs.Picks.{fold_more}
 use Rattle.authority.proofs.plain.put_addresses.Goals as goal
+use Rattle.authority.proofs.plain.put_addresses.Goals.{then-is_address_of+in_ok-put_glue, else-is_address_of}
 
-pub loop-added-preserved : goal.loop-added-preserved
-loop-added-preserved g c =
-    fold_more add_glue (λ (r : Record). is_owned c.args.name.now r && is_address r) c.args.set.now c.args.records.now c.loop-added.set c.put_glue.new.set c.loop-added.added-index
-    c.added-item.result c.is_address_of.result c.loop-added-test.true c.added-item.is c.loop-added.invariant c.is_address_of.ensures c.in_ok-put_glue.ensures
+pub loop-rr-preserved : goal.loop-rr-preserved
+loop-rr-preserved g c = elim c.if-is_address_of.branch [
+  | then-is_address_of+in_ok-put_glue w ↦ fold_more add_glue (λ (r : Record). is_owned c.args.name.now r && is_address r) c.args.set.now c.args.records.now c.loop-rr.set c.if-is_address_of.set
+      c.loop-rr.rr-index c.rr-item.result true c.loop-rr-test.true c.rr-item.is c.loop-rr.invariant (sym w.if-is_address_of.true ∙ c.is_address_of.ensures) (w.set-is ∙ w.in_ok-put_glue.ensures)
+  | else-is_address_of w ↦ fold_more add_glue (λ (r : Record). is_owned c.args.name.now r && is_address r) c.args.set.now c.args.records.now c.loop-rr.set c.if-is_address_of.set
+      c.loop-rr.rr-index c.rr-item.result false c.loop-rr-test.true c.rr-item.is c.loop-rr.invariant (sym w.if-is_address_of.false ∙ c.is_address_of.ensures) w.set-is
+]

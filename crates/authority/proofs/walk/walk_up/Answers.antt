@@ -1,6 +1,8 @@
-use Rattle.std.proofs.Common.{◌≡◌, ◌∙◌, sym, ap, subst, cond, Some, None, length, List, ℕ, arith}
+use Rattle.std.proofs.Common.{◌≡◌, ◌∙◌, refl, sym, ap, subst, cond, Some, None, length, List, ℕ, arith}
+use Rattle.std.specs.List.{list_any}
 use Rattle.dname.specs.Labels.{AreLabels}
-use Rattle.zone.specs.Look.{cut_of, or_else, is_cut, climbed}
+use Rattle.zone.specs.Look.{cut_of, or_else, is_cut, is_type, climbed}
+use Rattle.zone.specs.Zones.{ns_type}
 use Rattle.authority.specs.Climb.{above}
 use Rattle.authority.specs.Walk.{Stands, own_of}
 use Rattle.authority.proofs.Ascents.{shorter, cut_first, cut_more, cut_last}
@@ -13,7 +15,7 @@ up-init g c =
     let z = c.args.zone.now in
     let n = c.suffix-up.result in
     let labels : AreLabels n = subst (λ (m : List (List ℕ)). AreLabels m) (sym c.suffix-up.ensures) c.well_formed_law.ensures.labels in
-    let at = cut_is z n c.stand_at-here.result c.has_servers.result c.in_ok-cut.cut (stands n z.records c.stand_at-here.result c.stand_at-here.ensures) c.has_servers.ensures c.in_ok-cut.ensures in
+    let at = cut_is z n c.stand_at-here.result (list_any (is_type ns_type) (own_of c.stand_at-here.result)) c.in_ok-cut.cut (stands n z.records c.stand_at-here.result c.stand_at-here.ensures) refl c.in_ok-cut.ensures in
     record {
       cut = cut_first z n c.in_ok-cut.cut labels at ∙ ap (cut_of z) c.suffix-up.ensures;
       near = λ soa t. ap (climbed soa c.args.name.now t z.records) c.suffix-up.ensures;
@@ -33,8 +35,8 @@ up-preserved g c =
     let p = c.ascend.new.self in
     let at = stands p z.records c.stand_at-stand.result c.stand_at-stand.ensures in
     record {
-      cut = cut_more z c.up.up p c.args.name.now c.up.cut c.in_ok-cut_if.field-0 c.first_or-cut.result c.up-test.ensures.above c.up.invariant.cut
-          (cut_is z p c.stand_at-stand.result c.has_servers-in-up.result c.in_ok-cut_if.field-0 at c.has_servers-in-up.ensures c.in_ok-cut_if.ensures) c.first_or-cut.ensures;
+      cut = cut_more z c.up.up p c.args.name.now c.up.cut c.in_ok-cut_at.field-0 c.first_or-cut.result c.up-test.ensures.above c.up.invariant.cut
+          (cut_is z p c.stand_at-stand.result (list_any (is_type ns_type) (own_of c.stand_at-stand.result)) c.in_ok-cut_at.field-0 at refl c.in_ok-cut_at.ensures) c.first_or-cut.ensures;
       near = λ soa t. near_more z.records c.up.up p c.stand_at-stand.result c.up.near c.nearer-near.result soa c.args.name.now t c.up-test.ensures.above at (c.up.invariant.near soa t) c.nearer-near.ensures;
       count = count_more c.up.up p c.args.name.now c.up.count c.up-test.ensures.above c.up.invariant.count;
       timed = near_timed p z c.stand_at-stand.result c.up.near c.nearer-near.result c.zone_keeps_rules.ensures.rules.ttls at c.up.invariant.timed c.nearer-near.ensures;

@@ -2,5 +2,5 @@ use Rattle.std.proofs.Common.{◌≡◌, take}
 use Rattle.classify.specs.Classes.{addresses_of}
 use Rattle.classify.proofs.table.addresses_of.Given as goal
 
-abbrev pub invariant-loop-added : goal.invariant-loop-added
-invariant-loop-added g l = l.addresses ≡ addresses_of l.zone l.servers (take l.added-index l.additional)
+abbrev pub invariant-loop-rr : goal.invariant-loop-rr
+invariant-loop-rr g l = l.addresses ≡ addresses_of l.zone l.servers (take l.rr-index l.additional)

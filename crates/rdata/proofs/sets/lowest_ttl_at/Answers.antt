@@ -7,14 +7,14 @@ use Rattle.rdata.proofs.Selected.{lowest_more, lowest_fits}
 use Rattle.rdata.proofs.sets.lowest_ttl_at.Goals as goal
 use Rattle.rdata.proofs.sets.lowest_ttl_at.Goals.{then-is_at, else-is_at}
 
-pub loop-tested-preserved : goal.loop-tested-preserved
-loop-tested-preserved g c = elim c.if-is_at.branch [
-  | then-is_at w ↦ lowest_more (is_at c.args.owner.now (type_number c.args.kind)) c.args.records.now c.loop-tested.lowest c.if-is_at.lowest c.loop-tested.tested-index c.tested-item.result true
-      c.loop-tested-test.true c.tested-item.is (sym w.if-is_at.true ∙ c.is_at.ensures) c.loop-tested.invariant
-      (w.lowest-is ∙ (w.min-lowest.ensures ∙ ap (λ (r : Record). min r.ttl c.loop-tested.lowest) c.tested.view_is))
-  | else-is_at w ↦ lowest_more (is_at c.args.owner.now (type_number c.args.kind)) c.args.records.now c.loop-tested.lowest c.if-is_at.lowest c.loop-tested.tested-index c.tested-item.result false
-      c.loop-tested-test.true c.tested-item.is (sym w.if-is_at.false ∙ c.is_at.ensures) c.loop-tested.invariant w.lowest-is
+pub loop-rr-preserved : goal.loop-rr-preserved
+loop-rr-preserved g c = elim c.if-is_at.branch [
+  | then-is_at w ↦ lowest_more (is_at c.args.owner.now (type_number c.args.kind)) c.args.records.now c.loop-rr.lowest c.if-is_at.lowest c.loop-rr.rr-index c.rr-item.result true
+      c.loop-rr-test.true c.rr-item.is (sym w.if-is_at.true ∙ c.is_at.ensures) c.loop-rr.invariant
+      (w.lowest-is ∙ (w.min-lowest.ensures ∙ ap (λ (r : Record). min r.ttl c.loop-rr.lowest) c.rr.view_is))
+  | else-is_at w ↦ lowest_more (is_at c.args.owner.now (type_number c.args.kind)) c.args.records.now c.loop-rr.lowest c.if-is_at.lowest c.loop-rr.rr-index c.rr-item.result false
+      c.loop-rr-test.true c.rr-item.is (sym w.if-is_at.false ∙ c.is_at.ensures) c.loop-rr.invariant w.lowest-is
 ]
 
 pub returns-clause-most : goal.returns-clause-most
-returns-clause-most g c = subst (λ n. n ≤ greatest_ttl) (sym c.loop-tested.invariant) (lowest_fits (records_at c.args.owner.now (type_number c.args.kind) (take c.loop-tested.tested-index c.args.records.now)))
+returns-clause-most g c = subst (λ n. n ≤ greatest_ttl) (sym c.loop-rr.invariant) (lowest_fits (records_at c.args.owner.now (type_number c.args.kind) (take c.loop-rr.rr-index c.args.records.now)))

@@ -7,8 +7,8 @@ use Rattle.rdata.specs.Selected.{records_at}
 use Rattle.rdata.specs.Types.{type_number}
 use Rattle.rdata.proofs.sets.values_at.Given as goal
 
-abbrev pub invariant-loop-added : goal.invariant-loop-added
-invariant-loop-added g l = record {
-  made : (t : ℕ) → rows l.owner t l.values.items ≡ gathered t (records_at l.owner (type_number l.kind) (take l.added-index l.records));
+abbrev pub invariant-loop-rr : goal.invariant-loop-rr
+invariant-loop-rr g l = record {
+  made : (t : ℕ) → rows l.owner t l.values.items ≡ gathered t (records_at l.owner (type_number l.kind) (take l.rr-index l.records));
   found : AreFound l.later (map datum l.values.items);
 }
