@@ -171,7 +171,7 @@ impl<M: Machine, L: Ledger, A: Allocator> Book<M, L, A> {
     }
 
     /// One history of the machine led to this book.
-    pub fn is_reached(&self)
+    pub fn reached_law(&self)
         ensures { Reached M.moves M.begins self.now }
     {
         let _ = &self.entries;

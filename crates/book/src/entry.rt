@@ -103,7 +103,7 @@ impl<M: Machine> Entry<M> {
     }
 
     /// An entry is the newest line of some legal history.
-    pub fn is_last(&self)
+    pub fn last_law(&self)
         ensures { IsLast M.moves M.begins self.now }
     {
         let _ = &self.worker;

@@ -6,7 +6,7 @@
 //! `state` and `counts` the rest. A ticket's count is its share of a ledger, so that nobody can make an entry of
 //! another's.
 //!
-//! Promised: one history led to the book (`is_reached`, `Reached`); a step is one the machine may take, and its
+//! Promised: one history led to the book (`reached_law`, `Reached`); a step is one the machine may take, and its
 //! entry the newest (`Takes`); the whole history, while it is kept (`IsHistory`); the shares of all tickets are all
 //! entries (`audit`).
 //! Not here: the lock (`pool`); threads (`crew`).

@@ -47,7 +47,7 @@ fn ask_bytes<A: Heap>(alloc: A, ask: &Asking<A>) -> Result<Bytes<A>, Starved>
     ensures short { IfOk result (λ b. length b ≤ UDP_LIMIT) }
 {
     let message = ask_message(alloc, ask)?;
-    is_short(ask);
+    short_law(ask);
     match encode(alloc, &message, UDP_LIMIT) {
         Ok(bytes) => Ok(Bytes::new(bytes)),
         Err(WireError::Memory) => Err(Starved),
@@ -56,7 +56,7 @@ fn ask_bytes<A: Heap>(alloc: A, ask: &Asking<A>) -> Result<Bytes<A>, Starved>
 }
 
 // A name has at most 255 bytes.
-fn is_short<A: Heap>(ask: &Asking<A>)
+fn short_law<A: Heap>(ask: &Asking<A>)
     ensures { length (wire ask.now.name) ≤ 255 }
 {
     let _ = ask.name.size();

@@ -33,14 +33,14 @@ pub fn reply_bytes<A: Heap>(
         Via::Udp => match whole.encode(writer, UDP_LIMIT)? {
             Some(bytes) => Ok((bytes, cause)),
             None => {
-                is_short(Some(&query.echo));
+                short_law(Some(&query.echo));
                 Ok((short_bytes(writer, &truncated(&whole), UDP_LIMIT)?, cause))
             }
         },
         Via::Tcp => match whole.encode(writer, TCP_LIMIT)? {
             Some(bytes) => Ok((bytes, cause)),
             None => {
-                is_short(Some(&query.echo));
+                short_law(Some(&query.echo));
                 let failure = empty_draft(query.start, Some(&query.echo), 2);
                 Ok((
                     short_bytes(writer, &failure, TCP_LIMIT)?,
@@ -63,7 +63,7 @@ pub fn refusal_bytes<A: Heap>(
     ensures message { IfOk result (λ r. IsMessage r.items (folded_message (refusal_reply refusal start (option_copied echo.entry)))) }
     ensures short { IfOk result (λ r. length r.items ≤ UDP_LIMIT) }
 {
-    is_short(echo);
+    short_law(echo);
     short_bytes(
         writer,
         &empty_draft(start, echo, refusal.rcode()),
@@ -90,7 +90,7 @@ fn short_bytes<A: Heap>(
 }
 
 // The name of an echo has at most 255 bytes.
-fn is_short<A: Allocator>(echo: Option<&Echo<A>>)
+fn short_law<A: Allocator>(echo: Option<&Echo<A>>)
     ensures { IfSome (option_copied echo.entry) (λ q. length (wire q.name) ≤ 255) }
 {
     if let Some(echo) = echo {

@@ -2,12 +2,12 @@
 ghost use Rattle.layout.specs.Laws.{OneName, OneSpelling, SpellingIsName, NameIsSpelt, EncodingIsMessage, LettersKeepLength, LettersStayInQuestion, OneMessage, NamesEndInRoot};
 
 /// At a place of a message stands one name at most (RFC 1035, section 4.1.4).
-pub fn one_name()
+pub fn one_name_law()
     ensures { OneName }
 {}
 
 /// At a place of a message stands one spelling at most.
-pub fn one_spelling()
+pub fn one_spelling_law()
     ensures { OneSpelling }
 {}
 
@@ -37,7 +37,7 @@ pub fn letters_stay_in_question()
 {}
 
 /// Bytes are one message at most (RFC 1035, section 4).
-pub fn one_message()
+pub fn one_message_law()
     ensures { OneMessage }
 {}
 

@@ -5,8 +5,8 @@
 //! and `encoding m` are the bytes that a message is written as. Records of other types and classes are stepped
 //! over. `wire` reads and writes by these words, and the contracts of replies speak in them.
 //!
-//! Promised: bytes are one message at most (`one_message`), with one name at each place (`one_name`,
-//! `one_spelling`); the encoding of a message is that message (`encoding_is_message`); the letters of a question's
+//! Promised: bytes are one message at most (`one_message_law`), with one name at each place (`one_name_law`,
+//! `one_spelling_law`); the encoding of a message is that message (`encoding_is_message`); the letters of a question's
 //! name change nothing else (`letters_stay_in_question`, `letters_keep_length`).
 //!
 //! ```text
@@ -21,5 +21,5 @@ mod laws;
 
 pub use laws::{
     encoding_is_message, letters_keep_length, letters_stay_in_question, name_is_spelt,
-    names_end_in_root, one_message, one_name, one_spelling, spelling_is_name,
+    names_end_in_root, one_message_law, one_name_law, one_spelling_law, spelling_is_name,
 };

@@ -7,7 +7,7 @@
 //! 5452, section 4).
 //!
 //! Promised: each call over the list of all open queries, exactly (`IsTheOne`, `IsTaken`, `AreWith`, `IsFound`,
-//! `IsEarliest`); no two have one number (`are_apart`); a refused call changes nothing.
+//! `IsEarliest`); no two have one number (`apart_law`); a refused call changes nothing.
 //! Not here: serving a query (`engine`, `iterate`).
 //!
 //! ```text

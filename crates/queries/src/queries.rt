@@ -59,7 +59,7 @@ impl<A: Heap> Queries<A> {
     }
 
     /// No two have one number.
-    pub fn are_apart(&self)
+    pub fn apart_law(&self)
         ensures { AreApart self.now }
     {
         let _ = &self.slots;

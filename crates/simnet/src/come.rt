@@ -32,7 +32,7 @@ pub fn given<A: Heap>(
 }
 
 // The names of a message's questions are names.
-fn are_names<A: Allocator>(message: &Message<A>)
+fn names_law<A: Allocator>(message: &Message<A>)
     ensures { (q : layouts.Question) → message.now.questions ≡ q ∷ [] → IsName q.name }
 {
     if let [question] = message.questions.as_slice() {
@@ -55,7 +55,7 @@ fn written<A: Heap>(alloc: A, message: &Message<A>) -> Result<Bytes<A>, Starved>
     ensures encoded { IfOk result (λ b. b ≡ layouts.encoding message.now) }
     ensures stands { IfOk result (λ b. IsMessage b message.now) }
 {
-    are_names(message);
+    names_law(message);
     match encode(alloc, message, UDP_LIMIT) {
         Ok(bytes) => Ok(Bytes::new(bytes)),
         Err(WireError::Memory) => Err(Starved),

@@ -5,5 +5,5 @@ use Rattle.exchange.proofs.say.ask_bytes.Goals as goal
 
 pub unreachable-requires : goal.unreachable-requires
 unreachable-requires g c =
-    let memory = written_or_starved c.args.ask.now _ c.in-Err.field-0 c.is_short.ensures c.in_ok-message.ensures c.in-Err.ensures.err in
+    let memory = written_or_starved c.args.ask.now _ c.in-Err.field-0 c.short_law.ensures c.in_ok-message.ensures c.in-Err.ensures.err in
     search rules

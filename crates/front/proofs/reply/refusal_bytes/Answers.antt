@@ -9,7 +9,7 @@ use Rattle.front.proofs.reply.refusal_bytes.Goals as goal
 
 pub short_bytes-requires-clause-fits : goal.short_bytes-requires-clause-fits
 short_bytes-requires-clause-fits g c =
-    bare_fits c.args.start (option_copied c.args.echo) c.rcode.result c.empty_draft.result c.empty_draft.ensures c.is_short.ensures
+    bare_fits c.args.start (option_copied c.args.echo) c.rcode.result c.empty_draft.result c.empty_draft.ensures c.short_law.ensures
 
 pub returns-clause-bytes : goal.returns-clause-bytes
 returns-clause-bytes g c =

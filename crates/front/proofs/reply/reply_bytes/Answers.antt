@@ -11,12 +11,12 @@ use Rattle.front.proofs.reply.reply_bytes.Goals as goal
 
 pub short_bytes-requires-clause-fits : goal.short_bytes-requires-clause-fits
 short_bytes-requires-clause-fits g c =
-    truncated_fits c.args.query.now c.args.outcome.now c.draft_of-whole.result c.truncated.result c.draft_of-whole.ensures c.truncated.ensures c.is_short.ensures
+    truncated_fits c.args.query.now c.args.outcome.now c.draft_of-whole.result c.truncated.result c.draft_of-whole.ensures c.truncated.ensures c.short_law.ensures
 
 pub short_bytes-requires-in-None-2-clause-fits : goal.short_bytes-requires-in-None-2-clause-fits
 short_bytes-requires-in-None-2-clause-fits g c =
     let fits : length (encoding c.empty_draft-failure.result) ≤ 512 =
-    bare_fits c.args.query.now.start (Some c.args.query.now.echo) 2 c.empty_draft-failure.result c.empty_draft-failure.ensures c.is_short-in-None-2.ensures in
+    bare_fits c.args.query.now.start (Some c.args.query.now.echo) 2 c.empty_draft-failure.result c.empty_draft-failure.ensures c.short_law-in-None-2.ensures in
     omega arith
 
 pub returns-in_ok-short_bytes-in-None-clause-bytes : goal.returns-in_ok-short_bytes-in-None-clause-bytes
