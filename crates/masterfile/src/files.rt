@@ -1,6 +1,7 @@
 //! A whole text read, up to its first fault.
-ghost use Rattle.std.specs.Prelude.{◌≡◌, ◌+◌, ◌<◌, ◌^◌, ◌++◌, length, Ok, OnOk, MatchResult};
+ghost use Rattle.std.specs.Prelude.{◌≡◌, ◌+◌, ◌<◌, ◌^◌, ◌++◌, length, Ok, IfOk, OnOk, MatchResult};
 ghost use Rattle.masterfile.specs.Files.{listed, read_lines, read_text, IsFirstFault};
+ghost use Rattle.masterfile.specs.MasterText.{IsMasterText};
 
 use crate::entries::Context;
 use crate::faults::{FileError, FileKind};
@@ -12,7 +13,8 @@ use words::{Lead, Words};
 /// relative to `origin`, until an `$ORIGIN` line. Refused by the first fault, at the line on which its entry starts, or
 /// where memory is refused.
 pub fn read<A: Heap>(alloc: A, origin: &Name<A>, text: &str) -> Result<Records<A>, FileError>
-    ensures { MatchResult result (λ v. read_text origin.now text.now ≡ Ok v) (λ e. IsFirstFault e.kind e (read_text origin.now text.now)) }
+    ensures reads { MatchResult result (λ v. read_text origin.now text.now ≡ Ok v) (λ e. IsFirstFault e.kind e (read_text origin.now text.now)) }
+    ensures stands { IfOk result (λ v. IsMasterText origin.now text.now v) }
 {
     read_block(alloc, origin, text.as_bytes(), 1)
 }

@@ -22,14 +22,14 @@ fn data_is_sound<A: Allocator>(value: &RData<A>)
     ensures { FitsMessage (datum value.now) → IsSoundData (datum value.now) }
 {
     match value {
-        RData::A(address) => are_bytes(&address.0),
+        RData::A(address) => bytes_law(&address.0),
         RData::Ns(name) => name.well_formed_law(),
         RData::Cname(name) => name.well_formed_law(),
         RData::Soa(soa) => authority_is_sound(soa),
         RData::Ptr(name) => name.well_formed_law(),
         RData::Mx(preference, name) => exchange_is_sound(*preference, name),
-        RData::Txt(texts) => are_strings(texts.strings()),
-        RData::Aaaa(address) => are_bytes(address),
+        RData::Txt(texts) => strings_law(texts.strings()),
+        RData::Aaaa(address) => bytes_law(address),
     }
 }
 
@@ -55,16 +55,16 @@ fn number_is_sound(number: u32)
     ensures { number ≤ greatest_32 }
 {}
 
-fn are_strings<A: Allocator>(strings: &[CharacterString<A>])
+fn strings_law<A: Allocator>(strings: &[CharacterString<A>])
     ensures { AreCharacterStrings strings.now }
 {
     for string in strings {
-        are_bytes(string.bytes());
+        bytes_law(string.bytes());
     }
 }
 
 #[tactic(auto, using(crate::proofs::KeptRecords::bytes_by))]
-fn are_bytes(bytes: &[u8])
+fn bytes_law(bytes: &[u8])
     ensures { AreBytes bytes.now }
 {
     let _ = bytes.len();
