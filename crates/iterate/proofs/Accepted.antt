@@ -7,16 +7,19 @@ use Rattle.layout.specs.Messages.{Message}
 use Rattle.wire.specs.declared.via.Via.{Via}
 use Rattle.classify.specs.Classes as class
 use Rattle.classify.specs.Classes.{class_of}
+use Rattle.cache.specs.Cached.{after_keep}
 use Rattle.cache.proofs.Members as cache
 use Rattle.resolution.specs.Jobs.{Stores, with_answer, Search, Job, Told, hit_from}
-use Rattle.resolution.specs.Rules.{Learnt, IsTakenEntry, Stops}
+use Rattle.resolution.specs.Rules.{Learnt, IsTakenEntry, IsLostEntry, Stops}
 use Rattle.iterate.specs.Moves.{with_search}
 
 -- The server's penalty is written, and nothing else.
 pub answer_stops : (now : ℕ) (j : Job) (before mid : Stores) (via : Via) (server : Addr) (m : Message) → mid ≡ with_answer before server → Stops (Told via server m) now j before mid
 answer_stops now j before mid via server m is = subst (Stops (Told via server m) now j before) (sym is) (record {
   cache = λ e there. inl there;
+  cache_lost = λ e there. inl there;
   delegations = λ e there. inl there;
+  delegations_lost = λ e there. inl there;
   penalties = inr (server, refl, inl refl);
   cache_cap = refl;
   delegations_cap = refl;
@@ -31,7 +34,13 @@ learnt_stops now j before new via server m s rest l searches is learnt = subst (
     | inl old ↦ inl old
     | inr kept ↦ inr (s, l, ((rest, searches), is), kept)
   ];
+  cache_lost = λ e there. elim (cache.lost_members before.cache_cap s.name s.kind (hit_from l now) before.cache e there)
+      as (λ x. Contains (after_keep before.cache_cap s.name s.kind (hit_from l now) before.cache) e ⊎ IsLostEntry j (Told via server m) now before e) [
+        | inl stays ↦ inl stays
+        | inr gone ↦ inr (s, l, ((rest, searches), is), gone)
+      ];
   delegations = λ e there. inl there;
+  delegations_lost = λ e there. inl there;
   penalties = inr (server, refl, inl refl);
   cache_cap = refl;
   delegations_cap = refl;

@@ -38,8 +38,8 @@ pub(crate) fn run<S: BuildHasher + Drop, A: Heap>(
 
 /// What one input makes of a query's job, and what goes out: the input is taken up, and the rules of RFC 1034,
 /// section 5.3.3, are applied until a server is to be asked or the query is over. `now` is the moment of the
-/// call, in milliseconds. Where memory is wanting the stores may have kept what was accepted, and nothing else
-/// is new in them; the job is to be dropped.
+/// call, in milliseconds. Where memory is wanting the stores may have kept what was accepted, and lost what that
+/// keep pushes out; nothing else is new in them or gone. The job is to be dropped.
 pub fn advance<S: BuildHasher + Drop, A: Heap>(
     alloc: A,
     job: &mut Job<A>,

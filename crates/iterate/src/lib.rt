@@ -8,8 +8,8 @@
 //! cause of a failure.
 //!
 //! Promised: each call is one by the rules of `resolution` (`Advances`); where memory is wanting the stores have
-//! nothing new but what was accepted (`Stops`). At most 40 asks, eight aliases, and look-ups of servers' addresses
-//! three deep.
+//! nothing new but what was accepted, and have lost nothing but what one keep of that pushes out (`Stops`). At most
+//! 40 asks, eight aliases, and look-ups of servers' addresses three deep.
 //! Not here: which message is a reply (`exchange`), identifiers, sockets and many queries at once (`engine`).
 //!
 //! ```text

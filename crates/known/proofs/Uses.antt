@@ -1,9 +1,10 @@
 -- Stores after look-ups alone.
-use Rattle.std.proofs.Common.{◌≡◌, ℕ, ◌⊎◌, Some, List, refl, sym, ap, subst, ◌∙◌}
+use Rattle.std.proofs.Common.{◌≡◌, ℕ, inl, inr, ◌⊎◌, Some, List, refl, sym, ap, subst, ◌∙◌}
 use Rattle.dname.specs.Labels.{Name}
 use Rattle.rdata.specs.declared.addr.Addr.{Addr}
 use Rattle.retry.specs.Penalties.{answered, timed_out}
-use Rattle.recency.specs.Orders.{KeepsOnly, HasSame}
+use Rattle.std.specs.Prelude.{Contains}
+use Rattle.recency.specs.Orders.{LosesOnly, HasSame}
 use Rattle.cache.proofs.Members as cache
 use Rattle.referral.proofs.Members as cuts
 use Rattle.resolution.specs.Jobs.{Stores, Job, Input}
@@ -16,6 +17,9 @@ same_refl xs = (λ x h. h, λ x h. h)
 
 same_then : {X : Type 0} (xs ys zs : List X) → HasSame xs ys → HasSame ys zs → HasSame xs zs
 same_then xs ys zs f g = (λ x h. f.0 x (g.0 x h), λ x h. g.1 x (f.1 x h))
+
+still_loses : {X : Type 0} (old mid new : List X) (P : X → Type 0) → LosesOnly old P mid → HasSame mid new → LosesOnly old P new
+still_loses old mid new P loses same x there = elim (loses x there) as (λ y. Contains new x ⊎ P x) [ inl stays ↦ inl (same.1 x stays) | inr goes ↦ inr goes ]
 
 pub uses_refl : (s : Stores) → OnlyUses s s
 uses_refl s = record {
@@ -64,7 +68,9 @@ best_uses s t n now is = subst (OnlyUses s) (sym is) (record {
 pub uses_stop : (input : Input) (now : ℕ) (j : Job) (old mid new : Stores) → Stops input now j old mid → OnlyUses mid new → Stops input now j old new
 uses_stop input now j old mid new h uses = record {
   cache = λ e there. h.cache e (uses.cache.0 e there);
+  cache_lost = still_loses old.cache mid.cache new.cache _ h.cache_lost uses.cache;
   delegations = λ e there. h.delegations e (uses.delegations.0 e there);
+  delegations_lost = still_loses old.delegations mid.delegations new.delegations _ h.delegations_lost uses.delegations;
   penalties = subst (λ (ps : List (Addr × ℕ)). (ps ≡ old.penalties) ⊎ ((server : Addr) × (server_of input ≡ Some server) × ((ps ≡ answered server old.penalties) ⊎ (ps ≡ timed_out server old.penalties_cap old.penalties)))) (sym uses.penalties) h.penalties;
   cache_cap = uses.cache_cap ∙ h.cache_cap;
   delegations_cap = uses.delegations_cap ∙ h.delegations_cap;

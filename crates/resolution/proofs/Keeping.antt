@@ -1,4 +1,4 @@
--- What one call may bring into the stores: what was accepted, and nothing else.
+-- What one call may bring into the stores, what was accepted, and take from them, what a keep of that pushes out.
 use Rattle.std.proofs.Common.{◌≡◌, ℕ, zero, suc, inl, inr, ◌⊎◌, List, [], ◌∷◌, refl, sym, ap, subst}
 use Rattle.std.specs.Prelude.{Contains}
 use Rattle.dname.specs.Labels.{Name}
@@ -8,16 +8,21 @@ use Rattle.layout.specs.Messages.{Message}
 use Rattle.wire.specs.declared.via.Via.{Via}
 use Rattle.classify.specs.Classes as class
 use Rattle.classify.specs.Classes.{class_of}
-use Rattle.recency.specs.Orders.{KeepsOnly, HasSame}
+use Rattle.recency.specs.Orders.{KeepsOnly, LosesOnly, HasSame}
 use Rattle.referral.specs.Cuts.{Cut}
+use Rattle.referral.specs.Cuts as held
 use Rattle.referral.proofs.Members as cuts
 use Rattle.cache.specs.Cached.{Hit}
+use Rattle.cache.specs.Cached as kept
 use Rattle.cache.proofs.Members as cache
 use Rattle.resolution.specs.Jobs.{Home, Stores, with_answer, Taken, Search, Job, Input, Start, Told, TimedOut, TcpFailed, Next, Point, hit_from, cut_from}
-use Rattle.resolution.specs.Rules.{Finds, Hits, Misses, Rule, takes, asks, follows, restarts, hears, descends, gives_up, Rules, Learnt, ByClass, Enters, Leaves, sends, sends_again, refuses, spent, nowhere, too_long, done, Advances, IsTakenEntry, IsTakenCut, Stops}
+use Rattle.resolution.specs.Rules.{Finds, Hits, Misses, Rule, takes, asks, follows, restarts, hears, descends, gives_up, Rules, Learnt, ByClass, Enters, Leaves, sends, sends_again, refuses, spent, nowhere, too_long, done, Advances, IsTakenEntry, IsTakenCut, IsLostEntry, IsLostCut, Stops}
 
 still_only : {X : Type 0} (old mid new : List X) (P : X → Type 0) → KeepsOnly old P mid → HasSame mid new → KeepsOnly old P new
 still_only old mid new P keeps same x m = keeps x (same.0 x m)
+
+still_loses : {X : Type 0} (old mid new : List X) (P : X → Type 0) → LosesOnly old P mid → HasSame mid new → LosesOnly old P new
+still_loses old mid new P loses same x there = elim (loses x there) as (λ y. Contains new x ⊎ P x) [ inl stays ↦ inl (same.1 x stays) | inr goes ↦ inr goes ]
 
 module _ (input : Input) (now : ℕ) (j : Job) (stores : Stores) where
   same_stops : (mid new : Stores) → new ≡ mid → Stops input now j stores mid → Stops input now j stores new
@@ -29,7 +34,9 @@ module _ (input : Input) (now : ℕ) (j : Job) (stores : Stores) where
       hit : (e : Hit) → Hits home now n t mid l e new → Stops input now j stores new
       hit e x = subst (Stops input now j stores) (sym x.stores) (record {
         cache = still_only stores.cache mid.cache _ _ h.cache (cache.looked_members n t now mid.cache);
+        cache_lost = still_loses stores.cache mid.cache _ _ h.cache_lost (cache.looked_members n t now mid.cache);
         delegations = h.delegations;
+        delegations_lost = h.delegations_lost;
         penalties = h.penalties;
         cache_cap = h.cache_cap;
         delegations_cap = h.delegations_cap;
@@ -39,7 +46,9 @@ module _ (input : Input) (now : ℕ) (j : Job) (stores : Stores) where
   misses_stops : (home : Home) (n : Name) (t : ℕ) (mid : Stores) (c : Cut) (new : Stores) → Misses home now n t mid c new → Stops input now j stores mid → Stops input now j stores new
   misses_stops home n t mid c new misses h = subst (Stops input now j stores) (sym misses.stores) (record {
     cache = h.cache;
+    cache_lost = h.cache_lost;
     delegations = still_only stores.delegations mid.delegations _ _ h.delegations (cuts.looked_members n now mid.delegations);
+    delegations_lost = still_loses stores.delegations mid.delegations _ _ h.delegations_lost (cuts.looked_members n now mid.delegations);
     penalties = h.penalties;
     cache_cap = h.cache_cap;
     delegations_cap = h.delegations_cap;
@@ -73,7 +82,9 @@ module _ (now : ℕ) (j : Job) (stores : Stores) where
   answer_stops : (server : Addr) (via : Via) (m : Message) → Stops (Told via server m) now j stores (with_answer stores server)
   answer_stops server via m = record {
     cache = λ e there. inl there;
+    cache_lost = λ e there. inl there;
     delegations = λ e there. inl there;
+    delegations_lost = λ e there. inl there;
     penalties = inr (server, refl, inl refl);
     cache_cap = refl;
     delegations_cap = refl;
@@ -87,7 +98,12 @@ module _ (now : ℕ) (j : Job) (stores : Stores) where
       | inl old ↦ inl old
       | inr kept ↦ inr (s, l, ((rest, searches), is), kept)
     ];
+    cache_lost = λ e there. elim (cache.lost_members stores.cache_cap s.name s.kind (hit_from l now) stores.cache e there) as (λ x. Contains (kept.after_keep stores.cache_cap s.name s.kind (hit_from l now) stores.cache) e ⊎ IsLostEntry j (Told via server m) now stores e) [
+      | inl stays ↦ inl stays
+      | inr gone ↦ inr (s, l, ((rest, searches), is), gone)
+    ];
     delegations = λ e there. inl there;
+    delegations_lost = λ e there. inl there;
     penalties = inr (server, refl, inl refl);
     cache_cap = refl;
     delegations_cap = refl;
@@ -100,10 +116,16 @@ module _ (now : ℕ) (j : Job) (stores : Stores) where
   class_stops server via m s (around ∷ rest) (class.Answer l) p searches is (after, marks, task, learnt, heard, job) = learnt_stops server via m s (around ∷ rest) l p.stores searches is learnt
   class_stops server via m s rest (class.Referral at ns glue ttl) p searches is refers = subst (Stops (Told via server m) now j stores) (sym refers.stored) (record {
     cache = λ e there. inl there;
+    cache_lost = λ e there. inl there;
     delegations = λ e there. elim (cuts.kept_members stores.delegations_cap (cut_from refers.cut ttl now) stores.delegations e there) as (λ x. Contains stores.delegations e ⊎ IsTakenCut j (Told via server m) now e) [
       | inl old ↦ inl old
       | inr kept ↦ inr (s, at, ns, glue, ttl, refers.cut, ((rest, searches), is), refers.is_cut, kept)
     ];
+    delegations_lost = λ e there. elim (cuts.lost_members stores.delegations_cap (cut_from refers.cut ttl now) stores.delegations e there)
+        as (λ x. Contains (held.after_keep stores.delegations_cap (cut_from refers.cut ttl now) stores.delegations) e ⊎ IsLostCut j (Told via server m) now stores e) [
+          | inl stays ↦ inl stays
+          | inr gone ↦ inr (s, at, ns, glue, ttl, refers.cut, ((rest, searches), is), refers.is_cut, gone)
+        ];
     penalties = inr (server, refl, inl refl);
     cache_cap = refl;
     delegations_cap = refl;
@@ -115,7 +137,9 @@ module _ (now : ℕ) (j : Job) (stores : Stores) where
   pub enters_stop : (input : Input) (p : Point) → Enters now input j stores p → Stops input now j stores p.stores
   enters_stop Start p is = subst (Stops Start now j stores) (sym (ap (λ (x : Point). x.stores) is)) (record {
     cache = λ e there. inl there;
+    cache_lost = λ e there. inl there;
     delegations = λ e there. inl there;
+    delegations_lost = λ e there. inl there;
     penalties = inl refl;
     cache_cap = refl;
     delegations_cap = refl;
@@ -125,7 +149,9 @@ module _ (now : ℕ) (j : Job) (stores : Stores) where
   enters_stop (Told via server m) p (inr (s, rest, searches, by)) = class_stops server via m s rest (class_of (s.frame).zone s.name s.kind via m) p searches refl by
   enters_stop (TimedOut server) p is = subst (Stops (TimedOut server) now j stores) (sym (ap (λ (x : Point). x.stores) is)) (record {
     cache = λ e there. inl there;
+    cache_lost = λ e there. inl there;
     delegations = λ e there. inl there;
+    delegations_lost = λ e there. inl there;
     penalties = inr (server, refl, inr refl);
     cache_cap = refl;
     delegations_cap = refl;
@@ -133,7 +159,9 @@ module _ (now : ℕ) (j : Job) (stores : Stores) where
   })
   enters_stop (TcpFailed server) p is = subst (Stops (TcpFailed server) now j stores) (sym (ap (λ (x : Point). x.stores) is)) (record {
     cache = λ e there. inl there;
+    cache_lost = λ e there. inl there;
     delegations = λ e there. inl there;
+    delegations_lost = λ e there. inl there;
     penalties = inr (server, refl, inr refl);
     cache_cap = refl;
     delegations_cap = refl;

@@ -15,7 +15,7 @@ use Rattle.causes.specs.declared.cause.Cause.TheVariants as cause
 use Rattle.classify.specs.Classes as class
 use Rattle.classify.specs.Classes.{class_of}
 use Rattle.front.specs.Chains.{target_of}
-use Rattle.recency.specs.Orders.{KeepsOnly}
+use Rattle.recency.specs.Orders.{KeepsOnly, LosesOnly}
 use Rattle.retry.specs.Penalties.{answered, timed_out}
 use Rattle.retry.specs.Plans.{upcoming}
 use Rattle.referral.specs.Cuts.{Cut, Known, IsBest, after_best}
@@ -238,11 +238,24 @@ IsTakenCut j input now e =
     (s : Search) × (at : Name) × (ns : List Record) × (glue : List Record) × (ttl : ℕ) × (c : Cut)
     × IsClass j input s (class.Referral at ns glue ttl) × IsCutOf at ns glue c × referral.IsKept (cut_from c ttl now) e
 
--- What stands where memory was wanting on the way: what was accepted may be kept or not, entries may be in
--- another order or gone, the penalty may be written or not. Nothing else is new.
+-- What may be gone of the stores for such a message: what one keep of the accepted link or cut pushes out of
+-- them as they stood before the call (`IsGone`).
+abbrev pub IsLostEntry : Job → Input → ℕ → Stores → Key × Hit → Type 0
+IsLostEntry j input now stores e = (s : Search) × (l : Link) × IsClass j input s (class.Answer l) × cache.IsGone stores.cache_cap s.name s.kind (hit_from l now) stores.cache e
+
+abbrev pub IsLostCut : Job → Input → ℕ → Stores → Name × Known → Type 0
+IsLostCut j input now stores e =
+    (s : Search) × (at : Name) × (ns : List Record) × (glue : List Record) × (ttl : ℕ) × (c : Cut)
+    × IsClass j input s (class.Referral at ns glue ttl) × IsCutOf at ns glue c × referral.IsGone stores.delegations_cap (cut_from c ttl now) stores.delegations e
+
+-- What stands where memory was wanting on the way. What was accepted may be kept or not, and what one keep of
+-- it pushes out may be gone; every other entry that was there stays, maybe in another order, and nothing else
+-- is new. The penalty may be written or not.
 pub record Stops (input : Input) (now : ℕ) (old : Job) (stores after : Stores) : Type 0 where
   pub cache : KeepsOnly stores.cache (IsTakenEntry old input now) after.cache
+  pub cache_lost : LosesOnly stores.cache (IsLostEntry old input now stores) after.cache
   pub delegations : KeepsOnly stores.delegations (IsTakenCut old input now) after.delegations
+  pub delegations_lost : LosesOnly stores.delegations (IsLostCut old input now stores) after.delegations
   pub penalties :
       (after.penalties ≡ stores.penalties)
       ⊎ ((server : Addr) × (server_of input ≡ Some server)

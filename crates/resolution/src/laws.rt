@@ -14,7 +14,7 @@ pub fn received_law()
 {}
 
 /// What a whole call leaves in the stores is among what may stand where memory was wanting on the way: beside
-/// what was accepted nothing is new.
+/// what was accepted nothing is new, and beside what one keep of that pushes out nothing is gone.
 pub fn stores_law()
     ensures { AdvancesStop }
 {}

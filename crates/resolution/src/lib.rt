@@ -7,7 +7,8 @@
 //! and `laws` build on them.
 //!
 //! Promised: the rules end (`end_law`); what was accepted for a query serves that query, whatever its TTL
-//! (`received_law`); where memory was wanting nothing is new in the stores beside what was accepted (`stores_law`).
+//! (`received_law`); where memory was wanting nothing is new in the stores beside what was accepted, and nothing is
+//! gone from them beside what one keep of that pushes out (`stores_law`).
 //! Not here: clients, sockets and identifiers (`runs`).
 //!
 //! ```text
