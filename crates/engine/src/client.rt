@@ -14,7 +14,8 @@ ghost use Rattle.engine.specs.Replies.{alone, if_any};
 ghost use Rattle.engine.specs.Calls.{Handles, IsResolved, Begins, IsGone};
 ghost use Rattle.engine.specs.Turns.{Turns};
 
-use crate::works::{Hasher, Works};
+use crate::hashing::StoreHasher;
+use crate::works::Works;
 use dname::{Heap, Starved};
 use exchange::{Action, Asker, local_answer_is_plain, read_asked, refuse, reply_to};
 use front::{Asked, Echo, Refusal, Start, answer_local};
@@ -27,7 +28,7 @@ fn begun<A: Heap>(
     alloc: A,
     asker: &Asker<A>,
     home: &Home<A>,
-    stores: &mut Stores<Hasher, A>,
+    stores: &mut Stores<StoreHasher, A>,
     now: u64,
 ) -> Result<Begun<A>, Starved>
     requires { now ≤ latest }

@@ -23,7 +23,7 @@ impl<A: Heap> Works<A> {
         if from.port != self.port || bytes.len() < HEADER {
             return None;
         }
-        self.queries.are_apart();
+        self.queries.apart_law();
         self.queries.find(socket, from.address, id_in(bytes))
     }
 

@@ -27,6 +27,7 @@ mod begin;
 mod booked;
 mod client;
 mod datagram;
+mod hashing;
 mod hear;
 mod machine;
 mod serve;

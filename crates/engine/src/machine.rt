@@ -9,8 +9,9 @@ ghost use Rattle.engine.specs.Promises.{Steps};
 ghost use Rattle.exchange.specs.Views.{event_view};
 ghost use Rattle.runs.specs.States.{moved};
 
+use crate::hashing::{Seeded, StoreHasher};
 use crate::settings::{Config, CoreError};
-use crate::works::{Hasher, Works};
+use crate::works::Works;
 use authority::Catalog;
 use dname::{Heap, Starved};
 use exchange::{Actions, Event};
@@ -19,6 +20,7 @@ use queries::Queries;
 use rand_chacha::ChaCha20Rng;
 use rand_core::SeedableRng;
 use std::alloc::{Allocator, Global};
+use std::hash::DefaultHasher;
 use std::marker::Model;
 use wire::Writer;
 
@@ -39,13 +41,19 @@ impl<A: Allocator> Model for Core<A> {
     ghost invariant = { λ c. IsSound (state_of c.works) };
 }
 
-fn stores<A: Heap>(alloc: A, room: Capacities) -> Result<Stores<Hasher, A>, Starved>
+// Stores in which nothing stands yet, hashed behind the seed.
+fn stores<A: Heap>(
+    alloc: A,
+    room: Capacities,
+    seed: &[u8],
+) -> Result<Stores<StoreHasher, A>, Starved>
     ensures { IfOk result (λ s. s ≡ no_stores (non_zero_usize_get room.links) (non_zero_usize_get room.cuts) (non_zero_usize_get room.servers)) }
 {
+    let seeded = Seeded::new(DefaultHasher::new(), seed);
     let hashers = Hashers {
-        links: Hasher::default(),
-        cuts: Hasher::default(),
-        servers: Hasher::default(),
+        links: seeded,
+        cuts: seeded,
+        servers: seeded,
     };
     Ok(Stores::new(alloc, room, hashers)?)
 }
@@ -63,7 +71,7 @@ impl<A: Heap> Core<A> {
         let hints = config.hints;
         let catalog = Catalog::new(config.local)?;
         let home = Home::new(alloc, catalog, &hints)?;
-        let stores = stores(alloc, room)?;
+        let stores = stores(alloc, room, &settings.seed)?;
         let writer = Writer::new(alloc)?;
         Ok(Core {
             works: Works {
@@ -91,7 +99,7 @@ impl<A: Heap> Core<A> {
     {
         self.works.hear_of(event);
         let out = self.works.turn(event);
-        self.works.queries.are_apart();
+        self.works.queries.apart_law();
         out
     }
 }

@@ -32,7 +32,7 @@ impl<A: Heap> Works<A> {
     fn asked_over(&self, ask: u64) -> Option<u64>
         ensures { MatchOption result ((q : Open) → Contains self.now.queries q → IsOfNumber ask q → ⊥) (λ k. Finds (IsOfNumber ask) self.now.queries k) }
     {
-        self.queries.are_apart();
+        self.queries.apart_law();
         self.queries.find_tcp(ask)
     }
 

@@ -21,7 +21,7 @@ impl<A: Heap> Works<A> {
     fn first_due(&self) -> Option<u64>
         ensures { MatchOption result (NoneDue (state_of self.now)) (λ k. Finds (IsFirstDue (state_of self.now)) self.now.queries k) }
     {
-        self.queries.are_apart();
+        self.queries.apart_law();
         match self.queries.earliest() {
             Some((due, number)) if due <= self.clock => Some(number),
             _ => None,

@@ -1,14 +1,11 @@
 //! What the resolver works with: zones and hints, what it learnt, open queries, and its source of identifiers.
+use crate::hashing::StoreHasher;
 use exchange::Event;
 use known::{Home, Stores};
 use queries::Queries;
 use rand_chacha::ChaCha20Rng;
 use std::alloc::{Allocator, Global};
-use std::hash::{BuildHasherDefault, FoldHasher};
 use wire::Writer;
-
-// What hashes the keys of the stores.
-pub type Hasher = BuildHasherDefault<FoldHasher>;
 
 // The state between two steps: what stays, the clock in milliseconds, what was learnt, the open queries, and
 // the numbers of the next query and of the next ask over TCP.
@@ -19,7 +16,7 @@ pub struct Works<A: Allocator = Global> {
     pub port: u16,
     pub sockets: u16,
     pub clock: u64,
-    pub stores: Stores<Hasher, A>,
+    pub stores: Stores<StoreHasher, A>,
     pub queries: Queries<A>,
     pub opened: u64,
     pub asked: u64,

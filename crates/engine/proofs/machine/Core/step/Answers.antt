@@ -17,8 +17,8 @@ invariant_of-self g c =
     let new : State = state_of c.turn-out.new.self in
     let event : Event = event_view c.args.event.now in
     by_result c.turn-out.result (λ a. Turns mid event (Some a) new) (Turns mid event None new) (IsSound new) c.turn-out.ensures.ok c.turn-out.ensures.err
-    (λ a h. stepped_is_sound was mid event c.hear_of.ensures new c.are_apart.ensures (Some a) h c.self.invariant)
-    (λ h. stepped_is_sound was mid event c.hear_of.ensures new c.are_apart.ensures None h c.self.invariant)
+    (λ a h. stepped_is_sound was mid event c.hear_of.ensures new c.apart_law.ensures (Some a) h c.self.invariant)
+    (λ h. stepped_is_sound was mid event c.hear_of.ensures new c.apart_law.ensures None h c.self.invariant)
 
 pub returns : goal.returns
 returns g c =
@@ -28,7 +28,7 @@ returns g c =
     let event : Event = event_view c.args.event.now in
     let heard : mid ≡ moved was event = c.hear_of.ensures ∙ ap (λ (z : State). moved z event) c.self.view_is in
     record {
-      ok = IfOk-weaker c.turn-out.result _ _ (λ a h. stepped was mid event heard new c.are_apart.ensures (Some a) h) c.turn-out.ensures.ok;
-      err = on_err_weaker c.turn-out.result (stepped was mid event heard new c.are_apart.ensures None) c.turn-out.ensures.err;
+      ok = IfOk-weaker c.turn-out.result _ _ (λ a h. stepped was mid event heard new c.apart_law.ensures (Some a) h) c.turn-out.ensures.ok;
+      err = on_err_weaker c.turn-out.result (stepped was mid event heard new c.apart_law.ensures None) c.turn-out.ensures.err;
       quiet = λ q. c.turn-out.ensures.quiet (subst (λ (z : State). IsQuiet z event) (sym heard) q);
     }
