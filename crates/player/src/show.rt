@@ -1,9 +1,9 @@
 //! The events of a network and what the resolver does at each, as the lines of a play.
-ghost use Rattle.std.specs.Prelude.{◌≡◌, ◌∷◌, Some, None, OnOk, codes};
+ghost use Rattle.std.specs.Prelude.{◌≡◌, Some, None, OnOk, codes};
 ghost use Rattle.network.specs.Networks.{Reply};
-ghost use Rattle.simnet.specs.Views.{due_listed, sim_action_view, sim_event_view};
+ghost use Rattle.simnet.specs.Views.{sim_action_view, sim_event_view};
 ghost use Rattle.player.specs.Plays.{Happens};
-ghost use Rattle.player.specs.Seen.{seen, due_text, with_text, Acts, ActsAll, Heeds, way_action};
+ghost use Rattle.player.specs.Seen.{seen, with_text, Acts, ActsAll, Heeds, way_action};
 ghost use Rattle.player.specs.Shown.{client_of, drop_line};
 
 use causes::Cause;
@@ -54,22 +54,10 @@ impl<A: Heap> Show<A> {
     fn heed(&mut self, client: u64, actions: SimActions<A>) -> Result<(), Starved>
         ensures { OnOk result (Heeds client actions (seen self.old) (seen self.new)) }
     {
-        let SimActions { first, more_due } = actions;
-        match first {
-            None => self.heed_due(client, more_due),
-            Some(action) => self.put_first(action, more_due),
+        if actions.first.is_none() && !actions.more_due {
+            return self.let_fall(client);
         }
-    }
-
-    // No action comes out.
-    fn heed_due(&mut self, client: u64, more: bool) -> Result<(), Starved>
-        ensures { OnOk result (Heeds client (due_listed more) (seen self.old) (seen self.new)) }
-    {
-        if more {
-            self.put_due(more)
-        } else {
-            self.let_fall(client)
-        }
+        self.show(actions)
     }
 
     // The bytes of a client are dropped.
@@ -89,31 +77,16 @@ impl<A: Heap> Show<A> {
         Ok(())
     }
 
+    // What comes out of a step is printed: an action, and whether another query is due.
     fn show(&mut self, actions: SimActions<A>) -> Result<(), Starved>
         ensures is { OnOk result (ActsAll actions (seen self.old) (seen self.new)) }
         ensures passed { OnOk result (self.new.sends.passed ≡ self.old.sends.passed) }
     {
         let SimActions { first, more_due } = actions;
-        match first {
-            None => self.put_due(more_due),
-            Some(action) => self.put_first(action, more_due),
+        if let Some(action) = first {
+            self.action(action)?;
         }
-    }
-
-    fn put_first(&mut self, action: SimAction<A>, more: bool) -> Result<(), Starved>
-        ensures is { OnOk result (ActsAll (sim_action_view action ∷ due_listed more) (seen self.old) (seen self.new)) }
-        ensures passed { OnOk result (self.new.sends.passed ≡ self.old.sends.passed) }
-    {
-        self.action(action)?;
-        self.put_due(more)
-    }
-
-    // Another query is due, or none is known to be.
-    fn put_due(&mut self, more: bool) -> Result<(), Starved>
-        ensures is { OnOk result (seen self.new ≡ with_text (due_text more) (seen self.old)) }
-        ensures passed { OnOk result (self.new.sends.passed ≡ self.old.sends.passed) }
-    {
-        if more {
+        if more_due {
             self.text.push_str("due\n")?;
         }
         Ok(())

@@ -99,10 +99,10 @@ fn is_denied<A: Allocator>(
 }
 
 // The name that a record is an alias of.
-fn target<A: Allocator>(subject: &Record<A>) -> Option<&Name<A>>
-    ensures { MatchOption result ((n : List (List ℕ)) → subject.now.value ≡ Cname n → ⊥) (λ n. subject.now.value ≡ Cname n.now) }
+fn target<A: Allocator>(rr: &Record<A>) -> Option<&Name<A>>
+    ensures { MatchOption result ((n : List (List ℕ)) → rr.now.value ≡ Cname n → ⊥) (λ n. rr.now.value ≡ Cname n.now) }
 {
-    match &subject.value {
+    match &rr.value {
         RData::Cname(name) => Some(name),
         _ => None,
     }

@@ -30,23 +30,23 @@ pub fn has_origin<A: Allocator>(zones: &[Zone<A>], name: &Name<A>) -> bool
     zones.iter().any(|zone| is_at(zone, name))
 }
 
-fn is_server<A: Allocator>(subject: &Record<A>) -> bool
-    ensures { result ≡ is_type ns_type subject.now }
+fn is_server<A: Allocator>(rr: &Record<A>) -> bool
+    ensures { result ≡ is_type ns_type rr.now }
 {
-    subject.is(RType::Ns)
+    rr.is(RType::Ns)
 }
 
 // Whether the record makes a cut in the zone of that origin.
-pub fn makes_cut<A: Allocator>(subject: &Record<A>, origin: &Name<A>) -> bool
-    ensures { result ≡ makes_cut origin.now subject.now }
+pub fn makes_cut<A: Allocator>(rr: &Record<A>, origin: &Name<A>) -> bool
+    ensures { result ≡ makes_cut origin.now rr.now }
 {
-    is_server(subject) && subject.owner != *origin
+    is_server(rr) && rr.owner != *origin
 }
 
-fn is_loose<A: Allocator>(subject: &Record<A>, origin: &Name<A>, zones: &[Zone<A>]) -> bool
-    ensures { result ≡ is_loose zones.now origin.now subject.now }
+fn is_loose<A: Allocator>(rr: &Record<A>, origin: &Name<A>, zones: &[Zone<A>]) -> bool
+    ensures { result ≡ is_loose zones.now origin.now rr.now }
 {
-    makes_cut(subject, origin) && !has_origin(zones, &subject.owner)
+    makes_cut(rr, origin) && !has_origin(zones, &rr.owner)
 }
 
 fn some_is_loose<A: Allocator>(records: &[Record<A>], origin: &Name<A>, zones: &[Zone<A>]) -> bool
@@ -87,10 +87,10 @@ fn some_is_between<A: Allocator>(zones: &[Zone<A>], above: &Name<A>, name: &Name
     zones.iter().any(|zone| is_between(zone, above, name))
 }
 
-fn is_server_at<A: Allocator>(subject: &Record<A>, name: &Name<A>) -> bool
-    ensures { result ≡ (is_owned name.now subject.now && is_type ns_type subject.now) }
+fn is_server_at<A: Allocator>(rr: &Record<A>, name: &Name<A>) -> bool
+    ensures { result ≡ (is_owned name.now rr.now && is_type ns_type rr.now) }
 {
-    subject.owner == *name && is_server(subject)
+    rr.owner == *name && is_server(rr)
 }
 
 fn has_server_at<A: Allocator>(records: &[Record<A>], name: &Name<A>) -> bool

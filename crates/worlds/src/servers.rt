@@ -40,10 +40,10 @@ fn is_missed<A: Allocator>(value: &RData<A>, cut: &Name<A>, hosts: &[Host<A>]) -
     }
 }
 
-fn record_misses<A: Allocator>(subject: &Record<A>, cut: &Name<A>, hosts: &[Host<A>]) -> bool
-    ensures { result ≡ is_missed hosts.now cut.now subject.now.value }
+fn record_misses<A: Allocator>(rr: &Record<A>, cut: &Name<A>, hosts: &[Host<A>]) -> bool
+    ensures { result ≡ is_missed hosts.now cut.now rr.now.value }
 {
-    is_missed(&subject.value, cut, hosts)
+    is_missed(&rr.value, cut, hosts)
 }
 
 fn some_missed<A: Allocator>(records: &[Record<A>], cut: &Name<A>, hosts: &[Host<A>]) -> bool
@@ -55,14 +55,14 @@ fn some_missed<A: Allocator>(records: &[Record<A>], cut: &Name<A>, hosts: &[Host
 }
 
 fn is_missed_at<A: Allocator>(
-    subject: &Record<A>,
+    rr: &Record<A>,
     name: &Name<A>,
     cut: &Name<A>,
     hosts: &[Host<A>],
 ) -> bool
-    ensures { result ≡ is_missed_at hosts.now cut.now name.now subject.now }
+    ensures { result ≡ is_missed_at hosts.now cut.now name.now rr.now }
 {
-    subject.owner == *name && record_misses(subject, cut, hosts)
+    rr.owner == *name && record_misses(rr, cut, hosts)
 }
 
 fn some_missed_at<A: Allocator>(
@@ -181,16 +181,16 @@ fn target_misses<A: Heap>(
 // Whether the record names a server of a cut that does not serve it.
 fn is_lame<A: Heap>(
     catalog: &Catalog<A>,
-    subject: &Record<A>,
+    rr: &Record<A>,
     origin: &Name<A>,
     hosts: &[Host<A>],
 ) -> Result<bool, Starved>
-    ensures { IfOk result (λ b. b ≡ is_lame catalog.now hosts.now origin.now subject.now) }
+    ensures { IfOk result (λ b. b ≡ is_lame catalog.now hosts.now origin.now rr.now) }
 {
-    if !makes_cut(subject, origin) {
+    if !makes_cut(rr, origin) {
         return Ok(false);
     }
-    Ok(target_misses(catalog, &subject.value, &subject.owner, hosts)?)
+    Ok(target_misses(catalog, &rr.value, &rr.owner, hosts)?)
 }
 
 fn some_is_lame<A: Heap>(
