@@ -1,14 +1,19 @@
 //! The loop that takes clients' datagrams.
+ghost use Rattle.std.specs.Prelude.{◌≤◌, IfSome, length};
+
+use crate::clock::rest;
 use crate::desk::Desk;
 use crate::ends::{MOST_BYTES, endpoint_of};
 use book::{Machine, Ticket};
 use delivery::asked;
-use exchange::{Actions, Event};
+use exchange::{Actions, Endpoint, Event};
+use std::io::ErrorKind;
+use std::net::UdpSocket;
 use std::sync::Wait;
 use std::sync::ledger::Ledger;
 use std::time::Clock;
 
-/// Takes the datagrams of clients until the flag is up. A fault of the socket is a loss.
+/// Takes the datagrams of clients until the flag is up.
 pub(crate) fn take_datagrams<M: Machine<Event = Event, Out = Actions>, L: Ledger, R: Wait + Clock>(
     rt: &R,
     desk: &Desk<'_, M, L>,
@@ -20,11 +25,29 @@ pub(crate) fn take_datagrams<M: Machine<Event = Event, Out = Actions>, L: Ledger
         if desk.is_over() {
             return;
         }
-        if let Ok((count, from)) = ends.clients.recv_from(&mut buffer)
-            && let Some(from) = endpoint_of(from)
+        if let Some((count, from)) = next_datagram(rt, &ends.clients, &mut buffer)
             && let Ok(event) = asked(desk.alloc, desk.moment(rt), from, &buffer[..count])
         {
             desk.put(rt, ticket, event);
+        }
+    }
+}
+
+/// The next datagram at a socket: how many bytes it has, which stand at the front of the buffer, and who sent it. None
+/// where none came in time, and at a fault, which is a loss: since it may last, the loop rests for a while.
+pub(crate) fn next_datagram<R: Clock>(
+    rt: &R,
+    socket: &UdpSocket,
+    buffer: &mut [u8],
+) -> Option<(usize, Endpoint)>
+    ensures { IfSome result (λ d. d.0 ≤ length buffer.new) }
+{
+    match socket.recv_from(buffer) {
+        Ok((count, from)) => Some((count, endpoint_of(from)?)),
+        Err(error) if error.kind() == ErrorKind::WouldBlock => None,
+        Err(_) => {
+            rest(rt);
+            None
         }
     }
 }

@@ -15,6 +15,21 @@ use std::time::{Clock, Instant};
 // More asks than one query makes: a query that comes to nothing but refused asks ends before.
 const MOST_ASKS: u32 = 64;
 
+/// What came of an event.
+#[derive(Clone, Copy)]
+pub(crate) struct Upshot {
+    /// Whether a reply or an ask goes out: of a client's bytes, whether they will have a reply.
+    pub speaks: bool,
+    /// Whether another query is due.
+    pub more_due: bool,
+}
+
+// What came of an event that is dropped, or that wants memory.
+const NOTHING: Upshot = Upshot {
+    speaks: false,
+    more_due: false,
+};
+
 /// What the loops share.
 #[derive(Drop)]
 pub(crate) struct Desk<'a, M: Machine, L: Ledger> {
@@ -44,27 +59,32 @@ impl<M: Machine<Event = Event, Out = Actions>, L: Ledger> Desk<'_, M, L> {
         }
     }
 
-    /// Puts an event, and hands over what goes out; whether another query is due. An ask over TCP that no worker can
-    /// be handed has failed, which is an event again.
-    pub fn put<R: Wait + Clock>(&self, rt: &R, ticket: &mut Ticket<L>, event: Event) -> bool {
+    /// Puts an event, and hands over what goes out; what came of it. An ask over TCP that no worker can be handed has
+    /// failed, which is an event again.
+    pub fn put<R: Wait + Clock>(&self, rt: &R, ticket: &mut Ticket<L>, event: Event) -> Upshot {
         let mut event = event;
         for _ in 0..MOST_ASKS {
             let Ok(entry) = submit(rt, self.shared, ticket, event) else {
-                return false;
+                return NOTHING;
             };
             let Ok(actions) = entry.out() else {
-                return false;
+                return NOTHING;
             };
             match self.send_out(rt, actions) {
                 Some(number) => event = heard_on_stream(self.moment(rt), number, None),
-                None => return actions.more_due,
+                None => {
+                    return Upshot {
+                        speaks: actions.first.is_some(),
+                        more_due: actions.more_due,
+                    };
+                }
             }
         }
-        false
+        NOTHING
     }
 
     // Hands over what goes out of a step; the number of an ask over TCP that no worker can be handed.
-    fn send_out<R: Wait>(&self, rt: &R, actions: &Actions) -> Option<u64> {
+    fn send_out<R: Wait + Clock>(&self, rt: &R, actions: &Actions) -> Option<u64> {
         let action = actions.first.as_ref()?;
         let mut outbox = Outbox {
             rt,

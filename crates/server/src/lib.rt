@@ -23,6 +23,7 @@ mod fault;
 mod outbox;
 mod patient;
 mod serve;
+mod span;
 mod streams;
 mod upstream;
 mod workers;

@@ -1,11 +1,16 @@
 //! What goes out, by the sockets and the channels of a server.
 use crate::ends::{Ends, address_of};
+use crate::span::Span;
 use crossbeam_channel::Sender;
 use delivery::Carrier;
 use exchange::{Bytes, Endpoint};
 use std::alloc::Global;
 use std::net::UdpSocket;
 use std::sync::Wait;
+use std::time::Clock;
+
+// How long an ask over TCP may take once it is handed over, in milliseconds: as long as the resolver waits for it.
+const ASK_MS: u64 = 3_000;
 
 /// An ask over TCP, for whichever worker takes it.
 #[derive(Drop)]
@@ -13,6 +18,8 @@ pub(crate) struct StreamAsk {
     pub number: u64,
     pub to: Endpoint,
     pub bytes: Bytes,
+    /// How long it may take, time in the channel included.
+    pub span: Span,
 }
 
 /// A reply for the client whose frame came under this number.
@@ -32,7 +39,7 @@ pub(crate) struct Outbox<'a, R> {
 }
 
 // What can't be sent or handed on is lost, as a datagram on its way; but an ask over TCP that no worker takes is told.
-impl<R: Wait> Carrier<Global> for Outbox<'_, R> {
+impl<R: Wait + Clock> Carrier<Global> for Outbox<'_, R> {
     fn to_client(&mut self, to: Endpoint, bytes: &Bytes) {
         let ends = self.ends;
         send(&ends.clients, to, bytes);
@@ -52,10 +59,18 @@ impl<R: Wait> Carrier<Global> for Outbox<'_, R> {
     }
 
     fn to_worker(&mut self, number: u64, to: Endpoint, bytes: &Bytes) -> bool {
+        let Some(span) = Span::begin(self.rt, ASK_MS) else {
+            return false;
+        };
         let Ok(bytes) = bytes.copied() else {
             return false;
         };
-        let ask = StreamAsk { number, to, bytes };
+        let ask = StreamAsk {
+            number,
+            to,
+            bytes,
+            span,
+        };
         self.to_workers.send(self.rt, ask).is_ok()
     }
 }

@@ -1,10 +1,11 @@
-//! Streams, read in short waits.
+//! Streams, read and written in short waits.
 use crate::ends::SLICE_MS;
+use crate::span::Span;
 use std::io;
 use std::io::{ErrorKind, Read, Write};
 use std::net::TcpStream;
 use std::sync::atomic::{AtomicBool, Ordering};
-use std::time::{Clock, Instant};
+use std::time::Clock;
 
 // For how long a stream may be silent, in milliseconds.
 const SILENCE_MS: u64 = 3_000;
@@ -14,19 +15,28 @@ const WAITS: u64 = 30;
 
 const _: () = prove!(WAITS * SLICE_MS == SILENCE_MS);
 
-/// A client's stream: a read waits in short waits until a byte comes, and a write until one is taken, for 3,000 ms at
-/// most, and both give up once the flag is up.
+/// A stream within a span: a read waits in short waits until a byte comes, and a write until one is taken, for 3,000 ms
+/// at most. Both give up once the span is over, however many bytes came, and once the flag is up.
 #[derive(Drop)]
-pub(crate) struct Patient<'a> {
+pub(crate) struct Patient<'a, R> {
+    pub rt: &'a R,
     pub stream: &'a TcpStream,
     pub stop: &'a AtomicBool,
+    pub span: Span,
 }
 
-impl Read for Patient<'_> {
+impl<R: Clock> Patient<'_, R> {
+    // Whether no more is to be read or written.
+    fn is_over(&self) -> bool {
+        self.stop.load(Ordering::SeqCst) || self.span.left(self.rt).is_none()
+    }
+}
+
+impl<R: Clock> Read for Patient<'_, R> {
     fn read(&mut self, buf: &mut [u8]) -> io::Result<usize> {
         let mut stream = self.stream;
         for _ in 0..WAITS {
-            if self.stop.load(Ordering::SeqCst) {
+            if self.is_over() {
                 break;
             }
             match stream.read(buf) {
@@ -38,11 +48,11 @@ impl Read for Patient<'_> {
     }
 }
 
-impl Write for Patient<'_> {
+impl<R: Clock> Write for Patient<'_, R> {
     fn write(&mut self, buf: &[u8]) -> io::Result<usize> {
         let mut stream = self.stream;
         for _ in 0..WAITS {
-            if self.stop.load(Ordering::SeqCst) {
+            if self.is_over() {
                 break;
             }
             match stream.write(buf) {
@@ -55,43 +65,5 @@ impl Write for Patient<'_> {
 
     fn flush(&mut self) -> io::Result<()> {
         Ok(())
-    }
-}
-
-/// A server's stream: all reads together wait for 3,000 ms at most after `start`, and give up once the flag is up.
-#[derive(Drop)]
-pub(crate) struct Hurried<'a, R> {
-    pub rt: &'a R,
-    pub stream: &'a TcpStream,
-    pub stop: &'a AtomicBool,
-    pub start: Instant,
-}
-
-impl<R: Clock> Hurried<'_, R> {
-    // Whether no more is to be read.
-    fn is_over(&self) -> bool {
-        if self.stop.load(Ordering::SeqCst) {
-            return true;
-        }
-        match self.start.elapsed(self.rt) {
-            Ok(passed) => passed.as_millis() >= u128::from(SILENCE_MS),
-            Err(_) => true,
-        }
-    }
-}
-
-impl<R: Clock> Read for Hurried<'_, R> {
-    fn read(&mut self, buf: &mut [u8]) -> io::Result<usize> {
-        let mut stream = self.stream;
-        for _ in 0..=WAITS {
-            if self.is_over() {
-                break;
-            }
-            match stream.read(buf) {
-                Err(error) if error.kind() == ErrorKind::WouldBlock => {}
-                done => return done,
-            }
-        }
-        Err(io::Error::from(ErrorKind::TimedOut))
     }
 }

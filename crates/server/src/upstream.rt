@@ -1,6 +1,7 @@
 //! The loops that take other servers' datagrams.
+use crate::datagrams::next_datagram;
 use crate::desk::Desk;
-use crate::ends::{MOST_BYTES, endpoint_of};
+use crate::ends::MOST_BYTES;
 use book::{Machine, Ticket};
 use delivery::heard;
 use exchange::{Actions, Event};
@@ -8,7 +9,7 @@ use std::sync::Wait;
 use std::sync::ledger::Ledger;
 use std::time::Clock;
 
-/// Takes the datagrams at the upstream socket of this number until the flag is up. A fault of the socket is a loss.
+/// Takes the datagrams at the upstream socket of this number until the flag is up.
 pub(crate) fn take_answers<M: Machine<Event = Event, Out = Actions>, L: Ledger, R: Wait + Clock>(
     rt: &R,
     desk: &Desk<'_, M, L>,
@@ -24,8 +25,7 @@ pub(crate) fn take_answers<M: Machine<Event = Event, Out = Actions>, L: Ledger, 
         if desk.is_over() {
             return;
         }
-        if let Ok((count, from)) = socket.recv_from(&mut buffer)
-            && let Some(from) = endpoint_of(from)
+        if let Some((count, from)) = next_datagram(rt, socket, &mut buffer)
             && let Ok(event) = heard(desk.alloc, desk.moment(rt), number, from, &buffer[..count])
         {
             desk.put(rt, ticket, event);

@@ -4,7 +4,7 @@ ghost use Rattle.std.specs.Prelude.{◌≤◌, IfSome, length};
 use crate::desk::Desk;
 use crate::ends::{address_of, limit, slice};
 use crate::outbox::StreamAsk;
-use crate::patient::Hurried;
+use crate::patient::Patient;
 use book::{Machine, Ticket};
 use delivery::heard_on_stream;
 use exchange::{Actions, Event};
@@ -14,12 +14,10 @@ use std::net::{Net, TcpListener, TcpStream};
 use std::sync::Wait;
 use std::sync::atomic::AtomicBool;
 use std::sync::ledger::Ledger;
-use std::time::{Clock, Duration, Instant};
+use std::time::Clock;
 
-// How long a server may take to accept a stream, in milliseconds.
-const CONNECT_MS: u64 = 3_000;
-
-/// Asks servers over TCP, ask by ask, until the flag is up. What is no reply is told as a failure.
+/// Asks servers over TCP, ask by ask, until the flag is up. What is no reply is told as a failure, and so is, at once,
+/// an ask that waited too long for a worker.
 pub(crate) fn ask_servers<
     M: Machine<Event = Event, Out = Actions>,
     L: Ledger,
@@ -37,8 +35,8 @@ pub(crate) fn ask_servers<
     }
 }
 
-// The frame with which a server answers an ask. None where the stream can't be had, or faults, or ends, or takes longer
-// than an ask may wait.
+// The frame with which a server answers an ask. None where the ask's time is over, and where the stream can't be had
+// within what is left of it, or faults, or ends, or takes longer.
 fn frame_for<R: Net<Listener = TcpListener, Stream = TcpStream> + Clock>(
     rt: &R,
     alloc: Global,
@@ -47,17 +45,15 @@ fn frame_for<R: Net<Listener = TcpListener, Stream = TcpStream> + Clock>(
 ) -> Option<Vec<u8>>
     ensures { IfSome result (λ v. length v.items ≤ 65535) }
 {
-    let start = Instant::now(rt).ok()?;
-    let wait = Duration::from_millis(CONNECT_MS);
-    let stream = TcpStream::connect_timeout(rt, &address_of(ask.to), wait).ok()?;
+    let left = ask.span.left(rt)?;
+    let stream = TcpStream::connect_timeout(rt, &address_of(ask.to), left).ok()?;
     limit(&stream).ok()?;
-    let mut writer = &stream;
-    write_framed(&mut writer, ask.bytes.as_slice()).ok()?;
-    let mut reader = Hurried {
+    let mut server = Patient {
         rt,
         stream: &stream,
         stop,
-        start,
+        span: ask.span,
     };
-    read_framed(alloc, &mut reader).ok()?
+    write_framed(&mut server, ask.bytes.as_slice()).ok()?;
+    read_framed(alloc, &mut server).ok()?
 }

@@ -46,6 +46,11 @@ const LONG: Question = Question {
     query: b"\0\x05\x01\0\0\x01\0\0\0\0\0\0\x04long\x03lab\x07example\0\0\x10\0\x01",
 };
 
+// Frames without a reply: fewer bytes than a header has, and a message that is itself a reply.
+const SHORT: &[u8] = b"\0\x05";
+
+const REPLY: &[u8] = b"\0\x05\x80\0\0\0\0\0\0\0\0\0";
+
 // Any port of this host that is free.
 pub const ANYWHERE: Endpoint = Endpoint {
     address: Addr([127, 0, 0, 1]),
@@ -83,6 +88,8 @@ impl<R: Net<Listener = TcpListener, Stream = TcpStream> + Clock> Client<'_, R> {
         self.asks_after(&[0], true).ok_or("after one byte")?;
         self.asks_after(&[255, 255, 1, 2, 3, 4, 5, 6, 7, 8, 9, 10], false)
             .ok_or("after ten bytes of many")?;
+        self.sees_end_after(SHORT).ok_or("after a short frame")?;
+        self.sees_end_after(REPLY).ok_or("after a reply")?;
         self.asks_for_long().ok_or("a long reply")?;
         Ok(asked)
     }
@@ -157,6 +164,17 @@ impl<R: Net<Listener = TcpListener, Stream = TcpStream> + Clock> Client<'_, R> {
             broken.shutdown(Shutdown::Both).ok()?;
         }
         self.asks_on_one(DB)
+    }
+
+    // Sends a frame that has no reply; the resolver ends the stream before the client's patience is over.
+    fn sees_end_after(&self, frame: &[u8]) -> Option<()> {
+        let stream = self.open()?;
+        write_frame(&stream, frame)?;
+        let mut reader = &stream;
+        match read_framed(self.alloc, &mut reader) {
+            Ok(None) => Some(()),
+            _ => None,
+        }
     }
 
     // Asks for what no datagram holds, so that the resolver has to ask over TCP.
