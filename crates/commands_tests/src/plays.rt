@@ -142,6 +142,16 @@ const AT_ONCE: Worked = Worked {
     printed: "send 1 198.51.100.1 www.lab.example. A\nsend 2 198.51.100.1 ns.example. A\nsend 3 198.51.100.1 www.lab.example. A\ndue\nsend 4 198.51.100.1 ns.example. A\nsend 5 198.51.100.2 www.lab.example. A\nsend 6 198.51.100.2 ns.example. A\nsend 7 198.51.100.3 www.lab.example. A\nreply 2 NOERROR\n  an ns.example. 3600 A 198.51.100.2\nreply 1 NOERROR\n  an www.lab.example. 300 A 192.0.2.1\nright 2 of 2\n",
 };
 
+// A root, and the local e. with nine aliases and one that leads to itself.
+const ALIASES: &str =
+    "zone .\n. 3600 IN SOA r. h. 1 2 3 4 60\n. 3600 IN NS ns.\nns. 3600 IN A 198.51.100.1\nend\nlocal e.\n$TTL 60\n@ SOA ns h 1 2 3 4 5\n@ NS ns\nc0 CNAME c1\nc1 CNAME c2\nc2 CNAME c3\nc3 CNAME c4\nc4 CNAME c5\nc5 CNAME c6\nc6 CNAME c7\nc7 CNAME c8\nc8 CNAME c9\nc9 A 192.0.2.1\nl CNAME l\nend\nhost 198.51.100.1 .\nhint 198.51.100.1\n";
+
+// A recursive query follows eight aliases, and neither nine nor those that never end.
+const FOLLOWED: Worked = Worked {
+    script: "at 0\nask c1.e. A\nask c0.e. A\nask l.e. A\n",
+    printed: "reply 1 NOERROR aa\n  an c1.e. 60 CNAME c2.e.\n  an c2.e. 60 CNAME c3.e.\n  an c3.e. 60 CNAME c4.e.\n  an c4.e. 60 CNAME c5.e.\n  an c5.e. 60 CNAME c6.e.\n  an c6.e. 60 CNAME c7.e.\n  an c7.e. 60 CNAME c8.e.\n  an c8.e. 60 CNAME c9.e.\n  an c9.e. 60 A 192.0.2.1\nreply 2 SERVFAIL cause 3\nreply 3 SERVFAIL cause 3\nright 1 of 1\n",
+};
+
 // Scripts, each beside its world.
 const SCRIPTS: &[(&str, Worked)] = &[
     (SMALL, CHAIN),
@@ -158,6 +168,7 @@ const SCRIPTS: &[(&str, Worked)] = &[
     (SIXTEEN, FORTY),
     (SMALL, STRANGE),
     (SMALL, AT_ONCE),
+    (ALIASES, FOLLOWED),
 ];
 
 // The place of the first script that brings something else.

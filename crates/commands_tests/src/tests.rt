@@ -140,6 +140,12 @@ const PRINTED: &str =
 const PRINTED_CUT: &str =
     "$ORIGIN lab.example.\nlab.example. 300 IN SOA ns.lab.example. h.lab.example. 1 2 3 4 60\nlab.example. 300 IN NS ns.lab.example.\nx.lab.example. 300 IN NS n.lab.example.\nx.lab.example. 300 IN TXT \"t\"\n";
 
+// An SOA over two lines, in parentheses and with a comment, a line of the last owner, and a label that has a dot.
+const ESCAPED: &str = "$TTL 60\n@ SOA ns h ( 1 2 ; c\n  3 4 5 )\n  NS ns\na\\046b A 192.0.2.8\n";
+
+const PRINTED_ESCAPED: &str =
+    "$ORIGIN e.\ne. 60 IN SOA ns.e. h.e. 1 2 3 4 5\ne. 60 IN NS ns.e.\na\\.b.e. 60 IN A 192.0.2.8\n";
+
 const DUMPS: &[Row] = &[
     (
         Line::Dump("lab.example."),
@@ -150,6 +156,11 @@ const DUMPS: &[Row] = &[
         Line::Dump("lab.example."),
         Held::Text(AT_A_CUT),
         (0, PRINTED_CUT, ""),
+    ),
+    (
+        Line::Dump("e."),
+        Held::Text(ESCAPED),
+        (0, PRINTED_ESCAPED, ""),
     ),
     (
         Line::Dump("lab.example."),

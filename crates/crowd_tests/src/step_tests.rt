@@ -29,6 +29,25 @@ fn lists(alloc: Global, workers: usize, script: &str) -> Result<Vec<Vec<Asking>>
     lists_of(alloc, scripts, &mut clients)?.ok_or(Starved)
 }
 
+// Five queries.
+const ROUND: &str =
+    "ask www.example. A\nask also.example. A\nask none.example. A\nask www.example. TXT\nask also.example. TXT\n";
+
+// Ten rounds of them.
+fn rounds(alloc: Global) -> Result<String, Starved> {
+    let mut script = String::new(alloc);
+    for _ in 0..10 {
+        script.push_str(ROUND)?;
+    }
+    Ok(script)
+}
+
+// What four workers ask who meet, fifty queries each.
+fn lists_of_four(alloc: Global) -> Result<Vec<Vec<Asking>>, Starved> {
+    let script = rounds(alloc)?;
+    Ok(lists(alloc, 4, script.as_str())?)
+}
+
 // Two queries, and what they come to: a line for each entry.
 const TWO: &str = "ask www.example. A\nask also.example. A\n";
 
@@ -115,9 +134,7 @@ fn met<P: Beginning + Send + Sync, L: Ledger + Send + Sync, R: Threads + Wait + 
     requires begins { P.begins start × ((s : Network) → P.begins s → s ≡ start) }
     requires fresh { Begins start }
 {
-    let script =
-        "ask www.example. A\nask also.example. A\nask none.example. A\nask www.example. TXT\n";
-    let lists = lists(alloc, 4, script)?;
+    let lists = lists_of_four(alloc)?;
     if lists.len() != 4 {
         return Err(PoolError::Stranger);
     }
@@ -168,6 +185,6 @@ fn workers_meet_before_each_query(rt: HostRuntime) -> Result<(), Fail> {
         late,
         in_step,
     } = met::<Brand, Brand, _>(&rt, rt.alloc(), Blank::new(4), start)?;
-    assert_eq!(rt; (queries, late, in_step), (16, 0, true));
+    assert_eq!(rt; (queries, late, in_step), (200, 0, true));
     Ok(())
 }

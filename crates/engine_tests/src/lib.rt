@@ -1,5 +1,5 @@
-//! The tests of `engine`, from outside: by what it makes public; by the bytes of messages, the first ones alone and each
-//! change of one of them; and while memory is refused.
+//! The tests of `engine`, from outside: by what it makes public, and what no resolver is made of; by the bytes of
+//! messages, the first ones alone and each change of one of them; and while memory is refused.
 #![tactic(auto)]
 
 #[cfg(test)]
@@ -12,6 +12,8 @@ mod query_tests;
 mod referral_tests;
 #[cfg(test)]
 mod reply_tests;
+#[cfg(test)]
+mod settings_tests;
 #[cfg(test)]
 mod starved_tests;
 #[cfg(test)]

@@ -1,4 +1,4 @@
-//! Two clients wait, and an event for one of them wants memory: what it leaves.
+//! Two clients wait, another one was answered, and an event for one of the two wants memory: what it leaves.
 use crate::fixtures::end;
 use dname::{Heap, Starved};
 use engine_desk::{Ask, Desk, Out, under};
@@ -36,6 +36,16 @@ const OTHERS_FOUND: &[u8] =
 const OTHERS_REPLY: &[u8] =
     b"\0\x06\x81\x80\0\x01\0\x01\0\0\0\0\x04mail\x07example\0\0\x01\0\x01\xc0\x0c\0\x01\0\x01\0\0\0\x3c\0\x04\xc0\0\x02\x08";
 
+// What client 5 asked before the others, and asks again at 1,000; the server's reply behind the ID; and what the client
+// gets then: an address of known.example, for 60 seconds, of which one is over.
+const KNOWN: &[u8] = b"\0\x07\x01\0\0\x01\0\0\0\0\0\0\x05known\x07example\0\0\x01\0\x01";
+
+const KNOWN_FOUND: &[u8] =
+    b"\x84\0\0\x01\0\x01\0\0\0\0\x05known\x07example\0\0\x01\0\x01\xc0\x0c\0\x01\0\x01\0\0\0\x3c\0\x04\xc0\0\x02\x07";
+
+const KNOWN_REPLY: &[u8] =
+    b"\0\x07\x81\x80\0\x01\0\x01\0\0\0\0\x05known\x07example\0\0\x01\0\x01\xc0\x0c\0\x01\0\x01\0\0\0\x3b\0\x04\xc0\0\x02\x07";
+
 // What happens after the event for client 3.
 #[derive(Clone, Copy)]
 enum Act {
@@ -45,6 +55,8 @@ enum Act {
     LateForNext,
     // The reply to client 4's ask comes.
     Other,
+    // Client 5 asks once more for what it was told.
+    Known,
     // Time has come to that moment.
     Tick(u64),
 }
@@ -59,6 +71,7 @@ const SEQUELS: &[Sequel] = &[
             (Act::Late, Out::Nothing),
             (Act::LateForNext, Out::Nothing),
             (Act::Other, Out::Replied),
+            (Act::Known, Out::Replied),
         ],
     ),
     // Client 4's ask went at 500, and waits for 1,000 milliseconds, then for 2,000.
@@ -115,9 +128,17 @@ fn begin<A: Heap>(desk: &mut Desk<A>, kind: Kind) -> Ask {
     if is_over_tcp(kind) { cut(desk) } else { asked }
 }
 
-// Both clients have asked.
+// Client 5 asks, and is told.
+fn remember<A: Heap>(desk: &mut Desk<A>) {
+    let asked = ask(desk, 5, 0, KNOWN);
+    let found = told(desk.heap(), asked, 0, KNOWN_FOUND);
+    desk.take(found);
+}
+
+// What client 5 asked for is known, and both other clients have asked.
 fn set_scene<A: Heap>(alloc: A, kind: Kind) -> Result<Scene<A>, Starved> {
     let mut desk = Desk::new(alloc, Addr([192, 0, 2, 1]))?;
+    remember(&mut desk);
     let mine = begin(&mut desk, kind);
     let others = ask(&mut desk, 4, 500, OTHERS);
     Ok(Scene { desk, mine, others })
@@ -159,19 +180,25 @@ impl<A: Heap> Scene<A> {
             Act::Late => Ok(self.found(self.mine, 1_000)?),
             Act::LateForNext => Ok(self.found(next, 1_000)?),
             Act::Other => Ok(told(self.desk.heap(), self.others, 1_000, OTHERS_FOUND)?),
+            Act::Known => Ok(self.desk.query(5, 1_000, KNOWN)?),
             Act::Tick(moment) => Ok(Event::Tick { moment }),
         }
     }
 
-    // What comes of an act; something else where client 4 is not sent the whole reply that it is owed.
+    // Whether the client that is owed a whole reply at an act was sent it.
+    fn is_paid(&self, act: Act) -> bool {
+        match act {
+            Act::Other => self.desk.has_sent(4, OTHERS_REPLY),
+            Act::Known => self.desk.has_sent(5, KNOWN_REPLY),
+            _ => true,
+        }
+    }
+
+    // What comes of an act; something else where a client is not sent the whole reply that it is owed.
     fn perform(&mut self, act: Act, next: Ask) -> Out {
         let event = self.event_of(act, next);
         let out = self.desk.take(event);
-        if matches!(act, Act::Other) && !self.desk.has_sent(4, OTHERS_REPLY) {
-            Out::Other
-        } else {
-            out
-        }
+        if self.is_paid(act) { out } else { Out::Other }
     }
 
     // Whether all comes of these acts as it has to.
@@ -219,7 +246,8 @@ fn without<A: Heap>(
     Ok((out, goes_on))
 }
 
-// Client 3's query is gone; client 4's ask stands, and is due when it was; the clock is at the event's moment.
+// Client 3's query is gone; client 4's ask stands, and is due when it was; what was known is known; the clock is at the
+// event's moment.
 fn leaves_the_rest<A: Heap>(alloc: A, kind: Kind, growth: u64, next: Ask) -> Result<bool, Starved> {
     for sequel in SEQUELS {
         if without(alloc, kind, growth, next, *sequel)? != (Out::Starved, true) {

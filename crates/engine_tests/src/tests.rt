@@ -32,7 +32,8 @@ const BOTH: &[Line] = &[
     },
 ];
 
-// One record twice, and two TTLs; the set that is made of it.
+// One record twice, and two TTLs, the lower one at another record; and the lower one at the repeat, which is dropped. The
+// set that is made of either.
 const REPEATED: &[Line] = &[
     Line {
         owner: WWW_EXAMPLE,
@@ -48,6 +49,24 @@ const REPEATED: &[Line] = &[
         owner: WWW_EXAMPLE,
         ttl: 60,
         last: 9,
+    },
+];
+
+const LOWER_AT_THE_REPEAT: &[Line] = &[
+    Line {
+        owner: WWW_EXAMPLE,
+        ttl: 60,
+        last: 9,
+    },
+    Line {
+        owner: WWW_EXAMPLE,
+        ttl: 30,
+        last: 9,
+    },
+    Line {
+        owner: WWW_EXAMPLE,
+        ttl: 60,
+        last: 10,
     },
 ];
 
@@ -130,6 +149,18 @@ const SET_OF_TWO: &[(Act, Out)] = &[
     ),
 ];
 
+const SET_OF_A_REPEAT: &[(Act, Out)] = &[
+    ASKED,
+    (
+        Act::Told(ROOT, b"\x84\0\0\x01\0\x03\0\0\0\0", LOWER_AT_THE_REPEAT),
+        Out::Replied,
+    ),
+    (
+        Act::Looks(b"\x81\x80\0\x01\0\x02\0\0\0\0", SET),
+        Out::Replied,
+    ),
+];
+
 // A TTL with its highest bit set counts as 0 (RFC 2181, section 8).
 const TTL_OF_ZERO: &[(Act, Out)] = &[
     ASKED,
@@ -156,6 +187,7 @@ const TALES: &[&[(Act, Out)]] = &[
     UNANSWERED,
     ADDITIONAL,
     SET_OF_TWO,
+    SET_OF_A_REPEAT,
     TTL_OF_ZERO,
     LAST_MOMENT,
 ];
