@@ -25,14 +25,15 @@ bench: ask
 	cd crates/bench && rt run -- measure
 	tools/pace
 
-# The gate: every proof, every edit that must fail, every test and every run, and the examples with the proved program;
-# of the other edits, that they can still be applied.
+# The gate: every proof, every edit that must fail, every test and every run, and with the proved program the examples
+# and a run of the server (tools/serving); of the other edits, that they can still be applied.
 test: kit
 	tools/layers --check
 	tools/definitions
 	tools/turned --texts
 	RT_JOBS=$$(tools/lanes) rt ci
 	tools/examples
+	tools/serving
 
 # Tries the edits of single functions, which the gate leaves out: of all crates, or with SINCE=COMMIT of those that
 # differ from that commit's.
