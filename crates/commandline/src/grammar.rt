@@ -49,7 +49,8 @@ storm plays scripts of at and ask lines, a thread each, in one network, and prin
 
 Behind --keep stands how many entries that history may have, 1 to 1000000; 65536 where it is left out.
 
-serve prints a line once it answers, and goes on until it is stopped. It answers whoever reaches its address.
+serve prints a line once its sockets are bound, and goes on until it is stopped. It answers whoever
+reaches its address.
 
   listening ADDRESS PORT     where it answers, over UDP and TCP
 
@@ -77,12 +78,15 @@ One line on standard error says what went wrong.
   error: FILE: world K       the world: 1 no zone at the root, 2 a cut without its zone, 3 a zone that is not delegated,
                              4 a server without its zone, 5 no hint that serves the root, 7 two zones of one origin
   error: FILE:LINE: script K a line of a world, a script or a server's file: 1 unknown word, 2 bad number, 3 bad name,
-                             4 unknown type, 5 wrong number of words, 6 bad hexadecimal, 7 a zone without end,
-                             8 bad address
+                             4 unknown type, 5 wrong number of words, 6 bad hexadecimal,
+                             7 a zone without end, 8 bad address; of a server's file 2 is also a
+                             number out of its limits, and 5 a value or an origin that stands
+                             twice, or no listen
   error: FILE: unreadable    the file is missing or is not UTF-8
   error: name K              a name: 1 empty label, 2 label over 63 bytes, 3 name over 255 bytes, 4 bad escape
   error: pool K              the threads: 1 what they did is not one history, 2 it has more entries than are kept
-  error: settings            the numbers of a server's file are out of their limits
+  error: settings            the resolver refuses what a server's file sets: its lines are held to the
+                             same limits before, so that no file should bring it
   error: socket              the address can't be bound
   error: threads             a thread can't be made, or the clock can't be read
   error: type                another type than A, NS, CNAME, SOA, PTR, MX, TXT and AAAA
@@ -90,7 +94,8 @@ One line on standard error says what went wrong.
   error: output              what was to be printed could not be written
 
 The exit status is 0 where all went well, 1 for a fault in what was read, 2 for the command line,
-3 for want of memory, and 4 for an unreadable file, an address that can't be bound or failed output.";
+3 for want of memory, and 4 for an unreadable file, an address that can't be bound, a thread that
+can't be made, a clock that can't be read or failed output.";
 
 // A word that has to stand, and stands once.
 fn word<'a>(alloc: Global, name: &'a str) -> Arg<'a>

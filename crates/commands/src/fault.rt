@@ -32,7 +32,7 @@ pub enum Fault<'a> {
     BadName(NameError),
     /// A word is no served type.
     BadType,
-    /// What the file of a server sets is out of the limits of a resolver.
+    /// The resolver refuses what the file of a server sets, whose lines are held to the same limits before.
     Settings,
     /// A growth was refused.
     Memory,
@@ -40,7 +40,7 @@ pub enum Fault<'a> {
     Pool(PoolError),
     /// An address can't be bound.
     Socket,
-    /// A thread can't be made.
+    /// A thread can't be made, or the clock can't be read.
     Threads,
     /// The output could not be written.
     Output,
@@ -103,7 +103,7 @@ impl<'a> Fault<'a> {
     }
 
     /// The exit status: 1 where the input is refused, 3 for want of memory, 4 for an unreadable file, an address
-    /// that can't be bound, a thread that can't be made or failed output.
+    /// that can't be bound, a thread that can't be made, a clock that can't be read or failed output.
     pub fn status(&self) -> u8
         ensures { result ≡ status_of self.now }
     {
