@@ -2,9 +2,9 @@
 use Rattle.std.specs.Prelude.{◌≡◌, true, ◌&&◌}
 use Rattle.std.proofs.Common.{refl, ap, subst, eqb-true, eq-eqb}
 use Rattle.std.specs.Cmp.{IsPartialEquivalence, IsEquivalence, partial_equiv_from_equiv, decided, first_so, second_so}
-use Rattle.std.specs.Hash as fed
-use Rattle.dname.specs.Labels.{same_name, wire}
-use Rattle.dname.specs.Laws.{same_name-exact, same_name-refl}
+use Rattle.std.specs.Hash.{HashWrites}
+use Rattle.dname.specs.Labels.{same_name}
+use Rattle.dname.specs.Laws.{fed_name, same_name-exact, same_name-refl}
 use Rattle.recency.specs.Orders.{IsExact}
 use Rattle.cache.specs.Keys.{Slot, Kind, NameError, Key, same_slot, same_key}
 
@@ -37,8 +37,8 @@ pub same_key_per : IsPartialEquivalence same_key
 same_key_per = partial_equiv_from_equiv same_key_equiv
 
 -- What is kept of one name has one hash, so that a look-up finds it all in one place.
-abbrev pub fed_key : Key → fed.HashWrites
-fed_key k = fed.slice fed.u8 (wire k.name)
+abbrev pub fed_key : Key → HashWrites
+fed_key k = fed_name k.name
 
 pub same_key_fed : (a b : Key) → same_key a b ≡ true → fed_key a ≡ fed_key b
 same_key_fed a b h = ap fed_key (same_key-exact a b h)

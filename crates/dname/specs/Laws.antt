@@ -4,7 +4,7 @@ use Rattle.std.proofs.Common.{refl, sym, ◌∙◌, ap}
 use Rattle.std.proofs.Math.Seq.{take-append_seam}
 use Rattle.std.specs.Cmp.{IsPartialEquivalence, IsEquivalence, partial_equiv_from_equiv, on_equiv}
 use Rattle.std.specs.Cmp.Lexicographic.{bytes_decides, nat_list_eq_equiv}
-use Rattle.std.specs.Hash as fed
+use Rattle.std.specs.Hash.{HashWrites}
 use Rattle.dname.specs.Labels.{wire, same_name}
 use Rattle.dname.specs.Wire.{labels_after, labels_of}
 
@@ -35,5 +35,9 @@ same_name_equiv = on_equiv wire nat_list_eq_equiv
 pub same_name_per : IsPartialEquivalence same_name
 same_name_per = partial_equiv_from_equiv same_name_equiv
 
-pub same_name_fed : (a b : List (List ℕ)) → same_name a b ≡ true → fed.slice fed.u8 (wire a) ≡ fed.slice fed.u8 (wire b)
-same_name_fed a b h = ap (fed.slice fed.u8) ((bytes_decides (wire a) (wire b)).0 h)
+-- What a name feeds a hasher: its wire form, as a whole.
+abbrev pub fed_name : List (List ℕ) → HashWrites
+fed_name n = wire n ∷ []
+
+pub same_name_fed : (a b : List (List ℕ)) → same_name a b ≡ true → fed_name a ≡ fed_name b
+same_name_fed a b h = ap fed_name (same_name-exact a b h)

@@ -1,10 +1,9 @@
 //! A name, and how it lies to others: equal, at or under, above.
 ghost use Rattle.std.specs.Prelude.{◌≡◌, ℕ, ◌+◌, ◌≤◌, ◌<◌, ◌↔◌, List, [], ◌∷◌, ◌++◌, length, true, false, None, Some, IsTrue, IfOk, OnOk, OnErr, IfSome, MatchOption};
 ghost use Rattle.std.specs.Bool.{OnTrue, OnFalse};
-ghost use Rattle.std.specs.Hash as fed;
 ghost use Rattle.dname.specs.Labels.{wire, root, star, folded_labels, same_name, is_under, parent_of, IsAtOrUnder, IsName};
 ghost use Rattle.dname.specs.Wire.{labels_of, IsNameWire, IsSpellingWire};
-ghost use Rattle.dname.specs.Laws.{same_name_per, same_name_equiv, same_name_fed};
+ghost use Rattle.dname.specs.Laws.{fed_name, same_name_per, same_name_equiv, same_name_fed};
 
 use crate::walk::{has_end, next_label};
 use memory::{Heap, Starved};
@@ -47,12 +46,13 @@ impl<A: Allocator> Eq for Name<A> {
 }
 
 impl<A: Allocator> Hash for Name<A> {
-    ghost hash_input = { λ n. fed.slice fed.u8 (wire n) };
+    ghost hash_input = { fed_name };
 
     ghost respects_eq = { same_name_fed };
 
     fn hash<H: Hasher>(&self, state: &mut H) {
-        self.bytes.hash(state);
+        // All at once: a hasher takes whole words of it, and of a slice it would be given each byte alone.
+        state.write(&self.bytes);
     }
 }
 
