@@ -1,9 +1,9 @@
 -- What a look-up over a list of records picks.
 use Rattle.std.specs.Prelude.{ℕ, Bool, ◌&&◌, List, [], ◌∷◌, filter}
 use Rattle.std.specs.List.{list_any}
-use Rattle.dname.specs.Labels.{star, is_under, same_name}
-use Rattle.rdata.specs.Data.{same_data}
+use Rattle.dname.specs.Labels.{star, is_under}
 use Rattle.rdata.specs.Records.{Record}
+use Rattle.rdata.specs.Sets.{is_repeat}
 use Rattle.authority.specs.declared.plain.Whose.{Whose}
 use Rattle.authority.specs.declared.plain.Whose.TheVariants.{Own, Wildcard}
 use Rattle.zone.specs.Look.{is_owned, is_type}
@@ -21,7 +21,7 @@ abbrev pub picked : List (List ℕ) → ℕ → List Record → List Record
 picked n t rs = filter (is_picked n t) rs
 
 abbrev pub has_glue : Record → List Record → Bool
-has_glue r rs = list_any (λ (s : Record). same_name s.owner r.owner && same_data s.value r.value) rs
+has_glue r rs = list_any (λ (s : Record). is_repeat s r) rs
 
 -- Some owner is at or under the name.
 abbrev pub has_under : List (List ℕ) → List Record → Bool

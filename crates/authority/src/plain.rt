@@ -2,9 +2,8 @@
 ghost use Rattle.std.specs.Prelude.{◌≡◌, ◌&&◌, ℕ, List, cond, true, find, filter, fold, Some, None, IfOk, OnOk, map};
 ghost use Rattle.std.specs.List.{list_any};
 ghost use Rattle.std.specs.Option.{option_copied};
-ghost use Rattle.dname.specs.Labels.{is_under, same_name};
+ghost use Rattle.dname.specs.Labels.{is_under};
 ghost use Rattle.rdata.specs.Types.{type_number};
-ghost use Rattle.rdata.specs.Data.{same_data};
 ghost use Rattle.rdata.specs.Kept.{datum};
 ghost use Rattle.zone.specs.Zones.{ns_type, cname_type};
 ghost use Rattle.zone.specs.Look.{is_type, is_owned, at, of_type, owns, is_cut, cut_of, firsts, with_owner, said, said_alias, said_wild, ns_of, glue_of, local_by, or_else, add_new, add_glue, is_address, addresses_of, climbed, Cut, link_by};
@@ -213,16 +212,10 @@ fn is_address_of<A: Allocator>(rr: &Record<A>, name: &Name<A>) -> bool
     rr.owner == *name && (is_kind(rr, RType::A) || is_kind(rr, RType::Aaaa))
 }
 
-fn is_repeat<A: Allocator>(kept: &Record<A>, rr: &Record<A>) -> bool
-    ensures { result ≡ (same_name kept.now.owner rr.now.owner && same_data kept.now.value rr.now.value) }
-{
-    kept.owner == rr.owner && kept.value.is_same(&rr.value)
-}
-
 fn has_repeat<A: Allocator>(set: &[Record<A>], rr: &Record<A>) -> bool
     ensures { result ≡ has_glue rr.now set.now }
 {
-    set.iter().any(|kept| is_repeat(kept, rr))
+    set.iter().any(|kept| kept.repeats(rr))
 }
 
 // One address more, where it is new.

@@ -3,7 +3,7 @@ ghost use Rattle.std.specs.Prelude.{◌≡◌, ◌≤◌, [], ◌∷◌, ◌++�
 ghost use Rattle.rdata.specs.Caps.{capped};
 ghost use Rattle.rdata.specs.Data.{type_of};
 ghost use Rattle.rdata.specs.Records.{greatest_ttl};
-ghost use Rattle.rdata.specs.Sets.{with_ttl};
+ghost use Rattle.rdata.specs.Sets.{is_repeat, with_ttl};
 ghost use Rattle.rdata.specs.Types.{type_number};
 
 use crate::data::RData;
@@ -42,6 +42,13 @@ impl<A: Allocator> Record<A> {
         ensures { result ≡ nat_eq (type_of self.now.value) (type_number kind) }
     {
         self.value.kind() == kind
+    }
+
+    /// Whether both are one record, TTLs aside: of one owner, with the same data (and so of one type).
+    pub fn repeats(&self, other: &Record<A>) -> bool
+        ensures { result ≡ is_repeat self.now other.now }
+    {
+        self.owner == other.owner && self.value.is_same(&other.value)
     }
 }
 

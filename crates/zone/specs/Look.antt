@@ -4,6 +4,7 @@ use Rattle.std.specs.List.{list_any, flat_map}
 use Rattle.dname.specs.Labels.{star, same_name, is_under}
 use Rattle.rdata.specs.Data.{Datum, Ipv4, Ns, Cname, Soa, Ptr, Mx, Txt, Ipv6, type_of, same_data}
 use Rattle.rdata.specs.Records.{Record}
+use Rattle.rdata.specs.Sets.{is_repeat}
 use Rattle.zone.specs.Zones.{Zone, ns_type, cname_type, soa_type}
 use Rattle.zone.specs.Links.{Link, Found, Alias, NoData, NxDomain, lessened}
 
@@ -105,7 +106,7 @@ addresses_of rs (Ns n) = filter (λ (r : Record). is_owned n r && is_address r) 
 addresses_of rs _ = []
 
 abbrev pub add_glue : List Record → Record → List Record
-add_glue kept r = cond (list_any (λ (s : Record). same_name s.owner r.owner && same_data s.value r.value) kept) kept (kept ++ r ∷ [])
+add_glue kept r = cond (list_any (λ (s : Record). is_repeat s r) kept) kept (kept ++ r ∷ [])
 
 abbrev pub glue_of : List Record → List Record → List Record
 glue_of rs ns = fold add_glue [] (flat_map (λ (r : Record). addresses_of rs r.value) ns)
