@@ -34,6 +34,7 @@ impl<A: Heap> Clone for Link<A> {
 /// What the local zones say.
 #[derive(Drop)]
 pub enum Local<A: Allocator = Global> {
+    /// A local zone has authority over the name, and this is what it says.
     Link(Link<A>),
     /// The name is delegated: the zone cut, its NS RRset, and the glue that the zone has.
     Cut(Name<A>, Records<A>, Records<A>),

@@ -19,7 +19,9 @@ use std::marker::Model;
 /// Where a server listens. Port 0 is any that is free.
 #[derive(Drop)]
 pub struct Endpoint {
+    /// The IPv4 address of its sockets.
     pub address: Addr,
+    /// The port, the same for UDP and TCP.
     pub port: u16,
 }
 
@@ -34,6 +36,7 @@ impl Model for Endpoint {
 /// A zone that the server serves itself.
 #[derive(Drop)]
 pub struct LocalFile<'t, A: Allocator = Global> {
+    /// The zone's name, and the origin of its master file (RFC 1035, section 5.1).
     pub origin: Name<A>,
     /// The path of its master file.
     pub file: &'t str,
@@ -50,20 +53,26 @@ impl<'t, A: Allocator> Model for LocalFile<'t, A> {
 /// What a server's file says.
 #[derive(Drop)]
 pub struct ServeConfig<'t, A: Allocator = Global> {
+    /// Where clients reach it.
     pub listen: Endpoint,
-    /// The port of other servers.
+    /// The port of other servers, 1 to 65,535.
     pub port: u16,
+    /// The addresses of servers of the root, where resolution starts (RFC 1034, section 5.3.2).
     pub hints: Vec<Addr, A>,
     /// The zones that the server serves itself, of different origins.
     pub locals: Vec<LocalFile<'t, A>, A>,
-    /// How many entries are kept, 1 to 1,000,000 of each.
+    /// How many RRsets and denials are kept at most, 1 to 1,000,000.
     pub cache: u32,
+    /// How many delegations are kept at most, 1 to 1,000,000.
     pub delegations: u32,
+    /// How many servers that did not answer are kept at most, 1 to 1,000,000.
     pub penalties: u32,
     /// Upstream sockets, 1 to 16.
     pub sockets: u32,
     /// TCP workers, 1 to 16.
     pub workers: u32,
+    /// The 32 bytes from which IDs and sockets are drawn, and behind which keys are hashed: for tests alone. Where
+    /// there are none, the system gives them.
     pub seed: Option<[u8; 32]>,
 }
 

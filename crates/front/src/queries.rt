@@ -35,9 +35,11 @@ impl Refusal {
 /// A query that can be answered: of class IN and a served type.
 #[derive(Drop)]
 pub struct Query<A: Allocator = Global> {
+    /// What the reply repeats of the query's header.
     pub start: Start,
     /// The name that is asked for, in lower case.
     pub name: Name<A>,
+    /// The type that is asked for.
     pub kind: RType,
     /// The question in the client's own letters.
     pub echo: Echo<A>,

@@ -104,7 +104,9 @@ impl From<dname::Starved> for FileKind {
 /// The first fault of a text: the line on which its entry starts, counted from 1, and what is wrong with it.
 #[derive(Clone, Copy, Debug, PartialEq, Eq)]
 pub struct FileError {
+    /// The number of the line on which the entry starts, from 1 on.
     pub line: usize,
+    /// What is wrong with it.
     pub kind: FileKind,
 }
 

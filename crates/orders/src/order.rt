@@ -19,15 +19,20 @@ pub enum Order<A: Allocator = Global> {
     At(u64),
     /// A client's query.
     Ask {
+        /// The name that it asks for.
         name: Name<A>,
+        /// The type that it asks for.
         kind: RType,
+        /// How it comes.
         via: Via,
         /// Whether recursion is desired.
         recursive: bool,
     },
     /// These bytes from a client.
     Raw {
+        /// A datagram's bytes, or those of a message on a stream; any are allowed.
         bytes: Vec<u8, A>,
+        /// How they come.
         via: Via,
     },
     /// The reply to the send of this number comes.

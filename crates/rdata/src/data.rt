@@ -14,15 +14,21 @@ use std::alloc::{AllocError, Allocator, Global};
 /// RDATA of the served types (RFC 1035, section 3.3; AAAA: RFC 3596, section 2.2).
 #[derive(Drop)]
 pub enum RData<A: Allocator = Global> {
+    /// A host's IPv4 address (RFC 1035, section 3.4.1).
     A(Addr),
+    /// A host that is a name server of the owner's zone (section 3.3.11).
     Ns(Name<A>),
+    /// The canonical name of the owner, which is an alias (section 3.3.1).
     Cname(Name<A>),
-    /// Boxed: of all data it alone is long.
+    /// The start of a zone of authority (section 3.3.13). Boxed: of all data it alone is long.
     Soa(Box<Soa<A>, A>),
+    /// The name of another place in the tree of names (section 3.3.12).
     Ptr(Name<A>),
-    /// Preference, the lowest first, and exchange.
+    /// A mail exchange: its preference, the lowest first, and its host (section 3.3.9).
     Mx(u16, Name<A>),
+    /// One character-string or more (section 3.3.14).
     Txt(Texts<A>),
+    /// A host's IPv6 address, its 16 bytes as in messages (RFC 3596, section 2.2).
     Aaaa([u8; 16]),
 }
 

@@ -16,9 +16,11 @@ use std::marker::Model;
 /// list of its records.
 #[derive(Drop)]
 pub struct RecordSet<A: Allocator = Global> {
+    /// The owner of every record of the set.
     pub owner: Name<A>,
     /// Time to live in seconds, at most `GREATEST_TTL` (RFC 2181, sections 5.2 and 8).
     pub ttl: u32,
+    /// The data of its records in order, one or more.
     pub values: Vec<RData<A>, A>,
 }
 

@@ -18,9 +18,11 @@ pub const GREATEST_TTL: u32 = 2_147_483_647;
 /// A resource record of class IN (RFC 1035, section 3.2.1).
 #[derive(Drop)]
 pub struct Record<A: Allocator = Global> {
+    /// NAME: the name whose node it stands at.
     pub owner: Name<A>,
     /// Time to live in seconds, at most `GREATEST_TTL` (RFC 2181, section 8).
     pub ttl: u32,
+    /// TYPE and RDATA: its type, and what it says.
     pub value: RData<A>,
 }
 

@@ -10,13 +10,21 @@ pub const INTERNET: u16 = 1;
 /// A served record type (RFC 1035, section 3.2.2; AAAA: RFC 3596).
 #[derive(Clone, Copy, Debug, PartialEq, Eq, Hash)]
 pub enum RType {
+    /// A host's IPv4 address.
     A,
+    /// A name server of a zone.
     Ns,
+    /// The canonical name of an alias.
     Cname,
+    /// The start of a zone of authority.
     Soa,
+    /// A pointer to another name.
     Ptr,
+    /// A mail exchange.
     Mx,
+    /// Text strings.
     Txt,
+    /// A host's IPv6 address.
     Aaaa,
 }
 

@@ -10,9 +10,13 @@ pub struct Soa<A: Allocator = Global> {
     pub primary: Name<A>,
     /// RNAME: the mailbox of who is responsible, its first dot for the at sign.
     pub mailbox: Name<A>,
+    /// SERIAL: the version of the zone, which wraps.
     pub serial: u32,
+    /// REFRESH: how long a secondary server waits before it asks whether the zone changed.
     pub refresh: u32,
+    /// RETRY: how long it waits after such a refresh failed.
     pub retry: u32,
+    /// EXPIRE: for how long after the last good refresh its copy still has authority.
     pub expire: u32,
     /// MINIMUM: the bound on a negative answer's TTL (RFC 2308, section 4).
     pub minimum: u32,

@@ -107,7 +107,9 @@ impl From<NameError> for LineKind {
 /// The first line of a text that is refused, counted from 1, and what is wrong with it.
 #[derive(Clone, Copy, Debug, PartialEq, Eq)]
 pub struct LineError {
+    /// The number of the line, from 1 on.
     pub line: usize,
+    /// What is wrong with it.
     pub kind: LineKind,
 }
 

@@ -25,8 +25,9 @@ const COMMON_NOTES: usize = 16;
 /// The longest suffix of a name that was written before.
 #[derive(Clone, Copy, Debug)]
 pub struct Found {
-    /// The labels before the suffix, and the bytes that they take with their length bytes.
+    /// The labels of the name before the suffix.
     pub labels: usize,
+    /// The bytes that these labels take in wire form, with their length bytes.
     pub bytes: usize,
     /// Where the suffix was written first: its place in the message, below 16,384.
     pub place: u16,

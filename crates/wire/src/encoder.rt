@@ -22,14 +22,19 @@ use std::marker::Model;
 /// A message that is lent part by part: no record is cloned for it. Contracts see the message.
 #[derive(Drop)]
 pub struct Draft<'a, A: Allocator = Global> {
+    /// The header but for the counts, which are those of the parts.
     pub header: Header,
-    /// The questions are these, in lower case, and then the one that a reply repeats, in the client's own letters.
+    /// The first questions, in lower case.
     pub questions: &'a [Question<A>],
+    /// The question behind them that a reply repeats, in the client's own letters.
     pub echo: Option<&'a Echo<A>>,
-    /// The answer is `first` and then `second`.
+    /// The first records of the answer section: in a reply, the CNAME chain.
     pub first: &'a [Record<A>],
+    /// The RRset behind them in the answer section.
     pub second: Option<&'a RecordSet<A>>,
+    /// The records of the authority section.
     pub authority: &'a [Record<A>],
+    /// The records of the additional section.
     pub additional: &'a [Record<A>],
 }
 

@@ -9,14 +9,23 @@ use std::marker::Model;
 /// most 7.
 #[derive(Clone, Copy, Debug, PartialEq, Eq)]
 pub struct Header {
+    /// ID: chosen by who asks, and repeated in the reply.
     pub id: u16,
+    /// QR: whether this is a reply.
     pub qr: bool,
+    /// OPCODE: the kind of query, 0 a standard one.
     pub opcode: u8,
+    /// AA: whether the server has authority over the name that was asked for.
     pub aa: bool,
+    /// TC: whether records were left out, as the message was too long for its way.
     pub tc: bool,
+    /// RD: whether the client desires recursion; repeated in the reply.
     pub rd: bool,
+    /// RA: whether the server offers recursion.
     pub ra: bool,
+    /// Z: three bits that are reserved: 0 in every query and reply.
     pub z: u8,
+    /// RCODE: 0 no error, 1 FORMERR, 2 SERVFAIL, 3 NXDOMAIN, 4 NOTIMP, 5 REFUSED.
     pub rcode: u8,
 }
 

@@ -10,8 +10,11 @@ use std::marker::Model;
 /// A question (RFC 1035, section 4.1.2), of any type and class.
 #[derive(Drop)]
 pub struct Question<A: Allocator = Global> {
+    /// QNAME, in lower case.
     pub name: Name<A>,
+    /// QTYPE: any number, served or not (RFC 1035, section 3.2.3).
     pub qtype: u16,
+    /// QCLASS: 1 is IN (RFC 1035, section 3.2.4).
     pub qclass: u16,
 }
 
@@ -84,10 +87,15 @@ impl<A: Allocator> Questions<A> {
 /// A message (RFC 1035, section 4.1).
 #[derive(Drop)]
 pub struct Message<A: Allocator = Global> {
+    /// The header but for the counts, which are those of the sections (section 4.1.1).
     pub header: Header,
+    /// The question section (section 4.1.2).
     pub questions: Questions<A>,
+    /// The answer section: records that answer the question, the CNAME chain first (RFC 1034, section 4.3.1).
     pub answer: Records<A>,
+    /// The authority section: a zone's NS records at a referral, or the SOA record of a denial.
     pub authority: Records<A>,
+    /// The additional section: such as the addresses of name servers.
     pub additional: Records<A>,
 }
 

@@ -8,18 +8,24 @@ use crate::error::WireError;
 // What stands at a place of a name (RFC 1035, section 4.1.4): the root's zero, a label's length, a pointer.
 #[derive(Clone, Copy)]
 pub enum Part {
+    /// The root's zero.
     End,
+    /// A label of that many bytes, 1 to 63.
     Label(usize),
+    /// A pointer to that offset from the start of the message.
     Pointer(usize),
 }
 
 // The refusals of a name, by where it stands.
 #[derive(Clone, Copy)]
 pub struct Faults {
-    // The name's own part runs over its border.
+    /// The name's own part runs over its border.
     pub border: WireError,
+    /// A length byte is neither a label's nor a pointer's.
     pub bad_label: WireError,
+    /// A pointer leads to no earlier place.
     pub not_earlier: WireError,
+    /// The name has over 255 bytes.
     pub too_long: WireError,
 }
 

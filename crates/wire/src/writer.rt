@@ -26,12 +26,16 @@ use std::marker::Model;
 use std::mem;
 use suffixes::Suffixes;
 
-// How many questions and records a header announces.
+// How many questions and records a header announces (RFC 1035, section 4.1.1).
 #[derive(Clone, Copy)]
 pub struct Tally {
+    /// QDCOUNT: questions.
     pub questions: usize,
+    /// ANCOUNT: records of the answer section.
     pub answer: usize,
+    /// NSCOUNT: records of the authority section.
     pub authority: usize,
+    /// ARCOUNT: records of the additional section.
     pub additional: usize,
 }
 

@@ -14,7 +14,9 @@ use std::hash::{BuildHasherDefault, FoldHasher};
 /// right under it (RFC 1034, section 4.3.3), whose name may be too long for a name.
 #[derive(Drop)]
 pub struct Node<A: Allocator> {
+    /// The places of the records that the node's name owns, in order.
     pub own: Vec<usize, A>,
+    /// The places of the records of the wildcard right under that name, in order.
     pub wild: Vec<usize, A>,
 }
 

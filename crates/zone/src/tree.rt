@@ -50,7 +50,9 @@ impl<'a, A: Allocator> Held<'a, A> {
 /// What stands at an existing name: its own records, and those of the wildcard right under it.
 #[derive(Drop)]
 pub struct Stand<'a, A: Allocator> {
+    /// The records that the name owns.
     pub own: Held<'a, A>,
+    /// The records of the wildcard right under it (RFC 4592, section 2.1.1).
     pub wild: Held<'a, A>,
 }
 
