@@ -12,9 +12,10 @@
 //! Not here: recursion (`iterate`, `engine`); sockets (`server`).
 //!
 //! ```text
+//! let mut writer = Writer::new(alloc)?;
 //! if let Asked::Query(query) = read_query(alloc, bytes)? {
 //!     let outcome = answer_local(alloc, &query, &catalog)?;
-//!     let (reply, cause) = reply_bytes(alloc, &query, &outcome, Via::Udp)?;
+//!     let (reply, cause) = reply_bytes(&mut writer, &query, &outcome, Via::Udp)?;
 //! }
 //! ```
 #![tactic(auto)]

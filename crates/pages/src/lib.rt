@@ -1,9 +1,18 @@
-//! A page for tests: what a call writes is kept there until the page is full, and the write after that fails.
+//! A writer for tests: a page keeps what a call writes until it is full, and then fails as a full disk does.
+//!
+//! `Page::new` makes an empty page with room for so many bytes, `WIDE` for a page that no test fills. It takes three
+//! bytes of a write at most, so that a call which hands on what it writes has to come back for the rest. `holds` says
+//! whether a text is all that was written, and `bytes` are what was. Tests of the program lend two of them for its
+//! output and its faults, and see that a full page is a fault and no loss.
+//!
+//! Promised: nothing; the tests of `records_tests` show what a page takes.
+//! Not here: memory that is refused (`refusing`).
 //!
 //! ```text
-//! let mut page = Page::new(rt.alloc(), 10);
-//! let written = call(&mut page);
-//! assert!(page.holds("ok\n"));
+//! let mut page = Page::new(rt.alloc(), 4);
+//! assert!(page.write_all(b"ok\n").is_ok());      // in one piece: three bytes
+//! assert!(page.write_all(b"no\n").is_err());     // takes one byte more
+//! assert!(page.holds("ok\nn"));
 //! ```
 #![tactic(auto)]
 
