@@ -66,7 +66,7 @@ fn values_at<A: Heap>(
 {
     let most = records
         .iter()
-        .filter(|tested| is_at(tested, owner, kind))
+        .filter(|rr| is_at(rr, owner, kind))
         .count();
     let mut values = Vec::with_capacity(alloc, most)?;
     let mut later = BTreeSet::new(alloc);
