@@ -1,8 +1,8 @@
 -- What the last record of each key tells of all records.
-use Rattle.std.proofs.Common.{◌≡◌, ℕ, ◌+◌, ◌<◌, Bool, true, false, ◌&&◌, not, nat_eq, ◌⊎◌, inl, inr, Option, Some, None, List, [], ◌∷◌, length, take, get_or, refl, sym, ◌∙◌, ap}
+use Rattle.std.proofs.Common.{◌≡◌, ℕ, zero, suc, ◌+◌, ◌<◌, Bool, true, false, ◌&&◌, ◌||◌, not, nat_eq, ◌⊎◌, inl, inr, Option, Some, None, List, [], ◌∷◌, length, take, get_or, refl, sym, ◌∙◌, ap, arith}
 use Rattle.std.specs.Prelude.{Contains, fold, is_some}
 use Rattle.std.specs.List.{list_any}
-use Rattle.std.proofs.lemmas.Bool.{and_parts, and_from, not-true, not_from_false, cases_Bool, both_ways, false_from_ne_true, eqb-true, eqb-false, eq-eqb, ne_eqb}
+use Rattle.std.proofs.lemmas.Bool.{and_parts, and_from, or_cases, not-true, not_from_false, cases_Bool, both_ways, false_from_ne_true, eqb-true, eqb-false, eq-eqb, ne_eqb}
 use Rattle.std.proofs.lemmas.List.Sums.{fold_more}
 use Rattle.dname.specs.Labels.{same_name}
 use Rattle.dname.specs.Laws.{same_name-exact, same_name-equal, same_name-refl}
@@ -12,7 +12,7 @@ use Rattle.zone.specs.Zones.{cname_type}
 use Rattle.zone.specs.Look.{is_type, is_owned}
 use Rattle.zone.specs.Rules.{clashes, differs}
 use Rattle.zone.specs.Last.{kept_after, last_of, target_of, owner_of, alias_of, last_target, is_beside, SetKey, same_key, set_of, ttl_of, last_ttl, is_other_ttl}
-use Rattle.zone.proofs.Members.{here, there, member_cases, no_member, passing, passes, same_tests}
+use Rattle.zone.proofs.Members.{here, there, member_cases, no_member, passing, passes, same_tests, any_step}
 
 from_step : {V : Type 0} (b : Bool) (o acc : Option V) (v : V) → kept_after b o acc ≡ Some v → (acc ≡ Some v) ⊎ ((b ≡ true) × (o ≡ Some v))
 from_step b None acc v h = inl h
@@ -219,3 +219,54 @@ mixed_last rs h =
 
 pub last_mixed_is : (rs : List Record) → last_mixed rs ≡ any_mixed rs
 last_mixed_is rs = same_tests (last_mixed rs) (any_mixed rs) (mixed_found rs) (mixed_last rs)
+
+-- ---- record by record
+
+in_whole : {X : Type 0} (i : ℕ) (xs : List X) (x : X) → Contains (take i xs) x → Contains xs x
+in_whole zero xs x m = absurd (no_member x m)
+in_whole (suc i) [] x m = absurd (no_member x m)
+in_whole (suc i) (y ∷ ys) x m = elim (member_cases y (take i ys) x m) [ inl e ↦ (0, omega arith, e) | inr k ↦ there y ys x (in_whole i ys x k) ]
+
+own_set : (r : Record) → same_key (set_of r) (set_of r) ≡ true
+own_set r = and_from (same_name r.owner r.owner) (nat_eq (type_of r.value) (type_of r.value)) (same_name-refl r.owner) (eq-eqb (type_of r.value) (type_of r.value) refl)
+
+equal_ttl : (n m : ℕ) → is_other_ttl n (Some m) ≡ false → n ≡ m
+equal_ttl n m h = elim (cases_Bool (nat_eq n m)) [ inl equal ↦ eqb-true n m equal | inr other ↦ absurd (both_ways (is_other_ttl n (Some m)) h (not_from_false (nat_eq n m) other)) ]
+
+-- A record with another TTL than the last one of its set before it.
+pub mixed_early : (rs : List Record) (i : ℕ) (r : Record) (last : Option ℕ) → i < length rs → r ≡ get_or rs i r → last ≡ last_ttl (set_of r) (take i rs)
+    → is_other_ttl r.ttl last ≡ true → any_mixed rs ≡ true
+mixed_early rs i r last lt er el h =
+    let (n, e, apart) = other_some r.ttl last h in
+    elim (told same_key set_of ttl_of (set_of r) (take i rs) None n (sym el ∙ e)) [
+      | inl none ↦ cc
+      | inr (c, at, same, ttl) ↦ mixed_by rs c r (in_whole i rs c at) (i, lt, sym er) same (let e : c.ttl ≡ n = cc in ap (λ (k : ℕ). nat_eq k r.ttl) e ∙ numbers_apart r.ttl n apart)
+    ]
+
+-- Where it has none, TTLs differ with it in no set in which they did not differ before.
+pub mixed_step : (rs : List Record) (i : ℕ) (r : Record) (last : Option ℕ) → i < length rs → r ≡ get_or rs i r → last ≡ last_ttl (set_of r) (take i rs)
+    → is_other_ttl r.ttl last ≡ false → last_mixed (take i rs) ≡ false → last_mixed (take (i + 1) rs) ≡ false
+mixed_step rs i r last lt er el same clean =
+    let p : Record → Bool = λ x. is_other_ttl x.ttl (last_ttl (set_of x) (take (i + 1) rs)) in
+    let now : (x : Record) → kept_after (same_key (set_of r) (set_of x)) (Some r.ttl) (last_ttl (set_of x) (take i rs)) ≡ last_ttl (set_of x) (take (i + 1) rs) =
+    λ x. last_step same_key set_of ttl_of (set_of x) rs i r (last_ttl (set_of x) (take i rs)) (kept_after (same_key (set_of r) (set_of x)) (Some r.ttl) (last_ttl (set_of x) (take i rs)))
+    lt er refl refl in
+    let after : (x : Record) (b : Bool) → same_key (set_of r) (set_of x) ≡ b → p x ≡ true → is_other_ttl x.ttl (kept_after b (Some r.ttl) (last_ttl (set_of x) (take i rs))) ≡ true =
+    λ x b e h. ap (λ (t : Bool). is_other_ttl x.ttl (kept_after t (Some r.ttl) (last_ttl (set_of x) (take i rs)))) (sym e) ∙ (ap (is_other_ttl x.ttl) (now x) ∙ h) in
+    false_from_ne_true (last_mixed (take (i + 1) rs)) (λ h.
+    elim (or_cases (list_any p (take i rs)) (p r) (any_step p rs i r (list_any p (take i rs)) (list_any p (take i rs) || p r) lt er refl refl ∙ h)) [
+      | inl before ↦
+          let (x, m, b) = passing p (take i rs) before in
+          elim (cases_Bool (same_key (set_of r) (set_of x))) [
+            | inl equal ↦
+                let (n, en) = value_of (last_ttl (set_of x) (take i rs)) (kept same_key set_of ttl_of (set_of x) (take i rs) None x m (own_set x) refl) in
+                let other : nat_eq x.ttl r.ttl ≡ false = not-true (nat_eq x.ttl r.ttl) (after x true equal b) in
+                let last_is : last ≡ Some n = el ∙ (ap (λ (k : SetKey). last_ttl k (take i rs)) (same_keys (set_of r) (set_of x) equal) ∙ en) in
+                let here : r.ttl ≡ n = equal_ttl r.ttl n (ap (is_other_ttl r.ttl) (sym last_is) ∙ same) in
+                let there : x.ttl ≡ n = equal_ttl x.ttl n (false_from_ne_true (is_other_ttl x.ttl (Some n)) (λ t.
+                both_ways (last_mixed (take i rs)) clean (passes (λ (y : Record). is_other_ttl y.ttl (last_ttl (set_of y) (take i rs))) (take i rs) x m (ap (is_other_ttl x.ttl) en ∙ t)))) in
+                both_ways (nat_eq x.ttl r.ttl) other (eq-eqb x.ttl r.ttl (there ∙ sym here))
+            | inr other ↦ both_ways (last_mixed (take i rs)) clean (passes (λ (y : Record). is_other_ttl y.ttl (last_ttl (set_of y) (take i rs))) (take i rs) x m (after x false other b))
+          ]
+      | inr own ↦ both_ways (nat_eq r.ttl r.ttl) (not-true (nat_eq r.ttl r.ttl) (after r true (own_set r) own)) (eq-eqb r.ttl r.ttl refl)
+    ])
