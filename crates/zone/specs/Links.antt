@@ -2,7 +2,7 @@
 use Rattle.std.specs.Prelude.{◌≡◌, ◌≢◌, ℕ, ◌≤◌, min, cond, nat_lt, ◌⊎◌, List, [], ◌∷◌, length, Contains}
 use Rattle.dname.specs.Labels.{IsAtOrUnder, star}
 use Rattle.rdata.specs.Data.{Datum, Ipv4, Ns, Cname, Soa, Ptr, Mx, Txt, Ipv6, type_of}
-use Rattle.rdata.specs.Records.{Record}
+use Rattle.rdata.specs.Records.{Record, greatest_ttl}
 use Rattle.zone.specs.Zones.{Zone, At, IsUncut, Exists, IsEncloser, cname_type, soa_type}
 
 -- A record set, an alias, no such data, no such name; a denial has its SOA.
@@ -30,7 +30,7 @@ IsEmpty z s = (t : ℕ) → HasNone z s t
 
 -- A MINIMUM with its top bit set counts as 0, as a TTL does (RFC 2181, section 8).
 abbrev pub counted : ℕ → ℕ
-counted n = cond (nat_lt n 2147483648) n 0
+counted n = cond (nat_lt greatest_ttl n) 0 n
 
 -- The TTL of a denial: the lesser of its SOA's TTL and MINIMUM (RFC 2308, section 3).
 abbrev pub denial_ttl : ℕ → Datum → ℕ

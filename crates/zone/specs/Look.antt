@@ -5,7 +5,7 @@ use Rattle.dname.specs.Labels.{star, same_name, is_under}
 use Rattle.rdata.specs.Data.{Datum, Ipv4, Ns, Cname, Soa, Ptr, Mx, Txt, Ipv6, type_of, same_data}
 use Rattle.rdata.specs.Records.{Record}
 use Rattle.rdata.specs.Sets.{is_repeat}
-use Rattle.zone.specs.Zones.{Zone, ns_type, cname_type, soa_type}
+use Rattle.zone.specs.Zones.{Zone, a_type, ns_type, cname_type, soa_type, aaaa_type}
 use Rattle.zone.specs.Links.{Link, Found, Alias, NoData, NxDomain, lessened}
 
 abbrev pub is_type : ℕ → Record → Bool
@@ -99,7 +99,7 @@ abbrev pub ns_of : Zone → List (List ℕ) → List Record
 ns_of z c = firsts (of_type ns_type (at c z.records))
 
 abbrev pub is_address : Record → Bool
-is_address r = is_type 1 r || is_type 28 r
+is_address r = is_type a_type r || is_type aaaa_type r
 
 abbrev pub addresses_of : List Record → Datum → List Record
 addresses_of rs (Ns n) = filter (λ (r : Record). is_owned n r && is_address r) rs

@@ -7,14 +7,14 @@ ghost use Rattle.zone.specs.Look.{is_type, denial_by};
 
 use crate::scan::is_type;
 use dname::{Heap, Starved};
-use rdata::{RData, RType, Record};
+use rdata::{GREATEST_TTL, RData, RType, Record};
 use std::alloc::Allocator;
 
 // A MINIMUM with its top bit set counts as 0 (RFC 2181, section 8).
 fn counted(minimum: u32) -> u32
     ensures { result ≡ counted minimum }
 {
-    if minimum < 2_147_483_648 { minimum } else { 0 }
+    if minimum > GREATEST_TTL { 0 } else { minimum }
 }
 
 /// The TTL of a negative answer by its SOA's TTL and data: the lesser of the TTL and MINIMUM, in seconds (RFC 2308,
