@@ -4,9 +4,9 @@ use Rattle.std.proofs.lemmas.List.{append-nil}
 use Rattle.std.specs.List.{AllByRecursion}
 use Rattle.std.specs.Int.{bytes_high_first}
 use Rattle.std.proofs.Math.Seq.{drop-append_seam, take-length}
-use Rattle.dname.specs.Labels.{folded_label, folded_labels, IsName}
+use Rattle.dname.specs.Labels.{folded_label, IsName}
 use Rattle.layout.specs.Packing.{Note, packed}
-use Rattle.layout.specs.Pieces.{Flat, plain_bytes, packed_name, asked_name, full_name, Piece, flat_piece, sized_group, Text, place_of, flat_bytes, flat_notes, put_flat, put_flats, group_of, with_group, put, after, empty, written}
+use Rattle.layout.specs.Pieces.{Flat, plain_bytes, packed_name, asked_name, Piece, flat_piece, sized_group, Text, place_of, flat_bytes, flat_notes, put_flat, put_flats, group_of, with_group, put, after, empty, written}
 use Rattle.layout.specs.Places.{IsAt, FlatAt, FlatsAt, PieceAt, PiecesAt}
 use Rattle.layout.specs.Messages.{IsSpelling}
 use Rattle.layout.proofs.Growing.{at-grown, flat-grown, piece-grown}
@@ -17,7 +17,6 @@ abbrev pub IsFlat : Flat → Type 0
 IsFlat (plain_bytes b) = Unit {0}
 IsFlat (packed_name n) = IsName n
 IsFlat (asked_name n) = IsSpelling n
-IsFlat (full_name n) = folded_labels n ≡ n
 
 abbrev pub IsPiece : Piece → Type 0
 IsPiece (flat_piece f) = IsFlat f
@@ -41,14 +40,12 @@ flat_stands notes pre (asked_name n) stood is = record {
   stands = stands-along _ _ _ (length pre) _ _ _ _ n (full_stands n pre (length pre) is.spelled) refl refl (sym (length-append pre _));
   short = is.short;
 }
-flat_stands notes pre (full_name n) stood is = record { letters = n; stands = at_behind pre _; folds = is }
 
 flat_noted : (notes : List Note) (pre : List ℕ) (f : Flat) → AllStood pre (length pre) notes → IsFlat f
     → AllStood (pre ++ flat_bytes notes f) (length (pre ++ flat_bytes notes f)) (flat_notes notes (length pre) f)
 flat_noted notes pre (plain_bytes b) stood is = tt
 flat_noted notes pre (packed_name n) stood is = packed_noted notes n pre (length pre) (omega arith) stood is.labels
 flat_noted notes pre (asked_name n) stood is = full_noted n pre is.spelled
-flat_noted notes pre (full_name n) stood is = tt
 
 pub piece-along : (bytes text : List ℕ) (at place : ℕ) (p : Piece) (end last : ℕ) → PieceAt bytes at p end → bytes ≡ text → at ≡ place → end ≡ last
     → PieceAt text place p last
