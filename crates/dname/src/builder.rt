@@ -4,7 +4,7 @@ ghost use Rattle.dname.specs.Labels.{wire, folded};
 ghost use Rattle.dname.specs.Draft.{empty_draft, Refuses, pushed, shut};
 ghost use Rattle.dname.specs.Overflows.{overflow_number, overflow_text};
 
-use crate::name::Name;
+use crate::name::{LONGEST_NAME, Name};
 use memory::{Heap, Starved};
 use std::alloc::{AllocError, AllocFailed, Allocator, Global};
 use std::fmt;
@@ -132,7 +132,7 @@ impl<A: Heap> Builder<A> {
         if self.open_len() >= 63 {
             return Err(Overflow::LongLabel);
         }
-        if self.bytes.len() >= 254 {
+        if self.bytes.len() >= LONGEST_NAME - 1 {
             return Err(Overflow::LongName);
         }
         self.bytes.push(fold(byte))?;

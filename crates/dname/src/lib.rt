@@ -33,7 +33,7 @@ mod walk;
 pub use builder::{Builder, Overflow};
 pub use labels::Labels;
 pub use memory::{Heap, Starved};
-pub use name::Name;
+pub use name::{LONGEST_NAME, Name};
 pub use suffix::Suffix;
 pub use text::{
     NameError, escape, first_fault_counts, put_name, text_is_read_back, text_writes_name,

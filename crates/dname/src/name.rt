@@ -12,6 +12,9 @@ use std::cmp::Eq;
 use std::hash::{Hash, Hasher};
 use std::marker::Model;
 
+/// Bytes of a name at most, with its length bytes and closing zero (RFC 1035, section 2.3.4).
+pub const LONGEST_NAME: usize = 255;
+
 /// A domain name in lower case, at most 255 bytes with its length bytes and closing zero (RFC 1035,
 /// section 2.3.4). Contracts see the list of its labels, the root's empty one last.
 #[derive(Drop)]

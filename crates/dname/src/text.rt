@@ -9,7 +9,7 @@ ghost use Rattle.dname.specs.Spelling.{TextWritesName, FirstFaultCounts};
 ghost use Rattle.dname.specs.Wire.{labels_of, IsNameWire};
 
 use crate::builder::{Builder, Overflow};
-use crate::name::Name;
+use crate::name::{LONGEST_NAME, Name};
 use crate::walk::next_label;
 use memory::{Heap, Starved};
 use std::alloc::{AllocError, Allocator};
@@ -247,9 +247,6 @@ fn spell<A: Heap>(alloc: A, text: &[u8]) -> Result<Builder<A>, NameError>
     }
     Ok(builder)
 }
-
-// Bytes of a name with its length bytes and closing zero (RFC 1035, section 2.3.4).
-const LONGEST_NAME: usize = 255;
 
 impl<A: Heap> Builder<A> {
     // The labels with `origin`, a name in wire form, behind them.

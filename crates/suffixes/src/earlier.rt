@@ -6,18 +6,15 @@ ghost use Rattle.layout.specs.Packing.{find};
 ghost use Rattle.suffixes.specs.Kept.{note_of, notes_of, IsKept, AreKept, AreLinked};
 ghost use Rattle.suffixes.specs.Longest.{longest, first_notes};
 
-use dname::{Heap, Name, Starved, next_label};
+use dname::{Heap, LONGEST_NAME, Name, Starved, next_label};
 use std::alloc::{Allocator, Global};
 use std::marker::Model;
 
-// Places from here on are out of a pointer's reach (RFC 1035, section 4.1.4).
-const POINTER_LIMIT: usize = 16_384;
-
-// Room at first for any one name (RFC 1035, section 2.3.4).
-const COMMON_BYTES: usize = 255;
+/// Places of a message from here on are out of a pointer's reach: it has 14 bits (RFC 1035, section 4.1.4).
+pub const POINTER_LIMIT: usize = 16_384;
 
 // The sizes of suffixes: 1 to 255 bytes (RFC 1035, section 2.3.4).
-const SIZES: usize = 256;
+const SIZES: usize = LONGEST_NAME + 1;
 
 // Room at first for the suffixes of a few names.
 const COMMON_NOTES: usize = 16;
@@ -29,7 +26,7 @@ pub struct Found {
     pub labels: usize,
     /// The bytes that these labels take in wire form, with their length bytes.
     pub bytes: usize,
-    /// Where the suffix was written first: its place in the message, below 16,384.
+    /// Where the suffix was written first: its place in the message, below `POINTER_LIMIT`.
     pub place: u16,
 }
 
@@ -79,7 +76,7 @@ impl Noted {
         requires kept { IsKept names.now self.now }
         requires wire { IsWire suffix.now }
         ensures is { result ≡ find (note_of names.now self.now ∷ []) (labels_of suffix.now) }
-        ensures reach { IfSome result (λ place. place < 16384) }
+        ensures reach { IfSome result (λ place. place < POINTER_LIMIT) }
     {
         if self.size == suffix.len() && &names[self.start..self.start + self.size] == suffix {
             Some(self.place)
@@ -138,7 +135,8 @@ impl<A: Heap> Suffixes<A> {
         ensures { IfOk result (λ s. s ≡ []) }
     {
         Ok(Suffixes {
-            names: Vec::with_capacity(alloc, COMMON_BYTES)?,
+            // Room for any one name.
+            names: Vec::with_capacity(alloc, LONGEST_NAME)?,
             notes: Vec::with_capacity(alloc, COMMON_NOTES)?,
             ends: no_ends(),
         })
@@ -186,7 +184,7 @@ impl<A: Allocator> Suffixes<A> {
         requires wire { IsWire suffix.now }
         requires short { length suffix.now < 256 }
         ensures is { result ≡ find self.now (labels_of suffix.now) }
-        ensures reach { IfSome result (λ place. place < 16384) }
+        ensures reach { IfSome result (λ place. place < POINTER_LIMIT) }
     {
         let mut left = self.ends[suffix.len()];
         let mut found = None;
@@ -202,7 +200,7 @@ impl<A: Allocator> Suffixes<A> {
     /// memory.
     pub fn longest(&self, name: &Name<A>) -> Option<Found>
         ensures is { result ≡ longest self.now name.now }
-        ensures within { IfSome result (λ f. (f.labels < length name.now) × (f.bytes < length (wire name.now)) × (f.place < 16384)) }
+        ensures within { IfSome result (λ f. (f.labels < length name.now) × (f.bytes < length (wire name.now)) × (f.place < POINTER_LIMIT)) }
     {
         name.well_formed_law();
         let mut rest = name.wire();

@@ -19,7 +19,7 @@
 
 mod earlier;
 
-pub use earlier::{Found, Suffixes};
+pub use earlier::{Found, POINTER_LIMIT, Suffixes};
 
 #[cfg(test)]
 mod tests;
