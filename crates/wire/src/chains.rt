@@ -6,15 +6,13 @@ use crate::error::WireError;
 use crate::parts::{Part, part_at};
 use crate::via::UDP_LIMIT;
 use dname::{Heap, Starved};
-
-// The offset in a pointer has 14 bits (RFC 1035, section 4.1.4).
-const PLACES: usize = 16_384;
+use suffixes::POINTER_LIMIT;
 
 // Where the chain of pointers from a place ends, by the ends of those from the places before it.
 fn chain_end(bytes: &[u8], ends: &[u16], at: usize) -> u16
     requires known { AreChainEnds bytes.now ends.now }
     requires next { length ends.now ≡ at }
-    requires within { at < 16384 }
+    requires within { at < POINTER_LIMIT }
     ensures { IsChainEnd bytes.now at result }
 {
     match part_at(
@@ -39,7 +37,7 @@ pub fn chain_ends<A: Heap>(alloc: A, bytes: &[u8]) -> Result<Vec<u16, A>, Starve
     if bytes.len() <= UDP_LIMIT {
         return Ok(Vec::new(alloc));
     }
-    let places = bytes.len().min(PLACES);
+    let places = bytes.len().min(POINTER_LIMIT);
     let mut ends = Vec::with_capacity(alloc, places)?;
     for at in 0..places {
         let end = chain_end(bytes, &ends, at);

@@ -24,7 +24,7 @@ use rdata::{INTERNET, RData, Record, Soa, Texts};
 use std::alloc::{Allocator, Global};
 use std::marker::Model;
 use std::mem;
-use suffixes::Suffixes;
+use suffixes::{POINTER_LIMIT, Suffixes};
 
 // How many questions and records a header announces (RFC 1035, section 4.1.1).
 #[derive(Clone, Copy)]
@@ -58,7 +58,7 @@ impl<A: Allocator> Model for Writer<A> {
 
 // A pointer: two top bits set, then fourteen bits of offset.
 fn pointer_to(place: u16) -> [u8; 2]
-    requires { place < 16384 }
+    requires { place < POINTER_LIMIT }
     ensures { result ≡ pointer place }
 {
     [192 + (place / 256) as u8, (place % 256) as u8]
