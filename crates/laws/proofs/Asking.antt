@@ -16,7 +16,7 @@ pub record SameTime (j k : Job) : Type 0 where
 same_job : (j k l : Job) → k ≡ l → l.asks ≡ j.asks → l.deadline ≡ j.deadline → SameTime j k
 same_job j k l e a d = record { asks = ap (λ (x : Job). x.asks) e ∙ a; deadline = ap (λ (x : Job). x.deadline) e ∙ d }
 
-both : (i j k : Job) → SameTime i j → SameTime j k → SameTime i k
+pub both : (i j k : Job) → SameTime i j → SameTime j k → SameTime i k
 both i j k a b = record { asks = b.asks ∙ a.asks; deadline = b.deadline ∙ a.deadline }
 
 module _ (home : Home) (now : ℕ) where
@@ -43,7 +43,7 @@ class_keeps now server s rest (class.Referral at ns glue ttl) j stores p h = sam
 class_keeps now server s rest class.Truncated j stores p h = same_job j p.job _ (ap (λ (x : Point). x.job) h) refl refl
 class_keeps now server s rest (class.Failed f) j stores p h = same_job j p.job _ (ap (λ (x : Point). x.job) h) refl refl
 
-enters_keep : (now : ℕ) (input : Input) (j : Job) (stores : Stores) (p : Point) → Enters now input j stores p → SameTime j p.job
+pub enters_keep : (now : ℕ) (input : Input) (j : Job) (stores : Stores) (p : Point) → Enters now input j stores p → SameTime j p.job
 enters_keep now Start j stores p h = same_job j p.job _ (ap (λ (x : Point). x.job) h) refl refl
 enters_keep now (Told via server m) j stores p (inl (none, h)) = same_job j p.job _ (ap (λ (x : Point). x.job) h) refl refl
 enters_keep now (Told via server m) j stores p (inr (s, rest, is, h)) =

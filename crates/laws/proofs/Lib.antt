@@ -20,6 +20,7 @@ pub mod Learnt
 pub mod Leaving
 pub mod Near
 pub mod Opened
+pub mod Opens
 pub mod OrderlyLists
 pub mod OrderlySent
 pub mod Orders

@@ -12,5 +12,6 @@ pub mod Words
 pub mod Calls
 pub mod Steps
 pub mod Held
+pub mod Opens
 pub mod Looks
 pub mod Uses

@@ -1,6 +1,7 @@
 //! What is heard is used, and what was learnt is followed: functions that do nothing, whose clauses are proved.
 
 ghost use Rattle.laws.specs.Calls.{NextIsAsked, TruncatedIsRepeated, ReferralIsFollowed, FramesOpenRightly, AnswerIsUsed, AliasStays};
+ghost use Rattle.laws.specs.Opens.{FramesOpenInSteps};
 ghost use Rattle.laws.specs.Searches.{AskIsOfSearch};
 ghost use Rattle.laws.specs.Steps.{LostIsAskedOn, TruncatedIsAskedAgain, ReferralIsAsked, AnswerIsReplied, AliasIsKept};
 
@@ -20,8 +21,9 @@ pub fn calls_law()
 /// The open ask of a query is for what its innermost search seeks. What a step does at once for the open
 /// query that it serves, over every run and whatever came before: an ask that ended in vain goes on to the
 /// plan's next address; a truncated reply is asked for again over TCP; a referral of which an address is
-/// taken is followed; an answer that ends the chain is replied, and an alias stays in the chain. Only the
-/// query's deadline and its 40 asks stand before an ask.
+/// taken is followed; an answer that ends the chain is replied, and an alias stays in the chain; a frame that
+/// opens is at the start of its question, and the first address of its plan is asked. Only the query's
+/// deadline and its 40 asks stand before an ask, and for a query that comes 1,024 others.
 pub fn runs_law()
     ensures ask { AskIsOfSearch }
     ensures lost { LostIsAskedOn }
@@ -29,4 +31,5 @@ pub fn runs_law()
     ensures referral { ReferralIsAsked }
     ensures answer { AnswerIsReplied }
     ensures alias { AliasIsKept }
+    ensures opens { FramesOpenInSteps }
 {}
