@@ -10,8 +10,11 @@ use std::sync::ledger::{Ledger, Share};
 /// entries, which `Book::put` alone raises.
 #[derive(Drop)]
 pub struct Ticket<L: Ledger> {
+    // The worker whose ticket it is, counted from 0.
     pub(crate) worker: usize,
+    // How many of the book's entries are its own.
     pub(crate) count: u64,
+    // One part of the ledger, with `count` on it, so that the parts of all tickets add up to the book's length.
     pub(crate) share: Share<L>,
 }
 

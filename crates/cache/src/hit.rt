@@ -16,6 +16,7 @@ use std::marker::Model;
 /// A link that is kept.
 #[derive(Drop)]
 pub struct Hit<A: Allocator = Global> {
+    /// What was answered: an RRset, an alias, or that there is none.
     pub link: Link<A>,
     /// Its time to live in seconds, as it was kept, at most 2,147,483,647 (RFC 2181, section 8).
     pub ttl: u32,

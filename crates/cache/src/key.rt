@@ -17,7 +17,9 @@ use std::marker::Model;
 /// What a link speaks of: a type, or the name itself.
 #[derive(Clone, Copy)]
 pub enum Slot {
+    /// What the name has of this type: an RRset, its lack, or under CNAME an alias.
     Of(RType),
+    /// That the name does not exist, whatever the type (RFC 2308, section 5).
     NameError,
 }
 
@@ -47,7 +49,9 @@ impl Slot {
 /// A name and what is kept of it.
 #[derive(Drop)]
 pub struct Key<A: Allocator = Global> {
+    /// The name that was asked for, to which the link is an answer.
     pub name: Name<A>,
+    /// Which link of that name.
     pub slot: Slot,
 }
 

@@ -1,4 +1,5 @@
-//! What a query whose chain has its end is to be answered.
+//! The outcome of a chain and its end: each link with the TTL that is left of it, and AA where the link of the name
+//! that was asked is of the zones at hand.
 ghost use Rattle.std.specs.Prelude.{◌≡◌, [], ◌∷◌, IfOk};
 ghost use Rattle.authority.specs.Answers.{link_view};
 ghost use Rattle.exchange.specs.Plain.{plain_end, plain_outcome};

@@ -1,4 +1,5 @@
-//! Asks that go out, and the queries that wait for them.
+//! Asks that go out, and the queries that wait for them: socket and ID are of the generator's next word, and no two
+//! open asks over UDP have socket, server and ID in common (RFC 5452, section 4).
 ghost use Rattle.std.specs.Prelude.{◌≡◌, ℕ, ◌+◌, ◌<◌, ◌/◌, ◌%◌, ◌^◌, length, IfOk, OnErr};
 ghost use Rattle.rdata.specs.Types.{type_number};
 ghost use Rattle.exchange.specs.Views.{action_view};

@@ -1,4 +1,5 @@
-//! Queries that come: admitted, or refused where too many are open.
+//! Recursive queries whose work has begun: what it gave goes out, and one that has to wait is opened under the next
+//! number, or answered with a failure where 1,024 are open.
 ghost use Rattle.std.specs.Prelude.{◌≡◌, ◌+◌, IfOk, OnErr};
 ghost use Rattle.std.specs.Bool.{MatchBool};
 ghost use Rattle.iterate.specs.Views.{next_view};

@@ -1,4 +1,4 @@
-//! What clients send.
+//! What clients send: what the bytes ask is dropped, refused, answered by the zones at hand (without RD), or resolved.
 ghost use Rattle.std.specs.Prelude.{◌≡◌, ℕ, ◌<◌, ◌≤◌, Some, None, IfOk, IsOk, OnErr, length};
 ghost use Rattle.resolution.specs.Jobs.{Start as Starting};
 ghost use Rattle.resolution.specs.Rules.{Stops};

@@ -1,4 +1,5 @@
-//! Datagrams that come.
+//! Datagrams that come from servers: whose ask one may answer is found by its socket, its sender and its ID, and
+//! only a message that is accepted for that ask is heard.
 ghost use Rattle.std.specs.Prelude.{◌≡◌, ℕ, Some, None, IfOk, IsOk, OnErr, MatchOption};
 ghost use Rattle.exchange.specs.Paths.{endpoint_view};
 ghost use Rattle.exchange.specs.Views.{event_view};

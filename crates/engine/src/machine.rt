@@ -1,4 +1,4 @@
-//! The resolver as one machine for one thread: events in, actions out.
+//! `Core`, the resolver as one machine for one thread. Its `step` says in its contract what the crate promises.
 ghost use Rattle.std.specs.Prelude.{◌≡◌, Some, None, IfOk, IsOk, OnErr, MatchResult};
 ghost use Rattle.std.specs.NonZero.{non_zero_usize_get};
 ghost use Rattle.known.specs.Views.{no_stores};

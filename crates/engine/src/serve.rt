@@ -1,4 +1,5 @@
-//! One query's work, and what comes of it.
+//! One query's work, and what comes of it: `go_on` takes a query out, gives its work one input, and sends what that
+//! gives, an ask for which it waits again, or the reply.
 ghost use Rattle.std.specs.Prelude.{◌≡◌, IfOk, OnErr};
 ghost use Rattle.causes.specs.declared.cause.Cause.TheVariants as cause;
 ghost use Rattle.front.specs.declared.queries.Outcome.TheVariants as outcome;

@@ -1,4 +1,5 @@
-//! What becomes of an event.
+//! What becomes of an event: the clock goes on to its moment, never back, and the event goes to the part that is for
+//! its kind.
 ghost use Rattle.std.specs.Prelude.{◌≡◌, Some, None, IfOk, IsOk, OnErr};
 ghost use Rattle.exchange.specs.Views.{event_view};
 ghost use Rattle.runs.specs.States.{moved};

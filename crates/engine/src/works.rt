@@ -11,15 +11,25 @@ use wire::Writer;
 // the numbers of the next query and of the next ask over TCP.
 #[derive(Drop)]
 pub struct Works<A: Allocator = Global> {
+    // Where all memory of a step comes from.
     pub alloc: A,
+    // The zones at hand and the hints; no step changes them.
     pub home: Home<A>,
+    // The port at which servers are asked, that of the settings.
     pub port: u16,
+    // How many sockets asks over UDP may leave, by numbers from 0.
     pub sockets: u16,
+    // The latest moment of any event so far, in milliseconds.
     pub clock: u64,
+    // The cache, the delegations and the penalties.
     pub stores: Stores<StoreHasher, A>,
+    // The open queries, 1,024 at most, with their indexes.
     pub queries: Queries<A>,
+    // How many queries were opened, and so the number of the next one.
     pub opened: u64,
+    // How many asks went over TCP, and so the number of the next one.
     pub asked: u64,
+    // Gives a word for the socket and the ID of each ask (RFC 5452, section 4).
     pub generator: ChaCha20Rng,
     // What replies are written with.
     pub writer: Writer<A>,

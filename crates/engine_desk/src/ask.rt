@@ -11,8 +11,11 @@ pub const PORT: u16 = 53;
 /// An ask: how it went, to which server, and under which ID.
 #[derive(Clone, Copy, Debug, PartialEq, Eq)]
 pub struct Ask {
+    /// The socket that it left, or its number over TCP.
     pub path: Path,
+    /// The address that was asked.
     pub server: Addr,
+    /// The first two bytes of the message, as a reply has to begin.
     pub id: [u8; 2],
 }
 

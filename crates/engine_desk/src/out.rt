@@ -6,12 +6,19 @@ use std::alloc::Allocator;
 /// number. `Other` is anything else, as that another query is due.
 #[derive(Clone, Copy, Debug, PartialEq, Eq)]
 pub enum Out {
+    /// No action, and no further query due.
     Nothing,
+    /// An ask over UDP, to the address that ends in this byte.
     Asked(u8),
+    /// The same over TCP.
     AskedOverTcp(u8),
+    /// A reply for which no cause is given.
     Replied,
+    /// A SERVFAIL, by the number of its cause.
     Failed(u8),
+    /// Memory was wanting.
     Starved,
+    /// Anything else, as that another query is due.
     Other,
 }
 

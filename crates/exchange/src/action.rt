@@ -15,21 +15,31 @@ use std::marker::Model;
 pub enum Action<A: Allocator = Global> {
     /// A reply to a client by its way, with the cause of a SERVFAIL.
     Reply {
+        /// The client's number, as its query came with it.
         client: u64,
+        /// The way by which the query came.
         way: Via,
+        /// The message; over TCP without the two bytes of its length.
         bytes: Bytes<A>,
+        /// Why the reply is a SERVFAIL, where it is one.
         cause: Option<Cause>,
     },
     /// A datagram from a socket to a server.
     Send {
+        /// The number of the socket, below `Settings::sockets` of the engine.
         socket: u16,
+        /// The server that is asked.
         to: Endpoint,
+        /// The query: one question, RD clear.
         bytes: Bytes<A>,
     },
     /// An ask over TCP, under its number.
     TcpAsk {
+        /// The ask's number, which its reply or its failure comes with; none is used twice.
         number: u64,
+        /// The server to connect to.
         to: Endpoint,
+        /// The query, without the two bytes of its length (RFC 1035, section 4.2.2).
         bytes: Bytes<A>,
     },
 }
@@ -119,7 +129,9 @@ impl<A: Heap> Action<A> {
 /// All that comes out of a step: one action at most, and whether another query is due.
 #[derive(Drop)]
 pub struct Actions<A: Allocator = Global> {
+    /// The reply or the ask, if the step gives one.
     pub first: Option<Action<A>>,
+    /// After a tick: another query is due too, so that a further tick is wanted at once.
     pub more_due: bool,
 }
 

@@ -8,10 +8,15 @@ use std::marker::Model;
 /// A query to a server: how it goes and to which server, under which ID, for which name and type.
 #[derive(Drop)]
 pub struct Asking<A: Allocator = Global> {
+    /// The socket that it leaves, or its number over TCP.
     pub path: Path,
+    /// The server that is asked, and whose reply alone is accepted.
     pub server: Addr,
+    /// The ID of its header, which the reply has to repeat (RFC 1035, section 4.1.1).
     pub id: u16,
+    /// QNAME (RFC 1035, section 4.1.2).
     pub name: Name<A>,
+    /// QTYPE; the class is IN.
     pub kind: RType,
 }
 

@@ -18,31 +18,45 @@ pub const LATEST: u64 = 4_611_686_018_427_387_904;
 pub enum Event<A: Allocator = Global> {
     /// Bytes from a client.
     Client {
+        /// When it came, in milliseconds.
         moment: u64,
+        /// The client's number, with which the reply goes out.
         client: u64,
+        /// The way by which it came, and by which the reply goes.
         way: Via,
+        /// What may be a query, with no length before it.
         bytes: Bytes<A>,
     },
     /// A datagram at a socket.
     Datagram {
+        /// When it came, in milliseconds.
         moment: u64,
+        /// The number of the socket at which it came.
         socket: u16,
+        /// The address and the port that it was sent from, which may be forged.
         from: Endpoint,
+        /// What may be a server's reply.
         bytes: Bytes<A>,
     },
     /// The reply to the ask over TCP of this number.
     TcpReply {
+        /// When it came, in milliseconds.
         moment: u64,
+        /// The number of the ask, as `Action::TcpAsk` gave it.
         number: u64,
+        /// The message, without the two bytes of its length.
         bytes: Bytes<A>,
     },
     /// The ask over TCP of this number failed.
     TcpFailed {
+        /// When it failed, in milliseconds.
         moment: u64,
+        /// The number of the ask, as `Action::TcpAsk` gave it.
         number: u64,
     },
     /// Time passes.
     Tick {
+        /// The time that it is, in milliseconds.
         moment: u64,
     },
 }

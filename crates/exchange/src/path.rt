@@ -9,7 +9,9 @@ use wire::Via;
 /// A server's address and port.
 #[derive(Clone, Copy, Debug, PartialEq, Eq)]
 pub struct Endpoint {
+    /// The IPv4 address.
     pub address: Addr,
+    /// The port, of UDP or TCP.
     pub port: u16,
 }
 

@@ -1,4 +1,5 @@
-//! What comes in for a query, and what goes out.
+//! What a call of the work on a query takes and gives: an `Input`, a thing that came for it, and `Next`, what goes
+//! out.
 
 use crate::chain::Chain;
 use causes::Cause;

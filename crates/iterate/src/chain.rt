@@ -1,4 +1,5 @@
-//! The CNAME chain of a query at work.
+//! The CNAME chain of a query at work (RFC 1034, section 3.6.2): aliases join at its end, and it is cut off where one
+//! that came from the cache has run out.
 ghost use Rattle.std.specs.Prelude.{◌≡◌, [], ◌∷◌, ◌++◌, length, take, Some, None, OnOk, MatchOption, slice_get};
 ghost use Rattle.resolution.specs.Jobs.{Taken as Used, AreFresh, IsDead};
 ghost use Rattle.iterate.specs.Moves.{IsTakenFrom};

@@ -1,4 +1,5 @@
-//! How what comes in is taken up.
+//! How an input is taken up: first the penalty of its server changes, down for a reply whatever it says, up for none;
+//! then a message is heard, or the search goes on.
 ghost use Rattle.std.specs.Prelude.{IfOk, OnErr};
 ghost use Rattle.resolution.specs.Jobs.{point};
 ghost use Rattle.resolution.specs.Rules.{Enters, Stops};

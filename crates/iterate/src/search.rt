@@ -39,24 +39,28 @@ impl<A: Allocator> Search<A> {
         Search { name, kind, frame }
     }
 
+    // The name that its servers are asked for.
     pub(crate) fn name(&self) -> &Name<A>
         ensures { result.now ≡ self.now.name }
     {
         &self.name
     }
 
+    // The type that they are asked for.
     pub(crate) fn kind(&self) -> RType
         ensures { type_number result ≡ self.now.kind }
     {
         self.kind
     }
 
+    // Its servers.
     pub(crate) fn frame(&self) -> &Frame<A>
         ensures { result.now ≡ self.now.frame }
     {
         &self.frame
     }
 
+    // The name alone: the search is over.
     pub(crate) fn into_name(self) -> Name<A>
         ensures { result ≡ self.name }
     {

@@ -1,4 +1,4 @@
-//! What is due for a query at work.
+//! What is due for a query at work, between two rules of one call: to find, to use, or to ask (`Task`).
 
 use crate::calls::Next;
 use known::Taken;
@@ -21,6 +21,8 @@ pub enum Task<A: Allocator = Global> {
 /// What comes of a task: a further one, or something that goes out.
 #[derive(Drop)]
 pub enum Turn<A: Allocator = Global> {
+    /// The same call goes on with this one.
     Onward(Task<A>),
+    /// The call ends: an ask, a reply or a failure is due.
     Out(Next<A>),
 }

@@ -1,4 +1,5 @@
-//! One move of a query at work.
+//! One move of a query at work: `turn` does one task by the rule that fits it (RFC 1034, section 5.3.3), and
+//! `due_after` says what a look-up leads to, for a query at work and for one that comes.
 ghost use Rattle.std.specs.Prelude.{◌≡◌, ℕ, IfOk, OnOk};
 ghost use Rattle.frames.specs.Frames.{opened};
 ghost use Rattle.resolution.specs.Jobs.{Home as Grounds, Stores as Learnt, Seek as Seeking, point, search_at, level_of, IsFreshTask};

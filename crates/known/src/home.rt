@@ -1,4 +1,5 @@
-//! What the resolver holds from the start: local zones and hints.
+//! What the resolver holds from the start and never changes: `Home`, the local zones as one catalog, and the cut
+//! of the root, which is made of the hints once.
 ghost use Rattle.std.specs.Prelude.{◌≡◌, IfOk};
 ghost use Rattle.resolution.specs.Jobs.{root_cut};
 ghost use Rattle.known.specs.Views.{home_at};

@@ -1,4 +1,5 @@
-//! Cuts and addresses made of records.
+//! Cuts and addresses made of records: `cut_of` a delegation of its NS set and glue, `found_addresses` the addresses
+//! of a server of its set of A records.
 ghost use Rattle.std.specs.Prelude.{◌≡◌, ◌++◌, map, IfOk, OnOk};
 ghost use Rattle.rdata.specs.Kept.{datum};
 ghost use Rattle.resolution.specs.Jobs.{ipv4_of, bytes_of, IsCutOf, AreAddressesOf};

@@ -1,4 +1,6 @@
-//! What the resolver learnt: cache, delegations, penalties.
+//! What the resolver learnt, in three stores of a fixed room: links (`cache`), delegations (`referral`) and the
+//! penalties of servers (`retry`). `Stores` has one call for each use that the work on a query makes of them, and
+//! sets how long a link or a cut is kept, and how much of a cut.
 ghost use Rattle.std.specs.Prelude.{◌≡◌, None, IfOk, IfSome, OnOk, OnErr};
 ghost use Rattle.std.specs.NonZero.{non_zero_usize_get};
 ghost use Rattle.rdata.specs.Types.{type_number};
@@ -36,8 +38,11 @@ pub struct Capacities {
 /// What hashes the keys of each store.
 #[derive(Drop)]
 pub struct Hashers<S: BuildHasher + Drop> {
+    /// For the cache, whose keys are a name and a type.
     pub links: S,
+    /// For the delegations, by the name of the zone.
     pub cuts: S,
+    /// For the penalties, by the server's address.
     pub servers: S,
 }
 

@@ -1,4 +1,5 @@
-//! A link that is used for a query, with where it comes from and how it goes out.
+//! `Taken`, a link that is used for a query, and its `Source`, by which it goes out: zones at hand send their own
+//! TTL, the cache and servers what is left of theirs, and only a link of the cache can run out meanwhile.
 ghost use Rattle.std.specs.Prelude.{◌≡◌, ◌≤◌, IfOk, MatchOption};
 ghost use Rattle.rdata.specs.Records.{Record as Datum};
 ghost use Rattle.zone.specs.Links.{Alias as Alternative};
@@ -22,9 +23,19 @@ pub enum Source {
     /// The zones at hand.
     Local,
     /// The cache.
-    Cached { ttl: u32, since: u64 },
+    Cached {
+        /// How long it lives, in seconds.
+        ttl: u32,
+        /// The moment at which it was kept, in milliseconds.
+        since: u64,
+    },
     /// A message that was accepted for the query itself.
-    Accepted { ttl: u32, since: u64 },
+    Accepted {
+        /// How long it lives, in seconds.
+        ttl: u32,
+        /// The moment at which it was accepted, in milliseconds.
+        since: u64,
+    },
 }
 
 impl Source {

@@ -1,4 +1,5 @@
-//! The slot of each number, and the query of each ask over TCP.
+//! The two maps beside the slab of open queries: the slot of each query's number, and the query of each ask over
+//! TCP. `make_room` makes room in all three first, so that nothing is refused once one of them is changed.
 ghost use Rattle.std.specs.Prelude.{◌≡◌, ℕ, ◌<◌, nat_eq, cond, Some, None, OnOk};
 ghost use Rattle.std.specs.HashMap.{spare};
 ghost use Rattle.std.specs.Map.{lookup};

@@ -14,9 +14,13 @@ use std::marker::Model;
 pub struct Open<A: Allocator = Global> {
     /// No other query has it.
     pub number: u64,
+    /// To whom the reply goes, and the query that it is for.
     pub asker: Asker<A>,
+    /// How far its resolution is, with its deadline and the number of asks so far.
     pub job: Job<A>,
+    /// The one ask that it waits for.
     pub ask: Asking<A>,
+    /// When the wait for that ask is over, in milliseconds.
     pub due: u64,
 }
 

@@ -11,8 +11,11 @@ use std::marker::Model;
 /// A zone cut as a delegation: the zone's name, the names of its servers, and the addresses that are known of them.
 #[derive(Drop)]
 pub struct Cut<A: Allocator = Global> {
+    /// The zone that is delegated: the owner of the NS records.
     pub at: Name<A>,
+    /// Its servers, as the NS records name them, in their order.
     pub names: Names<A>,
+    /// Addresses of those servers: glue (RFC 1034, section 4.2.1), or what hints say.
     pub addresses: Addresses<A>,
 }
 

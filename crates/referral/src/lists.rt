@@ -71,7 +71,9 @@ impl<A: Allocator> Names<A> {
 /// An address of a server, and the server's name: the root's where the name is not known, as of hints.
 #[derive(Drop)]
 pub struct ServerAddress<A: Allocator = Global> {
+    /// The server that has the address.
     pub name: Name<A>,
+    /// The IPv4 address at which it can be asked.
     pub address: Addr,
 }
 
