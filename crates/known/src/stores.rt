@@ -140,7 +140,7 @@ impl<S: BuildHasher + Drop, A: Heap> Stores<S, A> {
         ensures err { OnErr result (self.new ≡ self.old) }
     {
         let kept = trimmed(alloc, cut)?;
-        self.delegations.keep(&kept, referral_lifetime(ttl), now)?;
+        self.delegations.keep(kept, referral_lifetime(ttl), now)?;
         Ok(())
     }
 

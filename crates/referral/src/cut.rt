@@ -1,9 +1,9 @@
 //! A delegation: a zone cut, its servers and their glue.
-ghost use Rattle.std.specs.Prelude.{◌≡◌, List, ℕ, IfOk};
+ghost use Rattle.std.specs.Prelude.{◌≡◌, List, ℕ};
 ghost use Rattle.referral.specs.Cuts.{is_live, as_kept, known_of};
 
 use crate::lists::{Addresses, Names};
-use dname::{Heap, Name, Starved};
+use dname::{Heap, Name};
 use recency::is_young;
 use std::alloc::{AllocError, Allocator, Global};
 use std::marker::Model;
@@ -69,21 +69,27 @@ impl<A: Heap> Clone for Servers<A> {
     }
 }
 
-impl<A: Heap> Servers<A> {
-    // The cut to be kept for so many seconds from the moment `since`, in milliseconds.
-    pub(crate) fn of(cut: &Cut<A>, ttl: u32, since: u64) -> Result<Servers<A>, Starved>
-        ensures { IfOk result (λ s. known_of (cut.now).owner s ≡ as_kept cut.now ttl since) }
-    {
-        Ok(Servers {
-            names: cut.names.clone()?,
-            addresses: cut.addresses.clone()?,
-            ttl,
-            since,
-        })
-    }
-}
-
 impl<A: Allocator> Servers<A> {
+    // The cut to be kept for so many seconds from the moment `since`, in milliseconds: its name, and its servers.
+    pub(crate) fn of(cut: Cut<A>, ttl: u32, since: u64) -> (Name<A>, Servers<A>)
+        ensures { known_of result.0 result.1 ≡ as_kept cut ttl since }
+    {
+        let Cut {
+            at,
+            names,
+            addresses,
+        } = cut;
+        (
+            at,
+            Servers {
+                names,
+                addresses,
+                ttl,
+                since,
+            },
+        )
+    }
+
     // Their time to live in seconds.
     pub(crate) fn ttl(&self) -> u32
         ensures { result ≡ (self.now).ttl }

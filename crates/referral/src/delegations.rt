@@ -55,16 +55,15 @@ impl<S: BuildHasher + Drop, A: Heap> Delegations<S, A> {
     }
 
     /// Keeps the cut from the moment `now`, in milliseconds, for `ttl` seconds. A cut with TTL 0 is not
-    /// kept, and what was kept of its name goes. Want of memory changes nothing.
-    pub fn keep(&mut self, cut: &Cut<A>, ttl: u32, now: u64) -> Result<(), Starved>
-        ensures ok { OnOk result (self.new ≡ lru_cache (after_keep self.old.cap (as_kept cut.now ttl now) self.old.entries) self.old.cap) }
+    /// kept, and what was kept of its name goes. Want of memory changes nothing, and the cut is gone.
+    pub fn keep(&mut self, cut: Cut<A>, ttl: u32, now: u64) -> Result<(), Starved>
+        ensures ok { OnOk result (self.new ≡ lru_cache (after_keep self.old.cap (as_kept cut ttl now) self.old.entries) self.old.cap) }
         ensures err { OnErr result (self.new ≡ self.old) }
-        ensures there { OnOk result (ttl ≢ 0 → Contains self.new.entries (cut.now.owner, as_kept cut.now ttl now)) }
-        ensures only { KeepsOnly self.old.entries (IsKept (as_kept cut.now ttl now)) self.new.entries }
-        ensures gone { LosesOnly self.old.entries (IsGone self.old.cap (as_kept cut.now ttl now) self.old.entries) self.new.entries }
+        ensures there { OnOk result (ttl ≢ 0 → Contains self.new.entries (cut.owner, as_kept cut ttl now)) }
+        ensures only { KeepsOnly self.old.entries (IsKept (as_kept cut ttl now)) self.new.entries }
+        ensures gone { LosesOnly self.old.entries (IsGone self.old.cap (as_kept cut ttl now) self.old.entries) self.new.entries }
     {
-        let at = cut.at.clone()?;
-        let servers = Servers::of(cut, ttl, now)?;
+        let (at, servers) = Servers::of(cut, ttl, now);
         self.store(at, servers)?;
         Ok(())
     }

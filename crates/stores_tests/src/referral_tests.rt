@@ -47,7 +47,7 @@ fn empty<A: Heap>(alloc: A, room: usize) -> Result<Kept<A>, Starved> {
 impl<A: Heap> Kept<A> {
     fn keep(&mut self, at: &str, last: u8, ttl: u32) -> Result<(), Starved> {
         let cut = cut(self.alloc, at, last)?;
-        self.delegations.keep(&cut, ttl, 0)
+        self.delegations.keep(cut, ttl, 0)
     }
 
     fn best_cut(&mut self, text: &str, now: u64) -> Result<Option<Cut<A>>, Starved> {
