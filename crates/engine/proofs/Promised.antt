@@ -22,6 +22,7 @@ use Rattle.laws.proofs.Times.{nothing_is_late}
 use Rattle.laws.proofs.Words.{words_in_order}
 use Rattle.laws.proofs.FollowedSearches.{ask_is_of_search}
 use Rattle.laws.proofs.Steps.{lost_is_asked_on, truncated_is_asked_again, referral_is_asked, answer_is_replied, alias_is_kept}
+use Rattle.laws.proofs.Opens.{frames_open_in_steps}
 use Rattle.laws.specs.Held.{IsHeldChain}
 use Rattle.laws.proofs.Held.{held_is_replied}
 use Rattle.laws.proofs.Found.{kept_is_found}
@@ -71,6 +72,7 @@ module _ (site : Site) (past : List Turn) (old : State) (t : Turn) (new : State)
     referral = λ out. referral_is_asked site past old t out new;
     answered = λ out. answer_is_replied site past old t out new;
     alias = λ out. alias_is_kept site past old t out new;
+    opens = frames_open_in_steps site past old t new legal step;
     held = held_here;
     kept = kept_is_found site (t ∷ past) new (old, legal, step);
   }

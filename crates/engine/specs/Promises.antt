@@ -36,6 +36,8 @@ use Rattle.laws.specs.Searches.{IsOfSearch}
 use Rattle.laws.specs.Steps as followed
 use Rattle.laws.specs.Steps.{Attends, at_moment, Accepted, EndsInVain, Replies}
 use Rattle.laws.specs.Held.{IsHeldChain}
+use Rattle.laws.specs.Calls.{Opening}
+use Rattle.laws.specs.Opens.{Call, step_call, Opens, IsOpenedRightly}
 use Rattle.laws.specs.Looks.{IsKeptSince, IsAlone}
 use Rattle.laws.specs.Uses.{Accepted as Kept}
 
@@ -82,6 +84,9 @@ pub record Keeps (site : Site) (past : List Turn) (old : State) (turn : Turn) (n
       → Attends site past old turn out new q sought [] → Accepted site turn q sought (class.Answer (Alias r)) → AreFresh (at_moment old turn).clock (q.job).chain
       → ((after : Open) × Contains new.queries after × (after.number ≡ q.number) × Contains (after.job).chain (received_link sought.name (Alias r) (at_moment old turn).clock))
       ⊎ ((o : Outcome Plain) × Replies q o out)
+  -- A frame opens where its question's servers are sought first, and the first address of its plan is asked.
+  pub opens : (out : List Action) (call : Call (at_moment old turn)) (frame : Opening)
+      → turn.out ≡ Some out → step_call old turn new step ≡ Some call → Opens (at_moment old turn) call frame → IsOpenedRightly site (at_moment old turn) turn.served out new call frame
   -- What is held is answered at once, and what was kept is found.
   pub held : (now client : ℕ) (way : Via) (bytes : List ℕ) (out : List Action) (q : Question Plain) (chain : List Taken) (last : Taken)
       → turn.event ≡ Client now client way bytes → turn.out ≡ Some out → IsAsked bytes (heard.Query q) → recursive q ≡ true → length chain ≤ 8
