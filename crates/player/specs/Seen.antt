@@ -1,5 +1,5 @@
 -- What a player sees, as plain values, and how single steps of its code change that.
-use Rattle.std.specs.Prelude.{◌≡◌, ℕ, Bool, cond, List, [], ◌∷◌, ◌++◌, codes, string_bytes}
+use Rattle.std.specs.Prelude.{◌≡◌, ℕ, List, [], ◌∷◌, ◌++◌, string_bytes}
 use Rattle.std.specs.List.{flat_map}
 use Rattle.wire.specs.declared.via.Via.{Via}
 use Rattle.wire.specs.declared.via.Via.TheVariants.{Udp, Tcp}
@@ -18,9 +18,6 @@ state_of p = record { moment = p.moment; seen = seen p.show }
 
 abbrev pub with_text : List ℕ → Seen → Seen
 with_text text s = record s { text = s.text ++ text }
-
-abbrev pub due_text : Bool → List ℕ
-due_text more = cond more (codes "due\n") []
 
 -- An ask goes out this way.
 abbrev pub way_action : Via → ℕ → NetworkAction
