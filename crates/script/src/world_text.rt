@@ -19,6 +19,7 @@ use worlds::Host;
 /// A zone's block in a world text.
 #[derive(Drop)]
 pub struct Block<'t, A: Allocator = Global> {
+    /// The origin in the line that opens the block; relative owner names of the text are beneath it.
     pub origin: Name<A>,
     /// Whether the resolver itself serves the zone.
     pub is_local: bool,
@@ -43,8 +44,11 @@ impl<'t, A: Allocator> Model for Block<'t, A> {
 /// What the lines of a world text say, in their order; the lines of one server are one.
 #[derive(Drop)]
 pub struct WorldText<'t, A: Allocator = Global> {
+    /// The zones' blocks, their master file text not yet read.
     pub blocks: Vec<Block<'t, A>, A>,
+    /// The servers, each address once.
     pub hosts: Vec<Host<A>, A>,
+    /// The addresses of root servers that the resolver starts from.
     pub hints: Vec<Addr, A>,
 }
 

@@ -14,17 +14,23 @@ use std::marker::Model;
 pub enum SimAction<A: Allocator = Global> {
     /// A reply to a client by its way, with the cause of a SERVFAIL.
     Reply {
+        /// The number of the client, as its query came with it.
         client: u64,
+        /// Over UDP or TCP, as the query came.
         way: Via,
+        /// The reply as a message of RFC 1035, over TCP without the two bytes of its length.
         bytes: Bytes<A>,
+        /// Why the query failed, where the reply is a SERVFAIL.
         cause: Option<Cause>,
     },
     /// A datagram went out.
     Sent {
+        /// Its place among all asks of the network, counted from 1.
         number: u64,
     },
     /// An ask over TCP went out.
     Asked {
+        /// Its place among all asks of the network, counted from 1.
         number: u64,
     },
 }
@@ -96,7 +102,9 @@ impl<A: Heap> SimAction<A> {
 /// All that comes out of a step: one action at most, and whether another query is due.
 #[derive(Drop)]
 pub struct SimActions<A: Allocator = Global> {
+    /// The reply or the ask, if there is one.
     pub first: Option<SimAction<A>>,
+    /// Whether a query is due by now, so that another tick of the same moment serves it.
     pub more_due: bool,
 }
 

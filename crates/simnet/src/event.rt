@@ -12,33 +12,46 @@ use std::alloc::{Allocator, Global};
 pub enum SimEvent<A: Allocator = Global> {
     /// Bytes from a client.
     Client {
+        /// In milliseconds of the network's clock.
         moment: u64,
+        /// The number of the client, which its reply is told with.
         client: u64,
+        /// Over UDP or TCP; the reply goes the same way.
         way: Via,
+        /// What came: over TCP without the two bytes of the length.
         bytes: Bytes<A>,
     },
     /// The server's reply to the ask over UDP of this number comes; one of more than 512 bytes comes truncated.
     Carry {
+        /// In milliseconds of the network's clock.
         moment: u64,
+        /// The place of the ask among all asks of the network, counted from 1.
         number: u64,
     },
     /// It comes truncated, whatever its length.
     CarryTruncated {
+        /// In milliseconds of the network's clock.
         moment: u64,
+        /// The place of the ask among all asks of the network, counted from 1.
         number: u64,
     },
     /// The server's reply to the ask over TCP of this number comes.
     CarryTcp {
+        /// In milliseconds of the network's clock.
         moment: u64,
+        /// The place of the ask among all asks of the network, counted from 1.
         number: u64,
     },
     /// The ask of this number is lost: over TCP that is its failure, over UDP nothing happens.
     Lose {
+        /// In milliseconds of the network's clock.
         moment: u64,
+        /// The place of the ask among all asks of the network, counted from 1.
         number: u64,
     },
     /// Time passes.
     Tick {
+        /// In milliseconds of the network's clock.
         moment: u64,
     },
 }

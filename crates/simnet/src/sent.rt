@@ -6,8 +6,11 @@ use std::marker::Model;
 /// An ask that went out: how, where to, and its bytes.
 #[derive(Drop)]
 pub struct Sent<A: Allocator = Global> {
+    /// From which socket over UDP, or under which number over TCP.
     pub path: Path,
+    /// The address and port of the server that is asked.
     pub to: Endpoint,
+    /// The query as a message of RFC 1035, over TCP without the two bytes of its length.
     pub bytes: Bytes<A>,
 }
 

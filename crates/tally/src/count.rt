@@ -12,7 +12,9 @@ use worlds::{World, judge};
 /// How many replies to recursive queries were no SERVFAIL, and how many of these were right.
 #[derive(Clone, Copy)]
 pub struct Count {
+    /// Replies that are no SERVFAIL.
     pub replies: u64,
+    /// Those of them that `judge` finds right for their world.
     pub right: u64,
 }
 

@@ -10,7 +10,9 @@ use std::marker::Model;
 /// An ask that went out: by which way, and whether it is left, which it is until it is carried, truncated or lost.
 #[derive(Clone, Copy)]
 pub struct Mark {
+    /// Over UDP or TCP.
     pub way: Via,
+    /// Whether it is still to be carried.
     pub is_left: bool,
 }
 

@@ -24,7 +24,9 @@ use zone::Zone;
 /// address, which then serve together.
 #[derive(Drop)]
 pub struct Host<A: Allocator = Global> {
+    /// The IPv4 address that it is asked at.
     pub address: Addr,
+    /// The origins of the zones that it serves. `World::check` refuses one that no zone has.
     pub origins: Vec<Name<A>, A>,
 }
 
