@@ -89,7 +89,8 @@ IsReplyFrom W a (Refuse refusal start echo) sent = sent ≡ None
 IsReplyFrom W a (Query q) sent =
     (m : Option Message) × IsReplyBy (says W a (type_number q.kind)) q (says W a (type_number q.kind) q.name) m × IsSent m sent
 
-abbrev pub IsHostReply : Type 0 → World → Address → List ℕ → Option (List ℕ) → Type 0
+-- `A` is the memory that the query is read into, which no byte of the reply depends on.
+abbrev pub IsHostReply : (A : Type 0) → World → Address → List ℕ → Option (List ℕ) → Type 0
 IsHostReply A W a bytes sent = (asked : Asked A) × IsAsked bytes asked × IsReplyFrom W a asked sent
 
 -- What is sent is a reply to that question, and a message that the server may serve to it.
@@ -99,5 +100,5 @@ pub record IsServed (W : World) (a : Address) (n : Name) (t : ℕ) (sent : List 
   pub reply : IsReplyTo n t read
   pub serves : MayServe W a n t read
 
-abbrev pub IsHonestReply : Type 0 → World → Address → List ℕ → List ℕ → Type 0
+abbrev pub IsHonestReply : (A : Type 0) → World → Address → List ℕ → List ℕ → Type 0
 IsHonestReply A W a bytes sent = (q : Asking A) → IsAsked bytes (Query q) → IsServed W a q.name (type_number q.kind) sent
