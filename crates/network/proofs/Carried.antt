@@ -1,5 +1,5 @@
 -- Along the lines of a network: a run of its resolver in which every accepted message is an honest one.
-use Rattle.std.proofs.Common.{◌≡◌, ℕ, ◌-◌, ◌<◌, ◌⊎◌, inl, inr, ⊎_elim, zero, suc, Bool, true, false, cond, nat_eq, Option, Some, None, List, [], ◌∷◌, ◌++◌, length, slice_get, refl, sym, ap, ◌∙◌, subst, arith}
+use Rattle.std.proofs.Common.{◌≡◌, ℕ, ◌-◌, ◌<◌, ◌⊎◌, inl, inr, ⊎_elim, zero, suc, Bool, true, false, cond, nat_eq, Option, Some, None, List, [], ◌∷◌, ◌++◌, slice_get, refl, sym, ap, ◌∙◌, subst, arith}
 use Rattle.std.specs.Prelude.{Contains}
 use Rattle.zone.proofs.LawLists.{none_in, first_in, later_in, in_cases}
 use Rattle.truth.specs.Worlds.{World, IsWorld}
@@ -11,11 +11,11 @@ use Rattle.runs.specs.Runs.{Run, Earlier, GivesOut, Asks, Accepts}
 use Rattle.laws.specs.Headline.{IsHonest}
 use Rattle.laws.proofs.Every.{sound_run}
 use Rattle.laws.proofs.RightLists.{both_cases, front_in}
-use Rattle.network.specs.Networks.{Sent, Network, NetworkEvent, NetworkAction, Reply, sent_at, sends_among, sends_in, Reaches, NetworkStep, Passes}
-use Rattle.network.specs.Laws.{Line, NetworkRun, Shows, NetworkHeadline}
+use Rattle.network.specs.Networks.{Sent, Network, NetworkEvent, NetworkAction, Reply, sent_at, sends_among, sends_in, NetworkStep, Passes}
+use Rattle.network.specs.Laws.{Line, NetworkRun, Shows, IsQuiet, Follows, IsRunOf, NetworkIsRun, NetworkHeadline}
 use Rattle.network.proofs.Asked.{AsksTcp, quiet, asks, step_asks}
 use Rattle.network.proofs.Brought.{IsAskOf, reached_serves}
-use Rattle.network.proofs.Follows.{IsQuiet, Mirrors, Follows, shown_out, reached_client, lines_right}
+use Rattle.network.proofs.Follows.{lines_right}
 
 -- ---- asks that went out
 
@@ -166,7 +166,7 @@ module _ (W : World) (w : IsWorld W) (site : Site) (l : Line) (past : List Line)
     world = h.world ∙ so.world;
     honest = (honest, so.honest);
     sends = sends_on old new so.run t so.sends h.sends (step_asks old.resolver h.brought h.served h.actions new.resolver h.step);
-    follows = inr (t, so.run, refl, mirrors, so.follows);
+    follows = inr (t, so.run, refl, record { old = old; new = new.resolver; reaches = h.reaches; step = h.step; out = h.out_is }, so.follows);
   }
     where
       t : Turn
@@ -175,14 +175,6 @@ module _ (W : World) (w : IsWorld W) (site : Site) (l : Line) (past : List Line)
       honest : (k : ℕ) (a : Asking) (m : _) → Accepts site.port k a m t so.run → MayServe W (a.server).0 a.name a.kind m
       honest k a m accepts = subst (λ (V : World). MayServe V (a.server).0 a.name a.kind m) so.world
           (reached_serves old (subst IsWorld (sym so.world) w) site.port a m l.event h.brought (ask_of old so.run site.port k a so.sends accepts.ask) h.reaches accepts.brings)
-
-      mirrors : Mirrors l t
-      mirrors = record {
-        replies = λ client way bytes c m. shown_out (length old.sends) h.actions client way bytes c (subst (λ (o : Option (List NetworkAction)). Shows o (Reply client way bytes c)) h.out_is m);
-        clients = λ now client way bytes e. reached_client old now client way bytes l.event (subst (λ (b : resolver.Event). Reaches old l.event (Some b)) e h.reaches);
-        brought = λ now client way bytes e. let is = subst (λ (x : NetworkEvent). Reaches old x (Some h.brought)) e h.reaches in cc;
-        step = (old.resolver, new.resolver, h.step);
-      }
 
   goes_on : NetworkStep old l.event l.out new → Along W site (l ∷ past) new
   goes_on (inl (none, out, same)) = stands_still same (λ client way bytes c m. none_in _ (subst (λ (o : Option (List NetworkAction)). Shows o (Reply client way bytes c)) out m))
@@ -204,7 +196,10 @@ along W site [] s w fresh = record {
 }
 along W site (l ∷ past) s w (old, legal, step) = goes_on W w site l past old s (along W site past old w legal) step
 
-pub every_reply_is_right : NetworkHeadline
-every_reply_is_right W site lines s w ours legal =
+pub every_network_is_run : NetworkIsRun
+every_network_is_run W site lines s w ours legal =
     let so = along W site lines s w legal in
-    lines_right W lines so.run so.follows (sound_run W site so.run s.resolver w ours so.legal so.honest).1
+    record { run = so.run; legal = so.legal; follows = so.follows; honest = so.honest; right = (sound_run W site so.run s.resolver w ours so.legal so.honest).1 }
+
+pub every_reply_is_right : NetworkHeadline
+every_reply_is_right W site lines s w ours legal = let is : IsRunOf W site lines s = every_network_is_run W site lines s w ours legal in lines_right W lines is.run is.follows is.right

@@ -1,5 +1,5 @@
 -- Lines of a network and the steps of its resolver.
-use Rattle.std.proofs.Common.{◌≡◌, ℕ, ◌+◌, ◌⊎◌, inl, inr, ⊎_elim, true, Option, Some, None, List, [], ◌∷◌, refl, sym, subst, ◌∙◌}
+use Rattle.std.proofs.Common.{◌≡◌, ℕ, ◌+◌, ◌⊎◌, inl, inr, ⊎_elim, true, Option, Some, None, List, [], ◌∷◌, length, refl, sym, subst, ◌∙◌}
 use Rattle.std.specs.Prelude.{Contains}
 use Rattle.zone.proofs.LawLists.{none_in, first_in, later_in, in_cases}
 use Rattle.rdata.specs.Types.{type_number}
@@ -16,24 +16,16 @@ use Rattle.runs.specs.Replies.{IsServedFor, Refuses}
 use Rattle.laws.specs.Headline.{IsRightAnswer}
 use Rattle.laws.specs.Headline as theorem
 use Rattle.laws.proofs.Actions.{own_not_query}
-use Rattle.network.specs.Networks.{Sent, Network, sent_at, NetworkEvent, Client, Carry, CarryTruncated, CarryTcp, Lose, Tick, Reply, WasSent, WasAsked, MoreDue, IsTruncatedReply, IsFitReply, IsDatagram, IsStream, OverUdp, OverTcp, lost, OfSend, Reaches, numbered, shown}
-use Rattle.network.specs.Laws.{Line, Throughout, Shows, BringsOf, IsOfNoClient, IsTo, IsAnswered, IsRefused, RepliesAreRight}
+use Rattle.network.specs.Networks.{Sent, Network, sent_at, NetworkAction, NetworkEvent, Client, Carry, CarryTruncated, CarryTcp, Lose, Tick, Reply, WasSent, WasAsked, MoreDue, IsTruncatedReply, IsFitReply, IsDatagram, IsStream, OverUdp, OverTcp, lost, OfSend, Reaches, numbered, shown}
+use Rattle.network.specs.Laws.{Line, Throughout, Shows, BringsOf, IsOfNoClient, IsTo, IsAnswered, IsRefused, RepliesAreRight, IsQuiet, Mirrors, Follows}
 use Rattle.network.proofs.Owned.{IsStepOf, reply_is_own, open_is_recursive}
 
--- A line without replies, and one that shows what a step of the resolver does: no other replies, and that
--- step's client, if there is one.
-abbrev pub IsQuiet : Line → Type 0
-IsQuiet l = (client : ℕ) (way : Via) (bytes : List ℕ) (c : Option Cause) → Shows l.out (Reply client way bytes c) → ⊥
-
-pub record Mirrors (l : Line) (t : Turn) : Type 0 where
+-- What a line tells of the step that it mirrors: no other replies, and that step's client, if there is one.
+record Tells (l : Line) (t : Turn) : Type 0 where
   pub replies : (client : ℕ) (way : Via) (bytes : List ℕ) (c : Option Cause) → Shows l.out (Reply client way bytes c) → GivesOut t.out (resolver.Reply client way bytes c)
   pub clients : (now client : ℕ) (way : Via) (bytes : List ℕ) → t.event ≡ resolver.Client now client way bytes → l.event ≡ Client now client way bytes
   pub brought : (now client : ℕ) (way : Via) (bytes : List ℕ) → l.event ≡ Client now client way bytes → t.event ≡ resolver.Client now client way bytes
   pub step : IsStepOf t
-
-abbrev pub Follows : List Line → List Turn → Type 0
-Follows [] run = run ≡ []
-Follows (l ∷ past) run = (IsQuiet l × Follows past run) ⊎ ((t : Turn) × (before : List Turn) × (run ≡ t ∷ before) × Mirrors l t × Follows past before)
 
 -- ---- what is shown, and what reaches the resolver
 
@@ -51,7 +43,7 @@ shown_reply n (resolver.Send sock to bs ∷ out) client way bytes c m = ⊎_elim
 shown_reply n (resolver.TcpAsk number to bs ∷ out) client way bytes c m = ⊎_elim (λ e. absurd (cc)) (λ more. later_in (resolver.TcpAsk number to bs) _ out (shown_reply (n + 1) out client way bytes c more)) (in_cases (WasAsked (n + 1)) _ (numbered (n + 1) out) m)
 shown_reply n (resolver.MoreDue ∷ out) client way bytes c m = ⊎_elim (λ e. absurd (cc)) (λ more. later_in resolver.MoreDue _ out (shown_reply n out client way bytes c more)) (in_cases MoreDue _ (numbered n out) m)
 
-pub shown_out : (n : ℕ) (out : Option (List resolver.Action)) (client : ℕ) (way : Via) (bytes : List ℕ) (c : Option Cause) → Shows (shown n out) (Reply client way bytes c)
+shown_out : (n : ℕ) (out : Option (List resolver.Action)) (client : ℕ) (way : Via) (bytes : List ℕ) (c : Option Cause) → Shows (shown n out) (Reply client way bytes c)
     → GivesOut out (resolver.Reply client way bytes c)
 shown_out n None client way bytes c m = absurd m
 shown_out n (Some out) client way bytes c m = shown_reply n out client way bytes c m
@@ -85,7 +77,7 @@ module _ (s : Network) (now client : ℕ) (way : Via) (bytes : List ℕ) where
   no_send Of None by e = cc
   no_send Of (Some y) by here = by y here
 
-  pub reached_client : (event : NetworkEvent) → Reaches s event Its → event ≡ Client now client way bytes
+  reached_client : (event : NetworkEvent) → Reaches s event Its → event ≡ Client now client way bytes
   reached_client (Client at who by bs) e =
       let a : now ≡ at = cc in let b : client ≡ who = cc in let c : way ≡ by = cc in let d : bytes ≡ bs = cc in λ i. Client (sym a i) (sym b i) (sym c i) (sym d i)
   reached_client (Carry at k) h = absurd (no_send _ (sent_at s.sends k) (λ x. no_udp IsFitReply at x x.path) h)
@@ -94,10 +86,18 @@ module _ (s : Network) (now client : ℕ) (way : Via) (bytes : List ℕ) where
   reached_client (Lose at k) h = absurd (no_send (λ x e. e ≡ lost at x.path) (sent_at s.sends k) (λ x. no_loss at x.path) h)
   reached_client (Tick at) e = absurd (cc)
 
+told : (l : Line) (t : Turn) → Mirrors l t → Tells l t
+told l t h = record {
+  replies = λ client way bytes c m. shown_out (length (h.old).sends) t.out client way bytes c (subst (λ (o : Option (List NetworkAction)). Shows o (Reply client way bytes c)) h.out m);
+  clients = λ now client way bytes e. reached_client h.old now client way bytes l.event (subst (λ (b : resolver.Event). Reaches h.old l.event (Some b)) e h.reaches);
+  brought = λ now client way bytes e. let is = subst (λ (x : NetworkEvent). Reaches h.old x (Some t.event)) e h.reaches in cc;
+  step = ((h.old).resolver, h.new, h.step);
+}
+
 -- ---- replies
 
 -- A query that came in a step came on that step's line; one that stays open is recursive.
-came_on : (l : Line) (t : Turn) (before : List Turn) (served : Served) (who : Asker) → Mirrors l t → Came served who t before → BringsOf l who.client who.way (heard.Query who.query)
+came_on : (l : Line) (t : Turn) (before : List Turn) (served : Served) (who : Asker) → Tells l t → Came served who t before → BringsOf l who.client who.way (heard.Query who.query)
 came_on l t before served who mirrors came = (came.moment, came.bytes, mirrors.clients came.moment who.client who.way came.bytes came.event, came.reads)
 
 abbrev CameOpen : List Line → Asker → Type 0
@@ -110,11 +110,11 @@ earlier_open : (lines : List Line) (run : List Turn) (k : ℕ) (who : Asker) →
 earlier_open [] run k who none h = absurd (subst (Earlier (Came (Query k) who)) none h)
 earlier_open (l ∷ past) run k who (inl (quiet, more)) h = later_open l past who (earlier_open past run k who more h)
 earlier_open (l ∷ past) run k who (inr (t, before, is, mirrors, more)) h = ⊎_elim
-    (λ came. (open_is_recursive t before k who mirrors.step came, (l, first_in l past, came_on l t before (Query k) who mirrors came)))
+    (λ came. let tells : Tells l t = told l t mirrors in (open_is_recursive t before k who tells.step came, (l, first_in l past, came_on l t before (Query k) who tells came)))
     (λ earlier. later_open l past who (earlier_open past before k who more earlier))
     (subst (Earlier (Came (Query k) who)) is h)
 
-module _ (W : World) (l : Line) (past : List Line) (t : Turn) (before : List Turn) (mirrors : Mirrors l t) (more : Follows past before) where
+module _ (W : World) (l : Line) (past : List Line) (t : Turn) (before : List Turn) (mirrors : Tells l t) (more : Follows past before) where
   refused_is : (client : ℕ) (way : Via) (bytes : List ℕ) (c : Option Cause) → Refuses (resolver.Reply client way bytes c) t → IsRefused l client way
   refused_is client way bytes c h =
       let (sent, written, is) = h.reply in
@@ -174,4 +174,4 @@ lines_right W [] run follows right = tt
 lines_right W (l ∷ past) run (inl (quiet, more)) right = (λ client way bytes c shows. absurd (quiet client way bytes c shows), lines_right W past run more right)
 lines_right W (l ∷ past) run (inr (t, before, is, mirrors, more)) right =
     let all = subst (Always (theorem.RepliesAreRight W)) is right in
-    (mirrored_right W l past t before mirrors more all.0, lines_right W past before more all.1)
+    (mirrored_right W l past t before (told l t mirrors) more all.0, lines_right W past before more all.1)

@@ -1,5 +1,5 @@
--- The law that the function of this crate states, and the lists of events that it speaks of.
-use Rattle.std.specs.Prelude.{◌≡◌, ℕ, ◌⊎◌, true, Option, Some, None, List, [], ◌∷◌, Contains}
+-- The laws that the function of this crate states, and the lists of events that they speak of.
+use Rattle.std.specs.Prelude.{◌≡◌, ℕ, ◌⊎◌, true, Option, Some, None, List, [], ◌∷◌, length, Contains}
 use Rattle.rdata.specs.Types.{type_number}
 use Rattle.layout.specs.Messages.{Question}
 use Rattle.causes.specs.declared.cause.Cause.{Cause}
@@ -11,9 +11,12 @@ use Rattle.front.specs.declared.queries.Asked.{Asked}
 use Rattle.front.specs.declared.queries.Asked.TheVariants as heard
 use Rattle.front.specs.declared.queries.Refusal.{Refusal}
 use Rattle.truth.specs.Worlds.{World, IsWorld}
-use Rattle.runs.specs.States.{Plain, recursive, Site, IsNew}
-use Rattle.laws.specs.Headline.{IsHomeIn, IsRightReply}
-use Rattle.network.specs.Networks.{NetworkEvent, Client, Carry, CarryTruncated, CarryTcp, Lose, Tick, NetworkAction, Reply, Network, NetworkStep}
+use Rattle.runs.specs.States.{Plain, recursive, Turn, Site, State, IsNew}
+use Rattle.runs.specs.Steps.{Step}
+use Rattle.runs.specs.Runs.{Run, Always}
+use Rattle.laws.specs.Headline.{IsHonest, IsHomeIn, IsRightReply}
+use Rattle.laws.specs.Headline as resolver
+use Rattle.network.specs.Networks.{NetworkEvent, Client, Carry, CarryTruncated, CarryTcp, Lose, Tick, NetworkAction, Reply, Network, Reaches, shown, NetworkStep}
 
 -- An event and what came out, `None` where memory was wanting.
 pub record Line : Type 0 where
@@ -77,3 +80,37 @@ RepliesAreRight W l past = (client : ℕ) (way : Via) (bytes : List ℕ) (c : Op
 abbrev pub NetworkHeadline : Type 0
 NetworkHeadline = (W : World) (site : Site) (lines : List Line) (s : Network) → IsWorld W → IsHomeIn W site.home → NetworkRun W site lines s
     → Throughout (RepliesAreRight W) lines
+
+-- ---- the same by the steps of the resolver
+
+-- No reply goes out on this line.
+abbrev pub IsQuiet : Line → Type 0
+IsQuiet l = (client : ℕ) (way : Via) (bytes : List ℕ) (c : Option Cause) → Shows l.out (Reply client way bytes c) → ⊥
+
+-- The line is this step of the resolver: its event reaches the resolver as the step's, and all that the step does
+-- comes out.
+pub record Mirrors (l : Line) (t : Turn) : Type 0 where
+  pub old : Network
+  pub new : State
+  pub reaches : Reaches old l.event (Some t.event)
+  pub step : Step (old.resolver) t.event t.served t.out new
+  pub out : l.out ≡ shown (length old.sends) t.out
+
+-- These are the resolver's steps on these lines, in their order; a line without a step is quiet.
+abbrev pub Follows : List Line → List Turn → Type 0
+Follows [] run = run ≡ []
+Follows (l ∷ past) run = (IsQuiet l × Follows past run) ⊎ ((t : Turn) × (before : List Turn) × (run ≡ t ∷ before) × Mirrors l t × Follows past before)
+
+-- The lines are a run of the resolver, in which every message that it accepts is one that the asked server may
+-- send, and each reply is to the very query that its step serves.
+pub record IsRunOf (W : World) (site : Site) (lines : List Line) (s : Network) : Type 0 where
+  pub run : List Turn
+  pub legal : Run site run s.resolver
+  pub follows : Follows lines run
+  pub honest : IsHonest W site.port run
+  pub right : Always (resolver.RepliesAreRight W) run
+
+-- So is every list of events.
+abbrev pub NetworkIsRun : Type 0
+NetworkIsRun = (W : World) (site : Site) (lines : List Line) (s : Network) → IsWorld W → IsHomeIn W site.home → NetworkRun W site lines s
+    → IsRunOf W site lines s

@@ -5,8 +5,8 @@ use Rattle.truth.specs.Worlds.{World}
 use Rattle.runs.specs.States as resolver
 use Rattle.engine.specs.Promises.{Steps}
 use Rattle.network.specs.Networks.{Sent, Network, NetworkEvent, NetworkAction, Reaches, NetworkStep, numbered, sends_among, sends_in, shown}
-use Rattle.network.specs.Laws.{NetworkHeadline}
-use Rattle.simnet.specs.Promises.{StaysRight}
+use Rattle.network.specs.Laws.{NetworkHeadline, NetworkIsRun}
+use Rattle.simnet.specs.Promises.{StaysRight, StaysRun}
 
 at_err : {T E P : Type 0} (r : Result T E) → P → OnErr r P
 at_err (Ok x) h = tt
@@ -77,3 +77,7 @@ is_starved r old event = at_err r (inr (inl (refl, refl)))
 module _ (law : NetworkHeadline) (s : Network) (event : NetworkEvent) (out : Option (List NetworkAction)) (new : Network) where
   pub stays_right : NetworkStep s event out new → StaysRight s event out
   stays_right step W site past w home run = law W site (record { event = event; out = out } ∷ past) new w home (s, run, step)
+
+module _ (law : NetworkIsRun) (s : Network) (event : NetworkEvent) (out : Option (List NetworkAction)) (new : Network) where
+  pub stays_run : NetworkStep s event out new → StaysRun s event out new
+  stays_run step W site past w home run = law W site (record { event = event; out = out } ∷ past) new w home (s, run, step)

@@ -3,7 +3,7 @@ ghost use Rattle.std.specs.Prelude.{◌≡◌, Some, None, IfOk, OnErr, MatchRes
 ghost use Rattle.network.specs.Networks.{NetworkEvent, Carry, CarryTruncated, CarryTcp, Lose, sent_at, Reaches, NetworkStep};
 ghost use Rattle.exchange.specs.Views.{event_view};
 ghost use Rattle.simnet.specs.Beginnings.{IsNetworkOf, SimRefuses};
-ghost use Rattle.simnet.specs.Promises.{StaysRight};
+ghost use Rattle.simnet.specs.Promises.{StaysRight, StaysRun};
 ghost use Rattle.simnet.specs.Views.{sim_event_view};
 
 use crate::action::SimActions;
@@ -155,11 +155,12 @@ impl<A: Heap> Sim<A> {
     /// One step. An event that reaches nobody changes nothing: the reply to an ask that never went out, or went
     /// out the other way. Where memory is wanting before the resolver's step nothing changes; where it is wanting
     /// in that step nothing goes out, and the query that the event was for is gone. Each reply is right, whatever
-    /// led here (`network::network_law`).
+    /// led here, and is to the query that the resolver's step serves (`network::network_law`).
     pub fn step(&mut self, event: SimEvent<A>) -> Result<SimActions<A>, Starved>
         ensures ok { IfOk result (λ a. NetworkStep self.old (sim_event_view event) (Some a) self.new) }
         ensures err { OnErr result (NetworkStep self.old (sim_event_view event) None self.new) }
         ensures right { IfOk result (λ a. StaysRight self.old (sim_event_view event) (Some a)) }
+        ensures run { IfOk result (λ a. StaysRun self.old (sim_event_view event) (Some a) self.new) }
     {
         network_law();
         match self.reached(event)? {

@@ -8,7 +8,7 @@ returns-clause-run g c = IfOk-weaker c.run_all.result _ _ (λ x r. begun_as _ _ 
 
 pub returns-clause-right : goal.returns-clause-right
 returns-clause-right g c =
-    IfOk-weaker c.run_all.result _ _ (λ x r. right c.args.start _ _ _ c.network_law.ensures c.requires.fresh (begun_as _ _ _ _ _ _ _ _ c.requires.begins.1 r)) c.run_all.ensures
+    IfOk-weaker c.run_all.result _ _ (λ x r. right c.args.start _ _ _ c.network_law.ensures.right c.requires.fresh (begun_as _ _ _ _ _ _ _ _ c.requires.begins.1 r)) c.run_all.ensures
 
 pub returns-clause-numbers : goal.returns-clause-numbers
 returns-clause-numbers g c =
