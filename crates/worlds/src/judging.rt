@@ -1,12 +1,11 @@
 //! Right replies, told from wrong ones.
 ghost use Rattle.std.specs.Prelude.{◌≡◌, ◌↔◌, ◌&&◌, nat_eq, ℕ, List, IfOk, IsTrue, MatchOption, not};
-ghost use Rattle.std.specs.List.{list_any};
 ghost use Rattle.rdata.specs.Data.{Cname};
 ghost use Rattle.zone.specs.Links.{Alias};
 ghost use Rattle.rdata.specs.Types.{type_number};
 ghost use Rattle.truth.specs.Truths.{IsTrueLink};
 ghost use Rattle.truth.specs.Replies.{IsRight};
-ghost use Rattle.worlds.specs.Judging.{IsRest, IsRightMessage, is_reply_to, is_asked, is_empty, is_same, has, lacks_some, once, is_set, is_only, is_none};
+ghost use Rattle.worlds.specs.Judging.{IsRest, IsRightMessage, is_reply_to, is_empty, is_same, has, lacks_some, once, is_set, is_only, is_none};
 
 use crate::world::World;
 use authority::Link;
@@ -14,7 +13,7 @@ use dname::{Heap, Name, Starved};
 use front::MOST_ALIASES;
 use rdata::{INTERNET, RData, RType, Record, RecordSet};
 use std::alloc::Allocator;
-use wire::{Message, Question, WireError, decode};
+use wire::{Message, WireError, decode};
 
 // Whether both are one record but for the TTL.
 fn is_same<A: Allocator>(one: &Record<A>, other: &Record<A>) -> bool
@@ -66,12 +65,6 @@ fn is_only<A: Allocator>(records: &[Record<A>], soa: &Record<A>) -> bool
     }
 }
 
-fn is_none<A: Allocator>(records: &[Record<A>]) -> bool
-    ensures { result ≡ is_none records.now }
-{
-    records.is_empty()
-}
-
 // Whether a reply ends with that set.
 fn is_found<A: Heap>(
     set: &RecordSet<A>,
@@ -82,7 +75,7 @@ fn is_found<A: Heap>(
     ensures { IfOk result (λ b. b ≡ (is_set answer.now set.now && nat_eq rcode 0 && is_none authority.now)) }
 {
     let records = set.to_records(set.owner.allocator())?;
-    Ok(is_set(answer, records.as_slice()) && rcode == 0 && is_none(authority))
+    Ok(is_set(answer, records.as_slice()) && rcode == 0 && authority.is_empty())
 }
 
 // Whether a reply ends with that denial and RCODE.
@@ -95,7 +88,7 @@ fn is_denied<A: Allocator>(
 ) -> bool
     ensures { result ≡ (is_none answer.now && nat_eq rcode denial && is_only soa.now authority.now) }
 {
-    is_none(answer) && rcode == denial && is_only(authority, soa)
+    answer.is_empty() && rcode == denial && is_only(authority, soa)
 }
 
 // The name that a record is an alias of.
@@ -163,25 +156,20 @@ fn is_rest<A: Heap>(
 fn is_reply_to<A: Allocator>(reply: &Message<A>, name: &Name<A>, kind: RType) -> bool
     ensures { result ≡ is_reply_to name.now (type_number kind) reply.now }
 {
-    reply.header.qr && is_asked(reply.questions.as_slice(), name, kind)
-}
-
-fn is_asked<A: Allocator>(questions: &[Question<A>], name: &Name<A>, kind: RType) -> bool
-    ensures { result ≡ is_asked name.now (type_number kind) questions.now }
-{
-    match questions {
-        [only] => only.name == *name && only.qtype == kind.number() && only.qclass == INTERNET,
-        _ => false,
-    }
+    let [only] = reply.questions.as_slice() else {
+        return false;
+    };
+    reply.header.qr
+        && only.name == *name
+        && only.qtype == kind.number()
+        && only.qclass == INTERNET
 }
 
 // Whether the message has no records.
 fn is_empty<A: Allocator>(reply: &Message<A>) -> bool
     ensures { result ≡ is_empty reply.now }
 {
-    is_none(reply.answer.as_slice())
-        && is_none(reply.authority.as_slice())
-        && is_none(reply.additional.as_slice())
+    reply.answer.is_empty() && reply.authority.is_empty() && reply.additional.is_empty()
 }
 
 // Whether the message is truncated: TC is set.
@@ -195,7 +183,7 @@ fn is_truncated<A: Allocator>(reply: &Message<A>) -> bool
 fn has_additional<A: Allocator>(reply: &Message<A>) -> bool
     ensures { result ≡ not (is_none reply.now.additional) }
 {
-    !is_none(reply.additional.as_slice())
+    !reply.additional.is_empty()
 }
 
 fn rcode<A: Allocator>(reply: &Message<A>) -> u8
@@ -216,7 +204,8 @@ fn authority<A: Allocator>(reply: &Message<A>) -> &[Record<A>]
     reply.authority.as_slice()
 }
 
-// Whether the message is the right reply to the question: cut, or whole.
+// Whether the message is the right reply to the question: truncated and without records, or with all of the
+// answer and nothing in additional.
 fn is_right<A: Heap>(
     world: &World<A>,
     name: &Name<A>,

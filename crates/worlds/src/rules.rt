@@ -1,7 +1,7 @@
 //! Rules of a world about its zones, and who serves them.
 ghost use Rattle.std.specs.Prelude.{◌≡◌, ◌&&◌, not};
 ghost use Rattle.std.specs.List.{list_any};
-ghost use Rattle.dname.specs.Labels.{root, same_name};
+ghost use Rattle.dname.specs.Labels.{root};
 ghost use Rattle.zone.specs.Zones.{ns_type};
 ghost use Rattle.zone.specs.Look.{is_type, is_owned, owns};
 ghost use Rattle.worlds.specs.Rules.{has_name, has_origin, makes_cut, is_loose, has_loose_cut, has_loose_cuts, is_above, is_between, delegates, is_placed, has_undelegated};
@@ -17,17 +17,11 @@ pub fn has_name<A: Allocator>(names: &[Name<A>], name: &Name<A>) -> bool
     names.iter().any(|own| *own == *name)
 }
 
-fn is_at<A: Allocator>(zone: &Zone<A>, name: &Name<A>) -> bool
-    ensures { result ≡ same_name zone.now.origin name.now }
-{
-    *zone.origin() == *name
-}
-
 // Whether a zone has that origin.
 pub fn has_origin<A: Allocator>(zones: &[Zone<A>], name: &Name<A>) -> bool
     ensures { result ≡ has_origin name.now zones.now }
 {
-    zones.iter().any(|zone| is_at(zone, name))
+    zones.iter().any(|zone| *zone.origin() == *name)
 }
 
 fn is_server<A: Allocator>(rr: &Record<A>) -> bool
@@ -37,7 +31,7 @@ fn is_server<A: Allocator>(rr: &Record<A>) -> bool
 }
 
 // Whether the record makes a cut in the zone of that origin.
-pub fn makes_cut<A: Allocator>(rr: &Record<A>, origin: &Name<A>) -> bool
+fn makes_cut<A: Allocator>(rr: &Record<A>, origin: &Name<A>) -> bool
     ensures { result ≡ makes_cut origin.now rr.now }
 {
     is_server(rr) && rr.owner != *origin

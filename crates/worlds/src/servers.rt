@@ -1,15 +1,15 @@
 //! Rules of a world about its servers and hints.
-ghost use Rattle.std.specs.Prelude.{◌≡◌, ◌||◌, IfOk, not};
+ghost use Rattle.std.specs.Prelude.{◌≡◌, ◌||◌, IfOk};
 ghost use Rattle.std.specs.List.{list_any};
 ghost use Rattle.dname.specs.Labels.{root};
 ghost use Rattle.rdata.specs.Kept.{datum};
 ghost use Rattle.zone.specs.Zones.{a_type};
 ghost use Rattle.authority.specs.Catalogs.{looked};
-ghost use Rattle.authority.specs.Answers.{link_view, local_view};
+ghost use Rattle.authority.specs.Answers.{local_view};
 ghost use Rattle.worlds.specs.Kept.{addresses};
-ghost use Rattle.worlds.specs.Rules.{has_origin, serves_at, serves, is_missed, some_missed, is_missed_at, zone_misses, link_misses, look_misses, target_misses, is_lame, has_lame_cut, has_lame_cuts, serves_nothing, has_idle_host, has_bad_hint, lacks_start};
+ghost use Rattle.worlds.specs.Rules.{serves, is_missed, some_missed, is_missed_at, zone_misses, look_misses, is_lame, has_lame_cut, has_lame_cuts, serves_nothing, has_idle_host, has_bad_hint, lacks_start};
 
-use crate::rules::{has_name, has_origin, makes_cut};
+use crate::rules::{has_name, has_origin};
 use crate::world::Host;
 use authority::{Catalog, Link, Local};
 use dname::{Heap, Name, Starved};
@@ -17,17 +17,13 @@ use rdata::{Addr, RData, RType, Record, RecordSet};
 use std::alloc::Allocator;
 use zone::Zone;
 
-fn serves_at<A: Allocator>(host: &Host<A>, address: Addr, origin: &Name<A>) -> bool
-    ensures { result ≡ serves_at address.0 origin.now host.now }
-{
-    host.address.0 == address.0 && has_name(&host.origins, origin)
-}
-
 // Whether the server at that address serves the zone of that origin.
 pub fn serves<A: Allocator>(hosts: &[Host<A>], address: Addr, origin: &Name<A>) -> bool
     ensures { result ≡ serves address.0 origin.now hosts.now }
 {
-    hosts.iter().any(|host| serves_at(host, address, origin))
+    hosts
+        .iter()
+        .any(|host| host.address.0 == address.0 && has_name(&host.origins, origin))
 }
 
 // Whether the data is an address that does not serve the cut.
@@ -40,20 +36,15 @@ fn is_missed<A: Allocator>(value: &RData<A>, cut: &Name<A>, hosts: &[Host<A>]) -
     }
 }
 
-fn record_misses<A: Allocator>(rr: &Record<A>, cut: &Name<A>, hosts: &[Host<A>]) -> bool
-    ensures { result ≡ is_missed hosts.now cut.now rr.now.value }
-{
-    is_missed(&rr.value, cut, hosts)
-}
-
 fn some_missed<A: Allocator>(records: &[Record<A>], cut: &Name<A>, hosts: &[Host<A>]) -> bool
     ensures { result ≡ some_missed hosts.now cut.now records.now }
 {
     records
         .iter()
-        .any(|record| record_misses(record, cut, hosts))
+        .any(|record| is_missed(&record.value, cut, hosts))
 }
 
+// Whether the record is an address of the name that does not serve the cut.
 fn is_missed_at<A: Allocator>(
     rr: &Record<A>,
     name: &Name<A>,
@@ -62,22 +53,10 @@ fn is_missed_at<A: Allocator>(
 ) -> bool
     ensures { result ≡ is_missed_at hosts.now cut.now name.now rr.now }
 {
-    rr.owner == *name && record_misses(rr, cut, hosts)
+    rr.owner == *name && is_missed(&rr.value, cut, hosts)
 }
 
-fn some_missed_at<A: Allocator>(
-    records: &[Record<A>],
-    name: &Name<A>,
-    cut: &Name<A>,
-    hosts: &[Host<A>],
-) -> bool
-    ensures { result ≡ list_any (is_missed_at hosts.now cut.now name.now) records.now }
-{
-    records
-        .iter()
-        .any(|record| is_missed_at(record, name, cut, hosts))
-}
-
+// Whether the zone has an address of the name that does not serve the cut.
 fn zone_misses<A: Allocator>(
     zone: &Zone<A>,
     name: &Name<A>,
@@ -86,7 +65,9 @@ fn zone_misses<A: Allocator>(
 ) -> bool
     ensures { result ≡ zone_misses hosts.now cut.now name.now zone.now }
 {
-    some_missed_at(zone.records(), name, cut, hosts)
+    zone.records()
+        .iter()
+        .any(|record| is_missed_at(record, name, cut, hosts))
 }
 
 // Whether a zone has an address of the name that does not serve the cut.
@@ -101,6 +82,20 @@ fn some_zone_misses<A: Allocator>(
     zones.iter().any(|zone| zone_misses(zone, name, cut, hosts))
 }
 
+// Whether what was looked up is a set with an address that does not serve the cut.
+fn found_misses<A: Heap>(
+    found: &Local<A>,
+    cut: &Name<A>,
+    hosts: &[Host<A>],
+) -> Result<bool, Starved>
+    ensures { IfOk result (λ b. b ≡ look_misses hosts.now cut.now (local_view found.now)) }
+{
+    match found {
+        Local::Link(Link::Found(set)) => Ok(set_misses(set, cut, hosts)?),
+        _ => Ok(false),
+    }
+}
+
 fn set_misses<A: Heap>(
     set: &RecordSet<A>,
     cut: &Name<A>,
@@ -110,31 +105,6 @@ fn set_misses<A: Heap>(
 {
     let records = set.to_records(cut.allocator())?;
     Ok(some_missed(records.as_slice(), cut, hosts))
-}
-
-fn link_misses<A: Heap>(link: &Link<A>, cut: &Name<A>, hosts: &[Host<A>]) -> Result<bool, Starved>
-    ensures { IfOk result (λ b. b ≡ link_misses hosts.now cut.now (link_view link.now)) }
-{
-    match link {
-        Link::Found(set) => Ok(set_misses(set, cut, hosts)?),
-        Link::Alias(_) => Ok(false),
-        Link::NoData(_) => Ok(false),
-        Link::NxDomain(_) => Ok(false),
-    }
-}
-
-fn local_misses<A: Heap>(
-    local: &Local<A>,
-    cut: &Name<A>,
-    hosts: &[Host<A>],
-) -> Result<bool, Starved>
-    ensures { IfOk result (λ b. b ≡ look_misses hosts.now cut.now (local_view local.now)) }
-{
-    match local {
-        Local::Link(link) => Ok(link_misses(link, cut, hosts)?),
-        Local::Cut(_, _, _) => Ok(false),
-        Local::NotHere => Ok(false),
-    }
 }
 
 // Whether the look-up finds an address of the name that does not serve the cut.
@@ -147,9 +117,10 @@ fn look_misses<A: Heap>(
     ensures { IfOk result (λ b. b ≡ look_misses hosts.now cut.now (looked catalog.now name.now a_type)) }
 {
     let found = catalog.look(name.allocator(), name, RType::A)?;
-    Ok(local_misses(&found, cut, hosts)?)
+    Ok(found_misses(&found, cut, hosts)?)
 }
 
+// Whether a zone has, or the look-up finds, an address of the name that does not serve the cut.
 fn name_misses<A: Heap>(
     catalog: &Catalog<A>,
     name: &Name<A>,
@@ -164,20 +135,6 @@ fn name_misses<A: Heap>(
     Ok(look_misses(catalog, name, cut, hosts)?)
 }
 
-fn target_misses<A: Heap>(
-    catalog: &Catalog<A>,
-    value: &RData<A>,
-    cut: &Name<A>,
-    hosts: &[Host<A>],
-) -> Result<bool, Starved>
-    ensures { IfOk result (λ b. b ≡ target_misses catalog.now hosts.now cut.now (datum value.now)) }
-{
-    match value {
-        RData::Ns(name) => Ok(name_misses(catalog, name, cut, hosts)?),
-        _ => Ok(false),
-    }
-}
-
 // Whether the record names a server of a cut that does not serve it.
 fn is_lame<A: Heap>(
     catalog: &Catalog<A>,
@@ -187,26 +144,10 @@ fn is_lame<A: Heap>(
 ) -> Result<bool, Starved>
     ensures { IfOk result (λ b. b ≡ is_lame catalog.now hosts.now origin.now rr.now) }
 {
-    if !makes_cut(rr, origin) {
-        return Ok(false);
+    match &rr.value {
+        RData::Ns(name) if rr.owner != *origin => Ok(name_misses(catalog, name, &rr.owner, hosts)?),
+        _ => Ok(false),
     }
-    Ok(target_misses(catalog, &rr.value, &rr.owner, hosts)?)
-}
-
-fn some_is_lame<A: Heap>(
-    catalog: &Catalog<A>,
-    records: &[Record<A>],
-    origin: &Name<A>,
-    hosts: &[Host<A>],
-) -> Result<bool, Starved>
-    ensures { IfOk result (λ b. b ≡ list_any (is_lame catalog.now hosts.now origin.now) records.now) }
-{
-    for record in records {
-        if is_lame(catalog, record, origin, hosts)? {
-            return Ok(true);
-        }
-    }
-    Ok(false)
 }
 
 fn has_lame_cut<A: Heap>(
@@ -216,7 +157,12 @@ fn has_lame_cut<A: Heap>(
 ) -> Result<bool, Starved>
     ensures { IfOk result (λ b. b ≡ has_lame_cut catalog.now hosts.now zone.now) }
 {
-    Ok(some_is_lame(catalog, zone.records(), zone.origin(), hosts)?)
+    for record in zone.records() {
+        if is_lame(catalog, record, zone.origin(), hosts)? {
+            return Ok(true);
+        }
+    }
+    Ok(false)
 }
 
 // Whether a server of a cut of one of the zones does not serve it.
@@ -235,16 +181,13 @@ pub fn has_lame_cuts<A: Heap>(
     Ok(false)
 }
 
-fn some_is_nowhere<A: Allocator>(origins: &[Name<A>], zones: &[Zone<A>]) -> bool
-    ensures { result ≡ list_any (λ o. not (has_origin o zones.now)) origins.now }
-{
-    origins.iter().any(|origin| !has_origin(zones, origin))
-}
-
+// Whether the server names an origin without a zone.
 fn serves_nothing<A: Allocator>(host: &Host<A>, zones: &[Zone<A>]) -> bool
     ensures { result ≡ serves_nothing zones.now host.now }
 {
-    some_is_nowhere(&host.origins, zones)
+    host.origins
+        .iter()
+        .any(|origin| !has_origin(zones, origin))
 }
 
 // Whether a server names an origin without a zone.
