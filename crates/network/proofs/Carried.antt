@@ -12,7 +12,7 @@ use Rattle.laws.specs.Headline.{IsHonest}
 use Rattle.laws.proofs.Every.{sound_run}
 use Rattle.laws.proofs.RightLists.{both_cases, front_in}
 use Rattle.network.specs.Networks.{Sent, Network, NetworkEvent, NetworkAction, Reply, sent_at, sends_among, sends_in, NetworkStep, Passes}
-use Rattle.network.specs.Laws.{Line, NetworkRun, Shows, IsQuiet, Follows, IsRunOf, NetworkIsRun, NetworkHeadline}
+use Rattle.network.specs.Laws.{Line, NetworkRun, Shows, IsQuiet, Follows, IsResolverRun, NetworkIsRun, NetworkHeadline}
 use Rattle.network.proofs.Asked.{AsksTcp, quiet, asks, step_asks}
 use Rattle.network.proofs.Brought.{IsAskOf, reached_serves}
 use Rattle.network.proofs.Follows.{lines_right}
@@ -202,4 +202,4 @@ every_network_is_run W site lines s w ours legal =
     record { run = so.run; legal = so.legal; follows = so.follows; honest = so.honest; right = (sound_run W site so.run s.resolver w ours so.legal so.honest).1 }
 
 pub every_reply_is_right : NetworkHeadline
-every_reply_is_right W site lines s w ours legal = let is : IsRunOf W site lines s = every_network_is_run W site lines s w ours legal in lines_right W lines is.run is.follows is.right
+every_reply_is_right W site lines s w ours legal = let is : IsResolverRun W site lines s = every_network_is_run W site lines s w ours legal in lines_right W lines is.run is.follows is.right

@@ -103,7 +103,7 @@ Follows (l ∷ past) run = (IsQuiet l × Follows past run) ⊎ ((t : Turn) × (b
 
 -- The lines are a run of the resolver, in which every message that it accepts is one that the asked server may
 -- send, and each reply is to the very query that its step serves.
-pub record IsRunOf (W : World) (site : Site) (lines : List Line) (s : Network) : Type 0 where
+pub record IsResolverRun (W : World) (site : Site) (lines : List Line) (s : Network) : Type 0 where
   pub run : List Turn
   pub legal : Run site run s.resolver
   pub follows : Follows lines run
@@ -113,4 +113,4 @@ pub record IsRunOf (W : World) (site : Site) (lines : List Line) (s : Network) :
 -- So is every list of events.
 abbrev pub NetworkIsRun : Type 0
 NetworkIsRun = (W : World) (site : Site) (lines : List Line) (s : Network) → IsWorld W → IsHomeIn W site.home → NetworkRun W site lines s
-    → IsRunOf W site lines s
+    → IsResolverRun W site lines s

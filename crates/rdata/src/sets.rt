@@ -64,10 +64,7 @@ fn values_at<A: Heap>(
 ) -> Result<Vec<RData<A>, A>, Starved>
     ensures { IfOk result (λ v. (t : ℕ) → rows owner.now t v.items ≡ gathered t (records_at owner.now (type_number kind) records.now)) }
 {
-    let most = records
-        .iter()
-        .filter(|rr| is_at(rr, owner, kind))
-        .count();
+    let most = records.iter().filter(|rr| is_at(rr, owner, kind)).count();
     let mut values = Vec::with_capacity(alloc, most)?;
     let mut later = BTreeSet::new(alloc);
     for rr in records {

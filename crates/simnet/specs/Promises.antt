@@ -5,7 +5,7 @@ use Rattle.truth.specs.Worlds.{World, IsWorld}
 use Rattle.runs.specs.States.{Site}
 use Rattle.laws.specs.Headline.{IsHomeIn}
 use Rattle.network.specs.Networks.{NetworkEvent, NetworkAction, Network, NetworkStep}
-use Rattle.network.specs.Laws.{Line, NetworkRun, Throughout, RepliesAreRight, IsRunOf}
+use Rattle.network.specs.Laws.{Line, NetworkRun, Throughout, RepliesAreRight, IsResolverRun}
 use Rattle.simnet.specs.declared.event.SimEvent.{SimEvent}
 use Rattle.simnet.specs.Views.{sim_event_view}
 
@@ -22,4 +22,4 @@ StaysRight s event out = (W : World) (site : Site) (past : List Line) → IsWorl
 -- And with the line that comes now they are a run of the resolver, which tells what query each reply is to.
 abbrev pub StaysRun : Network → NetworkEvent → Option (List NetworkAction) → Network → Type 0
 StaysRun s event out new = (W : World) (site : Site) (past : List Line) → IsWorld W → IsHomeIn W site.home → NetworkRun W site past s
-    → IsRunOf W site (record { event = event; out = out } ∷ past) new
+    → IsResolverRun W site (record { event = event; out = out } ∷ past) new

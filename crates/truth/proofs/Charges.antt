@@ -6,10 +6,10 @@ use Rattle.zone.specs.Zones.{Zone, At, IsCut, IsUncut, ns_type}
 use Rattle.zone.specs.Ruled.{IsZone}
 use Rattle.zone.proofs.LawLists.{none_in, in_cases, under_length, same_over}
 use Rattle.authority.specs.Catalogs.{IsInCharge}
-use Rattle.truth.specs.Worlds.{World, Parted, IsWorld}
+use Rattle.truth.specs.Worlds.{World, HaveOwnOrigins, IsWorld}
 
 -- One zone has an origin.
-pub one_origin : (zs : List Zone) (y z : Zone) → Parted zs → Contains zs y → Contains zs z → y.origin ≡ z.origin → y ≡ z
+pub one_origin : (zs : List Zone) (y z : Zone) → HaveOwnOrigins zs → Contains zs y → Contains zs z → y.origin ≡ z.origin → y ≡ z
 one_origin [] y z p m n e = absurd (none_in y m)
 one_origin (x ∷ xs) y z p m n e =
     ⊎_elim

@@ -52,16 +52,16 @@ IsAddressOf W n a =
     ⊎ ((z : Zone) × (set : List Record) × (r : Record) × IsInCharge W.zones n z × IsLink z n a_type (Found set) × Contains set r × (r.value ≡ Ipv4 a))
 
 -- No two zones have one origin.
-abbrev pub Parted : List Zone → Type 0
-Parted [] = Unit {0}
-Parted (z ∷ zs) = ((y : Zone) → Contains zs y → y.origin ≢ z.origin) × Parted zs
+abbrev pub HaveOwnOrigins : List Zone → Type 0
+HaveOwnOrigins [] = Unit {0}
+HaveOwnOrigins (z ∷ zs) = ((y : Zone) → Contains zs y → y.origin ≢ z.origin) × HaveOwnOrigins zs
 
 -- A well formed world.
 pub record IsWorld (W : World) : Type 0 where
   -- Each zone keeps the rules of a zone, its origin is a name, and no two have one origin.
   pub zones : (z : Zone) → Contains W.zones z → IsZone z
   pub names : (z : Zone) → Contains W.zones z → IsName z.origin
-  pub parted : Parted W.zones
+  pub parted : HaveOwnOrigins W.zones
   -- There is a zone at the root (RFC 1034, section 3.1).
   pub rooted : IsOrigin W root
   -- What a zone cuts off is a zone (RFC 1034, section 4.2).

@@ -6,7 +6,7 @@ use Rattle.std.proofs.lemmas.List.Elements.{filter_more}
 use Rattle.zone.specs.Zones.{Zone}
 use Rattle.zone.proofs.LawLists.{filter_of, filter_in}
 use Rattle.truth.specs.Frames.{AreHeld}
-use Rattle.truth.specs.Worlds.{World, Parted}
+use Rattle.truth.specs.Worlds.{World, HaveOwnOrigins}
 use Rattle.worlds.specs.Rules.{has_name}
 use Rattle.worlds.proofs.Worlds.{yes_name}
 
@@ -32,10 +32,10 @@ are_held W zs e z = (
 )
 
 -- Some of the zones are as far apart as all.
-parted_with : (p : Zone → Bool) (z : Zone) (zs : List Zone) (b : Bool) → ((y : Zone) → Contains zs y → y.origin ≢ z.origin) → Parted (filter p zs) → Parted (cond b (z ∷ filter p zs) (filter p zs))
+parted_with : (p : Zone → Bool) (z : Zone) (zs : List Zone) (b : Bool) → ((y : Zone) → Contains zs y → y.origin ≢ z.origin) → HaveOwnOrigins (filter p zs) → HaveOwnOrigins (cond b (z ∷ filter p zs) (filter p zs))
 parted_with p z zs true apart rest = (λ y m. apart y ((filter_of p zs y m).0), rest)
 parted_with p z zs false apart rest = rest
 
-pub parted_some : (p : Zone → Bool) (zs : List Zone) → Parted zs → Parted (filter p zs)
+pub parted_some : (p : Zone → Bool) (zs : List Zone) → HaveOwnOrigins zs → HaveOwnOrigins (filter p zs)
 parted_some p [] h = tt
 parted_some p (z ∷ zs) h = parted_with p z zs (p z) h.0 (parted_some p zs h.1)

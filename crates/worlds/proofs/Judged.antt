@@ -6,6 +6,7 @@ use Rattle.std.proofs.lemmas.Bool.{eqb-true, eq-eqb}
 use Rattle.dname.specs.Labels.{Name, IsName}
 use Rattle.rdata.specs.Data.{Datum, Cname, same_data}
 use Rattle.rdata.specs.Records.{Record}
+use Rattle.rdata.specs.Sets.{is_repeat}
 use Rattle.rdata.proofs.Exact.{same_data-exact, same_data-refl}
 use Rattle.zone.specs.Links.{Link, Found, Alias, NoData, NxDomain}
 use Rattle.zone.specs.Same.{Same, Has, SameSet, SameLink}
@@ -19,14 +20,14 @@ use Rattle.truth.proofs.Charges.{charge_uncut}
 use Rattle.truth.proofs.SomeTruth.{some_charge}
 use Rattle.truth.proofs.Sames.{link_itself, link_on, one_same, same_one}
 use Rattle.truth.proofs.OneTruth.{one_true_link, no_alias}
-use Rattle.worlds.specs.Judging.{IsRest, is_same, has, lacks_some, once, is_set, is_only, is_none}
+use Rattle.worlds.specs.Judging.{IsRest, has, lacks_some, once, is_set, is_only, is_none}
 use Rattle.worlds.proofs.Decided.{Yes, fails, yes_and, yes_not, no_not, yes_un, yes_any, no_any, yes_as, yes_same}
 
 -- Tests of records.
 yes_data : (d e : Datum) → Yes (same_data d e) (d ≡ e)
 yes_data d e = record { so = same_data-exact d e; test = λ p. ap (same_data d) (sym p) ∙ same_data-refl d }
 
-pub yes_record : (r s : Record) → Yes (is_same r s) (Same r s)
+pub yes_record : (r s : Record) → Yes (is_repeat r s) (Same r s)
 yes_record r s = yes_and (yes_same r.owner s.owner) (yes_data r.value s.value)
 
 yes_has : (rs : List Record) (r : Record) → Yes (has rs r) (Has rs r)
@@ -252,7 +253,7 @@ others_same : (x y : Record) (xs ys : List Record) → (x ∷ xs) ≡ y ∷ ys �
 others_same x y xs ys e = cc
 
 pub not_same : (W : World) (t : ℕ) (q : Name) (r : Record) (left : ℕ) (answer : List Record) (rcode : ℕ) (authority : List Record) (first : Record) → IsWorld W → IsTrueLink W q t (Alias r)
-    → 1 ≤ length answer → first ≡ get_or answer 0 first → is_same first r ≡ false → IsRest W t q left answer rcode authority → ⊥
+    → 1 ≤ length answer → first ≡ get_or answer 0 first → is_repeat first r ≡ false → IsRest W t q left answer rcode authority → ⊥
 not_same W t q r left answer rcode authority first w link some is differs h =
     let b : Begins W t q w r link left answer rcode authority = begins W t q w r link left answer rcode authority h in
     let e : first ≡ b.first = first_same first b.first (take (length answer - 1) (drop 1 answer)) b.others (sym (head_is answer first some is) ∙ b.is) in
@@ -269,7 +270,7 @@ one_name : (m n : Name) → Cname m ≡ Cname n → m ≡ n
 one_name m n e = cc
 
 pub goes_so : (W : World) (t : ℕ) (q : Name) (r : Record) (left : ℕ) (answer : List Record) (rcode : ℕ) (authority : List Record) (first : Record) (next : Name) (x : Bool) → IsWorld W
-    → IsTrueLink W q t (Alias r) → 1 ≤ length answer → first ≡ get_or answer 0 first → is_same first r ≡ true → first.value ≡ Cname next → left ≢ 0
+    → IsTrueLink W q t (Alias r) → 1 ≤ length answer → first ≡ get_or answer 0 first → is_repeat first r ≡ true → first.value ≡ Cname next → left ≢ 0
     → (IsTrue x → IsRest W t next (left - 1) (take (length answer - 1) (drop 1 answer)) rcode authority) × (IsRest W t next (left - 1) (take (length answer - 1) (drop 1 answer)) rcode authority → IsTrue x)
     → (IsTrue x → IsRest W t q left answer rcode authority) × (IsRest W t q left answer rcode authority → IsTrue x)
 goes_so W t q r left answer rcode authority first next x w link some is same target room rest = (

@@ -2,7 +2,7 @@
 use Rattle.std.proofs.Common.{◌≡◌, true, false}
 use Rattle.dname.specs.Labels.{root}
 use Rattle.authority.specs.Catalogs.{has_twins, AreZones}
-use Rattle.truth.specs.Worlds.{World, Parted, IsOrigin, IsWorld}
+use Rattle.truth.specs.Worlds.{World, HaveOwnOrigins, IsOrigin, IsWorld}
 use Rattle.worlds.specs.Rules.{has_origin, has_loose_cuts, has_undelegated, has_lame_cuts, has_idle_host, has_bad_hint, lacks_start}
 use Rattle.worlds.specs.Refusals.{HasCutZones, IsDelegated, IsServed, IsStarted, IsRefused}
 use Rattle.worlds.specs.declared.fault.WorldError.TheVariants.{NoRoot, LooseCut, Undelegated, Lame, NoStart, Twins}
@@ -39,7 +39,7 @@ pub record Hinted (W : World) : Type 0 where
   pub hinted : has_bad_hint W.hosts W.hints ≡ false
 
 module _ (W : World) where
-  apart_so : Parts W → Parted W.zones
+  apart_so : Parts W → HaveOwnOrigins W.zones
   apart_so p = No.so (parted_is W.zones) p.apart
 
   root_so : Rooted W → IsOrigin W root

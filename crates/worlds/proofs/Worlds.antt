@@ -19,7 +19,7 @@ use Rattle.authority.specs.OneAnswer.{SameLocal}
 use Rattle.authority.proofs.Ascents.{looked_by}
 use Rattle.authority.proofs.Charges.{charge_is, looked_here, looked_nowhere}
 use Rattle.authority.proofs.OneAnswers.{one_answer}
-use Rattle.truth.specs.Worlds.{Address, Host, World, Serves, IsOrigin, IsParent, IsServerName, IsAddressOf, Parted}
+use Rattle.truth.specs.Worlds.{Address, Host, World, Serves, IsOrigin, IsParent, IsServerName, IsAddressOf, HaveOwnOrigins}
 use Rattle.worlds.specs.Rules.{has_name, has_origin, serves, makes_cut, has_loose_cuts, is_above, is_between, delegates, has_undelegated, is_missed, zone_misses, look_misses, target_misses, has_lame_cuts, has_idle_host, has_bad_hint, lacks_start}
 use Rattle.worlds.specs.Refusals.{HasCutZones, IsDelegated}
 use Rattle.worlds.proofs.Decided.{Yes, No, no_not, yes_not, yes_un, no_un, yes_and, no_and, yes_or, no_or, yes_any, no_any, no_as, yes_as, yes_same, yes_under, no_less}
@@ -44,7 +44,7 @@ yes_makes : (o : Name) (r : Record) → Yes (makes_cut o r) ((type_of r.value �
 yes_makes o r = yes_and (yes_type ns_type r) (yes_un (yes_same r.owner o))
 
 -- No two zones of one origin.
-pub parted_is : (zs : List Zone) → No (has_twins zs) (Parted zs)
+pub parted_is : (zs : List Zone) → No (has_twins zs) (HaveOwnOrigins zs)
 parted_is [] = record { so = λ h. tt; test = λ p. refl }
 parted_is (z ∷ zs) = no_or (no_any (λ y. no_un (yes_same y.origin z.origin)) zs) (parted_is zs)
 

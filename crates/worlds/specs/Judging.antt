@@ -2,8 +2,8 @@
 use Rattle.std.specs.Prelude.{◌≡◌, ℕ, ◌≤◌, ◌⊎◌, Bool, true, false, ◌&&◌, not, nat_eq, List, [], ◌∷◌, ◌++◌, length}
 use Rattle.std.specs.List.{list_any}
 use Rattle.dname.specs.Labels.{Name, same_name}
-use Rattle.rdata.specs.Data.{same_data}
 use Rattle.rdata.specs.Records.{Record}
+use Rattle.rdata.specs.Sets.{is_repeat}
 use Rattle.zone.specs.Links.{Link}
 use Rattle.truth.specs.Worlds.{World}
 use Rattle.truth.specs.Truths.{IsTrueLink, IsEnd, Leads}
@@ -23,12 +23,9 @@ pub record IsRest (W : World) (t : ℕ) (q : Name) (left : ℕ) (answer : List R
   pub is : answer ≡ chain ++ rest
   pub ends : Ends last rest rcode authority
 
--- One record but for the TTL; the same records, whatever their order and repeats; each record once.
-abbrev pub is_same : Record → Record → Bool
-is_same r s = same_name r.owner s.owner && same_data r.value s.value
-
+-- The record stands among these, whatever its TTL; the same records, whatever their order and repeats; each once.
 abbrev pub has : List Record → Record → Bool
-has rs r = list_any (λ (s : Record). is_same r s) rs
+has rs r = list_any (λ (s : Record). is_repeat r s) rs
 
 abbrev pub lacks_some : List Record → List Record → Bool
 lacks_some rs ss = list_any (λ (r : Record). not (has rs r)) ss
@@ -43,7 +40,7 @@ is_set rs set = not (lacks_some set rs) && not (lacks_some rs set) && once rs
 -- Nothing but that record.
 abbrev pub is_only : Record → List Record → Bool
 is_only soa [] = false
-is_only soa (s ∷ []) = is_same s soa
+is_only soa (s ∷ []) = is_repeat s soa
 is_only soa (s ∷ u ∷ ss) = false
 
 abbrev pub is_none : List Record → Bool

@@ -3,7 +3,7 @@
 use Rattle.std.specs.Prelude.{◌≡◌, ℕ, ◌⊎◌, List, codes, Contains}
 use Rattle.dname.specs.Labels.{Name, root}
 use Rattle.zone.specs.Zones.{Zone, IsCut}
-use Rattle.truth.specs.Worlds.{Address, World, Serves, IsOrigin, IsParent, IsServerName, IsAddressOf, Parted}
+use Rattle.truth.specs.Worlds.{Address, World, Serves, IsOrigin, IsParent, IsServerName, IsAddressOf, HaveOwnOrigins}
 use Rattle.worlds.specs.declared.fault.WorldError.{WorldError}
 use Rattle.worlds.specs.declared.fault.WorldError.TheVariants.{NoRoot, LooseCut, Undelegated, Lame, NoStart, Memory, Twins}
 
@@ -47,10 +47,10 @@ world_fault_text Twins = codes "two zones have one origin"
 -- A refusal's rule is broken, and those before it hold, in the order 7, 1, 2, 3, 4, 5; want of memory can
 -- come at any time.
 abbrev pub IsRefused : World → WorldError → Type 0
-IsRefused W Twins = Parted W.zones → ⊥
-IsRefused W NoRoot = Parted W.zones × (IsOrigin W root → ⊥)
-IsRefused W LooseCut = Parted W.zones × IsOrigin W root × (HasCutZones W → ⊥)
-IsRefused W Undelegated = Parted W.zones × IsOrigin W root × HasCutZones W × (IsDelegated W → ⊥)
-IsRefused W Lame = Parted W.zones × IsOrigin W root × HasCutZones W × IsDelegated W × (IsServed W → ⊥)
-IsRefused W NoStart = Parted W.zones × IsOrigin W root × HasCutZones W × IsDelegated W × IsServed W × (IsStarted W → ⊥)
+IsRefused W Twins = HaveOwnOrigins W.zones → ⊥
+IsRefused W NoRoot = HaveOwnOrigins W.zones × (IsOrigin W root → ⊥)
+IsRefused W LooseCut = HaveOwnOrigins W.zones × IsOrigin W root × (HasCutZones W → ⊥)
+IsRefused W Undelegated = HaveOwnOrigins W.zones × IsOrigin W root × HasCutZones W × (IsDelegated W → ⊥)
+IsRefused W Lame = HaveOwnOrigins W.zones × IsOrigin W root × HasCutZones W × IsDelegated W × (IsServed W → ⊥)
+IsRefused W NoStart = HaveOwnOrigins W.zones × IsOrigin W root × HasCutZones W × IsDelegated W × IsServed W × (IsStarted W → ⊥)
 IsRefused W Memory = Unit {0}

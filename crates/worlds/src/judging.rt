@@ -1,11 +1,11 @@
 //! Right replies, told from wrong ones.
-ghost use Rattle.std.specs.Prelude.{◌≡◌, ◌↔◌, ◌&&◌, nat_eq, ℕ, List, IfOk, IsTrue, MatchOption, not};
+ghost use Rattle.std.specs.Prelude.{◌≡◌, ◌↔◌, ◌&&◌, nat_eq, ℕ, List, IfOk, IsTrue, MatchOption};
 ghost use Rattle.rdata.specs.Data.{Cname};
 ghost use Rattle.zone.specs.Links.{Alias};
 ghost use Rattle.rdata.specs.Types.{type_number};
 ghost use Rattle.truth.specs.Truths.{IsTrueLink};
 ghost use Rattle.truth.specs.Replies.{IsRight};
-ghost use Rattle.worlds.specs.Judging.{IsRest, IsRightMessage, is_reply_to, is_empty, is_same, has, lacks_some, once, is_set, is_only, is_none};
+ghost use Rattle.worlds.specs.Judging.{IsRest, IsRightMessage, is_reply_to, is_empty, has, lacks_some, once, is_set, is_only, is_none};
 
 use crate::world::World;
 use authority::Link;
@@ -15,18 +15,11 @@ use rdata::{INTERNET, RData, RType, Record, RecordSet};
 use std::alloc::Allocator;
 use wire::{Message, WireError, decode};
 
-// Whether both are one record but for the TTL.
-fn is_same<A: Allocator>(one: &Record<A>, other: &Record<A>) -> bool
-    ensures { result ≡ is_same one.now other.now }
-{
-    one.owner == other.owner && one.value.is_same(&other.value)
-}
-
 // Whether the records have that one.
 fn has<A: Allocator>(records: &[Record<A>], wanted: &Record<A>) -> bool
     ensures { result ≡ has records.now wanted.now }
 {
-    records.iter().any(|record| is_same(wanted, record))
+    records.iter().any(|record| wanted.repeats(record))
 }
 
 // Whether the records lack one of those wanted.
@@ -60,7 +53,7 @@ fn is_only<A: Allocator>(records: &[Record<A>], soa: &Record<A>) -> bool
     ensures { result ≡ is_only soa.now records.now }
 {
     match records {
-        [only] => is_same(only, soa),
+        [only] => only.repeats(soa),
         _ => false,
     }
 }
@@ -121,7 +114,7 @@ fn goes_on<A: Heap>(
     if left == 0 {
         return Ok(false);
     }
-    if !is_same(first, alias) {
+    if !first.repeats(alias) {
         return Ok(false);
     }
     let Some(next) = target(first) else {
@@ -159,10 +152,7 @@ fn is_reply_to<A: Allocator>(reply: &Message<A>, name: &Name<A>, kind: RType) ->
     let [only] = reply.questions.as_slice() else {
         return false;
     };
-    reply.header.qr
-        && only.name == *name
-        && only.qtype == kind.number()
-        && only.qclass == INTERNET
+    reply.header.qr && only.name == *name && only.qtype == kind.number() && only.qclass == INTERNET
 }
 
 // Whether the message has no records.
@@ -170,38 +160,6 @@ fn is_empty<A: Allocator>(reply: &Message<A>) -> bool
     ensures { result ≡ is_empty reply.now }
 {
     reply.answer.is_empty() && reply.authority.is_empty() && reply.additional.is_empty()
-}
-
-// Whether the message is truncated: TC is set.
-fn is_truncated<A: Allocator>(reply: &Message<A>) -> bool
-    ensures { result ≡ reply.now.header.tc }
-{
-    reply.header.tc
-}
-
-// Whether something stands in additional.
-fn has_additional<A: Allocator>(reply: &Message<A>) -> bool
-    ensures { result ≡ not (is_none reply.now.additional) }
-{
-    !reply.additional.is_empty()
-}
-
-fn rcode<A: Allocator>(reply: &Message<A>) -> u8
-    ensures { result ≡ reply.now.header.rcode }
-{
-    reply.header.rcode
-}
-
-fn answer<A: Allocator>(reply: &Message<A>) -> &[Record<A>]
-    ensures { result.now ≡ reply.now.answer }
-{
-    reply.answer.as_slice()
-}
-
-fn authority<A: Allocator>(reply: &Message<A>) -> &[Record<A>]
-    ensures { result.now ≡ reply.now.authority }
-{
-    reply.authority.as_slice()
 }
 
 // Whether the message is the right reply to the question: truncated and without records, or with all of the
@@ -217,22 +175,15 @@ fn is_right<A: Heap>(
     if !is_reply_to(reply, name, kind) {
         return Ok(false);
     }
-    if is_truncated(reply) {
+    if reply.header.tc {
         return Ok(is_empty(reply));
     }
-    if has_additional(reply) {
+    if !reply.additional.is_empty() {
         return Ok(false);
     }
-    let code = rcode(reply);
-    Ok(is_rest(
-        world,
-        name,
-        kind,
-        answer(reply),
-        MOST_ALIASES,
-        code,
-        authority(reply),
-    )?)
+    let (answer, authority) = (reply.answer.as_slice(), reply.authority.as_slice());
+    let rcode = reply.header.rcode;
+    Ok(is_rest(world, name, kind, answer, MOST_ALIASES, rcode, authority)?)
 }
 
 /// Whether the bytes are the right reply to the question, TTLs aside: a reply to it in class IN that is

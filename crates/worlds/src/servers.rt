@@ -21,9 +21,7 @@ use zone::Zone;
 pub fn serves<A: Allocator>(hosts: &[Host<A>], address: Addr, origin: &Name<A>) -> bool
     ensures { result ≡ serves address.0 origin.now hosts.now }
 {
-    hosts
-        .iter()
-        .any(|host| host.address.0 == address.0 && has_name(&host.origins, origin))
+    hosts.iter().any(|host| host.address.0 == address.0 && has_name(&host.origins, origin))
 }
 
 // Whether the data is an address that does not serve the cut.
@@ -185,9 +183,7 @@ pub fn has_lame_cuts<A: Heap>(
 fn serves_nothing<A: Allocator>(host: &Host<A>, zones: &[Zone<A>]) -> bool
     ensures { result ≡ serves_nothing zones.now host.now }
 {
-    host.origins
-        .iter()
-        .any(|origin| !has_origin(zones, origin))
+    host.origins.iter().any(|origin| !has_origin(zones, origin))
 }
 
 // Whether a server names an origin without a zone.

@@ -4,7 +4,7 @@ ghost use Rattle.dname.specs.Labels.{root};
 ghost use Rattle.rdata.specs.Types.{type_number};
 ghost use Rattle.authority.specs.Answers.{link_view};
 ghost use Rattle.truth.specs.Frames.{AreHeld};
-ghost use Rattle.truth.specs.Worlds.{IsWorld, Parted};
+ghost use Rattle.truth.specs.Worlds.{IsWorld, HaveOwnOrigins};
 ghost use Rattle.truth.specs.Truths.{IsTrueLink};
 ghost use Rattle.worlds.specs.Kept.{addresses, world_with};
 ghost use Rattle.worlds.specs.Refusals.{IsRefused};
@@ -179,7 +179,7 @@ impl<A: Heap> World<A> {
     /// The zones that the resolver itself holds: those whose origins are local. No two have one origin.
     pub fn held(&self) -> Result<Vec<Zone<A>, A>, Starved>
         ensures are { IfOk result (λ v. AreHeld self.now v.items) }
-        ensures parted { IfOk result (λ v. Parted v.items) }
+        ensures parted { IfOk result (λ v. HaveOwnOrigins v.items) }
     {
         self.well_formed_law();
         let zones = self.catalog().zones();

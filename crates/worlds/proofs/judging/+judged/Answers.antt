@@ -19,7 +19,7 @@ goes_on-returns-in_default-target g t c = λ q link. never
 pub goes_on-returns : goal.goes_on-returns
 goes_on-returns g t c = λ q link.
     goes_so c.args.world.now (type_number c.args.kind) q c.args.alias.now c.args.left c.args.answer.now c.args.rcode c.args.authority.now c.first-item.result c.in-Some.next.now c.in_ok-is_rest.field-0
-    c.well_formed_law.ensures link c.in-len1-up.len_at_least c.first-item.is (sym c.is_same.ensures ∙ c.if-not-is_same.false) c.in-Some.ensures c.if-left-eq0.false c.in_ok-is_rest.ensures
+    c.well_formed_law.ensures link c.in-len1-up.len_at_least c.first-item.is (sym c.repeats.ensures ∙ c.if-not-repeats.false) c.in-Some.ensures c.if-left-eq0.false c.in_ok-is_rest.ensures
 
 pub is_rest-returns-in_ok-goes_on-in-Alias : goal.is_rest-returns-in_ok-goes_on-in-Alias
 is_rest-returns-in_ok-goes_on-in-Alias g t c =
@@ -29,10 +29,10 @@ pub goes_on-returns-then-left-eq0 : goal.goes_on-returns-then-left-eq0
 goes_on-returns-then-left-eq0 g t c = λ q link. never
     (lacks_room c.args.world.now (type_number c.args.kind) q c.args.alias.now c.args.left c.args.answer.now c.args.rcode c.args.authority.now c.well_formed_law.ensures link c.if-left-eq0.true)
 
-pub goes_on-returns-then-not-is_same : goal.goes_on-returns-then-not-is_same
-goes_on-returns-then-not-is_same g t c = λ q link. never
+pub goes_on-returns-then-not-repeats : goal.goes_on-returns-then-not-repeats
+goes_on-returns-then-not-repeats g t c = λ q link. never
     (not_same c.args.world.now (type_number c.args.kind) q c.args.alias.now c.args.left c.args.answer.now c.args.rcode c.args.authority.now c.first-item.result c.well_formed_law.ensures link
-    c.in-len1-up.len_at_least c.first-item.is (sym c.is_same.ensures ∙ c.if-not-is_same.true))
+    c.in-len1-up.len_at_least c.first-item.is (sym c.repeats.ensures ∙ c.if-not-repeats.true))
 
 pub is_rest-returns-in_ok-is_found-in-Found : goal.is_rest-returns-in_ok-is_found-in-Found
 is_rest-returns-in_ok-is_found-in-Found g t c =

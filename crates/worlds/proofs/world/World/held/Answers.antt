@@ -2,7 +2,7 @@ use Rattle.std.proofs.Common.{◌≡◌, ◌∙◌, sym, ap, subst, List}
 use Rattle.std.specs.Prelude.{filter}
 use Rattle.dname.specs.Labels.{Name}
 use Rattle.zone.specs.Zones.{Zone}
-use Rattle.truth.specs.Worlds.{Parted}
+use Rattle.truth.specs.Worlds.{HaveOwnOrigins}
 use Rattle.worlds.specs.Rules.{has_name}
 use Rattle.worlds.proofs.Held.{are_held, parted_some}
 use Rattle.worlds.proofs.world.World.held.Goals as goal
@@ -16,5 +16,5 @@ returns-clause-are g c =
 pub returns-clause-parted : goal.returns-clause-parted
 returns-clause-parted g c =
     let all = c.zones-zones.ensures.value ∙ c.catalog.ensures in
-    subst Parted (sym c.in_ok-held_zones.ensures)
-    (parted_some _ c.zones-zones.result.now (subst Parted (sym all) (c.well_formed_law.ensures.parted)))
+    subst HaveOwnOrigins (sym c.in_ok-held_zones.ensures)
+    (parted_some _ c.zones-zones.result.now (subst HaveOwnOrigins (sym all) (c.well_formed_law.ensures.parted)))
