@@ -1,5 +1,5 @@
 -- The first key of the index by due moments.
-use Rattle.std.proofs.Common.{◌≡◌, ℕ, ◌<◌, ◌↔◌, Bool, true, false, nat_eq, Option, Some, None, List, [], ◌∷◌, length, refl, sym, ◌∙◌, ap, subst, arith, eq-eqb, eqb-true, Bor}
+use Rattle.std.proofs.Common.{◌≡◌, ℕ, ◌<◌, ◌↔◌, true, false, Option, Some, None, List, [], ◌∷◌, length, refl, sym, ◌∙◌, ap, subst, arith, eq-eqb, eqb-true, Bor}
 use Rattle.std.proofs.lemmas.Bool.{false≢true}
 use Rattle.std.specs.Option.{IsSome, IfSome, option_copied}
 use Rattle.std.specs.BTreeSet.{BTreeSet, btree_set_len, contains, IsLowerBound}
@@ -7,7 +7,7 @@ use Rattle.std.specs.Bool.{IsTrue}
 use Rattle.asks.specs.declared.ask.UdpAsk.{UdpAsk}
 use Rattle.asks.specs.declared.ask.Waiting.{Waiting}
 use Rattle.asks.specs.Waits.{waiting, Leads, IsEarliest}
-use Rattle.asks.specs.Indexes.{due_cmp, is_due, lists, AreIndexes}
+use Rattle.asks.specs.Indexes.{due_cmp, is_due, AreIndexes}
 use Rattle.asks.proofs.Due.{no_later}
 
 none_due : (o : Option Waiting) → ((d : ℕ) → false ≡ is_due d o) → o ≡ None

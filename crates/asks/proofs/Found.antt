@@ -1,12 +1,12 @@
 -- What the index by asks finds.
-use Rattle.std.proofs.Common.{◌≡◌, ◌≢◌, ℕ, Bool, true, false, nat_eq, ◌&&◌, Option, Some, None, List, refl, sym, ◌∙◌, ap, subst, eq-eqb, eqb-true}
+use Rattle.std.proofs.Common.{◌≡◌, ◌≢◌, ℕ, true, false, nat_eq, ◌&&◌, Option, Some, None, List, refl, sym, ◌∙◌, ap, eq-eqb, eqb-true}
 use Rattle.std.proofs.lemmas.Bool.{false≢true, and_parts}
 use Rattle.std.specs.Cmp.Lexicographic.{pointwise, bytes_decides}
 use Rattle.std.specs.Map.{lookup}
 use Rattle.rdata.specs.declared.addr.Addr.{Addr}
 use Rattle.asks.specs.declared.ask.UdpAsk.{UdpAsk}
 use Rattle.asks.specs.declared.ask.Waiting.{Waiting}
-use Rattle.asks.specs.Waits.{waiting, HasAsk, IsFound}
+use Rattle.asks.specs.Waits.{waiting, IsFound}
 use Rattle.asks.specs.Indexes.{same_ask, points_to, is_ask, has_ask, points, AreIndexes}
 
 -- `==` of asks is exact.

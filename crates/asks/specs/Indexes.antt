@@ -1,5 +1,5 @@
 -- The two indexes of what open queries wait for: the query of each ask, and all due moments in order.
-use Rattle.std.specs.Prelude.{◌≡◌, ℕ, Bool, false, cond, nat_eq, ◌&&◌, Option, Some, None, List}
+use Rattle.std.specs.Prelude.{◌≡◌, ℕ, Bool, false, nat_eq, ◌&&◌, Option, Some, None, List}
 use Rattle.std.specs.BTreeMap.{is_at}
 use Rattle.std.specs.Cmp.Lexicographic.{pointwise}
 use Rattle.std.specs.List.{list_any}

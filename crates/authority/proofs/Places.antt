@@ -8,7 +8,7 @@ use Rattle.std.proofs.lemmas.List.Folds.{find-append}
 use Rattle.std.proofs.lemmas.Option.{slice_get-get_or, slice_get_past, slice_get_read}
 use Rattle.std.specs.Slice.{IsItemAt}
 use Rattle.std.specs.HashMap.{HashMap}
-use Rattle.dname.specs.Keys.{at_bytes, at_name}
+use Rattle.dname.specs.Keys.{at_bytes}
 use Rattle.dname.specs.Labels.{wire, same_name}
 use Rattle.dname.specs.Laws.{same_name-exact}
 use Rattle.zone.specs.Zones.{Zone}

@@ -1,10 +1,10 @@
 -- Data of one owner and with one TTL are the set of the records that they stand in.
-use Rattle.std.proofs.Common.{◌≡◌, ℕ, ◌+◌, ◌<◌, Bool, true, false, ◌&&◌, ◌||◌, cond, Option, Some, None, List, [], ◌∷◌, ◌++◌, length, take, get_or, map, filter, find, fold, refl, sym, ◌∙◌, ap, subst, arith, eqb-true}
+use Rattle.std.proofs.Common.{◌≡◌, ℕ, ◌+◌, ◌<◌, Bool, true, false, ◌||◌, cond, Option, Some, None, List, [], ◌∷◌, ◌++◌, length, take, get_or, map, filter, find, fold, refl, sym, ◌∙◌, ap, subst, arith, eqb-true}
 use Rattle.std.specs.Prelude.{Contains}
 use Rattle.std.specs.List.{list_any}
 use Rattle.std.proofs.lemmas.Bool.{and_parts}
 use Rattle.std.proofs.lemmas.List.{map-append}
-use Rattle.dname.specs.Labels.{star, same_name}
+use Rattle.dname.specs.Labels.{star}
 use Rattle.dname.specs.Laws.{same_name-exact}
 use Rattle.rdata.specs.Data.{Datum, type_of, same_data}
 use Rattle.rdata.specs.Gathering.{has_datum, add_datum}

@@ -13,7 +13,6 @@ use Rattle.zone.specs.Zones.{Zone, ns_type}
 use Rattle.zone.specs.Links.{Link, Found, NxDomain}
 use Rattle.zone.specs.Look.{is_owned, is_type, at, of_type, owns, is_cut, cut_of, firsts, with_owner, said, said_by, said_alias, said_wild, climbed, link_by, is_address, ns_of, add_glue, addresses_of}
 use Rattle.zone.proofs.Trees.{not_own}
-use Rattle.authority.specs.Climb.{picked}
 use Rattle.authority.specs.Walk.{own_of, wild_of, Stands, near_or, met, told}
 use Rattle.authority.proofs.Ascents.{ascends, climb_by}
 use Rattle.authority.proofs.Picks.{none_picked, found_by, of_type_at, owners_stay, link_here, link_above}

@@ -1,12 +1,11 @@
 //! Look-up by walking a zone's list of records.
-ghost use Rattle.std.specs.Prelude.{◌≡◌, ◌&&◌, ℕ, List, cond, true, find, filter, fold, Some, None, IfOk, OnOk, map};
+ghost use Rattle.std.specs.Prelude.{◌≡◌, ◌&&◌, ℕ, List, cond, find, filter, fold, Some, None, IfOk, OnOk};
 ghost use Rattle.std.specs.List.{list_any};
 ghost use Rattle.std.specs.Option.{option_copied};
 ghost use Rattle.dname.specs.Labels.{is_under};
 ghost use Rattle.rdata.specs.Types.{type_number};
-ghost use Rattle.rdata.specs.Kept.{datum};
-ghost use Rattle.zone.specs.Zones.{ns_type, cname_type};
-ghost use Rattle.zone.specs.Look.{is_type, is_owned, at, of_type, owns, is_cut, cut_of, firsts, with_owner, said, said_alias, said_wild, ns_of, glue_of, local_by, or_else, add_new, add_glue, is_address, addresses_of, climbed, Cut, link_by};
+ghost use Rattle.zone.specs.Zones.{cname_type};
+ghost use Rattle.zone.specs.Look.{is_type, is_owned, at, is_cut, cut_of, said, said_alias, said_wild, ns_of, glue_of, local_by, or_else, add_glue, is_address, addresses_of, climbed, Cut, link_by};
 ghost use Rattle.authority.specs.Answers.{link_view, local_view};
 ghost use Rattle.authority.specs.Climb.{target, is_picked, picked, has_glue, has_under};
 ghost use Rattle.authority.specs.Values.{HaveOneTtl};

@@ -1,11 +1,11 @@
 //! Look-up by one walk up from the name: what it costs is what the name's labels cost.
-ghost use Rattle.std.specs.Prelude.{◌≡◌, ◌≤◌, ◌+◌, ◌&&◌, not, cond, length, List, ℕ, Some, None, IfOk};
+ghost use Rattle.std.specs.Prelude.{◌≡◌, ◌≤◌, ◌+◌, ◌&&◌, not, cond, length, Some, None, IfOk};
 ghost use Rattle.std.specs.List.{list_any};
 ghost use Rattle.dname.specs.Labels.{same_name};
 ghost use Rattle.rdata.specs.Types.{type_number};
 ghost use Rattle.zone.specs.Zones.{ns_type};
 ghost use Rattle.zone.specs.Links.{NxDomain};
-ghost use Rattle.zone.specs.Look.{is_type, local_by, said};
+ghost use Rattle.zone.specs.Look.{is_type, local_by};
 ghost use Rattle.authority.specs.Answers.{link_view, local_view};
 ghost use Rattle.authority.specs.Values.{IsTimed, AreTimedIn};
 ghost use Rattle.authority.specs.Walk.{own_of, wild_of, near_or, met, told, IsWalk};

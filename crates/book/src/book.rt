@@ -1,5 +1,5 @@
 //! The book: a machine's state, its counts and its last entries, which one history led to.
-ghost use Rattle.std.specs.Prelude.{◌≡◌, ◌<◌, ◌≤◌, ◌↔◌, ◌⊎◌, [], ◌∷◌, reverse, replicate, take, length, IfOk, OnErr, MatchOption, IsTrue, option_copied, slice_get};
+ghost use Rattle.std.specs.Prelude.{◌≡◌, ◌<◌, ◌≤◌, ◌↔◌, ◌⊎◌, [], ◌∷◌, reverse, replicate, take, IfOk, OnErr, MatchOption, IsTrue, option_copied, slice_get};
 ghost use Rattle.circular_buffer.specs.Buffer.{buffer};
 ghost use Rattle.book.specs.Books.{page, seats, Owns, Reached, IsHistory, Takes, Stands};
 

@@ -1,5 +1,5 @@
 //! The lines that the program takes, as `clap` reads them: a function for each subcommand.
-ghost use Rattle.std.specs.Prelude.{◌≡◌, IfOk, true, false, codes};
+ghost use Rattle.std.specs.Prelude.{◌≡◌, IfOk, true, false};
 ghost use Rattle.clap.specs.Words.{app_of, rule_of};
 ghost use Rattle.clap.specs.declared.builder.command.Command.TheViews.{out-Command};
 ghost use Rattle.commandline.specs.Grammar.{ask_app, bare_app, file_app, line_app, play_app, serve_app, storm_app, keep_rule, scripts_rule, word_rule};

@@ -1,5 +1,5 @@
 -- What a server's file says, line by line.
-use Rattle.std.specs.Prelude.{ℕ, Bool, true, false, ◌||◌, cond, Result, Ok, Err, Option, Some, None, List, [], ◌∷◌, ◌++◌}
+use Rattle.std.specs.Prelude.{ℕ, Bool, false, ◌||◌, cond, Result, Ok, Err, Option, Some, None, List, [], ◌∷◌, ◌++◌}
 use Rattle.hex.specs.Hex.{decode_sized}
 use Rattle.hex.specs.declared.error.FromHexError.{FromHexError}
 use Rattle.dname.specs.Labels.{Name, same_name}

@@ -1,5 +1,5 @@
 //! What the lines of a server's file say, one after the other.
-ghost use Rattle.std.specs.Prelude.{◌≡◌, ◌≤◌, Ok, Err, IfOk, MatchResult};
+ghost use Rattle.std.specs.Prelude.{◌≡◌, ◌≤◌, Ok, Err, MatchResult};
 ghost use Rattle.statements.specs.Faults.{IsLineFault};
 ghost use Rattle.statements.specs.Texts.{stated_words};
 ghost use Rattle.config.specs.Configs.{blank, end_in, number_in, hint_in, zone_in, seed_of, seed_in, once as once_of, has_origin, with_zone, said_by, said, finished};

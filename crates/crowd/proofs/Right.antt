@@ -9,7 +9,7 @@ use Rattle.dname.specs.Labels.{Name}
 use Rattle.rdata.specs.Types.{type_number}
 use Rattle.rdata.specs.declared.rtype.RType.{RType}
 use Rattle.memory.specs.declared.Starved.{Starved}
-use Rattle.book.specs.Histories.{Line, lines_of, Leads}
+use Rattle.book.specs.Histories.{lines_of, Leads}
 use Rattle.causes.specs.declared.cause.Cause.{Cause}
 use Rattle.wire.specs.declared.via.Via.{Via}
 use Rattle.front.specs.Queries.{IsAsked}
@@ -30,7 +30,7 @@ use Rattle.simnet.specs.declared.event.SimEvent.TheVariants as happens
 use Rattle.simnet.specs.Promises.{Moves}
 use Rattle.simnet.specs.Views.{sim_event_view}
 use Rattle.crew.specs.Working.{Follows}
-use Rattle.tally.specs.Clients.{Queries, recursive_in, AskRecursively, IsHeard, known, query_of}
+use Rattle.tally.specs.Clients.{Queries, recursive_in, known, query_of}
 use Rattle.tally.specs.Counts.{IsFailure, IsRightFor, IsCountedFor}
 use Rattle.tally.specs.declared.count.Count.{Count}
 use Rattle.crowd.specs.Counts.{Counts, CountsOut, CountsStep, CountsAll, none_yet, IsStorm, IsTotalOf}

@@ -1,5 +1,5 @@
 -- A run of workers as a history of the network.
-use Rattle.std.proofs.Common.{◌≡◌, ℕ, Some, None, Result, Ok, Err, List, [], ◌∷◌, MatchResult, map, reverse, sym, subst}
+use Rattle.std.proofs.Common.{ℕ, Some, None, Result, Ok, Err, List, [], ◌∷◌, MatchResult, map, reverse, sym, subst}
 use Rattle.memory.specs.declared.Starved.{Starved}
 use Rattle.book.specs.Histories.{Line, Leads}
 use Rattle.truth.specs.Worlds.{World}

@@ -3,7 +3,6 @@ ghost use Rattle.std.specs.Prelude.{◌≡◌, ◌<◌, IfOk, IfSome, length, ma
 ghost use Rattle.std.specs.declared.alloc.Global.{Global};
 ghost use Rattle.orders.specs.Orders.{order_seen};
 ghost use Rattle.network.specs.Networks.{Network};
-ghost use Rattle.network.specs.Laws.{NetworkHeadline};
 ghost use Rattle.simnet.specs.Beginnings.{Begins};
 ghost use Rattle.crowd.specs.Counts.{IsStorm, IsTotalOf};
 

@@ -1,5 +1,5 @@
 //! The workers of a server.
-ghost use Rattle.std.specs.Prelude.{◌≡◌, ◌+◌, ◌<◌, ◌≤◌};
+ghost use Rattle.std.specs.Prelude.{◌≡◌, ◌+◌, ◌<◌};
 ghost use Rattle.delivery.specs.Roles.{IsRole};
 
 /// What a worker does, over and over.

@@ -1,5 +1,5 @@
 //! To whom an action of the resolver goes, and by which socket or stream.
-ghost use Rattle.std.specs.Prelude.{◌≡◌, ◌≤◌, length};
+ghost use Rattle.std.specs.Prelude.{◌≡◌};
 ghost use Rattle.exchange.specs.Views.{action_view, bytes_in};
 ghost use Rattle.delivery.specs.Targets.{target};
 

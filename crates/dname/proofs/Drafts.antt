@@ -1,14 +1,13 @@
 -- How the writing of a name goes on.
-use Rattle.std.proofs.Common.{◌≡◌, ℕ, suc, Bool, false, cond, nat_le, Ok, Err, ◌+◌, ◌-◌, ◌<◌, ◌≤◌, List, [], ◌∷◌, ◌++◌, length, take, drop, get_or, refl, sym, ◌∙◌, ap, subst, arith, append_assoc, append-nil, length-append}
+use Rattle.std.proofs.Common.{◌≡◌, ℕ, ◌+◌, ◌-◌, ◌<◌, ◌≤◌, List, [], ◌∷◌, ◌++◌, length, take, drop, refl, sym, ◌∙◌, ap, subst, arith, append_assoc, append-nil, length-append}
 use Rattle.std.proofs.Math.Seq.{take-append_seam, drop-append-add}
 use Rattle.std.specs.Prelude.{slice_set}
 use Rattle.std.proofs.lemmas.Bool.Decides.{nat_tests}
-use Rattle.dname.specs.Labels.{wire, folded, folded_label, AreFolded, AreLabels, IsLabel}
+use Rattle.dname.specs.Labels.{wire, folded, AreFolded, AreLabels, IsLabel}
 use Rattle.dname.specs.Wire.{labels_of, IsNameWire}
 use Rattle.dname.specs.Laws.{labels_of-wire}
 use Rattle.dname.specs.Draft.{Draft, IsDraft, AllLabels, empty_draft, shut}
 use Rattle.dname.specs.Written.{written, draft_of, IsWritten}
-use Rattle.std.proofs.lemmas.List.{length-map}
 use Rattle.dname.proofs.Split.{wire_is}
 
 pub wire-append : (a b : List (List ℕ)) → wire (a ++ b) ≡ wire a ++ wire b

@@ -1,6 +1,6 @@
 -- A name that is being written: the labels that are closed, and the bytes of the open one.
 use Rattle.std.specs.Prelude.{◌≡◌, ℕ, ◌+◌, ◌<◌, ◌≤◌, cond, nat_le, Result, Ok, Err, List, [], ◌∷◌, ◌++◌, length}
-use Rattle.dname.specs.Labels.{wire, folded, folded_label, IsLabel, AreFolded}
+use Rattle.dname.specs.Labels.{wire, folded, IsLabel, AreFolded}
 use Rattle.dname.specs.declared.builder.Overflow.{Overflow}
 use Rattle.dname.specs.declared.builder.Overflow.TheVariants.{LongLabel, LongName, Memory}
 

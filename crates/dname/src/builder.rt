@@ -1,6 +1,6 @@
 //! A name that is written label by label, within its bounds (RFC 1035, section 2.3.4).
-ghost use Rattle.std.specs.Prelude.{◌≡◌, ◌+◌, ◌≤◌, ◌<◌, List, [], ◌∷◌, ◌++◌, length, Some, Ok, IfOk, OnOk, OnErr, MatchResult};
-ghost use Rattle.dname.specs.Labels.{wire, folded};
+ghost use Rattle.std.specs.Prelude.{◌≡◌, ◌+◌, ◌<◌, [], ◌∷◌, ◌++◌, length, Some, Ok, IfOk, OnOk, OnErr, MatchResult};
+ghost use Rattle.dname.specs.Labels.{folded};
 ghost use Rattle.dname.specs.Draft.{empty_draft, Refuses, pushed, shut};
 ghost use Rattle.dname.specs.Overflows.{overflow_number, overflow_text};
 

@@ -1,5 +1,5 @@
 //! A name, and how it lies to others: equal, at or under, above.
-ghost use Rattle.std.specs.Prelude.{◌≡◌, ℕ, ◌+◌, ◌≤◌, ◌<◌, ◌↔◌, List, [], ◌∷◌, ◌++◌, length, true, false, None, Some, IsTrue, IfOk, OnOk, OnErr, IfSome, MatchOption};
+ghost use Rattle.std.specs.Prelude.{◌≡◌, ℕ, ◌+◌, ◌≤◌, ◌<◌, ◌↔◌, List, ◌∷◌, length, true, false, None, Some, IsTrue, IfOk, OnOk, OnErr, IfSome, MatchOption};
 ghost use Rattle.std.specs.Bool.{OnTrue, OnFalse};
 ghost use Rattle.dname.specs.Labels.{wire, root, star, folded_labels, same_name, is_under, parent_of, IsAtOrUnder, IsName};
 ghost use Rattle.dname.specs.Wire.{labels_of, IsNameWire, IsSpellingWire};

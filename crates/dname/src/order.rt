@@ -1,6 +1,6 @@
 //! The order of names (RFC 4034, section 6.1).
 
-ghost use Rattle.std.specs.Prelude.{◌≡◌, ◌+◌, ◌<◌, length, drop};
+ghost use Rattle.std.specs.Prelude.{◌≡◌, ◌<◌, length, drop};
 ghost use Rattle.std.proofs.Common.{refl};
 ghost use Rattle.std.specs.Ordering.{as_partial_cmp};
 ghost use Rattle.dname.specs.Wire.{labels_of, IsWire};

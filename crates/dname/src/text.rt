@@ -1,6 +1,6 @@
 //! Names in text (RFC 1035, section 5.1).
 
-ghost use Rattle.std.specs.Prelude.{◌≡◌, ◌<◌, ◌≤◌, [], ◌∷◌, ◌++◌, length, drop, string_bytes, Some, Ok, OnOk, IfOk, MatchOption, MatchResult};
+ghost use Rattle.std.specs.Prelude.{◌≡◌, ◌<◌, [], ◌∷◌, ◌++◌, length, drop, string_bytes, Some, Ok, OnOk, IfOk, MatchOption, MatchResult};
 ghost use Rattle.std.specs.Fmt.{WritesOnOk};
 ghost use Rattle.dname.specs.Tokens.{token_of};
 ghost use Rattle.dname.specs.Text.{Byte, Bad, tokens, escaped_token, spelled, with_origin, name_under, name_of_text, IsFault, fault_of, is_special, number_text, byte_text, label_text, name_text, fault_number, fault_text, TextIsReadBack};

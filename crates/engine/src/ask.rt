@@ -1,11 +1,10 @@
 //! Asks that go out, and the queries that wait for them: socket and ID are of the generator's next word, and no two
 //! open asks over UDP have socket, server and ID in common (RFC 5452, section 4).
-ghost use Rattle.std.specs.Prelude.{◌≡◌, ℕ, ◌+◌, ◌<◌, ◌/◌, ◌%◌, ◌^◌, length, IfOk, OnErr};
+ghost use Rattle.std.specs.Prelude.{◌≡◌, ◌+◌, ◌<◌, ◌/◌, ◌%◌, IfOk, OnErr};
 ghost use Rattle.rdata.specs.Types.{type_number};
 ghost use Rattle.exchange.specs.Views.{action_view};
-ghost use Rattle.resolution.specs.Jobs.{wait_of_job};
-ghost use Rattle.runs.specs.States.{open_query, word_of, word_taken, low_half, socket_of};
-ghost use Rattle.runs.specs.Steps.{most_open, WaitsByUdp, WaitsByTcp};
+ghost use Rattle.runs.specs.States.{open_query, word_of, word_taken};
+ghost use Rattle.runs.specs.Steps.{WaitsByUdp, WaitsByTcp};
 ghost use Rattle.queries.specs.Lookups.{HasNo, IsFree};
 ghost use Rattle.engine.specs.Works.{state_of, IsSound};
 ghost use Rattle.engine.specs.Moves.{Puts, Halts};

@@ -1,6 +1,6 @@
 //! Recursive queries whose work has begun: what it gave goes out, and one that has to wait is opened under the next
 //! number, or answered with a failure where 1,024 are open.
-ghost use Rattle.std.specs.Prelude.{◌≡◌, ◌+◌, IfOk, OnErr};
+ghost use Rattle.std.specs.Prelude.{◌+◌, IfOk, OnErr};
 ghost use Rattle.std.specs.Bool.{MatchBool};
 ghost use Rattle.iterate.specs.Views.{next_view};
 ghost use Rattle.runs.specs.Steps.{IsAsking, Comes};

@@ -1,6 +1,6 @@
 //! Events for open queries: what an event brings for the open ask of a query is read, and the query is served by
 //! it.
-ghost use Rattle.std.specs.Prelude.{◌≡◌, IfOk, OnErr};
+ghost use Rattle.std.specs.Prelude.{IfOk, OnErr};
 ghost use Rattle.exchange.specs.Views.{event_view};
 ghost use Rattle.runs.specs.States.{Open};
 ghost use Rattle.queries.specs.Lookups.{IsTheOne};

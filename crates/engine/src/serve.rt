@@ -3,11 +3,10 @@
 ghost use Rattle.std.specs.Prelude.{◌≡◌, IfOk, OnErr};
 ghost use Rattle.causes.specs.declared.cause.Cause.TheVariants as cause;
 ghost use Rattle.front.specs.declared.queries.Outcome.TheVariants as outcome;
-ghost use Rattle.exchange.specs.Views.{action_view};
 ghost use Rattle.iterate.specs.Views.{input_view, next_view};
 ghost use Rattle.runs.specs.States.{Open};
 ghost use Rattle.runs.specs.Messages.{outcome_of};
-ghost use Rattle.runs.specs.Steps.{AreOthers, Ends, Comes};
+ghost use Rattle.runs.specs.Steps.{Ends, Comes};
 ghost use Rattle.queries.specs.Lookups.{HasNo, IsTheOne};
 ghost use Rattle.engine.specs.Works.{state_of, IsSound};
 ghost use Rattle.engine.specs.Moves.{Halts, Goes, Falls, ServesOne, DropsOne};

@@ -1,5 +1,5 @@
 //! A frame: whose turn it is, and what is found of the servers' addresses.
-ghost use Rattle.std.specs.Prelude.{◌≡◌, ◌<◌, true, not, nat_lt, length, Contains, IfOk, IfSome, OnOk, OnErr};
+ghost use Rattle.std.specs.Prelude.{◌≡◌, ◌<◌, true, nat_lt, length, Contains, IfOk, IfSome, OnOk, OnErr};
 ghost use Rattle.retry.specs.Penalties.{penalty};
 ghost use Rattle.retry.specs.Plans.{IsByPenalty, upcoming, advanced, wait_of};
 ghost use Rattle.frames.specs.Frames.{opened, is_skipped, next_place, next_name, after_name, fresh_addresses, after_add};

@@ -1,9 +1,8 @@
 //! What a frame can use of a cut.
 
-ghost use Rattle.std.specs.Prelude.{◌≡◌, ◌++◌, take, IfOk, OnOk};
+ghost use Rattle.std.specs.Prelude.{◌≡◌, ◌++◌, IfOk, OnOk};
 ghost use Rattle.std.specs.List.{flat_map};
 ghost use Rattle.std.specs.Option.{option_copied};
-ghost use Rattle.frames.specs.Frames.{most_taken};
 ghost use Rattle.frames.specs.Trimmed.{alone, entry_at, entry_of, trimmed};
 
 use crate::taken::{first_names, has_address, taken_addresses};

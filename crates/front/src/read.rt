@@ -1,5 +1,5 @@
 //! A client's bytes, read.
-ghost use Rattle.std.specs.Prelude.{◌≡◌, ℕ, ◌≤◌, ◌<◌, IfOk, IsOk, length, slice_index};
+ghost use Rattle.std.specs.Prelude.{◌≡◌, ◌≤◌, ◌<◌, IfOk, IsOk, length, slice_index};
 ghost use Rattle.front.specs.Openings.{opening_of};
 ghost use Rattle.front.specs.Queries.{IsAsked, by_question};
 

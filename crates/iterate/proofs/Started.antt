@@ -1,6 +1,6 @@
 -- A query that comes, by what was found for its name first.
-use Rattle.std.proofs.Common.{◌≡◌, ℕ, zero, suc, false, List, [], ◌∷◌, ◌++◌, refl, sym, subst}
-use Rattle.resolution.specs.Jobs.{Home, Stores, Taken, AreFresh, is_dead, IsEnding, Job, Start, Next, Done, Seek, Take, Point, point}
+use Rattle.std.proofs.Common.{◌≡◌, ℕ, zero, suc, List, [], ◌∷◌, ◌++◌, refl, sym, subst}
+use Rattle.resolution.specs.Jobs.{Home, Stores, Taken, AreFresh, IsEnding, Job, Start, Next, Done, Seek, Take, Point, point}
 use Rattle.resolution.specs.Rules.{Finds, Rule, takes, Rules, Leaves, done, Advances, Stops}
 use Rattle.resolution.proofs.Falls.{stays_fresh}
 use Rattle.resolution.proofs.Keeping.{enters_stop}

@@ -1,5 +1,5 @@
 -- What comes of a query at once.
-use Rattle.std.specs.Prelude.{ℕ, [], ◌∷◌}
+use Rattle.std.specs.Prelude.{ℕ, []}
 use Rattle.resolution.specs.Jobs.{Home, Stores, Job, Start, Done}
 use Rattle.resolution.specs.Rules.{Advances}
 use Rattle.iterate.specs.declared.beginning.Begun.{Begun}

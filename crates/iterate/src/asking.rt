@@ -1,6 +1,6 @@
 //! Asks that go out (RFC 1034, section 5.3.3, step 3), each counted: none from the deadline on, and no more than
 //! 40.
-ghost use Rattle.std.specs.Prelude.{◌≡◌, ℕ, Some, IfOk, Contains};
+ghost use Rattle.std.specs.Prelude.{◌≡◌, Some, IfOk, Contains};
 ghost use Rattle.retry.specs.Plans.{upcoming};
 ghost use Rattle.resolution.specs.Jobs.{Home as Grounds, Stores as Learnt, Search as Sought, Go as Going, Again as Repeating, point, given};
 ghost use Rattle.iterate.specs.Moves.{IsMove, with_search};

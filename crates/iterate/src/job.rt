@@ -1,5 +1,5 @@
 //! The work on one query, and its bounds: asks, time, the length of its chain.
-ghost use Rattle.std.specs.Prelude.{◌≡◌, ◌+◌, ◌^◌, ◌<◌, ◌≤◌, [], length, IfOk, OnOk, MatchOption};
+ghost use Rattle.std.specs.Prelude.{◌≡◌, ◌+◌, ◌^◌, ◌<◌, [], length, IfOk, OnOk, MatchOption};
 ghost use Rattle.rdata.specs.Types.{type_number};
 ghost use Rattle.frames.specs.Frames.{next_name};
 ghost use Rattle.resolution.specs.Jobs.{job_at, wait_of_job, marked, asked_again, MaySend};

@@ -1,7 +1,7 @@
 //! Searches for servers: that for the query's name, and those for servers' addresses within it.
 ghost use Rattle.std.specs.Prelude.{◌≡◌, ◌+◌, ◌<◌, [], ◌∷◌, None, IfOk, OnOk, IfSome, IfNone, MatchOption, Contains};
 ghost use Rattle.rdata.specs.Types.{type_number};
-ghost use Rattle.retry.specs.Plans.{upcoming, wait_of};
+ghost use Rattle.retry.specs.Plans.{upcoming};
 ghost use Rattle.frames.specs.Frames.{next_name, after_add, fresh_addresses};
 ghost use Rattle.resolution.specs.Jobs.{level_of, search_at, with_frame, given, wait_in};
 ghost use Rattle.resolution.specs.Rules.{turned};

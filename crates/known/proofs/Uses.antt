@@ -1,5 +1,5 @@
 -- Stores after look-ups alone.
-use Rattle.std.proofs.Common.{◌≡◌, ℕ, inl, inr, ◌⊎◌, Some, List, refl, sym, ap, subst, ◌∙◌}
+use Rattle.std.proofs.Common.{◌≡◌, ℕ, inl, inr, ◌⊎◌, Some, List, refl, sym, subst, ◌∙◌}
 use Rattle.dname.specs.Labels.{Name}
 use Rattle.rdata.specs.declared.addr.Addr.{Addr}
 use Rattle.retry.specs.Penalties.{answered, timed_out}

@@ -4,7 +4,7 @@ use Rattle.dname.specs.Labels.{Name, IsName}
 use Rattle.zone.specs.Zones.{IsBeneath}
 use Rattle.zone.specs.Look as local
 use Rattle.referral.specs.Cuts.{Cut, IsBest}
-use Rattle.cache.specs.Cached.{Hit, alone, lent, hit_of, moved, IsHeld}
+use Rattle.cache.specs.Cached.{Hit, alone, lent, hit_of, IsHeld}
 use Rattle.resolution.specs.Jobs.{Home, Stores, Taken, kept_link}
 use Rattle.resolution.specs.Rules.{Finds, Misses, Begins}
 use Rattle.known.specs.Views.{after_look, after_best}

@@ -5,7 +5,7 @@ use Rattle.rdata.specs.Records.{Record, greatest_ttl}
 use Rattle.rdata.specs.declared.addr.Addr.{Addr}
 use Rattle.zone.specs.Zones.{Zone}
 use Rattle.zone.specs.Links.{Link, Found, Alias, NoData, NxDomain}
-use Rattle.classify.specs.Lifetimes.{lifetime_of, referral_lifetime}
+use Rattle.classify.specs.Lifetimes.{lifetime_of}
 use Rattle.referral.specs.Cuts.{ServerAddress, Cut}
 use Rattle.referral.specs.Cuts as referral
 use Rattle.cache.specs.Cached as cache

@@ -1,5 +1,5 @@
 //! The look-up without asking anybody: local zones, cache, and else where the search starts.
-ghost use Rattle.std.specs.Prelude.{◌≡◌, ◌↔◌, IsTrue, IfOk};
+ghost use Rattle.std.specs.Prelude.{◌↔◌, IsTrue, IfOk};
 ghost use Rattle.rdata.specs.Types.{type_number};
 ghost use Rattle.zone.specs.Zones.{IsBeneath};
 ghost use Rattle.dname.specs.Labels.{Name as Labels};

@@ -1,11 +1,11 @@
 //! What the resolver learnt, in three stores of a fixed room: links (`cache`), delegations (`referral`) and the
 //! penalties of servers (`retry`). `Stores` has one call for each use that the work on a query makes of them, and
 //! sets how long a link or a cut is kept, and how much of a cut.
-ghost use Rattle.std.specs.Prelude.{◌≡◌, None, IfOk, IfSome, OnOk, OnErr};
+ghost use Rattle.std.specs.Prelude.{◌≡◌, IfOk, IfSome, OnOk, OnErr};
 ghost use Rattle.std.specs.NonZero.{non_zero_usize_get};
 ghost use Rattle.rdata.specs.Types.{type_number};
 ghost use Rattle.authority.specs.Answers.{link_view};
-ghost use Rattle.referral.specs.Cuts.{nearest, cut_of, IsBest};
+ghost use Rattle.referral.specs.Cuts.{IsBest};
 ghost use Rattle.cache.specs.Cached.{alone, lent, hit_of, IsHeld};
 ghost use Rattle.frames.specs.Frames.{opened, fresh_addresses, after_add};
 ghost use Rattle.resolution.specs.Jobs.{level_of, with_answer, with_timeout};

@@ -1,6 +1,6 @@
 //! `Taken`, a link that is used for a query, and its `Source`, by which it goes out: zones at hand send their own
 //! TTL, the cache and servers what is left of theirs, and only a link of the cache can run out meanwhile.
-ghost use Rattle.std.specs.Prelude.{◌≡◌, ◌≤◌, IfOk, MatchOption};
+ghost use Rattle.std.specs.Prelude.{◌≡◌, IfOk, MatchOption};
 ghost use Rattle.rdata.specs.Records.{Record as Datum};
 ghost use Rattle.zone.specs.Links.{Alias as Alternative};
 ghost use Rattle.authority.specs.Answers.{link_view};

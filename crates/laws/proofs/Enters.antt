@@ -22,7 +22,7 @@ use Rattle.cache.specs.Cached.{Hit, IsKept}
 use Rattle.resolution.specs.Jobs.{Home, Stores, level_of, with_answer, with_timeout, IsCutOf, Search, Job, Input, Start, Told, TimedOut, TcpFailed, Task, Go, Again, Point, point, hit_from, cut_from}
 use Rattle.retry.specs.Penalties.{AreAtMost, answered, timed_out}
 use Rattle.resolution.specs.Rules.{Learnt, IsAnswered, IsReferred, ByClass, Enters, server_of, IsTakenEntry, IsTakenCut, Stops}
-use Rattle.runs.specs.States.{Turn, Event, Client, Datagram, TcpReply, Tick, Query, Path, ByUdp, ByTcp, Asking, IsFor, via_of}
+use Rattle.runs.specs.States.{Turn, Event, Client, Datagram, TcpReply, Tick, Query, Path, ByUdp, ByTcp, Asking, via_of}
 use Rattle.runs.specs.States as states
 use Rattle.runs.specs.Messages.{Brings}
 use Rattle.runs.specs.Runs.{Asks, Earlier, clock_of}

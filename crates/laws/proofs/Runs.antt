@@ -8,7 +8,7 @@ use Rattle.front.specs.declared.queries.Asked.{Asked}
 use Rattle.front.specs.declared.queries.Asked.TheVariants as heard
 use Rattle.resolution.specs.Jobs.{Home, Job, Start}
 use Rattle.resolution.specs.Rules.{Stops}
-use Rattle.runs.specs.States.{Event, Client, Datagram, TcpReply, Tick, Action, Reply, Send, TcpAsk, MoreDue, Turn, Served, Nobody, Own, Query, Plain, Asker, asker, recursive, job_for, Path, ByUdp, ByTcp, Asking, IsFor, Open, open_query, AreApart, moment, Site, State, IsNew, moved}
+use Rattle.runs.specs.States.{Event, Client, Datagram, TcpReply, Tick, Action, Reply, Turn, Served, Query, Plain, asker, Open, AreApart, moment, Site, State, IsNew, moved}
 use Rattle.runs.specs.States as states
 use Rattle.runs.specs.Messages.{IsReply, IsRefusal}
 use Rattle.runs.specs.Runs.{Run, Always, clock_of, asks_among, is_for}

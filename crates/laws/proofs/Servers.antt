@@ -24,7 +24,7 @@ use Rattle.frames.proofs.Trims.{trimmed_names, trimmed_addresses}
 use Rattle.truth.specs.Worlds.{Address, World, IsWorld, Serves}
 use Rattle.truth.specs.Serving.{MayServe}
 use Rattle.truth.specs.Reading.{IsReferralTo, NamesServer, GivesAddress}
-use Rattle.truth.specs.Frames.{AreHeld, MayAsk, IsDelegation, IsFrame, IsGrown, frame_at, AreTargets, AreTaken}
+use Rattle.truth.specs.Frames.{MayAsk, IsDelegation, IsFrame, frame_at, AreTargets, AreTaken}
 use Rattle.truth.specs.Frames as truth
 use Rattle.truth.proofs.Grown.{hints_start, cut_starts, kept_starts, kept_below_starts, referral_kept, referral_starts, address_adds, frame_asks}
 use Rattle.classify.specs.Targets.{target_of as target_names}

@@ -15,7 +15,7 @@ use Rattle.lru.proofs.Splits.{Contains-nil}
 use Rattle.recency.specs.Orders.{KeepsOnly}
 use Rattle.resolution.specs.Jobs.{Home, Stores, with_answer, Taken, received_link, Search, Job, job_at, Input, Start, Told, TimedOut, TcpFailed, Next, Task, Take, Go, Again, Point, point}
 use Rattle.resolution.specs.Rules.{IsRemote, ByClass, Enters, Advances, IsTakenEntry, IsTakenCut, Stops}
-use Rattle.runs.specs.States.{Event, Client, Datagram, TcpReply, Tick, Action, Reply, Send, TcpAsk, MoreDue, Turn, Served, Nobody, Own, Query, Plain, Asker, recursive, job_for, Path, ByUdp, ByTcp, Asking, IsFor, via_of, Open, open_query, Site, State}
+use Rattle.runs.specs.States.{Event, Client, Datagram, TcpReply, Tick, Action, Turn, Served, Nobody, Own, Query, Asker, recursive, Path, ByUdp, ByTcp, Asking, via_of, Open, State}
 use Rattle.runs.specs.States as states
 use Rattle.runs.specs.Messages.{Brings}
 use Rattle.runs.specs.Runs.{Earlier, Came, clock_of, asks_in, is_for, asks_of}

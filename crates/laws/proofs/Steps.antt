@@ -11,7 +11,7 @@ use Rattle.classify.specs.Classes.{class_of}
 use Rattle.retry.specs.Plans.{upcoming}
 use Rattle.referral.specs.Cuts.{Cut}
 use Rattle.frames.specs.Frames.{opened, taken_addresses}
-use Rattle.resolution.specs.Jobs.{Stores, level_of, with_answer, IsCutOf, Search, Taken, received_link, AreFresh, IsEnding, Job, Input, Told, TimedOut, Next, Ask, AskTcp, Done, Fail}
+use Rattle.resolution.specs.Jobs.{Stores, level_of, with_answer, IsCutOf, Search, Taken, received_link, Job, Input, Told, TimedOut, Next, Ask, AskTcp, Done, Fail}
 use Rattle.resolution.specs.Jobs as jobs
 use Rattle.runs.specs.States.{Event, Client, Datagram, TcpReply, TcpFailed, Tick, Action, MoreDue, Served, Query, Turn, Plain, via_of, Open, Site, State}
 use Rattle.runs.specs.Messages.{IsSent, Brings}

@@ -2,7 +2,7 @@
 use Rattle.std.proofs.Common.{◌≡◌, ℕ, ◌⊎◌, inl, inr, Some, List, Contains, true, sym, ap, ◌∙◌, subst}
 use Rattle.dname.specs.Labels.{Name}
 use Rattle.referral.specs.Cuts as cuts
-use Rattle.referral.specs.Cuts.{Cut, Known}
+use Rattle.referral.specs.Cuts.{Known}
 use Rattle.referral.proofs.Members as delegations
 use Rattle.zone.specs.Links.{Link}
 use Rattle.cache.specs.Keys.{Key, key_for}

@@ -13,7 +13,7 @@ use Rattle.cache.specs.Keys.{Key, key_for}
 use Rattle.cache.specs.Cached.{Hit, is_live, answer, hit_of}
 use Rattle.resolution.specs.Jobs.{Home, Stores, Search, Job, Input, Start, Told, TimedOut, TcpFailed, Next, Point, hit_from}
 use Rattle.resolution.specs.Rules.{Rule, takes, asks, follows, restarts, hears, descends, gives_up, Rules, Enters, Advances}
-use Rattle.runs.specs.States.{Event, Client, Datagram, TcpReply, Tick, Action, Served, Turn, Plain, asker, Site, State, moved}
+use Rattle.runs.specs.States.{Event, Client, Datagram, TcpReply, Tick, Action, Served, Turn, Plain, Site, State, moved}
 use Rattle.runs.specs.States as event
 use Rattle.runs.specs.Steps.{IsIgnored, Hears, IsHandled, IsTicked, IsTurn, Step}
 use Rattle.runs.specs.Runs.{Run}

@@ -1,6 +1,5 @@
 //! An ask of a server as a line.
 ghost use Rattle.std.specs.Prelude.{◌≡◌, ◌⊎◌, ◌++◌, OnOk, string_bytes};
-ghost use Rattle.std.specs.List.{flat_map};
 ghost use Rattle.lines.specs.Lines.{AreNone};
 ghost use Rattle.lines.specs.Asks.{IsAskPrinted, ask_text, asked_text, kind_text, question_text, way_word};
 

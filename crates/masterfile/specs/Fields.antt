@@ -1,5 +1,5 @@
 -- The fields of an entry: each is read from the entry's words that are left, and leaves the words behind it.
-use Rattle.std.specs.Prelude.{ℕ, Bool, cond, nat_eq, Option, Some, None, Result, Ok, Err, List, [], ◌∷◌, map}
+use Rattle.std.specs.Prelude.{ℕ, cond, nat_eq, Option, Some, None, Result, Ok, Err, List, [], ◌∷◌}
 use Rattle.std.specs.Cmp.Lexicographic.{pointwise}
 use Rattle.dname.specs.Text.{name_under}
 use Rattle.dname.specs.declared.text.NameError.{NameError}

@@ -1,5 +1,5 @@
 //! Addresses of A and AAAA records, read (RFC 1035, section 3.4.1; RFC 4291, section 2.2).
-ghost use Rattle.std.specs.Prelude.{◌≡◌, ◌<◌, ◌∷◌, [], length, MatchOption, MatchResult, Ok, Err};
+ghost use Rattle.std.specs.Prelude.{◌≡◌, ◌<◌, length, MatchOption, MatchResult, Ok, Err};
 ghost use Rattle.masterfile.specs.Addresses.{fields, is_decimal as decimal_test, octet as octet_of, octets, octets_after, after_octet, surplus_kind, IsFirstField, has_dot as dot_test, ipv4_of, ipv6_of};
 
 use crate::faults::FileKind;

@@ -1,10 +1,8 @@
 //! Entries read one by one, records and directives, each under the origin, owner and TTL in force.
-ghost use Rattle.std.specs.Prelude.{◌≡◌, ◌≤◌, [], ◌∷◌, length, Ok, Err, None, Some, IfOk, OnOk, MatchOption, MatchResult, false};
+ghost use Rattle.std.specs.Prelude.{◌≡◌, [], ◌∷◌, Ok, Err, None, Some, IfOk, OnOk, false};
 ghost use Rattle.words.specs.Lexemes.{plain as plain_text};
 ghost use Rattle.words.specs.Views.{lead_of};
-ghost use Rattle.rdata.specs.Records.{greatest_ttl};
-ghost use Rattle.masterfile.specs.Faults.{FaultIn};
-ghost use Rattle.masterfile.specs.Entries.{is_internet as internet_test, is_foreign_class as foreign_test, take_head, ttl_in, record_of, begins_directive, directive_in, record_of_named, entry_in, IsTtl};
+ghost use Rattle.masterfile.specs.Entries.{is_internet as internet_test, is_foreign_class as foreign_test, take_head, record_of, begins_directive, directive_in, record_of_named, entry_in, IsTtl};
 ghost use Rattle.masterfile.specs.Files.{start};
 ghost use Rattle.masterfile.specs.Given.{GivesHead, GivesEntry, GivesContext};
 

@@ -1,12 +1,11 @@
 //! The fields of an entry, read word by word.
-ghost use Rattle.std.specs.Prelude.{◌≡◌, ◌≤◌, ◌^◌, ℕ, [], length, IfOk, OnOk, MatchResult, Ok, Err, None, Some};
+ghost use Rattle.std.specs.Prelude.{◌≡◌, ◌≤◌, [], length, IfOk, OnOk, MatchResult, Ok, Err, None, Some};
 ghost use Rattle.words.specs.Views.{word_of};
 ghost use Rattle.rdata.specs.Kept.{datum};
 ghost use Rattle.masterfile.specs.Faults.{FaultIn};
-ghost use Rattle.masterfile.specs.Addresses.{ipv4_of, ipv6_of};
 ghost use Rattle.masterfile.specs.Strings.{string_word, take_strings};
 ghost use Rattle.masterfile.specs.Given.{GivesRest, ReadsRest, same};
-ghost use Rattle.masterfile.specs.Fields.{plain_word, name_of, left_over, take_by, take_name, take_number, take_end, take_authority, take_exchange, take_data};
+ghost use Rattle.masterfile.specs.Fields.{plain_word, name_of, left_over, take_name, take_number, take_authority, take_exchange, take_data};
 
 use crate::addresses::{ipv4, ipv6};
 use crate::faults::FileKind;

@@ -1,5 +1,5 @@
 //! Decimal numbers, read within their bounds: TTLs, preferences, the fields of an SOA.
-ghost use Rattle.std.specs.Prelude.{◌≡◌, ◌<◌, ◌^◌, nat_le, cond, true, Some, None};
+ghost use Rattle.std.specs.Prelude.{◌≡◌, ◌<◌, nat_le, cond, true, Some, None};
 ghost use Rattle.masterfile.specs.Numbers.{is_digit as digit_test, are_digits, is_number as number_test, value_from, number_of};
 
 use crate::faults::FileKind;

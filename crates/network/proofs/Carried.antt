@@ -4,14 +4,14 @@ use Rattle.std.specs.Prelude.{Contains}
 use Rattle.zone.proofs.LawLists.{none_in, first_in, later_in, in_cases}
 use Rattle.truth.specs.Worlds.{World, IsWorld}
 use Rattle.truth.specs.Serving.{MayServe}
-use Rattle.runs.specs.States.{Endpoint, endpoint, Path, ByUdp, ByTcp, Asking, Turn, Site, State}
+use Rattle.runs.specs.States.{Endpoint, endpoint, Path, ByUdp, ByTcp, Asking, Turn, Site}
 use Rattle.runs.specs.States as resolver
 use Rattle.runs.specs.Messages.{sending, IsSent}
 use Rattle.runs.specs.Runs.{Run, Earlier, GivesOut, Asks, Accepts}
 use Rattle.laws.specs.Headline.{IsHonest}
 use Rattle.laws.proofs.Every.{sound_run}
 use Rattle.laws.proofs.RightLists.{both_cases, front_in}
-use Rattle.network.specs.Networks.{Sent, Network, NetworkEvent, NetworkAction, Reply, sent_at, sends_among, sends_in, NetworkStep, Passes}
+use Rattle.network.specs.Networks.{Sent, Network, NetworkAction, Reply, sent_at, sends_among, sends_in, NetworkStep, Passes}
 use Rattle.network.specs.Laws.{Line, NetworkRun, Shows, IsQuiet, Follows, IsResolverRun, NetworkIsRun, NetworkHeadline}
 use Rattle.network.proofs.Asked.{AsksTcp, quiet, asks, step_asks}
 use Rattle.network.proofs.Brought.{IsAskOf, reached_serves}

@@ -17,7 +17,7 @@ use Rattle.laws.specs.Headline.{IsRightAnswer}
 use Rattle.laws.specs.Headline as theorem
 use Rattle.laws.proofs.Actions.{own_not_query}
 use Rattle.network.specs.Networks.{Sent, Network, sent_at, NetworkAction, NetworkEvent, Client, Carry, CarryTruncated, CarryTcp, Lose, Tick, Reply, WasSent, WasAsked, MoreDue, IsTruncatedReply, IsFitReply, IsDatagram, IsStream, OverUdp, OverTcp, lost, OfSend, Reaches, numbered, shown}
-use Rattle.network.specs.Laws.{Line, Throughout, Shows, BringsOf, IsOfNoClient, IsTo, IsAnswered, IsRefused, RepliesAreRight, IsQuiet, Mirrors, Follows}
+use Rattle.network.specs.Laws.{Line, Throughout, Shows, BringsOf, IsOfNoClient, IsTo, IsAnswered, IsRefused, RepliesAreRight, Mirrors, Follows}
 use Rattle.network.proofs.Owned.{IsStepOf, reply_is_own, open_is_recursive}
 
 -- What a line tells of the step that it mirrors: no other replies, and that step's client, if there is one.

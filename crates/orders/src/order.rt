@@ -1,5 +1,5 @@
 //! What one line of a script orders.
-ghost use Rattle.std.specs.Prelude.{◌≡◌, ◌≤◌, ◌^◌, Ok, Err, MatchOption, MatchResult};
+ghost use Rattle.std.specs.Prelude.{◌≡◌, Ok, Err, MatchResult};
 ghost use Rattle.statements.specs.Faults.{IsLineFault};
 ghost use Rattle.statements.specs.Words.{ended};
 ghost use Rattle.orders.specs.Orders.{order_seen, number_in, ask_in, raw_in, marks_in, recursion_in, way_in, ordered_by};

@@ -4,7 +4,7 @@
 //! where `tcp` stands behind, without recursion where `norec` stands behind that. `carry K`, `cut K` and `lose K` say
 //! what comes of the send of number K; `run` carries all that are left; `tick` is a step of the clock. Blank lines and
 //! lines that begin with `;` are skipped. Words are parted by spaces and tabs.
-ghost use Rattle.std.specs.Prelude.{◌≡◌, ◌++◌, ◌∷◌, [], Ok, Err, map, MatchResult};
+ghost use Rattle.std.specs.Prelude.{◌≡◌, Ok, Err, map, MatchResult};
 ghost use Rattle.statements.specs.Faults.{IsLineFault};
 ghost use Rattle.statements.specs.Texts.{IsTextFault, stated_words};
 ghost use Rattle.orders.specs.Orders.{order_seen, asks_of, orders_of, said, script_of};

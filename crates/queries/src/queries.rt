@@ -1,5 +1,5 @@
 //! The open queries of a resolver, found by number, by ask and by due moment without a walk over all of them.
-ghost use Rattle.std.specs.Prelude.{◌≡◌, ℕ, ◌+◌, ◌≤◌, [], length, IfSome, OnOk, OnErr, MatchOption};
+ghost use Rattle.std.specs.Prelude.{◌≡◌, ◌+◌, ◌≤◌, [], length, OnOk, OnErr, MatchOption};
 ghost use Rattle.runs.specs.States.{AreApart};
 ghost use Rattle.runs.specs.Steps.{AreWith, IsRaised};
 ghost use Rattle.queries.specs.Lookups.{IsOnLine, IsOnStream, IsFound, IsFree, IsEarliest, HasNo, IsTheOne, IsTaken, IsTakenId};

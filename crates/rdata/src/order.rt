@@ -1,7 +1,7 @@
 //! An order of data, by type and then by what they say, so that repeats are found in long lists. It is no order
 //! of the RFCs.
 
-ghost use Rattle.std.specs.Prelude.{◌≡◌, [], ◌∷◌};
+ghost use Rattle.std.specs.Prelude.{◌≡◌};
 ghost use Rattle.std.proofs.Common.{refl};
 ghost use Rattle.std.specs.Ordering.{nat_cmp, as_partial_cmp};
 ghost use Rattle.std.specs.Cmp.{unsigned_ties};

@@ -1,5 +1,5 @@
 //! Lists of names and of addresses of servers.
-ghost use Rattle.std.specs.Prelude.{◌≡◌, [], ◌∷◌, ◌++◌, length, take, IfOk, OnOk, OnErr};
+ghost use Rattle.std.specs.Prelude.{◌≡◌, [], ◌∷◌, ◌++◌, IfOk, OnOk, OnErr};
 
 use dname::{Heap, Name, Starved};
 use rdata::Addr;

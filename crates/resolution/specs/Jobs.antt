@@ -1,7 +1,7 @@
 -- What the work on one query is made of (RFC 1034, section 5.3.3): what the resolver holds, the links that
 -- were taken so far, the searches for servers that are under way, what comes in and what goes out. Moments
 -- are milliseconds, times to live seconds.
-use Rattle.std.specs.Prelude.{◌≡◌, ℕ, ◌+◌, ◌-◌, ◌*◌, ◌/◌, ◌<◌, Bool, true, false, nat_le, List, [], ◌∷◌, map}
+use Rattle.std.specs.Prelude.{◌≡◌, ℕ, ◌+◌, ◌-◌, ◌*◌, ◌<◌, Bool, true, false, nat_le, List, [], ◌∷◌, map}
 use Rattle.std.specs.List.{flat_map}
 use Rattle.dname.specs.Labels.{Name, root}
 use Rattle.rdata.specs.Data.{Datum, Ipv4}

@@ -1,5 +1,5 @@
 //! The resolver of a network before its first event.
-ghost use Rattle.std.specs.Prelude.{◌≡◌, MatchResult};
+ghost use Rattle.std.specs.Prelude.{MatchResult};
 ghost use Rattle.simnet.specs.Beginnings.{IsResolverOf, SimRefuses};
 
 use crate::fault::SimError;

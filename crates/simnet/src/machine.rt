@@ -1,5 +1,4 @@
 //! A network as a machine whose history several workers share.
-ghost use Rattle.std.specs.Prelude.{◌≡◌, ◌↔◌, IfOk, IsTrue};
 
 use crate::action::SimActions;
 use crate::event::SimEvent;

@@ -1,7 +1,6 @@
 //! Which event, if any, an ask that went out brings to the resolver.
 ghost use Rattle.std.specs.Prelude.{◌≡◌, IfOk, Option, option_map};
 ghost use Rattle.runs.specs.States as runs;
-ghost use Rattle.exchange.specs.Paths.{path_view};
 ghost use Rattle.exchange.specs.Views.{event_view};
 ghost use Rattle.network.specs.Networks.{IsTruncatedReply, IsFitReply, OverUdp, OverTcp, lost};
 

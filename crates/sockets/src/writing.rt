@@ -1,7 +1,7 @@
 //! Frames written to a stream.
 ghost use Rattle.std.specs.Prelude.{◌≡◌, ◌+◌, ◌<◌, ◌≤◌, ◌^◌, ◌++◌, length, take, drop, MatchResult};
 ghost use Rattle.std.specs.Io.KnownBytes.{Appends};
-ghost use Rattle.sockets.specs.Frames.{frame, IsBegun, IsNotWritten};
+ghost use Rattle.sockets.specs.Frames.{frame, IsNotWritten};
 
 use crate::fault::FrameError;
 use byteorder::{BigEndian, ByteOrder};

@@ -1,5 +1,5 @@
 -- What a word says, and the next word of a line.
-use Rattle.std.specs.Prelude.{ℕ, ◌+◌, ◌-◌, ◌*◌, Bool, true, false, ◌&&◌, cond, nat_le, Result, Ok, Err, Option, Some, None, List, [], ◌∷◌}
+use Rattle.std.specs.Prelude.{ℕ, ◌+◌, ◌-◌, ◌*◌, Bool, true, ◌&&◌, cond, nat_le, Result, Ok, Err, Option, Some, None, List, [], ◌∷◌}
 use Rattle.std.specs.Net.Reader.{read_ipv4, whole_value}
 use Rattle.hex.specs.Hex.{decode_of}
 use Rattle.hex.specs.declared.error.FromHexError.{FromHexError}
@@ -9,7 +9,7 @@ use Rattle.dname.specs.Labels.{Name}
 use Rattle.dname.specs.declared.text.NameError.{NameError}
 use Rattle.dname.specs.Text.{name_of_text}
 use Rattle.statements.specs.declared.fault.LineKind.{LineKind}
-use Rattle.statements.specs.declared.fault.LineKind.TheVariants.{BadNumber, BadName, BadType, WordCount, BadHex, BadAddress}
+use Rattle.statements.specs.declared.fault.LineKind.TheVariants.{BadNumber, BadType, WordCount, BadHex, BadAddress}
 use Rattle.statements.specs.Faults.{kind_of_name, ◌>>=◌}
 
 abbrev pub is_digit : ℕ → Bool

@@ -1,5 +1,5 @@
 //! Words of a line read as numbers, addresses, names, bytes and types.
-ghost use Rattle.std.specs.Prelude.{◌≡◌, ◌<◌, ◌≤◌, ◌^◌, nat_le, cond, true, Some, None, Ok, Err, IfOk, MatchResult};
+ghost use Rattle.std.specs.Prelude.{◌≡◌, ◌<◌, ◌≤◌, nat_le, cond, true, Some, None, Ok, Err, IfOk, MatchResult};
 ghost use Rattle.statements.specs.Faults.{IsLineFault};
 ghost use Rattle.statements.specs.Words.{is_digit as digit_test, are_digits as digits_test, value_from, number_of, address_of, name_of, bytes_of, type_of};
 

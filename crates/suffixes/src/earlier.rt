@@ -1,5 +1,5 @@
 //! The suffixes of the names that a message has so far, and the longest that a name ends with.
-ghost use Rattle.std.specs.Prelude.{◌≡◌, ℕ, ◌<◌, ◌≤◌, ◌++◌, [], ◌∷◌, length, drop, IfOk, IfSome, OnOk, OnErr, vec_len, vec_capacity, min, ◌+◌};
+ghost use Rattle.std.specs.Prelude.{◌≡◌, ◌<◌, ◌≤◌, ◌++◌, [], ◌∷◌, length, drop, IfOk, IfSome, OnOk, OnErr, vec_len, vec_capacity, min, ◌+◌};
 ghost use Rattle.dname.specs.Labels.{wire};
 ghost use Rattle.dname.specs.Wire.{labels_of, IsWire};
 ghost use Rattle.layout.specs.Packing.{find};

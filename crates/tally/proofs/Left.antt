@@ -6,7 +6,7 @@ use Rattle.std.proofs.lemmas.Bool.Decides.{nat_tests}
 use Rattle.std.proofs.lemmas.List.{take_more, take_more_set, take-append-le}
 use Rattle.wire.specs.declared.via.Via.{Via}
 use Rattle.tally.specs.declared.sends.Mark.{Mark}
-use Rattle.tally.specs.Sends.{NoneLeft, IsLowest, place_of, mark_at, lowest, lowest_from, taken, taken_off, way_at}
+use Rattle.tally.specs.Sends.{NoneLeft, IsLowest, place_of, lowest, lowest_from, taken, taken_off, way_at}
 
 none_both : (ms ns : List Mark) → NoneLeft ms → NoneLeft ns → NoneLeft (ms ++ ns)
 none_both [] ns h k = k

@@ -1,5 +1,5 @@
 -- The clients of a script, and what they ask.
-use Rattle.std.specs.Prelude.{◌≡◌, ℕ, ◌-◌, ◌%◌, Bool, true, false, cond, nat_eq, Option, Some, None, List, [], ◌∷◌, ◌++◌, slice_get}
+use Rattle.std.specs.Prelude.{◌≡◌, ℕ, ◌-◌, ◌%◌, Bool, false, cond, nat_eq, Option, Some, None, List, [], ◌∷◌, ◌++◌, slice_get}
 use Rattle.dname.specs.Labels.{Name}
 use Rattle.layout.specs.Messages.{Message, internet}
 use Rattle.front.specs.Queries.{IsAsked}

@@ -1,5 +1,5 @@
 -- Replies to recursive queries, counted and judged.
-use Rattle.std.specs.Prelude.{◌≡◌, ◌⊎◌, ℕ, ◌+◌, Option, Some, None, List, [], ◌∷◌}
+use Rattle.std.specs.Prelude.{◌≡◌, ◌⊎◌, ℕ, ◌+◌, Option, Some, None, List}
 use Rattle.rdata.specs.Types.{type_number}
 use Rattle.layout.specs.Messages.{Message, IsMessage}
 use Rattle.front.specs.declared.queries.Query.{Query as Asking}

@@ -1,5 +1,5 @@
 -- The asks that went out of a network, and which of them are left to be carried.
-use Rattle.std.specs.Prelude.{◌≡◌, ℕ, ◌+◌, ◌-◌, ◌<◌, ◌≤◌, Bool, true, false, cond, nat_eq, Option, Some, None, List, [], ◌∷◌, length, take, option_map, slice_get, slice_set}
+use Rattle.std.specs.Prelude.{◌≡◌, ℕ, ◌+◌, ◌-◌, ◌<◌, ◌≤◌, true, false, cond, nat_eq, Option, Some, None, List, [], ◌∷◌, length, take, option_map, slice_get, slice_set}
 use Rattle.wire.specs.declared.via.Via.{Via}
 use Rattle.tally.specs.declared.sends.Mark.{Mark}
 

@@ -1,9 +1,8 @@
 -- Pieces put behind a text until it is longer than a limit.
-use Rattle.std.proofs.Common.{◌≡◌, ℕ, ◌+◌, ◌<◌, ◌≤◌, ◌⊎◌, inl, inr, List, [], ◌∷◌, ◌++◌, length, take, drop, map, Option, Some, None, refl, sym, ◌∙◌, ap, subst, arith, length-append}
-use Rattle.std.proofs.lemmas.List.{take-append-drop, take_all, take-map, length-map}
+use Rattle.std.proofs.Common.{◌≡◌, ℕ, ◌+◌, ◌<◌, ◌≤◌, inl, inr, List, ◌++◌, length, take, drop, Option, Some, None, refl, sym, ◌∙◌, ap, subst, arith, length-append}
+use Rattle.std.proofs.lemmas.List.{take-append-drop}
 use Rattle.std.proofs.lemmas.Grind.{flat_map-append}
 use Rattle.std.specs.Prelude.{flat_map, IfSome, MatchOption}
-use Rattle.std.specs.List.{AllByRecursion}
 use Rattle.layout.specs.Pieces.{Piece, Text, after}
 use Rattle.layout.specs.Messages.{Message, IsMessage, IsWritable, encoding, folded_message}
 use Rattle.layout.proofs.Letters.{after-append, pieces_both}

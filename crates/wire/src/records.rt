@@ -1,5 +1,5 @@
 //! Records and questions read; those that are not served are stepped over.
-ghost use Rattle.std.specs.Prelude.{◌≡◌, ℕ, ◌≤◌, ◌+◌, List, Option, length, option_to_list, ◌++◌, OnOk, IsOk, IsTrue, Ok, None};
+ghost use Rattle.std.specs.Prelude.{◌≡◌, ℕ, ◌≤◌, ◌+◌, List, Option, option_to_list, ◌++◌, OnOk, IsOk, IsTrue, Ok, None};
 ghost use Rattle.rdata.specs.Records as plain;
 ghost use Rattle.layout.specs.Messages as layouts;
 ghost use Rattle.layout.specs.Messages.{ttl_of};

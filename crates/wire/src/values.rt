@@ -1,10 +1,10 @@
 //! RDATA read, within the length that RDLENGTH gives.
-ghost use Rattle.std.specs.Prelude.{◌≡◌, ℕ, ◌≤◌, ◌<◌, ◌+◌, List, length, IfOk};
+ghost use Rattle.std.specs.Prelude.{ℕ, ◌≤◌, ◌<◌, ◌+◌, List, length, IfOk};
 ghost use Rattle.rdata.specs.Data.{Datum};
 ghost use Rattle.rdata.specs.Kept.{datum};
-ghost use Rattle.wire.specs.Values.{two_within, string_at, texts_at, soa_behind, form_at, value_at, name_within};
+ghost use Rattle.wire.specs.Values.{string_at, texts_at, form_at, value_at, name_within};
 ghost use Rattle.wire.specs.Chains.{AreChainEnds};
-ghost use Rattle.wire.specs.Results.{Gives, and_then};
+ghost use Rattle.wire.specs.Results.{Gives};
 
 use crate::error::WireError;
 use crate::fields::{four_at, two_at};

@@ -1,9 +1,9 @@
 -- Lines of words are read as an entry each.
-use Rattle.std.proofs.Common.{◌≡◌, ℕ, ◌+◌, ◌<◌, ◌==◌, Bool, true, false, ◌&&◌, not, List, [], ◌∷◌, ◌++◌, length, refl, ap, ◌∙◌, arith}
+use Rattle.std.proofs.Common.{◌≡◌, ℕ, ◌+◌, ◌==◌, Bool, true, false, ◌&&◌, not, List, [], ◌∷◌, ◌++◌, refl, ap, ◌∙◌, arith}
 use Rattle.std.proofs.lemmas.Bool.Decides.{nat_tests}
 use Rattle.words.specs.Lexemes.{Word, plain, quoted, broken, ends_word}
-use Rattle.words.specs.Entries.{Entry, Lead, margin, Text, lead, next_entry, text_from, entries_from}
-use Rattle.words.specs.Lines.{line_of, lines_of, is_plain, IsWritable, AreWritable, AllWritable, with_words, entries_of, LinesAreReadBack}
+use Rattle.words.specs.Entries.{Entry, Lead, margin, Text, lead, next_entry, text_from}
+use Rattle.words.specs.Lines.{line_of, lines_of, is_plain, IsWritable, AreWritable, with_words, LinesAreReadBack}
 use Rattle.words.proofs.Fuel.{text-end}
 use Rattle.words.proofs.LineLaw.{line_is_read}
 

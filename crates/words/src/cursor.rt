@@ -1,7 +1,7 @@
 //! The cursor over a text's words.
-ghost use Rattle.std.specs.Prelude.{◌≡◌, ℕ, ◌+◌, ◌<◌, ◌≤◌, ◌^◌, length, [], ◌∷◌, MatchOption, false, IsTrue, ◌↔◌};
+ghost use Rattle.std.specs.Prelude.{◌≡◌, ◌+◌, ◌<◌, ◌≤◌, ◌^◌, length, [], ◌∷◌, MatchOption, false, IsTrue, ◌↔◌};
 ghost use Rattle.words.specs.Entries.{lead, text_from, broken_off as broken_text};
-ghost use Rattle.words.specs.Views.{word_of, lead_of};
+ghost use Rattle.words.specs.Views.{lead_of};
 ghost use Rattle.words.specs.Steps.{text_at, IsStep};
 
 use crate::lexemes::{Lexeme, Word, first};

@@ -1,7 +1,7 @@
 -- What a zone says of a name and a type (RFC 1034, sections 3.6.2, 4.3.2 and 4.3.3; RFC 2308).
-use Rattle.std.specs.Prelude.{◌≡◌, ◌≢◌, ℕ, ◌≤◌, min, cond, nat_lt, ◌⊎◌, List, [], ◌∷◌, length, Contains}
+use Rattle.std.specs.Prelude.{◌≡◌, ◌≢◌, ℕ, min, cond, nat_lt, ◌⊎◌, List, [], ◌∷◌, Contains}
 use Rattle.dname.specs.Labels.{IsAtOrUnder, star}
-use Rattle.rdata.specs.Data.{Datum, Ipv4, Ns, Cname, Soa, Ptr, Mx, Txt, Ipv6, type_of}
+use Rattle.rdata.specs.Data.{Datum, Soa}
 use Rattle.rdata.specs.Records.{Record, greatest_ttl}
 use Rattle.zone.specs.Zones.{Zone, At, IsUncut, Exists, IsEncloser, cname_type, soa_type}
 

@@ -1,8 +1,8 @@
 -- The look-up as a function: what it gives is the link, or the cut, of the definitions.
-use Rattle.std.specs.Prelude.{◌≡◌, ℕ, Bool, true, false, ◌&&◌, ◌||◌, not, cond, nat_eq, is_some, Option, Some, None, List, [], ◌∷◌, ◌++◌, map, filter, find, fold}
+use Rattle.std.specs.Prelude.{ℕ, Bool, false, ◌&&◌, ◌||◌, not, cond, nat_eq, is_some, Option, Some, None, List, [], ◌∷◌, ◌++◌, map, filter, find, fold}
 use Rattle.std.specs.List.{list_any, flat_map}
 use Rattle.dname.specs.Labels.{star, same_name, is_under}
-use Rattle.rdata.specs.Data.{Datum, Ipv4, Ns, Cname, Soa, Ptr, Mx, Txt, Ipv6, type_of, same_data}
+use Rattle.rdata.specs.Data.{Datum, Ns, type_of, same_data}
 use Rattle.rdata.specs.Records.{Record}
 use Rattle.rdata.specs.Sets.{is_repeat}
 use Rattle.zone.specs.Zones.{Zone, a_type, ns_type, cname_type, soa_type, aaaa_type}

@@ -1,7 +1,7 @@
 -- A zone, its cuts, and which names exist in it (RFC 1034, sections 3.6, 4.2 and 4.3).
-use Rattle.std.specs.Prelude.{◌≡◌, ◌≢◌, ℕ, ◌≤◌, List, [], ◌∷◌, length, Contains}
+use Rattle.std.specs.Prelude.{◌≡◌, ◌≢◌, ℕ, ◌≤◌, List, length, Contains}
 use Rattle.dname.specs.Labels.{IsAtOrUnder}
-use Rattle.rdata.specs.Data.{Datum, type_of}
+use Rattle.rdata.specs.Data.{type_of}
 use Rattle.rdata.specs.Records.{Record}
 use Rattle.rdata.specs.Types.{type_number}
 use Rattle.rdata.specs.declared.rtype.RType.TheVariants as kind

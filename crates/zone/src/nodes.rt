@@ -2,7 +2,7 @@
 ghost use Rattle.std.specs.Prelude.{◌≡◌, ◌∷◌, ℕ, List, IfOk, OnOk};
 ghost use Rattle.dname.specs.Keys.{at_name};
 ghost use Rattle.dname.specs.Labels.{same_name, is_under};
-ghost use Rattle.zone.specs.Tree.{more, put_place, or_empty, seen, spot, spot_after, IsTree};
+ghost use Rattle.zone.specs.Tree.{put_place, seen, spot, spot_after, IsTree};
 
 use dname::{Heap, Name, Starved};
 use rdata::Record;

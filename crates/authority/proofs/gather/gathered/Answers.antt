@@ -1,8 +1,6 @@
 -- No record of the type, or all of it with the first one's TTL.
 use Rattle.std.proofs.Common.{rules, [], ap}
-use Rattle.rdata.specs.Kept.{datum}
 use Rattle.rdata.specs.Records.{Record}
-use Rattle.rdata.specs.Rows.{rows}
 use Rattle.rdata.specs.Types.{type_number}
 use Rattle.zone.specs.Zones.{Zone}
 use Rattle.authority.specs.Climb.{target, is_picked}

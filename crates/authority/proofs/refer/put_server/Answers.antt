@@ -1,7 +1,7 @@
 use Rattle.std.proofs.Common.{◌∙◌, sym, ap, refl}
 use Rattle.rdata.specs.Kept.{datum}
 use Rattle.rdata.specs.Records.{Record}
-use Rattle.authority.specs.Walk.{own_of, Stands}
+use Rattle.authority.specs.Walk.{own_of}
 use Rattle.authority.proofs.Walks.{stands, server_put}
 use Rattle.authority.proofs.refer.put_server.Goals as goal
 

@@ -1,5 +1,5 @@
 use Rattle.std.proofs.Common.{◌∙◌, sym, ap, []}
-use Rattle.authority.specs.Walk.{own_of, Stands}
+use Rattle.authority.specs.Walk.{own_of}
 use Rattle.authority.proofs.SetRows.{timed_at}
 use Rattle.authority.proofs.Walks.{stands, servers_are}
 use Rattle.authority.proofs.refer.servers.Goals as goal

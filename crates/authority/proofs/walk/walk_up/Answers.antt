@@ -1,7 +1,7 @@
-use Rattle.std.proofs.Common.{◌≡◌, ◌∙◌, refl, sym, ap, subst, cond, Some, None, length, List, ℕ, arith}
+use Rattle.std.proofs.Common.{◌∙◌, refl, sym, ap, subst, length, List, ℕ, arith}
 use Rattle.std.specs.List.{list_any}
 use Rattle.dname.specs.Labels.{AreLabels}
-use Rattle.zone.specs.Look.{cut_of, or_else, is_cut, is_type, climbed}
+use Rattle.zone.specs.Look.{cut_of, is_type, climbed}
 use Rattle.zone.specs.Zones.{ns_type}
 use Rattle.authority.specs.Climb.{above}
 use Rattle.authority.specs.Walk.{Stands, own_of}

@@ -1,6 +1,6 @@
 use Rattle.std.proofs.Common.{rules, ap}
 use Rattle.orders.specs.Orders.{order_seen}
-use Rattle.crowd.proofs.Listing.{no_line, at_more, ask_more}
+use Rattle.crowd.proofs.Listing.{at_more, ask_more}
 use Rattle.crowd.proofs.lists.list_of.Goals as goal
 
 pub loop-order-init : goal.loop-order-init

@@ -1,4 +1,4 @@
-use Rattle.std.proofs.Common.{◌≡◌, List, arith, ap, length, map, Vec, Global}
+use Rattle.std.proofs.Common.{List, arith, ap, length, map, Vec, Global}
 use Rattle.std.proofs.lemmas.List.{length_push}
 use Rattle.orders.specs.Orders.{order_seen}
 use Rattle.orders.specs.declared.order.Order.{Order}

@@ -1,4 +1,4 @@
-use Rattle.std.proofs.Common.{◌≡◌, take}
+use Rattle.std.proofs.Common.{take}
 use Rattle.resolution.specs.Jobs.{AreAddressesOf}
 use Rattle.known.proofs.made.found_addresses.Given as goal
 

@@ -1,4 +1,4 @@
-use Rattle.std.proofs.Common.{◌≡◌, ◌∙◌, ap}
+use Rattle.std.proofs.Common.{◌∙◌, ap}
 use Rattle.book.specs.Books.{seats}
 use Rattle.service.proofs.running.serve_by.Goals as goal
 

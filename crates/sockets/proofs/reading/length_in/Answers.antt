@@ -1,4 +1,4 @@
-use Rattle.std.proofs.Common.{◌≡◌, ◌<◌, ◌+◌, ◌*◌, ℕ, slice_index, rules, arith}
+use Rattle.std.proofs.Common.{◌≡◌, ◌<◌, ◌+◌, ◌*◌, ℕ, slice_index, arith}
 use Rattle.sockets.proofs.Streams.{two_bytes}
 use Rattle.sockets.proofs.reading.length_in.Goals as goal
 

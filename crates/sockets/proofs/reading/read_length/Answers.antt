@@ -1,4 +1,4 @@
-use Rattle.std.proofs.Common.{◌≡◌, ◌≤◌, length, ◌∙◌, subst, take_all, arith}
+use Rattle.std.proofs.Common.{◌≤◌, length, ◌∙◌, subst, take_all, arith}
 use Rattle.std.specs.Io.KnownBytes.{Consumes}
 use Rattle.sockets.proofs.reading.read_length.Goals as goal
 

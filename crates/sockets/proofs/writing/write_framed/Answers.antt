@@ -1,4 +1,4 @@
-use Rattle.std.proofs.Common.{◌≡◌, List, ℕ, ◌-◌, ◌+◌, ◌++◌, length, take, drop, ◌∙◌, ap}
+use Rattle.std.proofs.Common.{List, ℕ, ◌-◌, ◌+◌, ◌++◌, length, take, drop, ◌∙◌, ap}
 use Rattle.std.proofs.lemmas.List.{take_rest}
 use Rattle.sockets.proofs.Streams.{both_written}
 use Rattle.sockets.proofs.writing.write_framed.Goals as goal

@@ -1,4 +1,4 @@
-use Rattle.std.proofs.Common.{◌≡◌, ◌<◌, ◌+◌, length, slice_index, subst, arith, List, ℕ}
+use Rattle.std.proofs.Common.{◌<◌, length, slice_index, subst, List, ℕ}
 use Rattle.std.proofs.lemmas.Str.{IsCharBoundary-before_ascii, IsCharBoundary-after_ascii}
 use Rattle.statements.proofs.line.first_piece.Goals as goal
 

@@ -1,4 +1,4 @@
-use Rattle.std.proofs.Common.{◌≡◌, ◌<◌, arith, List, ℕ}
+use Rattle.std.proofs.Common.{arith}
 use Rattle.statements.specs.Lines.{is_line_end}
 use Rattle.statements.proofs.Pieces.{whole_piece}
 use Rattle.statements.proofs.text.parted.Goals as goal

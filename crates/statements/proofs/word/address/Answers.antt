@@ -1,4 +1,4 @@
-use Rattle.std.proofs.Common.{◌≡◌, ℕ, List, Ok, sym, ap, refl, subst}
+use Rattle.std.proofs.Common.{ℕ, List, Ok, sym, ap, refl, subst}
 use Rattle.std.specs.declared.net.ipv4_addr.Ipv4Addr.{Ipv4Addr}
 use Rattle.std.specs.Net.Grammar.{IsIpv4Text}
 use Rattle.statements.proofs.Addresses.{ipv4_read, ipv4_unread}

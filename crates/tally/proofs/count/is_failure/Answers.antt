@@ -1,5 +1,5 @@
 -- Bytes are one message at most.
-use Rattle.std.proofs.Common.{◌≡◌, ◌∙◌, sym, ap, arith, ℕ, Bool, true, false, nat_eq, List, subst, rules, ⊎_elim, ◌↔◌, IsTrue}
+use Rattle.std.proofs.Common.{◌≡◌, ◌∙◌, sym, ap, arith, ℕ, Bool, false, nat_eq, List, subst, rules, ⊎_elim, ◌↔◌, IsTrue}
 use Rattle.std.proofs.lemmas.Bool.Decides.{nat_tests}
 use Rattle.layout.specs.Messages.{Message, IsMessage}
 use Rattle.layout.proofs.Single.{message_one}

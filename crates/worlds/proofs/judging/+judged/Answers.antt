@@ -1,6 +1,4 @@
-use Rattle.std.proofs.Common.{sym, ◌∙◌, subst, List}
-use Rattle.rdata.specs.Records.{Record}
-use Rattle.zone.specs.Links.{Found}
+use Rattle.std.proofs.Common.{sym, ◌∙◌, subst}
 use Rattle.rdata.specs.Types.{type_number}
 use Rattle.authority.specs.Answers.{link_view}
 use Rattle.truth.specs.Truths.{IsTrueLink}

@@ -5,7 +5,7 @@ use Rattle.rdata.specs.Types.{type_number}
 use Rattle.layout.specs.Messages.{Message}
 use Rattle.truth.specs.Worlds.{World}
 use Rattle.worlds.specs.Judging.{IsRest, is_none}
-use Rattle.worlds.proofs.Replied.{Clause, truncated_reply, stray_reply, whole_reply}
+use Rattle.worlds.proofs.Replied.{Clause, truncated_reply, whole_reply}
 use Rattle.worlds.proofs.judging.is_right.Goals as goal
 
 pub returns-then-reply : goal.returns-then-reply

@@ -1,4 +1,4 @@
-use Rattle.std.proofs.Common.{◌≡◌, subst, List, ℕ}
+use Rattle.std.proofs.Common.{subst, List, ℕ}
 use Rattle.dname.specs.Labels.{AreLabels}
 use Rattle.zone.specs.Ruled.{IsNamed}
 use Rattle.zone.proofs.LawRules.{zone_is, zone_named}

@@ -1,4 +1,4 @@
-use Rattle.std.proofs.Common.{◌∙◌, ap, sym, subst, ℕ, List}
+use Rattle.std.proofs.Common.{◌∙◌, subst, ℕ, List}
 use Rattle.asks.specs.declared.ask.Waiting.{Waiting}
 use Rattle.asks.specs.Waits.{IsFound}
 use Rattle.asks.proofs.Found.{found}

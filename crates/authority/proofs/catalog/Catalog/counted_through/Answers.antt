@@ -2,7 +2,7 @@ use Rattle.std.proofs.Common.{◌≡◌, ◌∙◌, sym, ap, subst, List, Some, 
 use Rattle.std.specs.Option.{option_copied}
 use Rattle.rdata.specs.Types.{type_number}
 use Rattle.zone.specs.Zones.{Zone}
-use Rattle.zone.specs.Look.{Local, local_by}
+use Rattle.zone.specs.Look.{Local}
 use Rattle.authority.specs.Catalogs.{zone_over, chosen, IsLooked, AreZones}
 use Rattle.authority.proofs.Ascents.{looked_by}
 use Rattle.authority.proofs.Charges.{looked_here, looked_nowhere, zones_named}

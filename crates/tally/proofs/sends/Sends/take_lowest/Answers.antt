@@ -1,5 +1,5 @@
 -- The first one that is left, or none.
-use Rattle.std.proofs.Common.{◌≡◌, ◌+◌, ◌<◌, ◌∙◌, refl, ap, subst, List, length, arith}
+use Rattle.std.proofs.Common.{◌+◌, ◌<◌, ◌∙◌, refl, ap, subst, List, length, arith}
 use Rattle.tally.specs.declared.sends.Mark.{Mark}
 use Rattle.tally.specs.Sends.{Passage, IsLowest}
 use Rattle.tally.proofs.Left.{is_lowest, none_lowest, off_next, one_taken, still_inside}

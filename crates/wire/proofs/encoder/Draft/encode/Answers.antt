@@ -4,7 +4,7 @@ use Rattle.std.specs.Option.{option_copied}
 use Rattle.rdata.specs.Rows.{in_set}
 use Rattle.layout.specs.Messages.{IsQuestion, IsRecord, IsWritable, encoding, record_pieces}
 use Rattle.layout.specs.Pieces.{Text, after}
-use Rattle.wire.specs.Drafts.{drafted, asked_alone}
+use Rattle.wire.specs.Drafts.{asked_alone}
 use Rattle.wire.proofs.Writing.{draft_text}
 use Rattle.wire.proofs.Fitting.{all_both}
 use Rattle.wire.proofs.Putting.{four_puts, four_after, bytes_given, message_given}

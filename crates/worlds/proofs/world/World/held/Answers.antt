@@ -1,4 +1,4 @@
-use Rattle.std.proofs.Common.{◌≡◌, ◌∙◌, sym, ap, subst, List}
+use Rattle.std.proofs.Common.{◌∙◌, sym, ap, subst, List}
 use Rattle.std.specs.Prelude.{filter}
 use Rattle.dname.specs.Labels.{Name}
 use Rattle.zone.specs.Zones.{Zone}
