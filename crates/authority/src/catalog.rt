@@ -12,7 +12,7 @@ use crate::origins::{Places, places_of, zone_at};
 use crate::walk::look_counted;
 use dname::{Heap, Name, Starved};
 use rdata::RType;
-use std::alloc::{AllocError, Allocator, Global};
+use std::alloc::{Allocator, Global};
 use std::fmt;
 use std::marker::Model;
 use zone::{Zone, zone_keeps_rules};

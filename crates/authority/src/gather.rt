@@ -10,7 +10,6 @@ ghost use Rattle.authority.specs.Values.{values_of, HaveOneTtl};
 use crate::plain::{Whose, answers, first_of};
 use dname::{Heap, Name, Starved};
 use rdata::{RData, RType, Record, RecordSet, Records, put_once};
-use std::alloc::Allocator;
 use std::collections::BTreeSet;
 
 pub(crate) fn owned_by<A: Heap>(owner: &Name<A>, rr: &Record<A>) -> Result<Record<A>, Starved>

@@ -1,6 +1,5 @@
 //! What the resolver works with: zones and hints, what it learnt, open queries, and its source of identifiers.
 use crate::hashing::StoreHasher;
-use exchange::Event;
 use known::{Home, Stores};
 use queries::Queries;
 use rand_chacha::ChaCha20Rng;

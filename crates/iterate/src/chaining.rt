@@ -15,7 +15,6 @@ use causes::Cause;
 use dname::{Heap, Name, Starved};
 use front::MOST_ALIASES;
 use known::Taken;
-use std::alloc::AllocError;
 
 // Where an alias leads; nothing where the link ends a chain.
 fn target<A: Heap>(link: &Taken<A>) -> Result<Option<Name<A>>, Starved>

@@ -20,7 +20,6 @@ use dname::{Heap, Starved};
 use known::{Stores, Taken, cut_of};
 use rdata::Addr;
 use referral::Cut;
-use std::alloc::Allocator;
 use std::hash::BuildHasher;
 use wire::{Message, Via};
 

@@ -4,7 +4,7 @@ ghost use Rattle.std.specs.Cmp.{partial_equiv_from_equiv};
 ghost use Rattle.std.specs.Cmp.Lexicographic.{pointwise, nat_list_eq_equiv};
 
 use dname::{Heap, Starved};
-use std::alloc::{AllocError, AllocFailed, Allocator, Global};
+use std::alloc::{AllocError, Allocator, Global};
 use std::marker::Model;
 
 /// A character-string: at most 255 bytes (RFC 1035, section 3.3). Contracts see its bytes.

@@ -8,7 +8,6 @@ use crate::world_fault::WorldFault;
 use crate::world_text::{Block, WorldText, read_world};
 use dname::{Heap, Name, Starved};
 use masterfile::read_block;
-use std::alloc::Allocator;
 use worlds::World;
 use zone::Zone;
 

@@ -4,7 +4,7 @@ use book::{Book, Entry, Machine, Ticket};
 use memory::{Heap, Starved};
 use pool::{Closed, Kept, PoolError, Shared, gather, submit};
 use refusing::Refusing;
-use std::alloc::{Allocator, Global};
+use std::alloc::Global;
 use std::marker::Brand;
 use std::sync::Wait;
 use std::sync::ledger::{Blank, Ledger};

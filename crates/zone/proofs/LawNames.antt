@@ -1,5 +1,5 @@
 -- What look-up does with names that exist, names that do not, and names beneath a cut.
-use Rattle.std.proofs.Common.{◌≡◌, ℕ, ◌⊎◌, ⊎_elim, List, ◌∷◌, sym, ◌∙◌, ap, subst}
+use Rattle.std.proofs.Common.{◌≡◌, ℕ, ⊎_elim, List, ◌∷◌, sym, ◌∙◌, ap, subst}
 use Rattle.std.specs.Prelude.{Contains}
 use Rattle.dname.specs.Labels.{IsAtOrUnder, star}
 use Rattle.rdata.specs.Records.{Record}

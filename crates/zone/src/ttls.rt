@@ -7,7 +7,6 @@ ghost use Rattle.zone.specs.Kept.{zone_with};
 
 use dname::{Heap, Name, Starved};
 use rdata::Record;
-use std::alloc::Allocator;
 use std::collections::HashMap;
 use std::hash::{BuildHasherDefault, FoldHasher};
 
