@@ -15,7 +15,7 @@ use Rattle.script.specs.WorldTexts.{Block}
 use Rattle.script.specs.Statements.{Statement, stated}
 use Rattle.script.specs.Readings.{Said, Reading, outside, inside, after, with_block, longer, line_read, read_from, nothing_yet, said_in, finished}
 use Rattle.script.specs.Seen.{block_seen, reading_with, closed, IsTail, IsLeftBehind}
-use Rattle.script.specs.declared.opening.Opening.{Opening}
+use Rattle.script.specs.declared.open_block.OpenBlock.{OpenBlock}
 
 -- ---- texts
 
@@ -42,12 +42,12 @@ before front tail text e =
 split_again : (front left line behind text : List ℕ) → text ≡ front ++ left → left ≡ line ++ 10 ∷ behind → text ≡ (front ++ (line ++ 10 ∷ [])) ++ behind
 split_again front left line behind text e s = e ∙ (ap (λ (l : List ℕ). front ++ l) s ∙ simp append_assoc)
 
-still_left : {A : Type 0} (left line behind : List ℕ) (o : Opening A) → (left ≡ line ++ 10 ∷ behind) ⊎ ((left ≡ line) × (behind ≡ [])) → IsTail left o.behind.now → IsTail behind o.behind.now
+still_left : {A : Type 0} (left line behind : List ℕ) (o : OpenBlock A) → (left ≡ line ++ 10 ∷ behind) ⊎ ((left ≡ line) × (behind ≡ [])) → IsTail left o.behind.now → IsTail behind o.behind.now
 still_left left line behind o (inl s) h = record { front = h.front ++ (line ++ 10 ∷ []); is = split_again h.front left line behind o.behind.now h.is s }
 still_left left line behind o (inr (e, n)) h = record { front = o.behind.now; is = sym (append-nil o.behind.now) ∙ ap (λ (l : List ℕ). o.behind.now ++ l) (sym n) }
 
 -- What is left stays a part of what stands behind the opening.
-pub stays_behind : {A : Type 0} (left line behind : List ℕ) (o : Option (Opening A)) → IsFirstLine left line behind → IsLeftBehind left o → IsLeftBehind behind o
+pub stays_behind : {A : Type 0} (left line behind : List ℕ) (o : Option (OpenBlock A)) → IsFirstLine left line behind → IsLeftBehind left o → IsLeftBehind behind o
 stays_behind left line behind None first h = tt
 stays_behind left line behind (Some o) first h = still_left left line behind o first.splits h
 
@@ -93,7 +93,7 @@ read_stops n r left line rest e first (inr fault) =
 abbrev read_after : ℕ → Said → Result (Option Statement) LineKind → Result Reading LineKind
 read_after n s r = r >>= λ found. Ok (after n s found)
 
-pub outside_read : {A : Type 0} (n : ℕ) (s : Said) (o : Option (Opening A)) (left line behind : List ℕ) (found : Option Statement) (next : Reading)
+pub outside_read : {A : Type 0} (n : ℕ) (s : Said) (o : Option (OpenBlock A)) (left line behind : List ℕ) (found : Option Statement) (next : Reading)
     → is_some o ≡ false → IsFirstLine left line behind → stated (stated_words line) ≡ Ok found → next ≡ after n s found
     → read_from n (reading_with left s o) (lines left) ≡ read_from (line_behind n) next (lines behind)
 outside_read n s (Some o) left line behind found next none first says is = absurd (cc)
@@ -105,7 +105,7 @@ fault_in : (n : ℕ) (s : Said) (r : Result (Option Statement) LineKind) (e : Li
 fault_in n s r e (inl starved) = inl starved
 fault_in n s r e (inr is) = inr (ap (read_after n s) is)
 
-pub outside_stops : {A : Type 0} (n : ℕ) (s : Said) (o : Option (Opening A)) (left line behind : List ℕ) (e : LineKind)
+pub outside_stops : {A : Type 0} (n : ℕ) (s : Said) (o : Option (OpenBlock A)) (left line behind : List ℕ) (e : LineKind)
     → is_some o ≡ false → IsFirstLine left line behind → IsLineFault e (stated (stated_words line))
     → IsTextFault (record { line = n; kind = e }) (read_from n (reading_with left s o) (lines left))
 outside_stops n s (Some o) left line behind e none first fault = absurd (cc)
@@ -114,7 +114,7 @@ outside_stops n s None left line behind e none first fault =
 
 -- ---- inside of a block
 
-pub closed_read : {A : Type 0} (n : ℕ) (s t : Said) (o p : Option (Opening A)) (left line behind : List ℕ)
+pub closed_read : {A : Type 0} (n : ℕ) (s t : Said) (o p : Option (OpenBlock A)) (left line behind : List ℕ)
     → is_some o ≡ true → bytes_eq line (codes "end") ≡ true → IsFirstLine left line behind → p ≡ None → outside t ≡ closed (reading_with left s o)
     → read_from n (reading_with left s o) (lines left) ≡ read_from (line_behind n) (reading_with behind t p) (lines behind)
 closed_read n s t None p left line behind some ends first gone is = absurd (cc)
@@ -123,23 +123,23 @@ closed_read n s t (Some o) p left line behind some ends first gone is =
     let same : outside (with_block s (block_seen left o)) ≡ reading_with behind t p = sym is ∙ ap (reading_with behind t) (sym gone) in
     read_more n (inside s (block_seen left o)) (reading_with behind t p) left line (lines behind) first.first (ap read ends ∙ ap Ok same)
 
-block_longer : {A : Type 0} (o : Opening A) (left line behind : List ℕ) → left ≡ line ++ 10 ∷ behind → IsTail left o.behind.now → longer (block_seen left o) line ≡ block_seen behind o
+block_longer : {A : Type 0} (o : OpenBlock A) (left line behind : List ℕ) → left ≡ line ++ 10 ∷ behind → IsTail left o.behind.now → longer (block_seen left o) line ≡ block_seen behind o
 block_longer o left line behind s h =
     let block : List ℕ → Block = λ text. record { origin = o.origin; is_local = o.is_local; line = o.line; text = text } in
     ap block
     (ap (λ (text : List ℕ). text ++ (line ++ 10 ∷ [])) (before h.front left o.behind.now h.is)
     ∙ sym (before (h.front ++ (line ++ 10 ∷ [])) behind o.behind.now (split_again h.front left line behind o.behind.now h.is s)))
 
-unclosed : {A : Type 0} (n : ℕ) (s : Said) (o : Opening A) (left line behind : List ℕ) → behind ≡ []
+unclosed : {A : Type 0} (n : ℕ) (s : Said) (o : OpenBlock A) (left line behind : List ℕ) → behind ≡ []
     → read_from n (inside s (longer (block_seen left o) line)) (lines behind) ≡ read_from n (inside s (block_seen behind o)) (lines behind)
 unclosed n s o left line behind none = rw none refl
 
-goes_on : {A : Type 0} (n : ℕ) (s : Said) (o : Opening A) (left line behind : List ℕ) → (left ≡ line ++ 10 ∷ behind) ⊎ ((left ≡ line) × (behind ≡ [])) → IsTail left o.behind.now
+goes_on : {A : Type 0} (n : ℕ) (s : Said) (o : OpenBlock A) (left line behind : List ℕ) → (left ≡ line ++ 10 ∷ behind) ⊎ ((left ≡ line) × (behind ≡ [])) → IsTail left o.behind.now
     → read_from n (inside s (longer (block_seen left o) line)) (lines behind) ≡ read_from n (inside s (block_seen behind o)) (lines behind)
 goes_on n s o left line behind (inl e) h = ap (λ (b : Block). read_from n (inside s b) (lines behind)) (block_longer o left line behind e h)
 goes_on n s o left line behind (inr (e, none)) h = unclosed n s o left line behind none
 
-pub inside_read : {A : Type 0} (n : ℕ) (s : Said) (o : Option (Opening A)) (left line behind : List ℕ)
+pub inside_read : {A : Type 0} (n : ℕ) (s : Said) (o : Option (OpenBlock A)) (left line behind : List ℕ)
     → is_some o ≡ true → bytes_eq line (codes "end") ≡ false → IsFirstLine left line behind → IsLeftBehind left o
     → read_from n (reading_with left s o) (lines left) ≡ read_from (line_behind n) (reading_with behind s o) (lines behind)
 inside_read n s None left line behind some other first h = absurd (cc)
@@ -150,18 +150,18 @@ inside_read n s (Some o) left line behind some other first h =
 
 -- ---- a block's end
 
-pub closes : {A : Type 0} (s : Said) (o : Option (Opening A)) (p : Opening A) (left : List ℕ) (b : Block) (bs : List Block) → o ≡ Some p → b ≡ block_seen left p → bs ≡ s.blocks ++ b ∷ []
+pub closes : {A : Type 0} (s : Said) (o : Option (OpenBlock A)) (p : OpenBlock A) (left : List ℕ) (b : Block) (bs : List Block) → o ≡ Some p → b ≡ block_seen left p → bs ≡ s.blocks ++ b ∷ []
     → outside (record s { blocks = bs }) ≡ closed (reading_with left s o)
 closes s o p left b bs opened is grows =
     let said : List Block → Said = λ l. record s { blocks = l } in
     ap (λ (l : List Block). outside (said l)) (grows ∙ ap (λ (x : Block). s.blocks ++ x ∷ []) is) ∙ ap (λ q. closed (reading_with left s q)) (sym opened)
 
-pub stays_closed : {A : Type 0} (s : Said) (o : Option (Opening A)) (left : List ℕ) → o ≡ None → outside s ≡ closed (reading_with left s o)
+pub stays_closed : {A : Type 0} (s : Said) (o : Option (OpenBlock A)) (left : List ℕ) → o ≡ None → outside s ≡ closed (reading_with left s o)
 stays_closed s o left none = ap (λ q. closed (reading_with left s q)) (sym none)
 
 -- ---- a whole text
 
-pub all_read : {A : Type 0} (n : ℕ) (s : Said) (o : Option (Opening A)) (left text : List ℕ) → left ≡ [] → read_from n (reading_with left s o) (lines left) ≡ said_in text
+pub all_read : {A : Type 0} (n : ℕ) (s : Said) (o : Option (OpenBlock A)) (left text : List ℕ) → left ≡ [] → read_from n (reading_with left s o) (lines left) ≡ said_in text
     → said_in text ≡ finished (reading_with [] s o)
 all_read n s o left text none says = sym says ∙ ap (λ (l : List ℕ). read_from n (reading_with l s o) (lines l)) none
 
@@ -170,5 +170,5 @@ pub ends_as : {W : Type 0} (r : Result W LineError) (seen : W → Said) (text la
 ends_as (Ok w) seen text last same h = same ∙ h
 ends_as (Err e) seen text last same h = inr (same ∙ h)
 
-pub begun : {A : Type 0} (text : List ℕ) (s : Said) (o : Option (Opening A)) → o ≡ None → s ≡ nothing_yet → read_from 1 (reading_with text s o) (lines text) ≡ said_in text
+pub begun : {A : Type 0} (text : List ℕ) (s : Said) (o : Option (OpenBlock A)) → o ≡ None → s ≡ nothing_yet → read_from 1 (reading_with text s o) (lines text) ≡ said_in text
 begun text s o none new = rw (none, new) refl

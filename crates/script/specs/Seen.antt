@@ -6,17 +6,17 @@ use Rattle.statements.specs.Lines.{lines}
 use Rattle.script.specs.WorldTexts.{Block}
 use Rattle.script.specs.Readings.{Said, Reading, outside, inside, with_block, read_from}
 use Rattle.script.specs.declared.world_text.WorldText.{WorldText}
-use Rattle.script.specs.declared.opening.Opening.{Opening}
+use Rattle.script.specs.declared.open_block.OpenBlock.{OpenBlock}
 use Rattle.script.specs.declared.reader.Reader.{Reader}
 
 abbrev pub said_seen : {A : Type 0} → WorldText A → Said
 said_seen w = record { blocks = w.blocks.items; hosts = w.hosts.items; hints = addresses w.hints.items }
 
 -- The text of an open block, where so much of the world's text is left to be read.
-abbrev pub block_seen : {A : Type 0} → List ℕ → Opening A → Block
+abbrev pub block_seen : {A : Type 0} → List ℕ → OpenBlock A → Block
 block_seen left o = record { origin = o.origin; is_local = o.is_local; line = o.line; text = take (length o.behind.now - length left) o.behind.now }
 
-abbrev pub reading_with : {A : Type 0} → List ℕ → Said → Option (Opening A) → Reading
+abbrev pub reading_with : {A : Type 0} → List ℕ → Said → Option (OpenBlock A) → Reading
 reading_with left s None = outside s
 reading_with left s (Some o) = inside s (block_seen left o)
 
@@ -38,6 +38,6 @@ pub record IsTail (tail text : List ℕ) : Type 0 where
   pub is : text ≡ front ++ tail
 
 -- What is left is a part of what stands behind the line that opened the block.
-abbrev pub IsLeftBehind : {A : Type 0} → List ℕ → Option (Opening A) → Type 0
+abbrev pub IsLeftBehind : {A : Type 0} → List ℕ → Option (OpenBlock A) → Type 0
 IsLeftBehind left None = Unit {0}
 IsLeftBehind left (Some o) = IsTail left o.behind.now

@@ -18,7 +18,7 @@
 
 mod build;
 mod keyword;
-mod opening;
+mod open_block;
 mod reader;
 mod statement;
 mod world_fault;

@@ -9,7 +9,7 @@ ghost use Rattle.script.specs.Statements.{statement_seen};
 ghost use Rattle.script.specs.Readings.{nothing_yet, outside, after, finished};
 ghost use Rattle.script.specs.Seen.{said_seen, block_seen, reading_seen, closed, says_from, IsTail, IsLeftBehind};
 
-use crate::opening::Opening;
+use crate::open_block::OpenBlock;
 use crate::statement::{Statement, statement_in};
 use crate::world_text::{Block, WorldText};
 use dname::{Heap, Starved};
@@ -18,7 +18,7 @@ use statements::{LineError, LineKind};
 use std::alloc::Allocator;
 use worlds::Host;
 
-impl<'t, A: Allocator> Opening<'t, A> {
+impl<'t, A: Allocator> OpenBlock<'t, A> {
     // Its block, which ends before the text that is left.
     fn block(self, left: &str) -> Block<'t, A>
         requires { IsTail left.now self.behind.now }
@@ -37,7 +37,7 @@ impl<'t, A: Allocator> Opening<'t, A> {
 /// What a world text said so far, and the block that is open.
 #[derive(Drop)]
 pub(crate) struct Reader<'t, A: Allocator> {
-    opening: Option<Opening<'t, A>>,
+    opening: Option<OpenBlock<'t, A>>,
     world: WorldText<'t, A>,
 }
 
@@ -97,7 +97,7 @@ impl<'t, A: Heap> Reader<'t, A> {
         match statement {
             None => {}
             Some(Statement::Opens(is_local, origin)) => {
-                self.opening = Some(Opening {
+                self.opening = Some(OpenBlock {
                     origin,
                     is_local,
                     line: number,

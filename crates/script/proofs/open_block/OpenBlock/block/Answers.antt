@@ -1,7 +1,7 @@
 use Rattle.std.proofs.Common.{◌-◌, ℕ, List, length, take, ap, arith}
 use Rattle.script.specs.WorldTexts.{Block}
 use Rattle.script.proofs.Reading.{tail_shorter}
-use Rattle.script.proofs.opening.Opening.block.Goals as goal
+use Rattle.script.proofs.open_block.OpenBlock.block.Goals as goal
 
 pub slice_bounds-result-count : goal.slice_bounds-result-count
 slice_bounds-result-count g c = omega (arith, ap length c.as_bytes-text.ensures.value, tail_shorter c.args.left.now c.args.self.behind.now c.requires)

@@ -6,7 +6,7 @@ use std::alloc::Allocator;
 
 /// What the first line of an open block says, and the text behind that line.
 #[derive(Drop)]
-pub(crate) struct Opening<'t, A: Allocator> {
+pub(crate) struct OpenBlock<'t, A: Allocator> {
     pub(crate) origin: Name<A>,
     pub(crate) is_local: bool,
     pub(crate) line: usize,
