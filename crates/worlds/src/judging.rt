@@ -68,7 +68,18 @@ fn is_found<A: Heap>(
     ensures { IfOk result (λ b. b ≡ (is_set answer.now set.now && nat_eq rcode 0 && is_none authority.now)) }
 {
     let records = set.to_records(set.owner.allocator())?;
-    Ok(is_set(answer, records.as_slice()) && rcode == 0 && authority.is_empty())
+    Ok(are_found(records.as_slice(), answer, rcode, authority))
+}
+
+fn are_found<A: Allocator>(
+    set: &[Record<A>],
+    answer: &[Record<A>],
+    rcode: u8,
+    authority: &[Record<A>],
+) -> bool
+    ensures { result ≡ (is_set answer.now set.now && nat_eq rcode 0 && is_none authority.now) }
+{
+    is_set(answer, set) && rcode == 0 && authority.is_empty()
 }
 
 // Whether a reply ends with that denial and RCODE.

@@ -1,7 +1,7 @@
 -- A refusal has no records.
-use Rattle.std.proofs.Common.{◌∙◌, ap, option_copied, false, ℕ}
+use Rattle.std.proofs.Common.{◌∙◌, ap, subst, option_copied, false, ℕ}
 use Rattle.std.proofs.lemmas.Result.{IfOk-weaker}
-use Rattle.layout.specs.Messages.{encoding}
+use Rattle.layout.specs.Messages.{Message, IsMessage, encoding, folded_message}
 use Rattle.wire.specs.Drafts.{asked_alone}
 use Rattle.front.specs.Replies.{bare}
 use Rattle.front.proofs.Short.{bare_fits}
@@ -15,3 +15,8 @@ pub returns-clause-bytes : goal.returns-clause-bytes
 returns-clause-bytes g c =
     IfOk-weaker c.short_bytes.result _ _ (λ r bytes. bytes ∙ ap encoding (c.empty_draft.ensures
     ∙ ap (λ (rcode : ℕ). bare c.args.start (asked_alone (option_copied c.args.echo)) false rcode) c.rcode.ensures)) c.short_bytes.ensures.bytes
+
+pub returns-clause-message : goal.returns-clause-message
+returns-clause-message g c =
+    IfOk-weaker c.short_bytes.result _ _ (λ r message. subst (λ (m : Message). IsMessage r.items (folded_message m)) (c.empty_draft.ensures
+    ∙ ap (λ (rcode : ℕ). bare c.args.start (asked_alone (option_copied c.args.echo)) false rcode) c.rcode.ensures) message) c.short_bytes.ensures.message
