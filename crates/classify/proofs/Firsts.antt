@@ -4,7 +4,7 @@ use Rattle.std.specs.Prelude.{Contains, filter, find}
 use Rattle.std.proofs.lemmas.Bool.{and_parts, and_from}
 use Rattle.dname.specs.Labels.{Name, same_name}
 use Rattle.dname.specs.Laws.{same_name-exact, same_name-equal}
-use Rattle.rdata.specs.Data.{Datum, Ipv4, Ns, Cname, Soa, Ptr, Mx, Txt, Ipv6, type_of}
+use Rattle.rdata.specs.Data.{Datum, Ipv4, Ns, Cname, Soa, Ptr, Mx, Txt, Ipv6, Srv, type_of}
 use Rattle.rdata.specs.Records.{Record}
 use Rattle.rdata.specs.Selected.{is_at, records_at}
 use Rattle.zone.specs.Look.{is_type}
@@ -114,6 +114,7 @@ ns_of (Ptr n) h = absurd (omega (arith, h))
 ns_of (Mx p n) h = absurd (omega (arith, h))
 ns_of (Txt ts) h = absurd (omega (arith, h))
 ns_of (Ipv6 a) h = absurd (omega (arith, h))
+ns_of (Srv v) h = absurd (omega (arith, h))
 
 pub ipv4_of : (d : Datum) → type_of d ≡ 1 → (a : List ℕ) × (d ≡ Ipv4 a)
 ipv4_of (Ipv4 a) h = (a, refl)
@@ -124,3 +125,4 @@ ipv4_of (Ptr n) h = absurd (omega (arith, h))
 ipv4_of (Mx p n) h = absurd (omega (arith, h))
 ipv4_of (Txt ts) h = absurd (omega (arith, h))
 ipv4_of (Ipv6 a) h = absurd (omega (arith, h))
+ipv4_of (Srv v) h = absurd (omega (arith, h))

@@ -7,7 +7,7 @@ use Rattle.std.proofs.lemmas.Bool.{and_parts, and_from, both_ways, not-true}
 use Rattle.dname.specs.Labels.{Name, same_name, is_under, IsAtOrUnder}
 use Rattle.dname.specs.Laws.{same_name-exact, same_name-equal}
 use Rattle.dname.proofs.Under.{under_is, is_under_holds}
-use Rattle.rdata.specs.Data.{Datum, Ipv4, Ns, Cname, Soa, Ptr, Mx, Txt, Ipv6, type_of}
+use Rattle.rdata.specs.Data.{Datum, Ipv4, Ns, Cname, Soa, Ptr, Mx, Txt, Ipv6, Srv, type_of}
 use Rattle.rdata.specs.Records.{Record}
 use Rattle.rdata.specs.Selected.{records_at}
 use Rattle.rdata.specs.Sets.{lowest_ttl, with_ttl, one_set}
@@ -56,6 +56,7 @@ names_is n (Ptr target) h = absurd (cc)
 names_is n (Mx p target) h = absurd (cc)
 names_is n (Txt ts) h = absurd (cc)
 names_is n (Ipv6 a) h = absurd (cc)
+names_is n (Srv v) h = absurd (cc)
 
 names_holds : (n : Name) (d : Datum) → d ≡ Ns n → names_server n d ≡ true
 names_holds n d e = ap (names_server n) e ∙ same_name-equal n n refl

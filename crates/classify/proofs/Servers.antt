@@ -10,7 +10,7 @@ use Rattle.std.proofs.lemmas.List.Elements.{Contains-get_or}
 use Rattle.std.proofs.lemmas.List.Sorted.{searchable_from_sorted, Contains-permutation, IsPermutation-sym}
 use Rattle.dname.specs.Labels.{Name, same_name, is_under}
 use Rattle.dname.specs.Order.{name_cmp, name_cmp_total, name_cmp_ties}
-use Rattle.rdata.specs.Data.{Datum, Ipv4, Ns, Cname, Soa, Ptr, Mx, Txt, Ipv6}
+use Rattle.rdata.specs.Data.{Datum, Ipv4, Ns, Cname, Soa, Ptr, Mx, Txt, Ipv6, Srv}
 use Rattle.rdata.specs.Records.{Record}
 use Rattle.zone.specs.Zones.{a_type}
 use Rattle.zone.specs.Look.{is_type}
@@ -29,6 +29,7 @@ one_target n (Ptr target) ns = refl
 one_target n (Mx p target) ns = refl
 one_target n (Txt ts) ns = refl
 one_target n (Ipv6 a) ns = refl
+one_target n (Srv v) ns = refl
 
 pub given_names : (n : Name) (rs : List Record) → is_one_of n (targets_of rs) ≡ list_any (λ (s : Record). names_server n s.value) rs
 given_names n [] = refl

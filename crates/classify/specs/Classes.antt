@@ -4,7 +4,7 @@
 use Rattle.std.specs.Prelude.{ℕ, Bool, false, ◌&&◌, ◌||◌, not, cond, nat_eq, min, Option, Some, None, List, [], ◌∷◌, filter, find}
 use Rattle.std.specs.List.{list_any}
 use Rattle.dname.specs.Labels.{Name, same_name, is_under}
-use Rattle.rdata.specs.Data.{Datum, Ipv4, Ns, Cname, Soa, Ptr, Mx, Txt, Ipv6}
+use Rattle.rdata.specs.Data.{Datum, Ipv4, Ns, Cname, Soa, Ptr, Mx, Txt, Ipv6, Srv}
 use Rattle.rdata.specs.Records.{Record}
 use Rattle.rdata.specs.Selected.{records_at}
 use Rattle.rdata.specs.Sets.{one_set, lowest_ttl}
@@ -43,6 +43,7 @@ names_server n (Ptr target) = false
 names_server n (Mx p target) = false
 names_server n (Txt ts) = false
 names_server n (Ipv6 a) = false
+names_server n (Srv v) = false
 
 abbrev pub is_taken : Name → List Record → Record → Bool
 is_taken f servers r = is_type a_type r && is_under r.owner f && list_any (λ (s : Record). names_server r.owner s.value) servers

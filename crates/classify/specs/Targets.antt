@@ -2,7 +2,7 @@
 use Rattle.std.specs.Prelude.{Bool, List, [], ◌∷◌}
 use Rattle.std.specs.List.{list_any, flat_map}
 use Rattle.dname.specs.Labels.{Name, same_name}
-use Rattle.rdata.specs.Data.{Datum, Ipv4, Ns, Cname, Soa, Ptr, Mx, Txt, Ipv6}
+use Rattle.rdata.specs.Data.{Datum, Ipv4, Ns, Cname, Soa, Ptr, Mx, Txt, Ipv6, Srv}
 use Rattle.rdata.specs.Records.{Record}
 
 abbrev pub target_of : Datum → List Name
@@ -14,6 +14,7 @@ target_of (Ptr target) = []
 target_of (Mx p target) = []
 target_of (Txt ts) = []
 target_of (Ipv6 a) = []
+target_of (Srv v) = []
 
 abbrev pub targets_of : List Record → List Name
 targets_of rs = flat_map (λ (r : Record). target_of r.value) rs

@@ -89,7 +89,7 @@ One line on standard error says what went wrong.
                              same limits before, so that no file should bring it
   error: socket              the address can't be bound
   error: threads             a thread can't be made, or the clock can't be read
-  error: type                another type than A, NS, CNAME, SOA, PTR, MX, TXT and AAAA
+  error: type                another type than A, NS, CNAME, SOA, PTR, MX, TXT, AAAA and SRV
   error: memory              no memory was left
   error: output              what was to be printed could not be written
 

@@ -14,6 +14,13 @@ use std::thread::Threads;
 
 const LAB: &str = "$TTL 300\n@ SOA ns h 1 2 3 4 60\n@ NS ns\n* TXT \"wild\"\na.b A 192.0.2.7\n";
 
+// The same with a service (RFC 2782).
+const WITH_SERVICE: &str =
+    "$TTL 300\n@ SOA ns h 1 2 3 4 60\n@ NS ns\n* TXT \"wild\"\na.b A 192.0.2.7\n_sip._tcp SRV 10 60 5060 srv\n";
+
+const OFFERED: &str =
+    "reply 1 NOERROR aa\n  an _sip._tcp.lab.example. 300 SRV 10 60 5060 srv.lab.example.\n";
+
 // What stands at the only path there is, which is lab.zone.
 #[derive(Clone, Copy)]
 enum Held<'a> {
@@ -208,6 +215,11 @@ const ANSWERS: &[Row] = &[
         Held::Text(LAB),
         (0, "reply 1 REFUSED\n", ""),
     ),
+    (
+        Line::Ask("lab.example.", "lab.zone", "_sip._tcp.lab.example.", "SRV"),
+        Held::Text(WITH_SERVICE),
+        (0, OFFERED, ""),
+    ),
 ];
 
 // Nine aliases, one that leads to itself, one that leads to a cut, and the cut.
@@ -252,17 +264,17 @@ const FOLLOWED: &[Row] = &[
 // Words are read before the file, and no other file is there.
 const REFUSED: &[Row] = &[
     (
-        Line::Ask("lab..example.", "lab.zone", "x\\999", "SRV"),
+        Line::Ask("lab..example.", "lab.zone", "x\\999", "HINFO"),
         Held::Nothing,
         (1, "", "error: name 1\n"),
     ),
     (
-        Line::Ask("lab.example.", "lab.zone", "x\\999", "SRV"),
+        Line::Ask("lab.example.", "lab.zone", "x\\999", "HINFO"),
         Held::Nothing,
         (1, "", "error: name 4\n"),
     ),
     (
-        Line::Ask("lab.example.", "lab.zone", "x", "SRV"),
+        Line::Ask("lab.example.", "lab.zone", "x", "HINFO"),
         Held::Nothing,
         (1, "", "error: type\n"),
     ),

@@ -5,7 +5,7 @@ use Rattle.std.specs.List.{flat_map}
 use Rattle.std.proofs.lemmas.List.{take_more}
 use Rattle.std.proofs.lemmas.Grind.{flat_map-append}
 use Rattle.dname.specs.Labels.{Name}
-use Rattle.rdata.specs.Data.{Datum, Ipv4, Ns, Cname, Soa, Ptr, Mx, Txt, Ipv6}
+use Rattle.rdata.specs.Data.{Datum, Ipv4, Ns, Cname, Soa, Ptr, Mx, Txt, Ipv6, Srv}
 use Rattle.rdata.specs.Kept.{datum}
 use Rattle.rdata.specs.Records.{Record}
 use Rattle.rdata.specs.Rows.{row, rows}
@@ -41,6 +41,7 @@ target_same (Ptr n) = refl
 target_same (Mx p n) = refl
 target_same (Txt ts) = refl
 target_same (Ipv6 b) = refl
+target_same (Srv v) = refl
 
 targets_same : (ns : List Record) → made.targets_of ns ≡ classify.targets_of ns
 targets_same [] = refl
@@ -56,6 +57,7 @@ row_step n (Ptr m) rest rows is = is
 row_step n (Mx p m) rest rows is = is
 row_step n (Txt ts) rest rows is = is
 row_step n (Ipv6 b) rest rows is = is
+row_step n (Srv v) rest rows is = is
 
 rows_same : (glue : List Record) → map row_of (made.addresses_in glue) ≡ rows_of glue
 rows_same [] = refl

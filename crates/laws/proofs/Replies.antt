@@ -2,7 +2,7 @@
 use Rattle.std.proofs.Common.{◌≡◌, ℕ, suc, ◌<◌, Bool, true, false, nat_lt, if◌then◌else◌, Option, Some, None, List, [], ◌∷◌, ◌++◌, length, map, inl, inr, refl, sym, ◌∙◌, ap, subst, arith}
 use Rattle.std.proofs.lemmas.Bool.{ltb-true}
 use Rattle.dname.specs.Labels.{Name}
-use Rattle.rdata.specs.Data.{Datum, Ipv4, Ns, Cname, Soa, Ptr, Mx, Txt, Ipv6, type_of}
+use Rattle.rdata.specs.Data.{Datum, Ipv4, Ns, Cname, Soa, Ptr, Mx, Txt, Ipv6, Srv, type_of}
 use Rattle.rdata.specs.Records.{Record}
 use Rattle.rdata.specs.Types.{type_number}
 use Rattle.zone.specs.Links.{Link, Found, Alias, NoData, NxDomain}
@@ -46,6 +46,7 @@ cname_of (Ptr n) h = absurd (omega (arith, h))
 cname_of (Mx p n) h = absurd (omega (arith, h))
 cname_of (Txt ts) h = absurd (omega (arith, h))
 cname_of (Ipv6 a) h = absurd (omega (arith, h))
+cname_of (Srv v) h = absurd (omega (arith, h))
 
 true_leads : (W : World) (t now : ℕ) (from to : Name) (ls : List Taken) → AreLeading W t from ls to → Leads W t from (aliases_of now ls) to × (length (aliases_of now ls) ≡ length ls)
 true_leads W t now from to [] leads = (leads, refl)

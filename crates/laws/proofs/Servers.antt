@@ -2,7 +2,7 @@
 use Rattle.std.proofs.Common.{◌≡◌, ℕ, Option, Some, None, List, [], ◌∷◌, map, inl, inr, ◌⊎◌, refl, sym, ◌∙◌, ap, subst}
 use Rattle.std.specs.Prelude.{Contains}
 use Rattle.dname.specs.Labels.{Name, IsName, IsAtOrUnder}
-use Rattle.rdata.specs.Data.{Datum, Ipv4, Ns, Cname, Soa, Ptr, Mx, Txt, Ipv6}
+use Rattle.rdata.specs.Data.{Datum, Ipv4, Ns, Cname, Soa, Ptr, Mx, Txt, Ipv6, Srv}
 use Rattle.rdata.specs.Records.{Record}
 use Rattle.rdata.specs.declared.addr.Addr.{Addr}
 use Rattle.zone.specs.Zones.{a_type}
@@ -78,6 +78,7 @@ named (Ptr p) n m = absurd (none_in n m)
 named (Mx p x) n m = absurd (none_in n m)
 named (Txt ts) n m = absurd (none_in n m)
 named (Ipv6 a) n m = absurd (none_in n m)
+named (Srv v) n m = absurd (none_in n m)
 
 addressed : (d : Datum) (a : Address) → Contains (ipv4_of d) a → d ≡ Ipv4 a
 addressed (Ipv4 b) a m = ap Ipv4 (only_one b a m)
@@ -88,6 +89,7 @@ addressed (Ptr p) a m = absurd (none_in a m)
 addressed (Mx p x) a m = absurd (none_in a m)
 addressed (Txt ts) a m = absurd (none_in a m)
 addressed (Ipv6 b) a m = absurd (none_in a m)
+addressed (Srv v) a m = absurd (none_in a m)
 
 module _ (at : Name) (ns glue : List Record) (c : Cut) (is : IsCutOf at ns glue c) where
   cut_names : AreTargets c.names ns

@@ -4,7 +4,7 @@ use Rattle.std.specs.Prelude.{slice_get}
 use Rattle.std.proofs.lemmas.List.{take-append-le, drop-append-le}
 use Rattle.std.proofs.Common.{length-drop}
 use Rattle.layout.specs.Names.{IsLabelAt, IsPointerAt, Stands, root_here, label_here, pointer_here}
-use Rattle.layout.specs.Pieces.{Flat, plain_bytes, packed_name, asked_name, Piece, flat_piece, sized_group}
+use Rattle.layout.specs.Pieces.{Flat, plain_bytes, packed_name, asked_name, full_name, Piece, flat_piece, sized_group}
 use Rattle.layout.specs.Places.{IsAt, FlatAt, FlatsAt, PieceAt}
 
 pub get-grown : (bytes more : List ℕ) (at x : ℕ) → slice_get bytes at ≡ Some x → slice_get (bytes ++ more) at ≡ Some x
@@ -68,6 +68,7 @@ pub flat-grown : (bytes more : List ℕ) (at : ℕ) (f : Flat) (end : ℕ) → F
 flat-grown bytes more at (plain_bytes text) end h = at-grown bytes more at text end h
 flat-grown bytes more at (packed_name name) end h = record { stands = stands-grown _ bytes more at at end name h.stands; short = h.short }
 flat-grown bytes more at (asked_name name) end h = record { stands = stands-grown _ bytes more at at end name h.stands; short = h.short }
+flat-grown bytes more at (full_name name) end h = record { stands = stands-grown _ bytes more 0 at end name h.stands; short = h.short }
 
 pub flats-grown : (bytes more : List ℕ) (at : ℕ) (fs : List Flat) (end : ℕ) → FlatsAt bytes at fs end → FlatsAt (bytes ++ more) at fs end
 flats-grown bytes more at [] end h = h

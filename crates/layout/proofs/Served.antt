@@ -2,7 +2,7 @@
 use Rattle.std.proofs.Common.{◌≡◌, ◌∙◌, ap, ℕ, Bool, true, false, cond, nat_eq, Some, None, List, [], ◌∷◌, arith, refl}
 use Rattle.std.proofs.lemmas.Bool.Decides.{nat_tests}
 use Rattle.rdata.specs.Types.{type_number, served_types, find_number, type_by}
-use Rattle.rdata.specs.Data.{Datum, Ipv4, Ns, Cname, Soa, Ptr, Mx, Txt, Ipv6, type_of}
+use Rattle.rdata.specs.Data.{Datum, Ipv4, Ns, Cname, Soa, Ptr, Mx, Txt, Ipv6, Srv, type_of}
 use Rattle.rdata.specs.declared.rtype.RType.{RType}
 use Rattle.layout.specs.Messages.{internet, served_type}
 
@@ -42,3 +42,4 @@ data_kept (Ptr n) h = cc
 data_kept (Mx p n) h = cc
 data_kept (Txt ts) h = cc
 data_kept (Ipv6 a) h = cc
+data_kept (Srv s) h = cc

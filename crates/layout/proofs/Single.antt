@@ -3,7 +3,7 @@ use Rattle.std.proofs.Common.{◌≡◌, ℕ, ◌+◌, ◌/◌, ◌%◌, ◌^◌
 use Rattle.std.specs.Prelude.{slice_index}
 use Rattle.std.specs.Int.{bytes_high_first}
 use Rattle.dname.specs.Labels.{folded_label, wire}
-use Rattle.rdata.specs.Data.{Authority, Datum, Ipv4, Ns, Cname, Soa, Ptr, Mx, Txt, Ipv6, type_of}
+use Rattle.rdata.specs.Data.{Authority, Service, Datum, Ipv4, Ns, Cname, Soa, Ptr, Mx, Txt, Ipv6, Srv, type_of}
 use Rattle.rdata.specs.Records.{Record}
 use Rattle.layout.specs.Names.{NameAt}
 use Rattle.layout.specs.Pieces.{Flat, plain_bytes}
@@ -125,6 +125,24 @@ authority_one bytes at place x y s t is it h k same =
     let n5 = long_one bytes h.2.2.2.2.2.0 k.2.2.2.2.2.0 s.minimum t.minimum h.2.2.2.2.2.2.0 k.2.2.2.2.2.2.0 h.2.2.2.2.2.2.1 k.2.2.2.2.2.2.1 e5 is.4 it.4 in
     λ i. record { primary = a.0 i; mailbox = b.0 i; serial = n1 i; refresh = n2 i; retry = n3 i; expire = n4 i; minimum = n5 i }
 
+service_one : (bytes : List ℕ) (at place x y : ℕ) (s t : Service) → FitsRdata (Srv s) → FitsRdata (Srv t) → FlatsAt bytes at (data_flats (Srv s)) x
+    → FlatsAt bytes place (data_flats (Srv t)) y → place ≡ at → s ≡ t
+service_one bytes at place x y s t is it h k same =
+    let l1 = h.1.last in
+    let m1 = k.1.last in
+    let l2 = h.2.1.last in
+    let m2 = k.2.1.last in
+    let l3 = h.2.2.1.last in
+    let m3 = k.2.2.1.last in
+    let e1 : k.0 ≡ h.0 = omega arith in
+    let e2 : k.2.0 ≡ h.2.0 = omega arith in
+    let e3 : k.2.2.0 ≡ h.2.2.0 = omega arith in
+    let n1 = short_one bytes at place s.priority t.priority h.0 k.0 h.1 k.1 same is.0 it.0 in
+    let n2 = short_one bytes h.0 k.0 s.weight t.weight h.2.0 k.2.0 h.2.1 k.2.1 e1 is.1 it.1 in
+    let n3 = short_one bytes h.2.0 k.2.0 s.port t.port h.2.2.0 k.2.2.0 h.2.2.1 k.2.2.1 e2 is.2 it.2 in
+    let n4 = (one_reading folded_label bytes 0 h.2.2.0 h.2.2.2.0 s.target h.2.2.2.1.stands 0 k.2.2.0 k.2.2.2.0 t.target k.2.2.2.1.stands e3).0 in
+    λ i. record { priority = n1 i; weight = n2 i; port = n3 i; target = n4 i }
+
 data_one : (bytes : List ℕ) (at place x y : ℕ) (d e : Datum) → type_of d ≡ type_of e → FitsRdata d → FitsRdata e → FlatsAt bytes at (data_flats d) x
     → FlatsAt bytes place (data_flats e) y → place ≡ at → x ≡ y → d ≡ e
 data_one bytes at place x y (Ipv4 a) (Ipv4 b) kind is it h k same ends = ap Ipv4 (text_one bytes at place a b h.0 k.0 h.1 k.1 same (omega arith)).0
@@ -145,6 +163,7 @@ data_one bytes at place x y (Txt a) (Txt b) kind is it h k same ends =
     let d = k.2 in
     ap Txt (strings_one a b (text_one bytes at place (strings_bytes a) (strings_bytes b) h.0 k.0 h.1 k.1 same (omega arith)).0)
 data_one bytes at place x y (Ipv6 a) (Ipv6 b) kind is it h k same ends = ap Ipv6 (text_one bytes at place a b h.0 k.0 h.1 k.1 same (omega arith)).0
+data_one bytes at place x y (Srv a) (Srv b) kind is it h k same ends = ap Srv (service_one bytes at place x y a b is it h k same)
 data_one bytes at place x y _ _ kind is it h k same ends = absurd (omega arith)
 
 -- ---- records
@@ -200,6 +219,7 @@ kind_small (Ptr a) = omega arith
 kind_small (Mx p a) = omega arith
 kind_small (Txt a) = omega arith
 kind_small (Ipv6 a) = omega arith
+kind_small (Srv s) = omega arith
 
 record_one : (bytes : List ℕ) (at place : ℕ) (r s : Record) (x y : ℕ) → RecordAt bytes at r x → RecordAt bytes place s y → place ≡ at → (r ≡ s) × (x ≡ y)
 record_one bytes at place r s x y h i same =

@@ -154,6 +154,12 @@ packed_stands notes (l ∷ m ∷ rest) pre start limit le stood h =
     (stood-grown pre (length l ∷ l) limit limit notes stood (omega arith)) h.1 in
     packed_step notes l (m ∷ rest) pre start limit le stood h.0 (packed notes (m ∷ rest)) inner (find notes (l ∷ m ∷ rest)) refl
 
+-- Where nothing was noted a packed name is in full.
+pub packed_full : (name : List (List ℕ)) → AreLabels name → packed [] name ≡ wire name
+packed_full [] h = absurd h
+packed_full (l ∷ []) h = λ i. wire (sym h i ∷ [])
+packed_full (l ∷ m ∷ rest) h = ap (λ x. length l ∷ (l ++ x)) (packed_full (m ∷ rest) h.1)
+
 -- ---- the notes of a packed name
 
 note_first : (bytes : List ℕ) (at end : ℕ) (name : List (List ℕ)) (later : List Note) → at < length bytes → Stands folded_label bytes at at name end

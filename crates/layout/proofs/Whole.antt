@@ -5,13 +5,14 @@ use Rattle.std.specs.List.{AllByRecursion}
 use Rattle.std.proofs.lemmas.List.{length-map}
 use Rattle.std.proofs.lemmas.Bool.Decides.{nat_tests}
 use Rattle.dname.specs.Labels.{folded_label, folded_labels, wire}
-use Rattle.rdata.specs.Data.{Datum, Ipv4, Ns, Cname, Soa, Ptr, Mx, Txt, Ipv6, type_of}
+use Rattle.rdata.specs.Data.{Datum, Ipv4, Ns, Cname, Soa, Ptr, Mx, Txt, Ipv6, Srv, type_of}
 use Rattle.rdata.specs.Records.{Record}
-use Rattle.layout.specs.Names.{Stands, root_here, label_here, pointer_here, NameAt, SpeltAt}
+use Rattle.layout.specs.Names.{Stands, root_here, label_here, pointer_here, NameAt, SpeltAt, FullAt}
 use Rattle.layout.specs.Pieces.{Flat, Piece, plain_bytes}
 use Rattle.layout.specs.Places.{PiecesAt}
 use Rattle.layout.specs.Messages.{Header, Question, Message, Counts, header_pieces, question_pieces, data_flats, record_pieces, internet, any_record_pieces, message_pieces, counts_of, encoding, ttl_of, QuestionAt, QuestionsAt, RecordAt, SectionAt, none_left, kept_first, skipped_first, IsMessage, IsQuestion, IsRecord, AreNamesOf, IsWritable, folded_question, folded_message}
 use Rattle.layout.proofs.Reading.{folds_to, folded_long, name_one, spelling_of}
+use Rattle.layout.proofs.Growing.{stands-later}
 use Rattle.layout.proofs.Written.{IsFlat, IsPiece, written_stands}
 
 -- ---- rows of pieces
@@ -36,6 +37,7 @@ data_is (Ptr n) h = (h, tt)
 data_is (Mx p n) h = (tt, (h, tt))
 data_is (Txt ts) h = (tt, tt)
 data_is (Ipv6 a) h = (tt, tt)
+data_is (Srv s) h = (tt, (tt, (tt, (h, tt))))
 
 questions_are : (qs : List Question) → AllByRecursion IsQuestion qs → AllByRecursion IsPiece (flat_map question_pieces qs)
 questions_are [] h = tt
@@ -100,6 +102,16 @@ name_spelt bytes at name end h =
     let s = h.short in
     let same : length (wire name) ≡ length (wire (folded_labels found.0)) = ap (λ x. length (wire x)) found.2 in
     (found.0, record { stands = found.1; short = omega (arith, wire_folded_long found.0) })
+
+in_place : (bytes : List ℕ) (at end : ℕ) (name : List (List ℕ)) → Stands folded_label bytes 0 at name end → end ≡ at + length (wire name)
+in_place bytes at end name (root_here _ _ _ z e) = omega arith
+in_place bytes at end name (label_here _ _ _ w seen rest l s r) =
+    omega (arith, in_place bytes (at + 1 + length w) end rest r, folded_long w, ap length s, length-append seen (wire rest))
+in_place bytes at end name (pointer_here _ _ _ target past _ p less r e) = absurd (omega arith)
+
+pub full_there : (bytes : List ℕ) (at : ℕ) (name : List (List ℕ)) (end : ℕ) → FullAt bytes at name end → NameAt bytes at name end × (end ≡ at + length (wire name))
+full_there bytes at name end h =
+    (record { stands = stands-later folded_label bytes 0 at end name h.stands at (omega arith); short = h.short }, in_place bytes at end name h.stands)
 
 questions_at : (bytes : List ℕ) (at : ℕ) (qs : List Question) (end : ℕ) → AllByRecursion IsQuestion qs → PiecesAt bytes at (flat_map question_pieces qs) end
     → QuestionsAt bytes at (map folded_question qs) end

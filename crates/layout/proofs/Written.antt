@@ -4,19 +4,20 @@ use Rattle.std.proofs.lemmas.List.{append-nil}
 use Rattle.std.specs.List.{AllByRecursion}
 use Rattle.std.specs.Int.{bytes_high_first}
 use Rattle.std.proofs.Math.Seq.{drop-append_seam, take-length}
-use Rattle.dname.specs.Labels.{folded_label, IsName}
+use Rattle.dname.specs.Labels.{folded_label, wire, IsName}
 use Rattle.layout.specs.Packing.{Note, packed}
-use Rattle.layout.specs.Pieces.{Flat, plain_bytes, packed_name, asked_name, Piece, flat_piece, sized_group, Text, place_of, flat_bytes, flat_notes, put_flat, put_flats, group_of, with_group, put, after, empty, written}
+use Rattle.layout.specs.Pieces.{Flat, plain_bytes, packed_name, asked_name, full_name, Piece, flat_piece, sized_group, Text, place_of, flat_bytes, flat_notes, put_flat, put_flats, group_of, with_group, put, after, empty, written}
 use Rattle.layout.specs.Places.{IsAt, FlatAt, FlatsAt, PieceAt, PiecesAt}
 use Rattle.layout.specs.Messages.{IsSpelling}
 use Rattle.layout.proofs.Growing.{at-grown, flat-grown, piece-grown}
-use Rattle.layout.proofs.Standing.{AllStood, stood-grown, stood-append, stood-along, stands-along, packed_stands, packed_noted, full_stands, full_noted}
+use Rattle.layout.proofs.Standing.{AllStood, stood-grown, stood-append, stood-along, stands-along, packed_stands, packed_full, packed_noted, full_stands, full_noted}
 
 -- Pieces that can be written: their names are names.
 abbrev pub IsFlat : Flat → Type 0
 IsFlat (plain_bytes b) = Unit {0}
 IsFlat (packed_name n) = IsName n
 IsFlat (asked_name n) = IsSpelling n
+IsFlat (full_name n) = IsName n
 
 abbrev pub IsPiece : Piece → Type 0
 IsPiece (flat_piece f) = IsFlat f
@@ -40,12 +41,20 @@ flat_stands notes pre (asked_name n) stood is = record {
   stands = stands-along _ _ _ (length pre) _ _ _ _ n (full_stands n pre (length pre) is.spelled) refl refl (sym (length-append pre _));
   short = is.short;
 }
+flat_stands notes pre (full_name n) stood is =
+    let same = packed_full n is.labels in
+    record {
+      stands = stands-along folded_label _ _ 0 (length pre) (length pre) _ _ n (packed_stands [] n pre 0 0 (omega arith) tt is.labels) (ap (λ x. pre ++ x) same) refl
+          (omega (arith, length-append pre (wire n), ap length same));
+      short = is.short;
+    }
 
 flat_noted : (notes : List Note) (pre : List ℕ) (f : Flat) → AllStood pre (length pre) notes → IsFlat f
     → AllStood (pre ++ flat_bytes notes f) (length (pre ++ flat_bytes notes f)) (flat_notes notes (length pre) f)
 flat_noted notes pre (plain_bytes b) stood is = tt
 flat_noted notes pre (packed_name n) stood is = packed_noted notes n pre (length pre) (omega arith) stood is.labels
 flat_noted notes pre (asked_name n) stood is = full_noted n pre is.spelled
+flat_noted notes pre (full_name n) stood is = tt
 
 pub piece-along : (bytes text : List ℕ) (at place : ℕ) (p : Piece) (end last : ℕ) → PieceAt bytes at p end → bytes ≡ text → at ≡ place → end ≡ last
     → PieceAt text place p last

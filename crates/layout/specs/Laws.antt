@@ -1,8 +1,8 @@
 -- The laws about messages that the functions of this crate state.
-use Rattle.std.specs.Prelude.{◌≡◌, ℕ, ◌≤◌, List, [], ◌∷◌, ◌++◌, length, Contains}
+use Rattle.std.specs.Prelude.{◌≡◌, ℕ, ◌+◌, ◌≤◌, List, [], ◌∷◌, ◌++◌, length, Contains}
 use Rattle.dname.specs.Labels.{root, folded_labels, wire, IsAtOrUnder}
 use Rattle.rdata.specs.Records.{Record}
-use Rattle.layout.specs.Names.{SpeltAt, NameAt}
+use Rattle.layout.specs.Names.{SpeltAt, NameAt, FullAt}
 use Rattle.layout.specs.Messages.{Question, Message, IsWritable, IsMessage, encoding, folded_message}
 
 -- At a place stands one name at most, and it has one end.
@@ -22,6 +22,11 @@ SpellingIsName =
 -- Where a name stands, a spelling stands.
 abbrev pub NameIsSpelt : Type 0
 NameIsSpelt = (bytes : List ℕ) (at : ℕ) (name : List (List ℕ)) (end : ℕ) → NameAt bytes at name end → (labels : List (List ℕ)) × SpeltAt bytes at labels end
+
+-- A name in full is the name at its place, and all of its bytes stand there.
+abbrev pub FullStandsThere : Type 0
+FullStandsThere =
+    (bytes : List ℕ) (at : ℕ) (name : List (List ℕ)) (end : ℕ) → FullAt bytes at name end → NameAt bytes at name end × (end ≡ at + length (wire name))
 
 -- An encoding of at most 65,535 bytes is the message that was encoded, its questions' names in lower case.
 abbrev pub EncodingIsMessage : Type 0

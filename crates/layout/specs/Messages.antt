@@ -4,10 +4,10 @@ use Rattle.std.specs.List.{AllByRecursion}
 use Rattle.dname.specs.Labels.{folded_labels, wire, IsName, AreSpelled}
 use Rattle.rdata.specs.Types.{type_by}
 use Rattle.rdata.specs.declared.rtype.RType.{RType}
-use Rattle.rdata.specs.Data.{Datum, Ipv4, Ns, Cname, Soa, Ptr, Mx, Txt, Ipv6, type_of}
+use Rattle.rdata.specs.Data.{Datum, Ipv4, Ns, Cname, Soa, Ptr, Mx, Txt, Ipv6, Srv, type_of}
 use Rattle.rdata.specs.Records.{Record, greatest_ttl}
 use Rattle.layout.specs.Names.{NameAt}
-use Rattle.layout.specs.Pieces.{Flat, plain_bytes, packed_name, asked_name, short_number, long_number, Piece, flat_piece, sized_group, written}
+use Rattle.layout.specs.Pieces.{Flat, plain_bytes, packed_name, asked_name, full_name, short_number, long_number, Piece, flat_piece, sized_group, written}
 use Rattle.layout.specs.Places.{PiecesAt}
 
 -- The fields of a header that are no counts (RFC 1035, section 4.1.1).
@@ -85,7 +85,7 @@ string_bytes_of s = length s ∷ s
 abbrev pub strings_bytes : List (List ℕ) → List ℕ
 strings_bytes ss = flat_map string_bytes_of ss
 
--- RDATA (RFC 1035, sections 3.3 and 3.4; RFC 3596, section 2.2).
+-- RDATA (RFC 1035, sections 3.3 and 3.4; RFC 3596, section 2.2). The target of an SRV is not compressed (RFC 2782).
 abbrev pub data_flats : Datum → List Flat
 data_flats (Ipv4 address) = plain_bytes address ∷ []
 data_flats (Ns name) = packed_name name ∷ []
@@ -97,6 +97,7 @@ data_flats (Ptr name) = packed_name name ∷ []
 data_flats (Mx preference name) = short_number preference ∷ packed_name name ∷ []
 data_flats (Txt strings) = plain_bytes (strings_bytes strings) ∷ []
 data_flats (Ipv6 address) = plain_bytes address ∷ []
+data_flats (Srv s) = short_number s.priority ∷ short_number s.weight ∷ short_number s.port ∷ full_name s.target ∷ []
 
 -- A record of any type and class (RFC 1035, section 4.1.3): owner, type, class, TTL, RDLENGTH and RDATA.
 abbrev pub any_record_pieces : List (List ℕ) → ℕ → ℕ → ℕ → List Flat → List Piece
@@ -142,6 +143,7 @@ FitsRdata (Ptr name) = Unit {0}
 FitsRdata (Mx preference name) = preference < 65536
 FitsRdata (Txt strings) = (0 < length strings) × AllByRecursion (λ s. length s < 256) strings
 FitsRdata (Ipv6 address) = length address ≡ 16
+FitsRdata (Srv s) = (s.priority < 65536) × (s.weight < 65536) × (s.port < 65536)
 
 -- The type of a record that is kept, by the numbers of its type and class: a served one in class IN. Others are
 -- skipped.
@@ -237,6 +239,7 @@ AreNamesOf (Ptr name) = IsName name
 AreNamesOf (Mx preference name) = IsName name
 AreNamesOf (Txt strings) = Unit {0}
 AreNamesOf (Ipv6 address) = Unit {0}
+AreNamesOf (Srv s) = IsName s.target
 
 pub record IsRecord (r : Record) : Type 0 where
   pub owner : IsName r.owner

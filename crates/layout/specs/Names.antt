@@ -47,3 +47,8 @@ pub record SpeltAt (bytes : List ℕ) (at : ℕ) (labels : List (List ℕ)) (end
 pub record NameAt (bytes : List ℕ) (at : ℕ) (name : List (List ℕ)) (end : ℕ) : Type 0 where
   pub stands : Stands folded_label bytes at at name end
   pub short : length (wire name) ≤ 255
+
+-- A name that stands there in full: its part starts at 0, as it were, so that no pointer can lead strictly before it.
+pub record FullAt (bytes : List ℕ) (at : ℕ) (name : List (List ℕ)) (end : ℕ) : Type 0 where
+  pub stands : Stands folded_label bytes 0 at name end
+  pub short : length (wire name) ≤ 255

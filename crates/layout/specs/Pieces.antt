@@ -6,11 +6,12 @@ use Rattle.layout.specs.Packing.{Note, packed, packed_notes, full_notes}
 
 -- A piece without a length of its own. A name that is packed is compressed, and its suffixes are noted; an
 -- asked name, the name of a question, is written in full in its own letters, and its suffixes are noted in
--- lower case.
+-- lower case; a full name is written in full, and no pointer leads into it.
 pub data Flat : Type 0 where
   plain_bytes : List ℕ → Flat
   packed_name : List (List ℕ) → Flat
   asked_name : List (List ℕ) → Flat
+  full_name : List (List ℕ) → Flat
 
 -- A sized group has its length in front, in 16 bits.
 pub data Piece : Type 0 where
@@ -39,11 +40,13 @@ abbrev pub flat_bytes : List Note → Flat → List ℕ
 flat_bytes notes (plain_bytes b) = b
 flat_bytes notes (packed_name n) = packed notes n
 flat_bytes notes (asked_name n) = wire n
+flat_bytes notes (full_name n) = wire n
 
 abbrev pub flat_notes : List Note → ℕ → Flat → List Note
 flat_notes notes at (plain_bytes b) = []
 flat_notes notes at (packed_name n) = packed_notes notes at n
 flat_notes notes at (asked_name n) = full_notes at (folded_labels n)
+flat_notes notes at (full_name n) = []
 
 -- The text with a flat piece behind it.
 unfoldable pub put_flat : Text → Flat → Text

@@ -1,8 +1,8 @@
 -- What it is that a row of pieces stands at a place of a message, from there to an end.
 use Rattle.std.specs.Prelude.{◌≡◌, ℕ, ◌+◌, ◌<◌, ◌≤◌, List, [], ◌∷◌, length, take, drop}
 use Rattle.std.specs.Int.{bytes_high_first}
-use Rattle.layout.specs.Names.{NameAt, SpeltAt}
-use Rattle.layout.specs.Pieces.{Flat, plain_bytes, packed_name, asked_name, Piece, flat_piece, sized_group}
+use Rattle.layout.specs.Names.{NameAt, SpeltAt, FullAt}
+use Rattle.layout.specs.Pieces.{Flat, plain_bytes, packed_name, asked_name, full_name, Piece, flat_piece, sized_group}
 
 -- These bytes stand there.
 pub record IsAt (bytes : List ℕ) (at : ℕ) (text : List ℕ) (end : ℕ) : Type 0 where
@@ -14,6 +14,7 @@ abbrev pub FlatAt : List ℕ → ℕ → Flat → ℕ → Type 0
 FlatAt bytes at (plain_bytes text) end = IsAt bytes at text end
 FlatAt bytes at (packed_name name) end = NameAt bytes at name end
 FlatAt bytes at (asked_name labels) end = SpeltAt bytes at labels end
+FlatAt bytes at (full_name name) end = FullAt bytes at name end
 
 abbrev pub FlatsAt : List ℕ → ℕ → List Flat → ℕ → Type 0
 FlatsAt bytes at [] end = end ≡ at

@@ -1,5 +1,5 @@
 //! Laws of the definitions: functions that do nothing, whose clauses are proved.
-ghost use Rattle.layout.specs.Laws.{OneName, OneSpelling, SpellingIsName, NameIsSpelt, EncodingIsMessage, LettersKeepLength, LettersStayInQuestion, OneMessage, NamesEndInRoot};
+ghost use Rattle.layout.specs.Laws.{OneName, OneSpelling, SpellingIsName, NameIsSpelt, FullStandsThere, EncodingIsMessage, LettersKeepLength, LettersStayInQuestion, OneMessage, NamesEndInRoot};
 
 /// At a place of a message stands one name at most (RFC 1035, section 4.1.4).
 pub fn one_name_law()
@@ -19,6 +19,11 @@ pub fn spelling_is_name()
 /// Where a name stands, a spelling stands.
 pub fn name_is_spelt()
     ensures { NameIsSpelt }
+{}
+
+/// A name in full is the name at its place, none of it behind a pointer (the target of an SRV record, RFC 2782).
+pub fn full_name_law()
+    ensures { FullStandsThere }
 {}
 
 /// The encoding of a message is that message (RFC 1035, section 4): what is written is read back.

@@ -20,6 +20,7 @@
 mod laws;
 
 pub use laws::{
-    encoding_is_message, letters_keep_length, letters_stay_in_question, name_is_spelt,
-    names_end_in_root, one_message_law, one_name_law, one_spelling_law, spelling_is_name,
+    encoding_is_message, full_name_law, letters_keep_length, letters_stay_in_question,
+    name_is_spelt, names_end_in_root, one_message_law, one_name_law, one_spelling_law,
+    spelling_is_name,
 };

@@ -3,7 +3,7 @@ use Rattle.std.proofs.Common.{◌≡◌, ℕ, ◌+◌, ◌≤◌, Bool, true, fa
 use Rattle.std.proofs.lemmas.Bool.Decides.{nat_tests}
 use Rattle.words.specs.Lexemes.{Word, plain, quoted, broken}
 use Rattle.words.specs.Parts.{AreWhole}
-use Rattle.rdata.specs.Data.{Datum, Ipv4, Ns, Cname, Soa, Ptr, Mx, Txt, Ipv6, Authority}
+use Rattle.rdata.specs.Data.{Datum, Ipv4, Ns, Cname, Soa, Ptr, Mx, Txt, Ipv6, Srv, Authority, Service}
 use Rattle.rdata.specs.declared.rtype.RType.{RType}
 use Rattle.rdata.specs.declared.rtype.RType.TheVariants as rtype
 use Rattle.masterfile.specs.declared.faults.FileKind.{FileKind}
@@ -12,8 +12,8 @@ use Rattle.masterfile.specs.Faults.{◌>>=◌, onto}
 use Rattle.masterfile.specs.Numbers.{number_of}
 use Rattle.masterfile.specs.Addresses.{ipv4_of, ipv6_of}
 use Rattle.masterfile.specs.Strings.{string_word, strings_from}
-use Rattle.masterfile.specs.Fields.{take_by, take_name, take_number, take_end, name_of, take_authority, take_exchange, take_data, greatest_16, greatest_32}
-use Rattle.masterfile.specs.MasterText.{AreStrings, strings_size, IsNameData, IsAuthorityData, IsData}
+use Rattle.masterfile.specs.Fields.{take_by, take_name, take_number, take_end, name_of, take_authority, take_exchange, take_service, take_data, greatest_16, greatest_32}
+use Rattle.masterfile.specs.MasterText.{AreStrings, strings_size, IsNameData, IsAuthorityData, IsServiceData, IsData}
 
 -- the value of the first step, and what the second made of it
 pub steps : {X Y : Type 0} (r : Result X FileKind) (f : X → Result Y FileKind) (y : Y) → (r >>= f) ≡ Ok y → (x : X) × (r ≡ Ok x) × (f x ≡ Ok y)
@@ -119,6 +119,32 @@ exchange_data origin ws d rest e h =
     let g = field (name_of origin) a.0.1 b.0.0 b.0.1 b.1 in
     (f.0, g.0, a.0.0, b.0.0, f.1 ∙ ap (λ (r : List Word). plain f.0 ∷ r) (at_end g.0 a.0.1 b.0.1 rest g.1 p.1 h), f.2, g.2, sym p.0)
 
+service_data : (origin : List (List ℕ)) (ws : List Word) (s : Service) (rest : List Word) → take_service origin ws ≡ Ok (s, rest) → rest ≡ [] → IsServiceData origin ws s
+service_data origin ws s rest e h =
+    let a = steps (take_number greatest_16 ws) _ (s, rest) e in
+    let b = steps (take_number greatest_16 a.0.1) _ (s, rest) a.2 in
+    let c = steps (take_number greatest_16 b.0.1) _ (s, rest) b.2 in
+    let d = steps (take_name origin c.0.1) _ (s, rest) c.2 in
+    let p = pair_is _ s d.0.1 rest d.2 in
+    let wa = field (number_of greatest_16) ws a.0.0 a.0.1 a.1 in
+    let wb = field (number_of greatest_16) a.0.1 b.0.0 b.0.1 b.1 in
+    let wc = field (number_of greatest_16) b.0.1 c.0.0 c.0.1 c.1 in
+    let wd = field (name_of origin) c.0.1 d.0.0 d.0.1 d.1 in
+    record {
+      priority = wa.0;
+      weight = wb.0;
+      port = wc.0;
+      target = wd.0;
+      spelled = wa.1 ∙ ap (λ (r : List Word). plain wa.0 ∷ r) (wb.1 ∙ ap (λ (r : List Word). plain wb.0 ∷ r) (wc.1 ∙ ap (λ (r : List Word). plain wc.0 ∷ r)
+          (at_end wd.0 c.0.1 d.0.1 rest wd.1 p.1 h)));
+      numbers = (
+        wa.2 ∙ ap (λ (x : Service). (let r : Result ℕ FileKind = Ok x.priority in r)) p.0,
+        wb.2 ∙ ap (λ (x : Service). (let r : Result ℕ FileKind = Ok x.weight in r)) p.0,
+        wc.2 ∙ ap (λ (x : Service). (let r : Result ℕ FileKind = Ok x.port in r)) p.0,
+      );
+      host = wd.2 ∙ ap (λ (x : Service). (let r : Result (List (List ℕ)) FileKind = Ok x.target in r)) p.0;
+    }
+
 strings_are : (size : ℕ) (ws : List Word) (ts : List (List ℕ)) → size ≤ 65535 → strings_from size ws ≡ Ok ts → AreStrings ws ts × (size + strings_size ts ≤ 65535)
 strings_are size [] [] h e = (tt, omega arith)
 strings_are size [] (t ∷ ts) h e = cc
@@ -155,6 +181,7 @@ data_whole origin rtype.Ptr ws d h = rw h.1.1 tt
 data_whole origin rtype.Mx ws d h = rw h.4 tt
 data_whole origin rtype.Txt ws d h = strings_whole ws h.0 h.2
 data_whole origin rtype.Aaaa ws d h = rw h.2 tt
+data_whole origin rtype.Srv ws d h = rw h.1.spelled tt
 
 pub data_is : (origin : List (List ℕ)) (t : RType) (ws : List Word) (d : Datum) (rest : List Word) → take_data origin t ws ≡ Ok (d, rest) → rest ≡ [] → IsData origin t ws d
 data_is origin rtype.A ws d rest e h = address_data Ipv4 ipv4_of ws d rest e h
@@ -168,6 +195,10 @@ data_is origin rtype.Ptr ws d rest e h = name_data origin Ptr ws d rest e h
 data_is origin rtype.Mx ws d rest e h = exchange_data origin ws d rest e h
 data_is origin rtype.Txt ws d rest e h = text_data origin ws d rest e
 data_is origin rtype.Aaaa ws d rest e h = address_data Ipv6 ipv6_of ws d rest e h
+data_is origin rtype.Srv ws d rest e h =
+    let s = steps (take_service origin ws) (λ (a : Service × List Word). Ok (Srv a.0, a.1)) (d, rest) e in
+    let p = pair_is (Srv s.0.0) d s.0.1 rest s.2 in
+    (s.0.0, service_data origin ws s.0.0 s.0.1 s.1 (p.1 ∙ h), sym p.0)
 
 -- the other way round
 strings_read : (size : ℕ) (ws : List Word) (ts : List (List ℕ)) → AreStrings ws ts → size + strings_size ts ≤ 65535 → strings_from size ws ≡ Ok ts
@@ -189,3 +220,4 @@ data_read origin rtype.Mx ws d h = rw (h.4, h.5, h.6, h.7) refl
 data_read origin rtype.Txt [] d h = absurd (omega (arith, h.1))
 data_read origin rtype.Txt (w ∷ ws) d h = rw (strings_read 0 (w ∷ ws) h.0 h.2 (omega (arith, h.3)), h.4) refl
 data_read origin rtype.Aaaa ws d h = rw (h.2, h.3, h.4) refl
+data_read origin rtype.Srv ws d h = rw (h.1.spelled, h.1.numbers.0, h.1.numbers.1, h.1.numbers.2, h.1.host, h.2) refl

@@ -24,6 +24,9 @@ plain_append false (c ∷ a) b h k =
 pub plain_byte : (c : ℕ) (w : List ℕ) → ends_word c ≡ false → (c == 92) ≡ false → is_plain false w ≡ true → is_plain false (c ∷ w) ≡ true
 plain_byte c w h k p = rw (h, k) p
 
--- eight texts, one behind the other
+-- five texts, one behind the other, and eight
+pub five_joined : (a b c d e : List ℕ) → a ++ b ++ c ++ d ++ e ≡ a ++ (b ++ (c ++ (d ++ (e ++ []))))
+five_joined a b c d e = simp (append_assoc, append-nil)
+
 pub eight_joined : (a b c d e f g h : List ℕ) → a ++ b ++ c ++ d ++ e ++ f ++ g ++ h ≡ a ++ (b ++ (c ++ (d ++ (e ++ (f ++ (g ++ (h ++ [])))))))
 eight_joined a b c d e f g h = simp (append_assoc, append-nil)

@@ -4,7 +4,7 @@ use Rattle.std.proofs.lemmas.List.{append-nil}
 use Rattle.std.proofs.lemmas.Fmt.{decimal_nonempty}
 use Rattle.dname.specs.Labels.{IsName}
 use Rattle.dname.specs.Text.{name_text}
-use Rattle.rdata.specs.Data.{Authority, Datum, Ipv4, Ns, Cname, Soa, Ptr, Mx, Txt, Ipv6}
+use Rattle.rdata.specs.Data.{Authority, Service, Datum, Ipv4, Ns, Cname, Soa, Ptr, Mx, Txt, Ipv6, Srv, kind_of}
 use Rattle.rdata.specs.Records.{Record, greatest_ttl}
 use Rattle.rdata.specs.Text.{ipv4_text, ipv6_text, spaced_name, spaced_number, spaced_string, data_text}
 use Rattle.rdata.specs.Types.{type_word}
@@ -16,24 +16,14 @@ use Rattle.words.specs.Lines.{written, line_of, IsWritable, AreWritable}
 use Rattle.masterfile.specs.Fields.{type_named, take_data, greatest_16, greatest_32}
 use Rattle.masterfile.specs.Entries.{Context, take_head, entry_in}
 use Rattle.masterfile.specs.Printed.{line_text}
-use Rattle.masterfile.specs.ReadBack.{IsAuthority, IsSoundData, IsSound}
-use Rattle.masterfile.proofs.PlainWords.{eight_joined}
+use Rattle.masterfile.specs.ReadBack.{IsAuthority, IsService, IsSoundData, IsSound}
+use Rattle.masterfile.proofs.PlainWords.{five_joined, eight_joined}
 use Rattle.masterfile.proofs.NumbersBack.{decimal_digits, decimal_number, digits_plain, number_back}
 use Rattle.masterfile.proofs.NamesBack.{name_back, name_plain, name_some, name_no_directive}
 use Rattle.masterfile.proofs.AddressesBack.{ipv4_is_read, ipv6_is_read}
 use Rattle.masterfile.proofs.StringsBack.{string_words, strings_back, strings_writable}
 
 -- ---- the words of a record
-
-abbrev kind_of : Datum → RType
-kind_of (Ipv4 a) = rtype.A
-kind_of (Ns n) = rtype.Ns
-kind_of (Cname n) = rtype.Cname
-kind_of (Soa s) = rtype.Soa
-kind_of (Ptr n) = rtype.Ptr
-kind_of (Mx p n) = rtype.Mx
-kind_of (Txt ts) = rtype.Txt
-kind_of (Ipv6 a) = rtype.Aaaa
 
 abbrev name_word : List (List ℕ) → Word
 name_word n = plain (name_text n)
@@ -51,6 +41,7 @@ data_words (Ptr n) = name_word n ∷ []
 data_words (Mx p n) = number_word p ∷ name_word n ∷ []
 data_words (Txt ts) = string_words ts
 data_words (Ipv6 a) = plain (ipv6_text a) ∷ []
+data_words (Srv s) = number_word s.priority ∷ number_word s.weight ∷ number_word s.port ∷ name_word s.target ∷ []
 
 abbrev pub record_words : Record → List Word
 record_words r = name_word r.owner ∷ number_word r.ttl ∷ plain (codes "IN") ∷ plain (type_word (kind_of r.value)) ∷ data_words r.value
@@ -81,6 +72,7 @@ data_line (Ptr n) = rw (append-nil (name_text n)) refl
 data_line (Mx p n) = rw (append-nil (name_text n)) refl
 data_line (Txt ts) = ap (λ (x : List ℕ). codes "TXT" ++ x) (spaced_strings ts)
 data_line (Ipv6 a) = rw (append-nil (ipv6_text a)) refl
+data_line (Srv s) = five_joined (codes "SRV") (spaced_number s.priority) (spaced_number s.weight) (spaced_number s.port) (spaced_name s.target)
 
 line_parts : (a t d n : List ℕ) → a ++ (codes " " ++ t ++ codes " IN ") ++ d ++ n ≡ a ++ (32 ∷ (t ++ 32 ∷ 73 ∷ 78 ∷ 32 ∷ d) ++ n)
 line_parts a t d n = simp append_assoc
@@ -109,6 +101,7 @@ type_writable rtype.Ptr = (omega arith, refl)
 type_writable rtype.Mx = (omega arith, refl)
 type_writable rtype.Txt = (omega arith, refl)
 type_writable rtype.Aaaa = (omega arith, refl)
+type_writable rtype.Srv = (omega arith, refl)
 
 data_writable : (d : Datum) → IsSoundData d → AreWritable (data_words d)
 data_writable (Ipv4 a) h = let r = ipv4_is_read a h.0 h.1 in ((r.some, r.plain), tt)
@@ -134,6 +127,10 @@ data_writable (Ptr n) h = (name_writable n h, tt)
 data_writable (Mx p n) h = (number_writable p greatest_16 h.0 (omega arith), (name_writable n h.1, tt))
 data_writable (Txt ts) h = strings_writable ts h.1
 data_writable (Ipv6 a) h = let r = ipv6_is_read a h.0 h.1 in ((r.some, r.plain), tt)
+data_writable (Srv s) h = (
+  number_writable s.priority greatest_16 h.priority (omega arith),
+  (number_writable s.weight greatest_16 h.weight (omega arith), (number_writable s.port greatest_16 h.port (omega arith), (name_writable s.target h.target, tt))),
+)
 
 pub record_writable : (r : Record) → IsSound r → AreWritable (record_words r)
 record_writable r h =
@@ -153,6 +150,15 @@ authority_back origin s ho h =
       number_back greatest_32 s.minimum h.minimum (omega arith),
     ) refl
 
+service_back : (origin : List (List ℕ)) (s : Service) → IsName origin → IsService s → take_data origin rtype.Srv (data_words (Srv s)) ≡ Ok (Srv s, [])
+service_back origin s ho h =
+    rw (
+      number_back greatest_16 s.priority h.priority (omega arith),
+      number_back greatest_16 s.weight h.weight (omega arith),
+      number_back greatest_16 s.port h.port (omega arith),
+      name_back origin s.target ho h.target,
+    ) refl
+
 data_back : (origin : List (List ℕ)) (d : Datum) → IsName origin → IsSoundData d → take_data origin (kind_of d) (data_words d) ≡ Ok (d, [])
 data_back origin (Ipv4 a) ho h = rw ((ipv4_is_read a h.0 h.1).back) refl
 data_back origin (Ns n) ho h = rw (name_back origin n ho h) refl
@@ -162,6 +168,7 @@ data_back origin (Ptr n) ho h = rw (name_back origin n ho h) refl
 data_back origin (Mx p n) ho h = rw (number_back greatest_16 p h.0 (omega arith), name_back origin n ho h.1) refl
 data_back origin (Txt ts) ho h = rw (strings_back ts h.0 h.1 h.2) refl
 data_back origin (Ipv6 a) ho h = rw ((ipv6_is_read a h.0 h.1).back) refl
+data_back origin (Srv s) ho h = service_back origin s ho h
 
 head_behind_ttl : (ttl : ℕ) (t : RType) (rest : List Word) → take_head (Some ttl) false (plain (codes "IN") ∷ plain (type_word t) ∷ rest) ≡ Ok (record { ttl = Some ttl; kind = t; rest = rest })
 unfolding type_named
@@ -173,6 +180,7 @@ head_behind_ttl ttl rtype.Ptr rest = refl
 head_behind_ttl ttl rtype.Mx rest = refl
 head_behind_ttl ttl rtype.Txt rest = refl
 head_behind_ttl ttl rtype.Aaaa rest = refl
+head_behind_ttl ttl rtype.Srv rest = refl
 
 head_back : (ttl : ℕ) (t : RType) (rest : List Word) → ttl ≤ greatest_ttl
     → take_head None false (number_word ttl ∷ plain (codes "IN") ∷ plain (type_word t) ∷ rest) ≡ Ok (record { ttl = Some ttl; kind = t; rest = rest })

@@ -74,6 +74,7 @@ internet_no_type rtype.Ptr = refl
 internet_no_type rtype.Mx = refl
 internet_no_type rtype.Txt = refl
 internet_no_type rtype.Aaaa = refl
+internet_no_type rtype.Srv = refl
 
 class_no_type : (t : RType) → is_foreign_class (type_word t) ≡ false
 class_no_type rtype.A = refl
@@ -84,6 +85,7 @@ class_no_type rtype.Ptr = refl
 class_no_type rtype.Mx = refl
 class_no_type rtype.Txt = refl
 class_no_type rtype.Aaaa = refl
+class_no_type rtype.Srv = refl
 
 pub type_no_internet : (w : List ℕ) (t : RType) → type_named w ≡ Some t → is_internet w ≡ false
 type_no_internet w t e = compares w (type_word t) (codes "IN") (type_is_word w t e) ∙ internet_no_type t
@@ -104,6 +106,7 @@ letter w rtype.Ptr e = no_number w 112 _ e (omega arith)
 letter w rtype.Mx e = no_number w 109 _ e (omega arith)
 letter w rtype.Txt e = no_number w 116 _ e (omega arith)
 letter w rtype.Aaaa e = no_number w 97 _ e (omega arith)
+letter w rtype.Srv e = no_number w 115 _ e (omega arith)
 
 pub type_no_number : (w : List ℕ) (t : RType) → type_named w ≡ Some t → is_number w ≡ false
 type_no_number w t e = letter w t (type_is_word w t e)

@@ -3,7 +3,7 @@ use Rattle.std.specs.Prelude.{ℕ, cond, nat_eq, Option, Some, None, Result, Ok,
 use Rattle.std.specs.Cmp.Lexicographic.{pointwise}
 use Rattle.dname.specs.Text.{name_under}
 use Rattle.dname.specs.declared.text.NameError.{NameError}
-use Rattle.rdata.specs.Data.{Datum, Ipv4, Ns, Cname, Soa, Ptr, Mx, Txt, Ipv6, Authority}
+use Rattle.rdata.specs.Data.{Datum, Ipv4, Ns, Cname, Soa, Ptr, Mx, Txt, Ipv6, Srv, Authority, Service}
 pub use Rattle.rdata.specs.Types.{same_word, find_type, served_types}
 unfoldable pub use Rattle.rdata.specs.Types.{type_named}
 use Rattle.rdata.specs.declared.rtype.RType.{RType}
@@ -81,6 +81,15 @@ take_exchange origin ws =
     take_number greatest_16 ws >>= λ (preference : ℕ × List Word).
     take_name origin preference.1 >>= λ (exchange : List (List ℕ) × List Word). Ok (Mx preference.0 exchange.0, exchange.1)
 
+-- Priority, weight, port and target (RFC 2782).
+abbrev pub take_service : List (List ℕ) → List Word → Result (Service × List Word) FileKind
+take_service origin ws =
+    take_number greatest_16 ws >>= λ (priority : ℕ × List Word).
+    take_number greatest_16 priority.1 >>= λ (weight : ℕ × List Word).
+    take_number greatest_16 weight.1 >>= λ (port : ℕ × List Word).
+    take_name origin port.1 >>= λ (target : List (List ℕ) × List Word).
+    Ok (record { priority = priority.0; weight = weight.0; port = port.0; target = target.0 }, target.1)
+
 -- The data of a type.
 abbrev pub take_data : List (List ℕ) → RType → List Word → Result (Datum × List Word) FileKind
 take_data origin rtype.A ws = take_by ipv4_of ws >>= λ (a : List ℕ × List Word). Ok (Ipv4 a.0, a.1)
@@ -91,3 +100,4 @@ take_data origin rtype.Ptr ws = take_name origin ws >>= λ (n : List (List ℕ) 
 take_data origin rtype.Mx ws = take_exchange origin ws
 take_data origin rtype.Txt ws = take_strings ws >>= λ (ts : List (List ℕ)). Ok (Txt ts, [])
 take_data origin rtype.Aaaa ws = take_by ipv6_of ws >>= λ (a : List ℕ × List Word). Ok (Ipv6 a.0, a.1)
+take_data origin rtype.Srv ws = take_service origin ws >>= λ (s : Service × List Word). Ok (Srv s.0, s.1)

@@ -1,6 +1,6 @@
 -- What a master file says, by cases (RFC 1035, section 5.1; `$TTL`: RFC 2308, section 4).
 use Rattle.std.specs.Prelude.{◌≡◌, ℕ, ◌+◌, ◌<◌, ◌≤◌, true, false, Option, Some, None, ◌↔◌, Ok, List, [], ◌∷◌, length, codes}
-use Rattle.rdata.specs.Data.{Datum, Ipv4, Ns, Cname, Soa, Ptr, Mx, Txt, Ipv6, Authority}
+use Rattle.rdata.specs.Data.{Datum, Ipv4, Ns, Cname, Soa, Ptr, Mx, Txt, Ipv6, Srv, Authority, Service}
 use Rattle.rdata.specs.Records.{Record, greatest_ttl}
 use Rattle.rdata.specs.declared.rtype.RType.{RType}
 use Rattle.rdata.specs.declared.rtype.RType.TheVariants as rtype
@@ -44,6 +44,16 @@ pub record IsAuthorityData (origin : List (List ℕ)) (ws : List Word) (s : Auth
   pub numbers : (number_of greatest_32 serial ≡ Ok s.serial) × (number_of greatest_32 refresh ≡ Ok s.refresh) × (number_of greatest_32 retry ≡ Ok s.retry)
       × (number_of greatest_32 expire ≡ Ok s.expire) × (number_of greatest_32 minimum ≡ Ok s.minimum)
 
+-- Three numbers and a name (RFC 2782).
+pub record IsServiceData (origin : List (List ℕ)) (ws : List Word) (s : Service) : Type 0 where
+  pub priority : List ℕ
+  pub weight : List ℕ
+  pub port : List ℕ
+  pub target : List ℕ
+  pub spelled : ws ≡ plain priority ∷ plain weight ∷ plain port ∷ plain target ∷ []
+  pub numbers : (number_of greatest_16 priority ≡ Ok s.priority) × (number_of greatest_16 weight ≡ Ok s.weight) × (number_of greatest_16 port ≡ Ok s.port)
+  pub host : name_of origin target ≡ Ok s.target
+
 -- The words of data of a type.
 abbrev pub IsData : List (List ℕ) → RType → List Word → Datum → Type 0
 IsData origin rtype.A ws d = (w : List ℕ) × (a : List ℕ) × (ws ≡ plain w ∷ []) × (ipv4_of w ≡ Ok a) × (d ≡ Ipv4 a)
@@ -54,6 +64,7 @@ IsData origin rtype.Ptr ws d = (n : List (List ℕ)) × IsNameData origin ws n �
 IsData origin rtype.Mx ws d = (v w : List ℕ) × (p : ℕ) × (n : List (List ℕ)) × (ws ≡ plain v ∷ plain w ∷ []) × (number_of greatest_16 v ≡ Ok p) × (name_of origin w ≡ Ok n) × (d ≡ Mx p n)
 IsData origin rtype.Txt ws d = (ts : List (List ℕ)) × (0 < length ws) × AreStrings ws ts × (strings_size ts ≤ 65535) × (d ≡ Txt ts)
 IsData origin rtype.Aaaa ws d = (w : List ℕ) × (a : List ℕ) × (ws ≡ plain w ∷ []) × (ipv6_of w ≡ Ok a) × (d ≡ Ipv6 a)
+IsData origin rtype.Srv ws d = (s : Service) × IsServiceData origin ws s × (d ≡ Srv s)
 
 -- Digits are a TTL, `IN` is the class, and another word is a type.
 abbrev pub IsTtlWord : List ℕ → ℕ → Type 0

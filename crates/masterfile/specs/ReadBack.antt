@@ -2,7 +2,7 @@
 use Rattle.std.specs.Prelude.{◌≡◌, ℕ, ◌<◌, ◌≤◌, Ok, List, [], ◌∷◌, length}
 use Rattle.dname.specs.Labels.{IsName}
 use Rattle.dname.specs.Spelling.{AreBytes}
-use Rattle.rdata.specs.Data.{Authority, Datum, Ipv4, Ns, Cname, Soa, Ptr, Mx, Txt, Ipv6}
+use Rattle.rdata.specs.Data.{Authority, Service, Datum, Ipv4, Ns, Cname, Soa, Ptr, Mx, Txt, Ipv6, Srv}
 use Rattle.rdata.specs.Records.{Record, greatest_ttl}
 use Rattle.masterfile.specs.Fields.{greatest_16, greatest_32}
 use Rattle.masterfile.specs.Files.{read_text}
@@ -19,12 +19,19 @@ pub record IsAuthority (s : Authority) : Type 0 where
   pub expire : s.expire ≤ greatest_32
   pub minimum : s.minimum ≤ greatest_32
 
+-- Three numbers of 16 bits and a name (RFC 2782).
+pub record IsService (s : Service) : Type 0 where
+  pub priority : s.priority ≤ greatest_16
+  pub weight : s.weight ≤ greatest_16
+  pub port : s.port ≤ greatest_16
+  pub target : IsName s.target
+
 -- Character-strings have at most 255 bytes (RFC 1035, section 3.3).
 abbrev pub AreCharacterStrings : List (List ℕ) → Type 0
 AreCharacterStrings [] = Unit {0}
 AreCharacterStrings (t ∷ ts) = AreBytes t × (length t ≤ 255) × AreCharacterStrings ts
 
--- Data within their bounds (RFC 1035, sections 3.3 and 3.4; AAAA: RFC 3596, section 2.2): a TXT has one string or more,
+-- Data within their bounds (RFC 1035, sections 3.3 and 3.4; AAAA: RFC 3596, section 2.2; SRV: RFC 2782): a TXT has one string or more,
 -- and at most 65,535 bytes in a message.
 abbrev pub IsSoundData : Datum → Type 0
 IsSoundData (Ipv4 a) = (length a ≡ 4) × AreBytes a
@@ -35,6 +42,7 @@ IsSoundData (Ptr n) = IsName n
 IsSoundData (Mx p n) = (p ≤ greatest_16) × IsName n
 IsSoundData (Txt ts) = (0 < length ts) × AreCharacterStrings ts × (strings_size ts ≤ 65535)
 IsSoundData (Ipv6 a) = (length a ≡ 16) × AreBytes a
+IsSoundData (Srv s) = IsService s
 
 pub record IsSound (r : Record) : Type 0 where
   pub owner : IsName r.owner
@@ -56,6 +64,7 @@ FitsMessage (Ptr n) = Unit {0}
 FitsMessage (Mx p n) = Unit {0}
 FitsMessage (Txt ts) = strings_size ts ≤ 65535
 FitsMessage (Ipv6 a) = Unit {0}
+FitsMessage (Srv s) = Unit {0}
 
 abbrev pub FitMessages : List Record → Type 0
 FitMessages [] = Unit {0}

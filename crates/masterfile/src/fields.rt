@@ -5,14 +5,14 @@ ghost use Rattle.rdata.specs.Kept.{datum};
 ghost use Rattle.masterfile.specs.Faults.{FaultIn};
 ghost use Rattle.masterfile.specs.Strings.{string_word, take_strings};
 ghost use Rattle.masterfile.specs.Given.{GivesRest, ReadsRest, same};
-ghost use Rattle.masterfile.specs.Fields.{plain_word, name_of, left_over, take_name, take_number, take_authority, take_exchange, take_data};
+ghost use Rattle.masterfile.specs.Fields.{plain_word, name_of, left_over, take_name, take_number, take_authority, take_exchange, take_service, take_data};
 
 use crate::addresses::{ipv4, ipv6};
 use crate::faults::FileKind;
 use crate::numbers::number;
 use crate::strings::string;
 use dname::{Heap, Name, NameError};
-use rdata::{Addr, CharacterString, RData, RType, Soa, Texts};
+use rdata::{Addr, CharacterString, RData, RType, Soa, Srv, Texts};
 use words::{Word, Words};
 
 /// The next word, which may have no quotes.
@@ -150,6 +150,22 @@ fn mx<A: Heap>(alloc: A, words: &mut Words<'_>, origin: &Name<A>) -> Result<RDat
     Ok(RData::Mx(preference as u16, exchange))
 }
 
+fn srv<A: Heap>(alloc: A, words: &mut Words<'_>, origin: &Name<A>) -> Result<Srv<A>, FileKind>
+    ensures value { GivesRest same result words.new.words (take_service origin.now words.old.words) }
+    ensures later { words.new.later ≡ words.old.later }
+{
+    let priority = number_field(words, 65_535)?;
+    let weight = number_field(words, 65_535)?;
+    let port = number_field(words, 65_535)?;
+    let target = name(alloc, words, origin)?;
+    Ok(Srv {
+        priority: priority as u16,
+        weight: weight as u16,
+        port: port as u16,
+        target,
+    })
+}
+
 /// The data of a type.
 pub(crate) fn rdata<A: Heap>(
     alloc: A,
@@ -169,5 +185,6 @@ pub(crate) fn rdata<A: Heap>(
         RType::Mx => mx(alloc, words, origin),
         RType::Txt => Ok(RData::Txt(texts(alloc, words)?)),
         RType::Aaaa => Ok(RData::Aaaa(ipv6(plain(words)?)?)),
+        RType::Srv => Ok(RData::Srv(srv(alloc, words, origin)?)),
     }
 }

@@ -8,7 +8,7 @@
 //! `IsMasterText`), else refused with the line and the kind of its first fault (`FileError`); what `print` writes
 //! is read back as the same records, whatever the reader's origin (`printed_is_read_back`).
 //! Not here: the rules of a zone (`zone`); `$INCLUDE`, TTL units (`1h`), classes other than IN, types other than
-//! the eight of `rdata`: each is refused.
+//! those of `rdata`: each is refused.
 //!
 //! ```text
 //! let origin = Name::from_text(alloc, "example.")?;

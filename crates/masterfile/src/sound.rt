@@ -4,10 +4,10 @@ ghost use Rattle.dname.specs.Labels.{IsName};
 ghost use Rattle.dname.specs.Spelling.{AreBytes};
 ghost use Rattle.rdata.specs.Kept.{datum};
 ghost use Rattle.masterfile.specs.Fields.{greatest_16, greatest_32};
-ghost use Rattle.masterfile.specs.ReadBack.{AreCharacterStrings, IsAuthority, FitsMessage, IsSoundData, IsSound};
+ghost use Rattle.masterfile.specs.ReadBack.{AreCharacterStrings, IsAuthority, IsService, FitsMessage, IsSoundData, IsSound};
 
 use dname::Name;
-use rdata::{CharacterString, RData, Record, Soa};
+use rdata::{CharacterString, RData, Record, Soa, Srv};
 use std::alloc::Allocator;
 
 /// A record's parts are within their bounds, where its TXT, if it is one, fits a message.
@@ -30,6 +30,7 @@ fn data_is_sound<A: Allocator>(value: &RData<A>)
         RData::Mx(preference, name) => exchange_is_sound(*preference, name),
         RData::Txt(texts) => strings_law(texts.strings()),
         RData::Aaaa(address) => bytes_law(address),
+        RData::Srv(srv) => service_is_sound(srv),
     }
 }
 
@@ -50,6 +51,19 @@ fn authority_is_sound<A: Allocator>(soa: &Soa<A>)
     number_is_sound(soa.expire);
     number_is_sound(soa.minimum);
 }
+
+fn service_is_sound<A: Allocator>(srv: &Srv<A>)
+    ensures { IsService srv.now }
+{
+    short_is_sound(srv.priority);
+    short_is_sound(srv.weight);
+    short_is_sound(srv.port);
+    srv.target.well_formed_law();
+}
+
+fn short_is_sound(number: u16)
+    ensures { number ≤ greatest_16 }
+{}
 
 fn number_is_sound(number: u32)
     ensures { number ≤ greatest_32 }

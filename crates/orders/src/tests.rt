@@ -71,7 +71,7 @@ fn the_first_bad_line_is_named(rt: HostRuntime) -> Result<(), Fail> {
         ("at 4611686018427387905", 1, 2),
         ("at -1", 1, 2),
         ("ask a..b A", 1, 3),
-        ("ask a SRV", 1, 4),
+        ("ask a HINFO", 1, 4),
         ("ask a", 1, 5),
         ("ask a A udp", 1, 1),
         ("ask a A TCP", 1, 1),

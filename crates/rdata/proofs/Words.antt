@@ -1,7 +1,7 @@
 -- Each type is named by its word, and by its number.
 use Rattle.std.proofs.Common.{◌≡◌, Some, refl}
 use Rattle.rdata.specs.declared.rtype.RType.{RType}
-use Rattle.rdata.specs.declared.rtype.RType.TheVariants.{A, Ns, Cname, Soa, Ptr, Mx, Txt, Aaaa}
+use Rattle.rdata.specs.declared.rtype.RType.TheVariants.{A, Ns, Cname, Soa, Ptr, Mx, Txt, Aaaa, Srv}
 use Rattle.rdata.specs.Types.{type_number, type_by, type_word, type_named}
 
 pub word_names_type : (t : RType) → type_named (type_word t) ≡ Some t
@@ -14,6 +14,7 @@ word_names_type Ptr = refl
 word_names_type Mx = refl
 word_names_type Txt = refl
 word_names_type Aaaa = refl
+word_names_type Srv = refl
 
 pub number_names_type : (t : RType) → type_by (type_number t) ≡ Some t
 number_names_type A = refl
@@ -24,3 +25,4 @@ number_names_type Ptr = refl
 number_names_type Mx = refl
 number_names_type Txt = refl
 number_names_type Aaaa = refl
+number_names_type Srv = refl

@@ -1,5 +1,5 @@
 -- RDATA as it is kept, seen as a plain value.
-use Rattle.rdata.specs.Data.{Datum, Ipv4, Ns, Cname, Soa, Ptr, Mx, Txt, Ipv6}
+use Rattle.rdata.specs.Data.{Datum, Ipv4, Ns, Cname, Soa, Ptr, Mx, Txt, Ipv6, Srv}
 use Rattle.rdata.specs.declared.data.RData.{RData}
 use Rattle.rdata.specs.declared.data.RData.TheVariants as kept
 
@@ -12,3 +12,4 @@ datum (kept.Ptr n) = Ptr n
 datum (kept.Mx p n) = Mx p n
 datum (kept.Txt ts) = Txt ts
 datum (kept.Aaaa a) = Ipv6 a
+datum (kept.Srv s) = Srv s

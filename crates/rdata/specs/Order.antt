@@ -8,7 +8,7 @@ use Rattle.std.specs.Ordering.{nat_cmp, ordering_then, eq_by_cmp, as_partial_cmp
 use Rattle.std.specs.Cmp.{IsPartialEquivalence, IsEquivalence, IsTotalOrder, IsPartialOrder, on_total, on_equiv, partial_equiv_from_equiv, unsigned_ties, partial_order_from_agreeing_total}
 use Rattle.std.specs.Cmp.Lexicographic.{pointwise, slice_cmp, nat_list_cmp_total, nat_list_eq_equiv, lists_total, lists_ties, lists_equiv}
 use Rattle.dname.specs.Labels.{wire, same_name}
-use Rattle.rdata.specs.Data.{Authority, Datum, Ipv4, Ns, Cname, Soa, Ptr, Mx, Txt, Ipv6, type_of, same_data}
+use Rattle.rdata.specs.Data.{Authority, Service, Datum, Ipv4, Ns, Cname, Soa, Ptr, Mx, Txt, Ipv6, Srv, type_of, same_data}
 use Rattle.rdata.specs.Kept.{datum}
 use Rattle.rdata.specs.declared.data.RData.{RData}
 
@@ -26,6 +26,13 @@ abbrev pub authority_cmp : Authority → Authority → Ordering
 authority_cmp a b =
     ordering_then (ordering_then (bytes_cmp (wire a.primary) (wire b.primary)) (bytes_cmp (wire a.mailbox) (wire b.mailbox))) (bytes_cmp (numbers_of a) (numbers_of b))
 
+-- What an SRV record says in numbers.
+abbrev pub service_numbers : Service → List ℕ
+service_numbers s = s.priority ∷ s.weight ∷ s.port ∷ []
+
+abbrev pub service_cmp : Service → Service → Ordering
+service_cmp a b = ordering_then (bytes_cmp (service_numbers a) (service_numbers b)) (bytes_cmp (wire a.target) (wire b.target))
+
 -- Data of one type.
 abbrev pub alike_cmp : Datum → Datum → Ordering
 alike_cmp (Ipv4 a) (Ipv4 b) = bytes_cmp a b
@@ -36,6 +43,7 @@ alike_cmp (Ptr m) (Ptr n) = bytes_cmp (wire m) (wire n)
 alike_cmp (Mx p m) (Mx q n) = ordering_then (nat_cmp p q) (bytes_cmp (wire m) (wire n))
 alike_cmp (Txt a) (Txt b) = slice_cmp bytes_cmp a b
 alike_cmp (Ipv6 a) (Ipv6 b) = bytes_cmp a b
+alike_cmp (Srv a) (Srv b) = service_cmp a b
 alike_cmp _ _ = Equal
 
 abbrev pub data_cmp : Datum → Datum → Ordering
@@ -52,6 +60,7 @@ parts (Ptr n) = (12 ∷ []) ∷ wire n ∷ []
 parts (Mx p n) = (15 ∷ p ∷ []) ∷ wire n ∷ []
 parts (Txt ts) = (16 ∷ []) ∷ ts
 parts (Ipv6 a) = (28 ∷ []) ∷ a ∷ []
+parts (Srv s) = (33 ∷ []) ∷ service_numbers s ∷ wire s.target ∷ []
 
 abbrev parts_cmp : Datum → Datum → Ordering
 parts_cmp d e = slice_cmp bytes_cmp (parts d) (parts e)
@@ -82,6 +91,7 @@ by_parts (Ptr m) (Ptr n) = alone (bytes_cmp (wire m) (wire n))
 by_parts (Mx p m) (Mx q n) = two (nat_cmp p q) (bytes_cmp (wire m) (wire n))
 by_parts (Txt a) (Txt b) = refl
 by_parts (Ipv6 a) (Ipv6 b) = alone (bytes_cmp a b)
+by_parts (Srv a) (Srv b) = ap (ordering_then (bytes_cmp (service_numbers a) (service_numbers b))) (alone (bytes_cmp (wire a.target) (wire b.target)))
 by_parts _ _ = refl
 
 pub data_cmp_total : IsTotalOrder data_cmp
@@ -105,6 +115,13 @@ seven true true true true true false n = refl
 seven true true true true true true true = refl
 seven true true true true true true false = refl
 
+four : (p w o n : Bool) → (p && w && o && n) ≡ ((p && (w && (o && true))) && (n && true))
+four false w o n = refl
+four true false o n = refl
+four true true false n = refl
+four true true true false = refl
+four true true true true = refl
+
 same_parts : (d e : Datum) → same_data d e ≡ pointwise (pointwise nat_eq) (parts d) (parts e)
 same_parts (Ipv4 a) (Ipv4 b) = lone (pointwise nat_eq a b)
 same_parts (Ns m) (Ns n) = lone (same_name m n)
@@ -116,6 +133,7 @@ same_parts (Ptr m) (Ptr n) = lone (same_name m n)
 same_parts (Mx p m) (Mx q n) = pair (nat_eq p q) (same_name m n)
 same_parts (Txt a) (Txt b) = refl
 same_parts (Ipv6 a) (Ipv6 b) = lone (pointwise nat_eq a b)
+same_parts (Srv a) (Srv b) = four (nat_eq a.priority b.priority) (nat_eq a.weight b.weight) (nat_eq a.port b.port) (same_name a.target b.target)
 same_parts _ _ = refl
 
 -- Data that are neither before nor behind one another are the same.

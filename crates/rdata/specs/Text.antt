@@ -1,10 +1,10 @@
 -- The data of a record in text, as a master file has them (RFC 1035, sections 3.3 and 5.1; AAAA: RFC 4291,
--- section 2.2, without `::`).
+-- section 2.2, without `::`; SRV: RFC 2782).
 use Rattle.std.specs.Prelude.{ℕ, ◌+◌, ◌*◌, false, ◌&&◌, ◌||◌, cond, nat_eq, nat_le, List, [], ◌∷◌, ◌++◌, slice_index, flat_map, codes, decimal}
 use Rattle.std.specs.Fmt.{digits}
 use Rattle.dname.specs.Text.{name_text, number_text}
 use Rattle.rdata.specs.Records.{Record}
-use Rattle.rdata.specs.Data.{Authority, Datum, Ipv4, Ns, Cname, Soa, Ptr, Mx, Txt, Ipv6}
+use Rattle.rdata.specs.Data.{Authority, Service, Datum, Ipv4, Ns, Cname, Soa, Ptr, Mx, Txt, Ipv6, Srv}
 
 -- Four numbers parted by dots.
 abbrev pub ipv4_text : List ℕ → List ℕ
@@ -59,6 +59,10 @@ soa_text s =
     name_text s.primary ++ spaced_name s.mailbox ++ spaced_number s.serial ++ spaced_number s.refresh
     ++ spaced_number s.retry ++ spaced_number s.expire ++ spaced_number s.minimum
 
+-- The fields of an SRV record, parted by spaces.
+abbrev pub srv_text : Service → List ℕ
+srv_text s = decimal s.priority ++ spaced_number s.weight ++ spaced_number s.port ++ spaced_name s.target
+
 -- Type and data, as they stand in a line of a master file.
 abbrev pub data_text : Datum → List ℕ
 data_text (Ipv4 a) = codes "A " ++ ipv4_text a
@@ -69,6 +73,7 @@ data_text (Ptr n) = codes "PTR" ++ spaced_name n
 data_text (Mx p n) = codes "MX" ++ spaced_number p ++ spaced_name n
 data_text (Txt ts) = codes "TXT" ++ flat_map spaced_string ts
 data_text (Ipv6 a) = codes "AAAA " ++ ipv6_text a
+data_text (Srv s) = codes "SRV " ++ srv_text s
 
 -- A record, as it stands in a line of a master file.
 abbrev pub record_text : Record → List ℕ

@@ -1,9 +1,10 @@
--- The served record types: their numbers (RFC 1035, section 3.2.2; AAAA: RFC 3596, section 2.1) and words.
+-- The served record types: their numbers (RFC 1035, section 3.2.2; AAAA: RFC 3596, section 2.1; SRV: RFC 2782)
+-- and words.
 use Rattle.std.specs.Prelude.{ℕ, Bool, cond, nat_eq, Option, Some, None, is_some, List, [], ◌∷◌, codes, map}
 use Rattle.std.specs.Cmp.Lexicographic.{pointwise}
 use Rattle.dname.specs.Labels.{folded}
 use Rattle.rdata.specs.declared.rtype.RType.{RType}
-use Rattle.rdata.specs.declared.rtype.RType.TheVariants.{A, Ns, Cname, Soa, Ptr, Mx, Txt, Aaaa}
+use Rattle.rdata.specs.declared.rtype.RType.TheVariants.{A, Ns, Cname, Soa, Ptr, Mx, Txt, Aaaa, Srv}
 
 abbrev pub type_number : RType → ℕ
 type_number A = 1
@@ -14,6 +15,7 @@ type_number Ptr = 12
 type_number Mx = 15
 type_number Txt = 16
 type_number Aaaa = 28
+type_number Srv = 33
 
 abbrev pub type_word : RType → List ℕ
 type_word A = codes "A"
@@ -24,9 +26,10 @@ type_word Ptr = codes "PTR"
 type_word Mx = codes "MX"
 type_word Txt = codes "TXT"
 type_word Aaaa = codes "AAAA"
+type_word Srv = codes "SRV"
 
 abbrev pub served_types : List RType
-served_types = A ∷ Ns ∷ Cname ∷ Soa ∷ Ptr ∷ Mx ∷ Txt ∷ Aaaa ∷ []
+served_types = A ∷ Ns ∷ Cname ∷ Soa ∷ Ptr ∷ Mx ∷ Txt ∷ Aaaa ∷ Srv ∷ []
 
 abbrev pub find_number : ℕ → List RType → Option RType
 find_number n [] = None

@@ -1,4 +1,4 @@
-//! RDATA of the eight served types.
+//! RDATA of the nine served types.
 ghost use Rattle.std.specs.Prelude.{◌≡◌};
 ghost use Rattle.rdata.specs.Data.{type_of, same_data};
 ghost use Rattle.rdata.specs.Kept.{datum};
@@ -7,11 +7,12 @@ ghost use Rattle.rdata.specs.Types.{type_number};
 use crate::addr::Addr;
 use crate::rtype::RType;
 use crate::soa::Soa;
+use crate::srv::Srv;
 use crate::texts::Texts;
 use dname::{Heap, Name};
 use std::alloc::{AllocError, Allocator, Global};
 
-/// RDATA of the served types (RFC 1035, section 3.3; AAAA: RFC 3596, section 2.2).
+/// RDATA of the served types (RFC 1035, section 3.3; AAAA: RFC 3596, section 2.2; SRV: RFC 2782).
 #[derive(Drop)]
 pub enum RData<A: Allocator = Global> {
     /// A host's IPv4 address (RFC 1035, section 3.4.1).
@@ -30,6 +31,8 @@ pub enum RData<A: Allocator = Global> {
     Txt(Texts<A>),
     /// A host's IPv6 address, its 16 bytes as in messages (RFC 3596, section 2.2).
     Aaaa([u8; 16]),
+    /// Where a service is offered (RFC 2782).
+    Srv(Srv<A>),
 }
 
 impl<A: Allocator> RData<A> {
@@ -46,6 +49,7 @@ impl<A: Allocator> RData<A> {
             RData::Mx(_, _) => RType::Mx,
             RData::Txt(_) => RType::Txt,
             RData::Aaaa(_) => RType::Aaaa,
+            RData::Srv(_) => RType::Srv,
         }
     }
 }
@@ -66,6 +70,7 @@ impl<A: Heap> Clone for RData<A> {
             RData::Mx(preference, name) => Ok(RData::Mx(*preference, name.clone()?)),
             RData::Txt(texts) => Ok(RData::Txt(texts.clone()?)),
             RData::Aaaa(bytes) => Ok(RData::Aaaa(*bytes)),
+            RData::Srv(srv) => Ok(RData::Srv(srv.clone()?)),
         }
     }
 }
@@ -84,6 +89,7 @@ impl<A: Allocator> RData<A> {
             (RData::Mx(p, a), RData::Mx(q, b)) => *p == *q && a == b,
             (RData::Txt(a), RData::Txt(b)) => a.is_same(b),
             (RData::Aaaa(a), RData::Aaaa(b)) => a == b,
+            (RData::Srv(a), RData::Srv(b)) => a.is_same(b),
             _ => false,
         }
     }

@@ -1,5 +1,5 @@
-//! Resource records of class IN and of eight types (RFC 1035, sections 3.2 and 3.3): A, NS, CNAME, SOA, PTR, MX,
-//! TXT and AAAA (RFC 3596); and RRsets (RFC 2181, section 5).
+//! Resource records of class IN and of nine types (RFC 1035, sections 3.2 and 3.3): A, NS, CNAME, SOA, PTR, MX,
+//! TXT, AAAA (RFC 3596) and SRV (RFC 2782); and RRsets (RFC 2181, section 5).
 //!
 //! `Record` is an owner, a TTL and `RData`; `Records` lists them, and a `RecordSet` is those of one owner and one
 //! TTL. `RType` is a served type, by number (`from_number`, `number`) or by word (`from_word`, `word`). `set_at` picks
@@ -28,6 +28,7 @@ mod records;
 mod rtype;
 mod sets;
 mod soa;
+mod srv;
 mod text;
 mod texts;
 
@@ -39,5 +40,6 @@ pub use records::{GREATEST_TTL, Record, Records};
 pub use rtype::{INTERNET, RType, is_same_word};
 pub use sets::{Later, lowest_ttl, put_once, same_set, set_at};
 pub use soa::Soa;
+pub use srv::Srv;
 pub use text::{put_data, put_ipv4};
 pub use texts::{CharacterString, Texts};

@@ -7,10 +7,11 @@ ghost use Rattle.std.specs.Ordering.{nat_cmp, as_partial_cmp};
 ghost use Rattle.std.specs.Cmp.{unsigned_ties};
 ghost use Rattle.std.specs.Cmp.Lexicographic.{nat_list_cmp_total, nat_list_eq_equiv, lists_ties};
 ghost use Rattle.rdata.specs.Kept.{datum};
-ghost use Rattle.rdata.specs.Order.{bytes_cmp, bytes_cmp_partial, numbers_of, authority_cmp, alike_cmp, same_kept, same_kept_equiv, same_kept_per, kept_cmp, kept_cmp_total, kept_cmp_ties, kept_cmp_partial};
+ghost use Rattle.rdata.specs.Order.{bytes_cmp, bytes_cmp_partial, numbers_of, authority_cmp, service_cmp, alike_cmp, same_kept, same_kept_equiv, same_kept_per, kept_cmp, kept_cmp_total, kept_cmp_ties, kept_cmp_partial};
 
 use crate::data::RData;
 use crate::soa::Soa;
+use crate::srv::Srv;
 use crate::texts::CharacterString;
 use std::alloc::Allocator;
 use std::cmp::{Eq, Ordering};
@@ -57,6 +58,13 @@ fn cmp_soa<A: Allocator>(a: &Soa<A>, b: &Soa<A>) -> Ordering
     primaries.then(mailboxes).then(numbers(a).cmp(&numbers(b)))
 }
 
+fn cmp_srv<A: Allocator>(a: &Srv<A>, b: &Srv<A>) -> Ordering
+    ensures { result ≡ service_cmp a.now b.now }
+{
+    let numbers = [a.priority, a.weight, a.port].cmp(&[b.priority, b.weight, b.port]);
+    numbers.then(a.target.wire().cmp(b.target.wire()))
+}
+
 // The order of data of one type.
 fn cmp_alike<A: Allocator>(a: &RData<A>, b: &RData<A>) -> Ordering
     ensures { result ≡ alike_cmp (datum a.now) (datum b.now) }
@@ -70,6 +78,7 @@ fn cmp_alike<A: Allocator>(a: &RData<A>, b: &RData<A>) -> Ordering
         (RData::Mx(p, a), RData::Mx(q, b)) => p.cmp(q).then(a.wire().cmp(b.wire())),
         (RData::Txt(a), RData::Txt(b)) => a.strings().cmp(b.strings()),
         (RData::Aaaa(a), RData::Aaaa(b)) => a.cmp(b),
+        (RData::Srv(a), RData::Srv(b)) => cmp_srv(a, b),
         _ => Ordering::Equal,
     }
 }

@@ -7,7 +7,7 @@ use std::fmt;
 /// The class of every record, IN (RFC 1035, section 3.2.4).
 pub const INTERNET: u16 = 1;
 
-/// A served record type (RFC 1035, section 3.2.2; AAAA: RFC 3596).
+/// A served record type (RFC 1035, section 3.2.2; AAAA: RFC 3596; SRV: RFC 2782).
 #[derive(Clone, Copy, Debug, PartialEq, Eq, Hash)]
 pub enum RType {
     /// A host's IPv4 address.
@@ -26,6 +26,8 @@ pub enum RType {
     Txt,
     /// A host's IPv6 address.
     Aaaa,
+    /// Where a service is offered.
+    Srv,
 }
 
 impl RType {
@@ -42,6 +44,7 @@ impl RType {
             RType::Mx => 15,
             RType::Txt => 16,
             RType::Aaaa => 28,
+            RType::Srv => 33,
         }
     }
 
@@ -60,6 +63,7 @@ impl RType {
             15 => Some(RType::Mx),
             16 => Some(RType::Txt),
             28 => Some(RType::Aaaa),
+            33 => Some(RType::Srv),
             _ => None,
         }
     }
@@ -78,6 +82,7 @@ impl RType {
             RType::Mx,
             RType::Txt,
             RType::Aaaa,
+            RType::Srv,
         ] {
             if is_same_word(word, kind.word().as_bytes()) {
                 return Some(kind);
@@ -99,6 +104,7 @@ impl RType {
             RType::Mx => "MX",
             RType::Txt => "TXT",
             RType::Aaaa => "AAAA",
+            RType::Srv => "SRV",
         }
     }
 }

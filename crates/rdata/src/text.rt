@@ -2,12 +2,13 @@
 ghost use Rattle.std.specs.Prelude.{◌≡◌, ◌++◌, Some, OnOk, string_bytes, flat_map};
 ghost use Rattle.std.specs.Fmt.{WritesOnOk};
 ghost use Rattle.rdata.specs.Kept.{datum};
-ghost use Rattle.rdata.specs.Text.{record_text, data_text, soa_text, spaced_string, ipv4_text, ipv6_text, group_text, next_group_text, glyph, quoted};
+ghost use Rattle.rdata.specs.Text.{record_text, data_text, soa_text, srv_text, spaced_string, ipv4_text, ipv6_text, group_text, next_group_text, glyph, quoted};
 
 use crate::addr::Addr;
 use crate::data::RData;
 use crate::records::Record;
 use crate::soa::Soa;
+use crate::srv::Srv;
 use crate::texts::{CharacterString, Texts};
 use dname::{Starved, write_number};
 use std::alloc::Allocator;
@@ -38,6 +39,7 @@ impl<A: Allocator> fmt::Display for RData<A> {
             RData::Mx(preference, name) => write!(f, "MX {preference} {name}"),
             RData::Txt(texts) => write!(f, "TXT{texts}"),
             RData::Aaaa(address) => write!(f, "AAAA {}", Groups(*address)),
+            RData::Srv(srv) => write!(f, "SRV {srv}"),
         }
     }
 }
@@ -69,6 +71,21 @@ impl<A: Allocator> fmt::Display for Soa<A> {
         let (expire, minimum) = (self.expire, self.minimum);
         write!(f, "{} {}", self.primary, self.mailbox)?;
         write!(f, " {serial} {refresh} {retry} {expire} {minimum}")
+    }
+}
+
+/// The fields, parted by spaces.
+impl<A: Allocator> fmt::Display for Srv<A> {
+    ghost output = { λ s. Some (srv_text s) };
+
+    fn fmt<W: fmt::Write>(&self, f: &mut fmt::Formatter<W>) -> fmt::Result {
+        let Srv {
+            priority,
+            weight,
+            port,
+            target,
+        } = self;
+        write!(f, "{priority} {weight} {port} {target}")
     }
 }
 

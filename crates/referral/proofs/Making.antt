@@ -6,7 +6,7 @@ use Rattle.std.proofs.lemmas.Grind.{flat_map-append}
 use Rattle.std.proofs.lemmas.List.Elements.{Contains-append_cases}
 use Rattle.lru.proofs.Splits.{Contains-head, Contains-tail, Contains-cons, Contains-nil}
 use Rattle.dname.specs.Labels.{Name}
-use Rattle.rdata.specs.Data.{Datum, Ipv4, Ns, Cname, Soa, Ptr, Mx, Txt, Ipv6}
+use Rattle.rdata.specs.Data.{Datum, Ipv4, Ns, Cname, Soa, Ptr, Mx, Txt, Ipv6, Srv}
 use Rattle.rdata.specs.Records.{Record}
 use Rattle.referral.specs.Cuts.{ServerAddress}
 use Rattle.referral.specs.Made.{target_names, targets_of, addresses_at, addresses_in, with_target, with_address}
@@ -26,6 +26,7 @@ target_put names (Ptr n) = sym (append-nil names)
 target_put names (Mx p n) = sym (append-nil names)
 target_put names (Txt ts) = sym (append-nil names)
 target_put names (Ipv6 a) = sym (append-nil names)
+target_put names (Srv v) = sym (append-nil names)
 
 address_put : (addresses : List ServerAddress) (n : Name) (d : Datum) → with_address addresses n d ≡ addresses ++ addresses_at n d
 address_put addresses n (Ipv4 a) = refl
@@ -36,6 +37,7 @@ address_put addresses n (Ptr m) = sym (append-nil addresses)
 address_put addresses n (Mx p m) = sym (append-nil addresses)
 address_put addresses n (Txt ts) = sym (append-nil addresses)
 address_put addresses n (Ipv6 a) = sym (append-nil addresses)
+address_put addresses n (Srv v) = sym (append-nil addresses)
 
 pub target_more : (rs : List Record) (i : ℕ) (r : Record) (old new : List Name) → i < length rs → r ≡ get_or rs i r → old ≡ targets_of (take i rs) → new ≡ with_target old r.value → new ≡ targets_of (take (i + 1) rs)
 target_more rs i r old new lt is walked put =
@@ -85,6 +87,7 @@ target_is (Ptr t) n m = absurd (Contains-nil n m)
 target_is (Mx p t) n m = absurd (Contains-nil n m)
 target_is (Txt ts) n m = absurd (Contains-nil n m)
 target_is (Ipv6 a) n m = absurd (Contains-nil n m)
+target_is (Srv v) n m = absurd (Contains-nil n m)
 
 address_is : (o : Name) (d : Datum) (s : ServerAddress) → Contains (addresses_at o d) s → (o ≡ s.name) × (d ≡ Ipv4 (s.address).0)
 address_is o (Ipv4 a) s m =
@@ -97,6 +100,7 @@ address_is o (Ptr t) s m = absurd (Contains-nil s m)
 address_is o (Mx p t) s m = absurd (Contains-nil s m)
 address_is o (Txt ts) s m = absurd (Contains-nil s m)
 address_is o (Ipv6 a) s m = absurd (Contains-nil s m)
+address_is o (Srv v) s m = absurd (Contains-nil s m)
 
 pub names_are_targets : (ns : List Record) (n : Name) → Contains (targets_of ns) n → (r : Record) × Contains ns r × (r.value ≡ Ns n)
 names_are_targets ns n m = let (r, there, is) = flat_of (λ (x : Record). target_names x.value) ns n m in (r, there, target_is r.value n is)

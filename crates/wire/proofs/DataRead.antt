@@ -6,20 +6,20 @@ use Rattle.std.specs.List.{AllByRecursion}
 use Rattle.std.proofs.Math.Seq.{take-add, take-append_seam, drop-append_seam}
 use Rattle.std.proofs.lemmas.List.{drop-drop}
 use Rattle.std.proofs.lemmas.Bool.Decides.{nat_tests}
-use Rattle.rdata.specs.Data.{Authority, Datum, Ipv4, Ns, Cname, Soa, Ptr, Mx, Txt, Ipv6, type_of}
+use Rattle.rdata.specs.Data.{Authority, Service, Datum, Ipv4, Ns, Cname, Soa, Ptr, Mx, Txt, Ipv6, Srv, type_of}
 use Rattle.rdata.specs.Types.{type_number}
 use Rattle.rdata.specs.declared.rtype.RType.{RType}
 use Rattle.rdata.specs.declared.rtype.RType.TheVariants as served
-use Rattle.layout.specs.Names.{NameAt}
+use Rattle.layout.specs.Names.{NameAt, FullAt}
 use Rattle.layout.specs.Places.{IsAt, FlatsAt}
 use Rattle.layout.specs.Messages.{strings_bytes, data_flats, FitsRdata}
 use Rattle.wire.specs.declared.error.WireError.TheVariants.{BadRdataLength}
 use Rattle.wire.specs.Numbers.{two_at, four_at}
-use Rattle.wire.specs.Parts.{rdata_faults}
+use Rattle.wire.specs.Parts.{rdata_faults, full_name_at}
 use Rattle.wire.specs.Results.{and_then}
-use Rattle.wire.specs.Values.{bytes_within, two_within, name_within, whole, as_ipv4, as_ipv6, as_ns, as_cname, as_ptr, as_mx, mx_behind, soa_numbers, soa_behind, string_at, with_string, strings_from, as_txt, txt_behind, texts_at, form_at, value_at}
+use Rattle.wire.specs.Values.{bytes_within, two_within, name_within, whole, as_ipv4, as_ipv6, as_ns, as_cname, as_ptr, as_mx, mx_behind, soa_numbers, soa_behind, as_srv, srv_within, string_at, with_string, strings_from, as_txt, txt_behind, texts_at, form_at, value_at}
 use Rattle.wire.proofs.Bytes.{AreSmall, test_read, then_read, test_yes, test_no, range_stands, range_takes, at-along, first_byte, two_stands, two_small, two_takes, four_stands, four_small, four_takes}
-use Rattle.wire.proofs.NamesRead.{name_stands, name_read, name_within_bytes}
+use Rattle.wire.proofs.NamesRead.{name_stands, name_read, name_within_bytes, full_stands, full_read, full_within_bytes}
 
 -- ---- texts in a row
 
@@ -222,6 +222,21 @@ soa_stands bytes at end small fits =
       refl,
     ))))
 
+srv_stands : (bytes : List ℕ) (at end : ℕ) → AreSmall bytes → end ≤ length bytes → IfOk (form_at served.Srv bytes at end) (IsForm bytes served.Srv at)
+srv_stands bytes at end small fits =
+    test_read (IsForm bytes served.Srv at) (nat_lt end (at + 6)) (Err BadRdataLength) _ (λ _. tt)
+    (λ over.
+    let reach : at + 6 ≤ end = grind (arith, nat_tests) in
+    let two : (k next : ℕ) → at + k + 2 ≤ length bytes → at + k + 2 ≡ next → IsAt bytes (at + k) (bytes_high_first 2 (two_at bytes (at + k))) next =
+    λ k next inside e. at-along bytes (at + k) (at + k) _ (at + k + 2) next (two_stands bytes (at + k) small inside) refl e in
+    then_read (λ x. FullAt bytes (at + 6) x.0 x.1 × (x.1 ≤ end)) (IsForm bytes served.Srv at) (full_name_at bytes rdata_faults end (at + 6))
+    (as_srv (two_at bytes at) (two_at bytes (at + 2)) (two_at bytes (at + 4))) (full_stands bytes rdata_faults end (at + 6) small fits)
+    (λ x h. (
+      (at + 2, two_stands bytes at small (omega arith), (at + 4, two 2 (at + 4) (omega arith) (omega arith), (at + 6, two 4 (at + 6) (omega arith) (omega arith), (x.1, h.0, refl)))),
+      (two_small bytes at small, two_small bytes (at + 2) small, two_small bytes (at + 4) small),
+      refl,
+    )))
+
 form_stands : (kind : RType) (bytes : List ℕ) (at end : ℕ) → AreSmall bytes → end ≤ length bytes → IfOk (form_at kind bytes at end) (IsForm bytes kind at)
 form_stands served.A bytes at end small fits =
     then_read (λ x. IsAt bytes at x.0 x.1 × (length x.0 ≡ 4)) (IsForm bytes served.A at) (bytes_within 4 bytes at end) as_ipv4 (bytes_stand 4 bytes at end fits)
@@ -247,6 +262,7 @@ form_stands served.Txt bytes at end small fits =
 form_stands served.Aaaa bytes at end small fits =
     then_read (λ x. IsAt bytes at x.0 x.1 × (length x.0 ≡ 16)) (IsForm bytes served.Aaaa at) (bytes_within 16 bytes at end) as_ipv6 (bytes_stand 16 bytes at end fits)
     (λ x h. ((x.1, h.0, refl), h.1, refl))
+form_stands served.Srv bytes at end small fits = srv_stands bytes at end small fits
 
 -- Data of a type that fill these bytes.
 abbrev pub IsValue : List ℕ → RType → ℕ → ℕ → Datum → Type 0
@@ -273,6 +289,7 @@ kind_of (Ptr n) = served.Ptr
 kind_of (Mx p n) = served.Mx
 kind_of (Txt ts) = served.Txt
 kind_of (Ipv6 a) = served.Aaaa
+kind_of (Srv s) = served.Srv
 
 -- Data that stand end with the message at the latest.
 pub data_within : (d : Datum) (bytes : List ℕ) (at end : ℕ) → FlatsAt bytes at (data_flats d) end → end ≤ length bytes
@@ -288,6 +305,7 @@ data_within (Ptr n) bytes at end h = let t = (name_within_bytes bytes at n h.0 h
 data_within (Mx p n) bytes at end h = let t = (name_within_bytes bytes h.0 n h.2.0 h.2.1).1 in let f = h.2.2 in omega arith
 data_within (Txt ts) bytes at end h = let t = h.1.there in let e = h.1.last in let f = h.2 in omega arith
 data_within (Ipv6 a) bytes at end h = let t = h.1.there in let e = h.1.last in let f = h.2 in omega arith
+data_within (Srv s) bytes at end h = let t = (full_within_bytes bytes h.2.2.0 s.target h.2.2.2.0 h.2.2.2.1).1 in let f = h.2.2.2.2 in omega arith
 
 name_form : (bytes : List ℕ) (at end : ℕ) (name : List (List ℕ)) (mid : ℕ) → NameAt bytes at name mid → end ≤ length bytes → mid ≤ end
     → name_within bytes at end ≡ Ok (name, mid)
@@ -319,6 +337,24 @@ soa_read s bytes at end is h fits =
       past i,
     ))))
 
+srv_read : (s : Service) (bytes : List ℕ) (at end : ℕ) → FitsRdata (Srv s) → FlatsAt bytes at (data_flats (Srv s)) end → end ≤ length bytes
+    → form_at served.Srv bytes at end ≡ Ok (Srv s, end)
+srv_read s bytes at end is h fits =
+    let e = h.2.2.2.2 in
+    let l1 = h.1.last in
+    let l2 = h.2.1.last in
+    let l3 = h.2.2.1.last in
+    let later = (full_within_bytes bytes h.2.2.0 s.target h.2.2.2.0 h.2.2.2.1).0 in
+    let place : h.2.2.0 ≡ at + 6 = omega arith in
+    let there = subst (λ (n : ℕ). FullAt bytes n s.target h.2.2.2.0) place h.2.2.2.1 in
+    let name = full_read bytes rdata_faults end (at + 6) s.target h.2.2.2.0 there fits (omega arith) in
+    let n1 = two_takes bytes at at s.priority h.0 h.1 refl is.0 in
+    let n2 = two_takes bytes (at + 2) h.0 s.weight h.2.0 h.2.1 (omega arith) is.1 in
+    let n3 = two_takes bytes (at + 4) h.2.0 s.port h.2.2.0 h.2.2.1 (omega arith) is.2 in
+    let a : nat_lt end (at + 6) ≡ false = grind (arith, nat_tests) in
+    test_no (nat_lt end (at + 6)) (Err BadRdataLength) _ a ∙ (ap (λ x. and_then x (as_srv (two_at bytes at) (two_at bytes (at + 2)) (two_at bytes (at + 4)))) name
+    ∙ (λ i. Ok (Srv (record { priority = n1 i; weight = n2 i; port = n3 i; target = s.target }), sym e i)))
+
 form_read : (d : Datum) (bytes : List ℕ) (at end : ℕ) → FitsRdata d → FlatsAt bytes at (data_flats d) end → end ≤ length bytes → form_at (kind_of d) bytes at end ≡ Ok (d, end)
 form_read (Ipv4 a) bytes at end is h fits =
     let e = h.2 in
@@ -347,6 +383,7 @@ form_read (Txt ts) bytes at end is h fits =
 form_read (Ipv6 a) bytes at end is h fits =
     let e = h.2 in
     ap (λ x. and_then x as_ipv6) (bytes_read 16 bytes at end a h.0 h.1 is (omega arith)) ∙ (λ i. Ok (Ipv6 a, sym e i))
+form_read (Srv s) bytes at end is h fits = srv_read s bytes at end is h fits
 
 pub value_read : (d : Datum) (bytes : List ℕ) (at end : ℕ) → FitsRdata d → FlatsAt bytes at (data_flats d) end → end ≤ length bytes → value_at (kind_of d) bytes at end ≡ Ok d
 unfolding value_at

@@ -2,7 +2,7 @@
 use Rattle.std.proofs.Common.{◌≡◌, ℕ, zero, suc, ◌+◌, ◌<◌, ◌≤◌, false, List, [], ◌∷◌, length, Option, Some, None, Ok, Err, IfOk, refl, sym, ◌∙◌, ap, subst, arith}
 use Rattle.std.specs.Prelude.{nat_lt, slice_range}
 use Rattle.std.proofs.lemmas.Bool.Decides.{nat_tests}
-use Rattle.rdata.specs.Data.{Datum, Ipv4, Ns, Cname, Soa, Ptr, Mx, Txt, Ipv6, type_of}
+use Rattle.rdata.specs.Data.{Datum, Ipv4, Ns, Cname, Soa, Ptr, Mx, Txt, Ipv6, Srv, type_of}
 use Rattle.rdata.specs.Records.{Record}
 use Rattle.rdata.specs.Types.{type_number}
 use Rattle.rdata.specs.declared.rtype.RType.{RType}
@@ -44,6 +44,7 @@ data_served (Ptr n) = refl
 data_served (Mx p n) = refl
 data_served (Txt ts) = refl
 data_served (Ipv6 a) = refl
+data_served (Srv s) = refl
 
 kind_small : (d : Datum) → type_of d < 65536
 kind_small (Ipv4 a) = omega arith
@@ -54,6 +55,7 @@ kind_small (Ptr n) = omega arith
 kind_small (Mx p n) = omega arith
 kind_small (Txt ts) = omega arith
 kind_small (Ipv6 a) = omega arith
+kind_small (Srv s) = omega arith
 
 -- ---- records
 

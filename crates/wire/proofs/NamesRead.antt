@@ -4,16 +4,16 @@ use Rattle.std.specs.Prelude.{nat_eq, nat_lt, nat_le, slice_get, slice_index, sl
 use Rattle.std.proofs.lemmas.Bool.Decides.{nat_tests}
 use Rattle.std.proofs.lemmas.Option.{slice_get-get_or, get_or_from_slice_get, slice_get_within}
 use Rattle.dname.specs.Labels.{wire, folded_label, folded_labels}
-use Rattle.layout.specs.Names.{IsPointerAt, Stands, root_here, label_here, pointer_here, as_written, SpeltAt, NameAt}
-use Rattle.layout.proofs.Reading.{name_one}
-use Rattle.layout.proofs.Whole.{name_takes, name_spelt, spelling_is_name}
+use Rattle.layout.specs.Names.{IsPointerAt, Stands, root_here, label_here, pointer_here, as_written, SpeltAt, NameAt, FullAt}
+use Rattle.layout.proofs.Reading.{folds_to, name_one, spelling_of}
+use Rattle.layout.proofs.Whole.{wire_folded_long, name_takes, name_spelt, spelling_is_name}
 use Rattle.wire.specs.declared.error.WireError.{WireError}
 use Rattle.wire.specs.declared.error.WireError.TheVariants.{Short}
 use Rattle.wire.specs.declared.parts.Part.{Part}
 use Rattle.wire.specs.declared.parts.Part.TheVariants.{End, Label, Pointer}
 use Rattle.wire.specs.declared.parts.Faults.{Faults}
 use Rattle.wire.specs.Results.{and_then}
-use Rattle.wire.specs.Parts.{part_by, part_at, behind_label, ends_at, followed, spelt_from, spelt_at, in_lower_case, name_at}
+use Rattle.wire.specs.Parts.{part_by, part_at, behind_label, ends_at, followed, spelt_from, spelt_before, spelt_at, in_lower_case, name_at, full_name_at}
 use Rattle.wire.proofs.Bytes.{AreSmall, test_read, then_read, test_yes, test_no, range_stands, range_takes}
 
 -- ---- a part
@@ -121,7 +121,7 @@ spells_from (suc fuel) bytes faults limit border start at room small fits some =
 
 pub spelt_stands : (bytes : List ℕ) (faults : Faults) (limit at : ℕ) → AreSmall bytes → limit ≤ length bytes
     → IfOk (spelt_at bytes faults limit at) (λ x. SpeltAt bytes at x.0 x.1 × (x.1 ≤ limit))
-unfolding spelt_at
+unfolding spelt_before
 spelt_stands bytes faults limit at small fits =
     by (spelt_from (at + 256) bytes faults limit faults.border at at 255) (spells_from (at + 256) bytes faults limit faults.border at at 255 small fits (omega arith))
   where
@@ -135,6 +135,16 @@ unfolding name_at
 name_stands bytes faults limit at small fits =
     then_read (λ x. SpeltAt bytes at x.0 x.1 × (x.1 ≤ limit)) (λ x. NameAt bytes at x.0 x.1 × (x.1 ≤ limit)) (spelt_at bytes faults limit at) in_lower_case
     (spelt_stands bytes faults limit at small fits) (λ x h. (spelling_is_name bytes at x.0 x.1 h.0, h.1))
+
+pub full_stands : (bytes : List ℕ) (faults : Faults) (limit at : ℕ) → AreSmall bytes → limit ≤ length bytes
+    → IfOk (full_name_at bytes faults limit at) (λ x. FullAt bytes at x.0 x.1 × (x.1 ≤ limit))
+unfolding full_name_at spelt_before
+full_stands bytes faults limit at small fits =
+    then_read (Spells bytes limit 0 at 255) (λ x. FullAt bytes at x.0 x.1 × (x.1 ≤ limit)) (spelt_from 256 bytes faults limit faults.border 0 at 255) in_lower_case
+    (spells_from 256 bytes faults limit faults.border 0 at 255 small fits (omega arith))
+    (λ x h.
+    let s = h.short in
+    (record { stands = folds_to bytes 0 at x.1 x.0 h.stands; short = omega (arith, wire_folded_long x.0) }, h.within))
 
 -- ---- what stands is read
 
@@ -221,7 +231,7 @@ spelt_reads (suc fuel) bytes faults start at end labels (pointer_here _ _ _ targ
 
 pub spelt_takes : (bytes : List ℕ) (faults : Faults) (limit at : ℕ) (labels : List (List ℕ)) (end : ℕ) → SpeltAt bytes at labels end → limit ≤ length bytes → end ≤ limit
     → spelt_at bytes faults limit at ≡ Ok (labels, end)
-unfolding spelt_at
+unfolding spelt_before
 spelt_takes bytes faults limit at labels end h fits within =
     spelt_reads (at + 256) bytes faults at at end labels h.stands limit faults.border 255 (omega arith) fits within h.short
 
@@ -233,3 +243,17 @@ name_read bytes faults limit at name end h fits within =
     let same = name_one bytes at (folded_labels found.0) name end end (spelling_is_name bytes at found.0 end found.1) h in
     let folded = same.0 in
     ap (λ x. and_then x in_lower_case) (spelt_takes bytes faults limit at found.0 end found.1 fits within) ∙ (λ i. Ok (folded i, end))
+
+pub full_within_bytes : (bytes : List ℕ) (at : ℕ) (name : List (List ℕ)) (end : ℕ) → FullAt bytes at name end → (at < end) × (end ≤ length bytes)
+full_within_bytes bytes at name end h = (name_takes folded_label bytes 0 at end name h.stands, stands_within folded_label bytes 0 at end name h.stands)
+
+pub full_read : (bytes : List ℕ) (faults : Faults) (limit at : ℕ) (name : List (List ℕ)) (end : ℕ) → FullAt bytes at name end → limit ≤ length bytes → end ≤ limit
+    → full_name_at bytes faults limit at ≡ Ok (name, end)
+unfolding full_name_at spelt_before
+full_read bytes faults limit at name end h fits within =
+    let found = spelling_of bytes 0 at end name h.stands in
+    let folded = found.2 in
+    let s = h.short in
+    let short : length (wire found.0) ≤ 255 = omega (arith, wire_folded_long found.0, ap (λ x. length (wire x)) folded) in
+    ap (λ x. and_then x in_lower_case) (spelt_reads 256 bytes faults 0 at end found.0 found.1 limit faults.border 255 (omega arith) fits within short)
+    ∙ (λ i. Ok (sym folded i, end))

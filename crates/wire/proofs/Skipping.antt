@@ -13,7 +13,7 @@ use Rattle.wire.specs.declared.error.WireError.TheVariants.{Short, BadLabel}
 use Rattle.wire.specs.declared.parts.Part.{Part}
 use Rattle.wire.specs.declared.parts.Part.TheVariants.{End, Label, Pointer}
 use Rattle.wire.specs.Numbers.{two_at, four_at}
-use Rattle.wire.specs.Parts.{message_faults, part_by, part_at, ends_at, followed, spelt_from, spelt_at, in_lower_case, name_at}
+use Rattle.wire.specs.Parts.{message_faults, part_by, part_at, ends_at, followed, spelt_from, spelt_before, spelt_at, in_lower_case, name_at}
 use Rattle.wire.specs.Values.{value_at}
 use Rattle.wire.specs.Results.{and_then}
 use Rattle.wire.specs.Entries.{kept_value, entry_kept, entry_sized, entry_behind, entry_at}
@@ -151,7 +151,7 @@ ends_behind false go at e labels end h = absurd (cc)
 
 pointer_ends : (bytes : List ℕ) (at : ℕ) (labels : List (List ℕ)) (end : ℕ) → 192 ≤ slice_index bytes at → at + 1 < length bytes
     → spelt_at bytes message_faults (length bytes) at ≡ Ok (labels, end) → end ≡ at + 2
-unfolding spelt_at
+unfolding spelt_before
 pointer_ends bytes at labels end high within h =
     let target = (slice_index bytes at - 192) * 256 + slice_index bytes (at + 1) in
     let first = unfueled (at + 256) bytes message_faults (length bytes) Short at at 255 (omega arith) in

@@ -16,7 +16,7 @@ use Rattle.wire.specs.Results.{Fails, Gives, and_then}
 use Rattle.dname.specs.Wire.{labels_of, IsSpellingWire}
 use Rattle.dname.specs.Laws.{labels_of-wire}
 use Rattle.wire.specs.Spellings.{IsSpelt}
-use Rattle.wire.specs.Parts.{part_at, behind_label, ends_at, followed, spelt_from, spelt_at, in_lower_case, name_at}
+use Rattle.wire.specs.Parts.{part_at, behind_label, ends_at, followed, spelt_from, spelt_before, spelt_at, in_lower_case, name_at, full_name_at}
 
 abbrev done : {X E : Type 0} → X → Result X E
 done x = Ok x
@@ -98,17 +98,17 @@ resumed_none : (r : Spelt) → resumed [] None r ≡ r
 resumed_none (Ok (labels, past)) = refl
 resumed_none (Err e) = refl
 
-pub walk_begins : (bytes : List ℕ) (faults : Faults) (limit at : ℕ) → limit ≤ length bytes
-    → Walk bytes faults limit (spelt_at bytes faults limit at) [] at at limit faults.border 255 None
-unfolding spelt_at
-walk_begins bytes faults limit at fits = record {
-  fuel = at + 256;
+pub walk_begins : (bytes : List ℕ) (faults : Faults) (limit start at : ℕ) → limit ≤ length bytes
+    → Walk bytes faults limit (spelt_before bytes faults limit start at) [] start at limit faults.border 255 None
+unfolding spelt_before
+walk_begins bytes faults limit start at fits = record {
+  fuel = start + 256;
   enough = omega arith;
   some_room = omega arith;
   fits = fits;
   ended = refl;
   taken = omega arith;
-  so_far = sym (resumed_none (spelt_from (at + 256) bytes faults limit faults.border at at 255));
+  so_far = sym (resumed_none (spelt_from (start + 256) bytes faults limit faults.border start at 255));
 }
 
 -- What is left, by the part that stands at the place.
@@ -240,20 +240,29 @@ pub name_found : (bytes : List ℕ) (faults : Faults) (limit at : ℕ) (labels :
 unfolding name_at
 name_found bytes faults limit at labels past h = ap (λ x. and_then x in_lower_case) h
 
+pub full_refused : (bytes : List ℕ) (faults : Faults) (limit at : ℕ) (e : WireError) → spelt_before bytes faults limit 0 at ≡ Err e → Fails e (full_name_at bytes faults limit at)
+unfolding full_name_at
+full_refused bytes faults limit at e h = fails_is e (full_name_at bytes faults limit at) (ap (λ x. and_then x in_lower_case) h)
+
+pub full_found : (bytes : List ℕ) (faults : Faults) (limit at : ℕ) (labels : List (List ℕ)) (past : ℕ) → spelt_before bytes faults limit 0 at ≡ Ok (labels, past)
+    → full_name_at bytes faults limit at ≡ Ok (folded_labels labels, past)
+unfolding full_name_at
+full_found bytes faults limit at labels past h = ap (λ x. and_then x in_lower_case) h
+
 -- ---- the name in its own letters
 
 abbrev pub AllSpelled : List (List ℕ) → Type 0
 AllSpelled [] = Unit {0}
 AllSpelled (l ∷ rest) = (0 < length l) × (length l < 64) × AllSpelled rest
 
-pub record LettersWalk (bytes : List ℕ) (faults : Faults) (limit at : ℕ) (letters : List ℕ) (start place stop : ℕ) (border : WireError) (room : ℕ) (end : Option ℕ) : Type 0 where
+pub record LettersWalk (bytes : List ℕ) (faults : Faults) (limit before at : ℕ) (letters : List ℕ) (start place stop : ℕ) (border : WireError) (room : ℕ) (end : Option ℕ) : Type 0 where
   pub front : List (List ℕ)
-  pub walk : Walk bytes faults limit (spelt_at bytes faults limit at) front start place stop border room end
+  pub walk : Walk bytes faults limit (spelt_before bytes faults limit before at) front start place stop border room end
   pub form : letters ≡ wire front
   pub spelled : AllSpelled front
 
-pub letters_begin : (bytes : List ℕ) (faults : Faults) (limit at : ℕ) (letters : List ℕ) → limit ≤ length bytes → letters ≡ [] → LettersWalk bytes faults limit at letters at at limit faults.border 255 None
-letters_begin bytes faults limit at letters fits none = record { front = []; walk = walk_begins bytes faults limit at fits; form = none; spelled = tt }
+pub letters_begin : (bytes : List ℕ) (faults : Faults) (limit before at : ℕ) (letters : List ℕ) → limit ≤ length bytes → letters ≡ [] → LettersWalk bytes faults limit before at letters before at limit faults.border 255 None
+letters_begin bytes faults limit before at letters fits none = record { front = []; walk = walk_begins bytes faults limit before at fits; form = none; spelled = tt }
 
 spelled-append : (a : List (List ℕ)) (l : List ℕ) → AllSpelled a → 0 < length l → length l < 64 → AllSpelled (a ++ l ∷ [])
 spelled-append [] l h some few = (some, few, tt)
@@ -264,12 +273,12 @@ are_spelled [] h = refl
 are_spelled (l ∷ []) h = (h.0, h.1, refl)
 are_spelled (l ∷ m ∷ a) h = (h.0, h.1, are_spelled (m ∷ a) h.2)
 
-pub letters_label : (bytes : List ℕ) (faults : Faults) (limit at : ℕ) (letters next : List ℕ) (start place stop : ℕ) (border : WireError) (room : ℕ)
-    (end : Option ℕ) (w : LettersWalk bytes faults limit at letters start place stop border room end) (size : ℕ) (p : Result Part WireError) → p ≡ part_at bytes stop border faults.bad_label place
+pub letters_label : (bytes : List ℕ) (faults : Faults) (limit before at : ℕ) (letters next : List ℕ) (start place stop : ℕ) (border : WireError) (room : ℕ)
+    (end : Option ℕ) (w : LettersWalk bytes faults limit before at letters start place stop border room end) (size : ℕ) (p : Result Part WireError) → p ≡ part_at bytes stop border faults.bad_label place
     → p ≡ Ok (Label size) → size + 2 ≤ room → size ≤ stop - place - 1 → place < stop → 0 < size → size < 64
     → next ≡ (letters ++ size ∷ []) ++ slice_range bytes (place + 1) (place + 1 + size)
-    → LettersWalk bytes faults limit at next start (place + (1 + size)) stop border (room - (size + 1)) end
-letters_label bytes faults limit at letters next start place stop border room end w size p is label room_is fits within some few put =
+    → LettersWalk bytes faults limit before at next start (place + (1 + size)) stop border (room - (size + 1)) end
+letters_label bytes faults limit before at letters next start place stop border room end w size p is label room_is fits within some few put =
     let text = slice_range bytes (place + 1) (place + 1 + size) in
     let inside = w.walk.fits in
     let long : length text ≡ size = label_long bytes place size (omega arith) in
@@ -279,18 +288,18 @@ letters_label bytes faults limit at letters next start place stop border room en
     put ∙ (append_assoc letters (size ∷ []) text ∙ (ap (λ x. x ++ size ∷ text) w.form ∙ sym (joined ∙ ap (λ x. wire w.front ++ x) last))) in
     record {
       front = w.front ++ text ∷ [];
-      walk = walk_label bytes faults limit (spelt_at bytes faults limit at) w.front start place stop border room end w.walk size p is label room_is fits within;
+      walk = walk_label bytes faults limit (spelt_before bytes faults limit before at) w.front start place stop border room end w.walk size p is label room_is fits within;
       form = whole;
       spelled = spelled-append w.front text w.spelled (omega arith) (omega arith);
     }
 
-pub letters_done : (bytes : List ℕ) (faults : Faults) (limit at : ℕ) (letters next : List ℕ) (start place stop : ℕ) (border : WireError) (room : ℕ)
-    (end : Option ℕ) (w : LettersWalk bytes faults limit at letters start place stop border room end) (p : Result Part WireError) → p ≡ part_at bytes stop border faults.bad_label place → p ≡ Ok End
+pub letters_done : (bytes : List ℕ) (faults : Faults) (limit before at : ℕ) (letters next : List ℕ) (start place stop : ℕ) (border : WireError) (room : ℕ)
+    (end : Option ℕ) (w : LettersWalk bytes faults limit before at letters start place stop border room end) (p : Result Part WireError) → p ≡ part_at bytes stop border faults.bad_label place → p ≡ Ok End
     → next ≡ letters ++ 0 ∷ []
-    → IsSpellingWire next × (spelt_at bytes faults limit at ≡ Ok (labels_of next, unwrap_or end (place + 1)))
-letters_done bytes faults limit at letters next start place stop border room end w p is ends put =
+    → IsSpellingWire next × (spelt_before bytes faults limit before at ≡ Ok (labels_of next, unwrap_or end (place + 1)))
+letters_done bytes faults limit before at letters next start place stop border room end w p is ends put =
     let labels = w.front ++ [] ∷ [] in
-    let read = walk_ends bytes faults limit (spelt_at bytes faults limit at) w.front start place stop border room end w.walk p is ends in
+    let read = walk_ends bytes faults limit (spelt_before bytes faults limit before at) w.front start place stop border room end w.walk p is ends in
     let form : next ≡ wire labels = put ∙ (ap (λ x. x ++ 0 ∷ []) w.form ∙ sym (wire-append w.front ([] ∷ []))) in
     let seen : labels_of next ≡ labels = ap labels_of form ∙ labels_of-wire labels in
     let taken = w.walk.taken in

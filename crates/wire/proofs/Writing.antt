@@ -17,7 +17,7 @@ use Rattle.wire.specs.declared.error.WireError.TheVariants.{OverLimit}
 use Rattle.wire.specs.Drafts.{RefusesText}
 use Rattle.dname.specs.Labels.{wire, folded_label, folded_labels, AreLabels, AreFolded, IsName}
 use Rattle.layout.specs.Packing.{Note, find, pointer, pointer_or, packed, noted, notes_or, packed_notes, full_notes}
-use Rattle.layout.specs.Pieces.{Flat, plain_bytes, packed_name, asked_name, Text, place_of, Piece, put_flat, put_flats, group_of, put, after, empty, sized_group}
+use Rattle.layout.specs.Pieces.{Flat, plain_bytes, packed_name, asked_name, full_name, Text, place_of, Piece, put_flat, put_flats, group_of, put, after, empty, sized_group}
 use Rattle.suffixes.specs.declared.earlier.Found.{Found}
 use Rattle.suffixes.specs.Longest.{one_more, here_or, longest, first_notes}
 
@@ -25,6 +25,11 @@ use Rattle.suffixes.specs.Longest.{one_more, here_or, longest, first_notes}
 pub plain_put : (t : Text) (b : List ℕ) → put_flat t (plain_bytes b) ≡ record { start = t.start; bytes = t.bytes ++ b; notes = t.notes }
 unfolding put_flat
 plain_put t b = λ i. record { start = t.start; bytes = t.bytes ++ b; notes = append-nil t.notes i }
+
+-- A name in full is put as its bytes.
+pub full_put : (t : Text) (name : List (List ℕ)) → put_flat t (plain_bytes (wire name)) ≡ put_flat t (full_name name)
+unfolding put_flat
+full_put t name = refl
 
 -- ---- a packed name by the longest suffix that was found
 

@@ -51,9 +51,14 @@ spelt_from zero bytes faults limit border start at room = Err border
 spelt_from (suc fuel) bytes faults limit border start at room =
     and_then (part_at bytes limit border faults.bad_label at) (followed (spelt_from fuel bytes faults) bytes faults limit border start at room)
 
--- Each step takes a byte of the name or leads to an earlier part, so this many steps are enough.
-unfoldable pub spelt_at : List ℕ → Faults → ℕ → ℕ → Result (List (List ℕ) × ℕ) WireError
-spelt_at bytes faults limit at = spelt_from (at + 256) bytes faults limit faults.border at at 255
+-- The same where the pointers of the name's own part lead strictly before `start`. Each step takes a byte of the name
+-- or leads to an earlier part, so this many steps are enough.
+unfoldable pub spelt_before : List ℕ → Faults → ℕ → ℕ → ℕ → Result (List (List ℕ) × ℕ) WireError
+spelt_before bytes faults limit start at = spelt_from (start + 256) bytes faults limit faults.border start at 255
+
+-- A name's own part starts at its place.
+abbrev pub spelt_at : List ℕ → Faults → ℕ → ℕ → Result (List (List ℕ) × ℕ) WireError
+spelt_at bytes faults limit at = spelt_before bytes faults limit at at
 
 abbrev pub in_lower_case : List (List ℕ) × ℕ → Result (List (List ℕ) × ℕ) WireError
 in_lower_case (labels, end) = Ok (folded_labels labels, end)
@@ -61,3 +66,7 @@ in_lower_case (labels, end) = Ok (folded_labels labels, end)
 -- The name at a place, and the end of what lies there.
 unfoldable pub name_at : List ℕ → Faults → ℕ → ℕ → Result (List (List ℕ) × ℕ) WireError
 name_at bytes faults limit at = and_then (spelt_at bytes faults limit at) in_lower_case
+
+-- The name at a place in full: no place is before 0, so that each pointer leads to none that is earlier.
+unfoldable pub full_name_at : List ℕ → Faults → ℕ → ℕ → Result (List (List ℕ) × ℕ) WireError
+full_name_at bytes faults limit at = and_then (spelt_before bytes faults limit 0 at) in_lower_case

@@ -1,13 +1,13 @@
--- RDATA read (RFC 1035, sections 3.3 and 3.4; RFC 3596, section 2.2): from a place to the end that RDLENGTH
--- gives.
+-- RDATA read (RFC 1035, sections 3.3 and 3.4; RFC 3596, section 2.2; RFC 2782): from a place to the end that
+-- RDLENGTH gives.
 use Rattle.std.specs.Prelude.{ℕ, zero, suc, ◌+◌, ◌-◌, nat_eq, nat_le, nat_lt, if◌then◌else◌, Result, Ok, Err, List, [], ◌∷◌, slice_index, slice_range}
-use Rattle.rdata.specs.Data.{Datum, Ipv4, Ns, Cname, Soa, Ptr, Mx, Txt, Ipv6}
+use Rattle.rdata.specs.Data.{Datum, Ipv4, Ns, Cname, Soa, Ptr, Mx, Txt, Ipv6, Srv}
 use Rattle.rdata.specs.declared.rtype.RType.{RType}
 use Rattle.rdata.specs.declared.rtype.RType.TheVariants as served
 use Rattle.wire.specs.declared.error.WireError.{WireError}
 use Rattle.wire.specs.declared.error.WireError.TheVariants.{BadRdataLength}
 use Rattle.wire.specs.Numbers.{two_at, four_at}
-use Rattle.wire.specs.Parts.{rdata_faults, name_at}
+use Rattle.wire.specs.Parts.{rdata_faults, name_at, full_name_at}
 use Rattle.wire.specs.Results.{and_then}
 
 -- So many bytes.
@@ -66,6 +66,15 @@ soa_numbers bytes end primary (mailbox, at) =
 abbrev pub soa_behind : List ℕ → ℕ → List (List ℕ) × ℕ → Result (Datum × ℕ) WireError
 soa_behind bytes end (primary, at) = and_then (name_within bytes at end) (soa_numbers bytes end primary)
 
+abbrev pub as_srv : ℕ → ℕ → ℕ → List (List ℕ) × ℕ → Result (Datum × ℕ) WireError
+as_srv priority weight port (target, past) = Ok (Srv (record { priority = priority; weight = weight; port = port; target = target }), past)
+
+-- The three numbers of an SRV, and its target in full.
+abbrev pub srv_within : List ℕ → ℕ → ℕ → Result (Datum × ℕ) WireError
+srv_within bytes at end =
+    if nat_lt end (at + 6) then Err BadRdataLength
+    else and_then (full_name_at bytes rdata_faults end (at + 6)) (as_srv (two_at bytes at) (two_at bytes (at + 2)) (two_at bytes (at + 4)))
+
 -- A character-string.
 abbrev pub string_at : List ℕ → ℕ → ℕ → Result (List ℕ × ℕ) WireError
 string_at bytes at end =
@@ -102,6 +111,7 @@ form_at served.Ptr bytes at end = and_then (name_within bytes at end) as_ptr
 form_at served.Mx bytes at end = and_then (two_within bytes at end) (mx_behind bytes end)
 form_at served.Txt bytes at end = and_then (texts_at bytes at end) (as_txt end)
 form_at served.Aaaa bytes at end = and_then (bytes_within 16 bytes at end) as_ipv6
+form_at served.Srv bytes at end = srv_within bytes at end
 
 -- The value of RDATA.
 unfoldable pub value_at : RType → List ℕ → ℕ → ℕ → Result Datum WireError

@@ -2,7 +2,7 @@
 ghost use Rattle.std.specs.Prelude.{◌≡◌, ℕ, ◌≤◌, ◌<◌, ◌+◌, List, [], ◌∷◌, ◌++◌, length, IfOk};
 ghost use Rattle.arrayvec.specs.ArrayVec.{array_vec_len};
 ghost use Rattle.dname.specs.Wire.{IsSpellingWire};
-ghost use Rattle.wire.specs.Parts.{message_faults, spelt_at, name_at};
+ghost use Rattle.wire.specs.Parts.{message_faults, spelt_before, spelt_at, name_at, full_name_at};
 ghost use Rattle.wire.specs.Chains.{AreChainEnds};
 ghost use Rattle.wire.specs.Results.{Gives, and_then};
 ghost use Rattle.wire.specs.Skips.{end_alone};
@@ -28,24 +28,25 @@ fn put_letters(letters: &mut ArrayVec<u8, 255>, label: &[u8])
 }
 
 // Gathers the name at a place in its own letters and in wire form (RFC 1035, section 4.1.4): the one walk over names.
-// Gives the end of what lies there, which ends at the limit at the latest. Chains of pointers whose ends are known are
-// passed in one step. It takes no memory.
+// Gives the end of what lies there, which ends at the limit at the latest. The pointers of the name's own part lead
+// strictly before `before`. Chains of pointers whose ends are known are passed in one step. It takes no memory.
 fn letters_at(
     letters: &mut ArrayVec<u8, 255>,
     bytes: &[u8],
     ends: &[u16],
     faults: Faults,
     limit: usize,
+    before: usize,
     at: usize,
 ) -> Result<usize, WireError>
     requires empty { letters.old.items ≡ [] }
     requires fits { limit ≤ length bytes.now }
     requires known { AreChainEnds bytes.now ends.now }
-    ensures is { spelt_by letters.new.items result ≡ spelt_at bytes.now faults limit at }
+    ensures is { spelt_by letters.new.items result ≡ spelt_before bytes.now faults limit before at }
     ensures spelling { IfOk result (λ _. IsSpellingWire letters.new.items) }
     ensures within { IfOk result (λ end. end ≤ limit) }
 {
-    let mut start = at;
+    let mut start = before;
     let mut stop = limit;
     let mut border = faults.border;
     let mut place = at;
@@ -98,7 +99,25 @@ pub fn name_at<A: Heap>(
     ensures within { IfOk result (λ x. x.1 ≤ limit) }
 {
     let mut letters = ArrayVec::new();
-    let end = letters_at(&mut letters, bytes, ends, faults, limit, at)?;
+    let end = letters_at(&mut letters, bytes, ends, faults, limit, at, at)?;
+    Ok((Name::of_letters(alloc, &letters)?, end))
+}
+
+// The name at a place that is to stand there in full, up to the limit, and its end: each pointer is refused, as one that
+// leads to no earlier place.
+pub fn full_name_at<A: Heap>(
+    alloc: A,
+    bytes: &[u8],
+    faults: Faults,
+    limit: usize,
+    at: usize,
+) -> Result<(Name<A>, usize), WireError>
+    requires { limit ≤ length bytes.now }
+    ensures is { Gives {Y = List (List ℕ) × ℕ} (λ x. (x.0, x.1)) result (full_name_at bytes.now faults limit at) }
+    ensures within { IfOk result (λ x. x.1 ≤ limit) }
+{
+    let mut letters = ArrayVec::new();
+    let end = letters_at(&mut letters, bytes, &[], faults, limit, 0, at)?;
     Ok((Name::of_letters(alloc, &letters)?, end))
 }
 
@@ -115,6 +134,7 @@ pub fn name_end(bytes: &[u8], ends: &[u16], at: usize) -> Result<usize, WireErro
         ends,
         Faults::in_message(),
         bytes.len(),
+        at,
         at,
     )
 }
@@ -135,6 +155,7 @@ pub fn spelling_at<A: Heap>(
         &[],
         Faults::in_message(),
         bytes.len(),
+        at,
         at,
     )?;
     Ok((Spelling::of_letters(alloc, &letters)?, end))

@@ -8,10 +8,10 @@ ghost use Rattle.wire.specs.Results.{Gives};
 
 use crate::error::WireError;
 use crate::fields::{four_at, two_at};
-use crate::names::name_at;
+use crate::names::{full_name_at, name_at};
 use crate::parts::Faults;
 use dname::{Heap, Name};
-use rdata::{Addr, CharacterString, RData, RType, Soa, Texts};
+use rdata::{Addr, CharacterString, RData, RType, Soa, Srv, Texts};
 
 // A name in RDATA that end at `end`.
 fn name_within<A: Heap>(
@@ -114,6 +114,29 @@ fn mx_at<A: Heap>(
     Ok((RData::Mx(preference, exchange), at))
 }
 
+fn srv_at<A: Heap>(
+    alloc: A,
+    bytes: &[u8],
+    at: usize,
+    end: usize,
+) -> Result<(RData<A>, usize), WireError>
+    requires fits { end ≤ length bytes.now }
+    requires starts { at ≤ end }
+    ensures { Gives {Y = Datum × ℕ} (λ x. (datum x.0, x.1)) result (form_at RType.Srv bytes.now at end) }
+{
+    if end - at < 6 {
+        return Err(WireError::BadRdataLength);
+    }
+    let (target, past) = full_name_at(alloc, bytes, Faults::in_rdata(), end, at + 6)?;
+    let srv = Srv {
+        priority: two_at(bytes, at),
+        weight: two_at(bytes, at + 2),
+        port: two_at(bytes, at + 4),
+        target,
+    };
+    Ok((RData::Srv(srv), past))
+}
+
 fn ipv4_at<A: Heap>(bytes: &[u8], at: usize, end: usize) -> Result<(RData<A>, usize), WireError>
     requires fits { end ≤ length bytes.now }
     requires starts { at ≤ end }
@@ -175,6 +198,7 @@ fn form_at<A: Heap>(
             Ok((RData::Txt(texts), end))
         }
         RType::Aaaa => ipv6_at(bytes, at, end),
+        RType::Srv => srv_at(alloc, bytes, at, end),
     }
 }
 

@@ -7,7 +7,7 @@ ghost use Rattle.rdata.specs.Data as plain;
 ghost use Rattle.rdata.specs.Kept.{datum};
 ghost use Rattle.rdata.specs.Records.{greatest_ttl};
 ghost use Rattle.rdata.specs.Rows.{row};
-ghost use Rattle.layout.specs.Pieces.{put_flat, put_flats, put, after, empty, plain_bytes, short_number, long_number, packed_name, asked_name, sized_group};
+ghost use Rattle.layout.specs.Pieces.{put_flat, put_flats, put, after, empty, plain_bytes, short_number, long_number, packed_name, asked_name, full_name, sized_group};
 ghost use Rattle.layout.specs.Packing.{pointer};
 ghost use Rattle.layout.specs.Messages.{data_flats, record_pieces, question_pieces, header_pieces, strings_bytes, FitsRdata, AreNamesOf, IsSpelling, IsHeader, IsQuestion, IsRecord};
 ghost use Rattle.wire.specs.Drafts.{counts_by};
@@ -20,7 +20,7 @@ use crate::spelling::Spelling;
 use crate::via::UDP_LIMIT;
 use byteorder::{BigEndian, ByteOrder};
 use dname::{Heap, Name, Starved};
-use rdata::{INTERNET, RData, Record, Soa, Texts};
+use rdata::{INTERNET, RData, Record, Soa, Srv, Texts};
 use std::alloc::{Allocator, Global};
 use std::marker::Model;
 use std::mem;
@@ -148,6 +148,16 @@ impl<A: Heap> Writer<A> {
         }
     }
 
+    // A name in full, into which no pointer leads (RFC 2782).
+    #[tactic(auto, using(crate::proofs::Writing::full_put))]
+    fn put_full(&mut self, name: &Name<A>) -> Result<(), Starved>
+        ensures written { OnOk result (self.new ≡ put_flat self.old (full_name name.now)) }
+        ensures named { IsName name.now }
+    {
+        name.well_formed_law();
+        self.put_bytes(name.wire())
+    }
+
     // A question's name, in full.
     fn put_asked(&mut self, name: &Name<A>) -> Result<(), Starved>
         ensures written { OnOk result (self.new ≡ put_flat self.old (asked_name name.now)) }
@@ -189,6 +199,7 @@ impl<A: Heap> Writer<A> {
             }
             RData::Txt(texts) => self.put_texts(texts),
             RData::Aaaa(address) => self.put_bytes(address),
+            RData::Srv(srv) => self.put_srv(srv),
         }
     }
 
@@ -203,6 +214,16 @@ impl<A: Heap> Writer<A> {
         self.put_four(soa.retry)?;
         self.put_four(soa.expire)?;
         self.put_four(soa.minimum)
+    }
+
+    fn put_srv(&mut self, srv: &Srv<A>) -> Result<(), Starved>
+        ensures written { OnOk result (self.new ≡ put_flats self.old (data_flats (plain.Srv srv.now))) }
+        ensures fits { OnOk result (FitsRdata (plain.Srv srv.now) × AreNamesOf (plain.Srv srv.now)) }
+    {
+        self.put_two(srv.priority)?;
+        self.put_two(srv.weight)?;
+        self.put_two(srv.port)?;
+        self.put_full(&srv.target)
     }
 
     fn put_texts(&mut self, texts: &Texts<A>) -> Result<(), Starved>

@@ -5,7 +5,7 @@ use Rattle.std.specs.List.{list_any}
 use Rattle.std.specs.Cmp.Lexicographic.{pointwise, bytes_decides}
 use Rattle.std.proofs.lemmas.Bool.{eqb-true, eq-eqb}
 use Rattle.dname.specs.Labels.{Name, root, AreLabels, IsName}
-use Rattle.rdata.specs.Data.{Datum, Ipv4, Ns, Cname, Soa, Ptr, Mx, Txt, Ipv6, type_of}
+use Rattle.rdata.specs.Data.{Datum, Ipv4, Ns, Cname, Soa, Ptr, Mx, Txt, Ipv6, Srv, type_of}
 use Rattle.rdata.specs.Records.{Record}
 use Rattle.zone.specs.Zones.{Zone, At, IsCut, IsBeneath, a_type, ns_type}
 use Rattle.zone.specs.Links.{Found, Alias, NoData, NxDomain}
@@ -108,6 +108,7 @@ no_missed hs c (Ptr n) = record { so = λ h a e. absurd (cc); test = λ p. refl 
 no_missed hs c (Mx p n) = record { so = λ h a e. absurd (cc); test = λ p. refl }
 no_missed hs c (Txt ts) = record { so = λ h a e. absurd (cc); test = λ p. refl }
 no_missed hs c (Ipv6 b) = record { so = λ h a e. absurd (cc); test = λ p. refl }
+no_missed hs c (Srv v) = record { so = λ h a e. absurd (cc); test = λ p. refl }
 
 abbrev InZones : List Zone → List Host → Name → Name → Type 0
 InZones zs hs c n = (z : Zone) → Contains zs z → (r : Record) → Contains z.records r → r.owner ≡ n → Serving hs c r.value
@@ -138,6 +139,7 @@ no_target zs hs c (Ptr n) = record { so = λ h a e. absurd (cc); test = λ p. re
 no_target zs hs c (Mx p n) = record { so = λ h a e. absurd (cc); test = λ p. refl }
 no_target zs hs c (Txt ts) = record { so = λ h a e. absurd (cc); test = λ p. refl }
 no_target zs hs c (Ipv6 b) = record { so = λ h a e. absurd (cc); test = λ p. refl }
+no_target zs hs c (Srv v) = record { so = λ h a e. absurd (cc); test = λ p. refl }
 
 -- What the zones give is what the look-up gives.
 zone_named : (z : Zone) → IsZone z → IsName z.origin → IsNamed z

@@ -3,7 +3,7 @@ use Rattle.std.specs.Prelude.{Bool, false, ◌&&◌, ◌||◌, not, nat_eq, nat_
 use Rattle.std.specs.List.{list_any}
 use Rattle.std.specs.Cmp.Lexicographic.{pointwise}
 use Rattle.dname.specs.Labels.{Name, root, same_name, is_under}
-use Rattle.rdata.specs.Data.{Datum, Ipv4, Ns, Cname, Soa, Ptr, Mx, Txt, Ipv6}
+use Rattle.rdata.specs.Data.{Datum, Ipv4, Ns, Cname, Soa, Ptr, Mx, Txt, Ipv6, Srv}
 use Rattle.rdata.specs.Records.{Record}
 use Rattle.zone.specs.Zones.{Zone, a_type, ns_type}
 use Rattle.zone.specs.Links.{Link, Found, Alias, NoData, NxDomain}
@@ -64,6 +64,7 @@ is_missed hs c (Ptr n) = false
 is_missed hs c (Mx p n) = false
 is_missed hs c (Txt ts) = false
 is_missed hs c (Ipv6 a) = false
+is_missed hs c (Srv v) = false
 
 abbrev pub some_missed : List Host → Name → List Record → Bool
 some_missed hs c rs = list_any (λ (r : Record). is_missed hs c r.value) rs
@@ -94,6 +95,7 @@ target_misses zs hs c (Ptr n) = false
 target_misses zs hs c (Mx p n) = false
 target_misses zs hs c (Txt ts) = false
 target_misses zs hs c (Ipv6 a) = false
+target_misses zs hs c (Srv v) = false
 
 abbrev pub is_lame : List Zone → List Host → Name → Record → Bool
 is_lame zs hs o r = makes_cut o r && target_misses zs hs r.owner r.value

@@ -6,7 +6,7 @@ use Rattle.std.proofs.lemmas.Bool.{and_parts, and_from, or_cases, not-true, not_
 use Rattle.std.proofs.lemmas.List.Sums.{fold_more}
 use Rattle.dname.specs.Labels.{same_name}
 use Rattle.dname.specs.Laws.{same_name-exact, same_name-equal, same_name-refl}
-use Rattle.rdata.specs.Data.{Datum, Ipv4, Ns, Cname, Soa, Ptr, Mx, Txt, Ipv6, type_of, same_data}
+use Rattle.rdata.specs.Data.{Datum, Ipv4, Ns, Cname, Soa, Ptr, Mx, Txt, Ipv6, Srv, type_of, same_data}
 use Rattle.rdata.specs.Records.{Record, same_set}
 use Rattle.zone.specs.Zones.{cname_type}
 use Rattle.zone.specs.Look.{is_type, is_owned}
@@ -74,6 +74,7 @@ is_cname (Ptr n) h = cc
 is_cname (Mx p n) h = cc
 is_cname (Txt ts) h = cc
 is_cname (Ipv6 a) h = cc
+is_cname (Srv v) h = cc
 
 same_cname : (d : Datum) (n : List (List ℕ)) → same_data d (Cname n) ≡ true → d ≡ Cname n
 same_cname (Ipv4 a) n h = cc
@@ -84,6 +85,7 @@ same_cname (Ptr m) n h = cc
 same_cname (Mx p m) n h = cc
 same_cname (Txt ts) n h = cc
 same_cname (Ipv6 a) n h = cc
+same_cname (Srv v) n h = cc
 
 is_target : (d : Datum) (n : List (List ℕ)) → target_of d ≡ Some n → d ≡ Cname n
 is_target (Ipv4 a) n h = cc
@@ -94,6 +96,7 @@ is_target (Ptr m) n h = cc
 is_target (Mx p m) n h = cc
 is_target (Txt ts) n h = cc
 is_target (Ipv6 a) n h = cc
+is_target (Srv v) n h = cc
 
 -- A CNAME's clash, told by the last CNAME of each owner.
 abbrev pub last_clash : List Record → Bool
@@ -118,6 +121,7 @@ apart_back (Ptr m) n h = refl
 apart_back (Mx p m) n h = refl
 apart_back (Txt ts) n h = refl
 apart_back (Ipv6 a) n h = refl
+apart_back (Srv v) n h = refl
 
 apart_forth : (d : Datum) (n : List (List ℕ)) → same_data (Cname n) d ≡ false → same_data d (Cname n) ≡ false
 apart_forth (Ipv4 a) n h = refl
@@ -128,6 +132,7 @@ apart_forth (Ptr m) n h = refl
 apart_forth (Mx p m) n h = refl
 apart_forth (Txt ts) n h = refl
 apart_forth (Ipv6 a) n h = refl
+apart_forth (Srv v) n h = refl
 
 clash_by : (rs : List Record) (c r : Record) (n : List (List ℕ)) → Contains rs c → Contains rs r → c.value ≡ Cname n → c.owner ≡ r.owner → same_data r.value (Cname n) ≡ false → any_clash rs ≡ true
 clash_by rs c r n mc mr alias owner apart =

@@ -97,6 +97,17 @@ const DATA: &[(u8, &[u8], u8)] = &[
     (6, b"\x16\0\0abcdefghijklmnopqrst", 0),
     (6, b"\x15\0\0abcdefghijklmnopqrs", 5),
     (6, b"\x17\0\0abcdefghijklmnopqrstu", 5),
+    (33, b"\x07\0\x0a\0\x3c\x13\xc4\0", 0),
+    (33, b"\x09\0\x0a\0\x3c\x13\xc4\x01a\0", 0),
+    (33, b"\x05\0\x0a\0\x3c\x13", 5),
+    (33, b"\x06\0\x0a\0\x3c\x13\xc4", 5),
+    (33, b"\x08\0\x0a\0\x3c\x13\xc4\0\0", 5),
+    (33, b"\x08\0\x0a\0\x3c\x13\xc4\x01a", 5),
+    (33, b"\x07\0\x0a\0\x3c\x13\xc4\x40", 6),
+    // The target of an SRV stands in full (RFC 2782): pointers to the owner's root, and forward.
+    (33, b"\x08\0\x0a\0\x3c\x13\xc4\xc0\x0c", 6),
+    (33, b"\x0a\0\x0a\0\x3c\x13\xc4\x01a\xc0\x0c", 6),
+    (33, b"\x08\0\x0a\0\x3c\x13\xc4\xc0\xff", 6),
     // Types that are not served are skipped, whatever their data.
     (99, b"\x01\x40", 0),
     (99, b"\0", 0),

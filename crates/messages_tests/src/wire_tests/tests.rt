@@ -13,8 +13,12 @@ const REPLY: &[u8] =
 const DENIAL: &[u8] =
     b"\0\x01\x84\x80\0\x01\0\0\0\x01\0\0\x01b\x03lab\x07example\0\0\x10\0\x01\xc0\x0e\0\x06\0\x01\0\0\0\x3c\0\x1d\x02ns\xc0\x0e\x01h\xc0\x0e\0\0\0\x01\0\0\0\x02\0\0\0\x03\0\0\0\x04\0\0\0\x3c";
 
+// A service: its target stands in full (RFC 2782), and the name of its address points past it, into the question.
+const SERVICE: &[u8] =
+    b"\0\x01\x84\x80\0\x01\0\x01\0\0\0\x01\x04_sip\x04_tcp\x03lab\x07example\0\0\x21\0\x01\xc0\x0c\0\x21\0\x01\0\0\x01\x2c\0\x17\0\x0a\0\x3c\x13\xc4\x03srv\x03lab\x07example\0\x03srv\xc0\x16\0\x01\0\x01\0\0\x01\x2c\0\x04\xc0\0\x02\x09";
+
 // What each says in words: header, question and records.
-const SHOWN: [(&[u8], &str); 3] = [
+const SHOWN: [(&[u8], &str); 4] = [
     (
         QUERY,
         "id 4660 opcode 0 rcode 0 rd\n  qd www.example. class 1 type 1",
@@ -26,6 +30,10 @@ const SHOWN: [(&[u8], &str); 3] = [
     (
         DENIAL,
         "id 1 opcode 0 rcode 0 qr aa ra\n  qd b.lab.example. class 1 type 16\n  ns lab.example. 60 IN SOA ns.lab.example. h.lab.example. 1 2 3 4 60",
+    ),
+    (
+        SERVICE,
+        "id 1 opcode 0 rcode 0 qr aa ra\n  qd _sip._tcp.lab.example. class 1 type 33\n  an _sip._tcp.lab.example. 300 IN SRV 10 60 5060 srv.lab.example.\n  ar srv.lab.example. 300 IN A 192.0.2.9",
     ),
 ];
 
@@ -63,7 +71,7 @@ fn each_front_of_a_message_is_short(rt: HostRuntime) -> Result<(), Fail> {
 #[test]
 fn messages_are_written_as_they_stood(rt: HostRuntime) -> Result<(), Fail> {
     assert_eq!(rt; DENIAL.len(), 72);
-    for bytes in [QUERY, REPLY, DENIAL] {
+    for bytes in [QUERY, REPLY, DENIAL, SERVICE] {
         let m = decode(rt.alloc(), bytes)?;
         assert!(rt; encode(rt.alloc(), &m, 65_535)?.as_slice() == bytes);
         assert!(rt; encode(rt.alloc(), &m, bytes.len())?.as_slice() == bytes);

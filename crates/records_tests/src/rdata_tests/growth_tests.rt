@@ -26,11 +26,12 @@ fn put_lines<A: Heap>(out: &mut String<A>, lines: &[Record<A>]) -> Result<(), St
     Ok(())
 }
 
-// Three records, two of them the same but for their TTLs.
-const LENT: [Row<'static>; 3] = [
+// Four records, two of them the same but for their TTLs.
+const LENT: [Row<'static>; 4] = [
     ("a.example", 300, Value::Txt("words")),
     ("a.example", 60, Value::Txt("words")),
     ("a.example", 90, Value::Mx("mail.example")),
+    ("a.example", 120, Value::Srv("srv.example")),
 ];
 
 // The records of a set, by a copy of it.
@@ -85,12 +86,14 @@ fn play<A: Heap>(alloc: A, lent: &Records<A>) -> Result<String<A>, NameError> {
     let mut out = names(alloc)?;
     put_set(&mut out, alloc, lent, RType::Txt)?;
     put_set(&mut out, alloc, lent, RType::Mx)?;
+    put_set(&mut out, alloc, lent, RType::Srv)?;
     Ok(out)
 }
 
 const PLAYED: &str = "a\\.b.example.com.example.com.
 a.example. 60 TXT \"words\"
 a.example. 90 MX 10 mail.example.
+a.example. 120 SRV 10 60 5060 srv.example.
 ";
 
 fn is_played<A: Heap>(alloc: A, lent: &Records<A>) -> Result<bool, NameError> {
@@ -143,11 +146,11 @@ fn first_needless<B: Allocator>(heap: &Refusing<B>, growths: u64) -> Option<u64>
 #[test]
 fn each_growth_of_what_is_lent_is_refused(rt: HostRuntime) -> Result<(), Fail> {
     let heap = Refusing::new(rt.alloc());
-    assert_eq!(rt; lent_count(&heap)?, 3);
+    assert_eq!(rt; lent_count(&heap)?, LENT.len());
     let growths = heap.growths();
     assert_eq!(rt; first_needless(&heap, growths), None);
     heap.refuse_after(growths);
-    assert_eq!(rt; lent_count(&heap)?, 3);
+    assert_eq!(rt; lent_count(&heap)?, LENT.len());
     Ok(())
 }
 

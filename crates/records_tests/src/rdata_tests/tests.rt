@@ -4,13 +4,14 @@ use super::set_of;
 use dname::{Heap, Starved};
 use fixtures::{Row, Value, data, name, record, records};
 use rdata::{
-    Addr, CharacterString, GREATEST_TTL, RData, RType, Record, RecordSet, Records, Texts,
+    Addr, CharacterString, GREATEST_TTL, RData, RType, Record, RecordSet, Records, Srv, Texts,
     lowest_ttl, put_data, same_set,
 };
 use std::cmp::Ordering;
 use std::test::Fail;
 
-// Number and word of each type, and the word in other letters (RFC 1035, sections 3.2.2 and 5.1; RFC 3596, section 2.1).
+// Number and word of each type, and the word in other letters (RFC 1035, sections 3.2.2 and 5.1; RFC 3596, section 2.1;
+// RFC 2782).
 const TYPES: &[(u16, &str, &str)] = &[
     (1, "A", "a"),
     (2, "NS", "ns"),
@@ -20,9 +21,10 @@ const TYPES: &[(u16, &str, &str)] = &[
     (15, "MX", "mX"),
     (16, "TXT", "Txt"),
     (28, "AAAA", "aAaA"),
+    (33, "SRV", "sRv"),
 ];
 
-const OTHER_NUMBERS: &[u16] = &[0, 3, 7, 13, 17, 27, 29, 255, 65535];
+const OTHER_NUMBERS: &[u16] = &[0, 3, 7, 13, 17, 27, 29, 32, 34, 255, 65535];
 
 const OTHER_WORDS: &[&str] = &["", "AA", "AAA", "N", "NSS", "TYPE1", "ANY"];
 
@@ -86,6 +88,10 @@ const PRINTED: &[(Value<'static>, &str)] = &[
     ),
     (Value::Cname("."), "CNAME ."),
     (Value::Mx("m.example"), "MX 10 m.example."),
+    (
+        Value::Srv("srv.lab.example"),
+        "SRV 10 60 5060 srv.lab.example.",
+    ),
     (Value::Soa(4_294_967_295), "SOA ns. h. 1 2 3 4 4294967295"),
     (Value::A(1), "A 192.0.2.1"),
     (Value::Aaaa, "AAAA 2001:db8:0:0:0:0:0:1"),
@@ -312,6 +318,38 @@ fn ordered<A: Heap>(alloc: A) -> Result<Records<A>, Starved> {
     Ok(records)
 }
 
+// Services by priority, weight and port, and then by their hosts.
+const SERVICES: [([u16; 3], &str); 5] = [
+    ([1, 2, 3], "b.example"),
+    ([1, 2, 4], "a.example"),
+    ([1, 3, 0], "a.example"),
+    ([2, 0, 0], "a.example"),
+    ([2, 0, 0], "b.example"),
+];
+
+fn service<A: Heap>(alloc: A, numbers: [u16; 3], host: &str) -> Result<Record<A>, Starved> {
+    let [priority, weight, port] = numbers;
+    let target = name(alloc, host)?;
+    Ok(Record {
+        owner: name(alloc, "a.")?,
+        ttl: 1,
+        value: RData::Srv(Srv {
+            priority,
+            weight,
+            port,
+            target,
+        }),
+    })
+}
+
+fn services<A: Heap>(alloc: A) -> Result<Records<A>, Starved> {
+    let mut records = Records::new(alloc);
+    for (numbers, host) in SERVICES {
+        records.push(service(alloc, numbers, host)?)?;
+    }
+    Ok(records)
+}
+
 fn is_equal_to_its_copy<A: Heap>(value: &RData<A>) -> Result<bool, Starved> {
     let copy = value.clone()?;
     Ok(value.cmp(&copy) == Ordering::Equal)
@@ -332,5 +370,7 @@ fn first_out_of_order<A: Heap>(records: &[Record<A>]) -> Result<Option<usize>, S
 fn data_in_order(rt: HostRuntime) -> Result<(), Fail> {
     let records = ordered(rt.alloc())?;
     assert_eq!(rt; first_out_of_order(records.as_slice())?, None);
+    let services = services(rt.alloc())?;
+    assert_eq!(rt; first_out_of_order(services.as_slice())?, None);
     Ok(())
 }

@@ -1,7 +1,7 @@
-use Rattle.std.proofs.Common.{◌∙◌, ap, sym, subst, length, ◌≤◌}
+use Rattle.std.proofs.Common.{◌∙◌, ap, sym, subst, length, length-take, take, arith, ◌≤◌}
 use Rattle.std.specs.Vec.{vec_capacity}
 use Rattle.rdata.specs.Kept.{datum}
-use Rattle.rdata.proofs.SetRows.{data_more}
+use Rattle.rdata.proofs.SetRows.{as_many, data_more}
 use Rattle.rdata.proofs.record_set.copy_values.Goals as goal
 use Rattle.rdata.proofs.record_set.copy_values.Goals.{in-A, in-Aaaa, in_default+in_ok-clone-in_default}
 
@@ -25,3 +25,9 @@ loop-value-preserved g c =
         room (sym (ap vec_capacity w.items-is ∙ w.push_reserved-in_default.ensures.capacity)) c.loop-value.invariant.1,
       )
     ]
+
+pub push_reserved-requires-in_default : goal.push_reserved-requires-in_default
+push_reserved-requires-in_default g c =
+    let front = take c.loop-value.value-index c.args.values.now in
+    let made = as_many c.loop-value.items.items front c.loop-value.invariant.0 in
+    omega (arith, made, length-take c.loop-value.value-index c.args.values.now, c.loop-value-test.true, c.loop-value.invariant.1)

@@ -383,10 +383,10 @@ fn ipv6_addresses(rt: HostRuntime) -> Result<(), Fail> {
     Ok(())
 }
 
-// MX, SOA, and the types of one name.
+// MX, SRV, SOA, and the types of one name.
 #[test]
 fn numbers_and_names(rt: HostRuntime) -> Result<(), Fail> {
-    let rows: [Row; 18] = [
+    let rows: [Row; 23] = [
         (
             "a 1 MX 0 b\n 1 MX 65535 @\n 1 MX 00010 c.\n",
             Ok(
@@ -399,6 +399,16 @@ fn numbers_and_names(rt: HostRuntime) -> Result<(), Fail> {
         ("a 1 MX 10\n", Err((1, BadData))),
         ("a 1 MX 10 b c\n", Err((1, BadData))),
         ("a 1 MX 10 b..\n", Err((1, BadName))),
+        (
+            "_sip._tcp 1 SRV 10 60 5060 srv\n 1 srv 0 0 65535 .\n",
+            Ok(
+                "_sip._tcp.example. 1 IN SRV 10 60 5060 srv.example.\n_sip._tcp.example. 1 IN SRV 0 0 65535 .\n",
+            ),
+        ),
+        ("a 1 SRV 10 60 65536 b\n", Err((1, BadNumber))),
+        ("a 1 SRV 10 60 b\n", Err((1, BadData))),
+        ("a 1 SRV 10 60 5060\n", Err((1, BadData))),
+        ("a 1 SRV 10 60 5060 b c\n", Err((1, BadData))),
         (
             "@ 1 SOA ns Host\\.master ( 0 4294967295 01\n2 3 )\n",
             Ok("example. 1 IN SOA ns.example. host\\.master.example. 0 4294967295 1 2 3\n"),
