@@ -1,12 +1,14 @@
 -- Scripts line by line.
-use Rattle.std.proofs.Common.{◌≡◌, ℕ, ◌+◌, Bool, List, [], ◌∷◌, ◌++◌, map, refl, sym, ap, ◌∙◌, subst}
+use Rattle.std.proofs.Common.{◌≡◌, ℕ, ◌+◌, Bool, inl, inr, List, [], ◌∷◌, ◌++◌, map, refl, sym, ap, ◌∙◌, subst}
 use Rattle.std.proofs.lemmas.List.{map-append}
 use Rattle.dname.specs.Labels.{Name}
 use Rattle.rdata.specs.declared.rtype.RType.{RType}
 use Rattle.wire.specs.declared.via.Via.{Via}
-use Rattle.orders.specs.Orders.{Order, at, ask, raw, carry, truncate, lose, run, tick}
+use Rattle.orders.specs.Orders.{Order, at, ask, raw, carry, truncate, lose, run, tick, order_seen}
 use Rattle.tally.specs.Clients.{Queries}
-use Rattle.crowd.specs.Lists.{AsksOne, Asks, AsksAll}
+use Rattle.orders.specs.declared.order.Order.{Order as Given}
+use Rattle.orders.specs.declared.order.Order.TheVariants as given
+use Rattle.crowd.specs.Lists.{AsksOne, Asks, AsksAll, HasOther, OneHasOther}
 use Rattle.crowd.specs.declared.asking.Asking.{Asking}
 
 -- The moment behind these lines.
@@ -115,3 +117,46 @@ script_more {A} {X} {Y} view items xs x ys zs y old middle new h one longer =
     subst (λ (ls : List (List (Asking A))). AsksAll (map view (xs ++ x ∷ [])) old ls new) lists
     (subst (λ (ss : List (List Order)). AsksAll ss old (map items ys ++ items y ∷ []) new) scripts
     (all_then (map view xs) (view x) old (map items ys) middle (items y) new h one))
+
+-- ---- a line of another kind
+
+is_other : {H : Type 0} (o : Given H) → ((n : ℕ) → o ≡ given.At n → ⊥) → ((n : Name) (t : RType) (v : Via) (r : Bool) → o ≡ given.Ask n t v r → ⊥) → HasOther (order_seen o ∷ [])
+is_other (given.At n) no_at no_ask = no_at n refl
+is_other (given.Ask n t v r) no_at no_ask = no_ask n t v r refl
+is_other (given.Raw bytes v) no_at no_ask = tt
+is_other (given.Carry n) no_at no_ask = tt
+is_other (given.Truncate n) no_at no_ask = tt
+is_other (given.Lose n) no_at no_ask = tt
+is_other given.Run no_at no_ask = tt
+is_other given.Tick no_at no_ask = tt
+
+among : (os ps : List Order) (o : Order) → HasOther (o ∷ []) → HasOther (os ++ o ∷ ps)
+among [] ps (at n) h = absurd h
+among [] ps (ask name kind by rd) h = absurd h
+among [] ps (raw bytes by) h = tt
+among [] ps (carry k) h = tt
+among [] ps (truncate k) h = tt
+among [] ps (lose k) h = tt
+among [] ps run h = tt
+among [] ps tick h = tt
+among (at n ∷ os) ps o h = among os ps o h
+among (ask name kind by rd ∷ os) ps o h = among os ps o h
+among (raw bytes by ∷ os) ps o h = tt
+among (carry k ∷ os) ps o h = tt
+among (truncate k ∷ os) ps o h = tt
+among (lose k ∷ os) ps o h = tt
+among (run ∷ os) ps o h = tt
+among (tick ∷ os) ps o h = tt
+
+pub other_among : {H : Type 0} (script front rest : List (Given H)) (o : Given H) → script ≡ front ++ o ∷ rest → ((n : ℕ) → o ≡ given.At n → ⊥)
+    → ((n : Name) (t : RType) (v : Via) (r : Bool) → o ≡ given.Ask n t v r → ⊥) → HasOther (map order_seen script)
+other_among {H} script front rest o is no_at no_ask =
+    subst HasOther (sym (map-append order_seen front (o ∷ rest)) ∙ ap (map order_seen) (sym is)) (among (map order_seen front) (map order_seen rest) (order_seen o) (is_other o no_at no_ask))
+
+one_among : (ss ts : List (List Order)) (s : List Order) → HasOther s → OneHasOther (ss ++ s ∷ ts)
+one_among [] ts s h = inl h
+one_among (r ∷ ss) ts s h = inr (one_among ss ts s h)
+
+pub script_among : {X : Type 0} (view : X → List Order) (scripts front rest : List X) (x : X) → scripts ≡ front ++ x ∷ rest → HasOther (view x) → OneHasOther (map view scripts)
+script_among {X} view scripts front rest x is h =
+    subst OneHasOther (sym (map-append view front (x ∷ rest)) ∙ ap (map view) (sym is)) (one_among (map view front) (map view rest) (view x) h)

@@ -1,5 +1,5 @@
 -- What scripts ask, where they have `at` and `ask` lines only.
-use Rattle.std.specs.Prelude.{◌≡◌, ℕ, ◌+◌, Bool, List, [], ◌∷◌, length}
+use Rattle.std.specs.Prelude.{◌≡◌, ℕ, ◌+◌, Bool, ◌⊎◌, List, [], ◌∷◌, length}
 use Rattle.dname.specs.Labels.{Name}
 use Rattle.rdata.specs.Types.{type_number}
 use Rattle.rdata.specs.declared.rtype.RType.{RType}
@@ -36,3 +36,20 @@ AsksAll [] old lists new = (lists ≡ []) × (new ≡ old)
 AsksAll {A} (script ∷ scripts) old lists new =
     (list : List (Asking A)) × (rest : List (List (Asking A))) × (middle : Queries) × (lists ≡ list ∷ rest)
     × Asks 0 script old list middle × AsksAll scripts middle rest new
+
+-- A script has another line than `at` and `ask`.
+abbrev pub HasOther : List Order → Type 0
+HasOther [] = ⊥
+HasOther (at n ∷ os) = HasOther os
+HasOther (ask name kind by rd ∷ os) = HasOther os
+HasOther (raw bytes by ∷ os) = Unit {0}
+HasOther (carry k ∷ os) = Unit {0}
+HasOther (truncate k ∷ os) = Unit {0}
+HasOther (lose k ∷ os) = Unit {0}
+HasOther (run ∷ os) = Unit {0}
+HasOther (tick ∷ os) = Unit {0}
+
+-- One of several has.
+abbrev pub OneHasOther : List (List Order) → Type 0
+OneHasOther [] = ⊥
+OneHasOther (script ∷ scripts) = HasOther script ⊎ OneHasOther scripts

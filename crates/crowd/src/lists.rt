@@ -1,7 +1,7 @@
 //! Scripts as lists of what is asked.
-ghost use Rattle.std.specs.Prelude.{◌≡◌, IfOk, IfSome, length, map};
+ghost use Rattle.std.specs.Prelude.{◌≡◌, IfOk, IfSome, IfNone, length, map};
 ghost use Rattle.orders.specs.Orders.{order_seen};
-ghost use Rattle.crowd.specs.Lists.{Asks, AsksAll, AsksOne};
+ghost use Rattle.crowd.specs.Lists.{Asks, AsksAll, AsksOne, HasOther, OneHasOther};
 
 use crate::asking::Asking;
 use dname::{Name, Starved};
@@ -20,6 +20,7 @@ pub fn lists_of(
 ) -> Result<Option<Vec<Vec<Asking>>>, Starved>
     ensures many { IfOk result (λ o. IfSome o (λ v. length v.items ≡ length scripts.items)) }
     ensures asks { IfOk result (λ o. IfSome o (λ v. AsksAll (map (λ s. map order_seen s.items) scripts.items) clients.old (map (λ l. l.items) v.items) clients.new)) }
+    ensures none { IfOk result (λ o. IfNone o (OneHasOther (map (λ s. map order_seen s.items) scripts.items))) }
 {
     let mut lists = Vec::with_capacity(alloc, scripts.len())?;
     for script in scripts {
@@ -36,7 +37,8 @@ fn list_of(
     script: Vec<Order>,
     clients: &mut Clients<Global>,
 ) -> Result<Option<Vec<Asking>>, Starved>
-    ensures { IfOk result (λ o. IfSome o (λ v. Asks 0 (map order_seen script.items) clients.old v.items clients.new)) }
+    ensures asks { IfOk result (λ o. IfSome o (λ v. Asks 0 (map order_seen script.items) clients.old v.items clients.new)) }
+    ensures none { IfOk result (λ o. IfNone o (HasOther (map order_seen script.items))) }
 {
     let mut moment = 0;
     let mut list = Vec::new(alloc);

@@ -1,10 +1,11 @@
 //! A storm of queries on one network.
-ghost use Rattle.std.specs.Prelude.{◌≡◌, ◌<◌, IfOk, IfSome, length, map};
+ghost use Rattle.std.specs.Prelude.{◌≡◌, ◌<◌, IfOk, IfSome, IfNone, length, map};
 ghost use Rattle.std.specs.declared.alloc.Global.{Global};
 ghost use Rattle.orders.specs.Orders.{order_seen};
 ghost use Rattle.network.specs.Networks.{Network};
 ghost use Rattle.simnet.specs.Beginnings.{Begins};
 ghost use Rattle.crowd.specs.Counts.{IsStorm, IsTotalOf};
+ghost use Rattle.crowd.specs.Lists.{OneHasOther};
 
 use crate::asking::Asking;
 use crate::count::{Totals, count_all, count_replies};
@@ -38,7 +39,8 @@ pub fn storm<R: Threads + Wait + Sync>(
     requires some { 0 < length scripts.items }
     requires fresh { Begins start }
     requires world { world.now ≡ start.world }
-    ensures { IfOk result (λ o. IfSome o (IsStorm Global start (map (λ s. map order_seen s.items) scripts.items))) }
+    ensures storm { IfOk result (λ o. IfSome o (IsStorm Global start (map (λ s. map order_seen s.items) scripts.items))) }
+    ensures none { IfOk result (λ o. IfNone o (OneHasOther (map (λ s. map order_seen s.items) scripts.items))) }
 {
     let mut clients = Clients::new(alloc);
     let Some(queries) = lists_of(alloc, scripts, &mut clients)? else {

@@ -6,6 +6,8 @@ use Rattle.crowd.proofs.Right.{storm_of}
 use Rattle.crowd.proofs.storming.storm.Goals as goal
 
 pub returns : goal.returns
-returns g c =
-    storm_of c.args.start (map (λ (s : Vec (Order Global) Global). map order_seen s.items) c.args.scripts.items) _ _ _ _ c.in_ok-totals.totals c.new-clients.ensures
-    (ap (map (λ (l : Vec (Asking Global) Global). l.items)) c.deref.ensures.value) (rw c.in-Some.is at c.in_ok-queries.ensures.asks) c.in_ok-totals.ensures
+returns g c = record {
+  storm = storm_of c.args.start (map (λ (s : Vec (Order Global) Global). map order_seen s.items) c.args.scripts.items) _ _ _ _ c.in_ok-totals.totals c.new-clients.ensures
+      (ap (map (λ (l : Vec (Asking Global) Global). l.items)) c.deref.ensures.value) (rw c.in-Some.is at c.in_ok-queries.ensures.asks) c.in_ok-totals.ensures;
+  none = tt;
+}
