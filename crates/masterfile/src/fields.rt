@@ -185,6 +185,6 @@ pub(crate) fn rdata<A: Heap>(
         RType::Mx => mx(alloc, words, origin),
         RType::Txt => Ok(RData::Txt(texts(alloc, words)?)),
         RType::Aaaa => Ok(RData::Aaaa(ipv6(plain(words)?)?)),
-        RType::Srv => Ok(RData::Srv(srv(alloc, words, origin)?)),
+        RType::Srv => Ok(RData::Srv(Box::new(alloc, srv(alloc, words, origin)?)?)),
     }
 }

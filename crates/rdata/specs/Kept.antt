@@ -12,4 +12,4 @@ datum (kept.Ptr n) = Ptr n
 datum (kept.Mx p n) = Mx p n
 datum (kept.Txt ts) = Txt ts
 datum (kept.Aaaa a) = Ipv6 a
-datum (kept.Srv s) = Srv s
+datum (kept.Srv s) = Srv s.value

@@ -21,7 +21,7 @@ pub enum RData<A: Allocator = Global> {
     Ns(Name<A>),
     /// The canonical name of the owner, which is an alias (section 3.3.1).
     Cname(Name<A>),
-    /// The start of a zone of authority (section 3.3.13). Boxed: of all data it alone is long.
+    /// The start of a zone of authority (section 3.3.13). Boxed, as the data of a service are: the others are short.
     Soa(Box<Soa<A>, A>),
     /// The name of another place in the tree of names (section 3.3.12).
     Ptr(Name<A>),
@@ -32,7 +32,7 @@ pub enum RData<A: Allocator = Global> {
     /// A host's IPv6 address, its 16 bytes as in messages (RFC 3596, section 2.2).
     Aaaa([u8; 16]),
     /// Where a service is offered (RFC 2782).
-    Srv(Srv<A>),
+    Srv(Box<Srv<A>, A>),
 }
 
 impl<A: Allocator> RData<A> {
@@ -70,7 +70,7 @@ impl<A: Heap> Clone for RData<A> {
             RData::Mx(preference, name) => Ok(RData::Mx(*preference, name.clone()?)),
             RData::Txt(texts) => Ok(RData::Txt(texts.clone()?)),
             RData::Aaaa(bytes) => Ok(RData::Aaaa(*bytes)),
-            RData::Srv(srv) => Ok(RData::Srv(srv.clone()?)),
+            RData::Srv(srv) => Ok(RData::Srv(Box::new(srv.target.allocator(), (**srv).clone()?)?)),
         }
     }
 }

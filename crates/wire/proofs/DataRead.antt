@@ -17,7 +17,7 @@ use Rattle.wire.specs.declared.error.WireError.TheVariants.{BadRdataLength}
 use Rattle.wire.specs.Numbers.{two_at, four_at}
 use Rattle.wire.specs.Parts.{rdata_faults, full_name_at}
 use Rattle.wire.specs.Results.{and_then}
-use Rattle.wire.specs.Values.{bytes_within, two_within, name_within, whole, as_ipv4, as_ipv6, as_ns, as_cname, as_ptr, as_mx, mx_behind, soa_numbers, soa_behind, as_srv, srv_within, string_at, with_string, strings_from, as_txt, txt_behind, texts_at, form_at, value_at}
+use Rattle.wire.specs.Values.{bytes_within, two_within, name_within, whole, as_ipv4, as_ipv6, as_ns, as_cname, as_ptr, as_mx, mx_behind, soa_numbers, soa_behind, as_srv, string_at, with_string, strings_from, as_txt, txt_behind, texts_at, form_at, value_at}
 use Rattle.wire.proofs.Bytes.{AreSmall, test_read, then_read, test_yes, test_no, range_stands, range_takes, at-along, first_byte, two_stands, two_small, two_takes, four_stands, four_small, four_takes}
 use Rattle.wire.proofs.NamesRead.{name_stands, name_read, name_within_bytes, full_stands, full_read, full_within_bytes}
 

@@ -134,7 +134,7 @@ fn srv_at<A: Heap>(
         port: two_at(bytes, at + 4),
         target,
     };
-    Ok((RData::Srv(srv), past))
+    Ok((RData::Srv(Box::new(alloc, srv)?), past))
 }
 
 fn ipv4_at<A: Heap>(bytes: &[u8], at: usize, end: usize) -> Result<(RData<A>, usize), WireError>

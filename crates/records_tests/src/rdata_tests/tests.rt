@@ -330,15 +330,16 @@ const SERVICES: [([u16; 3], &str); 5] = [
 fn service<A: Heap>(alloc: A, numbers: [u16; 3], host: &str) -> Result<Record<A>, Starved> {
     let [priority, weight, port] = numbers;
     let target = name(alloc, host)?;
+    let srv = Srv {
+        priority,
+        weight,
+        port,
+        target,
+    };
     Ok(Record {
         owner: name(alloc, "a.")?,
         ttl: 1,
-        value: RData::Srv(Srv {
-            priority,
-            weight,
-            port,
-            target,
-        }),
+        value: RData::Srv(Box::new(alloc, srv)?),
     })
 }
 
