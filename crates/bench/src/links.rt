@@ -90,10 +90,10 @@ fn fill(cache: &mut Cache<DefaultHasher>, names: &[Name], links: &[Link]) -> Res
     Ok(sum)
 }
 
-fn find_all(cache: &mut Cache<DefaultHasher>, names: &[Name]) -> Result<u64, Starved> {
+fn find_all(cache: &mut Cache<DefaultHasher>, names: &[Name], top: &Name) -> Result<u64, Starved> {
     let mut sum = 0u64;
     for name in names {
-        if cache.look(name, RType::A, 1_000)?.is_some() {
+        if cache.look(name, RType::A, top, 1_000)?.is_some() {
             sum = sum.wrapping_add(1);
         }
     }
@@ -136,9 +136,11 @@ fn filled(alloc: Global, names: &[Name]) -> Result<Cache<DefaultHasher>, Starved
 pub fn find<R: Runtime + AllocGlobal>(rt: &R, rounds: u64) -> Result<Done> {
     let names = hosts(rt.alloc(), rounds)?;
     let mut cache = filled(rt.alloc(), &names)?;
+    let top = Name::root(rt.alloc())?;
     let start = Instant::now(rt);
-    let sum = find_all(&mut cache, &names);
+    let sum = find_all(&mut cache, &names, &top);
     let taken = taken(rt, start);
+    drop(top);
     drop(cache);
     drop(names);
     Ok(plain(sum?, taken?))
@@ -166,10 +168,15 @@ fn with_set(alloc: Global, owner: &Name, count: u8) -> Result<Cache<DefaultHashe
     Ok(cache)
 }
 
-fn find_often(cache: &mut Cache<DefaultHasher>, name: &Name, rounds: u64) -> Result<u64, Starved> {
+fn find_often(
+    cache: &mut Cache<DefaultHasher>,
+    name: &Name,
+    top: &Name,
+    rounds: u64,
+) -> Result<u64, Starved> {
     let mut sum = 0u64;
     for _ in 0..rounds {
-        if cache.look(name, RType::A, 1_000)?.is_some() {
+        if cache.look(name, RType::A, top, 1_000)?.is_some() {
             sum = sum.wrapping_add(1);
         }
     }
@@ -180,9 +187,11 @@ fn find_often(cache: &mut Cache<DefaultHasher>, name: &Name, rounds: u64) -> Res
 pub fn find_set<R: Runtime + AllocGlobal>(rt: &R, count: u8, rounds: u64) -> Result<Done> {
     let name = host(rt.alloc(), 0)?;
     let mut cache = with_set(rt.alloc(), &name, count)?;
+    let top = Name::root(rt.alloc())?;
     let start = Instant::now(rt);
-    let sum = find_often(&mut cache, &name, rounds);
+    let sum = find_often(&mut cache, &name, &top, rounds);
     let taken = taken(rt, start);
+    drop(top);
     drop(cache);
     drop(name);
     Ok(plain(sum?, taken?))

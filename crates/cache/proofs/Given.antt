@@ -1,17 +1,18 @@
 -- What a look-up gives, and when it gives nothing.
-use Rattle.std.proofs.Common.{◌≡◌, ◌≢◌, ℕ, Bool, true, false, cond, nat_eq, inl, inr, List, Option, Some, None, refl, sym, ap, ◌∙◌, ne_eqb, eq-eqb, []}
-use Rattle.std.specs.Prelude.{IfNone}
+use Rattle.std.proofs.Common.{◌≡◌, ◌≢◌, ℕ, Bool, true, false, cond, nat_eq, inl, inr, List, [], ◌∷◌, Option, Some, None, refl, sym, ap, ◌∙◌, subst, ne_eqb, eq-eqb}
+use Rattle.std.specs.Prelude.{IfNone, Contains}
 use Rattle.std.specs.Map.{lookup, remove_entry}
 use Rattle.lru.specs.LruCache.{lru_cache, IsValid}
 use Rattle.rdata.specs.Records.{Record}
 use Rattle.zone.specs.Links.{Link, Found, Alias, NoData, NxDomain}
 use Rattle.zone.specs.Zones.{cname_type}
+use Rattle.zone.proofs.LawLists.{none_in, first_in, later_in, in_cases}
 use Rattle.recency.specs.Orders.{kept}
 use Rattle.recency.proofs.Kept.{by_test, kept_found, kept_others, removed_others_of}
 use Rattle.recency.proofs.Keys.{used_valid, removed_valid, removed_missed}
 use Rattle.recency.proofs.Stored as stores
 use Rattle.cache.specs.Keys.{Kind, Key, same_key, kind_key, error_key, key_for}
-use Rattle.cache.specs.Cached.{Hit, as_kept, as_alias, with_link, is_live, live_from, live_at, set_from, set_at, alias_from, alias_at, under, or_else, answer, hit_of, moved, after_look, is_error, stored, after_keep, Lives, IsMiss, ComesFirst, IsHeld}
+use Rattle.cache.specs.Cached.{Hit, as_kept, as_alias, with_link, is_live, live_from, live_at, set_from, set_at, alias_from, alias_at, under, or_else, answer, hit_of, Asked, error_above, lent, moved, after_look, is_error, stored, after_keep, Lives, IsMiss, ComesFirst, IsHeld}
 use Rattle.cache.specs.Laws.{same_key_exact}
 use Rattle.cache.proofs.Steps.{apart_from_error}
 use Rattle.cache.proofs.Members.{given_held}
@@ -72,54 +73,13 @@ module _ (q : List (List ℕ)) (t now : ℕ) (es : List (Key × Hit)) where
   abbrev alias_part : Bool → Option (Key × Hit)
   alias_part b = cond b None (under (kind_key q cname_type) (alias_at now (kind_key q cname_type) es))
 
-  miss_of : answer q t now es ≡ None → IsMiss q t now es
-  miss_of none =
-      let first = none_both (under (error_key q) (set_at now (error_key q) es)) (or_else (under (kind_key q t) (set_at now (kind_key q t) es)) (alias_part (nat_eq t cname_type))) none in
-      let rest = none_both (under (kind_key q t) (set_at now (kind_key q t) es)) (alias_part (nat_eq t cname_type)) first.1 in
-      record {
-        error = λ h l. some_or_none (sym (ap set_from (live_to now es (error_key q) h l)) ∙ under_none (error_key q) (set_at now (error_key q) es) first.0);
-        own = λ h l. some_or_none (sym (ap set_from (live_to now es (kind_key q t) h l)) ∙ under_none (kind_key q t) (set_at now (kind_key q t) es) rest.0);
-        alias = λ h l other lives is.
-            let part : alias_part false ≡ None = sym (ap alias_part (ne_eqb t cname_type other)) ∙ rest.1 in
-            let none_at = under_none (kind_key q cname_type) (alias_at now (kind_key q cname_type) es) part in
-            some_or_none (sym (ap alias_from (live_to now es (kind_key q cname_type) h lives) ∙ ap (with_link h) is) ∙ none_at);
-      }
-
-  none_of : IsMiss q t now es → answer q t now es ≡ None
-  none_of miss =
-      let e : set_at now (error_key q) es ≡ None = ap set_from (live_none now es (error_key q) miss.error) in
-      let o : set_at now (kind_key q t) es ≡ None = ap set_from (live_none now es (kind_key q t) miss.own) in
-      (λ i. or_else (under (error_key q) (e i)) (or_else (under (kind_key q t) (o i)) (alias_part (nat_eq t cname_type))))
-      ∙ by_test (nat_eq t cname_type)
-      (λ y. ap alias_part y)
-      (λ n. ap alias_part n ∙ ap (under (kind_key q cname_type)) (alias_none now es (kind_key q cname_type) (λ h l lives is. miss.alias h l (other n) lives is)))
-    where
-      other : nat_eq t cname_type ≡ false → t ≢ cname_type
-      other n is = let same = eq-eqb t cname_type is in absurd (cc)
-
-  pub nothing_missed : hit_of (answer q t now es) ≡ None → IsMiss q t now es
-  nothing_missed h = miss_of (hit_none (answer q t now es) h)
-
-  pub miss_gives_nothing : IsMiss q t now es → hit_of (answer q t now es) ≡ None
-  miss_gives_nothing miss = ap hit_of (none_of miss)
-
-  pub miss_is_missed : (k : Key) (h : Option Hit) → under k h ≡ answer q t now es → IfNone h (IsMiss q t now es)
-  miss_is_missed k None e = miss_of (sym e)
-  miss_is_missed k (Some h) e = tt
-
-  pub given_lives : (h : Hit) → hit_of (answer q t now es) ≡ Some h → is_live now h ≡ true
-  given_lives h is = let held : IsHeld q t now es h = given_held q t now es h is in by held
-    where
-      by : IsHeld q t now es h → is_live now h ≡ true
-      by (k, e, there, lives, answers, ttl, since) = (λ i. is_live now (as_kept e.link (ttl i) (since i))) ∙ lives
-
   -- ---- the first one is given
 
   error_none : (l : Link) (h : Hit) → h.link ≡ l → is_error l ≡ false → ComesFirst q t now es h → set_at now (error_key q) es ≡ None
   error_none l h is z f = ap set_from (live_none now es (error_key q) (f.exists (ap is_error is ∙ z)))
 
-  pub first_given : (h : Hit) → ComesFirst q t now es h → answer q t now es ≡ Some (key_for q t h.link, h)
-  first_given h f = by h.link h.ttl h.since f
+  first_answers : (h : Hit) → ComesFirst q t now es h → answer q t now es ≡ Some (key_for q t h.link, h)
+  first_answers h f = by h.link h.ttl h.since f
     where
       by : (l : Link) (ttl since : ℕ) → ComesFirst q t now es (as_kept l ttl since) → answer q t now es ≡ Some (key_for q t l, as_kept l ttl since)
       by (Found rs) ttl since f =
@@ -140,6 +100,79 @@ module _ (q : List (List ℕ)) (t now : ℕ) (es : List (Key × Hit)) where
           let n = ne_eqb t cname_type other.0 in
           let a = ap alias_from (live_to now es (kind_key q cname_type) (as_kept (Alias r) ttl since) f.lives) in
           λ i. or_else (under (error_key q) (e i)) (or_else (under (kind_key q t) (o i)) (cond (n i) None (under (kind_key q cname_type) (a i))))
+
+-- ---- errors of names above
+
+module _ (now : ℕ) (es : List (Key × Hit)) where
+  none_above : (ns : List (List (List ℕ))) → error_above ns now es ≡ None → (p : List (List ℕ)) → Contains ns p → (h : Hit) → Lives now es (error_key p) h → ⊥
+  none_above [] e p m h l = none_in p m
+  none_above (n ∷ ns) e p m h l =
+      let both = none_both (under (error_key n) (set_at now (error_key n) es)) (error_above ns now es) e in
+      elim (in_cases n p ns m) [
+        | inl same ↦ (let lives = subst (λ (x : List (List ℕ)). Lives now es (error_key x) h) (sym same) l in
+            some_or_none (sym (ap set_from (live_to now es (error_key n) h lives)) ∙ under_none (error_key n) (set_at now (error_key n) es) both.0))
+        | inr more ↦ none_above ns both.1 p more h l
+      ]
+
+  all_none : (ns : List (List (List ℕ))) → ((p : List (List ℕ)) → Contains ns p → (h : Hit) → Lives now es (error_key p) h → ⊥) → error_above ns now es ≡ None
+  all_none [] f = refl
+  all_none (n ∷ ns) f =
+      ap (λ o. or_else (under (error_key n) (set_from o)) (error_above ns now es)) (live_none now es (error_key n) (f n (first_in n ns))) ∙ all_none ns (λ p m. f p (later_in n p ns m))
+
+-- ---- nothing is given
+
+module _ (a : Asked) (now : ℕ) (es : List (Key × Hit)) where
+  abbrev alias_of : Bool → Option (Key × Hit)
+  alias_of b = alias_part a.name a.kind now es b
+
+  miss_of : lent a now es ≡ None → IsMiss a now es
+  miss_of nothing =
+      let whole = none_both (answer a.name a.kind now es) (error_above a.above now es) nothing in
+      let first = none_both (under (error_key a.name) (set_at now (error_key a.name) es)) (or_else (under (kind_key a.name a.kind) (set_at now (kind_key a.name a.kind) es)) (alias_of (nat_eq a.kind cname_type))) whole.0 in
+      let rest = none_both (under (kind_key a.name a.kind) (set_at now (kind_key a.name a.kind) es)) (alias_of (nat_eq a.kind cname_type)) first.1 in
+      record {
+        error = λ h l. some_or_none (sym (ap set_from (live_to now es (error_key a.name) h l)) ∙ under_none (error_key a.name) (set_at now (error_key a.name) es) first.0);
+        own = λ h l. some_or_none (sym (ap set_from (live_to now es (kind_key a.name a.kind) h l)) ∙ under_none (kind_key a.name a.kind) (set_at now (kind_key a.name a.kind) es) rest.0);
+        alias = λ h l other lives is.
+            let part : alias_of false ≡ None = sym (ap alias_of (ne_eqb a.kind cname_type other)) ∙ rest.1 in
+            let none_at = under_none (kind_key a.name cname_type) (alias_at now (kind_key a.name cname_type) es) part in
+            some_or_none (sym (ap alias_from (live_to now es (kind_key a.name cname_type) h lives) ∙ ap (with_link h) is) ∙ none_at);
+        above = none_above now es a.above whole.1;
+      }
+
+  own_none : IsMiss a now es → answer a.name a.kind now es ≡ None
+  own_none miss =
+      let e : set_at now (error_key a.name) es ≡ None = ap set_from (live_none now es (error_key a.name) miss.error) in
+      let o : set_at now (kind_key a.name a.kind) es ≡ None = ap set_from (live_none now es (kind_key a.name a.kind) miss.own) in
+      (λ i. or_else (under (error_key a.name) (e i)) (or_else (under (kind_key a.name a.kind) (o i)) (alias_of (nat_eq a.kind cname_type))))
+      ∙ by_test (nat_eq a.kind cname_type)
+      (λ y. ap alias_of y)
+      (λ n. ap alias_of n ∙ ap (under (kind_key a.name cname_type)) (alias_none now es (kind_key a.name cname_type) (λ h l lives is. miss.alias h l (other n) lives is)))
+    where
+      other : nat_eq a.kind cname_type ≡ false → a.kind ≢ cname_type
+      other n is = let same = eq-eqb a.kind cname_type is in absurd (cc)
+
+  none_of : IsMiss a now es → lent a now es ≡ None
+  none_of miss = ap (λ o. or_else o (error_above a.above now es)) (own_none miss) ∙ all_none now es a.above miss.above
+
+  pub nothing_missed : hit_of (lent a now es) ≡ None → IsMiss a now es
+  nothing_missed h = miss_of (hit_none (lent a now es) h)
+
+  pub miss_gives_nothing : IsMiss a now es → hit_of (lent a now es) ≡ None
+  miss_gives_nothing miss = ap hit_of (none_of miss)
+
+  pub miss_is_missed : (k : Key) (h : Option Hit) → under k h ≡ lent a now es → IfNone h (IsMiss a now es)
+  miss_is_missed k None e = miss_of (sym e)
+  miss_is_missed k (Some h) e = tt
+
+  pub given_lives : (h : Hit) → hit_of (lent a now es) ≡ Some h → is_live now h ≡ true
+  given_lives h is = let held : IsHeld a now es h = given_held a now es h is in by held
+    where
+      by : IsHeld a now es h → is_live now h ≡ true
+      by (k, e, there, lives, answers, ttl, since) = (λ i. is_live now (as_kept e.link (ttl i) (since i))) ∙ lives
+
+  pub first_given : (h : Hit) → ComesFirst a.name a.kind now es h → lent a now es ≡ Some (key_for a.name a.kind h.link, h)
+  first_given h f = ap (λ o. or_else o (error_above a.above now es)) (first_answers a.name a.kind now es h f)
 
 -- ---- kept, then looked up
 
@@ -200,17 +233,17 @@ module _ (cap : ℕ) (q : List (List ℕ)) (t : ℕ) (h : Hit) (es : List (Key �
           | inr none ↦ absurd (some_or_none (sym found ∙ none))
         ]
 
-    pub kept_given : (now : ℕ) → is_live now h ≡ true → ((r : Record) → h.link ≡ Alias r → (t ≢ cname_type) × ((e : Hit) → Lives now es (kind_key q t) e → ⊥))
-        → hit_of (answer q t now (after_keep cap q t h es)) ≡ Some h
-    kept_given now live other = ap hit_of (first_given q t now (after_keep cap q t h es) h (record {
+    pub kept_given : (above : List (List (List ℕ))) (now : ℕ) → is_live now h ≡ true → ((r : Record) → h.link ≡ Alias r → (t ≢ cname_type) × ((e : Hit) → Lives now es (kind_key q t) e → ⊥))
+        → hit_of (lent (record { name = q; kind = t; above = above }) now (after_keep cap q t h es)) ≡ Some h
+    kept_given above now live other = ap hit_of (first_given (record { name = q; kind = t; above = above }) now (after_keep cap q t h es) h (record {
       lives = (after_found, live);
       exists = λ n e lives. some_or_none (sym lives.0 ∙ no_error n);
       other = λ r is. ((other r is).0, λ e lives. (other r is).1 e (other_was r is (other r is).0 e lives.0, lives.1));
     }))
 
-pub look_valid : (cap : ℕ) (q : List (List ℕ)) (t now : ℕ) (es : List (Key × Hit)) → IsValid same_key (lru_cache es cap) → IsValid same_key (lru_cache (after_look q t now es) cap)
-look_valid cap q t now es h = by (answer q t now es)
+pub look_valid : (cap : ℕ) (a : Asked) (now : ℕ) (es : List (Key × Hit)) → IsValid same_key (lru_cache es cap) → IsValid same_key (lru_cache (after_look a now es) cap)
+look_valid cap a now es h = by (lent a now es)
   where
-    by : (a : Option (Key × Hit)) → IsValid same_key (lru_cache (moved a es) cap)
+    by : (x : Option (Key × Hit)) → IsValid same_key (lru_cache (moved x es) cap)
     by None = h
-    by (Some a) = used_valid same_key same_key_exact cap a.0 es h
+    by (Some x) = used_valid same_key same_key_exact cap x.0 es h

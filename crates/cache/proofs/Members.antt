@@ -3,12 +3,12 @@ use Rattle.std.proofs.Common.{◌≡◌, ◌≢◌, ℕ, List, Contains, Option,
 use Rattle.recency.specs.Orders.{KeepsOnly, LosesOnly, HasSame}
 use Rattle.recency.proofs.Stored.{moved_same}
 use Rattle.cache.specs.Keys.{Key, same_key, key_for}
-use Rattle.cache.specs.Cached.{Hit, answer, hit_of, after_look, after_keep, IsKept, IsGone, IsHeld}
+use Rattle.cache.specs.Cached.{Hit, hit_of, Asked, lent, after_look, after_keep, IsKept, IsGone, IsHeld}
 use Rattle.cache.specs.Laws.{same_key_exact}
 use Rattle.cache.proofs.Steps.{AreHeld, answers_held, after_there, after_only, after_gone}
 
-pub looked_members : (q : List (List ℕ)) (t now : ℕ) (es : List (Key × Hit)) → HasSame es (after_look q t now es)
-looked_members q t now es = moved_same same_key same_key_exact (answer q t now es) es
+pub looked_members : (a : Asked) (now : ℕ) (es : List (Key × Hit)) → HasSame es (after_look a now es)
+looked_members a now es = moved_same same_key same_key_exact (lent a now es) es
 
 pub kept_members : (cap : ℕ) (q : List (List ℕ)) (t : ℕ) (h : Hit) (es : List (Key × Hit)) → KeepsOnly es (IsKept q t h) (after_keep cap q t h es)
 kept_members cap q t h es = after_only cap q t h es
@@ -20,9 +20,9 @@ pub lost_members : (cap : ℕ) (q : List (List ℕ)) (t : ℕ) (h : Hit) (es : L
 lost_members cap q t h es = after_gone cap q t h es
 
 -- what is given is there and lives
-pub given_held : (q : List (List ℕ)) (t now : ℕ) (es : List (Key × Hit)) (h : Hit) → hit_of (answer q t now es) ≡ Some h → IsHeld q t now es h
-given_held q t now es h is = by (answer q t now es) (answers_held q t now es) is
+pub given_held : (a : Asked) (now : ℕ) (es : List (Key × Hit)) (h : Hit) → hit_of (lent a now es) ≡ Some h → IsHeld a now es h
+given_held a now es h is = by (lent a now es) (answers_held a now es) is
   where
-    by : (a : Option (Key × Hit)) → AreHeld q t now es a → hit_of a ≡ Some h → IsHeld q t now es h
+    by : (x : Option (Key × Hit)) → AreHeld a now es x → hit_of x ≡ Some h → IsHeld a now es h
     by None held e = cc
-    by (Some a) held e = let same : a.1 ≡ h = cc in subst (IsHeld q t now es) same held
+    by (Some x) held e = let same : x.1 ≡ h = cc in subst (IsHeld a now es) same held

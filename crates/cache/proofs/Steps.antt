@@ -1,16 +1,17 @@
 -- What the steps of a cache leave.
-use Rattle.std.proofs.Common.{◌≡◌, ◌≢◌, ℕ, Bool, true, false, cond, nat_eq, ◌⊎◌, inl, inr, List, Contains, Option, Some, None, is_some, refl, sym, ap, ◌∙◌, subst, eq-eqb}
+use Rattle.std.proofs.Common.{◌≡◌, ◌≢◌, ℕ, Bool, true, false, cond, nat_eq, ◌⊎◌, inl, inr, List, [], ◌∷◌, Contains, Option, Some, None, is_some, refl, sym, ap, ◌∙◌, subst, eq-eqb}
 use Rattle.std.specs.Prelude.{IfSome}
 use Rattle.std.specs.Map.{lookup, remove_entry}
 use Rattle.lru.specs.LruCache.{LruCache, lru_cache, promoted}
 use Rattle.lru.proofs.CallerLemmas.{Contains-lookup, Contains-remove_entry}
 use Rattle.zone.specs.Links.{Link, Found, Alias, NoData, NxDomain}
 use Rattle.zone.specs.Zones.{cname_type}
+use Rattle.zone.proofs.LawLists.{first_in, later_in}
 use Rattle.recency.specs.Orders.{KeepsOnly, LosesOnly, HasSame}
 use Rattle.recency.proofs.Kept.{promoted_is_used, removed_gone}
 use Rattle.recency.proofs.Stored as stores
 use Rattle.cache.specs.Keys.{Kind, NameError, Key, same_key, kind_key, error_key, key_for}
-use Rattle.cache.specs.Cached.{Hit, as_set, as_alias, with_link, live_from, set_from, alias_from, set_at, alias_at, is_live, under, or_else, answer, moved, is_error, swept, stored, after_keep, IsKept, IsGone, Answers, IsHeld}
+use Rattle.cache.specs.Cached.{Hit, as_set, as_alias, with_link, live_from, set_from, alias_from, set_at, alias_at, is_live, under, or_else, Asked, error_above, lent, moved, is_error, swept, stored, after_keep, IsKept, IsGone, Answers, IsHeld}
 use Rattle.cache.specs.Laws.{same_key_exact}
 
 -- ---- look-ups
@@ -20,16 +21,16 @@ looked_there k es h e =
     let found = Contains-lookup (same_key k) es h e in
     subst (λ j. Contains es (j, h)) (sym (same_key_exact.equal k found.0 found.2)) found.1
 
-module _ (q : List (List ℕ)) (t now : ℕ) (es : List (Key × Hit)) where
+module _ (a : Asked) (now : ℕ) (es : List (Key × Hit)) where
   abbrev pub AreHeld : Option (Key × Hit) → Type 0
   AreHeld None = Unit {0}
-  AreHeld (Some a) = IsHeld q t now es a.1
+  AreHeld (Some x) = IsHeld a now es x.1
 
-  either_held : (a b : Option (Key × Hit)) → AreHeld a → AreHeld b → AreHeld (or_else a b)
-  either_held None b g h = h
-  either_held (Some x) b g h = g
+  either_held : (x y : Option (Key × Hit)) → AreHeld x → AreHeld y → AreHeld (or_else x y)
+  either_held None y g h = h
+  either_held (Some x) y g h = g
 
-  set_held : (k : Key) → ((l : Link) → Answers q t k l (as_set l)) → AreHeld (under k (set_at now k es))
+  set_held : (k : Key) → ((l : Link) → Answers a k l (as_set l)) → AreHeld (under k (set_at now k es))
   set_held k answers = by (lookup (same_key k) es) refl
     where
       by : (o : Option Hit) → lookup (same_key k) es ≡ o → AreHeld (under k (set_from (live_from now o)))
@@ -40,7 +41,7 @@ module _ (q : List (List ℕ)) (t now : ℕ) (es : List (Key × Hit)) where
           live true l = (k, h, looked_there k es h e, l, answers h.link, refl, refl)
           live false l = tt
 
-  alias_held : (k : Key) → ((l given : Link) → as_alias l ≡ Some given → Answers q t k l given) → AreHeld (under k (alias_at now k es))
+  alias_held : (k : Key) → ((l given : Link) → as_alias l ≡ Some given → Answers a k l given) → AreHeld (under k (alias_at now k es))
   alias_held k answers = by (lookup (same_key k) es) refl
     where
       by : (o : Option Hit) → lookup (same_key k) es ≡ o → AreHeld (under k (alias_from (live_from now o)))
@@ -48,26 +49,32 @@ module _ (q : List (List ℕ)) (t now : ℕ) (es : List (Key × Hit)) where
       by (Some h) e = live (is_live now h) refl
         where
           given : (o : Option Link) → as_alias h.link ≡ o → is_live now h ≡ true → AreHeld (under k (with_link h o))
-          given None a l = tt
-          given (Some x) a l = (k, h, looked_there k es h e, l, answers h.link x a, refl, refl)
+          given None is l = tt
+          given (Some x) is l = (k, h, looked_there k es h e, l, answers h.link x is, refl, refl)
 
           live : (b : Bool) → is_live now h ≡ b → AreHeld (under k (alias_from (cond b (Some h) None)))
           live true l = given (as_alias h.link) refl l
           live false l = tt
 
-  alias_where : (b : Bool) → nat_eq t cname_type ≡ b → AreHeld (cond b None (under (kind_key q cname_type) (alias_at now (kind_key q cname_type) es)))
+  alias_where : (b : Bool) → nat_eq a.kind cname_type ≡ b → AreHeld (cond b None (under (kind_key a.name cname_type) (alias_at now (kind_key a.name cname_type) es)))
   alias_where true e = tt
-  alias_where false e = alias_held (kind_key q cname_type) (λ l given a. inr (inr (refl, apart, a)))
+  alias_where false e = alias_held (kind_key a.name cname_type) (λ l given as_one. inr (inr (inl (refl, apart, as_one))))
     where
-      apart : t ≢ cname_type
-      apart is = let same = eq-eqb t cname_type is in absurd (cc)
+      apart : a.kind ≢ cname_type
+      apart is = let same = eq-eqb a.kind cname_type is in absurd (cc)
 
-  pub answers_held : AreHeld (answer q t now es)
-  answers_held = either_held _ _ (set_held (error_key q) (λ l. inl (refl, refl)))
-      (either_held _ _ (set_held (kind_key q t) (λ l. inr (inl (refl, refl)))) (alias_where (nat_eq t cname_type) refl))
+  above_held : (ns : List (List (List ℕ))) → ((p : List (List ℕ)) → Contains ns p → Contains a.above p) → AreHeld (error_above ns now es)
+  above_held [] f = tt
+  above_held (n ∷ ns) f =
+      either_held _ _ (set_held (error_key n) (λ l. inr (inr (inr (n, f n (first_in n ns), refl, refl))))) (above_held ns (λ p m. f p (later_in n p ns m)))
+
+  pub answers_held : AreHeld (lent a now es)
+  answers_held = either_held _ _ (either_held _ _ (set_held (error_key a.name) (λ l. inl (refl, refl)))
+      (either_held _ _ (set_held (kind_key a.name a.kind) (λ l. inr (inl (refl, refl)))) (alias_where (nat_eq a.kind cname_type) refl)))
+      (above_held a.above (λ p m. m))
 
   -- what is found is there and lives
-  pub hit_is_held : (k : Key) (h : Option Hit) → under k h ≡ answer q t now es → IfSome h (IsHeld q t now es)
+  pub hit_is_held : (k : Key) (h : Option Hit) → under k h ≡ lent a now es → IfSome h (IsHeld a now es)
   hit_is_held k None e = tt
   hit_is_held k (Some h) e = subst AreHeld (sym e) answers_held
 

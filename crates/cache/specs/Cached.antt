@@ -1,6 +1,7 @@
 -- What a cache of links gives for a question, and what it holds after each call.
 use Rattle.std.specs.Prelude.{◌≡◌, ◌≢◌, ℕ, ◌-◌, ◌/◌, Bool, true, false, cond, nat_eq, ◌⊎◌, Option, Some, None, List, [], ◌∷◌, map, Contains}
 use Rattle.std.specs.Map.{lookup, remove_entry}
+use Rattle.dname.specs.Labels.{is_under}
 use Rattle.rdata.specs.Records.{Record}
 use Rattle.rdata.specs.Sets.{with_ttl}
 use Rattle.zone.specs.Links.{Link, Found, Alias, NoData, NxDomain}
@@ -99,35 +100,36 @@ abbrev pub hit_of : Option (Key × Hit) → Option Hit
 hit_of None = None
 hit_of (Some a) = Some a.1
 
--- A question, and the names above its name of which an error denies it too.
+-- A question, and the names above its name of which an error denies it too, the nearest first (RFC 8020,
+-- section 2).
 pub record Asked : Type 0 where
   pub name : List (List ℕ)
   pub kind : ℕ
   pub above : List (List (List ℕ))
 
--- No name above is tried.
-abbrev pub alone : List (List ℕ) → ℕ → Asked
-alone q t = record { name = q; kind = t; above = [] }
+-- The names above a name, up to `top`.
+abbrev pub above_to : List (List ℕ) → List (List ℕ) → List (List (List ℕ))
+above_to top [] = []
+above_to top (l ∷ ls) = cond (is_under ls top) (ls ∷ above_to top ls) []
+
+abbrev pub asked_to : List (List ℕ) → List (List ℕ) → ℕ → Asked
+asked_to top q t = record { name = q; kind = t; above = above_to top q }
 
 -- The error of the first of these names of which one lives.
 abbrev pub error_above : List (List (List ℕ)) → ℕ → List (Key × Hit) → Option (Key × Hit)
 error_above [] now es = None
 error_above (n ∷ ns) now es = or_else (under (error_key n) (set_at now (error_key n) es)) (error_above ns now es)
 
-abbrev pub or_above : List (List (List ℕ)) → ℕ → List (Key × Hit) → Option (Key × Hit) → Option (Key × Hit)
-or_above [] now es found = found
-or_above (n ∷ ns) now es found = or_else found (error_above (n ∷ ns) now es)
-
 -- What is given for a question: what stands at the name itself goes before the errors above it.
 abbrev pub lent : Asked → ℕ → List (Key × Hit) → Option (Key × Hit)
-lent a now es = or_above a.above now es (answer a.name a.kind now es)
+lent a now es = or_else (answer a.name a.kind now es) (error_above a.above now es)
 
 abbrev pub moved : Option (Key × Hit) → List (Key × Hit) → List (Key × Hit)
 moved a es = stores.moved same_key a es
 
 -- The entry that answers goes first.
-abbrev pub after_look : List (List ℕ) → ℕ → ℕ → List (Key × Hit) → List (Key × Hit)
-after_look q t now es = moved (answer q t now es) es
+abbrev pub after_look : Asked → ℕ → List (Key × Hit) → List (Key × Hit)
+after_look a now es = moved (lent a now es) es
 
 abbrev pub is_error : Link → Bool
 is_error (Found rs) = false
@@ -157,24 +159,30 @@ IsKept q t h e = (e ≡ (key_for q t h.link, h)) × (h.ttl ≢ 0)
 abbrev pub IsGone : ℕ → List (List ℕ) → ℕ → Hit → List (Key × Hit) → Key × Hit → Type 0
 IsGone cap q t h es e = ((e.0 ≡ error_key q) × (is_error h.link ≡ false)) ⊎ MayGo same_key cap (key_for q t h.link) es e
 
--- How an entry answers a question: as it stands under the name's error or the asked type, or as an alias.
-abbrev pub Answers : List (List ℕ) → ℕ → Key → Link → Link → Type 0
-Answers q t k l given = ((k ≡ error_key q) × (given ≡ as_set l)) ⊎ (((k ≡ kind_key q t) × (given ≡ as_set l)) ⊎ ((k ≡ kind_key q cname_type) × (t ≢ cname_type) × (as_alias l ≡ Some given)))
+-- How an entry answers a question: as it stands under the name's error or the asked type, as an alias, or as the
+-- error of a name above.
+abbrev pub Answers : Asked → Key → Link → Link → Type 0
+Answers a k l given =
+    ((k ≡ error_key a.name) × (given ≡ as_set l))
+    ⊎ (((k ≡ kind_key a.name a.kind) × (given ≡ as_set l))
+    ⊎ (((k ≡ kind_key a.name cname_type) × (a.kind ≢ cname_type) × (as_alias l ≡ Some given))
+    ⊎ ((p : List (List ℕ)) × Contains a.above p × (k ≡ error_key p) × (given ≡ as_set l))))
 
 -- A hit is an entry that is there and lives, with its own time to live and moment.
-abbrev pub IsHeld : List (List ℕ) → ℕ → ℕ → List (Key × Hit) → Hit → Type 0
-IsHeld q t now es h = (k : Key) × (e : Hit) × Contains es (k, e) × (is_live now e ≡ true) × Answers q t k e.link h.link × (h.ttl ≡ e.ttl) × (h.since ≡ e.since)
+abbrev pub IsHeld : Asked → ℕ → List (Key × Hit) → Hit → Type 0
+IsHeld a now es h = (k : Key) × (e : Hit) × Contains es (k, e) × (is_live now e ≡ true) × Answers a k e.link h.link × (h.ttl ≡ e.ttl) × (h.since ≡ e.since)
 
 -- An entry of this key is kept and lives.
 abbrev pub Lives : ℕ → List (Key × Hit) → Key → Hit → Type 0
 Lives now es k h = (lookup (same_key k) es ≡ Some h) × (is_live now h ≡ true)
 
--- Nothing that is kept answers: no error of the name lives, nothing under the type, and no CNAME that is an
--- alias for another type.
-pub record IsMiss (q : List (List ℕ)) (t now : ℕ) (es : List (Key × Hit)) : Type 0 where
-  pub error : (h : Hit) → Lives now es (error_key q) h → ⊥
-  pub own : (h : Hit) → Lives now es (kind_key q t) h → ⊥
-  pub alias : (h : Hit) (l : Link) → t ≢ cname_type → Lives now es (kind_key q cname_type) h → as_alias h.link ≡ Some l → ⊥
+-- Nothing that is kept answers: no error of the name lives, nothing under the type, no CNAME that is an alias for
+-- another type, and no error of a name above that counts.
+pub record IsMiss (a : Asked) (now : ℕ) (es : List (Key × Hit)) : Type 0 where
+  pub error : (h : Hit) → Lives now es (error_key a.name) h → ⊥
+  pub own : (h : Hit) → Lives now es (kind_key a.name a.kind) h → ⊥
+  pub alias : (h : Hit) (l : Link) → a.kind ≢ cname_type → Lives now es (kind_key a.name cname_type) h → as_alias h.link ≡ Some l → ⊥
+  pub above : (p : List (List ℕ)) → Contains a.above p → (h : Hit) → Lives now es (error_key p) h → ⊥
 
 -- The link lives under its key and answers first: no error of the name lives beside another link; and an
 -- alias is asked for a type other than CNAME, under which nothing lives.

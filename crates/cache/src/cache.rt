@@ -1,5 +1,6 @@
 //! The cache itself: links kept, and looked up.
-ghost use Rattle.std.specs.Prelude.{◌≡◌, ◌≢◌, ◌≤◌, [], IfOk, OnOk, OnErr, IfSome, IfNone, Contains, option_map, option_copied};
+ghost use Rattle.std.specs.Prelude.{◌≡◌, ◌≢◌, ◌≤◌, [], ◌∷◌, IfOk, OnOk, OnErr, IfSome, IfNone, Contains, option_map, option_copied};
+ghost use Rattle.std.specs.Bool.{OnTrue, OnFalse};
 ghost use Rattle.std.specs.NonZero.{non_zero_usize_get};
 ghost use Rattle.lru.specs.LruCache.{lru_cache, IsValid};
 ghost use Rattle.rdata.specs.Records.{greatest_ttl};
@@ -7,7 +8,7 @@ ghost use Rattle.rdata.specs.Types.{type_number};
 ghost use Rattle.authority.specs.Answers.{link_view};
 ghost use Rattle.recency.specs.Orders.{KeepsOnly, LosesOnly, HasSame};
 ghost use Rattle.cache.specs.Keys.{same_key, key_for, error_key};
-ghost use Rattle.cache.specs.Cached.{as_kept, is_error, live_at, set_at, alias_at, under, answer, alone, hit_of, lent, moved, swept, stored, after_keep, IsKept, IsGone, IsHeld, IsMiss};
+ghost use Rattle.cache.specs.Cached.{as_kept, is_error, live_at, set_at, alias_at, under, answer, asked_to, above_to, error_above, hit_of, lent, moved, swept, stored, after_keep, IsKept, IsGone, IsHeld, IsMiss};
 ghost use Rattle.cache.specs.Packed.{hit_of_packed};
 
 use crate::hit::Hit;
@@ -63,6 +64,15 @@ fn denies<A: Allocator>(link: &Link<A>) -> bool
     ensures { result ≡ is_error (link_view link.now) }
 {
     matches!(link, Link::NxDomain(_))
+}
+
+// Makes the name the one above it; false where that is not at or under `top`.
+fn climb<A: Allocator>(name: &mut Name<A>, top: &Name<A>) -> bool
+    ensures up { OnTrue result (above_to top.now name.old ≡ name.new ∷ above_to top.now name.new) }
+    ensures end { OnFalse result (above_to top.now name.old ≡ []) }
+{
+    top.well_formed_law();
+    name.ascend() && name.is_at_or_under(top)
 }
 
 impl<S: BuildHasher + Drop, A: Heap> Cache<S, A> {
@@ -133,18 +143,25 @@ impl<S: BuildHasher + Drop, A: Heap> Cache<S, A> {
     }
 
     /// What is kept for this name and type at the moment `now`, in milliseconds: the name's error, the link
-    /// of that type, or for a type other than CNAME the alias. The first that lives answers and becomes the
-    /// most recently used. An alias answers a question for CNAME as a set.
-    pub fn look(&mut self, name: &Name<A>, kind: RType, now: u64) -> Result<Option<Hit<A>>, Starved>
-        ensures value { IfOk result (λ h. h ≡ hit_of (lent (alone name.now (type_number kind)) now self.old.entries)) }
-        ensures ok { OnOk result (self.new ≡ lru_cache (moved (lent (alone name.now (type_number kind)) now self.old.entries) self.old.entries) self.old.cap) }
+    /// of that type, for a type other than CNAME the alias, or the error of a name above up to `top`, the
+    /// nearest first (RFC 8020, section 2). The first that lives answers and becomes the most recently used.
+    /// An alias answers a question for CNAME as a set.
+    pub fn look(
+        &mut self,
+        name: &Name<A>,
+        kind: RType,
+        top: &Name<A>,
+        now: u64,
+    ) -> Result<Option<Hit<A>>, Starved>
+        ensures value { IfOk result (λ h. h ≡ hit_of (lent (asked_to top.now name.now (type_number kind)) now self.old.entries)) }
+        ensures ok { OnOk result (self.new ≡ lru_cache (moved (lent (asked_to top.now name.now (type_number kind)) now self.old.entries) self.old.entries) self.old.cap) }
         ensures err { OnErr result (self.new ≡ self.old) }
-        ensures held { IfOk result (λ h. IfSome h (IsHeld name.now (type_number kind) now self.old.entries)) }
-        ensures missed { IfOk result (λ h. IfNone h (IsMiss name.now (type_number kind) now self.old.entries)) }
+        ensures held { IfOk result (λ h. IfSome h (IsHeld (asked_to top.now name.now (type_number kind)) now self.old.entries)) }
+        ensures missed { IfOk result (λ h. IfNone h (IsMiss (asked_to top.now name.now (type_number kind)) now self.old.entries)) }
         ensures members { HasSame self.old.entries self.new.entries }
     {
         let mut key = self.key_of(name)?;
-        let hit = self.look_at(&mut key, kind, now)?;
+        let hit = self.look_at(&mut key, kind, top, now)?;
         self.put_back(key);
         Ok(hit)
     }
@@ -177,25 +194,61 @@ impl<S: BuildHasher + Drop, A: Heap> Cache<S, A> {
         &mut self,
         key: &mut Key<A>,
         kind: RType,
+        top: &Name<A>,
         now: u64,
     ) -> Result<Option<Hit<A>>, Starved>
-        ensures value { IfOk result (λ h. h ≡ hit_of (lent (alone key.old.name (type_number kind)) now self.old.entries)) }
-        ensures ok { OnOk result (self.new ≡ lru_cache (moved (lent (alone key.old.name (type_number kind)) now self.old.entries) self.old.entries) self.old.cap) }
+        ensures value { IfOk result (λ h. h ≡ hit_of (lent (asked_to top.now key.old.name (type_number kind)) now self.old.entries)) }
+        ensures ok { OnOk result (self.new ≡ lru_cache (moved (lent (asked_to top.now key.old.name (type_number kind)) now self.old.entries) self.old.entries) self.old.cap) }
         ensures err { OnErr result (self.new ≡ self.old) }
-        ensures held { IfOk result (λ h. IfSome h (IsHeld key.old.name (type_number kind) now self.old.entries)) }
-        ensures missed { IfOk result (λ h. IfNone h (IsMiss key.old.name (type_number kind) now self.old.entries)) }
+        ensures held { IfOk result (λ h. IfSome h (IsHeld (asked_to top.now key.old.name (type_number kind)) now self.old.entries)) }
+        ensures missed { IfOk result (λ h. IfNone h (IsMiss (asked_to top.now key.old.name (type_number kind)) now self.old.entries)) }
         ensures members { HasSame self.old.entries self.new.entries }
     {
-        let hit = self.find(key, kind, now)?;
+        let hit = self.find(key, kind, top, now)?;
         if hit.is_some() {
             self.entries.promote(&*key);
         }
         Ok(hit)
     }
 
-    // The answer for the key's name and this type; the key becomes the one that answered.
-    fn find(&self, key: &mut Key<A>, kind: RType, now: u64) -> Result<Option<Hit<A>>, Starved>
-        ensures { IfOk result (λ h. under key.new h ≡ answer key.old.name (type_number kind) now self.now.entries) }
+    // What is given for the key's name and this type; the key becomes the one that answered.
+    fn find(
+        &self,
+        key: &mut Key<A>,
+        kind: RType,
+        top: &Name<A>,
+        now: u64,
+    ) -> Result<Option<Hit<A>>, Starved>
+        ensures { IfOk result (λ h. under key.new h ≡ lent (asked_to top.now key.old.name (type_number kind)) now self.now.entries) }
+    {
+        match self.find_own(key, kind, now)? {
+            Some(hit) => Ok(Some(hit)),
+            None => Ok(self.error_above(key, top, now)?),
+        }
+    }
+
+    // The error of the nearest name above up to `top` of which one lives; the key becomes the one that answered.
+    fn error_above(
+        &self,
+        key: &mut Key<A>,
+        top: &Name<A>,
+        now: u64,
+    ) -> Result<Option<Hit<A>>, Starved>
+        ensures { IfOk result (λ h. under key.new h ≡ error_above (above_to top.now key.old.name) now self.now.entries) }
+    {
+        key.slot = Slot::NameError;
+        while climb(&mut key.name, top) {
+            if let Some(hit) = self.set_at(key, now)? {
+                return Ok(Some(hit));
+            }
+        }
+        Ok(None)
+    }
+
+    // What stands at the key's own name for this type; the key becomes the one that answered.
+    fn find_own(&self, key: &mut Key<A>, kind: RType, now: u64) -> Result<Option<Hit<A>>, Starved>
+        ensures value { IfOk result (λ h. under key.new h ≡ answer key.old.name (type_number kind) now self.now.entries) }
+        ensures name { key.new.name ≡ key.old.name }
     {
         key.slot = Slot::NameError;
         if let Some(hit) = self.set_at(key, now)? {

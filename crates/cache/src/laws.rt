@@ -1,7 +1,7 @@
 //! Laws of a cache's entries: functions that do nothing, whose clauses are proved.
 
 ghost use Rattle.cache.specs.Aging.{AgedIsSame, LiveIsLeft, LeftIsLess, NewIsWhole};
-ghost use Rattle.cache.specs.Given.{NothingIsMissed, MissGivesNothing, GivenLives, FirstIsGiven, KeptIsGiven, LookStaysValid, KeepStaysValid};
+ghost use Rattle.cache.specs.Given.{AboveIsBetween, NothingIsMissed, MissGivesNothing, GivenLives, FirstIsGiven, KeptIsGiven, LookStaysValid, KeepStaysValid};
 ghost use Rattle.cache.specs.Members.{LookKeepsMembers, KeepBringsOne, KeptIsThere, KeepLosesFew, GivenIsHeld};
 
 /// Which entries a look-up and a keep leave. A look-up changes their order alone, and what it gives is one of
@@ -15,10 +15,11 @@ pub fn members_law()
     ensures held { GivenIsHeld }
 {}
 
-/// What a look-up gives. What is given lives; nothing is given exactly where nothing that is kept answers;
+/// What a look-up gives. The names above that are tried are those over the name up to `top`; what is given lives; nothing is given exactly where nothing that is kept answers;
 /// the link that lives and answers first is given, and so is what was just kept. Each call leaves entries of
 /// different keys, and no more than there is room for.
 pub fn given_law()
+    ensures above { AboveIsBetween }
     ensures missed { NothingIsMissed }
     ensures miss { MissGivesNothing }
     ensures lives { GivenLives }

@@ -2,11 +2,11 @@
 //! says (RFC 1034, section 5.3.1; RFC 2308, section 5).
 //!
 //! `keep` puts a link under its name and type, NXDOMAIN under the name alone; what has TTL 0 is not kept, and
-//! replaces what was. `look` gives what lives: NXDOMAIN of the name, the link of the type, or a CNAME for other
-//! types. `Hit::into_link` is the link as it is sent, its TTLs less its age. Beyond its room the entry that was
+//! replaces what was. `look` gives what lives: NXDOMAIN of the name, the link of the type, a CNAME for other types,
+//! or NXDOMAIN of a name above, which denies all names beneath (RFC 8020). `Hit::into_link` is the link as it is sent, its TTLs less its age. Beyond its room the entry that was
 //! used least recently goes.
 //!
-//! Promised: what is given, and what stands afterwards, exactly (`answer`, `after_keep`, `after_look`) and in
+//! Promised: what is given, and what stands afterwards, exactly (`lent`, `after_keep`, `after_look`) and in
 //! words: what is given was kept and lives (`IsHeld`), nothing is given only where nothing answers (`IsMiss`;
 //! `given_law`), no entry comes or goes unsaid (`members_law`), and age takes TTLs alone (`aging_law`).
 //! Not here: whether a reply may be believed (`classify`, `exchange`); bounds on TTLs (`classify::received`);
@@ -15,7 +15,7 @@
 //! ```text
 //! let mut cache = Cache::new(alloc, room, hasher)?;
 //! cache.keep(&name, RType::A, &link, 300, 0)?;
-//! if let Some(hit) = cache.look(&name, RType::A, 10_000)? {
+//! if let Some(hit) = cache.look(&name, RType::A, &root, 10_000)? {
 //!     assert_eq!(hit.left(10_000), 290);
 //!     let link = hit.into_link(10_000);
 //! }

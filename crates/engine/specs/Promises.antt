@@ -13,12 +13,13 @@ use Rattle.front.specs.declared.queries.Outcome.{Outcome}
 use Rattle.front.specs.declared.queries.Query.{Query as Question}
 use Rattle.rand_chacha.specs.ChaCha.{of_seed}
 use Rattle.classify.specs.Classes as class
-use Rattle.cache.specs.Cached.{answer, hit_of, is_live}
+use Rattle.cache.specs.Cached.{lent, hit_of, is_live}
 use Rattle.referral.specs.Cuts.{Cut}
 use Rattle.frames.specs.Frames.{opened, taken_addresses}
 use Rattle.retry.specs.Plans.{upcoming}
 use Rattle.truth.specs.Worlds.{World, IsWorld}
 use Rattle.resolution.specs.Jobs.{level_of, with_answer, received_link, AreFresh, IsEnding, IsCutOf, Search, Taken}
+use Rattle.resolution.specs.Rules.{asked_of}
 use Rattle.runs.specs.States.{Event, Client, Tick, Action, MoreDue, Served, Own, Query, Turn, Plain, Asker, asker, recursive, Open, Site, State, moved}
 use Rattle.runs.specs.Messages.{Brings, outcome_of, IsReply}
 use Rattle.runs.specs.Steps.{IsOfNumber, Step}
@@ -94,7 +95,7 @@ pub record Keeps (site : Site) (past : List Turn) (old : State) (turn : Turn) (n
       → (turn.served ≡ Own) × ((action : Action) × IsReply (asker client way q) (outcome_of (at_moment old turn).clock chain last) action × (out ≡ action ∷ []))
   pub kept : (a : Kept) (n now : ℕ)
       → IsKeptSince site a (turn ∷ past) new (old, legal, step) n → n < (new.stores).cache_cap → (a.hit).ttl ≢ 0 → is_live now a.hit ≡ true → IsAlone now a (new.stores).cache
-      → hit_of (answer a.name a.kind now (new.stores).cache) ≡ Some a.hit
+      → hit_of (lent (asked_of site.home a.name a.kind) now (new.stores).cache) ≡ Some a.hit
 
 abbrev pub turn_of : Event → Served → Option (List Action) → Turn
 turn_of event served out = record { event = event; served = served; out = out }

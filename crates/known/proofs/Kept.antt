@@ -1,16 +1,18 @@
 -- What is found: from what is kept, and from the zones at hand.
-use Rattle.std.proofs.Common.{◌≡◌, ◌≢◌, ℕ, Bool, true, false, not, inl, inr, Option, Some, None, List, refl, sym, subst, ◌∙◌}
+use Rattle.std.proofs.Common.{◌≡◌, ◌≢◌, ℕ, Bool, true, false, not, inl, inr, Option, Some, None, List, refl, sym, ap, subst, ◌∙◌}
 use Rattle.std.specs.Prelude.{IsTrue}
 use Rattle.std.proofs.lemmas.Bool.{both_ways, not-true}
-use Rattle.dname.specs.Labels.{Name, same_name, IsAtOrUnder}
+use Rattle.dname.specs.Labels.{Name, root, same_name, IsAtOrUnder}
 use Rattle.dname.specs.Laws.{same_name-exact, same_name-equal}
 use Rattle.rdata.specs.Records.{Record}
 use Rattle.zone.specs.Zones.{Zone, IsBeneath}
 use Rattle.zone.specs.Look as local
 use Rattle.authority.specs.Catalogs.{IsLooked, looked}
 use Rattle.referral.specs.Cuts.{Cut}
+use Rattle.cache.specs.Cached.{Asked, asked_to, lent, hit_of, IsHeld}
 use Rattle.resolution.specs.Jobs.{Home, Stores, IsCutOf}
-use Rattle.resolution.specs.Rules.{Says, IsRemote, Begins}
+use Rattle.resolution.specs.Rules.{Says, IsRemote, asked_by, asked_of, Begins}
+use Rattle.known.specs.Views.{after_look}
 use Rattle.known.specs.Found.{IsFound, IsKept, IsDeeper, IsBegun}
 use Rattle.known.specs.declared.lookup.Found.{Found}
 use Rattle.known.specs.declared.lookup.Found.TheVariants as found
@@ -53,19 +55,35 @@ begun_under home n at servers glue ns gs best k c is same_ns same_glue begins =
 pub says_is : (home : Home) (zones : List Zone) (n : Name) (t : ℕ) (said what : local.Local) → zones ≡ home.zones → said ≡ looked zones n t → IsLooked zones n t said → said ≡ what → Says home n t what
 says_is home zones n t said what same value relation is = subst (λ (zs : List Zone). (looked zs n t ≡ what) × IsLooked zs n t what) same (sym value ∙ is, subst (IsLooked zones n t) is relation)
 
+-- What the cache was asked is what the question may be answered with.
+pub asked_at_cut : (home : Home) (n : Name) (t : ℕ) (at : Name) (ns glue : List Record) → Says home n t (local.Cut at ns glue) → asked_to at n t ≡ asked_of home n t
+asked_at_cut home n t at ns glue says = ap (λ (what : local.Local). asked_by what n t) (sym says.0)
+
+pub asked_nowhere : (home : Home) (n : Name) (t : ℕ) (top : Name) → top ≡ root → Says home n t local.NotHere → asked_to top n t ≡ asked_of home n t
+asked_nowhere home n t top is says = ap (λ (m : Name). asked_to m n t) is ∙ ap (λ (what : local.Local). asked_by what n t) (sym says.0)
+
 -- The question is remote, what is kept of it is this, and this is begun with it.
-pub found_is : {A : Type 0} (home : Home) (now : ℕ) (n : Name) (t : ℕ) (old : Stores) (what : local.Local) (k : Kept A) (f : Found A) (new : Stores)
-    → Says home n t what → IsRemote home n t → IsKept now n t old k new → IsBegun home n what k f → IsFound home now n t old f new
-found_is home now n t old what (kept.Hit l) (found.Known m) new says remote h same = record {
-  is = inr (h.hit, record { remote = remote; found = h.found; held = h.held; link = same ∙ h.link; stores = h.stores });
+pub found_is : {A : Type 0} (home : Home) (now : ℕ) (n : Name) (t : ℕ) (old : Stores) (top : Name) (what : local.Local) (k : Kept A) (f : Found A) (new : Stores)
+    → asked_to top n t ≡ asked_of home n t → Says home n t what → IsRemote home n t → IsKept top now n t old k new → IsBegun home n what k f → IsFound home now n t old f new
+found_is home now n t old top what (kept.Hit l) (found.Known m) new asked says remote h same = record {
+  is = inr (
+    h.hit,
+    record {
+      remote = remote;
+      found = subst (λ (a : Asked). hit_of (lent a now old.cache) ≡ Some h.hit) asked h.found;
+      held = subst (λ (a : Asked). IsHeld a now old.cache h.hit) asked h.held;
+      link = same ∙ h.link;
+      stores = subst (λ (a : Asked). new ≡ after_look old a now) asked h.stores;
+    },
+  );
 }
-found_is home now n t old what (kept.Hit l) (found.Start c) new says remote h begun = absurd begun
-found_is home now n t old what (kept.Best best) (found.Known m) new says remote h begun = absurd begun
-found_is home now n t old what (kept.Best best) (found.Start c) new says remote h begins = record {
+found_is home now n t old top what (kept.Hit l) (found.Start c) new asked says remote h begun = absurd begun
+found_is home now n t old top what (kept.Best best) (found.Known m) new asked says remote h begun = absurd begun
+found_is home now n t old top what (kept.Best best) (found.Start c) new asked says remote h begins = record {
   name = h.name;
   what = what;
   says = says;
-  miss = h.miss;
+  miss = subst (λ (a : Asked). hit_of (lent a now old.cache) ≡ None) asked h.miss;
   best = best;
   is_best = h.is_best;
   begins = begins;

@@ -5,6 +5,7 @@ use Rattle.rdata.specs.declared.addr.Addr.{Addr}
 use Rattle.retry.specs.Penalties.{answered, timed_out}
 use Rattle.std.specs.Prelude.{Contains}
 use Rattle.recency.specs.Orders.{LosesOnly, HasSame}
+use Rattle.cache.specs.Cached.{Asked}
 use Rattle.cache.proofs.Members as cache
 use Rattle.referral.proofs.Members as cuts
 use Rattle.resolution.specs.Jobs.{Stores, Job, Input}
@@ -44,9 +45,9 @@ uses_then a b c f g = record {
   penalties_cap = g.penalties_cap ∙ f.penalties_cap;
 }
 
-pub look_uses : (s t : Stores) (n : Name) (k now : ℕ) → t ≡ after_look s n k now → OnlyUses s t
-look_uses s t n k now is = subst (OnlyUses s) (sym is) (record {
-  cache = cache.looked_members n k now s.cache;
+pub look_uses : (s t : Stores) (a : Asked) (now : ℕ) → t ≡ after_look s a now → OnlyUses s t
+look_uses s t a now is = subst (OnlyUses s) (sym is) (record {
+  cache = cache.looked_members a now s.cache;
   delegations = same_refl s.delegations;
   penalties = refl;
   cache_cap = refl;

@@ -4,7 +4,7 @@ use Rattle.dname.specs.Labels.{Name, IsName}
 use Rattle.zone.specs.Zones.{IsBeneath}
 use Rattle.zone.specs.Look as local
 use Rattle.referral.specs.Cuts.{Cut, IsBest}
-use Rattle.cache.specs.Cached.{Hit, alone, lent, hit_of, IsHeld}
+use Rattle.cache.specs.Cached.{Hit, asked_to, lent, hit_of, IsHeld}
 use Rattle.resolution.specs.Jobs.{Home, Stores, Taken, kept_link}
 use Rattle.resolution.specs.Rules.{Finds, Misses, Begins}
 use Rattle.known.specs.Views.{after_look, after_best}
@@ -18,23 +18,24 @@ abbrev pub IsFound : {A : Type 0} → Home → ℕ → Name → ℕ → Stores �
 IsFound home now n t old (found.Known l) new = Finds home now n t old l new
 IsFound home now n t old (found.Start c) new = Misses home now n t old c new
 
--- What is kept of the name and the type, wherever the name is: a link of the cache, or else the best cut.
-pub record IsHit (now : ℕ) (n : Name) (t : ℕ) (old : Stores) (l : Taken) (new : Stores) : Type 0 where
+-- What is kept of the name and the type, where errors of names above count up to `top`: a link of the cache, or
+-- else the best cut.
+pub record IsHit (top : Name) (now : ℕ) (n : Name) (t : ℕ) (old : Stores) (l : Taken) (new : Stores) : Type 0 where
   pub hit : Hit
-  pub found : hit_of (lent (alone n t) now old.cache) ≡ Some hit
-  pub held : IsHeld n t now old.cache hit
+  pub found : hit_of (lent (asked_to top n t) now old.cache) ≡ Some hit
+  pub held : IsHeld (asked_to top n t) now old.cache hit
   pub link : l ≡ kept_link n hit
-  pub stores : new ≡ after_look old n t now
+  pub stores : new ≡ after_look old (asked_to top n t) now
 
-pub record IsMiss (now : ℕ) (n : Name) (t : ℕ) (old : Stores) (best : Option Cut) (new : Stores) : Type 0 where
+pub record IsMiss (top : Name) (now : ℕ) (n : Name) (t : ℕ) (old : Stores) (best : Option Cut) (new : Stores) : Type 0 where
   pub name : IsName n
-  pub miss : hit_of (lent (alone n t) now old.cache) ≡ None
+  pub miss : hit_of (lent (asked_to top n t) now old.cache) ≡ None
   pub is_best : IsBest n now old.delegations best
   pub stores : new ≡ after_best old n now
 
-abbrev pub IsKept : {A : Type 0} → ℕ → Name → ℕ → Stores → Kept A → Stores → Type 0
-IsKept now n t old (kept.Hit l) new = IsHit now n t old l new
-IsKept now n t old (kept.Best best) new = IsMiss now n t old best new
+abbrev pub IsKept : {A : Type 0} → Name → ℕ → Name → ℕ → Stores → Kept A → Stores → Type 0
+IsKept top now n t old (kept.Hit l) new = IsHit top now n t old l new
+IsKept top now n t old (kept.Best best) new = IsMiss top now n t old best new
 
 -- What is left of the best cut: nothing where it is not beneath the one that the zones at hand name.
 abbrev pub IsDeeper : Name → Option Cut → Option Cut → Type 0

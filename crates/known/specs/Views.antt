@@ -75,8 +75,8 @@ abbrev pub with_cut : Stores → Cut → ℕ → ℕ → Stores
 with_cut stores c ttl now = record stores { delegations = referral.after_keep stores.delegations_cap (rules.cut_from c ttl now) stores.delegations }
 
 -- After the cache, or the kept delegations, were looked up.
-abbrev pub after_look : Stores → Name → ℕ → ℕ → Stores
-after_look stores n t now = record stores { cache = cache.moved (cache.lent (cache.alone n t) now stores.cache) stores.cache }
+abbrev pub after_look : Stores → cache.Asked → ℕ → Stores
+after_look stores a now = record stores { cache = cache.moved (cache.lent a now stores.cache) stores.cache }
 
 abbrev pub after_best : Stores → Name → ℕ → Stores
 after_best stores n now = record stores { delegations = referral.after_best n now stores.delegations }

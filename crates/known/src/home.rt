@@ -1,11 +1,12 @@
 //! What the resolver holds from the start and never changes: `Home`, the local zones as one catalog, and the cut
 //! of the root, which is made of the hints once.
 ghost use Rattle.std.specs.Prelude.{◌≡◌, IfOk};
+ghost use Rattle.dname.specs.Labels.{root};
 ghost use Rattle.resolution.specs.Jobs.{root_cut};
 ghost use Rattle.known.specs.Views.{home_at};
 
 use authority::Catalog;
-use dname::{Heap, Starved};
+use dname::{Heap, Name, Starved};
 use rdata::Addr;
 use referral::Cut;
 use std::alloc::{Allocator, Global};
@@ -47,6 +48,13 @@ impl<A: Allocator> Home<A> {
         ensures { result.now ≡ self.now.zones }
     {
         &self.catalog
+    }
+
+    // The root's name.
+    pub(crate) fn root_name(&self) -> &Name<A>
+        ensures { result.now ≡ root }
+    {
+        &self.root.at
     }
 
     /// The root with the hints, where servers are sought if nothing better is known.

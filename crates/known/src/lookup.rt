@@ -44,18 +44,19 @@ fn is_beneath<A: Allocator>(name: &Name<A>, other: &Name<A>) -> bool
     name.is_at_or_under(other) && *name != *other
 }
 
-// A link of the cache, or else the best cut.
+// A link of the cache, in which errors of names above count up to `top`, or else the best cut.
 fn find_kept<S: BuildHasher + Drop, A: Heap>(
     name: &Name<A>,
     kind: RType,
+    top: &Name<A>,
     stores: &mut Stores<S, A>,
     now: u64,
 ) -> Result<Kept<A>, Starved>
-    ensures kept { IfOk result (λ k. IsKept now name.now (type_number kind) stores.old k stores.new) }
+    ensures kept { IfOk result (λ k. IsKept top.now now name.now (type_number kind) stores.old k stores.new) }
     ensures only { OnlyUses stores.old stores.new }
 {
     name.well_formed_law();
-    match stores.look(name, kind, now)? {
+    match stores.look(name, kind, top, now)? {
         Some(hit) => Ok(Kept::Hit(Taken::cached(name, hit)?)),
         None => Ok(Kept::Best(stores.best(name, now)?)),
     }
@@ -127,7 +128,8 @@ fn found_beyond<A: Heap>(home: &Home<A>, kept: Kept<A>) -> Result<Found<A>, Star
 }
 
 /// What is known of a name and a type at the moment `now`, in milliseconds: what the zones at hand say, else
-/// what the cache has (RFC 1034, section 5.3.3, step 1). Where neither says anything, the cut where servers
+/// what the cache has (RFC 1034, section 5.3.3, step 1), the NXDOMAIN of a name above among it (RFC 8020,
+/// section 2), as far up as the cut that the zones at hand name. Where neither says anything, the cut where servers
 /// are sought (step 2): the one that the zones at hand name, or a deeper one that is kept; where they name
 /// none, the deepest that is kept, or the root's. Want of memory leaves the stores with the same entries.
 pub fn find<S: BuildHasher + Drop, A: Heap>(
@@ -144,7 +146,7 @@ pub fn find<S: BuildHasher + Drop, A: Heap>(
     match home.catalog().look(alloc, name, kind)? {
         Local::Link(link) => Ok(Found::Known(Taken::local(name, link)?)),
         Local::Cut(at, servers, glue) => {
-            let kept = find_kept(name, kind, stores, now);
+            let kept = find_kept(name, kind, &at, stores, now);
             match kept {
                 Ok(kept) => Ok(found_under(alloc, at, servers, glue, kept)?),
                 Err(starved) => {
@@ -156,7 +158,7 @@ pub fn find<S: BuildHasher + Drop, A: Heap>(
             }
         }
         Local::NotHere => {
-            let kept = find_kept(name, kind, stores, now)?;
+            let kept = find_kept(name, kind, home.root_name(), stores, now)?;
             Ok(found_beyond(home, kept)?)
         }
     }

@@ -6,7 +6,7 @@ ghost use Rattle.std.specs.NonZero.{non_zero_usize_get};
 ghost use Rattle.rdata.specs.Types.{type_number};
 ghost use Rattle.authority.specs.Answers.{link_view};
 ghost use Rattle.referral.specs.Cuts.{IsBest};
-ghost use Rattle.cache.specs.Cached.{alone, lent, hit_of, IsHeld};
+ghost use Rattle.cache.specs.Cached.{asked_to, lent, hit_of, IsHeld};
 ghost use Rattle.frames.specs.Frames.{opened, fresh_addresses, after_add};
 ghost use Rattle.resolution.specs.Jobs.{level_of, with_answer, with_timeout};
 ghost use Rattle.known.specs.Views.{no_stores, with_link, with_cut, after_look, after_best};
@@ -78,15 +78,21 @@ impl<S: BuildHasher + Drop, A: Heap> Stores<S, A> {
         })
     }
 
-    /// What the cache gives for this name and type at the moment `now`, in milliseconds. The entry becomes the
-    /// most recently used.
-    pub fn look(&mut self, name: &Name<A>, kind: RType, now: u64) -> Result<Option<Hit<A>>, Starved>
-        ensures value { IfOk result (λ h. h ≡ hit_of (lent (alone name.now (type_number kind)) now self.old.cache)) }
-        ensures held { IfOk result (λ h. IfSome h (IsHeld name.now (type_number kind) now self.old.cache)) }
-        ensures ok { OnOk result (self.new ≡ after_look self.old name.now (type_number kind) now) }
+    /// What the cache gives for this name and type at the moment `now`, in milliseconds, where errors of names
+    /// above count up to `top`. The entry becomes the most recently used.
+    pub fn look(
+        &mut self,
+        name: &Name<A>,
+        kind: RType,
+        top: &Name<A>,
+        now: u64,
+    ) -> Result<Option<Hit<A>>, Starved>
+        ensures value { IfOk result (λ h. h ≡ hit_of (lent (asked_to top.now name.now (type_number kind)) now self.old.cache)) }
+        ensures held { IfOk result (λ h. IfSome h (IsHeld (asked_to top.now name.now (type_number kind)) now self.old.cache)) }
+        ensures ok { OnOk result (self.new ≡ after_look self.old (asked_to top.now name.now (type_number kind)) now) }
         ensures err { OnErr result (self.new ≡ self.old) }
     {
-        Ok(self.cache.look(name, kind, now)?)
+        Ok(self.cache.look(name, kind, top, now)?)
     }
 
     /// The deepest delegation that is kept, lives at the moment `now`, in milliseconds, and that the name is at

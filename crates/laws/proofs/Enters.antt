@@ -151,7 +151,7 @@ module _ (port : ℕ) (home : Home) (k : ℕ) (turn : Turn) (past : List Turn) (
               let takes : Takes port s.name a_type (received l) turn past = subst (λ (t : ℕ). Takes port s.name t (received l) turn past) kind (taken_now l is) in
               heard_at port home k (turn ∷ past) TruncatedNow p s.name (received l) o after os j more new
               (λ set e. inr (inl (subst (λ (x : Link). Takes port s.name a_type x turn past) e takes)))
-              (λ none. inr (a_type, received l, inl takes, no_address l none))
+              (λ none. inr (inl (a_type, received l, inl takes, no_address l none)))
               (waiting_later port home turn past k o s.name waiting) (around_later port home turn past k j.name j.kind o.name o.kind (o.frame).nesting os further) marks_now hears_of task job
 
       -- A referral.

@@ -6,6 +6,7 @@ use Rattle.rdata.specs.declared.addr.Addr.{Addr}
 use Rattle.zone.specs.Zones.{a_type, cname_type}
 use Rattle.zone.specs.Links.{Link, Found, Alias, NoData, NxDomain}
 use Rattle.zone.specs.Look.{Linked}
+use Rattle.authority.specs.Catalogs.{looked}
 use Rattle.wire.specs.declared.via.Via.{Via}
 use Rattle.layout.specs.Messages.{Message}
 use Rattle.front.specs.declared.queries.Asked.{Asked}
@@ -15,18 +16,19 @@ use Rattle.classify.specs.Classes.{class_of}
 use Rattle.classify.specs.Lifetimes.{received}
 use Rattle.classify.proofs.Uses.{no_alias_class}
 use Rattle.cache.specs.Keys.{Key, key_for}
-use Rattle.cache.specs.Cached.{Hit, answer, hit_of, moved}
+use Rattle.cache.specs.Cached.{Hit, lent, hit_of, moved}
+use Rattle.cache.specs.Cached as cache
 use Rattle.resolution.specs.Jobs.{Home, Stores, with_answer, Search, Taken, local_link, Job, Input, Start, Told, TimedOut, TcpFailed, Next, Point, hit_from}
-use Rattle.resolution.specs.Rules.{Says, Hits, Finds, Rule, takes, asks, follows, restarts, hears, descends, gives_up, Rules, IsAnswered, ByClass, Enters, Advances}
+use Rattle.resolution.specs.Rules.{Says, asked_of, above_by, Hits, Finds, Rule, takes, asks, follows, restarts, hears, descends, gives_up, Rules, IsAnswered, ByClass, Enters, Advances}
 use Rattle.runs.specs.States.{Event, Client, Datagram, TcpReply, Tick, Action, Served, Turn, Plain, job_for, Site, State, moved as moved_to}
 use Rattle.runs.specs.States as event
 use Rattle.runs.specs.Steps.{IsOpened, at_once, crowded, admitted, IsIgnored, Hears, IsHandled, IsTicked, IsTurn, Step}
 use Rattle.runs.specs.Runs.{Run}
 use Rattle.laws.proofs.Opened.{same_after}
 use Rattle.laws.proofs.FollowedStores.{comes_stores}
-use Rattle.laws.specs.Uses.{Question, Accepted, AreHits, took, is_kept}
+use Rattle.laws.specs.Uses.{Accepted, AreHits, took, is_kept}
 use Rattle.laws.specs.Looks.{Looks, none, hits_by, rule_hits, rules_hits, accepted_by, enters_accepted, call_looks, handled_looks, hears_looks, either_looks, ticked_looks, turn_looks, step_looks, IsKeptSince, KeptIsFound}
-use Rattle.laws.proofs.KeptEntries.{looked_in, lone_is_answer}
+use Rattle.laws.proofs.KeptEntries.{looked_in, lone_is_lent}
 use Rattle.laws.proofs.Near.{IsNear, near_found, near_kept, near_other, near_hits}
 
 abbrev Entries : Type 0
@@ -34,33 +36,33 @@ Entries = List (Key × Hit)
 
 -- ---- look-ups, one after another
 
-hits_both : (now : ℕ) (xs ys : List Question) (a b c : Entries) → AreHits now xs a b → AreHits now ys b c → AreHits now (xs ++ ys) a c
+hits_both : (now : ℕ) (xs ys : List cache.Asked) (a b c : Entries) → AreHits now xs a b → AreHits now ys b c → AreHits now (xs ++ ys) a c
 hits_both now [] ys a b c g h = subst (λ (es : Entries). AreHits now ys es c) g h
-hits_both now (x ∷ xs) ys a b c (some, g) h = (some, hits_both now xs ys (moved (answer x.name x.kind now a) a) b c g h)
+hits_both now (x ∷ xs) ys a b c (some, g) h = (some, hits_both now xs ys (moved (lent x now a) a) b c g h)
 
 -- What is kept and found, and the capacity stays.
 pub record IsUsed (now : ℕ) (looks : Looks) (old new : Stores) : Type 0 where
   pub cache : AreHits now looks.hits (took old.cache_cap looks.accepted old.cache) new.cache
   pub cap : new.cache_cap ≡ old.cache_cap
 
-pub record IsLooked (now : ℕ) (hits : List Question) (old new : Stores) : Type 0 where
+pub record IsLooked (now : ℕ) (hits : List cache.Asked) (old new : Stores) : Type 0 where
   pub cache : AreHits now hits old.cache new.cache
   pub cap : new.cache_cap ≡ old.cache_cap
 
 looked_none : (now : ℕ) (old new : Stores) → new.cache ≡ old.cache → new.cache_cap ≡ old.cache_cap → IsLooked now [] old new
 looked_none now old new e f = record { cache = e; cap = f }
 
-found_looked : (home : Home) (now : ℕ) (n : Name) (t : ℕ) (old : Stores) (l : Taken) (new : Stores) → (f : Finds home now n t old l new) → IsLooked now (hits_by n t f.is) old new
+found_looked : (home : Home) (now : ℕ) (n : Name) (t : ℕ) (old : Stores) (l : Taken) (new : Stores) → (f : Finds home now n t old l new) → IsLooked now (hits_by home n t f.is) old new
 found_looked home now n t old l new f = by f.is
   where
     some_there : (o : Option (Key × Hit)) (h : Hit) → hit_of o ≡ Some h → IsSome o
     some_there None h e = absurd (cc)
     some_there (Some a) h e = refl
 
-    by : (x : ((k : Link) × Says home n t (Linked k) × (l ≡ local_link n k) × (new ≡ old)) ⊎ ((hit : Hit) × Hits home now n t old l hit new)) → IsLooked now (hits_by n t x) old new
+    by : (x : ((k : Link) × Says home n t (Linked k) × (l ≡ local_link n k) × (new ≡ old)) ⊎ ((hit : Hit) × Hits home now n t old l hit new)) → IsLooked now (hits_by home n t x) old new
     by (inl (k, says, is, stays)) = looked_none now old new (ap (λ (x : Stores). x.cache) stays) (ap (λ (x : Stores). x.cache_cap) stays)
     by (inr (hit, h)) = record {
-      cache = (some_there (answer n t now old.cache) hit h.found, ap (λ (x : Stores). x.cache) h.stores);
+      cache = (some_there (lent (asked_of home n t) now old.cache) hit h.found, ap (λ (x : Stores). x.cache) h.stores);
       cap = ap (λ (x : Stores). x.cache_cap) h.stores;
     }
 
@@ -121,7 +123,7 @@ call_used home now input old stores next new after call =
     let kept = enters_taken now input old stores call.first call.enters in
     let looked = rules_looked home now call.count call.first call.last call.rules in
     let left = same_after home now call.last next new after call.leaves in
-    let hits : List Question = rules_hits home now call.count call.first call.last call.rules in
+    let hits : List cache.Asked = rules_hits home now call.count call.first call.last call.rules in
     record {
       cache = subst (λ (es : Entries). AreHits now hits es after.cache) kept.cache
           (subst (λ (x : Stores). AreHits now hits ((call.first).stores).cache x.cache) (sym left) looked.cache);
@@ -290,7 +292,7 @@ plain_since site (t ∷ past) s (old, legal, step) a n (fed, inr (other, (k, sin
 pub kept_is_found : KeptIsFound
 kept_is_found site run s legal a n now since few some lives alone =
     let near = near_since site run s legal a n since few some in
-    lone_is_answer a.name a.kind now (s.stores).cache a.hit
+    lone_is_lent a.name a.kind now (s.stores).cache (above_by (looked (site.home).zones a.name a.kind) a.name) a.hit
     (near_found (suc n) (key_of a) a.hit (s.stores).cache near) lives
     (λ k named other h there. alone k h (looked_in k (s.stores).cache h there) named other)
     (plain_since site run s legal a n since)

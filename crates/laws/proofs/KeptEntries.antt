@@ -1,5 +1,5 @@
 -- What a cache answers, by what stands under the three keys of a question.
-use Rattle.std.proofs.Common.{◌≡◌, ◌≢◌, ℕ, true, false, cond, nat_eq, List, Contains, Option, Some, None, refl, sym, ap, ◌∙◌, subst, ne_eqb}
+use Rattle.std.proofs.Common.{◌≡◌, ◌≢◌, ℕ, true, false, cond, nat_eq, List, [], ◌∷◌, Contains, Option, Some, None, refl, sym, ap, ◌∙◌, subst, ne_eqb}
 use Rattle.std.specs.Map.{lookup}
 use Rattle.lru.proofs.CallerLemmas.{Contains-lookup}
 use Rattle.rdata.specs.Records.{Record}
@@ -7,7 +7,7 @@ use Rattle.zone.specs.Links.{Link, Found, Alias, NoData, NxDomain}
 use Rattle.zone.specs.Zones.{cname_type}
 use Rattle.recency.proofs.Kept.{used_found}
 use Rattle.cache.specs.Keys.{Kind, NameError, Key, same_key, kind_key, error_key, key_for}
-use Rattle.cache.specs.Cached.{Hit, as_set, as_alias, with_link, is_live, live_from, live_at, set_from, alias_from, under, or_else, answer, hit_of, moved}
+use Rattle.cache.specs.Cached.{Hit, as_set, as_alias, with_link, is_live, live_from, live_at, set_from, alias_from, under, or_else, answer, Asked, error_above, lent, hit_of, moved}
 use Rattle.cache.specs.Laws.{same_key_exact}
 
 pub looked_in : (k : Key) (es : List (Key × Hit)) (h : Hit) → lookup (same_key k) es ≡ Some h → Contains es (k, h)
@@ -20,13 +20,22 @@ pub moved_looks : (a : Option (Key × Hit)) (es : List (Key × Hit)) (k : Key) �
 moved_looks None es k = refl
 moved_looks (Some a) es k = used_found same_key same_key_exact a.0 k es
 
-pub same_answer : (q : List (List ℕ)) (t now : ℕ) (es fs : List (Key × Hit)) → ((k : Key) → lookup (same_key k) fs ≡ lookup (same_key k) es) → answer q t now fs ≡ answer q t now es
+same_answer : (q : List (List ℕ)) (t now : ℕ) (es fs : List (Key × Hit)) → ((k : Key) → lookup (same_key k) fs ≡ lookup (same_key k) es) → answer q t now fs ≡ answer q t now es
 same_answer q t now es fs same = λ i. or_else (under (error_key q) (set_from (live_from now (same (error_key q) i))))
     (or_else (under (kind_key q t) (set_from (live_from now (same (kind_key q t) i))))
     (cond (nat_eq t cname_type) None (under (kind_key q cname_type) (alias_from (live_from now (same (kind_key q cname_type) i))))))
 
-pub moved_answer : (a : Option (Key × Hit)) (q : List (List ℕ)) (t now : ℕ) (es : List (Key × Hit)) → answer q t now (moved a es) ≡ answer q t now es
-moved_answer a q t now es = same_answer q t now es (moved a es) (moved_looks a es)
+same_errors : (ns : List (List (List ℕ))) (now : ℕ) (es fs : List (Key × Hit)) → ((k : Key) → lookup (same_key k) fs ≡ lookup (same_key k) es) → error_above ns now fs ≡ error_above ns now es
+same_errors [] now es fs same = refl
+same_errors (n ∷ ns) now es fs same = λ i. or_else (under (error_key n) (set_from (live_from now (same (error_key n) i)))) (same_errors ns now es fs same i)
+
+pub same_lent : (a : Asked) (now : ℕ) (es fs : List (Key × Hit)) → ((k : Key) → lookup (same_key k) fs ≡ lookup (same_key k) es) → lent a now fs ≡ lent a now es
+same_lent a now es fs same = λ i. or_else (same_answer a.name a.kind now es fs same i) (same_errors a.above now es fs same i)
+
+-- What stands at the name itself goes before the errors of names above.
+first_hit : (own above : Option (Key × Hit)) (h : Hit) → hit_of own ≡ Some h → hit_of (or_else own above) ≡ Some h
+first_hit None above h e = cc
+first_hit (Some x) above h e = e
 
 module _ (q : List (List ℕ)) (t now : ℕ) (es : List (Key × Hit)) where
   -- What stands under a key does not live, so it is no answer.
@@ -44,7 +53,7 @@ module _ (q : List (List ℕ)) (t now : ℕ) (es : List (Key × Hit)) where
   live_is_some k h e l = ap (live_from now) e ∙ ap (λ b. cond b (Some h) None) l
 
   -- A link that lives is the answer where no other entry of its name lives; an alias not where CNAME is asked for.
-  pub lone_is_answer : (h : Hit) → lookup (same_key (key_for q t h.link)) es ≡ Some h → is_live now h ≡ true
+  lone_is_answer : (h : Hit) → lookup (same_key (key_for q t h.link)) es ≡ Some h → is_live now h ≡ true
       → ((k : Key) → k.name ≡ q → k ≢ key_for q t h.link → IsDead k) → ((r : Record) → h.link ≡ Alias r → t ≢ cname_type)
       → hit_of (answer q t now es) ≡ Some h
   lone_is_answer h there lives alone plain = by h.link refl
@@ -93,3 +102,8 @@ module _ (q : List (List ℕ)) (t now : ℕ) (es : List (Key × Hit)) where
         where
           slots_are : {a b : ℕ} → Kind a ≡ Kind b → a ≡ b
           slots_are e = cc
+
+  pub lone_is_lent : (above : List (List (List ℕ))) (h : Hit) → lookup (same_key (key_for q t h.link)) es ≡ Some h → is_live now h ≡ true
+      → ((k : Key) → k.name ≡ q → k ≢ key_for q t h.link → IsDead k) → ((r : Record) → h.link ≡ Alias r → t ≢ cname_type)
+      → hit_of (lent (record { name = q; kind = t; above = above }) now es) ≡ Some h
+  lone_is_lent above h there lives alone plain = first_hit (answer q t now es) (error_above above now es) h (lone_is_answer h there lives alone plain)

@@ -25,7 +25,8 @@ module _ (port : ℕ) (home : Home) (turn : Turn) (past : List Turn) where
 
   pub none_later : (n : Name) → HasNoAddress port home past n → HasNoAddress port home (turn ∷ past) n
   none_later n (inl s) = inl s
-  none_later n (inr (t, l, e, tells)) = inr (t, l, inr e, tells)
+  none_later n (inr (inl (t, l, e, tells))) = inr (inl (t, l, inr e, tells))
+  none_later n (inr (inr (p, t, soa, there, e))) = inr (inr (p, t, soa, there, inr e))
 
   pub use_later : (z : Name) (Has More : Addr → Type 0) (Beneath Below : Name → Type 0) (x : Name) → ((a : Addr) → Has a → More a) → (Beneath x → Below x)
       → IsOfNoUse port home past z Has Beneath x → IsOfNoUse port home (turn ∷ past) z More Below x

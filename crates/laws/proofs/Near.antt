@@ -6,9 +6,9 @@ use Rattle.zone.specs.Zones.{cname_type}
 use Rattle.recency.specs.Orders.{kept, IsWithin}
 use Rattle.recency.proofs.Kept.{by_test}
 use Rattle.cache.specs.Keys.{Kind, NameError, Key, same_key, error_key, key_for}
-use Rattle.cache.specs.Cached.{Hit, answer, moved, is_error, stored, after_keep}
+use Rattle.cache.specs.Cached.{Hit, Asked, lent, moved, is_error, stored, after_keep}
 use Rattle.cache.specs.Laws.{same_key_exact}
-use Rattle.laws.specs.Uses.{Question, AreHits}
+use Rattle.laws.specs.Uses.{AreHits}
 use Rattle.recency.proofs.Places.{within_put, within_kept, within_used, within_removed, within_found}
 
 -- Among the first n entries at most.
@@ -66,8 +66,8 @@ near_moved : (n : ℕ) (k : Key) (v : Hit) (a : Option (Key × Hit)) (es : List 
 near_moved n k v None es (m, le, w) = (m, omega arith, w)
 near_moved n k v (Some a) es (m, le, w) = (suc m, omega arith, within_used same_key same_key_exact m k a.0 v es w)
 
-pub near_hits : (now n : ℕ) (k : Key) (v : Hit) (hits : List Question) (old new : List (Key × Hit)) → AreHits now hits old new → IsNear n k v old → IsNear (n + length hits) k v new
+pub near_hits : (now n : ℕ) (k : Key) (v : Hit) (hits : List Asked) (old new : List (Key × Hit)) → AreHits now hits old new → IsNear n k v old → IsNear (n + length hits) k v new
 near_hits now n k v [] old new are near = subst (λ es. IsNear (n + 0) k v es) (sym are) (let (m, le, w) = near in (m, omega arith, w))
 near_hits now n k v (a ∷ more) old new (some, are) near =
-    let (m, le, w) = near_hits now (suc n) k v more (moved (answer a.name a.kind now old) old) new are (near_moved n k v (answer a.name a.kind now old) old near) in
+    let (m, le, w) = near_hits now (suc n) k v more (moved (lent a now old) old) new are (near_moved n k v (lent a now old) old near) in
     (m, omega arith, w)

@@ -1,14 +1,14 @@
 -- Links that are true of a name, in the cache and out of it.
 use Rattle.std.proofs.Common.{◌≡◌, ℕ, Some, None, List, [], ◌∷◌, map, inl, inr, refl, sym, ◌∙◌, ap, subst}
 use Rattle.std.specs.Prelude.{Contains}
-use Rattle.dname.specs.Labels.{Name}
+use Rattle.dname.specs.Labels.{Name, IsAtOrUnder}
 use Rattle.rdata.specs.Records.{Record}
 use Rattle.rdata.specs.Sets.{with_ttl}
 use Rattle.rdata.specs.Caps.{capped}
 use Rattle.zone.specs.Zones.{Zone, cname_type}
 use Rattle.zone.specs.Links.{Link, Found, Alias, NoData, NxDomain}
 use Rattle.zone.specs.Same.{Same, Has, SameSet, SameLink}
-use Rattle.zone.specs.Look.{Linked}
+use Rattle.zone.specs.Look.{Local, Linked}
 use Rattle.zone.proofs.LawLists.{none_in, first_in, map_of, map_in}
 use Rattle.authority.specs.Catalogs.{IsLooked}
 use Rattle.layout.specs.Messages.{Message}
@@ -18,18 +18,21 @@ use Rattle.classify.proofs.Uses.{found_once}
 use Rattle.classify.specs.Lifetimes.{longest, received}
 use Rattle.classify.proofs.Shortened.{received_same}
 use Rattle.cache.specs.Keys.{Kind, NameError, Key, key_for}
-use Rattle.cache.specs.Cached.{Hit, after_keep, IsKept, Answers, IsHeld}
+use Rattle.cache.specs.Cached.{Hit, Asked, after_keep, IsKept, Answers, IsHeld}
 use Rattle.cache.proofs.Members.{kept_members}
 use Rattle.truth.specs.Worlds.{World, IsWorld}
 use Rattle.truth.specs.Truths.{IsTrueLink}
 use Rattle.truth.specs.Replies.{Once}
 use Rattle.truth.specs.Frames.{AreHeld}
+use Rattle.truth.specs.Beneath.{MayDeny}
+use Rattle.truth.proofs.Beneath.{error_beneath}
 use Rattle.truth.proofs.Entries.{error_for_all, alias_for_all, found_as_alias, alias_as_found}
 use Rattle.truth.proofs.Sames.{same_back, same_on}
 use Rattle.truth.proofs.Grown.{local_is_true}
 use Rattle.truth.proofs.Stays.{same_is_true, held_once}
 use Rattle.cache.specs.Cached.{retimed}
-use Rattle.resolution.specs.Jobs.{Source, Local, Cached, Accepted, sent_from}
+use Rattle.resolution.specs.Jobs.{Source, Cached, Accepted, sent_from}
+use Rattle.resolution.specs.Jobs as taken
 
 abbrev pub IsOnce : Link → Type 0
 IsOnce (Found set) = Once set
@@ -101,7 +104,7 @@ retimed_good : (W : World) (n : Name) (t ttl : ℕ) (l : Link) → IsGood W n t 
 retimed_good W n t ttl l h = record { is = same_is_true W n t (retimed ttl l) l (retimed_same ttl l) h.is; once = retimed_once ttl l h.once }
 
 pub sent_good : (W : World) (n : Name) (t now : ℕ) (o : Source) (l : Link) → IsGood W n t l → IsGood W n t (sent_from now o l)
-sent_good W n t now Local l h = h
+sent_good W n t now taken.Local l h = h
 sent_good W n t now (Cached ttl since) l h = retimed_good W n t _ l h
 sent_good W n t now (Accepted ttl since) l h = retimed_good W n t _ l h
 
@@ -160,33 +163,45 @@ some_is e = cc
 at_question : (W : World) (n q : Name) (u t : ℕ) (l : Link) → n ≡ q → u ≡ t → IsGood W n u l → IsGood W q t l
 at_question W n q u t l same kind h = subst (λ (x : Name). IsGood W x t l) same (subst (λ (v : ℕ). IsGood W n v l) kind h)
 
-module _ (W : World) (w : IsWorld W) (q : Name) (t : ℕ) (k : Key) (given : Link) where
-  answers_true : (e : Link) → IsTrueEntry W k e → Answers q t k e given → IsGood W q t given
+-- Each of these names above the question's may deny it.
+abbrev pub Count : Asked → Local → Type 0
+Count a said = (p : Name) → Contains a.above p → MayDeny said p × IsAtOrUnder a.name p
+
+module _ (W : World) (w : IsWorld W) (zs : List Zone) (held : AreHeld W zs) (a : Asked) (said : Local) (looked : IsLooked zs a.name a.kind said) (count : Count a said) (k : Key) (given : Link) where
+  answers_true : (e : Link) → IsTrueEntry W k e → Answers a k e given → IsGood W a.name a.kind given
   answers_true (Found rs) (n, u, key, good) (inl (at, is)) = kind_not_error u (slot_of (sym key ∙ at))
   answers_true (Found rs) (n, u, key, good) (inr (inl (at, is))) =
-      subst (IsGood W q t) (sym is) (at_question W n q u t (Found rs) (name_of (sym key ∙ at)) (one_kind u t (slot_of (sym key ∙ at))) good)
-  answers_true (Found []) (n, u, key, good) (inr (inr (at, other, is))) = none_not_some given is
-  answers_true (Found (r ∷ rs)) (n, u, key, good) (inr (inr (at, other, is))) =
-      let here : IsGood W q cname_type (Found (r ∷ rs)) = at_question W n q u cname_type (Found (r ∷ rs)) (name_of (sym key ∙ at)) (one_kind u cname_type (slot_of (sym key ∙ at))) good in
-      subst (IsGood W q t) (some_is is) (record { is = found_as_alias W q t (r ∷ rs) r w here.is (first_in r rs) other; once = tt })
+      subst (IsGood W a.name a.kind) (sym is) (at_question W n a.name u a.kind (Found rs) (name_of (sym key ∙ at)) (one_kind u a.kind (slot_of (sym key ∙ at))) good)
+  answers_true (Found []) (n, u, key, good) (inr (inr (inl (at, other, is)))) = none_not_some given is
+  answers_true (Found (r ∷ rs)) (n, u, key, good) (inr (inr (inl (at, other, is)))) =
+      let here : IsGood W a.name cname_type (Found (r ∷ rs)) = at_question W n a.name u cname_type (Found (r ∷ rs)) (name_of (sym key ∙ at)) (one_kind u cname_type (slot_of (sym key ∙ at))) good in
+      subst (IsGood W a.name a.kind) (some_is is) (record { is = found_as_alias W a.name a.kind (r ∷ rs) r w here.is (first_in r rs) other; once = tt })
   answers_true (Alias r) (n, u, key, good) (inl (at, is)) = kind_not_error cname_type (slot_of (sym key ∙ at))
   answers_true (Alias r) (n, u, key, good) (inr (inl (at, is))) =
-      let asked : cname_type ≡ t = one_kind cname_type t (slot_of (sym key ∙ at)) in
-      let here : IsGood W q u (Alias r) = at_question W n q u u (Alias r) (name_of (sym key ∙ at)) refl good in
-      let set : IsTrueLink W q t (Found (r ∷ [])) = subst (λ (v : ℕ). IsTrueLink W q v (Found (r ∷ []))) asked (alias_as_found W q u r w here.is) in
-      subst (IsGood W q t) (sym is) (record { is = set; once = ((λ h. none_in h.0 h.1), tt) })
-  answers_true (Alias r) (n, u, key, good) (inr (inr (at, other, is))) =
-      let here : IsGood W q u (Alias r) = at_question W n q u u (Alias r) (name_of (sym key ∙ at)) refl good in
-      subst (IsGood W q t) (some_is is) (record { is = alias_for_all W q u t r w here.is other; once = tt })
+      let asked : cname_type ≡ a.kind = one_kind cname_type a.kind (slot_of (sym key ∙ at)) in
+      let here : IsGood W a.name u (Alias r) = at_question W n a.name u u (Alias r) (name_of (sym key ∙ at)) refl good in
+      let set : IsTrueLink W a.name a.kind (Found (r ∷ [])) = subst (λ (v : ℕ). IsTrueLink W a.name v (Found (r ∷ []))) asked (alias_as_found W a.name u r w here.is) in
+      subst (IsGood W a.name a.kind) (sym is) (record { is = set; once = ((λ h. none_in h.0 h.1), tt) })
+  answers_true (Alias r) (n, u, key, good) (inr (inr (inl (at, other, is)))) =
+      let here : IsGood W a.name u (Alias r) = at_question W n a.name u u (Alias r) (name_of (sym key ∙ at)) refl good in
+      subst (IsGood W a.name a.kind) (some_is is) (record { is = alias_for_all W a.name u a.kind r w here.is other; once = tt })
   answers_true (NoData r) (n, u, key, good) (inl (at, is)) = kind_not_error u (slot_of (sym key ∙ at))
   answers_true (NoData r) (n, u, key, good) (inr (inl (at, is))) =
-      subst (IsGood W q t) (sym is) (at_question W n q u t (NoData r) (name_of (sym key ∙ at)) (one_kind u t (slot_of (sym key ∙ at))) good)
-  answers_true (NoData r) (n, u, key, good) (inr (inr (at, other, is))) = none_not_some given is
+      subst (IsGood W a.name a.kind) (sym is) (at_question W n a.name u a.kind (NoData r) (name_of (sym key ∙ at)) (one_kind u a.kind (slot_of (sym key ∙ at))) good)
+  answers_true (NoData r) (n, u, key, good) (inr (inr (inl (at, other, is)))) = none_not_some given is
   answers_true (NxDomain r) (n, u, key, good) (inl (at, is)) =
-      let here : IsGood W q u (NxDomain r) = at_question W n q u u (NxDomain r) (name_of (sym key ∙ at)) refl good in
-      subst (IsGood W q t) (sym is) (record { is = error_for_all W q u t r here.is; once = tt })
-  answers_true (NxDomain r) (n, u, key, good) (inr (inl (at, is))) = error_not_kind t (slot_of (sym key ∙ at))
-  answers_true (NxDomain r) (n, u, key, good) (inr (inr (at, other, is))) = error_not_kind cname_type (slot_of (sym key ∙ at))
+      let here : IsGood W a.name u (NxDomain r) = at_question W n a.name u u (NxDomain r) (name_of (sym key ∙ at)) refl good in
+      subst (IsGood W a.name a.kind) (sym is) (record { is = error_for_all W a.name u a.kind r here.is; once = tt })
+  answers_true (NxDomain r) (n, u, key, good) (inr (inl (at, is))) = error_not_kind a.kind (slot_of (sym key ∙ at))
+  answers_true (NxDomain r) (n, u, key, good) (inr (inr (inl (at, other, is)))) = error_not_kind cname_type (slot_of (sym key ∙ at))
+  answers_true (Found rs) (n, u, key, good) (inr (inr (inr (p, there, at, is)))) = kind_not_error u (slot_of (sym key ∙ at))
+  answers_true (Alias r) (n, u, key, good) (inr (inr (inr (p, there, at, is)))) = kind_not_error cname_type (slot_of (sym key ∙ at))
+  answers_true (NoData r) (n, u, key, good) (inr (inr (inr (p, there, at, is)))) = kind_not_error u (slot_of (sym key ∙ at))
+  answers_true (NxDomain r) (n, u, key, good) (inr (inr (inr (p, there, at, is)))) =
+      let above : IsGood W p u (NxDomain r) = at_question W n p u u (NxDomain r) (name_of (sym key ∙ at)) refl good in
+      let (denies, under) = count p there in
+      subst (IsGood W a.name a.kind) (sym is) (record { is = error_beneath W zs p a.name u a.kind r said w held looked denies under above.is; once = tt })
 
-pub hit_good : (W : World) (q : Name) (t now : ℕ) (es : List (Key × Hit)) (h : Hit) → IsWorld W → AreTrueEntries W es → IsHeld q t now es h → IsGood W q t h.link
-hit_good W q t now es h w all (k, e, there, lives, answers, ttl, since) = answers_true W w q t k h.link e.link (all k e there) answers
+pub hit_good : (W : World) (zs : List Zone) (a : Asked) (said : Local) (now : ℕ) (es : List (Key × Hit)) (h : Hit) → IsWorld W → AreHeld W zs → IsLooked zs a.name a.kind said → Count a said
+    → AreTrueEntries W es → IsHeld a now es h → IsGood W a.name a.kind h.link
+hit_good W zs a said now es h w held looked count all (k, e, there, lives, answers, ttl, since) = answers_true W w zs held a said looked count k h.link e.link (all k e there) answers

@@ -1,11 +1,13 @@
 -- What is true of a query's work stays true: through what comes in, each rule, and what goes out.
 use Rattle.std.proofs.Common.{◌≡◌, ℕ, zero, suc, ◌+◌, ◌≤◌, List, [], ◌∷◌, ◌++◌, length, inl, inr, refl, sym, ◌∙◌, ap, subst, arith}
 use Rattle.std.specs.Prelude.{Contains}
-use Rattle.dname.specs.Labels.{Name}
+use Rattle.dname.specs.Labels.{Name, root}
 use Rattle.rdata.specs.Records.{Record}
 use Rattle.rdata.specs.declared.addr.Addr.{Addr}
 use Rattle.zone.specs.Zones.{a_type}
 use Rattle.zone.specs.Links.{Link, Alias}
+use Rattle.zone.specs.Look as local
+use Rattle.zone.proofs.LawLists.{none_in}
 use Rattle.layout.specs.Messages.{Message}
 use Rattle.wire.specs.declared.via.Via.{Via}
 use Rattle.front.specs.Chains.{target_of}
@@ -15,7 +17,8 @@ use Rattle.classify.specs.Lifetimes.{received}
 use Rattle.classify.proofs.Readings.{answer_read}
 use Rattle.referral.specs.Cuts.{Cut, Known}
 use Rattle.cache.specs.Keys.{Key}
-use Rattle.cache.specs.Cached.{Hit}
+use Rattle.cache.specs.Cached.{Hit, IsHeld}
+use Rattle.cache.proofs.Above.{above_is_between}
 use Rattle.cache.proofs.Members.{looked_members}
 use Rattle.frames.specs.Frames.{Frame, FailedName, opened, after_add, fresh_addresses}
 use Rattle.frames.proofs.Places.{name_member}
@@ -24,10 +27,10 @@ use Rattle.truth.specs.Serving.{MayServe}
 use Rattle.truth.specs.Frames.{MayAsk}
 use Rattle.truth.proofs.Honest.{honest_answer}
 use Rattle.resolution.specs.Jobs.{Home, Stores, level_of, with_answer, Taken, IsEnding, bytes_of, Search, with_frame, given, Job, Input, Start, Told, TimedOut, TcpFailed, Next, Ask, AskTcp, Done, Fail, Task, Seek, Take, Go, Again, Point, hit_from}
-use Rattle.resolution.specs.Rules.{Hits, Finds, Misses, HearsOf, turned, Rule, takes, asks, follows, restarts, hears, descends, gives_up, Rules, ByClass, Enters, Leaves, sends, sends_again, refuses, spent, nowhere, too_long, done, Advances, IsTakenEntry, IsTakenCut, Stops}
+use Rattle.resolution.specs.Rules.{Says, IsRemote, asked_by, asked_of, Hits, Finds, Misses, HearsOf, turned, Rule, takes, asks, follows, restarts, hears, descends, gives_up, Rules, ByClass, Enters, Leaves, sends, sends_again, refuses, spent, nowhere, too_long, done, Advances, IsTakenEntry, IsTakenCut, Stops}
 use Rattle.laws.specs.Headline.{IsHomeIn}
 use Rattle.laws.proofs.RightLists.{longer}
-use Rattle.laws.proofs.RightEntries.{class_once, IsGood, received_good, local_good, IsTrueEntry, AreTrueEntries, kept_true, new_true, hit_good}
+use Rattle.laws.proofs.RightEntries.{class_once, IsGood, received_good, local_good, IsTrueEntry, AreTrueEntries, Count, kept_true, new_true, hit_good}
 use Rattle.laws.proofs.Servers.{AreTrueCuts, IsTrueCut, IsTrueFrame, opened_true, misses_true, referral_cut, referral_begins, cut_kept_true, new_cut, cuts_used_true, added_true, asks_true}
 
 -- ---- what is true
@@ -153,6 +156,12 @@ point_true W q t p task job at is j stores h = record {
   task = subst (λ (x : Job × Task). IsTrueTask W t x.0 x.1) (λ i. (sym is i, sym at i)) h;
 }
 
+-- Each name above that is tried may deny the question.
+may_count : (n : Name) (t : ℕ) (what : local.Local) → Count (asked_by what n t) what
+may_count n t (local.Linked l) p there = absurd (none_in p there)
+may_count n t (local.Cut c ns glue) p there = let (low, over) = (above_is_between c n p).0 there in (over, low.0)
+may_count n t local.NotHere p there = let (low, over) = (above_is_between root n p).0 there in (tt, low.0)
+
 module _ (W : World) (w : IsWorld W) (home : Home) (ours : IsHomeIn W home) (now : ℕ) where
   finds_true : (n : Name) (t : ℕ) (old : Stores) (l : Taken) (new : Stores) → AreTrue W old → Finds home now n t old l new → (l.name ≡ n) × IsGood W n t l.link × AreTrue W new
   finds_true n t old l new all h = elim h.is as (λ x. (l.name ≡ n) × IsGood W n t l.link × AreTrue W new) [
@@ -160,11 +169,19 @@ module _ (W : World) (w : IsWorld W) (home : Home) (ours : IsHomeIn W home) (now
     | inr x ↦ hit x.0 x.1
   ]
     where
+      by_said : (e : Hit) (what : local.Local) → Says home n t what → IsHeld (asked_of home n t) now old.cache e → IsGood W n t e.link
+      by_said e what says held =
+          hit_good W home.zones (asked_of home n t) what now old.cache e w ours.held says.1 (subst (λ (x : local.Local). Count (asked_by x n t) what) (sym says.0) (may_count n t what)) all.cache held
+
+      good : (e : Hit) → IsHeld (asked_of home n t) now old.cache e → IsRemote home n t → IsGood W n t e.link
+      good e held (inl (c, ns, glue, says)) = by_said e (local.Cut c ns glue) says held
+      good e held (inr says) = by_said e local.NotHere says held
+
       hit : (e : Hit) → Hits home now n t old l e new → (l.name ≡ n) × IsGood W n t l.link × AreTrue W new
       hit e h = (
         ap (λ (y : Taken). y.name) h.link,
-        subst (λ (y : Taken). IsGood W n t y.link) (sym h.link) (hit_good W n t now old.cache e w all.cache h.held),
-        subst (AreTrue W) (sym h.stores) (record { cache = λ k x m. all.cache k x ((looked_members n t now old.cache).0 (k, x) m); cuts = all.cuts }),
+        subst (λ (y : Taken). IsGood W n t y.link) (sym h.link) (good e h.held h.remote),
+        subst (AreTrue W) (sym h.stores) (record { cache = λ k x m. all.cache k x ((looked_members (asked_of home n t) now old.cache).0 (k, x) m); cuts = all.cuts }),
       )
 
   missed_true : (n : Name) (t : ℕ) (old : Stores) (c : Cut) (new : Stores) → AreTrue W old → Misses home now n t old c new → AreTrue W new

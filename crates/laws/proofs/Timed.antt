@@ -10,9 +10,9 @@ use Rattle.classify.specs.Lifetimes.{received, lifetime_of}
 use Rattle.classify.proofs.Uses.{no_alias_class}
 use Rattle.referral.specs.Cuts.{Cut}
 use Rattle.cache.specs.Keys.{Key, key_for}
-use Rattle.cache.specs.Cached.{Hit, Answers}
+use Rattle.cache.specs.Cached.{Hit, Asked, as_set, Answers}
 use Rattle.resolution.specs.Jobs.{Home, Stores, Source, Local, Cached, Accepted, Taken, Job, Task, Seek, Take, Go, Again, Point}
-use Rattle.resolution.specs.Rules.{Says, IsRemote, Finds, Begins, Misses, Rule, takes, asks, follows, restarts, hears, descends, gives_up, Rules}
+use Rattle.resolution.specs.Rules.{Says, IsRemote, asked_of, Finds, Begins, Misses, Rule, takes, asks, follows, restarts, hears, descends, gives_up, Rules}
 use Rattle.runs.specs.States.{Turn, via_of}
 use Rattle.runs.specs.Runs.{Earlier}
 use Rattle.laws.specs.Timely.{Learns}
@@ -33,16 +33,17 @@ local_plain home n r says = by says.1
     by (inl (z, charge, is)) = let (s, source, (none, (owner, at))) = is.says in none (record r { owner = s }) at
     by (inr (none, e)) = cc
 
-answers_plain : (n : Name) (k : Key) (l : Link) (r : Record) → Answers n cname_type k l (Alias r) → ⊥
-answers_plain n k (Found rs) r (inl h) = let s = h.1 in cc
-answers_plain n k (Alias q) r (inl h) = let s = h.1 in cc
-answers_plain n k (NoData soa) r (inl h) = let s = h.1 in cc
-answers_plain n k (NxDomain soa) r (inl h) = let s = h.1 in cc
-answers_plain n k (Found rs) r (inr (inl h)) = let s = h.1 in cc
-answers_plain n k (Alias q) r (inr (inl h)) = let s = h.1 in cc
-answers_plain n k (NoData soa) r (inr (inl h)) = let s = h.1 in cc
-answers_plain n k (NxDomain soa) r (inr (inl h)) = let s = h.1 in cc
-answers_plain n k l r (inr (inr h)) = h.1 refl
+no_set : (l : Link) (r : Record) → Alias r ≡ as_set l → ⊥
+no_set (Found rs) r e = cc
+no_set (Alias q) r e = cc
+no_set (NoData soa) r e = cc
+no_set (NxDomain soa) r e = cc
+
+answers_plain : (a : Asked) (k : Key) (l : Link) (r : Record) → a.kind ≡ cname_type → Answers a k l (Alias r) → ⊥
+answers_plain a k l r c (inl h) = no_set l r h.1
+answers_plain a k l r c (inr (inl h)) = no_set l r h.1
+answers_plain a k l r c (inr (inr (inl h))) = h.1 c
+answers_plain a k l r c (inr (inr (inr (p, there, key, is)))) = no_set l r is
 
 said_plain : (port by : ℕ) (n : Name) (said : Link) (since : ℕ) (r : Record) (turn : Turn) (past : List Turn) → received said ≡ Alias r → Learns port by n cname_type said since turn past → ⊥
 said_plain port by n (Found rs) since r turn past e h = cc
@@ -62,7 +63,7 @@ module _ (port : ℕ) (home : Home) (run : List Turn) where
   pub timed_found : (now : ℕ) (n : Name) (t : ℕ) (old new : Stores) (l : Taken) → AreTimed old → Finds home now n t old l new → AreTimed new
   timed_found now n t old new l timed finds = elim finds.is [
     | inl (k, says, link, same) ↦ subst AreTimed (sym same) timed
-    | inr (hit, hits) ↦ subst AreTimed (sym hits.stores) (λ k e c. timed k e (looked_from n t now old.cache (k, e) c))
+    | inr (hit, hits) ↦ subst AreTimed (sym hits.stores) (λ k e c. timed k e (looked_from (asked_of home n t) now old.cache (k, e) c))
   ]
 
   pub timed_missed : (now : ℕ) (n : Name) (t : ℕ) (old new : Stores) (c : Cut) → AreTimed old → Misses home now n t old c new → AreTimed new
@@ -81,7 +82,8 @@ module _ (port : ℕ) (home : Home) (run : List Turn) (k t : ℕ) (Mine : Type 0
   abbrev pub IsKnownAs : Name → Source → Link → Type 0
   IsKnownAs n Local l = Says home n t (local.Linked l)
   IsKnownAs n (Cached ttl since) l =
-      IsRemote home n t × ((by : ℕ) × (u : ℕ) × (said : Link) × Earlier (Learns port by n u said since) run × Answers n t (key_for n u (received said)) (received said) l × (ttl ≡ lifetime_of (received said)))
+      IsRemote home n t × ((by : ℕ) × (m : Name) × (u : ℕ) × (said : Link) × Earlier (Learns port by m u said since) run × Answers (asked_of home n t) (key_for m u (received said)) (received said) l
+      × (ttl ≡ lifetime_of (received said)))
   IsKnownAs n (Accepted ttl since) l = IsRemote home n t × Mine × ((said : Link) × Earlier (Learns port k n t said since) run × (l ≡ received said) × (ttl ≡ lifetime_of (received said)))
 
   abbrev pub IsKnown : Taken → Type 0
@@ -105,20 +107,21 @@ module _ (port : ℕ) (home : Home) (run : List Turn) (k t : ℕ) (Mine : Type 0
   pub found_known : (now : ℕ) (n : Name) (u : ℕ) (old new : Stores) (l : Taken) → u ≡ t → AreTimed port home run old → Finds home now n u old l new → IsKnown l
   found_known now n u old new l same timed finds = elim finds.is [
     | inl (link, says, is, stores) ↦ subst IsKnown (sym is) (subst (λ (v : ℕ). Says home n v (local.Linked link)) same says)
-    | inr (hit, hits) ↦ subst IsKnown (sym hits.link) (by_hit hit (subst (IsRemote home n) same hits.remote) (subst (λ (v : ℕ). Tells (IsLearnt port home run) n v now hit) same
-        (hit_tells (IsLearnt port home run) n u now old.cache hit timed hits.found)))
+    | inr (hit, hits) ↦ subst IsKnown (sym hits.link) (by_hit hit (subst (IsRemote home n) same hits.remote) (subst (λ (v : ℕ). Tells (IsLearnt port home run) (asked_of home n v) now hit) same
+        (hit_tells (IsLearnt port home run) (asked_of home n u) now old.cache hit timed hits.found)))
   ]
     where
-      by_hit : (hit : Hit) → IsRemote home n t → Tells (IsLearnt port home run) n t now hit → IsKnownAs n (Cached hit.ttl hit.since) hit.link
+      by_hit : (hit : Hit) → IsRemote home n t → Tells (IsLearnt port home run) (asked_of home n t) now hit → IsKnownAs n (Cached hit.ttl hit.since) hit.link
       by_hit hit remote tells =
           let (by, said, learnt, link, ttl) = tells.kept in (
             remote,
             (
               by,
+              tells.at,
               tells.kind,
               said,
-              subst (λ (m : ℕ). Earlier (Learns port by n tells.kind said m) run) (sym tells.since) learnt,
-              subst (λ (x : Link). Answers n t (key_for n tells.kind x) x hit.link) link tells.answers,
+              subst (λ (m : ℕ). Earlier (Learns port by tells.at tells.kind said m) run) (sym tells.since) learnt,
+              subst (λ (x : Link). Answers (asked_of home n t) (key_for tells.at tells.kind x) x hit.link) link tells.answers,
               tells.ttl ∙ ttl,
             ),
           )
@@ -126,9 +129,8 @@ module _ (port : ℕ) (home : Home) (run : List Turn) (k t : ℕ) (Mine : Type 0
   -- Where CNAME is asked for, no link is an alias.
   pub known_plain : (n : Name) (o : Source) (l : Link) (r : Record) → t ≡ cname_type → l ≡ Alias r → IsKnownAs n o l → ⊥
   known_plain n Local l r c e h = local_plain home n r (subst (λ (u : ℕ). Says home n u (local.Linked (Alias r))) c (subst (λ (x : Link). Says home n t (local.Linked x)) e h))
-  known_plain n (Cached ttl since) l r c e (remote, (by, u, said, learnt, answers, life)) =
-      answers_plain n (key_for n u (received said)) (received said) r (subst (λ (v : ℕ). Answers n v (key_for n u (received said)) (received said) (Alias r)) c
-      (subst (λ (x : Link). Answers n t (key_for n u (received said)) (received said) x) e answers))
+  known_plain n (Cached ttl since) l r c e (remote, (by, m, u, said, learnt, answers, life)) =
+      answers_plain (asked_of home n t) (key_for m u (received said)) (received said) r c (subst (λ (x : Link). Answers (asked_of home n t) (key_for m u (received said)) (received said) x) e answers)
   known_plain n (Accepted ttl since) l r c e (remote, mine, (said, learnt, is, life)) =
       earlier_tells (Learns port k n cname_type said since) run (λ turn past h. said_plain port k n said since r turn past (sym is ∙ e) h)
       (subst (λ (u : ℕ). Earlier (Learns port k n u said since) run) c learnt)
@@ -214,7 +216,7 @@ module _ (port : ℕ) (home : Home) (turn : Turn) (past : List Turn) where
   module _ (k t : ℕ) (Old New : Type 0) (f : Old → New) where
     known_as_later : (n : Name) (o : Source) (l : Link) → IsKnownAs port home past k t Old n o l → IsKnownAs port home (turn ∷ past) k t New n o l
     known_as_later n Local l h = h
-    known_as_later n (Cached ttl since) l (remote, (by, u, said, learnt, answers, life)) = (remote, (by, u, said, inr learnt, answers, life))
+    known_as_later n (Cached ttl since) l (remote, (by, m, u, said, learnt, answers, life)) = (remote, (by, m, u, said, inr learnt, answers, life))
     known_as_later n (Accepted ttl since) l (remote, mine, (said, learnt, is, life)) = (remote, f mine, (said, inr learnt, is, life))
 
     pub known_later : (ls : List Taken) → AreKnown port home past k t Old ls → AreKnown port home (turn ∷ past) k t New ls

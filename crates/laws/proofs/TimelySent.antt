@@ -47,10 +47,11 @@ module _ (port : ℕ) (home : Home) (turn : Turn) (past : List Turn) (k t now : 
 
   timely_as : (n : Name) (o : Source) (l : Link) → has_ended now o ≡ false → IsKnownAs port home (turn ∷ past) k t Mine n o l → IsTimelyLink port home turn past n t (sent_from now o l)
   timely_as n Local l fresh h = inl h
-  timely_as n (Cached ttl since) l fresh (remote, (by, u, said, learnt, answers, life)) = inr (
+  timely_as n (Cached ttl since) l fresh (remote, (by, m, u, said, learnt, answers, life)) = inr (
     remote,
     record {
       by = by;
+      at = m;
       kind = u;
       said = said;
       since = since;
@@ -65,12 +66,13 @@ module _ (port : ℕ) (home : Home) (turn : Turn) (past : List Turn) (k t now : 
     remote,
     record {
       by = k;
+      at = n;
       kind = t;
       said = said;
       since = since;
       learnt = learnt;
       given = l;
-      fits = inl (refl, is);
+      fits = inl (refl, refl, is);
       is = left_of ttl (lifetime_of (received said)) since l life;
       in_time = inr (mine own);
     },

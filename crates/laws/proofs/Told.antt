@@ -1,19 +1,20 @@
 -- What stands in the stores was once accepted, and what the zones at hand and the stores tell of a name.
-use Rattle.std.proofs.Common.{◌≡◌, ℕ, ◌≤◌, ◌⊎◌, inl, inr, Some, List, [], ◌∷◌, Contains, sym, ap, ◌∙◌, subst, arith}
+use Rattle.std.proofs.Common.{◌≡◌, ℕ, ◌≤◌, ◌⊎◌, inl, inr, Some, List, [], ◌∷◌, Contains, refl, sym, ap, ◌∙◌, subst, arith}
 use Rattle.dname.specs.Labels.{Name}
 use Rattle.rdata.specs.Records.{Record}
 use Rattle.rdata.specs.declared.addr.Addr.{Addr}
 use Rattle.zone.specs.Zones.{a_type, cname_type}
 use Rattle.zone.specs.Links.{Link, Found, Alias, NoData, NxDomain}
 use Rattle.zone.specs.Look as local
+use Rattle.authority.specs.Catalogs.{looked}
 use Rattle.retry.specs.Penalties.{AreAtMost, same_addr}
 use Rattle.retry.proofs.Steps.{looked_most}
 use Rattle.referral.specs.Cuts.{Cut, Known}
 use Rattle.frames.specs.Trimmed.{trimmed}
 use Rattle.cache.specs.Keys.{Key, Kind, NameError, key_for}
-use Rattle.cache.specs.Cached.{Hit, Answers}
+use Rattle.cache.specs.Cached.{Hit, Asked, Answers}
 use Rattle.resolution.specs.Jobs.{Home, Stores, level_of, Taken, IsCutOf}
-use Rattle.resolution.specs.Rules.{Says, Hits, Finds, Misses}
+use Rattle.resolution.specs.Rules.{Says, asked_of, above_by, Hits, Finds, Misses}
 use Rattle.runs.specs.States.{Turn}
 use Rattle.runs.specs.Runs.{Earlier}
 use Rattle.laws.specs.Spent.{Takes, IsFound, TellsOfNone, IsNotFound, HasNoAddress, IsAliasOf, IsStart}
@@ -24,50 +25,82 @@ use Rattle.laws.proofs.TimelyStores.{AreKept, Tells, hit_tells, looked_from, bes
 apart_types : cname_type ≡ a_type → ⊥
 apart_types e = omega (arith, e)
 
-answers_set : (n : Name) (u : ℕ) (l : Link) (set : List Record) → Answers n a_type (key_for n u l) l (Found set) → (u ≡ a_type) × (l ≡ Found set)
-answers_set n u (Found rs) set (inl h) = let s : Kind u ≡ NameError = ap (λ (k : Key). k.slot) h.0 in absurd (cc)
-answers_set n u (Found rs) set (inr (inl h)) = let s : Kind u ≡ Kind a_type = ap (λ (k : Key). k.slot) h.0 in (cc, sym h.1)
-answers_set n u (Found []) set (inr (inr h)) = let s = h.2 in absurd (cc)
-answers_set n u (Found (r ∷ rs)) set (inr (inr h)) = let s = h.2 in absurd (cc)
-answers_set n u (Alias r) set (inl h) = let s : Kind cname_type ≡ NameError = ap (λ (k : Key). k.slot) h.0 in absurd (cc)
-answers_set n u (Alias r) set (inr (inl h)) = let s : Kind cname_type ≡ Kind a_type = ap (λ (k : Key). k.slot) h.0 in absurd (apart_types (cc))
-answers_set n u (Alias r) set (inr (inr h)) = let s = h.2 in absurd (cc)
-answers_set n u (NoData soa) set (inl h) = let s = h.1 in absurd (cc)
-answers_set n u (NoData soa) set (inr (inl h)) = let s = h.1 in absurd (cc)
-answers_set n u (NoData soa) set (inr (inr h)) = let s = h.2 in absurd (cc)
-answers_set n u (NxDomain soa) set (inl h) = let s = h.1 in absurd (cc)
-answers_set n u (NxDomain soa) set (inr (inl h)) = let s = h.1 in absurd (cc)
-answers_set n u (NxDomain soa) set (inr (inr h)) = let s = h.2 in absurd (cc)
+name_of : {a b : Key} → a ≡ b → a.name ≡ b.name
+name_of e = ap (λ (k : Key). k.name) e
 
-answers_none : (n : Name) (u : ℕ) (l given : Link) → Answers n a_type (key_for n u l) l given → IsNotFound given → TellsOfNone u l
-answers_none n u (Found rs) given (inl h) none = let s : Kind u ≡ NameError = ap (λ (k : Key). k.slot) h.0 in absurd (cc)
-answers_none n u (Found rs) given (inr (inl h)) none = absurd (none rs h.1)
-answers_none n u (Found rs) given (inr (inr h)) none = let s : Kind u ≡ Kind cname_type = ap (λ (k : Key). k.slot) h.0 in cc
-answers_none n u (Alias r) given h none = tt
-answers_none n u (NoData soa) given (inl h) none = let s : Kind u ≡ NameError = ap (λ (k : Key). k.slot) h.0 in absurd (cc)
-answers_none n u (NoData soa) given (inr (inl h)) none = let s : Kind u ≡ Kind a_type = ap (λ (k : Key). k.slot) h.0 in cc
-answers_none n u (NoData soa) given (inr (inr h)) none = let s = h.2 in absurd (cc)
-answers_none n u (NxDomain soa) given h none = tt
+slot_of : {a b : Key} → a ≡ b → a.slot ≡ b.slot
+slot_of e = ap (λ (k : Key). k.slot) e
 
-answers_alias : (n : Name) (t u : ℕ) (l : Link) (r : Record) → Answers n t (key_for n u l) l (Alias r)
-    → (l ≡ Alias r) ⊎ ((u ≡ cname_type) × ((rs : List Record) × (l ≡ Found (r ∷ rs))))
-answers_alias n t u (Found rs) r (inl h) = let s = h.1 in absurd (cc)
-answers_alias n t u (Found rs) r (inr (inl h)) = let s = h.1 in absurd (cc)
-answers_alias n t u (Found []) r (inr (inr h)) = let s = h.2 in absurd (cc)
-answers_alias n t u (Found (q ∷ rs)) r (inr (inr h)) =
-    let s : Kind u ≡ Kind cname_type = ap (λ (k : Key). k.slot) h.0 in
-    let e : Some (Alias q) ≡ Some (Alias r) = h.2 in
-    let same : q ≡ r = cc in
-    inr (cc, (rs, ap (λ (x : Record). Found (x ∷ rs)) same))
-answers_alias n t u (Alias q) r (inl h) = let s = h.1 in absurd (cc)
-answers_alias n t u (Alias q) r (inr (inl h)) = let s = h.1 in absurd (cc)
-answers_alias n t u (Alias q) r (inr (inr h)) = let e : Some (Alias q) ≡ Some (Alias r) = h.2 in inl (cc)
-answers_alias n t u (NoData soa) r (inl h) = let s = h.1 in absurd (cc)
-answers_alias n t u (NoData soa) r (inr (inl h)) = let s = h.1 in absurd (cc)
-answers_alias n t u (NoData soa) r (inr (inr h)) = let s = h.2 in absurd (cc)
-answers_alias n t u (NxDomain soa) r (inl h) = let s = h.1 in absurd (cc)
-answers_alias n t u (NxDomain soa) r (inr (inl h)) = let s = h.1 in absurd (cc)
-answers_alias n t u (NxDomain soa) r (inr (inr h)) = let s = h.2 in absurd (cc)
+kind_not_error : {P : Type 0} (a : ℕ) → Kind a ≡ NameError → P
+kind_not_error a e = cc
+
+-- A question, where these names above it count.
+abbrev asking : Name → ℕ → List Name → Asked
+asking n t above = record { name = n; kind = t; above = above }
+
+module _ (n : Name) (above : List Name) (m : Name) (u : ℕ) where
+  answers_set : (l : Link) (set : List Record) → Answers (asking n a_type above) (key_for m u l) l (Found set) → (m ≡ n) × (u ≡ a_type) × (l ≡ Found set)
+  answers_set (Found rs) set (inl h) = kind_not_error u (slot_of h.0)
+  answers_set (Found rs) set (inr (inl h)) = let s : Kind u ≡ Kind a_type = slot_of h.0 in (name_of h.0, cc, sym h.1)
+  answers_set (Found []) set (inr (inr (inl h))) = let s = h.2 in absurd (cc)
+  answers_set (Found (r ∷ rs)) set (inr (inr (inl h))) = let s = h.2 in absurd (cc)
+  answers_set (Found rs) set (inr (inr (inr (p, there, key, is)))) = kind_not_error u (slot_of key)
+  answers_set (Alias r) set (inl h) = kind_not_error cname_type (slot_of h.0)
+  answers_set (Alias r) set (inr (inl h)) = let s : Kind cname_type ≡ Kind a_type = slot_of h.0 in absurd (apart_types (cc))
+  answers_set (Alias r) set (inr (inr (inl h))) = let s = h.2 in absurd (cc)
+  answers_set (Alias r) set (inr (inr (inr (p, there, key, is)))) = kind_not_error cname_type (slot_of key)
+  answers_set (NoData soa) set (inl h) = let s = h.1 in absurd (cc)
+  answers_set (NoData soa) set (inr (inl h)) = let s = h.1 in absurd (cc)
+  answers_set (NoData soa) set (inr (inr (inl h))) = let s = h.2 in absurd (cc)
+  answers_set (NoData soa) set (inr (inr (inr (p, there, key, is)))) = absurd (cc)
+  answers_set (NxDomain soa) set (inl h) = let s = h.1 in absurd (cc)
+  answers_set (NxDomain soa) set (inr (inl h)) = let s = h.1 in absurd (cc)
+  answers_set (NxDomain soa) set (inr (inr (inl h))) = let s = h.2 in absurd (cc)
+  answers_set (NxDomain soa) set (inr (inr (inr (p, there, key, is)))) = absurd (cc)
+
+  -- What answers and is no set tells that the name has no address, or is the error of a name above.
+  answers_none : (l given : Link) → Answers (asking n a_type above) (key_for m u l) l given → IsNotFound given
+      → ((m ≡ n) × TellsOfNone u l) ⊎ (Contains above m × ((soa : Record) × (l ≡ NxDomain soa)))
+  answers_none (Found rs) given (inl h) none = kind_not_error u (slot_of h.0)
+  answers_none (Found rs) given (inr (inl h)) none = absurd (none rs h.1)
+  answers_none (Found rs) given (inr (inr (inl h))) none = let s : Kind u ≡ Kind cname_type = slot_of h.0 in inl (name_of h.0, cc)
+  answers_none (Found rs) given (inr (inr (inr (p, there, key, is)))) none = kind_not_error u (slot_of key)
+  answers_none (Alias r) given (inl h) none = inl (name_of h.0, tt)
+  answers_none (Alias r) given (inr (inl h)) none = inl (name_of h.0, tt)
+  answers_none (Alias r) given (inr (inr (inl h))) none = inl (name_of h.0, tt)
+  answers_none (Alias r) given (inr (inr (inr (p, there, key, is)))) none = kind_not_error cname_type (slot_of key)
+  answers_none (NoData soa) given (inl h) none = kind_not_error u (slot_of h.0)
+  answers_none (NoData soa) given (inr (inl h)) none = let s : Kind u ≡ Kind a_type = slot_of h.0 in inl (name_of h.0, cc)
+  answers_none (NoData soa) given (inr (inr (inl h))) none = let s = h.2 in absurd (cc)
+  answers_none (NoData soa) given (inr (inr (inr (p, there, key, is)))) none = kind_not_error u (slot_of key)
+  answers_none (NxDomain soa) given (inl h) none = inl (name_of h.0, tt)
+  answers_none (NxDomain soa) given (inr (inl h)) none = inl (name_of h.0, tt)
+  answers_none (NxDomain soa) given (inr (inr (inl h))) none = inl (name_of h.0, tt)
+  answers_none (NxDomain soa) given (inr (inr (inr (p, there, key, is)))) none = inr (subst (Contains above) (sym (name_of key)) there, (soa, refl))
+
+  answers_alias : (t : ℕ) (l : Link) (r : Record) → Answers (asking n t above) (key_for m u l) l (Alias r)
+      → (m ≡ n) × ((l ≡ Alias r) ⊎ ((u ≡ cname_type) × ((rs : List Record) × (l ≡ Found (r ∷ rs)))))
+  answers_alias t (Found rs) r (inl h) = let s = h.1 in absurd (cc)
+  answers_alias t (Found rs) r (inr (inl h)) = let s = h.1 in absurd (cc)
+  answers_alias t (Found []) r (inr (inr (inl h))) = let s = h.2 in absurd (cc)
+  answers_alias t (Found (q ∷ rs)) r (inr (inr (inl h))) =
+      let s : Kind u ≡ Kind cname_type = slot_of h.0 in
+      let e : Some (Alias q) ≡ Some (Alias r) = h.2 in
+      let same : q ≡ r = cc in
+      (name_of h.0, inr (cc, (rs, ap (λ (x : Record). Found (x ∷ rs)) same)))
+  answers_alias t (Found rs) r (inr (inr (inr (p, there, key, is)))) = absurd (cc)
+  answers_alias t (Alias q) r (inl h) = let s = h.1 in absurd (cc)
+  answers_alias t (Alias q) r (inr (inl h)) = let s = h.1 in absurd (cc)
+  answers_alias t (Alias q) r (inr (inr (inl h))) = let e : Some (Alias q) ≡ Some (Alias r) = h.2 in (name_of h.0, inl (cc))
+  answers_alias t (Alias q) r (inr (inr (inr (p, there, key, is)))) = absurd (cc)
+  answers_alias t (NoData soa) r (inl h) = let s = h.1 in absurd (cc)
+  answers_alias t (NoData soa) r (inr (inl h)) = let s = h.1 in absurd (cc)
+  answers_alias t (NoData soa) r (inr (inr (inl h))) = let s = h.2 in absurd (cc)
+  answers_alias t (NoData soa) r (inr (inr (inr (p, there, key, is)))) = absurd (cc)
+  answers_alias t (NxDomain soa) r (inl h) = let s = h.1 in absurd (cc)
+  answers_alias t (NxDomain soa) r (inr (inl h)) = let s = h.1 in absurd (cc)
+  answers_alias t (NxDomain soa) r (inr (inr (inl h))) = let s = h.2 in absurd (cc)
+  answers_alias t (NxDomain soa) r (inr (inr (inr (p, there, key, is)))) = absurd (cc)
 
 module _ (port : ℕ) (home : Home) (run : List Turn) where
   -- Of a start that was kept what a frame can use is kept.
@@ -88,12 +121,12 @@ module _ (port : ℕ) (home : Home) (run : List Turn) where
   pub found_told : (now : ℕ) (n : Name) (t : ℕ) (old new : Stores) (l : Taken) → AreTold old → Finds home now n t old l new → AreTold new
   found_told now n t old new l told finds = elim finds.is [
     | inl (k, says, link, same) ↦ subst AreTold (sym same) told
-    | inr (hit, hits) ↦ subst AreTold (sym hits.stores) (record { links = λ k e c. told.links k e (looked_from n t now old.cache (k, e) c); cuts = told.cuts; low = told.low })
+    | inr (hit, hits) ↦ subst AreTold (sym hits.stores) (record { links = λ k e c. told.links k e (looked_from (asked_of home n t) now old.cache (k, e) c); cuts = told.cuts; low = told.low })
   ]
 
   told_hit : (now : ℕ) (n : Name) (t : ℕ) (old new : Stores) (l : Taken) (hit : Hit) → AreTold old → Hits home now n t old l hit new
-      → Tells (λ m u e. Earlier (Takes port m u e.link) run) n t now hit
-  told_hit now n t old new l hit told hits = hit_tells (λ m u e. Earlier (Takes port m u e.link) run) n t now old.cache hit told.links hits.found
+      → Tells (λ m u e. Earlier (Takes port m u e.link) run) (asked_of home n t) now hit
+  told_hit now n t old new l hit told hits = hit_tells (λ m u e. Earlier (Takes port m u e.link) run) (asked_of home n t) now old.cache hit told.links hits.found
 
   pub found_set : (now : ℕ) (n : Name) (old new : Stores) (l : Taken) (set : List Record) → AreTold old → Finds home now n a_type old l new → l.link ≡ Found set → IsFound port home run n set
   found_set now n old new l set told finds is = elim finds.is [
@@ -101,10 +134,12 @@ module _ (port : ℕ) (home : Home) (run : List Turn) where
     | inr (hit, hits) ↦ inr (by_hit (told_hit now n a_type old new l hit told hits) (sym (ap (λ (x : Taken). x.link) hits.link) ∙ is))
   ]
     where
-      by_hit : {hit : Hit} → Tells (λ m u e. Earlier (Takes port m u e.link) run) n a_type now hit → hit.link ≡ Found set → Earlier (Takes port n a_type (Found set)) run
+      by_hit : {hit : Hit} → Tells (λ m u e. Earlier (Takes port m u e.link) run) (asked_of home n a_type) now hit → hit.link ≡ Found set → Earlier (Takes port n a_type (Found set)) run
       by_hit tells e =
-          let a = answers_set n tells.kind tells.entry.link set (subst (Answers n a_type (key_for n tells.kind tells.entry.link) tells.entry.link) e tells.answers) in
-          subst (λ (u : ℕ). Earlier (Takes port n u (Found set)) run) a.0 (subst (λ (m : Link). Earlier (Takes port n tells.kind m) run) a.1 tells.kept)
+          let (name, kind, link) = answers_set n (above_by (looked home.zones n a_type) n) tells.at tells.kind tells.entry.link set
+              (subst (Answers (asked_of home n a_type) (key_for tells.at tells.kind tells.entry.link) tells.entry.link) e tells.answers) in
+          subst (λ (m : Name). Earlier (Takes port m a_type (Found set)) run) name
+          (subst (λ (u : ℕ). Earlier (Takes port tells.at u (Found set)) run) kind (subst (λ (m : Link). Earlier (Takes port tells.at tells.kind m) run) link tells.kept))
 
   pub found_none : (now : ℕ) (n : Name) (old new : Stores) (l : Taken) → AreTold old → Finds home now n a_type old l new → IsNotFound l.link → HasNoAddress port home run n
   found_none now n old new l told finds none = elim finds.is [
@@ -112,8 +147,13 @@ module _ (port : ℕ) (home : Home) (run : List Turn) where
     | inr (hit, hits) ↦ inr (by_hit (told_hit now n a_type old new l hit told hits) (subst IsNotFound (ap (λ (x : Taken). x.link) hits.link) none))
   ]
     where
-      by_hit : {hit : Hit} → Tells (λ m u e. Earlier (Takes port m u e.link) run) n a_type now hit → IsNotFound hit.link → (t : ℕ) × (k : Link) × Earlier (Takes port n t k) run × TellsOfNone t k
-      by_hit {hit} tells none = (tells.kind, tells.entry.link, tells.kept, answers_none n tells.kind tells.entry.link hit.link tells.answers none)
+      by_hit : {hit : Hit} → Tells (λ m u e. Earlier (Takes port m u e.link) run) (asked_of home n a_type) now hit → IsNotFound hit.link
+          → ((t : ℕ) × (k : Link) × Earlier (Takes port n t k) run × TellsOfNone t k)
+          ⊎ ((p : Name) × (t : ℕ) × (soa : Record) × Contains (asked_of home n a_type).above p × Earlier (Takes port p t (NxDomain soa)) run)
+      by_hit {hit} tells none = elim (answers_none n (above_by (looked home.zones n a_type) n) tells.at tells.kind tells.entry.link hit.link tells.answers none) [
+        | inl (name, says) ↦ inl (tells.kind, tells.entry.link, subst (λ (m : Name). Earlier (Takes port m tells.kind tells.entry.link) run) name tells.kept, says)
+        | inr (there, (soa, is)) ↦ inr (tells.at, tells.kind, soa, there, subst (λ (m : Link). Earlier (Takes port tells.at tells.kind m) run) is tells.kept)
+      ]
 
   pub found_alias : (now : ℕ) (n : Name) (t : ℕ) (old new : Stores) (l : Taken) (r : Record) → AreTold old → Finds home now n t old l new → l.link ≡ Alias r → IsAliasOf port home run n t r
   found_alias now n t old new l r told finds is = elim finds.is [
@@ -121,9 +161,12 @@ module _ (port : ℕ) (home : Home) (run : List Turn) where
     | inr (hit, hits) ↦ inr (by_hit (told_hit now n t old new l hit told hits) (sym (ap (λ (x : Taken). x.link) hits.link) ∙ is))
   ]
     where
-      by_hit : {hit : Hit} → Tells (λ m u e. Earlier (Takes port m u e.link) run) n t now hit → hit.link ≡ Alias r
+      by_hit : {hit : Hit} → Tells (λ m u e. Earlier (Takes port m u e.link) run) (asked_of home n t) now hit → hit.link ≡ Alias r
           → (v : ℕ) × (k : Link) × Earlier (Takes port n v k) run × ((k ≡ Alias r) ⊎ ((v ≡ cname_type) × ((rs : List Record) × (k ≡ Found (r ∷ rs)))))
-      by_hit tells e = (tells.kind, tells.entry.link, tells.kept, answers_alias n t tells.kind tells.entry.link r (subst (Answers n t (key_for n tells.kind tells.entry.link) tells.entry.link) e tells.answers))
+      by_hit tells e =
+          let (name, says) = answers_alias n (above_by (looked home.zones n t) n) tells.at tells.kind t tells.entry.link r
+              (subst (Answers (asked_of home n t) (key_for tells.at tells.kind tells.entry.link) tells.entry.link) e tells.answers) in
+          (tells.kind, tells.entry.link, subst (λ (m : Name). Earlier (Takes port m tells.kind tells.entry.link) run) name tells.kept, says)
 
   pub found_name : (now : ℕ) (n : Name) (t : ℕ) (old new : Stores) (l : Taken) → Finds home now n t old l new → l.name ≡ n
   found_name now n t old new l finds = elim finds.is [ inl (k, says, link, same) ↦ ap (λ (x : Taken). x.name) link | inr (hit, hits) ↦ ap (λ (x : Taken). x.name) hits.link ]

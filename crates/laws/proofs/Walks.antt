@@ -10,13 +10,13 @@ use Rattle.authority.specs.Catalogs.{looked}
 use Rattle.front.specs.Chains.{target_of}
 use Rattle.referral.specs.Cuts.{Cut}
 use Rattle.cache.specs.Keys.{Key, same_key}
-use Rattle.cache.specs.Cached.{Hit, answer, hit_of}
+use Rattle.cache.specs.Cached.{Hit, lent, hit_of}
 use Rattle.resolution.specs.Jobs.{Home, Stores, Taken, local_link, kept_link, is_dead, AreFresh, IsEnding, Job, Next, Done, Task, Seek, Take, Go, Again, Point}
-use Rattle.resolution.specs.Rules.{Says, IsRemote, Hits, Finds, Begins, Misses, Rule, takes, asks, follows, restarts, hears, descends, gives_up, Rules, Leaves, sends, sends_again, refuses, spent, nowhere, too_long, done}
+use Rattle.resolution.specs.Rules.{Says, IsRemote, asked_of, Hits, Finds, Begins, Misses, Rule, takes, asks, follows, restarts, hears, descends, gives_up, Rules, Leaves, sends, sends_again, refuses, spent, nowhere, too_long, done}
 use Rattle.resolution.proofs.Falls.{found_fresh}
 use Rattle.laws.proofs.FollowedLists.{fresh_both, none_dead}
 use Rattle.laws.specs.Held.{Holds, IsHeldChain}
-use Rattle.laws.proofs.KeptEntries.{moved_looks, same_answer}
+use Rattle.laws.proofs.KeptEntries.{moved_looks, same_lent}
 
 -- ---- what is held is one
 
@@ -45,7 +45,7 @@ module _ (home : Home) (now t : ℕ) (es : List (Key × Hit)) where
     where
       by : ((k : Link) × Says home n t (local.Linked k) × (l ≡ local_link n k) × (new ≡ old)) ⊎ ((hit : Hit) × Hits home now n t old l hit new) → Holds home now t es n l
       by (inl (k, says, is, stays)) = inl (k, says, is)
-      by (inr (hit, h)) = inr (h.remote, (hit, ap hit_of (sym (same_answer n t now es old.cache same.looks)) ∙ h.found, h.link))
+      by (inr (hit, h)) = inr (h.remote, (hit, ap hit_of (sym (same_lent (asked_of home n t) now es old.cache same.looks)) ∙ h.found, h.link))
 
   found_looks : (n : Name) (old : Stores) (l : Taken) (new : Stores) → SameLooks es old.cache → Finds home now n t old l new → SameLooks es new.cache
   found_looks n old l new same f = by f.is
@@ -53,7 +53,7 @@ module _ (home : Home) (now t : ℕ) (es : List (Key × Hit)) where
       by : ((k : Link) × Says home n t (local.Linked k) × (l ≡ local_link n k) × (new ≡ old)) ⊎ ((hit : Hit) × Hits home now n t old l hit new) → SameLooks es new.cache
       by (inl (k, says, is, stays)) = subst (λ (x : Stores). SameLooks es x.cache) (sym stays) same
       by (inr (hit, h)) = subst (λ (x : Stores). SameLooks es x.cache) (sym h.stores)
-          (record { looks = λ k. moved_looks (answer n t now old.cache) old.cache k ∙ same.looks k })
+          (record { looks = λ k. moved_looks (lent (asked_of home n t) now old.cache) old.cache k ∙ same.looks k })
 
   held_no_miss : (n : Name) (old : Stores) (l : Taken) (c : Cut) (new : Stores) → SameLooks es old.cache → Holds home now t es n l → Misses home now n t old c new → ⊥
   held_no_miss n old l c new same (inl (link, says, is)) m = begun m.what (sym says.0 ∙ (m.says).0) m.best m.begins
@@ -63,7 +63,7 @@ module _ (home : Home) (now t : ℕ) (es : List (Key × Hit)) where
       begun (local.Cut at ns glue) e best b = cc
       begun local.NotHere e best b = cc
   held_no_miss n old l c new same (inr (remote, (h, found, is))) m =
-      let some : hit_of (answer n t now old.cache) ≡ Some h = ap hit_of (same_answer n t now es old.cache same.looks) ∙ found in
+      let some : hit_of (lent (asked_of home n t) now old.cache) ≡ Some h = ap hit_of (same_lent (asked_of home n t) now es old.cache same.looks) ∙ found in
       let none = m.miss in absurd (cc)
 
   module _ (chain : List Taken) (last : Taken) (few : length chain ≤ 8) where

@@ -12,9 +12,9 @@ use Rattle.front.specs.Chains.{target_of}
 use Rattle.front.specs.declared.queries.Asked.TheVariants as heard
 use Rattle.front.specs.declared.queries.Query.{Query as Question}
 use Rattle.cache.specs.Keys.{Key}
-use Rattle.cache.specs.Cached.{Hit, answer, hit_of}
+use Rattle.cache.specs.Cached.{Hit, lent, hit_of}
 use Rattle.resolution.specs.Jobs.{Home, Taken, local_link, kept_link, IsEnding}
-use Rattle.resolution.specs.Rules.{Says, IsRemote}
+use Rattle.resolution.specs.Rules.{Says, IsRemote, asked_of}
 use Rattle.runs.specs.States.{Client, Action, Served, Own, Turn, Plain, asker, recursive, Site, State, moved}
 use Rattle.runs.specs.Messages.{outcome_of, IsReply}
 use Rattle.runs.specs.Steps.{Step}
@@ -24,7 +24,7 @@ use Rattle.runs.specs.Runs.{Run}
 abbrev pub Holds : Home → ℕ → ℕ → List (Key × Hit) → Name → Taken → Type 0
 Holds home now t es n l =
     ((link : Link) × Says home n t (Linked link) × (l ≡ local_link n link))
-    ⊎ (IsRemote home n t × ((h : Hit) × (hit_of (answer n t now es) ≡ Some h) × (l ≡ kept_link n h)))
+    ⊎ (IsRemote home n t × ((h : Hit) × (hit_of (lent (asked_of home n t) now es) ≡ Some h) × (l ≡ kept_link n h)))
 
 -- The aliases that are held from a name on, each the target of the one before, and the end behind them.
 abbrev pub IsHeldChain : Home → ℕ → ℕ → List (Key × Hit) → Name → List Taken → Taken → Type 0

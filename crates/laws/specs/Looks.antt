@@ -10,19 +10,20 @@ use Rattle.front.specs.declared.queries.Asked.TheVariants as heard
 use Rattle.classify.specs.Classes as class
 use Rattle.classify.specs.Classes.{class_of}
 use Rattle.cache.specs.Keys.{Key, key_for}
-use Rattle.cache.specs.Cached.{Hit, is_live, answer, hit_of}
+use Rattle.cache.specs.Cached.{Hit, is_live, lent, hit_of}
+use Rattle.cache.specs.Cached as cache
 use Rattle.resolution.specs.Jobs.{Home, Stores, Search, Job, Input, Start, Told, TimedOut, TcpFailed, Next, Point, hit_from}
-use Rattle.resolution.specs.Rules.{Rule, takes, asks, follows, restarts, hears, descends, gives_up, Rules, Enters, Advances}
+use Rattle.resolution.specs.Rules.{asked_of, Rule, takes, asks, follows, restarts, hears, descends, gives_up, Rules, Enters, Advances}
 use Rattle.runs.specs.States.{Event, Client, Datagram, TcpReply, Tick, Action, Served, Turn, Plain, Site, State, moved}
 use Rattle.runs.specs.States as event
 use Rattle.runs.specs.Steps.{IsIgnored, Hears, IsHandled, IsTicked, IsTurn, Step}
 use Rattle.runs.specs.Runs.{Run}
-use Rattle.laws.specs.Uses.{Question, question, Accepted, is_kept}
+use Rattle.laws.specs.Uses.{Accepted, is_kept}
 
 -- The link that is kept, if one is, and the look-ups that find something, in order.
 pub record Looks : Type 0 where
   pub accepted : Option Accepted
-  pub hits : List Question
+  pub hits : List cache.Asked
 
 abbrev pub none : Looks
 none = record { accepted = None; hits = [] }
@@ -30,20 +31,20 @@ none = record { accepted = None; hits = [] }
 -- ---- of one call
 
 -- What is found is the zones' own, or the cache's.
-abbrev pub hits_by : {A B : Type 0} → Name → ℕ → A ⊎ B → List Question
-hits_by n t (inl zones) = []
-hits_by n t (inr cache) = question n t ∷ []
+abbrev pub hits_by : {A B : Type 0} → Home → Name → ℕ → A ⊎ B → List cache.Asked
+hits_by home n t (inl zones) = []
+hits_by home n t (inr kept) = asked_of home n t ∷ []
 
-abbrev pub rule_hits : (home : Home) (now : ℕ) (a b : Point) → Rule home now a b → List Question
-rule_hits home now a b (takes l t f u j) = hits_by (a.job).name (a.job).kind f.is
+abbrev pub rule_hits : (home : Home) (now : ℕ) (a b : Point) → Rule home now a b → List cache.Asked
+rule_hits home now a b (takes l t f u j) = hits_by home (a.job).name (a.job).kind f.is
 rule_hits home now a b (asks c t m u j) = []
 rule_hits home now a b (follows l r t is few u j e) = []
 rule_hits home now a b (restarts l d front back t is whole fresh dead u j e) = []
-rule_hits home now a b (hears before around rest n l marks t turn f h u j) = hits_by n a_type f.is
+rule_hits home now a b (hears before around rest n l marks t turn f h u j) = hits_by home n a_type f.is
 rule_hits home now a b (descends s rest n c t turn m u j) = []
 rule_hits home now a b (gives_up s around rest t up u j e) = []
 
-abbrev pub rules_hits : (home : Home) (now count : ℕ) (a b : Point) → Rules home now count a b → List Question
+abbrev pub rules_hits : (home : Home) (now count : ℕ) (a b : Point) → Rules home now count a b → List cache.Asked
 rules_hits home now zero a b same = []
 rules_hits home now (suc n) a b (mid, before, rule) = rules_hits home now n a mid before ++ rule_hits home now mid b rule
 
@@ -125,4 +126,4 @@ abbrev pub KeptIsFound : Type 0
 KeptIsFound =
     (site : Site) (run : List Turn) (s : State) (legal : Run site run s) (a : Accepted) (n now : ℕ)
     → IsKeptSince site a run s legal n → n < (s.stores).cache_cap → (a.hit).ttl ≢ 0 → is_live now a.hit ≡ true → IsAlone now a (s.stores).cache
-    → hit_of (answer a.name a.kind now (s.stores).cache) ≡ Some a.hit
+    → hit_of (lent (asked_of site.home a.name a.kind) now (s.stores).cache) ≡ Some a.hit

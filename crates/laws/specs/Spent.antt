@@ -17,7 +17,7 @@ use Rattle.referral.specs.Cuts.{Cut}
 use Rattle.frames.specs.Frames.{taken_addresses, unknown_names}
 use Rattle.front.specs.Chains.{target_of}
 use Rattle.resolution.specs.Jobs.{Home, IsCutOf, IsRootCut, AreAddressesOf}
-use Rattle.resolution.specs.Rules.{Says}
+use Rattle.resolution.specs.Rules.{Says, asked_of}
 use Rattle.runs.specs.States.{Turn, Event, Tick, TcpReply, TcpFailed, Action, Query, Path, ByUdp, ByTcp, Asking, IsFor, via_of}
 use Rattle.runs.specs.Messages.{IsSent, Brings}
 use Rattle.runs.specs.Runs.{GivesOut, Earlier, Asks, Accepts}
@@ -108,10 +108,13 @@ TellsOfNone t (NxDomain soa) = Unit {0}
 abbrev pub IsNotFound : Link → Type 0
 IsNotFound l = (set : List Record) → l ≢ Found set
 
+-- The name has no address: by the zones at hand; by an answer; or by the error of a name above that counts for it
+-- (RFC 8020, section 2).
 abbrev pub HasNoAddress : ℕ → Home → List Turn → Name → Type 0
 HasNoAddress port home run n =
     ((l : Link) × Says home n a_type (local.Linked l) × IsNotFound l)
-    ⊎ ((t : ℕ) × (l : Link) × Earlier (Takes port n t l) run × TellsOfNone t l)
+    ⊎ (((t : ℕ) × (l : Link) × Earlier (Takes port n t l) run × TellsOfNone t l)
+    ⊎ ((p : Name) × (t : ℕ) × (soa : Record) × Contains (asked_of home n a_type).above p × Earlier (Takes port p t (NxDomain soa)) run))
 
 -- The name is an alias for the type t by this record: by the zones at hand, or by an answer; a CNAME that was
 -- asked for is an alias for every other type.

@@ -16,7 +16,7 @@ use Rattle.cache.specs.Cached.{retimed}
 use Rattle.front.specs.Chains.{target_of, IsEndOf}
 use Rattle.front.specs.declared.queries.End.{End}
 use Rattle.resolution.specs.Jobs.{Home}
-use Rattle.resolution.specs.Rules.{Says, IsRemote}
+use Rattle.resolution.specs.Rules.{Says, IsRemote, asked_of}
 use Rattle.runs.specs.States.{Query, Turn, Plain, Asking, via_of}
 use Rattle.runs.specs.Runs.{Earlier, clock_of, Accepts}
 
@@ -31,27 +31,29 @@ pub record Learns (port by : ℕ) (n : Name) (u : ℕ) (said : Link) (since : �
   pub is : class_of root n u (via_of ask.path) message ≡ class.Answer said
   pub moment : since ≡ clock_of (turn ∷ past)
 
--- How a link that was accepted for the name and the type u serves for the type t: for its own type as it is, a
--- name error for any type, an alias for any type, a CNAME that was asked for as an alias.
-abbrev pub Fits : Name → ℕ → ℕ → Link → Link → Type 0
-Fits n t u l given = ((u ≡ t) × (given ≡ l)) ⊎ cache.Answers n t (key_for n u l) l given
+-- How a link that was accepted for the name m and the type u serves a question. It is the question's own; or of
+-- the same name, a name error for any type, an alias for any type, a CNAME that was asked for as an alias; or it
+-- is the error of a name above, up to the cut that the zones at hand name (RFC 8020, section 2).
+abbrev pub Fits : Home → Name → ℕ → Name → ℕ → Link → Link → Type 0
+Fits home n t m u l given = ((m ≡ n) × (u ≡ t) × (given ≡ l)) ⊎ cache.Answers (asked_of home n t) (key_for m u l) l given
 
--- The link was accepted for that very name, goes out with its time to live less its age, and is younger than
--- that; or it was accepted for the very query that is served.
-pub record IsInTime (port : ℕ) (turn : Turn) (past : List Turn) (n : Name) (t : ℕ) (out : Link) : Type 0 where
+-- The link was accepted for that very name, or is the error of one above, goes out with its time to live less its
+-- age, and is younger than that; or it was accepted for the very query that is served.
+pub record IsInTime (port : ℕ) (home : Home) (turn : Turn) (past : List Turn) (n : Name) (t : ℕ) (out : Link) : Type 0 where
   pub by : ℕ
+  pub at : Name
   pub kind : ℕ
   pub said : Link
   pub since : ℕ
-  pub learnt : Earlier (Learns port by n kind said since) (turn ∷ past)
+  pub learnt : Earlier (Learns port by at kind said since) (turn ∷ past)
   pub given : Link
-  pub fits : Fits n t kind (received said) given
+  pub fits : Fits home n t at kind (received said) given
   pub is : out ≡ retimed (lifetime_of (received said) - (clock_of (turn ∷ past) - since) / 1000) given
   pub in_time : (clock_of (turn ∷ past) - since < 1000 * lifetime_of (received said)) ⊎ (turn.served ≡ Query by)
 
 -- The zones at hand come first: where they have a link for the name, that one goes out.
 abbrev pub IsTimelyLink : ℕ → Home → Turn → List Turn → Name → ℕ → Link → Type 0
-IsTimelyLink port home turn past n t out = Says home n t (local.Linked out) ⊎ (IsRemote home n t × IsInTime port turn past n t out)
+IsTimelyLink port home turn past n t out = Says home n t (local.Linked out) ⊎ (IsRemote home n t × IsInTime port home turn past n t out)
 
 -- Each alias stands at the target of the one before, and behind the last one an end.
 abbrev pub IsTimelyChain : ℕ → Home → Turn → List Turn → ℕ → Name → List Record → End Plain → Type 0

@@ -2,15 +2,7 @@
 use Rattle.std.specs.Prelude.{◌≡◌, ℕ, Option, Some, None, List, [], ◌∷◌, IsSome}
 use Rattle.dname.specs.Labels.{Name}
 use Rattle.cache.specs.Keys.{Key}
-use Rattle.cache.specs.Cached.{Hit, answer, moved, after_keep}
-
--- A question of a name and a type.
-pub record Question : Type 0 where
-  pub name : Name
-  pub kind : ℕ
-
-abbrev pub question : Name → ℕ → Question
-question n t = record { name = n; kind = t }
+use Rattle.cache.specs.Cached.{Hit, Asked, lent, moved, after_keep}
 
 -- A link that was accepted as the answer to a question, as it is kept.
 pub record Accepted : Type 0 where
@@ -19,9 +11,9 @@ pub record Accepted : Type 0 where
   pub hit : Hit
 
 -- The entries after these look-ups, each of which found something.
-abbrev pub AreHits : ℕ → List Question → List (Key × Hit) → List (Key × Hit) → Type 0
+abbrev pub AreHits : ℕ → List Asked → List (Key × Hit) → List (Key × Hit) → Type 0
 AreHits now [] old new = new ≡ old
-AreHits now (a ∷ more) old new = IsSome (answer a.name a.kind now old) × AreHits now more (moved (answer a.name a.kind now old) old) new
+AreHits now (a ∷ more) old new = IsSome (lent a now old) × AreHits now more (moved (lent a now old) old) new
 
 -- The entries after a link was kept, if one was.
 abbrev pub took : ℕ → Option Accepted → List (Key × Hit) → List (Key × Hit)

@@ -16,7 +16,7 @@ use Rattle.cache.specs.Cached.{Hit}
 use Rattle.cache.specs.Cached as kept
 use Rattle.cache.proofs.Members as cache
 use Rattle.resolution.specs.Jobs.{Home, Stores, with_answer, Taken, Search, Job, Input, Start, Told, TimedOut, TcpFailed, Next, Point, hit_from, cut_from}
-use Rattle.resolution.specs.Rules.{Finds, Hits, Misses, Rule, takes, asks, follows, restarts, hears, descends, gives_up, Rules, Learnt, ByClass, Enters, Leaves, sends, sends_again, refuses, spent, nowhere, too_long, done, Advances, IsTakenEntry, IsTakenCut, IsLostEntry, IsLostCut, Stops}
+use Rattle.resolution.specs.Rules.{asked_of, Finds, Hits, Misses, Rule, takes, asks, follows, restarts, hears, descends, gives_up, Rules, Learnt, ByClass, Enters, Leaves, sends, sends_again, refuses, spent, nowhere, too_long, done, Advances, IsTakenEntry, IsTakenCut, IsLostEntry, IsLostCut, Stops}
 
 still_only : {X : Type 0} (old mid new : List X) (P : X → Type 0) → KeepsOnly old P mid → HasSame mid new → KeepsOnly old P new
 still_only old mid new P keeps same x m = keeps x (same.0 x m)
@@ -33,8 +33,8 @@ module _ (input : Input) (now : ℕ) (j : Job) (stores : Stores) where
     where
       hit : (e : Hit) → Hits home now n t mid l e new → Stops input now j stores new
       hit e x = subst (Stops input now j stores) (sym x.stores) (record {
-        cache = still_only stores.cache mid.cache _ _ h.cache (cache.looked_members n t now mid.cache);
-        cache_lost = still_loses stores.cache mid.cache _ _ h.cache_lost (cache.looked_members n t now mid.cache);
+        cache = still_only stores.cache mid.cache _ _ h.cache (cache.looked_members (asked_of home n t) now mid.cache);
+        cache_lost = still_loses stores.cache mid.cache _ _ h.cache_lost (cache.looked_members (asked_of home n t) now mid.cache);
         delegations = h.delegations;
         delegations_lost = h.delegations_lost;
         penalties = h.penalties;

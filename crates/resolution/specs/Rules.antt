@@ -2,7 +2,7 @@
 -- how what comes in is taken up (`Enters`), the seven rules (`Rule`), and what goes out where none of them
 -- applies (`Leaves`).
 use Rattle.std.specs.Prelude.{◌≡◌, ◌≢◌, ℕ, zero, suc, ◌+◌, ◌<◌, ◌≤◌, ◌⊎◌, Option, Some, None, List, [], ◌∷◌, ◌++◌, length, Contains}
-use Rattle.dname.specs.Labels.{Name, IsName}
+use Rattle.dname.specs.Labels.{Name, root, IsName}
 use Rattle.rdata.specs.Records.{Record}
 use Rattle.rdata.specs.declared.addr.Addr.{Addr}
 use Rattle.zone.specs.Zones.{IsBeneath, a_type}
@@ -21,7 +21,7 @@ use Rattle.retry.specs.Plans.{upcoming}
 use Rattle.referral.specs.Cuts.{Cut, Known, IsBest, after_best}
 use Rattle.referral.specs.Cuts as referral
 use Rattle.cache.specs.Keys.{Key}
-use Rattle.cache.specs.Cached.{Hit, alone, lent, hit_of, moved, IsHeld}
+use Rattle.cache.specs.Cached.{Hit, Asked, above_to, lent, hit_of, moved, IsHeld}
 use Rattle.cache.specs.Cached as cache
 use Rattle.frames.specs.Frames.{FailedName, opened, next_name, after_name, after_add, fresh_addresses}
 use Rattle.resolution.specs.Jobs.{Home, Stores, level_of, with_answer, with_timeout, Taken, local_link, kept_link, received_link, IsDead, AreFresh, IsEnding, IsCutOf, IsRootCut, AreAddressesOf, Search, search_at, with_frame, Job, marked, Input, Start, Told, TimedOut, TcpFailed, Next, Ask, AskTcp, Done, Fail, MaySend, asked, asked_again, Seek, Take, Go, Again, Point, point, hit_from, cut_from}
@@ -35,13 +35,26 @@ Says home n t what = (looked home.zones n t ≡ what) × IsLooked home.zones n t
 abbrev pub IsRemote : Home → Name → ℕ → Type 0
 IsRemote home n t = ((c : Name) × (ns : List Record) × (glue : List Record) × Says home n t (local.Cut c ns glue)) ⊎ Says home n t local.NotHere
 
+-- What the cache may answer a question with: what stands at the name, and errors of names above it, up to the cut
+-- that the zones at hand name, or to the root where they say nothing (RFC 8020, section 2).
+abbrev pub above_by : local.Local → Name → List Name
+above_by (local.Linked l) n = []
+above_by (local.Cut at ns glue) n = above_to at n
+above_by local.NotHere n = above_to root n
+
+abbrev pub asked_by : local.Local → Name → ℕ → Asked
+asked_by what n t = record { name = n; kind = t; above = above_by what n }
+
+abbrev pub asked_of : Home → Name → ℕ → Asked
+asked_of home n t = asked_by (looked home.zones n t) n t
+
 -- A remote question that the cache answers.
 pub record Hits (home : Home) (now : ℕ) (n : Name) (t : ℕ) (old : Stores) (l : Taken) (hit : Hit) (new : Stores) : Type 0 where
   pub remote : IsRemote home n t
-  pub found : hit_of (lent (alone n t) now old.cache) ≡ Some hit
-  pub held : IsHeld n t now old.cache hit
+  pub found : hit_of (lent (asked_of home n t) now old.cache) ≡ Some hit
+  pub held : IsHeld (asked_of home n t) now old.cache hit
   pub link : l ≡ kept_link n hit
-  pub stores : new ≡ record old { cache = moved (lent (alone n t) now old.cache) old.cache }
+  pub stores : new ≡ record old { cache = moved (lent (asked_of home n t) now old.cache) old.cache }
 
 -- The zones at hand come first, then the cache.
 pub record Finds (home : Home) (now : ℕ) (n : Name) (t : ℕ) (old : Stores) (l : Taken) (new : Stores) : Type 0 where
@@ -63,7 +76,7 @@ pub record Misses (home : Home) (now : ℕ) (n : Name) (t : ℕ) (old : Stores) 
   pub name : IsName n
   pub what : local.Local
   pub says : Says home n t what
-  pub miss : hit_of (lent (alone n t) now old.cache) ≡ None
+  pub miss : hit_of (lent (asked_of home n t) now old.cache) ≡ None
   pub best : Option Cut
   pub is_best : IsBest n now old.delegations best
   pub begins : Begins home n what best c

@@ -45,14 +45,14 @@ local_is_true W zs q t l w held looked =
     (z, in_charge W q z w here.0 charge.over link.uncut (nearest_clear W zs q z held charge), (l, link, link_itself l))
 
 -- A cut of the zone in charge among those held is unshadowed, and so is all beneath it.
-cut_clear : (W : World) (zs : List Zone) (q : Name) (t : ℕ) (c : Name) (ns glue : List Record) → IsWorld W → AreHeld W zs → IsLooked zs q t (Cut c ns glue) → IsUnshadowed W c q
+pub cut_clear : (W : World) (zs : List Zone) (q : Name) (t : ℕ) (c : Name) (ns glue : List Record) → IsWorld W → AreHeld W zs → IsLooked zs q t (Cut c ns glue) → IsUnshadowed W c q
 cut_clear W zs q t c ns glue w held looked =
     let (z, charge, referral) = looked_cut zs q t c ns glue looked in
     let over : IsCutOver z q c = referral.over in
     let here : IsHeld W z = (held z).0 charge.stands in
     deeper W z.origin c q (nearest_clear W zs q z held charge) (under_length c z.origin (cut_inside z c (w.zones z here.0) over.cut))
 
-nowhere_clear : (W : World) (zs : List Zone) (q : Name) (t : ℕ) (n : Name) → AreHeld W zs → IsLooked zs q t NotHere → IsUnshadowed W n q
+pub nowhere_clear : (W : World) (zs : List Zone) (q : Name) (t : ℕ) (n : Name) → AreHeld W zs → IsLooked zs q t NotHere → IsUnshadowed W n q
 nowhere_clear W zs q t n held looked z h over = absurd (looked_nowhere zs q t looked z ((held z).1 h) over)
 
 -- Every name is under the root.

@@ -1,3 +1,4 @@
+pub mod Beneath
 pub mod Charges
 pub mod Entries
 pub mod Grown

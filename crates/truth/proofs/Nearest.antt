@@ -16,7 +16,7 @@ some_label (l ∷ ls) h = omega arith
 pub origin_long : (W : World) (z : Zone) → IsWorld W → Contains W.zones z → suc zero ≤ length z.origin
 origin_long W z w m = let name : IsName z.origin = w.names z m in some_label z.origin name.labels
 
-decided : (a b : ℕ) → (a ≤ b) ⊎ (b < a)
+pub decided : (a b : ℕ) → (a ≤ b) ⊎ (b < a)
 decided zero b = inl (omega arith)
 decided (suc a) zero = inr (omega arith)
 decided (suc a) (suc b) = elim (decided a b) [
@@ -25,7 +25,7 @@ decided (suc a) (suc b) = elim (decided a b) [
 ]
 
 -- Of two names over one name the shorter is strictly above the longer.
-above_longer : (q a b : Name) → IsAtOrUnder q a → IsAtOrUnder q b → length b < length a → IsBeneath a b
+pub above_longer : (q a b : Name) → IsAtOrUnder q a → IsAtOrUnder q b → length b < length a → IsBeneath a b
 above_longer q a b h k lt = elim (over_one q a b h k) [
   | inl u ↦ (u, λ e. omega (arith, ap length e, lt))
   | inr u ↦ absurd (let short = under_length b a u in omega (arith, short, lt))

@@ -7,4 +7,5 @@ pub mod Reading
 pub mod Frames
 pub mod Laws
 pub mod FrameLaws
+pub mod Beneath
 pub mod Sample

@@ -1,5 +1,6 @@
 //! Laws of what is true in a world: functions that do nothing, whose clauses are proved.
 
+ghost use Rattle.truth.specs.Beneath.{OriginsBeneath, ErrorBeneath};
 ghost use Rattle.truth.specs.FrameLaws.{LocalIsTrue, HintsStart, CutStarts, KeptStarts, KeptBelowStarts, ReferralKept, ReferralStarts, AddressAdds, FrameAsks};
 ghost use Rattle.truth.specs.Laws.{ChargeIsUncut, SomeInCharge, OneInCharge, SomeTrueLink, OneTrueLink, OneTruth, NineHaveNone, CnameIsPlain, ChainGrows, OneWhole, OneReply, HonestAnswer, HonestReferral, ErrorForAll, AliasForAll, FoundAsAlias, AliasAsFound, SameIsTrue, StaysTrue, FoundIsOnce, HeldIsOnce};
 ghost use Rattle.truth.specs.Sample.{SampleStands};
@@ -70,6 +71,13 @@ pub fn entry_law()
     ensures alias { AliasForAll }
     ensures found { FoundAsAlias }
     ensures set { AliasAsFound }
+{}
+
+/// A name error is true of all names beneath (RFC 8020, section 2), as far as no zone that the resolver holds
+/// comes between: each zone beneath a name that does not exist lies at or under one that is held.
+pub fn beneath_law()
+    ensures origins { OriginsBeneath }
+    ensures error { ErrorBeneath }
 {}
 
 /// What the zones that the resolver holds say of a question is true (RFC 1034, section 5.3.3, step 1).

@@ -22,6 +22,6 @@
 mod laws;
 
 pub use laws::{
-    chain_law, charge_law, delegation_law, entry_law, frame_law, honest_answer_law,
+    beneath_law, chain_law, charge_law, delegation_law, entry_law, frame_law, honest_answer_law,
     honest_referral_law, local_law, once_law, one_reply_law, one_truth_law, same_law, sample_law,
 };

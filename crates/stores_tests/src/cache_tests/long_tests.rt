@@ -48,7 +48,7 @@ fn cached(alloc: Global, link: &Link<Global>) -> Result<Option<Hit<Global>>, Sta
     let owner = name(alloc, "x")?;
     let mut cache = empty_cache(alloc, 1)?;
     cache.keep(&owner, RType::Txt, link, 300, 0)?;
-    cache.look(&owner, RType::Txt, 1_000)
+    cache.look(&owner, RType::Txt, &owner, 1_000)
 }
 
 fn long_hit(alloc: Global) -> Result<Option<Hit<Global>>, Starved> {

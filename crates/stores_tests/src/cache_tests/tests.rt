@@ -55,6 +55,9 @@ enum Step {
     Sees(&'static str, RType, u64, (&'static str, u32, u64)),
     // A look-up at a moment gives nothing.
     Misses(&'static str, RType, u64),
+    // The same where errors of names above count up to this name.
+    SeesTo(&'static str, &'static str, RType, u64, (&'static str, u32, u64)),
+    MissesTo(&'static str, &'static str, RType, u64),
     // Two addresses that are found at one moment and sent at another have this TTL.
     Sends(&'static str, u64, u64, u32),
 }
@@ -125,25 +128,33 @@ impl<A: Heap> Kept<A> {
         self.cache.keep(owner, kind, link, ttl, now)
     }
 
-    fn look(&mut self, text: &str, kind: RType, now: u64) -> Result<Option<Hit<A>>, Starved> {
+    fn look(
+        &mut self,
+        top: &str,
+        text: &str,
+        kind: RType,
+        now: u64,
+    ) -> Result<Option<Hit<A>>, Starved> {
         let owner = name(self.alloc, text)?;
-        self.cache.look(&owner, kind, now)
+        let top = name(self.alloc, top)?;
+        self.cache.look(&owner, kind, &top, now)
     }
 
     fn seen(
         &mut self,
+        top: &str,
         text: &str,
         kind: RType,
         now: u64,
     ) -> Result<Option<(&'static str, u32, u64)>, Starved> {
-        match self.look(text, kind, now)? {
+        match self.look(top, text, kind, now)? {
             Some(hit) => Ok(Some(said(&hit))),
             None => Ok(None),
         }
     }
 
     fn sends(&mut self, text: &str, found: u64, sent: u64, ttl: u32) -> Result<bool, Starved> {
-        match self.look(text, RType::A, found)? {
+        match self.look(".", text, RType::A, found)? {
             Some(hit) => Ok(has_ttl(self.alloc, &hit.into_link(sent), ttl)?),
             None => Ok(false),
         }
@@ -155,8 +166,16 @@ impl<A: Heap> Kept<A> {
                 self.keep(owner, kind, shape, ttl, now)?;
                 Ok(true)
             }
-            Step::Sees(owner, kind, now, what) => Ok(self.seen(owner, kind, now)? == Some(what)),
-            Step::Misses(owner, kind, now) => Ok(self.seen(owner, kind, now)?.is_none()),
+            Step::Sees(owner, kind, now, what) => {
+                Ok(self.seen(".", owner, kind, now)? == Some(what))
+            }
+            Step::Misses(owner, kind, now) => Ok(self.seen(".", owner, kind, now)?.is_none()),
+            Step::SeesTo(top, owner, kind, now, what) => {
+                Ok(self.seen(top, owner, kind, now)? == Some(what))
+            }
+            Step::MissesTo(top, owner, kind, now) => {
+                Ok(self.seen(top, owner, kind, now)?.is_none())
+            }
             Step::Sends(owner, found, sent, ttl) => Ok(self.sends(owner, found, sent, ttl)?),
         }
     }
@@ -242,6 +261,33 @@ const THE_WANT_OF_AN_ALIAS_IS_NONE: Case = (
     ],
 );
 
+// What stands at the name goes first, then the error of the nearest name above.
+const AN_ERROR_DENIES_ALL_BENEATH: Case = (
+    3,
+    &[
+        Step::Keep("b.example", RType::A, Shape::NameError, 60, 0),
+        Step::Sees("x.a.b.example", RType::Txt, 59_999, ("name error", 60, 0)),
+        Step::Misses("x.a.b.example", RType::Txt, 60_000),
+        Step::Misses("c.example", RType::A, 0),
+        Step::SeesTo(
+            "b.example",
+            "a.b.example",
+            RType::A,
+            0,
+            ("name error", 60, 0),
+        ),
+        Step::MissesTo("a.b.example", "x.a.b.example", RType::A, 0),
+        Step::MissesTo("c.example", "a.b.example", RType::A, 0),
+        Step::Keep("x.a.b.example", RType::A, ADDRESS, 10, 0),
+        Step::Keep("a.b.example", RType::A, Shape::NameError, 30, 0),
+        Step::Sees("x.a.b.example", RType::A, 0, ("set of one", 10, 0)),
+        Step::Sees("x.a.b.example", RType::Txt, 29_999, ("name error", 30, 0)),
+        Step::Sees("x.a.b.example", RType::Txt, 30_000, ("name error", 60, 0)),
+        Step::Keep("c", RType::A, ADDRESS, 10, 0),
+        Step::Sees("x.a.b.example", RType::A, 30_000, ("name error", 60, 0)),
+    ],
+);
+
 const A_CLOCK_THAT_GOES_BACK_GIVES_AGE_ZERO: Case = (
     9,
     &[
@@ -285,6 +331,7 @@ const CASES: &[Case] = &[
     A_LINK_REMOVES_THE_NAMES_ERROR,
     AN_ALIAS_ANSWERS_EVERY_TYPE,
     THE_WANT_OF_AN_ALIAS_IS_NONE,
+    AN_ERROR_DENIES_ALL_BENEATH,
     A_CLOCK_THAT_GOES_BACK_GIVES_AGE_ZERO,
     TTLS_COUNT_DOWN_BY_WHOLE_SECONDS,
     SETS_COME_BACK,

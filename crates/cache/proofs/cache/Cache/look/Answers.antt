@@ -5,30 +5,30 @@ use Rattle.lru.specs.LruCache.{LruCache, lru_cache}
 use Rattle.rdata.specs.Types.{type_number}
 use Rattle.recency.specs.Orders.{HasSame}
 use Rattle.cache.specs.Keys.{Key}
-use Rattle.cache.specs.Cached.{Hit, alone, hit_of, lent, moved, IsHeld, IsMiss}
+use Rattle.cache.specs.Cached.{Hit, asked_to, hit_of, lent, moved, IsHeld, IsMiss}
 use Rattle.cache.proofs.cache.Cache.look.Goals as goal
 
 pub returns-clause-value : goal.returns-clause-value
 returns-clause-value g c =
     let name = c.in_ok-key.ensures.key in
     let same = c.in_ok-key.ensures.same in
-    c.in_ok-hit.ensures.value ∙ (λ i. hit_of (lent (alone (name i) (type_number c.args.kind)) c.args.now (same i).entries))
+    c.in_ok-hit.ensures.value ∙ (λ i. hit_of (lent (asked_to c.args.top.now (name i) (type_number c.args.kind)) c.args.now (same i).entries))
 
 pub returns-clause-ok : goal.returns-clause-ok
 returns-clause-ok g c =
     let name = c.in_ok-key.ensures.key in
     let same = c.in_ok-key.ensures.same in
-    c.put_back.ensures ∙ (c.in_ok-hit.ensures.ok ∙ (λ i. lru_cache (moved (lent (alone (name i) (type_number c.args.kind)) c.args.now (same i).entries) (same i).entries) (same i).cap))
+    c.put_back.ensures ∙ (c.in_ok-hit.ensures.ok ∙ (λ i. lru_cache (moved (lent (asked_to c.args.top.now (name i) (type_number c.args.kind)) c.args.now (same i).entries) (same i).entries) (same i).cap))
 
 pub returns-clause-held : goal.returns-clause-held
 returns-clause-held g c =
-    subst (λ (n : List (List ℕ)). IfSome c.in_ok-hit.hit (IsHeld n (type_number c.args.kind) c.args.now c.args.self.now.entries)) c.in_ok-key.ensures.key
-    (subst (λ (d : LruCache Key Hit). IfSome c.in_ok-hit.hit (IsHeld (c.in_ok-key.key).name (type_number c.args.kind) c.args.now d.entries)) c.in_ok-key.ensures.same c.in_ok-hit.ensures.held)
+    subst (λ (n : List (List ℕ)). IfSome c.in_ok-hit.hit (IsHeld (asked_to c.args.top.now n (type_number c.args.kind)) c.args.now c.args.self.now.entries)) c.in_ok-key.ensures.key
+    (subst (λ (d : LruCache Key Hit). IfSome c.in_ok-hit.hit (IsHeld (asked_to c.args.top.now (c.in_ok-key.key).name (type_number c.args.kind)) c.args.now d.entries)) c.in_ok-key.ensures.same c.in_ok-hit.ensures.held)
 
 pub returns-clause-missed : goal.returns-clause-missed
 returns-clause-missed g c =
-    subst (λ (n : List (List ℕ)). IfNone c.in_ok-hit.hit (IsMiss n (type_number c.args.kind) c.args.now c.args.self.now.entries)) c.in_ok-key.ensures.key
-    (subst (λ (d : LruCache Key Hit). IfNone c.in_ok-hit.hit (IsMiss (c.in_ok-key.key).name (type_number c.args.kind) c.args.now d.entries)) c.in_ok-key.ensures.same c.in_ok-hit.ensures.missed)
+    subst (λ (n : List (List ℕ)). IfNone c.in_ok-hit.hit (IsMiss (asked_to c.args.top.now n (type_number c.args.kind)) c.args.now c.args.self.now.entries)) c.in_ok-key.ensures.key
+    (subst (λ (d : LruCache Key Hit). IfNone c.in_ok-hit.hit (IsMiss (asked_to c.args.top.now (c.in_ok-key.key).name (type_number c.args.kind)) c.args.now d.entries)) c.in_ok-key.ensures.same c.in_ok-hit.ensures.missed)
 
 pub returns-clause-members : goal.returns-clause-members
 returns-clause-members g c =

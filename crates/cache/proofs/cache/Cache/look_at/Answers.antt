@@ -1,6 +1,6 @@
 use Rattle.std.proofs.Common.{◌≡◌, sym, ◌∙◌}
 use Rattle.rdata.specs.Types.{type_number}
-use Rattle.cache.specs.Cached.{under, answer}
+use Rattle.cache.specs.Cached.{under, asked_to, lent}
 use Rattle.cache.proofs.Steps.{hit_is_held, moved_some, moved_none, moved_members}
 use Rattle.cache.proofs.Given.{miss_is_missed}
 use Rattle.cache.proofs.Unpacked.{promoted_shows}
@@ -9,23 +9,23 @@ use Rattle.cache.proofs.cache.Cache.look_at.Goals.{then-is_some, else-is_some}
 
 pub returns-clause-held : goal.returns-clause-held
 returns-clause-held g c =
-    let found : under c.find.new.key c.in_ok-hit.hit ≡ answer c.args.key.now.name (type_number c.args.kind) c.args.now c.args.self.now.entries =
+    let found : under c.find.new.key c.in_ok-hit.hit ≡ lent (asked_to c.args.top.now c.args.key.now.name (type_number c.args.kind)) c.args.now c.args.self.now.entries =
     c.in_ok-hit.ensures in
-    hit_is_held c.args.key.now.name (type_number c.args.kind) c.args.now c.args.self.now.entries c.find.new.key c.in_ok-hit.hit found
+    hit_is_held (asked_to c.args.top.now c.args.key.now.name (type_number c.args.kind)) c.args.now c.args.self.now.entries c.find.new.key c.in_ok-hit.hit found
 
 pub returns-clause-missed : goal.returns-clause-missed
 returns-clause-missed g c =
-    let found : under c.find.new.key c.in_ok-hit.hit ≡ answer c.args.key.now.name (type_number c.args.kind) c.args.now c.args.self.now.entries =
+    let found : under c.find.new.key c.in_ok-hit.hit ≡ lent (asked_to c.args.top.now c.args.key.now.name (type_number c.args.kind)) c.args.now c.args.self.now.entries =
     c.in_ok-hit.ensures in
-    miss_is_missed c.args.key.now.name (type_number c.args.kind) c.args.now c.args.self.now.entries c.find.new.key c.in_ok-hit.hit found
+    miss_is_missed (asked_to c.args.top.now c.args.key.now.name (type_number c.args.kind)) c.args.now c.args.self.now.entries c.find.new.key c.in_ok-hit.hit found
 
 pub returns-clause-ok : goal.returns-clause-ok
 returns-clause-ok g c =
-    let found : under c.find.new.key c.in_ok-hit.hit ≡ answer c.args.key.now.name (type_number c.args.kind) c.args.now c.args.self.now.entries =
+    let found : under c.find.new.key c.in_ok-hit.hit ≡ lent (asked_to c.args.top.now c.args.key.now.name (type_number c.args.kind)) c.args.now c.args.self.now.entries =
     c.in_ok-hit.ensures in
     let before = c.args.self.now in
     let after = c.if-is_some.self in
-    let at = answer c.args.key.now.name (type_number c.args.kind) c.args.now c.args.self.now.entries in
+    let at = lent (asked_to c.args.top.now c.args.key.now.name (type_number c.args.kind)) c.args.now c.args.self.now.entries in
     elim c.if-is_some.branch [
       | then-is_some w ↦ moved_some before after c.find.new.key c.in_ok-hit.hit at found (sym c.is_some.ensures ∙ w.if-is_some.true)
           (w.self-is ∙ promoted_shows c.args.self.now c.self.inside.entries c.self.view_is c.find.new.key w.promote.new.self w.promote.ensures.entries)
@@ -34,4 +34,4 @@ returns-clause-ok g c =
 
 pub returns-clause-members : goal.returns-clause-members
 returns-clause-members g c =
-    moved_members c.args.self.now c.if-is_some.self (answer c.args.key.now.name (type_number c.args.kind) c.args.now c.args.self.now.entries) (returns-clause-ok g c)
+    moved_members c.args.self.now c.if-is_some.self (lent (asked_to c.args.top.now c.args.key.now.name (type_number c.args.kind)) c.args.now c.args.self.now.entries) (returns-clause-ok g c)
