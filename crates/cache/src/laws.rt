@@ -15,9 +15,10 @@ pub fn members_law()
     ensures held { GivenIsHeld }
 {}
 
-/// What a look-up gives. The names above that are tried are those over the name up to `top`; what is given lives; nothing is given exactly where nothing that is kept answers;
-/// the link that lives and answers first is given, and so is what was just kept. Each call leaves entries of
-/// different keys, and no more than there is room for.
+/// What a look-up gives. The names above that are tried are those over the name up to `top`. What is given
+/// lives; nothing is given exactly where nothing that is kept answers; the link that lives and answers first is
+/// given, and so is what was just kept. Each call leaves entries of different keys, and no more than there is
+/// room for.
 pub fn given_law()
     ensures above { AboveIsBetween }
     ensures missed { NothingIsMissed }

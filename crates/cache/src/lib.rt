@@ -3,8 +3,8 @@
 //!
 //! `keep` puts a link under its name and type, NXDOMAIN under the name alone; what has TTL 0 is not kept, and
 //! replaces what was. `look` gives what lives: NXDOMAIN of the name, the link of the type, a CNAME for other types,
-//! or NXDOMAIN of a name above, which denies all names beneath (RFC 8020). `Hit::into_link` is the link as it is sent, its TTLs less its age. Beyond its room the entry that was
-//! used least recently goes.
+//! or NXDOMAIN of a name above, which denies all names beneath (RFC 8020). `Hit::into_link` is the link as it is
+//! sent, its TTLs less its age. Beyond its room the entry that was used least recently goes.
 //!
 //! Promised: what is given, and what stands afterwards, exactly (`lent`, `after_keep`, `after_look`) and in
 //! words: what is given was kept and lives (`IsHeld`), nothing is given only where nothing answers (`IsMiss`;

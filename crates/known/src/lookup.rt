@@ -128,10 +128,10 @@ fn found_beyond<A: Heap>(home: &Home<A>, kept: Kept<A>) -> Result<Found<A>, Star
 }
 
 /// What is known of a name and a type at the moment `now`, in milliseconds: what the zones at hand say, else
-/// what the cache has (RFC 1034, section 5.3.3, step 1), the NXDOMAIN of a name above among it (RFC 8020,
-/// section 2), as far up as the cut that the zones at hand name. Where neither says anything, the cut where servers
-/// are sought (step 2): the one that the zones at hand name, or a deeper one that is kept; where they name
-/// none, the deepest that is kept, or the root's. Want of memory leaves the stores with the same entries.
+/// what the cache has (RFC 1034, section 5.3.3, step 1), the NXDOMAIN of a name above among it, as far up as
+/// the cut that the zones at hand name (RFC 8020, section 2). Where neither says anything, the cut where
+/// servers are sought (step 2): the one that the zones at hand name, or a deeper one that is kept; where they
+/// name none, the deepest that is kept, or the root's. Want of memory leaves the stores with the same entries.
 pub fn find<S: BuildHasher + Drop, A: Heap>(
     alloc: A,
     home: &Home<A>,

@@ -8,7 +8,8 @@
 //!
 //! Promised: a name has one zone in charge and a question one truth (`charge_law`, `one_truth_law`), a right reply
 //! is right for one truth alone (`one_reply_law`); what an honest server answers is true, and where it refers may
-//! be followed (`honest_answer_law`, `honest_referral_law`, `frame_law`); the premises can be met (`sample_law`).
+//! be followed (`honest_answer_law`, `honest_referral_law`, `frame_law`); a name error is true of all names beneath
+//! (`beneath_law`, RFC 8020); the premises can be met (`sample_law`).
 //! Not here: caches, retries, identifiers and time (`resolution`, `runs`, `laws`).
 //!
 //! ```text
