@@ -29,7 +29,7 @@ use std::num::NonZeroUsize;
 #[derive(Drop)]
 pub struct Cache<S: BuildHasher + Drop, A: Allocator = Global> {
     entries: LruCache<Key<A>, Packed<A>, S, A>,
-    // The key of the last look-up: the next one takes its memory.
+    // The key of the last look-up, or of the error that the last keep swept: the next one takes its memory.
     asked: Option<Key<A>>,
 }
 
@@ -111,10 +111,8 @@ impl<S: BuildHasher + Drop, A: Heap> Cache<S, A> {
         ensures only { KeepsOnly self.old.entries (IsKept name.now (type_number kind) (as_kept (link_view link.now) ttl now)) self.new.entries }
         ensures gone { LosesOnly self.old.entries (IsGone self.old.cap name.now (type_number kind) (as_kept (link_view link.now) ttl now) self.old.entries) self.new.entries }
     {
-        let error = Key {
-            name: name.clone()?,
-            slot: Slot::NameError,
-        };
+        let mut error = self.key_of(name)?;
+        error.slot = Slot::NameError;
         let key = Key {
             name: name.clone()?,
             slot: Slot::for_link(kind, link),
@@ -122,6 +120,7 @@ impl<S: BuildHasher + Drop, A: Heap> Cache<S, A> {
         let packed = Packed::of(*self.entries.allocator(), name, link, ttl, now)?;
         self.store(key, packed)?;
         self.sweep(&error, link);
+        self.put_back(error);
         Ok(())
     }
 
@@ -166,7 +165,7 @@ impl<S: BuildHasher + Drop, A: Heap> Cache<S, A> {
         Ok(hit)
     }
 
-    // The key of this name's error, in the memory of the last look-up's key.
+    // A key of this name, in the memory of the last one.
     fn key_of(&mut self, name: &Name<A>) -> Result<Key<A>, Starved>
         ensures key { IfOk result (λ k. k.name ≡ name.now) }
         ensures same { self.new ≡ self.old }

@@ -440,7 +440,7 @@ fn is_kept_whole<B: Allocator>(
 }
 
 // Links, and how many growths a `keep` of each takes.
-const REFUSED: &[(Shape, u64)] = &[(ADDRESS, 6), (Shape::TwoAddresses, 11), (Shape::NoData, 10)];
+const REFUSED: &[(Shape, u64)] = &[(ADDRESS, 5), (Shape::TwoAddresses, 10), (Shape::NoData, 9)];
 
 fn first_spoilt<B: Allocator>(
     heap: &Refusing<B>,

@@ -10,12 +10,12 @@ returns-clause-ok g c = search rules
 
 pub returns-clause-there : goal.returns-clause-there
 returns-clause-there g c =
-    keep_there c.args.self.now c.sweep.new.self c.args.name.now (type_number c.args.kind) (as_kept (link_view c.args.link.now) c.args.ttl c.args.now) (returns-clause-ok g c)
+    keep_there c.args.self.now c.put_back.new.self c.args.name.now (type_number c.args.kind) (as_kept (link_view c.args.link.now) c.args.ttl c.args.now) (returns-clause-ok g c)
 
 pub returns-clause-only : goal.returns-clause-only
 returns-clause-only g c =
-    keep_only c.args.self.now c.sweep.new.self c.args.name.now (type_number c.args.kind) (as_kept (link_view c.args.link.now) c.args.ttl c.args.now) (returns-clause-ok g c)
+    keep_only c.args.self.now c.put_back.new.self c.args.name.now (type_number c.args.kind) (as_kept (link_view c.args.link.now) c.args.ttl c.args.now) (returns-clause-ok g c)
 
 pub returns-clause-gone : goal.returns-clause-gone
 returns-clause-gone g c =
-    keep_gone c.args.self.now c.sweep.new.self c.args.name.now (type_number c.args.kind) (as_kept (link_view c.args.link.now) c.args.ttl c.args.now) (returns-clause-ok g c)
+    keep_gone c.args.self.now c.put_back.new.self c.args.name.now (type_number c.args.kind) (as_kept (link_view c.args.link.now) c.args.ttl c.args.now) (returns-clause-ok g c)
