@@ -137,7 +137,7 @@ module _ (port : ℕ) (home : Home) (run : List Turn) where
       by_hit : {hit : Hit} → Tells (λ m u e. Earlier (Takes port m u e.link) run) (asked_of home n a_type) now hit → hit.link ≡ Found set → Earlier (Takes port n a_type (Found set)) run
       by_hit tells e =
           let (name, kind, link) = answers_set n (above_by (looked home.zones n a_type) n) tells.at tells.kind tells.entry.link set
-              (subst (Answers (asked_of home n a_type) (key_for tells.at tells.kind tells.entry.link) tells.entry.link) e tells.answers) in
+          (subst (Answers (asked_of home n a_type) (key_for tells.at tells.kind tells.entry.link) tells.entry.link) e tells.answers) in
           subst (λ (m : Name). Earlier (Takes port m a_type (Found set)) run) name
           (subst (λ (u : ℕ). Earlier (Takes port tells.at u (Found set)) run) kind (subst (λ (m : Link). Earlier (Takes port tells.at tells.kind m) run) link tells.kept))
 
@@ -165,7 +165,7 @@ module _ (port : ℕ) (home : Home) (run : List Turn) where
           → (v : ℕ) × (k : Link) × Earlier (Takes port n v k) run × ((k ≡ Alias r) ⊎ ((v ≡ cname_type) × ((rs : List Record) × (k ≡ Found (r ∷ rs)))))
       by_hit tells e =
           let (name, says) = answers_alias n (above_by (looked home.zones n t) n) tells.at tells.kind t tells.entry.link r
-              (subst (Answers (asked_of home n t) (key_for tells.at tells.kind tells.entry.link) tells.entry.link) e tells.answers) in
+          (subst (Answers (asked_of home n t) (key_for tells.at tells.kind tells.entry.link) tells.entry.link) e tells.answers) in
           (tells.kind, tells.entry.link, subst (λ (m : Name). Earlier (Takes port m tells.kind tells.entry.link) run) name tells.kept, says)
 
   pub found_name : (now : ℕ) (n : Name) (t : ℕ) (old new : Stores) (l : Taken) → Finds home now n t old l new → l.name ≡ n
