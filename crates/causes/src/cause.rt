@@ -13,10 +13,13 @@ pub enum Cause {
     Chain,
     /// The query has asked servers as often as it may.
     Sends,
-    /// No server is left to ask.
+    /// No server is left to ask, and none was passed over.
     NoServer,
     /// The reply is too large to be sent.
     Large,
+    /// No server is left to ask, and at least one was passed over since it had failed to answer the same less than 30
+    /// seconds before (RFC 2308, section 7.1).
+    KnownFailure,
 }
 
 impl Cause {
@@ -31,6 +34,7 @@ impl Cause {
             Cause::Sends => 4,
             Cause::NoServer => 5,
             Cause::Large => 6,
+            Cause::KnownFailure => 7,
         }
     }
 }

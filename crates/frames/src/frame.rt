@@ -146,6 +146,13 @@ impl<A: Allocator> Frame<A> {
         &self.addresses
     }
 
+    /// The address to ask next, which stays the next one; none after the second round.
+    pub fn upcoming(&self) -> Option<Addr>
+        ensures { result ≡ upcoming (self.now).plan }
+    {
+        self.plan.upcoming()
+    }
+
     /// The address to ask next; none after the second round.
     pub fn next_address(&mut self) -> Option<Addr>
         ensures value { result ≡ upcoming (self.old).plan }

@@ -48,10 +48,9 @@ impl<A: Heap> Plan<A> {
 }
 
 impl<A: Allocator> Plan<A> {
-    /// The address to ask next; none after the second round.
-    pub fn next(&mut self) -> Option<Addr>
-        ensures value { result ≡ upcoming self.old }
-        ensures plan { self.new ≡ advanced self.old }
+    /// The address to ask next, which stays the next one; none after the second round.
+    pub fn upcoming(&self) -> Option<Addr>
+        ensures { result ≡ upcoming self.now }
     {
         let round = self.order.len();
         let place = if self.given < round {
@@ -59,7 +58,15 @@ impl<A: Allocator> Plan<A> {
         } else {
             self.given - round
         };
-        let addr = *self.order.get(place)?;
+        Some(*self.order.get(place)?)
+    }
+
+    /// The address to ask next; none after the second round.
+    pub fn next(&mut self) -> Option<Addr>
+        ensures value { result ≡ upcoming self.old }
+        ensures plan { self.new ≡ advanced self.old }
+    {
+        let addr = self.upcoming()?;
         self.given += 1;
         Some(addr)
     }
