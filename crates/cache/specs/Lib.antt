@@ -4,9 +4,11 @@ pub mod Keys
 pub mod Given
 pub mod Members
 pub mod Aging
+pub mod Failures
 -- Kept: what the code's own values keep.
 pub mod Forms
 pub mod Kinds
 pub mod Laws
+pub mod FailureLaws
 pub mod Denials
 pub mod Packed

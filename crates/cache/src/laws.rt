@@ -1,6 +1,7 @@
 //! Laws of a cache's entries: functions that do nothing, whose clauses are proved.
 
 ghost use Rattle.cache.specs.Aging.{AgedIsSame, LiveIsLeft, LeftIsLess, NewIsWhole};
+ghost use Rattle.cache.specs.Failures.{FailedWasKept, KeptIsFailed, AskingChangesNone};
 ghost use Rattle.cache.specs.Given.{AboveIsBetween, NothingIsMissed, MissGivesNothing, GivenLives, FirstIsGiven, KeptIsGiven, LookStaysValid, KeepStaysValid};
 ghost use Rattle.cache.specs.Members.{LookKeepsMembers, KeepBringsOne, KeptIsThere, KeepLosesFew, GivenIsHeld};
 
@@ -37,4 +38,12 @@ pub fn aging_law()
     ensures live { LiveIsLeft }
     ensures less { LeftIsLess }
     ensures new { NewIsWhole }
+{}
+
+/// What a store of failures says. One that lives was kept less than 30 seconds ago; one that is kept lives for 30
+/// seconds, while want of room does not remove it; and to ask for one changes what lives of none.
+pub fn failures_law()
+    ensures kept { FailedWasKept }
+    ensures lives { KeptIsFailed }
+    ensures same { AskingChangesNone }
 {}

@@ -4,11 +4,13 @@
 //! `keep` puts a link under its name and type, NXDOMAIN under the name alone; what has TTL 0 is not kept, and
 //! replaces what was. `look` gives what lives: NXDOMAIN of the name, the link of the type, a CNAME for other types,
 //! or NXDOMAIN of a name above, which denies all names beneath (RFC 8020). `Hit::into_link` is the link as it is
-//! sent, its TTLs less its age. Beyond its room the entry that was used least recently goes.
+//! sent, its TTLs less its age. Beyond its room the entry that was used least recently goes. `Failures` keeps which
+//! server failed to answer which question, for 30 seconds (RFC 2308, section 7.1).
 //!
 //! Promised: what is given, and what stands afterwards, exactly (`lent`, `after_keep`, `after_look`) and in
 //! words: what is given was kept and lives (`IsHeld`), nothing is given only where nothing answers (`IsMiss`;
-//! `given_law`), no entry comes or goes unsaid (`members_law`), and age takes TTLs alone (`aging_law`).
+//! `given_law`), no entry comes or goes unsaid (`members_law`), and age takes TTLs alone (`aging_law`); a failure
+//! that is kept lives for 30 seconds, and no other does (`failures_law`).
 //! Not here: whether a reply may be believed (`classify`, `exchange`); bounds on TTLs (`classify::received`);
 //! prefetch, serve-stale.
 //!
@@ -24,17 +26,21 @@
 
 mod cache;
 mod denial;
+mod failures;
 mod hit;
 mod key;
 mod laws;
 mod packed;
 
 pub use cache::Cache;
+pub use failures::Failures;
 pub use hit::{Hit, retimed, seconds_left};
-pub use laws::{aging_law, given_law, members_law};
+pub use laws::{aging_law, failures_law, given_law, members_law};
 // A crate can name a cache in a contract only if the types of its fields are exported.
 #[doc(hidden)]
 pub use denial::Denial;
+#[doc(hidden)]
+pub use failures::FailedAsk;
 #[doc(hidden)]
 pub use key::{Key, Slot};
 pub use packed::{Form, Packed, Values};
