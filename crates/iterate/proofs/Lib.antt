@@ -1,5 +1,6 @@
 pub mod Accepted
 pub mod Alive
+pub mod Passed
 pub mod Sought
 pub mod Started
 pub mod Turns

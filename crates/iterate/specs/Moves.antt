@@ -1,11 +1,14 @@
 -- One move of a job at work: a rule, or what goes out where none applies.
-use Rattle.std.specs.Prelude.{◌≡◌, ℕ, Bool, true, false, List, [], ◌∷◌, ◌++◌}
+use Rattle.std.specs.Prelude.{◌≡◌, ℕ, zero, suc, Bool, true, false, Some, List, [], ◌∷◌, ◌++◌}
 use Rattle.dname.specs.Labels.{Name}
 use Rattle.rdata.specs.Records.{Record}
 use Rattle.rdata.specs.declared.addr.Addr.{Addr}
+use Rattle.recency.specs.Orders.{used}
+use Rattle.retry.specs.Plans.{upcoming}
+use Rattle.cache.specs.Failures.{same_failed}
 use Rattle.frames.specs.Frames.{after_add, fresh_addresses}
-use Rattle.resolution.specs.Jobs.{Home, Stores, level_of, Taken, AreFresh, IsDead, AreAddressesOf, Search, with_frame, Job, Next, Task, Point, point}
-use Rattle.resolution.specs.Rules.{Rule, Leaves}
+use Rattle.resolution.specs.Jobs.{Home, Stores, level_of, Taken, AreFresh, IsDead, AreAddressesOf, Search, with_frame, ask_of, fails_now, Job, Next, Task, Point, point}
+use Rattle.resolution.specs.Rules.{PassesOver, IsFree, Rule, Leaves}
 
 -- The work goes on with a task, or something goes out.
 pub data Turn : Type 0 where
@@ -19,6 +22,10 @@ IsMove home now p (Out next) job stores = Leaves home now p next job stores
 -- A job with one search more, and with that one alone.
 abbrev pub with_search : Job → Search → Job
 with_search j s = record j { searches = s ∷ j.searches }
+
+-- The same, where servers were passed over.
+abbrev pub skipping : Job → Search → Job
+skipping j s = record j { searches = s ∷ j.searches; skipped = true }
 
 abbrev pub begun : Job → Search → Job
 begun j s = record j { searches = s ∷ [] }
@@ -43,3 +50,23 @@ pub record IsTakenFrom (now : ℕ) (old : List Taken) (d : Taken) (new : List Ta
 abbrev pub IsRestart : ℕ → Job → Job → Bool → Type 0
 IsRestart now old new true = (d : Taken) × (front : List Taken) × IsTakenFrom now old.chain d front × (new ≡ record old { chain = front; name = d.name; searches = [] })
 IsRestart now old new false = AreFresh now old.chain × (new ≡ old)
+
+-- The address that comes next failed lately, and its failure is the most recently used; or it did not, and nothing
+-- changed.
+abbrev pub IsNextFailed : ℕ → Search → Stores → Stores → Bool → Type 0
+IsNextFailed now s old new true =
+    (server : Addr) × (upcoming (s.frame).plan ≡ Some server) × (fails_now now old.failures s server ≡ true)
+    × (new ≡ record old { failures = used same_failed (ask_of s server) old.failures })
+IsNextFailed now s old new false = IsFree now s old.failures × (new ≡ old)
+
+-- The addresses that come next and failed lately were passed over; true where there was one.
+abbrev pub has_some : ℕ → Bool
+has_some zero = false
+has_some (suc n) = true
+
+pub record ArePassed (now : ℕ) (before : Search) (old : Stores) (after : Search) (new : Stores) (some : Bool) : Type 0 where
+  pub count : ℕ
+  pub passes : PassesOver now count before old.failures after new.failures
+  pub free : IsFree now after new.failures
+  pub stores : new ≡ record old { failures = new.failures }
+  pub is_some : some ≡ has_some count

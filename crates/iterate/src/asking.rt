@@ -1,8 +1,8 @@
 //! Asks that go out (RFC 1034, section 5.3.3, step 3), each counted: none from the deadline on, and no more than
 //! 40.
-ghost use Rattle.std.specs.Prelude.{◌≡◌, Some, IfOk, Contains};
+ghost use Rattle.std.specs.Prelude.{◌≡◌, false, Some, IfOk, Contains};
 ghost use Rattle.retry.specs.Plans.{upcoming};
-ghost use Rattle.resolution.specs.Jobs.{Home as Grounds, Stores as Learnt, Search as Sought, Go as Going, Again as Repeating, point, given};
+ghost use Rattle.resolution.specs.Jobs.{Home as Grounds, Stores as Learnt, Search as Sought, Go as Going, Again as Repeating, point, given, fails_now};
 ghost use Rattle.iterate.specs.Moves.{IsMove, with_search};
 ghost use Rattle.iterate.specs.Views.{turn_view};
 
@@ -22,7 +22,7 @@ pub(crate) fn ask<A: Heap>(
     server: Addr,
     now: u64,
 ) -> Result<Turn<A>, Starved>
-    ensures { (home : Grounds) (stores : Learnt) (before : Sought) → upcoming (before.frame).plan ≡ Some server → Contains (before.frame).addresses server → search ≡ given before
+    ensures { (home : Grounds) (stores : Learnt) (before : Sought) → upcoming (before.frame).plan ≡ Some server → Contains (before.frame).addresses server → fails_now now stores.failures before server ≡ false → search ≡ given before
         → IfOk result (λ t. IsMove home now (point Going (with_search job.old before) stores) (turn_view t) job.new stores) }
 {
     if let Some(cause) = job.refusal(now) {

@@ -3,7 +3,7 @@ ghost use Rattle.std.specs.Prelude.{◌≡◌, ◌⊎◌, ℕ, IfOk, OnOk, OnErr
 ghost use Rattle.zone.specs.Links.{Link as Said};
 ghost use Rattle.authority.specs.Answers.{link_view};
 ghost use Rattle.classify.specs.Classes.{class_of};
-ghost use Rattle.resolution.specs.Jobs.{Stores as Remembered, Search as Sought, Told, Go, point, with_answer, received_link, IsCutOf, with_frame, level_of};
+ghost use Rattle.resolution.specs.Jobs.{Stores as Remembered, Search as Sought, Told, Go, point, with_answer, with_failure, with_told, is_server_failure, received_link, IsCutOf, with_frame, level_of};
 ghost use Rattle.resolution.specs.Rules.{Learnt, IsAnswered, IsReferred, ByClass, Enters, Stops};
 ghost use Rattle.frames.specs.Frames.{opened};
 ghost use Rattle.known.specs.Views.{with_cut};
@@ -20,6 +20,7 @@ use dname::{Heap, Starved};
 use known::{Stores, Taken, cut_of};
 use rdata::Addr;
 use referral::Cut;
+use std::alloc::Allocator;
 use std::hash::BuildHasher;
 use wire::{Message, Via};
 
@@ -138,6 +139,30 @@ fn refer<S: BuildHasher + Drop, A: Heap>(
     }
 }
 
+// Whether the message says that its server failed to answer (RFC 1035, section 4.1.1).
+fn is_server_failure<A: Allocator>(message: &Message<A>) -> bool
+    ensures { result ≡ is_server_failure message.now }
+{
+    message.header.rcode == 2 && !message.header.tc
+}
+
+// That the server failed to answer what is sought is kept, where the message says so (RFC 2308, section 7.1).
+fn note_failure<S: BuildHasher + Drop, A: Heap>(
+    search: &Search<A>,
+    server: Addr,
+    message: &Message<A>,
+    stores: &mut Stores<S, A>,
+    now: u64,
+) -> Result<(), Starved>
+    ensures ok { OnOk result (stores.new ≡ with_failure now search.now server message.now stores.old) }
+    ensures err { OnErr result (stores.new ≡ stores.old) }
+{
+    if is_server_failure(message) {
+        stores.failed(search.name(), search.kind(), server, now)?;
+    }
+    Ok(())
+}
+
 // A message was accepted for this search, the innermost one, which the job no longer has.
 fn hear_for<S: BuildHasher + Drop, A: Heap>(
     alloc: A,
@@ -150,7 +175,7 @@ fn hear_for<S: BuildHasher + Drop, A: Heap>(
     now: u64,
 ) -> Result<Task<A>, Starved>
     ensures by { IfOk result (λ t. ByClass now server search (job.old).searches (class_of search.frame.zone search.name search.kind via message.now) (with_search job.old search) stores.old (point (task_view t) job.new stores.new)) }
-    ensures stops { (before : Remembered) → stores.old ≡ with_answer before server → OnErr result (Stops (Told via server message.now) now (with_search job.old search) before stores.new) }
+    ensures stops { (before : Remembered) → stores.old ≡ with_told now search server message.now before → OnErr result (Stops (Told via server message.now) now (with_search job.old search) before stores.new) }
 {
     let class = classify(
         alloc,
@@ -182,8 +207,8 @@ fn hear_for<S: BuildHasher + Drop, A: Heap>(
 }
 
 /// What is due after a message was accepted for the innermost search: an answer is kept and taken up, a
-/// referral is kept and followed, what was truncated is asked for again over TCP; the rest is of no use. A job
-/// without a search has nothing that a message could be for.
+/// referral is kept and followed, what was truncated is asked for again over TCP; the rest is of no use, but that a
+/// server failed to answer is kept. A job without a search has nothing that a message could be for.
 pub(crate) fn hear<S: BuildHasher + Drop, A: Heap>(
     alloc: A,
     job: &mut Job<A>,
@@ -198,6 +223,12 @@ pub(crate) fn hear<S: BuildHasher + Drop, A: Heap>(
 {
     match job.pop() {
         None => Ok(Task::Go),
-        Some(search) => Ok(hear_for(alloc, job, search, via, server, message, stores, now)?),
+        Some(search) => match note_failure(&search, server, message, stores, now) {
+            Err(starved) => {
+                drop(search);
+                Err(starved)
+            }
+            Ok(()) => Ok(hear_for(alloc, job, search, via, server, message, stores, now)?),
+        },
     }
 }

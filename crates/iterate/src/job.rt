@@ -3,8 +3,8 @@ ghost use Rattle.std.specs.Prelude.{◌≡◌, ◌+◌, ◌^◌, ◌<◌, [], le
 ghost use Rattle.rdata.specs.Types.{type_number};
 ghost use Rattle.frames.specs.Frames.{next_name};
 ghost use Rattle.resolution.specs.Jobs.{job_at, wait_of_job, marked, asked_again, MaySend};
-ghost use Rattle.resolution.specs.Rules.{IsRefused, turned};
-ghost use Rattle.iterate.specs.Moves.{with_search, begun, followed, IsRestart};
+ghost use Rattle.resolution.specs.Rules.{IsRefused, turned, spent_cause};
+ghost use Rattle.iterate.specs.Moves.{with_search, begun, followed, skipping, IsRestart};
 
 use crate::chain::Chain;
 use crate::search::{Search, Searches};
@@ -33,6 +33,8 @@ pub struct Job<A: Allocator = Global> {
     failed: Failed<A>,
     asks: u32,
     deadline: u64,
+    // Whether a server was passed over, since it had failed lately.
+    skipped: bool,
 }
 
 impl<A: Allocator> Model for Job<A> {
@@ -41,7 +43,7 @@ impl<A: Allocator> Model for Job<A> {
 
     ghost Value = { Work };
 
-    ghost view = { λ j. record { name = j.name; kind = type_number j.kind; chain = j.chain; searches = j.searches; failed = j.failed; asks = j.asks; deadline = j.deadline } };
+    ghost view = { λ j. record { name = j.name; kind = type_number j.kind; chain = j.chain; searches = j.searches; failed = j.failed; asks = j.asks; deadline = j.deadline; skipped = j.skipped } };
 }
 
 impl<A: Heap> Job<A> {
@@ -59,6 +61,7 @@ impl<A: Heap> Job<A> {
             failed: Failed::new(alloc),
             asks: 0,
             deadline: now + LIFETIME_MS,
+            skipped: false,
         }
     }
 
@@ -66,6 +69,15 @@ impl<A: Heap> Job<A> {
     pub(crate) fn push(&mut self, search: Search<A>) -> Result<(), Starved>
         ensures { OnOk result (self.new ≡ with_search self.old search) }
     {
+        self.searches.push(search)?;
+        Ok(())
+    }
+
+    // A search within the others, in which servers were passed over.
+    pub(crate) fn skip(&mut self, search: Search<A>) -> Result<(), Starved>
+        ensures { OnOk result (self.new ≡ skipping self.old search) }
+    {
+        self.skipped = true;
         self.searches.push(search)?;
         Ok(())
     }
@@ -174,6 +186,17 @@ impl<A: Allocator> Job<A> {
             return Some(Cause::Sends);
         }
         None
+    }
+
+    // Why the query fails where no server is left.
+    pub(crate) fn spent(&self) -> Cause
+        ensures { result ≡ spent_cause (self.now).skipped }
+    {
+        if self.skipped {
+            Cause::KnownFailure
+        } else {
+            Cause::NoServer
+        }
     }
 
     // One ask more.

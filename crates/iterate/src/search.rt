@@ -53,6 +53,13 @@ impl<A: Allocator> Search<A> {
         self.kind
     }
 
+    // The address to ask next, which stays the next one.
+    pub(crate) fn upcoming(&self) -> Option<Addr>
+        ensures { result ≡ upcoming (self.now).frame.plan }
+    {
+        self.frame.upcoming()
+    }
+
     // Its servers.
     pub(crate) fn frame(&self) -> &Frame<A>
         ensures { result.now ≡ self.now.frame }

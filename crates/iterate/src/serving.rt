@@ -5,9 +5,9 @@ ghost use Rattle.retry.specs.Plans.{upcoming};
 ghost use Rattle.zone.specs.Zones.{a_type};
 ghost use Rattle.frames.specs.Frames.{FailedName, next_name, opened};
 ghost use Rattle.resolution.specs.Jobs.{Home as Grounds, Stores as Learnt, Search as Sought, Go as Going, point, level_of, search_at};
-ghost use Rattle.resolution.specs.Rules.{Rule, HearsOf, turned};
+ghost use Rattle.resolution.specs.Rules.{Rule, HearsOf, IsFree, turned};
 ghost use Rattle.known.specs.Uses.{OnlyUses};
-ghost use Rattle.iterate.specs.Moves.{IsMove, IsAdded, with_search};
+ghost use Rattle.iterate.specs.Moves.{IsMove, IsAdded, IsNextFailed, ArePassed, with_search};
 ghost use Rattle.iterate.specs.Views.{turn_view};
 
 use crate::asking::ask;
@@ -143,7 +143,7 @@ fn give_up<A: Heap>(job: &mut Job<A>, search: Search<A>) -> Result<Turn<A>, Star
     match job.pop() {
         None => {
             drop(search);
-            Ok(Turn::Out(Next::Fail(Cause::NoServer)))
+            Ok(Turn::Out(Next::Fail(job.spent())))
         }
         Some(around) => {
             let marked = job.mark(search.name(), search.frame().nesting());
@@ -181,6 +181,58 @@ fn go_further<S: BuildHasher + Drop, A: Heap>(
     }
 }
 
+// Whether the address that comes next failed lately to answer what the search seeks.
+fn is_next_failed<S: BuildHasher + Drop, A: Heap>(
+    search: &Search<A>,
+    stores: &mut Stores<S, A>,
+    now: u64,
+) -> Result<bool, Starved>
+    ensures is { IfOk result (IsNextFailed now search.now stores.old stores.new) }
+    ensures only { OnlyUses stores.old stores.new }
+{
+    match search.upcoming() {
+        Some(server) => Ok(stores.is_failed(search.name(), search.kind(), server, now)?),
+        None => Ok(false),
+    }
+}
+
+// Passes over the addresses that come next and failed lately to answer what the search seeks (RFC 2308, section
+// 7.1); whether there was one.
+fn pass_over<S: BuildHasher + Drop, A: Heap>(
+    search: &mut Search<A>,
+    stores: &mut Stores<S, A>,
+    now: u64,
+) -> Result<bool, Starved>
+    ensures is { IfOk result (ArePassed now search.old stores.old search.new stores.new) }
+    ensures only { OnlyUses stores.old stores.new }
+{
+    let mut passed = false;
+    while is_next_failed(search, stores, now)? {
+        search.next_address();
+        passed = true;
+    }
+    Ok(passed)
+}
+
+// The next server is asked, or where all known addresses were asked the search goes further.
+fn ask_on<S: BuildHasher + Drop, A: Heap>(
+    alloc: A,
+    job: &mut Job<A>,
+    mut search: Search<A>,
+    home: &Home<A>,
+    stores: &mut Stores<S, A>,
+    now: u64,
+) -> Result<Turn<A>, Starved>
+    requires { IsFree now search stores.old.failures }
+    ensures is { IfOk result (λ t. IsMove home.now now (point Going (with_search job.old search) stores.old) (turn_view t) job.new stores.new) }
+    ensures only { OnlyUses stores.old stores.new }
+{
+    match search.next_address() {
+        Some(server) => Ok(ask(job, search, server, now)?),
+        None => Ok(go_further(alloc, job, search, home, stores, now)?),
+    }
+}
+
 // The innermost search goes on.
 fn go_on<S: BuildHasher + Drop, A: Heap>(
     alloc: A,
@@ -193,9 +245,16 @@ fn go_on<S: BuildHasher + Drop, A: Heap>(
     ensures is { IfOk result (λ t. IsMove home.now now (point Going (with_search job.old search) stores.old) (turn_view t) job.new stores.new) }
     ensures only { OnlyUses stores.old stores.new }
 {
-    match search.next_address() {
-        Some(server) => Ok(ask(job, search, server, now)?),
-        None => Ok(go_further(alloc, job, search, home, stores, now)?),
+    match pass_over(&mut search, stores, now) {
+        Err(starved) => {
+            drop(search);
+            Err(starved)
+        }
+        Ok(true) => {
+            job.skip(search)?;
+            Ok(Turn::Onward(Task::Go))
+        }
+        Ok(false) => Ok(ask_on(alloc, job, search, home, stores, now)?),
     }
 }
 

@@ -7,10 +7,12 @@ use Rattle.std.specs.Prelude.{Contains}
 use Rattle.recency.specs.Orders.{LosesOnly, HasSame}
 use Rattle.cache.specs.Cached.{Asked}
 use Rattle.cache.proofs.Members as cache
+use Rattle.cache.specs.Failures.{FailedAsk}
+use Rattle.cache.proofs.Failed.{asked_members}
 use Rattle.referral.proofs.Members as cuts
 use Rattle.resolution.specs.Jobs.{Stores, Job, Input}
 use Rattle.resolution.specs.Rules.{Stops, server_of}
-use Rattle.known.specs.Views.{after_look, after_best}
+use Rattle.known.specs.Views.{after_look, after_best, after_failure_look}
 use Rattle.known.specs.Uses.{OnlyUses}
 
 same_refl : {X : Type 0} (xs : List X) → HasSame xs xs
@@ -27,9 +29,11 @@ uses_refl s = record {
   cache = same_refl s.cache;
   delegations = same_refl s.delegations;
   penalties = refl;
+  failures = same_refl s.failures;
   cache_cap = refl;
   delegations_cap = refl;
   penalties_cap = refl;
+  failures_cap = refl;
 }
 
 pub uses_same : (s t : Stores) → t ≡ s → OnlyUses s t
@@ -40,9 +44,11 @@ uses_then a b c f g = record {
   cache = same_then a.cache b.cache c.cache f.cache g.cache;
   delegations = same_then a.delegations b.delegations c.delegations f.delegations g.delegations;
   penalties = g.penalties ∙ f.penalties;
+  failures = same_then a.failures b.failures c.failures f.failures g.failures;
   cache_cap = g.cache_cap ∙ f.cache_cap;
   delegations_cap = g.delegations_cap ∙ f.delegations_cap;
   penalties_cap = g.penalties_cap ∙ f.penalties_cap;
+  failures_cap = g.failures_cap ∙ f.failures_cap;
 }
 
 pub look_uses : (s t : Stores) (a : Asked) (now : ℕ) → t ≡ after_look s a now → OnlyUses s t
@@ -50,9 +56,11 @@ look_uses s t a now is = subst (OnlyUses s) (sym is) (record {
   cache = cache.looked_members a now s.cache;
   delegations = same_refl s.delegations;
   penalties = refl;
+  failures = same_refl s.failures;
   cache_cap = refl;
   delegations_cap = refl;
   penalties_cap = refl;
+  failures_cap = refl;
 })
 
 pub best_uses : (s t : Stores) (n : Name) (now : ℕ) → t ≡ after_best s n now → OnlyUses s t
@@ -60,9 +68,23 @@ best_uses s t n now is = subst (OnlyUses s) (sym is) (record {
   cache = same_refl s.cache;
   delegations = cuts.looked_members n now s.delegations;
   penalties = refl;
+  failures = same_refl s.failures;
   cache_cap = refl;
   delegations_cap = refl;
   penalties_cap = refl;
+  failures_cap = refl;
+})
+
+pub failure_uses : (s t : Stores) (k : FailedAsk) (now : ℕ) → t ≡ after_failure_look s k now → OnlyUses s t
+failure_uses s t k now is = subst (OnlyUses s) (sym is) (record {
+  cache = same_refl s.cache;
+  delegations = same_refl s.delegations;
+  penalties = refl;
+  failures = asked_members now k s.failures;
+  cache_cap = refl;
+  delegations_cap = refl;
+  penalties_cap = refl;
+  failures_cap = refl;
 })
 
 -- What may stand where memory was wanting may stand after further look-ups too.
@@ -73,7 +95,10 @@ uses_stop input now j old mid new h uses = record {
   delegations = λ e there. h.delegations e (uses.delegations.0 e there);
   delegations_lost = still_loses old.delegations mid.delegations new.delegations _ h.delegations_lost uses.delegations;
   penalties = subst (λ (ps : List (Addr × ℕ)). (ps ≡ old.penalties) ⊎ ((server : Addr) × (server_of input ≡ Some server) × ((ps ≡ answered server old.penalties) ⊎ (ps ≡ timed_out server old.penalties_cap old.penalties)))) (sym uses.penalties) h.penalties;
+  failures = λ e there. h.failures e (uses.failures.0 e there);
+  failures_lost = still_loses old.failures mid.failures new.failures _ h.failures_lost uses.failures;
   cache_cap = uses.cache_cap ∙ h.cache_cap;
   delegations_cap = uses.delegations_cap ∙ h.delegations_cap;
   penalties_cap = uses.penalties_cap ∙ h.penalties_cap;
+  failures_cap = uses.failures_cap ∙ h.failures_cap;
 }

@@ -9,6 +9,7 @@ use Rattle.classify.specs.Lifetimes.{lifetime_of}
 use Rattle.referral.specs.Cuts.{ServerAddress, Cut}
 use Rattle.referral.specs.Cuts as referral
 use Rattle.cache.specs.Cached as cache
+use Rattle.cache.specs.Failures.{FailedAsk, after_failed, after_is_failed}
 use Rattle.resolution.specs.Jobs.{Home, Stores, Source, Taken}
 use Rattle.resolution.specs.Jobs as rules
 use Rattle.known.specs.declared.taken.Source.{Source as Origin}
@@ -64,8 +65,17 @@ abbrev pub accepted_link : Name → Link → ℕ → Taken
 accepted_link n l now = taken_at n l (rules.Accepted (lifetime_of l) now)
 
 -- Nothing learnt yet.
-abbrev pub no_stores : ℕ → ℕ → ℕ → Stores
-no_stores links cuts servers = record { cache = []; cache_cap = links; delegations = []; delegations_cap = cuts; penalties = []; penalties_cap = servers }
+abbrev pub no_stores : ℕ → ℕ → ℕ → ℕ → Stores
+no_stores links cuts servers failures = record {
+  cache = [];
+  cache_cap = links;
+  delegations = [];
+  delegations_cap = cuts;
+  penalties = [];
+  penalties_cap = servers;
+  failures = [];
+  failures_cap = failures;
+}
 
 -- After a link that is within the limits on times to live is kept for a name and a type; after a cut is.
 abbrev pub with_link : Stores → Name → ℕ → Link → ℕ → Stores
@@ -80,3 +90,10 @@ after_look stores a now = record stores { cache = cache.moved (cache.lent a now 
 
 abbrev pub after_best : Stores → Name → ℕ → Stores
 after_best stores n now = record stores { delegations = referral.after_best n now stores.delegations }
+
+-- After a server failed to answer a question, and after it was asked whether one did.
+abbrev pub with_failed : Stores → FailedAsk → ℕ → Stores
+with_failed stores k now = record stores { failures = after_failed stores.failures_cap k now stores.failures }
+
+abbrev pub after_failure_look : Stores → FailedAsk → ℕ → Stores
+after_failure_look stores k now = record stores { failures = after_is_failed now k stores.failures }

@@ -2,9 +2,9 @@
 //! hand, what was learnt, and where servers are sought if neither says anything.
 //!
 //! `Home` holds the local zones and the root's cut, made of the hints (SBELT). `Stores` holds the cache, the
-//! delegations and the penalties of servers. `find` asks the zones first and the cache next; where neither knows,
-//! it gives the cut at which servers are sought: the one that the zones name, or a deeper one that is kept. `Taken`
-//! is a link with where it comes from, and `into_sent` the link as it goes out.
+//! delegations, the penalties of servers, and which of them failed lately. `find` asks the zones first and the cache
+//! next; where neither knows, it gives the cut at which servers are sought: the one that the zones name, or a deeper
+//! one that is kept. `Taken` is a link with where it comes from, and `into_sent` the link as it goes out.
 //!
 //! Promised: what is found, or that nothing is and where the search starts (`IsFound`); a look-up leaves the same
 //! entries, in another order at most (`OnlyUses`); each call of the stores is one equation over `resolution`'s

@@ -1,18 +1,19 @@
-//! What the resolver learnt, in three stores of a fixed room: links (`cache`), delegations (`referral`) and the
-//! penalties of servers (`retry`). `Stores` has one call for each use that the work on a query makes of them, and
-//! sets how long a link or a cut is kept, and how much of a cut.
+//! What the resolver learnt, in four stores of a fixed room: links and failures of servers (`cache`), delegations
+//! (`referral`) and the penalties of servers (`retry`). `Stores` has one call for each use that the work on a query
+//! makes of them, and sets how long a link or a cut is kept, and how much of a cut.
 ghost use Rattle.std.specs.Prelude.{◌≡◌, IfOk, IfSome, OnOk, OnErr};
 ghost use Rattle.std.specs.NonZero.{non_zero_usize_get};
 ghost use Rattle.rdata.specs.Types.{type_number};
 ghost use Rattle.authority.specs.Answers.{link_view};
 ghost use Rattle.referral.specs.Cuts.{IsBest};
 ghost use Rattle.cache.specs.Cached.{asked_to, lent, hit_of, IsHeld};
+ghost use Rattle.cache.specs.Failures.{failed_ask, is_failed};
 ghost use Rattle.frames.specs.Frames.{opened, fresh_addresses, after_add};
 ghost use Rattle.resolution.specs.Jobs.{level_of, with_answer, with_timeout};
-ghost use Rattle.known.specs.Views.{no_stores, with_link, with_cut, after_look, after_best};
+ghost use Rattle.known.specs.Views.{no_stores, with_link, with_cut, with_failed, after_look, after_best, after_failure_look};
 
 use authority::Link;
-use cache::{Cache, Hit};
+use cache::{Cache, Failures, Hit};
 use classify::{lifetime, referral_lifetime};
 use dname::{Heap, Name, Starved};
 use frames::{Frame, trimmed};
@@ -33,6 +34,8 @@ pub struct Capacities {
     pub cuts: NonZeroUsize,
     /// Servers of which a penalty is kept.
     pub servers: NonZeroUsize,
+    /// Questions that a server failed to answer.
+    pub failures: NonZeroUsize,
 }
 
 /// What hashes the keys of each store.
@@ -44,14 +47,18 @@ pub struct Hashers<S: BuildHasher + Drop> {
     pub cuts: S,
     /// For the penalties, by the server's address.
     pub servers: S,
+    /// For the failures, by the name that was asked for and the server's address.
+    pub failures: S,
 }
 
-/// What the resolver learnt: links, delegations, and penalties of servers that did not answer.
+/// What the resolver learnt: links, delegations, penalties of servers that did not answer, and which servers failed to
+/// answer which questions.
 #[derive(Drop)]
 pub struct Stores<S: BuildHasher + Drop, A: Allocator = Global> {
     cache: Cache<S, A>,
     delegations: Delegations<S, A>,
     penalties: Penalties<S, A>,
+    failures: Failures<S, A>,
 }
 
 impl<S: BuildHasher + Drop, A: Allocator> Model for Stores<S, A> {
@@ -59,7 +66,7 @@ impl<S: BuildHasher + Drop, A: Allocator> Model for Stores<S, A> {
 
     ghost Value = { Learnt };
 
-    ghost view = { λ s. record { cache = s.cache.entries; cache_cap = s.cache.cap; delegations = s.delegations.entries; delegations_cap = s.delegations.cap; penalties = s.penalties.entries; penalties_cap = s.penalties.cap } };
+    ghost view = { λ s. record { cache = s.cache.entries; cache_cap = s.cache.cap; delegations = s.delegations.entries; delegations_cap = s.delegations.cap; penalties = s.penalties.entries; penalties_cap = s.penalties.cap; failures = s.failures.entries; failures_cap = s.failures.cap } };
 }
 
 impl<S: BuildHasher + Drop, A: Heap> Stores<S, A> {
@@ -69,12 +76,13 @@ impl<S: BuildHasher + Drop, A: Heap> Stores<S, A> {
         capacities: Capacities,
         hashers: Hashers<S>,
     ) -> Result<Stores<S, A>, Starved>
-        ensures { IfOk result (λ s. s ≡ no_stores (non_zero_usize_get capacities.links) (non_zero_usize_get capacities.cuts) (non_zero_usize_get capacities.servers)) }
+        ensures { IfOk result (λ s. s ≡ no_stores (non_zero_usize_get capacities.links) (non_zero_usize_get capacities.cuts) (non_zero_usize_get capacities.servers) (non_zero_usize_get capacities.failures)) }
     {
         Ok(Stores {
             cache: Cache::new(alloc, capacities.links, hashers.links)?,
             delegations: Delegations::new(alloc, capacities.cuts, hashers.cuts)?,
             penalties: Penalties::new(alloc, capacities.servers, hashers.servers)?,
+            failures: Failures::new(alloc, capacities.failures, hashers.failures)?,
         })
     }
 
@@ -164,5 +172,37 @@ impl<S: BuildHasher + Drop, A: Heap> Stores<S, A> {
     {
         self.penalties.timed_out(server)?;
         Ok(())
+    }
+
+    /// This server failed to answer the question at the moment `now`, in milliseconds (RFC 2308, section 7.1). Want of
+    /// memory changes nothing.
+    pub fn failed(
+        &mut self,
+        name: &Name<A>,
+        kind: RType,
+        server: Addr,
+        now: u64,
+    ) -> Result<(), Starved>
+        ensures ok { OnOk result (self.new ≡ with_failed self.old (failed_ask name.now (type_number kind) server) now) }
+        ensures err { OnErr result (self.new ≡ self.old) }
+    {
+        self.failures.failed(name, kind, server, now)?;
+        Ok(())
+    }
+
+    /// Whether this server failed to answer the question less than 30 seconds before the moment `now`, which is in
+    /// milliseconds. Want of memory changes nothing.
+    pub fn is_failed(
+        &mut self,
+        name: &Name<A>,
+        kind: RType,
+        server: Addr,
+        now: u64,
+    ) -> Result<bool, Starved>
+        ensures value { IfOk result (λ b. b ≡ is_failed now (failed_ask name.now (type_number kind) server) self.old.failures) }
+        ensures ok { OnOk result (self.new ≡ after_failure_look self.old (failed_ask name.now (type_number kind) server) now) }
+        ensures err { OnErr result (self.new ≡ self.old) }
+    {
+        Ok(self.failures.is_failed(name, kind, server, now)?)
     }
 }

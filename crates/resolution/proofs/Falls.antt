@@ -1,48 +1,63 @@
 -- The rules end: a measure of points that each rule lets fall.
-use Rattle.std.proofs.Common.{◌≡◌, ℕ, zero, suc, ◌+◌, ◌-◌, ◌*◌, ◌≤◌, ◌<◌, Bool, true, false, cond, nat_eq, nat_le, nat_lt, inl, inr, Some, List, [], ◌∷◌, ◌++◌, length, refl, sym, ◌∙◌, ap, subst, arith}
+use Rattle.std.proofs.Common.{◌≡◌, ℕ, zero, suc, ◌+◌, ◌-◌, ◌*◌, ◌≤◌, ◌<◌, Bool, true, false, cond, nat_eq, nat_le, nat_lt, inl, inr, Option, Some, None, List, [], ◌∷◌, ◌++◌, length, refl, sym, ◌∙◌, ap, subst, arith}
 use Rattle.std.proofs.lemmas.Bool.{ltb-true, lt-leb}
 use Rattle.std.proofs.lemmas.Option.{slice_get_within}
 use Rattle.dname.specs.Labels.{Name}
 use Rattle.rdata.specs.declared.addr.Addr.{Addr}
 use Rattle.zone.specs.Links.{Link}
 use Rattle.referral.specs.Cuts.{Cut}
+use Rattle.retry.specs.Plans.{upcoming}
 use Rattle.cache.specs.Cached.{Hit}
+use Rattle.cache.specs.Failures.{FailedAsk, is_failed}
 use Rattle.frames.specs.Frames.{Frame, FailedName, opened, unknown_names, next_place, next_name, after_name, after_add}
 use Rattle.frames.proofs.Places.{name_shallow, name_turn}
 use Rattle.frames.proofs.Steps.{few_unknown}
 use Rattle.classify.specs.Classes as class
 use Rattle.classify.specs.Classes.{class_of}
-use Rattle.resolution.specs.Jobs.{Home, Stores, Taken, is_dead, IsDead, AreFresh, Search, Job, Input, Start, Told, TimedOut, TcpFailed, Task, Seek, Take, Go, Again, IsFreshTask, Point, level_of}
-use Rattle.resolution.specs.Rules.{Finds, Hits, HearsOf, turned, Rule, takes, asks, follows, restarts, hears, descends, gives_up, Rules, ByClass, Enters}
+use Rattle.zone.specs.Zones.{a_type}
+use Rattle.resolution.specs.Jobs.{Home, Stores, Taken, is_dead, IsDead, AreFresh, Search, search_at, ask_of, fails_now, Job, Input, Start, Told, TimedOut, TcpFailed, Task, Seek, Take, Go, Again, IsFreshTask, Point, level_of}
+use Rattle.resolution.specs.Rules.{Finds, Hits, HearsOf, turned, PassesOver, IsFree, Rule, takes, asks, follows, restarts, skips, hears, descends, gives_up, Rules, ByClass, Enters}
+use Rattle.resolution.proofs.Passing.{passes_fails, passes_first, passes_keep, found_failures, missed_failures}
 
 -- ---- the measure
 
--- More than 16 times the next one, and one more.
+abbrev Failures : Type 0
+Failures = List (FailedAsk × ℕ)
+
+-- More than 16 times the next one, and three more; the last more than one.
 abbrev pub factor : ℕ → ℕ
-factor n = cond (nat_eq n 0) 5000 (cond (nat_eq n 1) 300 (cond (nat_eq n 2) 18 1))
+factor n = cond (nat_eq n 0) 10000 (cond (nat_eq n 1) 600 (cond (nat_eq n 2) 36 2))
 
 abbrev pub weight : Frame → ℕ
 weight f = (length f.names - f.tried) * factor f.nesting + 1
 
-abbrev pub total : List Search → ℕ
-total [] = 0
-total (s ∷ ss) = weight s.frame + total ss
+-- One more where the address that comes next failed lately.
+abbrev pub failing_by : ℕ → Failures → Search → Option Addr → ℕ
+failing_by now fs s None = 0
+failing_by now fs s (Some a) = cond (fails_now now fs s a) 1 0
+
+abbrev pub failing : ℕ → Failures → Search → ℕ
+failing now fs s = failing_by now fs s (upcoming (s.frame).plan)
+
+abbrev pub total : ℕ → Failures → List Search → ℕ
+total now fs [] = 0
+total now fs (s ∷ ss) = weight s.frame + failing now fs s + total now fs ss
 
 abbrev pub deads : ℕ → List Taken → ℕ
 deads now [] = 0
 deads now (l ∷ ls) = cond (is_dead now l) 1 0 + deads now ls
 
 abbrev pub chain_measure : ℕ → List Taken → ℕ
-chain_measure now chain = 90000 + 20 * deads now chain + 2 * (8 - length chain)
+chain_measure now chain = 200000 + 20 * deads now chain + 2 * (8 - length chain)
 
-abbrev pub measure_by : ℕ → Task → Job → ℕ
-measure_by now Seek j = chain_measure now j.chain + 1
-measure_by now (Take l) j = chain_measure now j.chain
-measure_by now Go j = total j.searches
-measure_by now (Again server) j = 0
+abbrev pub measure_by : ℕ → Task → Job → Failures → ℕ
+measure_by now Seek j fs = chain_measure now j.chain + 1
+measure_by now (Take l) j fs = chain_measure now j.chain
+measure_by now Go j fs = total now fs j.searches
+measure_by now (Again server) j fs = 0
 
 abbrev pub measure : ℕ → Point → ℕ
-measure now p = measure_by now p.task p.job
+measure now p = measure_by now p.task p.job (p.stores).failures
 
 -- ---- chains
 
@@ -79,16 +94,16 @@ fewer_times m zero f h = omega arith
 fewer_times zero (suc n) f h = omega arith
 fewer_times (suc m) (suc n) f h = let less = fewer_times m n f (omega (arith, h)) in omega (arith, less)
 
-factor_least : (n : ℕ) → 1 ≤ factor n
+factor_least : (n : ℕ) → 2 ≤ factor n
 factor_least n = by (nat_eq n 0) (nat_eq n 1) (nat_eq n 2)
   where
-    by : (b c d : Bool) → 1 ≤ cond b 5000 (cond c 300 (cond d 18 1))
+    by : (b c d : Bool) → 2 ≤ cond b 10000 (cond c 600 (cond d 36 2))
     by true c d = omega arith
     by false true d = omega arith
     by false false true = omega arith
     by false false false = omega arith
 
-factor_falls : (n : ℕ) → n < 3 → 16 * factor (n + 1) + 1 < factor n
+factor_falls : (n : ℕ) → n < 3 → 16 * factor (n + 1) + 3 < factor n
 factor_falls zero h = omega arith
 factor_falls (suc zero) h = omega arith
 factor_falls (suc (suc zero)) h = omega arith
@@ -130,6 +145,44 @@ heard_weight stores n l before failed after marks h = elim h.is as (λ x. weight
   | inr w ↦ ap (λ (s : Search). weight s.frame) w.1
 ]
 
+-- ---- failures
+
+failing_few : (now : ℕ) (fs : Failures) (s : Search) → failing now fs s ≤ 1
+failing_few now fs s = by (upcoming (s.frame).plan)
+  where
+    one : (b : Bool) → cond b 1 0 ≤ 1
+    one true = omega arith
+    one false = omega arith
+
+    by : (o : Option Addr) → failing_by now fs s o ≤ 1
+    by None = omega arith
+    by (Some a) = one (fails_now now fs s a)
+
+failing_same : (now : ℕ) (fs gs : Failures) (s : Search) → ((k : FailedAsk) → is_failed now k gs ≡ is_failed now k fs) → failing now gs s ≡ failing now fs s
+failing_same now fs gs s same = by (upcoming (s.frame).plan)
+  where
+    by : (o : Option Addr) → failing_by now gs s o ≡ failing_by now fs s o
+    by None = refl
+    by (Some a) = ap (λ (b : Bool). cond b 1 0) (same (ask_of s a))
+
+total_same : (now : ℕ) (fs gs : Failures) (ss : List Search) → ((k : FailedAsk) → is_failed now k gs ≡ is_failed now k fs) → total now gs ss ≡ total now fs ss
+total_same now fs gs [] same = refl
+total_same now fs gs (s ∷ ss) same = λ i. weight s.frame + failing_same now fs gs s same i + total_same now fs gs ss same i
+
+-- Where the next one fails, and where it does not.
+failing_one : (now : ℕ) (fs : Failures) (s : Search) (a : Addr) → upcoming (s.frame).plan ≡ Some a → fails_now now fs s a ≡ true → failing now fs s ≡ 1
+failing_one now fs s a next fails = ap (failing_by now fs s) next ∙ ap (λ (b : Bool). cond b 1 0) fails
+
+failing_none : (now : ℕ) (fs : Failures) (s : Search) → IsFree now s fs → failing now fs s ≡ 0
+failing_none now fs s free = by (upcoming (s.frame).plan) refl
+  where
+    by : (o : Option Addr) → upcoming (s.frame).plan ≡ o → failing_by now fs s o ≡ 0
+    by None e = refl
+    by (Some a) e = ap (λ (b : Bool). cond b 1 0) (free a e)
+
+passes_weight : (now n : ℕ) (s : Search) (fs : Failures) (t : Search) (gs : Failures) → PassesOver now n s fs t gs → weight t.frame ≡ weight s.frame
+passes_weight now n s fs t gs h = passes_keep (λ x. weight x.frame ≡ weight s.frame) now n s fs t gs (λ x e. e) h refl
+
 -- ---- what is found is alive
 
 alive_not_dead : (age limit : ℕ) → nat_lt age limit ≡ true → nat_le limit age ≡ false
@@ -150,25 +203,27 @@ found_fresh home now n t old l new h = elim h.is as (λ x. is_dead now l ≡ fal
 
 pub falls : (home : Home) (now : ℕ) (a b : Point) → Rule home now a b → IsFreshTask now a.task → measure now b < measure now a
 falls home now a b (takes l at finds to job) fresh =
-    let one = ap (λ (t : Task). measure_by now t a.job) at in
-    let two : measure now b ≡ chain_measure now (a.job).chain = λ i. measure_by now (to i) (job i) in
+    let one = ap (λ (t : Task). measure_by now t a.job (a.stores).failures) at in
+    let two : measure now b ≡ chain_measure now (a.job).chain = λ i. measure_by now (to i) (job i) (b.stores).failures in
     omega (arith, one, two)
 falls home now a b (asks c at misses to job) fresh =
-    let one = ap (λ (t : Task). measure_by now t a.job) at in
-    let two : measure now b ≡ weight (opened (level_of b.stores) 0 c) + 0 = λ i. measure_by now (to i) (job i) in
+    let one = ap (λ (t : Task). measure_by now t a.job (a.stores).failures) at in
+    let first : Search = search_at (a.job).name (a.job).kind (opened (level_of b.stores) 0 c) in
+    let two : measure now b ≡ weight (opened (level_of b.stores) 0 c) + failing now (b.stores).failures first + 0 = λ i. measure_by now (to i) (job i) (b.stores).failures in
     let most = opened_weight (level_of b.stores) 0 c in
-    omega (arith, one, two, most)
+    let few = failing_few now (b.stores).failures first in
+    omega (arith, one, two, most, few)
 falls home now a b (follows l r at alias few to job stores) fresh =
-    let one : measure now a ≡ chain_measure now (a.job).chain = ap (λ (t : Task). measure_by now t a.job) at in
-    let two : measure now b ≡ chain_measure now ((a.job).chain ++ l ∷ []) + 1 = λ i. measure_by now (to i) (job i) in
+    let one : measure now a ≡ chain_measure now (a.job).chain = ap (λ (t : Task). measure_by now t a.job (a.stores).failures) at in
+    let two : measure now b ≡ chain_measure now ((a.job).chain ++ l ∷ []) + 1 = λ i. measure_by now (to i) (job i) (b.stores).failures in
     let lives : is_dead now l ≡ false = subst (IsFreshTask now) at fresh in
     let count = deads_more now (a.job).chain (l ∷ []) in
     let none = deads_one now l lives in
     let long = longer (a.job).chain l in
     omega (arith, one, two, count, none, long, few)
 falls home now a b (restarts l d front back at ending split alive dead to job stores) fresh =
-    let one : measure now a ≡ chain_measure now (a.job).chain = ap (λ (t : Task). measure_by now t a.job) at in
-    let two : measure now b ≡ chain_measure now front + 1 = λ i. measure_by now (to i) (job i) in
+    let one : measure now a ≡ chain_measure now (a.job).chain = ap (λ (t : Task). measure_by now t a.job (a.stores).failures) at in
+    let two : measure now b ≡ chain_measure now front + 1 = λ i. measure_by now (to i) (job i) (b.stores).failures in
     let lives : is_dead now l ≡ false = subst (IsFreshTask now) at fresh in
     let whole : deads now (a.job).chain + deads now (l ∷ []) ≡ deads now (front ++ d ∷ back) = sym (deads_more now (a.job).chain (l ∷ [])) ∙ ap (deads now) split in
     let none = deads_one now l lives in
@@ -176,24 +231,42 @@ falls home now a b (restarts l d front back at ending split alive dead to job st
     let first = deads_first now d back dead in
     let zero_front = fresh_deads now front alive in
     omega (arith, one, two, whole, none, parts, first, zero_front)
+falls home now a b (skips n s t rest failures at searches passes free to job stores) fresh =
+    let one : measure now a ≡ weight s.frame + failing now (a.stores).failures s + total now (a.stores).failures rest = λ i. measure_by now (at i) (record a.job { searches = searches i }) (a.stores).failures in
+    let two : measure now b ≡ weight t.frame + failing now failures t + total now failures rest = λ i. measure_by now (to i) (job i) (stores i).failures in
+    let (server, next, fails) = passes_first now n s (a.stores).failures t failures passes in
+    let some = failing_one now (a.stores).failures s server next fails in
+    let none = failing_none now failures t free in
+    let same = passes_weight now (suc n) s (a.stores).failures t failures passes in
+    let around = total_same now (a.stores).failures failures rest (passes_fails now (suc n) s (a.stores).failures t failures passes now) in
+    omega (arith, one, two, some, none, same, around)
 falls home now a b (hears before after rest n l marks at turn finds heard to job) fresh =
-    let one : measure now a ≡ weight before.frame + total rest = λ i. measure_by now (at i) (record a.job { searches = turn.searches i }) in
-    let two : measure now b ≡ weight after.frame + total rest = λ i. measure_by now (to i) (job i) in
+    let kept = found_failures home now n a_type a.stores l b.stores finds in
+    let one : measure now a ≡ weight before.frame + failing now (a.stores).failures before + total now (a.stores).failures rest = λ i. measure_by now (at i) (record a.job { searches = turn.searches i }) (a.stores).failures in
+    let two : measure now b ≡ weight after.frame + failing now (a.stores).failures after + total now (a.stores).failures rest = λ i. measure_by now (to i) (job i) (kept i) in
     let same = heard_weight b.stores n l.link (turned (a.job).failed before) (a.job).failed after marks heard in
     let less = turn_falls (a.job).failed before.frame n turn.turn in
     let some = factor_least (before.frame).nesting in
-    omega (arith, one, two, same, less, some)
+    let few = failing_few now (a.stores).failures after in
+    omega (arith, one, two, same, less, some, few)
 falls home now a b (descends s rest n c at turn misses to job) fresh =
-    let one : measure now a ≡ weight s.frame + total rest = λ i. measure_by now (at i) (record a.job { searches = turn.searches i }) in
-    let two : measure now b ≡ weight (opened (level_of b.stores) ((s.frame).nesting + 1) c) + (weight (after_name (a.job).failed s.frame) + total rest) = λ i. measure_by now (to i) (job i) in
+    let kept = missed_failures home now n a_type a.stores c b.stores misses in
+    let fs = (a.stores).failures in
+    let within : Search = search_at n a_type (opened (level_of b.stores) ((s.frame).nesting + 1) c) in
+    let around : Search = turned (a.job).failed s in
+    let one : measure now a ≡ weight s.frame + failing now fs s + total now fs rest = λ i. measure_by now (at i) (record a.job { searches = turn.searches i }) fs in
+    let two : measure now b ≡ weight (opened (level_of b.stores) ((s.frame).nesting + 1) c) + failing now fs within + (weight (after_name (a.job).failed s.frame) + failing now fs around + total now fs rest) = λ i. measure_by now (to i) (job i) (kept i) in
+    let few = failing_few now fs within in
+    let fewer = failing_few now fs around in
     let most = opened_weight (level_of b.stores) ((s.frame).nesting + 1) c in
     let less = turn_falls (a.job).failed s.frame n turn.turn in
     let shallow = name_shallow (a.job).failed s.frame n turn.turn in
     let gap = factor_falls (s.frame).nesting shallow in
-    omega (arith, one, two, most, less, gap)
+    omega (arith, one, two, most, less, gap, few, fewer)
 falls home now a b (gives_up s around rest at up to job stores) fresh =
-    let one : measure now a ≡ weight s.frame + (weight around.frame + total rest) = λ i. measure_by now (at i) (record a.job { searches = up.searches i }) in
-    let two : measure now b ≡ weight around.frame + total rest = λ i. measure_by now (to i) (job i) in
+    let fs = (a.stores).failures in
+    let one : measure now a ≡ weight s.frame + failing now fs s + (weight around.frame + failing now fs around + total now fs rest) = λ i. measure_by now (at i) (record a.job { searches = up.searches i }) fs in
+    let two : measure now b ≡ weight around.frame + failing now fs around + total now fs rest = λ i. measure_by now (to i) (job i) (stores i).failures in
     let some = weight_least s.frame in
     omega (arith, one, two, some)
 
@@ -203,6 +276,7 @@ stays_fresh home now a b (takes l at finds to job) = subst (IsFreshTask now) (sy
 stays_fresh home now a b (asks c at misses to job) = subst (IsFreshTask now) (sym to) tt
 stays_fresh home now a b (follows l r at alias few to job stores) = subst (IsFreshTask now) (sym to) tt
 stays_fresh home now a b (restarts l d front back at ending split alive dead to job stores) = subst (IsFreshTask now) (sym to) tt
+stays_fresh home now a b (skips n s t rest failures at searches passes free to job stores) = subst (IsFreshTask now) (sym to) tt
 stays_fresh home now a b (hears before after rest n l marks at turn finds heard to job) = subst (IsFreshTask now) (sym to) tt
 stays_fresh home now a b (descends s rest n c at turn misses to job) = subst (IsFreshTask now) (sym to) tt
 stays_fresh home now a b (gives_up s around rest at up to job stores) = subst (IsFreshTask now) (sym to) tt

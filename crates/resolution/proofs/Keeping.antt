@@ -1,5 +1,5 @@
 -- What one call may bring into the stores, what was accepted, and take from them, what a keep of that pushes out.
-use Rattle.std.proofs.Common.{◌≡◌, ℕ, zero, suc, inl, inr, ◌⊎◌, List, [], ◌∷◌, refl, sym, ap, subst}
+use Rattle.std.proofs.Common.{◌≡◌, ℕ, zero, suc, Bool, true, false, cond, inl, inr, ◌⊎◌, List, [], ◌∷◌, refl, sym, ap, subst}
 use Rattle.std.specs.Prelude.{Contains}
 use Rattle.dname.specs.Labels.{Name}
 use Rattle.rdata.specs.declared.addr.Addr.{Addr}
@@ -15,8 +15,11 @@ use Rattle.referral.proofs.Members as cuts
 use Rattle.cache.specs.Cached.{Hit}
 use Rattle.cache.specs.Cached as kept
 use Rattle.cache.proofs.Members as cache
-use Rattle.resolution.specs.Jobs.{Home, Stores, with_answer, Taken, Search, Job, Input, Start, Told, TimedOut, TcpFailed, Next, Point, hit_from, cut_from}
-use Rattle.resolution.specs.Rules.{asked_of, Finds, Hits, Misses, Rule, takes, asks, follows, restarts, hears, descends, gives_up, Rules, Learnt, ByClass, Enters, Leaves, sends, sends_again, refuses, spent, nowhere, too_long, done, Advances, IsTakenEntry, IsTakenCut, IsLostEntry, IsLostCut, Stops}
+use Rattle.cache.specs.Failures.{FailedAsk, after_failed}
+use Rattle.cache.proofs.Failed.{failed_members, failed_lost}
+use Rattle.resolution.specs.Jobs.{Home, Stores, with_answer, with_told, is_server_failure, Taken, Search, ask_of, Job, Input, Start, Told, TimedOut, TcpFailed, Next, Point, hit_from, cut_from}
+use Rattle.resolution.specs.Rules.{asked_of, Finds, Hits, Misses, PassesOver, Rule, takes, asks, follows, restarts, skips, hears, descends, gives_up, Rules, Learnt, ByClass, Enters, Leaves, sends, sends_again, refuses, spent, nowhere, too_long, done, Advances, IsTakenEntry, IsTakenCut, IsLostEntry, IsLostCut, IsTakenFailure, IsLostFailure, Stops}
+use Rattle.resolution.proofs.Passing.{passes_members}
 
 still_only : {X : Type 0} (old mid new : List X) (P : X → Type 0) → KeepsOnly old P mid → HasSame mid new → KeepsOnly old P new
 still_only old mid new P keeps same x m = keeps x (same.0 x m)
@@ -41,6 +44,9 @@ module _ (input : Input) (now : ℕ) (j : Job) (stores : Stores) where
         cache_cap = h.cache_cap;
         delegations_cap = h.delegations_cap;
         penalties_cap = h.penalties_cap;
+        failures = h.failures;
+        failures_lost = h.failures_lost;
+        failures_cap = h.failures_cap;
       })
 
   misses_stops : (home : Home) (n : Name) (t : ℕ) (mid : Stores) (c : Cut) (new : Stores) → Misses home now n t mid c new → Stops input now j stores mid → Stops input now j stores new
@@ -53,6 +59,24 @@ module _ (input : Input) (now : ℕ) (j : Job) (stores : Stores) where
     cache_cap = h.cache_cap;
     delegations_cap = h.delegations_cap;
     penalties_cap = h.penalties_cap;
+    failures = h.failures;
+    failures_lost = h.failures_lost;
+    failures_cap = h.failures_cap;
+  })
+
+  passes_stops : (n : ℕ) (s t : Search) (gs : List (FailedAsk × ℕ)) (mid new : Stores) → PassesOver now n s mid.failures t gs → new ≡ record mid { failures = gs } → Stops input now j stores mid → Stops input now j stores new
+  passes_stops n s t gs mid new passes is h = subst (Stops input now j stores) (sym is) (record {
+    cache = h.cache;
+    cache_lost = h.cache_lost;
+    delegations = h.delegations;
+    delegations_lost = h.delegations_lost;
+    penalties = h.penalties;
+    failures = still_only stores.failures mid.failures gs _ h.failures (passes_members now n s mid.failures t gs passes);
+    failures_lost = still_loses stores.failures mid.failures gs _ h.failures_lost (passes_members now n s mid.failures t gs passes);
+    cache_cap = h.cache_cap;
+    delegations_cap = h.delegations_cap;
+    penalties_cap = h.penalties_cap;
+    failures_cap = h.failures_cap;
   })
 
   rule_stops : (home : Home) (a b : Point) → Rule home now a b → Stops input now j stores a.stores → Stops input now j stores b.stores
@@ -60,6 +84,7 @@ module _ (input : Input) (now : ℕ) (j : Job) (stores : Stores) where
   rule_stops home a b (asks c at misses to job) h = misses_stops home _ _ a.stores c b.stores misses h
   rule_stops home a b (follows l r at alias few to job is) h = same_stops a.stores b.stores is h
   rule_stops home a b (restarts l d front back at ending split alive dead to job is) h = same_stops a.stores b.stores is h
+  rule_stops home a b (skips n s t rest failures at searches passes free to job is) h = passes_stops (suc n) s t failures a.stores b.stores passes is h
   rule_stops home a b (hears before after rest n l marks at turn finds heard to job) h = finds_stops home _ _ a.stores l b.stores finds h
   rule_stops home a b (descends s rest n c at turn misses to job) h = misses_stops home _ _ a.stores c b.stores misses h
   rule_stops home a b (gives_up s around rest at up to job is) h = same_stops a.stores b.stores is h
@@ -79,20 +104,53 @@ module _ (input : Input) (now : ℕ) (j : Job) (stores : Stores) where
 
 -- What comes in.
 module _ (now : ℕ) (j : Job) (stores : Stores) where
-  answer_stops : (server : Addr) (via : Via) (m : Message) → Stops (Told via server m) now j stores (with_answer stores server)
+  pub answer_stops : (server : Addr) (via : Via) (m : Message) → Stops (Told via server m) now j stores (with_answer stores server)
   answer_stops server via m = record {
     cache = λ e there. inl there;
     cache_lost = λ e there. inl there;
     delegations = λ e there. inl there;
     delegations_lost = λ e there. inl there;
     penalties = inr (server, refl, inl refl);
+    failures = λ e there. inl there;
+    failures_lost = λ e there. inl there;
     cache_cap = refl;
     delegations_cap = refl;
     penalties_cap = refl;
+    failures_cap = refl;
   }
 
-  learnt_stops : (server : Addr) (via : Via) (m : Message) (s : Search) (rest : List Search) (l : Link) (new : Stores) → j.searches ≡ s ∷ rest
-      → class_of (s.frame).zone s.name s.kind via m ≡ class.Answer l → Learnt now s l (with_answer stores server) new → Stops (Told via server m) now j stores new
+  module _ (server : Addr) (via : Via) (m : Message) (s : Search) (rest : List Search) (searches : j.searches ≡ s ∷ rest) where
+    pub told_only : KeepsOnly stores.failures (IsTakenFailure j (Told via server m) now) (with_told now s server m stores).failures
+    told_only = by (is_server_failure m) refl
+      where
+        by : (b : Bool) → is_server_failure m ≡ b → KeepsOnly stores.failures (IsTakenFailure j (Told via server m) now) (cond b (after_failed stores.failures_cap (ask_of s server) now stores.failures) stores.failures)
+        by true fails e there = elim (failed_members stores.failures_cap (ask_of s server) now stores.failures e there) [ inl old ↦ inl old | inr is ↦ inr (s, server, ((rest, searches), refl, fails), is) ]
+        by false fails e there = inl there
+
+    pub told_lost : LosesOnly stores.failures (IsLostFailure j (Told via server m) stores) (with_told now s server m stores).failures
+    told_lost = by (is_server_failure m) refl
+      where
+        by : (b : Bool) → is_server_failure m ≡ b → LosesOnly stores.failures (IsLostFailure j (Told via server m) stores) (cond b (after_failed stores.failures_cap (ask_of s server) now stores.failures) stores.failures)
+        by true fails e there = elim (failed_lost stores.failures_cap (ask_of s server) now stores.failures e there) [ inl stays ↦ inl stays | inr gone ↦ inr (s, server, ((rest, searches), refl, fails), gone) ]
+        by false fails e there = inl there
+
+    pub told_stops : Stops (Told via server m) now j stores (with_told now s server m stores)
+    told_stops = record {
+      cache = λ e there. inl there;
+      cache_lost = λ e there. inl there;
+      delegations = λ e there. inl there;
+      delegations_lost = λ e there. inl there;
+      penalties = inr (server, refl, inl refl);
+      failures = told_only;
+      failures_lost = told_lost;
+      cache_cap = refl;
+      delegations_cap = refl;
+      penalties_cap = refl;
+      failures_cap = refl;
+    }
+
+  pub learnt_stops : (server : Addr) (via : Via) (m : Message) (s : Search) (rest : List Search) (l : Link) (new : Stores) → j.searches ≡ s ∷ rest
+      → class_of (s.frame).zone s.name s.kind via m ≡ class.Answer l → Learnt now s l (with_told now s server m stores) new → Stops (Told via server m) now j stores new
   learnt_stops server via m s rest l new searches is learnt = subst (Stops (Told via server m) now j stores) (sym learnt.stores) (record {
     cache = λ e there. elim (cache.kept_members stores.cache_cap s.name s.kind (hit_from l now) stores.cache e there) as (λ x. Contains stores.cache e ⊎ IsTakenEntry j (Told via server m) now e) [
       | inl old ↦ inl old
@@ -105,13 +163,16 @@ module _ (now : ℕ) (j : Job) (stores : Stores) where
     delegations = λ e there. inl there;
     delegations_lost = λ e there. inl there;
     penalties = inr (server, refl, inl refl);
+    failures = told_only server via m s rest searches;
+    failures_lost = told_lost server via m s rest searches;
     cache_cap = refl;
     delegations_cap = refl;
     penalties_cap = refl;
+    failures_cap = refl;
   })
 
   class_stops : (server : Addr) (via : Via) (m : Message) (s : Search) (rest : List Search) (c : class.Class) (p : Point) → j.searches ≡ s ∷ rest
-      → class_of (s.frame).zone s.name s.kind via m ≡ c → ByClass now server s rest c j (with_answer stores server) p → Stops (Told via server m) now j stores p.stores
+      → class_of (s.frame).zone s.name s.kind via m ≡ c → ByClass now server s rest c j (with_told now s server m stores) p → Stops (Told via server m) now j stores p.stores
   class_stops server via m s [] (class.Answer l) p searches is (task, job, learnt) = learnt_stops server via m s [] l p.stores searches is learnt
   class_stops server via m s (around ∷ rest) (class.Answer l) p searches is (after, marks, task, learnt, heard, job) = learnt_stops server via m s (around ∷ rest) l p.stores searches is learnt
   class_stops server via m s rest (class.Referral at ns glue ttl) p searches is refers = subst (Stops (Told via server m) now j stores) (sym refers.stored) (record {
@@ -127,12 +188,15 @@ module _ (now : ℕ) (j : Job) (stores : Stores) where
           | inr gone ↦ inr (s, at, ns, glue, ttl, refers.cut, ((rest, searches), is), refers.is_cut, gone)
         ];
     penalties = inr (server, refl, inl refl);
+    failures = told_only server via m s rest searches;
+    failures_lost = told_lost server via m s rest searches;
     cache_cap = refl;
     delegations_cap = refl;
     penalties_cap = refl;
+    failures_cap = refl;
   })
-  class_stops server via m s rest class.Truncated p searches is same = subst (Stops (Told via server m) now j stores) (sym (ap (λ (x : Point). x.stores) same)) (answer_stops server via m)
-  class_stops server via m s rest (class.Failed f) p searches is same = subst (Stops (Told via server m) now j stores) (sym (ap (λ (x : Point). x.stores) same)) (answer_stops server via m)
+  class_stops server via m s rest class.Truncated p searches is same = subst (Stops (Told via server m) now j stores) (sym (ap (λ (x : Point). x.stores) same)) (told_stops server via m s rest searches)
+  class_stops server via m s rest (class.Failed f) p searches is same = subst (Stops (Told via server m) now j stores) (sym (ap (λ (x : Point). x.stores) same)) (told_stops server via m s rest searches)
 
   pub enters_stop : (input : Input) (p : Point) → Enters now input j stores p → Stops input now j stores p.stores
   enters_stop Start p is = subst (Stops Start now j stores) (sym (ap (λ (x : Point). x.stores) is)) (record {
@@ -141,9 +205,12 @@ module _ (now : ℕ) (j : Job) (stores : Stores) where
     delegations = λ e there. inl there;
     delegations_lost = λ e there. inl there;
     penalties = inl refl;
+    failures = λ e there. inl there;
+    failures_lost = λ e there. inl there;
     cache_cap = refl;
     delegations_cap = refl;
     penalties_cap = refl;
+    failures_cap = refl;
   })
   enters_stop (Told via server m) p (inl (free, is)) = subst (Stops (Told via server m) now j stores) (sym (ap (λ (x : Point). x.stores) is)) (answer_stops server via m)
   enters_stop (Told via server m) p (inr (s, rest, searches, by)) = class_stops server via m s rest (class_of (s.frame).zone s.name s.kind via m) p searches refl by
@@ -153,9 +220,12 @@ module _ (now : ℕ) (j : Job) (stores : Stores) where
     delegations = λ e there. inl there;
     delegations_lost = λ e there. inl there;
     penalties = inr (server, refl, inr refl);
+    failures = λ e there. inl there;
+    failures_lost = λ e there. inl there;
     cache_cap = refl;
     delegations_cap = refl;
     penalties_cap = refl;
+    failures_cap = refl;
   })
   enters_stop (TcpFailed server) p is = subst (Stops (TcpFailed server) now j stores) (sym (ap (λ (x : Point). x.stores) is)) (record {
     cache = λ e there. inl there;
@@ -163,9 +233,12 @@ module _ (now : ℕ) (j : Job) (stores : Stores) where
     delegations = λ e there. inl there;
     delegations_lost = λ e there. inl there;
     penalties = inr (server, refl, inr refl);
+    failures = λ e there. inl there;
+    failures_lost = λ e there. inl there;
     cache_cap = refl;
     delegations_cap = refl;
     penalties_cap = refl;
+    failures_cap = refl;
   })
 
 pub advances_stop : (home : Home) (now : ℕ) (input : Input) (old : Job) (stores : Stores) (next : Next) (new : Job) (after : Stores) → Advances home now input old stores next new after

@@ -1,7 +1,7 @@
 -- What the work on one query is made of (RFC 1034, section 5.3.3): what the resolver holds, the links that
 -- were taken so far, the searches for servers that are under way, what comes in and what goes out. Moments
 -- are milliseconds, times to live seconds.
-use Rattle.std.specs.Prelude.{◌≡◌, ℕ, ◌+◌, ◌-◌, ◌*◌, ◌<◌, Bool, true, false, nat_le, List, [], ◌∷◌, map}
+use Rattle.std.specs.Prelude.{◌≡◌, ℕ, ◌+◌, ◌-◌, ◌*◌, ◌<◌, Bool, true, false, not, ◌&&◌, cond, nat_eq, nat_le, Option, Some, None, List, [], ◌∷◌, ◌++◌, drop, map}
 use Rattle.std.specs.List.{flat_map}
 use Rattle.dname.specs.Labels.{Name, root}
 use Rattle.rdata.specs.Data.{Datum, Ipv4}
@@ -15,12 +15,13 @@ use Rattle.wire.specs.declared.via.Via.{Via}
 use Rattle.classify.specs.Lifetimes.{received, lifetime_of, referral_lifetime}
 use Rattle.classify.specs.Targets.{targets_of}
 use Rattle.retry.specs.Penalties.{penalty, answered, timed_out}
-use Rattle.retry.specs.Plans.{advanced, wait_of}
+use Rattle.retry.specs.Plans.{Plan, advanced, wait_of}
 use Rattle.referral.specs.Cuts.{ServerAddress, Cut, Known}
 use Rattle.referral.specs.Cuts as referral
 use Rattle.cache.specs.Keys.{Key}
 use Rattle.cache.specs.Cached.{Hit, retimed, seconds_left}
 use Rattle.cache.specs.Cached as cache
+use Rattle.cache.specs.Failures.{FailedAsk, failed_ask, is_failed, after_failed}
 use Rattle.frames.specs.Frames.{Frame, FailedName}
 use Rattle.frames.specs.Trimmed.{trimmed}
 
@@ -31,8 +32,8 @@ pub record Home : Type 0 where
   pub zones : List Zone
   pub hints : List Addr
 
--- What it learnt: links, delegations, and penalties of servers that did not answer; each with how many
--- entries it may have. The most recently used entry stands first.
+-- What it learnt: links, delegations, penalties of servers that did not answer, and which servers failed to answer
+-- which questions; each with how many entries it may have. The most recently used entry stands first.
 pub record Stores : Type 0 where
   pub cache : List (Key × Hit)
   pub cache_cap : ℕ
@@ -40,6 +41,8 @@ pub record Stores : Type 0 where
   pub delegations_cap : ℕ
   pub penalties : List (Addr × ℕ)
   pub penalties_cap : ℕ
+  pub failures : List (FailedAsk × ℕ)
+  pub failures_cap : ℕ
 
 abbrev pub level_of : Stores → Addr → ℕ
 level_of stores a = penalty a stores.penalties
@@ -158,7 +161,8 @@ search_at n t f = record { name = n; kind = t; frame = f }
 
 -- `name` and `kind`: what is sought now. `chain`: the aliases that led there. `searches`: for that name, and
 -- for addresses of servers, the innermost first. `failed`: servers' names that were looked up in vain.
--- `asks`: how many were sent. `deadline`: the moment past which nothing more is sent.
+-- `asks`: how many were sent. `deadline`: the moment past which nothing more is sent. `skipped`: whether a server was
+-- passed over, since it had failed lately to answer what was sought.
 pub record Job : Type 0 where
   pub name : Name
   pub kind : ℕ
@@ -167,10 +171,11 @@ pub record Job : Type 0 where
   pub failed : List FailedName
   pub asks : ℕ
   pub deadline : ℕ
+  pub skipped : Bool
 
 -- A query has ten seconds.
 abbrev pub job_at : Name → ℕ → ℕ → Job
-job_at n t now = record { name = n; kind = t; chain = []; searches = []; failed = []; asks = 0; deadline = now + 10000 }
+job_at n t now = record { name = n; kind = t; chain = []; searches = []; failed = []; asks = 0; deadline = now + 10000; skipped = false }
 
 abbrev pub marked : List FailedName → Name → ℕ → List FailedName
 marked failed n nesting = record { name = n; nesting = nesting } ∷ failed
@@ -216,6 +221,40 @@ asked j s rest = record j { searches = given s ∷ rest; asks = j.asks + 1 }
 
 abbrev pub asked_again : Job → Job
 asked_again j = record j { asks = j.asks + 1 }
+
+-- ---- servers that failed lately (RFC 2308, section 7.1)
+
+-- The ask of a server for what a search seeks, and whether the server failed lately to answer it.
+abbrev pub ask_of : Search → Addr → FailedAsk
+ask_of s server = failed_ask s.name s.kind server
+
+abbrev pub fails_now : ℕ → List (FailedAsk × ℕ) → Search → Addr → Bool
+fails_now now failures s server = is_failed now (ask_of s server) failures
+
+-- The addresses that are left of a plan's two rounds, and the first of some that does not fail.
+abbrev pub left_of : Plan → List Addr
+left_of p = drop p.given (p.order ++ p.order)
+
+abbrev pub first_without : (Addr → Bool) → List Addr → Option Addr
+first_without fails [] = None
+first_without fails (a ∷ more) = cond (fails a) (first_without fails more) (Some a)
+
+-- Whom a search asks next: the first address that is left of its plan and did not fail lately.
+abbrev pub next_server : ℕ → List (FailedAsk × ℕ) → Search → Option Addr
+next_server now failures s = first_without (fails_now now failures s) (left_of (s.frame).plan)
+
+-- SERVFAIL (RFC 1035, section 4.1.1) that is not truncated.
+abbrev pub is_server_failure : Message → Bool
+is_server_failure m = nat_eq (m.header).rcode 2 && not (m.header).tc
+
+-- What a message for a search says of its server, whatever its class: it answered; and where it says that it failed,
+-- that is kept.
+abbrev pub with_failure : ℕ → Search → Addr → Message → Stores → Stores
+with_failure now s server m stores =
+    record stores { failures = cond (is_server_failure m) (after_failed stores.failures_cap (ask_of s server) now stores.failures) stores.failures }
+
+abbrev pub with_told : ℕ → Search → Addr → Message → Stores → Stores
+with_told now s server m stores = with_failure now s server m (with_answer stores server)
 
 -- ---- a job at work
 

@@ -1,7 +1,7 @@
 -- The rules by which a query is resolved (RFC 1034, section 5.3.3), each as one small step over exact values:
--- how what comes in is taken up (`Enters`), the seven rules (`Rule`), and what goes out where none of them
+-- how what comes in is taken up (`Enters`), the eight rules (`Rule`), and what goes out where none of them
 -- applies (`Leaves`).
-use Rattle.std.specs.Prelude.{◌≡◌, ◌≢◌, ℕ, zero, suc, ◌+◌, ◌<◌, ◌≤◌, ◌⊎◌, Option, Some, None, List, [], ◌∷◌, ◌++◌, length, Contains}
+use Rattle.std.specs.Prelude.{◌≡◌, ◌≢◌, ℕ, zero, suc, ◌+◌, ◌<◌, ◌≤◌, ◌⊎◌, Bool, true, false, Option, Some, None, List, [], ◌∷◌, ◌++◌, length, Contains}
 use Rattle.dname.specs.Labels.{Name, root, IsName}
 use Rattle.rdata.specs.Records.{Record}
 use Rattle.rdata.specs.declared.addr.Addr.{Addr}
@@ -15,7 +15,7 @@ use Rattle.causes.specs.declared.cause.Cause.TheVariants as cause
 use Rattle.classify.specs.Classes as class
 use Rattle.classify.specs.Classes.{class_of}
 use Rattle.front.specs.Chains.{target_of}
-use Rattle.recency.specs.Orders.{KeepsOnly, LosesOnly}
+use Rattle.recency.specs.Orders.{used, KeepsOnly, LosesOnly, MayGo}
 use Rattle.retry.specs.Penalties.{answered, timed_out}
 use Rattle.retry.specs.Plans.{upcoming}
 use Rattle.referral.specs.Cuts.{Cut, Known, IsBest, after_best}
@@ -23,8 +23,9 @@ use Rattle.referral.specs.Cuts as referral
 use Rattle.cache.specs.Keys.{Key}
 use Rattle.cache.specs.Cached.{Hit, Asked, above_to, lent, hit_of, moved, IsHeld}
 use Rattle.cache.specs.Cached as cache
+use Rattle.cache.specs.Failures.{FailedAsk, same_failed}
 use Rattle.frames.specs.Frames.{FailedName, opened, next_name, after_name, after_add, fresh_addresses}
-use Rattle.resolution.specs.Jobs.{Home, Stores, level_of, with_answer, with_timeout, Taken, local_link, kept_link, received_link, IsDead, AreFresh, IsEnding, IsCutOf, IsRootCut, AreAddressesOf, Search, search_at, with_frame, Job, marked, Input, Start, Told, TimedOut, TcpFailed, Next, Ask, AskTcp, Done, Fail, MaySend, asked, asked_again, Seek, Take, Go, Again, Point, point, hit_from, cut_from}
+use Rattle.resolution.specs.Jobs.{Home, Stores, level_of, with_answer, with_timeout, with_told, Taken, local_link, kept_link, received_link, IsDead, AreFresh, IsEnding, IsCutOf, IsRootCut, AreAddressesOf, Search, search_at, with_frame, given, ask_of, fails_now, is_server_failure, Job, marked, Input, Start, Told, TimedOut, TcpFailed, Next, Ask, AskTcp, Done, Fail, MaySend, asked, asked_again, Seek, Take, Go, Again, Point, point, hit_from, cut_from}
 
 -- ---- what is known without asking
 
@@ -108,6 +109,20 @@ pub record IsUsedUp (j : Job) (s : Search) (rest : List Search) : Type 0 where
   pub asked_all : upcoming (s.frame).plan ≡ None
   pub none_left : next_name j.failed s.frame ≡ None
 
+-- ---- servers that are passed over
+
+-- So many addresses that come next failed lately to answer what the search seeks: each is passed over, and its failure
+-- becomes the most recently used.
+abbrev pub PassesOver : ℕ → ℕ → Search → List (FailedAsk × ℕ) → Search → List (FailedAsk × ℕ) → Type 0
+PassesOver now zero s fs t gs = (t ≡ s) × (gs ≡ fs)
+PassesOver now (suc n) s fs t gs =
+    (mid : Search) × (held : List (FailedAsk × ℕ)) × (server : Addr) × PassesOver now n s fs mid held
+    × (upcoming (mid.frame).plan ≡ Some server) × (fails_now now held mid server ≡ true) × (t ≡ given mid) × (gs ≡ used same_failed (ask_of mid server) held)
+
+-- The address that comes next did not.
+abbrev pub IsFree : ℕ → Search → List (FailedAsk × ℕ) → Type 0
+IsFree now s fs = (server : Addr) → upcoming (s.frame).plan ≡ Some server → fails_now now fs s server ≡ false
+
 -- ---- the rules
 
 pub data Rule (home : Home) (now : ℕ) (a b : Point) : Type 0 where
@@ -122,6 +137,11 @@ pub data Rule (home : Home) (now : ℕ) (a b : Point) : Type 0 where
   -- The chain has its end, and a link from the cache ran out meanwhile: its name is sought again.
   restarts : (l d : Taken) (front back : List Taken) → a.task ≡ Take l → IsEnding l.link → (a.job).chain ++ l ∷ [] ≡ front ++ d ∷ back → AreFresh now front → IsDead now d
       → b.task ≡ Seek → b.job ≡ record a.job { chain = front; name = d.name; searches = [] } → b.stores ≡ a.stores → Rule home now a b
+  -- Addresses that come next failed lately to answer this very question: they are passed over, up to one that did
+  -- not.
+  skips : (n : ℕ) (s t : Search) (rest : List Search) (failures : List (FailedAsk × ℕ)) → a.task ≡ Go → (a.job).searches ≡ s ∷ rest
+      → PassesOver now (suc n) s (a.stores).failures t failures → IsFree now t failures → b.task ≡ Go
+      → b.job ≡ record a.job { searches = t ∷ rest; skipped = true } → b.stores ≡ record a.stores { failures = failures } → Rule home now a b
   -- A server's name of which something is known.
   hears : (before after : Search) (rest : List Search) (n : Name) (l : Taken) (marks : List FailedName) → a.task ≡ Go → IsTurnOf a.job before rest n
       → Finds home now n a_type a.stores l b.stores → HearsOf b.stores n l.link (turned (a.job).failed before) (a.job).failed after marks → b.task ≡ Go
@@ -168,25 +188,26 @@ ByClass now server s rest (class.Referral at ns glue ttl) j stores p = IsReferre
 ByClass now server s rest class.Truncated j stores p = p ≡ point (Again server) j stores
 ByClass now server s rest (class.Failed f) j stores p = p ≡ point Go j stores
 
--- How what comes in is taken up. A server that answered loses half its penalty, one that did not gains some.
--- A job without a search has nothing that an answer could be for.
+-- How what comes in is taken up. A server that answered loses half its penalty, one that did not gains some; that
+-- it failed to answer is kept. A job without a search has nothing that an answer could be for.
 abbrev pub Enters : ℕ → Input → Job → Stores → Point → Type 0
 Enters now Start j stores p = p ≡ point Seek j stores
 Enters now (Told via server m) j stores p =
     ((j.searches ≡ []) × (p ≡ point Go j (with_answer stores server)))
     ⊎ ((s : Search) × (rest : List Search) × (j.searches ≡ s ∷ rest)
-    × ByClass now server s rest (class_of (s.frame).zone s.name s.kind via m) j (with_answer stores server) p)
+    × ByClass now server s rest (class_of (s.frame).zone s.name s.kind via m) j (with_told now s server m stores) p)
 Enters now (TimedOut server) j stores p = p ≡ point Go j (with_timeout stores server)
 Enters now (TcpFailed server) j stores p = p ≡ point Go j (with_timeout stores server)
 
 -- ---- what goes out
 
--- The next server of the innermost search's plan, one of the addresses that are known.
-pub record IsDue (p : Point) (server : Addr) (s : Search) (rest : List Search) : Type 0 where
+-- The next server of the innermost search's plan, one of the addresses that are known, which did not fail lately.
+pub record IsDue (now : ℕ) (p : Point) (server : Addr) (s : Search) (rest : List Search) : Type 0 where
   pub task : p.task ≡ Go
   pub searches : (p.job).searches ≡ s ∷ rest
   pub next : upcoming (s.frame).plan ≡ Some server
   pub known : Contains (s.frame).addresses server
+  pub free : fails_now now (p.stores).failures s server ≡ false
 
 -- The server whose reply was truncated is asked again, over TCP.
 pub record IsDueAgain (p : Point) (server : Addr) (s : Search) (rest : List Search) : Type 0 where
@@ -197,17 +218,22 @@ pub record IsDueAgain (p : Point) (server : Addr) (s : Search) (rest : List Sear
 abbrev pub IsRefused : ℕ → Job → Cause → Type 0
 IsRefused now j c = ((c ≡ cause.Deadline) × (j.deadline ≤ now)) ⊎ ((c ≡ cause.Sends) × (now < j.deadline) × (40 ≤ j.asks))
 
+-- Why no server is left: some were passed over since they failed lately, or none was.
+abbrev pub spent_cause : Bool → Cause
+spent_cause true = cause.KnownFailure
+spent_cause false = cause.NoServer
+
 pub data Leaves (home : Home) (now : ℕ) (p : Point) (next : Next) (job : Job) (stores : Stores) : Type 0 where
   -- A server is asked.
-  sends : (server : Addr) (s : Search) (rest : List Search) → IsDue p server s rest → MaySend now p.job → next ≡ Ask server s.name s.kind → job ≡ asked p.job s rest
+  sends : (server : Addr) (s : Search) (rest : List Search) → IsDue now p server s rest → MaySend now p.job → next ≡ Ask server s.name s.kind → job ≡ asked p.job s rest
       → stores ≡ p.stores → Leaves home now p next job stores
   sends_again : (server : Addr) (s : Search) (rest : List Search) → IsDueAgain p server s rest → MaySend now p.job → next ≡ AskTcp server s.name s.kind
       → job ≡ asked_again p.job → stores ≡ p.stores → Leaves home now p next job stores
   -- A server would have to be asked, and may not.
-  refuses : (c : Cause) (server : Addr) (s : Search) (rest : List Search) → IsDue p server s rest ⊎ IsDueAgain p server s rest → IsRefused now p.job c → next ≡ Fail c
+  refuses : (c : Cause) (server : Addr) (s : Search) (rest : List Search) → IsDue now p server s rest ⊎ IsDueAgain p server s rest → IsRefused now p.job c → next ≡ Fail c
       → stores ≡ p.stores → Leaves home now p next job stores
   -- No server is left for the query's own name.
-  spent : (s : Search) → p.task ≡ Go → IsUsedUp p.job s [] → next ≡ Fail cause.NoServer → stores ≡ p.stores → Leaves home now p next job stores
+  spent : (s : Search) → p.task ≡ Go → IsUsedUp p.job s [] → next ≡ Fail (spent_cause (p.job).skipped) → stores ≡ p.stores → Leaves home now p next job stores
   -- Servers are to be asked, and nothing is sought of them: this does not come about.
   nowhere : (p.task ≡ Go) ⊎ ((server : Addr) × (p.task ≡ Again server)) → (p.job).searches ≡ [] → next ≡ Fail cause.NoServer → stores ≡ p.stores → Leaves home now p next job stores
   -- A ninth alias.
@@ -251,6 +277,16 @@ IsTakenCut j input now e =
     (s : Search) × (at : Name) × (ns : List Record) × (glue : List Record) × (ttl : ℕ) × (c : Cut)
     × IsClass j input s (class.Referral at ns glue ttl) × IsCutOf at ns glue c × referral.IsKept (cut_from c ttl now) e
 
+-- The message says that the server failed to answer what the innermost search seeks.
+abbrev pub IsFailureOf : Job → Input → Search → Addr → Type 0
+IsFailureOf j Start s a = ⊥
+IsFailureOf j (Told via server m) s a = ((rest : List Search) × (j.searches ≡ s ∷ rest)) × (a ≡ server) × (is_server_failure m ≡ true)
+IsFailureOf j (TimedOut server) s a = ⊥
+IsFailureOf j (TcpFailed server) s a = ⊥
+
+abbrev pub IsTakenFailure : Job → Input → ℕ → FailedAsk × ℕ → Type 0
+IsTakenFailure j input now e = (s : Search) × (a : Addr) × IsFailureOf j input s a × (e ≡ (ask_of s a, now))
+
 -- What may be gone of the stores for such a message: what one keep of the accepted link or cut pushes out of
 -- them as they stood before the call (`IsGone`).
 abbrev pub IsLostEntry : Job → Input → ℕ → Stores → Key × Hit → Type 0
@@ -260,6 +296,9 @@ abbrev pub IsLostCut : Job → Input → ℕ → Stores → Name × Known → Ty
 IsLostCut j input now stores e =
     (s : Search) × (at : Name) × (ns : List Record) × (glue : List Record) × (ttl : ℕ) × (c : Cut)
     × IsClass j input s (class.Referral at ns glue ttl) × IsCutOf at ns glue c × referral.IsGone stores.delegations_cap (cut_from c ttl now) stores.delegations e
+
+abbrev pub IsLostFailure : Job → Input → Stores → FailedAsk × ℕ → Type 0
+IsLostFailure j input stores e = (s : Search) × (a : Addr) × IsFailureOf j input s a × MayGo same_failed stores.failures_cap (ask_of s a) stores.failures e
 
 -- What stands where memory was wanting on the way. What was accepted may be kept or not, and what one keep of
 -- it pushes out may be gone; every other entry that was there stays, maybe in another order, and nothing else
@@ -273,6 +312,9 @@ pub record Stops (input : Input) (now : ℕ) (old : Job) (stores after : Stores)
       (after.penalties ≡ stores.penalties)
       ⊎ ((server : Addr) × (server_of input ≡ Some server)
       × ((after.penalties ≡ answered server stores.penalties) ⊎ (after.penalties ≡ timed_out server stores.penalties_cap stores.penalties)))
+  pub failures : KeepsOnly stores.failures (IsTakenFailure old input now) after.failures
+  pub failures_lost : LosesOnly stores.failures (IsLostFailure old input stores) after.failures
   pub cache_cap : after.cache_cap ≡ stores.cache_cap
   pub delegations_cap : after.delegations_cap ≡ stores.delegations_cap
   pub penalties_cap : after.penalties_cap ≡ stores.penalties_cap
+  pub failures_cap : after.failures_cap ≡ stores.failures_cap

@@ -1,7 +1,7 @@
 //! How one query is resolved (RFC 1034, section 5.3.3): definitions, in `specs`, and laws. Nothing here runs.
 //!
 //! `Home` is the zones at hand and the hints, `Stores` what was learnt, `Job` the work on one query: its CNAME
-//! chain, and the searches for servers that are under way. `Rule` has the seven small steps of that work, from the
+//! chain, and the searches for servers that are under way. `Rule` has the eight small steps of that work, from the
 //! look at what is known to the look-up of a server's address; `Advances` is one call: what came in is taken up,
 //! and rules are applied until an ask goes out or the query is over. `iterate` is the code of these words, `runs`
 //! and `laws` build on them.

@@ -8,4 +8,4 @@ abbrev pub invariant-turns : goal.invariant-turns
 invariant-turns g l = Running l.home l.now (point (task_view l.fn.first) l.fn.job l.fn.stores) (point (task_view l.task) l.job l.stores)
 
 abbrev pub decreases-turns : goal.decreases-turns
-decreases-turns g l = measure_by l.now (task_view l.task) l.job
+decreases-turns g l = measure_by l.now (task_view l.task) l.job (l.stores).failures

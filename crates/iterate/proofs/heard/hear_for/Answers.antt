@@ -4,8 +4,7 @@ use Rattle.classify.specs.Classes as class
 use Rattle.classify.specs.Classes.{class_of}
 use Rattle.classify.specs.Views.{class_view}
 use Rattle.frames.specs.Frames.{Frame}
-use Rattle.iterate.specs.Moves.{with_search}
-use Rattle.iterate.proofs.Accepted.{answer_stops, kept_stops, on_err}
+use Rattle.iterate.proofs.Accepted.{failure_stops, kept_stops, on_err}
 use Rattle.iterate.proofs.heard.hear_for.Goals as goal
 
 pub returns-in_err-answer-in-Ok-Answer-clause-stops : goal.returns-in_err-answer-in-Ok-Answer-clause-stops
@@ -18,5 +17,16 @@ returns-in_err-answer-in-Ok-Answer-clause-stops g c = λ before is.
 
 pub returns-in_err-refer-in-Ok-Referral-clause-stops : goal.returns-in_err-refer-in-Ok-Referral-clause-stops
 returns-in_err-refer-in-Ok-Referral-clause-stops g c = λ before is.
-    on_err c.from_residual-in_err-refer-in-Ok-Referral.result (answer_stops c.args.now (with_search c.args.job.now c.args.search) before c.refer.new.stores c.args.via c.args.server c.args.message.now
+    on_err c.from_residual-in_err-refer-in-Ok-Referral.result (failure_stops c.args.now c.args.job.now before c.refer.new.stores c.args.via c.args.server c.args.message.now c.args.search
     (c.in_err-refer-in-Ok-Referral.ensures.err ∙ is))
+
+pub returns-in_err-push-in-Ok-Truncated-clause-stops : goal.returns-in_err-push-in-Ok-Truncated-clause-stops
+returns-in_err-push-in-Ok-Truncated-clause-stops g c = λ before is.
+    on_err c.from_residual-in_err-push-in-Ok-Truncated.result (failure_stops c.args.now c.args.job.now before c.args.stores.now c.args.via c.args.server c.args.message.now c.args.search is)
+
+pub returns-in_err-push-in-Ok-Failed-clause-stops : goal.returns-in_err-push-in-Ok-Failed-clause-stops
+returns-in_err-push-in-Ok-Failed-clause-stops g c = λ before is.
+    on_err c.from_residual-in_err-push-in-Ok-Failed.result (failure_stops c.args.now c.args.job.now before c.args.stores.now c.args.via c.args.server c.args.message.now c.args.search is)
+
+pub returns-in-Err-clause-stops : goal.returns-in-Err-clause-stops
+returns-in-Err-clause-stops g c = λ before is. failure_stops c.args.now c.args.job.now before c.args.stores.now c.args.via c.args.server c.args.message.now c.args.search is

@@ -1,13 +1,14 @@
 use Rattle.std.proofs.Common.{refl, ap, ◌∙◌, List, ◌∷◌}
 use Rattle.frames.specs.Frames.{Frame}
-use Rattle.resolution.specs.Jobs.{Search as Sought, Job as Work}
-use Rattle.resolution.specs.Rules.{spent, gives_up}
+use Rattle.resolution.specs.Jobs.{Search as Sought, Job as Work, Fail}
+use Rattle.resolution.specs.Rules.{spent, gives_up, spent_cause}
 use Rattle.iterate.proofs.Sought.{up_job}
 use Rattle.iterate.proofs.serving.give_up.Goals as goal
 
 pub returns-in-None : goal.returns-in-None
 returns-in-None g c = λ home now stores before up none is.
-    spent before refl (record { searches = ap (λ (ss : List Sought). before ∷ ss) c.in-None.ensures.0; asked_all = up; none_left = none }) refl refl
+    spent before refl (record { searches = ap (λ (ss : List Sought). before ∷ ss) c.in-None.ensures.0; asked_all = up; none_left = none })
+    (ap Fail (c.spent.ensures ∙ ap (λ (j : Work). spent_cause j.skipped) c.in-None.ensures.1)) refl
 
 pub returns-in_ok-marked-in-Some : goal.returns-in_ok-marked-in-Some
 returns-in_ok-marked-in-Some g c = λ home now stores before up none is.
