@@ -4,8 +4,8 @@ use Rattle.rdata.specs.declared.addr.Addr.{Addr}
 use Rattle.zone.specs.Links.{Link}
 use Rattle.classify.specs.Classes as class
 use Rattle.classify.specs.Classes.{class_of}
-use Rattle.resolution.specs.Jobs.{Home, Stores, with_answer, Search, Job, Input, Start, Told, TimedOut, TcpFailed, Next, MaySend, Point}
-use Rattle.resolution.specs.Rules.{Rule, takes, asks, follows, restarts, hears, descends, gives_up, Rules, IsAnswered, ByClass, Enters, Leaves, sends, sends_again, refuses, spent, nowhere, too_long, done, Advances}
+use Rattle.resolution.specs.Jobs.{Home, Stores, with_told, Search, Job, Input, Start, Told, TimedOut, TcpFailed, Next, MaySend, Point}
+use Rattle.resolution.specs.Rules.{Rule, takes, asks, follows, restarts, skips, hears, descends, gives_up, Rules, IsAnswered, ByClass, Enters, Leaves, sends, sends_again, refuses, spent, nowhere, too_long, done, Advances}
 use Rattle.runs.specs.Steps.{IsAsking}
 
 -- The same number of asks, and the same deadline.
@@ -25,6 +25,7 @@ module _ (home : Home) (now : ℕ) where
   rule_keeps a b (asks c t m u j) = same_job a.job b.job _ j refl refl
   rule_keeps a b (follows l r t is few u j e) = same_job a.job b.job _ j refl refl
   rule_keeps a b (restarts l d front back t is whole fresh dead u j e) = same_job a.job b.job _ j refl refl
+  rule_keeps a b (skips n s u rest failures t searches passes free v j e) = same_job a.job b.job _ j refl refl
   rule_keeps a b (hears before around rest n l marks t turn f h u j) = same_job a.job b.job _ j refl refl
   rule_keeps a b (descends s rest n c t turn m u j) = same_job a.job b.job _ j refl refl
   rule_keeps a b (gives_up s around rest t up u j e) = same_job a.job b.job _ j refl refl
@@ -47,7 +48,7 @@ pub enters_keep : (now : ℕ) (input : Input) (j : Job) (stores : Stores) (p : P
 enters_keep now Start j stores p h = same_job j p.job _ (ap (λ (x : Point). x.job) h) refl refl
 enters_keep now (Told via server m) j stores p (inl (none, h)) = same_job j p.job _ (ap (λ (x : Point). x.job) h) refl refl
 enters_keep now (Told via server m) j stores p (inr (s, rest, is, h)) =
-    class_keeps now server s rest (class_of (s.frame).zone s.name s.kind via m) j (with_answer stores server) p h
+    class_keeps now server s rest (class_of (s.frame).zone s.name s.kind via m) j (with_told now s server m stores) p h
 enters_keep now (TimedOut server) j stores p h = same_job j p.job _ (ap (λ (x : Point). x.job) h) refl refl
 enters_keep now (TcpFailed server) j stores p h = same_job j p.job _ (ap (λ (x : Point). x.job) h) refl refl
 

@@ -6,11 +6,11 @@ use Rattle.rdata.specs.declared.addr.Addr.{Addr}
 use Rattle.zone.specs.Links.{Alias}
 use Rattle.front.specs.Chains.{target_of}
 use Rattle.resolution.specs.Jobs.{Home, Taken, Job, Task, Seek, Take, Go, Again, Point}
-use Rattle.resolution.specs.Rules.{Rule, takes, asks, follows, restarts, hears, descends, gives_up, Rules}
+use Rattle.resolution.specs.Rules.{Rule, takes, asks, follows, restarts, skips, hears, descends, gives_up, Rules}
 use Rattle.runs.specs.States.{Turn}
 use Rattle.laws.specs.Spent.{IsAliasOf, AreLeading}
 use Rattle.laws.proofs.Told.{AreTold, found_alias, found_name}
-use Rattle.laws.proofs.TimelyPoints.{IsSound, rule_keeps}
+use Rattle.laws.proofs.TimelyPoints.{IsSound, Lately, rule_keeps}
 
 module _ (port : ℕ) (home : Home) (run : List Turn) (t : ℕ) where
   abbrev pub LeadsOn : Name → List Taken → Name → Type 0
@@ -80,6 +80,7 @@ module _ (port : ℕ) (home : Home) (run : List Turn) (t : ℕ) where
   rule_reaches now from a b told h (restarts l d front back task ending is fresh dead to job stores) =
       let take = at_take from a l task h in
       reached_at from b Seek _ to job (record { kind = h.kind; leads = leads_to from (a.job).chain (a.job).name l front d back h.leads take.0 is; few = short_front (a.job).chain front back l d h.few is; link = tt })
+  rule_reaches now from a b told h (skips n s u rest failures task searches passes free to job stores) = reached_at from b Go _ to job (record { kind = h.kind; leads = h.leads; few = h.few; link = tt })
   rule_reaches now from a b told h (hears before after rest n l marks task turn finds hears_of to job) = reached_at from b Go _ to job (record { kind = h.kind; leads = h.leads; few = h.few; link = tt })
   rule_reaches now from a b told h (descends s rest n c task turn misses to job) = reached_at from b Go _ to job (record { kind = h.kind; leads = h.leads; few = h.few; link = tt })
   rule_reaches now from a b told h (gives_up s around rest task up to job stores) = reached_at from b Go _ to job (record { kind = h.kind; leads = h.leads; few = h.few; link = tt })
@@ -89,10 +90,10 @@ module _ (port : ℕ) (home : Home) (run : List Turn) (t : ℕ) where
   led from [] to h = ([], refl, h)
   led from (l ∷ ls) to (n, (r, is, a, more)) = let (rs, len, leads) = led (target_of r) ls to more in (r ∷ rs, ap suc len, (a, leads))
 
-module _ (port : ℕ) (home : Home) (run : List Turn) (t : ℕ) (k : ℕ) where
-  pub rules_reach : (Truncates : Addr → Name → ℕ → Type 0) (now n : ℕ) (from : Name) (a b : Point) → IsSound port home k run Truncates a → IsReached port home run t from a.task a.job → Rules home now n a b
-      → IsSound port home k run Truncates b × IsReached port home run t from b.task b.job
-  rules_reach Truncates now zero from a b sound h is = (subst (IsSound port home k run Truncates) (sym is) sound, subst (λ (p : Point). IsReached port home run t from p.task p.job) (sym is) h)
-  rules_reach Truncates now (suc n) from a b sound h (mid, before, last) =
-      let (s, r) = rules_reach Truncates now n from a mid sound h before in
-      (rule_keeps port home k run Truncates now mid b s last, rule_reaches port home run t now from mid b s.told r last)
+module _ (port : ℕ) (home : Home) (run : List Turn) (t : ℕ) (k : ℕ) (K : Name → ℕ → Addr → Type 0) where
+  pub rules_reach : (Truncates : Addr → Name → ℕ → Type 0) (now : ℕ) → Lately port home k run K Truncates now → (n : ℕ) (from : Name) (a b : Point) → IsSound port home k run K Truncates a
+      → IsReached port home run t from a.task a.job → Rules home now n a b → IsSound port home k run K Truncates b × IsReached port home run t from b.task b.job
+  rules_reach Truncates now lately zero from a b sound h is = (subst (IsSound port home k run K Truncates) (sym is) sound, subst (λ (p : Point). IsReached port home run t from p.task p.job) (sym is) h)
+  rules_reach Truncates now lately (suc n) from a b sound h (mid, before, last) =
+      let (s, r) = rules_reach Truncates now lately n from a mid sound h before in
+      (rule_keeps port home k run K Truncates now lately mid b s last, rule_reaches port home run t now from mid b s.told r last)

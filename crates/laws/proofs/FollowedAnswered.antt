@@ -1,5 +1,5 @@
 -- An answer is used at once, an alias stays in the chain, a referral is followed.
-use Rattle.std.proofs.Common.{◌≡◌, ℕ, zero, suc, ◌≤◌, ◌<◌, ◌⊎◌, inl, inr, false, Some, List, [], ◌∷◌, ◌++◌, Contains, refl, sym, ap, ◌∙◌, subst}
+use Rattle.std.proofs.Common.{◌≡◌, ℕ, zero, suc, ◌≤◌, ◌⊎◌, inl, inr, false, Some, List, [], ◌∷◌, ◌++◌, Contains, refl, sym, ap, ◌∙◌, subst}
 use Rattle.std.proofs.lemmas.List.Elements.{Contains-append_left, Contains-append_right}
 use Rattle.lru.proofs.Splits.{Contains-head}
 use Rattle.rdata.specs.Records.{Record}
@@ -9,32 +9,25 @@ use Rattle.causes.specs.declared.cause.Cause.{Cause}
 use Rattle.classify.specs.Classes as class
 use Rattle.classify.specs.Lifetimes.{received}
 use Rattle.retry.specs.Penalties.{answered, AreAtMost}
-use Rattle.retry.specs.Plans.{upcoming}
 use Rattle.retry.proofs.Steps.{level_low, answered_low}
 use Rattle.referral.specs.Cuts.{Cut}
 use Rattle.frames.specs.Frames.{Frame, opened, taken_addresses}
-use Rattle.resolution.specs.Jobs.{Home, Stores, level_of, with_answer, with_frame, Taken, received_link, is_dead, AreFresh, IsEnding, IsCutOf, Search, Job, Next, Ask, Done, Fail, Take, Go, Point}
-use Rattle.resolution.specs.Rules.{Rule, takes, asks, follows, restarts, hears, descends, gives_up, Rules, IsDue, IsDueAgain, Leaves, sends, sends_again, refuses, spent, nowhere, too_long, done, IsReferred}
+use Rattle.resolution.specs.Jobs.{Home, Stores, level_of, with_answer, with_told, with_frame, fails_now, next_server, Taken, received_link, is_dead, AreFresh, IsEnding, IsCutOf, Search, Job, Next, Ask, Done, Fail, Take, Go, Point}
+use Rattle.resolution.specs.Rules.{Rule, takes, asks, follows, restarts, skips, hears, descends, gives_up, Rules, IsDue, IsDueAgain, Leaves, sends, sends_again, refuses, spent, nowhere, too_long, done, IsReferred}
 use Rattle.laws.specs.Calls.{GoesOut, ReferralIsFollowed, AnswerIsUsed, HasLink, AliasStays}
 use Rattle.resolution.proofs.Falls.{found_fresh}
-use Rattle.laws.proofs.FollowedLists.{fresh_both, none_dead, some_upcoming, upcoming_in}
-use Rattle.laws.proofs.Calls.{no_rule, asks_next, heard}
+use Rattle.laws.proofs.FollowedLists.{fresh_both, none_dead, some_next, next_in}
+use Rattle.laws.proofs.Calls.{no_rule, goes_alike, asks_first, heard}
 
 -- ---- referrals
-
--- Whether an ask may go out hangs on the deadline and the number of asks alone.
-pub goes_alike : (now : ℕ) (j k : Job) (ask next : Next) → j.deadline ≡ k.deadline → j.asks ≡ k.asks → GoesOut now j ask next → GoesOut now k ask next
-goes_alike now j k ask next d n (inl (may, is)) = inl (record { early = subst (λ (x : ℕ). now < x) d may.early; few = subst (λ (x : ℕ). x < 40) n may.few }, is)
-goes_alike now j k ask next d n (inr (c, inl (late, past), is)) = inr (c, inl (late, subst (λ (x : ℕ). x ≤ now) d past), is)
-goes_alike now j k ask next d n (inr (c, inr (many, early, past), is)) = inr (c, inr (many, subst (λ (x : ℕ). now < x) d early, subst (λ (x : ℕ). 40 ≤ x) n past), is)
 
 -- A frame that was opened for a search is asked where it has an address.
 module _ (home : Home) (now : ℕ) (p last : Point) (old : Job) (s : Search) (rest : List Search) (f : Frame) (count : ℕ) (next : Next) (new : Job) (after : Stores)
     (task : p.task ≡ Go) (job : p.job ≡ record old { searches = with_frame s f ∷ rest }) (rules : Rules home now count p last) (leaves : Leaves home now last next new after) where
-  pub opened_asks : (d : Addr) → upcoming f.plan ≡ Some d → GoesOut now old (Ask d s.name s.kind) next
+  pub opened_asks : (d : Addr) → next_server now after.failures (with_frame s f) ≡ Some d → GoesOut now old (Ask d s.name s.kind) next
   opened_asks d due =
       goes_alike now p.job old (Ask d s.name s.kind) next (ap (λ (j : Job). j.deadline) job) (ap (λ (j : Job). j.asks) job)
-      (asks_next home now p (with_frame s f) rest (ap (λ (j : Job). j.searches) job) d task due count last next new after rules leaves)
+      (asks_first home now p (with_frame s f) rest d (ap (λ (j : Job). j.searches) job) task count last next new after rules leaves due)
 
 low_after : (stores : Stores) (server a : Addr) → AreAtMost 8 stores.penalties → level_of (with_answer stores server) a ≤ 8
 low_after stores server a low = level_low a (answered server stores.penalties) (answered_low server stores.penalties low)
@@ -43,24 +36,24 @@ pub referral_is_followed : ReferralIsFollowed
 referral_is_followed home now input old stores next new after s rest server at ns glue ttl call told =
     by (heard now input old stores call.first s rest server (class.Referral at ns glue ttl) call.enters told)
   where
-    by : IsReferred now s rest at ns glue ttl old (with_answer stores server) call.first
+    by : IsReferred now s rest at ns glue ttl old (with_told now s server told.message stores) call.first
         → (c : Cut) × IsCutOf at ns glue c
-        × ((d : Addr) → upcoming (opened (level_of (with_answer stores server)) (s.frame).nesting c).plan ≡ Some d → Contains (taken_addresses c) d × GoesOut now old (Ask d s.name s.kind) next)
-        × (AreAtMost 8 stores.penalties → (b : Addr) → Contains (taken_addresses c) b
+        × ((d : Addr) → next_server now after.failures (with_frame s (opened (level_of (with_answer stores server)) (s.frame).nesting c)) ≡ Some d → Contains (taken_addresses c) d × GoesOut now old (Ask d s.name s.kind) next)
+        × (AreAtMost 8 stores.penalties → (b : Addr) → Contains (taken_addresses c) b → fails_now now after.failures s b ≡ false
         → (d : Addr) × Contains (taken_addresses c) d × GoesOut now old (Ask d s.name s.kind) next)
     by is = (is.cut, is.is_cut, asked, some)
       where
         level : Addr → ℕ
         level = level_of (with_answer stores server)
 
-        asked : (d : Addr) → upcoming (opened level (s.frame).nesting is.cut).plan ≡ Some d → Contains (taken_addresses is.cut) d × GoesOut now old (Ask d s.name s.kind) next
+        asked : (d : Addr) → next_server now after.failures (with_frame s (opened level (s.frame).nesting is.cut)) ≡ Some d → Contains (taken_addresses is.cut) d × GoesOut now old (Ask d s.name s.kind) next
         asked d due = (
-          upcoming_in level (taken_addresses is.cut) d due,
+          next_in level (fails_now now after.failures s) (taken_addresses is.cut) d due,
           opened_asks home now call.first call.last old s rest (opened level (s.frame).nesting is.cut) call.count next new after is.task is.job call.rules call.leaves d due,
         )
 
-        some : AreAtMost 8 stores.penalties → (b : Addr) → Contains (taken_addresses is.cut) b → (d : Addr) × Contains (taken_addresses is.cut) d × GoesOut now old (Ask d s.name s.kind) next
-        some low b c = let (d, due) = some_upcoming level (taken_addresses is.cut) b c (low_after stores server b low) in (d, (asked d due).0, (asked d due).1)
+        some : AreAtMost 8 stores.penalties → (b : Addr) → Contains (taken_addresses is.cut) b → fails_now now after.failures s b ≡ false → (d : Addr) × Contains (taken_addresses is.cut) d × GoesOut now old (Ask d s.name s.kind) next
+        some low b c free = let (d, due) = some_next level (fails_now now after.failures s) (taken_addresses is.cut) b c (low_after stores server b low) free in (d, (asked d due).0, (asked d due).1)
 
 -- ---- answers
 
@@ -84,6 +77,7 @@ module _ (home : Home) (now : ℕ) (p : Point) (l : Taken) (task : p.task ≡ Ta
   end_stops q (restarts x d front back t is whole alive dead u j e) =
       let same : x ≡ l = cc in
       none_dead now front back d (subst (AreFresh now) (ap (λ (y : Taken). (p.job).chain ++ y ∷ []) (sym same) ∙ whole) fresh) dead
+  end_stops q (skips n x v others failures t f passes well u j e) = cc
   end_stops q (hears before around others n x marks t turn f h u j) = cc
   end_stops q (descends x others n c t turn m u j) = cc
   end_stops q (gives_up x around others t up u j e) = cc
@@ -93,7 +87,7 @@ module _ (home : Home) (now : ℕ) (p : Point) (l : Taken) (task : p.task ≡ Ta
   end_leaves next new after (sends_again x y others is may n j e) = let a = is.task in absurd (cc)
   end_leaves next new after (refuses c x y others is refused n e) = due is
     where
-      due : IsDue p x y others ⊎ IsDueAgain p x y others → next ≡ Done (p.job).chain l
+      due : IsDue now p x y others ⊎ IsDueAgain p x y others → next ≡ Done (p.job).chain l
       due (inl d) = let a = d.task in absurd (cc)
       due (inr d) = let a = d.task in absurd (cc)
   end_leaves next new after (spent x t up n e) = absurd (cc)
@@ -144,6 +138,11 @@ module _ (home : Home) (now : ℕ) (l : Taken) (r : Record) (alias : l.link ≡ 
   }
   holds_rule a b h (restarts x d front back t is whole fresh dead u j e) =
       absurd (none_dead now front back d (subst (AreFresh now) whole (fresh_both now (a.job).chain x h.fresh (h.taken x t))) dead)
+  holds_rule a b h (skips n s v others failures t f passes well u j e) = record {
+    fresh = subst (λ (k : Job). AreFresh now k.chain) (sym j) h.fresh;
+    taken = λ y g. absurd (cc);
+    there = elim h.there [ inl g ↦ absurd (cc) | inr d ↦ inr (subst (λ (k : Job). Contains k.chain l) (sym j) d) ];
+  }
   holds_rule a b h (hears before around others n x marks t turn f g u j) = record {
     fresh = subst (λ (k : Job). AreFresh now k.chain) (sym j) h.fresh;
     taken = λ y e. absurd (cc);

@@ -10,8 +10,9 @@ use Rattle.front.specs.declared.queries.Asked.TheVariants as heard
 use Rattle.classify.specs.Classes as class
 use Rattle.classify.specs.Classes.{class_of}
 use Rattle.frames.specs.Frames.{FailedName, opened}
-use Rattle.resolution.specs.Jobs.{Home, Stores, level_of, with_answer, with_frame, given, Search, Job, Input, Start, Told, TimedOut, TcpFailed, Next, Ask, AskTcp, Done, Fail, Task, Seek, Take, Go, Again, Point}
-use Rattle.resolution.specs.Rules.{HearsOf, turned, Rule, takes, asks, follows, restarts, hears, descends, gives_up, Rules, IsAnswered, ByClass, Enters, Leaves, sends, sends_again, refuses, spent, nowhere, too_long, done, Advances}
+use Rattle.resolution.specs.Jobs.{Home, Stores, level_of, with_told, with_frame, given, Search, Job, Input, Start, Told, TimedOut, TcpFailed, Next, Ask, AskTcp, Done, Fail, Task, Seek, Take, Go, Again, Point}
+use Rattle.resolution.specs.Rules.{HearsOf, turned, Rule, takes, asks, follows, restarts, skips, hears, descends, gives_up, Rules, IsAnswered, ByClass, Enters, Leaves, sends, sends_again, refuses, spent, nowhere, too_long, done, Advances}
+use Rattle.resolution.proofs.Passing.{passes_name}
 use Rattle.runs.specs.States.{Event, Client, Datagram, TcpReply, Tick, Action, Served, Turn, Plain, Asker, Asking, IsFor, Open, Site, State, job_for, moved}
 use Rattle.runs.specs.States as event
 use Rattle.runs.specs.Steps.{Comes, IsOpened, at_once, crowded, admitted, IsHandled, Hears, IsTurn}
@@ -51,6 +52,10 @@ module _ (home : Home) (now : ℕ) where
   right_rule a b h (asks c t m u j) = right_at b Go _ u j (refl, refl)
   right_rule a b h (follows l r t is few u j e) = right_at b Seek _ u j (subst (λ (k : Task). IsRight k a.job) t h)
   right_rule a b h (restarts l d front back t is whole fresh dead u j e) = right_at b Seek _ u j refl
+  right_rule a b h (skips n s u rest failures t searches passes free v j e) =
+      let top : IsOutermost (a.job).name (a.job).kind (s ∷ rest) = subst (IsOutermost (a.job).name (a.job).kind) searches (subst (λ (k : Task). IsRight k a.job) t h) in
+      let (name, kind) = passes_name now (suc n) s (a.stores).failures u failures passes in
+      right_at b Go _ v j (alike (a.job).name (a.job).kind s u rest name kind top)
   right_rule a b h (hears before around rest n l marks t turn f g u j) =
       let top : IsOutermost (a.job).name (a.job).kind (before ∷ rest) = subst (IsOutermost (a.job).name (a.job).kind) turn.searches (subst (λ (k : Task). IsRight k a.job) t h) in
       let (name, kind) = heard_name b.stores n l.link (turned (a.job).failed before) (a.job).failed around marks g in
@@ -121,7 +126,7 @@ enters_right : (now : ℕ) (input : Input) (j : Job) (stores : Stores) (p : Poin
 enters_right now Start j stores p ready h = right_at p Seek j (ap (λ (x : Point). x.task) h) (ap (λ (x : Point). x.job) h) ready
 enters_right now (Told via server m) j stores p ready (inl (none, h)) = right_at p Go j (ap (λ (x : Point). x.task) h) (ap (λ (x : Point). x.job) h) ready
 enters_right now (Told via server m) j stores p ready (inr (s, rest, is, h)) =
-    class_right now server s rest (class_of (s.frame).zone s.name s.kind via m) j (with_answer stores server) p (subst (IsOutermost j.name j.kind) is ready) ready h
+    class_right now server s rest (class_of (s.frame).zone s.name s.kind via m) j (with_told now s server m stores) p (subst (IsOutermost j.name j.kind) is ready) ready h
 enters_right now (TimedOut server) j stores p ready h = right_at p Go j (ap (λ (x : Point). x.task) h) (ap (λ (x : Point). x.job) h) ready
 enters_right now (TcpFailed server) j stores p ready h = right_at p Go j (ap (λ (x : Point). x.task) h) (ap (λ (x : Point). x.job) h) ready
 

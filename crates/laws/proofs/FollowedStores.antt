@@ -9,12 +9,13 @@ use Rattle.classify.specs.Classes as class
 use Rattle.classify.specs.Classes.{class_of}
 use Rattle.retry.specs.Penalties.{AreAtMost}
 use Rattle.retry.proofs.Steps.{timed_out_low, answered_low}
-use Rattle.resolution.specs.Jobs.{Stores, with_answer, with_timeout, Search, Job, Input, Start, Told, TimedOut, TcpFailed, Next, Ask, AskTcp, Done, Fail, Point}
+use Rattle.resolution.specs.Jobs.{Stores, with_answer, with_timeout, with_told, Search, Job, Input, Start, Told, TimedOut, TcpFailed, Next, Ask, AskTcp, Done, Fail, Point}
 use Rattle.resolution.specs.Rules.{IsAnswered, ByClass, Enters, Advances, Stops}
 use Rattle.runs.specs.States.{Event, Client, Datagram, TcpReply, TcpFailed, Tick, Action, Served, Turn, Plain, Asker, Site, State, moved}
 use Rattle.runs.specs.Steps.{Comes, IsOpened, at_once, crowded, admitted, IsHandled, IsIgnored, Hears, IsLeft, IsTurn}
 use Rattle.runs.specs.Runs.{Run}
-use Rattle.laws.proofs.Opened.{starts_rules, same_after}
+use Rattle.laws.proofs.Opened.{starts_rules}
+use Rattle.laws.proofs.Skipped.{same_after}
 
 -- ---- what a step does to the stores
 
@@ -94,7 +95,7 @@ enters_low : (now : ℕ) (input : Input) (j : Job) (stores : Stores) (p : Point)
 enters_low now Start j stores p is h = low_by stores p.stores (ap (λ (x : Point). (x.stores).penalties) is) h
 enters_low now (Told via server m) j stores p (inl (none, is)) h = low_by (with_answer stores server) p.stores (ap (λ (x : Point). (x.stores).penalties) is) (answered_low server stores.penalties h)
 enters_low now (Told via server m) j stores p (inr (s, rest, top, is)) h =
-    class_low now server s rest (class_of (s.frame).zone s.name s.kind via m) j (with_answer stores server) p is (answered_low server stores.penalties h)
+    class_low now server s rest (class_of (s.frame).zone s.name s.kind via m) j (with_told now s server m stores) p is (answered_low server stores.penalties h)
 enters_low now (TimedOut server) j stores p is h = low_by (with_timeout stores server) p.stores (ap (λ (x : Point). (x.stores).penalties) is) (timed_out_low server stores.penalties_cap stores.penalties h)
 enters_low now (TcpFailed server) j stores p is h = low_by (with_timeout stores server) p.stores (ap (λ (x : Point). (x.stores).penalties) is) (timed_out_low server stores.penalties_cap stores.penalties h)
 

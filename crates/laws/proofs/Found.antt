@@ -18,13 +18,13 @@ use Rattle.classify.proofs.Uses.{no_alias_class}
 use Rattle.cache.specs.Keys.{Key, key_for}
 use Rattle.cache.specs.Cached.{Hit, lent, hit_of, moved}
 use Rattle.cache.specs.Cached as cache
-use Rattle.resolution.specs.Jobs.{Home, Stores, with_answer, Search, Taken, local_link, Job, Input, Start, Told, TimedOut, TcpFailed, Next, Point, hit_from}
-use Rattle.resolution.specs.Rules.{Says, asked_of, above_by, Hits, Finds, Rule, takes, asks, follows, restarts, hears, descends, gives_up, Rules, IsAnswered, ByClass, Enters, Advances}
+use Rattle.resolution.specs.Jobs.{Home, Stores, with_told, Search, Taken, local_link, Job, Input, Start, Told, TimedOut, TcpFailed, Next, Point, hit_from}
+use Rattle.resolution.specs.Rules.{Says, asked_of, above_by, Hits, Finds, Rule, takes, asks, follows, restarts, skips, hears, descends, gives_up, Rules, IsAnswered, ByClass, Enters, Advances}
 use Rattle.runs.specs.States.{Event, Client, Datagram, TcpReply, Tick, Action, Served, Turn, Plain, job_for, Site, State, moved as moved_to}
 use Rattle.runs.specs.States as event
 use Rattle.runs.specs.Steps.{IsOpened, at_once, crowded, admitted, IsIgnored, Hears, IsHandled, IsTicked, IsTurn, Step}
 use Rattle.runs.specs.Runs.{Run}
-use Rattle.laws.proofs.Opened.{same_after}
+use Rattle.laws.proofs.Skipped.{same_after}
 use Rattle.laws.proofs.FollowedStores.{comes_stores}
 use Rattle.laws.specs.Uses.{Accepted, AreHits, took, is_kept}
 use Rattle.laws.specs.Looks.{Looks, none, hits_by, rule_hits, rules_hits, accepted_by, enters_accepted, call_looks, handled_looks, hears_looks, either_looks, ticked_looks, turn_looks, step_looks, IsKeptSince, KeptIsFound}
@@ -75,6 +75,7 @@ module _ (home : Home) (now : ℕ) where
   rule_looked a b (asks c t m u j) = looked_none now a.stores b.stores (ap (λ (x : Stores). x.cache) m.stores) (ap (λ (x : Stores). x.cache_cap) m.stores)
   rule_looked a b (follows l r t is few u j e) = same_looked now a.stores b.stores e
   rule_looked a b (restarts l d front back t is whole fresh dead u j e) = same_looked now a.stores b.stores e
+  rule_looked a b (skips n s u rest failures t searches passes free v j e) = looked_none now a.stores b.stores (ap (λ (x : Stores). x.cache) e) (ap (λ (x : Stores). x.cache_cap) e)
   rule_looked a b (hears before around rest n l marks t turn f h u j) = found_looked home now n a_type a.stores l b.stores f
   rule_looked a b (descends s rest n c t turn m u j) = looked_none now a.stores b.stores (ap (λ (x : Stores). x.cache) m.stores) (ap (λ (x : Stores). x.cache_cap) m.stores)
   rule_looked a b (gives_up s around rest t up u j e) = same_looked now a.stores b.stores e
@@ -113,7 +114,7 @@ enters_taken : (now : ℕ) (input : Input) (j : Job) (stores : Stores) (p : Poin
 enters_taken now Start j stores p h = none_taken stores p.stores (ap (λ (x : Point). (x.stores).cache) h) (ap (λ (x : Point). (x.stores).cache_cap) h)
 enters_taken now (Told via server m) j stores p (inl (top, h)) = none_taken stores p.stores (ap (λ (x : Point). (x.stores).cache) h) (ap (λ (x : Point). (x.stores).cache_cap) h)
 enters_taken now (Told via server m) j stores p (inr (s, rest, top, h)) =
-    let x = class_taken now server s rest (class_of (s.frame).zone s.name s.kind via m) j (with_answer stores server) p h in record { cache = x.cache; cap = x.cap }
+    let x = class_taken now server s rest (class_of (s.frame).zone s.name s.kind via m) j (with_told now s server m stores) p h in record { cache = x.cache; cap = x.cap }
 enters_taken now (TimedOut server) j stores p h = none_taken stores p.stores (ap (λ (x : Point). (x.stores).cache) h) (ap (λ (x : Point). (x.stores).cache_cap) h)
 enters_taken now (TcpFailed server) j stores p h = none_taken stores p.stores (ap (λ (x : Point). (x.stores).cache) h) (ap (λ (x : Point). (x.stores).cache_cap) h)
 

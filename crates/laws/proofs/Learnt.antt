@@ -12,7 +12,7 @@ use Rattle.classify.specs.Classes.{class_of}
 use Rattle.classify.proofs.Roots.{of_root}
 use Rattle.cache.specs.Keys.{Key, key_for}
 use Rattle.cache.specs.Cached.{Hit, IsKept}
-use Rattle.resolution.specs.Jobs.{Home, Stores, with_answer, with_timeout, received_link, Search, Job, job_at, Input, Start, Told, TimedOut, TcpFailed, Next, Task, Take, Go, Again, Point, point, hit_from}
+use Rattle.resolution.specs.Jobs.{Home, Stores, with_answer, with_timeout, with_told, received_link, Search, Job, job_at, Input, Start, Told, TimedOut, TcpFailed, Next, Task, Take, Go, Again, Point, point, hit_from}
 use Rattle.resolution.specs.Rules.{IsRemote, Learnt, ByClass, Enters, Advances, IsTakenEntry, Stops}
 use Rattle.runs.specs.States.{Turn, Query, Asking, via_of}
 use Rattle.runs.specs.Messages.{Brings}
@@ -20,17 +20,17 @@ use Rattle.runs.specs.Runs.{Earlier, clock_of}
 use Rattle.laws.specs.Spent.{IsOpenAsk}
 use Rattle.laws.specs.Timely.{Learns}
 use Rattle.laws.proofs.TimelyStores.{kept_from}
-use Rattle.laws.proofs.Told.{AreTold}
+use Rattle.laws.proofs.Told.{AreTold, KnownIn}
 use Rattle.laws.proofs.Chains.{IsReached, rules_reach}
-use Rattle.laws.proofs.TimelyPoints.{IsSound}
+use Rattle.laws.proofs.TimelyPoints.{IsSound, Lately}
 use Rattle.laws.proofs.Leaving.{IsWaitingFor}
-use Rattle.laws.proofs.Enters.{open_asks, brought_ends, IsInputNow, enters_sound}
+use Rattle.laws.proofs.Enters.{open_asks, brought_ends}
 use Rattle.laws.proofs.Timed.{IsLearnt, AreTimed, AreKnown, KnownBy, IsTimed, timed_at, rules_timed, timed_later, known_later}
 use Rattle.laws.proofs.TimelySent.{GoesTimely, leaves_timed}
-use Rattle.laws.proofs.States.{TruncatedNow, top_at, enters_reach}
+use Rattle.laws.proofs.States.{KnownNow, IsInputNow, TruncatedNow, top_at, enters_reach, lately_now, enters_now}
 
 module _ (port : ℕ) (home : Home) (k : ℕ) (turn : Turn) (past : List Turn) (ask : Asking) (served : turn.served ≡ Query k) (asked : IsOpenAsk port k ask past)
-    (t : ℕ) (from : Name) (j : Job) (stores : Stores) (told : AreTold port home past stores) (work : IsWaitingFor port home past k t from ask.server ask.name ask.kind j)
+    (t : ℕ) (from : Name) (j : Job) (stores : Stores) (told : AreTold port home past stores) (work : IsWaitingFor port home past k (KnownIn port k past) t from ask.server ask.name ask.kind j)
     (now : ℕ) (clock : now ≡ clock_of (turn ∷ past)) (timed : AreTimed port home past stores) (chain : AreKnown port home past k t (Unit {0}) j.chain) (remote : IsRemote home j.name j.kind) (plain : t ≡ cname_type → j.chain ≡ []) where
   abbrev Mine : Type 0
   Mine = turn.served ≡ Query k
@@ -103,27 +103,28 @@ module _ (port : ℕ) (home : Home) (k : ℕ) (turn : Turn) (past : List Turn) (
   still : (p : Point) (old : Stores) → AreTimed port home past old → p ≡ point Go j old → IsTimedNow p
   still p old h e = going p Go j (ap (λ (x : Point). x.task) e) (ap (λ (x : Point). x.job) e) (subst (AreTimed port home (turn ∷ past)) (sym (ap (λ (x : Point). x.stores) e)) (timed_later port home turn past old h)) remote refl refl refl refl
 
-  enters_timed : (input : Input) (p : Point) → IsInputNow port home k turn past ask served asked input → Enters now input j stores p → IsTimedNow p
+  enters_timed : (input : Input) (p : Point) → IsInputNow port home k turn past ask served asked t from j stores told work input → Enters now input j stores p → IsTimedNow p
   enters_timed Start p is h = absurd is
   enters_timed (Told way server m) p (via_is, server_is, brings) h = elim h [
     | inl (none, at) ↦ still p (with_answer stores server) timed at
-    | inr (s, rest, searches, by) ↦ by_class s rest server m (class_of (s.frame).zone s.name s.kind (via_of ask.path) m) (with_answer stores server) p timed searches brings refl
-        (subst (λ (w : Via). ByClass now server s rest (class_of (s.frame).zone s.name s.kind w m) j (with_answer stores server) p) via_is by)
+    | inr (s, rest, searches, by) ↦ by_class s rest server m (class_of (s.frame).zone s.name s.kind (via_of ask.path) m) (with_told now s server m stores) p timed searches brings refl
+        (subst (λ (w : Via). ByClass now server s rest (class_of (s.frame).zone s.name s.kind w m) j (with_told now s server m stores) p) via_is by)
   ]
   enters_timed (TimedOut server) p is h = still p (with_timeout stores server) timed h
   enters_timed (TcpFailed server) p is h = still p (with_timeout stores server) timed h
 
   -- What one call gives.
-  pub call_timed : (input : Input) (next : Next) (new : Job) (after : Stores) → IsInputNow port home k turn past ask served asked input → Advances home now input j stores next new after
+  pub call_timed : (input : Input) (next : Next) (new : Job) (after : Stores) → IsInputNow port home k turn past ask served asked t from j stores told work input → Advances home now input j stores next new after
       → GoesTimely port home turn past k t now clock Mine (λ is. is) from j.deadline j.asks next new × AreTimed port home (turn ∷ past) after
   call_timed input next new after is a =
-      let first = enters_sound port home k turn past ask served asked now input j stores a.first told work.marks work.top is a.enters in
+      let first = enters_now port home k turn past ask served asked t from j stores told work now clock input a.first is a.enters in
       let reached = enters_reach port home k turn past ask served asked t from j stores told work now input stores a.first is a.enters in
-      let (sound, reach) = rules_reach port home (turn ∷ past) t k (TruncatedNow port home k turn past ask served asked t from j stores told work) now a.count from a.first a.last first reached a.rules in
+      let (sound, reach) = rules_reach port home (turn ∷ past) t k (KnownNow port home k turn past ask served asked t from j stores told work) (TruncatedNow port home k turn past ask served asked t from j stores told work) now
+      (lately_now port home k turn past ask served asked t from j stores told work now clock) a.count from a.first a.last first reached a.rules in
       let last = rules_timed port home (turn ∷ past) k t Mine j.deadline j.asks now a.count a.first a.last (enters_timed input a.first is a.enters) a.rules in
       leaves_timed port home turn past k t now clock Mine (λ is. is) from j.deadline j.asks a.last next new after last reach a.leaves
 
-  taken_timed : (input : Input) → IsInputNow port home k turn past ask served asked input → (x : Key × Hit) → IsTakenEntry j input now x
+  taken_timed : (input : Input) → IsInputNow port home k turn past ask served asked t from j stores told work input → (x : Key × Hit) → IsTakenEntry j input now x
       → (n : Name) × (u : ℕ) × (x.0 ≡ key_for n u (x.1).link) × IsLearnt port home (turn ∷ past) n u x.1
   taken_timed Start is x (s, l, c, kept) = absurd c
   taken_timed (Told way server m) (via_is, server_is, brings) x (s, l, ((rest, searches), is), kept) =
@@ -131,7 +132,7 @@ module _ (port : ℕ) (home : Home) (k : ℕ) (turn : Turn) (past : List Turn) (
   taken_timed (TimedOut server) is x (s, l, c, kept) = absurd c
   taken_timed (TcpFailed server) is x (s, l, c, kept) = absurd c
 
-  pub stop_timed : (input : Input) (after : Stores) → IsInputNow port home k turn past ask served asked input → Stops input now j stores after → AreTimed port home (turn ∷ past) after
+  pub stop_timed : (input : Input) (after : Stores) → IsInputNow port home k turn past ask served asked t from j stores told work input → Stops input now j stores after → AreTimed port home (turn ∷ past) after
   stop_timed input after is h key e c = elim (h.cache (key, e) c) [
     | inl d ↦ timed_later port home turn past stores timed key e d
     | inr new ↦ taken_timed input is (key, e) new
@@ -139,7 +140,8 @@ module _ (port : ℕ) (home : Home) (k : ℕ) (turn : Turn) (past : List Turn) (
 
 -- ---- a query that comes
 
-module _ (port : ℕ) (home : Home) (turn : Turn) (past : List Turn) (k t now : ℕ) (clock : now ≡ clock_of (turn ∷ past)) (from : Name) where
+module _ (port : ℕ) (home : Home) (turn : Turn) (past : List Turn) (k : ℕ) (K : Name → ℕ → Addr → Type 0) (t now : ℕ) (clock : now ≡ clock_of (turn ∷ past)) (from : Name)
+    (lately : Lately port home k (turn ∷ past) K (λ a n u. Unit {0}) now) where
   never : ⊥ → turn.served ≡ Query k
   never e = absurd e
 
@@ -147,10 +149,11 @@ module _ (port : ℕ) (home : Home) (turn : Turn) (past : List Turn) (k t now : 
       → Advances home now Start (job_at from t deadline) stores next new after
       → GoesTimely port home turn past k t now clock ⊥ (λ e. absurd e) from (deadline + 10000) 0 next new × AreTimed port home (turn ∷ past) after
   start_timed deadline stores next new after told timed a =
-      let sound : IsSound port home k (turn ∷ past) (λ a n u. Unit {0}) a.first = subst (IsSound port home k (turn ∷ past) (λ a n u. Unit {0})) (sym a.enters) (record { told = told; marks = λ f c. absurd (Contains-nil f c); stands = tt }) in
+      let sound : IsSound port home k (turn ∷ past) K (λ a n u. Unit {0}) a.first = subst (IsSound port home k (turn ∷ past) K (λ a n u. Unit {0})) (sym a.enters)
+      (record { told = told; marks = λ f c. absurd (Contains-nil f c); stands = tt; known = λ e. absurd (cc) }) in
       let reached : IsReached port home (turn ∷ past) t from a.first.task a.first.job = subst (λ (p : Point). IsReached port home (turn ∷ past) t from p.task p.job) (sym a.enters)
       (record { kind = refl; leads = refl; few = zero_least; link = tt }) in
-      let (last_sound, reach) = rules_reach port home (turn ∷ past) t k (λ a n u. Unit {0}) now a.count from a.first a.last sound reached a.rules in
+      let (last_sound, reach) = rules_reach port home (turn ∷ past) t k K (λ a n u. Unit {0}) now lately a.count from a.first a.last sound reached a.rules in
       let first : IsTimed port home (turn ∷ past) k t ⊥ (deadline + 10000) 0 a.first = subst (IsTimed port home (turn ∷ past) k t ⊥ (deadline + 10000) 0) (sym a.enters)
       (record { stores = timed; chain = tt; task = tt; plain = λ c. refl; kind = refl; deadline_is = refl; sent_is = refl }) in
       let last = rules_timed port home (turn ∷ past) k t ⊥ (deadline + 10000) 0 now a.count a.first a.last first a.rules in
@@ -159,8 +162,8 @@ module _ (port : ℕ) (home : Home) (turn : Turn) (past : List Turn) (k t now : 
       zero_least : 0 ≤ 8
       zero_least = omega arith
 
-  pub start_stop_timed : (j : Job) (stores after : Stores) → AreTimed port home (turn ∷ past) stores → Stops Start now j stores after → AreTimed port home (turn ∷ past) after
-  start_stop_timed j stores after timed h key e c = elim (h.cache (key, e) c) [
-    | inl d ↦ timed key e d
-    | inr (s, l, none, kept) ↦ absurd none
-  ]
+pub start_stop_timed : (port : ℕ) (home : Home) (run : List Turn) (now : ℕ) (j : Job) (stores after : Stores) → AreTimed port home run stores → Stops Start now j stores after → AreTimed port home run after
+start_stop_timed port home run now j stores after timed h key e c = elim (h.cache (key, e) c) [
+  | inl d ↦ timed key e d
+  | inr (s, l, none, kept) ↦ absurd none
+]

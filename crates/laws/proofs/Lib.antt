@@ -13,6 +13,7 @@ pub mod FollowedLists
 pub mod FollowedSearches
 pub mod FollowedStores
 pub mod Found
+pub mod Grown
 pub mod Held
 pub mod KeptEntries
 pub mod Later
@@ -31,6 +32,7 @@ pub mod RightOpens
 pub mod RightPoints
 pub mod Runs
 pub mod Servers
+pub mod Skipped
 pub mod Sound
 pub mod States
 pub mod Steps

@@ -8,17 +8,16 @@ use Rattle.zone.specs.Links.{Link}
 use Rattle.zone.specs.Look.{Linked}
 use Rattle.recency.proofs.Kept.{used_found}
 use Rattle.retry.specs.Penalties.{penalty}
-use Rattle.retry.specs.Plans.{upcoming}
 use Rattle.referral.specs.Cuts.{Cut, Known, nearest, moved, Lives, IsBest}
 use Rattle.referral.proofs.Exact.{same_name_exact}
 use Rattle.referral.proofs.Steps.{moved_same}
 use Rattle.cache.specs.Cached.{Hit}
 use Rattle.frames.specs.Frames.{opened}
-use Rattle.resolution.specs.Jobs.{Home, Stores, level_of, Taken, local_link, Search, search_at, Job, Next, Ask, Go, Point}
-use Rattle.resolution.specs.Rules.{Says, turned, Hits, Finds, Misses, Rule, takes, asks, follows, restarts, hears, descends, gives_up, Rules, Leaves, sends, sends_again, refuses, spent, nowhere, too_long, done}
+use Rattle.resolution.specs.Jobs.{Home, Stores, level_of, Taken, local_link, Search, search_at, next_server, Job, Next, Ask, Go, Point}
+use Rattle.resolution.specs.Rules.{Says, turned, Hits, Finds, Misses, Rule, takes, asks, follows, restarts, skips, hears, descends, gives_up, Rules, Leaves}
 use Rattle.laws.specs.Calls.{GoesOut, Opening, IsStart, FramesOpenRightly}
-use Rattle.laws.proofs.Calls.{asks_next}
-use Rattle.laws.proofs.FollowedAnswered.{goes_alike}
+use Rattle.laws.proofs.Calls.{goes_alike, asks_first}
+use Rattle.laws.proofs.Skipped.{same_after}
 
 abbrev Cuts : Type 0
 Cuts = List (Name × Known)
@@ -73,6 +72,7 @@ module _ (home : Home) (now : ℕ) where
   starts_rule a b (asks c t m u j) = starts_missed _ _ a.stores c b.stores m
   starts_rule a b (follows l r t is few u j e) = starts_same a.stores b.stores e
   starts_rule a b (restarts l d front back t is whole fresh dead u j e) = starts_same a.stores b.stores e
+  starts_rule a b (skips n s u rest failures t searches passes free v j e) = subst (StartsSo a.stores) (sym e) (record { penalties = refl; best = λ q b x. x })
   starts_rule a b (hears before around rest n l marks t turn f h u j) = starts_found _ _ a.stores l b.stores f
   starts_rule a b (descends s rest n c t turn m u j) = starts_missed _ _ a.stores c b.stores m
   starts_rule a b (gives_up s around rest t up u j e) = starts_same a.stores b.stores e
@@ -84,22 +84,13 @@ module _ (home : Home) (now : ℕ) where
       let here = starts_rule mid b rule in
       record { penalties = here.penalties ∙ before.penalties; best = λ q c h. here.best q c (before.best q c h) }
 
-  pub same_after : (p : Point) (next : Next) (new : Job) (after : Stores) → Leaves home now p next new after → after ≡ p.stores
-  same_after p next new after (sends x y others is may n j e) = e
-  same_after p next new after (sends_again x y others is may n j e) = e
-  same_after p next new after (refuses c x y others is refused n e) = e
-  same_after p next new after (spent x t up n e) = e
-  same_after p next new after (nowhere t none n e) = e
-  same_after p next new after (too_long l r t is long n e) = e
-  same_after p next new after (done l t is fresh n e) = e
-
   -- A frame that was opened at the cut of a miss, and what follows.
   module _ (a b last : Point) (count : ℕ) (next : Next) (new : Job) (after : Stores) (n : Name) (t d : ℕ) (c : Cut) (rest : List Search)
       (task : b.task ≡ Go) (m : Misses home now n t a.stores c b.stores) (job : (b.job).searches ≡ search_at n t (opened (level_of b.stores) d c) ∷ rest)
       (deadline : (b.job).deadline ≡ (a.job).deadline) (number : (b.job).asks ≡ (a.job).asks)
       (rules : Rules home now count b last) (leaves : Leaves home now last next new after) where
     later : StartsSo b.stores after
-    later = subst (StartsSo b.stores) (sym (same_after last next new after leaves)) (starts_rules count b last rules)
+    later = subst (StartsSo b.stores) (sym (same_after home now last next new after leaves)) (starts_rules count b last rules)
 
     level : level_of b.stores ≡ level_of after
     level = λ i x. penalty x (sym later.penalties i)
@@ -110,22 +101,23 @@ module _ (home : Home) (now : ℕ) where
     pub frame_stands : (more : List Search) × ((b.job).searches ≡ search_at n t (opened (level_of after) d c) ∷ more)
     frame_stands = (rest, job ∙ ap (λ (f : Addr → ℕ). search_at n t (opened f d c) ∷ rest) level)
 
-    pub first_is_asked : (x : Addr) → upcoming (opened (level_of after) d c).plan ≡ Some x → GoesOut now a.job (Ask x n t) next
+    pub first_is_asked : (x : Addr) → next_server now after.failures (search_at n t (opened (level_of after) d c)) ≡ Some x → GoesOut now a.job (Ask x n t) next
     first_is_asked x due =
-        let due_then : upcoming (opened (level_of b.stores) d c).plan ≡ Some x = ap (λ (f : Addr → ℕ). upcoming (opened f d c).plan) level ∙ due in
+        let due_then : next_server now after.failures (search_at n t (opened (level_of b.stores) d c)) ≡ Some x = ap (λ (f : Addr → ℕ). next_server now after.failures (search_at n t (opened f d c))) level ∙ due in
         goes_alike now b.job a.job (Ask x n t) next deadline number
-        (asks_next home now b (search_at n t (opened (level_of b.stores) d c)) rest job x task due_then count last next new after rules leaves)
+        (asks_first home now b (search_at n t (opened (level_of b.stores) d c)) rest x job task count last next new after rules leaves due_then)
 
 pub frames_open_rightly : FramesOpenRightly
 frames_open_rightly home now a b last count next new after (takes l t f u j) o rules leaves is = absurd (cc)
 frames_open_rightly home now a b last count next new after (follows l r t i few u j e) o rules leaves is = absurd (cc)
 frames_open_rightly home now a b last count next new after (restarts l d front back t i whole fresh dead u j e) o rules leaves is = absurd (cc)
+frames_open_rightly home now a b last count next new after (skips n s u rest failures t searches passes free v j e) o rules leaves is = absurd (cc)
 frames_open_rightly home now a b last count next new after (hears before around rest n l marks t turn f h u j) o rules leaves is = absurd (cc)
 frames_open_rightly home now a b last count next new after (gives_up s around rest t up u j e) o rules leaves is = absurd (cc)
 frames_open_rightly home now a b last count next new after (asks c t m u j) o rules leaves is =
     let same : record { name = (a.job).name; kind = (a.job).kind; nesting = 0; cut = c } ≡ o = cc in
     let P : Opening → Type 0 = λ p. IsStart home now p.name p.kind after p.cut × ((rest : List Search) × ((b.job).searches ≡ search_at p.name p.kind (opened (level_of after) p.nesting p.cut) ∷ rest))
-    × ((d : Addr) → upcoming (opened (level_of after) p.nesting p.cut).plan ≡ Some d → GoesOut now a.job (Ask d p.name p.kind) next) in
+    × ((d : Addr) → next_server now after.failures (search_at p.name p.kind (opened (level_of after) p.nesting p.cut)) ≡ Some d → GoesOut now a.job (Ask d p.name p.kind) next) in
     let searches : (b.job).searches ≡ search_at (a.job).name (a.job).kind (opened (level_of b.stores) 0 c) ∷ [] = ap (λ (k : Job). k.searches) j in
     let deadline : (b.job).deadline ≡ (a.job).deadline = ap (λ (k : Job). k.deadline) j in
     let number : (b.job).asks ≡ (a.job).asks = ap (λ (k : Job). k.asks) j in
@@ -137,7 +129,7 @@ frames_open_rightly home now a b last count next new after (asks c t m u j) o ru
 frames_open_rightly home now a b last count next new after (descends s rest n c t turn m u j) o rules leaves is =
     let same : record { name = n; kind = a_type; nesting = (s.frame).nesting + 1; cut = c } ≡ o = cc in
     let P : Opening → Type 0 = λ p. IsStart home now p.name p.kind after p.cut × ((rest : List Search) × ((b.job).searches ≡ search_at p.name p.kind (opened (level_of after) p.nesting p.cut) ∷ rest))
-    × ((d : Addr) → upcoming (opened (level_of after) p.nesting p.cut).plan ≡ Some d → GoesOut now a.job (Ask d p.name p.kind) next) in
+    × ((d : Addr) → next_server now after.failures (search_at p.name p.kind (opened (level_of after) p.nesting p.cut)) ≡ Some d → GoesOut now a.job (Ask d p.name p.kind) next) in
     let more : List Search = turned (a.job).failed s ∷ rest in
     let searches : (b.job).searches ≡ search_at n a_type (opened (level_of b.stores) ((s.frame).nesting + 1) c) ∷ more = ap (λ (k : Job). k.searches) j in
     let deadline : (b.job).deadline ≡ (a.job).deadline = ap (λ (k : Job). k.deadline) j in

@@ -7,9 +7,8 @@ use Rattle.causes.specs.declared.cause.Cause.TheVariants as cause
 use Rattle.wire.specs.declared.via.Via.{Via}
 use Rattle.front.specs.declared.queries.Asked.{Asked}
 use Rattle.front.specs.declared.queries.Asked.TheVariants as heard
-use Rattle.retry.specs.Plans.{upcoming}
 use Rattle.frames.specs.Frames.{opened}
-use Rattle.resolution.specs.Jobs.{Home, Stores, level_of, Job, Start, Next, Ask, Fail, Point}
+use Rattle.resolution.specs.Jobs.{Home, Stores, level_of, search_at, next_server, Job, Start, Next, Ask, Fail, Point}
 use Rattle.resolution.specs.Rules.{Rule, Rules, IsRefused}
 use Rattle.runs.specs.States.{Event, Client, Datagram, TcpReply, Tick, Action, MoreDue, Served, Query, Plain, Asker, asker, Site, State, moved}
 use Rattle.runs.specs.States as event
@@ -20,7 +19,7 @@ use Rattle.laws.specs.Laws.{IsAlone}
 use Rattle.laws.specs.Calls.{GoesOut, Opening, opening_of, IsStart}
 use Rattle.laws.specs.Opens.{Call, handled_call, hears_call, either_call, ticked_call, turn_call, RulesOpen, Opens, Goes, MayNot, IsOpenedRightly, FramesOpenInSteps}
 use Rattle.laws.proofs.Asking.{SameTime, both, rules_keep, enters_keep}
-use Rattle.laws.proofs.FollowedAnswered.{goes_alike}
+use Rattle.laws.proofs.Calls.{goes_alike}
 use Rattle.laws.proofs.FollowedStores.{comes_stores}
 use Rattle.laws.proofs.Opened.{frames_open_rightly}
 
@@ -49,7 +48,7 @@ on_way home now (suc n) a b (mid, more, rule) frame (inr is) =
 abbrev IsRightIn : (s : State) → Call s → Opening → Type 0
 IsRightIn s call frame =
     IsStart (s.site).home s.clock frame.name frame.kind call.after frame.cut
-    × ((d : Addr) → upcoming (opened (level_of call.after) frame.nesting frame.cut).plan ≡ Some d → GoesOut s.clock call.old (Ask d frame.name frame.kind) call.next)
+    × ((d : Addr) → next_server s.clock (call.after).failures (search_at frame.name frame.kind (opened (level_of call.after) frame.nesting frame.cut)) ≡ Some d → GoesOut s.clock call.old (Ask d frame.name frame.kind) call.next)
 
 right_in : (s : State) (call : Call s) (frame : Opening) → Opens s call frame → IsRightIn s call frame
 right_in s call frame h =
@@ -84,7 +83,7 @@ module _ (site : Site) (s : State) (here : s.site ≡ site) (served : Served) (o
           record {
             start = subst (λ (x : Site). IsStart x.home s.clock frame.name frame.kind new.stores frame.cut) here
                 (subst (λ (x : Stores). IsStart (s.site).home s.clock frame.name frame.kind x frame.cut) (sym stores) start);
-            first = λ d due. sends d frame.name frame.kind (asks d (subst (λ (x : Stores). upcoming (opened (level_of x) frame.nesting frame.cut).plan ≡ Some d) stores due));
+            first = λ d due. sends d frame.name frame.kind (asks d (subst (λ (x : Stores). next_server s.clock x.failures (search_at frame.name frame.kind (opened (level_of x) frame.nesting frame.cut)) ≡ Some d) stores due));
           }
 
   -- The query's ask goes out, under its number.

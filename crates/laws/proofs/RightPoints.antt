@@ -26,8 +26,9 @@ use Rattle.truth.specs.Worlds.{World, IsWorld}
 use Rattle.truth.specs.Serving.{MayServe}
 use Rattle.truth.specs.Frames.{MayAsk}
 use Rattle.truth.proofs.Honest.{honest_answer}
-use Rattle.resolution.specs.Jobs.{Home, Stores, level_of, with_answer, Taken, IsEnding, bytes_of, Search, with_frame, given, Job, Input, Start, Told, TimedOut, TcpFailed, Next, Ask, AskTcp, Done, Fail, Task, Seek, Take, Go, Again, Point, hit_from}
-use Rattle.resolution.specs.Rules.{Says, IsRemote, asked_by, asked_of, Hits, Finds, Misses, HearsOf, turned, Rule, takes, asks, follows, restarts, hears, descends, gives_up, Rules, ByClass, Enters, Leaves, sends, sends_again, refuses, spent, nowhere, too_long, done, Advances, IsTakenEntry, IsTakenCut, Stops}
+use Rattle.resolution.specs.Jobs.{Home, Stores, level_of, with_told, Taken, IsEnding, bytes_of, Search, with_frame, given, Job, Input, Start, Told, TimedOut, TcpFailed, Next, Ask, AskTcp, Done, Fail, Task, Seek, Take, Go, Again, Point, hit_from}
+use Rattle.resolution.specs.Rules.{Says, IsRemote, asked_by, asked_of, Hits, Finds, Misses, HearsOf, turned, Rule, takes, asks, follows, restarts, skips, hears, descends, gives_up, Rules, ByClass, Enters, Leaves, sends, sends_again, refuses, spent, nowhere, too_long, done, Advances, IsTakenEntry, IsTakenCut, Stops}
+use Rattle.resolution.proofs.Passing.{passes_keep}
 use Rattle.laws.specs.Headline.{IsHomeIn}
 use Rattle.laws.proofs.RightLists.{longer}
 use Rattle.laws.proofs.RightEntries.{class_once, IsGood, received_good, local_good, IsTrueEntry, AreTrueEntries, Count, kept_true, new_true, hit_good}
@@ -162,6 +163,11 @@ may_count n t (local.Linked l) p there = absurd (none_in p there)
 may_count n t (local.Cut c ns glue) p there = let (low, over) = (above_is_between c n p).0 there in (over, low.0)
 may_count n t local.NotHere p there = let (low, over) = (above_is_between root n p).0 there in (tt, low.0)
 
+-- A search whose plan goes on is as true.
+given_true : (W : World) (n : Name) (t : ℕ) (s : Search) (rest : List Search) → AreTrueSearches W n t (s ∷ rest) → AreTrueSearches W n t (given s ∷ rest)
+given_true W n t s [] x = x
+given_true W n t s (around ∷ rest) x = x
+
 module _ (W : World) (w : IsWorld W) (home : Home) (ours : IsHomeIn W home) (now : ℕ) where
   finds_true : (n : Name) (t : ℕ) (old : Stores) (l : Taken) (new : Stores) → AreTrue W old → Finds home now n t old l new → (l.name ≡ n) × IsGood W n t l.link × AreTrue W new
   finds_true n t old l new all h = elim h.is as (λ x. (l.name ≡ n) × IsGood W n t l.link × AreTrue W new) [
@@ -248,6 +254,11 @@ module _ (W : World) (w : IsWorld W) (home : Home) (ours : IsHomeIn W home) (now
         searches = tt;
       })
       (subst (AreTrue W) (sym stores) h.stores) refl
+  rule_true q t a b h (skips n s u rest failures at searches passes free to job stores) =
+      let here : AreTrueSearches W (a.job).name t (s ∷ rest) = subst (AreTrueSearches W (a.job).name t) searches (h.job).searches in
+      let there = passes_keep (λ x. AreTrueSearches W (a.job).name t (x ∷ rest)) now (suc n) s (a.stores).failures u failures (λ x e. given_true W (a.job).name t x rest e) passes here in
+      point_true W q t b Go _ to job (record { kind = (h.job).kind; leads = (h.job).leads; few = (h.job).few; searches = there })
+      (subst (AreTrue W) (sym stores) (record { cache = (h.stores).cache; cuts = (h.stores).cuts })) tt
   rule_true q t a b h (hears before after rest n l marks at turn finds heard to job) =
       let (name, good, stores) = finds_true n a_type a.stores l b.stores h.stores finds in
       let around : AreTrueSearches W (a.job).name t (before ∷ rest) = subst (AreTrueSearches W (a.job).name t) turn.searches (h.job).searches in
@@ -342,7 +353,7 @@ module _ (W : World) (w : IsWorld W) (home : Home) (ours : IsHomeIn W home) (now
   enters_true q t Start j stores p input h all is = at_once q t p Seek j stores is h all input
   enters_true q t (Told via server m) j stores p input h all (inl (free, is)) = at_once q t p Go j _ is h (record { cache = all.cache; cuts = all.cuts }) tt
   enters_true q t (Told via server m) j stores p input h all (inr (s, rest, searches, by)) =
-      class_true q t server via m s rest _ j (with_answer stores server) p refl searches h (record { cache = all.cache; cuts = all.cuts }) (subst (IsTold W server m) searches input) by
+      class_true q t server via m s rest _ j (with_told now s server m stores) p refl searches h (record { cache = all.cache; cuts = all.cuts }) (subst (IsTold W server m) searches input) by
   enters_true q t (TimedOut server) j stores p input h all is = at_once q t p Go j _ is h (record { cache = all.cache; cuts = all.cuts }) tt
   enters_true q t (TcpFailed server) j stores p input h all is = at_once q t p Go j _ is h (record { cache = all.cache; cuts = all.cuts }) tt
 
@@ -353,14 +364,10 @@ module _ (W : World) (w : IsWorld W) (home : Home) (ours : IsHomeIn W home) (now
       let here : AreTrueSearches W (p.job).name t (s ∷ rest) = subst (AreTrueSearches W (p.job).name t) due.searches (h.job).searches in (
         subst (λ (x : Next × Job). IsTrueNext W q t x.0 x.1) (λ i. (sym is i, sym job_is i)) (
           record { search = _; rest = rest; searches = refl; name = refl; kind = refl; may = asks_true W s.name s.frame server here.0 due.known },
-          record { kind = (h.job).kind; leads = (h.job).leads; few = (h.job).few; searches = given_true s rest here },
+          record { kind = (h.job).kind; leads = (h.job).leads; few = (h.job).few; searches = given_true W (p.job).name t s rest here },
         ),
         subst (AreTrue W) (sym stores_is) h.stores,
       )
-    where
-      given_true : (s : Search) (rest : List Search) → AreTrueSearches W (p.job).name t (s ∷ rest) → AreTrueSearches W (p.job).name t (given s ∷ rest)
-      given_true s [] x = x
-      given_true s (around ∷ rest) x = x
   leaves_true q t p next job stores h (sends_again server s rest due may is job_is stores_is) =
       let may_ask : MayAskNext W server (p.job).searches = subst (IsTrueTask W t p.job) due.task h.task in (
         subst (λ (x : Next × Job). IsTrueNext W q t x.0 x.1) (λ i. (sym is i, sym job_is i)) (

@@ -18,6 +18,7 @@ use Rattle.retry.specs.Penalties.{AreAtMost}
 use Rattle.referral.specs.Cuts.{Known}
 use Rattle.cache.specs.Keys.{Key}
 use Rattle.cache.specs.Cached.{Hit}
+use Rattle.cache.specs.Failures.{FailedAsk}
 use Rattle.laws.specs.Replies.{RepliesAre}
 use Rattle.laws.specs.Caused.{IsExplained as IsResult}
 use Rattle.laws.proofs.Timed.{timed_later}
@@ -95,9 +96,9 @@ module _ (past : List Turn) (s : State) (h : IsExplained (s.site).port (s.site).
   starved_turn (Client now client way bytes) served new clock (is, e) = (
     left_now past s h (turn_of (Client now client way bytes) served None) clock s.opened (λ stores. (j : Job) × Stops Start s.clock j s.stores stores) new e
         (λ stores (j, stops). (
-          start_stops (s.site).port (s.site).home (turn_of (Client now client way bytes) served None ∷ past) 0 0 [] (λ a n u. Unit {0}) s.clock j s.stores stores
+          start_stops (s.site).port (s.site).home (turn_of (Client now client way bytes) served None ∷ past) 0 (λ n t a. Unit {0}) 0 [] (λ a n u. Unit {0}) s.clock j s.stores stores
               (told_later (s.site).port (s.site).home (turn_of (Client now client way bytes) served None) past s.stores h.told.0) stops,
-          start_stop_timed (s.site).port (s.site).home (turn_of (Client now client way bytes) served None) past 0 0 s.clock clock [] j s.stores stores
+          start_stop_timed (s.site).port (s.site).home (turn_of (Client now client way bytes) served None ∷ past) s.clock j s.stores stores
               (timed_later (s.site).port (s.site).home (turn_of (Client now client way bytes) served None) past s.stores h.told.1) stops,
         ))
         (λ q c other e. not_own q.number (sym is ∙ e)) (λ j le. ap (is_for j) is),
@@ -125,6 +126,7 @@ starts site s new = record {
       links = λ k e c. absurd (Contains-nil (k, e) (subst (λ (l : List (Key × Hit)). Contains l (k, e)) new.cache c));
       cuts = λ n k c. absurd (Contains-nil (n, k) (subst (λ (l : List (Name × Known)). Contains l (n, k)) new.delegations c));
       low = subst (AreAtMost 8) (sym new.penalties) tt;
+      failures = λ f since c. absurd (Contains-nil (f, since) (subst (λ (l : List (FailedAsk × ℕ)). Contains l (f, since)) new.failures c));
     },
     λ k e c. absurd (Contains-nil (k, e) (subst (λ (l : List (Key × Hit)). Contains l (k, e)) new.cache c)),
   );

@@ -354,7 +354,7 @@ module _ (W : World) (w : IsWorld W) (site : Site) (ours : IsHomeIn W site.home)
   -- What the start of any work leaves: `Stops` reads nothing of the job then.
   start_stops : (j : Job) (stores : Stores) → Stops Start s.clock j s.stores stores → AreTrue W stores
   start_stops j stores stops = stops_true W w (s.site).home home_here s.clock Start (record j { searches = [] }) s.stores stores refl sound.stores
-      (record { cache = stops.cache; cache_lost = stops.cache_lost; delegations = stops.delegations; delegations_lost = stops.delegations_lost; penalties = stops.penalties; cache_cap = stops.cache_cap; delegations_cap = stops.delegations_cap; penalties_cap = stops.penalties_cap })
+      (record { cache = stops.cache; cache_lost = stops.cache_lost; delegations = stops.delegations; delegations_lost = stops.delegations_lost; penalties = stops.penalties; cache_cap = stops.cache_cap; delegations_cap = stops.delegations_cap; penalties_cap = stops.penalties_cap; failures = stops.failures; failures_lost = stops.failures_lost; failures_cap = stops.failures_cap })
 
   -- ---- the step
 

@@ -1,5 +1,5 @@
 -- What stands of a state at the run that led to it.
-use Rattle.std.proofs.Common.{◌≡◌, ◌≢◌, ℕ, ◌+◌, ◌≤◌, ◌<◌, inl, inr, Bool, true, false, cond, Option, List, [], ◌∷◌, length, Contains, refl, sym, ap, ◌∙◌, subst, arith, ne_eqb}
+use Rattle.std.proofs.Common.{◌≡◌, ◌≢◌, ℕ, ◌+◌, ◌-◌, ◌≤◌, ◌<◌, inl, inr, Bool, true, false, cond, Option, List, [], ◌∷◌, length, Contains, refl, sym, ap, ◌∙◌, subst, arith, ne_eqb}
 use Rattle.dname.specs.Labels.{Name}
 use Rattle.rdata.specs.Types.{type_number}
 use Rattle.rdata.specs.declared.addr.Addr.{Addr}
@@ -13,22 +13,23 @@ use Rattle.layout.specs.Messages.{Message}
 use Rattle.wire.specs.declared.via.Via.{Via}
 use Rattle.lru.proofs.Splits.{Contains-nil}
 use Rattle.recency.specs.Orders.{KeepsOnly}
-use Rattle.resolution.specs.Jobs.{Home, Stores, with_answer, Taken, received_link, Search, Job, job_at, Input, Start, Told, TimedOut, TcpFailed, Next, Task, Take, Go, Again, Point, point}
-use Rattle.resolution.specs.Rules.{IsRemote, ByClass, Enters, Advances, IsTakenEntry, IsTakenCut, Stops}
+use Rattle.resolution.specs.Jobs.{Home, Stores, with_told, Taken, received_link, Search, Job, job_at, Input, Start, Told, TimedOut, TcpFailed, Next, Task, Take, Go, Again, Point, point}
+use Rattle.resolution.specs.Rules.{IsRemote, ByClass, Enters, Advances, IsTakenEntry, IsTakenCut, IsTakenFailure, Stops}
 use Rattle.runs.specs.States.{Event, Client, Datagram, TcpReply, Tick, Action, Turn, Served, Nobody, Own, Query, Asker, recursive, Path, ByUdp, ByTcp, Asking, via_of, Open, State}
 use Rattle.runs.specs.States as states
 use Rattle.runs.specs.Messages.{Brings}
 use Rattle.runs.specs.Runs.{Earlier, Came, clock_of, asks_in, is_for, asks_of}
 use Rattle.runs.specs.Steps.{IsInput}
 use Rattle.laws.specs.Spent.{BringsTruncated, AsksBy, IsOpenAsk, Takes}
-use Rattle.laws.proofs.TimelySearches.{IsAsking, AreAround}
-use Rattle.laws.proofs.Told.{AreTold}
+use Rattle.laws.proofs.TimelySearches.{Passed, IsAsking, AreAround}
+use Rattle.laws.proofs.Told.{AreTold, KnownIn}
 use Rattle.laws.proofs.Timed.{AreTimed, AreKnown, timed_later, known_later}
-use Rattle.laws.proofs.TimelyPoints.{OnTop, IsSound}
+use Rattle.laws.proofs.TimelyPoints.{OnTop, IsSound, Lately}
 use Rattle.laws.proofs.Chains.{LeadsOn, IsOfName, IsReached, rules_reach}
 use Rattle.laws.proofs.Leaving.{IsWaitingFor, GoesOut as Leads, leaves_tell}
-use Rattle.laws.proofs.Later.{told_later, work_later, leads_later}
-use Rattle.laws.proofs.Enters.{IsInputNow, taken_now, enters_sound, stops_told}
+use Rattle.laws.proofs.Later.{told_later, leads_later, work_on}
+use Rattle.laws.proofs.Enters as enters
+use Rattle.laws.proofs.Enters.{taken_now, enters_sound, stops_told}
 use Rattle.laws.proofs.TimelyLists.{some_or_none}
 
 abbrev pub turn_of : Event → Served → Option (List Action) → Turn
@@ -52,7 +53,7 @@ module _ (port : ℕ) (home : Home) where
     pub born : IsBorn q.number q.asker (q.job).deadline run
     pub wanted : recursive (q.asker).query ≡ true
     pub asked : IsOpenAsk port q.number q.ask run
-    pub work : IsWaitingFor port home run q.number (type_number ((q.asker).query).kind) ((q.asker).query).name (q.ask).server (q.ask).name (q.ask).kind q.job
+    pub work : IsWaitingFor port home run q.number (KnownIn port q.number run) (type_number ((q.asker).query).kind) ((q.asker).query).name (q.ask).server (q.ask).name (q.ask).kind q.job
     pub known : AreKnown port home run q.number (type_number ((q.asker).query).kind) (Unit {0}) (q.job).chain
     pub remote : IsRemote home (q.job).name (q.job).kind
     pub plain : type_number ((q.asker).query).kind ≡ cname_type → (q.job).chain ≡ []
@@ -88,7 +89,8 @@ module _ (port : ℕ) (home : Home) where
     born = inr h.born;
     wanted = h.wanted;
     asked = asks_later turn past q.number q.ask (q.ask).path other h.asked;
-    work = work_later port home turn past q.number (type_number ((q.asker).query).kind) ((q.asker).query).name (q.ask).server (q.ask).name (q.ask).kind q.job h.work;
+    work = work_on port home past (turn ∷ past) (inr (turn, refl)) q.number (KnownIn port q.number past) (KnownIn port q.number (turn ∷ past)) (λ n t a e. inr e) (type_number ((q.asker).query).kind) ((q.asker).query).name
+        (q.ask).server (q.ask).name (q.ask).kind q.job h.work;
     known = known_later port home turn past q.number (type_number ((q.asker).query).kind) (Unit {0}) (Unit {0}) (λ u. u) (q.job).chain h.known;
     remote = h.remote;
     plain = h.plain;
@@ -110,27 +112,39 @@ module _ (port : ℕ) (home : Home) where
 
   -- ---- what the event is for an ask
 
-  pub is_input : (s : State) (q : Open) (event : Event) (served : Served) (out : Option (List Action)) (past : List Turn) (k : ℕ) (is : served ≡ Query k) (asked : IsOpenAsk port k q.ask past) (input : Input) → (s.site).port ≡ port
-      → IsInput s event q input → IsInputNow port home k (turn_of event served out) past q.ask is asked input
-  is_input s q (Client now client way bytes) served out past k is asked input at h = absurd h
-  is_input s q (Datagram now sock from bytes) served out past k is asked input at (m, brings, e) =
-      subst (IsInputNow port home k (turn_of (Datagram now sock from bytes) served out) past q.ask is asked) (sym e)
+  pub is_input : (s : State) (q : Open) (event : Event) (served : Served) (out : Option (List Action)) (past : List Turn) (k : ℕ) (is : served ≡ Query k) (asked : IsOpenAsk port k q.ask past) (K M : Name → ℕ → Addr → Type 0) (f : (n : Name) (t : ℕ) (a : Addr) → K n t a → M n t a) (input : Input) → (s.site).port ≡ port
+      → IsInput s event q input → enters.IsInputNow port home k (turn_of event served out) past q.ask is asked K M f input
+  is_input s q (Client now client way bytes) served out past k is asked K M f input at h = absurd h
+  is_input s q (Datagram now sock from bytes) served out past k is asked K M f input at (m, brings, e) =
+      subst (enters.IsInputNow port home k (turn_of (Datagram now sock from bytes) served out) past q.ask is asked K M f) (sym e)
       (refl, refl, subst (λ (p : ℕ). Brings p q.ask (Datagram now sock from bytes) m) at brings)
-  is_input s q (TcpReply now number bytes) served out past k is asked input at (inl (m, brings, e)) =
-      subst (IsInputNow port home k (turn_of (TcpReply now number bytes) served out) past q.ask is asked) (sym e)
+  is_input s q (TcpReply now number bytes) served out past k is asked K M f input at (inl (m, brings, e)) =
+      subst (enters.IsInputNow port home k (turn_of (TcpReply now number bytes) served out) past q.ask is asked K M f) (sym e)
       (refl, refl, subst (λ (p : ℕ). Brings p q.ask (TcpReply now number bytes) m) at brings)
-  is_input s q (TcpReply now number bytes) served out past k is asked input at (inr (path, none, e)) =
-      subst (IsInputNow port home k (turn_of (TcpReply now number bytes) served out) past q.ask is asked) (sym e)
+  is_input s q (TcpReply now number bytes) served out past k is asked K M f input at (inr (path, none, e)) =
+      subst (enters.IsInputNow port home k (turn_of (TcpReply now number bytes) served out) past q.ask is asked K M f) (sym e)
       (refl, λ z. inr (inl (now, number, path, inr (bytes, refl, λ m brings. none m (subst (λ (p : ℕ). Brings p q.ask (TcpReply now number bytes) m) (sym at) brings)))))
-  is_input s q (states.TcpFailed now number) served out past k is asked input at (path, e) =
-      subst (IsInputNow port home k (turn_of (states.TcpFailed now number) served out) past q.ask is asked) (sym e) (refl, λ z. inr (inl (now, number, path, inl refl)))
-  is_input s q (Tick now) served out past k is asked input at (first, early, e) =
-      subst (IsInputNow port home k (turn_of (Tick now) served out) past q.ask is asked) (sym e) (refl, λ z. inl (now, refl))
+  is_input s q (states.TcpFailed now number) served out past k is asked K M f input at (path, e) =
+      subst (enters.IsInputNow port home k (turn_of (states.TcpFailed now number) served out) past q.ask is asked K M f) (sym e) (refl, λ z. inr (inl (now, number, path, inl refl)))
+  is_input s q (Tick now) served out past k is asked K M f input at (first, early, e) =
+      subst (enters.IsInputNow port home k (turn_of (Tick now) served out) past q.ask is asked K M f) (sym e) (refl, λ z. inl (now, refl))
 
 -- ---- one call
 
 module _ (port : ℕ) (home : Home) (k : ℕ) (turn : Turn) (past : List Turn) (ask : Asking) (served : turn.served ≡ Query k) (asked : IsOpenAsk port k ask past)
-    (t : ℕ) (from : Name) (j : Job) (stores : Stores) (told : AreTold port home past stores) (work : IsWaitingFor port home past k t from ask.server ask.name ask.kind j) where
+    (t : ℕ) (from : Name) (j : Job) (stores : Stores) (told : AreTold port home past stores) (work : IsWaitingFor port home past k (KnownIn port k past) t from ask.server ask.name ask.kind j) where
+  abbrev pub KnownBefore : Name → ℕ → Addr → Type 0
+  KnownBefore n u a = KnownIn port k past n u a
+
+  abbrev pub KnownNow : Name → ℕ → Addr → Type 0
+  KnownNow n u a = KnownIn port k (turn ∷ past) n u a
+
+  pub still_known : (n : Name) (u : ℕ) (a : Addr) → KnownBefore n u a → KnownNow n u a
+  still_known n u a e = inr e
+
+  abbrev pub IsInputNow : Input → Type 0
+  IsInputNow input = enters.IsInputNow port home k turn past ask served asked KnownBefore KnownNow still_known input
+
   abbrev pub TruncatedNow : Addr → Name → ℕ → Type 0
   TruncatedNow a n u = BringsTruncated port k a n u turn past
 
@@ -148,14 +162,15 @@ module _ (port : ℕ) (home : Home) (k : ℕ) (turn : Turn) (past : List Turn) (
 
   -- The innermost search of the open query.
   pub top_at : (s : Search) (rest : List Search) → j.searches ≡ s ∷ rest
-      → (IsAsking port home k past s ask.server × (ask.name ≡ s.name) × (ask.kind ≡ s.kind)) × AreAround port home k past j.name j.kind s.name s.kind (s.frame).nesting rest
-  top_at s rest e = subst (λ (l : List Search). OnTop port home k past (λ a n u. Unit {0}) j.name j.kind l (λ s. IsAsking port home k past s ask.server × (ask.name ≡ s.name) × (ask.kind ≡ s.kind))) e work.top
+      → (IsAsking port home k past (Passed j.skipped KnownBefore) s ask.server × (ask.name ≡ s.name) × (ask.kind ≡ s.kind)) × AreAround port home k past (Passed j.skipped KnownBefore) j.name j.kind s.name s.kind (s.frame).nesting rest
+  top_at s rest e =
+      subst (λ (l : List Search). OnTop port home k past (Passed j.skipped KnownBefore) j.name j.kind l (λ s. IsAsking port home k past (Passed j.skipped KnownBefore) s ask.server × (ask.name ≡ s.name) × (ask.kind ≡ s.kind))) e work.top
 
   pub takes_now : (now : ℕ) (s : Search) (rest : List Search) (m : Message) (l : Link) → j.searches ≡ s ∷ rest → Brings port ask turn.event m
       → class_of (s.frame).zone s.name s.kind (via_of ask.path) m ≡ class.Answer l → Takes port s.name s.kind (received l) turn past
   takes_now now s rest m l searches brings is =
       let h = top_at s rest searches in
-      taken_now port home k turn past ask served asked s rest now j stores (point Go j stores) told work.marks h.0 h.1 m brings l is
+      taken_now port home k turn past ask served asked KnownBefore KnownNow still_known s rest now j stores (point Go j stores) (told_later port home turn past stores told) work.marks work.known h.0 h.1 m brings l is
 
   taken_reach : (now : ℕ) (s : Search) (m : Message) (l : Link) → j.searches ≡ s ∷ [] → Brings port ask turn.event m
       → class_of (s.frame).zone s.name s.kind (via_of ask.path) m ≡ class.Answer l → IsOfName port home (turn ∷ past) t j.name (Take (received_link s.name l now))
@@ -173,39 +188,47 @@ module _ (port : ℕ) (home : Home) (k : ℕ) (turn : Turn) (past : List Turn) (
   by_class now s rest server m class.Truncated old p searches brings is h = same_chain p (Again server) j (ap (λ (x : Point). x.task) h) (ap (λ (x : Point). x.job) h) refl refl refl tt
   by_class now s rest server m (class.Failed f) old p searches brings is h = same_chain p Go j (ap (λ (x : Point). x.task) h) (ap (λ (x : Point). x.job) h) refl refl refl tt
 
-  pub enters_reach : (now : ℕ) (input : Input) (old : Stores) (p : Point) → IsInputNow port home k turn past ask served asked input → Enters now input j old p → ReachedBy p
+  pub enters_reach : (now : ℕ) (input : Input) (old : Stores) (p : Point) → IsInputNow input → Enters now input j old p → ReachedBy p
   enters_reach now Start old p is h = absurd is
   enters_reach now (Told way server m) old p (via_is, server_is, brings) h = elim h [
     | inl (none, at) ↦ same_chain p Go j (ap (λ (x : Point). x.task) at) (ap (λ (x : Point). x.job) at) refl refl refl tt
-    | inr (s, rest, searches, by) ↦ by_class now s rest server m (class_of (s.frame).zone s.name s.kind (via_of ask.path) m) (with_answer old server) p searches brings refl
-        (subst (λ (w : Via). ByClass now server s rest (class_of (s.frame).zone s.name s.kind w m) j (with_answer old server) p) via_is by)
+    | inr (s, rest, searches, by) ↦ by_class now s rest server m (class_of (s.frame).zone s.name s.kind (via_of ask.path) m) (with_told now s server m old) p searches brings refl
+        (subst (λ (w : Via). ByClass now server s rest (class_of (s.frame).zone s.name s.kind w m) j (with_told now s server m old) p) via_is by)
   ]
   enters_reach now (TimedOut server) old p is h = same_chain p Go j (ap (λ (x : Point). x.task) h) (ap (λ (x : Point). x.job) h) refl refl refl tt
   enters_reach now (TcpFailed server) old p is h = same_chain p Go j (ap (λ (x : Point). x.task) h) (ap (λ (x : Point). x.job) h) refl refl refl tt
 
   -- What one call gives.
-  pub call_tells : (now : ℕ) (input : Input) (next : Next) (new : Job) (after : Stores) → IsInputNow port home k turn past ask served asked input → Advances home now input j stores next new after
-      → Leads port home (turn ∷ past) k t from TruncatedNow next new × AreTold port home (turn ∷ past) after
-  call_tells now input next new after is a =
-      let first = enters_sound port home k turn past ask served asked now input j stores a.first told work.marks work.top is a.enters in
-      let reached = enters_reach now input stores a.first is a.enters in
-      let (sound, reach) = rules_reach port home (turn ∷ past) t k TruncatedNow now a.count from a.first a.last first reached a.rules in
-      leaves_tell port home (turn ∷ past) k t from TruncatedNow now a.last next new after sound reach a.leaves
+  module _ (now : ℕ) (clock : now ≡ clock_of (turn ∷ past)) where
+    -- What failed lately is known now.
+    pub lately_now : Lately port home k (turn ∷ past) KnownNow TruncatedNow now
+    lately_now n u a since e young = inl (served, (since, e, subst (λ (m : ℕ). m - since < 30000) clock young))
 
-  pub stop_tells : (now : ℕ) (input : Input) (after : Stores) → IsInputNow port home k turn past ask served asked input → Stops input now j stores after → AreTold port home (turn ∷ past) after
-  stop_tells now input after is h = stops_told port home k turn past ask served asked now j stores told work.marks work.top input after is h
+    pub enters_now : (input : Input) (p : Point) → IsInputNow input → Enters now input j stores p → IsSound port home k (turn ∷ past) KnownNow TruncatedNow p
+    enters_now input p is h = enters_sound port home k turn past ask served asked KnownBefore KnownNow still_known now clock input j stores p told work.marks work.known work.top is h
+
+    pub call_tells : (input : Input) (next : Next) (new : Job) (after : Stores) → IsInputNow input → Advances home now input j stores next new after
+        → Leads port home (turn ∷ past) k KnownNow t from TruncatedNow next new × AreTold port home (turn ∷ past) after
+    call_tells input next new after is a =
+        let first = enters_now input a.first is a.enters in
+        let reached = enters_reach now input stores a.first is a.enters in
+        let (sound, reach) = rules_reach port home (turn ∷ past) t k KnownNow TruncatedNow now lately_now a.count from a.first a.last first reached a.rules in
+        leaves_tell port home (turn ∷ past) k KnownNow t from TruncatedNow now a.last next new after sound reach a.leaves
+
+    pub stop_tells : (input : Input) (after : Stores) → IsInputNow input → Stops input now j stores after → AreTold port home (turn ∷ past) after
+    stop_tells input after is h = stops_told port home k turn past ask served asked KnownBefore KnownNow still_known now clock j stores told work.marks work.known work.top input after is h
 
 -- ---- a query that comes
 
-module _ (port : ℕ) (home : Home) (run : List Turn) (k : ℕ) (t : ℕ) (from : Name) (Truncates : Addr → Name → ℕ → Type 0) where
-  pub start_tells : (now deadline : ℕ) (j : Job) (stores : Stores) (next : Next) (new : Job) (after : Stores) → AreTold port home run stores → Advances home now Start (job_at from t deadline) stores next new after
-      → Leads port home run k t from Truncates next new × AreTold port home run after
-  start_tells now deadline j stores next new after told a =
-      let sound : IsSound port home k run Truncates a.first = subst (IsSound port home k run Truncates) (sym a.enters) (record { told = told; marks = λ f c. absurd (Contains-nil f c); stands = tt }) in
+module _ (port : ℕ) (home : Home) (run : List Turn) (k : ℕ) (K : Name → ℕ → Addr → Type 0) (t : ℕ) (from : Name) (Truncates : Addr → Name → ℕ → Type 0) where
+  pub start_tells : (now : ℕ) → Lately port home k run K Truncates now → (deadline : ℕ) (j : Job) (stores : Stores) (next : Next) (new : Job) (after : Stores) → AreTold port home run stores
+      → Advances home now Start (job_at from t deadline) stores next new after → Leads port home run k K t from Truncates next new × AreTold port home run after
+  start_tells now lately deadline j stores next new after told a =
+      let sound : IsSound port home k run K Truncates a.first = subst (IsSound port home k run K Truncates) (sym a.enters) (record { told = told; marks = λ f c. absurd (Contains-nil f c); stands = tt; known = λ e. absurd (cc) }) in
       let reached : IsReached port home run t from a.first.task a.first.job = subst (λ (p : Point). IsReached port home run t from p.task p.job) (sym a.enters)
       (record { kind = refl; leads = refl; few = zero_least; link = tt }) in
-      let (last, reach) = rules_reach port home run t k Truncates now a.count from a.first a.last sound reached a.rules in
-      leaves_tell port home run k t from Truncates now a.last next new after last reach a.leaves
+      let (last, reach) = rules_reach port home run t k K Truncates now lately a.count from a.first a.last sound reached a.rules in
+      leaves_tell port home run k K t from Truncates now a.last next new after last reach a.leaves
     where
       zero_least : 0 ≤ 8
       zero_least = omega arith
@@ -217,6 +240,7 @@ module _ (port : ℕ) (home : Home) (run : List Turn) (k : ℕ) (t : ℕ) (from 
   start_stops now j stores after told h = record {
     links = λ key e c. told.links key e (none_added (IsTakenEntry j Start now) stores.cache after.cache (λ x (s, l, c, kept). c) h.cache (key, e) c);
     cuts = λ n e c. told.cuts n e (none_added (IsTakenCut j Start now) stores.delegations after.delegations (λ x (s, at, ns, glue, ttl, c, none, is_cut, kept). none) h.delegations (n, e) c);
+    failures = λ f since c. told.failures f since (none_added (IsTakenFailure j Start now) stores.failures after.failures (λ x (s, a, none, same). none) h.failures (f, since) c);
     low = elim h.penalties [
       | inl e ↦ subst (AreAtMost 8) (sym e) told.low
       | inr (server, is, e) ↦ absurd (some_or_none (sym is))

@@ -1,5 +1,5 @@
 -- From one call of a query's work to the step of the run that makes it.
-use Rattle.std.proofs.Common.{◌≡◌, ℕ, ◌≤◌, ◌<◌, ◌⊎◌, inl, inr, Option, Some, List, [], ◌∷◌, ◌++◌, Contains, refl, sym, ap, ◌∙◌, subst, arith}
+use Rattle.std.proofs.Common.{◌≡◌, ℕ, ◌≤◌, ◌<◌, ◌⊎◌, false, inl, inr, Option, Some, List, [], ◌∷◌, ◌++◌, Contains, refl, sym, ap, ◌∙◌, subst, arith}
 use Rattle.rdata.specs.declared.addr.Addr.{Addr}
 use Rattle.zone.specs.Links.{Alias}
 use Rattle.causes.specs.declared.cause.Cause.{Cause}
@@ -8,10 +8,9 @@ use Rattle.layout.specs.Messages.{Message}
 use Rattle.layout.proofs.Single.{message_one}
 use Rattle.classify.specs.Classes as class
 use Rattle.classify.specs.Classes.{class_of}
-use Rattle.retry.specs.Plans.{upcoming}
 use Rattle.referral.specs.Cuts.{Cut}
 use Rattle.frames.specs.Frames.{opened, taken_addresses}
-use Rattle.resolution.specs.Jobs.{Stores, level_of, with_answer, IsCutOf, Search, Taken, received_link, Job, Input, Told, TimedOut, Next, Ask, AskTcp, Done, Fail}
+use Rattle.resolution.specs.Jobs.{Stores, level_of, with_answer, with_frame, fails_now, next_server, IsCutOf, Search, Taken, received_link, Job, Input, Told, TimedOut, Next, Ask, AskTcp, Done, Fail}
 use Rattle.resolution.specs.Jobs as jobs
 use Rattle.runs.specs.States.{Event, Client, Datagram, TcpReply, TcpFailed, Tick, Action, MoreDue, Served, Query, Turn, Plain, via_of, Open, Site, State}
 use Rattle.runs.specs.Messages.{IsSent, Brings}
@@ -25,7 +24,7 @@ use Rattle.laws.specs.Calls.{GoesOut, HasLink}
 use Rattle.laws.specs.Steps.{Attends, at_moment, EndsInVain, Replies, IsUdp, IsTcp, Asks, LostIsAskedOn, TruncatedIsAskedAgain, ReferralIsAsked, AnswerIsReplied, AliasIsKept}
 use Rattle.laws.proofs.Calls.{next_is_asked, truncated_is_repeated}
 use Rattle.laws.proofs.FollowedAnswered.{referral_is_followed, answer_is_used, alias_stays}
-use Rattle.laws.proofs.FollowedStores.{low_run}
+use Rattle.laws.proofs.FollowedStores.{comes_stores, low_run}
 
 -- ---- whom a step serves
 
@@ -162,10 +161,15 @@ module _ (site : Site) (past : List Turn) (old : State) (t : Turn) (out : List A
 
   -- ---- asks that ended in vain
 
-  next_server : (input : Input) (first : List Action) (server : Addr) → Serves s q input first new → ((action : Action) → first ≡ action ∷ [] → IsAlone action out)
-      → call.IsLost q.job input sought others → upcoming (sought.frame).plan ≡ Some server → Asks IsUdp site s q server sought out new
-  next_server input first server v behind lost due =
-      sends_udp input first server v behind (next_is_asked (s.site).home s.clock input q.job s.stores v.next v.job v.stores sought others server v.advances lost due)
+  -- The stores are those of the call.
+  stores_are : (input : Input) (first : List Action) (v : Serves s q input first new) → new.stores ≡ v.stores
+  stores_are input first v = comes_stores s _ _ _ v.next v.job v.stores first new v.comes
+
+  asks_on : (input : Input) (first : List Action) (server : Addr) → Serves s q input first new → ((action : Action) → first ≡ action ∷ [] → IsAlone action out)
+      → call.IsLost q.job input sought others → next_server s.clock (new.stores).failures sought ≡ Some server → Asks IsUdp site s q server sought out new
+  asks_on input first server v behind lost due =
+      sends_udp input first server v behind (next_is_asked (s.site).home s.clock input q.job s.stores v.next v.job v.stores sought others server v.advances lost
+      (subst (λ (x : Stores). next_server s.clock x.failures sought ≡ Some server) (stores_are input first v) due))
 
   lost_input : (event : Event) (input : Input) → IsInput s event q input → ((now : ℕ) × (event ≡ Tick now)) ⊎ (((now : ℕ) × (number : ℕ) × (event ≡ TcpFailed now number))
       ⊎ ((now : ℕ) × (number : ℕ) × (bytes : List ℕ) × (event ≡ TcpReply now number bytes) × ((m : Message) → Brings (s.site).port q.ask event m → ⊥)))
@@ -217,7 +221,7 @@ lost_is_asked_on site past old t out new q sought others server a vain due = by 
     on : ((now : ℕ) × (t.event ≡ Tick now) × ((at_moment old t).clock < (q.job).deadline)) ⊎ (((now : ℕ) × (number : ℕ) × (t.event ≡ TcpFailed now number))
         ⊎ ((now : ℕ) × (number : ℕ) × (bytes : List ℕ) × (t.event ≡ TcpReply now number bytes) × ((m : Message) → Brings ((at_moment old t).site).port q.ask t.event m → ⊥)))
         → Asks IsUdp site (at_moment old t) q server sought out new
-    on x = let (input, first, v, behind, lost) = lost_by site past old t out new q sought others a x in next_server site past old t out new q sought others a input first server v behind lost due
+    on x = let (input, first, v, behind, lost) = lost_by site past old t out new q sought others a x in asks_on site past old t out new q sought others a input first server v behind lost due
 
     by : EndsInVain site (at_moment old t) t q sought → Asks IsUdp site (at_moment old t) q server sought out new
     by (inl x) = on (inl x)
@@ -227,7 +231,7 @@ lost_is_asked_on site past old t out new q sought others server a vain due = by 
         on (inr (inr (now, number, bytes, e, subst (λ (n : ℕ). (m : Message) → Brings n q.ask t.event m → ⊥) port none)))
     by (inr (inr (inr (f, x)))) =
         let (first, v, behind) = told_by site past old t out new q sought others a x.message x.brings in
-        next_server site past old t out new q sought others a (Told (via_of (q.ask).path) (q.ask).server x.message) first server v behind
+        asks_on site past old t out new q sought others a (Told (via_of (q.ask).path) (q.ask).server x.message) first server v behind
         (record {
           searches = a.searches;
           server = (q.ask).server;
@@ -280,16 +284,20 @@ referral_is_asked site past old t out new q sought others at ns glue ttl a refer
     s : State
     s = at_moment old t
 
+    same : {first : List Action} (v : Serves s q (Told (via_of (q.ask).path) (q.ask).server referral.message) first new) → new.stores ≡ v.stores
+    same {first} v = stores_are site past old t out new q sought others a (Told (via_of (q.ask).path) (q.ask).server referral.message) first v
+
     by : (first : List Action) × Serves s q (Told (via_of (q.ask).path) (q.ask).server referral.message) first new × ((action : Action) → first ≡ action ∷ [] → IsAlone action out)
         → (c : Cut) × IsCutOf at ns glue c
-        × ((d : Addr) → upcoming (opened (level_of (with_answer s.stores (q.ask).server)) (sought.frame).nesting c).plan ≡ Some d → Asks IsUdp site s q d sought out new)
-        × ((b : Addr) → Contains (taken_addresses c) b → (d : Addr) × Contains (taken_addresses c) d × Asks IsUdp site s q d sought out new)
+        × ((d : Addr) → next_server s.clock (new.stores).failures (with_frame sought (opened (level_of (with_answer s.stores (q.ask).server)) (sought.frame).nesting c)) ≡ Some d → Asks IsUdp site s q d sought out new)
+        × ((b : Addr) → Contains (taken_addresses c) b → fails_now s.clock (new.stores).failures sought b ≡ false → (d : Addr) × Contains (taken_addresses c) d × Asks IsUdp site s q d sought out new)
     by (first, v, behind) =
         let (c, is_cut, by_plan, by_taken) = referral_is_followed (s.site).home s.clock (Told (via_of (q.ask).path) (q.ask).server referral.message) q.job s.stores v.next v.job v.stores sought others (q.ask).server at ns glue ttl v.advances
         (hears_class site past old t out new q sought others a (class.Referral at ns glue ttl) referral.message referral.is_class) in (
           c,
           is_cut,
-          (λ d due. sends_udp site past old t out new q sought others a (Told (via_of (q.ask).path) (q.ask).server referral.message) first d v behind (by_plan d due).1),
-          (λ b taken. let (d, among, goes) = by_taken (low_run site past old a.legal) b taken in
+          (λ d due. sends_udp site past old t out new q sought others a (Told (via_of (q.ask).path) (q.ask).server referral.message) first d v behind
+              (by_plan d (subst (λ (x : Stores). next_server s.clock x.failures (with_frame sought (opened (level_of (with_answer s.stores (q.ask).server)) (sought.frame).nesting c)) ≡ Some d) (same v) due)).1),
+          (λ b taken free. let (d, among, goes) = by_taken (low_run site past old a.legal) b taken (subst (λ (x : Stores). fails_now s.clock x.failures sought b ≡ false) (same v) free) in
               (d, among, sends_udp site past old t out new q sought others a (Told (via_of (q.ask).path) (q.ask).server referral.message) first d v behind goes)),
         )

@@ -12,7 +12,7 @@ use Rattle.referral.specs.Cuts.{Cut}
 use Rattle.cache.specs.Keys.{Key, key_for}
 use Rattle.cache.specs.Cached.{Hit, Asked, as_set, Answers}
 use Rattle.resolution.specs.Jobs.{Home, Stores, Source, Local, Cached, Accepted, Taken, Job, Task, Seek, Take, Go, Again, Point}
-use Rattle.resolution.specs.Rules.{Says, IsRemote, asked_of, Finds, Begins, Misses, Rule, takes, asks, follows, restarts, hears, descends, gives_up, Rules}
+use Rattle.resolution.specs.Rules.{Says, IsRemote, asked_of, Finds, Begins, Misses, Rule, takes, asks, follows, restarts, skips, hears, descends, gives_up, Rules}
 use Rattle.runs.specs.States.{Turn, via_of}
 use Rattle.runs.specs.Runs.{Earlier}
 use Rattle.laws.specs.Timely.{Learns}
@@ -196,6 +196,8 @@ module _ (port : ℕ) (home : Home) (run : List Turn) (k t : ℕ) (Mine : Type 0
       timed_at d m b Seek _ to job (subst (AreTimed port home run) (sym stores) h.stores)
       (known_front front (x ∷ back) (subst AreKnown is (known_more (a.job).chain l h.chain (at_take d m a l h task)))) tt
       (λ c. empty_front (a.job).chain front back l x (h.plain c) is) h.kind h.deadline_is h.sent_is
+  rule_timed d m now a b h (skips n s u rest failures task searches passes free to job stores) =
+      timed_at d m b Go _ to job (subst (AreTimed port home run) (sym stores) h.stores) h.chain (at_go d m a h task) h.plain h.kind h.deadline_is h.sent_is
   rule_timed d m now a b h (hears before after rest n l marks task turn finds hears_of to job) =
       timed_at d m b Go _ to job (timed_found port home run now n a_type a.stores b.stores l h.stores finds) h.chain (at_go d m a h task) h.plain h.kind h.deadline_is h.sent_is
   rule_timed d m now a b h (descends s rest n c task turn misses to job) =

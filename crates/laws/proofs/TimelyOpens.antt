@@ -14,6 +14,7 @@ use Rattle.runs.specs.Runs.{Earlier, GivesOut, Came, clock_of, is_ask, asks_amon
 use Rattle.runs.specs.Steps.{AreOthers, AreWith, Ends, Waits, WaitsByUdp, WaitsByTcp}
 use Rattle.laws.specs.Spent.{BringsTruncated, AsksBy, IsOpenAsk}
 use Rattle.laws.specs.Caused.{AreDistinct}
+use Rattle.laws.proofs.Told.{KnownIn}
 use Rattle.laws.proofs.Leaving.{IsWaitingFor}
 use Rattle.laws.proofs.TimelySent.{IsOpenFor}
 use Rattle.laws.proofs.Timed.{known_for_good}
@@ -131,16 +132,16 @@ module _ (port : ℕ) (home : Home) (past : List Turn) (s : State) (h : IsExplai
 
     -- The open query that comes of an ask.
     opens : (server : Addr) (n : Name) (u : ℕ) (job : Job) (ask : Asking) (due : ℕ) → IsFor server n u ask → IsOpenAsk port k ask (turn ∷ past) → asks_of k (turn ∷ past) ≡ m + 1
-        → IsWaitingFor port home (turn ∷ past) k (type_number (who.query).kind) (who.query).name server n u job → IsOpenFor port home turn past k (type_number (who.query).kind) now clock Mine mine d m job
+        → IsWaitingFor port home (turn ∷ past) k (KnownIn port k (turn ∷ past)) (type_number (who.query).kind) (who.query).name server n u job → IsOpenFor port home turn past k (type_number (who.query).kind) now clock Mine mine d m job
         → IsOpenSound port home (turn ∷ past) (open_query k who job ask due)
     opens server n u job ask due for_it asked one work timely = record {
       came = came;
       born = subst (λ (x : ℕ). IsBorn port home k who x (turn ∷ past)) (sym timely.deadline_is) born;
       wanted = wanted;
       asked = asked;
-      work = subst (λ (a : Addr). IsWaitingFor port home (turn ∷ past) k (type_number (who.query).kind) (who.query).name a ask.name ask.kind job) (sym for_it.server)
-          (subst (λ (m : Name). IsWaitingFor port home (turn ∷ past) k (type_number (who.query).kind) (who.query).name server m ask.kind job) (sym for_it.name)
-          (subst (λ (v : ℕ). IsWaitingFor port home (turn ∷ past) k (type_number (who.query).kind) (who.query).name server n v job) (sym for_it.kind) work));
+      work = subst (λ (a : Addr). IsWaitingFor port home (turn ∷ past) k (KnownIn port k (turn ∷ past)) (type_number (who.query).kind) (who.query).name a ask.name ask.kind job) (sym for_it.server)
+          (subst (λ (m : Name). IsWaitingFor port home (turn ∷ past) k (KnownIn port k (turn ∷ past)) (type_number (who.query).kind) (who.query).name server m ask.kind job) (sym for_it.name)
+          (subst (λ (v : ℕ). IsWaitingFor port home (turn ∷ past) k (KnownIn port k (turn ∷ past)) (type_number (who.query).kind) (who.query).name server n v job) (sym for_it.kind) work));
       known = known_for_good port home (turn ∷ past) k (type_number (who.query).kind) Mine job.chain timely.chain;
       remote = timely.remote;
       plain = timely.plain;
@@ -159,7 +160,7 @@ module _ (port : ℕ) (home : Home) (past : List Turn) (s : State) (h : IsExplai
         (subst (AreHeld port home (turn ∷ past)) (sym (ap (λ (x : State). x.stores) w.state)) told) w.queries is sound
 
     module _ (server : Addr) (n : Name) (u : ℕ) (job : Job) (stores : Stores) (out : List Action) (new : State) (goes : (a : Action) → Contains out a → GivesOut turn.out a) (counts : asks_in turn.out ≡ asks_among out)
-        (told : AreHeld port home (turn ∷ past) stores) (work : IsWaitingFor port home (turn ∷ past) k (type_number (who.query).kind) (who.query).name server n u job)
+        (told : AreHeld port home (turn ∷ past) stores) (work : IsWaitingFor port home (turn ∷ past) k (KnownIn port k (turn ∷ past)) (type_number (who.query).kind) (who.query).name server n u job)
         (timely : IsOpenFor port home turn past k (type_number (who.query).kind) now clock Mine mine d m job) where
       pub by_udp : WaitsByUdp s who k opened server n u job stores out new → IsExplained port home (turn ∷ past) new
       by_udp w =

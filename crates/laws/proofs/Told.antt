@@ -13,10 +13,12 @@ use Rattle.referral.specs.Cuts.{Cut, Known}
 use Rattle.frames.specs.Trimmed.{trimmed}
 use Rattle.cache.specs.Keys.{Key, Kind, NameError, key_for}
 use Rattle.cache.specs.Cached.{Hit, Asked, Answers}
+use Rattle.cache.specs.Failures.{FailedAsk}
 use Rattle.resolution.specs.Jobs.{Home, Stores, level_of, Taken, IsCutOf}
 use Rattle.resolution.specs.Rules.{Says, asked_of, above_by, Hits, Finds, Misses}
-use Rattle.runs.specs.States.{Turn}
+use Rattle.runs.specs.States.{Turn, Query}
 use Rattle.runs.specs.Runs.{Earlier}
+use Rattle.laws.specs.Failures.{SaysFailure, FailedLately, WasKnown}
 use Rattle.laws.specs.Spent.{Takes, IsFound, TellsOfNone, IsNotFound, HasNoAddress, IsAliasOf, IsStart}
 use Rattle.laws.proofs.TimelyStores.{AreKept, Tells, hit_tells, looked_from, best_from}
 
@@ -107,11 +109,12 @@ module _ (port : ℕ) (home : Home) (run : List Turn) where
   abbrev pub IsKeptStart : Cut → Type 0
   IsKeptStart c = (s : Cut) × IsStart port home run s × (c ≡ trimmed s)
 
-  -- What was kept was accepted; a cut that was kept is one of a start; no penalty is over 8.
+  -- What was kept was accepted; a cut that was kept is one of a start; no penalty is over 8; and each failure came.
   pub record AreTold (stores : Stores) : Type 0 where
     pub links : AreKept (λ n u e. Earlier (Takes port n u e.link) run) stores.cache
     pub cuts : (n : Name) (c : Known) → Contains stores.delegations (n, c) → (n ≡ (c.cut).owner) × IsKeptStart c.cut
     pub low : AreAtMost 8 stores.penalties
+    pub failures : (f : FailedAsk) (since : ℕ) → Contains stores.failures (f, since) → Earlier (SaysFailure port f.name f.kind f.server since) run
 
   pub low_level : (stores : Stores) → AreTold stores → (a : Addr) → level_of stores a ≤ 8
   low_level stores told a = looked_most 8 (same_addr a) stores.penalties told.low
@@ -121,7 +124,7 @@ module _ (port : ℕ) (home : Home) (run : List Turn) where
   pub found_told : (now : ℕ) (n : Name) (t : ℕ) (old new : Stores) (l : Taken) → AreTold old → Finds home now n t old l new → AreTold new
   found_told now n t old new l told finds = elim finds.is [
     | inl (k, says, link, same) ↦ subst AreTold (sym same) told
-    | inr (hit, hits) ↦ subst AreTold (sym hits.stores) (record { links = λ k e c. told.links k e (looked_from (asked_of home n t) now old.cache (k, e) c); cuts = told.cuts; low = told.low })
+    | inr (hit, hits) ↦ subst AreTold (sym hits.stores) (record { links = λ k e c. told.links k e (looked_from (asked_of home n t) now old.cache (k, e) c); cuts = told.cuts; low = told.low; failures = told.failures })
   ]
 
   told_hit : (now : ℕ) (n : Name) (t : ℕ) (old new : Stores) (l : Taken) (hit : Hit) → AreTold old → Hits home now n t old l hit new
@@ -175,9 +178,20 @@ module _ (port : ℕ) (home : Home) (run : List Turn) where
 
   pub missed_told : (now : ℕ) (n : Name) (t : ℕ) (old new : Stores) (c : Cut) → AreTold old → Misses home now n t old c new → AreTold new
   missed_told now n t old new c told m =
-      subst AreTold (sym m.stores) (record { links = told.links; cuts = λ d k h. told.cuts d k (best_from n now old.delegations (d, k) h); low = told.low })
+      subst AreTold (sym m.stores) (record { links = told.links; cuts = λ d k h. told.cuts d k (best_from n now old.delegations (d, k) h); low = told.low; failures = told.failures })
 
 -- A cut of a zone at hand is a start, and so are the hints.
 pub local_start : (port : ℕ) (home : Home) (run : List Turn) (n : Name) (t : ℕ) (at : Name) (ns glue : List Record) (c : Cut) → Says home n t (local.Cut at ns glue) → IsCutOf at ns glue c → IsStart port home run c
 local_start port home [] n t at ns glue c says is = inr (n, t, at, ns, glue, says, is)
 local_start port home (turn ∷ past) n t at ns glue c says is = inl (local_start port home past n t at ns glue c says is)
+
+-- ---- servers that failed
+
+-- It was known in a step that served the query that the server had failed lately to answer the question.
+abbrev pub KnownIn : ℕ → ℕ → List Turn → Name → ℕ → Addr → Type 0
+KnownIn port k run n t a = Earlier (λ u before. (u.served ≡ Query k) × FailedLately port n t a u before) run
+
+-- What is known in a run up to a step that serves the query is so in words, and back.
+pub known_was : (port k : ℕ) (turn : Turn) (past : List Turn) (n : Name) (t : ℕ) (a : Addr) → KnownIn port k (turn ∷ past) n t a → WasKnown port k turn past n t a
+known_was port k turn past n t a (inl (served, lately)) = inl lately
+known_was port k turn past n t a (inr e) = inr e

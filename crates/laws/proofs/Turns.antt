@@ -1,5 +1,7 @@
 -- What becomes of a query that a step serves: an open one, or one that comes.
-use Rattle.std.proofs.Common.{◌≡◌, ◌≢◌, ℕ, ◌+◌, ◌≤◌, ◌<◌, inl, inr, true, false, List, ◌∷◌, length, Contains, refl, sym, ap, ◌∙◌, subst, arith}
+use Rattle.std.proofs.Common.{◌≡◌, ◌≢◌, ℕ, ◌+◌, ◌-◌, ◌≤◌, ◌<◌, ◌⊎◌, inl, inr, true, false, List, ◌∷◌, length, Contains, refl, sym, ap, ◌∙◌, subst, arith}
+use Rattle.dname.specs.Labels.{Name}
+use Rattle.rdata.specs.declared.addr.Addr.{Addr}
 use Rattle.rdata.specs.Types.{type_number}
 use Rattle.causes.specs.declared.cause.Cause.{Cause}
 use Rattle.causes.specs.declared.cause.Cause.TheVariants as cause
@@ -10,10 +12,15 @@ use Rattle.resolution.specs.Rules.{Stops}
 use Rattle.runs.specs.States.{Action, Turn, Served, Own, Query, Plain, Asker, recursive, Open, AreApart, State}
 use Rattle.runs.specs.Runs.{Asks, GivesOut, Came, clock_of, asks_among, asks_in, is_for, asks_of}
 use Rattle.runs.specs.Steps.{Ends, Comes, IsAsking, IsOpened, at_once, crowded, admitted, Resolves, IsInput, IsIgnored, Hears, IsLate, IsLeft}
-use Rattle.laws.specs.Spent.{BringsTruncated}
+use Rattle.laws.specs.Spent.{HasFailed, BringsTruncated}
+use Rattle.laws.specs.Failures.{FailedLately, WasKnown}
+use Rattle.laws.proofs.Told.{KnownIn, known_was}
+use Rattle.laws.proofs.TimelySearches.{spent_with}
+use Rattle.laws.proofs.TimelyPoints.{Lately}
+use Rattle.laws.proofs.Later.{work_on}
 use Rattle.laws.specs.Caused.{AreCrowded, IsPastDeadline, IsExplained as IsResult}
 use Rattle.laws.proofs.Enters.{open_asks}
-use Rattle.laws.proofs.Leaving.{FailsFor, GoesOut as Leads}
+use Rattle.laws.proofs.Leaving.{FailsFor, IsWaitingFor, GoesOut as Leads}
 use Rattle.laws.proofs.TimelySent.{FailsAt, GoesTimely}
 use Rattle.laws.proofs.Learnt.{call_timed, stop_timed, start_timed}
 use Rattle.laws.proofs.States.{AreHeld, held_later, IsExplained, other_number, is_input, call_tells, stop_tells, start_tells}
@@ -39,7 +46,7 @@ module _ (past : List Turn) (s : State) (h : IsExplained (s.site).port (s.site).
   )
 
   -- The causes, for an open query.
-  fails_open : (q : Open) → Contains s.queries q → (is : turn.served ≡ Query q.number) → (c : Cause) → FailsFor (s.site).port (s.site).home (turn ∷ past) q.number (type_number ((q.asker).query).kind) ((q.asker).query).name c
+  fails_open : (q : Open) → Contains s.queries q → (is : turn.served ≡ Query q.number) → (c : Cause) → FailsFor (s.site).port (s.site).home (turn ∷ past) q.number (KnownIn (s.site).port q.number (turn ∷ past)) (type_number ((q.asker).query).kind) ((q.asker).query).name c
       → FailsAt (s.site).port (s.site).home turn past q.number (type_number ((q.asker).query).kind) s.clock clock (turn.served ≡ Query q.number) (λ is. is) (q.job).deadline (q.job).asks c
       → IsResult (s.site).port (s.site).home q.asker (outcome.Fail c) turn past
   fails_open q there is cause.TooManyOpen f late = absurd late
@@ -51,6 +58,24 @@ module _ (past : List Turn) (s : State) (h : IsExplained (s.site).port (s.site).
       forty a n le e few = omega arith
   fails_open q there is cause.NoServer f late = (q.number, inl is, f)
   fails_open q there is cause.Large f late = absurd late
+  fails_open q there is cause.KnownFailure ((n, t, a, known), (m, rs, few, leads, spent)) late = (
+    q.number,
+    inl is,
+    (n, t, a, known_was (s.site).port q.number turn past n t a known),
+    (
+      m,
+      rs,
+      few,
+      leads,
+      spent_with (s.site).port (s.site).home (turn ∷ past) _ (λ z n t a. HasFailed (s.site).port (turn ∷ past) q.number z n t a ⊎ WasKnown (s.site).port q.number turn past n t a)
+          (λ z n t a w. either z n t a w) m _ 0 spent,
+    ),
+  )
+    where
+      either : (z n : Name) (t : ℕ) (a : Addr) → HasFailed (s.site).port (turn ∷ past) q.number z n t a ⊎ KnownIn (s.site).port q.number (turn ∷ past) n t a
+          → HasFailed (s.site).port (turn ∷ past) q.number z n t a ⊎ WasKnown (s.site).port q.number turn past n t a
+      either z n t a (inl w) = inl w
+      either z n t a (inr w) = inr (known_was (s.site).port q.number turn past n t a w)
 
   others_apart : (q : Open) → turn.served ≡ Query q.number → (p : Open) → Contains s.queries p → p.number ≢ q.number → turn.served ≢ Query p.number
   others_apart q is p c other e = not_same q.number p.number other (sym is ∙ e)
@@ -66,7 +91,7 @@ module _ (past : List Turn) (s : State) (h : IsExplained (s.site).port (s.site).
   -- What comes of an open query.
   comes_of : (q : Open) (next : Next) (job : Job) (stores : Stores) (out : List Action) (new : State) → Contains s.queries q → (is : turn.served ≡ Query q.number)
       → ((a : Action) → Contains out a → GivesOut turn.out a) → asks_in turn.out ≡ asks_among out
-      → Leads (s.site).port (s.site).home (turn ∷ past) q.number (type_number ((q.asker).query).kind) ((q.asker).query).name (λ a n u. BringsTruncated (s.site).port q.number a n u turn past) next job
+      → Leads (s.site).port (s.site).home (turn ∷ past) q.number (KnownIn (s.site).port q.number (turn ∷ past)) (type_number ((q.asker).query).kind) ((q.asker).query).name (λ a n u. BringsTruncated (s.site).port q.number a n u turn past) next job
       → GoesTimely (s.site).port (s.site).home turn past q.number (type_number ((q.asker).query).kind) s.clock clock (turn.served ≡ Query q.number) (λ is. is) ((q.asker).query).name (q.job).deadline (q.job).asks next job
       → AreHeld (s.site).port (s.site).home (turn ∷ past) stores → Comes s q.asker q.number s.opened next job stores out new → Keeps new out
   comes_of q (Ask server n u) job stores out new there is goes counts leads timely told w = (
@@ -94,9 +119,9 @@ module _ (past : List Turn) (s : State) (h : IsExplained (s.site).port (s.site).
   hears_now first new goes counts e =
       let q = e.query in
       let sound = h.queries q e.serves.stands in
-      let input = is_input (s.site).port (s.site).home s q turn.event turn.served turn.out past q.number e.served_is sound.asked e.input refl e.brings in
+      let input = is_input (s.site).port (s.site).home s q turn.event turn.served turn.out past q.number e.served_is sound.asked (KnownIn (s.site).port q.number past) (KnownIn (s.site).port q.number (turn ∷ past)) (λ n t a e. inr e) e.input refl e.brings in
       let tells = call_tells (s.site).port (s.site).home q.number turn past q.ask e.served_is sound.asked (type_number ((q.asker).query).kind) ((q.asker).query).name q.job s.stores h.told.0 sound.work
-      s.clock e.input e.serves.next e.serves.job e.serves.stores input e.serves.advances in
+      s.clock clock e.input e.serves.next e.serves.job e.serves.stores input e.serves.advances in
       let timely = call_timed (s.site).port (s.site).home q.number turn past q.ask e.served_is sound.asked (type_number ((q.asker).query).kind) ((q.asker).query).name q.job s.stores h.told.0 sound.work
       s.clock clock h.told.1 sound.known sound.remote sound.plain e.input e.serves.next e.serves.job e.serves.stores input e.serves.advances in
       comes_of q e.serves.next e.serves.job e.serves.stores first new e.serves.stands e.served_is goes counts tells.0 timely.0 (tells.1, timely.1) e.serves.comes
@@ -131,9 +156,9 @@ module _ (past : List Turn) (s : State) (h : IsExplained (s.site).port (s.site).
       left_now q.number (λ stores. (input : Input) × IsInput s turn.event q input × Stops input s.clock q.job s.stores stores) new e
       (λ stores (input, brings, stops). (
         stop_tells (s.site).port (s.site).home q.number turn past q.ask is sound.asked (type_number ((q.asker).query).kind) ((q.asker).query).name q.job s.stores h.told.0 sound.work
-            s.clock input stores (is_input (s.site).port (s.site).home s q turn.event turn.served turn.out past q.number is sound.asked input refl brings) stops,
+            s.clock clock input stores (is_input (s.site).port (s.site).home s q turn.event turn.served turn.out past q.number is sound.asked (KnownIn (s.site).port q.number past) (KnownIn (s.site).port q.number (turn ∷ past)) (λ n t a e. inr e) input refl brings) stops,
         stop_timed (s.site).port (s.site).home q.number turn past q.ask is sound.asked (type_number ((q.asker).query).kind) ((q.asker).query).name q.job s.stores h.told.0 sound.work
-            s.clock clock h.told.1 sound.known sound.remote sound.plain input stores (is_input (s.site).port (s.site).home s q turn.event turn.served turn.out past q.number is sound.asked input refl brings) stops,
+            s.clock clock h.told.1 sound.known sound.remote sound.plain input stores (is_input (s.site).port (s.site).home s q turn.event turn.served turn.out past q.number is sound.asked (KnownIn (s.site).port q.number past) (KnownIn (s.site).port q.number (turn ∷ past)) (λ n t a e. inr e) input refl brings) stops,
       ))
       (others_apart q is) (others_free q there is)
 
@@ -143,14 +168,21 @@ module _ (past : List Turn) (s : State) (h : IsExplained (s.site).port (s.site).
     told_now : AreHeld (s.site).port (s.site).home (turn ∷ past) s.stores
     told_now = held_later (s.site).port (s.site).home turn past s.stores h.told
 
+    -- What is known in the query's own step.
+    abbrev KnownHere : Name → ℕ → Addr → Type 0
+    KnownHere n t a = FailedLately (s.site).port n t a turn past
+
+    lately_here : (Truncates : Addr → Name → ℕ → Type 0) → Lately (s.site).port (s.site).home s.opened (turn ∷ past) KnownHere Truncates s.clock
+    lately_here Truncates n t a since e young = (since, e, subst (λ (m : ℕ). m - since < 30000) clock young)
+
     Tells_of : Next → Job → Type 0
-    Tells_of next job = Leads (s.site).port (s.site).home (turn ∷ past) s.opened (type_number (who.query).kind) (who.query).name (λ a n u. BringsTruncated (s.site).port s.opened a n u turn past) next job
+    Tells_of next job = Leads (s.site).port (s.site).home (turn ∷ past) s.opened KnownHere (type_number (who.query).kind) (who.query).name (λ a n u. BringsTruncated (s.site).port s.opened a n u turn past) next job
 
     Timely_of : Next → Job → Type 0
     Timely_of next job = GoesTimely (s.site).port (s.site).home turn past s.opened (type_number (who.query).kind) s.clock clock ⊥ (λ e. absurd e) (who.query).name (s.clock + 10000) 0 next job
 
     -- The causes, for a query that is over in its own step.
-    fails_own : turn.served ≡ Own → (c : Cause) → FailsFor (s.site).port (s.site).home (turn ∷ past) s.opened (type_number (who.query).kind) (who.query).name c
+    fails_own : turn.served ≡ Own → (c : Cause) → FailsFor (s.site).port (s.site).home (turn ∷ past) s.opened KnownHere (type_number (who.query).kind) (who.query).name c
         → FailsAt (s.site).port (s.site).home turn past s.opened (type_number (who.query).kind) s.clock clock ⊥ (λ e. absurd e) (s.clock + 10000) 0 c → IsResult (s.site).port (s.site).home who (outcome.Fail c) turn past
     fails_own is cause.TooManyOpen f late = absurd late
     fails_own is cause.Deadline f late = absurd (omega (arith, late))
@@ -158,6 +190,24 @@ module _ (past : List Turn) (s : State) (h : IsExplained (s.site).port (s.site).
     fails_own is cause.Sends f late = absurd (omega (arith, late))
     fails_own is cause.NoServer f late = (s.opened, inr (is, h.unasked s.opened (at_least s.opened)), f)
     fails_own is cause.Large f late = absurd late
+    fails_own is cause.KnownFailure ((n, t, a, known), (m, rs, few, leads, spent)) late = (
+      s.opened,
+      inr (is, h.unasked s.opened (at_least s.opened)),
+      (n, t, a, inl known),
+      (
+        m,
+        rs,
+        few,
+        leads,
+        spent_with (s.site).port (s.site).home (turn ∷ past) _ (λ z n t a. HasFailed (s.site).port (turn ∷ past) s.opened z n t a ⊎ WasKnown (s.site).port s.opened turn past n t a)
+            (λ z n t a w. either z n t a w) m _ 0 spent,
+      ),
+    )
+      where
+        either : (z n : Name) (t : ℕ) (a : Addr) → HasFailed (s.site).port (turn ∷ past) s.opened z n t a ⊎ KnownHere n t a
+            → HasFailed (s.site).port (turn ∷ past) s.opened z n t a ⊎ WasKnown (s.site).port s.opened turn past n t a
+        either z n t a (inl w) = inl w
+        either z n t a (inr w) = inr (inl w)
 
     crowded_own : turn.served ≡ Own → AreApart s.queries → 1024 ≤ length s.queries → (turn.served ≡ Own) × AreCrowded (s.site).port past
     crowded_own is apart many = (
@@ -192,12 +242,19 @@ module _ (past : List Turn) (s : State) (h : IsExplained (s.site).port (s.site).
     at_once_now (Done chain last) job stores new is came never tells timely told e = over_now _ stores new is came told timely e
     at_once_now (Fail c) job stores new is came never tells timely told e = over_now _ stores new is came told (fails_own is c tells timely) e
 
+    -- What is known in this step is so for the query's number.
+    opened_work : turn.served ≡ Query s.opened → (server : Addr) (n : Name) (u : ℕ) (job : Job)
+        → IsWaitingFor (s.site).port (s.site).home (turn ∷ past) s.opened KnownHere (type_number (who.query).kind) (who.query).name server n u job
+        → IsWaitingFor (s.site).port (s.site).home (turn ∷ past) s.opened (KnownIn (s.site).port s.opened (turn ∷ past)) (type_number (who.query).kind) (who.query).name server n u job
+    opened_work is server n u job w =
+        work_on (s.site).port (s.site).home (turn ∷ past) (turn ∷ past) (inl refl) s.opened KnownHere (KnownIn (s.site).port s.opened (turn ∷ past)) (λ m v a lately. inl (is, lately)) (type_number (who.query).kind) (who.query).name server n u job w
+
     admitted_now : (next : Next) (job : Job) (stores : Stores) (new : State) → turn.served ≡ Query s.opened → Came (Query s.opened) who turn past → IsAsking next → Tells_of next job → Timely_of next job
         → AreHeld (s.site).port (s.site).home (turn ∷ past) stores → Comes s who s.opened (s.opened + 1) next job stores out new → Keeps new out
     unfolding Tells_of Timely_of
     admitted_now (Ask server n u) job stores new is came asks tells timely told w = (
       by_udp (s.site).port (s.site).home past s h turn refl who s.opened (s.opened + 1) is (inl came) wanted more less
-          (s.clock + 10000) 0 s.clock clock ⊥ (λ e. absurd e) (inl (came, ap (λ (n : ℕ). n + 10000) clock)) (h.unasked s.opened (at_least s.opened)) server n u job stores out new goes counts told tells timely w,
+          (s.clock + 10000) 0 s.clock clock ⊥ (λ e. absurd e) (inl (came, ap (λ (n : ℕ). n + 10000) clock)) (h.unasked s.opened (at_least s.opened)) server n u job stores out new goes counts told (opened_work is server n u job tells) timely w,
       waits_answered (s.site).home turn past (IsResult (s.site).port (s.site).home) s new (s.site).port _ _ _ stores out w.waits,
     )
       where
@@ -208,7 +265,7 @@ module _ (past : List Turn) (s : State) (h : IsExplained (s.site).port (s.site).
         less = omega arith
     admitted_now (AskTcp server n u) job stores new is came asks tells timely told w = (
       by_tcp (s.site).port (s.site).home past s h turn refl who s.opened (s.opened + 1) is (inl came) wanted more less
-          (s.clock + 10000) 0 s.clock clock ⊥ (λ e. absurd e) (inl (came, ap (λ (n : ℕ). n + 10000) clock)) (h.unasked s.opened (at_least s.opened)) server n u job stores out new goes counts told tells.0 timely tells.1 w,
+          (s.clock + 10000) 0 s.clock clock ⊥ (λ e. absurd e) (inl (came, ap (λ (n : ℕ). n + 10000) clock)) (h.unasked s.opened (at_least s.opened)) server n u job stores out new goes counts told (opened_work is server n u job tells.0) timely tells.1 w,
       waits_answered (s.site).home turn past (IsResult (s.site).port (s.site).home) s new (s.site).port _ _ _ stores out w.waits,
     )
       where
@@ -223,8 +280,9 @@ module _ (past : List Turn) (s : State) (h : IsExplained (s.site).port (s.site).
     pub resolved_now : (new : State) → AreApart s.queries → ((served : Served) → turn.served ≡ served → Came served who turn past) → Resolves s who turn.served out new → Keeps new out
     unfolding Tells_of Timely_of
     resolved_now new apart came e =
-        let tells = start_tells (s.site).port (s.site).home (turn ∷ past) s.opened (type_number (who.query).kind) (who.query).name (λ a n u. BringsTruncated (s.site).port s.opened a n u turn past) s.clock s.clock e.job s.stores e.next e.job e.stores told_now.0 e.advances in
-        let timely = start_timed (s.site).port (s.site).home turn past s.opened (type_number (who.query).kind) s.clock clock (who.query).name s.clock s.stores e.next e.job e.stores told_now.0 told_now.1 e.advances in
+        let tells = start_tells (s.site).port (s.site).home (turn ∷ past) s.opened KnownHere (type_number (who.query).kind) (who.query).name (λ a n u. BringsTruncated (s.site).port s.opened a n u turn past) s.clock
+        (lately_here (λ a n u. BringsTruncated (s.site).port s.opened a n u turn past)) s.clock e.job s.stores e.next e.job e.stores told_now.0 e.advances in
+        let timely = start_timed (s.site).port (s.site).home turn past s.opened KnownHere (type_number (who.query).kind) s.clock clock (who.query).name (lately_here (λ a n u. Unit {0})) s.clock s.stores e.next e.job e.stores told_now.0 told_now.1 e.advances in
         by tells.0 timely.0 (tells.1, timely.1) e.opened
       where
         by : Tells_of e.next e.job → Timely_of e.next e.job → AreHeld (s.site).port (s.site).home (turn ∷ past) e.stores → IsOpened s who e.next e.job e.stores turn.served out new → Keeps new out

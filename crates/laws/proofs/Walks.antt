@@ -12,7 +12,7 @@ use Rattle.referral.specs.Cuts.{Cut}
 use Rattle.cache.specs.Keys.{Key, same_key}
 use Rattle.cache.specs.Cached.{Hit, lent, hit_of}
 use Rattle.resolution.specs.Jobs.{Home, Stores, Taken, local_link, kept_link, is_dead, AreFresh, IsEnding, Job, Next, Done, Task, Seek, Take, Go, Again, Point}
-use Rattle.resolution.specs.Rules.{Says, IsRemote, asked_of, Hits, Finds, Begins, Misses, Rule, takes, asks, follows, restarts, hears, descends, gives_up, Rules, Leaves, sends, sends_again, refuses, spent, nowhere, too_long, done}
+use Rattle.resolution.specs.Rules.{Says, IsRemote, asked_of, Hits, Finds, Begins, Misses, Rule, takes, asks, follows, restarts, skips, hears, descends, gives_up, Rules, Leaves, sends, sends_again, refuses, spent, nowhere, too_long, done}
 use Rattle.resolution.proofs.Falls.{found_fresh}
 use Rattle.laws.proofs.FollowedLists.{fresh_both, none_dead}
 use Rattle.laws.specs.Held.{Holds, IsHeldChain}
@@ -139,6 +139,7 @@ module _ (home : Home) (now t : ℕ) (es : List (Key × Hit)) where
         on (inr (whole, end, ends)) = absurd (no_alias l.link r is ends)
     along_rule a b h (restarts l d front back task ends whole fresh dead u j e) =
         absurd (none_dead now front back d (subst (AreFresh now) whole (fresh_both now (a.job).chain l h.fresh (subst IsLive task h.live))) dead)
+    along_rule a b h (skips n s u rest failures task searches passes free v j e) = absurd (subst (λ (x : Task). IsAt x a.job) task h.at)
     along_rule a b h (hears before around rest n l marks task turn f g u j) = absurd (subst (λ (x : Task). IsAt x a.job) task h.at)
     along_rule a b h (descends s rest n c task turn m u j) = absurd (subst (λ (x : Task). IsAt x a.job) task h.at)
     along_rule a b h (gives_up s around rest task up u j e) = absurd (subst (λ (x : Task). IsAt x a.job) task h.at)

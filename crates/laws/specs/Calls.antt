@@ -1,6 +1,6 @@
 -- What one input makes of a query's work (RFC 1034, section 5.3.3, steps 3 and 4): servers are asked in
 -- turn, a referral is followed, a truncated reply is asked for again, an answer is used.
-use Rattle.std.specs.Prelude.{◌≡◌, ℕ, ◌⊎◌, ◌+◌, Option, Some, None, List, [], ◌∷◌, Contains}
+use Rattle.std.specs.Prelude.{◌≡◌, ℕ, ◌⊎◌, ◌+◌, false, Option, Some, None, List, [], ◌∷◌, Contains}
 use Rattle.dname.specs.Labels.{Name}
 use Rattle.rdata.specs.Records.{Record}
 use Rattle.rdata.specs.declared.addr.Addr.{Addr}
@@ -14,11 +14,11 @@ use Rattle.classify.specs.Classes as class
 use Rattle.classify.specs.Classes.{Class, class_of}
 use Rattle.classify.specs.declared.class.Failure.{Failure}
 use Rattle.retry.specs.Penalties.{AreAtMost}
-use Rattle.retry.specs.Plans.{upcoming}
 use Rattle.referral.specs.Cuts.{Cut, IsBest}
+use Rattle.cache.specs.Failures.{failed_ask, is_failed}
 use Rattle.frames.specs.Frames.{opened, taken_addresses}
-use Rattle.resolution.specs.Jobs.{Home, Stores, level_of, with_answer, Taken, received_link, AreFresh, IsEnding, IsCutOf, Search, search_at, Job, Input, Told, TimedOut, TcpFailed, Next, Ask, AskTcp, Done, Fail, MaySend, Point}
-use Rattle.resolution.specs.Rules.{Says, Begins, Rule, takes, asks, follows, restarts, hears, descends, gives_up, Rules, Leaves, Advances, IsRefused}
+use Rattle.resolution.specs.Jobs.{Home, Stores, level_of, with_answer, Taken, received_link, AreFresh, IsEnding, IsCutOf, Search, search_at, with_frame, fails_now, next_server, Job, Input, Told, TimedOut, TcpFailed, Next, Ask, AskTcp, Done, Fail, MaySend, Point}
+use Rattle.resolution.specs.Rules.{Says, Begins, Rule, takes, asks, follows, restarts, skips, hears, descends, gives_up, Rules, Leaves, Advances, IsRefused}
 
 -- ---- what comes in
 
@@ -44,11 +44,12 @@ GoesOut now j ask next = (MaySend now j × (next ≡ ask)) ⊎ ((c : Cause) × I
 
 -- ---- laws
 
--- Where an ask came to nothing, the plan's next address is asked the same question, while it has one.
+-- Where an ask came to nothing, the plan's next address that did not fail lately is asked the same question, while
+-- there is one (RFC 2308, section 7.1). What failed lately is said by the stores as the call leaves them.
 abbrev pub NextIsAsked : Type 0
 NextIsAsked =
     (home : Home) (now : ℕ) (input : Input) (old : Job) (stores : Stores) (next : Next) (new : Job) (after : Stores) (s : Search) (rest : List Search) (server : Addr)
-    → Advances home now input old stores next new after → IsLost old input s rest → upcoming (s.frame).plan ≡ Some server
+    → Advances home now input old stores next new after → IsLost old input s rest → next_server now after.failures s ≡ Some server
     → GoesOut now old (Ask server s.name s.kind) next
 
 -- A reply that was truncated over UDP: the same server is asked the same question over TCP.
@@ -58,16 +59,16 @@ TruncatedIsRepeated =
     → Advances home now input old stores next new after → Hears old input s rest server class.Truncated
     → GoesOut now old (AskTcp server s.name s.kind) next
 
--- A referral: where an address of one of its servers is taken, one of those taken is asked the same question,
--- the first of a plan by the penalties at that moment.
+-- A referral: where an address of one of its servers is taken that did not fail lately, such a one is asked the same
+-- question, the first of a plan by the penalties at that moment.
 abbrev pub ReferralIsFollowed : Type 0
 ReferralIsFollowed =
     (home : Home) (now : ℕ) (input : Input) (old : Job) (stores : Stores) (next : Next) (new : Job) (after : Stores) (s : Search) (rest : List Search) (server : Addr)
     (at : Name) (ns glue : List Record) (ttl : ℕ)
     → Advances home now input old stores next new after → Hears old input s rest server (class.Referral at ns glue ttl)
     → (c : Cut) × IsCutOf at ns glue c
-    × ((d : Addr) → upcoming (opened (level_of (with_answer stores server)) (s.frame).nesting c).plan ≡ Some d → Contains (taken_addresses c) d × GoesOut now old (Ask d s.name s.kind) next)
-    × (AreAtMost 8 stores.penalties → (b : Addr) → Contains (taken_addresses c) b
+    × ((d : Addr) → next_server now after.failures (with_frame s (opened (level_of (with_answer stores server)) (s.frame).nesting c)) ≡ Some d → Contains (taken_addresses c) d × GoesOut now old (Ask d s.name s.kind) next)
+    × (AreAtMost 8 stores.penalties → (b : Addr) → Contains (taken_addresses c) b → fails_now now after.failures s b ≡ false
     → (d : Addr) × Contains (taken_addresses c) d × GoesOut now old (Ask d s.name s.kind) next)
 
 -- An answer for the query's own name that ends the chain is used at once, where no link from the cache ran
@@ -77,6 +78,12 @@ AnswerIsUsed =
     (home : Home) (now : ℕ) (input : Input) (old : Job) (stores : Stores) (next : Next) (new : Job) (after : Stores) (s : Search) (server : Addr) (l : Link)
     → Advances home now input old stores next new after → Hears old input s [] server (class.Answer l) → IsEnding l → AreFresh now old.chain
     → next ≡ Done old.chain (received_link s.name l now)
+
+-- Over UDP no server is asked that failed lately to answer the same question.
+abbrev pub AskedDidNotFail : Type 0
+AskedDidNotFail =
+    (home : Home) (now : ℕ) (input : Input) (old : Job) (stores : Stores) (next : Next) (new : Job) (after : Stores) (server : Addr) (n : Name) (t : ℕ)
+    → Advances home now input old stores next new after → next ≡ Ask server n t → is_failed now (failed_ask n t server) after.failures ≡ false
 
 -- The chain of what goes out, whole or under way; a failure has none.
 abbrev pub HasLink : Next → Job → Taken → Type 0
@@ -107,6 +114,7 @@ opening_of home now a b (takes l t f u j) = None
 opening_of home now a b (asks c t m u j) = Some (record { name = (a.job).name; kind = (a.job).kind; nesting = 0; cut = c })
 opening_of home now a b (follows l r t is few u j e) = None
 opening_of home now a b (restarts l d front back t is whole fresh dead u j e) = None
+opening_of home now a b (skips n s u rest failures t searches passes free v j e) = None
 opening_of home now a b (hears before around rest n l marks t turn f h u j) = None
 opening_of home now a b (descends s rest n c t turn m u j) = Some (record { name = n; kind = a_type; nesting = (s.frame).nesting + 1; cut = c })
 opening_of home now a b (gives_up s around rest t up u j e) = None
@@ -120,11 +128,11 @@ pub record IsStart (home : Home) (now : ℕ) (n : Name) (t : ℕ) (stores : Stor
   pub begins : Begins home n what best c
 
 -- A frame opens at the start that the zones at hand and the delegations name, with a plan by the penalties,
--- both as the call leaves them; the plan's first address is asked, where it has one.
+-- both as the call leaves them; the plan's first address that did not fail lately is asked, where it has one.
 abbrev pub FramesOpenRightly : Type 0
 FramesOpenRightly =
     (home : Home) (now : ℕ) (a b last : Point) (count : ℕ) (next : Next) (new : Job) (after : Stores) (rule : Rule home now a b) (o : Opening)
     → Rules home now count b last → Leaves home now last next new after → opening_of home now a b rule ≡ Some o
     → IsStart home now o.name o.kind after o.cut
     × ((rest : List Search) × ((b.job).searches ≡ search_at o.name o.kind (opened (level_of after) o.nesting o.cut) ∷ rest))
-    × ((d : Addr) → upcoming (opened (level_of after) o.nesting o.cut).plan ≡ Some d → GoesOut now a.job (Ask d o.name o.kind) next)
+    × ((d : Addr) → next_server now after.failures (search_at o.name o.kind (opened (level_of after) o.nesting o.cut)) ≡ Some d → GoesOut now a.job (Ask d o.name o.kind) next)

@@ -4,14 +4,14 @@ use Rattle.dname.specs.Labels.{Name}
 use Rattle.rdata.specs.Records.{Record}
 use Rattle.rdata.specs.Types.{type_number}
 use Rattle.causes.specs.declared.cause.Cause.{Cause}
-use Rattle.causes.specs.declared.cause.Cause.TheVariants.{TooManyOpen, Deadline, Chain, Sends, NoServer, Large}
+use Rattle.causes.specs.declared.cause.Cause.TheVariants.{TooManyOpen, Deadline, Chain, Sends, NoServer, Large, KnownFailure}
 use Rattle.front.specs.declared.queries.Outcome.{Outcome}
 use Rattle.front.specs.declared.queries.Outcome.TheVariants.{Answer, Referral, Refused, Fail}
 use Rattle.resolution.specs.Jobs.{Home}
 use Rattle.runs.specs.States.{Query, Own, Turn, Plain, Asker, Asking, Site, State}
 use Rattle.runs.specs.Runs.{Run, Earlier, Always, Asks, Came, clock_of, asks_of}
 use Rattle.laws.specs.Spent.{AreLeading}
-use Rattle.laws.specs.Failures.{HasNoServer}
+use Rattle.laws.specs.Failures.{HasNoServer, HasKnownFailure}
 use Rattle.laws.specs.Timely.{IsTimely}
 use Rattle.laws.specs.Replies.{RepliesAre}
 
@@ -46,6 +46,7 @@ IsCaused port home who Chain turn past = IsTooLong port home who turn past
 IsCaused port home who Sends turn past = HasAskedEnough turn past
 IsCaused port home who NoServer turn past = HasNoServer port home who turn past
 IsCaused port home who Large turn past = ⊥
+IsCaused port home who KnownFailure turn past = HasKnownFailure port home who turn past
 
 -- What a recursive query comes to: an answer within its time, or a failure whose cause stands in the run.
 abbrev pub IsExplained : ℕ → Home → Asker → Outcome Plain → Turn → List Turn → Type 0

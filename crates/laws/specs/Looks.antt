@@ -13,7 +13,7 @@ use Rattle.cache.specs.Keys.{Key, key_for}
 use Rattle.cache.specs.Cached.{Hit, is_live, lent, hit_of}
 use Rattle.cache.specs.Cached as cache
 use Rattle.resolution.specs.Jobs.{Home, Stores, Search, Job, Input, Start, Told, TimedOut, TcpFailed, Next, Point, hit_from}
-use Rattle.resolution.specs.Rules.{asked_of, Rule, takes, asks, follows, restarts, hears, descends, gives_up, Rules, Enters, Advances}
+use Rattle.resolution.specs.Rules.{asked_of, Rule, takes, asks, follows, restarts, skips, hears, descends, gives_up, Rules, Enters, Advances}
 use Rattle.runs.specs.States.{Event, Client, Datagram, TcpReply, Tick, Action, Served, Turn, Plain, Site, State, moved}
 use Rattle.runs.specs.States as event
 use Rattle.runs.specs.Steps.{IsIgnored, Hears, IsHandled, IsTicked, IsTurn, Step}
@@ -40,6 +40,7 @@ rule_hits home now a b (takes l t f u j) = hits_by home (a.job).name (a.job).kin
 rule_hits home now a b (asks c t m u j) = []
 rule_hits home now a b (follows l r t is few u j e) = []
 rule_hits home now a b (restarts l d front back t is whole fresh dead u j e) = []
+rule_hits home now a b (skips n s u rest failures t searches passes free v j e) = []
 rule_hits home now a b (hears before around rest n l marks t turn f h u j) = hits_by home n a_type f.is
 rule_hits home now a b (descends s rest n c t turn m u j) = []
 rule_hits home now a b (gives_up s around rest t up u j e) = []

@@ -10,9 +10,8 @@ use Rattle.wire.specs.declared.via.Via.{Via}
 use Rattle.front.specs.declared.queries.Asked.{Asked}
 use Rattle.front.specs.declared.queries.Asked.TheVariants as heard
 use Rattle.front.specs.declared.queries.Outcome.TheVariants as outcome
-use Rattle.retry.specs.Plans.{upcoming}
 use Rattle.frames.specs.Frames.{opened}
-use Rattle.resolution.specs.Jobs.{Home, Stores, level_of, Job, Input, Start, Next, Point}
+use Rattle.resolution.specs.Jobs.{Home, Stores, level_of, search_at, next_server, Job, Input, Start, Next, Point}
 use Rattle.resolution.specs.Rules.{Rules, IsRefused, Advances}
 use Rattle.runs.specs.States.{Event, Client, Datagram, TcpReply, Tick, Action, Served, Query, Turn, Plain, Asker, asker, job_for, IsFor, Open, Site, State, moved}
 use Rattle.runs.specs.States as event
@@ -100,11 +99,11 @@ pub record MayNot (s : State) (call : Call s) (out : List Action) : Type 0 where
   pub reply : IsReply call.asker (outcome.Fail c) action
   pub alone : IsAlone action out
 
--- The frame's cut is where servers of its question are sought first, and its plan's first address is asked, both
--- by the stores as the step leaves them.
+-- The frame's cut is where servers of its question are sought first, and its plan's first address that did not fail
+-- lately is asked, both by the stores as the step leaves them.
 pub record IsOpenedRightly (site : Site) (s : State) (served : Served) (out : List Action) (new : State) (call : Call s) (frame : Opening) : Type 0 where
   pub start : IsStart site.home s.clock frame.name frame.kind new.stores frame.cut
-  pub first : (d : Addr) → upcoming (opened (level_of new.stores) frame.nesting frame.cut).plan ≡ Some d
+  pub first : (d : Addr) → next_server s.clock (new.stores).failures (search_at frame.name frame.kind (opened (level_of new.stores) frame.nesting frame.cut)) ≡ Some d
       → Goes site served d frame.name frame.kind out new ⊎ MayNot s call out
 
 -- Each frame that opens in a step of a run.

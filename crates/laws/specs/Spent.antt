@@ -158,19 +158,19 @@ IsOfNoUse port home run z Has Beneath x =
     ⊎ (HasNoAddress port home run x ⊎ Beneath x))
 
 -- All that is taken of the start c, the first sixteen addresses and the first sixteen names without one of
--- these, is of no use for the name n and the type t.
-pub record AreUsedUp (port : ℕ) (home : Home) (run : List Turn) (k : ℕ) (n : Name) (t : ℕ) (Beneath : Name → Type 0) (c : Cut) : Type 0 where
+-- these, is of no use for the name n and the type t. `Fails`: why a server of a zone is of none for a name and a type.
+pub record AreUsedUp (port : ℕ) (home : Home) (run : List Turn) (Fails : Name → Name → ℕ → Addr → Type 0) (n : Name) (t : ℕ) (Beneath : Name → Type 0) (c : Cut) : Type 0 where
   pub start : IsStart port home run c
   pub over : IsOver c n
-  pub addresses : (a : Addr) → Contains (taken_addresses c) a → HasFailed port run k c.owner n t a
-  pub names : (x : Name) → Contains (unknown_names c) x → IsOfNoUse port home run c.owner (HasFailed port run k c.owner n t) Beneath x
+  pub addresses : (a : Addr) → Contains (taken_addresses c) a → Fails c.owner n t a
+  pub names : (x : Name) → Contains (unknown_names c) x → IsOfNoUse port home run c.owner (Fails c.owner n t) Beneath x
 
 -- No address of this name can be looked up, where look-ups may nest so many times more.
-abbrev pub IsBeyond : ℕ → Home → List Turn → ℕ → ℕ → Name → Type 0
-IsBeyond port home run k zero x = Unit {0}
-IsBeyond port home run k (suc deeper) x = (c : Cut) × AreUsedUp port home run k x a_type (IsBeyond port home run k deeper) c
+abbrev pub IsBeyond : ℕ → Home → List Turn → (Name → Name → ℕ → Addr → Type 0) → ℕ → Name → Type 0
+IsBeyond port home run Fails zero x = Unit {0}
+IsBeyond port home run Fails (suc deeper) x = (c : Cut) × AreUsedUp port home run Fails x a_type (IsBeyond port home run Fails deeper) c
 
--- The servers of some start over the name are used up, for the query with this number; d look-ups of servers'
--- addresses are under way around it, and there are three at most.
-abbrev pub IsSpent : ℕ → Home → List Turn → ℕ → Name → ℕ → ℕ → Type 0
-IsSpent port home run k n t d = (c : Cut) × AreUsedUp port home run k n t (IsBeyond port home run k (3 - d)) c
+-- The servers of some start over the name are used up; d look-ups of servers' addresses are under way around it, and
+-- there are three at most.
+abbrev pub IsSpent : ℕ → Home → List Turn → (Name → Name → ℕ → Addr → Type 0) → Name → ℕ → ℕ → Type 0
+IsSpent port home run Fails n t d = (c : Cut) × AreUsedUp port home run Fails n t (IsBeyond port home run Fails (3 - d)) c

@@ -1,5 +1,5 @@
 -- What is done in the very step in which something is heard for an open query, over every run.
-use Rattle.std.specs.Prelude.{◌≡◌, ℕ, ◌<◌, ◌⊎◌, Some, List, [], ◌∷◌, Contains}
+use Rattle.std.specs.Prelude.{◌≡◌, ℕ, ◌<◌, ◌⊎◌, false, Some, List, [], ◌∷◌, Contains}
 use Rattle.dname.specs.Labels.{Name}
 use Rattle.rdata.specs.Records.{Record}
 use Rattle.rdata.specs.declared.addr.Addr.{Addr}
@@ -11,10 +11,9 @@ use Rattle.layout.specs.Messages.{Message}
 use Rattle.classify.specs.Classes as class
 use Rattle.classify.specs.Classes.{Class, class_of}
 use Rattle.classify.specs.declared.class.Failure.{Failure}
-use Rattle.retry.specs.Plans.{upcoming}
 use Rattle.referral.specs.Cuts.{Cut}
 use Rattle.frames.specs.Frames.{opened, taken_addresses}
-use Rattle.resolution.specs.Jobs.{level_of, with_answer, received_link, AreFresh, IsEnding, IsCutOf, Search}
+use Rattle.resolution.specs.Jobs.{level_of, with_answer, received_link, AreFresh, IsEnding, IsCutOf, Search, with_frame, fails_now, next_server}
 use Rattle.resolution.specs.Rules.{IsRefused}
 use Rattle.runs.specs.States.{Tick, TcpReply, TcpFailed, Action, Query, Turn, Plain, Path, ByUdp, ByTcp, via_of, IsFor, Open, Site, State, moved}
 use Rattle.runs.specs.Messages.{IsSent, Brings, outcome_of, IsReply}
@@ -81,11 +80,12 @@ Asks Is site s q server sought out new =
 
 -- ---- laws
 
--- An ask that ended in vain: the plan's next address is asked the same question, while it has one.
+-- An ask that ended in vain: the plan's next address that did not fail lately is asked the same question, while there
+-- is one (RFC 2308, section 7.1).
 abbrev pub LostIsAskedOn : Type 0
 LostIsAskedOn =
     (site : Site) (past : List Turn) (old : State) (t : Turn) (out : List Action) (new : State) (q : Open) (sought : Search) (others : List Search) (server : Addr)
-    → Attends site past old t out new q sought others → EndsInVain site (at_moment old t) t q sought → upcoming (sought.frame).plan ≡ Some server
+    → Attends site past old t out new q sought others → EndsInVain site (at_moment old t) t q sought → next_server (at_moment old t).clock (new.stores).failures sought ≡ Some server
     → Asks IsUdp site (at_moment old t) q server sought out new
 
 -- A reply that was truncated over UDP: the same server is asked the same question over TCP.
@@ -95,16 +95,16 @@ TruncatedIsAskedAgain =
     → Attends site past old t out new q sought others → Accepted site t q sought class.Truncated
     → Asks IsTcp site (at_moment old t) q (q.ask).server sought out new
 
--- A referral of which an address is taken: one that is taken is asked the same question, the first of a plan
--- by the penalties once the server that referred has its own.
+-- A referral of which an address is taken that did not fail lately: such a one is asked the same question, the first
+-- of a plan by the penalties once the server that referred has its own.
 abbrev pub ReferralIsAsked : Type 0
 ReferralIsAsked =
     (site : Site) (past : List Turn) (old : State) (t : Turn) (out : List Action) (new : State) (q : Open) (sought : Search) (others : List Search)
     (at : Name) (ns glue : List Record) (ttl : ℕ)
     → Attends site past old t out new q sought others → Accepted site t q sought (class.Referral at ns glue ttl)
     → (c : Cut) × IsCutOf at ns glue c
-    × ((d : Addr) → upcoming (opened (level_of (with_answer (at_moment old t).stores (q.ask).server)) (sought.frame).nesting c).plan ≡ Some d → Asks IsUdp site (at_moment old t) q d sought out new)
-    × ((b : Addr) → Contains (taken_addresses c) b → (d : Addr) × Contains (taken_addresses c) d × Asks IsUdp site (at_moment old t) q d sought out new)
+    × ((d : Addr) → next_server (at_moment old t).clock (new.stores).failures (with_frame sought (opened (level_of (with_answer (at_moment old t).stores (q.ask).server)) (sought.frame).nesting c)) ≡ Some d → Asks IsUdp site (at_moment old t) q d sought out new)
+    × ((b : Addr) → Contains (taken_addresses c) b → fails_now (at_moment old t).clock (new.stores).failures sought b ≡ false → (d : Addr) × Contains (taken_addresses c) d × Asks IsUdp site (at_moment old t) q d sought out new)
 
 -- An answer for the query's own name that ends its chain: the reply of the whole chain, where no link of it
 -- that came from the cache has run out.

@@ -160,6 +160,7 @@ pub record IsNew (here : Site) (s : State) : Type 0 where
   pub cache : (s.stores).cache ≡ []
   pub delegations : (s.stores).delegations ≡ []
   pub penalties : (s.stores).penalties ≡ []
+  pub failures : (s.stores).failures ≡ []
   pub queries : s.queries ≡ []
   pub opened : s.opened ≡ 0
   pub asked : s.asked ≡ 0
