@@ -30,7 +30,8 @@ A reply is printed as a line for its header and one for each of its records.
     aa                       the zone is the authority for the name
     tc                       the reply was over 512 bytes, and its records were left out
     cause K                  why SERVFAIL: 1 too many open queries, 2 its time is up, 3 more than eight aliases,
-                             4 too many sends, 5 no server is left, 6 the reply is too large
+                             4 too many sends, 5 no server is left, 6 the reply is too large,
+                             7 no server is left, and one was passed over that had lately failed to answer
   an OWNER TTL TYPE DATA     a record of the answer section; ns of the authority section, ar of the additional one
 
 play prints besides:
@@ -63,6 +64,7 @@ Its file has lines of these words; blank lines and lines that begin with ; are s
   cache N                    how many record sets and denials are kept, up to 1000000; 1024
   delegations N              how many delegations are; 1024
   penalties N                how many servers that did not answer are; 1024
+  failures N                 how many questions that a server failed to answer are; 1024
   sockets N                  from how many sockets servers are asked, up to 16; 16
   workers N                  how many servers are asked over TCP at once, up to 16; 4
   seed HEX                   what identifiers are drawn from, 64 digits; random

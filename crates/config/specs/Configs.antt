@@ -33,6 +33,7 @@ pub record Draft : Type 0 where
   pub cache : Option ℕ
   pub delegations : Option ℕ
   pub penalties : Option ℕ
+  pub failures : Option ℕ
   pub sockets : Option ℕ
   pub workers : Option ℕ
   pub seed : Option (List ℕ)
@@ -46,6 +47,7 @@ blank = record {
   cache = None;
   delegations = None;
   penalties = None;
+  failures = None;
   sockets = None;
   workers = None;
   seed = None;
@@ -99,6 +101,7 @@ said_by d the.Local ws = zone_in ws >>= λ z. with_zone d z
 said_by d the.Cache ws = number_in 1 1000000 ws >>= λ n. (once d.cache n >>= λ v. Ok (record d { cache = v }))
 said_by d the.Delegations ws = number_in 1 1000000 ws >>= λ n. (once d.delegations n >>= λ v. Ok (record d { delegations = v }))
 said_by d the.Penalties ws = number_in 1 1000000 ws >>= λ n. (once d.penalties n >>= λ v. Ok (record d { penalties = v }))
+said_by d the.Failures ws = number_in 1 1000000 ws >>= λ n. (once d.failures n >>= λ v. Ok (record d { failures = v }))
 said_by d the.Sockets ws = number_in 1 16 ws >>= λ n. (once d.sockets n >>= λ v. Ok (record d { sockets = v }))
 said_by d the.Workers ws = number_in 1 16 ws >>= λ n. (once d.workers n >>= λ v. Ok (record d { workers = v }))
 said_by d the.Seed ws = seed_in ws >>= λ s. (once d.seed s >>= λ v. Ok (record d { seed = v }))
@@ -122,6 +125,7 @@ pub record Config : Type 0 where
   pub cache : ℕ
   pub delegations : ℕ
   pub penalties : ℕ
+  pub failures : ℕ
   pub sockets : ℕ
   pub workers : ℕ
   pub seed : Option (List ℕ)
@@ -141,6 +145,7 @@ finished d (Some e) = Ok (record {
   cache = stated d.cache 1024;
   delegations = stated d.delegations 1024;
   penalties = stated d.penalties 1024;
+  failures = stated d.failures 1024;
   sockets = stated d.sockets 16;
   workers = stated d.workers 4;
   seed = d.seed;

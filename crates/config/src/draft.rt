@@ -29,6 +29,7 @@ pub(crate) struct Draft<'t, A: Allocator> {
     cache: Option<u32>,
     delegations: Option<u32>,
     penalties: Option<u32>,
+    failures: Option<u32>,
     sockets: Option<u32>,
     workers: Option<u32>,
     seed: Option<[u8; 32]>,
@@ -40,7 +41,7 @@ impl<'t, A: Allocator> Model for Draft<'t, A> {
 
     ghost Value = { Stated };
 
-    ghost view = { λ d. record { listen = d.listen; port = d.port; hints = map (λ a. a.0) d.hints.items; locals = d.locals.items; cache = d.cache; delegations = d.delegations; penalties = d.penalties; sockets = d.sockets; workers = d.workers; seed = d.seed } };
+    ghost view = { λ d. record { listen = d.listen; port = d.port; hints = map (λ a. a.0) d.hints.items; locals = d.locals.items; cache = d.cache; delegations = d.delegations; penalties = d.penalties; failures = d.failures; sockets = d.sockets; workers = d.workers; seed = d.seed } };
 }
 
 // A value that one line alone may state.
@@ -65,6 +66,7 @@ impl<'t, A: Heap> Draft<'t, A> {
             cache: None,
             delegations: None,
             penalties: None,
+            failures: None,
             sockets: None,
             workers: None,
             seed: None,
@@ -99,6 +101,7 @@ impl<'t, A: Heap> Draft<'t, A> {
                 self.delegations = once(self.delegations, number(words, ENTRIES)?)?
             }
             Keyword::Penalties => self.penalties = once(self.penalties, number(words, ENTRIES)?)?,
+            Keyword::Failures => self.failures = once(self.failures, number(words, ENTRIES)?)?,
             Keyword::Sockets => self.sockets = once(self.sockets, number(words, THREADS)?)?,
             Keyword::Workers => self.workers = once(self.workers, number(words, THREADS)?)?,
             Keyword::Seed => self.seed = once(self.seed, seed(words)?)?,
@@ -129,6 +132,7 @@ impl<'t, A: Heap> Draft<'t, A> {
             cache,
             delegations,
             penalties,
+            failures,
             sockets,
             workers,
             seed,
@@ -144,6 +148,7 @@ impl<'t, A: Heap> Draft<'t, A> {
             cache: cache.unwrap_or(1_024),
             delegations: delegations.unwrap_or(1_024),
             penalties: penalties.unwrap_or(1_024),
+            failures: failures.unwrap_or(1_024),
             sockets: sockets.unwrap_or(16),
             workers: workers.unwrap_or(4),
             seed,

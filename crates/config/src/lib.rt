@@ -3,7 +3,7 @@
 //!
 //! `read_config` reads the text of such a file, a table of its lines, into a `ServeConfig`: `listen` and `port`,
 //! `hint` lines (RFC 1034, section 5.3.2), `local` lines with the paths of master files, and the sizes of cache,
-//! delegations and penalties.
+//! delegations, penalties and failures.
 //!
 //! Promised: what the text says (`config_of`), or the first line that is refused and why (`LineError`): an unknown
 //! word, a value out of its limits, a line that may stand once and stands twice, no `listen`.

@@ -18,6 +18,7 @@ begun_is_new start h =
       cache = ap (λ (z : State). (z.stores).cache) made;
       delegations = ap (λ (z : State). (z.stores).delegations) made;
       penalties = ap (λ (z : State). (z.stores).penalties) made;
+      failures = ap (λ (z : State). (z.stores).failures) made;
       queries = ap (λ (z : State). z.queries) made;
       opened = ap (λ (z : State). z.opened) made;
       asked = ap (λ (z : State). z.asked) made;

@@ -20,6 +20,7 @@ pub record IsAllowed (s : Settings) : Type 0 where
   pub cache : IsRoom s.cache
   pub delegations : IsRoom s.delegations
   pub penalties : IsRoom s.penalties
+  pub failures : IsRoom s.failures
   pub some_sockets : 1 ≤ s.sockets
   pub few_sockets : s.sockets ≤ 16
 
@@ -28,7 +29,7 @@ abbrev pub first_state : List Zone → List Addr → Settings → State
 first_state zones hints s = record {
   site = record { home = home_at zones hints; port = s.port; sockets = s.sockets };
   clock = 0;
-  stores = no_stores s.cache s.delegations s.penalties;
+  stores = no_stores s.cache s.delegations s.penalties s.failures;
   queries = [];
   opened = 0;
   asked = 0;

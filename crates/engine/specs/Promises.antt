@@ -1,5 +1,5 @@
 -- What a step of the resolver promises: the laws of every run, said of its newest step.
-use Rattle.std.specs.Prelude.{◌≡◌, ◌≢◌, ℕ, ◌<◌, ◌≤◌, ◌⊎◌, true, Option, Some, List, [], ◌∷◌, length, Contains}
+use Rattle.std.specs.Prelude.{◌≡◌, ◌≢◌, ℕ, ◌<◌, ◌≤◌, ◌⊎◌, true, false, Option, Some, List, [], ◌∷◌, length, Contains}
 use Rattle.dname.specs.Labels.{Name}
 use Rattle.rdata.specs.Records.{Record}
 use Rattle.rdata.specs.Types.{type_number}
@@ -16,9 +16,8 @@ use Rattle.classify.specs.Classes as class
 use Rattle.cache.specs.Cached.{lent, hit_of, is_live}
 use Rattle.referral.specs.Cuts.{Cut}
 use Rattle.frames.specs.Frames.{opened, taken_addresses}
-use Rattle.retry.specs.Plans.{upcoming}
 use Rattle.truth.specs.Worlds.{World, IsWorld}
-use Rattle.resolution.specs.Jobs.{level_of, with_answer, received_link, AreFresh, IsEnding, IsCutOf, Search, Taken}
+use Rattle.resolution.specs.Jobs.{level_of, with_answer, received_link, AreFresh, IsEnding, IsCutOf, Search, with_frame, fails_now, next_server, Taken}
 use Rattle.resolution.specs.Rules.{asked_of}
 use Rattle.runs.specs.States.{Event, Client, Tick, Action, MoreDue, Served, Own, Query, Turn, Plain, Asker, asker, recursive, Open, Site, State, moved}
 use Rattle.runs.specs.Messages.{Brings, outcome_of, IsReply}
@@ -69,15 +68,15 @@ pub record Keeps (site : Site) (past : List Turn) (old : State) (turn : Turn) (n
   -- What a search hears is followed in that very step.
   pub ask : (q : Open) → Contains new.queries q → IsOfSearch q
   pub lost : (out : List Action) (q : Open) (sought : Search) (around : List Search) (server : Addr)
-      → Attends site past old turn out new q sought around → EndsInVain site (at_moment old turn) turn q sought → upcoming (sought.frame).plan ≡ Some server
+      → Attends site past old turn out new q sought around → EndsInVain site (at_moment old turn) turn q sought → next_server (at_moment old turn).clock (new.stores).failures sought ≡ Some server
       → followed.Asks followed.IsUdp site (at_moment old turn) q server sought out new
   pub truncated : (out : List Action) (q : Open) (sought : Search) (around : List Search)
       → Attends site past old turn out new q sought around → Accepted site turn q sought class.Truncated → followed.Asks followed.IsTcp site (at_moment old turn) q (q.ask).server sought out new
   pub referral : (out : List Action) (q : Open) (sought : Search) (around : List Search) (at : Name) (ns glue : List Record) (ttl : ℕ)
       → Attends site past old turn out new q sought around → Accepted site turn q sought (class.Referral at ns glue ttl)
       → (c : Cut) × IsCutOf at ns glue c
-      × ((d : Addr) → upcoming (opened (level_of (with_answer (at_moment old turn).stores (q.ask).server)) (sought.frame).nesting c).plan ≡ Some d → followed.Asks followed.IsUdp site (at_moment old turn) q d sought out new)
-      × ((b : Addr) → Contains (taken_addresses c) b → (d : Addr) × Contains (taken_addresses c) d × followed.Asks followed.IsUdp site (at_moment old turn) q d sought out new)
+      × ((d : Addr) → next_server (at_moment old turn).clock (new.stores).failures (with_frame sought (opened (level_of (with_answer (at_moment old turn).stores (q.ask).server)) (sought.frame).nesting c)) ≡ Some d → followed.Asks followed.IsUdp site (at_moment old turn) q d sought out new)
+      × ((b : Addr) → Contains (taken_addresses c) b → fails_now (at_moment old turn).clock (new.stores).failures sought b ≡ false → (d : Addr) × Contains (taken_addresses c) d × followed.Asks followed.IsUdp site (at_moment old turn) q d sought out new)
   pub answered : (out : List Action) (q : Open) (sought : Search) (l : Link)
       → Attends site past old turn out new q sought [] → Accepted site turn q sought (class.Answer l) → IsEnding l → AreFresh (at_moment old turn).clock (q.job).chain
       → Replies q (outcome_of (at_moment old turn).clock (q.job).chain (received_link sought.name l (at_moment old turn).clock)) out
@@ -85,7 +84,8 @@ pub record Keeps (site : Site) (past : List Turn) (old : State) (turn : Turn) (n
       → Attends site past old turn out new q sought [] → Accepted site turn q sought (class.Answer (Alias r)) → AreFresh (at_moment old turn).clock (q.job).chain
       → ((after : Open) × Contains new.queries after × (after.number ≡ q.number) × Contains (after.job).chain (received_link sought.name (Alias r) (at_moment old turn).clock))
       ⊎ ((o : Outcome Plain) × Replies q o out)
-  -- A frame opens where its question's servers are sought first, and the first address of its plan is asked.
+  -- A frame opens where its question's servers are sought first, and the first address of its plan that did not fail
+  -- lately is asked.
   pub opens : (out : List Action) (call : Call (at_moment old turn)) (frame : Opening)
       → turn.out ≡ Some out → step_call old turn new step ≡ Some call → Opens (at_moment old turn) call frame → IsOpenedRightly site (at_moment old turn) turn.served out new call frame
   -- What is held is answered at once, and what was kept is found.

@@ -47,13 +47,14 @@ fn stores<A: Heap>(
     room: Capacities,
     seed: &[u8],
 ) -> Result<Stores<StoreHasher, A>, Starved>
-    ensures { IfOk result (λ s. s ≡ no_stores (non_zero_usize_get room.links) (non_zero_usize_get room.cuts) (non_zero_usize_get room.servers)) }
+    ensures { IfOk result (λ s. s ≡ no_stores (non_zero_usize_get room.links) (non_zero_usize_get room.cuts) (non_zero_usize_get room.servers) (non_zero_usize_get room.failures)) }
 {
     let seeded = Seeded::new(DefaultHasher::new(), seed);
     let hashers = Hashers {
         links: seeded,
         cuts: seeded,
         servers: seeded,
+        failures: seeded,
     };
     Ok(Stores::new(alloc, room, hashers)?)
 }

@@ -27,6 +27,8 @@ pub struct Settings {
     pub delegations: usize,
     /// Of how many servers that did not answer it is kept: 1 to 1,000,000.
     pub penalties: usize,
+    /// Of how many questions that a server failed to answer it is kept: 1 to 1,000,000.
+    pub failures: usize,
     /// How many sockets servers are asked from: 1 to 16.
     pub sockets: u16,
     /// The port at which servers are asked.
@@ -38,7 +40,7 @@ pub struct Settings {
 impl Settings {
     /// The room of the stores, where every setting is within its limits.
     pub fn room(&self) -> Option<Capacities>
-        ensures { MatchOption result (IsAllowed self.now → ⊥) (λ c. IsAllowed self.now × (non_zero_usize_get c.links ≡ self.now.cache) × (non_zero_usize_get c.cuts ≡ self.now.delegations) × (non_zero_usize_get c.servers ≡ self.now.penalties)) }
+        ensures { MatchOption result (IsAllowed self.now → ⊥) (λ c. IsAllowed self.now × (non_zero_usize_get c.links ≡ self.now.cache) × (non_zero_usize_get c.cuts ≡ self.now.delegations) × (non_zero_usize_get c.servers ≡ self.now.penalties) × (non_zero_usize_get c.failures ≡ self.now.failures)) }
     {
         if self.sockets == 0 || self.sockets > MOST_SOCKETS {
             return None;
@@ -47,6 +49,7 @@ impl Settings {
             links: entries(self.cache)?,
             cuts: entries(self.delegations)?,
             servers: entries(self.penalties)?,
+            failures: entries(self.failures)?,
         })
     }
 }

@@ -20,7 +20,7 @@ pub struct Works<A: Allocator = Global> {
     pub sockets: u16,
     // The latest moment of any event so far, in milliseconds.
     pub clock: u64,
-    // The cache, the delegations and the penalties.
+    // The cache, the delegations, the penalties and the failures.
     pub stores: Stores<StoreHasher, A>,
     // The open queries, 1,024 at most, with their indexes.
     pub queries: Queries<A>,

@@ -9,7 +9,7 @@ use Rattle.player.specs.Plays.{State, Plays, beginning, last_line}
 
 -- What a resolver is set to in a script.
 abbrev pub settings : Settings
-settings = record { cache = 1024; delegations = 1024; penalties = 1024; sockets = 16; port = 53; seed = replicate 32 0 }
+settings = record { cache = 1024; delegations = 1024; penalties = 1024; failures = 1024; sockets = 16; port = 53; seed = replicate 32 0 }
 
 -- Nothing happened yet in a network of that world.
 pub record IsReady (W : World) (s : State) : Type 0 where

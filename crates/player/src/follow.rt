@@ -47,6 +47,7 @@ pub fn settings() -> Settings
         cache: 1_024,
         delegations: 1_024,
         penalties: 1_024,
+        failures: 1_024,
         sockets: 16,
         port: 53,
         seed: [0; 32],

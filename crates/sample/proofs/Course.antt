@@ -284,6 +284,7 @@ module _ (g : ChaCha) where
     cache = refl;
     delegations = refl;
     penalties = refl;
+    failures = refl;
     queries = refl;
     opened = refl;
     asked = refl;

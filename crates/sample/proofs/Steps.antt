@@ -47,7 +47,7 @@ is_asked = inr (record { whole = omega arith; query = omega arith; heard = one_h
 -- ---- its work
 
 abbrev pub stores0 : Stores
-stores0 = record { cache = []; cache_cap = 16; delegations = []; delegations_cap = 16; penalties = []; penalties_cap = 16 }
+stores0 = record { cache = []; cache_cap = 16; delegations = []; delegations_cap = 16; penalties = []; penalties_cap = 16; failures = []; failures_cap = 16 }
 
 abbrev pub job0 : Job
 job0 = job_for 0 query
@@ -80,7 +80,7 @@ work1 = record {
   last = point Go at1 stores0;
   enters = refl;
   rules = (point Seek job0 stores0, refl, asks (root_cut home) refl misses refl refl);
-  leaves = sends root_server search1 [] (record { task = refl; searches = refl; next = refl; known = first_in root_server [] }) (record { early = omega arith; few = omega arith }) refl refl refl;
+  leaves = sends root_server search1 [] (record { task = refl; searches = refl; next = refl; known = first_in root_server []; free = refl }) (record { early = omega arith; few = omega arith }) refl refl refl;
 }
 
 abbrev pub cut2 : Cut
@@ -105,7 +105,7 @@ work2 id = record {
   last = point Go at2 stores2;
   enters = inr (_, [], refl, record { cut = cut2; is_cut = record { owner = refl; names = refl; addresses = refl }; task = refl; job = refl; stored = refl });
   rules = refl;
-  leaves = sends lower_server search2 [] (record { task = refl; searches = refl; next = refl; known = first_in lower_server [] }) (record { early = omega arith; few = omega arith }) refl refl refl;
+  leaves = sends lower_server search2 [] (record { task = refl; searches = refl; next = refl; known = first_in lower_server []; free = refl }) (record { early = omega arith; few = omega arith }) refl refl refl;
 }
 
 abbrev pub last : Taken

@@ -13,6 +13,7 @@ settings_in c seed = record {
   cache = c.cache;
   delegations = c.delegations;
   penalties = c.penalties;
+  failures = c.failures;
   sockets = c.sockets;
   port = c.port;
   seed = seed;

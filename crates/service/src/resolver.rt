@@ -20,6 +20,7 @@ fn settings_of<A: Allocator>(config: &ServeConfig<'_, A>, seed: [u8; 32]) -> Opt
         cache: config.cache as usize,
         delegations: config.delegations as usize,
         penalties: config.penalties as usize,
+        failures: config.failures as usize,
         sockets,
         port: config.port,
         seed,

@@ -21,6 +21,7 @@ module _ (W : World) (local : List Zone) (hints : List Addr) (settings : Setting
     cache = ap (λ (x : State). (x.stores).cache) made.is;
     delegations = ap (λ (x : State). (x.stores).delegations) made.is;
     penalties = ap (λ (x : State). (x.stores).penalties) made.is;
+    failures = ap (λ (x : State). (x.stores).failures) made.is;
     queries = ap (λ (x : State). x.queries) made.is;
     opened = ap (λ (x : State). x.opened) made.is;
     asked = ap (λ (x : State). x.asked) made.is;
