@@ -14,6 +14,7 @@ const SETTINGS: Settings = Settings {
     cache: 1_024,
     delegations: 1_024,
     penalties: 1_024,
+    failures: 1_024,
     sockets: 16,
     port: 53,
     seed: [7; 32],

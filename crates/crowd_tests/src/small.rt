@@ -21,6 +21,7 @@ const SETTINGS: Settings = Settings {
     cache: 64,
     delegations: 64,
     penalties: 64,
+    failures: 64,
     sockets: 4,
     port: 53,
     seed: [7; 32],

@@ -25,6 +25,7 @@ fn core<A: Heap>(alloc: A, hint: Addr) -> Result<Core<A>, Starved> {
             cache: 9,
             delegations: 9,
             penalties: 9,
+            failures: 9,
             sockets: 4,
             port: PORT,
             seed: [7; 32],

@@ -55,8 +55,8 @@ const ROWS: &[Row] = &[
     ((2, 3), 0xf8, Out::Nothing, Out::Nothing),
     ((2, 3), 0x02, Out::AskedOverTcp(1), Out::AskedOverTcp(1)),
     ((2, 3), 0x04, Out::Asked(1), Out::Asked(1)),
-    // The RCODE.
-    ((3, 4), 0x0f, Out::Asked(1), Out::Asked(1)),
+    // The RCODE: only for SERVFAIL the server is not asked again (RFC 2308, section 7.1).
+    ((3, 4), 0x0f, Out::Asked(1), Out::Failed(7)),
     // RD, RA and the bits that say nothing.
     ((2, 4), ANY, Out::Replied, Out::Replied),
     // The ID and the counts.
@@ -143,6 +143,7 @@ fn is_well<A: Heap>(
 ) -> Result<bool, Starved> {
     match out {
         Out::Asked(1) => Ok(goes_on(desk, talk)),
+        Out::Failed(7) => Ok(place == 3 && bits & 0x0f == 2),
         Out::Replied => Ok(has_sent_wanted(desk, place, bits)?),
         _ => Ok(out == Out::AskedOverTcp(1)),
     }

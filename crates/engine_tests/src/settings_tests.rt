@@ -5,25 +5,27 @@ use std::alloc::Global;
 use std::test::Fail;
 use zone::Zone;
 
-// How many links, delegations and penalties are kept, how many sockets and how many zones of one origin there are, and
-// the number of the refusal; 0 of a resolver.
-type Row = ([usize; 3], u16, usize, u8);
+// How many links, delegations, penalties and failures are kept, how many sockets and how many zones of one origin there
+// are, and the number of the refusal; 0 of a resolver.
+type Row = ([usize; 4], u16, usize, u8);
 
 const ROWS: &[Row] = &[
     // The least and the most.
-    ([1, 1, 1], 1, 0, 0),
-    ([1_000_000, 1_000_000, 1_000_000], 16, 1, 0),
+    ([1, 1, 1, 1], 1, 0, 0),
+    ([1_000_000, 1_000_000, 1_000_000, 1_000_000], 16, 1, 0),
     // A setting out of its limits.
-    ([0, 1, 1], 1, 0, 1),
-    ([1, 0, 1], 1, 0, 1),
-    ([1, 1, 0], 1, 0, 1),
-    ([1, 1, 1], 0, 0, 1),
-    ([1_000_001, 1, 1], 1, 0, 1),
-    ([1, 1_000_001, 1], 1, 0, 1),
-    ([1, 1, 1_000_001], 1, 0, 1),
-    ([1, 1, 1], 17, 0, 1),
+    ([0, 1, 1, 1], 1, 0, 1),
+    ([1, 0, 1, 1], 1, 0, 1),
+    ([1, 1, 0, 1], 1, 0, 1),
+    ([1, 1, 1, 0], 1, 0, 1),
+    ([1, 1, 1, 1], 0, 0, 1),
+    ([1_000_001, 1, 1, 1], 1, 0, 1),
+    ([1, 1_000_001, 1, 1], 1, 0, 1),
+    ([1, 1, 1_000_001, 1], 1, 0, 1),
+    ([1, 1, 1, 1_000_001], 1, 0, 1),
+    ([1, 1, 1, 1], 17, 0, 1),
     // Two zones of one origin.
-    ([1, 1, 1], 1, 2, 2),
+    ([1, 1, 1, 1], 1, 2, 2),
 ];
 
 const LAB: &str = "$TTL 300\n@ SOA ns h 1 2 3 4 60\n@ NS ns\n";
@@ -54,11 +56,12 @@ fn zones(alloc: Global, count: usize) -> Result<Vec<Zone>, Starved> {
     Ok(zones)
 }
 
-const fn settings([cache, delegations, penalties]: [usize; 3], sockets: u16) -> Settings {
+const fn settings([cache, delegations, penalties, failures]: [usize; 4], sockets: u16) -> Settings {
     Settings {
         cache,
         delegations,
         penalties,
+        failures,
         sockets,
         port: 53,
         seed: [7; 32],

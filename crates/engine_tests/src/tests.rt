@@ -112,6 +112,31 @@ const ASKED_SERVER: &[(Act, Out)] = &[
 // RCODE 5 and no records.
 const REFUSED: &[u8] = b"\x80\x05\0\x01\0\0\0\0\0\0";
 
+// A query for its texts.
+const TEXTS: &[u8] = b"\0\x05\x01\0\0\x01\0\0\0\0\0\0\x03www\x07example\0\0\x10\0\x01";
+
+// The header of SERVFAIL, and of one that is truncated.
+const FAILURE: &[u8] = b"\x80\x02\0\x01\0\0\0\0\0\0";
+
+const SHORT_FAILURE: &[u8] = b"\x82\x02\0\x01\0\0\0\0\0\0";
+
+// A server that failed to answer is not asked the same again for 30 seconds (RFC 2308, section 7.1), but anything else.
+const FAILED: &[(Act, Out)] = &[
+    ASKED,
+    (Act::Told(ROOT, FAILURE, &[]), Out::Failed(7)),
+    (Act::Asks(29_999, QUERY), Out::Failed(7)),
+    (Act::Asks(29_999, TEXTS), Out::Asked(ROOT)),
+    (Act::Asks(30_000, QUERY), Out::Asked(ROOT)),
+];
+
+// Where the failure comes truncated it is asked for again over TCP, and is kept when it comes whole.
+const FAILED_OVER_TCP: &[(Act, Out)] = &[
+    ASKED,
+    (Act::Told(ROOT, SHORT_FAILURE, &[]), Out::AskedOverTcp(ROOT)),
+    (Act::Told(ROOT, FAILURE, &[]), Out::Failed(7)),
+    (Act::Asks(1, QUERY), Out::Failed(7)),
+];
+
 // A query that no server answers fails: each server is asked in two rounds, and there is one (cause 5).
 const UNANSWERED: &[(Act, Out)] = &[
     ASKED,
@@ -185,6 +210,8 @@ const LAST_MOMENT: &[(Act, Out)] = &[
 const TALES: &[&[(Act, Out)]] = &[
     ASKED_SERVER,
     UNANSWERED,
+    FAILED,
+    FAILED_OVER_TCP,
     ADDITIONAL,
     SET_OF_TWO,
     SET_OF_A_REPEAT,

@@ -228,6 +228,7 @@ fn hashers() -> Hashers<DefaultHasher> {
         links: hasher(),
         cuts: hasher(),
         servers: hasher(),
+        failures: hasher(),
     }
 }
 
@@ -238,6 +239,7 @@ fn stores<A: Heap>(alloc: A) -> Result<Stores<DefaultHasher, A>, Starved> {
         links: room,
         cuts: room,
         servers: room,
+        failures: room,
     };
     Ok(Stores::new(alloc, capacities, hashers())?)
 }

@@ -65,11 +65,13 @@ fn stores<A: Heap>(alloc: A) -> Result<Stores<DefaultHasher, A>, Starved> {
         links: room,
         cuts: room,
         servers: room,
+        failures: room,
     };
     let hashers = Hashers {
         links: hasher(),
         cuts: hasher(),
         servers: hasher(),
+        failures: hasher(),
     };
     Stores::new(alloc, capacities, hashers)
 }

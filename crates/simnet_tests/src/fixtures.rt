@@ -57,6 +57,7 @@ pub const SETTINGS: Settings = Settings {
     cache: 16,
     delegations: 16,
     penalties: 16,
+    failures: 16,
     sockets: 1,
     port: 53,
     seed: [7; 32],

@@ -4,6 +4,8 @@
 #[cfg(test)]
 mod cache_tests;
 #[cfg(test)]
+mod failures_tests;
+#[cfg(test)]
 mod frames_tests;
 #[cfg(test)]
 mod referral_tests;
