@@ -8,6 +8,7 @@ pub mod Enters
 pub mod Every
 pub mod Failing
 pub mod Fates
+pub mod FailureKept
 pub mod FollowedAnswered
 pub mod FollowedLists
 pub mod FollowedSearches

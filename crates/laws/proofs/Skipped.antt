@@ -21,10 +21,10 @@ module _ (home : Home) (now : ℕ) where
   same_after p next new after (done l t is fresh n e) = e
 
   abbrev Alike : Stores → Stores → Type 0
-  Alike old new = (k : FailedAsk) → is_failed now k new.failures ≡ is_failed now k old.failures
+  Alike old new = (later : ℕ) (k : FailedAsk) → is_failed later k new.failures ≡ is_failed later k old.failures
 
   alike : (old new : Stores) → new.failures ≡ old.failures → Alike old new
-  alike old new e k = ap (is_failed now k) e
+  alike old new e later k = ap (is_failed later k) e
 
   rule_fails : (a b : Point) → Rule home now a b → Alike a.stores b.stores
   rule_fails a b (takes l t f u j) = alike a.stores b.stores (found_failures home now _ _ a.stores l b.stores f)
@@ -32,19 +32,19 @@ module _ (home : Home) (now : ℕ) where
   rule_fails a b (follows l r t is few u j e) = alike a.stores b.stores (ap (λ (s : Stores). s.failures) e)
   rule_fails a b (restarts l d front back t is whole fresh dead u j e) = alike a.stores b.stores (ap (λ (s : Stores). s.failures) e)
   rule_fails a b (skips n s u rest failures t searches passes free v j e) =
-      λ k. ap (λ (x : Stores). is_failed now k x.failures) e ∙ passes_fails now (suc n) s (a.stores).failures u failures passes now k
+      λ later k. ap (λ (x : Stores). is_failed later k x.failures) e ∙ passes_fails now (suc n) s (a.stores).failures u failures passes later k
   rule_fails a b (hears before around rest n l marks t turn f h u j) = alike a.stores b.stores (found_failures home now _ _ a.stores l b.stores f)
   rule_fails a b (descends s rest n c t turn m u j) = alike a.stores b.stores (missed_failures home now _ _ a.stores c b.stores m)
   rule_fails a b (gives_up s around rest t up u j e) = alike a.stores b.stores (ap (λ (s : Stores). s.failures) e)
 
   rules_fail : (n : ℕ) (a b : Point) → Rules home now n a b → Alike a.stores b.stores
   rules_fail zero a b e = alike a.stores b.stores (ap (λ (p : Point). (p.stores).failures) e)
-  rules_fail (suc n) a b (mid, more, rule) = λ k. rule_fails mid b rule k ∙ rules_fail n a mid more k
+  rules_fail (suc n) a b (mid, more, rule) = λ later k. rule_fails mid b rule later k ∙ rules_fail n a mid more later k
 
   -- By the stores as a call leaves them a search asks next whom it asks by those at a point on the way.
   module _ (p last : Point) (count : ℕ) (next : Next) (new : Job) (after : Stores) (rules : Rules home now count p last) (leaves : Leaves home now last next new after) where
-    pub fails_at : (k : FailedAsk) → is_failed now k after.failures ≡ is_failed now k (p.stores).failures
-    fails_at k = ap (λ (x : Stores). is_failed now k x.failures) (same_after last next new after leaves) ∙ rules_fail count p last rules k
+    pub fails_at : (later : ℕ) (k : FailedAsk) → is_failed later k after.failures ≡ is_failed later k (p.stores).failures
+    fails_at later k = ap (λ (x : Stores). is_failed later k x.failures) (same_after last next new after leaves) ∙ rules_fail count p last rules later k
 
     pub next_at : (s : Search) → next_server now after.failures s ≡ next_server now (p.stores).failures s
-    next_at s = same_first (fails_now now after.failures s) (fails_now now (p.stores).failures s) (left_of (s.frame).plan) (λ a. fails_at (ask_of s a))
+    next_at s = same_first (fails_now now after.failures s) (fails_now now (p.stores).failures s) (left_of (s.frame).plan) (λ a. fails_at now (ask_of s a))

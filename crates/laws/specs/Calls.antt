@@ -1,6 +1,6 @@
 -- What one input makes of a query's work (RFC 1034, section 5.3.3, steps 3 and 4): servers are asked in
 -- turn, a referral is followed, a truncated reply is asked for again, an answer is used.
-use Rattle.std.specs.Prelude.{◌≡◌, ℕ, ◌⊎◌, ◌+◌, false, Option, Some, None, List, [], ◌∷◌, Contains}
+use Rattle.std.specs.Prelude.{◌≡◌, ℕ, ◌⊎◌, ◌+◌, ◌-◌, ◌<◌, true, false, Option, Some, None, List, [], ◌∷◌, Contains}
 use Rattle.dname.specs.Labels.{Name}
 use Rattle.rdata.specs.Records.{Record}
 use Rattle.rdata.specs.declared.addr.Addr.{Addr}
@@ -17,7 +17,7 @@ use Rattle.retry.specs.Penalties.{AreAtMost}
 use Rattle.referral.specs.Cuts.{Cut, IsBest}
 use Rattle.cache.specs.Failures.{failed_ask, is_failed}
 use Rattle.frames.specs.Frames.{opened, taken_addresses}
-use Rattle.resolution.specs.Jobs.{Home, Stores, level_of, with_answer, Taken, received_link, AreFresh, IsEnding, IsCutOf, Search, search_at, with_frame, fails_now, next_server, Job, Input, Told, TimedOut, TcpFailed, Next, Ask, AskTcp, Done, Fail, MaySend, Point}
+use Rattle.resolution.specs.Jobs.{Home, Stores, level_of, with_answer, Taken, received_link, AreFresh, IsEnding, IsCutOf, Search, search_at, with_frame, fails_now, next_server, is_server_failure, Job, Input, Told, TimedOut, TcpFailed, Next, Ask, AskTcp, Done, Fail, MaySend, Point}
 use Rattle.resolution.specs.Rules.{Says, Begins, Rule, takes, asks, follows, restarts, skips, hears, descends, gives_up, Rules, Leaves, Advances, IsRefused}
 
 -- ---- what comes in
@@ -84,6 +84,13 @@ abbrev pub AskedDidNotFail : Type 0
 AskedDidNotFail =
     (home : Home) (now : ℕ) (input : Input) (old : Job) (stores : Stores) (next : Next) (new : Job) (after : Stores) (server : Addr) (n : Name) (t : ℕ)
     → Advances home now input old stores next new after → next ≡ Ask server n t → is_failed now (failed_ask n t server) after.failures ≡ false
+
+-- Where a message says that its server failed to answer, that counts for 30 seconds, while no want of room removes it.
+abbrev pub FailureIsKept : Type 0
+FailureIsKept =
+    (home : Home) (now : ℕ) (input : Input) (old : Job) (stores : Stores) (next : Next) (new : Job) (after : Stores) (s : Search) (rest : List Search) (server : Addr) (c : Class) (later : ℕ)
+    → Advances home now input old stores next new after → (h : Hears old input s rest server c) → is_server_failure h.message ≡ true → later - now < 30000
+    → fails_now later after.failures s server ≡ true
 
 -- The chain of what goes out, whole or under way; a failure has none.
 abbrev pub HasLink : Next → Job → Taken → Type 0
