@@ -1,5 +1,6 @@
-//! Zones and questions made from a seed.
+//! Catalogs, and zones and questions made from a seed.
 
+use authority::Catalog;
 use dname::{Heap, Name, Starved};
 use fixtures::{Row, Value, name, record, records};
 use rand_chacha::ChaCha8Rng;
@@ -7,62 +8,27 @@ use rand_core::{Rng, SeedableRng};
 use rdata::{RType, Record, Records};
 use zone::Zone;
 
-const ORIGIN: &str = "zone.example";
-
-// The SOA and the server of the zone.
-const TOP: &[Row<'static>] = &[
-    (ORIGIN, 3600, Value::Soa(60)),
-    (ORIGIN, 3600, Value::Ns("ns.d.zone.example")),
-];
-
-// What a record is, drawn from these: an address twice as often as each of the others.
-const KINDS: &[Kind] = &[
-    Kind::Address,
-    Kind::Address,
-    Kind::Text,
-    Kind::Delegation,
-    Kind::Server,
-    Kind::Alias,
-];
-
-// The first labels of owners, of an address or a text and of the others.
-const OWN: &[&str] = &["a.", "b.", "*."];
-
-const CUT: &[&str] = &["d."];
-
-const SERVER: &[&str] = &["ns.d."];
-
-const ALIAS: &[&str] = &["w."];
-
-// Further labels of owners.
-const ABOVE: &[&str] = &["", "", "a.", "b."];
-
-// The first labels of names that are asked for, the further ones, and the types.
-const ASKED: &[&str] = &["", "a.", "b.", "d.", "ns.d.", "w.", "x.", "*."];
-
-const ASKED_ABOVE: &[&str] = &["", "a.", "b.", "d.", "w.", "x.", "*."];
-
-const TYPES: &[RType] = &[RType::A, RType::Txt, RType::Ns, RType::Cname];
-
-// A record of a zone that is made.
-#[derive(Clone, Copy)]
-enum Kind {
-    Address,
-    Text,
-    Delegation,
-    Server,
-    Alias,
-}
-
-// The first labels that an owner of such a record may have.
-fn labels(kind: Kind) -> &'static [&'static str] {
-    match kind {
-        Kind::Address | Kind::Text => OWN,
-        Kind::Delegation => CUT,
-        Kind::Server => SERVER,
-        Kind::Alias => ALIAS,
+/// The catalog of these zones. One that is refused counts as want of memory.
+pub fn known<A: Heap>(zones: Vec<Zone<A>, A>) -> Result<Catalog<A>, Starved> {
+    match Catalog::new(zones) {
+        Ok(catalog) => Ok(catalog),
+        Err(_) => Err(Starved),
     }
 }
+
+const ORIGIN: &str = "zone.example";
+
+// What a record is, drawn from these, so that it is an address at an owner of its own twice as often as anything else:
+// the first labels that its owner may have, and its data, or `None` for one of four addresses.
+const KINDS: &[(&[&'static str], Option<Value<'static>>)] = &[
+    (&["a.", "b.", "*."], None),
+    (&["a.", "b.", "*."], None),
+    (&["a.", "b.", "*."], Some(Value::Txt("words"))),
+    // A delegation, its server's address, and an alias.
+    (&["d."], Some(Value::Ns("ns.d.zone.example"))),
+    (&["ns.d."], None),
+    (&["w."], Some(Value::Cname("a.zone.example"))),
+];
 
 /// Zones and questions that follow from a seed. `d` at the left end of an owner makes a delegation, `w` an alias,
 /// and no owner has either of them further to the right but a server's, so that each zone keeps the rules.
@@ -81,59 +47,44 @@ impl<A: Heap> Maker<A> {
         }
     }
 
-    // A place in a list of so many.
-    fn place(&mut self, count: usize) -> usize {
-        let place = self.words.next_u32() as usize;
-        place.checked_rem(count).unwrap_or(0)
-    }
-
-    // One of these labels.
-    fn label(&mut self, among: &'static [&'static str]) -> &'static str {
-        let place = self.place(among.len());
-        among.get(place).copied().unwrap_or("a")
+    // One of these; `None` where there are none.
+    fn one_of<T: Copy>(&mut self, among: &[T]) -> Option<T> {
+        let word = self.words.next_u32() as usize;
+        among.get(word.checked_rem(among.len())?).copied()
     }
 
     // A name in the zone: one of the first labels, and up to two of the others above it.
     fn owner(
         &mut self,
-        first: &'static [&'static str],
-        others: &'static [&'static str],
+        first: &[&'static str],
+        others: &[&'static str],
     ) -> Result<String<A>, Starved> {
         let mut text = String::new(self.alloc);
-        text.push_str(self.label(first))?;
-        text.push_str(self.label(others))?;
-        text.push_str(self.label(others))?;
+        text.push_str(self.one_of(first).unwrap_or("a"))?;
+        text.push_str(self.one_of(others).unwrap_or("a"))?;
+        text.push_str(self.one_of(others).unwrap_or("a"))?;
         text.push_str(ORIGIN)?;
         Ok(text)
     }
 
-    // One of four addresses.
-    fn address(&mut self) -> Value<'static> {
-        Value::A((self.words.next_u32() % 4) as u8)
-    }
-
-    // The data of such a record.
-    fn value(&mut self, kind: Kind) -> Value<'static> {
-        match kind {
-            Kind::Address | Kind::Server => self.address(),
-            Kind::Text => Value::Txt("words"),
-            Kind::Delegation => Value::Ns("ns.d.zone.example"),
-            Kind::Alias => Value::Cname("a.zone.example"),
-        }
-    }
-
-    // An address, a text, a delegation, its server's address, or an alias, each at an owner fit for it.
+    // A record of one of the kinds, at an owner fit for it.
     fn record(&mut self) -> Result<Record<A>, Starved> {
-        let place = self.place(KINDS.len());
-        let kind = KINDS.get(place).copied().unwrap_or(Kind::Address);
-        let value = self.value(kind);
-        let owner = self.owner(labels(kind), ABOVE)?;
+        let (first, data) = self.one_of(KINDS).unwrap_or((&[], None));
+        let value = match data {
+            Some(value) => value,
+            None => Value::A((self.words.next_u32() % 4) as u8),
+        };
+        let owner = self.owner(first, &["", "", "a.", "b."])?;
         Ok(record(self.alloc, (owner.as_str(), 60, value))?)
     }
 
     // The zone's SOA, its server and forty records more, some of them repeats.
     fn records(&mut self) -> Result<Records<A>, Starved> {
-        let mut records = records(self.alloc, TOP)?;
+        let top: [Row<'static>; 2] = [
+            (ORIGIN, 3600, Value::Soa(60)),
+            (ORIGIN, 3600, Value::Ns("ns.d.zone.example")),
+        ];
+        let mut records = records(self.alloc, &top)?;
         for _ in 0..40 {
             records.push(self.record()?)?;
         }
@@ -151,9 +102,11 @@ impl<A: Heap> Maker<A> {
 
     /// A question in the zone: at, beneath and beside its owners.
     pub fn question(&mut self) -> Result<(Name<A>, RType), Starved> {
-        let asked = self.owner(ASKED, ASKED_ABOVE)?;
-        let place = self.place(TYPES.len());
-        let kind = TYPES.get(place).copied().unwrap_or(RType::A);
+        let first = ["", "a.", "b.", "d.", "ns.d.", "w.", "x.", "*."];
+        let others = ["", "a.", "b.", "d.", "w.", "x.", "*."];
+        let kinds = [RType::A, RType::Txt, RType::Ns, RType::Cname];
+        let asked = self.owner(&first, &others)?;
+        let kind = self.one_of(&kinds).unwrap_or(RType::A);
         Ok((name(self.alloc, asked.as_str())?, kind))
     }
 }

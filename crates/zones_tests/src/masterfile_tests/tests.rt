@@ -32,59 +32,83 @@ fn says<A: Heap>(
         _ => false,
     })
 }
-// `head`, and then runs of these sizes, each of `byte` and behind `parting`.
-fn with_runs<A: Heap>(
+
+// The line and kind of a text's first fault under the origin `example.`, if it has one. The text: `head`, and then so
+// many runs of a size, each of `byte` and behind `parting`.
+fn fault_of_runs<A: Heap>(
     alloc: A,
     head: &str,
     byte: &str,
     parting: &str,
-    sizes: &[usize],
-) -> Result<String<A>, Starved> {
+    runs: &[(usize, usize)],
+) -> Result<Option<(usize, FileKind)>, NameError> {
     let mut text = String::from_str(alloc, head)?;
-    for size in sizes {
-        text.push_str(parting)?;
-        for _ in 0..*size {
-            text.push_str(byte)?;
+    for (count, size) in runs {
+        for _ in 0..*count {
+            text.push_str(parting)?;
+            for _ in 0..*size {
+                text.push_str(byte)?;
+            }
         }
     }
-    Ok(text)
-}
-
-// The line and kind of a text's first fault under the origin `example.`, if it has one.
-fn fault_of<A: Heap>(alloc: A, text: &[u8]) -> Result<Option<(usize, FileKind)>, NameError> {
     let origin = Name::from_text(alloc, "example.")?;
-    Ok(match read_block(alloc, &origin, text, 1) {
+    Ok(match read_block(alloc, &origin, text.as_bytes(), 1) {
         Ok(_) => None,
         Err(fault) => Some((fault.line, fault.kind)),
     })
 }
 
+// A text as `fault_of_runs` makes it, and its first fault.
+type SizeRow = (
+    &'static str,
+    &'static str,
+    &'static str,
+    &'static [(usize, usize)],
+    Option<(usize, FileKind)>,
+);
+
 // A label has at most 63 bytes; a name 255, of which `example.` takes 9; a string 255 after its escapes; data 65,535,
 // here 255 strings of 255 bytes and one of 254, each behind its length byte.
+const SIZES: &[SizeRow] = &[
+    ("a 1 NS ", "b", "", &[(1, 63)], None),
+    ("a 1 NS ", "\\098", "", &[(1, 63)], None),
+    ("a 1 NS ", "b", "", &[(1, 64)], Some((1, BadName))),
+    ("a 1 NS b", "b", ".", &[(3, 63), (1, 51)], None),
+    (
+        "a 1 NS b",
+        "b",
+        ".",
+        &[(3, 63), (1, 52)],
+        Some((1, BadName)),
+    ),
+    ("\nb", "b", ".", &[(3, 63), (1, 52)], Some((2, BadName))),
+    ("a 1 TXT ", "b", "\"", &[(1, 255), (1, 0)], None),
+    (
+        "a 1 TXT ",
+        "b",
+        "\"",
+        &[(1, 256), (1, 0)],
+        Some((1, BadData)),
+    ),
+    ("a 1 TXT ", "\\098", "", &[(1, 255)], None),
+    ("a 1 TXT ", "\\\\", "", &[(1, 256)], Some((1, BadData))),
+    ("a 1 TXT ", "b", " ", &[(256, 255)], Some((1, BadData))),
+    (
+        "a 1 TXT",
+        "b",
+        " ",
+        &[(100, 255), (1, 254), (155, 255)],
+        None,
+    ),
+];
+
 #[test]
 fn greatest_sizes(rt: HostRuntime) -> Result<(), Fail> {
-    let rows: [(&str, &str, &str, &[usize], Option<(usize, FileKind)>); 11] = [
-        ("a 1 NS ", "b", "", &[63], None),
-        ("a 1 NS ", "\\098", "", &[63], None),
-        ("a 1 NS ", "b", "", &[64], Some((1, BadName))),
-        ("a 1 NS b", "b", ".", &[63, 63, 63, 51], None),
-        ("a 1 NS b", "b", ".", &[63, 63, 63, 52], Some((1, BadName))),
-        ("\nb", "b", ".", &[63, 63, 63, 52], Some((2, BadName))),
-        ("a 1 TXT ", "b", "\"", &[255, 0], None),
-        ("a 1 TXT ", "b", "\"", &[256, 0], Some((1, BadData))),
-        ("a 1 TXT ", "\\098", "", &[255], None),
-        ("a 1 TXT ", "\\\\", "", &[256], Some((1, BadData))),
-        ("a 1 TXT ", "b", " ", &[255; 256], Some((1, BadData))),
-    ];
-    for (head, byte, parting, sizes, wanted) in rows {
-        let text = with_runs(rt.alloc(), head, byte, parting, sizes)?;
-        let found = fault_of(rt.alloc(), text.as_bytes())?;
-        assert!(rt; found == wanted, "{head} {byte}");
+    for row in SIZES {
+        let (head, byte, parting, runs, wanted) = *row;
+        let found = fault_of_runs(rt.alloc(), head, byte, parting, runs)?;
+        assert!(rt; found == wanted, "{head} {byte} {runs:?}");
     }
-    let mut sizes = [255; 256];
-    sizes[100] = 254;
-    let text = with_runs(rt.alloc(), "a 1 TXT", "b", " ", &sizes)?;
-    assert!(rt; fault_of(rt.alloc(), text.as_bytes())? == None);
     Ok(())
 }
 
@@ -138,14 +162,24 @@ fn kinds_and_their_numbers(rt: HostRuntime) -> Result<(), Fail> {
     Ok(())
 }
 
-// A text of every type, and a faulty one that takes memory before its fault.
-const ZONE: &str =
-    "$TTL 3600\n@ IN SOA VENERA Action\\.domains (\n 20 ; SERIAL\n 7200 600 3600000 60 )\n NS A.ISI.EDU.\n MX 10 VENERA\nVENERA A 10.1.0.52\n 5 AAAA 2001:db8::1\n$ORIGIN sub\nalias CNAME @\nback 1 IN PTR venera.example.\nnote TXT \"a \\\"b\\\" c\" plain \\100\\;\n";
-
-const PRINTED: &str =
-    "$ORIGIN example.\nexample. 3600 IN SOA venera.example. action\\.domains.example. 20 7200 600 3600000 60\nexample. 3600 IN NS a.isi.edu.\nexample. 3600 IN MX 10 venera.example.\nvenera.example. 3600 IN A 10.1.0.52\nvenera.example. 5 IN AAAA 2001:db8:0:0:0:0:0:1\nalias.sub.example. 3600 IN CNAME sub.example.\nback.sub.example. 1 IN PTR venera.example.\nnote.sub.example. 3600 IN TXT \"a \\\"b\\\" c\" \"plain\" \"d;\"\n";
-
-const FAULTY: &str = "$ORIGIN a.b\n@ 1 TXT x \"y\" z\n 2 MX 5 c.d\n 3 SOA e f 1 2 3 4 x\n";
+// Texts, and what they are printed as or refused by.
+const READ: &[(&str, Result<&str, FileError>)] = &[
+    // Of every type.
+    (
+        "$TTL 3600\n@ IN SOA VENERA Action\\.domains (\n 20 ; SERIAL\n 7200 600 3600000 60 )\n NS A.ISI.EDU.\n MX 10 VENERA\nVENERA A 10.1.0.52\n 5 AAAA 2001:db8::1\n$ORIGIN sub\nalias CNAME @\nback 1 IN PTR venera.example.\nnote TXT \"a \\\"b\\\" c\" plain \\100\\;\n",
+        Ok(
+            "$ORIGIN example.\nexample. 3600 IN SOA venera.example. action\\.domains.example. 20 7200 600 3600000 60\nexample. 3600 IN NS a.isi.edu.\nexample. 3600 IN MX 10 venera.example.\nvenera.example. 3600 IN A 10.1.0.52\nvenera.example. 5 IN AAAA 2001:db8:0:0:0:0:0:1\nalias.sub.example. 3600 IN CNAME sub.example.\nback.sub.example. 1 IN PTR venera.example.\nnote.sub.example. 3600 IN TXT \"a \\\"b\\\" c\" \"plain\" \"d;\"\n",
+        ),
+    ),
+    // A faulty one that takes memory before its fault.
+    (
+        "$ORIGIN a.b\n@ 1 TXT x \"y\" z\n 2 MX 5 c.d\n 3 SOA e f 1 2 3 4 x\n",
+        Err(FileError {
+            line: 4,
+            kind: BadData,
+        }),
+    ),
+];
 
 // Whether a text under the origin `example.` is read and printed as `wanted`, or is refused by that fault; `None` where
 // memory lacks.
@@ -165,21 +199,17 @@ fn comes_to<A: Heap>(alloc: A, text: &str, wanted: Result<&str, FileError>) -> O
 // With any one growth refused memory lacks; with none refused a text comes to what it stands for.
 #[test]
 fn refuses_each_growth_in_turn(rt: HostRuntime) -> Result<(), Fail> {
-    let faulty = FileError {
-        line: 4,
-        kind: BadData,
-    };
-    for (text, wanted) in [(ZONE, Ok(PRINTED)), (FAULTY, Err(faulty))] {
+    for (text, wanted) in READ {
         let heap = Refusing::new(rt.alloc());
-        assert!(rt; comes_to(&heap, text, wanted) == Some(true));
+        assert!(rt; comes_to(&heap, *text, *wanted) == Some(true));
         let growths = heap.growths();
         assert!(rt; growths > 0);
         for n in 0..growths {
             heap.refuse_after(n);
-            assert!(rt; comes_to(&heap, text, wanted).is_none(), "growth {n}");
+            assert!(rt; comes_to(&heap, *text, *wanted).is_none(), "growth {n}");
         }
         heap.refuse_after(growths);
-        assert!(rt; comes_to(&heap, text, wanted) == Some(true));
+        assert!(rt; comes_to(&heap, *text, *wanted) == Some(true));
     }
     Ok(())
 }
