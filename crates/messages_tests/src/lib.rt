@@ -6,4 +6,6 @@ mod front_tests;
 #[cfg(test)]
 mod lines_tests;
 #[cfg(test)]
+mod records;
+#[cfg(test)]
 mod wire_tests;

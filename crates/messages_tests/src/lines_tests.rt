@@ -1,22 +1,36 @@
 //! Lines of replies, by examples.
-ghost use Rattle.std.specs.Prelude.{◌<◌};
-
+use crate::records::put;
 use causes::Cause;
-use dname::Name;
+use dname::Starved;
 use lines::put_reply;
-use rdata::{Addr, RData, Record, Records};
+use rdata::{Addr, RData, Records};
 use std::alloc::Global;
 use std::test::Fail;
 use wire::{Header, Message, Questions};
 
-fn name(alloc: Global, text: &str) -> Result<Name, Fail> {
-    Ok(Name::from_text(alloc, text).ok().ok_or("no name")?)
+// A section with one address of that owner; an empty one where there is no owner.
+fn section(alloc: Global, owner: Option<&str>) -> Result<Records, Starved> {
+    let mut records = Records::new(alloc);
+    if let Some(owner) = owner {
+        let address = RData::A(Addr([192, 0, 2, 1]));
+        put(alloc, &mut records, owner, 5, address)?;
+    }
+    Ok(records)
 }
 
-fn reply(alloc: Global, aa: bool, tc: bool, rcode: u8) -> Message
-    requires { rcode < 16 }
-{
-    Message {
+// What a head says: the client, AA, TC, the RCODE and the cause.
+type Head = (u64, bool, bool, u8, Option<Cause>);
+
+// Appends the lines of a reply with that head, whose RCODE has four bits, and with addresses of these owners in its
+// answer, authority and additional section.
+fn put_lines(
+    out: &mut String,
+    alloc: Global,
+    head: Head,
+    owners: [Option<&str>; 3],
+) -> Result<(), Starved> {
+    let (client, aa, tc, rcode, cause) = head;
+    let message = Message {
         header: Header {
             id: 1,
             qr: true,
@@ -26,58 +40,40 @@ fn reply(alloc: Global, aa: bool, tc: bool, rcode: u8) -> Message
             rd: false,
             ra: true,
             z: 0,
-            rcode,
+            rcode: rcode.min(15),
         },
         questions: Questions::new(alloc),
-        answer: Records::new(alloc),
-        authority: Records::new(alloc),
-        additional: Records::new(alloc),
-    }
-}
-
-fn address(alloc: Global, owner: &str) -> Result<Record, Fail> {
-    let owner = name(alloc, owner)?;
-    Ok(Record {
-        owner,
-        ttl: 5,
-        value: RData::A(Addr([192, 0, 2, 1])),
-    })
+        answer: section(alloc, owners[0])?,
+        authority: section(alloc, owners[1])?,
+        additional: section(alloc, owners[2])?,
+    };
+    put_reply(out, client, &message, cause)
 }
 
 #[test]
-fn records_stand_in_their_sections(rt: HostRuntime) -> Result<(), Fail> {
-    let alloc = rt.alloc();
-    let mut message = reply(alloc, true, false, 3);
-    message.additional.push(address(alloc, "c")?)?;
-    message.answer.push(address(alloc, "a")?)?;
-    message.authority.push(address(alloc, "b")?)?;
-    let mut out = String::new(alloc);
-    put_reply(&mut out, 1, &message, None)?;
-    assert_eq!(rt;
-        out.as_str(),
-        "reply 1 NXDOMAIN aa\n  an a. 5 A 192.0.2.1\n  ns b. 5 A 192.0.2.1\n  ar c. 5 A 192.0.2.1\n"
-    );
-    Ok(())
-}
-
-#[test]
-fn heads_name_rcode_flags_and_cause(rt: HostRuntime) -> Result<(), Fail> {
-    let alloc = rt.alloc();
-    let mut out = String::new(alloc);
-    put_reply(&mut out, 7, &reply(alloc, true, true, 0), None)?;
-    put_reply(
+fn replies_are_printed(rt: HostRuntime) -> Result<(), Fail> {
+    let mut out = String::new(rt.alloc());
+    // Records stand in their sections.
+    put_lines(
         &mut out,
-        18446744073709551615,
-        &reply(alloc, false, false, 2),
-        Some(Cause::NoServer),
+        rt.alloc(),
+        (1, true, false, 3, None),
+        [Some("a"), Some("b"), Some("c")],
     )?;
-    put_reply(&mut out, 2, &reply(alloc, false, false, 5), None)?;
-    put_reply(&mut out, 3, &reply(alloc, false, false, 1), None)?;
-    put_reply(&mut out, 4, &reply(alloc, false, false, 4), None)?;
-    put_reply(&mut out, 5, &reply(alloc, false, false, 15), None)?;
+    // Heads name RCODE, flags and cause.
+    for head in [
+        (7, true, true, 0, None),
+        (18446744073709551615, false, false, 2, Some(Cause::NoServer)),
+        (2, false, false, 5, None),
+        (3, false, false, 1, None),
+        (4, false, false, 4, None),
+        (5, false, false, 15, None),
+    ] {
+        put_lines(&mut out, rt.alloc(), head, [None; 3])?;
+    }
     assert_eq!(rt;
         out.as_str(),
-        "reply 7 NOERROR aa tc\nreply 18446744073709551615 SERVFAIL cause 5\nreply 2 REFUSED\nreply 3 FORMERR\nreply 4 NOTIMP\nreply 5 15\n"
+        "reply 1 NXDOMAIN aa\n  an a. 5 A 192.0.2.1\n  ns b. 5 A 192.0.2.1\n  ar c. 5 A 192.0.2.1\nreply 7 NOERROR aa tc\nreply 18446744073709551615 SERVFAIL cause 5\nreply 2 REFUSED\nreply 3 FORMERR\nreply 4 NOTIMP\nreply 5 15\n"
     );
     Ok(())
 }

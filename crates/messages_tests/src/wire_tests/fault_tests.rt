@@ -1,13 +1,33 @@
+use crate::wire_tests::{QUERY, REPLY};
 use dname::{Heap, Starved};
+use refusing::Refusing;
 use std::test::Fail;
-use wire::{Message, WireError, decode};
+use wire::decode;
 
-// The number of the refusal; 0 of a message.
-fn refusal<A: Heap>(alloc: A, bytes: &[u8]) -> u8 {
-    match decode(alloc, bytes) {
-        Ok(_) => 0,
-        Err(error) => error.number(),
+// The number of the refusal of a message, given in three parts; 0 of one that is read.
+fn refusal<A: Heap>(alloc: A, header: &[u8], front: &[u8], rest: &[u8]) -> Result<u8, Starved> {
+    let mut bytes = Vec::from_slice(alloc, header)?;
+    bytes.extend_from_slice(front)?;
+    bytes.extend_from_slice(rest)?;
+    match decode(alloc, &bytes) {
+        Ok(_) => Ok(0),
+        Err(error) => Ok(error.number()),
     }
+}
+
+// The fronts are refused as short, and one byte more as trailing.
+#[test]
+fn each_front_of_a_message_is_short(rt: HostRuntime) -> Result<(), Fail> {
+    for bytes in [QUERY, REPLY] {
+        for size in 0..bytes.len() {
+            assert!(rt;
+                refusal(rt.alloc(), &bytes[..size], b"", b"")? == 1,
+                "{size} bytes"
+            );
+        }
+        assert!(rt; refusal(rt.alloc(), bytes, b"\0", b"")? == 7, "a byte more");
+    }
+    Ok(())
 }
 
 // The bytes of a question, and how a message of ID 1 with that question alone is refused.
@@ -35,29 +55,34 @@ const QUESTIONS: &[(&[u8], u8)] = &[
     (b"\0\0\x01\0\x01\0", 7),
     (b"\0\0\x01\0\x01", 0),
     (b"\0\xff\xff\xff\xff", 0),
+    // RFC 1035, section 2.3.4: 255 bytes at most. Three labels of 63 bytes, and then one of 61, or of 62.
+    (
+        b"\x3faaaaaaaaaaaaaaaaaaaaaaaaaaaaaaaaaaaaaaaaaaaaaaaaaaaaaaaaaaaaaaa\
+          \x3faaaaaaaaaaaaaaaaaaaaaaaaaaaaaaaaaaaaaaaaaaaaaaaaaaaaaaaaaaaaaaa\
+          \x3faaaaaaaaaaaaaaaaaaaaaaaaaaaaaaaaaaaaaaaaaaaaaaaaaaaaaaaaaaaaaaa\
+          \x3daaaaaaaaaaaaaaaaaaaaaaaaaaaaaaaaaaaaaaaaaaaaaaaaaaaaaaaaaaaaa\0\0\x01\0\x01",
+        0,
+    ),
+    (
+        b"\x3faaaaaaaaaaaaaaaaaaaaaaaaaaaaaaaaaaaaaaaaaaaaaaaaaaaaaaaaaaaaaaa\
+          \x3faaaaaaaaaaaaaaaaaaaaaaaaaaaaaaaaaaaaaaaaaaaaaaaaaaaaaaaaaaaaaaa\
+          \x3faaaaaaaaaaaaaaaaaaaaaaaaaaaaaaaaaaaaaaaaaaaaaaaaaaaaaaaaaaaaaaa\
+          \x3eaaaaaaaaaaaaaaaaaaaaaaaaaaaaaaaaaaaaaaaaaaaaaaaaaaaaaaaaaaaaaa\0\0\x01\0\x01",
+        4,
+    ),
 ];
-
-fn with_question<A: Heap>(alloc: A, question: &[u8]) -> Result<Vec<u8, A>, Starved> {
-    let mut bytes = Vec::from_slice(alloc, b"\0\x01\0\0\0\x01\0\0\0\0\0\0")?;
-    bytes.extend_from_slice(question)?;
-    Ok(bytes)
-}
-
-// The first question of which something else comes.
-fn first_wrong_question<A: Heap>(alloc: A) -> Result<Option<usize>, Starved> {
-    for (place, row) in QUESTIONS.iter().enumerate() {
-        let (question, number) = *row;
-        let bytes = with_question(alloc, question)?;
-        if refusal(alloc, &bytes) != number {
-            return Ok(Some(place));
-        }
-    }
-    Ok(None)
-}
 
 #[test]
 fn names_of_questions(rt: HostRuntime) -> Result<(), Fail> {
-    assert_eq!(rt; first_wrong_question(rt.alloc())?, None);
+    let header = b"\0\x01\0\0\0\x01\0\0\0\0\0\0".as_slice();
+    let mut first_wrong = None;
+    for (place, row) in QUESTIONS.iter().enumerate() {
+        let (question, number) = *row;
+        if refusal(rt.alloc(), header, question, b"")? != number {
+            first_wrong = first_wrong.or(Some(place));
+        }
+    }
+    assert_eq!(rt; first_wrong, None);
     Ok(())
 }
 
@@ -113,95 +138,68 @@ const DATA: &[(u8, &[u8], u8)] = &[
     (99, b"\0", 0),
 ];
 
-fn with_answer<A: Heap>(alloc: A, kind: u8, rdata: &[u8]) -> Result<Vec<u8, A>, Starved> {
-    let mut bytes = Vec::from_slice(alloc, b"\x3f\x01\x80\0\0\0\0\x01\0\0\0\0\0\0")?;
-    bytes.push(kind)?;
-    bytes.extend_from_slice(b"\0\x01\0\0\0\x01\0")?;
-    bytes.extend_from_slice(rdata)?;
-    Ok(bytes)
-}
-
-// The first data of which something else comes.
-fn first_wrong_data<A: Heap>(alloc: A) -> Result<Option<usize>, Starved> {
-    for (place, row) in DATA.iter().enumerate() {
-        let (kind, rdata, number) = *row;
-        let bytes = with_answer(alloc, kind, rdata)?;
-        if refusal(alloc, &bytes) != number {
-            return Ok(Some(place));
-        }
-    }
-    Ok(None)
-}
-
 #[test]
 fn data_of_each_type(rt: HostRuntime) -> Result<(), Fail> {
-    assert_eq!(rt; first_wrong_data(rt.alloc())?, None);
-    Ok(())
-}
-
-fn put_label<A: Heap>(bytes: &mut Vec<u8, A>, size: u8) -> Result<(), Starved> {
-    bytes.push(size)?;
-    for _ in 0..size {
-        bytes.push(b'a')?;
+    let header = b"\x3f\x01\x80\0\0\0\0\x01\0\0\0\0".as_slice();
+    let mut first_wrong = None;
+    for (place, row) in DATA.iter().enumerate() {
+        let (kind, rdata, number) = *row;
+        // Owner, type, class, TTL, and the high byte of the length.
+        let front = [0, 0, kind, 0, 1, 0, 0, 0, 1, 0];
+        if refusal(rt.alloc(), header, &front, rdata)? != number {
+            first_wrong = first_wrong.or(Some(place));
+        }
     }
+    assert_eq!(rt; first_wrong, None);
     Ok(())
 }
 
-// How a question is refused whose name has three labels of 63 bytes and then one of so many.
-fn refusal_of_long<A: Heap>(alloc: A, last: u8) -> Result<u8, Starved> {
-    let mut bytes = with_question(alloc, b"")?;
-    put_label(&mut bytes, 63)?;
-    put_label(&mut bytes, 63)?;
-    put_label(&mut bytes, 63)?;
-    put_label(&mut bytes, last)?;
-    bytes.extend_from_slice(b"\0\0\x01\0\x01")?;
-    Ok(refusal(alloc, &bytes))
-}
-
-// RFC 1035, section 2.3.4: 255 bytes at most.
-#[test]
-fn the_longest_name(rt: HostRuntime) -> Result<(), Fail> {
-    assert_eq!(rt; refusal_of_long(rt.alloc(), 61)?, 0);
-    assert_eq!(rt; refusal_of_long(rt.alloc(), 62)?, 4);
-    Ok(())
-}
-
-// The TTL of the first answer, and how many there are.
-fn ttl_and_count<A: Heap>(m: &Message<A>) -> (Option<u32>, usize) {
-    match m.answer.as_slice() {
-        [first, ..] => (Some(first.ttl), m.answer.len()),
-        [] => (None, 0),
+// The number of the refusal; of a message 0, the TTL of its first answer, and how many answers there are.
+fn read<A: Heap>(alloc: A, bytes: &[u8]) -> (u8, Option<u32>, usize) {
+    match decode(alloc, bytes) {
+        Ok(m) => match m.answer.as_slice() {
+            [first, ..] => (0, Some(first.ttl), m.answer.len()),
+            [] => (0, None, 0),
+        },
+        Err(error) => (error.number(), None, 0),
     }
 }
 
-fn read<A: Heap>(alloc: A, bytes: &[u8]) -> Result<(Option<u32>, usize), WireError> {
-    let m = decode(alloc, bytes)?;
-    Ok(ttl_and_count(&m))
-}
-
-// Class CH.
-const CHAOS: &[u8] = b"\0\x01\x80\0\0\0\0\x01\0\0\0\0\0\0\x01\0\x03\0\0\0\x01\0\x01a";
-
-// Of a type that is not served, with a bad name for its owner.
-const BROKEN: &[u8] = b"\0\x01\x80\0\0\0\0\x01\0\0\0\0\x40\0\x63\0\x01\0\0\0\x01\0\0";
-
-const OLD: &[u8] = b"\0\x01\x80\0\0\0\0\x01\0\0\0\0\0\0\x01\0\x01\x80\0\0\x01\0\x04abcd";
-
-// One record of the two that the header tells of.
-const PROMISED: &[u8] = b"\0\x01\x80\0\0\0\0\x02\0\0\0\0\0\0\x01\0\x01\0\0\0\x01\0\x04abcd";
-
-// A record of another class or type is skipped, but its owner is read.
+// A record of another class or type is skipped, and takes no memory, but its owner is read.
 #[test]
-fn what_is_skipped(rt: HostRuntime) -> Result<(), Fail> {
-    assert!(rt; matches!(read(rt.alloc(), CHAOS), Ok((None, 0))));
-    assert_eq!(rt; refusal(rt.alloc(), BROKEN), 2);
-    assert_eq!(rt; refusal(rt.alloc(), PROMISED), 1);
-    Ok(())
-}
-
-// RFC 2181, section 8: a TTL with its top bit set is 0.
-#[test]
-fn a_ttl_of_over_31_bits_is_zero(rt: HostRuntime) -> Result<(), Fail> {
-    assert!(rt; matches!(read(rt.alloc(), OLD), Ok((Some(0), 1))));
+fn records_are_skipped_or_read(rt: HostRuntime) -> Result<(), Fail> {
+    // Two records of a type that is not served: one owner in full, one by a pointer to it.
+    let skipped =
+        b"\0\x01\x80\0\0\0\0\x02\0\0\0\0\x01a\x07example\0\0\x63\0\x01\0\0\0\x01\0\x01x\xc0\x0c\0\x63\0\x01\0\0\0\x01\0\0";
+    let heap = Refusing::new(rt.alloc());
+    assert!(rt; read(&heap, skipped) == (0, None, 0));
+    assert_eq!(rt; heap.growths(), 0);
+    for (place, (bytes, outcome)) in [
+        // Class CH.
+        (
+            b"\0\x01\x80\0\0\0\0\x01\0\0\0\0\0\0\x01\0\x03\0\0\0\x01\0\x01a".as_slice(),
+            (0, None, 0),
+        ),
+        // Of a type that is not served, with a bad name for its owner.
+        (
+            b"\0\x01\x80\0\0\0\0\x01\0\0\0\0\x40\0\x63\0\x01\0\0\0\x01\0\0",
+            (2, None, 0),
+        ),
+        // One record of the two that the header tells of.
+        (
+            b"\0\x01\x80\0\0\0\0\x02\0\0\0\0\0\0\x01\0\x01\0\0\0\x01\0\x04abcd",
+            (1, None, 0),
+        ),
+        // RFC 2181, section 8: a TTL with its top bit set is 0.
+        (
+            b"\0\x01\x80\0\0\0\0\x01\0\0\0\0\0\0\x01\0\x01\x80\0\0\x01\0\x04abcd",
+            (0, Some(0), 1),
+        ),
+    ]
+    .into_iter()
+    .enumerate()
+    {
+        assert!(rt; read(rt.alloc(), bytes) == outcome, "message {place}");
+    }
     Ok(())
 }
