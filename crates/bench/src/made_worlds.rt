@@ -1,5 +1,5 @@
 //! A world of so many zones, read from its text, built and held to its rules.
-use crate::work::{Counted, Done};
+use crate::done::{Done, finish};
 use anyhow::Result;
 use script::{WorldFault, read_world};
 use std::alloc::Global;
@@ -49,12 +49,7 @@ fn checked(alloc: Global, text: &str) -> Result<u64, WorldFault> {
 pub fn check<R: Runtime + AllocGlobal>(rt: &R, rounds: u64) -> Result<Done> {
     let alloc = rt.alloc();
     let text = text(alloc, rounds)?;
-    let start = Instant::now(rt)?;
+    let start = Instant::now(rt);
     let sum = checked(alloc, text.as_str())?;
-    let taken = start.elapsed(rt)?;
-    Ok(Done {
-        sum,
-        taken,
-        counted: Counted::Nothing,
-    })
+    finish(rt, start, Ok(sum))
 }

@@ -11,7 +11,10 @@
 //! ```
 #![tactic(auto)]
 
+ghost use Rattle.std.specs.Prelude.{◌<◌};
+
 mod answers;
+mod done;
 mod links;
 mod made_worlds;
 mod messages;
@@ -19,11 +22,11 @@ mod names;
 mod open_asks;
 mod resident;
 mod steps;
-mod sums;
 mod work;
 mod zones;
 
-use crate::work::{ALL, Counted, ON_STEPS, Work};
+use crate::done::{Counted, Done};
+use crate::work::{ALL, ON_STEPS, Work};
 use anyhow::{Result, ensure};
 use std::env;
 use std::io::Write;
@@ -34,34 +37,42 @@ fn main(rt: HostRuntime) -> Result<()> {
         .skip(1)
         .next()
         .is_some_and(|word| word.as_str() == "measure");
-    for work in ALL {
-        if measures {
-            measure(&rt, work)?;
-        } else {
-            sample(&rt, work)?;
-        }
-    }
-    for work in messages::EACH {
-        println!(rt; "{work}: {} growths of memory", work.growths(&rt)?)?;
-    }
-    for known in answers::EACH {
-        println!(rt;
-            "{known}: {} growths of memory",
-            answers::growths(&rt, known)?
-        )?;
-    }
     if measures {
-        for [one, many] in ON_STEPS {
-            compare(&rt, one, many)?;
-        }
+        measure_all(&rt)
+    } else {
+        sample_all(&rt)
+    }
+}
+
+// Each a few times: the sum of what came out.
+fn sample_all<R: Runtime + AllocGlobal>(rt: &R) -> Result<()> {
+    for work in ALL {
+        let sum = work.run(rt, 3)?.sum;
+        println!(rt; "{work}: {sum}")?;
+    }
+    count_growths(rt)
+}
+
+fn measure_all<R: Runtime + AllocGlobal>(rt: &R) -> Result<()> {
+    for work in ALL {
+        measure(rt, work)?;
+    }
+    count_growths(rt)?;
+    for [one, many] in ON_STEPS {
+        compare(rt, one, many)?;
     }
     Ok(())
 }
 
-// A few times: the sum of what came out.
-fn sample<R: Runtime + AllocGlobal>(rt: &R, work: Work) -> Result<()> {
-    let done = work.run(rt, 3)?;
-    println!(rt; "{work}: {}", done.sum)?;
+fn count_growths<R: Runtime + AllocGlobal>(rt: &R) -> Result<()> {
+    for work in messages::EACH {
+        let growths = work.growths(rt)?;
+        println!(rt; "{work}: {growths} growths of memory")?;
+    }
+    for known in answers::EACH {
+        let growths = known.growths(rt)?;
+        println!(rt; "{known}: {growths} growths of memory")?;
+    }
     Ok(())
 }
 
@@ -72,6 +83,15 @@ fn measure<R: Runtime + AllocGlobal>(rt: &R, work: Work) -> Result<()> {
     let each = done.taken.as_nanos() / u128::from(rounds);
     let often = 1_000_000_000 / each.max(1);
     print!(rt; "{work}: {each} ns, {often} a second")?;
+    print_counted(rt, done, rounds)?;
+    println!(rt; " (sum {})", done.sum)?;
+    Ok(())
+}
+
+// What was counted in so many rounds, beside the time.
+fn print_counted<R: Runtime>(rt: &R, done: Done, rounds: u64) -> Result<()>
+    requires { 0 < rounds }
+{
     match done.counted {
         Counted::Nothing => {}
         Counted::Text(bytes) => {
@@ -86,12 +106,8 @@ fn measure<R: Runtime + AllocGlobal>(rt: &R, work: Work) -> Result<()> {
             print!(rt; ", {zone} bytes of memory each, {list} of them as a list")?;
         }
     }
-    println!(rt; " (sum {})", done.sum)?;
     Ok(())
 }
-
-// How much of the time that a step takes with one query open it may take with 1,024, in percent.
-const MOST: u128 = 150;
 
 // The shortest of five times, in nanoseconds, since the machine has other work.
 fn shortest<R: Runtime + AllocGlobal>(rt: &R, work: Work) -> Result<u128> {
@@ -103,11 +119,11 @@ fn shortest<R: Runtime + AllocGlobal>(rt: &R, work: Work) -> Result<u128> {
     Ok(shortest)
 }
 
-// The time of a step with many queries open as a part of that with one.
+// The time of a step with many queries open as a part of that with one: at most 150 percent.
 fn compare<R: Runtime + AllocGlobal>(rt: &R, one: Work, many: Work) -> Result<()> {
     let alone = shortest(rt, one)?.max(1);
     let percent = shortest(rt, many)?.saturating_mul(100) / alone;
     println!(rt; "{many}: {percent} % of the time among 1")?;
-    ensure!(percent <= MOST, "{many}: over {MOST} % of the time among 1");
+    ensure!(percent <= 150, "{many}: over 150 % of the time among 1");
     Ok(())
 }

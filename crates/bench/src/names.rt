@@ -1,8 +1,8 @@
 //! Work on names and records.
 ghost use Rattle.std.specs.Prelude.{◌<◌};
 
-use crate::sums::low;
-use dname::{Name, NameError};
+use crate::done::low;
+use dname::{Heap, Name, NameError, Starved};
 use rdata::{Addr, RData, RType, Record, Records, set_at};
 use std::alloc::Global;
 use std::cmp::Ordering;
@@ -59,6 +59,25 @@ impl OnNames {
 }
 
 const TEXT: &str = "www77.sub.example.com.";
+
+/// The name of that text, which is one, so that only memory can be refused.
+pub fn name<A: Heap>(alloc: A, text: &str) -> Result<Name<A>, Starved> {
+    Name::from_text(alloc, text).map_err(|_| Starved)
+}
+
+/// So many addresses of a name; of a hundred, two are the same.
+pub fn addresses<A: Heap>(alloc: A, owner: &Name<A>, count: u8) -> Result<Records<A>, Starved> {
+    let mut records = Records::new(alloc);
+    for last in 0..count {
+        let owner = owner.clone()?;
+        records.push(Record {
+            owner,
+            ttl: 300,
+            value: RData::A(Addr([192, 0, 2, last % 99])),
+        })?;
+    }
+    Ok(records)
+}
 
 fn read(alloc: Global, rounds: u64) -> Result<u64, NameError> {
     let mut sum = 0u64;
@@ -117,22 +136,9 @@ fn test_under(alloc: Global, rounds: u64) -> Result<u64, NameError> {
     Ok(under)
 }
 
-// A hundred addresses, two of them the same.
-fn addresses(alloc: Global) -> Result<Records, NameError> {
-    let mut records = Records::new(alloc);
-    for last in 0..100u8 {
-        records.push(Record {
-            owner: Name::from_text(alloc, TEXT)?,
-            ttl: 300,
-            value: RData::A(Addr([192, 0, 2, last % 99])),
-        })?;
-    }
-    Ok(records)
-}
-
 fn make_set(alloc: Global, rounds: u64) -> Result<u64, NameError> {
-    let records = addresses(alloc)?;
-    let owner = Name::from_text(alloc, TEXT)?;
+    let owner = name(alloc, TEXT)?;
+    let records = addresses(alloc, &owner, 100)?;
     let mut sum = 0u64;
     for _ in 0..rounds {
         if let Some(set) = set_at(alloc, records.as_slice(), &owner, RType::A)? {

@@ -1,5 +1,5 @@
 //! Work on open asks: what finds a datagram's query, and the query that is due first.
-use crate::work::{Done, plain, taken};
+use crate::done::{Done, finish};
 use anyhow::Result;
 use asks::{Asks, UdpAsk};
 use dname::{Heap, Starved};
@@ -49,7 +49,7 @@ pub fn find<R: Runtime + AllocGlobal>(rt: &R, count: u16, rounds: u64) -> Result
     let asks = opened(rt.alloc(), count)?;
     let start = Instant::now(rt);
     let sum = find_all(&asks, count, rounds);
-    let taken = taken(rt, start);
+    let done = finish(rt, start, Ok(sum));
     drop(asks);
-    Ok(plain(sum, taken?))
+    done
 }

@@ -1,40 +1,47 @@
-//! Steps of a resolver with so many queries open.
-use crate::work::{Done, plain, taken};
+//! Steps of a resolver: of one with so many queries open, and of one that knows the answer.
+use crate::answers::Known;
+use crate::done::{Done, finish, low};
 use anyhow::Result;
 use dname::{Heap, Starved};
 use engine::{Config, Core, Settings};
 use exchange::{Action, Actions, Bytes, Endpoint, Event};
 use rdata::Addr;
+use std::fmt;
 use std::rt::Runtime;
 use std::time::Instant;
 use wire::{TCP_LIMIT, Via};
 use zone::Zone;
 
-const SETTINGS: Settings = Settings {
-    cache: 1_024,
-    delegations: 1_024,
-    penalties: 1_024,
-    failures: 1_024,
-    sockets: 16,
-    port: 53,
-    seed: [7; 32],
-};
+/// A kind of step.
+#[derive(Clone, Copy)]
+pub enum OnSteps {
+    /// A datagram of a server that was not asked, while so many queries are open: it is passed over.
+    Pass(u16),
+    /// A client's query and the datagram that answers it, two steps, so that so many queries are open between the two.
+    Answer(u16),
+    /// A client's query whose answer is known.
+    Serve(Known),
+}
 
-/// The server of the root.
-pub const ROOT: Addr = Addr([192, 0, 2, 1]);
+impl fmt::Display for OnSteps {
+    fn fmt<W: fmt::Write>(&self, f: &mut fmt::Formatter<W>) -> fmt::Result {
+        match self {
+            OnSteps::Pass(open) => write!(f, "datagram passed over among {open}"),
+            OnSteps::Answer(open) => write!(f, "query answered among {open}"),
+            OnSteps::Serve(known) => write!(f, "{known}"),
+        }
+    }
+}
 
-// An address that no ask went to.
-const STRANGER: Addr = Addr([192, 0, 2, 2]);
+// The server of the root.
+const ROOT: Addr = Addr([192, 0, 2, 1]);
 
-// A client's query for www.example. A with RD.
-const QUERY: &[u8] = b"\0\x05\x01\0\0\x01\0\0\0\0\0\0\x03www\x07example\0\0\x01\0\x01";
-
-// A server's reply to it behind its ID: an address that is not kept, its TTL being 0.
+// A server's reply to the query behind its ID: an address that is not kept, its TTL being 0.
 const REPLY: &[u8] =
     b"\x84\0\0\x01\0\x01\0\0\0\0\x03www\x07example\0\0\x01\0\x01\xc0\x0c\0\x01\0\x01\0\0\0\0\0\x04\xc0\0\x02\x09";
 
-/// A message of that ID and rest.
-pub fn message<A: Heap>(alloc: A, id: &[u8], rest: &[u8]) -> Result<Bytes<A>, Starved> {
+// A message of that ID and rest.
+fn message<A: Heap>(alloc: A, id: &[u8], rest: &[u8]) -> Result<Bytes<A>, Starved> {
     let mut bytes = Vec::from_slice(alloc, id)?;
     bytes.extend_from_slice(rest)?;
     if bytes.len() > TCP_LIMIT {
@@ -43,17 +50,24 @@ pub fn message<A: Heap>(alloc: A, id: &[u8], rest: &[u8]) -> Result<Bytes<A>, St
     Ok(Bytes::new(bytes))
 }
 
-/// A client's query for www.example. A.
+/// A client's query for www.example. A with RD.
 pub fn query<A: Heap>(alloc: A) -> Result<Event<A>, Starved> {
+    let rest = b"\x01\0\0\x01\0\0\0\0\0\0\x03www\x07example\0\0\x01\0\x01";
     Ok(Event::Client {
         moment: 0,
         client: 1,
         way: Via::Udp,
-        bytes: message(alloc, &[], QUERY)?,
+        bytes: message(alloc, &[0, 5], rest)?,
     })
 }
 
-fn datagram<A: Heap>(alloc: A, socket: u16, from: Addr, id: &[u8]) -> Result<Event<A>, Starved> {
+// A datagram that comes to a socket from a server: its ID, and the rest.
+fn datagram<A: Heap>(
+    alloc: A,
+    (socket, id): Sent,
+    from: Addr,
+    rest: &[u8],
+) -> Result<Event<A>, Starved> {
     Ok(Event::Datagram {
         moment: 0,
         socket,
@@ -61,7 +75,7 @@ fn datagram<A: Heap>(alloc: A, socket: u16, from: Addr, id: &[u8]) -> Result<Eve
             address: from,
             port: 53,
         },
-        bytes: message(alloc, id, REPLY)?,
+        bytes: message(alloc, &id, rest)?,
     })
 }
 
@@ -70,42 +84,45 @@ pub fn core<A: Heap>(alloc: A, local: Vec<Zone<A>, A>) -> Result<Core<A>, Starve
     let config = Config {
         local,
         hints: Vec::from_slice(alloc, &[ROOT])?,
-        settings: SETTINGS,
+        settings: Settings {
+            cache: 1_024,
+            delegations: 1_024,
+            penalties: 1_024,
+            failures: 1_024,
+            sockets: 16,
+            port: 53,
+            seed: [7; 32],
+        },
     };
-    match Core::new(alloc, config) {
-        Ok(core) => Ok(core),
-        Err(_) => Err(Starved),
+    Core::new(alloc, config).map_err(|_| Starved)
+}
+
+/// What came of a step: the size of a reply, in bytes, and 1 where nothing goes out.
+pub fn weight<A: Heap>(actions: &Actions<A>) -> u64 {
+    match &actions.first {
+        Some(Action::Reply { bytes, .. }) => low(bytes.as_slice().len()),
+        Some(_) => 0,
+        None => 1,
     }
 }
 
-// As many of these queries come.
-fn open_all<A: Heap>(core: &mut Core<A>, query: &Event<A>, open: u16) -> Result<(), Starved> {
-    for _ in 0..open {
-        core.step(query)?;
-    }
-    Ok(())
-}
-
-// A resolver with so many open queries.
-fn with_open<A: Heap>(alloc: A, open: u16) -> Result<Core<A>, Starved> {
-    let query = query(alloc)?;
-    let mut core = core(alloc, Vec::new(alloc))?;
-    open_all(&mut core, &query, open)?;
-    Ok(core)
-}
-
-// Whether a datagram is passed over.
-fn is_passed<A: Heap>(core: &mut Core<A>, datagram: &Event<A>) -> Result<bool, Starved> {
-    Ok(core.step(datagram)?.first.is_none())
-}
-
-// How many of these datagrams are passed over.
-fn pass_all<A: Heap>(core: &mut Core<A>, datagram: &Event<A>, rounds: u64) -> Result<u64, Starved> {
+/// An event that comes so often.
+pub fn step_all<A: Heap>(
+    core: &mut Core<A>,
+    event: &Event<A>,
+    rounds: u64,
+) -> Result<u64, Starved> {
     let mut sum = 0u64;
     for _ in 0..rounds {
-        sum = sum.wrapping_add(u64::from(is_passed(core, datagram)?));
+        sum = sum.wrapping_add(weight(&core.step(event)?));
     }
     Ok(sum)
+}
+
+// A datagram of a server that was not asked, so often.
+fn pass_all<A: Heap>(alloc: A, core: &mut Core<A>, rounds: u64) -> Result<u64, Starved> {
+    let foreign = datagram(alloc, (0, [0, 1]), Addr([192, 0, 2, 2]), REPLY)?;
+    step_all(core, &foreign, rounds)
 }
 
 /// The socket of an ask that went out in a datagram, and its ID.
@@ -127,15 +144,23 @@ pub fn ask<A: Heap>(core: &mut Core<A>, query: &Event<A>) -> Result<Sent, Starve
     sent(&actions).ok_or(Starved)
 }
 
-fn is_answer<A: Heap>(actions: &Actions<A>) -> bool {
-    matches!(actions.first, Some(Action::Reply { cause: None, .. }))
+/// What goes out for a server's reply to an ask.
+pub fn tell<A: Heap>(
+    alloc: A,
+    core: &mut Core<A>,
+    asked: Sent,
+    rest: &[u8],
+) -> Result<Actions<A>, Starved> {
+    let reply = datagram(alloc, asked, ROOT, rest)?;
+    let actions = core.step(&reply);
+    drop(reply);
+    actions
 }
 
 // Whether the reply to an ask brings the client's.
-fn is_answered<A: Heap>(alloc: A, core: &mut Core<A>, (socket, id): Sent) -> Result<bool, Starved> {
-    let reply = datagram(alloc, socket, ROOT, &id)?;
-    let actions = core.step(&reply)?;
-    Ok(is_answer(&actions))
+fn is_answered<A: Heap>(alloc: A, core: &mut Core<A>, asked: Sent) -> Result<bool, Starved> {
+    let actions = tell(alloc, core, asked, REPLY)?;
+    Ok(matches!(&actions.first, Some(Action::Reply { cause: None, .. })))
 }
 
 // How many of so many queries, one after another, are answered.
@@ -153,31 +178,55 @@ fn answer_all<A: Heap>(
     Ok(sum)
 }
 
-// A datagram of a server that was not asked.
-fn foreign<A: Heap>(alloc: A) -> Result<Event<A>, Starved> {
-    datagram(alloc, 0, STRANGER, &[0, 1])
-}
+impl OnSteps {
+    // What comes before: the query so often as makes the others open, or a reply that the cache keeps.
+    fn begin<A: Heap>(
+        self,
+        alloc: A,
+        core: &mut Core<A>,
+        query: &Event<A>,
+    ) -> Result<u64, Starved> {
+        match self {
+            OnSteps::Pass(open) => step_all(core, query, u64::from(open)),
+            OnSteps::Answer(open) => step_all(core, query, u64::from(open.saturating_sub(1))),
+            OnSteps::Serve(known) => known.learn(alloc, core, query),
+        }
+    }
 
-/// A datagram of a server that was not asked, while so many queries are open: it is passed over.
-pub fn pass<R: Runtime + AllocGlobal>(rt: &R, open: u16, rounds: u64) -> Result<Done> {
-    let foreign = foreign(rt.alloc())?;
-    let mut core = with_open(rt.alloc(), open)?;
-    let start = Instant::now(rt);
-    let sum = pass_all(&mut core, &foreign, rounds);
-    let taken = taken(rt, start);
-    drop(core);
-    drop(foreign);
-    Ok(plain(sum?, taken?))
-}
+    // The local zones: none but for the answer that is known from one.
+    fn zones<A: Heap>(self, alloc: A) -> Result<Vec<Zone<A>, A>, Starved> {
+        match self {
+            OnSteps::Serve(known) => known.zones(alloc),
+            OnSteps::Pass(_) | OnSteps::Answer(_) => Ok(Vec::new(alloc)),
+        }
+    }
 
-/// A client's query and the datagram that answers it, so that so many queries are open between the two.
-pub fn answer<R: Runtime + AllocGlobal>(rt: &R, open: u16, rounds: u64) -> Result<Done> {
-    let query = query(rt.alloc())?;
-    let mut core = with_open(rt.alloc(), open.saturating_sub(1))?;
-    let start = Instant::now(rt);
-    let sum = answer_all(rt.alloc(), &mut core, &query, rounds);
-    let taken = taken(rt, start);
-    drop(core);
-    drop(query);
-    Ok(plain(sum?, taken?))
+    // Does it so often.
+    fn times<A: Heap>(
+        self,
+        alloc: A,
+        core: &mut Core<A>,
+        query: &Event<A>,
+        rounds: u64,
+    ) -> Result<u64, Starved> {
+        match self {
+            OnSteps::Pass(_) => pass_all(alloc, core, rounds),
+            OnSteps::Answer(_) => answer_all(alloc, core, query, rounds),
+            OnSteps::Serve(_) => step_all(core, query, rounds),
+        }
+    }
+
+    /// Does it so often, and takes the time.
+    pub fn run<R: Runtime + AllocGlobal>(self, rt: &R, rounds: u64) -> Result<Done> {
+        let query = query(rt.alloc())?;
+        let mut core = core(rt.alloc(), self.zones(rt.alloc())?)?;
+        let begun = self.begin(rt.alloc(), &mut core, &query);
+        let start = Instant::now(rt);
+        let sum = self.times(rt.alloc(), &mut core, &query, rounds);
+        let done = finish(rt, start, sum);
+        drop(core);
+        drop(query);
+        begun?;
+        done
+    }
 }

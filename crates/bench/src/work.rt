@@ -1,15 +1,17 @@
 //! Which kinds of work are measured, and how each is named and done.
 ghost use Rattle.std.specs.Prelude.{◌<◌};
 
-use crate::answers::{self, Known};
+use crate::answers::Known;
+use crate::done::{Done, finish};
 use crate::links::{self, Says};
 use crate::messages::OnMessages;
 use crate::names::OnNames;
-use crate::{made_worlds, open_asks, steps, zones};
+use crate::steps::OnSteps;
+use crate::{made_worlds, open_asks, zones};
 use anyhow::Result;
+use std::fmt;
 use std::rt::Runtime;
-use std::time::{Clock, Duration, Instant};
-use std::{fmt, io};
+use std::time::Instant;
 
 /// Where a name that is looked up stands in its zone.
 #[derive(Clone, Copy)]
@@ -47,12 +49,8 @@ pub enum Work {
     /// A datagram's query found among so many open ones, and the query that is due first.
     FindAskOfOne,
     FindAskOfMany,
-    /// A step of a resolver with so many open queries, by a datagram that is for none of them.
-    PassDatagram(u16),
-    /// A client's query and the datagram that answers it, two steps, with so many queries open between them.
-    AnswerQuery(u16),
-    /// A client's query whose answer is known.
-    KnownAnswer(Known),
+    /// Steps of a resolver.
+    Steps(OnSteps),
 }
 
 pub const ALL: [Work; 42] = [
@@ -62,10 +60,10 @@ pub const ALL: [Work; 42] = [
     Work::Names(OnNames::Compare),
     Work::Names(OnNames::TestUnder),
     Work::Names(OnNames::MakeSet),
-    Work::Messages(OnMessages::DecodeReply),
-    Work::Messages(OnMessages::EncodeReply),
-    Work::Messages(OnMessages::DecodeTwenty),
-    Work::Messages(OnMessages::EncodeTwenty),
+    Work::Messages(OnMessages::Decode(1)),
+    Work::Messages(OnMessages::Encode(1)),
+    Work::Messages(OnMessages::Decode(20)),
+    Work::Messages(OnMessages::Encode(20)),
     Work::ReadZone,
     Work::BuildThousand,
     Work::BuildTenThousand,
@@ -83,48 +81,34 @@ pub const ALL: [Work; 42] = [
     Work::Look(Asked::UnderCut, 1_000),
     Work::Look(Asked::UnderCut, 100_000),
     Work::CheckWorld,
-    Work::KeepLink(Says::Address),
+    Work::KeepLink(Says::Addresses(1)),
     Work::KeepLink(Says::NxDomain),
     Work::FindLink,
     Work::FindSet(1),
     Work::FindSet(20),
     Work::FindAskOfOne,
     Work::FindAskOfMany,
-    Work::PassDatagram(1),
-    Work::PassDatagram(1_024),
-    Work::AnswerQuery(1),
-    Work::AnswerQuery(1_024),
-    Work::KnownAnswer(Known::Zone),
-    Work::KnownAnswer(Known::Cache(1)),
-    Work::KnownAnswer(Known::Cache(3)),
-    Work::KnownAnswer(Known::Cache(20)),
+    Work::Steps(OnSteps::Pass(1)),
+    Work::Steps(OnSteps::Pass(1_024)),
+    Work::Steps(OnSteps::Answer(1)),
+    Work::Steps(OnSteps::Answer(1_024)),
+    Work::Steps(OnSteps::Serve(Known::Zone)),
+    Work::Steps(OnSteps::Serve(Known::Cache(1))),
+    Work::Steps(OnSteps::Serve(Known::Cache(3))),
+    Work::Steps(OnSteps::Serve(Known::Cache(20))),
 ];
 
 /// Steps with one query open, and the same with 1,024: as queries are found by index, they take as long.
 pub const ON_STEPS: [[Work; 2]; 2] = [
-    [Work::PassDatagram(1), Work::PassDatagram(1_024)],
-    [Work::AnswerQuery(1), Work::AnswerQuery(1_024)],
+    [
+        Work::Steps(OnSteps::Pass(1)),
+        Work::Steps(OnSteps::Pass(1_024)),
+    ],
+    [
+        Work::Steps(OnSteps::Answer(1)),
+        Work::Steps(OnSteps::Answer(1_024)),
+    ],
 ];
-
-/// What was counted beside the time.
-#[derive(Clone, Copy)]
-pub enum Counted {
-    Nothing,
-    /// The bytes of a text that was read.
-    Text(u64),
-    /// The bytes of resident memory that were taken.
-    Resident(u64),
-    /// The same for the records of a zone as a list, and for the whole zone.
-    Grown { list: u64, zone: u64 },
-}
-
-/// What came out of work, as a number, how long it took, and what was counted.
-#[derive(Clone, Copy)]
-pub struct Done {
-    pub sum: u64,
-    pub taken: Duration,
-    pub counted: Counted,
-}
 
 impl fmt::Display for Asked {
     fn fmt<W: fmt::Write>(&self, f: &mut fmt::Formatter<W>) -> fmt::Result {
@@ -148,31 +132,15 @@ impl fmt::Display for Work {
             Work::BuildHundredThousand => "record of 100,000 built into a zone",
             Work::Look(asked, hosts) => return write!(f, "{asked} looked up among {hosts}"),
             Work::CheckWorld => "zone of a world of 1,000 checked",
-            Work::KeepLink(Says::Address) => "link kept",
+            Work::KeepLink(Says::Addresses(_)) => "link kept",
             Work::KeepLink(Says::NxDomain) => "denial kept",
             Work::FindLink => "link found",
             Work::FindSet(count) => return write!(f, "set of {count} found"),
             Work::FindAskOfOne => "ask found among 1",
             Work::FindAskOfMany => "ask found among 1,024",
-            Work::PassDatagram(open) => return write!(f, "datagram passed over among {open}"),
-            Work::AnswerQuery(open) => return write!(f, "query answered among {open}"),
-            Work::KnownAnswer(known) => return write!(f, "{known}"),
+            Work::Steps(work) => return write!(f, "{work}"),
         })
     }
-}
-
-/// What came out where nothing else was counted.
-pub fn plain(sum: u64, taken: Duration) -> Done {
-    Done {
-        sum,
-        taken,
-        counted: Counted::Nothing,
-    }
-}
-
-/// How long it is since a moment, where the clock can be read.
-pub fn taken<R: Clock>(rt: &R, start: io::Result<Instant>) -> io::Result<Duration> {
-    start?.elapsed(rt)
 }
 
 impl Work {
@@ -183,9 +151,10 @@ impl Work {
         match self {
             Work::Names(work) => work.rounds(),
             Work::Messages(work) => work.rounds(),
-            Work::FindAskOfOne | Work::FindAskOfMany | Work::PassDatagram(_) => 10_000_000,
+            Work::FindAskOfOne | Work::FindAskOfMany => 10_000_000,
+            Work::Steps(OnSteps::Pass(_)) => 10_000_000,
+            Work::Steps(OnSteps::Answer(_) | OnSteps::Serve(_)) => 1_000_000,
             Work::KeepLink(_) | Work::FindLink | Work::FindSet(_) | Work::Look(..) => 1_000_000,
-            Work::AnswerQuery(_) | Work::KnownAnswer(_) => 1_000_000,
             Work::ReadZone | Work::BuildHundredThousand => 100_000,
             Work::BuildTenThousand => 10_000,
             Work::BuildThousand | Work::CheckWorld => 1_000,
@@ -196,14 +165,14 @@ impl Work {
     pub fn run<R: Runtime + AllocGlobal>(self, rt: &R, rounds: u64) -> Result<Done> {
         match self {
             Work::Names(work) => {
-                let start = Instant::now(rt)?;
+                let start = Instant::now(rt);
                 let sum = work.times(rt.alloc(), rounds)?;
-                Ok(plain(sum, start.elapsed(rt)?))
+                finish(rt, start, Ok(sum))
             }
             Work::Messages(work) => {
-                let start = Instant::now(rt)?;
+                let start = Instant::now(rt);
                 let sum = work.times(rt.alloc(), rounds)?;
-                Ok(plain(sum, start.elapsed(rt)?))
+                finish(rt, start, Ok(sum))
             }
             Work::ReadZone => zones::read(rt, rounds),
             Work::BuildThousand | Work::BuildTenThousand | Work::BuildHundredThousand => {
@@ -212,13 +181,11 @@ impl Work {
             Work::Look(asked, hosts) => zones::look(rt, asked, hosts, rounds),
             Work::CheckWorld => made_worlds::check(rt, rounds),
             Work::KeepLink(says) => links::keep(rt, says, rounds),
-            Work::FindLink => links::find(rt, rounds),
-            Work::FindSet(count) => links::find_set(rt, count, rounds),
+            Work::FindLink => links::find(rt, rounds, 1, 1),
+            Work::FindSet(count) => links::find(rt, 1, count, rounds),
             Work::FindAskOfOne => open_asks::find(rt, 1, rounds),
             Work::FindAskOfMany => open_asks::find(rt, 1_024, rounds),
-            Work::PassDatagram(open) => steps::pass(rt, open, rounds),
-            Work::AnswerQuery(open) => steps::answer(rt, open, rounds),
-            Work::KnownAnswer(known) => answers::serve(rt, known, rounds),
+            Work::Steps(work) => work.run(rt, rounds),
         }
     }
 }

@@ -1,7 +1,8 @@
 //! Zone files read, zones built, and names looked up in them.
+use crate::done::{Counted, Done, finish, low};
+use crate::names::name;
 use crate::resident::resident;
-use crate::sums::low;
-use crate::work::{Asked, Counted, Done, plain, taken};
+use crate::work::Asked;
 use anyhow::Result;
 use authority::{Catalog, Local};
 use dname::{Name, Starved};
@@ -10,15 +11,6 @@ use std::alloc::Global;
 use std::rt::Runtime;
 use std::time::Instant;
 use zone::Zone;
-
-fn origin(alloc: Global) -> Result<Name, Starved> {
-    name(alloc, "lab.example.")
-}
-
-// The texts here are names, zone files and zones: only memory can be refused.
-fn name(alloc: Global, text: &str) -> Result<Name, Starved> {
-    Name::from_text(alloc, text).map_err(|_| Starved)
-}
 
 // A zone file of so many hosts, each with an address, a wildcard and a delegation.
 fn text(alloc: Global, count: u64) -> Result<String, Starved> {
@@ -31,71 +23,55 @@ fn text(alloc: Global, count: u64) -> Result<String, Starved> {
     Ok(text)
 }
 
-fn records(alloc: Global, count: u64) -> Result<Records, Starved> {
-    let text = text(alloc, count)?;
-    masterfile::read(alloc, &origin(alloc)?, text.as_str()).map_err(|_| Starved)
+// The records of a zone file.
+fn records(alloc: Global, text: &str) -> Result<Records, Starved> {
+    masterfile::read(alloc, &name(alloc, "lab.example.")?, text).map_err(|_| Starved)
 }
 
-fn zone(alloc: Global, count: u64) -> Result<Zone, Starved> {
-    Zone::build(origin(alloc)?, records(alloc, count)?).map_err(|_| Starved)
+fn zone(alloc: Global, records: Records) -> Result<Zone, Starved> {
+    Zone::build(name(alloc, "lab.example.")?, records).map_err(|_| Starved)
 }
 
 pub fn read<R: Runtime + AllocGlobal>(rt: &R, rounds: u64) -> Result<Done> {
-    let alloc = rt.alloc();
-    let origin = origin(alloc)?;
-    let text = text(alloc, rounds)?;
-    let start = Instant::now(rt)?;
-    let found = masterfile::read(alloc, &origin, text.as_str()).map_err(|_| Starved)?;
-    let taken = start.elapsed(rt)?;
-    Ok(Done {
-        sum: low(found.len()),
-        taken,
-        counted: Counted::Text(text.len() as u64),
-    })
+    let text = text(rt.alloc(), rounds)?;
+    let start = Instant::now(rt);
+    let records = records(rt.alloc(), text.as_str())?;
+    let done = finish(rt, start, Ok(low(records.len())));
+    let counted = Counted::Text(text.len() as u64);
+    drop(records);
+    drop(text);
+    Ok(Done { counted, ..done? })
 }
 
 pub fn build<R: Runtime + AllocGlobal>(rt: &R, rounds: u64) -> Result<Done> {
-    let alloc = rt.alloc();
-    let origin = origin(alloc)?;
-    let text = text(alloc, rounds)?;
+    let text = text(rt.alloc(), rounds)?;
     let before = resident(rt);
-    let records = masterfile::read(alloc, &origin, text.as_str()).map_err(|_| Starved)?;
-    let read = resident(rt);
-    let start = Instant::now(rt)?;
-    let built = Zone::build(origin, records).map_err(|_| Starved)?;
-    let taken = start.elapsed(rt)?;
+    let records = records(rt.alloc(), text.as_str())?;
+    let list = resident(rt).saturating_sub(before);
+    let start = Instant::now(rt);
+    let zone = zone(rt.alloc(), records)?;
+    let done = finish(rt, start, Ok(low(zone.records().len())));
+    let grown = resident(rt).saturating_sub(before);
+    drop(zone);
+    drop(text);
     Ok(Done {
-        sum: low(built.records().len()),
-        taken,
-        counted: Counted::Grown {
-            list: read.saturating_sub(before),
-            zone: resident(rt).saturating_sub(before),
-        },
+        counted: Counted::Grown { list, zone: grown },
+        ..done?
     })
 }
 
-// A name that stands so in the zone.
-fn asked_name(alloc: Global, asked: Asked) -> Result<Name, Starved> {
-    match asked {
-        Asked::Owner => name(alloc, "host5.lab.example."),
-        Asked::Wildcard => name(alloc, "x.wild.lab.example."),
-        Asked::Nowhere => name(alloc, "none.lab.example."),
-        Asked::UnderCut => name(alloc, "x.cut.lab.example."),
-    }
-}
-
+// A zone of so many hosts, and nothing else.
 fn catalog(alloc: Global, hosts: u64) -> Result<Catalog, Starved> {
+    let records = records(alloc, text(alloc, hosts)?.as_str())?;
     let mut zones = Vec::new(alloc);
-    zones.push(zone(alloc, hosts)?)?;
+    zones.push(zone(alloc, records)?)?;
     Catalog::new(zones).map_err(|_| Starved)
 }
 
 // Whether the catalog says anything of the name.
 fn is_here(alloc: Global, catalog: &Catalog, asked: &Name) -> Result<bool, Starved> {
-    Ok(match catalog.look(alloc, asked, RType::A)? {
-        Local::Link(_) | Local::Cut(..) => true,
-        Local::NotHere => false,
-    })
+    let local = catalog.look(alloc, asked, RType::A)?;
+    Ok(!matches!(&local, Local::NotHere))
 }
 
 fn look_all(alloc: Global, catalog: &Catalog, asked: &Name, rounds: u64) -> Result<u64, Starved> {
@@ -106,18 +82,25 @@ fn look_all(alloc: Global, catalog: &Catalog, asked: &Name, rounds: u64) -> Resu
     Ok(sum)
 }
 
+/// A name that stands so in a zone of so many hosts, looked up so often.
 pub fn look<R: Runtime + AllocGlobal>(
     rt: &R,
     asked: Asked,
     hosts: u64,
     rounds: u64,
 ) -> Result<Done> {
-    let asked = asked_name(rt.alloc(), asked)?;
+    let text = match asked {
+        Asked::Owner => "host5.lab.example.",
+        Asked::Wildcard => "x.wild.lab.example.",
+        Asked::Nowhere => "none.lab.example.",
+        Asked::UnderCut => "x.cut.lab.example.",
+    };
+    let asked = name(rt.alloc(), text)?;
     let catalog = catalog(rt.alloc(), hosts)?;
     let start = Instant::now(rt);
     let sum = look_all(rt.alloc(), &catalog, &asked, rounds);
-    let taken = taken(rt, start);
+    let done = finish(rt, start, sum);
     drop(catalog);
     drop(asked);
-    Ok(plain(sum?, taken?))
+    done
 }
