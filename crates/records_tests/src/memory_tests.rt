@@ -17,15 +17,9 @@ fn a_refused_growth_is_want_of_memory(rt: HostRuntime) -> Result<(), Fail> {
         heap.refuse_after(n);
         assert!(rt; matches!(two_bytes(&heap), Err(Starved)), "growth {n}");
     }
-    Ok(())
-}
-
-#[test]
-fn want_of_memory_in_words(rt: HostRuntime) -> Result<(), Fail> {
-    assert_eq!(rt;
-        format!(in rt.alloc(); "{Starved}")?.as_str(),
-        "out of memory"
-    );
+    // In words, and as a number.
+    let words = format!(in rt.alloc(); "{Starved}")?;
+    assert_eq!(rt; words.as_str(), "out of memory");
     assert_eq!(rt; Starved.number(), 1);
     Ok(())
 }

@@ -1,38 +1,17 @@
 use pages::Page;
-use std::alloc::Global;
 use std::io::Write;
 use std::test::Fail;
 
-// What a page with so much room is after these bytes, and whether it took all of them.
-fn written(alloc: Global, room: usize, bytes: &[u8]) -> (Page, bool) {
-    let mut page = Page::new(alloc, room);
-    let is_taken = page.write_all(bytes).is_ok();
-    (page, is_taken)
-}
-
-const OTHERS: &[&str] = &["", "ok", "ok\n\n", "no\n", "OK\n"];
-
-// The first of these texts that the page holds.
-fn first_held(page: &Page, texts: &[&str]) -> Option<usize> {
-    for (place, text) in texts.iter().enumerate() {
-        if page.holds(text) {
-            return Some(place);
+#[test]
+fn a_page_holds_the_bytes_that_fit_alone(rt: HostRuntime) -> Result<(), Fail> {
+    // Room, what is written, whether the page takes all of it, and what it holds then.
+    for (room, text, all, held) in [(3, "ok\n", true, "ok\n"), (5, "seventy", false, "seven")] {
+        let mut page = Page::new(rt.alloc(), room);
+        let is_taken = page.write_all(text.as_bytes()).is_ok();
+        assert!(rt; is_taken == all && page.holds(held), "{held}");
+        for other in ["", "ok", "ok\n\n", "no\n", "OK\n"] {
+            assert!(rt; !page.holds(other), "{held}, {other}");
         }
     }
-    None
-}
-
-#[test]
-fn a_page_holds_what_was_written_alone(rt: HostRuntime) -> Result<(), Fail> {
-    let (page, is_taken) = written(rt.alloc(), 3, b"ok\n");
-    assert!(rt; is_taken && page.holds("ok\n"));
-    assert_eq!(rt; first_held(&page, OTHERS), None);
-    Ok(())
-}
-
-#[test]
-fn a_full_page_fails_behind_the_bytes_that_fit(rt: HostRuntime) -> Result<(), Fail> {
-    let (page, is_taken) = written(rt.alloc(), 5, b"seventy");
-    assert!(rt; !is_taken && page.holds("seven"));
     Ok(())
 }

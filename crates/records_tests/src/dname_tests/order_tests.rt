@@ -19,9 +19,12 @@ fn canonical_order(rt: HostRuntime) -> Result<(), Fail> {
     let mut before = Name::root(rt.alloc())?;
     for text in texts {
         let name = Name::from_text(rt.alloc(), text)?;
-        assert!(rt; before < name, "{text}");
-        assert_eq!(rt; name.cmp(&before), Ordering::Greater);
-        assert_eq!(rt; name.cmp(&name), Ordering::Equal);
+        assert!(rt;
+            before < name
+                && name.cmp(&before) == Ordering::Greater
+                && name.cmp(&name) == Ordering::Equal,
+            "{text}"
+        );
         before = name;
     }
     Ok(())

@@ -9,56 +9,40 @@ fn is_text(name: &Name, text: &str) -> Result<bool, Starved> {
     Ok(name.to_text()?.as_str() == text)
 }
 
-// Whether the name above has this text.
-fn is_parent(name: &Name, text: &str) -> Result<bool, Starved> {
-    match name.parent()? {
-        Some(parent) => Ok(is_text(&parent, text)?),
-        None => Ok(false),
-    }
+// Whether the name above has this text, and both, a name and one that is lent, ascend to it.
+fn ascend_to(
+    alloc: Global,
+    name: &mut Name,
+    lent: &mut Suffix<'_>,
+    text: &str,
+) -> Result<bool, Starved> {
+    let is_above = match name.parent()? {
+        Some(parent) => is_text(&parent, text)?,
+        None => false,
+    };
+    let ascend = name.ascend() && lent.ascend();
+    let copy = lent.to_name(alloc)?;
+    Ok(is_above && ascend && is_text(name, text)? && is_text(&copy, text)?)
 }
 
-// The text that a name takes on as it ascends is this one.
-fn ascends_to(name: &mut Name, text: &str) -> Result<bool, Starved> {
-    if !name.ascend() {
-        return Ok(false);
-    }
-    Ok(is_text(name, text)?)
-}
-
-// It is the root, and stays it.
-fn is_at_top(name: &mut Name) -> Result<bool, Starved> {
-    let stays = name.is_root() && !name.ascend() && name.is_root();
-    Ok(stays && name.parent()?.is_none())
+// They are the root, and stay it.
+fn are_at_top(name: &mut Name, lent: &mut Suffix<'_>) -> Result<bool, Starved> {
+    let stays = name.is_root() && !name.ascend() && name.is_root() && name.labels() == 0;
+    let lent_stays = !lent.ascend() && lent.wire() == [0].as_slice();
+    Ok(stays && lent_stays && name.parent()?.is_none())
 }
 
 #[test]
 fn names_above(rt: HostRuntime) -> Result<(), Fail> {
+    let whole = Name::from_text(rt.alloc(), "a.b.")?;
     let mut name = Name::from_text(rt.alloc(), "a.b.")?;
-    assert_eq!(rt; name.labels(), 2);
-    assert!(rt; is_parent(&name, "b.")?);
+    let mut lent = whole.suffix();
+    assert!(rt; name.labels() == 2 && lent.is(&whole));
     for above in ["b.", "."] {
-        assert!(rt; ascends_to(&mut name, above)?);
+        let ascend = ascend_to(rt.alloc(), &mut name, &mut lent, above)?;
+        assert!(rt; ascend && !lent.is(&whole), "{above}");
     }
-    assert!(rt; is_at_top(&mut name)?);
-    assert_eq!(rt; name.labels(), 0);
-    Ok(())
-}
-
-fn is_suffix(alloc: Global, suffix: &Suffix<'_>, text: &str) -> Result<bool, Starved> {
-    Ok(is_text(&suffix.to_name(alloc)?, text)?)
-}
-
-#[test]
-fn lent_names_above(rt: HostRuntime) -> Result<(), Fail> {
-    let name = Name::from_text(rt.alloc(), "a.b.")?;
-    let mut up = name.suffix();
-    assert!(rt; up.is(&name));
-    for above in ["b.", "."] {
-        assert!(rt; up.ascend() && !up.is(&name));
-        assert!(rt; is_suffix(rt.alloc(), &up, above)?);
-    }
-    assert!(rt; !up.ascend());
-    assert_eq!(rt; up.wire(), [0].as_slice());
+    assert!(rt; are_at_top(&mut name, &mut lent)?);
     Ok(())
 }
 
@@ -77,135 +61,89 @@ fn the_labels_of_a_name(rt: HostRuntime) -> Result<(), Fail> {
 fn a_name_is_displayed(rt: HostRuntime) -> Result<(), Fail> {
     let name = Name::from_text(rt.alloc(), "A\\.b.Example")?;
     let text = format!(in rt.alloc(); "{name} {name:?}")?;
-    assert_eq!(rt; text.as_str(), "a\\.b.example. a\\.b.example.");
+    assert!(rt; text.as_str() == "a\\.b.example. a\\.b.example.");
     Ok(())
-}
-
-fn take(name: &mut Name, alloc: Global, text: &str) -> Result<bool, NameError> {
-    name.copy_from(&Name::from_text(alloc, text)?)?;
-    Ok(is_text(name, text)?)
 }
 
 #[test]
 fn a_name_takes_the_place_of_another(rt: HostRuntime) -> Result<(), Fail> {
     let mut name = Name::from_text(rt.alloc(), "a.")?;
     for text in ["longer.example.", "b.", "."] {
-        assert!(rt; take(&mut name, rt.alloc(), text)?, "{text}");
+        let other = Name::from_text(rt.alloc(), text)?;
+        name.copy_from(&other)?;
+        drop(other);
+        assert!(rt; is_text(&name, text)?, "{text}");
     }
     Ok(())
 }
 
-// Other names, and whether www.example.com is one of theirs or under it.
-const OTHERS: &[(&str, bool)] = &[
-    (".", true),
-    ("com", true),
-    ("example.COM", true),
-    ("www.example.com", true),
-    ("a.www.example.com", false),
-    ("ww.example.com", false),
-    ("e.com", false),
-    ("example.org", false),
+// Whether www.example.com is the name or under it, and whether the name is a wildcard, has a star further in, and is
+// the wildcard of example.com.
+type Traits = (bool, (bool, bool, bool));
+
+const NAMES: &[(&str, Traits)] = &[
+    // At, above and beside www.example.com.
+    (".", (true, (false, false, false))),
+    ("com", (true, (false, false, false))),
+    ("example.COM", (true, (false, false, false))),
+    ("www.example.com", (true, (false, false, false))),
+    ("a.www.example.com", (false, (false, false, false))),
+    ("ww.example.com", (false, (false, false, false))),
+    ("e.com", (false, (false, false, false))),
+    ("example.org", (false, (false, false, false))),
+    // With stars (RFC 4592, section 2.1.1).
+    ("*.example.com", (false, (true, false, true))),
+    ("*.a.example.com", (false, (true, false, false))),
+    ("a.*.example.com", (false, (false, true, false))),
+    ("**.example.com", (false, (false, false, false))),
+    ("*", (false, (true, false, false))),
 ];
 
-fn is_at_or_under(name: &Name, alloc: Global, other: &str) -> Result<bool, NameError> {
-    Ok(name.is_at_or_under(&Name::from_text(alloc, other)?))
-}
-
-fn first_misplaced(alloc: Global) -> Result<Option<usize>, NameError> {
-    let name = Name::from_text(alloc, "www.Example.com")?;
-    for (place, (other, under)) in OTHERS.iter().enumerate() {
-        if is_at_or_under(&name, alloc, *other)? != *under {
-            return Ok(Some(place));
-        }
-    }
-    Ok(None)
-}
-
-#[test]
-fn names_under_others(rt: HostRuntime) -> Result<(), Fail> {
-    assert_eq!(rt; first_misplaced(rt.alloc())?, None);
-    Ok(())
-}
-
-// Whether a name is a wildcard, has a star further in, and is the wildcard of example.com.
-type Stars = (bool, bool, bool);
-
-// RFC 4592, section 2.1.1.
-const STARS: &[(&str, Stars)] = &[
-    ("*.example.com", (true, false, true)),
-    ("*.a.example.com", (true, false, false)),
-    ("a.*.example.com", (false, true, false)),
-    ("**.example.com", (false, false, false)),
-    ("*", (true, false, false)),
-    (".", (false, false, false)),
-];
-
-fn stars(alloc: Global, text: &str, origin: &Name) -> Result<Stars, NameError> {
+fn traits(alloc: Global, text: &str, below: &Name, origin: &Name) -> Result<Traits, NameError> {
     let name = Name::from_text(alloc, text)?;
     Ok((
-        name.is_wildcard(),
-        name.has_inner_star(),
-        name.is_wildcard_of(origin),
+        below.is_at_or_under(&name),
+        (
+            name.is_wildcard(),
+            name.has_inner_star(),
+            name.is_wildcard_of(origin),
+        ),
     ))
 }
 
-fn first_mistaken(alloc: Global) -> Result<Option<usize>, NameError> {
-    let origin = Name::from_text(alloc, "example.com")?;
-    for (place, (text, wanted)) in STARS.iter().enumerate() {
-        if stars(alloc, *text, &origin)? != *wanted {
-            return Ok(Some(place));
-        }
-    }
-    Ok(None)
-}
-
 #[test]
-fn wildcards(rt: HostRuntime) -> Result<(), Fail> {
-    assert_eq!(rt; first_mistaken(rt.alloc())?, None);
+fn names_under_others_and_wildcards(rt: HostRuntime) -> Result<(), Fail> {
+    let below = Name::from_text(rt.alloc(), "www.Example.com")?;
+    let origin = Name::from_text(rt.alloc(), "example.com")?;
+    for (text, wanted) in NAMES {
+        let found = traits(rt.alloc(), *text, &below, &origin)?;
+        assert!(rt; found == *wanted, "{text}");
+    }
     Ok(())
 }
 
 type Places = HashMap<Name, u32, BuildHasherDefault<FoldHasher>, Global>;
 
-fn put(places: &mut Places, alloc: Global, text: &str, place: u32) -> Result<(), Starved> {
-    let key = name(alloc, text)?;
-    let _ = places.insert(key, place)?;
-    Ok(())
-}
-
-fn places(alloc: Global) -> Result<Places, Starved> {
-    let mut places = HashMap::new(alloc);
-    for (text, place) in [("a.example", 1), ("b.example", 2), ("A.Example", 3)] {
-        put(&mut places, alloc, text, place)?;
-    }
-    Ok(places)
-}
-
-fn place_of(places: &Places, alloc: Global, text: &str) -> Result<Option<u32>, Starved> {
-    let key = name(alloc, text)?;
-    Ok(places.get(&key).copied())
-}
-
 #[test]
 fn names_as_keys(rt: HostRuntime) -> Result<(), Fail> {
-    let places = places(rt.alloc())?;
-    assert_eq!(rt; places.len(), 2);
-    assert_eq!(rt; place_of(&places, rt.alloc(), "a.EXAMPLE")?, Some(3));
+    let mut places: Places = HashMap::new(rt.alloc());
+    for (text, place) in [("a.example", 1), ("b.example", 2), ("A.Example", 3)] {
+        let key = name(rt.alloc(), text)?;
+        let _ = places.insert(key, place)?;
+    }
+    let key = name(rt.alloc(), "a.EXAMPLE")?;
+    assert!(rt; places.len() == 2 && places.get(&key).copied() == Some(3));
     Ok(())
-}
-
-fn is_copied(alloc: Global) -> Result<bool, Starved> {
-    let key = name(alloc, "a.EXAMPLE")?;
-    let copy = key.clone()?;
-    Ok(
-        copy == key
-            && copy.wire() == b"\x01a\x07example\0".as_slice()
-            && copy.first() == Some(b"a".as_slice()),
-    )
 }
 
 #[test]
 fn a_name_is_copied(rt: HostRuntime) -> Result<(), Fail> {
-    assert!(rt; is_copied(rt.alloc())?);
+    let key = name(rt.alloc(), "a.EXAMPLE")?;
+    let copy = key.clone()?;
+    assert!(rt;
+        copy == key
+            && copy.wire() == b"\x01a\x07example\0".as_slice()
+            && copy.first() == Some(b"a".as_slice())
+    );
     Ok(())
 }
