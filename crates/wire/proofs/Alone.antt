@@ -30,10 +30,10 @@ unfolding name_at
 unnamed bytes e h = ap (λ x. and_then x in_lower_case) h
 
 -- The question behind a name.
-abbrev asked : List ℕ → List (List ℕ) → ℕ → Question
+abbrev pub asked : List ℕ → List (List ℕ) → ℕ → Question
 asked bytes name at = record { name = name; qtype = two_at bytes at; qclass = two_at bytes (at + 2) }
 
-one_asked : (bytes : List ℕ) (name : List (List ℕ)) (at : ℕ) → name_at bytes message_faults (length bytes) 12 ≡ Ok (name, at) → at + 4 ≤ length bytes
+pub one_asked : (bytes : List ℕ) (name : List (List ℕ)) (at : ℕ) → name_at bytes message_faults (length bytes) 12 ≡ Ok (name, at) → at + 4 ≤ length bytes
     → questions_from 1 bytes 12 ≡ Ok (asked bytes name at ∷ [], at + 4)
 unfolding question_at
 one_asked bytes name at h fits =
@@ -42,11 +42,11 @@ one_asked bytes name at h fits =
     ap (λ x. and_then x (question_behind bytes)) h ∙ ap (λ c. if c then Err Short else Ok (asked bytes name at, at + 4)) b in
     ap (λ x. and_then x (λ q. and_then (questions_from 0 bytes q.1) (with_question q.0))) one
 
-none_asked : (bytes : List ℕ) (e : WireError) → name_at bytes message_faults (length bytes) 12 ≡ Err e → questions_from 1 bytes 12 ≡ Err e
+pub none_asked : (bytes : List ℕ) (e : WireError) → name_at bytes message_faults (length bytes) 12 ≡ Err e → questions_from 1 bytes 12 ≡ Err e
 unfolding question_at
 none_asked bytes e h = ap (λ x. and_then (and_then x (question_behind bytes)) (λ q. and_then (questions_from 0 bytes q.1) (with_question q.0))) h
 
-short_asked : (bytes : List ℕ) (name : List (List ℕ)) (at : ℕ) → name_at bytes message_faults (length bytes) 12 ≡ Ok (name, at) → length bytes < at + 4
+pub short_asked : (bytes : List ℕ) (name : List (List ℕ)) (at : ℕ) → name_at bytes message_faults (length bytes) 12 ≡ Ok (name, at) → length bytes < at + 4
     → questions_from 1 bytes 12 ≡ Err Short
 unfolding question_at
 short_asked bytes name at h over =

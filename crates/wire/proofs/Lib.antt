@@ -1,7 +1,10 @@
 pub mod Walks
 pub mod Rows
 pub mod SetRows
+pub mod Ends
+pub mod Spelt
 pub mod Whole
+pub mod Viewed
 pub mod Alone
 pub mod Writing
 pub mod Bytes
@@ -14,3 +17,4 @@ pub mod EntriesRead
 pub mod Skipping
 pub mod Chaining
 pub mod MessagesRead
+pub mod Lending

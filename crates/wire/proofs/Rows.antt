@@ -42,7 +42,7 @@ strings_begin bytes at end string next front h e = record {
 }
 
 -- The strings from a place before the end on.
-strings_more : (fuel : ℕ) (bytes : List ℕ) (place end : ℕ) → end - place ≤ fuel → place < end
+pub strings_more : (fuel : ℕ) (bytes : List ℕ) (place end : ℕ) → end - place ≤ fuel → place < end
     → strings_from fuel bytes place end ≡ and_then (string_at bytes place end) (λ s. and_then (strings_from (fuel - 1) bytes s.1 end) (with_string s.0))
 strings_more zero bytes place end h less = absurd (omega arith)
 strings_more (suc fuel) bytes place end h less =
@@ -51,7 +51,7 @@ strings_more (suc fuel) bytes place end h less =
     ap (λ c. if c then and_then (string_at bytes place end) (λ s. and_then (strings_from fuel bytes s.1 end) (with_string s.0)) else Ok []) b
     ∙ ap (λ k. and_then (string_at bytes place end) (λ s. and_then (strings_from k bytes s.1 end) (with_string s.0))) n
 
-strings_none : (fuel : ℕ) (bytes : List ℕ) (place end : ℕ) → end ≤ place → strings_from fuel bytes place end ≡ Ok []
+pub strings_none : (fuel : ℕ) (bytes : List ℕ) (place end : ℕ) → end ≤ place → strings_from fuel bytes place end ≡ Ok []
 strings_none zero bytes place end h = refl
 strings_none (suc fuel) bytes place end h =
     let b : nat_lt place end ≡ false = grind (arith, nat_tests) in
@@ -108,7 +108,7 @@ behind_kept (Some r) front (Ok (rest, end)) = λ i. Ok (sym (append_assoc front 
 behind_kept None front (Err e) = refl
 behind_kept (Some r) front (Err e) = refl
 
-section_more : (bytes : List ℕ) (count i place : ℕ) → i < count
+pub section_more : (bytes : List ℕ) (count i place : ℕ) → i < count
     → section_from (count - i) bytes place ≡ and_then (entry_at bytes place) (λ r. and_then (section_from (count - (i + 1)) bytes r.1) (with_kept r.0))
 section_more bytes count i place less =
     let n : count - i ≡ suc (count - (i + 1)) = omega arith in
@@ -158,7 +158,7 @@ behind_question : (q : Question) (front : List Question) (r : Asked) → and_the
 behind_question q front (Ok (rest, end)) = λ i. Ok (sym (append_assoc front (q ∷ []) rest) i, end)
 behind_question q front (Err e) = refl
 
-questions_more : (bytes : List ℕ) (count i place : ℕ) → i < count
+pub questions_more : (bytes : List ℕ) (count i place : ℕ) → i < count
     → questions_from (count - i) bytes place ≡ and_then (question_at bytes place) (λ q. and_then (questions_from (count - (i + 1)) bytes q.1) (with_question q.0))
 questions_more bytes count i place less =
     let n : count - i ≡ suc (count - (i + 1)) = omega arith in

@@ -3,7 +3,6 @@ use Rattle.std.proofs.Common.{◌≡◌, ℕ, ◌+◌, ◌-◌, ◌*◌, ◌<◌
 use Rattle.std.specs.Prelude.{is_some, nat_eq, nat_le, nat_lt, if◌then◌else◌, slice_index}
 use Rattle.std.proofs.lemmas.Bool.Decides.{nat_tests}
 use Rattle.dname.specs.Labels.{folded_labels}
-use Rattle.dname.specs.Wire.{labels_of}
 use Rattle.rdata.specs.Data.{Datum}
 use Rattle.rdata.specs.Records.{Record}
 use Rattle.rdata.specs.declared.rtype.RType.{RType}
@@ -14,39 +13,13 @@ use Rattle.wire.specs.declared.parts.Part.{Part}
 use Rattle.wire.specs.declared.parts.Part.TheVariants.{End, Label, Pointer}
 use Rattle.wire.specs.Numbers.{two_at, four_at}
 use Rattle.wire.specs.Parts.{message_faults, part_by, part_at, ends_at, followed, spelt_from, spelt_before, spelt_at, in_lower_case, name_at}
-use Rattle.wire.specs.Values.{value_at}
-use Rattle.wire.specs.Results.{and_then}
+use Rattle.wire.specs.Values.{form_at, value_at, whole as fills}
+use Rattle.wire.specs.Results.{and_then, end_of}
 use Rattle.wire.specs.Entries.{kept_value, entry_kept, entry_sized, entry_behind, entry_at}
-use Rattle.wire.specs.Skips.{end_alone, IsSkipping}
-use Rattle.wire.specs.Spellings.{spelt_by}
+use Rattle.wire.specs.Skips.{IsSkipping}
 use Rattle.std.specs.Result.{IsErrAnd}
 use Rattle.wire.proofs.Walks.{Spelt, unfueled}
-
--- ---- the end of a name
-
-end_refused : (bytes : List ℕ) (at : ℕ) (e : WireError) → spelt_at bytes message_faults (length bytes) at ≡ Err e
-    → Err e ≡ and_then (name_at bytes message_faults (length bytes) at) end_alone
-unfolding name_at
-end_refused bytes at e h = sym (ap (λ x. and_then (and_then x in_lower_case) end_alone) h)
-
-end_found : (bytes : List ℕ) (at : ℕ) (labels : List (List ℕ)) (past : ℕ) → spelt_at bytes message_faults (length bytes) at ≡ Ok (labels, past)
-    → Ok past ≡ and_then (name_at bytes message_faults (length bytes) at) end_alone
-unfolding name_at
-end_found bytes at labels past h = sym (ap (λ x. and_then (and_then x in_lower_case) end_alone) h)
-
--- What the walk over a name's letters tells of its end.
-pub end_by : (bytes letters : List ℕ) (at : ℕ) (r : Result ℕ WireError) → spelt_by letters r ≡ spelt_at bytes message_faults (length bytes) at
-    → r ≡ and_then (name_at bytes message_faults (length bytes) at) end_alone
-end_by bytes letters at (Ok end) h = end_found bytes at (labels_of letters) end (sym h)
-end_by bytes letters at (Err e) h = end_refused bytes at e (sym h)
-
-name_by_end : (r : Spelt) (past : ℕ) → Ok past ≡ and_then r end_alone → (name : List (List ℕ)) × (r ≡ Ok (name, past))
-name_by_end (Ok (name, end)) past h = let same : past ≡ end = cc in (name, λ i. Ok (name, sym same i))
-name_by_end (Err e) past h = absurd (cc)
-
-refused_by_end : (r : Spelt) (e : WireError) → Err e ≡ and_then r end_alone → r ≡ Err e
-refused_by_end (Ok (name, end)) e h = absurd (cc)
-refused_by_end (Err d) e h = let same : e ≡ d = cc in ap (λ x. Err x) (sym same)
+use Rattle.wire.proofs.Ends.{ended, not_ended}
 
 -- ---- a record behind its owner
 
@@ -54,8 +27,8 @@ entry_by : (bytes : List ℕ) (at : ℕ) (r : Spelt) → name_at bytes message_f
 unfolding entry_at
 entry_by bytes at r h = ap (λ x. and_then x (entry_behind bytes)) h
 
-pub skip_refused : (bytes : List ℕ) (at : ℕ) (e : WireError) → Err e ≡ and_then (name_at bytes message_faults (length bytes) at) end_alone → entry_at bytes at ≡ Err e
-skip_refused bytes at e h = entry_by bytes at (Err e) (refused_by_end (name_at bytes message_faults (length bytes) at) e h)
+pub skip_refused : (bytes : List ℕ) (at : ℕ) (e : WireError) → Err e ≡ end_of (name_at bytes message_faults (length bytes) at) → entry_at bytes at ≡ Err e
+skip_refused bytes at e h = entry_by bytes at (Err e) (not_ended (name_at bytes message_faults (length bytes) at) e h)
 
 yes : (b : Bool) (x y : Result (Option Record × ℕ) WireError) → b ≡ true → (if b then x else y) ≡ x
 yes b x y h = ap (λ c. if c then x else y) h
@@ -68,12 +41,12 @@ record Behind (bytes : List ℕ) (at past : ℕ) : Type 0 where
   name : List (List ℕ)
   is : entry_at bytes at ≡ entry_behind bytes (name, past)
 
-behind : (bytes : List ℕ) (at past : ℕ) → Ok past ≡ and_then (name_at bytes message_faults (length bytes) at) end_alone → Behind bytes at past
+behind : (bytes : List ℕ) (at past : ℕ) → Ok past ≡ end_of (name_at bytes message_faults (length bytes) at) → Behind bytes at past
 behind bytes at past h =
-    let found = name_by_end (name_at bytes message_faults (length bytes) at) past h in
+    let found = ended (name_at bytes message_faults (length bytes) at) past h in
     record { name = found.0; is = entry_by bytes at (Ok (found.0, past)) found.1 }
 
-pub skip_short : (bytes : List ℕ) (at past : ℕ) → Ok past ≡ and_then (name_at bytes message_faults (length bytes) at) end_alone → past ≤ length bytes
+pub skip_short : (bytes : List ℕ) (at past : ℕ) → Ok past ≡ end_of (name_at bytes message_faults (length bytes) at) → past ≤ length bytes
     → length bytes - past < 10 → entry_at bytes at ≡ Err Short
 skip_short bytes at past h within short =
     let b : nat_lt (length bytes) (past + 10) ≡ true = grind (arith, nat_tests) in
@@ -84,7 +57,7 @@ sized bytes at past h there =
     let b : nat_lt (length bytes) (past + 10) ≡ false = grind (arith, nat_tests) in
     h.is ∙ no (nat_lt (length bytes) (past + 10)) _ _ b
 
-pub skip_cut : (bytes : List ℕ) (at past : ℕ) → Ok past ≡ and_then (name_at bytes message_faults (length bytes) at) end_alone → 10 ≤ length bytes - past
+pub skip_cut : (bytes : List ℕ) (at past : ℕ) → Ok past ≡ end_of (name_at bytes message_faults (length bytes) at) → 10 ≤ length bytes - past
     → length bytes - (past + 10) < two_at bytes (past + 8) → entry_at bytes at ≡ Err Short
 skip_cut bytes at past h there short =
     let b : nat_lt (length bytes) (past + 10 + two_at bytes (past + 8)) ≡ true = grind (arith, nat_tests) in
@@ -98,10 +71,21 @@ whole bytes at past h o there fits is =
     sized bytes at past h there ∙ (no (nat_lt (length bytes) (past + 10 + two_at bytes (past + 8))) _ _ b
     ∙ ap (λ x. entry_kept x bytes h.name (four_at bytes (past + 4)) (past + 10) (past + 10 + two_at bytes (past + 8))) (sym is))
 
-pub skip_done : (bytes : List ℕ) (at past : ℕ) → Ok past ≡ and_then (name_at bytes message_faults (length bytes) at) end_alone → 10 ≤ length bytes - past
+pub skip_done : (bytes : List ℕ) (at past : ℕ) → Ok past ≡ end_of (name_at bytes message_faults (length bytes) at) → 10 ≤ length bytes - past
     → two_at bytes (past + 8) ≤ length bytes - (past + 10) → None ≡ served_type (two_at bytes past) (two_at bytes (past + 2))
     → entry_at bytes at ≡ Ok (None, past + 10 + two_at bytes (past + 8))
 skip_done bytes at past h there fits is = whole bytes at past (behind bytes at past h) None there fits is
+
+-- RDATA that are refused in the form of their type.
+pub form_fails : (bytes : List ℕ) (at past : ℕ) (kind : RType) (e : WireError) → Ok past ≡ end_of (name_at bytes message_faults (length bytes) at) → 10 ≤ length bytes - past
+    → two_at bytes (past + 8) ≤ length bytes - (past + 10) → Some kind ≡ served_type (two_at bytes past) (two_at bytes (past + 2))
+    → Err e ≡ end_of (form_at kind bytes (past + 10) (past + 10 + two_at bytes (past + 8))) → Err e ≡ end_of (entry_at bytes at)
+unfolding value_at
+form_fails bytes at past kind e h there fits is bad =
+    let found = behind bytes at past h in
+    let end = past + 10 + two_at bytes (past + 8) in
+    sym (ap end_of (whole bytes at past found (Some kind) there fits is)
+    ∙ ap (λ x. end_of (and_then (and_then x (fills end)) (kept_value found.name (four_at bytes (past + 4)) end))) (not_ended (form_at kind bytes (past + 10) end) e bad))
 
 abbrev record_in : Result (Option Record × ℕ) WireError → Option Record
 record_in (Ok x) = x.0
@@ -119,7 +103,7 @@ kept_is_some kind bytes owner ttl at end past h = by (value_at kind bytes at end
     by (Ok value) is = let some : Some _ ≡ None = ap record_in is in cc
     by (Err e) is = cc
 
-pub skip_kept : (bytes : List ℕ) (at past : ℕ) (kind : RType) → Ok past ≡ and_then (name_at bytes message_faults (length bytes) at) end_alone → 10 ≤ length bytes - past
+pub skip_kept : (bytes : List ℕ) (at past : ℕ) (kind : RType) → Ok past ≡ end_of (name_at bytes message_faults (length bytes) at) → 10 ≤ length bytes - past
     → two_at bytes (past + 8) ≤ length bytes - (past + 10) → Some kind ≡ served_type (two_at bytes past) (two_at bytes (past + 2))
     → (end : ℕ) → entry_at bytes at ≡ Ok (None, end) → ⊥
 skip_kept bytes at past kind h there fits is end read =

@@ -21,7 +21,7 @@ pub record Second (bytes : List ℕ) (questions : List Question) (answer : List 
 pub record Third (bytes : List ℕ) (questions : List Question) (answer authority : List Record) (at : ℕ) : Type 0 where
   pub so_far : message_of bytes ≡ message_third bytes questions answer (authority, at)
 
-opened : (bytes : List ℕ) → 12 ≤ length bytes → message_of bytes ≡ and_then (questions_from (two_at bytes 4) bytes 12) (message_first bytes)
+pub opened : (bytes : List ℕ) → 12 ≤ length bytes → message_of bytes ≡ and_then (questions_from (two_at bytes 4) bytes 12) (message_first bytes)
 unfolding message_of
 opened bytes h =
     let b : nat_lt (length bytes) 12 ≡ false = grind (arith, nat_tests) in

@@ -18,3 +18,4 @@ pub mod Puts
 pub mod Chains
 pub mod Shapes
 pub mod Spellings
+pub mod Views

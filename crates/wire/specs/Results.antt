@@ -1,5 +1,5 @@
 -- Words for the results of readers. A reader is exact as far as memory is there.
-use Rattle.std.specs.Prelude.{◌≡◌, Result, Ok, Err}
+use Rattle.std.specs.Prelude.{◌≡◌, ℕ, Result, Ok, Err}
 use Rattle.wire.specs.declared.error.WireError.{WireError}
 use Rattle.wire.specs.declared.error.WireError.TheVariants.{Short, BadLabel, PointerNotEarlier, NameTooLong, BadRdataLength, BadRdataName, TrailingBytes, OverLimit, Memory}
 
@@ -24,3 +24,8 @@ Gives view (Err e) read = Fails e read
 abbrev pub and_then : {X Y : Type 0} → Result X WireError → (X → Result Y WireError) → Result Y WireError
 and_then (Ok x) next = next x
 and_then (Err e) next = Err e
+
+-- The end alone of what a reader gives.
+abbrev pub end_of : {X : Type 0} → Result (X × ℕ) WireError → Result ℕ WireError
+end_of (Ok (x, end)) = Ok end
+end_of (Err e) = Err e

@@ -1,11 +1,7 @@
 -- Records that are read without their owners' names.
-use Rattle.std.specs.Prelude.{◌≡◌, ℕ, Option, Some, None, Result, Ok, Err, List}
+use Rattle.std.specs.Prelude.{◌≡◌, ℕ, Option, Some, None, Result, Ok, Err}
 use Rattle.rdata.specs.Records.{Record}
 use Rattle.wire.specs.declared.error.WireError.{WireError}
-
--- The end of what lies at a name's place.
-abbrev pub end_alone : List (List ℕ) × ℕ → Result ℕ WireError
-end_alone (name, end) = Ok end
 
 -- A refusal is the record's, an end is that of a record that is skipped, and with none the record is not skipped.
 abbrev pub IsSkipping : Result (Option ℕ) WireError → Result (Option Record × ℕ) WireError → Type 0

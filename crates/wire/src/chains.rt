@@ -1,5 +1,5 @@
 //! Chains of pointers (RFC 1035, section 4.1.4), passed in one step in a long message.
-ghost use Rattle.std.specs.Prelude.{◌≡◌, ◌<◌, length, IfOk};
+ghost use Rattle.std.specs.Prelude.{◌≡◌, ◌<◌, ◌≤◌, length, IfOk, IsOk};
 ghost use Rattle.wire.specs.Chains.{IsChainEnd, AreChainEnds, chain_behind};
 
 use crate::error::WireError;
@@ -32,7 +32,8 @@ fn chain_end(bytes: &[u8], ends: &[u16], at: usize) -> u16
 // Where the chain of pointers from each place ends to which a pointer can lead, so that a name is walked past
 // a chain in one step. The chains of a message that a datagram can hold are short, and are walked.
 pub fn chain_ends<A: Heap>(alloc: A, bytes: &[u8]) -> Result<Vec<u16, A>, Starved>
-    ensures { IfOk result (λ ends. AreChainEnds bytes.now ends.items) }
+    ensures known { IfOk result (λ ends. AreChainEnds bytes.now ends.items) }
+    ensures quiet { length bytes.now ≤ UDP_LIMIT → IsOk result }
 {
     if bytes.len() <= UDP_LIMIT {
         return Ok(Vec::new(alloc));

@@ -2,13 +2,14 @@
 //!
 //! `decode` reads a `Message`: its `Header`, its questions, and the records of its three sections; names are
 //! unfolded from their pointers, and records of types and classes that are not served are left out.
+//! A `View` is a message seen in its bytes, whose records are lent one after the other without memory.
 //! `decode_question` reads the one question of a query alone, with the letters that it came in. `encode` writes a
 //! message with compression, `Draft::encode` one of borrowed parts and with its question in its own letters;
 //! `Via::limit` is what a datagram or a stream allows.
 //!
 //! Promised: what is read is the message that the bytes are, and every message is read (`decoding_is_message`, over
 //! `layout`'s `IsMessage`), else the first fault from the left is answered (`WireError`); what is written is
-//! `encoding`, and read back (`encoding_is_read_back`).
+//! `encoding`, and read back (`encoding_is_read_back`). A `View` is the message that `decode` reads.
 //! Not here: what a message means (`front`, `exchange`, `classify`); EDNS (RFC 6891).
 //!
 //! ```text
@@ -25,6 +26,7 @@ mod error;
 mod fields;
 mod header;
 mod laws;
+mod lent;
 mod message;
 mod names;
 mod parts;
@@ -33,9 +35,11 @@ mod records;
 mod served;
 mod sets;
 mod shown;
+mod skips;
 mod spelling;
 mod values;
 mod via;
+mod view;
 mod writer;
 
 pub use echo::Echo;
@@ -43,8 +47,10 @@ pub use encoder::{Draft, encode};
 pub use error::WireError;
 pub use header::Header;
 pub use laws::{decoding_is_message, encoding_is_read_back};
+pub use lent::{Lent, Walk};
 pub use message::{Message, Question, Questions};
 pub use reader::{decode, decode_question};
 pub use spelling::Spelling;
 pub use via::{TCP_LIMIT, UDP_LIMIT, Via};
+pub use view::View;
 pub use writer::Writer;

@@ -1,12 +1,13 @@
 //! Names read at a place of a message, their pointers followed (RFC 1035, section 4.1.4).
-ghost use Rattle.std.specs.Prelude.{◌≡◌, ℕ, ◌≤◌, ◌<◌, ◌+◌, List, [], ◌∷◌, ◌++◌, length, IfOk};
+ghost use Rattle.std.specs.Prelude.{◌≡◌, ℕ, ◌≤◌, ◌<◌, ◌+◌, List, [], ◌∷◌, ◌++◌, length, IfOk, IsOk};
 ghost use Rattle.arrayvec.specs.ArrayVec.{array_vec_len};
-ghost use Rattle.dname.specs.Wire.{IsSpellingWire};
-ghost use Rattle.wire.specs.Parts.{message_faults, spelt_before, spelt_at, name_at, full_name_at};
+ghost use Rattle.dname.specs.Labels.{same_name, folded_labels};
+ghost use Rattle.dname.specs.Wire.{labels_of, IsSpellingWire};
+ghost use Rattle.wire.specs.Parts.{message_faults, rdata_faults, spelt_before, spelt_at, name_at, full_name_at};
 ghost use Rattle.wire.specs.Chains.{AreChainEnds};
-ghost use Rattle.wire.specs.Results.{Gives, and_then};
-ghost use Rattle.wire.specs.Skips.{end_alone};
+ghost use Rattle.wire.specs.Results.{Gives, end_of};
 ghost use Rattle.wire.specs.Spellings.{spelt_by};
+ghost use Rattle.wire.specs.Views.{labels_in};
 
 use crate::chains::chain_behind;
 use crate::error::WireError;
@@ -14,6 +15,7 @@ use crate::parts::{Faults, Part, part_at};
 use crate::spelling::Spelling;
 use arrayvec::ArrayVec;
 use dname::{Heap, Name};
+use std::alloc::Allocator;
 
 // A label more of a spelling that has room for it, behind its length.
 fn put_letters(letters: &mut ArrayVec<u8, 255>, label: &[u8])
@@ -124,7 +126,7 @@ pub fn full_name_at<A: Heap>(
 // The end of the name at a place of a message: whether one stands there, as `name_at` decides it. None is built.
 pub fn name_end(bytes: &[u8], ends: &[u16], at: usize) -> Result<usize, WireError>
     requires { AreChainEnds bytes.now ends.now }
-    ensures is { result ≡ and_then (name_at bytes.now message_faults (length bytes.now) at) end_alone }
+    ensures is { result ≡ end_of (name_at bytes.now message_faults (length bytes.now) at) }
     ensures within { IfOk result (λ end. end ≤ length bytes.now) }
 {
     let mut letters = ArrayVec::new();
@@ -137,6 +139,63 @@ pub fn name_end(bytes: &[u8], ends: &[u16], at: usize) -> Result<usize, WireErro
         at,
         at,
     )
+}
+
+// The same of a name in RDATA that end at `end`.
+pub fn name_end_within(
+    bytes: &[u8],
+    ends: &[u16],
+    at: usize,
+    end: usize,
+) -> Result<usize, WireError>
+    requires fits { end ≤ length bytes.now }
+    requires known { AreChainEnds bytes.now ends.now }
+    ensures is { result ≡ end_of (name_at bytes.now rdata_faults end at) }
+    ensures within { IfOk result (λ past. past ≤ end) }
+{
+    let mut letters = ArrayVec::new();
+    letters_at(&mut letters, bytes, ends, Faults::in_rdata(), end, at, at)
+}
+
+// The same of a name in RDATA that is to stand there in full.
+pub fn full_name_end(bytes: &[u8], at: usize, end: usize) -> Result<usize, WireError>
+    requires { end ≤ length bytes.now }
+    ensures is { result ≡ end_of (full_name_at bytes.now rdata_faults end at) }
+    ensures within { IfOk result (λ past. past ≤ end) }
+{
+    let mut letters = ArrayVec::new();
+    letters_at(&mut letters, bytes, &[], Faults::in_rdata(), end, 0, at)
+}
+
+// Whether letters in wire form spell the name.
+fn is_spelt<A: Allocator>(name: &Name<A>, letters: &[u8]) -> bool
+    requires { IsSpellingWire letters.now }
+    ensures { result ≡ same_name (folded_labels (labels_of letters.now)) name.now }
+{
+    name.well_formed_law();
+    name.wire().eq_ignore_ascii_case(letters)
+}
+
+// Whether the name that stands at a place of a message is this one; none is built.
+pub fn is_named<A: Allocator>(bytes: &[u8], ends: &[u16], at: usize, name: &Name<A>) -> bool
+    requires known { AreChainEnds bytes.now ends.now }
+    requires there { IsOk (name_at bytes.now message_faults (length bytes.now) at) }
+    ensures { result ≡ same_name (labels_in (name_at bytes.now message_faults (length bytes.now) at)) name.now }
+{
+    let mut letters = ArrayVec::new();
+    let walked = letters_at(
+        &mut letters,
+        bytes,
+        ends,
+        Faults::in_message(),
+        bytes.len(),
+        at,
+        at,
+    );
+    match walked {
+        Ok(_) => is_spelt(name, &letters),
+        Err(_) => unreachable!(),
+    }
 }
 
 // The name at a place of a message as `name_at` reads it, with its own letters, and the end of what lies there.

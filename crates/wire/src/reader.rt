@@ -17,6 +17,7 @@ use crate::header::Header;
 use crate::message::Message;
 use crate::names::spelling_at;
 use crate::records::{questions_at, section_at};
+use crate::skips::section_end;
 use dname::{Heap, Name};
 
 // The message that these bytes are, where it is known how the chains of pointers end in its first bytes.
@@ -59,16 +60,16 @@ pub fn decode<A: Heap>(alloc: A, bytes: &[u8]) -> Result<Message<A>, WireError>
 }
 
 // Whether the three sections of records stand from a place on, up to the end of the bytes, as `message_of` reads
-// them. Records that are skipped take no memory.
+// them. None is built.
 fn check_sections<A: Heap>(alloc: A, bytes: &[u8], at: usize) -> Result<(), WireError>
     requires { 12 ≤ length bytes.now }
     ensures read { IfOk result (λ _. AreBehind bytes.now at) }
     ensures refused { IfErr result (λ e. (questions : List layouts.Question) → message_of bytes.now ≡ message_first bytes.now (questions, at) → Fails e (message_of bytes.now)) }
 {
     let ends = chain_ends(alloc, bytes)?;
-    let (_, authority) = section_at(alloc, bytes, &ends, two_at(bytes, 6), at)?;
-    let (_, additional) = section_at(alloc, bytes, &ends, two_at(bytes, 8), authority)?;
-    let (_, end) = section_at(alloc, bytes, &ends, two_at(bytes, 10), additional)?;
+    let authority = section_end(bytes, &ends, two_at(bytes, 6), at)?;
+    let additional = section_end(bytes, &ends, two_at(bytes, 8), authority)?;
+    let end = section_end(bytes, &ends, two_at(bytes, 10), additional)?;
     if end != bytes.len() {
         return Err(WireError::TrailingBytes);
     }

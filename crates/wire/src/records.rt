@@ -19,7 +19,7 @@ use dname::{Heap, Starved};
 use rdata::{GREATEST_TTL, Record, Records};
 
 // A TTL as it is read: one with its top bit set is 0 (RFC 2181, section 8).
-fn ttl_of(ttl: u32) -> u32
+pub fn ttl_of(ttl: u32) -> u32
     ensures is { result ≡ ttl_of ttl }
     ensures within { result ≤ GREATEST_TTL }
 {

@@ -1,7 +1,7 @@
-use dname::{Heap, Starved};
+use dname::{Heap, Name, Starved};
 use refusing::Refusing;
 use std::test::Fail;
-use wire::{WireError, decode};
+use wire::{View, WireError, decode};
 
 // A record that is skipped: its RDATA hold the name `a.`, at 23, and from 26 on 8,000 pointers, the first to that
 // name and each further one to the one before it. Then come 3,000 records, whose owner is a pointer to the last.
@@ -31,6 +31,21 @@ fn read_back<A: Heap>(alloc: A, bytes: &[u8]) -> Result<(usize, bool), WireError
     Ok((m.answer.len(), owned))
 }
 
+// How many records there are, seen in the bytes, and whether each is of the name at the chain's end.
+fn seen<A: Heap>(alloc: A, bytes: &[u8], owner: &Name<A>) -> Result<(usize, bool), WireError> {
+    let view = View::new(alloc, bytes)?;
+    let mut section = view.answer();
+    let mut count = 0;
+    let mut owned = true;
+    for place in 0..4_000 {
+        if let Some(lent) = section.next() {
+            count = place + 1;
+            owned = owned && lent.owner_is(owner);
+        }
+    }
+    Ok((count, owned))
+}
+
 // Want of memory for the ends of the chain is told.
 #[test]
 fn owners_behind_a_long_chain_are_read(rt: HostRuntime) -> Result<(), Fail> {
@@ -39,8 +54,11 @@ fn owners_behind_a_long_chain_are_read(rt: HostRuntime) -> Result<(), Fail> {
     let read = read_back(&heap, &bytes);
     heap.refuse_after(0);
     let starved = read_back(&heap, &bytes);
+    let owner = Name::from_text(rt.alloc(), "a.")?;
+    let lent = seen(rt.alloc(), &bytes, &owner);
     assert_eq!(rt; bytes.len(), 64_026);
     assert!(rt; matches!(read, Ok((3_000, true))));
+    assert!(rt; matches!(lent, Ok((3_000, true))));
     assert!(rt; matches!(starved, Err(WireError::Memory)));
     Ok(())
 }

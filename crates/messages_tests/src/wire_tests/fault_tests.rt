@@ -1,31 +1,49 @@
-use crate::wire_tests::{QUERY, REPLY};
+use crate::wire_tests::{DENIAL, QUERY};
 use dname::{Heap, Starved};
 use refusing::Refusing;
 use std::test::Fail;
-use wire::decode;
+use wire::{View, WireError, decode};
 
-// The number of the refusal of a message, given in three parts; 0 of one that is read.
-fn refusal<A: Heap>(alloc: A, header: &[u8], front: &[u8], rest: &[u8]) -> Result<u8, Starved> {
+// The number of a refusal; 0 of what is read.
+fn number<T: Drop>(read: Result<T, WireError>) -> u8 {
+    match read {
+        Ok(_) => 0,
+        Err(error) => error.number(),
+    }
+}
+
+// The number of the refusal of a message, given in three parts, where it is refused so as a whole and in its bytes.
+fn refusal<A: Heap>(
+    alloc: A,
+    header: &[u8],
+    front: &[u8],
+    rest: &[u8],
+) -> Result<Option<u8>, Starved> {
     let mut bytes = Vec::from_slice(alloc, header)?;
     bytes.extend_from_slice(front)?;
     bytes.extend_from_slice(rest)?;
-    match decode(alloc, &bytes) {
-        Ok(_) => Ok(0),
-        Err(error) => Ok(error.number()),
+    let whole = number(decode(alloc, &bytes));
+    if number(View::new(alloc, &bytes)) == whole {
+        Ok(Some(whole))
+    } else {
+        Ok(None)
     }
 }
 
 // The fronts are refused as short, and one byte more as trailing.
 #[test]
 fn each_front_of_a_message_is_short(rt: HostRuntime) -> Result<(), Fail> {
-    for bytes in [QUERY, REPLY] {
+    for bytes in [QUERY, DENIAL] {
         for size in 0..bytes.len() {
             assert!(rt;
-                refusal(rt.alloc(), &bytes[..size], b"", b"")? == 1,
+                refusal(rt.alloc(), &bytes[..size], b"", b"")? == Some(1),
                 "{size} bytes"
             );
         }
-        assert!(rt; refusal(rt.alloc(), bytes, b"\0", b"")? == 7, "a byte more");
+        assert!(rt;
+            refusal(rt.alloc(), bytes, b"\0", b"")? == Some(7),
+            "a byte more"
+        );
     }
     Ok(())
 }
@@ -78,7 +96,7 @@ fn names_of_questions(rt: HostRuntime) -> Result<(), Fail> {
     let mut first_wrong = None;
     for (place, row) in QUESTIONS.iter().enumerate() {
         let (question, number) = *row;
-        if refusal(rt.alloc(), header, question, b"")? != number {
+        if refusal(rt.alloc(), header, question, b"")? != Some(number) {
             first_wrong = first_wrong.or(Some(place));
         }
     }
@@ -146,7 +164,7 @@ fn data_of_each_type(rt: HostRuntime) -> Result<(), Fail> {
         let (kind, rdata, number) = *row;
         // Owner, type, class, TTL, and the high byte of the length.
         let front = [0, 0, kind, 0, 1, 0, 0, 0, 1, 0];
-        if refusal(rt.alloc(), header, &front, rdata)? != number {
+        if refusal(rt.alloc(), header, &front, rdata)? != Some(number) {
             first_wrong = first_wrong.or(Some(place));
         }
     }

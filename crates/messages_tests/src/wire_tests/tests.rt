@@ -1,8 +1,9 @@
 use crate::wire_tests::{DENIAL, QUERY, REPLY};
 use dname::Heap;
+use rdata::Record;
 use std::alloc::Global;
 use std::test::Fail;
-use wire::{WireError, decode, decode_question, encode};
+use wire::{View, Walk, WireError, decode, decode_question, encode};
 
 // Messages, and what each says in words: header, question and records.
 const SHOWN: &[(&[u8], &str)] = &[
@@ -31,6 +32,37 @@ fn is_shown(alloc: Global, bytes: &[u8], text: &str) -> Result<bool, WireError> 
     Ok(format!(in alloc; "{m}")?.as_str() == text)
 }
 
+// Whether these records are lent, one after the other, and no others.
+fn are_lent(alloc: Global, mut section: Walk<'_>, records: &[Record]) -> Result<bool, WireError> {
+    for record in records {
+        let Some(lent) = section.next() else {
+            return Ok(false);
+        };
+        let same = lent.owner_is(&record.owner) && lent.record(alloc)?.repeats(record);
+        if !same || (lent.kind(), lent.ttl()) != (record.value.kind(), record.ttl) {
+            return Ok(false);
+        }
+    }
+    Ok(section.next().is_none())
+}
+
+// Whether a message is seen in its bytes as it is read.
+fn is_seen(alloc: Global, bytes: &[u8]) -> Result<bool, WireError> {
+    let m = decode(alloc, bytes)?;
+    let view = View::new(alloc, bytes)?;
+    let asked = match m.questions.as_slice() {
+        [q] => view.asks_for(&q.name, q.qtype, q.qclass) && !view.asks_for(&q.name, q.qtype, 3),
+        _ => false,
+    };
+    Ok(
+        asked
+            && view.header() == m.header
+            && are_lent(alloc, view.answer(), m.answer.as_slice())?
+            && are_lent(alloc, view.authority(), m.authority.as_slice())?
+            && are_lent(alloc, view.additional(), m.additional.as_slice())?,
+    )
+}
+
 // Whether what is read is written as it stood, names compressed, within that limit, or 65,535 bytes if that is less.
 pub fn is_rewritten<A: Heap>(alloc: A, bytes: &[u8], limit: usize) -> Result<bool, WireError> {
     let m = decode(alloc, bytes)?;
@@ -45,6 +77,7 @@ fn messages_are_read_and_written_as_they_stood(rt: HostRuntime) -> Result<(), Fa
     for (place, row) in SHOWN.iter().enumerate() {
         let (bytes, text) = *row;
         assert!(rt; is_shown(rt.alloc(), bytes, text)?, "message {place}");
+        assert!(rt; is_seen(rt.alloc(), bytes)?, "message {place}");
         for limit in [65_535, bytes.len()] {
             assert!(rt; is_rewritten(rt.alloc(), bytes, limit)?, "message {place}");
         }

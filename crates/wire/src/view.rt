@@ -1,0 +1,134 @@
+//! A message seen in its bytes.
+ghost use Rattle.std.specs.Prelude.{◌≡◌, ◌≤◌, ◌⊎◌, Err, [], ◌∷◌, ◌↔◌, length, IfOk, IfErr, IsTrue};
+ghost use Rattle.layout.specs.Messages as layouts;
+ghost use Rattle.layout.specs.Messages.{IsMessage};
+ghost use Rattle.wire.specs.declared.error.WireError.TheVariants.{Memory};
+ghost use Rattle.wire.specs.declared.via.TheConstants.{UDP_LIMIT};
+ghost use Rattle.wire.specs.Entries.{message_of};
+ghost use Rattle.wire.specs.Results.{Gives};
+
+use crate::chains::chain_ends;
+use crate::error::WireError;
+use crate::fields::two_at;
+use crate::header::Header;
+use crate::lent::Walk;
+use crate::names::is_named;
+use crate::skips::{questions_end, section_end};
+use dname::{Heap, Name};
+use std::alloc::{Allocator, Global};
+use std::marker::Model;
+
+/// A message that is read in its bytes, as far as it is asked for. Contracts see the message, as `decode` reads it.
+#[derive(Drop)]
+pub struct View<'a, A: Allocator = Global> {
+    bytes: &'a [u8],
+    // How the chains of pointers end in its first bytes, where that is known.
+    ends: Vec<u16, A>,
+    // Where the sections of records begin.
+    answer: usize,
+    authority: usize,
+    additional: usize,
+}
+
+impl<'a, A: Allocator> Model for View<'a, A> {
+    ghost use Rattle.layout.specs.Messages.{Message};
+    ghost use Rattle.wire.specs.Views.{viewed, IsViewed};
+
+    ghost Value = { Message };
+
+    ghost view = { λ v. viewed v.bytes.now v.answer v.authority v.additional };
+
+    ghost invariant = { λ v. IsViewed v.bytes.now v.ends.items v.answer v.authority v.additional };
+}
+
+impl<'a, A: Heap> View<'a, A> {
+    /// The message that these bytes are (RFC 1035, section 4). Records of types that are not served and of classes other
+    /// than IN are left out. Refused by the first fault from the left. Up to 512 bytes take no memory; of more it is kept
+    /// how their chains of pointers end.
+    pub fn new(alloc: A, bytes: &'a [u8]) -> Result<View<'a, A>, WireError>
+        ensures exact { Gives {Y = layouts.Message} (λ m. m) result (message_of bytes.now) }
+        ensures read { IfOk result (λ m. IsMessage bytes.now m) }
+        ensures refused { IfErr result (λ e. (e ≡ Memory) ⊎ ((m : layouts.Message) → IsMessage bytes.now m → ⊥)) }
+        ensures quiet { length bytes.now ≤ UDP_LIMIT → IfErr result (λ e. message_of bytes.now ≡ Err e) }
+    {
+        if bytes.len() < 12 {
+            return Err(WireError::Short);
+        }
+        let ends = chain_ends(alloc, bytes)?;
+        let answer = questions_end(bytes, &ends, two_at(bytes, 4), 12)?;
+        let authority = section_end(bytes, &ends, two_at(bytes, 6), answer)?;
+        let additional = section_end(bytes, &ends, two_at(bytes, 8), authority)?;
+        let end = section_end(bytes, &ends, two_at(bytes, 10), additional)?;
+        if end != bytes.len() {
+            return Err(WireError::TrailingBytes);
+        }
+        Ok(View {
+            bytes,
+            ends,
+            answer,
+            authority,
+            additional,
+        })
+    }
+}
+
+impl<A: Allocator> View<'_, A> {
+    /// Its header.
+    pub fn header(&self) -> Header
+        ensures { result ≡ self.now.header }
+    {
+        Header::read(self.bytes)
+    }
+
+    /// Whether its one question is for this name, type and class.
+    pub fn asks_for<B: Allocator>(&self, name: &Name<B>, qtype: u16, qclass: u16) -> bool
+        ensures { IsTrue result ↔ (self.now.questions ≡ record { name = name.now; qtype = qtype; qclass = qclass } ∷ []) }
+    {
+        if two_at(self.bytes, 4) != 1 {
+            return false;
+        }
+        if two_at(self.bytes, self.answer - 4) != qtype {
+            return false;
+        }
+        if two_at(self.bytes, self.answer - 2) != qclass {
+            return false;
+        }
+        is_named(self.bytes, &self.ends, 12, name)
+    }
+
+    /// The records of its answer section, one after the other.
+    pub fn answer(&self) -> Walk<'_>
+        ensures { result ≡ self.now.answer }
+    {
+        Walk {
+            bytes: self.bytes,
+            ends: &self.ends,
+            left: two_at(self.bytes, 6),
+            place: self.answer,
+        }
+    }
+
+    /// Those of its authority section.
+    pub fn authority(&self) -> Walk<'_>
+        ensures { result ≡ self.now.authority }
+    {
+        Walk {
+            bytes: self.bytes,
+            ends: &self.ends,
+            left: two_at(self.bytes, 8),
+            place: self.authority,
+        }
+    }
+
+    /// Those of its additional section.
+    pub fn additional(&self) -> Walk<'_>
+        ensures { result ≡ self.now.additional }
+    {
+        Walk {
+            bytes: self.bytes,
+            ends: &self.ends,
+            left: two_at(self.bytes, 10),
+            place: self.additional,
+        }
+    }
+}
