@@ -5,3 +5,4 @@ pub mod Servers
 pub mod Sets
 pub mod Shortened
 pub mod Uses
+pub mod Walking

@@ -64,9 +64,12 @@ servers_of c m = one_set (records_at c ns_type m.authority)
 abbrev pub leads_down : Name → Name → Name → Bool
 leads_down f q c = is_under c f && not (same_name c f) && is_under q c
 
+abbrev pub by_cut : Name → Name → Message → Name → Class
+by_cut f q m c = cond (leads_down f q c) (refer_by f c (servers_of c m) m) (Failed Foreign)
+
 abbrev pub by_servers : Name → Name → Message → Option Record → Class
 by_servers f q m None = Failed Empty
-by_servers f q m (Some r) = cond (leads_down f q r.owner) (refer_by f r.owner (servers_of r.owner m) m) (Failed Foreign)
+by_servers f q m (Some r) = by_cut f q m r.owner
 
 -- A denial has an SOA over the name, at or under the zone; the first one counts.
 abbrev pub denial_by : ℕ → Record → Link

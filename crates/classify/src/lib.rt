@@ -13,6 +13,7 @@
 //! Not here: whether the message is the reply to an ask at all (`exchange::reply_in`).
 //!
 //! ```text
+//! let message = View::new(alloc, bytes)?;
 //! match classify(alloc, &zone, &name, RType::A, Via::Udp, &message)? {
 //!     Class::Answer(link) => { let link = received(link); let seconds = lifetime(&link); }
 //!     Class::Referral(referral) => { /* ask referral.servers; kept for referral.lifetime() seconds */ }
@@ -25,6 +26,7 @@
 mod class;
 mod laws;
 mod lifetimes;
+mod sections;
 mod table;
 mod targets;
 

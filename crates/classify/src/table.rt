@@ -1,27 +1,21 @@
 //! The table by which a reply is used: its first line that fits.
-ghost use Rattle.std.specs.Prelude.{◌≡◌, ℕ, List, ◌&&◌, ◌||◌, nat_eq, IfOk};
-ghost use Rattle.std.specs.List.Sorted.{IsSorted};
-ghost use Rattle.std.specs.Option.{option_copied};
-ghost use Rattle.dname.specs.Labels.{is_under};
-ghost use Rattle.dname.specs.Order.{name_cmp};
+ghost use Rattle.std.specs.Prelude.{◌≡◌, ℕ, Some, List, ◌||◌, nat_eq, IfOk};
 ghost use Rattle.rdata.specs.Rows.{in_set};
 ghost use Rattle.rdata.specs.Selected.{records_at};
 ghost use Rattle.rdata.specs.Sets.{one_set};
 ghost use Rattle.rdata.specs.Types.{type_number};
-ghost use Rattle.zone.specs.Zones.{a_type, ns_type, cname_type, soa_type};
-ghost use Rattle.zone.specs.Look.{is_type};
+ghost use Rattle.zone.specs.Zones.{ns_type, cname_type, soa_type};
 ghost use Rattle.authority.specs.Answers.{link_view};
-ghost use Rattle.classify.specs.Classes.{first_of, answer_by, addresses_of, refer_by, leads_down, by_servers, denial_by, denies, by_denial, by_alias, by_set, by_code, truncated_over, class_of};
-ghost use Rattle.classify.specs.Targets.{is_one_of};
+ghost use Rattle.classify.specs.Classes.{first_of, answer_by, refer_by, leads_down, by_cut, by_servers, denial_by, denies, by_denial, by_alias, by_set, by_code, truncated_over, class_of};
 ghost use Rattle.classify.specs.Views.{class_view};
 
 use crate::class::{Class, Failure, Referral};
-use crate::targets::{is_one_of, targets_of};
+use crate::sections::{addresses_in, first_in, set_in};
 use authority::Link;
 use dname::{Heap, Name, Starved};
-use rdata::{RType, Record, RecordSet, Records, lowest_ttl, set_at};
+use rdata::{RType, Record, RecordSet, Records, lowest_ttl};
 use std::alloc::Allocator;
-use wire::{Message, Via};
+use wire::{Via, View, Walk};
 
 /// What a reply to the question for this name and type is used for, which came this way from a server of the
 /// zone: the first line that fits of
@@ -39,11 +33,11 @@ pub fn classify<A: Heap>(
     name: &Name<A>,
     kind: RType,
     via: Via,
-    message: &Message<A>,
+    message: &View<'_, A>,
 ) -> Result<Class<A>, Starved>
     ensures { IfOk result (λ c. class_view c ≡ class_of zone.now name.now (type_number kind) via message.now) }
 {
-    if message.header.tc {
+    if message.header().tc {
         return Ok(truncated_over(via));
     }
     Ok(by_code(alloc, zone, name, kind, message)?)
@@ -65,28 +59,28 @@ fn by_code<A: Heap>(
     zone: &Name<A>,
     name: &Name<A>,
     kind: RType,
-    message: &Message<A>,
+    message: &View<'_, A>,
 ) -> Result<Class<A>, Starved>
     ensures { IfOk result (λ c. class_view c ≡ by_code zone.now name.now (type_number kind) message.now) }
 {
     if !is_told(message) {
         return Ok(Class::Failed(Failure::BadCode));
     }
-    let set = set_at(alloc, message.answer.as_slice(), name, kind)?;
+    let set = set_in(alloc, message.answer(), name, kind)?;
     Ok(by_set(alloc, zone, name, message, set)?)
 }
 
 // Whether the RCODE tells something of the name: that it is there, or not.
-fn is_told<A: Allocator>(message: &Message<A>) -> bool
+fn is_told<A: Allocator>(message: &View<'_, A>) -> bool
     ensures { result ≡ (nat_eq message.now.header.rcode 0 || nat_eq message.now.header.rcode 3) }
 {
-    message.header.rcode == 0 || message.header.rcode == 3
+    message.header().rcode == 0 || message.header().rcode == 3
 }
 
-fn is_name_error<A: Allocator>(message: &Message<A>) -> bool
+fn is_name_error<A: Allocator>(message: &View<'_, A>) -> bool
     ensures { result ≡ nat_eq message.now.header.rcode 3 }
 {
-    message.header.rcode == 3
+    message.header().rcode == 3
 }
 
 // By the records of the name and the type.
@@ -94,7 +88,7 @@ fn by_set<A: Heap>(
     alloc: A,
     zone: &Name<A>,
     name: &Name<A>,
-    message: &Message<A>,
+    message: &View<'_, A>,
     set: Option<RecordSet<A>>,
 ) -> Result<Class<A>, Starved>
     ensures { IfOk result (λ c. class_view c ≡ by_set zone.now name.now message.now (in_set set)) }
@@ -106,7 +100,7 @@ fn by_set<A: Heap>(
 }
 
 // Records of the name and type asked for: the answer, unless the RCODE says that the name does not exist.
-fn by_records<A: Heap>(message: &Message<A>, set: RecordSet<A>) -> Class<A>
+fn by_records<A: Heap>(message: &View<'_, A>, set: RecordSet<A>) -> Class<A>
     ensures { (f q : List (List ℕ)) → class_view result ≡ by_set f q message.now set }
 {
     let _ = set.len();
@@ -121,11 +115,11 @@ fn by_alias<A: Heap>(
     alloc: A,
     zone: &Name<A>,
     name: &Name<A>,
-    message: &Message<A>,
+    message: &View<'_, A>,
 ) -> Result<Class<A>, Starved>
     ensures { IfOk result (λ c. class_view c ≡ by_alias zone.now name.now message.now (one_set (records_at name.now cname_type message.now.answer))) }
 {
-    match set_at(alloc, message.answer.as_slice(), name, RType::Cname)? {
+    match set_in(alloc, message.answer(), name, RType::Cname)? {
         Some(aliases) => {
             let first = aliases.first();
             drop(aliases);
@@ -140,17 +134,30 @@ fn by_denial<A: Heap>(
     alloc: A,
     zone: &Name<A>,
     name: &Name<A>,
-    message: &Message<A>,
+    message: &View<'_, A>,
 ) -> Result<Class<A>, Starved>
     ensures { IfOk result (λ c. class_view c ≡ by_denial zone.now name.now message.now (first_of soa_type message.now.authority)) }
 {
-    match first_of(message.authority.as_slice(), RType::Soa) {
-        Some(soa) if denies(zone, name, &soa.owner) => {
-            Ok(answer_by(message, denial_by(message.header.rcode, soa.clone()?)))
-        }
-        Some(_) => Ok(Class::Failed(Failure::Foreign)),
+    match first_in(message.authority(), RType::Soa) {
+        Some(soa) => Ok(by_soa(zone, name, message, soa.record(alloc)?)),
         None if is_name_error(message) => Ok(Class::Failed(Failure::Empty)),
         None => Ok(by_servers(alloc, zone, name, message)?),
+    }
+}
+
+// A denial is of a zone that may deny the name.
+fn by_soa<A: Allocator>(
+    zone: &Name<A>,
+    name: &Name<A>,
+    message: &View<'_, A>,
+    soa: Record<A>,
+) -> Class<A>
+    ensures { class_view result ≡ by_denial zone.now name.now message.now (Some soa) }
+{
+    if denies(zone, name, &soa.owner) {
+        answer_by(message, denial_by(message.header().rcode, soa))
+    } else {
+        Class::Failed(Failure::Foreign)
     }
 }
 
@@ -159,18 +166,31 @@ fn by_servers<A: Heap>(
     alloc: A,
     zone: &Name<A>,
     name: &Name<A>,
-    message: &Message<A>,
+    message: &View<'_, A>,
 ) -> Result<Class<A>, Starved>
     ensures { IfOk result (λ c. class_view c ≡ by_servers zone.now name.now message.now (first_of ns_type message.now.authority)) }
 {
-    match first_of(message.authority.as_slice(), RType::Ns) {
-        Some(first) if leads_down(zone, name, &first.owner) => {
-            let servers = set_of(alloc, message.authority.as_slice(), &first.owner, RType::Ns)?;
-            Ok(refer(alloc, zone, first.owner.clone()?, servers, message)?)
-        }
-        Some(_) => Ok(Class::Failed(Failure::Foreign)),
+    match first_in(message.authority(), RType::Ns) {
+        Some(first) => Ok(by_cut(alloc, zone, name, message, first.owner(alloc)?)?),
         None => Ok(Class::Failed(Failure::Empty)),
     }
+}
+
+// By the name of a cut, which is followed where it leads down.
+fn by_cut<A: Heap>(
+    alloc: A,
+    zone: &Name<A>,
+    name: &Name<A>,
+    message: &View<'_, A>,
+    cut: Name<A>,
+) -> Result<Class<A>, Starved>
+    ensures { IfOk result (λ c. class_view c ≡ by_cut zone.now name.now message.now cut) }
+{
+    if !leads_down(zone, name, &cut) {
+        return Ok(Class::Failed(Failure::Foreign));
+    }
+    let servers = servers_in(alloc, message.authority(), &cut)?;
+    Ok(refer(alloc, zone, cut, servers, message)?)
 }
 
 // The referral to these servers.
@@ -179,16 +199,11 @@ fn refer<A: Heap>(
     zone: &Name<A>,
     at: Name<A>,
     servers: Records<A>,
-    message: &Message<A>,
+    message: &View<'_, A>,
 ) -> Result<Class<A>, Starved>
     ensures { IfOk result (λ c. class_view c ≡ refer_by zone.now at servers message.now) }
 {
-    let addresses = addresses_of(
-        alloc,
-        zone,
-        servers.as_slice(),
-        message.additional.as_slice(),
-    )?;
+    let addresses = addresses_in(alloc, message.additional(), zone, servers.as_slice())?;
     let ttl = lowest_ttl(servers.as_slice()).min(lowest_ttl(addresses.as_slice()));
     Ok(Class::Referral(Referral {
         at,
@@ -199,10 +214,10 @@ fn refer<A: Heap>(
 }
 
 // Only what a server says with authority is an answer.
-fn answer_by<A: Allocator>(message: &Message<A>, link: Link<A>) -> Class<A>
+fn answer_by<A: Allocator>(message: &View<'_, A>, link: Link<A>) -> Class<A>
     ensures { class_view result ≡ answer_by message.now (link_view link) }
 {
-    if message.header.aa {
+    if message.header().aa {
         Class::Answer(link)
     } else {
         Class::Failed(Failure::NoAuthority)
@@ -219,26 +234,14 @@ fn denial_by<A: Allocator>(rcode: u8, soa: Record<A>) -> Link<A>
     }
 }
 
-// The records of the RRset of that name and type; none where there are none.
-fn set_of<A: Heap>(
-    alloc: A,
-    records: &[Record<A>],
-    name: &Name<A>,
-    kind: RType,
-) -> Result<Records<A>, Starved>
-    ensures { IfOk result (λ rs. rs ≡ one_set (records_at name.now (type_number kind) records.now)) }
+// The NS set of a cut; no records where there is none.
+fn servers_in<A: Heap>(alloc: A, authority: Walk<'_>, cut: &Name<A>) -> Result<Records<A>, Starved>
+    ensures { IfOk result (λ rs. rs ≡ one_set (records_at cut.now ns_type authority.entry)) }
 {
-    match set_at(alloc, records, name, kind)? {
+    match set_in(alloc, authority, cut, RType::Ns)? {
         Some(set) => Ok(set.to_records(alloc)?),
         None => Ok(Records::new(alloc)),
     }
-}
-
-// The first record of the type.
-fn first_of<A: Allocator>(records: &[Record<A>], kind: RType) -> Option<&Record<A>>
-    ensures { option_copied result ≡ first_of (type_number kind) records.now }
-{
-    records.iter().find(|rr| rr.is(kind))
 }
 
 // Whether a zone of that origin may deny the name to one that asked a server of `zone`.
@@ -253,31 +256,4 @@ fn leads_down<A: Allocator>(zone: &Name<A>, name: &Name<A>, cut: &Name<A>) -> bo
     ensures { result ≡ leads_down zone.now name.now cut.now }
 {
     cut.is_at_or_under(zone) && *cut != *zone && name.is_at_or_under(cut)
-}
-
-// The A records of the servers that stand at or under the zone. A message can hold thousands of both, so
-// the servers' names are sorted once.
-fn addresses_of<A: Heap>(
-    alloc: A,
-    zone: &Name<A>,
-    servers: &[Record<A>],
-    additional: &[Record<A>],
-) -> Result<Records<A>, Starved>
-    ensures { IfOk result (λ rs. rs ≡ addresses_of zone.now servers.now additional.now) }
-{
-    let targets = targets_of(alloc, servers)?;
-    let mut addresses = Records::new(alloc);
-    for rr in additional {
-        if is_taken(rr, zone, &targets) {
-            addresses.push(rr.clone()?)?;
-        }
-    }
-    Ok(addresses)
-}
-
-fn is_taken<A: Allocator>(rr: &Record<A>, zone: &Name<A>, targets: &[Name<A>]) -> bool
-    requires { IsSorted name_cmp targets.now }
-    ensures { result ≡ (is_type a_type rr.now && is_under rr.now.owner zone.now && is_one_of rr.now.owner targets.now) }
-{
-    rr.is(RType::A) && rr.owner.is_at_or_under(zone) && is_one_of(&rr.owner, targets)
 }

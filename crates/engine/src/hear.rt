@@ -13,12 +13,12 @@ use exchange::{Action, Asking, Event, reply_in};
 use iterate::Input;
 
 // What an event brings for an ask: a message that is accepted, as an input.
-fn read<A: Heap>(
+fn read<'e, A: Heap>(
     alloc: A,
     port: u16,
     ask: &Asking<A>,
-    event: &Event<A>,
-) -> Result<Option<Input<A>>, Starved>
+    event: &'e Event<A>,
+) -> Result<Option<Input<'e, A>>, Starved>
     ensures { IfOk result (Reads port ask.now (event_view event.now)) }
 {
     match reply_in(alloc, port, ask, event)? {
@@ -29,7 +29,11 @@ fn read<A: Heap>(
 
 impl<A: Heap> Works<A> {
     // What an event brings for the open query of that number.
-    fn read_for(&self, number: u64, event: &Event<A>) -> Result<Option<Input<A>>, Starved>
+    fn read_for<'e>(
+        &self,
+        number: u64,
+        event: &'e Event<A>,
+    ) -> Result<Option<Input<'e, A>>, Starved>
         requires { (q : Open) × IsTheOne self.now.queries number q }
         ensures { IfOk result (IsRead (state_of self.now) number (event_view event.now)) }
     {

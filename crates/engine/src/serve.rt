@@ -82,12 +82,12 @@ impl<A: Heap> Works<A> {
         number: u64,
         asker: Asker<A>,
         mut job: Job<A>,
-        input: Input<A>,
+        input: Input<'_, A>,
     ) -> Result<Action<A>, Starved>
         requires sound { IsSound (state_of self.old) }
         requires fresh { HasNo self.old.queries number }
-        ensures ok { IfOk result (λ a. Goes (state_of self.old) asker number job (input_view input) (alone a) (state_of self.new)) }
-        ensures err { OnErr result (Falls (state_of self.old) job (input_view input) (state_of self.new)) }
+        ensures ok { IfOk result (λ a. Goes (state_of self.old) asker number job (input_view input.entry) (alone a) (state_of self.new)) }
+        ensures err { OnErr result (Falls (state_of self.old) job (input_view input.entry) (state_of self.new)) }
     {
         let next = advance(
             self.alloc,
@@ -101,11 +101,11 @@ impl<A: Heap> Works<A> {
     }
 
     // The open query of that number is served.
-    pub fn go_on(&mut self, number: u64, input: Input<A>) -> Result<Action<A>, Starved>
+    pub fn go_on(&mut self, number: u64, input: Input<'_, A>) -> Result<Action<A>, Starved>
         requires sound { IsSound (state_of self.old) }
         requires there { (q : Open) × IsTheOne self.old.queries number q }
-        ensures ok { IfOk result (λ a. ServesOne (state_of self.old) number (input_view input) (alone a) (state_of self.new)) }
-        ensures err { OnErr result (DropsOne (state_of self.old) number (input_view input) (state_of self.new)) }
+        ensures ok { IfOk result (λ a. ServesOne (state_of self.old) number (input_view input.entry) (alone a) (state_of self.new)) }
+        ensures err { OnErr result (DropsOne (state_of self.old) number (input_view input.entry) (state_of self.new)) }
     {
         match self.queries.take(number) {
             Some(open) => {

@@ -180,7 +180,7 @@ impl Starving {
     }
 
     // How many growths the last step takes where none is refused, and what comes of it.
-    fn last_step<A: Heap>(self, alloc: A) -> Result<(u64, Out), Starved> {
+    pub fn last_step<A: Heap>(self, alloc: A) -> Result<(u64, Out), Starved> {
         let heap = Refusing::new(alloc);
         let mut desk = self.begin(&heap)?;
         let event = event(&desk, self.last.0);

@@ -12,24 +12,28 @@ const FOUND: &[u8] = b"\x84\0\0\x01\0\x01\0\0\0\0";
 const REPLY: &[u8] = b"\x81\x80\0\x01\0\x01\0\0\0\0";
 
 // An address of www.example.
-const ONE: &[Line] = &[Line {
+const WANTED: Line = Line {
     owner: WWW_EXAMPLE,
     ttl: 300,
     last: 9,
-}];
+};
 
-// That, and an address of example. behind it.
-const BOTH: &[Line] = &[
-    Line {
-        owner: WWW_EXAMPLE,
-        ttl: 300,
-        last: 9,
-    },
-    Line {
-        owner: EXAMPLE,
-        ttl: 300,
-        last: 66,
-    },
+const ONE: &[Line] = &[WANTED];
+
+// An address of example.
+const UNWANTED: Line = Line {
+    owner: EXAMPLE,
+    ttl: 300,
+    last: 66,
+};
+
+const BOTH: &[Line] = &[WANTED, UNWANTED];
+
+// An address of www.example., and twenty of example. behind it.
+const CROWD: &[Line] = &[
+    WANTED, UNWANTED, UNWANTED, UNWANTED, UNWANTED, UNWANTED, UNWANTED, UNWANTED, UNWANTED,
+    UNWANTED, UNWANTED, UNWANTED, UNWANTED, UNWANTED, UNWANTED, UNWANTED, UNWANTED, UNWANTED,
+    UNWANTED, UNWANTED, UNWANTED,
 ];
 
 // One record twice, and two TTLs, the lower one at another record; and the lower one at the repeat, which is dropped. The
@@ -272,5 +276,29 @@ const ROWS: &[Starving] = &[
 #[test]
 fn memory_may_be_refused(rt: HostRuntime) -> Result<(), Fail> {
     assert_eq!(rt; first_not_starving(rt.alloc(), ROWS)?, None);
+    Ok(())
+}
+
+const ANSWERED: Starving = Starving {
+    acts: &[ASKED],
+    last: (Act::Told(ROOT, FOUND, ONE), Out::Replied),
+    takes_memory: true,
+    after: &[],
+};
+
+const ANSWERED_IN_A_CROWD: Starving = Starving {
+    last: (
+        Act::Told(ROOT, b"\x84\0\0\x01\0\x01\0\0\0\x14", CROWD),
+        Out::Replied,
+    ),
+    ..ANSWERED
+};
+
+// Of twenty records more in the additional section none is made.
+#[test]
+fn what_nobody_asked_for_takes_no_memory(rt: HostRuntime) -> Result<(), Fail> {
+    let (growths, out) = ANSWERED.last_step(rt.alloc())?;
+    assert!(rt; ANSWERED_IN_A_CROWD.last_step(rt.alloc())? == (growths, out));
+    assert_eq!(rt; out, Out::Replied);
     Ok(())
 }

@@ -1,4 +1,3 @@
 pub mod Plainly
 pub mod Replying
-pub mod Alike
 pub mod Short

@@ -14,18 +14,18 @@ use crate::path::{Endpoint, Path};
 use dname::{Heap, Starved};
 use rdata::INTERNET;
 use std::alloc::Allocator;
-use wire::{Message, Question, WireError, decode};
+use wire::{View, WireError};
 
 /// The reply to an ask that an event brings, and none where it brings none: a message of operation 0 with QR
 /// set, the ask's ID and its one question in class IN, over UDP at the ask's socket from `port` of the server
 /// that was asked, over TCP under the ask's number (RFC 1035, section 7.3). Only bytes that come so and have
-/// such a header are decoded: others take no memory.
-pub fn reply_in<A: Heap>(
+/// such a header are looked into: others take no memory.
+pub fn reply_in<'a, A: Heap>(
     alloc: A,
     port: u16,
     ask: &Asking<A>,
-    event: &Event<A>,
-) -> Result<Option<Message<A>>, Starved>
+    event: &'a Event<A>,
+) -> Result<Option<View<'a, A>>, Starved>
     ensures brought { IfOk result (λ r. MatchOption r ((m : layouts.Message) → Brings port ask.now (event_view event.now) m → ⊥) (λ m. Brings port ask.now (event_view event.now) m)) }
     ensures quiet { (MayReply port ask.now (event_view event.now) → ⊥) → IsOk result }
 {
@@ -60,18 +60,18 @@ fn is_from<A: Allocator>(ask: &Asking<A>, port: u16, from: Endpoint) -> bool
 }
 
 // The message that bytes are, where it answers the ask.
-fn message_for<A: Heap>(
+fn message_for<'a, A: Heap>(
     alloc: A,
     ask: &Asking<A>,
-    bytes: &[u8],
-) -> Result<Option<Message<A>>, Starved>
+    bytes: &'a [u8],
+) -> Result<Option<View<'a, A>>, Starved>
     ensures brought { IfOk result (λ r. MatchOption r ((m : layouts.Message) → IsMessage bytes.now m → AnswersAsk ask.now m → ⊥) (λ m. IsMessage bytes.now m × AnswersAsk ask.now m)) }
     ensures quiet { (OpensReply ask.now.id bytes.now → ⊥) → IsOk result }
 {
     if !opens_reply(ask.id, bytes) {
         return Ok(None);
     }
-    match decode(alloc, bytes) {
+    match View::new(alloc, bytes) {
         Ok(message) => Ok(of_question(ask, message)),
         Err(WireError::Memory) => Err(Starved),
         Err(_) => Ok(None),
@@ -79,10 +79,10 @@ fn message_for<A: Heap>(
 }
 
 // The message, where its one question is the ask's.
-fn of_question<A: Heap>(ask: &Asking<A>, message: Message<A>) -> Option<Message<A>>
-    ensures { MatchOption result (message.questions ≡ question_for ask.now.name ask.now.kind ∷ [] → ⊥) (λ m. (m ≡ message) × (message.questions ≡ question_for ask.now.name ask.now.kind ∷ [])) }
+fn of_question<'a, A: Heap>(ask: &Asking<A>, message: View<'a, A>) -> Option<View<'a, A>>
+    ensures { MatchOption result (message.entry.questions ≡ question_for ask.now.name ask.now.kind ∷ [] → ⊥) (λ m. (m ≡ message.entry) × (message.entry.questions ≡ question_for ask.now.name ask.now.kind ∷ [])) }
 {
-    if is_alone(ask, message.questions.as_slice()) {
+    if message.asks_for(&ask.name, ask.kind.number(), INTERNET) {
         Some(message)
     } else {
         None
@@ -94,23 +94,6 @@ fn opens_reply(id: u16, bytes: &[u8]) -> bool
     ensures { IsTrue result ↔ OpensReply id bytes.now }
 {
     bytes.len() >= 12 && id_in(bytes) == id && bytes[2] >> 7 == 1 && (bytes[2] >> 3) & 0x0f == 0
-}
-
-// Whether the ask's question stands there alone.
-fn is_alone<A: Allocator>(ask: &Asking<A>, questions: &[Question<A>]) -> bool
-    ensures { IsTrue result ↔ (questions.now ≡ question_for ask.now.name ask.now.kind ∷ []) }
-{
-    match questions {
-        [question] => is_question(ask, question),
-        _ => false,
-    }
-}
-
-#[tactic(auto, using(crate::proofs::Alike::alike_is_equal, crate::proofs::Alike::equal_is_alike))]
-fn is_question<A: Allocator>(ask: &Asking<A>, question: &Question<A>) -> bool
-    ensures { IsTrue result ↔ (question.now ≡ question_for ask.now.name ask.now.kind) }
-{
-    question.name == ask.name && question.qtype == ask.kind.number() && question.qclass == INTERNET
 }
 
 /// The ID that bytes begin with (RFC 1035, section 4.1.1).

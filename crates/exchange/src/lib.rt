@@ -7,7 +7,7 @@
 //! ask's ID and its question.
 //!
 //! Promised: what is accepted is what the definition says, and nothing else (`Brings`); what goes out is that ask
-//! (`IsSent`), that reply (`IsReply`), within its way's limit. What can't be a reply is never decoded, and takes no
+//! (`IsSent`), that reply (`IsReply`), within its way's limit. What can't be a reply is not looked into, and takes no
 //! memory (clause `quiet`).
 //! Not here: which ask is open (`asks`, `queries`); what an accepted message is used for (`classify`).
 //!

@@ -43,13 +43,13 @@ pub(crate) fn run<S: BuildHasher + Drop, A: Heap>(
 pub fn advance<S: BuildHasher + Drop, A: Heap>(
     alloc: A,
     job: &mut Job<A>,
-    input: Input<A>,
+    input: Input<'_, A>,
     home: &Home<A>,
     stores: &mut Stores<S, A>,
     now: u64,
 ) -> Result<Next<A>, Starved>
-    ensures advances { IfOk result (λ next. Advances home.now now (input_view input) job.old stores.old (next_view next) job.new stores.new) }
-    ensures stops { OnErr result (Stops (input_view input) now job.old stores.old stores.new) }
+    ensures advances { IfOk result (λ next. Advances home.now now (input_view input.entry) job.old stores.old (next_view next) job.new stores.new) }
+    ensures stops { OnErr result (Stops (input_view input.entry) now job.old stores.old stores.new) }
 {
     let first = enter(alloc, job, input, stores, now)?;
     Ok(run(alloc, job, first, home, stores, now)?)

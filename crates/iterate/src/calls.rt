@@ -7,15 +7,15 @@ use dname::Name;
 use known::Taken;
 use rdata::{Addr, RType};
 use std::alloc::{Allocator, Global};
-use wire::{Message, Via};
+use wire::{Via, View};
 
 /// What comes in for a query.
 #[derive(Drop)]
-pub enum Input<A: Allocator = Global> {
+pub enum Input<'m, A: Allocator = Global> {
     /// The query itself.
     Start,
     /// The message that was accepted for its ask: the way it came, and the server.
-    Told(Via, Addr, Message<A>),
+    Told(Via, Addr, View<'m, A>),
     /// The wait for this server is over.
     TimedOut(Addr),
     /// The ask of this server over TCP failed.

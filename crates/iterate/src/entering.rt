@@ -17,20 +17,18 @@ use std::hash::BuildHasher;
 pub(crate) fn enter<S: BuildHasher + Drop, A: Heap>(
     alloc: A,
     job: &mut Job<A>,
-    input: Input<A>,
+    input: Input<'_, A>,
     stores: &mut Stores<S, A>,
     now: u64,
 ) -> Result<Task<A>, Starved>
-    ensures enters { IfOk result (λ t. Enters now (input_view input) job.old stores.old (point (task_view t) job.new stores.new)) }
-    ensures stops { OnErr result (Stops (input_view input) now job.old stores.old stores.new) }
+    ensures enters { IfOk result (λ t. Enters now (input_view input.entry) job.old stores.old (point (task_view t) job.new stores.new)) }
+    ensures stops { OnErr result (Stops (input_view input.entry) now job.old stores.old stores.new) }
 {
     match input {
         Input::Start => Ok(Task::Seek),
         Input::Told(via, server, message) => {
             stores.answered(server);
-            let heard = hear(alloc, job, via, server, &message, stores, now);
-            drop(message);
-            Ok(heard?)
+            Ok(hear(alloc, job, via, server, &message, stores, now)?)
         }
         Input::TimedOut(server) | Input::TcpFailed(server) => {
             stores.timed_out(server)?;

@@ -22,7 +22,7 @@ use rdata::Addr;
 use referral::Cut;
 use std::alloc::Allocator;
 use std::hash::BuildHasher;
-use wire::{Message, Via};
+use wire::{Via, View};
 
 // A link was accepted for the innermost search, which is over. The query's own name has its link; what a
 // server's name has is heard by the search around.
@@ -140,17 +140,17 @@ fn refer<S: BuildHasher + Drop, A: Heap>(
 }
 
 // Whether the message says that its server failed to answer (RFC 1035, section 4.1.1).
-fn is_server_failure<A: Allocator>(message: &Message<A>) -> bool
+fn is_server_failure<A: Allocator>(message: &View<'_, A>) -> bool
     ensures { result ≡ is_server_failure message.now }
 {
-    message.header.rcode == 2 && !message.header.tc
+    message.header().rcode == 2 && !message.header().tc
 }
 
 // That the server failed to answer what is sought is kept, where the message says so (RFC 2308, section 7.1).
 fn note_failure<S: BuildHasher + Drop, A: Heap>(
     search: &Search<A>,
     server: Addr,
-    message: &Message<A>,
+    message: &View<'_, A>,
     stores: &mut Stores<S, A>,
     now: u64,
 ) -> Result<(), Starved>
@@ -170,7 +170,7 @@ fn hear_for<S: BuildHasher + Drop, A: Heap>(
     search: Search<A>,
     via: Via,
     server: Addr,
-    message: &Message<A>,
+    message: &View<'_, A>,
     stores: &mut Stores<S, A>,
     now: u64,
 ) -> Result<Task<A>, Starved>
@@ -214,7 +214,7 @@ pub(crate) fn hear<S: BuildHasher + Drop, A: Heap>(
     job: &mut Job<A>,
     via: Via,
     server: Addr,
-    message: &Message<A>,
+    message: &View<'_, A>,
     stores: &mut Stores<S, A>,
     now: u64,
 ) -> Result<Task<A>, Starved>

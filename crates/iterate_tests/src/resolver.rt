@@ -11,7 +11,7 @@ use lru::DefaultHasher;
 use rdata::{RData, RType, RecordSet, Records};
 use std::hash::BuildHasherDefault;
 use std::num::NonZeroUsize;
-use wire::{Header, Message, Questions, Via};
+use wire::{Header, Message, Questions, UDP_LIMIT, Via, View, encode};
 use zone::Zone;
 
 // Servers are known by the last byte of their address, which stands in 192.0.2.0/24: one of the root, one of
@@ -170,26 +170,24 @@ fn referral<A: Heap>(
     Ok(message(alloc, header, empty(alloc), servers, addresses))
 }
 
-// A message over UDP from that server.
-fn told<A: Heap>(server: u8, message: Result<Message<A>, Starved>) -> Result<Input<A>, Starved> {
-    Ok(Input::Told(Via::Udp, address(server), message?))
+// The message that an event brings, and the server that it comes from.
+fn told<A: Heap>(alloc: A, event: Event) -> Result<Option<(u8, Message<A>)>, Starved> {
+    Ok(match event {
+        Event::Answer(server, row) => Some((server, answer(alloc, row)?)),
+        Event::NoName => Some((ROOT, denial(alloc)?)),
+        Event::Referral(zone, names, glue) => Some((ROOT, referral(alloc, zone, names, glue)?)),
+        Event::Truncated(server) => Some((server, bare(alloc, header(0, true, true)))),
+        Event::Refused(server) => Some((server, bare(alloc, header(5, true, false)))),
+        _ => None,
+    })
 }
 
-// A message without records from that server.
-fn told_nothing<A: Heap>(alloc: A, server: u8, header: Header) -> Input<A> {
-    Input::Told(Via::Udp, address(server), bare(alloc, header))
-}
-
-fn input<A: Heap>(alloc: A, event: Event) -> Result<Input<A>, Starved> {
+// What comes in without a message.
+fn untold<'m, A: Heap>(event: Event) -> Input<'m, A> {
     match event {
-        Event::Query(_) => Ok(Input::Start),
-        Event::Answer(server, row) => Ok(told(server, answer(alloc, row))?),
-        Event::NoName => Ok(told(ROOT, denial(alloc))?),
-        Event::Referral(zone, names, glue) => Ok(told(ROOT, referral(alloc, zone, names, glue))?),
-        Event::Truncated(server) => Ok(told_nothing(alloc, server, header(0, true, true))),
-        Event::Refused(server) => Ok(told_nothing(alloc, server, header(5, true, false))),
-        Event::TimedOut(server) => Ok(Input::TimedOut(address(server))),
-        Event::TcpFailed(server) => Ok(Input::TcpFailed(address(server))),
+        Event::TimedOut(server) => Input::TimedOut(address(server)),
+        Event::TcpFailed(server) => Input::TcpFailed(address(server)),
+        _ => Input::Start,
     }
 }
 
@@ -341,7 +339,7 @@ impl<A: Heap> Asked<A> {
         Ok(self.query(&name, now)?)
     }
 
-    fn advance(&mut self, input: Input<A>, now: u32) -> Result<Out, Starved> {
+    fn advance(&mut self, input: Input<'_, A>, now: u32) -> Result<Out, Starved> {
         let next = advance(
             self.alloc,
             &mut self.job,
@@ -353,13 +351,26 @@ impl<A: Heap> Asked<A> {
         Ok(short(&next))
     }
 
+    // What goes out at this moment for a message over UDP from that server.
+    fn told(&mut self, server: u8, message: &Message<A>, now: u32) -> Result<Out, Starved> {
+        let Ok(bytes) = encode(self.alloc, message, UDP_LIMIT) else {
+            return Err(Starved);
+        };
+        match View::new(self.alloc, &bytes) {
+            Ok(view) => Ok(self.advance(Input::Told(Via::Udp, address(server), view), now)?),
+            Err(_) => Err(Starved),
+        }
+    }
+
     // What goes out at this moment for what comes in.
     pub fn hear(&mut self, now: u32, event: Event) -> Result<Out, Starved> {
         if let Event::Query(text) = event {
             return Ok(self.ask(text, now)?);
         }
-        let input = input(self.alloc, event)?;
-        Ok(self.advance(input, now)?)
+        match told(self.alloc, event)? {
+            Some((server, message)) => Ok(self.told(server, &message, now)?),
+            None => Ok(self.advance(untold(event), now)?),
+        }
     }
 
     // What goes out in place of what has to.

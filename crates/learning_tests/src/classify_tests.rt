@@ -8,7 +8,7 @@ use rdata::{RType, Record, RecordSet, Records, put_data};
 use refusing::Refusing;
 use std::alloc::Allocator;
 use std::test::Fail;
-use wire::{Header, Message, Questions, Via};
+use wire::{Header, Message, Questions, TCP_LIMIT, Via, View, encode};
 
 #[derive(Clone, Copy)]
 enum Code {
@@ -84,8 +84,13 @@ impl Case {
     fn class<A: Heap>(&self, alloc: A) -> Result<Class<A>, Starved> {
         let zone = name(alloc, "example.")?;
         let asked = name(alloc, W)?;
-        let reply = self.reply(alloc)?;
-        Ok(classify(alloc, &zone, &asked, self.kind, self.via, &reply)?)
+        let Ok(bytes) = encode(alloc, &self.reply(alloc)?, TCP_LIMIT) else {
+            return Err(Starved);
+        };
+        match View::new(alloc, &bytes) {
+            Ok(reply) => Ok(classify(alloc, &zone, &asked, self.kind, self.via, &reply)?),
+            Err(_) => Err(Starved),
+        }
     }
 
     fn said<A: Heap>(&self, alloc: A) -> Result<String<A>, Starved> {

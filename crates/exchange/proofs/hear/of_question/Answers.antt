@@ -1,14 +1,17 @@
--- The fields of the message are those of its view.
-use Rattle.std.proofs.Common.{◌∙◌, sym, ap, refl}
-use Rattle.layout.specs.Messages.{Message}
+-- The question of the ask is one of class IN.
+use Rattle.std.proofs.Common.{[], ◌∷◌, ℕ, ◌∙◌, sym, ap, refl}
+use Rattle.runs.specs.States.{Asking}
+use Rattle.runs.specs.Messages.{question_for}
 use Rattle.exchange.proofs.hear.of_question.Goals as goal
 
-pub returns-then-is_alone : goal.returns-then-is_alone
-returns-then-is_alone g c =
-    (refl, ap (λ (m : Message). m.questions) (sym c.message.view_is) ∙ (sym c.as_slice.ensures ∙ c.is_alone.ensures.0 c.if-is_alone.true))
+pub returns-then-asks_for : goal.returns-then-asks_for
+returns-then-asks_for g c =
+    let same = ap (λ (t : ℕ). question_for c.ask.inside.name t ∷ []) c.number.ensures ∙ ap (λ (a : Asking). question_for a.name a.kind ∷ []) c.ask.view_is in
+    (refl, c.asks_for.ensures.0 c.if-asks_for.true ∙ same)
 
-pub returns-else-is_alone : goal.returns-else-is_alone
-returns-else-is_alone g c = λ asked.
-    let alone = c.is_alone.ensures.1 (c.as_slice.ensures ∙ (ap (λ (m : Message). m.questions) c.message.view_is ∙ asked)) in
-    let not = c.if-is_alone.false in
+pub returns : goal.returns
+returns g c = λ asked.
+    let same = ap (λ (t : ℕ). question_for c.ask.inside.name t ∷ []) c.number.ensures ∙ ap (λ (a : Asking). question_for a.name a.kind ∷ []) c.ask.view_is in
+    let alone = c.asks_for.ensures.1 (asked ∙ sym same) in
+    let not = c.if-asks_for.false in
     absurd (cc)
