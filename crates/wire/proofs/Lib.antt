@@ -4,6 +4,7 @@ pub mod SetRows
 pub mod Ends
 pub mod Spelt
 pub mod Whole
+pub mod Told
 pub mod Viewed
 pub mod Alone
 pub mod Writing

@@ -1,5 +1,5 @@
 -- A message seen in its bytes is the one that is read.
-use Rattle.std.proofs.Common.{◌≡◌, ℕ, zero, suc, ◌≤◌, ◌<◌, ◌+◌, ◌-◌, Bool, true, false, List, [], ◌∷◌, length, Result, Ok, Err, IsOk, IfErr, IsErrAnd, refl, sym, ◌∙◌, ap, subst, arith}
+use Rattle.std.proofs.Common.{◌≡◌, ℕ, zero, suc, ◌≤◌, ◌<◌, ◌+◌, ◌-◌, Bool, true, false, List, [], ◌∷◌, length, Result, Ok, Err, IsOk, refl, sym, ◌∙◌, ap, subst, arith}
 use Rattle.std.specs.Prelude.{nat_lt, if◌then◌else◌}
 use Rattle.std.proofs.lemmas.Bool.Decides.{nat_tests}
 use Rattle.rdata.specs.Records.{Record}
@@ -90,12 +90,6 @@ module _ (bytes : List ℕ) (questions : List Question) where
   all_seen answer authority additional end t h same =
       all_read bytes (header_of bytes) (two_at bytes 10) additional end questions (records (two_at bytes 6) answer) (records (two_at bytes 8) authority) (records (two_at bytes 10) additional)
       t refl (listing (section_from (two_at bytes 10) bytes additional) end h) same refl
-
--- ---- what a `?` hands on
-
-pub handed_err : {X : Type 0} (bytes : List ℕ) (r : Result X WireError) (e : WireError) → IsErrAnd r (λ y. y ≡ e) → message_of bytes ≡ Err e → IfErr r (λ d. message_of bytes ≡ Err d)
-handed_err bytes (Ok x) e h k = tt
-handed_err bytes (Err d) e h k = k ∙ (λ i. Err (sym h i))
 
 -- ---- its one question
 

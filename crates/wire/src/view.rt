@@ -1,5 +1,5 @@
 //! A message seen in its bytes.
-ghost use Rattle.std.specs.Prelude.{◌≡◌, ◌≤◌, ◌⊎◌, Err, [], ◌∷◌, ◌↔◌, length, IfOk, IfErr, IsTrue};
+ghost use Rattle.std.specs.Prelude.{◌≡◌, ◌≢◌, ◌≤◌, ◌⊎◌, [], ◌∷◌, ◌↔◌, length, IfOk, IfErr, IsTrue};
 ghost use Rattle.layout.specs.Messages as layouts;
 ghost use Rattle.layout.specs.Messages.{IsMessage};
 ghost use Rattle.wire.specs.declared.error.WireError.TheVariants.{Memory};
@@ -49,7 +49,7 @@ impl<'a, A: Heap> View<'a, A> {
         ensures exact { Gives {Y = layouts.Message} (λ m. m) result (message_of bytes.now) }
         ensures read { IfOk result (λ m. IsMessage bytes.now m) }
         ensures refused { IfErr result (λ e. (e ≡ Memory) ⊎ ((m : layouts.Message) → IsMessage bytes.now m → ⊥)) }
-        ensures quiet { length bytes.now ≤ UDP_LIMIT → IfErr result (λ e. message_of bytes.now ≡ Err e) }
+        ensures quiet { length bytes.now ≤ UDP_LIMIT → IfErr result (λ e. e ≢ Memory) }
     {
         if bytes.len() < 12 {
             return Err(WireError::Short);

@@ -3,7 +3,8 @@ use Rattle.wire.specs.declared.error.WireError.TheVariants.{Short, TrailingBytes
 use Rattle.wire.specs.Results.{end_of}
 use Rattle.wire.specs.Entries.{section_from, questions_from, message_of}
 use Rattle.wire.proofs.MessagesRead.{message_there, no_message, none_handed_on}
-use Rattle.wire.proofs.Viewed.{questions_in, as_first, as_second, as_third, too_short, no_questions, no_answer, no_authority, no_additional, more_behind, all_seen, handed_err}
+use Rattle.wire.proofs.Viewed.{questions_in, as_first, as_second, as_third, too_short, no_questions, no_answer, no_authority, no_additional, more_behind, all_seen}
+use Rattle.wire.proofs.Told.{handed_told}
 use Rattle.wire.proofs.Walks.{fails_is, gives_failed}
 use Rattle.wire.proofs.view.View.new.Goals as goal
 
@@ -12,9 +13,6 @@ returns-then-bytes-lt12-clause-exact g c = too_short c.args.bytes.now c.if-bytes
 
 pub returns-then-bytes-lt12-clause-refused : goal.returns-then-bytes-lt12-clause-refused
 returns-then-bytes-lt12-clause-refused g c = no_message c.args.bytes.now Short (too_short c.args.bytes.now c.if-bytes-lt12.true)
-
-pub returns-then-bytes-lt12-clause-quiet : goal.returns-then-bytes-lt12-clause-quiet
-returns-then-bytes-lt12-clause-quiet g c = λ _. too_short c.args.bytes.now c.if-bytes-lt12.true
 
 pub returns-in_err-answer-clause-exact : goal.returns-in_err-answer-clause-exact
 returns-in_err-answer-clause-exact g c =
@@ -33,7 +31,7 @@ returns-in_err-answer-clause-refused g c =
 pub returns-in_err-answer-clause-quiet : goal.returns-in_err-answer-clause-quiet
 returns-in_err-answer-clause-quiet g c =
     let bytes = c.args.bytes.now in
-    λ _. handed_err bytes c.from_residual-in_err-answer.result c.in_err-answer.field-0.0 c.from_residual-in_err-answer.ensures.1
+    λ _. handed_told bytes c.from_residual-in_err-answer.result c.in_err-answer.field-0.0 c.from_residual-in_err-answer.ensures.1
     (no_questions bytes c.in_err-answer.field-0.0 c.if-bytes-lt12.false
     (c.in_err-answer.ensures ∙ ap (λ n. end_of (questions_from n bytes 12)) c.two_at.ensures))
 
@@ -56,7 +54,7 @@ returns-in_err-authority-clause-refused g c =
 pub returns-in_err-authority-clause-quiet : goal.returns-in_err-authority-clause-quiet
 returns-in_err-authority-clause-quiet g c =
     let bytes = c.args.bytes.now in
-    λ _. handed_err bytes c.from_residual-in_err-authority.result c.in_err-authority.field-0.0 c.from_residual-in_err-authority.ensures.1
+    λ _. handed_told bytes c.from_residual-in_err-authority.result c.in_err-authority.field-0.0 c.from_residual-in_err-authority.ensures.1
     (no_answer bytes (questions_in bytes) c.in_ok-answer.answer c.in_err-authority.field-0.0
     (as_first bytes c.in_ok-answer.answer c.if-bytes-lt12.false (c.in_ok-answer.ensures ∙ ap (λ n. end_of (questions_from n bytes 12)) c.two_at.ensures))
     (c.in_err-authority.ensures ∙ ap (λ n. end_of (section_from n bytes c.in_ok-answer.answer)) c.two_at-2.ensures))
@@ -84,7 +82,7 @@ returns-in_err-additional-clause-refused g c =
 pub returns-in_err-additional-clause-quiet : goal.returns-in_err-additional-clause-quiet
 returns-in_err-additional-clause-quiet g c =
     let bytes = c.args.bytes.now in
-    λ _. handed_err bytes c.from_residual-in_err-additional.result c.in_err-additional.field-0.0 c.from_residual-in_err-additional.ensures.1
+    λ _. handed_told bytes c.from_residual-in_err-additional.result c.in_err-additional.field-0.0 c.from_residual-in_err-additional.ensures.1
     (no_authority bytes (questions_in bytes) c.in_ok-answer.answer c.in_ok-authority.authority c.in_err-additional.field-0.0
     (as_second bytes (questions_in bytes) c.in_ok-answer.answer c.in_ok-authority.authority
     (as_first bytes c.in_ok-answer.answer c.if-bytes-lt12.false (c.in_ok-answer.ensures ∙ ap (λ n. end_of (questions_from n bytes 12)) c.two_at.ensures))
@@ -118,7 +116,7 @@ returns-in_err-end-clause-refused g c =
 pub returns-in_err-end-clause-quiet : goal.returns-in_err-end-clause-quiet
 returns-in_err-end-clause-quiet g c =
     let bytes = c.args.bytes.now in
-    λ _. handed_err bytes c.from_residual-in_err-end.result c.in_err-end.field-0.0 c.from_residual-in_err-end.ensures.1
+    λ _. handed_told bytes c.from_residual-in_err-end.result c.in_err-end.field-0.0 c.from_residual-in_err-end.ensures.1
     (no_additional bytes (questions_in bytes) c.in_ok-answer.answer c.in_ok-authority.authority c.in_ok-additional.additional c.in_err-end.field-0.0
     (as_third bytes (questions_in bytes) c.in_ok-answer.answer c.in_ok-authority.authority c.in_ok-additional.additional
     (as_second bytes (questions_in bytes) c.in_ok-answer.answer c.in_ok-authority.authority
@@ -140,9 +138,6 @@ returns-then-end-bytes-clause-exact g c =
 
 pub returns-then-end-bytes-clause-refused : goal.returns-then-end-bytes-clause-refused
 returns-then-end-bytes-clause-refused g c = no_message c.args.bytes.now TrailingBytes (returns-then-end-bytes-clause-exact g c)
-
-pub returns-then-end-bytes-clause-quiet : goal.returns-then-end-bytes-clause-quiet
-returns-then-end-bytes-clause-quiet g c = λ _. returns-then-end-bytes-clause-exact g c
 
 pub returns-clause-exact : goal.returns-clause-exact
 returns-clause-exact g c =
