@@ -1,5 +1,5 @@
 -- Records lent from the bytes of a message that was read.
-use Rattle.std.proofs.Common.{◌≡◌, ℕ, ◌+◌, ◌≤◌, Bool, true, false, List, length, Option, Some, None, Result, Ok, Err, IsOk, refl, sym, ◌∙◌, ap, subst, arith}
+use Rattle.std.proofs.Common.{◌≡◌, ℕ, ◌+◌, ◌-◌, ◌≤◌, Bool, true, false, List, length, Option, Some, None, Result, Ok, Err, IsOk, refl, sym, ◌∙◌, subst, arith}
 use Rattle.std.specs.Prelude.{nat_lt, if◌then◌else◌}
 use Rattle.std.proofs.lemmas.Bool.Decides.{nat_tests}
 use Rattle.rdata.specs.Data.{Datum, type_of}
@@ -15,19 +15,16 @@ use Rattle.wire.specs.Parts.{message_faults, name_at}
 use Rattle.wire.specs.Values.{value_at}
 use Rattle.wire.specs.Results.{and_then, end_of}
 use Rattle.wire.specs.Entries.{kept_value, entry_kept, entry_sized, entry_behind, entry_at}
-use Rattle.wire.specs.Views.{labels_in, value_in, lent_record, IsLent}
+use Rattle.wire.specs.Views.{value_in, lent_record, IsLent}
 use Rattle.wire.proofs.Bytes.{AreSmall, was_read}
 use Rattle.wire.proofs.DataRead.{IsValue, value_stands}
+use Rattle.wire.proofs.Skipping.{owner_at, named_there, behind, sized, whole}
 use Rattle.wire.proofs.Walks.{Spelt}
 
 -- ---- a record's parts
 
 abbrev Entry : Type 0
 Entry = Result (Option Record × ℕ) WireError
-
-named_there : (r : Spelt) (past : ℕ) → Ok past ≡ end_of r → r ≡ Ok (labels_in r, past)
-named_there (Ok (name, end)) past h = let same : past ≡ end = cc in λ i. Ok (name, sym same i)
-named_there (Err e) past h = absurd (cc)
 
 pub no_owner : (bytes : List ℕ) (at : ℕ) (e : WireError) → IsOk (entry_at bytes at) → Err e ≡ end_of (name_at bytes message_faults (length bytes) at) → ⊥
 unfolding entry_at
@@ -39,63 +36,49 @@ no_owner bytes at e there h = by (name_at bytes message_faults (length bytes) at
 
 module _ (bytes : List ℕ) (at past : ℕ) (there : IsOk (entry_at bytes at)) (ends : Ok past ≡ end_of (name_at bytes message_faults (length bytes) at)) where
   abbrev owner : List (List ℕ)
-  owner = labels_in (name_at bytes message_faults (length bytes) at)
+  owner = owner_at bytes at
 
   abbrev size : ℕ
   size = two_at bytes (past + 8)
-
-  behind : entry_at bytes at ≡ entry_behind bytes (owner, past)
-  unfolding entry_at
-  behind = ap (λ x. and_then x (entry_behind bytes)) (named_there (name_at bytes message_faults (length bytes) at) past ends)
 
   choose : (b : Bool) (x : Entry) → IsOk (if b then Err Short else x) → b ≡ false
   choose true x h = let no : false ≡ true = h in absurd (cc)
   choose false x h = refl
 
-  other : (b : Bool) (x : Entry) → b ≡ false → (if b then Err Short else x) ≡ x
-  other b x h = ap (λ c. if c then Err Short else x) h
+  ten : 10 ≤ length bytes - past
+  ten =
+      let h = choose (nat_lt (length bytes) (past + 10)) (entry_sized bytes owner past) (subst IsOk (behind bytes at past ends) there) in
+      grind (arith, nat_tests)
 
-  ten : nat_lt (length bytes) (past + 10) ≡ false
-  ten = choose (nat_lt (length bytes) (past + 10)) (entry_sized bytes owner past) (subst IsOk behind there)
-
-  as_sized : entry_at bytes at ≡ entry_sized bytes owner past
-  as_sized = behind ∙ other (nat_lt (length bytes) (past + 10)) (entry_sized bytes owner past) ten
-
-  abbrev kept : Entry
-  kept = entry_kept (served_type (two_at bytes past) (two_at bytes (past + 2))) bytes owner (four_at bytes (past + 4)) (past + 10) (past + 10 + size)
-
-  whole : nat_lt (length bytes) (past + 10 + size) ≡ false
-  whole = choose (nat_lt (length bytes) (past + 10 + size)) kept (subst IsOk as_sized there)
+  abbrev kept : Option RType → Entry
+  kept o = entry_kept o bytes owner (four_at bytes (past + 4)) (past + 10) (past + 10 + size)
 
   pub fits : past + 10 + two_at bytes (past + 8) ≤ length bytes
-  fits = let h = whole in grind (arith, nat_tests)
+  fits =
+      let h = choose (nat_lt (length bytes) (past + 10 + size)) (kept (served_type (two_at bytes past) (two_at bytes (past + 2)))) (subst IsOk (sized bytes at past ends ten) there) in
+      grind (arith, nat_tests)
 
-  as_kept : entry_at bytes at ≡ kept
-  as_kept = as_sized ∙ other (nat_lt (length bytes) (past + 10 + size)) kept whole
+  as_kept : (o : Option RType) → o ≡ served_type (two_at bytes past) (two_at bytes (past + 2)) → entry_at bytes at ≡ kept o
+  as_kept o is = let inside = fits in whole bytes at past o ends ten (omega arith) is
 
   pub lent_none : (n : ℕ) → n ≡ two_at bytes (past + 8) → None ≡ served_type (two_at bytes past) (two_at bytes (past + 2)) → entry_at bytes at ≡ Ok (None, past + 10 + n)
-  lent_none n e none =
-      as_kept ∙ (ap (λ o. entry_kept o bytes owner (four_at bytes (past + 4)) (past + 10) (past + 10 + size)) (sym none) ∙ (λ i. Ok (None, past + 10 + sym e i)))
+  lent_none n e none = as_kept None none ∙ (λ i. Ok (None, past + 10 + sym e i))
 
   valued : (kind : RType) (end : ℕ) (r : Result Datum WireError) → IsOk (and_then r (kept_value owner (four_at bytes (past + 4)) end))
       → IsOk r × (and_then r (kept_value owner (four_at bytes (past + 4)) end) ≡ Ok (Some (record { owner = owner; ttl = ttl_of (four_at bytes (past + 4)); value = value_in r }), end))
   valued kind end (Ok v) h = (refl, refl)
   valued kind end (Err e) h = let no : false ≡ true = h in absurd (cc)
 
-  as_some : (kind : RType) → Some kind ≡ served_type (two_at bytes past) (two_at bytes (past + 2))
-      → entry_at bytes at ≡ and_then (value_at kind bytes (past + 10) (past + 10 + size)) (kept_value owner (four_at bytes (past + 4)) (past + 10 + size))
-  as_some kind some = as_kept ∙ ap (λ o. entry_kept o bytes owner (four_at bytes (past + 4)) (past + 10) (past + 10 + size)) (sym some)
-
   found : (kind : RType) → Some kind ≡ served_type (two_at bytes past) (two_at bytes (past + 2))
       → IsOk (value_at kind bytes (past + 10) (past + 10 + size))
       × (and_then (value_at kind bytes (past + 10) (past + 10 + size)) (kept_value owner (four_at bytes (past + 4)) (past + 10 + size))
       ≡ Ok (Some (record { owner = owner; ttl = ttl_of (four_at bytes (past + 4)); value = value_in (value_at kind bytes (past + 10) (past + 10 + size)) }), past + 10 + size))
-  found kind some = valued kind (past + 10 + size) (value_at kind bytes (past + 10) (past + 10 + size)) (subst IsOk (as_some kind some) there)
+  found kind some = valued kind (past + 10 + size) (value_at kind bytes (past + 10) (past + 10 + size)) (subst IsOk (as_kept (Some kind) some) there)
 
   pub lent_some : (kind : RType) (n ttl : ℕ) → n ≡ two_at bytes (past + 8) → ttl ≡ ttl_of (four_at bytes (past + 4)) → Some kind ≡ served_type (two_at bytes past) (two_at bytes (past + 2))
       → entry_at bytes at ≡ Ok (Some (lent_record bytes at kind ttl (past + 10) (past + 10 + n)), past + 10 + n)
   lent_some kind n ttl e t some =
-      as_some kind some ∙ ((found kind some).1 ∙ (λ i. Ok (Some (lent_record bytes at kind (sym t i) (past + 10) (past + 10 + sym e i)), past + 10 + sym e i)))
+      as_kept (Some kind) some ∙ ((found kind some).1 ∙ (λ i. Ok (Some (lent_record bytes at kind (sym t i) (past + 10) (past + 10 + sym e i)), past + 10 + sym e i)))
 
   kind_by : (kind : RType) (end : ℕ) (r : Result Datum WireError) → value_at kind bytes (past + 10) end ≡ r → AreSmall bytes → end ≤ length bytes → IsOk r
       → type_of (value_in r) ≡ type_number kind

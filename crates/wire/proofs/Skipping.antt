@@ -17,9 +17,10 @@ use Rattle.wire.specs.Values.{form_at, value_at, whole as fills}
 use Rattle.wire.specs.Results.{and_then, end_of}
 use Rattle.wire.specs.Entries.{kept_value, entry_kept, entry_sized, entry_behind, entry_at}
 use Rattle.wire.specs.Skips.{IsSkipping}
+use Rattle.wire.specs.Views.{labels_in}
 use Rattle.std.specs.Result.{IsErrAnd}
 use Rattle.wire.proofs.Walks.{Spelt, unfueled}
-use Rattle.wire.proofs.Ends.{ended, not_ended}
+use Rattle.wire.proofs.Ends.{not_ended}
 
 -- ---- a record behind its owner
 
@@ -37,44 +38,47 @@ no : (b : Bool) (x y : Result (Option Record × ℕ) WireError) → b ≡ false 
 no b x y h = ap (λ c. if c then x else y) h
 
 -- The record behind an owner of which the end alone is known.
-record Behind (bytes : List ℕ) (at past : ℕ) : Type 0 where
-  name : List (List ℕ)
-  is : entry_at bytes at ≡ entry_behind bytes (name, past)
+abbrev pub owner_at : List ℕ → ℕ → List (List ℕ)
+owner_at bytes at = labels_in (name_at bytes message_faults (length bytes) at)
 
-behind : (bytes : List ℕ) (at past : ℕ) → Ok past ≡ end_of (name_at bytes message_faults (length bytes) at) → Behind bytes at past
+pub named_there : (r : Spelt) (past : ℕ) → Ok past ≡ end_of r → r ≡ Ok (labels_in r, past)
+named_there (Ok (name, end)) past h = let same : past ≡ end = cc in λ i. Ok (name, sym same i)
+named_there (Err e) past h = absurd (cc)
+
+pub behind : (bytes : List ℕ) (at past : ℕ) → Ok past ≡ end_of (name_at bytes message_faults (length bytes) at) → entry_at bytes at ≡ entry_behind bytes (owner_at bytes at, past)
 behind bytes at past h =
-    let found = ended (name_at bytes message_faults (length bytes) at) past h in
-    record { name = found.0; is = entry_by bytes at (Ok (found.0, past)) found.1 }
+    entry_by bytes at (Ok (owner_at bytes at, past)) (named_there (name_at bytes message_faults (length bytes) at) past h)
 
 pub skip_short : (bytes : List ℕ) (at past : ℕ) → Ok past ≡ end_of (name_at bytes message_faults (length bytes) at) → past ≤ length bytes
     → length bytes - past < 10 → entry_at bytes at ≡ Err Short
 skip_short bytes at past h within short =
     let b : nat_lt (length bytes) (past + 10) ≡ true = grind (arith, nat_tests) in
-    (behind bytes at past h).is ∙ yes (nat_lt (length bytes) (past + 10)) _ _ b
+    behind bytes at past h ∙ yes (nat_lt (length bytes) (past + 10)) _ _ b
 
-sized : (bytes : List ℕ) (at past : ℕ) (h : Behind bytes at past) → 10 ≤ length bytes - past → entry_at bytes at ≡ entry_sized bytes h.name past
+pub sized : (bytes : List ℕ) (at past : ℕ) → Ok past ≡ end_of (name_at bytes message_faults (length bytes) at) → 10 ≤ length bytes - past
+    → entry_at bytes at ≡ entry_sized bytes (owner_at bytes at) past
 sized bytes at past h there =
     let b : nat_lt (length bytes) (past + 10) ≡ false = grind (arith, nat_tests) in
-    h.is ∙ no (nat_lt (length bytes) (past + 10)) _ _ b
+    behind bytes at past h ∙ no (nat_lt (length bytes) (past + 10)) _ _ b
 
 pub skip_cut : (bytes : List ℕ) (at past : ℕ) → Ok past ≡ end_of (name_at bytes message_faults (length bytes) at) → 10 ≤ length bytes - past
     → length bytes - (past + 10) < two_at bytes (past + 8) → entry_at bytes at ≡ Err Short
 skip_cut bytes at past h there short =
     let b : nat_lt (length bytes) (past + 10 + two_at bytes (past + 8)) ≡ true = grind (arith, nat_tests) in
-    sized bytes at past (behind bytes at past h) there ∙ yes (nat_lt (length bytes) (past + 10 + two_at bytes (past + 8))) _ _ b
+    sized bytes at past h there ∙ yes (nat_lt (length bytes) (past + 10 + two_at bytes (past + 8))) _ _ b
 
-whole : (bytes : List ℕ) (at past : ℕ) (h : Behind bytes at past) (o : Option RType) → 10 ≤ length bytes - past → two_at bytes (past + 8) ≤ length bytes - (past + 10)
-    → o ≡ served_type (two_at bytes past) (two_at bytes (past + 2))
-    → entry_at bytes at ≡ entry_kept o bytes h.name (four_at bytes (past + 4)) (past + 10) (past + 10 + two_at bytes (past + 8))
-whole bytes at past h o there fits is =
+pub whole : (bytes : List ℕ) (at past : ℕ) (o : Option RType) → Ok past ≡ end_of (name_at bytes message_faults (length bytes) at) → 10 ≤ length bytes - past
+    → two_at bytes (past + 8) ≤ length bytes - (past + 10) → o ≡ served_type (two_at bytes past) (two_at bytes (past + 2))
+    → entry_at bytes at ≡ entry_kept o bytes (owner_at bytes at) (four_at bytes (past + 4)) (past + 10) (past + 10 + two_at bytes (past + 8))
+whole bytes at past o h there fits is =
     let b : nat_lt (length bytes) (past + 10 + two_at bytes (past + 8)) ≡ false = grind (arith, nat_tests) in
     sized bytes at past h there ∙ (no (nat_lt (length bytes) (past + 10 + two_at bytes (past + 8))) _ _ b
-    ∙ ap (λ x. entry_kept x bytes h.name (four_at bytes (past + 4)) (past + 10) (past + 10 + two_at bytes (past + 8))) (sym is))
+    ∙ ap (λ x. entry_kept x bytes (owner_at bytes at) (four_at bytes (past + 4)) (past + 10) (past + 10 + two_at bytes (past + 8))) (sym is))
 
 pub skip_done : (bytes : List ℕ) (at past : ℕ) → Ok past ≡ end_of (name_at bytes message_faults (length bytes) at) → 10 ≤ length bytes - past
     → two_at bytes (past + 8) ≤ length bytes - (past + 10) → None ≡ served_type (two_at bytes past) (two_at bytes (past + 2))
     → entry_at bytes at ≡ Ok (None, past + 10 + two_at bytes (past + 8))
-skip_done bytes at past h there fits is = whole bytes at past (behind bytes at past h) None there fits is
+skip_done bytes at past h there fits is = whole bytes at past None h there fits is
 
 -- RDATA that are refused in the form of their type.
 pub form_fails : (bytes : List ℕ) (at past : ℕ) (kind : RType) (e : WireError) → Ok past ≡ end_of (name_at bytes message_faults (length bytes) at) → 10 ≤ length bytes - past
@@ -82,10 +86,9 @@ pub form_fails : (bytes : List ℕ) (at past : ℕ) (kind : RType) (e : WireErro
     → Err e ≡ end_of (form_at kind bytes (past + 10) (past + 10 + two_at bytes (past + 8))) → Err e ≡ end_of (entry_at bytes at)
 unfolding value_at
 form_fails bytes at past kind e h there fits is bad =
-    let found = behind bytes at past h in
     let end = past + 10 + two_at bytes (past + 8) in
-    sym (ap end_of (whole bytes at past found (Some kind) there fits is)
-    ∙ ap (λ x. end_of (and_then (and_then x (fills end)) (kept_value found.name (four_at bytes (past + 4)) end))) (not_ended (form_at kind bytes (past + 10) end) e bad))
+    sym (ap end_of (whole bytes at past (Some kind) h there fits is)
+    ∙ ap (λ x. end_of (and_then (and_then x (fills end)) (kept_value (owner_at bytes at) (four_at bytes (past + 4)) end))) (not_ended (form_at kind bytes (past + 10) end) e bad))
 
 abbrev record_in : Result (Option Record × ℕ) WireError → Option Record
 record_in (Ok x) = x.0
@@ -107,8 +110,8 @@ pub skip_kept : (bytes : List ℕ) (at past : ℕ) (kind : RType) → Ok past �
     → two_at bytes (past + 8) ≤ length bytes - (past + 10) → Some kind ≡ served_type (two_at bytes past) (two_at bytes (past + 2))
     → (end : ℕ) → entry_at bytes at ≡ Ok (None, end) → ⊥
 skip_kept bytes at past kind h there fits is end read =
-    let found = behind bytes at past h in
-    kept_is_some kind bytes found.name (four_at bytes (past + 4)) (past + 10) (past + 10 + two_at bytes (past + 8)) end (sym (whole bytes at past found (Some kind) there fits is) ∙ read)
+    kept_is_some kind bytes (owner_at bytes at) (four_at bytes (past + 4)) (past + 10) (past + 10 + two_at bytes (past + 8)) end
+    (sym (whole bytes at past (Some kind) h there fits is) ∙ read)
 
 -- ---- a record whose owner is a pointer
 
