@@ -1,4 +1,4 @@
-//! Replies of one and of twenty addresses, decoded and encoded.
+//! Replies of one and of twenty addresses, decoded, seen in their bytes and encoded.
 ghost use Rattle.std.specs.Prelude.{◌<◌};
 
 use crate::done::low;
@@ -7,20 +7,23 @@ use dname::Heap;
 use refusing::Refusing;
 use std::fmt;
 use std::rt::Runtime;
-use wire::{Message, TCP_LIMIT, WireError, decode, encode};
+use wire::{Message, TCP_LIMIT, View, WireError, decode, encode};
 
 /// A kind of work on messages: replies with so many addresses of one name.
 #[derive(Clone, Copy)]
 pub enum OnMessages {
     Decode(u8),
+    See(u8),
     Encode(u8),
 }
 
 /// All of it.
-pub const EACH: [OnMessages; 4] = [
+pub const EACH: [OnMessages; 6] = [
     OnMessages::Decode(1),
+    OnMessages::See(1),
     OnMessages::Encode(1),
     OnMessages::Decode(20),
+    OnMessages::See(20),
     OnMessages::Encode(20),
 ];
 
@@ -28,8 +31,10 @@ impl fmt::Display for OnMessages {
     fn fmt<W: fmt::Write>(&self, f: &mut fmt::Formatter<W>) -> fmt::Result {
         match self {
             OnMessages::Decode(1) => f.write_str("reply of 45 bytes decoded"),
+            OnMessages::See(1) => f.write_str("reply of 45 bytes seen"),
             OnMessages::Encode(1) => f.write_str("reply of 45 bytes encoded"),
             OnMessages::Decode(count) => write!(f, "reply of {count} addresses decoded"),
+            OnMessages::See(count) => write!(f, "reply of {count} addresses seen"),
             OnMessages::Encode(count) => write!(f, "reply of {count} addresses encoded"),
         }
     }
@@ -41,8 +46,8 @@ impl OnMessages {
         ensures { 0 < result }
     {
         match self {
-            OnMessages::Decode(1) | OnMessages::Encode(1) => 1_000_000,
-            OnMessages::Decode(_) | OnMessages::Encode(_) => 100_000,
+            OnMessages::Decode(1) | OnMessages::See(1) | OnMessages::Encode(1) => 1_000_000,
+            OnMessages::Decode(_) | OnMessages::See(_) | OnMessages::Encode(_) => 100_000,
         }
     }
 
@@ -52,6 +57,12 @@ impl OnMessages {
             OnMessages::Decode(count) => decoded(
                 alloc,
                 &encode(alloc, &reply(alloc, count)?, TCP_LIMIT)?,
+                rounds,
+            ),
+            OnMessages::See(count) => seen(
+                alloc,
+                &encode(alloc, &reply(alloc, count)?, TCP_LIMIT)?,
+                count,
                 rounds,
             ),
             OnMessages::Encode(count) => encoded(alloc, &reply(alloc, count)?, rounds),
@@ -83,6 +94,21 @@ fn decoded<A: Heap>(alloc: A, bytes: &[u8], rounds: u64) -> Result<u64, WireErro
     let mut sum = 0u64;
     for _ in 0..rounds {
         sum = sum.wrapping_add(low(decode(alloc, bytes)?.answer.len()));
+    }
+    Ok(sum)
+}
+
+// Checked, and each record of its answer passed.
+fn seen<A: Heap>(alloc: A, bytes: &[u8], count: u8, rounds: u64) -> Result<u64, WireError> {
+    let mut sum = 0u64;
+    for _ in 0..rounds {
+        let view = View::new(alloc, bytes)?;
+        let mut answer = view.answer();
+        for _ in 0..count {
+            if answer.next().is_some() {
+                sum = sum.wrapping_add(1);
+            }
+        }
     }
     Ok(sum)
 }

@@ -53,7 +53,7 @@ pub enum Work {
     Steps(OnSteps),
 }
 
-pub const ALL: [Work; 42] = [
+pub const ALL: [Work; 44] = [
     Work::Names(OnNames::Read),
     Work::Names(OnNames::Write),
     Work::Names(OnNames::Hash),
@@ -61,8 +61,10 @@ pub const ALL: [Work; 42] = [
     Work::Names(OnNames::TestUnder),
     Work::Names(OnNames::MakeSet),
     Work::Messages(OnMessages::Decode(1)),
+    Work::Messages(OnMessages::See(1)),
     Work::Messages(OnMessages::Encode(1)),
     Work::Messages(OnMessages::Decode(20)),
+    Work::Messages(OnMessages::See(20)),
     Work::Messages(OnMessages::Encode(20)),
     Work::ReadZone,
     Work::BuildThousand,
