@@ -1,7 +1,6 @@
 //! Lines that are taken and lines that are not.
-use commandline::{Command, LineFault, help_text, read_words};
+use commandline::{Command, help_text, read_words};
 use std::alloc::Global;
-use std::process::Abort;
 use std::test::Fail;
 
 fn words(alloc: Global, texts: &[&str]) -> Result<Vec<String>, Fail> {
@@ -12,65 +11,85 @@ fn words(alloc: Global, texts: &[&str]) -> Result<Vec<String>, Fail> {
     Ok(words)
 }
 
-#[test]
-fn ask_takes_four_words(rt: HostRuntime) -> Result<(), Fail> {
-    let line = words(
-        rt.alloc(),
-        &["ask", "lab.example.", "lab.zone", "x.lab.example.", "TXT"],
-    )?;
-    let Ok(
+// Whether the line has the word there.
+fn has(line: &[&str], place: usize, word: &String) -> bool {
+    line.get(place).is_some_and(|it| *it == word.as_str())
+}
+
+// Whether a line of `storm` says so many entries, this world and these scripts.
+fn is_storm(line: &[&str], keep: u32, world: &String, scripts: &[String]) -> bool {
+    let (most, first) = if line.get(1) == Some(&"--keep") {
+        (1_000_000, 3)
+    } else {
+        (65_536, 1)
+    };
+    keep == most
+        && has(line, first, world)
+        && scripts.len() + first + 1 == line.len()
+        && scripts
+            .last()
+            .is_some_and(|script| has(line, first + scripts.len(), script))
+}
+
+// Whether the command is the one that the line names, with the line's words.
+fn is_of(command: &Command, line: &[&str]) -> bool {
+    let said = line.first().copied();
+    match command {
         Command::Ask {
             origin,
             file,
             name,
             kind,
-        },
-    ) = read_words(rt.alloc(), line.as_slice())
-    else {
-        panic!(rt; "the line is refused");
-    };
-    assert_eq!(rt; origin.as_str(), "lab.example.");
-    assert_eq!(rt; file.as_str(), "lab.zone");
-    assert_eq!(rt; name.as_str(), "x.lab.example.");
-    assert_eq!(rt; kind.as_str(), "TXT");
-    Ok(())
+        } => {
+            said == Some("ask")
+                && has(line, 1, origin)
+                && has(line, 2, file)
+                && has(line, 3, name)
+                && has(line, 4, kind)
+        }
+        Command::Check { origin, file } => {
+            said == Some("check") && has(line, 1, origin) && has(line, 2, file)
+        }
+        Command::Dump { origin, file } => {
+            said == Some("dump") && has(line, 1, origin) && has(line, 2, file)
+        }
+        Command::Play { world, script } => {
+            said == Some("play") && has(line, 1, world) && has(line, 2, script)
+        }
+        Command::Storm {
+            keep,
+            world,
+            scripts,
+        } => said == Some("storm") && is_storm(line, *keep, world, scripts.as_slice()),
+        Command::Serve { config } => said == Some("serve") && has(line, 1, config),
+    }
+}
+
+// Whether the line is taken, and as what it says.
+fn is_taken(alloc: Global, line: &[&str]) -> Result<bool, Fail> {
+    let line_words = words(alloc, line)?;
+    Ok(match read_words(alloc, line_words.as_slice()) {
+        Ok(command) => is_of(&command, line),
+        Err(_) => false,
+    })
+}
+
+// Whether the line is refused, as one that names no command with its words.
+fn is_refused(alloc: Global, line: &[&str]) -> Result<bool, Fail> {
+    let line_words = words(alloc, line)?;
+    Ok(match read_words(alloc, line_words.as_slice()) {
+        Ok(_) => false,
+        Err(fault) => fault.number() == 1,
+    })
 }
 
 #[test]
-fn check_and_dump_take_two_words(rt: HostRuntime) -> Result<(), Fail> {
-    let line = words(rt.alloc(), &["check", "lab.example.", "lab.zone"])?;
-    let Ok(Command::Check { origin, file }) = read_words(rt.alloc(), line.as_slice()) else {
-        panic!(rt; "the line is refused");
-    };
-    assert_eq!(rt;
-        (origin.as_str(), file.as_str()),
-        ("lab.example.", "lab.zone")
-    );
-    let line = words(rt.alloc(), &["dump", ".", "root.zone"])?;
-    let Ok(Command::Dump { origin, file }) = read_words(rt.alloc(), line.as_slice()) else {
-        panic!(rt; "the line is refused");
-    };
-    assert_eq!(rt; (origin.as_str(), file.as_str()), (".", "root.zone"));
-    Ok(())
-}
-
-#[test]
-fn play_takes_two_words(rt: HostRuntime) -> Result<(), Fail> {
-    let line = words(rt.alloc(), &["play", "small.world", "first.script"])?;
-    let Ok(Command::Play { world, script }) = read_words(rt.alloc(), line.as_slice()) else {
-        panic!(rt; "the line is refused");
-    };
-    assert_eq!(rt;
-        (world.as_str(), script.as_str()),
-        ("small.world", "first.script")
-    );
-    Ok(())
-}
-
-#[test]
-fn storm_takes_a_world_and_scripts(rt: HostRuntime) -> Result<(), Fail> {
-    let line = words(
-        rt.alloc(),
+fn each_command_takes_its_words(rt: HostRuntime) -> Result<(), Fail> {
+    let lines: [&[&str]; 7] = [
+        &["ask", "lab.example.", "lab.zone", "x.lab.example.", "TXT"],
+        &["check", "lab.example.", "lab.zone"],
+        &["dump", ".", "root.zone"],
+        &["play", "small.world", "first.script"],
         &[
             "storm",
             "--keep",
@@ -79,57 +98,13 @@ fn storm_takes_a_world_and_scripts(rt: HostRuntime) -> Result<(), Fail> {
             "a.script",
             "b.script",
         ],
-    )?;
-    let Ok(
-        Command::Storm {
-            keep,
-            world,
-            scripts,
-        },
-    ) = read_words(rt.alloc(), line.as_slice())
-    else {
-        panic!(rt; "the line is refused");
-    };
-    assert_eq!(rt; (keep, world.as_str()), (1_000_000, "small.world"));
-    assert_eq!(rt; scripts.len(), 2);
-    assert!(rt;
-        scripts
-            .get(0)
-            .is_some_and(|script| script.as_str() == "a.script")
-    );
-    assert!(rt;
-        scripts
-            .get(1)
-            .is_some_and(|script| script.as_str() == "b.script")
-    );
-    Ok(())
-}
-
-#[test]
-fn storm_keeps_so_many_entries_where_none_is_said(rt: HostRuntime) -> Result<(), Fail> {
-    let line = words(rt.alloc(), &["storm", "small.world", "a.script"])?;
-    let Ok(Command::Storm { keep, scripts, .. }) = read_words(rt.alloc(), line.as_slice()) else {
-        panic!(rt; "the line is refused");
-    };
-    assert_eq!(rt; (keep, scripts.len()), (65_536, 1));
-    Ok(())
-}
-
-#[test]
-fn serve_takes_one_word(rt: HostRuntime) -> Result<(), Fail> {
-    let line = words(rt.alloc(), &["serve", "resolverd.conf"])?;
-    let Ok(Command::Serve { config }) = read_words(rt.alloc(), line.as_slice()) else {
-        panic!(rt; "the line is refused");
-    };
-    assert_eq!(rt; config.as_str(), "resolverd.conf");
-    Ok(())
-}
-
-fn number_of(rt: &impl Abort, line: &Result<Command, LineFault>) -> u8 {
-    match line {
-        Ok(_) => panic!(rt; "the line is taken"),
-        Err(fault) => fault.number(),
+        &["storm", "small.world", "a.script"],
+        &["serve", "resolverd.conf"],
+    ];
+    for line in &lines {
+        assert!(rt; is_taken(rt.alloc(), *line)?);
     }
+    Ok(())
 }
 
 #[test]
@@ -175,11 +150,7 @@ fn other_lines_are_refused(rt: HostRuntime) -> Result<(), Fail> {
         &["serve", "resolverd.conf", "more"],
     ];
     for line in &lines {
-        let refused = words(rt.alloc(), *line)?;
-        assert_eq!(rt;
-            number_of(&rt, &read_words(rt.alloc(), refused.as_slice())),
-            1
-        );
+        assert!(rt; is_refused(rt.alloc(), *line)?);
     }
     Ok(())
 }

@@ -30,28 +30,27 @@ fn has_numbers<A: Heap>(config: &ServeConfig<'_, A>, numbers: [u32; 7]) -> bool 
         ]
 }
 
+// Whether it is what the whole text says, its numbers aside.
+fn is_whole<A: Heap>(config: &ServeConfig<'_, A>) -> bool {
+    let local = config.locals.get(1);
+    config.listen.address == Addr([127, 0, 0, 1])
+        && config.listen.port == 5_300
+        && config.hints.len() == 2
+        && config.hints.get(1) == Some(&Addr([170, 247, 170, 2]))
+        && config.locals.len() == 2
+        && local.is_some_and(|local| local.file == "r/\u{e9}.zone")
+        && config
+            .seed
+            .is_some_and(|seed| seed[10] == 10 && seed[31] == 31)
+}
+
 #[test]
 fn each_line_is_read(rt: HostRuntime) -> Result<(), Fail> {
     match read_config(rt.alloc(), WHOLE) {
         Err(_) => assert!(rt; false, "the text is a server's"),
         Ok(config) => {
-            assert!(rt; config.listen.address == Addr([127, 0, 0, 1]));
-            assert_eq!(rt; config.listen.port, 5300);
+            assert!(rt; is_whole(&config));
             assert!(rt; has_numbers(&config, [5353, 1_000_000, 1, 7, 8, 16, 1]));
-            assert_eq!(rt; config.hints.len(), 2);
-            assert!(rt; config.hints.get(1) == Some(&Addr([170, 247, 170, 2])));
-            assert_eq!(rt; config.locals.len(), 2);
-            assert!(rt;
-                config
-                    .locals
-                    .get(1)
-                    .is_some_and(|local| local.file == "r/\u{e9}.zone")
-            );
-            assert!(rt;
-                config
-                    .seed
-                    .is_some_and(|seed| seed[10] == 10 && seed[31] == 31)
-            );
         }
     }
     Ok(())
@@ -76,8 +75,7 @@ fn the_greatest_port_is_one(rt: HostRuntime) -> Result<(), Fail> {
     match read_config(rt.alloc(), "listen 0.0.0.0 65535\nport 65535") {
         Err(_) => assert!(rt; false, "the text is a server's"),
         Ok(config) => {
-            assert_eq!(rt; config.listen.port, 65_535);
-            assert_eq!(rt; config.port, 65_535);
+            assert_eq!(rt; (config.listen.port, config.port), (65_535, 65_535));
         }
     }
     Ok(())
