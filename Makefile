@@ -31,7 +31,7 @@ test: kit
 	tools/layers --check
 	tools/definitions
 	tools/turned --texts
-	RT_JOBS=$$(tools/lanes) rt ci
+	tools/prove
 	tools/examples
 	tools/serving
 
