@@ -27,6 +27,9 @@ fn is_storm(line: &[&str], keep: u32, world: &String, scripts: &[String]) -> boo
         && has(line, first, world)
         && scripts.len() + first + 1 == line.len()
         && scripts
+            .first()
+            .is_some_and(|script| has(line, first + 1, script))
+        && scripts
             .last()
             .is_some_and(|script| has(line, first + scripts.len(), script))
 }
