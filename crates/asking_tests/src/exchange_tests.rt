@@ -37,6 +37,27 @@ fn message_bytes<A: Heap>(alloc: A, bytes: &[u8]) -> Result<Bytes<A>, Starved> {
     Ok(Bytes::new(Vec::from_slice(alloc, bytes)?))
 }
 
+// Whether an event is heard as the reply to the ask that went out on that path, to port 53.
+fn is_heard_on<A: Heap>(alloc: A, path: Path, event: &Event<A>) -> Result<bool, Starved> {
+    let ask = asking(alloc, path)?;
+    Ok(reply_in(alloc, 53, &ask, event)?.is_some())
+}
+
+fn datagram<A: Heap>(
+    alloc: A,
+    socket: u16,
+    address: Addr,
+    port: u16,
+    bytes: &[u8],
+) -> Result<Event<A>, Starved> {
+    Ok(Event::Datagram {
+        moment: 0,
+        socket,
+        from: Endpoint { address, port },
+        bytes: message_bytes(alloc, bytes)?,
+    })
+}
+
 // Whether it is accepted at that socket, from that address and port, where the ask left socket 7 for port 53.
 fn is_heard<A: Heap>(
     alloc: A,
@@ -45,56 +66,57 @@ fn is_heard<A: Heap>(
     port: u16,
     bytes: &[u8],
 ) -> Result<bool, Starved> {
-    let ask = asking(alloc, Path::Udp(7))?;
-    let event = Event::Datagram {
-        moment: 0,
-        socket,
-        from: Endpoint { address, port },
-        bytes: message_bytes(alloc, bytes)?,
-    };
-    Ok(reply_in(alloc, 53, &ask, &event)?.is_some())
+    let event = datagram(alloc, socket, address, port, bytes)?;
+    is_heard_on(alloc, Path::Udp(7), &event)
+}
+
+fn stream_reply<A: Heap>(alloc: A, moment: u64, number: u64) -> Result<Event<A>, Starved> {
+    Ok(Event::TcpReply {
+        moment,
+        number,
+        bytes: message_bytes(alloc, REPLY)?,
+    })
 }
 
 // Whether it is accepted under that number, where the ask has number 9.
-fn is_heard_over_tcp<A: Heap>(alloc: A, number: u64, bytes: &[u8]) -> Result<bool, Starved> {
-    let ask = asking(alloc, Path::Tcp(9))?;
-    let event = Event::TcpReply {
-        moment: 0,
-        number,
-        bytes: message_bytes(alloc, bytes)?,
-    };
-    Ok(reply_in(alloc, 53, &ask, &event)?.is_some())
+fn is_heard_over_tcp<A: Heap>(alloc: A, number: u64) -> Result<bool, Starved> {
+    let event = stream_reply(alloc, 0, number)?;
+    is_heard_on(alloc, Path::Tcp(9), &event)
 }
 
 #[test]
 fn a_reply_is_heard_where_it_is_waited_for(rt: HostRuntime) -> Result<(), Fail> {
-    let alloc = rt.alloc();
-    assert!(rt; is_heard(alloc, 7, SERVER, 53, REPLY)?);
-    assert!(rt; !is_heard(alloc, 8, SERVER, 53, REPLY)?, "socket");
-    assert!(rt;
-        !is_heard(alloc, 7, Addr([192, 0, 2, 2]), 53, REPLY)?,
-        "address"
-    );
-    assert!(rt; !is_heard(alloc, 7, SERVER, 54, REPLY)?, "port");
-    assert!(rt; is_heard_over_tcp(alloc, 9, REPLY)?);
-    assert!(rt; !is_heard_over_tcp(alloc, 8, REPLY)?, "number");
+    for (part, socket, address, port, heard) in [
+        ("none is another", 7, SERVER, 53, true),
+        ("the socket", 8, SERVER, 53, false),
+        ("the address", 7, Addr([192, 0, 2, 2]), 53, false),
+        ("the port", 7, SERVER, 54, false),
+    ] {
+        assert_eq!(rt;
+            is_heard(rt.alloc(), socket, address, port, REPLY)?,
+            heard,
+            "{part}"
+        );
+    }
+    for (number, heard) in [(9, true), (8, false)] {
+        assert_eq!(rt;
+            is_heard_over_tcp(rt.alloc(), number)?,
+            heard,
+            "number {number}"
+        );
+    }
     Ok(())
+}
+
+// Whether a datagram is heard as the reply to an ask over TCP that has the number of its socket.
+fn is_heard_the_other_way<A: Heap>(alloc: A) -> Result<bool, Starved> {
+    let event = datagram(alloc, 7, SERVER, 53, REPLY)?;
+    is_heard_on(alloc, Path::Tcp(7), &event)
 }
 
 #[test]
 fn no_reply_comes_over_the_other_way(rt: HostRuntime) -> Result<(), Fail> {
-    let alloc = rt.alloc();
-    let ask = asking(alloc, Path::Tcp(7))?;
-    let event = Event::Datagram {
-        moment: 0,
-        socket: 7,
-        from: Endpoint {
-            address: SERVER,
-            port: 53,
-        },
-        bytes: message_bytes(alloc, REPLY)?,
-    };
-    assert!(rt; reply_in(alloc, 53, &ask, &event)?.is_none());
+    assert!(rt; !is_heard_the_other_way(rt.alloc())?);
     Ok(())
 }
 
@@ -203,21 +225,23 @@ fn an_ask_goes_out_on_its_path(rt: HostRuntime) -> Result<(), Fail> {
 // www.example. A of a client, under ID 5 with RD set.
 const QUERY: &[u8] = b"\0\x05\x01\0\0\x01\0\0\0\0\0\0\x03wWw\x07example\0\0\x01\0\x01";
 
-// The reply to that query of client 3, whose deadline is over.
+// Client 3 with that query.
+fn asker<A: Heap>(alloc: A) -> Result<Asker<A>, Starved> {
+    match read_asked(alloc, QUERY)? {
+        Asked::Query(query) => Ok(Asker {
+            client: 3,
+            way: Via::Tcp,
+            query,
+        }),
+        _ => Err(Starved),
+    }
+}
+
+// The reply to that query, whose deadline is over.
 fn late_reply<A: Heap>(alloc: A) -> Result<Action<A>, Starved> {
-    let Asked::Query(query) = read_asked(alloc, QUERY)? else {
-        return Err(Starved);
-    };
-    let asker = Asker {
-        client: 3,
-        way: Via::Tcp,
-        query,
-    };
-    reply_to(
-        &mut Writer::new(alloc)?,
-        &asker,
-        &Outcome::Fail(Cause::Deadline),
-    )
+    let asker = asker(alloc)?;
+    let mut writer = Writer::new(alloc)?;
+    reply_to(&mut writer, &asker, &Outcome::Fail(Cause::Deadline))
 }
 
 // SERVFAIL, with QR, RD and RA, and the question in the client's letters.
@@ -293,29 +317,49 @@ fn all_done<A: Heap>(alloc: A) -> Result<(), Starved> {
     Ok(())
 }
 
-#[test]
-fn copies_are_the_same(rt: HostRuntime) -> Result<(), Fail> {
-    let event = Event::TcpReply {
+// Whether a copy of the event is the same, and an event of another kind is not.
+fn is_copied<A: Heap>(event: &Event<A>) -> Result<bool, Starved> {
+    let copy = event.copied()?;
+    let other = Event::TcpFailed {
         moment: 5,
         number: 9,
-        bytes: message_bytes(rt.alloc(), REPLY)?,
     };
-    assert!(rt; event.copied()?.same(&event));
-    assert!(rt;
-        !event.same(&Event::TcpFailed {
-            moment: 5,
-            number: 9
-        })
-    );
-    let actions = Actions {
-        first: Some(late_reply(rt.alloc())?),
+    Ok(copy.same(event) && !event.same(&other))
+}
+
+fn event_is_copied<A: Heap>(alloc: A) -> Result<bool, Starved> {
+    let event = stream_reply(alloc, 5, 9)?;
+    is_copied(&event)
+}
+
+fn actions<A: Heap>(first: Action<A>) -> Actions<A> {
+    Actions {
+        first: Some(first),
         more_due: true,
-    };
-    assert!(rt; actions.copied()?.same(&actions));
-    let others = Actions {
-        first: Some(refusal(rt.alloc())?),
-        more_due: true,
-    };
-    assert!(rt; !actions.same(&others));
+    }
+}
+
+fn are_copied<A: Heap>(actions: &Actions<A>) -> Result<bool, Starved> {
+    let copy = actions.copied()?;
+    Ok(copy.same(actions))
+}
+
+fn actions_are_copied<A: Heap>(alloc: A) -> Result<bool, Starved> {
+    let actions = actions(late_reply(alloc)?);
+    are_copied(&actions)
+}
+
+// Whether actions are the same where one gives a reply and the other a refusal.
+fn others_are_the_same<A: Heap>(alloc: A) -> Result<bool, Starved> {
+    let late = actions(late_reply(alloc)?);
+    let refused = actions(refusal(alloc)?);
+    Ok(late.same(&refused))
+}
+
+#[test]
+fn copies_are_the_same(rt: HostRuntime) -> Result<(), Fail> {
+    assert!(rt; event_is_copied(rt.alloc())?);
+    assert!(rt; actions_are_copied(rt.alloc())?);
+    assert!(rt; !others_are_the_same(rt.alloc())?);
     Ok(())
 }

@@ -1,5 +1,5 @@
 //! Queries that are put in and taken out.
-ghost use Rattle.queries.specs.Lookups.{HasNo};
+ghost use Rattle.queries.specs.Lookups.{HasNo, IsFree};
 
 use dname::{Heap, Name, Starved};
 use exchange::{Asker, Asking, Path, read_asked};
@@ -40,6 +40,28 @@ fn job<A: Heap>(alloc: A) -> Result<Job<A>, Starved> {
     Ok(Job::new(name(alloc)?, RType::A, 0))
 }
 
+// Opens a query that waits for this ask.
+fn open<A: Heap>(
+    alloc: A,
+    queries: &mut Queries<A>,
+    number: u64,
+    ask: Asking<A>,
+    due: u64,
+) -> Result<(), Starved>
+    requires fresh { HasNo queries.old number }
+    requires free { IsFree queries.old ask }
+{
+    let asker = asker(alloc)?;
+    let job = job(alloc)?;
+    queries.put(Open {
+        number,
+        asker,
+        job,
+        ask,
+        due,
+    })
+}
+
 // Opens a query whose ask leaves this socket for this server, under the first free ID from this one on.
 fn open_udp<A: Heap>(
     alloc: A,
@@ -55,8 +77,6 @@ fn open_udp<A: Heap>(
     if queries.len() > 1_024 {
         return Ok(());
     }
-    let asker = asker(alloc)?;
-    let job = job(alloc)?;
     let name = name(alloc)?;
     let id = queries.free_id(socket, server, from);
     let ask = Asking {
@@ -66,13 +86,7 @@ fn open_udp<A: Heap>(
         name,
         kind: RType::A,
     };
-    queries.put(Open {
-        number,
-        asker,
-        job,
-        ask,
-        due,
-    })
+    open(alloc, queries, number, ask, due)
 }
 
 // The same where its ask goes over TCP.
@@ -85,8 +99,6 @@ fn open_tcp<A: Heap>(
     requires { HasNo queries.old number }
 {
     let under = number.wrapping_add(TCP);
-    let asker = asker(alloc)?;
-    let job = job(alloc)?;
     let ask = Asking {
         path: Path::Tcp(under),
         server: FIRST,
@@ -96,13 +108,7 @@ fn open_tcp<A: Heap>(
     };
     match queries.find_tcp(under) {
         Some(_) => Ok(()),
-        None => queries.put(Open {
-            number,
-            asker,
-            job,
-            ask,
-            due,
-        }),
+        None => open(alloc, queries, number, ask, due),
     }
 }
 

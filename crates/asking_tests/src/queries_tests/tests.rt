@@ -2,6 +2,7 @@ use crate::queries_tests::fixtures::{FIRST, SECOND, TCP, turn_tcp, turn_udp};
 use crate::queries_tests::scans::{NUMBERS, agree};
 use dname::{Heap, Starved};
 use queries::Queries;
+use rdata::Addr;
 use refusing::Refusing;
 use std::test::Fail;
 
@@ -46,27 +47,83 @@ fn indexes_find_what_scans_find(rt: HostRuntime) -> Result<(), Fail> {
     Ok(())
 }
 
+// What is looked up among the queries that are open, and what has to be found.
+#[derive(Clone, Copy)]
+enum Look {
+    // By socket, server and ID: the query's number.
+    Datagram(u16, Addr, u16, Option<u64>),
+    // By the number of an ask over TCP: the query's number.
+    Stream(u64, Option<u64>),
+    // The earliest due moment and its query.
+    Earliest(u64, u64),
+    // The query is taken out.
+    Takes(u64),
+    // So many are open.
+    Holds(usize),
+}
+
+const LOOKS: &[Look] = &[
+    Look::Datagram(0, FIRST, 65_535, Some(4)),
+    Look::Datagram(0, FIRST, 0, Some(5)),
+    Look::Datagram(1, FIRST, 65_535, Some(6)),
+    Look::Datagram(0, SECOND, 65_535, None),
+    Look::Stream(TCP + 3, Some(3)),
+    Look::Stream(TCP + 4, None),
+    Look::Earliest(800, 4),
+    Look::Takes(4),
+    Look::Datagram(0, FIRST, 65_535, None),
+    Look::Earliest(800, 5),
+    Look::Takes(5),
+    Look::Earliest(900, 3),
+    Look::Holds(2),
+];
+
+fn takes<A: Heap>(queries: &mut Queries<A>, number: u64) -> bool {
+    match queries.take(number) {
+        Some(gone) => {
+            drop(gone);
+            true
+        }
+        None => false,
+    }
+}
+
+fn finds<A: Heap>(queries: &mut Queries<A>, look: Look) -> bool {
+    match look {
+        Look::Datagram(socket, server, id, number) => queries.find(socket, server, id) == number,
+        Look::Stream(under, number) => queries.find_tcp(under) == number,
+        Look::Earliest(due, number) => queries.earliest() == Some((due, number)),
+        Look::Takes(number) => takes(queries, number),
+        Look::Holds(count) => queries.len() == count,
+    }
+}
+
+fn first_unfound<A: Heap>(queries: &mut Queries<A>) -> Option<usize> {
+    for (place, look) in LOOKS.iter().enumerate() {
+        if !finds(queries, *look) {
+            return Some(place);
+        }
+    }
+    None
+}
+
+fn open_four<A: Heap>(alloc: A, queries: &mut Queries<A>) -> Result<(), Starved> {
+    turn_udp(alloc, queries, 4, 0, FIRST, 65_535, 800)?;
+    turn_udp(alloc, queries, 5, 0, FIRST, 65_535, 800)?;
+    turn_udp(alloc, queries, 6, 1, FIRST, 65_535, 900)?;
+    turn_tcp(alloc, queries, 3, 900)
+}
+
+// The place of the first look that finds something else among four queries.
+fn first_wrong<A: Heap>(alloc: A) -> Result<Option<usize>, Starved> {
+    let mut queries = Queries::new(alloc);
+    open_four(alloc, &mut queries)?;
+    Ok(first_unfound(&mut queries))
+}
+
 #[test]
 fn a_query_is_found_by_its_ask_alone(rt: HostRuntime) -> Result<(), Fail> {
-    let alloc = rt.alloc();
-    let mut queries = Queries::new(alloc);
-    turn_udp(alloc, &mut queries, 4, 0, FIRST, 65_535, 800)?;
-    turn_udp(alloc, &mut queries, 5, 0, FIRST, 65_535, 800)?;
-    turn_udp(alloc, &mut queries, 6, 1, FIRST, 65_535, 900)?;
-    turn_tcp(alloc, &mut queries, 3, 900)?;
-    assert_eq!(rt; queries.find(0, FIRST, 65_535), Some(4));
-    assert_eq!(rt; queries.find(0, FIRST, 0), Some(5));
-    assert_eq!(rt; queries.find(1, FIRST, 65_535), Some(6));
-    assert_eq!(rt; queries.find(0, SECOND, 65_535), None);
-    assert_eq!(rt; queries.find_tcp(TCP + 3), Some(3));
-    assert_eq!(rt; queries.find_tcp(TCP + 4), None);
-    assert_eq!(rt; queries.earliest(), Some((800, 4)));
-    drop(queries.take(4));
-    assert_eq!(rt; queries.find(0, FIRST, 65_535), None);
-    assert_eq!(rt; queries.earliest(), Some((800, 5)));
-    drop(queries.take(5));
-    assert_eq!(rt; queries.earliest(), Some((900, 3)));
-    assert_eq!(rt; queries.len(), 2);
+    assert_eq!(rt; first_wrong(rt.alloc())?, None);
     Ok(())
 }
 
@@ -81,20 +138,36 @@ fn ten<A: Heap>(alloc: A, queries: &mut Queries<A>) -> Option<u16> {
     None
 }
 
+fn opens_ten<A: Heap>(alloc: A) -> bool {
+    let mut queries = Queries::new(alloc);
+    ten(alloc, &mut queries).is_none()
+}
+
+// Whether those are open that were before this one, and no other.
+fn are_open<A: Heap>(queries: &Queries<A>, refused: u16) -> bool {
+    queries.len() == usize::from(refused)
+        && agree(queries)
+        && queries.find(0, FIRST, refused).is_none()
+}
+
+// Whether memory is wanting for one of the ten, and those before it are open.
+fn leaves_what_was_open<A: Heap>(alloc: A) -> bool {
+    let mut queries = Queries::new(alloc);
+    match ten(alloc, &mut queries) {
+        Some(refused) => are_open(&queries, refused),
+        None => false,
+    }
+}
+
 #[test]
 fn want_of_memory_leaves_what_was_open(rt: HostRuntime) -> Result<(), Fail> {
     let heap = Refusing::new(rt.alloc());
-    assert_eq!(rt; ten(&heap, &mut Queries::new(&heap)), None);
+    assert!(rt; opens_ten(&heap));
     let growths = heap.growths();
     assert!(rt; growths > 10);
     for n in 0..growths {
-        let mut queries = Queries::new(&heap);
         heap.refuse_after(n);
-        let refused = ten(&heap, &mut queries).unwrap_or(10);
-        assert!(rt; refused < 10, "growth {n}");
-        assert_eq!(rt; queries.len(), usize::from(refused));
-        assert!(rt; agree(&queries), "growth {n}");
-        assert_eq!(rt; queries.find(0, FIRST, refused), None);
+        assert!(rt; leaves_what_was_open(&heap), "growth {n}");
     }
     Ok(())
 }
