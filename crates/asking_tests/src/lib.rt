@@ -1,4 +1,4 @@
-//! The tests of `exchange`, `queries` and `delivery`, from outside: by what they make public.
+//! The tests of `exchange`, `queries`, `delivery` and `sockets`, from outside: by what they make public.
 #![tactic(auto)]
 
 #[cfg(test)]
@@ -7,3 +7,5 @@ mod delivery_tests;
 mod exchange_tests;
 #[cfg(test)]
 mod queries_tests;
+#[cfg(test)]
+mod sockets_tests;

@@ -1,4 +1,4 @@
-//! The tests of `wire`, `front` and `lines`, from outside: by what they make public.
+//! The tests of `suffixes`, `wire`, `front` and `lines`, from outside: by what they make public.
 #![tactic(auto)]
 
 #[cfg(test)]
@@ -7,5 +7,7 @@ mod front_tests;
 mod lines_tests;
 #[cfg(test)]
 mod records;
+#[cfg(test)]
+mod suffixes_tests;
 #[cfg(test)]
 mod wire_tests;

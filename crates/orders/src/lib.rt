@@ -22,6 +22,3 @@ mod script;
 pub use order::Order;
 pub use script::{read_asks, read_script};
 pub use statements::{LineError, LineKind};
-
-#[cfg(test)]
-mod tests;

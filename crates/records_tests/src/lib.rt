@@ -1,4 +1,4 @@
-//! The tests of `memory`, `pages`, `dname`, `rdata` and `asks`, from outside: by what they make public.
+//! The tests of `memory`, `refusing`, `pages`, `dname`, `rdata` and `asks`, from outside: by what they make public.
 #![tactic(auto)]
 
 #[cfg(test)]
@@ -11,3 +11,5 @@ mod memory_tests;
 mod pages_tests;
 #[cfg(test)]
 mod rdata_tests;
+#[cfg(test)]
+mod refusing_tests;

@@ -24,6 +24,3 @@ mod plan;
 pub use laws::most_law;
 pub use penalties::Penalties;
 pub use plan::Plan;
-
-#[cfg(test)]
-mod tests;

@@ -23,6 +23,3 @@ mod writing;
 pub use fault::FrameError;
 pub use reading::read_framed;
 pub use writing::write_framed;
-
-#[cfg(test)]
-mod tests;

@@ -1,4 +1,4 @@
-//! The tests of `cache`, `referral` and `frames`, from outside: by what they make public.
+//! The tests of `cache`, `referral`, `retry` and `frames`, from outside: by what they make public.
 #![tactic(auto)]
 
 #[cfg(test)]
@@ -9,5 +9,7 @@ mod failures_tests;
 mod frames_tests;
 #[cfg(test)]
 mod referral_tests;
+#[cfg(test)]
+mod retry_tests;
 #[cfg(test)]
 mod shared;

@@ -20,6 +20,3 @@
 mod earlier;
 
 pub use earlier::{Found, POINTER_LIMIT, Suffixes};
-
-#[cfg(test)]
-mod tests;

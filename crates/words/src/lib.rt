@@ -25,6 +25,3 @@ mod lexemes;
 pub use cursor::{Lead, Words};
 pub use laws::{line_is_read_back, lines_are_read_back, parts_both_ways};
 pub use lexemes::Word;
-
-#[cfg(test)]
-mod tests;

@@ -1,7 +1,7 @@
-use super::*;
 use dname::{Heap, Name, NameError};
 use refusing::Refusing;
 use std::test::Fail;
+use suffixes::Suffixes;
 
 // Notes a name of which this many labels are written at a place.
 fn note<A: Heap>(

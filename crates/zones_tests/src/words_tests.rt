@@ -1,5 +1,5 @@
-use super::*;
 use std::test::Fail;
+use words::{Lead, Words};
 
 // The first lines of the example of RFC 1035, section 5.3.
 #[test]

@@ -1,7 +1,7 @@
 //! Frames over readers and writers that end or fault at each byte.
-use crate::{FrameError, read_framed, write_framed};
-use memory::Heap;
+use dname::Heap;
 use refusing::Refusing;
+use sockets::{FrameError, read_framed, write_framed};
 use std::alloc::Global;
 use std::io;
 use std::io::{ErrorKind, Read, Write};
