@@ -1,4 +1,4 @@
-ghost use Rattle.std.specs.Prelude.{◌≡◌, ◌<◌};
+ghost use Rattle.std.specs.Prelude.{◌≡◌, ◌<◌, IfOk};
 
 use book::{Book, Entry, Machine, Ticket};
 use memory::{Heap, Starved};
@@ -6,7 +6,7 @@ use refusing::Refusing;
 use std::alloc::{Allocator, Global};
 use std::marker::Brand;
 use std::sync::Mutex;
-use std::sync::ledger::{Blank, Ledger};
+use std::sync::ledger::{Blank, Ledger, Share};
 use std::test::Fail;
 
 // Adds each event to its state, and shows the new state; a sum that does not fit is refused.
@@ -99,7 +99,9 @@ fn put<M: Machine, L: Ledger, A: Allocator>(
     place: usize,
     event: M::Event,
 ) -> Result<Entry<M>, Starved> {
-    let ticket = tickets.get_mut(place).ok_or(Starved)?;
+    let Some(ticket) = tickets.get_mut(place) else {
+        return Err(Starved);
+    };
     if !book.owns(ticket) {
         return Err(Starved);
     }
@@ -110,58 +112,11 @@ fn put<M: Machine, L: Ledger, A: Allocator>(
 type Row = (usize, u64, u64, Option<u64>);
 
 fn row(entry: &Entry<Adding>) -> Row {
-    let out = entry.out().as_ref().ok().copied();
+    let out = match entry.out() {
+        Ok(out) => Some(*out),
+        Err(_) => None,
+    };
     (entry.worker(), entry.number(), *entry.event(), out)
-}
-
-// What a book shows after four steps: the entries that are kept, the newest first; the whole history, if it is
-// kept; and the number of entries that the shares of both tickets make together.
-#[derive(Drop)]
-struct Shown<A: Allocator> {
-    kept: Vec<Row, A>,
-    history: Option<Vec<Row, A>>,
-    audited: u64,
-}
-
-// Worker 0 puts 5 and 1, worker 1 puts 7 between them and at the end a number that is too large.
-fn four_steps<L: Ledger, A: Heap>(alloc: A, blank: Blank, keep: usize) -> Result<Shown<A>, Starved>
-    requires name { blank.name ≡ L.name }
-    requires parts { (blank.parts ≡ L.parts) × (blank.parts ≡ 2) }
-{
-    let (mut book, mut tickets) = Book::<Adding, L, A>::new(alloc, blank, 0, 2, keep)?;
-    put(&mut book, &mut tickets, 0, 5)?;
-    put(&mut book, &mut tickets, 1, 7)?;
-    put(&mut book, &mut tickets, 0, 1)?;
-    put(&mut book, &mut tickets, 1, u64::MAX)?;
-    let mut kept = Vec::new(alloc);
-    for back in 0..4 {
-        if let Some(entry) = book.recent(back) {
-            kept.push(row(entry))?;
-        }
-    }
-    let mut all = tickets.pop().ok_or(Starved)?.into_share();
-    all.merge(tickets.pop().ok_or(Starved)?.into_share());
-    let audited = book.audit(&mut all);
-    let history = told(alloc, book)?;
-    Ok(Shown {
-        kept,
-        history,
-        audited,
-    })
-}
-
-fn told<L: Ledger, A: Heap>(
-    alloc: A,
-    book: Book<Adding, L, A>,
-) -> Result<Option<Vec<Row, A>>, Starved> {
-    if !book.is_whole() {
-        return Ok(None);
-    }
-    let mut rows = Vec::new(alloc);
-    for entry in book.into_history(alloc)?.iter() {
-        rows.push(row(entry))?;
-    }
-    Ok(Some(rows))
 }
 
 const ROWS: [Row; 4] = [
@@ -171,89 +126,211 @@ const ROWS: [Row; 4] = [
     (1, 1, u64::MAX, None),
 ];
 
+const NEWEST_FIRST: [Row; 4] = [
+    (1, 1, u64::MAX, None),
+    (0, 1, 1, Some(13)),
+    (1, 0, 7, Some(12)),
+    (0, 0, 5, Some(5)),
+];
+
+// Worker 0 puts 5 and 1, worker 1 puts 7 between them and at the end a number that is too large.
+fn put_four<L: Ledger, A: Allocator>(
+    book: &mut Book<Adding, L, A>,
+    tickets: &mut [Ticket<L>],
+) -> Result<(), Starved> {
+    for (place, event) in [(0, 5), (1, 7), (0, 1), (1, u64::MAX)] {
+        put(book, tickets, place, event)?;
+    }
+    Ok(())
+}
+
+// Whether of the last four entries these are kept, the newest first, and no others.
+fn are_kept<L: Ledger, A: Allocator>(book: &Book<Adding, L, A>, expected: &[Row]) -> bool {
+    for back in 0..4 {
+        if book.recent(back).map(row) != expected.get(back).copied() {
+            return false;
+        }
+    }
+    true
+}
+
+fn keeps_of_four<L: Ledger, A: Allocator>(
+    book: &mut Book<Adding, L, A>,
+    tickets: &mut [Ticket<L>],
+    expected: &[Row],
+) -> Result<bool, Starved> {
+    put_four(book, tickets)?;
+    Ok(are_kept(book, expected))
+}
+
+// The shares of both tickets, as one.
+fn shares_of<L: Ledger, A: Allocator>(tickets: Vec<Ticket<L>, A>) -> Result<Share<L>, Starved>
+    ensures { IfOk result (λ all. all.parts ≡ 2) }
+{
+    let mut tickets = tickets;
+    let (Some(last), Some(first)) = (tickets.pop(), tickets.pop()) else {
+        return Err(Starved);
+    };
+    let mut all = last.into_share();
+    all.merge(first.into_share());
+    Ok(all)
+}
+
+fn are_rows<A: Heap>(alloc: A, history: &[Entry<Adding>]) -> Result<bool, Starved> {
+    let mut rows = Vec::new(alloc);
+    for entry in history {
+        rows.push(row(entry))?;
+    }
+    Ok(rows.as_slice() == ROWS.as_slice())
+}
+
+// Whether the whole history is ROWS, if it is kept.
+fn told<L: Ledger, A: Heap>(alloc: A, book: Book<Adding, L, A>) -> Result<Option<bool>, Starved> {
+    if !book.is_whole() {
+        return Ok(None);
+    }
+    let history = book.into_history(alloc)?;
+    Ok(Some(are_rows(alloc, &history)?))
+}
+
+// What a book shows after four steps: whether it keeps these entries, the newest first, and no others; whether the
+// whole history is ROWS, if it is kept; and the number of entries that the shares of both tickets make together.
+fn four_steps<L: Ledger, A: Heap>(
+    alloc: A,
+    blank: Blank,
+    keep: usize,
+    kept: &[Row],
+) -> Result<(bool, Option<bool>, u64), Starved>
+    requires name { blank.name ≡ L.name }
+    requires parts { (blank.parts ≡ L.parts) × (blank.parts ≡ 2) }
+{
+    let (mut book, mut tickets) = Book::<Adding, L, A>::new(alloc, blank, 0, 2, keep)?;
+    let kept = keeps_of_four(&mut book, &mut tickets, kept)?;
+    let mut all = shares_of(tickets)?;
+    let audited = book.audit(&mut all);
+    Ok((kept, told(alloc, book)?, audited))
+}
+
 #[test]
 fn one_history_of_two_workers(rt: HostRuntime) -> Result<(), Fail> {
-    let shown = four_steps::<Brand, Global>(rt.alloc(), Blank::new(2), 4)?;
-    let history = shown.history.ok_or(Starved)?;
-    assert!(rt; history.as_slice() == ROWS.as_slice());
-    assert!(rt; shown.kept.as_slice() == [ROWS[3], ROWS[2], ROWS[1], ROWS[0]].as_slice());
-    assert_eq!(rt; shown.audited, 4);
+    let shown = four_steps::<Brand, Global>(rt.alloc(), Blank::new(2), 4, &NEWEST_FIRST)?;
+    assert_eq!(rt; shown, (true, Some(true), 4));
     Ok(())
 }
 
 #[test]
 fn the_last_entries_are_kept(rt: HostRuntime) -> Result<(), Fail> {
-    let shown = four_steps::<Brand, Global>(rt.alloc(), Blank::new(2), 3)?;
-    assert!(rt; shown.kept.as_slice() == [ROWS[3], ROWS[2], ROWS[1]].as_slice());
-    assert!(rt; shown.history.is_none());
-    assert_eq!(rt; shown.audited, 4);
+    let last = &NEWEST_FIRST[..3];
+    let shown = four_steps::<Brand, Global>(rt.alloc(), Blank::new(2), 3, last)?;
+    assert_eq!(rt; shown, (true, None, 4));
     Ok(())
+}
+
+fn are_shown<A: Heap>(alloc: A) -> bool {
+    four_steps::<Brand, A>(alloc, Blank::new(2), 4, &NEWEST_FIRST).is_ok()
+}
+
+// The first growth that is missed where it is refused, or after which another one is.
+fn first_missed<B: Allocator>(heap: &Refusing<B>, growths: u64) -> Option<u64> {
+    for n in 0..growths {
+        heap.refuse_after(n);
+        if are_shown(heap) || !are_shown(heap) {
+            return Some(n);
+        }
+    }
+    None
 }
 
 #[test]
 fn each_growth_refused_in_turn(rt: HostRuntime) -> Result<(), Fail> {
     let heap = Refusing::new(rt.alloc());
-    assert!(rt; four_steps::<Brand, _>(&heap, Blank::new(2), 4).is_ok());
+    assert!(rt; are_shown(&heap));
     let growths = heap.growths();
     assert!(rt; growths >= 5);
-    for n in 0..growths {
-        heap.refuse_after(n);
+    assert_eq!(rt; first_missed(&heap, growths), None);
+    Ok(())
+}
+
+// Whether the entry of a put event came back, the ticket's count, entries and steps.
+type Left = (bool, u64, u64, usize);
+
+fn leaves<L: Ledger>(
+    book: &mut Book<Noting, L>,
+    tickets: &mut [Ticket<L>],
+    event: u64,
+    left: Left,
+) -> bool {
+    let given = put(book, tickets, 0, event).is_ok();
+    match tickets.first() {
+        Some(ticket) => (given, ticket.count(), book.entries(), book.state().len()) == left,
+        None => false,
+    }
+}
+
+// Whether one event put by worker 0 of one leaves this, where the book keeps so many.
+fn leaves_one<L: Ledger>(
+    alloc: Global,
+    blank: Blank,
+    event: u64,
+    keep: usize,
+    left: Left,
+) -> Result<bool, Starved>
+    requires name { blank.name ≡ L.name }
+    requires parts { (blank.parts ≡ L.parts) × (blank.parts ≡ 1) }
+{
+    let (mut book, mut tickets) = Book::<Noting, L>::new(alloc, blank, Vec::new(alloc), 1, keep)?;
+    Ok(leaves(&mut book, &mut tickets, event, left))
+}
+
+#[test]
+fn a_refused_copy(rt: HostRuntime) -> Result<(), Fail> {
+    for (event, left) in [
+        (0, (true, 1, 1, 1)),
+        (1, (false, 0, 0, 0)),
+        (2, (false, 1, 1, 1)),
+    ] {
         assert!(rt;
-            four_steps::<Brand, _>(&heap, Blank::new(2), 4).is_err(),
-            "growth {n}"
-        );
-        assert!(rt;
-            four_steps::<Brand, _>(&heap, Blank::new(2), 4).is_ok(),
-            "after growth {n}"
+            leaves_one::<Brand>(rt.alloc(), Blank::new(1), event, 1, left)?,
+            "event {event}"
         );
     }
     Ok(())
 }
 
-// One event put by worker 0 of one, where the book keeps so many: whether the entry came back, the ticket's count,
-// entries and steps.
-fn after_one_put<L: Ledger>(
-    alloc: Global,
-    blank: Blank,
-    event: u64,
-    keep: usize,
-) -> Result<(bool, u64, u64, usize), Starved>
-    requires name { blank.name ≡ L.name }
-    requires parts { (blank.parts ≡ L.parts) × (blank.parts ≡ 1) }
-{
-    let (mut book, mut tickets) = Book::<Noting, L>::new(alloc, blank, Vec::new(alloc), 1, keep)?;
-    let given = put(&mut book, &mut tickets, 0, event).is_ok();
-    let count = tickets.first().ok_or(Starved)?.count();
-    Ok((given, count, book.entries(), book.state().len()))
-}
-
-#[test]
-fn a_refused_copy(rt: HostRuntime) -> Result<(), Fail> {
-    let alloc = rt.alloc();
-    assert!(rt; after_one_put::<Brand>(alloc, Blank::new(1), 0, 1)? == (true, 1, 1, 1));
-    assert!(rt; after_one_put::<Brand>(alloc, Blank::new(1), 1, 1)? == (false, 0, 0, 0));
-    assert!(rt; after_one_put::<Brand>(alloc, Blank::new(1), 2, 1)? == (false, 1, 1, 1));
-    Ok(())
-}
-
 #[test]
 fn a_book_that_keeps_no_entries_copies_nothing(rt: HostRuntime) -> Result<(), Fail> {
-    let alloc = rt.alloc();
-    assert!(rt; after_one_put::<Brand>(alloc, Blank::new(1), 1, 0)? == (true, 1, 1, 1));
-    assert!(rt; after_one_put::<Brand>(alloc, Blank::new(1), 2, 0)? == (true, 1, 1, 1));
+    for event in [1, 2] {
+        let left = (true, 1, 1, 1);
+        assert!(rt;
+            leaves_one::<Brand>(rt.alloc(), Blank::new(1), event, 0, left)?,
+            "event {event}"
+        );
+    }
     Ok(())
 }
 
-// The first two entries, and whether a copy of the first is the same as it, and as the second.
+// Whether a copy of the first entry is the same as it, and as the second.
+fn copy_compared(first: &Entry<Adding>, second: &Entry<Adding>) -> Result<(bool, bool), Starved> {
+    let copy = first.copy()?;
+    Ok((copy.same(first), copy.same(second)))
+}
+
+// The same of two entries of one event.
+fn put_twice<L: Ledger>(
+    book: &mut Book<Adding, L>,
+    tickets: &mut [Ticket<L>],
+) -> Result<(bool, bool), Starved> {
+    let first = put(book, tickets, 0, 3)?;
+    let second = put(book, tickets, 0, 3)?;
+    copy_compared(&first, &second)
+}
+
 fn compared<L: Ledger>(alloc: Global, blank: Blank) -> Result<(bool, bool), Starved>
     requires name { blank.name ≡ L.name }
     requires parts { (blank.parts ≡ L.parts) × (blank.parts ≡ 1) }
 {
     let (mut book, mut tickets) = Book::<Adding, L>::new(alloc, blank, 0, 1, 1)?;
-    let first = put(&mut book, &mut tickets, 0, 3)?;
-    let second = put(&mut book, &mut tickets, 0, 3)?;
-    let copy = first.copy()?;
-    Ok((copy.same(&first), copy.same(&second)))
+    put_twice(&mut book, &mut tickets)
 }
 
 #[test]

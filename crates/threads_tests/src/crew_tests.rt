@@ -1,10 +1,10 @@
 //! A machine that counts its steps, worked by one worker and by four.
-ghost use Rattle.std.specs.Prelude.{◌≡◌, ◌<◌};
+ghost use Rattle.std.specs.Prelude.{◌≡◌, ◌<◌, IfOk, length};
 
 use book::{Entry, Machine};
 use crew::{Errands, Meeting, Open, run_all};
 use memory::Starved;
-use pool::PoolError;
+use pool::{Closed, PoolError};
 use std::alloc::Global;
 use std::collections::VecDeque;
 use std::marker::Brand;
@@ -82,49 +82,71 @@ impl Errands for Falling {
 type Row = (usize, u64, Option<u64>);
 
 fn row(entry: &Entry<Falling>) -> Row {
-    let out = entry.out().as_ref().ok().copied();
+    let out = match entry.out() {
+        Ok(out) => Some(*out),
+        Err(_) => None,
+    };
     (entry.worker(), *entry.event(), out)
 }
 
-// The rows of a run of one worker with these queries, where the book keeps so many.
+// What a run of one worker with the queries 2 and 1 comes to.
+const ROWS: [Row; 5] = [
+    (0, 2, Some(1)),
+    (0, 1, Some(2)),
+    (0, 0, Some(3)),
+    (0, 1, Some(4)),
+    (0, 0, Some(5)),
+];
+
+fn are_rows(history: &[Entry<Falling>]) -> bool {
+    for (place, entry) in history.iter().enumerate() {
+        if ROWS.get(place).copied() != Some(row(entry)) {
+            return false;
+        }
+    }
+    history.len() == ROWS.len()
+}
+
+fn has_rows(closed: Result<Closed<Falling>, PoolError>) -> Result<bool, PoolError> {
+    match closed {
+        Ok(closed) => Ok(are_rows(&closed.history)),
+        Err(error) => Err(error),
+    }
+}
+
+fn one_list(alloc: Global) -> Result<Vec<Vec<u64>>, Starved>
+    ensures { IfOk result (λ lists. length lists.items ≡ 1) }
+{
+    let list = Vec::from_slice(alloc, &[2, 1])?;
+    let mut lists = Vec::new(alloc);
+    lists.push(list)?;
+    Ok(lists)
+}
+
+// Whether the history of such a run is ROWS, where the book keeps so many.
 fn run_of_one<L: Ledger + Send + Sync, R: Threads + Wait + Sync>(
     rt: &R,
     alloc: Global,
     blank: Blank,
-    queries: &[u64],
     keep: usize,
-) -> Result<Vec<Row>, PoolError>
+) -> Result<bool, PoolError>
     requires name { blank.name ≡ L.name }
     requires parts { (blank.parts ≡ L.parts) × (blank.parts ≡ 1) }
 {
-    let mut lists = Vec::new(alloc);
-    lists.push(Vec::from_slice(alloc, queries)?)?;
-    let closed = run_all::<Falling, L, Open, R>(rt, alloc, blank, 0, &lists, keep, &Open)?;
-    let mut rows = Vec::new(alloc);
-    for entry in closed.history.iter() {
-        rows.push(row(entry))?;
-    }
-    Ok(rows)
+    let lists = one_list(alloc)?;
+    has_rows(run_all::<Falling, L, Open, R>(rt, alloc, blank, 0, &lists, keep, &Open))
 }
 
 #[test]
 fn errands_come_before_the_next_query(rt: HostRuntime) -> Result<(), Fail> {
-    let rows = run_of_one::<Brand, _>(&rt, rt.alloc(), Blank::new(1), &[2, 1], 5)?;
-    let expected = [
-        (0, 2, Some(1)),
-        (0, 1, Some(2)),
-        (0, 0, Some(3)),
-        (0, 1, Some(4)),
-        (0, 0, Some(5)),
-    ];
-    assert!(rt; rows.as_slice() == expected.as_slice());
+    assert!(rt; run_of_one::<Brand, _>(&rt, rt.alloc(), Blank::new(1), 5)?);
     Ok(())
 }
 
 #[test]
 fn a_short_book_forgets(rt: HostRuntime) -> Result<(), Fail> {
-    let rows = run_of_one::<Brand, _>(&rt, rt.alloc(), Blank::new(1), &[2, 1], 4);
-    assert!(rt; rows.err() == Some(PoolError::Forgot));
+    let run = run_of_one::<Brand, _>(&rt, rt.alloc(), Blank::new(1), 4);
+    assert!(rt; run.err() == Some(PoolError::Forgot));
     Ok(())
 }
 
@@ -151,12 +173,19 @@ fn met<L: Ledger + Send + Sync, R: Threads + Wait + Clock + Sync>(
         return Err(PoolError::Memory);
     }
     let gate = Meeting::new(rt, 4);
-    let closed = run_all::<Falling, L, Meeting<'_, R>, R>(rt, alloc, blank, 0, &lists, 400, &gate)?;
-    Ok(Outcome {
-        entries: closed.history.len(),
-        late: gate.late(),
-        in_step: are_in_step(&closed.history),
-    })
+    let closed = run_all::<Falling, L, Meeting<'_, R>, R>(rt, alloc, blank, 0, &lists, 400, &gate);
+    outcome_of(closed, gate.late())
+}
+
+fn outcome_of(closed: Result<Closed<Falling>, PoolError>, late: u64) -> Result<Outcome, PoolError> {
+    match closed {
+        Ok(closed) => Ok(Outcome {
+            entries: closed.history.len(),
+            late,
+            in_step: are_in_step(&closed.history),
+        }),
+        Err(error) => Err(error),
+    }
 }
 
 fn four_lists(alloc: Global) -> Result<Vec<Vec<u64>>, Starved> {

@@ -59,23 +59,76 @@ impl Machine for Counting {
 type Row = (usize, u64, u64, Option<u64>);
 
 fn row(entry: &Entry<Counting>) -> Row {
-    let out = entry.out().as_ref().ok().copied();
+    let out = match entry.out() {
+        Ok(out) => Some(*out),
+        Err(_) => None,
+    };
     (entry.worker(), entry.number(), *entry.event(), out)
 }
 
-// One event put by the worker at this place, who keeps the entry.
+const ROWS: [Row; 4] = [
+    (0, 0, 5, Some(5)),
+    (1, 0, 7, Some(12)),
+    (0, 1, 6, Some(18)),
+    (1, 1, 8, Some(26)),
+];
+
+// A worker's entry for one event, and its place in the worker's list.
 fn put<L: Ledger, A: Heap, R: Wait>(
+    rt: &R,
+    shared: &Shared<Counting, L, A>,
+    ticket: &mut Ticket<L>,
+    list: &mut Vec<Entry<Counting>, A>,
+    event: u64,
+) -> Result<(), PoolError> {
+    let entry = submit(rt, shared, ticket, event)?;
+    Ok(list.push(entry)?)
+}
+
+// Worker 0 puts 5 and 6, and worker 1 puts 7 between them and 8 at the end; each keeps its entries.
+fn put_four<L: Ledger, A: Heap, R: Wait>(
     rt: &R,
     shared: &Shared<Counting, L, A>,
     tickets: &mut [Ticket<L>],
     lists: &mut [Vec<Entry<Counting>, A>],
-    place: usize,
-    event: u64,
 ) -> Result<(), PoolError> {
-    let ticket = tickets.get_mut(place).ok_or(Starved)?;
-    let list = lists.get_mut(place).ok_or(Starved)?;
-    list.push(submit(rt, shared, ticket, event)?)?;
+    for (place, event) in [(0, 5), (1, 7), (0, 6), (1, 8)] {
+        match (tickets.get_mut(place), lists.get_mut(place)) {
+            (Some(ticket), Some(list)) => put(rt, shared, ticket, list, event)?,
+            _ => return Err(PoolError::Memory),
+        }
+    }
     Ok(())
+}
+
+// The lists of both workers. With `swapped` the entries of worker 0 change places.
+fn two_lists<L: Ledger, A: Heap, R: Wait>(
+    rt: &R,
+    alloc: A,
+    shared: &Shared<Counting, L, A>,
+    tickets: &mut [Ticket<L>],
+    swapped: bool,
+) -> Result<Vec<Vec<Entry<Counting>, A>, A>, PoolError> {
+    let mut lists = Vec::new(alloc);
+    lists.push(Vec::new(alloc))?;
+    lists.push(Vec::new(alloc))?;
+    put_four(rt, shared, tickets, &mut lists)?;
+    if swapped && let Some(list) = lists.first_mut() {
+        list.reverse();
+    }
+    Ok(lists)
+}
+
+// One worker hands back its ticket and its list.
+fn hand_back<L: Ledger, A: Heap>(
+    kept: &mut Vec<Kept<Counting, L, A>, A>,
+    ticket: Ticket<L>,
+    list: Option<Vec<Entry<Counting>, A>>,
+) -> Result<(), Starved> {
+    match list {
+        Some(list) => Ok(kept.push(Kept::new(ticket, list))?),
+        None => Err(Starved),
+    }
 }
 
 // What the workers hand back.
@@ -87,59 +140,43 @@ fn handed_back<L: Ledger, A: Heap>(
     let mut kept = Vec::new(alloc);
     let mut lists = lists.into_iter();
     for ticket in tickets {
-        let list = lists.next().ok_or(Starved)?;
-        kept.push(Kept::new(ticket, list))?;
+        hand_back(&mut kept, ticket, lists.next())?;
     }
     Ok(kept)
 }
 
-// The history after worker 0 put 5 and 6, and worker 1 put 7 between them and 8 at the end, where the book keeps so
-// many. With `swapped` the entries of worker 0 change places in its list.
+// Whether the history is ROWS.
+fn are_rows(history: &[Entry<Counting>]) -> bool {
+    for (place, entry) in history.iter().enumerate() {
+        if ROWS.get(place).copied() != Some(row(entry)) {
+            return false;
+        }
+    }
+    history.len() == ROWS.len()
+}
+
+// Whether the history is ROWS after both workers put two events each, where the book keeps so many.
 fn closing<L: Ledger, A: Heap, R: Wait>(
     rt: &R,
     alloc: A,
     blank: Blank,
     keep: usize,
     swapped: bool,
-) -> Result<Vec<Row, A>, PoolError>
+) -> Result<bool, PoolError>
     requires name { blank.name ≡ L.name }
     requires parts { (blank.parts ≡ L.parts) × (blank.parts ≡ 2) }
 {
     let (book, mut tickets) = Book::<Counting, L, A>::new(alloc, blank, 0, 2, keep)?;
     let shared = Shared::new(book);
-    let mut lists = Vec::new(alloc);
-    lists.push(Vec::new(alloc))?;
-    lists.push(Vec::new(alloc))?;
-    for (place, event) in [(0, 5), (1, 7), (0, 6), (1, 8)] {
-        put(rt, &shared, &mut tickets, &mut lists, place, event)?;
-    }
-    if swapped && let Some(list) = lists.first_mut() {
-        list.reverse();
-    }
+    let lists = two_lists(rt, alloc, &shared, &mut tickets, swapped)?;
     let kept = handed_back(alloc, tickets, lists)?;
-    rows(alloc, gather(alloc, shared.into_book(), kept)?)
+    let closed = gather(alloc, shared.into_book(), kept)?;
+    Ok(are_rows(&closed.history))
 }
-
-// The rows of a history, where the lists are as long together.
-fn rows<A: Heap>(alloc: A, closed: Closed<Counting, A>) -> Result<Vec<Row, A>, PoolError> {
-    let mut rows = Vec::new(alloc);
-    for entry in closed.history.iter() {
-        rows.push(row(entry))?;
-    }
-    Ok(rows)
-}
-
-const ROWS: [Row; 4] = [
-    (0, 0, 5, Some(5)),
-    (1, 0, 7, Some(12)),
-    (0, 1, 6, Some(18)),
-    (1, 1, 8, Some(26)),
-];
 
 #[test]
 fn true_lists_close(rt: HostRuntime) -> Result<(), Fail> {
-    let closed = closing::<Brand, Global, _>(&rt, rt.alloc(), Blank::new(2), 4, false)?;
-    assert!(rt; closed.as_slice() == ROWS.as_slice());
+    assert!(rt; closing::<Brand, Global, _>(&rt, rt.alloc(), Blank::new(2), 4, false)?);
     Ok(())
 }
 
@@ -173,6 +210,22 @@ fn each_growth_refused_in_turn(rt: HostRuntime) -> Result<(), Fail> {
     Ok(())
 }
 
+// What the first worker is refused, and the ticket's count after it.
+fn submit_first<L: Ledger, R: Wait>(
+    rt: &R,
+    shared: &Shared<Counting, L>,
+    tickets: &mut [Ticket<L>],
+    event: u64,
+) -> (Option<PoolError>, Option<u64>) {
+    match tickets.first_mut() {
+        Some(ticket) => (
+            submit(rt, shared, ticket, event).err(),
+            Some(ticket.count()),
+        ),
+        None => (None, None),
+    }
+}
+
 // What one event of one worker leaves: whether the entry came back, the ticket's count, the entries and the machine's
 // count.
 fn after_one<L: Ledger, R: Wait>(
@@ -180,15 +233,13 @@ fn after_one<L: Ledger, R: Wait>(
     alloc: Global,
     blank: Blank,
     event: u64,
-) -> Result<(Option<PoolError>, u64, u64, u64), PoolError>
+) -> Result<(Option<PoolError>, Option<u64>, u64, u64), PoolError>
     requires name { blank.name ≡ L.name }
     requires parts { (blank.parts ≡ L.parts) × (blank.parts ≡ 1) }
 {
     let (book, mut tickets) = Book::<Counting, L>::new(alloc, blank, 0, 1, 1)?;
     let shared = Shared::new(book);
-    let ticket = tickets.first_mut().ok_or(Starved)?;
-    let refusal = submit(rt, &shared, ticket, event).err();
-    let count = ticket.count();
+    let (refusal, count) = submit_first(rt, &shared, &mut tickets, event);
     let book = shared.into_book();
     Ok((refusal, count, book.entries(), *book.state()))
 }
@@ -196,10 +247,10 @@ fn after_one<L: Ledger, R: Wait>(
 #[test]
 fn each_copy_refused(rt: HostRuntime) -> Result<(), Fail> {
     let alloc = rt.alloc();
-    assert!(rt; after_one::<Brand, _>(&rt, alloc, Blank::new(1), 3)? == (None, 1, 1, 3));
+    assert!(rt; after_one::<Brand, _>(&rt, alloc, Blank::new(1), 3)? == (None, Some(1), 1, 3));
     let starved = Some(PoolError::Memory);
-    assert!(rt; after_one::<Brand, _>(&rt, alloc, Blank::new(1), 1)? == (starved, 0, 0, 0));
-    assert!(rt; after_one::<Brand, _>(&rt, alloc, Blank::new(1), 2)? == (starved, 1, 1, 2));
+    assert!(rt; after_one::<Brand, _>(&rt, alloc, Blank::new(1), 1)? == (starved, Some(0), 0, 0));
+    assert!(rt; after_one::<Brand, _>(&rt, alloc, Blank::new(1), 2)? == (starved, Some(1), 1, 2));
     Ok(())
 }
 
