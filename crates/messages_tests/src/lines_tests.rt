@@ -8,14 +8,23 @@ use std::alloc::Global;
 use std::test::Fail;
 use wire::{Header, Message, Questions};
 
-// A section with one address of that owner; an empty one where there is no owner.
-fn section(alloc: Global, owner: Option<&str>) -> Result<Records, Starved> {
-    let mut records = Records::new(alloc);
-    if let Some(owner) = owner {
-        let address = RData::A(Addr([192, 0, 2, 1]));
-        put(alloc, &mut records, owner, 5, address)?;
+// Puts one address of that owner into a section; nothing where there is no owner.
+fn put_address(alloc: Global, section: &mut Records, owner: Option<&str>) -> Result<(), Starved> {
+    match owner {
+        Some(owner) => put(alloc, section, owner, 5, RData::A(Addr([192, 0, 2, 1]))),
+        None => Ok(()),
     }
-    Ok(records)
+}
+
+// The same for the answer, authority and additional section.
+fn put_addresses(
+    alloc: Global,
+    message: &mut Message,
+    owners: [Option<&str>; 3],
+) -> Result<(), Starved> {
+    put_address(alloc, &mut message.answer, owners[0])?;
+    put_address(alloc, &mut message.authority, owners[1])?;
+    put_address(alloc, &mut message.additional, owners[2])
 }
 
 // What a head says: the client, AA, TC, the RCODE and the cause.
@@ -30,7 +39,7 @@ fn put_lines(
     owners: [Option<&str>; 3],
 ) -> Result<(), Starved> {
     let (client, aa, tc, rcode, cause) = head;
-    let message = Message {
+    let mut message = Message {
         header: Header {
             id: 1,
             qr: true,
@@ -43,20 +52,19 @@ fn put_lines(
             rcode: rcode.min(15),
         },
         questions: Questions::new(alloc),
-        answer: section(alloc, owners[0])?,
-        authority: section(alloc, owners[1])?,
-        additional: section(alloc, owners[2])?,
+        answer: Records::new(alloc),
+        authority: Records::new(alloc),
+        additional: Records::new(alloc),
     };
+    put_addresses(alloc, &mut message, owners)?;
     put_reply(out, client, &message, cause)
 }
 
-#[test]
-fn replies_are_printed(rt: HostRuntime) -> Result<(), Fail> {
-    let mut out = String::new(rt.alloc());
+fn put_replies(out: &mut String, alloc: Global) -> Result<(), Starved> {
     // Records stand in their sections.
     put_lines(
-        &mut out,
-        rt.alloc(),
+        out,
+        alloc,
         (1, true, false, 3, None),
         [Some("a"), Some("b"), Some("c")],
     )?;
@@ -69,8 +77,15 @@ fn replies_are_printed(rt: HostRuntime) -> Result<(), Fail> {
         (4, false, false, 4, None),
         (5, false, false, 15, None),
     ] {
-        put_lines(&mut out, rt.alloc(), head, [None; 3])?;
+        put_lines(out, alloc, head, [None; 3])?;
     }
+    Ok(())
+}
+
+#[test]
+fn replies_are_printed(rt: HostRuntime) -> Result<(), Fail> {
+    let mut out = String::new(rt.alloc());
+    put_replies(&mut out, rt.alloc())?;
     assert_eq!(rt;
         out.as_str(),
         "reply 1 NXDOMAIN aa\n  an a. 5 A 192.0.2.1\n  ns b. 5 A 192.0.2.1\n  ar c. 5 A 192.0.2.1\nreply 7 NOERROR aa tc\nreply 18446744073709551615 SERVFAIL cause 5\nreply 2 REFUSED\nreply 3 FORMERR\nreply 4 NOTIMP\nreply 5 15\n"

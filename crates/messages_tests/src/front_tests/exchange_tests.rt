@@ -3,7 +3,7 @@ use crate::records::{name, put};
 use crate::wire_tests::{DENIAL, QUERY, REPLY};
 use authority::Catalog;
 use dname::{Heap, Starved};
-use front::{Asked, Query, Via, Writer, answer_local, read_query, reply_bytes};
+use front::{Asked, Outcome, Query, Via, Writer, answer_local, read_query, reply_bytes};
 use rdata::{Addr, RData, RType, Records, Soa};
 use refusing::Refusing;
 use std::alloc::Allocator;
@@ -31,33 +31,49 @@ const LAB: Small<'static> = (
     Addr([192, 0, 2, 7]),
 );
 
-// The records of the zone.
-fn records<A: Heap>(alloc: A, zone: Small<'_>) -> Result<Records<A>, Starved> {
-    let (origin, server, mailbox, [refresh, retry, expire], host, address) = zone;
+// The SOA of the zone.
+fn soa<A: Heap>(alloc: A, zone: Small<'_>) -> Result<RData<A>, Starved> {
+    let (_, server, mailbox, [refresh, retry, expire], _, _) = zone;
+    let primary = name(alloc, server)?;
+    let mailbox = name(alloc, mailbox)?;
     let soa = Soa {
-        primary: name(alloc, server)?,
-        mailbox: name(alloc, mailbox)?,
+        primary,
+        mailbox,
         serial: 1,
         refresh,
         retry,
         expire,
         minimum: 60,
     };
-    let mut records = Records::new(alloc);
-    let soa = RData::Soa(Box::new(alloc, soa)?);
-    put(alloc, &mut records, origin, 300, soa)?;
+    Ok(RData::Soa(Box::new(alloc, soa)?))
+}
+
+// The records of the zone.
+fn put_records<A: Heap>(
+    alloc: A,
+    records: &mut Records<A>,
+    zone: Small<'_>,
+) -> Result<(), Starved> {
+    let (origin, server, _, _, host, address) = zone;
+    let soa = soa(alloc, zone)?;
+    put(alloc, records, origin, 300, soa)?;
     let server = RData::Ns(name(alloc, server)?);
-    put(alloc, &mut records, origin, 300, server)?;
-    put(alloc, &mut records, host, 300, RData::A(address))?;
-    Ok(records)
+    put(alloc, records, origin, 300, server)?;
+    put(alloc, records, host, 300, RData::A(address))
+}
+
+fn built<A: Heap>(alloc: A, zone: Small<'_>) -> Result<Zone<A>, Starved> {
+    let mut records = Records::new(alloc);
+    put_records(alloc, &mut records, zone)?;
+    match Zone::build(name(alloc, zone.0)?, records) {
+        Ok(zone) => Ok(zone),
+        Err(_) => Err(Starved),
+    }
 }
 
 // The catalog of the zone alone.
 fn catalog<A: Heap>(alloc: A, zone: Small<'_>) -> Result<Catalog<A>, Starved> {
-    let records = records(alloc, zone)?;
-    let Ok(zone) = Zone::build(name(alloc, zone.0)?, records) else {
-        return Err(Starved);
-    };
+    let zone = built(alloc, zone)?;
     let mut zones = Vec::new(alloc);
     zones.push(zone)?;
     match Catalog::new(zones) {
@@ -74,6 +90,28 @@ pub fn query_of<A: Heap>(alloc: A, bytes: &[u8]) -> Result<Query<A>, Starved> {
     }
 }
 
+// Whether the outcome of the query is told with that reply.
+fn is_told<A: Heap>(
+    alloc: A,
+    query: &Query<A>,
+    outcome: &Outcome<A>,
+    reply: &[u8],
+) -> Result<bool, Starved> {
+    let mut writer = Writer::new(alloc)?;
+    let (told, _) = reply_bytes(&mut writer, query, outcome, Via::Udp)?;
+    Ok(told.as_slice() == reply)
+}
+
+fn is_answer<A: Heap>(
+    alloc: A,
+    catalog: &Catalog<A>,
+    query: &Query<A>,
+    reply: &[u8],
+) -> Result<bool, Starved> {
+    let outcome = answer_local(alloc, query, catalog)?;
+    is_told(alloc, query, &outcome, reply)
+}
+
 // Whether the catalog answers the query with that reply.
 fn is_answered<A: Heap>(
     alloc: A,
@@ -81,13 +119,19 @@ fn is_answered<A: Heap>(
     query: &[u8],
     reply: &[u8],
 ) -> Result<bool, Starved> {
-    let mut writer = Writer::new(alloc)?;
     let query = query_of(alloc, query)?;
-    let outcome = answer_local(alloc, &query, catalog)?;
-    match reply_bytes(&mut writer, &query, &outcome, Via::Udp) {
-        Ok((told, _)) => Ok(told.as_slice() == reply),
-        Err(starved) => Err(starved),
-    }
+    is_answer(alloc, catalog, &query, reply)
+}
+
+// The same of the catalog of the zone alone.
+fn is_answered_from<A: Heap>(
+    alloc: A,
+    zone: Small<'_>,
+    query: &[u8],
+    reply: &[u8],
+) -> Result<bool, Starved> {
+    let catalog = catalog(alloc, zone)?;
+    is_answered(alloc, &catalog, query, reply)
 }
 
 #[test]
@@ -103,10 +147,11 @@ fn queries_are_answered_from_a_zone(rt: HostRuntime) -> Result<(), Fail> {
         ),
     ] {
         assert_eq!(rt; (query.len(), reply.len()), sizes);
-        let catalog = catalog(rt.alloc(), zone)?;
-        let answered = is_answered(rt.alloc(), &catalog, query, reply);
-        drop(catalog);
-        assert!(rt; answered?, "from {}", zone.0);
+        assert!(rt;
+            is_answered_from(rt.alloc(), zone, query, reply)?,
+            "from {}",
+            zone.0
+        );
     }
     Ok(())
 }
@@ -118,13 +163,15 @@ fn looks<A: Heap>(alloc: A, catalog: &Catalog<A>) -> Result<usize, Starved> {
     Ok(looks)
 }
 
+fn looks_in_lab<A: Heap>(alloc: A) -> Result<usize, Starved> {
+    let catalog = catalog(alloc, LAB)?;
+    looks(alloc, &catalog)
+}
+
 // The tree of the zone is asked at most once a label of the name, once for the root, and once more.
 #[test]
 fn a_name_between_others_takes_five_looks(rt: HostRuntime) -> Result<(), Fail> {
-    let catalog = catalog(rt.alloc(), LAB)?;
-    let looks = looks(rt.alloc(), &catalog);
-    drop(catalog);
-    let looks = looks?;
+    let looks = looks_in_lab(rt.alloc())?;
     assert!(rt; 1 <= looks && looks <= 5, "{looks} looks");
     Ok(())
 }
@@ -147,16 +194,23 @@ fn first_wrong_growth<'a, B: Allocator>(
     None
 }
 
+// Whether the zone's query is answered, how many growths that takes, and the first wrong one.
+fn answer_and_growths<B: Allocator>(
+    heap: &Refusing<B>,
+) -> Result<(bool, u64, Option<u64>), Starved> {
+    let catalog = catalog(heap, EXAMPLE)?;
+    let before = heap.growths();
+    let answered = is_answered(heap, &catalog, QUERY, REPLY);
+    let growths = heap.growths().saturating_sub(before);
+    let first_wrong = first_wrong_growth(heap, &catalog, growths);
+    Ok((answered?, growths, first_wrong))
+}
+
 #[test]
 fn each_growth_of_an_answer_is_refused_in_turn(rt: HostRuntime) -> Result<(), Fail> {
     let heap = Refusing::new(rt.alloc());
-    let catalog = catalog(&heap, EXAMPLE)?;
-    let before = heap.growths();
-    let answered = is_answered(&heap, &catalog, QUERY, REPLY);
-    let growths = heap.growths().saturating_sub(before);
-    let first_wrong = first_wrong_growth(&heap, &catalog, growths);
-    drop(catalog);
-    assert!(rt; answered?);
+    let (answered, growths, first_wrong) = answer_and_growths(&heap)?;
+    assert!(rt; answered);
     assert!(rt; growths > 4);
     assert_eq!(rt; first_wrong, None);
     Ok(())

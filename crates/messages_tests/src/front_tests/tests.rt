@@ -3,18 +3,32 @@ use crate::front_tests::exchange_tests::query_of;
 use crate::records::{name, put};
 use causes::Cause;
 use dname::{Heap, Starved};
-use front::{Asked, End, Outcome, Via, Writer, read_query, refusal_bytes, reply_bytes};
-use rdata::{CharacterString, RData, RType, RecordSet, Records, Texts, set_at};
+use front::{
+    Asked, Echo, End, Outcome, Query, Refusal, Start, Via, Writer, read_query, refusal_bytes,
+    reply_bytes,
+};
+use rdata::{CharacterString, RData, RType, Record, RecordSet, Records, Texts, set_at};
 use std::test::Fail;
+
+// Whether the refusal, with that start and question, has that reply.
+fn is_refusal<A: Heap>(
+    alloc: A,
+    refusal: Refusal,
+    start: Start,
+    echo: Option<&Echo<A>>,
+    reply: Option<&[u8]>,
+) -> Result<bool, Starved> {
+    let mut writer = Writer::new(alloc)?;
+    let bytes = refusal_bytes(&mut writer, refusal, start, echo)?;
+    Ok(reply == Some(bytes.as_slice()))
+}
 
 // Whether these bytes are refused with that reply; where none is given, whether they are dropped.
 fn is_refused<A: Heap>(alloc: A, bytes: &[u8], reply: Option<&[u8]>) -> Result<bool, Starved> {
     match read_query(alloc, bytes)? {
         Asked::Drop => Ok(reply.is_none()),
         Asked::Refuse(refusal, start, echo) => {
-            let mut writer = Writer::new(alloc)?;
-            let bytes = refusal_bytes(&mut writer, refusal, start, echo.as_ref())?;
-            Ok(reply == Some(bytes.as_slice()))
+            is_refusal(alloc, refusal, start, echo.as_ref(), reply)
         }
         Asked::Query(_) => Ok(false),
     }
@@ -60,10 +74,43 @@ fn string<A: Heap>(alloc: A, letter: u8, size: u8) -> Result<CharacterString<A>,
 // So many strings of 255 bytes, and one of `last` bytes, all of one letter.
 fn texts<A: Heap>(alloc: A, letter: u8, strings: usize, last: u8) -> Result<RData<A>, Starved> {
     let mut texts = Texts::new(alloc, string(alloc, letter, last)?)?;
-    for _ in 0..strings {
-        texts.push(string(alloc, letter, 255)?)?;
-    }
+    put_strings(alloc, &mut texts, letter, strings)?;
     Ok(RData::Txt(texts))
+}
+
+fn put_strings<A: Heap>(
+    alloc: A,
+    texts: &mut Texts<A>,
+    letter: u8,
+    strings: usize,
+) -> Result<(), Starved> {
+    for _ in 0..strings {
+        let string = string(alloc, letter, 255)?;
+        texts.push(string)?;
+    }
+    Ok(())
+}
+
+fn put_texts<A: Heap>(
+    alloc: A,
+    records: &mut Records<A>,
+    letters: &[u8],
+    strings: usize,
+    last: u8,
+) -> Result<(), Starved> {
+    for letter in letters {
+        let value = texts(alloc, *letter, strings, last)?;
+        put(alloc, records, "t.example", 300, value)?;
+    }
+    Ok(())
+}
+
+fn set_of<A: Heap>(alloc: A, records: &[Record<A>]) -> Result<RecordSet<A>, Starved> {
+    let owner = name(alloc, "t.example")?;
+    match set_at(alloc, records, &owner, RType::Txt)? {
+        Some(set) => Ok(set),
+        None => Err(Starved),
+    }
 }
 
 // The set of such records, one for each of these letters.
@@ -74,40 +121,43 @@ fn set<A: Heap>(
     last: u8,
 ) -> Result<RecordSet<A>, Starved> {
     let mut records = Records::new(alloc);
-    for letter in letters {
-        let value = texts(alloc, *letter, strings, last)?;
-        put(alloc, &mut records, "t.example", 300, value)?;
-    }
-    let owner = name(alloc, "t.example")?;
-    Ok(set_at(alloc, records.as_slice(), &owner, RType::Txt)?.ok_or(Starved)?)
+    put_texts(alloc, &mut records, letters, strings, last)?;
+    set_of(alloc, records.as_slice())
 }
 
-// What a client that asks for t.example. TXT, with ID 9 and RD set, is given where the name has that set, and the
-// cause of a SERVFAIL.
-fn reply<A: Heap>(
+// What a client is given: its length, its start, and the cause of a SERVFAIL.
+type Reply = (usize, &'static [u8], Option<Cause>);
+
+// Whether the client that sent the query is given that reply.
+fn is_given<A: Heap>(
     alloc: A,
-    set: RecordSet<A>,
+    query: &Query<A>,
+    outcome: &Outcome<A>,
     via: Via,
-) -> Result<(Vec<u8, A>, Option<Cause>), Starved> {
-    let outcome = Outcome::Answer(true, Records::new(alloc), End::Found(set));
+    reply: Reply,
+) -> Result<bool, Starved> {
+    let (length, start, cause) = reply;
     let mut writer = Writer::new(alloc)?;
+    let (bytes, told) = reply_bytes(&mut writer, query, outcome, via)?;
+    Ok(bytes.len() == length && bytes.starts_with(start) && told == cause)
+}
+
+// The same of a client that asks for t.example. TXT, with ID 9 and RD set.
+fn is_given_to_asker<A: Heap>(
+    alloc: A,
+    outcome: &Outcome<A>,
+    via: Via,
+    reply: Reply,
+) -> Result<bool, Starved> {
     let query = query_of(
         alloc,
         b"\0\x09\x01\0\0\x01\0\0\0\0\0\0\x01t\x07example\0\0\x10\0\x01",
     )?;
-    reply_bytes(&mut writer, &query, &outcome, via)
+    is_given(alloc, &query, outcome, via, reply)
 }
 
-// The records (letters, strings and `last`), the way, and the length, start and cause that the client is given.
-type Row = (
-    &'static [u8],
-    usize,
-    u8,
-    Via,
-    usize,
-    &'static [u8],
-    Option<Cause>,
-);
+// The records (letters, strings and `last`), the way, and what the client is given.
+type Row = (&'static [u8], usize, u8, Via, Reply);
 
 const REPLIES: &[Row] = &[
     // 512 bytes on UDP, and one more on UDP and on TCP.
@@ -116,27 +166,21 @@ const REPLIES: &[Row] = &[
         1,
         216,
         Via::Udp,
-        512,
-        b"\0\x09\x85\x80\0\x01\0\x01\0\0\0\0",
-        None,
+        (512, b"\0\x09\x85\x80\0\x01\0\x01\0\0\0\0", None),
     ),
     (
         b"a",
         1,
         217,
         Via::Udp,
-        27,
-        b"\0\x09\x87\x80\0\x01\0\0\0\0\0\0",
-        None,
+        (27, b"\0\x09\x87\x80\0\x01\0\0\0\0\0\0", None),
     ),
     (
         b"a",
         1,
         217,
         Via::Tcp,
-        513,
-        b"\0\x09\x85\x80\0\x01\0\x01\0\0\0\0",
-        None,
+        (513, b"\0\x09\x85\x80\0\x01\0\x01\0\0\0\0", None),
     ),
     // RDATA of 3,500 bytes, twenty times: 13 strings of 255 bytes and one of 171, each behind its length.
     (
@@ -144,21 +188,26 @@ const REPLIES: &[Row] = &[
         13,
         171,
         Via::Tcp,
-        27,
-        b"\0\x09\x81\x82\0\x01\0\0\0\0\0\0\x01t\x07example\0\0\x10\0\x01",
-        Some(Cause::Large),
+        (
+            27,
+            b"\0\x09\x81\x82\0\x01\0\0\0\0\0\0\x01t\x07example\0\0\x10\0\x01",
+            Some(Cause::Large),
+        ),
     ),
 ];
+
+// Whether the client is given that where t.example. has the set of these records.
+fn is_replied<A: Heap>(alloc: A, row: Row) -> Result<bool, Starved> {
+    let (letters, strings, last, via, reply) = row;
+    let set = set(alloc, letters, strings, last)?;
+    let outcome = Outcome::Answer(true, Records::new(alloc), End::Found(set));
+    is_given_to_asker(alloc, &outcome, via, reply)
+}
 
 #[test]
 fn a_reply_that_is_too_long_is_truncated_or_a_failure(rt: HostRuntime) -> Result<(), Fail> {
     for (place, row) in REPLIES.iter().enumerate() {
-        let (letters, strings, last, via, length, start, cause) = *row;
-        let set = set(rt.alloc(), letters, strings, last)?;
-        let (bytes, told) = reply(rt.alloc(), set, via)?;
-        let is_told = bytes.len() == length && bytes.starts_with(start) && told == cause;
-        drop(bytes);
-        assert!(rt; is_told, "reply {place}");
+        assert!(rt; is_replied(rt.alloc(), *row)?, "reply {place}");
     }
     Ok(())
 }

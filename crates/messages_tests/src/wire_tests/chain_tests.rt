@@ -1,4 +1,4 @@
-use dname::{Heap, Name, Starved};
+use dname::{Heap, Name, NameError, Starved};
 use refusing::Refusing;
 use std::test::Fail;
 use wire::{View, WireError, decode};
@@ -10,6 +10,11 @@ fn chained<A: Heap>(alloc: A) -> Result<Vec<u8, A>, Starved> {
         alloc,
         b"\0\x01\x80\0\0\0\x0b\xb9\0\0\0\0\0\0\x63\0\x01\0\0\0\0\x3e\x83\x01a\0",
     )?;
+    put_chain(&mut bytes)?;
+    Ok(bytes)
+}
+
+fn put_chain<A: Heap>(bytes: &mut Vec<u8, A>) -> Result<(), Starved> {
     let mut target: u16 = 23;
     for link in 0..8_000_u16 {
         bytes.extend_from_slice(&(0xc000 | target).to_be_bytes())?;
@@ -18,7 +23,7 @@ fn chained<A: Heap>(alloc: A) -> Result<Vec<u8, A>, Starved> {
     for _ in 0..3_000 {
         bytes.extend_from_slice(b"\xfe\x98\0\x01\0\x01\0\0\0\x3c\0\x04\xc0\0\x02\x01")?;
     }
-    Ok(bytes)
+    Ok(())
 }
 
 // How many records there are, and whether the owner of each is the name at the chain's end.
@@ -31,8 +36,8 @@ fn read_back<A: Heap>(alloc: A, bytes: &[u8]) -> Result<(usize, bool), WireError
     Ok((m.answer.len(), owned))
 }
 
-// How many records there are, seen in the bytes, and whether each is of the name at the chain's end.
-fn seen<A: Heap>(alloc: A, bytes: &[u8], owner: &Name<A>) -> Result<(usize, bool), WireError> {
+// The same of the records that are seen in the bytes.
+fn seen<A: Heap>(alloc: A, bytes: &[u8], owner: &Name<A>) -> Read {
     let view = View::new(alloc, bytes)?;
     let mut section = view.answer();
     let mut count = 0;
@@ -46,17 +51,30 @@ fn seen<A: Heap>(alloc: A, bytes: &[u8], owner: &Name<A>) -> Result<(usize, bool
     Ok((count, owned))
 }
 
-// Want of memory for the ends of the chain is told.
-#[test]
-fn owners_behind_a_long_chain_are_read(rt: HostRuntime) -> Result<(), Fail> {
-    let bytes = chained(rt.alloc())?;
-    let heap = Refusing::new(rt.alloc());
+fn seen_of_owner<A: Heap>(alloc: A, bytes: &[u8]) -> Result<Read, NameError> {
+    let owner = Name::from_text(alloc, "a.")?;
+    Ok(seen(alloc, bytes, &owner))
+}
+
+// What comes of reading a message: how many records there are, and whether each is of the name at the chain's end.
+type Read = Result<(usize, bool), WireError>;
+
+// The message's length; its records as they are read, as they are seen, and as they are read where memory lacks.
+fn outcomes<A: Heap>(alloc: A) -> Result<(usize, Read, Read, Read), NameError> {
+    let bytes = chained(alloc)?;
+    let heap = Refusing::new(alloc);
     let read = read_back(&heap, &bytes);
     heap.refuse_after(0);
     let starved = read_back(&heap, &bytes);
-    let owner = Name::from_text(rt.alloc(), "a.")?;
-    let lent = seen(rt.alloc(), &bytes, &owner);
-    assert_eq!(rt; bytes.len(), 64_026);
+    let lent = seen_of_owner(alloc, &bytes)?;
+    Ok((bytes.len(), read, lent, starved))
+}
+
+// Want of memory for the ends of the chain is told.
+#[test]
+fn owners_behind_a_long_chain_are_read(rt: HostRuntime) -> Result<(), Fail> {
+    let (length, read, lent, starved) = outcomes(rt.alloc())?;
+    assert_eq!(rt; length, 64_026);
     assert!(rt; matches!(read, Ok((3_000, true))));
     assert!(rt; matches!(lent, Ok((3_000, true))));
     assert!(rt; matches!(starved, Err(WireError::Memory)));

@@ -20,14 +20,18 @@ fn refusal<A: Heap>(
     rest: &[u8],
 ) -> Result<Option<u8>, Starved> {
     let mut bytes = Vec::from_slice(alloc, header)?;
-    bytes.extend_from_slice(front)?;
-    bytes.extend_from_slice(rest)?;
+    put_parts(&mut bytes, front, rest)?;
     let whole = number(decode(alloc, &bytes));
     if number(View::new(alloc, &bytes)) == whole {
         Ok(Some(whole))
     } else {
         Ok(None)
     }
+}
+
+fn put_parts<A: Heap>(bytes: &mut Vec<u8, A>, front: &[u8], rest: &[u8]) -> Result<(), Starved> {
+    bytes.extend_from_slice(front)?;
+    Ok(bytes.extend_from_slice(rest)?)
 }
 
 // The fronts are refused as short, and one byte more as trailing.

@@ -3,7 +3,7 @@ use dname::Heap;
 use rdata::Record;
 use std::alloc::Global;
 use std::test::Fail;
-use wire::{View, Walk, WireError, decode, decode_question, encode};
+use wire::{Message, Question, View, Walk, WireError, decode, decode_question, encode};
 
 // Messages, and what each says in words: header, question and records.
 const SHOWN: &[(&[u8], &str)] = &[
@@ -46,29 +46,51 @@ fn are_lent(alloc: Global, mut section: Walk<'_>, records: &[Record]) -> Result<
     Ok(section.next().is_none())
 }
 
-// Whether a message is seen in its bytes as it is read.
-fn is_seen(alloc: Global, bytes: &[u8]) -> Result<bool, WireError> {
-    let m = decode(alloc, bytes)?;
-    let view = View::new(alloc, bytes)?;
-    let asked = match m.questions.as_slice() {
+fn is_asked_for(view: &View<'_>, questions: &[Question]) -> bool {
+    match questions {
         [q] => view.asks_for(&q.name, q.qtype, q.qclass) && !view.asks_for(&q.name, q.qtype, 3),
         _ => false,
-    };
+    }
+}
+
+// Whether the records of the message are lent, section by section.
+fn lends(alloc: Global, view: &View<'_>, m: &Message) -> Result<bool, WireError> {
     Ok(
-        asked
-            && view.header() == m.header
-            && are_lent(alloc, view.answer(), m.answer.as_slice())?
+        are_lent(alloc, view.answer(), m.answer.as_slice())?
             && are_lent(alloc, view.authority(), m.authority.as_slice())?
             && are_lent(alloc, view.additional(), m.additional.as_slice())?,
     )
 }
 
+fn shows(alloc: Global, bytes: &[u8], m: &Message) -> Result<bool, WireError> {
+    let view = View::new(alloc, bytes)?;
+    if is_asked_for(&view, m.questions.as_slice()) && view.header() == m.header {
+        lends(alloc, &view, m)
+    } else {
+        Ok(false)
+    }
+}
+
+// Whether a message is seen in its bytes as it is read.
+fn is_seen(alloc: Global, bytes: &[u8]) -> Result<bool, WireError> {
+    let m = decode(alloc, bytes)?;
+    shows(alloc, bytes, &m)
+}
+
+fn is_written<A: Heap>(
+    alloc: A,
+    m: &Message<A>,
+    bytes: &[u8],
+    limit: usize,
+) -> Result<bool, WireError> {
+    let written = encode(alloc, m, limit.min(65_535))?;
+    Ok(written.as_slice() == bytes)
+}
+
 // Whether what is read is written as it stood, names compressed, within that limit, or 65,535 bytes if that is less.
 pub fn is_rewritten<A: Heap>(alloc: A, bytes: &[u8], limit: usize) -> Result<bool, WireError> {
     let m = decode(alloc, bytes)?;
-    let written = encode(alloc, &m, limit.min(65_535));
-    drop(m);
-    Ok(written?.as_slice() == bytes)
+    is_written(alloc, &m, bytes, limit)
 }
 
 #[test]
