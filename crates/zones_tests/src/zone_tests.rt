@@ -147,8 +147,8 @@ fn zone_of<A: Heap>(
     alloc: A,
     rows: &[Row<'static>],
 ) -> Result<Result<Zone<A>, ZoneError>, Starved> {
-    let origin = name(alloc, "Example.COM")?;
-    Ok(Zone::build(origin, records(alloc, rows)?))
+    let records = records(alloc, rows)?;
+    Ok(Zone::build(name(alloc, "Example.COM")?, records))
 }
 
 // Whether a zone has so many records, the origin above, and denials of that TTL.

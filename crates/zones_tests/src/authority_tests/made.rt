@@ -53,6 +53,18 @@ impl<A: Heap> Maker<A> {
         among.get(word.checked_rem(among.len())?).copied()
     }
 
+    fn put_owner(
+        &mut self,
+        text: &mut String<A>,
+        first: &[&'static str],
+        others: &[&'static str],
+    ) -> Result<(), Starved> {
+        for among in [first, others, others] {
+            text.push_str(self.one_of(among).unwrap_or("a"))?;
+        }
+        Ok(text.push_str(ORIGIN)?)
+    }
+
     // A name in the zone: one of the first labels, and up to two of the others above it.
     fn owner(
         &mut self,
@@ -60,10 +72,7 @@ impl<A: Heap> Maker<A> {
         others: &[&'static str],
     ) -> Result<String<A>, Starved> {
         let mut text = String::new(self.alloc);
-        text.push_str(self.one_of(first).unwrap_or("a"))?;
-        text.push_str(self.one_of(others).unwrap_or("a"))?;
-        text.push_str(self.one_of(others).unwrap_or("a"))?;
-        text.push_str(ORIGIN)?;
+        self.put_owner(&mut text, first, others)?;
         Ok(text)
     }
 
@@ -75,7 +84,7 @@ impl<A: Heap> Maker<A> {
             None => Value::A((self.words.next_u32() % 4) as u8),
         };
         let owner = self.owner(first, &["", "", "a.", "b."])?;
-        Ok(record(self.alloc, (owner.as_str(), 60, value))?)
+        record(self.alloc, (owner.as_str(), 60, value))
     }
 
     // The zone's SOA, its server and forty records more, some of them repeats.
@@ -85,16 +94,21 @@ impl<A: Heap> Maker<A> {
             (ORIGIN, 3600, Value::Ns("ns.d.zone.example")),
         ];
         let mut records = records(self.alloc, &top)?;
+        self.put_more(&mut records)?;
+        Ok(records)
+    }
+
+    fn put_more(&mut self, records: &mut Records<A>) -> Result<(), Starved> {
         for _ in 0..40 {
             records.push(self.record()?)?;
         }
-        Ok(records)
+        Ok(())
     }
 
     /// A zone of such records.
     pub fn zone(&mut self) -> Result<Zone<A>, Starved> {
-        let origin = name(self.alloc, ORIGIN)?;
-        match Zone::build(origin, self.records()?) {
+        let records = self.records()?;
+        match Zone::build(name(self.alloc, ORIGIN)?, records) {
             Ok(zone) => Ok(zone),
             Err(_) => Err(Starved),
         }
@@ -102,11 +116,16 @@ impl<A: Heap> Maker<A> {
 
     /// A question in the zone: at, beneath and beside its owners.
     pub fn question(&mut self) -> Result<(Name<A>, RType), Starved> {
+        let kinds = [RType::A, RType::Txt, RType::Ns, RType::Cname];
+        let asked = self.asked()?;
+        let kind = self.one_of(&kinds).unwrap_or(RType::A);
+        Ok((asked, kind))
+    }
+
+    fn asked(&mut self) -> Result<Name<A>, Starved> {
         let first = ["", "a.", "b.", "d.", "ns.d.", "w.", "x.", "*."];
         let others = ["", "a.", "b.", "d.", "w.", "x.", "*."];
-        let kinds = [RType::A, RType::Txt, RType::Ns, RType::Cname];
         let asked = self.owner(&first, &others)?;
-        let kind = self.one_of(&kinds).unwrap_or(RType::A);
-        Ok((name(self.alloc, asked.as_str())?, kind))
+        name(self.alloc, asked.as_str())
     }
 }

@@ -57,10 +57,34 @@ fn by_list<A: Heap>(
 ) -> Result<Local<A>, Starved> {
     zone_keeps_rules(zone);
     let (origin, soa, records) = (zone.origin(), zone.denial(), zone.records());
-    Ok(look_in(alloc, origin, soa, records, asked, kind)?)
+    look_in(alloc, origin, soa, records, asked, kind)
 }
 
-// Whether the tree and the list answer the next question alike.
+// Whether the list says the same as the tree.
+fn list_says<A: Heap>(
+    alloc: A,
+    zone: &Zone<A>,
+    asked: &Name<A>,
+    kind: RType,
+    by_tree: &Local<A>,
+) -> Result<bool, Starved> {
+    let by_list = by_list(alloc, zone, asked, kind)?;
+    Ok(says_same(by_tree, &by_list))
+}
+
+// Whether the tree and the list answer a question alike.
+fn answers_alike<A: Heap>(
+    alloc: A,
+    catalog: &Catalog<A>,
+    zone: &Zone<A>,
+    asked: &Name<A>,
+    kind: RType,
+) -> Result<bool, Starved> {
+    let by_tree = catalog.look(alloc, asked, kind)?;
+    list_says(alloc, zone, asked, kind, &by_tree)
+}
+
+// The same of the next question.
 fn asked_alike<A: Heap>(
     maker: &mut Maker<A>,
     alloc: A,
@@ -68,34 +92,51 @@ fn asked_alike<A: Heap>(
     zone: &Zone<A>,
 ) -> Result<bool, Starved> {
     let (asked, kind) = maker.question()?;
-    let by_list = by_list(alloc, zone, &asked, kind)?;
-    let by_tree = catalog.look(alloc, &asked, kind)?;
-    Ok(says_same(&by_tree, &by_list))
+    answers_alike(alloc, catalog, zone, &asked, kind)
 }
 
 fn catalog_of<A: Heap>(alloc: A, zone: &Zone<A>) -> Result<Catalog<A>, Starved> {
-    let zone = zone.clone()?;
     let mut zones = Vec::new(alloc);
-    zones.push(zone)?;
-    Ok(known(zones)?)
+    put_copy(&mut zones, zone)?;
+    known(zones)
+}
+
+fn put_copy<A: Heap>(zones: &mut Vec<Zone<A>, A>, zone: &Zone<A>) -> Result<(), Starved> {
+    let copy = zone.clone()?;
+    Ok(zones.push(copy)?)
 }
 
 // How many of forty questions they answer alike.
-fn count_alike<A: Heap>(maker: &mut Maker<A>, alloc: A, zone: &Zone<A>) -> Result<u32, Starved> {
-    let catalog = catalog_of(alloc, zone)?;
+fn count_alike<A: Heap>(
+    maker: &mut Maker<A>,
+    alloc: A,
+    catalog: &Catalog<A>,
+    zone: &Zone<A>,
+) -> Result<u32, Starved> {
     let mut count = 0u32;
     for _ in 0..40 {
-        let alike = asked_alike(maker, alloc, &catalog, zone)?;
+        let alike = asked_alike(maker, alloc, catalog, zone)?;
         count = count.saturating_add(alike as u32);
     }
     Ok(count)
 }
 
+// The same of questions to a zone.
+fn alike_of<A: Heap>(maker: &mut Maker<A>, alloc: A, zone: &Zone<A>) -> Result<u32, Starved> {
+    let catalog = catalog_of(alloc, zone)?;
+    count_alike(maker, alloc, &catalog, zone)
+}
+
+// The same of questions to the maker's next zone.
+fn alike_in_next<A: Heap>(maker: &mut Maker<A>, alloc: A) -> Result<u32, Starved> {
+    let zone = maker.zone()?;
+    alike_of(maker, alloc, &zone)
+}
+
 // The same of questions to the zone of a seed.
 fn alike_in<A: Heap>(alloc: A, seed: u8) -> Result<u32, Starved> {
     let mut maker = Maker::new(alloc, seed);
-    let zone = maker.zone()?;
-    Ok(count_alike(&mut maker, alloc, &zone)?)
+    alike_in_next(&mut maker, alloc)
 }
 
 #[test]

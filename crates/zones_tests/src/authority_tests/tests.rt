@@ -19,11 +19,6 @@ const LAB: &[Row<'static>] = &[
     ("ns.sub.lab.example", 60, Value::A(2)),
 ];
 
-fn zone<A: Heap>(alloc: A, origin: &str, rows: &[Row<'_>]) -> Result<Zone<A>, Starved> {
-    let records = records(alloc, rows)?;
-    Ok(built(alloc, origin, records)?)
-}
-
 fn built<A: Heap>(alloc: A, origin: &str, records: Records<A>) -> Result<Zone<A>, Starved> {
     match Zone::build(name(alloc, origin)?, records) {
         Ok(zone) => Ok(zone),
@@ -38,20 +33,44 @@ fn example<A: Heap>(alloc: A) -> Result<Records<A>, Starved> {
         ("example", 3600, Value::Ns("ns.example")),
     ];
     let mut records = records(alloc, &rows)?;
+    put_many(alloc, &mut records)?;
+    Ok(records)
+}
+
+fn put_many<A: Heap>(alloc: A, records: &mut Records<A>) -> Result<(), Starved> {
     for n in 0..80_u8 {
         let record = record(alloc, ("many.example", 60, Value::A(n % 40)))?;
         records.push(record)?;
     }
-    Ok(records)
+    Ok(())
+}
+
+// One zone more, of that origin.
+fn put_zone<A: Heap>(
+    alloc: A,
+    zones: &mut Vec<Zone<A>, A>,
+    origin: &str,
+    records: Records<A>,
+) -> Result<(), Starved> {
+    let zone = built(alloc, origin, records)?;
+    Ok(zones.push(zone)?)
+}
+
+fn put_lab<A: Heap>(alloc: A, zones: &mut Vec<Zone<A>, A>) -> Result<(), Starved> {
+    let records = records(alloc, LAB)?;
+    put_zone(alloc, zones, "lab.example", records)
+}
+
+fn put_zones<A: Heap>(alloc: A, zones: &mut Vec<Zone<A>, A>) -> Result<(), Starved> {
+    let example = example(alloc)?;
+    put_zone(alloc, zones, "example", example)?;
+    put_lab(alloc, zones)
 }
 
 fn catalog<A: Heap>(alloc: A) -> Result<Catalog<A>, Starved> {
-    let example = built(alloc, "example", example(alloc)?)?;
     let mut zones = Vec::new(alloc);
-    zones.push(example)?;
-    let lab = zone(alloc, "lab.example", LAB)?;
-    zones.push(lab)?;
-    Ok(known(zones)?)
+    put_zones(alloc, &mut zones)?;
+    known(zones)
 }
 
 // The kind of an answer, the name that it speaks of, if any, and how many records and addresses it has.
@@ -195,11 +214,20 @@ fn is_answer<A: Heap>(said: &Local<A>, wanted: Answer) -> Result<bool, Starved> 
 
 fn names<A: Heap>(alloc: A, texts: &[&str]) -> Result<Vec<Name<A>, A>, Starved> {
     let mut names = Vec::new(alloc);
+    put_names(alloc, &mut names, texts)?;
+    Ok(names)
+}
+
+fn put_names<A: Heap>(
+    alloc: A,
+    names: &mut Vec<Name<A>, A>,
+    texts: &[&str],
+) -> Result<(), Starved> {
     for text in texts {
         let name = name(alloc, *text)?;
         names.push(name)?;
     }
-    Ok(names)
+    Ok(())
 }
 
 // What the zones of these origins, or all of them, say.
@@ -211,30 +239,45 @@ fn said<A: Heap>(
     kind: RType,
 ) -> Result<Local<A>, Starved> {
     match listed {
-        None => Ok(zones.look(alloc, asked, kind)?),
+        None => zones.look(alloc, asked, kind),
         Some(listed) => {
             let origins = names(alloc, listed)?;
-            Ok(zones.look_among(alloc, &origins, asked, kind)?)
+            zones.look_among(alloc, &origins, asked, kind)
         }
     }
 }
 
-fn is_met<A: Heap>(alloc: A, zones: &Catalog<A>, case: Case) -> Result<bool, Starved> {
-    let (asked, kind, listed, answer) = case;
-    let asked = name(alloc, asked)?;
-    let said = said(alloc, zones, listed, &asked, kind)?;
-    Ok(is_answer(&said, answer)?)
+// Whether they say of a name what they say of the case's.
+fn is_met_by<A: Heap>(
+    alloc: A,
+    zones: &Catalog<A>,
+    case: Case,
+    asked: &Name<A>,
+) -> Result<bool, Starved> {
+    let (_, kind, listed, answer) = case;
+    let said = said(alloc, zones, listed, asked, kind)?;
+    is_answer(&said, answer)
 }
 
-// The first case in which the zones answer something else.
-fn first_wrong<A: Heap>(alloc: A) -> Result<Option<usize>, Starved> {
-    let zones = catalog(alloc)?;
+fn is_met<A: Heap>(alloc: A, zones: &Catalog<A>, case: Case) -> Result<bool, Starved> {
+    let asked = name(alloc, case.0)?;
+    is_met_by(alloc, zones, case, &asked)
+}
+
+// The first case in which these zones answer something else.
+fn first_wrong_of<A: Heap>(alloc: A, zones: &Catalog<A>) -> Result<Option<usize>, Starved> {
     for (place, case) in CASES.iter().enumerate() {
-        if !is_met(alloc, &zones, *case)? {
+        if !is_met(alloc, zones, *case)? {
             return Ok(Some(place));
         }
     }
     Ok(None)
+}
+
+// The same of the zones above.
+fn first_wrong<A: Heap>(alloc: A) -> Result<Option<usize>, Starved> {
+    let zones = catalog(alloc)?;
+    first_wrong_of(alloc, &zones)
 }
 
 #[test]
@@ -260,32 +303,48 @@ fn each_growth_is_refused_in_turn(rt: HostRuntime) -> Result<(), Fail> {
 // Twice the same zone.
 fn twins<A: Heap>(alloc: A) -> Result<Vec<Zone<A>, A>, Starved> {
     let mut zones = Vec::new(alloc);
-    zones.push(zone(alloc, "lab.example", LAB)?)?;
-    zones.push(zone(alloc, "lab.example", LAB)?)?;
+    put_lab(alloc, &mut zones)?;
+    put_lab(alloc, &mut zones)?;
     Ok(zones)
 }
 
 // The zone of an origin, with nothing in it.
-fn bare<A: Heap>(alloc: A, origin: &str) -> Result<Zone<A>, Starved> {
+fn put_bare<A: Heap>(alloc: A, zones: &mut Vec<Zone<A>, A>, origin: &str) -> Result<(), Starved> {
     let rows = [
         (origin, 3600, Value::Soa(60)),
         (origin, 3600, Value::Ns("ns.example")),
     ];
-    Ok(zone(alloc, origin, &rows)?)
+    let records = records(alloc, &rows)?;
+    put_zone(alloc, zones, origin, records)
+}
+
+fn put_numbered<A: Heap>(
+    alloc: A,
+    zones: &mut Vec<Zone<A>, A>,
+    number: u32,
+) -> Result<(), Starved> {
+    let origin = format!(in alloc; "zone-{number}.example")?;
+    put_bare(alloc, zones, origin.as_str())
+}
+
+fn put_many_zones<A: Heap>(
+    alloc: A,
+    zones: &mut Vec<Zone<A>, A>,
+    more: &[&str],
+) -> Result<(), Starved> {
+    for number in 0..10_000_u32 {
+        put_numbered(alloc, zones, number)?;
+    }
+    for origin in more {
+        put_bare(alloc, zones, *origin)?;
+    }
+    Ok(())
 }
 
 // Ten thousand zones of different origins, and behind them the zones of these.
 fn many_zones<A: Heap>(alloc: A, more: &[&str]) -> Result<Vec<Zone<A>, A>, Starved> {
     let mut zones = Vec::new(alloc);
-    for number in 0..10_000_u32 {
-        let origin = format!(in alloc; "zone-{number}.example")?;
-        let zone = bare(alloc, origin.as_str())?;
-        zones.push(zone)?;
-    }
-    for origin in more {
-        let zone = bare(alloc, *origin)?;
-        zones.push(zone)?;
-    }
+    put_many_zones(alloc, &mut zones, more)?;
     Ok(zones)
 }
 
@@ -294,15 +353,24 @@ fn refusal<A: Heap>(zones: Vec<Zone<A>, A>) -> Option<CatalogError> {
     Catalog::new(zones).err()
 }
 
+// Why many zones and these are no catalog, if they are none.
+fn refusal_of_many<A: Heap>(alloc: A, more: &[&str]) -> Result<Option<CatalogError>, Starved> {
+    let zones = many_zones(alloc, more)?;
+    Ok(refusal(zones))
+}
+
+// The same of twins, of many zones, and of these with a twin of the first behind them.
+fn refusals<A: Heap>(alloc: A) -> Result<[Option<CatalogError>; 3], Starved> {
+    let of_two = refusal(twins(alloc)?);
+    let of_none = refusal_of_many(alloc, &[])?;
+    let of_ends = refusal_of_many(alloc, &["ZONE-0.example"])?;
+    Ok([of_two, of_none, of_ends])
+}
+
 // Two zones of one origin are refused, also where they are the first and the last of many.
 #[test]
 fn twins_are_refused(rt: HostRuntime) -> Result<(), Fail> {
-    assert_eq!(rt; refusal(twins(rt.alloc())?), Some(CatalogError::Twins));
-    assert_eq!(rt; refusal(many_zones(rt.alloc(), &[])?), None);
-    let last = ["ZONE-0.example"];
-    assert_eq!(rt;
-        refusal(many_zones(rt.alloc(), &last)?),
-        Some(CatalogError::Twins)
-    );
+    let twins = Some(CatalogError::Twins);
+    assert_eq!(rt; refusals(rt.alloc())?, [twins, None, twins]);
     Ok(())
 }

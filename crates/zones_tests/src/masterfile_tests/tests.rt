@@ -10,27 +10,43 @@ use std::test::Fail;
 
 mod texts;
 
-fn lines_of<A: Heap>(alloc: A, records: &[Record<A>]) -> Result<String<A>, Starved> {
-    let mut out = String::new(alloc);
+fn put_lines<A: Heap>(out: &mut String<A>, records: &[Record<A>]) -> Result<(), Starved> {
     for record in records {
-        put_record(&mut out, record)?;
+        put_record(out, record)?;
         out.push('\n')?;
     }
-    Ok(out)
+    Ok(())
 }
 
-// Whether a text under the origin `example.` says this: its records printed, or the line and kind of its first fault.
-fn says<A: Heap>(
+// Whether the records are printed so, each on a line.
+fn are_printed<A: Heap>(alloc: A, records: &[Record<A>], lines: &str) -> Result<bool, Starved> {
+    let mut out = String::new(alloc);
+    put_lines(&mut out, records)?;
+    Ok(out.as_str() == lines)
+}
+
+// What a text says: its records printed, or the line and kind of its first fault.
+type Said<'a> = Result<&'a str, (usize, FileKind)>;
+
+fn says_under<A: Heap>(
     alloc: A,
+    origin: &Name<A>,
     text: &[u8],
-    wanted: Result<&str, (usize, FileKind)>,
-) -> Result<bool, NameError> {
+    wanted: Said<'_>,
+) -> Result<bool, Starved> {
+    match read_block(alloc, origin, text, 1) {
+        Ok(records) => match wanted {
+            Ok(lines) => are_printed(alloc, records.as_slice(), lines),
+            Err(_) => Ok(false),
+        },
+        Err(fault) => Ok(wanted == Err((fault.line, fault.kind))),
+    }
+}
+
+// Whether a text says this under the origin `example.`.
+fn says<A: Heap>(alloc: A, text: &[u8], wanted: Said<'_>) -> Result<bool, NameError> {
     let origin = Name::from_text(alloc, "example.")?;
-    Ok(match (read_block(alloc, &origin, text, 1), wanted) {
-        (Ok(records), Ok(lines)) => lines_of(alloc, records.as_slice())?.as_str() == lines,
-        (Err(fault), Err((line, kind))) => fault.line == line && fault.kind == kind,
-        _ => false,
-    })
+    Ok(says_under(alloc, &origin, text, wanted)?)
 }
 
 // The line and kind of a text's first fault under the origin `example.`, if it has one. The text: `head`, and then so
@@ -181,18 +197,38 @@ const READ: &[(&str, Result<&str, FileError>)] = &[
     ),
 ];
 
+// Whether the records are printed so, behind that origin; `None` where memory lacks.
+fn is_printed<A: Heap>(
+    alloc: A,
+    origin: &Name<A>,
+    records: &[Record<A>],
+    wanted: Result<&str, FileError>,
+) -> Option<bool> {
+    match print(alloc, origin, records) {
+        Ok(out) => Some(wanted == Ok(out.as_str())),
+        Err(_) => None,
+    }
+}
+
+fn comes_under<A: Heap>(
+    alloc: A,
+    origin: &Name<A>,
+    text: &str,
+    wanted: Result<&str, FileError>,
+) -> Option<bool> {
+    match read(alloc, origin, text) {
+        Ok(records) => is_printed(alloc, origin, records.as_slice(), wanted),
+        Err(FileError { kind: Memory, .. }) => None,
+        Err(found) => Some(wanted == Err(found)),
+    }
+}
+
 // Whether a text under the origin `example.` is read and printed as `wanted`, or is refused by that fault; `None` where
 // memory lacks.
 fn comes_to<A: Heap>(alloc: A, text: &str, wanted: Result<&str, FileError>) -> Option<bool> {
-    let origin = Name::from_text(alloc, "example.").ok()?;
-    match (read(alloc, &origin, text), wanted) {
-        (Err(FileError { kind: Memory, .. }), _) => None,
-        (Err(found), Err(fault)) => Some(found == fault),
-        (Ok(records), Ok(printed)) => {
-            let out = print(alloc, &origin, records.as_slice()).ok()?;
-            Some(out.as_str() == printed)
-        }
-        _ => Some(false),
+    match Name::from_text(alloc, "example.") {
+        Ok(origin) => comes_under(alloc, &origin, text, wanted),
+        Err(_) => None,
     }
 }
 
