@@ -1,6 +1,6 @@
 //! The tests of `cache`, from outside: by what it makes public.
 mod long_tests;
-mod tests;
+pub mod tests;
 
 use crate::shared::capacity;
 use authority::Link;
@@ -24,7 +24,10 @@ fn set_of<A: Heap>(
     kind: RType,
 ) -> Result<RecordSet<A>, Starved> {
     let owner = name(alloc, owner)?;
-    set_at(alloc, records, &owner, kind)?.ok_or(Starved)
+    match set_at(alloc, records, &owner, kind)? {
+        Some(set) => Ok(set),
+        None => Err(Starved),
+    }
 }
 
 fn found<A: Heap>(link: &Link<A>) -> Option<&RecordSet<A>> {
@@ -37,7 +40,7 @@ fn found<A: Heap>(link: &Link<A>) -> Option<&RecordSet<A>> {
 // The records of a set; none of any other link.
 fn records_of<A: Heap>(alloc: A, link: &Link<A>) -> Result<Records<A>, Starved> {
     match found(link) {
-        Some(set) => Ok(set.to_records(alloc)?),
+        Some(set) => set.to_records(alloc),
         None => Ok(Records::new(alloc)),
     }
 }

@@ -1,11 +1,10 @@
+use crate::refusals::{Play, unsaid};
 use crate::shared::capacity;
 use cache::Failures;
 use dname::{Heap, Starved};
 use fixtures::name;
 use lru::DefaultHasher;
 use rdata::{Addr, RType};
-use refusing::Refusing;
-use std::alloc::Allocator;
 use std::hash::BuildHasherDefault;
 use std::test::Fail;
 
@@ -57,6 +56,10 @@ fn fails<A: Heap>(alloc: A, kept: &mut Kept<A>, ask: Ask, now: u64) -> Result<bo
     kept.is_failed(&name, ask.1, Addr([192, 0, 2, ask.2]), now)
 }
 
+fn is_free<A: Heap>(alloc: A, kept: &mut Kept<A>, ask: Ask, now: u64) -> Result<bool, Starved> {
+    Ok(!fails(alloc, kept, ask, now)?)
+}
+
 fn goes<A: Heap>(alloc: A, kept: &mut Kept<A>, step: Step) -> Result<bool, Starved> {
     match step {
         Step::Failed(ask, now) => {
@@ -64,19 +67,27 @@ fn goes<A: Heap>(alloc: A, kept: &mut Kept<A>, step: Step) -> Result<bool, Starv
             Ok(true)
         }
         Step::Fails(ask, now) => fails(alloc, kept, ask, now),
-        Step::IsFree(ask, now) => Ok(!fails(alloc, kept, ask, now)?),
+        Step::IsFree(ask, now) => is_free(alloc, kept, ask, now),
     }
+}
+
+fn first_wrong_step<A: Heap>(alloc: A, kept: &mut Kept<A>) -> Result<Option<usize>, Starved> {
+    for (place, step) in STEPS.iter().enumerate() {
+        if !goes(alloc, kept, *step)? {
+            return Ok(Some(place));
+        }
+    }
+    Ok(None)
 }
 
 // The place of the first step of which something else comes.
 fn first_wrong<A: Heap>(alloc: A) -> Result<Option<usize>, Starved> {
     let mut kept = Failures::new(alloc, capacity(2)?, BuildHasherDefault::new())?;
-    for (place, step) in STEPS.iter().enumerate() {
-        if !goes(alloc, &mut kept, *step)? {
-            return Ok(Some(place));
-        }
-    }
-    Ok(None)
+    first_wrong_step(alloc, &mut kept)
+}
+
+pub fn play<A: Heap>(alloc: A) -> Result<bool, Starved> {
+    Ok(first_wrong(alloc)?.is_none())
 }
 
 #[test]
@@ -85,23 +96,8 @@ fn failures_are_kept_as_was_worked(rt: HostRuntime) -> Result<(), Fail> {
     Ok(())
 }
 
-// The first growth whose refusal goes unsaid, or after which something else comes.
-fn first_unsaid<B: Allocator>(heap: &Refusing<B>, growths: u64) -> Option<u64> {
-    for n in 0..growths {
-        heap.refuse_after(n);
-        if first_wrong(heap).is_ok() || !matches!(first_wrong(heap), Ok(None)) {
-            return Some(n);
-        }
-    }
-    None
-}
-
 #[test]
 fn each_growth_is_refused_in_turn(rt: HostRuntime) -> Result<(), Fail> {
-    let heap = Refusing::new(rt.alloc());
-    assert!(rt; matches!(first_wrong(&heap), Ok(None)));
-    let growths = heap.growths();
-    assert!(rt; growths > 10);
-    assert_eq!(rt; first_unsaid(&heap, growths), None);
+    assert_eq!(rt; unsaid(rt.alloc(), Play::Failures)?, None);
     Ok(())
 }

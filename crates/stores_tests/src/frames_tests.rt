@@ -1,3 +1,4 @@
+use crate::refusals::{Play, unsaid};
 use crate::shared::{capacity, cut_of};
 use dname::{Heap, Name, Starved};
 use fixtures::{Row, Value, address, name};
@@ -5,9 +6,7 @@ use frames::{Failed, Frame, trimmed};
 use lru::DefaultHasher;
 use rdata::Addr;
 use referral::Cut;
-use refusing::Refusing;
 use retry::Penalties;
-use std::alloc::Allocator;
 use std::hash::BuildHasherDefault;
 use std::test::Fail;
 
@@ -90,25 +89,45 @@ fn failures<A: Heap>(alloc: A, rows: &[(&str, u8)]) -> Result<Failed<A>, Starved
 }
 
 impl Case {
+    fn whole_cut<A: Heap>(&self, alloc: A) -> Result<Cut<A>, Starved> {
+        cut_of(alloc, "example", self.servers, self.glue)
+    }
+
+    fn trimmed_cut<A: Heap>(&self, alloc: A) -> Result<Cut<A>, Starved> {
+        let whole = self.whole_cut(alloc)?;
+        trimmed(alloc, &whole)
+    }
+
     fn cut<A: Heap>(&self, alloc: A) -> Result<Cut<A>, Starved> {
-        let whole = cut_of(alloc, "example", self.servers, self.glue)?;
         if self.trims {
-            return trimmed(alloc, &whole);
+            return self.trimmed_cut(alloc);
         }
-        Ok(whole)
+        self.whole_cut(alloc)
     }
 
     fn open<A: Heap>(&self, alloc: A) -> Result<Frame<A>, Starved> {
         let cut = self.cut(alloc)?;
+        self.open_at(alloc, &cut)
+    }
+
+    fn open_at<A: Heap>(&self, alloc: A, cut: &Cut<A>) -> Result<Frame<A>, Starved> {
         let penalties = penalties(alloc, self.silent)?;
-        Frame::start(alloc, &cut, self.nesting, &penalties)
+        Frame::start(alloc, cut, self.nesting, &penalties)
     }
 
     // The place of the first step of which something else comes.
     fn first_wrong<A: Heap>(&self, alloc: A) -> Result<Option<usize>, Starved> {
         let failed = failures(alloc, self.failed)?;
+        self.first_wrong_with(alloc, &failed)
+    }
+
+    fn first_wrong_with<A: Heap>(
+        &self,
+        alloc: A,
+        failed: &Failed<A>,
+    ) -> Result<Option<usize>, Starved> {
         let mut frame = self.open(alloc)?;
-        first_wrong_step(alloc, &mut frame, &failed, self.steps)
+        first_wrong_step(alloc, &mut frame, failed, self.steps)
     }
 }
 
@@ -116,9 +135,10 @@ fn ends_with<A: Heap>(names: &[Name<A>], expected: &Name<A>) -> bool {
     matches!(names, [.., last] if last == expected)
 }
 
-fn is_last<A: Heap>(alloc: A, names: &[Name<A>], expected: &str) -> Result<bool, Starved> {
-    let expected = name(alloc, expected)?;
-    Ok(ends_with(names, &expected))
+// Whether they are so many, and this is the last one.
+fn are<A: Heap>(alloc: A, names: &[Name<A>], count: usize, last: &str) -> Result<bool, Starved> {
+    let last = name(alloc, last)?;
+    Ok(names.len() == count && ends_with(names, &last))
 }
 
 fn asks<A: Heap>(frame: &mut Frame<A>, lasts: &[u8]) -> bool {
@@ -134,6 +154,15 @@ fn asks<A: Heap>(frame: &mut Frame<A>, lasts: &[u8]) -> bool {
 fn add<A: Heap>(alloc: A, frame: &mut Frame<A>, found: &[Addr]) -> Result<bool, Starved> {
     let penalties = no_penalties(alloc)?;
     frame.add(found, &penalties)
+}
+
+fn finds<A: Heap>(
+    alloc: A,
+    frame: &mut Frame<A>,
+    found: &[Addr],
+    is_new: bool,
+) -> Result<bool, Starved> {
+    Ok(add(alloc, frame, found)? == is_new)
 }
 
 // Whether the name whose turn it is is this one.
@@ -166,16 +195,13 @@ fn goes<A: Heap>(
     match step {
         Step::Nests(nesting) => Ok(frame.nesting() == nesting),
         Step::Knows(count) => Ok(frame.addresses().len() == count),
-        Step::Lacks(count, last) => {
-            let unknown = frame.unknown_names();
-            Ok(unknown.len() == count && is_last(alloc, unknown, last)?)
-        }
+        Step::Lacks(count, last) => are(alloc, frame.unknown_names(), count, last),
         Step::Asks(lasts) => Ok(asks(frame, lasts)),
         Step::Waits(time) => Ok(frame.wait_ms() == time),
         Step::Ends => Ok(frame.next_address().is_none()),
-        Step::Finds(found, is_new) => Ok(add(alloc, frame, found)? == is_new),
-        Step::LooksUp(text) => Ok(gives(alloc, frame, failed, text)?),
-        Step::GivesUp => Ok(gives_none(frame, failed)?),
+        Step::Finds(found, is_new) => finds(alloc, frame, found, is_new),
+        Step::LooksUp(text) => gives(alloc, frame, failed, text),
+        Step::GivesUp => gives_none(frame, failed),
     }
 }
 
@@ -454,27 +480,12 @@ fn finds_new<A: Heap>(alloc: A) -> Result<bool, Starved> {
     add_twenty(alloc, &mut frame)
 }
 
-fn play<A: Heap>(alloc: A) -> Result<bool, Starved> {
+pub fn play<A: Heap>(alloc: A) -> Result<bool, Starved> {
     Ok(finds_new(alloc)? && PLAYED.first_wrong(alloc)?.is_none())
-}
-
-// The first growth whose refusal goes unsaid, or after which something else comes.
-fn first_unsaid<B: Allocator>(heap: &Refusing<B>, growths: u64) -> Option<u64> {
-    for n in 0..growths {
-        heap.refuse_after(n);
-        if play(heap).is_ok() || !matches!(play(heap), Ok(true)) {
-            return Some(n);
-        }
-    }
-    None
 }
 
 #[test]
 fn each_growth_is_refused_in_turn(rt: HostRuntime) -> Result<(), Fail> {
-    let heap = Refusing::new(rt.alloc());
-    assert!(rt; matches!(play(&heap), Ok(true)));
-    let growths = heap.growths();
-    assert!(rt; growths > 10);
-    assert_eq!(rt; first_unsaid(&heap, growths), None);
+    assert_eq!(rt; unsaid(rt.alloc(), Play::Frames)?, None);
     Ok(())
 }

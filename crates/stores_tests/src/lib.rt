@@ -10,6 +10,8 @@ mod frames_tests;
 #[cfg(test)]
 mod referral_tests;
 #[cfg(test)]
+mod refusals;
+#[cfg(test)]
 mod retry_tests;
 #[cfg(test)]
 mod shared;

@@ -1,11 +1,11 @@
+use crate::refusals::{Play, unsaid};
 use crate::shared::{capacity, cut_of};
 use dname::{Heap, Name, Starved};
 use fixtures::{Row, Value, name};
 use lru::DefaultHasher;
 use rdata::Addr;
 use referral::{Cut, Delegations, ServerAddress};
-use refusing::Refusing;
-use std::alloc::{Allocator, Global};
+use std::alloc::Global;
 use std::hash::BuildHasherDefault;
 use std::test::Fail;
 
@@ -218,27 +218,12 @@ const PLAYED: Case = (
     ],
 );
 
-fn play<A: Heap>(alloc: A) -> Result<bool, Starved> {
+pub fn play<A: Heap>(alloc: A) -> Result<bool, Starved> {
     Ok(first_wrong_step(alloc, PLAYED)?.is_none())
-}
-
-// The first growth whose refusal goes unsaid, or after which something else comes.
-fn first_unsaid<B: Allocator>(heap: &Refusing<B>, growths: u64) -> Option<u64> {
-    for n in 0..growths {
-        heap.refuse_after(n);
-        if play(heap).is_ok() || !matches!(play(heap), Ok(true)) {
-            return Some(n);
-        }
-    }
-    None
 }
 
 #[test]
 fn each_growth_is_refused_in_turn(rt: HostRuntime) -> Result<(), Fail> {
-    let heap = Refusing::new(rt.alloc());
-    assert!(rt; matches!(play(&heap), Ok(true)));
-    let growths = heap.growths();
-    assert!(rt; growths > 10);
-    assert_eq!(rt; first_unsaid(&heap, growths), None);
+    assert_eq!(rt; unsaid(rt.alloc(), Play::Cuts)?, None);
     Ok(())
 }

@@ -23,6 +23,16 @@ fn cut_of_records<A: Heap>(
     Cut::of_records(alloc, at, servers, glue)
 }
 
+fn cut_of_servers<A: Heap>(
+    alloc: A,
+    at: &str,
+    servers: &[Record<A>],
+    glue: &[Row<'_>],
+) -> Result<Cut<A>, Starved> {
+    let glue = records(alloc, glue)?;
+    cut_of_records(alloc, at, servers, glue.as_slice())
+}
+
 // A cut there that these records make.
 pub fn cut_of<A: Heap>(
     alloc: A,
@@ -31,6 +41,5 @@ pub fn cut_of<A: Heap>(
     glue: &[Row<'_>],
 ) -> Result<Cut<A>, Starved> {
     let servers = records(alloc, servers)?;
-    let glue = records(alloc, glue)?;
-    cut_of_records(alloc, at, servers.as_slice(), glue.as_slice())
+    cut_of_servers(alloc, at, servers.as_slice(), glue)
 }

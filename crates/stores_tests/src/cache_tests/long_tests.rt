@@ -1,8 +1,9 @@
 use super::{empty_cache, records_of, set_of};
 use authority::Link;
-use cache::Hit;
-use dname::Starved;
+use cache::{Cache, Hit};
+use dname::{Name, Starved};
 use fixtures::name;
+use lru::DefaultHasher;
 use masterfile::put_record;
 use rdata::{RType, Record, RecordSet, Records};
 use std::alloc::Global;
@@ -36,31 +37,52 @@ fn decoded(alloc: Global, bytes: &[u8]) -> Result<Message<Global>, Starved> {
     }
 }
 
+fn long_message(alloc: Global) -> Result<Message<Global>, Starved> {
+    let bytes = long_reply(alloc)?;
+    decoded(alloc, &bytes)
+}
+
 // Both records are the same, so that one is left of them.
 fn long_set(alloc: Global) -> Result<RecordSet<Global>, Starved> {
-    let bytes = long_reply(alloc)?;
-    let message = decoded(alloc, &bytes)?;
+    let message = long_message(alloc)?;
     set_of(alloc, message.answer.as_slice(), "x", RType::Txt)
+}
+
+fn long_link(alloc: Global) -> Result<Link<Global>, Starved> {
+    Ok(Link::Found(long_set(alloc)?))
+}
+
+fn kept_and_seen(
+    cache: &mut Cache<DefaultHasher, Global>,
+    owner: &Name<Global>,
+    link: &Link<Global>,
+) -> Result<Option<Hit<Global>>, Starved> {
+    cache.keep(owner, RType::Txt, link, 300, 0)?;
+    cache.look(owner, RType::Txt, owner, 1_000)
 }
 
 // The link as a cache gives it back.
 fn cached(alloc: Global, link: &Link<Global>) -> Result<Option<Hit<Global>>, Starved> {
     let owner = name(alloc, "x")?;
     let mut cache = empty_cache(alloc, 1)?;
-    cache.keep(&owner, RType::Txt, link, 300, 0)?;
-    cache.look(&owner, RType::Txt, &owner, 1_000)
+    kept_and_seen(&mut cache, &owner, link)
 }
 
 fn long_hit(alloc: Global) -> Result<Option<Hit<Global>>, Starved> {
-    let link = Link::Found(long_set(alloc)?);
+    let link = long_link(alloc)?;
     cached(alloc, &link)
 }
 
-fn kept_records(alloc: Global) -> Result<Records<Global>, Starved> {
-    match long_hit(alloc)? {
-        Some(hit) => Ok(records_of(alloc, &hit.link)?),
+fn hit_records(alloc: Global, hit: &Option<Hit<Global>>) -> Result<Records<Global>, Starved> {
+    match hit {
+        Some(hit) => records_of(alloc, &hit.link),
         None => Err(Starved),
     }
+}
+
+fn kept_records(alloc: Global) -> Result<Records<Global>, Starved> {
+    let hit = long_hit(alloc)?;
+    hit_records(alloc, &hit)
 }
 
 // How many bytes they are in a master file.

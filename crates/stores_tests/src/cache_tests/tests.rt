@@ -2,6 +2,7 @@ ghost use Rattle.std.specs.Prelude.{◌≤◌};
 ghost use Rattle.rdata.specs.Records.{greatest_ttl};
 
 use super::{empty_cache, records_of, set_of};
+use crate::refusals::{Play, unsaid};
 use authority::Link;
 use cache::{Cache, Hit};
 use dname::{Heap, Name, Starved};
@@ -23,40 +24,47 @@ enum Shape {
     NameError,
 }
 
-fn alone<A: Heap>(alloc: A, row: Row<'_>) -> Result<RecordSet<A>, Starved> {
+fn alone<A: Heap>(alloc: A, row: Row<'_>) -> Result<Link<A>, Starved> {
     let only = record(alloc, row)?;
-    RecordSet::alone(alloc, only)
+    Ok(Link::Found(RecordSet::alone(alloc, only)?))
 }
 
-fn two_addresses<A: Heap>(alloc: A, owner: &str) -> Result<RecordSet<A>, Starved> {
+fn set_of_two<A: Heap>(alloc: A, owner: &str) -> Result<RecordSet<A>, Starved> {
     let rows = [(owner, 300, Value::A(1)), (owner, 300, Value::A(2))];
     let records = records(alloc, &rows)?;
     set_of(alloc, records.as_slice(), owner, RType::A)
 }
 
+fn two_addresses<A: Heap>(alloc: A, owner: &str) -> Result<Link<A>, Starved> {
+    Ok(Link::Found(set_of_two(alloc, owner)?))
+}
+
 fn link<A: Heap>(alloc: A, owner: &str, shape: Shape) -> Result<Link<A>, Starved> {
     let soa = (owner, 60, Value::Soa(60));
     match shape {
-        Shape::Set(value) => Ok(Link::Found(alone(alloc, (owner, 300, value))?)),
-        Shape::SetOfAnother(row) => Ok(Link::Found(alone(alloc, row)?)),
-        Shape::TwoAddresses => Ok(Link::Found(two_addresses(alloc, owner)?)),
+        Shape::Set(value) => alone(alloc, (owner, 300, value)),
+        Shape::SetOfAnother(row) => alone(alloc, row),
+        Shape::TwoAddresses => two_addresses(alloc, owner),
         Shape::Alias(to) => Ok(Link::Alias(record(alloc, (owner, 300, Value::Cname(to)))?)),
         Shape::NoData => Ok(Link::NoData(record(alloc, soa)?)),
         Shape::NameError => Ok(Link::NxDomain(record(alloc, soa)?)),
     }
 }
 
+// The kind of a link, its time to live and the moment since which it is kept.
+type Seen = (&'static str, u32, u64);
+
 // What a cache is told and asked, and what it has to say. Moments are milliseconds, times to live seconds.
 #[derive(Clone, Copy)]
 enum Step {
     // A link is kept for a name and a type, for so long from a moment on.
     Keep(&'static str, RType, Shape, u32, u64),
-    // A look-up at a moment gives this kind of link, with its time to live and the moment since which it is kept.
-    Sees(&'static str, RType, u64, (&'static str, u32, u64)),
+    // What a look-up at a moment gives.
+    Sees(&'static str, RType, u64, Seen),
     // A look-up at a moment gives nothing.
     Misses(&'static str, RType, u64),
     // The same where errors of names above count up to this name.
-    SeesTo(&'static str, &'static str, RType, u64, (&'static str, u32, u64)),
+    SeesTo(&'static str, &'static str, RType, u64, Seen),
     MissesTo(&'static str, &'static str, RType, u64),
     // Two addresses that are found at one moment and sent at another have this TTL.
     Sends(&'static str, u64, u64, u32),
@@ -72,8 +80,11 @@ fn word<A: Heap>(link: &Link<A>) -> &'static str {
     }
 }
 
-fn said<A: Heap>(hit: &Hit<A>) -> (&'static str, u32, u64) {
-    (word(&hit.link), hit.ttl, hit.since)
+fn said<A: Heap>(hit: &Option<Hit<A>>) -> Option<Seen> {
+    match hit {
+        Some(hit) => Some((word(&hit.link), hit.ttl, hit.since)),
+        None => None,
+    }
 }
 
 fn have_ttl<A: Heap>(two: &[Record<A>], ttl: u32) -> bool {
@@ -87,6 +98,14 @@ fn have_ttl<A: Heap>(two: &[Record<A>], ttl: u32) -> bool {
 fn has_ttl<A: Heap>(alloc: A, link: &Link<A>, ttl: u32) -> Result<bool, Starved> {
     let records = records_of(alloc, link)?;
     Ok(have_ttl(records.as_slice(), ttl))
+}
+
+// Whether the hit is sent at that moment as two addresses with this TTL.
+fn is_sent<A: Heap>(alloc: A, hit: Option<Hit<A>>, sent: u64, ttl: u32) -> Result<bool, Starved> {
+    match hit {
+        Some(hit) => has_ttl(alloc, &hit.into_link(sent), ttl),
+        None => Ok(false),
+    }
 }
 
 // A cache and the allocator that it stands on.
@@ -110,14 +129,13 @@ impl<A: Heap> Kept<A> {
         ttl: u32,
         now: u64,
     ) -> Result<(), Starved> {
-        let owner = name(self.alloc, text)?;
         let link = link(self.alloc, text, shape)?;
-        self.keep_link(&owner, kind, &link, ttl.min(GREATEST_TTL), now)
+        self.keep_at(text, kind, &link, ttl.min(GREATEST_TTL), now)
     }
 
-    fn keep_link(
+    fn keep_at(
         &mut self,
-        owner: &Name<A>,
+        text: &str,
         kind: RType,
         link: &Link<A>,
         ttl: u32,
@@ -125,7 +143,8 @@ impl<A: Heap> Kept<A> {
     ) -> Result<(), Starved>
         requires { ttl ≤ greatest_ttl }
     {
-        self.cache.keep(owner, kind, link, ttl, now)
+        let owner = name(self.alloc, text)?;
+        self.cache.keep(&owner, kind, link, ttl, now)
     }
 
     fn look(
@@ -135,9 +154,19 @@ impl<A: Heap> Kept<A> {
         kind: RType,
         now: u64,
     ) -> Result<Option<Hit<A>>, Starved> {
-        let owner = name(self.alloc, text)?;
         let top = name(self.alloc, top)?;
-        self.cache.look(&owner, kind, &top, now)
+        self.look_to(&top, text, kind, now)
+    }
+
+    fn look_to(
+        &mut self,
+        top: &Name<A>,
+        text: &str,
+        kind: RType,
+        now: u64,
+    ) -> Result<Option<Hit<A>>, Starved> {
+        let owner = name(self.alloc, text)?;
+        self.cache.look(&owner, kind, top, now)
     }
 
     fn seen(
@@ -146,18 +175,25 @@ impl<A: Heap> Kept<A> {
         text: &str,
         kind: RType,
         now: u64,
-    ) -> Result<Option<(&'static str, u32, u64)>, Starved> {
-        match self.look(top, text, kind, now)? {
-            Some(hit) => Ok(Some(said(&hit))),
-            None => Ok(None),
-        }
+    ) -> Result<Option<Seen>, Starved> {
+        let hit = self.look(top, text, kind, now)?;
+        Ok(said(&hit))
+    }
+
+    fn sees(
+        &mut self,
+        top: &str,
+        text: &str,
+        kind: RType,
+        now: u64,
+        what: Option<Seen>,
+    ) -> Result<bool, Starved> {
+        Ok(self.seen(top, text, kind, now)? == what)
     }
 
     fn sends(&mut self, text: &str, found: u64, sent: u64, ttl: u32) -> Result<bool, Starved> {
-        match self.look(".", text, RType::A, found)? {
-            Some(hit) => Ok(has_ttl(self.alloc, &hit.into_link(sent), ttl)?),
-            None => Ok(false),
-        }
+        let hit = self.look(".", text, RType::A, found)?;
+        is_sent(self.alloc, hit, sent, ttl)
     }
 
     fn goes(&mut self, step: Step) -> Result<bool, Starved> {
@@ -166,17 +202,13 @@ impl<A: Heap> Kept<A> {
                 self.keep(owner, kind, shape, ttl, now)?;
                 Ok(true)
             }
-            Step::Sees(owner, kind, now, what) => {
-                Ok(self.seen(".", owner, kind, now)? == Some(what))
-            }
-            Step::Misses(owner, kind, now) => Ok(self.seen(".", owner, kind, now)?.is_none()),
+            Step::Sees(owner, kind, now, what) => self.sees(".", owner, kind, now, Some(what)),
+            Step::Misses(owner, kind, now) => self.sees(".", owner, kind, now, None),
             Step::SeesTo(top, owner, kind, now, what) => {
-                Ok(self.seen(top, owner, kind, now)? == Some(what))
+                self.sees(top, owner, kind, now, Some(what))
             }
-            Step::MissesTo(top, owner, kind, now) => {
-                Ok(self.seen(top, owner, kind, now)?.is_none())
-            }
-            Step::Sends(owner, found, sent, ttl) => Ok(self.sends(owner, found, sent, ttl)?),
+            Step::MissesTo(top, owner, kind, now) => self.sees(top, owner, kind, now, None),
+            Step::Sends(owner, found, sent, ttl) => self.sends(owner, found, sent, ttl),
         }
     }
 
@@ -353,39 +385,26 @@ const PLAYED: Case = (
     ],
 );
 
-fn play<A: Heap>(alloc: A) -> Result<bool, Starved> {
+pub fn play<A: Heap>(alloc: A) -> Result<bool, Starved> {
     Ok(first_wrong_step(alloc, PLAYED)?.is_none())
-}
-
-// The first growth whose refusal goes unsaid, or after which something else comes.
-fn first_unsaid<B: Allocator>(heap: &Refusing<B>, growths: u64) -> Option<u64> {
-    for n in 0..growths {
-        heap.refuse_after(n);
-        if play(heap).is_ok() || !matches!(play(heap), Ok(true)) {
-            return Some(n);
-        }
-    }
-    None
 }
 
 #[test]
 fn each_growth_is_refused_in_turn(rt: HostRuntime) -> Result<(), Fail> {
-    let heap = Refusing::new(rt.alloc());
-    assert!(rt; matches!(play(&heap), Ok(true)));
-    let growths = heap.growths();
-    assert!(rt; growths > 10);
-    assert_eq!(rt; first_unsaid(&heap, growths), None);
+    assert_eq!(rt; unsaid(rt.alloc(), Play::Links)?, None);
     Ok(())
 }
 
-const ERROR: Step = Step::Sees("a", RType::A, 0, ("name error", 60, 0));
+fn has_error<A: Heap>(kept: &mut Kept<A>) -> Result<bool, Starved> {
+    kept.sees(".", "a", RType::A, 0, Some(("name error", 60, 0)))
+}
 
 // Whether a `keep` is refused, and the name's error still answers.
 fn stays<A: Heap>(kept: &mut Kept<A>, shape: Shape) -> Result<bool, Starved> {
     if kept.keep("a", RType::A, shape, 10, 0).is_ok() {
         return Ok(false);
     }
-    Ok(kept.goes(ERROR)?)
+    has_error(kept)
 }
 
 // The first growth of a `keep` that may be refused unsaid, or after whose refusal the name's error does not
@@ -415,14 +434,21 @@ fn replaces<'a, B: Allocator>(
     heap.refuse_after(growths);
     kept.keep("a", RType::A, shape, 10, 0)?;
     heap.refuse_after(u64::MAX);
-    Ok(!kept.goes(ERROR)?)
+    Ok(!has_error(kept)?)
 }
 
-// A cache that keeps the name's error.
-fn with_error<A: Heap>(alloc: A) -> Result<Kept<A>, Starved> {
-    let mut kept = empty(alloc, 2)?;
+// Whether what `is_kept_whole` says goes for a cache that is empty.
+fn is_whole<'a, B: Allocator>(
+    heap: &'a Refusing<B>,
+    kept: &mut Kept<&'a Refusing<B>>,
+    shape: Shape,
+    growths: u64,
+) -> Result<bool, Starved> {
     kept.keep("a", RType::A, Shape::NameError, 60, 0)?;
-    Ok(kept)
+    if first_change(heap, kept, shape, growths)?.is_some() {
+        return Ok(false);
+    }
+    replaces(heap, kept, shape, growths)
 }
 
 // Whether a `keep` of that link takes so many growths and no more, and the name's error stays as it is until none
@@ -432,11 +458,8 @@ fn is_kept_whole<B: Allocator>(
     shape: Shape,
     growths: u64,
 ) -> Result<bool, Starved> {
-    let mut kept = with_error(heap)?;
-    let change = first_change(heap, &mut kept, shape, growths);
-    let is_replaced = replaces(heap, &mut kept, shape, growths);
-    drop(kept);
-    Ok(change?.is_none() && is_replaced?)
+    let mut kept = empty(heap, 2)?;
+    is_whole(heap, &mut kept, shape, growths)
 }
 
 // Links, and how many growths a `keep` of each takes.
