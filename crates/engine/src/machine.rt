@@ -25,9 +25,16 @@ use std::marker::Model;
 use wire::Writer;
 
 /// A resolver: the zones and hints that it holds, what it learnt, and the open queries.
-#[derive(Drop)]
 pub struct Core<A: Allocator = Global> {
     works: Works<A>,
+}
+
+// By hand, so that whatever drops a resolver calls this, and does not spell out all that it holds.
+impl<A: Allocator> Drop for Core<A> {
+    fn drop(self) {
+        let Core { works } = self;
+        drop(works);
+    }
 }
 
 impl<A: Allocator> Model for Core<A> {

@@ -53,12 +53,27 @@ pub struct Hashers<S: BuildHasher + Drop> {
 
 /// What the resolver learnt: links, delegations, penalties of servers that did not answer, and which servers failed to
 /// answer which questions.
-#[derive(Drop)]
 pub struct Stores<S: BuildHasher + Drop, A: Allocator = Global> {
     cache: Cache<S, A>,
     delegations: Delegations<S, A>,
     penalties: Penalties<S, A>,
     failures: Failures<S, A>,
+}
+
+// By hand, so that whatever drops stores calls this, and does not spell out all that it holds.
+impl<S: BuildHasher + Drop, A: Allocator> Drop for Stores<S, A> {
+    fn drop(self) {
+        let Stores {
+            cache,
+            delegations,
+            penalties,
+            failures,
+        } = self;
+        drop(cache);
+        drop(delegations);
+        drop(penalties);
+        drop(failures);
+    }
 }
 
 impl<S: BuildHasher + Drop, A: Allocator> Model for Stores<S, A> {

@@ -51,13 +51,25 @@ impl Source {
 }
 
 /// What is known of a name: the name, a link, and where it comes from.
-#[derive(Drop)]
 pub struct Taken<A: Allocator = Global> {
     // The name, where the link's own records have another owner. An RRset and a CNAME record nearly always have
     // the name as their owner, so that no copy of it is made for them.
     name: Option<Name<A>>,
     link: Link<A>,
     source: Source,
+}
+
+// By hand, so that whatever drops it calls this, and does not spell out all that it holds.
+impl<A: Allocator> Drop for Taken<A> {
+    fn drop(self) {
+        let Taken {
+            name,
+            link,
+            source: _,
+        } = self;
+        drop(name);
+        drop(link);
+    }
 }
 
 impl<A: Allocator> Model for Taken<A> {
@@ -170,7 +182,11 @@ impl<A: Allocator> Taken<A> {
     pub fn into_name(self) -> Name<A>
         ensures { result ≡ self.name }
     {
-        let Taken { name, link, .. } = self;
+        let Taken {
+            name,
+            link,
+            source: _,
+        } = self;
         match name {
             Some(name) => name,
             None => into_owner(link),
@@ -216,10 +232,12 @@ impl<A: Allocator> Taken<A> {
     pub fn into_sent(self, now: u64) -> Link<A>
         ensures { link_view result ≡ sent now self }
     {
-        match self.source {
-            Source::Local => self.link,
+        let Taken { name, link, source } = self;
+        drop(name);
+        match source {
+            Source::Local => link,
             Source::Cached { ttl, since } | Source::Accepted { ttl, since } => {
-                retimed(self.link, seconds_left(ttl, since, now))
+                retimed(link, seconds_left(ttl, since, now))
             }
         }
     }

@@ -22,12 +22,26 @@ use std::marker::Model;
 use worlds::World;
 
 /// A network in memory: a resolver, the servers of a world, which reply to its asks, and all asks that went out.
-#[derive(Drop)]
 pub struct Sim<A: Allocator = Global> {
     alloc: A,
     world: World<A>,
     resolver: Core<A>,
     sends: Vec<Sent<A>, A>,
+}
+
+// By hand, so that whatever drops a network calls this, and does not spell out all that it holds.
+impl<A: Allocator> Drop for Sim<A> {
+    fn drop(self) {
+        let Sim {
+            alloc: _,
+            world,
+            resolver,
+            sends,
+        } = self;
+        drop(world);
+        drop(resolver);
+        drop(sends);
+    }
 }
 
 impl<A: Allocator> Model for Sim<A> {

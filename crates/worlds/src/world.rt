@@ -41,12 +41,27 @@ impl<A: Allocator> Model for Host<A> {
 
 /// A well formed world (RFC 1034, sections 4.2 and 5.3.2): it keeps all rules of `WorldError`. Contracts
 /// see its zones, servers, local names and hints.
-#[derive(Drop)]
 pub struct World<A: Allocator = Global> {
     catalog: Catalog<A>,
     hosts: Vec<Host<A>, A>,
     hints: Vec<Addr, A>,
     locals: Vec<Name<A>, A>,
+}
+
+// By hand, so that whatever drops a world calls this, and does not spell out all that it holds.
+impl<A: Allocator> Drop for World<A> {
+    fn drop(self) {
+        let World {
+            catalog,
+            hosts,
+            hints,
+            locals,
+        } = self;
+        drop(catalog);
+        drop(hosts);
+        drop(hints);
+        drop(locals);
+    }
 }
 
 impl<A: Allocator> Model for World<A> {

@@ -16,12 +16,25 @@ use std::marker::Model;
 
 /// A zone (RFC 1034, section 4.2): its records meet all rules of `ZoneError`. Contracts see its origin
 /// and its records in order.
-#[derive(Drop)]
 pub struct Zone<A: Allocator = Global> {
     origin: Name<A>,
     tree: Box<Tree<A>, A>,
     // The SOA with the lesser of its TTL and MINIMUM, as every negative answer has it.
     denial: Record<A>,
+}
+
+// By hand, so that whatever drops a zone calls this, and does not spell out all that it holds.
+impl<A: Allocator> Drop for Zone<A> {
+    fn drop(self) {
+        let Zone {
+            origin,
+            tree,
+            denial,
+        } = self;
+        drop(origin);
+        drop(tree);
+        drop(denial);
+    }
 }
 
 impl<A: Allocator> Model for Zone<A> {
