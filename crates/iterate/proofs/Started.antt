@@ -36,7 +36,6 @@ module _ (home : Home) (now : ℕ) (j : Job) (old : Stores) where
 pub uses_started : (now : ℕ) (j : Job) (old new : Stores) → OnlyUses old new → Stops Start now j old new
 uses_started now j old new uses = uses_stop Start now j old old new (enters_stop now j old Start (point Seek j old) refl) uses
 
--- The first rule of a job, said of the query.
-pub due_first : {A : Type 0} (home : Home) (now : ℕ) (query j : Job) (before mid : Stores) (f : Found A) (p : Point) → j ≡ query
-    → (IsFound home now j.name j.kind before f mid → Rule home now (point Seek j before) p) → IsFound home now query.name query.kind before f mid → Rule home now (point Seek query before) p
-due_first home now query j before mid f p is by found = subst (λ (x : Job). IsFound home now x.name x.kind before f mid → Rule home now (point Seek x before) p) is by found
+-- What was found for a query was found for its job.
+pub found_of : {A : Type 0} (home : Home) (now : ℕ) (query j : Job) (before mid : Stores) (f : Found A) → j ≡ query → IsFound home now query.name query.kind before f mid → IsFound home now j.name j.kind before f mid
+found_of home now query j before mid f is = subst (λ (x : Job). IsFound home now x.name x.kind before f mid) (sym is)

@@ -36,6 +36,34 @@ fn is_end<A: Allocator>(link: &Taken<A>) -> bool
     }
 }
 
+// The work goes on from what was found for its name.
+fn set_out<S: BuildHasher + Drop, A: Heap>(
+    alloc: A,
+    mut job: Job<A>,
+    found: Found<A>,
+    home: &Home<A>,
+    stores: &mut Stores<S, A>,
+    now: u64,
+) -> Result<Begun<A>, Starved>
+    requires { (before : Learnt) × IsFound home.now now job.name job.kind before found stores.old }
+    ensures begins { (before : Learnt) → IsFound home.now now job.name job.kind before found stores.old → IfOk result (λ b. BeginsWith home.now now job before b stores.new) }
+    ensures only { OnErr result (OnlyUses stores.old stores.new) }
+{
+    match due_after(alloc, &mut job, found, stores) {
+        Err(starved) => {
+            drop(job);
+            Err(starved)
+        }
+        Ok(first) => match run(alloc, &mut job, first, home, stores, now) {
+            Err(starved) => {
+                drop(job);
+                Err(starved)
+            }
+            Ok(next) => Ok(Begun::Works(job, next)),
+        },
+    }
+}
+
 // The work on a query, from what was found for its name on.
 fn work<S: BuildHasher + Drop, A: Heap>(
     alloc: A,
@@ -51,10 +79,13 @@ fn work<S: BuildHasher + Drop, A: Heap>(
     ensures begins { (before : Learnt) → IsFound home.now now name.now (type_number kind) before found stores.old → IfOk result (λ b. BeginsWith home.now now (job_at name.now (type_number kind) now) before b stores.new) }
     ensures only { OnErr result (OnlyUses stores.old stores.new) }
 {
-    let mut job = Job::new(name.copied(alloc)?, kind, now);
-    let first = due_after(alloc, &mut job, found, stores)?;
-    let next = run(alloc, &mut job, first, home, stores, now)?;
-    Ok(Begun::Works(job, next))
+    match name.copied(alloc) {
+        Err(starved) => {
+            drop(found);
+            Err(starved)
+        }
+        Ok(own) => set_out(alloc, Job::new(own, kind, now), found, home, stores, now),
+    }
 }
 
 /// What comes of a query for a name and a type at the moment `now`, in milliseconds. Where what is known of the

@@ -65,7 +65,7 @@ fn answer<S: BuildHasher + Drop, A: Heap>(
             drop(link);
             Err(starved)
         }
-        Ok(()) => Ok(told(job, link, stores)?),
+        Ok(()) => told(job, link, stores),
     }
 }
 
@@ -190,7 +190,7 @@ fn hear_for<S: BuildHasher + Drop, A: Heap>(
             drop(search);
             Err(starved)
         }
-        Ok(Class::Answer(link)) => Ok(answer(job, search, link, stores, now)?),
+        Ok(Class::Answer(link)) => answer(job, search, link, stores, now),
         Ok(Class::Referral(referral)) => {
             refer(alloc, job, search, referral, stores, now)?;
             Ok(Task::Go)
@@ -228,7 +228,7 @@ pub(crate) fn hear<S: BuildHasher + Drop, A: Heap>(
                 drop(search);
                 Err(starved)
             }
-            Ok(()) => Ok(hear_for(alloc, job, search, via, server, message, stores, now)?),
+            Ok(()) => hear_for(alloc, job, search, via, server, message, stores, now),
         },
     }
 }

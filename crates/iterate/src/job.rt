@@ -24,7 +24,6 @@ const MOST_ASKS: u32 = 40;
 
 /// The work on one query: what is sought now, the aliases that led there, and the searches for it and for
 /// addresses of servers.
-#[derive(Drop)]
 pub struct Job<A: Allocator = Global> {
     name: Name<A>,
     kind: RType,
@@ -35,6 +34,26 @@ pub struct Job<A: Allocator = Global> {
     deadline: u64,
     // Whether a server was passed over, since it had failed lately.
     skipped: bool,
+}
+
+// By hand, so that whatever drops a job calls this, and does not spell out all that it holds.
+impl<A: Allocator> Drop for Job<A> {
+    fn drop(self) {
+        let Job {
+            name,
+            kind: _,
+            chain,
+            searches,
+            failed,
+            asks: _,
+            deadline: _,
+            skipped: _,
+        } = self;
+        drop(name);
+        drop(chain);
+        drop(searches);
+        drop(failed);
+    }
 }
 
 impl<A: Allocator> Model for Job<A> {

@@ -15,11 +15,23 @@ use std::hash::BuildHasher;
 use std::marker::Model;
 
 /// What is sought of the servers of a frame.
-#[derive(Drop)]
 pub struct Search<A: Allocator = Global> {
     name: Name<A>,
     kind: RType,
     frame: Frame<A>,
+}
+
+// By hand, so that whatever drops a search calls this, and does not spell out all that it holds.
+impl<A: Allocator> Drop for Search<A> {
+    fn drop(self) {
+        let Search {
+            name,
+            kind: _,
+            frame,
+        } = self;
+        drop(name);
+        drop(frame);
+    }
 }
 
 impl<A: Allocator> Model for Search<A> {
@@ -71,7 +83,13 @@ impl<A: Allocator> Search<A> {
     pub(crate) fn into_name(self) -> Name<A>
         ensures { result ≡ self.name }
     {
-        self.name
+        let Search {
+            name,
+            kind: _,
+            frame,
+        } = self;
+        drop(frame);
+        name
     }
 
     // The search goes on at these servers.

@@ -228,8 +228,8 @@ fn ask_on<S: BuildHasher + Drop, A: Heap>(
     ensures only { OnlyUses stores.old stores.new }
 {
     match search.next_address() {
-        Some(server) => Ok(ask(job, search, server, now)?),
-        None => Ok(go_further(alloc, job, search, home, stores, now)?),
+        Some(server) => ask(job, search, server, now),
+        None => go_further(alloc, job, search, home, stores, now),
     }
 }
 

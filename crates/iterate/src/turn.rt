@@ -86,9 +86,9 @@ pub(crate) fn turn<S: BuildHasher + Drop, A: Heap>(
     ensures only { OnlyUses stores.old stores.new }
 {
     match task {
-        Task::Seek => Ok(seek(alloc, job, home, stores, now)?),
-        Task::Take(link) => Ok(take(job, link, now)?),
-        Task::Go => Ok(go(alloc, job, home, stores, now)?),
-        Task::Again(server) => Ok(again(job, server, now)?),
+        Task::Seek => seek(alloc, job, home, stores, now),
+        Task::Take(link) => take(job, link, now),
+        Task::Go => go(alloc, job, home, stores, now),
+        Task::Again(server) => again(job, server, now),
     }
 }
