@@ -1,6 +1,6 @@
 //! The lines that the program takes, as `clap` reads them: a function for each subcommand.
-ghost use Rattle.std.specs.Prelude.{◌≡◌, IfOk, true, false};
-ghost use Rattle.clap.specs.Words.{app_of, rule_of};
+ghost use Rattle.std.specs.Prelude.{◌≡◌, IfOk, IsOkAnd, true, false};
+ghost use Rattle.clap.specs.Words.{AddsSubcommand, app_of, rule_of};
 ghost use Rattle.clap.specs.declared.builder.command.Command.TheViews.{out-Command};
 ghost use Rattle.commandline.specs.Grammar.{ask_app, bare_app, file_app, line_app, play_app, serve_app, storm_app, keep_rule, scripts_rule, word_rule};
 
@@ -112,15 +112,16 @@ fn ask_line<'a>(alloc: Global) -> Result<clap::Command<'a>, AllocError>
     ensures app { IfOk result (λ c. app_of c ≡ ask_app) }
     ensures local { IfOk result (λ c. (out-Command c).has_globals ≡ false) }
 {
-    clap::Command::new(alloc, "ask")
-        .about("ORIGIN FILE NAME TYPE: answers one query from one zone file")
-        .arg(word(alloc, "origin"))?
-        .arg(word(alloc, "file"))?
-        .arg(word(alloc, "name"))?
-        .arg(word(alloc, "type"))
+    file_line(
+        alloc,
+        "ask",
+        "ORIGIN FILE NAME TYPE: answers one query from one zone file",
+    )?
+    .arg(word(alloc, "name"))?
+    .arg(word(alloc, "type"))
 }
 
-// `check ORIGIN FILE`, or `dump ORIGIN FILE`
+// `check ORIGIN FILE`, `dump ORIGIN FILE`, or how `ask ORIGIN FILE NAME TYPE` begins.
 fn file_line<'a>(
     alloc: Global,
     name: &'a str,
@@ -205,23 +206,26 @@ fn bare_line<'a>(alloc: Global) -> clap::Command<'a>
         .subcommand_required(true)
 }
 
+// The line with one subcommand more, where that was made.
+fn with_line<'a>(
+    line: clap::Command<'a>,
+    subcommand: Result<clap::Command<'a>, AllocError>,
+) -> Result<clap::Command<'a>, AllocError>
+    ensures { IfOk result (λ c. IsOkAnd subcommand.entry (λ s. AddsSubcommand line.entry s c)) }
+{
+    line.subcommand(subcommand?)
+}
+
 /// The whole line, after the program's name.
 pub fn line<'a>(alloc: Global) -> Result<clap::Command<'a>, AllocError>
     ensures app { IfOk result (λ c. app_of c ≡ line_app) }
 {
-    bare_line(alloc)
-        .subcommand(ask_line(alloc)?)?
-        .subcommand(file_line(
-            alloc,
-            "check",
-            "ORIGIN FILE: reads a zone file and says how many records it has",
-        )?)?
-        .subcommand(file_line(
-            alloc,
-            "dump",
-            "ORIGIN FILE: prints the records of a zone file, one a line",
-        )?)?
-        .subcommand(play_line(alloc)?)?
-        .subcommand(storm_line(alloc)?)?
-        .subcommand(serve_line(alloc)?)
+    let check = "ORIGIN FILE: reads a zone file and says how many records it has";
+    let dump = "ORIGIN FILE: prints the records of a zone file, one a line";
+    let line = with_line(bare_line(alloc), ask_line(alloc))?;
+    let line = with_line(line, file_line(alloc, "check", check))?;
+    let line = with_line(line, file_line(alloc, "dump", dump))?;
+    let line = with_line(line, play_line(alloc))?;
+    let line = with_line(line, storm_line(alloc))?;
+    with_line(line, serve_line(alloc))
 }

@@ -1,28 +1,24 @@
 -- The line's subcommands, one after the other.
-use Rattle.std.proofs.Common.{◌≡◌, ◌∙◌, ap, ap₂, codes}
+use Rattle.std.proofs.Common.{◌≡◌, ◌∙◌, ap, ap₂, false, Result, Ok, Err, IfOk, IsOkAnd}
 use Rattle.std.proofs.lemmas.Result.{IfOk-weaker}
-use Rattle.clap.specs.Words.{App, app_of, with_subcommand}
-use Rattle.commandline.specs.Grammar.{ask_app, file_app, play_app, storm_app, bare_app}
+use Rattle.clap.specs.Words.{AddsSubcommand, App, app_of, with_subcommand}
+use Rattle.clap.specs.declared.builder.command.Command.{Command}
+use Rattle.clap.specs.declared.builder.command.Command.TheViews.{out-Command}
 use Rattle.commandline.proofs.grammar.line.Goals as goal
+
+-- A subcommand that was made is one more.
+one_more : {E : Type 0} (made : Result Command E) (before after : Command) (a s : App) → app_of before ≡ a → IfOk made (λ c. app_of c ≡ s)
+    → IfOk made (λ c. (out-Command c).has_globals ≡ false) → IsOkAnd made (λ c. AddsSubcommand before c after) → app_of after ≡ with_subcommand a s.top
+one_more (Ok c) before after a s so_far is local adds = adds.shape local ∙ ap₂ with_subcommand so_far (ap (λ (b : App). b.top) is)
+one_more (Err e) before after a s so_far is local adds = absurd adds
 
 pub returns : goal.returns
 returns c =
-    let bare = c.bare_line.ensures in
-    let with_ask : app_of c.in_ok-subcommand.field-0 ≡ with_subcommand bare_app ask_app.top =
-    c.in_ok-subcommand.ensures.shape c.in_ok-ask_line.ensures.local ∙ ap₂ with_subcommand bare (ap (λ (a : App). a.top) c.in_ok-ask_line.ensures.app) in
-    let with_check : app_of c.in_ok-subcommand-2.field-0 ≡ with_subcommand (with_subcommand bare_app ask_app.top) (file_app (codes "check")).top =
-    c.in_ok-subcommand-2.ensures.shape c.in_ok-file_line.ensures.local ∙ ap₂ with_subcommand with_ask (ap (λ (a : App). a.top) c.in_ok-file_line.ensures.app) in
-    let with_dump : app_of c.in_ok-subcommand-3.field-0 ≡ with_subcommand (with_subcommand (with_subcommand bare_app ask_app.top) (file_app (codes "check")).top) (file_app (codes "dump")).top =
-    c.in_ok-subcommand-3.ensures.shape c.in_ok-file_line-2.ensures.local ∙ ap₂ with_subcommand with_check (ap (λ (a : App). a.top) c.in_ok-file_line-2.ensures.app) in
-    let with_play : app_of c.in_ok-subcommand-4.field-0
-    ≡ with_subcommand (with_subcommand (with_subcommand (with_subcommand bare_app ask_app.top) (file_app (codes "check")).top) (file_app (codes "dump")).top) play_app.top =
-    c.in_ok-subcommand-4.ensures.shape c.in_ok-play_line.ensures.local ∙ ap₂ with_subcommand with_dump (ap (λ (a : App). a.top) c.in_ok-play_line.ensures.app) in
-    let with_storm : app_of c.in_ok-subcommand-5.field-0
-    ≡ with_subcommand (with_subcommand (with_subcommand (with_subcommand (with_subcommand bare_app ask_app.top) (file_app (codes "check")).top) (file_app (codes "dump")).top) play_app.top)
-    storm_app.top =
-    c.in_ok-subcommand-5.ensures.shape c.in_ok-storm_line.ensures.local ∙ ap₂ with_subcommand with_play (ap (λ (a : App). a.top) c.in_ok-storm_line.ensures.app) in
+    let with_ask = one_more _ _ c.in_ok-line.line _ _ c.bare_line.ensures c.ask_line.ensures.app c.ask_line.ensures.local c.in_ok-line.ensures in
+    let with_check = one_more _ _ c.in_ok-line-2.line _ _ with_ask c.file_line.ensures.app c.file_line.ensures.local c.in_ok-line-2.ensures in
+    let with_dump = one_more _ _ c.in_ok-line-3.line _ _ with_check c.file_line-2.ensures.app c.file_line-2.ensures.local c.in_ok-line-3.ensures in
+    let with_play = one_more _ _ c.in_ok-line-4.line _ _ with_dump c.play_line.ensures.app c.play_line.ensures.local c.in_ok-line-4.ensures in
+    let with_storm = one_more _ _ c.in_ok-line-5.line _ _ with_play c.storm_line.ensures.app c.storm_line.ensures.local c.in_ok-line-5.ensures in
     record {
-      app = IfOk-weaker c.subcommand-6.result _ _
-          (λ r h. h.shape c.in_ok-serve_line.ensures.local ∙ ap₂ with_subcommand with_storm (ap (λ (a : App). a.top) c.in_ok-serve_line.ensures.app))
-          c.subcommand-6.ensures;
+      app = IfOk-weaker c.with_line-6.result _ _ (λ r h. one_more _ _ r _ _ with_storm c.serve_line.ensures.app c.serve_line.ensures.local h) c.with_line-6.ensures;
     }
