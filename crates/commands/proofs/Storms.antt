@@ -9,9 +9,8 @@ use Rattle.script.specs.Readings.{Said}
 use Rattle.script.specs.WorldTexts.{zones_of}
 use Rattle.script.specs.Worlds.{IsWorldOf, said_world}
 use Rattle.truth.specs.Worlds.{World}
-use Rattle.commands.specs.Scripts.{HoldsWorld}
 use Rattle.commands.specs.Runs.{IsAllowed, shown}
-use Rattle.commands.specs.Storms.{HoldsAsks, HoldsNoAsks, HoldAsks, RefusesOne, IsRunFault, IsNoStorm}
+use Rattle.commands.specs.Storms.{HoldsAsks, HoldsNoAsks, HoldAsks, RefusesOne, IsRunFault}
 use Rattle.commands.specs.declared.fault.Fault.{Fault}
 use Rattle.commands.specs.declared.fault.Fault.TheVariants.{Memory}
 
@@ -49,23 +48,6 @@ module _ {X : Type 0} (held : List ℕ → Option (Option (List ℕ))) (bytes : 
   pub memory_refuses : (xs : List X) (f : Fault) → f ≡ Memory → RefusesOne held bytes xs f
   memory_refuses [] f is = is
   memory_refuses (x ∷ xs) f is = inl (subst (HoldsNoAsks held (bytes x)) (sym is) tt)
-
--- ---- which fault counts; `held` is what is known to stand at a path, then and now
-
-module _ {X : Type 0} (view : X → List ℕ) (held now : List ℕ → Option (Option (List ℕ))) (world : List ℕ) (W : World) (paths : List X) (same : now ≡ held) (stands : HoldsWorld (held world) W) where
-  pub no_scripts : (f : Fault) → RefusesOne now view paths f → IsNoStorm held world view paths f
-  no_scripts f refused = inr (record {
-    W = W;
-    stands = stands;
-    fails = inl (subst (λ (known : List ℕ → Option (Option (List ℕ))). RefusesOne known view paths f) same refused);
-  })
-
-  pub no_close : (scripts : List (List Order)) (f : Fault) → HoldAsks (λ p. now (view p)) paths scripts → IsRunFault f → IsNoStorm held world view paths f
-  no_close scripts f read fault = inr (record {
-    W = W;
-    stands = stands;
-    fails = inr (scripts, subst (λ (known : List ℕ → Option (Option (List ℕ))). HoldAsks (λ p. known (view p)) paths scripts) same read, fault);
-  })
 
 -- ---- a text says one world
 

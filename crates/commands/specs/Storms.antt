@@ -57,6 +57,14 @@ pub record PrintsStorm {X : Type 0} (known : X → Option (Option (List ℕ))) (
   pub stormed : IsStormIn W orders totals
   pub is : text ≡ storm_lines totals
 
+-- What the scripts print in that world.
+pub record PrintsIn {X : Type 0} (W : World) (known : X → Option (Option (List ℕ))) (scripts : List X) (text : List ℕ) : Type 0 where
+  pub orders : List (List Order)
+  pub held : HoldAsks known scripts orders
+  pub totals : Totals
+  pub stormed : IsStormIn W orders totals
+  pub is : text ≡ storm_lines totals
+
 -- Workers asked by the scripts, and what they did is refused.
 abbrev pub FailsToClose : {X : Type 0} → (X → Option (Option (List ℕ))) → List X → Fault → Type 0
 FailsToClose known scripts f = (orders : List (List Order)) × HoldAsks known scripts orders × IsRunFault f

@@ -3,13 +3,17 @@ ghost use Rattle.std.specs.Prelude.{◌≡◌, [], IfOk, string_bytes};
 ghost use Rattle.rdata.specs.Types.{type_number};
 ghost use Rattle.layout.specs.Messages.{encoding};
 ghost use Rattle.front.specs.declared.queries.Asked.TheVariants as asked;
+ghost use Rattle.front.specs.Replies.{reply_of};
+ghost use Rattle.wire.specs.declared.via.Via.TheVariants as via;
 ghost use Rattle.lines.specs.Lines.{ArePrinted};
 ghost use Rattle.commands.specs.Exchanges.{query_for, AreMessage, AreLinesOf, AreLines};
 
 use authority::Catalog;
 use causes::Cause;
 use dname::{Heap, Name, Starved};
-use front::{Asked, Query, Via, Writer, answer_local, read_query, refusal_bytes, reply_bytes};
+use front::{
+    Asked, Outcome, Query, Via, Writer, answer_local, read_query, refusal_bytes, reply_bytes,
+};
 use lines::put_reply_bytes;
 use rdata::{INTERNET, RType, Records};
 use wire::{Header, Message, Question, Questions, UDP_LIMIT, encode};
@@ -29,20 +33,20 @@ pub fn exchange<A: Heap>(
 {
     let query = query_bytes(alloc, name, kind)?;
     let asked = read_query(alloc, &query)?;
-    Ok(lines_of(alloc, catalog, asked)?)
+    lines_of(alloc, catalog, &asked)
 }
 
 // The lines of the reply to what was asked over UDP.
-fn lines_of<A: Heap>(alloc: A, catalog: &Catalog<A>, asked: Asked<A>) -> Result<String<A>, Starved>
-    ensures { IfOk result (λ s. AreLinesOf catalog.now asked (string_bytes s)) }
+fn lines_of<A: Heap>(alloc: A, catalog: &Catalog<A>, asked: &Asked<A>) -> Result<String<A>, Starved>
+    ensures { IfOk result (λ s. AreLinesOf catalog.now asked.now (string_bytes s)) }
 {
     match asked {
         Asked::Drop => Ok(String::new(alloc)),
         Asked::Refuse(refusal, start, echo) => {
-            let reply = refusal_bytes(&mut Writer::new(alloc)?, refusal, start, echo.as_ref())?;
+            let reply = refusal_bytes(&mut Writer::new(alloc)?, *refusal, *start, echo.as_ref())?;
             Ok(printed(alloc, &reply, None)?)
         }
-        Asked::Query(query) => Ok(answer_lines(alloc, catalog, &query)?),
+        Asked::Query(query) => Ok(answer_lines(alloc, catalog, query)?),
     }
 }
 
@@ -55,7 +59,18 @@ fn answer_lines<A: Heap>(
     ensures { IfOk result (λ s. AreLinesOf catalog.now (asked.Query query.now) (string_bytes s)) }
 {
     let outcome = answer_local(alloc, query, catalog)?;
-    let (reply, cause) = reply_bytes(&mut Writer::new(alloc)?, query, &outcome, Via::Udp)?;
+    outcome_lines(alloc, query, &outcome)
+}
+
+// The lines of the reply over UDP that says what came of a query.
+fn outcome_lines<A: Heap>(
+    alloc: A,
+    query: &Query<A>,
+    outcome: &Outcome<A>,
+) -> Result<String<A>, Starved>
+    ensures { IfOk result (λ s. ArePrinted (encoding (reply_of via.Udp query.now outcome.now).0) 1 (reply_of via.Udp query.now outcome.now).1 [] (string_bytes s)) }
+{
+    let (reply, cause) = reply_bytes(&mut Writer::new(alloc)?, query, outcome, Via::Udp)?;
     Ok(printed(alloc, &reply, cause)?)
 }
 

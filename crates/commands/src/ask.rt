@@ -1,7 +1,8 @@
 //! `ask`: one query, to one zone.
 ghost use Rattle.std.specs.Prelude.{◌≡◌, [], ◌∷◌, IfOk, IfErr, string_bytes};
+ghost use Rattle.rdata.specs.Types.{type_number};
 ghost use Rattle.commands.specs.Asks.{IsRefused};
-ghost use Rattle.commands.specs.Exchanges.{PrintsAnswer};
+ghost use Rattle.commands.specs.Exchanges.{AreLines, PrintsAnswer};
 
 use crate::answering::exchange;
 use crate::fault::Fault;
@@ -29,6 +30,18 @@ pub fn ask<'a, A: Heap, T: Texts>(
     let name = Name::from_text(alloc, name)?;
     let kind = RType::from_word(kind.as_bytes()).ok_or(Fault::BadType)?;
     let zone = read_zone(alloc, texts, origin, file)?;
+    Ok(zone_lines(alloc, zone, name, kind)?)
+}
+
+// The lines of the reply that a zone gives.
+fn zone_lines<A: Heap>(
+    alloc: A,
+    zone: Zone<A>,
+    name: Name<A>,
+    kind: RType,
+) -> Result<String<A>, Starved>
+    ensures { IfOk result (λ s. AreLines A (zone ∷ []) name (type_number kind) (string_bytes s)) }
+{
     let catalog = catalog_of(alloc, zone)?;
     Ok(exchange(alloc, &catalog, name, kind)?)
 }

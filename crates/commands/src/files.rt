@@ -18,8 +18,8 @@ pub fn check<'a, A: Heap, T: Texts>(
     ensures err { IfErr result (IsNoZone (T.held texts.old) file.entry.now origin.now) }
 {
     let origin = Name::from_text(alloc, origin)?;
-    let zone = read_zone(alloc, texts, origin, file)?;
-    Ok(count_line(alloc, zone.records().len())?)
+    let count = read_zone(alloc, texts, origin, file)?.records().len();
+    Ok(count_line(alloc, count)?)
 }
 
 fn count_line<A: Heap>(alloc: A, count: usize) -> Result<String<A>, Starved>

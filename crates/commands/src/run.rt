@@ -91,19 +91,19 @@ pub fn run_command<
         } => {
             let (origin, file) = (origin.as_str(), file.as_str());
             let done = ask(alloc, texts, origin, file, name.as_str(), kind.as_str());
-            finished(&done, out, err)
+            finished(done, out, err)
         }
         Command::Check { origin, file } => {
             let done = check(alloc, texts, origin.as_str(), file.as_str());
-            finished(&done, out, err)
+            finished(done, out, err)
         }
         Command::Dump { origin, file } => {
             let done = dump(alloc, texts, origin.as_str(), file.as_str());
-            finished(&done, out, err)
+            finished(done, out, err)
         }
         Command::Play { world, script } => {
             let done = play(alloc, texts, world.as_str(), script.as_str());
-            finished(&done, out, err)
+            finished(done, out, err)
         }
         Command::Storm {
             keep,
@@ -111,7 +111,7 @@ pub fn run_command<
             scripts,
         } => {
             let done = storm(rt, texts, *keep, world.as_str(), scripts.as_slice());
-            finished(&done, out, err)
+            finished(done, out, err)
         }
         Command::Serve { config } => serve(alloc, config.as_str(), texts, host, out, err),
     }
@@ -119,15 +119,15 @@ pub fn run_command<
 
 // The same as an outcome, for a command that starts no server.
 fn finished<A: Allocator, S: Allocator, O: Write, E: Write>(
-    done: &Result<String<S>, Fault<'_>>,
+    done: Result<String<S>, Fault<'_>>,
     out: &mut O,
     err: &mut E,
 ) -> Outcome<A>
-    ensures ended { Ended (shown string_bytes done.now) (O.contents out.old) (O.contents out.new) (E.contents err.old) (E.contents err.new) result.status }
+    ensures ended { Ended (shown string_bytes done.entry) (O.contents out.old) (O.contents out.new) (E.contents err.old) (E.contents err.new) result.status }
     ensures none { result.server ≡ None }
 {
     Outcome {
-        status: finish(done, out, err),
+        status: finish(&done, out, err),
         server: None,
     }
 }

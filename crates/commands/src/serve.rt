@@ -194,7 +194,10 @@ fn start<A: Heap, H: Host, O: Write, E: Write>(
 {
     match bind(alloc, prepared.listen, prepared.sockets, host) {
         Ok(line) => go(&line, prepared.server, out, err),
-        Err(fault) => no_server(&fault, err),
+        Err(fault) => {
+            drop(prepared);
+            no_server(&fault, err)
+        }
     }
 }
 
@@ -216,6 +219,7 @@ fn go<A: Heap, O: Write, E: Write>(
             server: Some(server),
         }
     } else {
+        drop(server);
         Outcome {
             status,
             server: None,

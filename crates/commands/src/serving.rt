@@ -23,6 +23,7 @@ pub fn serve_at<
     ensures { IsServed (E.contents err.old) (E.contents err.new) result }
 {
     let Some(ends) = &machine.ends else {
+        drop(server);
         return report(&Fault::Socket, err);
     };
     let stop = AtomicBool::new(false);

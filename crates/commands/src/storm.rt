@@ -1,11 +1,11 @@
 //! `storm`: scripts that a worker each asks by, all at once in one network in memory.
-ghost use Rattle.std.specs.Prelude.{◌≡◌, IfOk, IfErr, MatchResult, map, string_bytes};
+ghost use Rattle.std.specs.Prelude.{◌≡◌, ◌⊎◌, IfOk, IfErr, MatchResult, map, string_bytes};
 ghost use Rattle.orders.specs.Orders.{order_seen};
 ghost use Rattle.player.specs.Played.{settings};
 ghost use Rattle.simnet.specs.Beginnings.{Begins, IsNetworkOf};
 ghost use Rattle.script.specs.Worlds.{IsWorldOf, IsNoWorld};
 ghost use Rattle.commands.specs.Scripts.{HoldsWorld, HoldsNoWorld};
-ghost use Rattle.commands.specs.Storms.{HoldAsks, HoldsAsks, HoldsNoAsks, IsNoStorm, IsRunFault, IsStormIn, PrintsStorm, RefusesOne, storm_lines};
+ghost use Rattle.commands.specs.Storms.{HoldAsks, HoldsAsks, HoldsNoAsks, FailsToClose, IsNoStorm, IsRunFault, IsStormIn, PrintsIn, PrintsStorm, RefusesOne, storm_lines};
 
 use crate::fault::Fault;
 use crate::texts::Texts;
@@ -33,10 +33,27 @@ pub fn storm<'a, R: Threads + Wait + AllocGlobal + Sync, T: Texts>(
     ensures ok { IfOk result (λ s. PrintsStorm (λ p. T.held texts.old (string_bytes p)) (T.held texts.old world.entry.now) scripts.entry.now (string_bytes s)) }
     ensures err { IfErr result (IsNoStorm (T.held texts.old) world.entry.now string_bytes scripts.entry.now) }
 {
+    let (world, judge) = worlds_at(rt.alloc(), texts, world)?;
+    storm_in(rt, texts, keep, world, &judge, scripts)
+}
+
+// What is printed of the scripts at these paths in a network of that world.
+#[tactic(auto, using(crate::proofs::Storms::memory_refuses))]
+fn storm_in<'a, R: Threads + Wait + AllocGlobal + Sync, T: Texts>(
+    rt: &R,
+    texts: &mut T,
+    keep: u32,
+    world: World,
+    judge: &World,
+    paths: &'a [String],
+) -> Result<String, Fault<'a>>
+    requires { judge.now ≡ world }
+    ensures ok { IfOk result (λ s. PrintsIn world (λ p. T.held texts.old (string_bytes p)) paths.entry.now (string_bytes s)) }
+    ensures err { IfErr result (λ f. RefusesOne (T.held texts.old) string_bytes paths.entry.now f ⊎ FailsToClose (λ p. T.held texts.old (string_bytes p)) paths.entry.now f) }
+{
     let alloc = rt.alloc();
-    let (world, judge) = worlds_at(alloc, texts, world)?;
-    let scripts = asks_at_all(alloc, texts, scripts)?;
-    let totals = stormed(rt, alloc, world, &judge, scripts, keep as usize)?;
+    let scripts = asks_at_all(alloc, texts, paths)?;
+    let totals = stormed(rt, alloc, world, judge, scripts, keep as usize)?;
     Ok(storm_text(alloc, totals)?)
 }
 
