@@ -1,4 +1,4 @@
 //! The tests of `queries`, from outside: by what it makes public.
-mod fixtures;
 mod scans;
+mod shared;
 mod tests;

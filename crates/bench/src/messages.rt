@@ -54,17 +54,8 @@ impl OnMessages {
     /// Does it so often.
     pub fn times<A: Heap>(self, alloc: A, rounds: u64) -> Result<u64, WireError> {
         match self {
-            OnMessages::Decode(count) => decoded(
-                alloc,
-                &encode(alloc, &reply(alloc, count)?, TCP_LIMIT)?,
-                rounds,
-            ),
-            OnMessages::See(count) => seen(
-                alloc,
-                &encode(alloc, &reply(alloc, count)?, TCP_LIMIT)?,
-                count,
-                rounds,
-            ),
+            OnMessages::Decode(count) => decoded(alloc, &reply_bytes(alloc, count)?, rounds),
+            OnMessages::See(count) => seen(alloc, &reply_bytes(alloc, count)?, count, rounds),
             OnMessages::Encode(count) => encoded(alloc, &reply(alloc, count)?, rounds),
         }
     }
@@ -88,6 +79,11 @@ fn reply<A: Heap>(alloc: A, count: u8) -> Result<Message<A>, WireError> {
     )?;
     reply.answer = answer;
     Ok(reply)
+}
+
+fn reply_bytes<A: Heap>(alloc: A, count: u8) -> Result<Vec<u8, A>, WireError> {
+    let reply = reply(alloc, count)?;
+    encode(alloc, &reply, TCP_LIMIT)
 }
 
 fn decoded<A: Heap>(alloc: A, bytes: &[u8], rounds: u64) -> Result<u64, WireError> {

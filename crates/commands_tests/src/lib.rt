@@ -1,6 +1,9 @@
-//! The tests of `commands`, from outside: by what it makes public, and by scripts that are played in worlds in memory.
+//! The tests of `commandline` and `commands`, from outside: by what they make public, and by scripts that are played in
+//! worlds in memory.
 #![tactic(auto)]
 
+#[cfg(test)]
+mod commandline_tests;
 #[cfg(test)]
 mod done;
 #[cfg(test)]

@@ -80,17 +80,27 @@ impl Case {
         })
     }
 
-    // What the reply is used for.
-    fn class<A: Heap>(&self, alloc: A) -> Result<Class<A>, Starved> {
-        let zone = name(alloc, "example.")?;
-        let asked = name(alloc, W)?;
-        let Ok(bytes) = encode(alloc, &self.reply(alloc)?, TCP_LIMIT) else {
-            return Err(Starved);
-        };
-        match View::new(alloc, &bytes) {
-            Ok(reply) => Ok(classify(alloc, &zone, &asked, self.kind, self.via, &reply)?),
+    fn bytes<A: Heap>(&self, alloc: A) -> Result<Vec<u8, A>, Starved> {
+        let reply = self.reply(alloc)?;
+        match encode(alloc, &reply, TCP_LIMIT) {
+            Ok(bytes) => Ok(bytes),
             Err(_) => Err(Starved),
         }
+    }
+
+    // What a reply of these bytes is used for.
+    fn class_of<A: Heap>(&self, alloc: A, bytes: &[u8]) -> Result<Class<A>, Starved> {
+        let zone = name(alloc, "example.")?;
+        let asked = name(alloc, W)?;
+        match View::new(alloc, bytes) {
+            Ok(reply) => classify(alloc, &zone, &asked, self.kind, self.via, &reply),
+            Err(_) => Err(Starved),
+        }
+    }
+
+    fn class<A: Heap>(&self, alloc: A) -> Result<Class<A>, Starved> {
+        let bytes = self.bytes(alloc)?;
+        self.class_of(alloc, &bytes)
     }
 
     fn said<A: Heap>(&self, alloc: A) -> Result<String<A>, Starved> {

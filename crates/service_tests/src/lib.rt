@@ -1,8 +1,10 @@
-//! The tests of `service`, from outside: a resolver at its sockets, with servers and clients beside it.
+//! The tests of `config`, from outside, and of `service`: a resolver at its sockets, with servers and clients beside it.
 #![tactic(auto)]
 
 #[cfg(test)]
 mod client;
+#[cfg(test)]
+mod config_tests;
 #[cfg(test)]
 mod nameservers;
 #[cfg(test)]

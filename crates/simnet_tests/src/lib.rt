@@ -1,5 +1,5 @@
-//! The tests of `simnet`, from outside: by what it makes public, and by whole scripts, in which the resolver serves by
-//! index the very query that a walk through all waiting ones serves.
+//! The tests of `simnet` and `player`, from outside: by what they make public, and by whole scripts, in which the resolver
+//! serves by index the very query that a walk through all waiting ones serves.
 #![tactic(auto)]
 
 #[cfg(test)]
@@ -10,6 +10,8 @@ mod example_tests;
 mod fixtures;
 #[cfg(test)]
 mod made;
+#[cfg(test)]
+mod player_tests;
 #[cfg(test)]
 mod question;
 #[cfg(test)]

@@ -1,5 +1,5 @@
 //! Look-ups that go through all queries.
-use crate::queries_tests::fixtures::{FIRST, SECOND, TCP};
+use crate::queries_tests::shared::{FIRST, SECOND, TCP};
 use dname::Heap;
 use exchange::{Asking, Path};
 use queries::Queries;

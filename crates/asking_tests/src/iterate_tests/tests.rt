@@ -1,5 +1,5 @@
 //! Each rule by which a query is resolved, by messages made by hand.
-use crate::resolver::{EXAMPLE, Event, Out, ROOT, SUB, Script, Step, first_broken};
+use crate::iterate_tests::resolver::{EXAMPLE, Event, Out, ROOT, SUB, Script, Step, first_broken};
 use causes::Cause;
 use fixtures::{Row, Value};
 use std::test::Fail;

@@ -1,5 +1,7 @@
 //! Limits of a query, each at its last value and at the first one beyond.
-use crate::resolver::{Asked, EXAMPLE, Event, Out, ROOT, Script, Step, first_broken};
+use crate::iterate_tests::resolver::{
+    Asked, EXAMPLE, Event, Out, ROOT, Script, Step, first_broken,
+};
 use causes::Cause;
 use dname::{Heap, Starved};
 use fixtures::Value;

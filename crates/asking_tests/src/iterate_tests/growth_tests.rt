@@ -1,5 +1,5 @@
 //! Want of memory, and how much of it a query takes.
-use crate::resolver::{Asked, EXAMPLE, Event, Out, ROOT, Step, first_wrong};
+use crate::iterate_tests::resolver::{Asked, EXAMPLE, Event, Out, ROOT, Step, first_wrong};
 use dname::{Heap, Name, Starved};
 use fixtures::{Value, name};
 use refusing::Refusing;

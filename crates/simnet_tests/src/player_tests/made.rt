@@ -1,28 +1,9 @@
 //! Worlds and scripts made from a seed.
 
+use crate::made::Dice;
 use std::alloc::AllocError;
 
-/// Numbers that follow from a seed, by a linear congruential generator.
-#[derive(Clone, Copy)]
-pub struct Dice {
-    state: u64,
-}
-
 impl Dice {
-    /// The seed's.
-    pub fn new(seed: u64) -> Dice {
-        Dice { state: seed }
-    }
-
-    // A number under that many sides, 0 of none.
-    fn roll(&mut self, sides: u64) -> u64 {
-        self.state = self
-            .state
-            .wrapping_mul(6_364_136_223_846_793_005)
-            .wrapping_add(1_442_695_040_888_963_407);
-        (self.state >> 33).checked_rem(sides).unwrap_or(0)
-    }
-
     // One of these words.
     fn word(&mut self, words: &'static [&'static str]) -> &'static str {
         let place = self.roll(words.len() as u64) as usize;
