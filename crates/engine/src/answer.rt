@@ -1,9 +1,9 @@
 //! The outcome of a chain and its end: each link with the TTL that is left of it, and AA where the link of the name
 //! that was asked is of the zones at hand.
-ghost use Rattle.std.specs.Prelude.{◌≡◌, [], ◌∷◌, IfOk};
+ghost use Rattle.std.specs.Prelude.{◌≡◌, [], ◌∷◌, IfOk, MatchOption};
 ghost use Rattle.authority.specs.Answers.{link_view};
 ghost use Rattle.exchange.specs.Plain.{plain_end, plain_outcome};
-ghost use Rattle.runs.specs.Messages.{is_local_first, aliases_of, end_in, outcome_of};
+ghost use Rattle.runs.specs.Messages.{is_local_first, alias_in, aliases_of, end_in, outcome_of};
 
 use authority::Link;
 use dname::{Heap, Starved};
@@ -22,9 +22,19 @@ pub fn outcome_of<A: Heap>(
     ensures { IfOk result (λ o. plain_outcome o ≡ outcome_of now chain last) }
 {
     let aa = is_local_first(chain.as_slice(), &last);
-    let aliases = aliases_of(alloc, chain, now)?;
-    let end = end_of(alloc, last.into_sent(now))?;
-    Ok(Outcome::Answer(aa, aliases, end))
+    match aliases_of(alloc, chain, now) {
+        Err(starved) => {
+            drop(last);
+            Err(starved)
+        }
+        Ok(aliases) => match end_of(alloc, last.into_sent(now)) {
+            Err(starved) => {
+                drop(aliases);
+                Err(starved)
+            }
+            Ok(end) => Ok(Outcome::Answer(aa, aliases, end)),
+        },
+    }
 }
 
 // Whether the asked name's own link is of the zones at hand.
@@ -37,13 +47,26 @@ fn is_local_first<A: Heap>(links: &[Taken<A>], last: &Taken<A>) -> bool
     }
 }
 
+// The record of an alias; other links have none.
+fn alias_in<A: Heap>(link: Link<A>) -> Option<Record<A>>
+    ensures { MatchOption result (alias_in (link_view link) ≡ []) (λ r. alias_in (link_view link) ≡ r ∷ []) }
+{
+    match link {
+        Link::Alias(record) => Some(record),
+        other => {
+            drop(other);
+            None
+        }
+    }
+}
+
 // The records of the aliases, as they go out.
 fn aliases_of<A: Heap>(alloc: A, chain: Chain<A>, now: u64) -> Result<Records<A>, Starved>
     ensures { IfOk result (λ r. r ≡ aliases_of now chain) }
 {
     let mut aliases = Records::with_capacity(alloc, chain.len())?;
     for taken in chain.into_links() {
-        if let Link::Alias(record) = taken.into_sent(now) {
+        if let Some(record) = alias_in(taken.into_sent(now)) {
             aliases.push(record)?;
         }
     }

@@ -44,15 +44,26 @@ impl<A: Heap> Works<A> {
         ensures ok { IfOk result (λ a. Puts (state_of self.old) (open_query number asker job ask due) (action_view a) (state_of self.new)) }
         ensures err { OnErr result (state_of self.new ≡ state_of self.old) }
     {
-        let action = send(self.alloc, self.port, &ask)?;
-        self.queries.put(Open {
+        let open = Open {
             number,
             asker,
             job,
             ask,
             due,
-        })?;
-        Ok(action)
+        };
+        match send(self.alloc, self.port, &open.ask) {
+            Err(starved) => {
+                drop(open);
+                Err(starved)
+            }
+            Ok(action) => match self.queries.put(open) {
+                Err(starved) => {
+                    drop(action);
+                    Err(starved)
+                }
+                Ok(()) => Ok(action),
+            },
+        }
     }
 
     // A server is asked in a datagram: the ID and the socket by a word of the generator, the ID raised until no
@@ -101,6 +112,9 @@ impl<A: Heap> Works<A> {
         ensures err { OnErr result (Halts (state_of self.old) (state_of self.new)) }
     {
         if self.asked == u64::MAX {
+            drop(asker);
+            drop(job);
+            drop(name);
             return Err(Starved);
         }
         let id = (self.word() % 65_536) as u16;

@@ -24,6 +24,13 @@ fn is_ask<A: Heap>(next: &Next<A>) -> bool
     matches!(next, Next::Ask(..) | Next::AskTcp(..))
 }
 
+// A query for which no number is left goes.
+fn turn_away<A: Heap>(asker: Asker<A>, job: Job<A>, next: Next<A>) {
+    drop(asker);
+    drop(job);
+    drop(next);
+}
+
 impl<A: Heap> Works<A> {
     // A query that has to wait is opened under the next number.
     fn let_in(&mut self, asker: Asker<A>, job: Job<A>, next: Next<A>) -> Result<Action<A>, Starved>
@@ -34,6 +41,7 @@ impl<A: Heap> Works<A> {
     {
         let number = self.opened;
         if number == u64::MAX {
+            turn_away(asker, job, next);
             return Err(Starved);
         }
         let action = self.follow(number, asker, job, next)?;

@@ -1,7 +1,9 @@
 //! `Core`, the resolver as one machine for one thread. Its `step` says in its contract what the crate promises.
-ghost use Rattle.std.specs.Prelude.{◌≡◌, Some, None, IfOk, IsOk, OnErr, MatchResult};
+ghost use Rattle.std.specs.Prelude.{◌≡◌, false, Some, None, IfOk, IsOk, OnErr, MatchResult};
 ghost use Rattle.std.specs.NonZero.{non_zero_usize_get};
-ghost use Rattle.known.specs.Views.{no_stores};
+ghost use Rattle.authority.specs.Catalogs.{has_twins};
+ghost use Rattle.authority.specs.CatalogFaults.{CatalogRefuses};
+ghost use Rattle.known.specs.Views.{home_at, no_stores};
 ghost use Rattle.engine.specs.Beginnings.{CoreRefuses, IsMade};
 ghost use Rattle.engine.specs.Works.{state_of};
 ghost use Rattle.engine.specs.Turns.{IsQuiet};
@@ -12,17 +14,19 @@ ghost use Rattle.runs.specs.States.{moved};
 use crate::hashing::{Seeded, StoreHasher};
 use crate::settings::{Config, CoreError};
 use crate::works::Works;
-use authority::Catalog;
+use authority::{Catalog, CatalogError};
 use dname::{Heap, Starved};
 use exchange::{Actions, Event};
 use known::{Capacities, Hashers, Home, Stores};
 use queries::Queries;
 use rand_chacha::ChaCha20Rng;
 use rand_core::SeedableRng;
+use rdata::Addr;
 use std::alloc::{Allocator, Global};
 use std::hash::DefaultHasher;
 use std::marker::Model;
 use wire::Writer;
+use zone::Zone;
 
 /// A resolver: the zones and hints that it holds, what it learnt, and the open queries.
 pub struct Core<A: Allocator = Global> {
@@ -66,6 +70,31 @@ fn stores<A: Heap>(
     Ok(Stores::new(alloc, room, hashers)?)
 }
 
+// Stores in which nothing stands yet, and what messages are written with.
+fn tools<A: Heap>(
+    alloc: A,
+    room: Capacities,
+    seed: &[u8],
+) -> Result<(Stores<StoreHasher, A>, Writer<A>), Starved>
+    ensures { IfOk result (λ t. t.0 ≡ no_stores (non_zero_usize_get room.links) (non_zero_usize_get room.cuts) (non_zero_usize_get room.servers) (non_zero_usize_get room.failures)) }
+{
+    let stores = stores(alloc, room, seed)?;
+    let writer = Writer::new(alloc)?;
+    Ok((stores, writer))
+}
+
+// The zones at hand, and the root with its hints.
+fn home<A: Heap>(
+    alloc: A,
+    local: Vec<Zone<A>, A>,
+    hints: Vec<Addr, A>,
+) -> Result<Home<A>, CatalogError>
+    ensures { MatchResult result (λ h. (h ≡ home_at local.items hints.items) × (has_twins local.items ≡ false)) (λ e. CatalogRefuses e (has_twins local.items)) }
+{
+    let catalog = Catalog::new(local)?;
+    Ok(Home::new(alloc, catalog, &hints)?)
+}
+
 impl<A: Heap> Core<A> {
     /// A resolver that has done nothing yet. The first that holds is refused: a setting out of its limits (1),
     /// two zones of one origin (2), want of memory (3).
@@ -76,11 +105,8 @@ impl<A: Heap> Core<A> {
             return Err(CoreError::Setting);
         };
         let settings = config.settings;
-        let hints = config.hints;
-        let catalog = Catalog::new(config.local)?;
-        let home = Home::new(alloc, catalog, &hints)?;
-        let stores = stores(alloc, room, &settings.seed)?;
-        let writer = Writer::new(alloc)?;
+        let home = home(alloc, config.local, config.hints)?;
+        let (stores, writer) = tools(alloc, room, &settings.seed)?;
         Ok(Core {
             works: Works {
                 alloc,

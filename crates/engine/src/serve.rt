@@ -71,8 +71,18 @@ impl<A: Heap> Works<A> {
             Next::AskTcp(server, name, kind) => {
                 self.ask_tcp(number, asker, job, server, name, kind)
             }
-            Next::Done(chain, last) => self.answer(number, &asker, chain, last),
-            Next::Fail(cause) => self.fail(number, &asker, cause),
+            Next::Done(chain, last) => {
+                drop(job);
+                let reply = self.answer(number, &asker, chain, last);
+                drop(asker);
+                reply
+            }
+            Next::Fail(cause) => {
+                drop(job);
+                let reply = self.fail(number, &asker, cause);
+                drop(asker);
+                reply
+            }
         }
     }
 
@@ -89,15 +99,22 @@ impl<A: Heap> Works<A> {
         ensures ok { IfOk result (λ a. Goes (state_of self.old) asker number job (input_view input.entry) (alone a) (state_of self.new)) }
         ensures err { OnErr result (Falls (state_of self.old) job (input_view input.entry) (state_of self.new)) }
     {
-        let next = advance(
+        let gives = advance(
             self.alloc,
             &mut job,
             input,
             &self.home,
             &mut self.stores,
             self.clock,
-        )?;
-        self.follow(number, asker, job, next)
+        );
+        match gives {
+            Err(starved) => {
+                drop(asker);
+                drop(job);
+                Err(starved)
+            }
+            Ok(next) => self.follow(number, asker, job, next),
+        }
     }
 
     // The open query of that number is served.
