@@ -1,13 +1,19 @@
-//! The tests of `commandline` and `commands`, from outside: by what they make public, and by scripts that are played in
-//! worlds in memory.
+//! The tests of `config`, `commandline` and `commands`, from outside: by what they make public, and by scripts that are
+//! played in worlds in memory; and of `service`, a resolver at its sockets, with servers and clients beside it.
 #![tactic(auto)]
 
 #[cfg(test)]
+mod client;
+#[cfg(test)]
 mod commandline_tests;
+#[cfg(test)]
+mod config_tests;
 #[cfg(test)]
 mod done;
 #[cfg(test)]
 mod growths;
+#[cfg(test)]
+mod nameservers;
 #[cfg(test)]
 mod nowhere;
 #[cfg(test)]
@@ -16,6 +22,8 @@ mod plays;
 mod scripts;
 #[cfg(test)]
 mod serve_tests;
+#[cfg(test)]
+mod service_tests;
 #[cfg(test)]
 mod storms;
 #[cfg(test)]

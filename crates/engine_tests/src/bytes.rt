@@ -59,7 +59,7 @@ fn message<A: Heap>(
 ) -> Result<Bytes<A>, Starved> {
     let whole = under(alloc, id, rest)?;
     let bytes = changed(alloc, whole.as_slice(), change)?;
-    Ok(bounded(bytes)?)
+    bounded(bytes)
 }
 
 fn event<A: Heap>(desk: &Desk<A>, rest: &[u8], change: Change) -> Result<Event<A>, Starved> {

@@ -54,12 +54,12 @@ fn message<A: Heap>(
 ) -> Result<Bytes<A>, Starved> {
     let mut bytes = joined(alloc, &[&id, rest, QUESTION])?;
     put_lines(&mut bytes, lines)?;
-    Ok(bounded(bytes)?)
+    bounded(bytes)
 }
 
 // A desk at which the server of the root is known.
 pub fn desk<A: Heap>(alloc: A) -> Result<Desk<A>, Starved> {
-    Ok(Desk::new(alloc, Addr([192, 0, 2, ROOT]))?)
+    Desk::new(alloc, Addr([192, 0, 2, ROOT]))
 }
 
 // A desk is done with. All its parts are dropped here alone: each exit of a function that drops one spells them out.
@@ -110,8 +110,8 @@ fn looks<A: Heap>(desk: &Desk<A>, rest: &[u8], lines: &[Line]) -> Out {
 // What the resolver is told by an act. A look tells it nothing.
 fn event<A: Heap>(desk: &Desk<A>, act: Act) -> Result<Event<A>, Starved> {
     match act {
-        Act::Asks(moment, bytes) => Ok(desk.query(3, moment, bytes)?),
-        Act::Told(from, rest, lines) => Ok(reply(desk, from, rest, lines)?),
+        Act::Asks(moment, bytes) => desk.query(3, moment, bytes),
+        Act::Told(from, rest, lines) => reply(desk, from, rest, lines),
         Act::Tick(moment) => Ok(Event::Tick { moment }),
         Act::Looks(_, _) => Err(Starved),
     }
@@ -227,7 +227,7 @@ impl Starving {
         if out != self.last.1 || !self.takes(growths) {
             return Ok(false);
         }
-        Ok(self.goes_without(alloc, growths)?)
+        self.goes_without(alloc, growths)
     }
 }
 

@@ -13,7 +13,7 @@ const WHOLE: usize = QUERY.len();
 
 fn event<A: Heap>(desk: &Desk<A>, change: Change) -> Result<Event<A>, Starved> {
     let bytes = changed(desk.heap(), QUERY, change)?;
-    Ok(desk.query(3, 0, bytes.as_slice())?)
+    desk.query(3, 0, bytes.as_slice())
 }
 
 // What the query brings as it comes.

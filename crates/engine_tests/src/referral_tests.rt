@@ -40,13 +40,13 @@ fn records(labels: usize) -> [u8; 33] {
 // The server's reply: a referral to the last so many labels.
 fn referral<A: Heap>(alloc: A, id: [u8; 2], labels: usize) -> Result<Bytes<A>, Starved> {
     let bytes = joined(alloc, &[&id, REFERRAL, QUESTION, &records(labels)])?;
-    Ok(bounded(bytes)?)
+    bounded(bytes)
 }
 
 // What the client asks.
 fn asked<A: Heap>(desk: &Desk<A>) -> Result<Event<A>, Starved> {
     let query = joined(desk.heap(), &[QUERY, QUESTION])?;
-    Ok(desk.query(3, 0, query.as_slice())?)
+    desk.query(3, 0, query.as_slice())
 }
 
 // What the last ask's server says.

@@ -113,17 +113,17 @@ fn turned_ttl(place: usize, bits: u8) -> u32 {
 // What the client gets with this TTL.
 fn reply_with<A: Heap>(alloc: A, ttl: u32) -> Result<Vec<u8, A>, Starved> {
     let ttl = ttl.to_be_bytes();
-    Ok(joined(alloc, &[REPLY_BEFORE, &ttl, REPLY_BEHIND])?)
+    joined(alloc, &[REPLY_BEFORE, &ttl, REPLY_BEHIND])
 }
 
 // What the client gets where the reply is taken with some bits of that byte turned.
 fn wanted<A: Heap>(alloc: A, place: usize, bits: u8) -> Result<Vec<u8, A>, Starved> {
     if place >= ADDRESS {
-        Ok(changed(alloc, REPLY, Change::Turned(place, bits))?)
+        changed(alloc, REPLY, Change::Turned(place, bits))
     } else if place >= TTL {
-        Ok(reply_with(alloc, turned_ttl(place - TTL, bits))?)
+        reply_with(alloc, turned_ttl(place - TTL, bits))
     } else {
-        Ok(changed(alloc, REPLY, Change::Nothing)?)
+        changed(alloc, REPLY, Change::Nothing)
     }
 }
 
@@ -144,7 +144,7 @@ fn is_well<A: Heap>(
     match out {
         Out::Asked(1) => Ok(goes_on(desk, talk)),
         Out::Failed(7) => Ok(place == 3 && bits & 0x0f == 2),
-        Out::Replied => Ok(has_sent_wanted(desk, place, bits)?),
+        Out::Replied => has_sent_wanted(desk, place, bits),
         _ => Ok(out == Out::AskedOverTcp(1)),
     }
 }

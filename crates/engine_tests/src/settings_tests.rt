@@ -42,7 +42,7 @@ fn zone_of(alloc: Global, origin: Name) -> Result<Zone, Starved> {
 
 fn zone(alloc: Global) -> Result<Zone, Starved> {
     match Name::from_text(alloc, "lab.example.") {
-        Ok(origin) => Ok(zone_of(alloc, origin)?),
+        Ok(origin) => zone_of(alloc, origin),
         Err(_) => Err(Starved),
     }
 }

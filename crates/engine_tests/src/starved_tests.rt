@@ -162,14 +162,14 @@ impl<A: Heap> Scene<A> {
 
     // The reply with an address to client 3's ask, or to another one.
     fn found(&self, ask: Ask, moment: u64) -> Result<Event<A>, Starved> {
-        Ok(told(self.desk.heap(), ask, moment, FOUND)?)
+        told(self.desk.heap(), ask, moment, FOUND)
     }
 
     // The event for client 3 at that moment.
     fn event(&self, kind: Kind, moment: u64) -> Result<Event<A>, Starved> {
         match kind {
-            Kind::Query => Ok(self.desk.query(3, moment, QUERY)?),
-            Kind::Told | Kind::ToldOverTcp => Ok(self.found(self.mine, moment)?),
+            Kind::Query => self.desk.query(3, moment, QUERY),
+            Kind::Told | Kind::ToldOverTcp => self.found(self.mine, moment),
             Kind::LostOverTcp | Kind::Late => Ok(self.mine.lost(moment)),
         }
     }
@@ -177,10 +177,10 @@ impl<A: Heap> Scene<A> {
     // The event that is an act. `next` is the ask that goes out by the event for client 3 where memory is not refused.
     fn event_of(&self, act: Act, next: Ask) -> Result<Event<A>, Starved> {
         match act {
-            Act::Late => Ok(self.found(self.mine, 1_000)?),
-            Act::LateForNext => Ok(self.found(next, 1_000)?),
-            Act::Other => Ok(told(self.desk.heap(), self.others, 1_000, OTHERS_FOUND)?),
-            Act::Known => Ok(self.desk.query(5, 1_000, KNOWN)?),
+            Act::Late => self.found(self.mine, 1_000),
+            Act::LateForNext => self.found(next, 1_000),
+            Act::Other => told(self.desk.heap(), self.others, 1_000, OTHERS_FOUND),
+            Act::Known => self.desk.query(5, 1_000, KNOWN),
             Act::Tick(moment) => Ok(Event::Tick { moment }),
         }
     }

@@ -77,9 +77,9 @@ fn event_by<A: Heap>(
     way: Way,
 ) -> Result<Option<Event<A>>, Starved> {
     match way {
-        Way::Whole => Ok(whole_over_udp(alloc, world, ask, 9)?),
-        Way::Truncated => Ok(truncated_over_udp(alloc, world, ask, 9)?),
-        Way::Stream => Ok(over_tcp(alloc, world, ask, 9)?),
+        Way::Whole => whole_over_udp(alloc, world, ask, 9),
+        Way::Truncated => truncated_over_udp(alloc, world, ask, 9),
+        Way::Stream => over_tcp(alloc, world, ask, 9),
         Way::Lost => Ok(lost(ask, 9)),
     }
 }

@@ -50,7 +50,7 @@ fn world_of<A: Heap>(alloc: A, text: &str) -> Result<World<A>, Starved> {
 
 pub fn world<A: Heap>(alloc: A, addresses: u8) -> Result<World<A>, Starved> {
     let text = text(alloc, addresses)?;
-    Ok(world_of(alloc, text.as_str())?)
+    world_of(alloc, text.as_str())
 }
 
 pub const SETTINGS: Settings = Settings {
@@ -74,7 +74,7 @@ pub fn network_of<A: Heap>(alloc: A, text: &str, settings: Settings) -> Result<S
 
 pub fn network<A: Heap>(alloc: A, addresses: u8) -> Result<Sim<A>, Starved> {
     let text = text(alloc, addresses)?;
-    Ok(network_of(alloc, text.as_str(), SETTINGS)?)
+    network_of(alloc, text.as_str(), SETTINGS)
 }
 
 /// A network is done with. All its parts are dropped here alone: each exit of a function that drops one spells them out.

@@ -115,7 +115,7 @@ impl Tree {
 
     fn put_origin<A: Heap>(&self, text: &mut String<A>, zone: u64) -> Result<(), Starved> {
         text.push_str(if zone == 0 { "." } else { "" })?;
-        Ok(self.put_labels(text, zone)?)
+        self.put_labels(text, zone)
     }
 
     // The zones right beneath, with the addresses of their servers.
@@ -134,7 +134,7 @@ impl Tree {
         self.put_origin(text, zone)?;
         text.push_str(self.start)?;
         text.push_str(text_of(SERVERS, zone))?;
-        Ok(self.put_cuts(text, zone)?)
+        self.put_cuts(text, zone)
     }
 
     fn put_host<A: Heap>(&self, text: &mut String<A>, zone: u64) -> Result<(), Starved> {
@@ -165,7 +165,7 @@ impl Tree {
         let mut name = String::new(alloc);
         write!(&mut name, "{client}.")?;
         self.put_labels(&mut name, client % ZONES)?;
-        Ok(Question::new(alloc, client, name.as_str(), RType::A)?)
+        Question::new(alloc, client, name.as_str(), RType::A)
     }
 
     fn questions<A: Heap>(&self, alloc: A, clients: u64) -> Result<Vec<Question<A>, A>, Starved> {
@@ -180,6 +180,6 @@ impl Tree {
     pub fn watched<A: Heap>(&self, alloc: A, clients: u64) -> Result<Watched<A>, Starved> {
         let world = self.world(alloc)?;
         let questions = self.questions(alloc, clients)?;
-        Ok(Watched::new(alloc, world.as_str(), questions)?)
+        Watched::new(alloc, world.as_str(), questions)
     }
 }

@@ -261,7 +261,7 @@ fn made_step<A: Heap>(
     dice: &mut Dice,
 ) -> Result<Verdict, Starved> {
     let order = order(watched, dice);
-    Ok(watched.follow(moment, order)?)
+    watched.follow(moment, order)
 }
 
 // The first of 100 orders on which the resolver and the room differ.

@@ -66,7 +66,7 @@ fn out_of<A: Heap>(sim: &mut Sim<A>, event: SimEvent<A>) -> Result<Out, Starved>
 // What comes out of the query of client 4.
 fn ask<A: Heap>(alloc: A, sim: &mut Sim<A>, query: &[u8]) -> Result<Out, Starved> {
     let event = query_of_client(alloc, query)?;
-    Ok(out_of(sim, event)?)
+    out_of(sim, event)
 }
 
 // What comes out of the last order, each a millisecond after the one before; without any, what came out before.
@@ -92,7 +92,7 @@ struct Tale {
 impl Tale {
     fn comes_in<A: Heap>(self, alloc: A, sim: &mut Sim<A>) -> Result<Out, Starved> {
         let first = ask(alloc, sim, self.query)?;
-        Ok(follow(sim, first, self.orders)?)
+        follow(sim, first, self.orders)
     }
 
     fn comes<A: Heap>(self, alloc: A) -> Result<Out, Starved> {

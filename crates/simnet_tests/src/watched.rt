@@ -214,7 +214,7 @@ impl<A: Heap> Watched<A> {
     fn query(&self, client: u64) -> Result<Bytes<A>, Starved> {
         for question in self.questions.iter() {
             if question.client == client {
-                return Ok(question.query()?);
+                return question.query();
             }
         }
         Err(Starved)
@@ -232,7 +232,7 @@ impl<A: Heap> Watched<A> {
 
     fn event(&self, moment: u64, order: Order) -> Result<SimEvent<A>, Starved> {
         match order {
-            Order::Client(client) => Ok(self.client_event(moment, client)?),
+            Order::Client(client) => self.client_event(moment, client),
             Order::Carry(number) => Ok(SimEvent::Carry { moment, number }),
             Order::Truncate(number) => Ok(SimEvent::CarryTruncated { moment, number }),
             Order::Tcp(number) => Ok(SimEvent::CarryTcp { moment, number }),
@@ -269,7 +269,7 @@ impl<A: Heap> Watched<A> {
     // The room takes in what came of the step.
     fn settle(&mut self, served: Served, order: Order, done: Done) -> Result<(), Starved> {
         let wait = self.wait(order);
-        Ok(self.room.settle(served, done.ask, wait)?)
+        self.room.settle(served, done.ask, wait)
     }
 
     /// The order is followed at this moment.

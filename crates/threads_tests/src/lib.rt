@@ -1,9 +1,11 @@
-//! The tests of `book`, `pool` and `crew`, from outside: by what they make public.
+//! The tests of `book`, `pool`, `crew` and `crowd`, from outside: by what they make public.
 #![tactic(auto)]
 
 #[cfg(test)]
 mod book_tests;
 #[cfg(test)]
 mod crew_tests;
+#[cfg(test)]
+mod crowd_tests;
 #[cfg(test)]
 mod pool_tests;

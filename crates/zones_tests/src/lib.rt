@@ -1,4 +1,5 @@
-//! The tests of `words`, `zone`, `authority` and `masterfile`, from outside: by what they make public.
+//! The tests of `words`, `masterfile`, `zone`, `authority`, `worlds`, `script` and `orders`, from outside: by what they
+//! make public.
 #![tactic(auto)]
 
 #[cfg(test)]
@@ -6,6 +7,12 @@ mod authority_tests;
 #[cfg(test)]
 mod masterfile_tests;
 #[cfg(test)]
+mod orders_tests;
+#[cfg(test)]
+mod script_tests;
+#[cfg(test)]
 mod words_tests;
+#[cfg(test)]
+mod worlds_tests;
 #[cfg(test)]
 mod zone_tests;

@@ -1,18 +1,16 @@
 //! A resolver in memory for tests: what comes in for a query, and what goes out, in short.
 ghost use Rattle.std.specs.Prelude.{◌<◌, ◌+◌, ◌^◌};
 
-use authority::{Catalog, Link};
+use crate::shared::{home, stores};
+use authority::Link;
 use causes::Cause;
 use dname::{Heap, Name, Starved};
 use fixtures::{Row, Value, address, name, record, records};
 use iterate::{Begun, Input, Job, Next, advance, begin};
-use known::{Capacities, Hashers, Home, Stores};
+use known::{Home, Stores};
 use lru::DefaultHasher;
 use rdata::{RData, RType, RecordSet, Records};
-use std::hash::BuildHasherDefault;
-use std::num::NonZeroUsize;
 use wire::{Header, Message, Questions, UDP_LIMIT, Via, View, encode};
-use zone::Zone;
 
 // Servers are known by the last byte of their address, which stands in 192.0.2.0/24: one of the root, one of
 // the zone example, one of a zone beneath the one at hand.
@@ -153,7 +151,7 @@ fn addresses_of_first<A: Heap>(
     glue: &[u8],
 ) -> Result<Records<A>, Starved> {
     match names {
-        [first, ..] => Ok(addresses(alloc, *first, glue)?),
+        [first, ..] => addresses(alloc, *first, glue),
         [] => Ok(empty(alloc)),
     }
 }
@@ -189,57 +187,6 @@ fn untold<'m, A: Heap>(event: Event) -> Input<'m, A> {
         Event::TcpFailed(server) => Input::TcpFailed(address(server)),
         _ => Input::Start,
     }
-}
-
-fn zone<A: Heap>(alloc: A) -> Result<Zone<A>, Starved> {
-    let origin = name(alloc, "local")?;
-    match Zone::build(origin, records(alloc, ZONE_ROWS)?) {
-        Ok(zone) => Ok(zone),
-        Err(_) => Err(Starved),
-    }
-}
-
-fn zones<A: Heap>(alloc: A) -> Result<Vec<Zone<A>, A>, Starved> {
-    let mut zones = Vec::new(alloc);
-    zones.push(zone(alloc)?)?;
-    Ok(zones)
-}
-
-fn catalog<A: Heap>(alloc: A) -> Result<Catalog<A>, Starved> {
-    match Catalog::new(zones(alloc)?) {
-        Ok(catalog) => Ok(catalog),
-        Err(_) => Err(Starved),
-    }
-}
-
-fn home<A: Heap>(alloc: A) -> Result<Home<A>, Starved> {
-    let catalog = catalog(alloc)?;
-    Ok(Home::new(alloc, catalog, &[address(ROOT)])?)
-}
-
-fn hasher() -> DefaultHasher {
-    BuildHasherDefault::new()
-}
-
-fn hashers() -> Hashers<DefaultHasher> {
-    Hashers {
-        links: hasher(),
-        cuts: hasher(),
-        servers: hasher(),
-        failures: hasher(),
-    }
-}
-
-// Room for twenty of each.
-fn stores<A: Heap>(alloc: A) -> Result<Stores<DefaultHasher, A>, Starved> {
-    let room = NonZeroUsize::new(20).ok_or(Starved)?;
-    let capacities = Capacities {
-        links: room,
-        cuts: room,
-        servers: room,
-        failures: room,
-    };
-    Ok(Stores::new(alloc, capacities, hashers())?)
 }
 
 // A moment at which a query may come: its deadline, ten seconds later, is a number of milliseconds too.
@@ -301,11 +248,11 @@ impl<A: Heap> Asked<A> {
     // One that has learnt nothing.
     pub fn new(alloc: A) -> Result<Asked<A>, Starved> {
         let job = job(alloc, ".")?;
-        let home = home(alloc)?;
+        let home = home(alloc, "local", ZONE_ROWS, address(ROOT))?;
         Ok(Asked {
             alloc,
             home,
-            stores: stores(alloc)?,
+            stores: stores(alloc, 20)?,
             job,
         })
     }
@@ -336,7 +283,7 @@ impl<A: Heap> Asked<A> {
 
     fn ask(&mut self, text: &str, now: u32) -> Result<Out, Starved> {
         let name = name(self.alloc, text)?;
-        Ok(self.query(&name, now)?)
+        self.query(&name, now)
     }
 
     fn advance(&mut self, input: Input<'_, A>, now: u32) -> Result<Out, Starved> {
@@ -357,7 +304,7 @@ impl<A: Heap> Asked<A> {
             return Err(Starved);
         };
         match View::new(self.alloc, &bytes) {
-            Ok(view) => Ok(self.advance(Input::Told(Via::Udp, address(server), view), now)?),
+            Ok(view) => self.advance(Input::Told(Via::Udp, address(server), view), now),
             Err(_) => Err(Starved),
         }
     }
@@ -365,11 +312,11 @@ impl<A: Heap> Asked<A> {
     // What goes out at this moment for what comes in.
     pub fn hear(&mut self, now: u32, event: Event) -> Result<Out, Starved> {
         if let Event::Query(text) = event {
-            return Ok(self.ask(text, now)?);
+            return self.ask(text, now);
         }
         match told(self.alloc, event)? {
-            Some((server, message)) => Ok(self.told(server, &message, now)?),
-            None => Ok(self.advance(untold(event), now)?),
+            Some((server, message)) => self.told(server, &message, now),
+            None => self.advance(untold(event), now),
         }
     }
 
@@ -415,7 +362,7 @@ impl<A: Heap> Asked<A> {
 // The first wrong step of a resolver that has learnt nothing.
 pub fn first_wrong<A: Heap>(alloc: A, steps: &[Step]) -> Result<Option<(usize, Out)>, Starved> {
     let mut asked = Asked::new(alloc)?;
-    Ok(asked.first_wrong(steps)?)
+    asked.first_wrong(steps)
 }
 
 // The first script that goes wrong: its rule, the place of the step, and what went out after it.
