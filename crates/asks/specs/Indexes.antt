@@ -6,12 +6,12 @@ use Rattle.std.specs.List.{list_any}
 use Rattle.std.specs.Map.{lookup}
 use Rattle.std.specs.Ordering.{nat_cmp, ordering_then}
 use Rattle.std.specs.declared.cmp.Ordering.{Ordering}
-use Rattle.asks.specs.declared.ask.UdpAsk.{UdpAsk}
+use Rattle.asks.specs.declared.ask.AskKey.{AskKey}
 use Rattle.asks.specs.declared.ask.Waiting.{Waiting}
 use Rattle.asks.specs.Waits.{waiting}
 
 -- What `==` of asks answers.
-abbrev pub same_ask : UdpAsk → UdpAsk → Bool
+abbrev pub same_ask : AskKey → AskKey → Bool
 same_ask a b = nat_eq a.socket b.socket && (pointwise nat_eq (a.server).0 (b.server).0 && nat_eq a.id b.id)
 
 -- Due moments first, then the queries' numbers.
@@ -24,11 +24,11 @@ points_to query None = false
 points_to query (Some number) = nat_eq number query
 
 -- It is that ask.
-abbrev pub is_ask : UdpAsk → Option UdpAsk → Bool
+abbrev pub is_ask : AskKey → Option AskKey → Bool
 is_ask ask None = false
 is_ask ask (Some own) = same_ask own ask
 
-abbrev pub has_ask : UdpAsk → Option Waiting → Bool
+abbrev pub has_ask : AskKey → Option Waiting → Bool
 has_ask ask None = false
 has_ask ask (Some w) = is_ask ask w.ask
 
@@ -37,7 +37,7 @@ is_due due None = false
 is_due due (Some w) = nat_eq w.due due
 
 -- What stands in an index by asks, and in one by due moments.
-abbrev pub points : List (UdpAsk × ℕ) → UdpAsk → ℕ → Bool
+abbrev pub points : List (AskKey × ℕ) → AskKey → ℕ → Bool
 points index ask query = points_to query (lookup (same_ask ask) index)
 
 abbrev pub lists : List (ℕ × ℕ) → ℕ → ℕ → Bool
@@ -45,6 +45,6 @@ lists index due query = list_any (is_at (due_cmp (due, query))) index
 
 -- The index by asks leads from each open ask to its query and has nothing else; that by due moments has the due
 -- moment of each query and nothing else.
-pub record AreIndexes (asks : List (ℕ × Waiting)) (by_ask : List (UdpAsk × ℕ)) (by_due : List (ℕ × ℕ)) : Type 0 where
-  pub asked : (ask : UdpAsk) (query : ℕ) → points by_ask ask query ≡ has_ask ask (waiting asks query)
+pub record AreIndexes (asks : List (ℕ × Waiting)) (by_ask : List (AskKey × ℕ)) (by_due : List (ℕ × ℕ)) : Type 0 where
+  pub asked : (ask : AskKey) (query : ℕ) → points by_ask ask query ≡ has_ask ask (waiting asks query)
   pub due : (due query : ℕ) → lists by_due due query ≡ is_due due (waiting asks query)

@@ -2,7 +2,7 @@
 ghost use Rattle.std.specs.Prelude.{◌≡◌, Some, None, [], OnOk, OnErr};
 ghost use Rattle.asks.specs.Waits.{IsFreeFor, AreSame, IsChanged, IsFound, IsEarliest};
 
-use crate::ask::{UdpAsk, Waiting};
+use crate::ask::{AskKey, Waiting};
 use crate::indexes::{ByAsk, ByDue, Open, change_ask, change_due, drop_ask, drop_due, make_room};
 use dname::{Heap, Starved};
 use rdata::Addr;
@@ -13,38 +13,38 @@ use std::marker::Model;
 /// What each open query waits for, by the query's number: its open ask, where that went over UDP, and when it is
 /// due. No two have one ask. Contracts see each query's number with what it waits for, in no order.
 #[derive(Drop)]
-pub struct Asks<A: Allocator = Global> {
+pub struct AskIndex<A: Allocator = Global> {
     open: Open<A>,
     by_ask: ByAsk<A>,
     by_due: ByDue<A>,
 }
 
-impl<A: Allocator> Model for Asks<A> {
+impl<A: Allocator> Model for AskIndex<A> {
     ghost use Rattle.std.specs.Prelude.{ℕ, List};
-    ghost use Rattle.asks.specs.declared.ask.Waiting.{Waiting as Held};
+    ghost use Rattle.asks.specs.declared.ask.Waiting.{Waiting as WaitingSpec};
     ghost use Rattle.asks.specs.Indexes.{AreIndexes};
 
-    ghost Value = { List (ℕ × Held) };
+    ghost Value = { List (ℕ × WaitingSpec) };
 
     ghost view = { λ a. a.open.entries };
 
     ghost invariant = { λ a. AreIndexes a.open.entries a.by_ask.entries a.by_due.keys };
 }
 
-impl<A: Heap> Asks<A> {
+impl<A: Heap> AskIndex<A> {
     /// No queries; takes no memory.
-    pub fn new(alloc: A) -> Asks<A>
+    pub fn new(alloc: A) -> AskIndex<A>
         ensures { result ≡ [] }
     {
-        Asks {
+        AskIndex {
             open: HashMap::new(alloc),
             by_ask: HashMap::new(alloc),
             by_due: BTreeSet::new(alloc),
         }
     }
 
-    /// Lets the query wait for this in place of what it had. Want of memory changes nothing.
-    pub fn set(&mut self, query: u64, ask: Option<UdpAsk>, due: u64) -> Result<(), Starved>
+    /// Lets the query wait for this in place of what it had. Running out of memory changes nothing.
+    pub fn set(&mut self, query: u64, ask: Option<AskKey>, due: u64) -> Result<(), Starved>
         requires { IsFreeFor self.old query ask }
         ensures ok { OnOk result (IsChanged query (Some (record { ask = ask; due = due })) self.old self.new) }
         ensures err { OnErr result (AreSame self.old self.new) }
@@ -72,7 +72,7 @@ impl<A: Heap> Asks<A> {
     pub fn find(&self, socket: u16, server: Addr, id: u16) -> Option<u64>
         ensures { IsFound self.now (record { socket = socket; server = server; id = id }) result }
     {
-        let ask = UdpAsk { socket, server, id };
+        let ask = AskKey { socket, server, id };
         self.by_ask.get(&ask).copied()
     }
 

@@ -1,11 +1,11 @@
 //! The indexes, and how each changes with one query.
 ghost use Rattle.std.specs.Prelude.{◌≡◌, ℕ, ◌<◌, ◌≤◌, ◌&&◌, true, false, cond, nat_eq, OnOk, OnErr};
 ghost use Rattle.std.specs.HashMap.{spare};
-ghost use Rattle.asks.specs.declared.ask.UdpAsk.{UdpAsk as Ask};
+ghost use Rattle.asks.specs.declared.ask.AskKey.{AskKey as AskKeySpec};
 ghost use Rattle.asks.specs.Waits.{AreSame};
 ghost use Rattle.asks.specs.Indexes.{points, lists, is_ask, has_ask, is_due};
 
-use crate::ask::{UdpAsk, Waiting};
+use crate::ask::{AskKey, Waiting};
 use dname::{Heap, Starved};
 use std::collections::{BTreeSet, HashMap};
 use std::hash::{BuildHasherDefault, FoldHasher};
@@ -14,7 +14,7 @@ use std::hash::{BuildHasherDefault, FoldHasher};
 pub type Open<A> = HashMap<u64, Waiting, BuildHasherDefault<FoldHasher>, A>;
 
 // The query of each open ask.
-pub type ByAsk<A> = HashMap<UdpAsk, u64, BuildHasherDefault<FoldHasher>, A>;
+pub type ByAsk<A> = HashMap<AskKey, u64, BuildHasherDefault<FoldHasher>, A>;
 
 // The due moments of all open queries, each with the query's number.
 pub type ByDue<A> = BTreeSet<(u64, u64), A>;
@@ -22,7 +22,7 @@ pub type ByDue<A> = BTreeSet<(u64, u64), A>;
 // Room for one more query and one more ask.
 pub fn make_room<A: Heap>(open: &mut Open<A>, by_ask: &mut ByAsk<A>) -> Result<(), Starved>
     ensures open { AreSame open.old.entries open.new.entries }
-    ensures by_ask { (ask : Ask) (query : ℕ) → points by_ask.new.entries ask query ≡ points by_ask.old.entries ask query }
+    ensures by_ask { (ask : AskKeySpec) (query : ℕ) → points by_ask.new.entries ask query ≡ points by_ask.old.entries ask query }
     ensures room { OnOk result ((0 < spare open.new) × (0 < spare by_ask.new)) }
 {
     open.reserve(1)?;
@@ -58,9 +58,9 @@ pub fn drop_due<A: Heap>(by_due: &mut ByDue<A>, query: u64, due: u64)
 }
 
 // Takes the query's ask out.
-pub fn drop_ask<A: Heap>(by_ask: &mut ByAsk<A>, query: u64, ask: Option<UdpAsk>)
-    requires { (a : Ask) → points by_ask.old.entries a query ≡ is_ask a ask }
-    ensures is { (a : Ask) (q : ℕ) → points by_ask.new.entries a q ≡ cond (nat_eq query q) false (points by_ask.old.entries a q) }
+pub fn drop_ask<A: Heap>(by_ask: &mut ByAsk<A>, query: u64, ask: Option<AskKey>)
+    requires { (a : AskKeySpec) → points by_ask.old.entries a query ≡ is_ask a ask }
+    ensures is { (a : AskKeySpec) (q : ℕ) → points by_ask.new.entries a q ≡ cond (nat_eq query q) false (points by_ask.old.entries a q) }
     ensures room { spare by_ask.old ≤ spare by_ask.new }
 {
     if let Some(ask) = ask {
@@ -69,11 +69,11 @@ pub fn drop_ask<A: Heap>(by_ask: &mut ByAsk<A>, query: u64, ask: Option<UdpAsk>)
 }
 
 // Puts an ask in for a query that has none, where no other query has it.
-pub fn put_ask<A: Heap>(by_ask: &mut ByAsk<A>, query: u64, ask: Option<UdpAsk>)
+pub fn put_ask<A: Heap>(by_ask: &mut ByAsk<A>, query: u64, ask: Option<AskKey>)
     requires room { 0 < spare by_ask.old }
-    requires none { (a : Ask) → points by_ask.old.entries a query ≡ false }
-    requires free { (a : Ask) (q : ℕ) → is_ask a ask ≡ true → points by_ask.old.entries a q ≡ false }
-    ensures { (a : Ask) (q : ℕ) → points by_ask.new.entries a q ≡ cond (nat_eq query q) (is_ask a ask) (points by_ask.old.entries a q) }
+    requires none { (a : AskKeySpec) → points by_ask.old.entries a query ≡ false }
+    requires free { (a : AskKeySpec) (q : ℕ) → is_ask a ask ≡ true → points by_ask.old.entries a q ≡ false }
+    ensures { (a : AskKeySpec) (q : ℕ) → points by_ask.new.entries a q ≡ cond (nat_eq query q) (is_ask a ask) (points by_ask.old.entries a q) }
 {
     if let Some(ask) = ask {
         let put: Result<_, _> = by_ask.insert(ask, query);
@@ -86,12 +86,12 @@ pub fn change_ask<A: Heap>(
     by_ask: &mut ByAsk<A>,
     query: u64,
     had: Option<Waiting>,
-    ask: Option<UdpAsk>,
+    ask: Option<AskKey>,
 )
     requires room { 0 < spare by_ask.old }
-    requires had { (a : Ask) → points by_ask.old.entries a query ≡ has_ask a had }
-    requires free { (a : Ask) (q : ℕ) → is_ask a ask ≡ true → points by_ask.old.entries a q ≡ true → q ≡ query }
-    ensures { (a : Ask) (q : ℕ) → points by_ask.new.entries a q ≡ cond (nat_eq query q) (is_ask a ask) (points by_ask.old.entries a q) }
+    requires had { (a : AskKeySpec) → points by_ask.old.entries a query ≡ has_ask a had }
+    requires free { (a : AskKeySpec) (q : ℕ) → is_ask a ask ≡ true → points by_ask.old.entries a q ≡ true → q ≡ query }
+    ensures { (a : AskKeySpec) (q : ℕ) → points by_ask.new.entries a q ≡ cond (nat_eq query q) (is_ask a ask) (points by_ask.old.entries a q) }
 {
     if let Some(had) = had {
         drop_ask(by_ask, query, had.ask);

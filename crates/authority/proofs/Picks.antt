@@ -92,7 +92,7 @@ wild_said : (soa : Record) (q : List (List ℕ)) (t : ℕ) (own : List Record) �
 wild_said soa q t [] h = absurd (h refl)
 wild_said soa q t (r ∷ rs) h = refl
 
--- What a wildcard says, and a name error where there is none.
+-- What a wildcard says, and an NXDOMAIN where there is none.
 pub wild_some : (soa : Record) (q : List (List ℕ)) (t : ℕ) (n : List (List ℕ)) (rs : List Record) → list_any (is_owned n) rs ≡ true → said soa q t (at n rs) ≡ said_wild soa q t (at n rs)
 wild_some soa q t n rs e = wild_said soa q t (at n rs) (at_some n rs e)
 

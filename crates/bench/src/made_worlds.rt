@@ -1,10 +1,10 @@
 //! A world of so many zones, read from its text, built and held to its rules.
 use crate::done::{Done, finish};
 use anyhow::Result;
-use script::{WorldFault, read_world};
 use std::alloc::Global;
 use std::rt::Runtime;
 use std::time::Instant;
+use world_text::{WorldFault, read_world};
 
 // The lines of a zone beneath the root: eight records, and its server.
 fn put_zone(text: &mut String, zone: u64) -> Result<(), WorldFault> {

@@ -4,7 +4,7 @@ ghost use Rattle.std.specs.Prelude.{◌<◌};
 use crate::done::low;
 use crate::names::{addresses, name};
 use dname::Heap;
-use refusing::Refusing;
+use refusing_alloc::Refusing;
 use std::fmt;
 use std::rt::Runtime;
 use wire::{Message, TCP_LIMIT, View, WireError, decode, encode};

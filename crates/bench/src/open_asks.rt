@@ -1,7 +1,7 @@
 //! Work on open asks: what finds a datagram's query, and the query that is due first.
 use crate::done::{Done, finish};
 use anyhow::Result;
-use asks::{Asks, UdpAsk};
+use asks::{AskIndex, AskKey};
 use dname::{Heap, Starved};
 use rdata::Addr;
 use std::rt::Runtime;
@@ -10,11 +10,11 @@ use std::time::Instant;
 const SERVER: Addr = Addr([192, 0, 2, 1]);
 
 // So many queries, each with an ask from one socket to one server, and due a millisecond after the one before.
-fn opened<A: Heap>(alloc: A, count: u16) -> Result<Asks<A>, Starved> {
-    let mut asks = Asks::new(alloc);
+fn opened<A: Heap>(alloc: A, count: u16) -> Result<AskIndex<A>, Starved> {
+    let mut asks = AskIndex::new(alloc);
     for id in 0..count {
         if asks.find(0, SERVER, id).is_none() {
-            let ask = UdpAsk {
+            let ask = AskKey {
                 socket: 0,
                 server: SERVER,
                 id,
@@ -26,7 +26,7 @@ fn opened<A: Heap>(alloc: A, count: u16) -> Result<Asks<A>, Starved> {
 }
 
 // Each datagram comes under the ID of one of so many asks, each in its turn.
-fn find_all<A: Heap>(asks: &Asks<A>, count: u16, rounds: u64) -> u64 {
+fn find_all<A: Heap>(asks: &AskIndex<A>, count: u16, rounds: u64) -> u64 {
     let mut sum = 0u64;
     let mut id = 0u16;
     for _ in 0..rounds {

@@ -4,7 +4,7 @@ use crate::done::{Done, finish, low};
 use anyhow::Result;
 use dname::{Heap, Starved};
 use engine::{Config, Core, Settings};
-use exchange::{Action, Actions, Bytes, Endpoint, Event};
+use events::{Action, Actions, Bytes, Endpoint, Event};
 use rdata::Addr;
 use std::fmt;
 use std::rt::Runtime;

@@ -5,7 +5,7 @@ use Rattle.std.proofs.lemmas.List.Elements.{filter-append}
 use Rattle.std.proofs.lemmas.Grind.{get_or-set_at}
 use Rattle.std.proofs.lemmas.Bool.Decides.{eqb_tells}
 use Rattle.memory.specs.declared.Starved.{Starved}
-use Rattle.book.specs.Histories.{Line, line, lines_of, count_of, Leads}
+use Rattle.book.specs.Histories.{Line, line, lines_of, count_of, LeadsMachine}
 use Rattle.book.specs.Books.{Page, Seat, seat, Reached, IsHistory, Adds, Stands}
 
 take_again : {X : Type 0} → (k : ℕ) (x : X) (xs : List X) → take k (x ∷ take k xs) ≡ take k (x ∷ xs)
@@ -52,13 +52,13 @@ module _ {S E O : Type 0} (moves : S → E → Result O Starved → S → Type 0
       let f = r.fits in
       let long : length q.counts ≡ length p.counts = ap length a.counts ∙ length-set p.counts e.worker (e.number + 1) in
       let number : e.number ≡ count_of e.worker r.lines = a.number ∙ f.counts e.worker inside in
-      let legal : Leads moves (length p.counts) r.start (e ∷ r.lines) q.state = (p.state, f.legal, a.step, inside, number) in
+      let legal : LeadsMachine moves (length p.counts) r.start (e ∷ r.lines) q.state = (p.state, f.legal, a.step, inside, number) in
       record {
         start = r.start;
         begun = r.begun;
         lines = e ∷ r.lines;
         fits = record {
-          legal = subst (λ n. Leads moves n r.start (e ∷ r.lines) q.state) (sym long) legal;
+          legal = subst (λ n. LeadsMachine moves n r.start (e ∷ r.lines) q.state) (sym long) legal;
           entries = a.entries ∙ ap (λ n. n + 1) f.entries ∙ omega arith;
           counts = λ w small. ap (λ cs. get_or cs w 0) a.counts ∙ counts_on p.counts e r.lines inside number f.counts w (subst (λ n. w < n) long small);
           tail = a.tail ∙ ap (λ l. take p.keep (e ∷ l)) f.tail ∙ take_again p.keep e r.lines ∙ ap (λ k. take k (e ∷ r.lines)) (sym a.keep);
@@ -73,7 +73,7 @@ module _ {S E O : Type 0} (moves : S → E → Result O Starved → S → Type 0
       record {
         start = r.start;
         begun = r.begun;
-        legal = subst (λ l. Leads moves (length p.counts) r.start l p.state) (sym (ap reverse all ∙ reverse-reverse r.lines)) f.legal;
+        legal = subst (λ l. LeadsMachine moves (length p.counts) r.start l p.state) (sym (ap reverse all ∙ reverse-reverse r.lines)) f.legal;
         entries = f.entries ∙ sym (ap length all ∙ length-reverse r.lines);
         counts = λ w small. f.counts w small ∙ sym (ap (count_of w) all ∙ count_reverse w r.lines);
       }

@@ -1,7 +1,7 @@
 -- What a book shows of the one history that its workers share, and what one call of `put` does to it.
 use Rattle.std.specs.Prelude.{◌≡◌, ℕ, zero, suc, ◌+◌, ◌<◌, Result, List, [], ◌∷◌, ◌++◌, reverse, length, take, slice_index_or, slice_set}
 use Rattle.memory.specs.declared.Starved.{Starved}
-use Rattle.book.specs.Histories.{Line, count_of, Leads}
+use Rattle.book.specs.Histories.{Line, count_of, LeadsMachine}
 
 -- What contracts see of a book: the machine's state, how many lines there are in all, how many each worker
 -- has, and the last of them, the newest first, of which so many are kept.
@@ -37,7 +37,7 @@ Owns p t = (t.worker < length p.counts) × (t.count ≡ slice_index_or p.counts 
 module _ {S E O : Type 0} (moves : S → E → Result O Starved → S → Type 0) where
   -- The book shows just these lines, the newest first, from this start.
   pub record Fits (p : Page S E O) (start : S) (lines : List (Line E O)) : Type 0 where
-    pub legal : Leads moves (length p.counts) start lines p.state
+    pub legal : LeadsMachine moves (length p.counts) start lines p.state
     pub entries : p.entries ≡ length lines
     pub counts : (w : ℕ) → w < length p.counts → slice_index_or p.counts w 0 ≡ count_of w lines
     pub tail : p.tail ≡ take p.keep lines
@@ -53,7 +53,7 @@ module _ {S E O : Type 0} (moves : S → E → Result O Starved → S → Type 0
   pub record IsHistory (begins : S → Type 0) (p : Page S E O) (h : List (Line E O)) : Type 0 where
     pub start : S
     pub begun : begins start
-    pub legal : Leads moves (length p.counts) start (reverse h) p.state
+    pub legal : LeadsMachine moves (length p.counts) start (reverse h) p.state
     pub entries : p.entries ≡ length h
     pub counts : (w : ℕ) → w < length p.counts → slice_index_or p.counts w 0 ≡ count_of w h
 

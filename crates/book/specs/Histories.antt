@@ -26,10 +26,10 @@ count_of w es = length (lines_of w es)
 -- These lines, the newest first, lead the machine from its start to a state: each is a step that the machine
 -- may take from where the older ones led, its worker is one of so many, and its number is the count of the
 -- worker's older lines.
-abbrev pub Leads : {S E O : Type 0} → (S → E → Result O Starved → S → Type 0) → ℕ → S → List (Line E O) → S → Type 0
-Leads moves workers start [] state = start ≡ state
-Leads {S} moves workers start (e ∷ older) state =
-    (s : S) × Leads moves workers start older s × moves s e.event e.out state
+abbrev pub LeadsMachine : {S E O : Type 0} → (S → E → Result O Starved → S → Type 0) → ℕ → S → List (Line E O) → S → Type 0
+LeadsMachine moves workers start [] state = start ≡ state
+LeadsMachine {S} moves workers start (e ∷ older) state =
+    (s : S) × LeadsMachine moves workers start older s × moves s e.event e.out state
     × (e.worker < workers) × (e.number ≡ count_of e.worker older)
 
 -- This line is the newest of some legal history.
@@ -39,4 +39,4 @@ pub record IsLast {S E O : Type 0} (moves : S → E → Result O Starved → S �
   pub begun : begins start
   pub older : List (Line E O)
   pub state : S
-  pub legal : Leads moves workers start (e ∷ older) state
+  pub legal : LeadsMachine moves workers start (e ∷ older) state

@@ -9,7 +9,7 @@
 //! Promised: one history led to the book (`reached_law`, `Reached`); a step is one the machine may take, and its
 //! entry the newest (`Takes`); the whole history, while it is kept (`IsHistory`); the shares of all tickets are all
 //! entries (`audit`).
-//! Not here: the lock (`pool`); threads (`crew`).
+//! Not here: the lock (`pool`); threads (`workers`).
 //!
 //! ```text
 //! let (mut book, mut tickets) = Book::<Adding, L, A>::new(alloc, blank, 0, 2, 100)?;

@@ -18,7 +18,7 @@ pub trait Machine {
     ghost use Rattle.std.specs.Prelude.{Result};
     ghost use Rattle.memory.specs.declared.Starved.{Starved};
 
-    /// What a step may do: the old state, the event, what comes out, or want of memory, and the new state.
+    /// What a step may do: the old state, the event, what comes out, or out of memory, and the new state.
     ghost moves: { Self.State → Self.Event → Result Self.Out Starved → Self.State → Type 0 };
 
     /// What the state may be before the first step.

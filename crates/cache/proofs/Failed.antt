@@ -4,9 +4,9 @@ use Rattle.std.proofs.lemmas.Bool.{ltb-true, lt-ltb}
 use Rattle.std.specs.Map.{lookup}
 use Rattle.lru.specs.LruCache.{LruCache, lru_cache, promoted, put_entries}
 use Rattle.lru.proofs.CallerLemmas.{Contains-lookup}
-use Rattle.recency.specs.Orders.{used, KeepsOnly, LosesOnly, HasSame, MayGo}
-use Rattle.recency.specs.Stores.{live_from}
-use Rattle.recency.proofs.Kept.{first_of, put_is_kept, promoted_is_used, kept_only, kept_gone, kept_found, used_members, used_found}
+use Rattle.lru_laws.specs.Orders.{used, KeepsOnly, LosesOnly, HasSame, MayGo}
+use Rattle.lru_laws.specs.Stores.{live_from}
+use Rattle.lru_laws.proofs.Kept.{first_of, put_is_kept, promoted_is_used, kept_only, kept_gone, kept_found, used_members, used_found}
 use Rattle.cache.specs.Failures.{FailedAsk, same_failed, is_recent, is_failed, after_failed, after_is_failed}
 use Rattle.cache.specs.FailureLaws.{same_failed_exact}
 

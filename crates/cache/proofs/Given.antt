@@ -7,12 +7,12 @@ use Rattle.rdata.specs.Records.{Record}
 use Rattle.zone.specs.Links.{Link, Found, Alias, NoData, NxDomain}
 use Rattle.zone.specs.Zones.{cname_type}
 use Rattle.zone.proofs.LawLists.{none_in, first_in, later_in, in_cases}
-use Rattle.recency.specs.Orders.{kept}
-use Rattle.recency.proofs.Kept.{by_test, kept_found, kept_others, removed_others_of}
-use Rattle.recency.proofs.Keys.{used_valid, removed_valid, removed_missed}
-use Rattle.recency.proofs.Stored as stores
+use Rattle.lru_laws.specs.Orders.{kept}
+use Rattle.lru_laws.proofs.Kept.{by_test, kept_found, kept_others, removed_others_of}
+use Rattle.lru_laws.proofs.Keys.{used_valid, removed_valid, removed_missed}
+use Rattle.lru_laws.proofs.Stored as stores
 use Rattle.cache.specs.Keys.{Kind, Key, same_key, kind_key, error_key, key_for}
-use Rattle.cache.specs.Cached.{Hit, as_kept, as_alias, with_link, is_live, live_from, live_at, set_from, set_at, alias_from, alias_at, under, or_else, answer, hit_of, Asked, error_above, lent, moved, after_look, is_error, stored, after_keep, Lives, IsMiss, ComesFirst, IsHeld}
+use Rattle.cache.specs.Cached.{Hit, as_kept, as_alias, with_link, is_live, live_from, live_at, set_from, set_at, alias_from, alias_at, under, or_else, answer, hit_of, Question, error_above, lent, moved, after_look, is_error, stored, after_keep, Lives, IsMiss, ComesFirst, IsHeld}
 use Rattle.cache.specs.Laws.{same_key_exact}
 use Rattle.cache.proofs.Steps.{apart_from_error}
 use Rattle.cache.proofs.Members.{given_held}
@@ -121,7 +121,7 @@ module _ (now : ℕ) (es : List (Key × Hit)) where
 
 -- ---- nothing is given
 
-module _ (a : Asked) (now : ℕ) (es : List (Key × Hit)) where
+module _ (a : Question) (now : ℕ) (es : List (Key × Hit)) where
   abbrev alias_of : Bool → Option (Key × Hit)
   alias_of b = alias_part a.name a.kind now es b
 
@@ -241,7 +241,7 @@ module _ (cap : ℕ) (q : List (List ℕ)) (t : ℕ) (h : Hit) (es : List (Key �
       other = λ r is. ((other r is).0, λ e lives. (other r is).1 e (other_was r is (other r is).0 e lives.0, lives.1));
     }))
 
-pub look_valid : (cap : ℕ) (a : Asked) (now : ℕ) (es : List (Key × Hit)) → IsValid same_key (lru_cache es cap) → IsValid same_key (lru_cache (after_look a now es) cap)
+pub look_valid : (cap : ℕ) (a : Question) (now : ℕ) (es : List (Key × Hit)) → IsValid same_key (lru_cache es cap) → IsValid same_key (lru_cache (after_look a now es) cap)
 look_valid cap a now es h = by (lent a now es)
   where
     by : (x : Option (Key × Hit)) → IsValid same_key (lru_cache (moved x es) cap)

@@ -1,13 +1,13 @@
 -- Which entries a look-up and a keep leave, over plain lists.
 use Rattle.std.proofs.Common.{◌≡◌, ◌≢◌, ℕ, List, Contains, Option, Some, None, subst}
-use Rattle.recency.specs.Orders.{KeepsOnly, LosesOnly, HasSame}
-use Rattle.recency.proofs.Stored.{moved_same}
+use Rattle.lru_laws.specs.Orders.{KeepsOnly, LosesOnly, HasSame}
+use Rattle.lru_laws.proofs.Stored.{moved_same}
 use Rattle.cache.specs.Keys.{Key, same_key, key_for}
-use Rattle.cache.specs.Cached.{Hit, hit_of, Asked, lent, after_look, after_keep, IsKept, IsGone, IsHeld}
+use Rattle.cache.specs.Cached.{Hit, hit_of, Question, lent, after_look, after_keep, IsKept, IsGone, IsHeld}
 use Rattle.cache.specs.Laws.{same_key_exact}
 use Rattle.cache.proofs.Steps.{AreHeld, answers_held, after_there, after_only, after_gone}
 
-pub looked_members : (a : Asked) (now : ℕ) (es : List (Key × Hit)) → HasSame es (after_look a now es)
+pub looked_members : (a : Question) (now : ℕ) (es : List (Key × Hit)) → HasSame es (after_look a now es)
 looked_members a now es = moved_same same_key same_key_exact (lent a now es) es
 
 pub kept_members : (cap : ℕ) (q : List (List ℕ)) (t : ℕ) (h : Hit) (es : List (Key × Hit)) → KeepsOnly es (IsKept q t h) (after_keep cap q t h es)
@@ -20,7 +20,7 @@ pub lost_members : (cap : ℕ) (q : List (List ℕ)) (t : ℕ) (h : Hit) (es : L
 lost_members cap q t h es = after_gone cap q t h es
 
 -- what is given is there and lives
-pub given_held : (a : Asked) (now : ℕ) (es : List (Key × Hit)) (h : Hit) → hit_of (lent a now es) ≡ Some h → IsHeld a now es h
+pub given_held : (a : Question) (now : ℕ) (es : List (Key × Hit)) (h : Hit) → hit_of (lent a now es) ≡ Some h → IsHeld a now es h
 given_held a now es h is = by (lent a now es) (answers_held a now es) is
   where
     by : (x : Option (Key × Hit)) → AreHeld a now es x → hit_of x ≡ Some h → IsHeld a now es h

@@ -7,11 +7,11 @@ use Rattle.lru.proofs.CallerLemmas.{Contains-lookup, Contains-remove_entry}
 use Rattle.zone.specs.Links.{Link, Found, Alias, NoData, NxDomain}
 use Rattle.zone.specs.Zones.{cname_type}
 use Rattle.zone.proofs.LawLists.{first_in, later_in}
-use Rattle.recency.specs.Orders.{KeepsOnly, LosesOnly, HasSame}
-use Rattle.recency.proofs.Kept.{promoted_is_used, removed_gone}
-use Rattle.recency.proofs.Stored as stores
+use Rattle.lru_laws.specs.Orders.{KeepsOnly, LosesOnly, HasSame}
+use Rattle.lru_laws.proofs.Kept.{promoted_is_used, removed_gone}
+use Rattle.lru_laws.proofs.Stored as stores
 use Rattle.cache.specs.Keys.{Kind, NameError, Key, same_key, kind_key, error_key, key_for}
-use Rattle.cache.specs.Cached.{Hit, as_set, as_alias, with_link, live_from, set_from, alias_from, set_at, alias_at, is_live, under, or_else, Asked, error_above, lent, moved, is_error, swept, stored, after_keep, IsKept, IsGone, Answers, IsHeld}
+use Rattle.cache.specs.Cached.{Hit, as_set, as_alias, with_link, live_from, set_from, alias_from, set_at, alias_at, is_live, under, or_else, Question, error_above, lent, moved, is_error, swept, stored, after_keep, IsKept, IsGone, EntryAnswers, IsHeld}
 use Rattle.cache.specs.Laws.{same_key_exact}
 
 -- ---- look-ups
@@ -21,7 +21,7 @@ looked_there k es h e =
     let found = Contains-lookup (same_key k) es h e in
     subst (λ j. Contains es (j, h)) (sym (same_key_exact.equal k found.0 found.2)) found.1
 
-module _ (a : Asked) (now : ℕ) (es : List (Key × Hit)) where
+module _ (a : Question) (now : ℕ) (es : List (Key × Hit)) where
   abbrev pub AreHeld : Option (Key × Hit) → Type 0
   AreHeld None = Unit {0}
   AreHeld (Some x) = IsHeld a now es x.1
@@ -30,7 +30,7 @@ module _ (a : Asked) (now : ℕ) (es : List (Key × Hit)) where
   either_held None y g h = h
   either_held (Some x) y g h = g
 
-  set_held : (k : Key) → ((l : Link) → Answers a k l (as_set l)) → AreHeld (under k (set_at now k es))
+  set_held : (k : Key) → ((l : Link) → EntryAnswers a k l (as_set l)) → AreHeld (under k (set_at now k es))
   set_held k answers = by (lookup (same_key k) es) refl
     where
       by : (o : Option Hit) → lookup (same_key k) es ≡ o → AreHeld (under k (set_from (live_from now o)))
@@ -41,7 +41,7 @@ module _ (a : Asked) (now : ℕ) (es : List (Key × Hit)) where
           live true l = (k, h, looked_there k es h e, l, answers h.link, refl, refl)
           live false l = tt
 
-  alias_held : (k : Key) → ((l given : Link) → as_alias l ≡ Some given → Answers a k l given) → AreHeld (under k (alias_at now k es))
+  alias_held : (k : Key) → ((l given : Link) → as_alias l ≡ Some given → EntryAnswers a k l given) → AreHeld (under k (alias_at now k es))
   alias_held k answers = by (lookup (same_key k) es) refl
     where
       by : (o : Option Hit) → lookup (same_key k) es ≡ o → AreHeld (under k (alias_from (live_from now o)))
@@ -116,7 +116,7 @@ module _ (q : List (List ℕ)) (l : Link) (es : List (Key × Hit)) where
       by true z = inl c
       by false z = elim (removed_gone same_key same_key_exact (error_key q) es e c) [ inl d ↦ inl d | inr is ↦ inr (is, z) ]
 
--- A link other than a name error stands under a type.
+-- A link other than an NXDOMAIN stands under a type.
 pub apart_from_error : (q : List (List ℕ)) (t : ℕ) (l : Link) → is_error l ≡ false → key_for q t l ≡ error_key q → ⊥
 apart_from_error q t (Found rs) z e = let s : Kind t ≡ NameError = ap (λ k. k.slot) e in cc
 apart_from_error q t (Alias r) z e = let s : Kind cname_type ≡ NameError = ap (λ k. k.slot) e in cc

@@ -11,9 +11,9 @@ use Rattle.rdata.specs.Records.{Record}
 use Rattle.rdata.specs.Rows.{row, rows, first_in}
 use Rattle.rdata.specs.declared.data.RData.{RData}
 use Rattle.zone.specs.Links.{Found, Alias}
-use Rattle.recency.specs.Stores as stores
-use Rattle.recency.specs.Stores.{put_for}
-use Rattle.recency.proofs.Seen.{seen_valid, live_seen, dead_seen, none_seen, popped_seen, promoted_seen, stored_seen}
+use Rattle.lru_laws.specs.Stores as stores
+use Rattle.lru_laws.specs.Stores.{put_for}
+use Rattle.lru_laws.proofs.Seen.{seen_valid, live_seen, dead_seen, none_seen, popped_seen, promoted_seen, stored_seen}
 use Rattle.cache.specs.Keys.{Key, same_key}
 use Rattle.cache.specs.Cached.{Hit, as_alias, is_live, live_at, stored}
 use Rattle.cache.specs.Packed.{Packed, owned, hit_of_packed, unpacked}

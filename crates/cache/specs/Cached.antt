@@ -6,9 +6,9 @@ use Rattle.rdata.specs.Records.{Record}
 use Rattle.rdata.specs.Sets.{with_ttl}
 use Rattle.zone.specs.Links.{Link, Found, Alias, NoData, NxDomain}
 use Rattle.zone.specs.Zones.{cname_type}
-use Rattle.recency.specs.Ages.{is_young}
-use Rattle.recency.specs.Orders.{MayGo}
-use Rattle.recency.specs.Stores as stores
+use Rattle.lru_laws.specs.Ages.{is_young}
+use Rattle.lru_laws.specs.Orders.{MayGo}
+use Rattle.lru_laws.specs.Stores as stores
 use Rattle.cache.specs.Keys.{Key, same_key, kind_key, error_key, key_for}
 
 -- A link as it is kept: its time to live in seconds, and the moment since which it is kept, in milliseconds.
@@ -102,7 +102,7 @@ hit_of (Some a) = Some a.1
 
 -- A question, and the names above its name of which an error denies it too, the nearest first (RFC 8020,
 -- section 2).
-pub record Asked : Type 0 where
+pub record Question : Type 0 where
   pub name : List (List ℕ)
   pub kind : ℕ
   pub above : List (List (List ℕ))
@@ -112,7 +112,7 @@ abbrev pub above_to : List (List ℕ) → List (List ℕ) → List (List (List �
 above_to top [] = []
 above_to top (l ∷ ls) = cond (is_under ls top) (ls ∷ above_to top ls) []
 
-abbrev pub asked_to : List (List ℕ) → List (List ℕ) → ℕ → Asked
+abbrev pub asked_to : List (List ℕ) → List (List ℕ) → ℕ → Question
 asked_to top q t = record { name = q; kind = t; above = above_to top q }
 
 -- The error of the first of these names of which one lives.
@@ -121,14 +121,14 @@ error_above [] now es = None
 error_above (n ∷ ns) now es = or_else (under (error_key n) (set_at now (error_key n) es)) (error_above ns now es)
 
 -- What is given for a question: what stands at the name itself goes before the errors above it.
-abbrev pub lent : Asked → ℕ → List (Key × Hit) → Option (Key × Hit)
+abbrev pub lent : Question → ℕ → List (Key × Hit) → Option (Key × Hit)
 lent a now es = or_else (answer a.name a.kind now es) (error_above a.above now es)
 
 abbrev pub moved : Option (Key × Hit) → List (Key × Hit) → List (Key × Hit)
 moved a es = stores.moved same_key a es
 
 -- The entry that answers goes first.
-abbrev pub after_look : Asked → ℕ → List (Key × Hit) → List (Key × Hit)
+abbrev pub after_look : Question → ℕ → List (Key × Hit) → List (Key × Hit)
 after_look a now es = moved (lent a now es) es
 
 abbrev pub is_error : Link → Bool
@@ -137,7 +137,7 @@ is_error (Alias r) = false
 is_error (NoData soa) = false
 is_error (NxDomain soa) = true
 
--- A link other than a name error says that the name exists: its name error goes.
+-- A link other than an NXDOMAIN says that the name exists: its NXDOMAIN goes.
 abbrev pub swept : List (List ℕ) → Link → List (Key × Hit) → List (Key × Hit)
 swept q l es = cond (is_error l) es (remove_entry (same_key (error_key q)) es)
 
@@ -161,16 +161,16 @@ IsGone cap q t h es e = ((e.0 ≡ error_key q) × (is_error h.link ≡ false)) �
 
 -- How an entry answers a question: as it stands under the name's error or the asked type, as an alias, or as the
 -- error of a name above.
-abbrev pub Answers : Asked → Key → Link → Link → Type 0
-Answers a k l given =
+abbrev pub EntryAnswers : Question → Key → Link → Link → Type 0
+EntryAnswers a k l given =
     ((k ≡ error_key a.name) × (given ≡ as_set l))
     ⊎ (((k ≡ kind_key a.name a.kind) × (given ≡ as_set l))
     ⊎ (((k ≡ kind_key a.name cname_type) × (a.kind ≢ cname_type) × (as_alias l ≡ Some given))
     ⊎ ((p : List (List ℕ)) × Contains a.above p × (k ≡ error_key p) × (given ≡ as_set l))))
 
 -- A hit is an entry that is there and lives, with its own time to live and moment.
-abbrev pub IsHeld : Asked → ℕ → List (Key × Hit) → Hit → Type 0
-IsHeld a now es h = (k : Key) × (e : Hit) × Contains es (k, e) × (is_live now e ≡ true) × Answers a k e.link h.link × (h.ttl ≡ e.ttl) × (h.since ≡ e.since)
+abbrev pub IsHeld : Question → ℕ → List (Key × Hit) → Hit → Type 0
+IsHeld a now es h = (k : Key) × (e : Hit) × Contains es (k, e) × (is_live now e ≡ true) × EntryAnswers a k e.link h.link × (h.ttl ≡ e.ttl) × (h.since ≡ e.since)
 
 -- An entry of this key is kept and lives.
 abbrev pub Lives : ℕ → List (Key × Hit) → Key → Hit → Type 0
@@ -178,7 +178,7 @@ Lives now es k h = (lookup (same_key k) es ≡ Some h) × (is_live now h ≡ tru
 
 -- Nothing that is kept answers: no error of the name lives, nothing under the type, no CNAME that is an alias for
 -- another type, and no error of a name above that counts.
-pub record IsMiss (a : Asked) (now : ℕ) (es : List (Key × Hit)) : Type 0 where
+pub record IsMiss (a : Question) (now : ℕ) (es : List (Key × Hit)) : Type 0 where
   pub error : (h : Hit) → Lives now es (error_key a.name) h → ⊥
   pub own : (h : Hit) → Lives now es (kind_key a.name a.kind) h → ⊥
   pub alias : (h : Hit) (l : Link) → a.kind ≢ cname_type → Lives now es (kind_key a.name cname_type) h → as_alias h.link ≡ Some l → ⊥

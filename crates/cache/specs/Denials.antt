@@ -1,4 +1,4 @@
--- What a denial says, and how it lies in memory: its three names in wire form, one behind the other.
+-- What a negative answer says, and how it lies in memory: its three names in wire form, one behind the other.
 use Rattle.std.specs.Prelude.{ℕ, ◌≤◌, List, take, drop, length}
 use Rattle.dname.specs.Wire.{IsNameWire}
 use Rattle.rdata.specs.Data.{Authority, Soa}

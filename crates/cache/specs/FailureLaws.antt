@@ -7,7 +7,7 @@ use Rattle.std.specs.Hash.{HashWrites}
 use Rattle.dname.specs.Labels.{same_name}
 use Rattle.dname.specs.Laws.{fed_name, same_name-exact, same_name-refl}
 use Rattle.rdata.specs.declared.addr.Addr.{Addr}
-use Rattle.recency.specs.Orders.{IsExact}
+use Rattle.lru_laws.specs.Orders.{IsExact}
 use Rattle.cache.specs.Failures.{FailedAsk, same_failed}
 
 same_server-exact : (a b : Addr) → pointwise nat_eq a.0 b.0 ≡ true → a ≡ b

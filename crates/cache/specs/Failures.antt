@@ -4,9 +4,9 @@ use Rattle.std.specs.Prelude.{◌≡◌, ℕ, ◌-◌, ◌<◌, Bool, true, ◌&
 use Rattle.std.specs.Cmp.Lexicographic.{pointwise}
 use Rattle.dname.specs.Labels.{same_name}
 use Rattle.rdata.specs.declared.addr.Addr.{Addr}
-use Rattle.recency.specs.Ages.{is_young}
-use Rattle.recency.specs.Orders.{kept, used}
-use Rattle.recency.specs.Stores as stores
+use Rattle.lru_laws.specs.Ages.{is_young}
+use Rattle.lru_laws.specs.Orders.{kept, used}
+use Rattle.lru_laws.specs.Stores as stores
 
 -- A question, and the server that failed to answer it.
 pub record FailedAsk : Type 0 where

@@ -6,7 +6,7 @@ use Rattle.rdata.specs.Records.{Record}
 use Rattle.zone.specs.Links.{Alias}
 use Rattle.zone.specs.Zones.{IsBeneath, cname_type}
 use Rattle.cache.specs.Keys.{Key, same_key, kind_key, key_for}
-use Rattle.cache.specs.Cached.{Hit, is_live, hit_of, Asked, above_to, lent, after_look, after_keep, Lives, IsMiss, ComesFirst}
+use Rattle.cache.specs.Cached.{Hit, is_live, hit_of, Question, above_to, lent, after_look, after_keep, Lives, IsMiss, ComesFirst}
 
 -- The names above that are tried are those over the name, other than it, at or under `top`.
 abbrev pub AboveIsBetween : Type 0
@@ -14,28 +14,28 @@ AboveIsBetween = (top q p : List (List ℕ)) → Contains (above_to top q) p ↔
 
 -- Nothing is given exactly where nothing that is kept answers.
 abbrev pub NothingIsMissed : Type 0
-NothingIsMissed = (a : Asked) (now : ℕ) (es : List (Key × Hit)) → hit_of (lent a now es) ≡ None → IsMiss a now es
+NothingIsMissed = (a : Question) (now : ℕ) (es : List (Key × Hit)) → hit_of (lent a now es) ≡ None → IsMiss a now es
 
 abbrev pub MissGivesNothing : Type 0
-MissGivesNothing = (a : Asked) (now : ℕ) (es : List (Key × Hit)) → IsMiss a now es → hit_of (lent a now es) ≡ None
+MissGivesNothing = (a : Question) (now : ℕ) (es : List (Key × Hit)) → IsMiss a now es → hit_of (lent a now es) ≡ None
 
 -- What is given lives.
 abbrev pub GivenLives : Type 0
-GivenLives = (a : Asked) (now : ℕ) (es : List (Key × Hit)) (h : Hit) → hit_of (lent a now es) ≡ Some h → is_live now h ≡ true
+GivenLives = (a : Question) (now : ℕ) (es : List (Key × Hit)) (h : Hit) → hit_of (lent a now es) ≡ Some h → is_live now h ≡ true
 
 -- The link that lives and answers first is given.
 abbrev pub FirstIsGiven : Type 0
-FirstIsGiven = (a : Asked) (now : ℕ) (es : List (Key × Hit)) (h : Hit) → ComesFirst a.name a.kind now es h → lent a now es ≡ Some (key_for a.name a.kind h.link, h)
+FirstIsGiven = (a : Question) (now : ℕ) (es : List (Key × Hit)) (h : Hit) → ComesFirst a.name a.kind now es h → lent a now es ≡ Some (key_for a.name a.kind h.link, h)
 
 -- A link that was just kept is given while it lives; an alias where another type than CNAME is asked for and
 -- nothing else was kept under that type.
 abbrev pub KeptIsGiven : Type 0
-KeptIsGiven = (cap : ℕ) (a : Asked) (now : ℕ) (h : Hit) (es : List (Key × Hit)) → IsValid same_key (lru_cache es cap) → h.ttl ≢ 0 → is_live now h ≡ true
+KeptIsGiven = (cap : ℕ) (a : Question) (now : ℕ) (h : Hit) (es : List (Key × Hit)) → IsValid same_key (lru_cache es cap) → h.ttl ≢ 0 → is_live now h ≡ true
     → ((r : Record) → h.link ≡ Alias r → (a.kind ≢ cname_type) × ((e : Hit) → Lives now es (kind_key a.name a.kind) e → ⊥)) → hit_of (lent a now (after_keep cap a.name a.kind h es)) ≡ Some h
 
 -- No two entries have one key, and there are no more of them than the capacity, after each call.
 abbrev pub LookStaysValid : Type 0
-LookStaysValid = (cap : ℕ) (a : Asked) (now : ℕ) (es : List (Key × Hit)) → IsValid same_key (lru_cache es cap) → IsValid same_key (lru_cache (after_look a now es) cap)
+LookStaysValid = (cap : ℕ) (a : Question) (now : ℕ) (es : List (Key × Hit)) → IsValid same_key (lru_cache es cap) → IsValid same_key (lru_cache (after_look a now es) cap)
 
 abbrev pub KeepStaysValid : Type 0
 KeepStaysValid = (cap : ℕ) (q : List (List ℕ)) (t : ℕ) (h : Hit) (es : List (Key × Hit)) → IsValid same_key (lru_cache es cap) → IsValid same_key (lru_cache (after_keep cap q t h es) cap)

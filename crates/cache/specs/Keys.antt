@@ -28,7 +28,7 @@ kind_key q t = record { name = q; slot = Kind t }
 abbrev pub error_key : List (List ℕ) → Key
 error_key q = record { name = q; slot = NameError }
 
--- Where the link for a question goes: an alias under CNAME, whatever was asked; a name error under the name
+-- Where the link for a question goes: an alias under CNAME, whatever was asked; an NXDOMAIN under the name
 -- alone; a set and the want of one under the type.
 abbrev pub slot_for : ℕ → Link → Slot
 slot_for t (Found rs) = Kind t

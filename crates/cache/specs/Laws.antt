@@ -5,7 +5,7 @@ use Rattle.std.specs.Cmp.{IsPartialEquivalence, IsEquivalence, partial_equiv_fro
 use Rattle.std.specs.Hash.{HashWrites}
 use Rattle.dname.specs.Labels.{same_name}
 use Rattle.dname.specs.Laws.{fed_name, same_name-exact, same_name-refl}
-use Rattle.recency.specs.Orders.{IsExact}
+use Rattle.lru_laws.specs.Orders.{IsExact}
 use Rattle.cache.specs.Keys.{Slot, Kind, NameError, Key, same_slot, same_key}
 
 same_slot-exact : (a b : Slot) → same_slot a b ≡ true → a ≡ b

@@ -1,12 +1,12 @@
 -- The laws of members that the functions of this crate state: which entries a look-up and a keep leave.
 use Rattle.std.specs.Prelude.{◌≡◌, ◌≢◌, ℕ, List, Some, Contains}
-use Rattle.recency.specs.Orders.{KeepsOnly, LosesOnly, HasSame}
+use Rattle.lru_laws.specs.Orders.{KeepsOnly, LosesOnly, HasSame}
 use Rattle.cache.specs.Keys.{Key, key_for}
-use Rattle.cache.specs.Cached.{Hit, hit_of, Asked, lent, after_look, after_keep, IsKept, IsGone, IsHeld}
+use Rattle.cache.specs.Cached.{Hit, hit_of, Question, lent, after_look, after_keep, IsKept, IsGone, IsHeld}
 
 -- A look-up brings nothing and takes nothing.
 abbrev pub LookKeepsMembers : Type 0
-LookKeepsMembers = (a : Asked) (now : ℕ) (es : List (Key × Hit)) → HasSame es (after_look a now es)
+LookKeepsMembers = (a : Question) (now : ℕ) (es : List (Key × Hit)) → HasSame es (after_look a now es)
 
 -- What is new after a keep is the entry of the link that is kept.
 abbrev pub KeepBringsOne : Type 0
@@ -22,4 +22,4 @@ KeepLosesFew = (cap : ℕ) (q : List (List ℕ)) (t : ℕ) (h : Hit) (es : List 
 
 -- What is given is held.
 abbrev pub GivenIsHeld : Type 0
-GivenIsHeld = (a : Asked) (now : ℕ) (es : List (Key × Hit)) (h : Hit) → hit_of (lent a now es) ≡ Some h → IsHeld a now es h
+GivenIsHeld = (a : Question) (now : ℕ) (es : List (Key × Hit)) (h : Hit) → hit_of (lent a now es) ≡ Some h → IsHeld a now es h

@@ -3,12 +3,12 @@ use Rattle.std.specs.Prelude.{ℕ, List, map}
 use Rattle.rdata.specs.Data.{Datum}
 use Rattle.rdata.specs.Records.{Record}
 use Rattle.zone.specs.Links as said
-use Rattle.recency.specs.Orders.{mapped}
+use Rattle.lru_laws.specs.Orders.{mapped}
 use Rattle.cache.specs.Keys.{Key}
 use Rattle.cache.specs.Cached.{Hit}
 use Rattle.cache.specs.Denials.{Denied, denied}
 
--- The data of a set and of an alias whose owners are the key's name, denials by an SOA record, and any link.
+-- The data of a set and of an alias whose owners are the key's name, negative answers by an SOA record, and any link.
 pub data Form : Type 0 where
   Set : List Datum → Form
   Alias : Datum → Form

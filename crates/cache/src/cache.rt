@@ -6,7 +6,7 @@ ghost use Rattle.lru.specs.LruCache.{lru_cache, IsValid};
 ghost use Rattle.rdata.specs.Records.{greatest_ttl};
 ghost use Rattle.rdata.specs.Types.{type_number};
 ghost use Rattle.authority.specs.Answers.{link_view};
-ghost use Rattle.recency.specs.Orders.{KeepsOnly, LosesOnly, HasSame};
+ghost use Rattle.lru_laws.specs.Orders.{KeepsOnly, LosesOnly, HasSame};
 ghost use Rattle.cache.specs.Keys.{same_key, key_for, error_key};
 ghost use Rattle.cache.specs.Cached.{as_kept, is_error, live_at, set_at, alias_at, under, answer, asked_to, above_to, error_above, hit_of, lent, moved, swept, stored, after_keep, IsKept, IsGone, IsHeld, IsMiss};
 ghost use Rattle.cache.specs.Packed.{hit_of_packed};
@@ -17,8 +17,8 @@ use crate::packed::Packed;
 use authority::Link;
 use dname::{Heap, Name, Starved};
 use lru::LruCache;
+use lru_laws::keep_for;
 use rdata::RType;
-use recency::keep_for;
 use std::alloc::{Allocator, Global};
 use std::hash::BuildHasher;
 use std::marker::Model;
@@ -30,15 +30,15 @@ use std::num::NonZeroUsize;
 pub struct Cache<S: BuildHasher + Drop, A: Allocator = Global> {
     entries: LruCache<Key<A>, Packed<A>, S, A>,
     // The key of the last look-up, or of the error that the last keep swept: the next one takes its memory.
-    asked: Option<Key<A>>,
+    scratch_key: Option<Key<A>>,
 }
 
 impl<S: BuildHasher + Drop, A: Allocator> Model for Cache<S, A> {
-    ghost use Rattle.lru.specs.LruCache.{LruCache as Entries};
-    ghost use Rattle.cache.specs.Keys.{Key as Keyed};
-    ghost use Rattle.cache.specs.Cached.{Hit as Kept};
+    ghost use Rattle.lru.specs.LruCache.{LruCache as LruCacheSpec};
+    ghost use Rattle.cache.specs.Keys.{Key as KeySpec};
+    ghost use Rattle.cache.specs.Cached.{Hit as HitSpec};
 
-    ghost Value = { Entries Keyed Kept };
+    ghost Value = { LruCacheSpec KeySpec HitSpec };
 
     ghost use Rattle.std.specs.NonZero.{non_zero_usize_get};
     ghost use Rattle.lru.specs.LruCache.{lru_cache, IsValid};
@@ -82,7 +82,7 @@ impl<S: BuildHasher + Drop, A: Heap> Cache<S, A> {
     {
         Ok(Cache {
             entries: no_entries(alloc, cap, hasher)?,
-            asked: None,
+            scratch_key: None,
         })
     }
 
@@ -95,7 +95,7 @@ impl<S: BuildHasher + Drop, A: Heap> Cache<S, A> {
 
     /// Keeps the link for this name and type from the moment `now`, in milliseconds, for `ttl` seconds, at
     /// most 2,147,483,647 (RFC 2181, section 8). A link with TTL 0 is not kept, and replaces what was kept.
-    /// Want of memory changes nothing.
+    /// Running out of memory changes nothing.
     pub fn keep(
         &mut self,
         name: &Name<A>,
@@ -170,7 +170,7 @@ impl<S: BuildHasher + Drop, A: Heap> Cache<S, A> {
         ensures key { IfOk result (λ k. k.name ≡ name.now) }
         ensures same { self.new ≡ self.old }
     {
-        match self.asked.take() {
+        match self.scratch_key.take() {
             Some(mut key) => {
                 key.name.copy_from(name)?;
                 Ok(key)
@@ -185,7 +185,7 @@ impl<S: BuildHasher + Drop, A: Heap> Cache<S, A> {
     fn put_back(&mut self, key: Key<A>)
         ensures { self.new ≡ self.old }
     {
-        self.asked = Some(key);
+        self.scratch_key = Some(key);
     }
 
     // What is kept for the key's name and this type; the key becomes the one that answered.

@@ -3,22 +3,20 @@ ghost use Rattle.std.specs.Prelude.{◌≡◌, [], IfOk, OnOk, OnErr};
 ghost use Rattle.std.specs.NonZero.{non_zero_usize_get};
 ghost use Rattle.lru.specs.LruCache.{lru_cache, IsValid};
 ghost use Rattle.rdata.specs.Types.{type_number};
-ghost use Rattle.recency.specs.Orders.{KeepsOnly, LosesOnly, HasSame, MayGo};
+ghost use Rattle.lru_laws.specs.Orders.{KeepsOnly, LosesOnly, HasSame, MayGo};
 ghost use Rattle.cache.specs.Failures.{failed_ask, same_failed, is_failed, after_failed, after_is_failed};
 ghost use Rattle.cache.specs.FailureLaws.{same_failed_per, same_failed_equiv, same_failed_fed, fed_failed};
 
 use dname::{Heap, Name, Starved};
+use limits::FAILURE_LIFETIME;
 use lru::LruCache;
+use lru_laws::is_young;
 use rdata::{Addr, RType};
-use recency::is_young;
 use std::alloc::{Allocator, Global};
 use std::cmp::Eq;
 use std::hash::{BuildHasher, Hash, Hasher};
 use std::marker::Model;
 use std::num::NonZeroUsize;
-
-// How long a failure lives, in seconds: RFC 2308, section 7.1, allows five minutes.
-const LIFETIME: u32 = 30;
 
 /// A question, and the server that failed to answer it.
 #[derive(Drop)]
@@ -33,9 +31,9 @@ pub struct FailedAsk<A: Allocator = Global> {
 
 impl<A: Allocator> Model for FailedAsk<A> {
     ghost use Rattle.rdata.specs.Types.{type_number};
-    ghost use Rattle.cache.specs.Failures.{FailedAsk as Failed};
+    ghost use Rattle.cache.specs.Failures.{FailedAsk as FailedAskSpec};
 
-    ghost Value = { Failed };
+    ghost Value = { FailedAskSpec };
 
     ghost view = { λ f. record { name = f.name; kind = type_number f.kind; server = f.server } };
 }
@@ -76,10 +74,10 @@ pub struct Failures<S: BuildHasher + Drop, A: Allocator = Global> {
 
 impl<S: BuildHasher + Drop, A: Allocator> Model for Failures<S, A> {
     ghost use Rattle.std.specs.Prelude.{ℕ};
-    ghost use Rattle.lru.specs.LruCache.{LruCache as Entries};
-    ghost use Rattle.cache.specs.Failures.{FailedAsk as Failed};
+    ghost use Rattle.lru.specs.LruCache.{LruCache as LruCacheSpec};
+    ghost use Rattle.cache.specs.Failures.{FailedAsk as FailedAskSpec};
 
-    ghost Value = { Entries Failed ℕ };
+    ghost Value = { LruCacheSpec FailedAskSpec ℕ };
 
     ghost view = { λ f. f.entries };
 }
@@ -165,7 +163,7 @@ impl<S: BuildHasher + Drop, A: Heap> Failures<S, A> {
         ensures { result ≡ is_failed now key.now self.now.entries }
     {
         match self.entries.peek(key) {
-            Some(since) => is_young(LIFETIME, *since, now),
+            Some(since) => is_young(FAILURE_LIFETIME, *since, now),
             None => false,
         }
     }

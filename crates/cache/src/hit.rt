@@ -8,8 +8,8 @@ ghost use Rattle.cache.specs.Cached.{is_live, as_set, as_alias, retimed, seconds
 
 use authority::Link;
 use dname::{Heap, Starved};
+use lru_laws::is_young;
 use rdata::{Record, RecordSet};
-use recency::is_young;
 use std::alloc::{AllocError, Allocator, Global};
 use std::marker::Model;
 
@@ -26,9 +26,9 @@ pub struct Hit<A: Allocator = Global> {
 
 impl<A: Allocator> Model for Hit<A> {
     ghost use Rattle.authority.specs.Answers.{link_view};
-    ghost use Rattle.cache.specs.Cached.{Hit as Kept};
+    ghost use Rattle.cache.specs.Cached.{Hit as HitSpec};
 
-    ghost Value = { Kept };
+    ghost Value = { HitSpec };
 
     ghost view = { λ h. record { link = link_view h.link; ttl = h.ttl; since = h.since } };
 

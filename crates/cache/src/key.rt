@@ -56,10 +56,10 @@ pub struct Key<A: Allocator = Global> {
 }
 
 impl<A: Allocator> Model for Key<A> {
-    ghost use Rattle.cache.specs.Keys.{Key as Keyed};
+    ghost use Rattle.cache.specs.Keys.{Key as KeySpec};
     ghost use Rattle.cache.specs.Kinds.{slot_view};
 
-    ghost Value = { Keyed };
+    ghost Value = { KeySpec };
 
     ghost view = { λ k. record { name = k.name; slot = slot_view k.slot } };
 }

@@ -11,7 +11,7 @@
 //! words: what is given was kept and lives (`IsHeld`), nothing is given only where nothing answers (`IsMiss`;
 //! `given_law`), no entry comes or goes unsaid (`members_law`), and age takes TTLs alone (`aging_law`); a failure
 //! that is kept lives for 30 seconds, and no other does (`failures_law`).
-//! Not here: whether a reply may be believed (`classify`, `exchange`); bounds on TTLs (`classify::received`);
+//! Not here: whether a reply may be believed (`classify`, `events`); bounds on TTLs (`classify::received`);
 //! prefetch, serve-stale.
 //!
 //! ```text

@@ -13,8 +13,8 @@ use crate::denial::Denial;
 use crate::hit::{Hit, alias_of, set_of, set_of_one};
 use authority::Link;
 use dname::{Heap, Name, Starved};
+use lru_laws::is_young;
 use rdata::{RData, Record, RecordSet, copy_values};
-use recency::is_young;
 use std::alloc::{Allocator, Global};
 use std::marker::Model;
 
@@ -80,9 +80,9 @@ pub enum Form<A: Allocator = Global> {
     Many(Values<A>),
     /// An alias of the key's name: the data of its record.
     Alias(RData<A>),
-    /// A denial of the type (NODATA), by an SOA record.
+    /// A negative answer of the type (NODATA), by an SOA record.
     NoData(Denial<A>),
-    /// A denial of the name (NXDOMAIN), by an SOA record.
+    /// A negative answer of the name (NXDOMAIN), by an SOA record.
     NxDomain(Denial<A>),
     /// Any link.
     Whole(Box<Link<A>, A>),
@@ -183,9 +183,9 @@ pub struct Packed<A: Allocator = Global> {
 }
 
 impl<A: Allocator> Model for Packed<A> {
-    ghost use Rattle.cache.specs.Packed.{Packed as Said};
+    ghost use Rattle.cache.specs.Packed.{Packed as PackedSpec};
 
-    ghost Value = { Said };
+    ghost Value = { PackedSpec };
 
     ghost use Rattle.cache.specs.Forms.{form_view};
 

@@ -8,15 +8,15 @@ pub enum Cause {
     /// Too many queries are open.
     TooManyOpen,
     /// The query's deadline is over.
-    Deadline,
+    DeadlineOver,
     /// A CNAME chain that is longer than one may be.
-    Chain,
+    ChainTooLong,
     /// The query has asked servers as often as it may.
-    Sends,
+    TooManyAsks,
     /// No server is left to ask, and none was passed over.
-    NoServer,
+    NoServerLeft,
     /// The reply is too large to be sent.
-    Large,
+    ReplyTooLarge,
     /// No server is left to ask, and at least one was passed over since it had failed to answer the same less than 30
     /// seconds before (RFC 2308, section 7.1).
     KnownFailure,
@@ -29,11 +29,11 @@ impl Cause {
     {
         match self {
             Cause::TooManyOpen => 1,
-            Cause::Deadline => 2,
-            Cause::Chain => 3,
-            Cause::Sends => 4,
-            Cause::NoServer => 5,
-            Cause::Large => 6,
+            Cause::DeadlineOver => 2,
+            Cause::ChainTooLong => 3,
+            Cause::TooManyAsks => 4,
+            Cause::NoServerLeft => 5,
+            Cause::ReplyTooLarge => 6,
             Cause::KnownFailure => 7,
         }
     }

@@ -10,7 +10,7 @@
 //! (`classify::Failure`).
 //!
 //! ```text
-//! let cause = Cause::Deadline;
+//! let cause = Cause::DeadlineOver;
 //! assert_eq!(cause.number(), 2);              // printed: reply 1 SERVFAIL cause 2
 //! ```
 #![tactic(auto)]

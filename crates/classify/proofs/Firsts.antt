@@ -10,7 +10,7 @@ use Rattle.rdata.specs.Selected.{is_at, records_at}
 use Rattle.zone.specs.Look.{is_type}
 use Rattle.zone.specs.Zones.{ns_type}
 use Rattle.zone.proofs.LawLists.{none_in, in_cases, filter_of, filter_in}
-use Rattle.truth.specs.Reading.{IsIn, HasNo, IsFirst, IsFirstOf}
+use Rattle.world_truth.specs.Reading.{IsIn, HasNo, IsFirst, IsFirstOf}
 
 -- A list's first that passes a test, between what stands before it and behind it.
 pub record IsHead {X : Type 0} (p : X → Bool) (xs : List X) (x : X) : Type 0 where

@@ -12,15 +12,15 @@ use Rattle.rdata.specs.Records.{Record}
 use Rattle.rdata.specs.Selected.{records_at}
 use Rattle.rdata.specs.Sets.{lowest_ttl, with_ttl, one_set}
 use Rattle.rdata.proofs.SetMembers.{set_of, set_in}
-use Rattle.layout.specs.Messages.{Message}
+use Rattle.message_grammar.specs.Messages.{Message}
 use Rattle.wire.specs.declared.via.Via.{Via}
 use Rattle.wire.specs.declared.via.Via.TheVariants.{Udp, Tcp}
 use Rattle.zone.specs.Zones.{a_type, ns_type, cname_type, soa_type}
 use Rattle.zone.specs.Links.{Link, Found, Alias, NoData, NxDomain}
 use Rattle.zone.specs.Same.{Same, Has}
 use Rattle.zone.proofs.LawLists.{any_from, any_of, filter_of, filter_in}
-use Rattle.truth.specs.Worlds.{Address}
-use Rattle.truth.specs.Reading.{IsIn, HasNo, IsFirst, IsDenied, Reads, IsAnswer, IsReferralTo, NamesServer, GivesAddress}
+use Rattle.world_truth.specs.Worlds.{Address}
+use Rattle.world_truth.specs.Reading.{IsIn, HasNo, IsFirst, IsDenied, Reads, IsAnswer, IsReferralTo, NamesServer, GivesAddress}
 use Rattle.classify.specs.Classes.{Class, Answer, Referral, Truncated, Failed, first_of, answer_by, names_server, is_taken, addresses_of, refer_by, servers_of, leads_down, by_servers, denial_by, denies, by_denial, by_alias, by_set, by_code, truncated_over, class_of}
 use Rattle.classify.specs.declared.class.Failure.TheVariants.{BadCode, NoAuthority, Empty, Foreign}
 use Rattle.classify.specs.Laws.{AreServers, AreAddresses}

@@ -6,7 +6,7 @@ use Rattle.dname.proofs.Under.{is_under_holds}
 use Rattle.rdata.specs.Records.{Record}
 use Rattle.rdata.specs.Selected.{records_at}
 use Rattle.rdata.specs.Sets.{one_set}
-use Rattle.layout.specs.Messages.{Message}
+use Rattle.message_grammar.specs.Messages.{Message}
 use Rattle.wire.specs.declared.via.Via.{Via}
 use Rattle.zone.specs.Zones.{ns_type, cname_type, soa_type}
 use Rattle.zone.specs.Links.{Link}

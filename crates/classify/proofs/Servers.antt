@@ -16,11 +16,11 @@ use Rattle.zone.specs.Zones.{a_type}
 use Rattle.zone.specs.Look.{is_type}
 use Rattle.zone.proofs.LawLists.{any_from, any_of, same_tests}
 use Rattle.classify.specs.Classes.{names_server, is_taken}
-use Rattle.classify.specs.Targets.{target_of, targets_of, is_one_of}
+use Rattle.classify.specs.Targets.{ns_target, targets_of, is_one_of}
 
 -- ---- the names that records give
 
-one_target : (n : Name) (d : Datum) (ns : List Name) → is_one_of n (target_of d ++ ns) ≡ (names_server n d || is_one_of n ns)
+one_target : (n : Name) (d : Datum) (ns : List Name) → is_one_of n (ns_target d ++ ns) ≡ (names_server n d || is_one_of n ns)
 one_target n (Ipv4 a) ns = refl
 one_target n (Ns target) ns = refl
 one_target n (Cname target) ns = refl

@@ -3,7 +3,7 @@ use Rattle.std.proofs.Common.{◌≡◌, ◌<◌, true, false, cond, nat_eq, Som
 use Rattle.dname.specs.Labels.{Name}
 use Rattle.rdata.specs.Records.{Record}
 use Rattle.rdata.specs.Rows.{first_in}
-use Rattle.layout.specs.Messages.{Message}
+use Rattle.message_grammar.specs.Messages.{Message}
 use Rattle.zone.specs.Links.{Found, Alias}
 use Rattle.classify.specs.Classes.{Class, Failed, answer_by, by_alias, by_set}
 use Rattle.classify.specs.declared.class.Failure.TheVariants.{BadCode}

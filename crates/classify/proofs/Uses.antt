@@ -11,7 +11,7 @@ use Rattle.rdata.specs.Selected.{is_at, records_at}
 use Rattle.rdata.specs.Sets.{is_repeat, once, lowest_ttl, with_ttl, one_set}
 use Rattle.rdata.proofs.Exact.{same_data-refl}
 use Rattle.rdata.proofs.SetMembers.{set_of, set_in, with_ttl_of}
-use Rattle.layout.specs.Messages.{Message}
+use Rattle.message_grammar.specs.Messages.{Message}
 use Rattle.wire.specs.declared.via.Via.{Via}
 use Rattle.wire.specs.declared.via.Via.TheVariants.{Udp, Tcp}
 use Rattle.zone.specs.Zones.{ns_type, cname_type, soa_type}
@@ -19,9 +19,9 @@ use Rattle.zone.specs.Links.{Link, Found, Alias, NoData, NxDomain}
 use Rattle.zone.specs.Look.{is_type}
 use Rattle.zone.specs.Same.{Same, Has, SameLink}
 use Rattle.zone.proofs.LawLists.{none_in, first_in, later_in, filter_of}
-use Rattle.truth.specs.Replies.{Once}
-use Rattle.truth.specs.Reading.{HasNo, IsFirst, IsFirstOf, IsDenied, Reads, IsAnswer, IsReferralTo}
-use Rattle.truth.proofs.Sames.{same_back, same_on, same_one}
+use Rattle.world_truth.specs.Replies.{Once}
+use Rattle.world_truth.specs.Reading.{HasNo, IsFirst, IsFirstOf, IsDenied, Reads, IsAnswer, IsReferralTo}
+use Rattle.world_truth.proofs.Sames.{same_back, same_on, same_one}
 use Rattle.classify.specs.Classes.{Answer, Referral, Truncated, Failed, first_of, answer_by, addresses_of, refer, refer_by, servers_of, leads_down, by_servers, denial_by, by_denial, by_alias, by_set, by_code, truncated_over, class_of}
 use Rattle.classify.specs.declared.class.Failure.TheVariants.{BadCode, NoAuthority, Empty, Foreign}
 use Rattle.classify.proofs.Firsts.{at_is, at_holds, selected_in, in_selected}
@@ -131,7 +131,7 @@ module _ (f q : Name) (t : ℕ) (m : Message) where
         record { kinds = refl; records = same_one kept r (same_back r s same) },
       )
 
-  -- A denial.
+  -- A negative answer.
   denied_class : (via : Via) (soa : Record) → m.header.tc ≡ false → m.header.aa ≡ true → (m.header.rcode ≡ 0) ⊎ (m.header.rcode ≡ 3) → IsDenied f q t m soa
       → class_of f q t via m ≡ Answer (denial_by m.header.rcode soa)
   denied_class via soa tc aa told denied = at_denial via tc told denied.answer denied.alias

@@ -8,7 +8,7 @@ use Rattle.rdata.specs.Data.{Datum, Ipv4, Ns, Cname, Soa, Ptr, Mx, Txt, Ipv6, Sr
 use Rattle.rdata.specs.Records.{Record}
 use Rattle.rdata.specs.Selected.{records_at}
 use Rattle.rdata.specs.Sets.{one_set, lowest_ttl}
-use Rattle.layout.specs.Messages.{Message}
+use Rattle.message_grammar.specs.Messages.{Message}
 use Rattle.zone.specs.Zones.{a_type, ns_type, cname_type, soa_type}
 use Rattle.zone.specs.Links.{Link, Found, Alias, NoData, NxDomain}
 use Rattle.zone.specs.Look.{is_type}
@@ -71,7 +71,7 @@ abbrev pub by_servers : Name → Name → Message → Option Record → Class
 by_servers f q m None = Failed Empty
 by_servers f q m (Some r) = by_cut f q m r.owner
 
--- A denial has an SOA over the name, at or under the zone; the first one counts.
+-- A negative answer has an SOA over the name, at or under the zone; the first one counts.
 abbrev pub denial_by : ℕ → Record → Link
 denial_by rcode soa = cond (nat_eq rcode 3) (NxDomain soa) (NoData soa)
 

@@ -4,15 +4,15 @@ use Rattle.dname.specs.Labels.{Name, root, IsAtOrUnder}
 use Rattle.rdata.specs.Data.{Ipv4, Ns}
 use Rattle.rdata.specs.Records.{Record}
 use Rattle.rdata.specs.Sets.{lowest_ttl}
-use Rattle.layout.specs.Messages.{Message}
+use Rattle.message_grammar.specs.Messages.{Message}
 use Rattle.zone.specs.Zones.{ns_type, cname_type}
 use Rattle.zone.specs.Links.{Link, Found, Alias}
 use Rattle.zone.specs.Same.{Has, SameLink}
 use Rattle.wire.specs.declared.via.Via.{Via}
 use Rattle.wire.specs.declared.via.Via.TheVariants.{Udp}
-use Rattle.truth.specs.Worlds.{Address}
-use Rattle.truth.specs.Reading.{IsIn, IsAnswer, IsReferralTo, NamesServer, GivesAddress}
-use Rattle.truth.specs.Replies.{Once}
+use Rattle.world_truth.specs.Worlds.{Address}
+use Rattle.world_truth.specs.Reading.{IsIn, IsAnswer, IsReferralTo, NamesServer, GivesAddress}
+use Rattle.world_truth.specs.Replies.{Once}
 use Rattle.classify.specs.Classes.{Answer, Referral, Truncated, class_of}
 
 -- The servers of a referral: its message names each of them, and none is left out, TTLs aside.

@@ -1,25 +1,19 @@
 -- How long what a server says of a name and a type is kept (RFC 2181, section 8; RFC 2308, sections 3 and 5).
 use Rattle.std.specs.Prelude.{ℕ, min, ◌≤◌, List, [], ◌∷◌, map}
+use Rattle.limits.specs.Limits.{max_ttl, max_negative_ttl}
 use Rattle.rdata.specs.Records.{Record}
 use Rattle.rdata.specs.Caps.{capped}
 use Rattle.rdata.specs.Sets.{lowest_ttl}
 use Rattle.zone.specs.Links.{Link, Found, Alias, NoData, NxDomain, lessened}
 use Rattle.zone.specs.Same.{SameLink}
 
--- A week, and three hours, in seconds.
-abbrev pub longest : ℕ
-longest = 604800
-
-abbrev pub longest_denial : ℕ
-longest_denial = 10800
-
 abbrev pub received_denial : Record → Record
-received_denial soa = capped longest_denial (lessened soa)
+received_denial soa = capped max_negative_ttl (lessened soa)
 
 -- A link as it is kept and sent.
 abbrev pub received : Link → Link
-received (Found rs) = Found (map (capped longest) rs)
-received (Alias r) = Alias (capped longest r)
+received (Found rs) = Found (map (capped max_ttl) rs)
+received (Alias r) = Alias (capped max_ttl r)
 received (NoData soa) = NoData (received_denial soa)
 received (NxDomain soa) = NxDomain (received_denial soa)
 
@@ -36,11 +30,11 @@ lifetime_of (NxDomain soa) = soa.ttl
 
 -- A referral whose lowest TTL is this is kept for as long, and for a week at most.
 abbrev pub referral_lifetime : ℕ → ℕ
-referral_lifetime ttl = min ttl longest
+referral_lifetime ttl = min ttl max_ttl
 
 -- What is received differs from what was said in TTLs alone, and is kept for a week at most.
 abbrev pub ReceivedIsSame : Type 0
 ReceivedIsSame = (l : Link) → SameLink (received l) l
 
 abbrev pub ReceivedIsShort : Type 0
-ReceivedIsShort = (l : Link) → lifetime_of (received l) ≤ longest
+ReceivedIsShort = (l : Link) → lifetime_of (received l) ≤ max_ttl

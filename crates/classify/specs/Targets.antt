@@ -7,19 +7,19 @@ use Rattle.rdata.specs.Records.{Record}
 use Rattle.zone.specs.Zones.{a_type}
 use Rattle.zone.specs.Look.{is_type}
 
-abbrev pub target_of : Datum → List Name
-target_of (Ipv4 a) = []
-target_of (Ns target) = target ∷ []
-target_of (Cname target) = []
-target_of (Soa s) = []
-target_of (Ptr target) = []
-target_of (Mx p target) = []
-target_of (Txt ts) = []
-target_of (Ipv6 a) = []
-target_of (Srv v) = []
+abbrev pub ns_target : Datum → List Name
+ns_target (Ipv4 a) = []
+ns_target (Ns target) = target ∷ []
+ns_target (Cname target) = []
+ns_target (Soa s) = []
+ns_target (Ptr target) = []
+ns_target (Mx p target) = []
+ns_target (Txt ts) = []
+ns_target (Ipv6 a) = []
+ns_target (Srv v) = []
 
 abbrev pub targets_of : List Record → List Name
-targets_of rs = flat_map (λ (r : Record). target_of r.value) rs
+targets_of rs = flat_map (λ (r : Record). ns_target r.value) rs
 
 abbrev pub is_one_of : Name → List Name → Bool
 is_one_of n targets = list_any (λ (m : Name). same_name m n) targets

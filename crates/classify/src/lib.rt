@@ -10,7 +10,7 @@
 //! (`answer_law`, `referral_law`, `root_law`), and what is one is used (`use_law`, `found_law`); asked for again
 //! over TCP is what came truncated over UDP, and nothing else (`truncated_law`); bounds change TTLs alone
 //! (`received_law`).
-//! Not here: whether the message is the reply to an ask at all (`exchange::reply_in`).
+//! Not here: whether the message is the reply to an ask at all (`events::accepted_reply`).
 //!
 //! ```text
 //! let message = View::new(alloc, bytes)?;
@@ -32,5 +32,5 @@ mod targets;
 
 pub use class::{Class, Failure, Referral};
 pub use laws::{answer_law, found_law, referral_law, root_law, truncated_law, use_law};
-pub use lifetimes::{LONGEST, LONGEST_DENIAL, lifetime, received, received_law, referral_lifetime};
+pub use lifetimes::{lifetime, received, received_law, referral_lifetime};
 pub use table::classify;

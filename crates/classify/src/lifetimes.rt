@@ -7,14 +7,10 @@ ghost use Rattle.classify.specs.Lifetimes.{received, received_denial, shortest, 
 
 use authority::Link;
 use dname::Heap;
+use limits::{MAX_NEGATIVE_TTL, MAX_TTL};
 use rdata::{Record, RecordSet};
 use std::alloc::Allocator;
 use zone::denial_ttl;
-
-/// The most seconds for which records are kept: a week.
-pub const LONGEST: u32 = 604_800;
-/// The most seconds for which a negative answer is kept: three hours (RFC 2308, section 5).
-pub const LONGEST_DENIAL: u32 = 10_800;
 
 /// What a server said as it is kept and sent; takes no memory. The TTL of a record is a week at most; that
 /// of a negative answer's SOA the lesser of it and its MINIMUM, and three hours at most (RFC 2308, sections 3 and 5).
@@ -23,10 +19,10 @@ pub fn received<A: Heap>(link: Link<A>) -> Link<A>
 {
     match link {
         Link::Found(mut set) => {
-            set.cap_ttl(LONGEST);
+            set.cap_ttl(MAX_TTL);
             Link::Found(set)
         }
-        Link::Alias(record) => Link::Alias(capped(record, LONGEST)),
+        Link::Alias(record) => Link::Alias(capped(record, MAX_TTL)),
         Link::NoData(soa) => Link::NoData(received_denial(soa)),
         Link::NxDomain(soa) => Link::NxDomain(received_denial(soa)),
     }
@@ -42,7 +38,7 @@ fn capped<A: Allocator>(mut kept: Record<A>, most: u32) -> Record<A>
 fn received_denial<A: Allocator>(mut soa: Record<A>) -> Record<A>
     ensures { result ≡ received_denial soa }
 {
-    soa.ttl = denial_ttl(soa.ttl, &soa.value).min(LONGEST_DENIAL);
+    soa.ttl = denial_ttl(soa.ttl, &soa.value).min(MAX_NEGATIVE_TTL);
     soa
 }
 
@@ -50,7 +46,7 @@ fn received_denial<A: Allocator>(mut soa: Record<A>) -> Record<A>
 pub fn referral_lifetime(ttl: u32) -> u32
     ensures { result ≡ referral_lifetime ttl }
 {
-    ttl.min(LONGEST)
+    ttl.min(MAX_TTL)
 }
 
 /// For how many seconds a link is kept: the TTL of its records (RFC 2181, section 5.2).

@@ -15,6 +15,7 @@ use authority::Link;
 use dname::{Heap, Name, Starved};
 use rdata::{RType, Record, RecordSet, Records, lowest_ttl};
 use std::alloc::Allocator;
+use wire::rcode::{NO_ERROR, NX_DOMAIN};
 use wire::{Via, View, Walk};
 
 /// What a reply to the question for this name and type is used for, which came this way from a server of the
@@ -43,7 +44,7 @@ pub fn classify<A: Heap>(
     Ok(by_code(alloc, zone, name, kind, message)?)
 }
 
-// What was truncated over UDP is asked for again over TCP.
+// Line 1, TC set. What was truncated over UDP is asked for again over TCP.
 fn truncated_over<A: Allocator>(via: Via) -> Class<A>
     ensures { class_view result ≡ truncated_over via }
 {
@@ -53,7 +54,7 @@ fn truncated_over<A: Allocator>(via: Via) -> Class<A>
     }
 }
 
-// A whole message: its RCODE decides first (RFC 1035, section 4.1.1).
+// Line 2, an RCODE other than 0 and 3: of no use (RFC 1035, section 4.1.1). Else the lines behind it.
 fn by_code<A: Heap>(
     alloc: A,
     zone: &Name<A>,
@@ -74,16 +75,16 @@ fn by_code<A: Heap>(
 fn is_told<A: Allocator>(message: &View<'_, A>) -> bool
     ensures { result ≡ (nat_eq message.now.header.rcode 0 || nat_eq message.now.header.rcode 3) }
 {
-    message.header().rcode == 0 || message.header().rcode == 3
+    message.header().rcode == NO_ERROR || message.header().rcode == NX_DOMAIN
 }
 
 fn is_name_error<A: Allocator>(message: &View<'_, A>) -> bool
     ensures { result ≡ nat_eq message.now.header.rcode 3 }
 {
-    message.header().rcode == 3
+    message.header().rcode == NX_DOMAIN
 }
 
-// By the records of the name and the type.
+// Line 3, records of the name and the type: the RRset. Else the lines behind it.
 fn by_set<A: Heap>(
     alloc: A,
     zone: &Name<A>,
@@ -110,7 +111,7 @@ fn by_records<A: Heap>(message: &View<'_, A>, set: RecordSet<A>) -> Class<A>
     answer_by(message, Link::Found(set))
 }
 
-// Without such records: a CNAME of the name, if there is one, is followed (RFC 1034, section 5.3.3).
+// Line 4, a CNAME of the name: the alias (RFC 1034, section 5.3.3). Else the lines behind it.
 fn by_alias<A: Heap>(
     alloc: A,
     zone: &Name<A>,
@@ -129,7 +130,7 @@ fn by_alias<A: Heap>(
     }
 }
 
-// Without a CNAME: an SOA in the authority section makes it a denial (RFC 2308, section 2).
+// Line 5, an SOA in the authority section: a negative answer (RFC 2308, section 2). Else the lines behind it.
 fn by_denial<A: Heap>(
     alloc: A,
     zone: &Name<A>,
@@ -145,7 +146,7 @@ fn by_denial<A: Heap>(
     }
 }
 
-// A denial is of a zone that may deny the name.
+// A negative answer is of a zone that may deny the name.
 fn by_soa<A: Allocator>(
     zone: &Name<A>,
     name: &Name<A>,
@@ -161,7 +162,7 @@ fn by_soa<A: Allocator>(
     }
 }
 
-// By the first NS record.
+// Line 6, an NS record: the referral to its owner. Line 7, nothing of these: of no use.
 fn by_servers<A: Heap>(
     alloc: A,
     zone: &Name<A>,
@@ -176,7 +177,7 @@ fn by_servers<A: Heap>(
     }
 }
 
-// By the name of a cut, which is followed where it leads down.
+// Line 6: a cut is followed where it is strictly under the zone and over the name.
 fn by_cut<A: Heap>(
     alloc: A,
     zone: &Name<A>,
@@ -227,7 +228,7 @@ fn answer_by<A: Allocator>(message: &View<'_, A>, link: Link<A>) -> Class<A>
 fn denial_by<A: Allocator>(rcode: u8, soa: Record<A>) -> Link<A>
     ensures { link_view result ≡ denial_by rcode soa }
 {
-    if rcode == 3 {
+    if rcode == NX_DOMAIN {
         Link::NxDomain(soa)
     } else {
         Link::NoData(soa)

@@ -5,9 +5,9 @@ ghost use Rattle.std.specs.List.{list_any};
 ghost use Rattle.std.specs.List.Sorted.{IsSorted};
 ghost use Rattle.dname.specs.Order.{name_cmp};
 ghost use Rattle.rdata.specs.Kept.{datum};
-ghost use Rattle.rdata.specs.Records.{Record as Plain};
+ghost use Rattle.rdata.specs.Records.{Record as RecordSpec};
 ghost use Rattle.classify.specs.Classes.{names_server};
-ghost use Rattle.classify.specs.Targets.{target_of, targets_of, is_one_of};
+ghost use Rattle.classify.specs.Targets.{ns_target, targets_of, is_one_of};
 
 use dname::{Heap, Name, Starved};
 use rdata::{RData, Record};
@@ -19,7 +19,7 @@ pub(crate) fn targets_of<A: Heap>(
     servers: &[Record<A>],
 ) -> Result<Vec<Name<A>, A>, Starved>
     ensures sorted { IfOk result (λ v. IsSorted name_cmp v.items) }
-    ensures members { IfOk result (λ v. (n : List (List ℕ)) → is_one_of n v.items ≡ list_any (λ (s : Plain). names_server n s.value) servers.now) }
+    ensures members { IfOk result (λ v. (n : List (List ℕ)) → is_one_of n v.items ≡ list_any (λ (s : RecordSpec). names_server n s.value) servers.now) }
 {
     let mut targets = Vec::new(alloc);
     for server in servers {
@@ -31,7 +31,7 @@ pub(crate) fn targets_of<A: Heap>(
 
 // One name more, where the data has one.
 fn put_target<A: Heap>(targets: &mut Vec<Name<A>, A>, value: &RData<A>) -> Result<(), Starved>
-    ensures { OnOk result (targets.new.items ≡ targets.old.items ++ target_of (datum value.now)) }
+    ensures { OnOk result (targets.new.items ≡ targets.old.items ++ ns_target (datum value.now)) }
 {
     if let RData::Ns(target) = value {
         targets.push(target.clone()?)?;

@@ -96,7 +96,7 @@ One line on standard error says what went wrong.
   error: output              what was to be printed could not be written
 
 The exit status is 0 where all went well, 1 for a fault in what was read, 2 for the command line,
-3 for want of memory, and 4 for an unreadable file, an address that can't be bound, a thread that
+3 when out of memory, and 4 for an unreadable file, an address that can't be bound, a thread that
 can't be made, a clock that can't be read or failed output.";
 
 // A word that has to stand, and stands once.

@@ -5,7 +5,7 @@
 //! or `serve`. `help_text` is what is printed where they name none.
 //!
 //! Promised: the command is the one that the words name by the line's grammar (`Names`), and they are refused only
-//! where they name none (`NamesNothing`), or for want of memory.
+//! where they name none (`NamesNothing`), or when out of memory.
 //! Not here: doing what is asked (`commands`).
 //!
 //! ```text

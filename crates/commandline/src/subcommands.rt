@@ -116,9 +116,9 @@ fn read_play(alloc: Global, found: &ArgMatches<'_>) -> Result<Command, LineFault
 }
 
 // How many entries are kept where no number stands there, and the most that may.
-const USUAL_KEEP: u32 = 65_536;
+const DEFAULT_KEEP: u32 = 65_536;
 
-const MOST_KEPT: u32 = 1_000_000;
+const MAX_KEEP: u32 = 1_000_000;
 
 // How many entries are kept.
 fn keep_of(found: &ArgMatches<'_>) -> Result<u32, LineFault>
@@ -126,7 +126,7 @@ fn keep_of(found: &ArgMatches<'_>) -> Result<u32, LineFault>
     ensures refused { IfErr result (λ e. e ≡ Words → (n : ℕ) → IsKeep (first_of (codes "keep") (rows_of (found_of found.now))) n → ⊥) }
 {
     match found.get_str("keep") {
-        None => Ok(USUAL_KEEP),
+        None => Ok(DEFAULT_KEEP),
         Some(text) => kept_in(text),
     }
 }
@@ -137,7 +137,7 @@ fn kept_in(text: &str) -> Result<u32, LineFault>
     ensures refused { IfErr result (λ e. e ≡ Words → (n : ℕ) → IsKeep (Some text.now) n → ⊥) }
 {
     match u32::from_str(text) {
-        Ok(number) if 1 <= number && number <= MOST_KEPT => Ok(number),
+        Ok(number) if 1 <= number && number <= MAX_KEEP => Ok(number),
         _ => Err(LineFault::Words),
     }
 }

@@ -7,15 +7,15 @@ use Rattle.masterfile.specs.declared.faults.FileKind.TheVariants as file
 use Rattle.masterfile.specs.declared.faults.FileError.{FileError}
 use Rattle.zone.specs.declared.fault.ZoneError.{ZoneError}
 use Rattle.zone.specs.declared.fault.ZoneError.TheVariants as zone
-use Rattle.statements.specs.declared.fault.LineKind.{LineKind}
-use Rattle.statements.specs.declared.fault.LineKind.TheVariants as line
-use Rattle.statements.specs.declared.fault.LineError.{LineError}
-use Rattle.statements.specs.Texts.{IsTextFault}
+use Rattle.text_lines.specs.declared.fault.LineKind.{LineKind}
+use Rattle.text_lines.specs.declared.fault.LineKind.TheVariants as line
+use Rattle.text_lines.specs.declared.fault.LineError.{LineError}
+use Rattle.text_lines.specs.Texts.{IsTextFault}
 use Rattle.worlds.specs.declared.fault.WorldError.{WorldError}
 use Rattle.worlds.specs.declared.fault.WorldError.TheVariants as rule
-use Rattle.script.specs.declared.world_fault.WorldFault.{WorldFault}
-use Rattle.script.specs.declared.world_fault.WorldFault.TheVariants as of
-use Rattle.script.specs.Worlds.{IsNoWorld}
+use Rattle.world_text.specs.declared.world_fault.WorldFault.{WorldFault}
+use Rattle.world_text.specs.declared.world_fault.WorldFault.TheVariants as of
+use Rattle.world_text.specs.Worlds.{IsNoWorld}
 use Rattle.commands.specs.Texts.{MayHold}
 use Rattle.commands.specs.Faults.{kind_fault, line_fault, line_kind_fault, block_fault, rule_fault, world_fault}
 use Rattle.commands.specs.Scripts.{HoldsNo, IsRefusedFor, HoldsNoWorld}

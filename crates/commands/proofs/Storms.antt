@@ -1,14 +1,14 @@
 -- Scripts read one after the other, and what a storm is refused for.
 use Rattle.std.proofs.Common.{◌≡◌, refl, ℕ, zero, suc, ◌+◌, ◌<◌, inl, inr, List, [], ◌∷◌, ◌++◌, Option, length, take, map, get_or, sym, ◌∙◌, ap, ap₂, subst, arith, Result, Ok, Err, IfOk, IfErr, IsErrAnd}
 use Rattle.std.proofs.lemmas.List.{map-append, take_more}
-use Rattle.orders.specs.Orders.{Order}
+use Rattle.script.specs.Orders.{Order}
 use Rattle.pool.specs.declared.fault.PoolError.{PoolError}
 use Rattle.pool.specs.declared.fault.PoolError.TheVariants as threads
 use Rattle.commands.specs.Faults.{pool_fault}
-use Rattle.script.specs.Readings.{Said}
-use Rattle.script.specs.WorldTexts.{zones_of}
-use Rattle.script.specs.Worlds.{IsWorldOf, said_world}
-use Rattle.truth.specs.Worlds.{World}
+use Rattle.world_text.specs.Readings.{Said}
+use Rattle.world_text.specs.WorldTexts.{zones_of}
+use Rattle.world_text.specs.Worlds.{IsWorldOf, said_world}
+use Rattle.world_truth.specs.Worlds.{World}
 use Rattle.commands.specs.Runs.{IsAllowed, shown}
 use Rattle.commands.specs.Storms.{HoldsAsks, HoldsNoAsks, HoldAsks, RefusesOne, IsRunFault}
 use Rattle.commands.specs.declared.fault.Fault.{Fault}

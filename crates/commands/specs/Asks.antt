@@ -28,19 +28,19 @@ abbrev pub HasNoZone : (List ℕ → Option (Option (List ℕ))) → List ℕ �
 HasNoZone held file origin name kind f =
     (first_fault origin name kind ≡ None) × ((o : List (List ℕ)) × (name_of_text origin ≡ Ok o) × HoldsNoZone held file o f)
 
--- The words' faults count before the file's. Want of memory leaves all open.
-abbrev pub IsRefused : (List ℕ → Option (Option (List ℕ))) → List ℕ → List ℕ → List ℕ → List ℕ → Fault → Type 0
-IsRefused held file origin name kind (BadName e) = first_fault origin name kind ≡ Some (BadName e)
-IsRefused held file origin name kind BadType = first_fault origin name kind ≡ Some BadType
-IsRefused held file origin name kind (Unreadable path) = HasNoZone held file origin name kind (Unreadable path)
-IsRefused held file origin name kind (File path e) = HasNoZone held file origin name kind (File path e)
-IsRefused held file origin name kind (Zone path e) = HasNoZone held file origin name kind (Zone path e)
-IsRefused held file origin name kind Memory = Unit {0}
-IsRefused held file origin name kind Output = ⊥
-IsRefused held file origin name kind Settings = ⊥
-IsRefused held file origin name kind Socket = ⊥
-IsRefused held file origin name kind (Pool e) = ⊥
-IsRefused held file origin name kind Threads = ⊥
-IsRefused held file origin name kind (Script path e) = ⊥
-IsRefused held file origin name kind (Block path line e) = ⊥
-IsRefused held file origin name kind (World path e) = ⊥
+-- The words' faults count before the file's. Running out of memory leaves all open.
+abbrev pub IsAskFault : (List ℕ → Option (Option (List ℕ))) → List ℕ → List ℕ → List ℕ → List ℕ → Fault → Type 0
+IsAskFault held file origin name kind (BadName e) = first_fault origin name kind ≡ Some (BadName e)
+IsAskFault held file origin name kind BadType = first_fault origin name kind ≡ Some BadType
+IsAskFault held file origin name kind (Unreadable path) = HasNoZone held file origin name kind (Unreadable path)
+IsAskFault held file origin name kind (File path e) = HasNoZone held file origin name kind (File path e)
+IsAskFault held file origin name kind (Zone path e) = HasNoZone held file origin name kind (Zone path e)
+IsAskFault held file origin name kind Memory = Unit {0}
+IsAskFault held file origin name kind Output = ⊥
+IsAskFault held file origin name kind Settings = ⊥
+IsAskFault held file origin name kind Socket = ⊥
+IsAskFault held file origin name kind (Pool e) = ⊥
+IsAskFault held file origin name kind Threads = ⊥
+IsAskFault held file origin name kind (Script path e) = ⊥
+IsAskFault held file origin name kind (Block path line e) = ⊥
+IsAskFault held file origin name kind (World path e) = ⊥

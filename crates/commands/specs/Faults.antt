@@ -12,18 +12,18 @@ use Rattle.masterfile.specs.declared.faults.FileError.{FileError}
 use Rattle.zone.specs.Faults.{fault_number as zone_number}
 use Rattle.zone.specs.declared.fault.ZoneError.{ZoneError}
 use Rattle.zone.specs.declared.fault.ZoneError.TheVariants.{Memory as zone_memory}
-use Rattle.statements.specs.Faults.{line_fault_number}
-use Rattle.statements.specs.declared.fault.LineKind.{LineKind}
-use Rattle.statements.specs.declared.fault.LineKind.TheVariants.{Memory as line_memory}
-use Rattle.statements.specs.declared.fault.LineError.{LineError}
+use Rattle.text_lines.specs.Faults.{line_fault_number}
+use Rattle.text_lines.specs.declared.fault.LineKind.{LineKind}
+use Rattle.text_lines.specs.declared.fault.LineKind.TheVariants.{Memory as line_memory}
+use Rattle.text_lines.specs.declared.fault.LineError.{LineError}
 use Rattle.worlds.specs.Refusals.{world_fault_number}
 use Rattle.worlds.specs.declared.fault.WorldError.{WorldError}
 use Rattle.worlds.specs.declared.fault.WorldError.TheVariants.{Memory as world_memory}
 use Rattle.pool.specs.Faults.{pool_fault_number}
 use Rattle.pool.specs.declared.fault.PoolError.{PoolError}
 use Rattle.pool.specs.declared.fault.PoolError.TheVariants as threads
-use Rattle.script.specs.declared.world_fault.WorldFault.{WorldFault}
-use Rattle.script.specs.declared.world_fault.WorldFault.TheVariants as of
+use Rattle.world_text.specs.declared.world_fault.WorldFault.{WorldFault}
+use Rattle.world_text.specs.declared.world_fault.WorldFault.TheVariants as of
 use Rattle.commands.specs.declared.fault.Fault.{Fault}
 use Rattle.commands.specs.declared.fault.Fault.TheVariants.{File, Zone, Script, Block, World, Unreadable, BadName, BadType, Settings, Memory, Pool, Socket, Threads, Output}
 
@@ -44,7 +44,7 @@ fault_text (Pool e) = codes "pool " ++ decimal (pool_fault_number e)
 fault_text Threads = codes "threads"
 fault_text Output = codes "output"
 
--- 1 where the input is refused, 3 for want of memory, 4 for what the system refuses: a file, a socket, a thread, output.
+-- 1 where the input is refused, 3 when out of memory, 4 for what the system refuses: a file, a socket, a thread, output.
 abbrev pub status_of : Fault → ℕ
 status_of (File path e) = 1
 status_of (Zone path e) = 1
@@ -69,7 +69,7 @@ fault_line f = codes "error: " ++ fault_text f ++ codes "\n"
 abbrev pub IsReported : Fault → Option (List ℕ) → Option (List ℕ) → ℕ → Type 0
 IsReported f err err2 n = ((n ≡ status_of f) × Appends err err2 (fault_line f)) ⊎ (n ≡ 4)
 
--- Want of memory is one fault, wherever it was met.
+-- Running out of memory is one fault, wherever it was met.
 abbrev pub kind_fault : Bor (List ℕ) → FileError → FileKind → Fault
 kind_fault path e kind_memory = Memory
 kind_fault path e kind = File path e

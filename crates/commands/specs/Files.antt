@@ -3,14 +3,14 @@ use Rattle.std.specs.Prelude.{◌≡◌, ℕ, List, ◌++◌, length, Option, Ok
 use Rattle.dname.specs.Text.{name_of_text}
 use Rattle.rdata.specs.Records.{Record}
 use Rattle.masterfile.specs.Printed.{file_text}
-use Rattle.zone.specs.Zones.{Zone as ZoneOf}
+use Rattle.zone.specs.Zones.{Zone as ZoneSpec}
 use Rattle.commands.specs.Zones.{HoldsRecords, HoldsNoRecords, HoldsZone, HoldsNoZone}
 use Rattle.commands.specs.declared.fault.Fault.{Fault}
 use Rattle.commands.specs.declared.fault.Fault.TheVariants.{File, Zone, Script, Block, World, Unreadable, BadName, BadType, Settings, Memory, Pool, Socket, Threads, Output}
 
 -- The number of records of the zone that the file holds.
 abbrev pub CountsRecords : Option (Option (List ℕ)) → List ℕ → List ℕ → Type 0
-CountsRecords known origin text = (o : List (List ℕ)) × (zone : ZoneOf) × (name_of_text origin ≡ Ok o) × HoldsZone known o zone
+CountsRecords known origin text = (o : List (List ℕ)) × (zone : ZoneSpec) × (name_of_text origin ≡ Ok o) × HoldsZone known o zone
     × (text ≡ codes "ok " ++ (decimal (length zone.records) ++ codes " records\n"))
 
 -- The file's records, printed.

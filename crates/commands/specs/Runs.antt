@@ -6,13 +6,12 @@ use Rattle.commandline.specs.declared.fault.LineFault.{LineFault}
 use Rattle.commandline.specs.declared.fault.LineFault.TheVariants.{Words, Memory as line_memory}
 use Rattle.commandline.specs.declared.subcommands.Command.{Command}
 use Rattle.commandline.specs.declared.subcommands.Command.TheVariants.{Ask, Check, Dump, Play, Storm, Serve}
-use Rattle.runs.specs.States.{State}
-use Rattle.commands.specs.Asks.{IsRefused}
+use Rattle.commands.specs.Asks.{IsAskFault}
 use Rattle.commands.specs.Exchanges.{PrintsAnswer}
 use Rattle.commands.specs.Files.{CountsRecords, PrintsRecords, IsNoZone, IsNoFile}
 use Rattle.commands.specs.Scripts.{PrintsScript, IsNoScript}
 use Rattle.commands.specs.Storms.{PrintsStorm, IsNoStorm}
-use Rattle.commands.specs.Servers.{PrintsAddress, IsNoServer, Starts}
+use Rattle.commands.specs.Servers.{Prepared, PrintsAddress, IsNoServer, Starts}
 use Rattle.commands.specs.declared.fault.Fault.{Fault}
 use Rattle.commands.specs.declared.fault.Fault.TheVariants.{Memory}
 use Rattle.commands.specs.Faults.{IsReported}
@@ -50,7 +49,7 @@ texts_of A held (Serve config) text = PrintsAddress (held (string_bytes config))
 
 -- The faults of a command, over the same: those of a file are told under its path, as the command names it.
 abbrev pub faults_of : (List ℕ → Option (Option (List ℕ))) → Command → Fault → Type 0
-faults_of held (Ask origin file name kind) f = IsRefused held (string_bytes file) (string_bytes origin) (string_bytes name) (string_bytes kind) f
+faults_of held (Ask origin file name kind) f = IsAskFault held (string_bytes file) (string_bytes origin) (string_bytes name) (string_bytes kind) f
 faults_of held (Check origin file) f = IsNoZone held (string_bytes file) (string_bytes origin) f
 faults_of held (Dump origin file) f = IsNoFile held (string_bytes file) (string_bytes origin) f
 faults_of held (Play world script) f = IsNoScript held (string_bytes world) (string_bytes script) f
@@ -58,7 +57,7 @@ faults_of held (Storm keep world scripts) f = IsNoStorm held (string_bytes world
 faults_of held (Serve config) f = IsNoServer held (string_bytes config) f
 
 -- The server that a command starts: `serve` alone starts one.
-abbrev pub StartsFor : (List ℕ → Option (Option (List ℕ))) → Command → ℕ → Option State → Type 0
+abbrev pub StartsFor : (List ℕ → Option (Option (List ℕ))) → Command → ℕ → Option Prepared → Type 0
 StartsFor held (Ask origin file name kind) status server = server ≡ None
 StartsFor held (Check origin file) status server = server ≡ None
 StartsFor held (Dump origin file) status server = server ≡ None
@@ -76,8 +75,8 @@ IsRefusedLine Words out out2 err err2 n = IsExplained out out2 err err2 n
 IsRefusedLine line_memory out out2 err err2 n = Ended (Err Memory) out out2 err err2 n
 
 -- The command that the words name was done, over what is known to stand at a path; where they name none the line was refused,
--- and no server started. Want of memory may refuse any line.
-abbrev pub IsLineDone : (A : Type 0) → List (List ℕ) → (List ℕ → Option (Option (List ℕ))) → Option (List ℕ) → Option (List ℕ) → Option (List ℕ) → Option (List ℕ) → ℕ → Option State → Type 0
+-- and no server started. Running out of memory may refuse any line.
+abbrev pub IsLineDone : (A : Type 0) → List (List ℕ) → (List ℕ → Option (Option (List ℕ))) → Option (List ℕ) → Option (List ℕ) → Option (List ℕ) → Option (List ℕ) → ℕ → Option Prepared → Type 0
 IsLineDone A words held out out2 err err2 n server =
     ((command : Command) × Names words command × IsRun (texts_of A held command) (faults_of held command) out out2 err err2 n × StartsFor held command n server)
     ⊎ ((fault : LineFault) × (fault ≡ Words → NamesNothing words) × IsRefusedLine fault out out2 err err2 n × (server ≡ None))

@@ -1,18 +1,18 @@
 -- What is printed of a script in a world, and why nothing is.
 use Rattle.std.specs.Prelude.{◌≡◌, ◌⊎◌, ℕ, List, Option, Some, None, Result, Ok, Err}
-use Rattle.truth.specs.Worlds.{World}
-use Rattle.statements.specs.declared.fault.LineError.{LineError}
-use Rattle.orders.specs.Orders.{Order, script_of}
-use Rattle.player.specs.Played.{IsPlayed}
-use Rattle.script.specs.Worlds.{IsWorldOf, IsNoWorld}
-use Rattle.script.specs.declared.world_fault.WorldFault.{WorldFault}
-use Rattle.script.specs.declared.world_fault.WorldFault.TheVariants as of
+use Rattle.world_truth.specs.Worlds.{World as WorldSpec}
+use Rattle.text_lines.specs.declared.fault.LineError.{LineError}
+use Rattle.script.specs.Orders.{Order, script_of}
+use Rattle.play.specs.Played.{IsPlayed}
+use Rattle.world_text.specs.Worlds.{IsWorldOf, IsNoWorld}
+use Rattle.world_text.specs.declared.world_fault.WorldFault.{WorldFault}
+use Rattle.world_text.specs.declared.world_fault.WorldFault.TheVariants as of
 use Rattle.commands.specs.Texts.{MayHold}
 use Rattle.commands.specs.declared.fault.Fault.{Fault}
-use Rattle.commands.specs.declared.fault.Fault.TheVariants.{File, Zone, Script, Block, World as NoWorld, Unreadable, BadName, BadType, Settings, Memory, Pool, Socket, Threads, Output}
+use Rattle.commands.specs.declared.fault.Fault.TheVariants.{File, Zone, Script, Block, World, Unreadable, BadName, BadType, Settings, Memory, Pool, Socket, Threads, Output}
 
 -- The text is there, and it says that world.
-pub record HoldsWorld (known : Option (Option (List ℕ))) (W : World) : Type 0 where
+pub record HoldsWorld (known : Option (Option (List ℕ))) (W : WorldSpec) : Type 0 where
   pub text : List ℕ
   pub held : MayHold known (Some text)
   pub says : IsWorldOf text W
@@ -28,7 +28,7 @@ abbrev pub Holds : (List ℕ → Result (List Order) LineError) → Option (Opti
 Holds read known orders = (text : List ℕ) × MayHold known (Some text) × (read text ≡ Ok orders)
 
 -- The text is not there, or can't be read so, which is told under the path that was asked for. `held` is what is known to
--- stand at a path. Want of memory leaves all open.
+-- stand at a path. Running out of memory leaves all open.
 abbrev pub HoldsNo : {T : Type 0} → (List ℕ → Result T LineError) → (List ℕ → Option (Option (List ℕ))) → List ℕ → Fault → Type 0
 HoldsNo read held file (Unreadable path) = (path.now ≡ file) × MayHold (held file) None
 HoldsNo read held file (Script path e) = (path.now ≡ file) × ((text : List ℕ) × MayHold (held file) (Some text) × (read text ≡ Err e))
@@ -36,7 +36,7 @@ HoldsNo read held file Memory = Unit {0}
 HoldsNo read held file (File path e) = ⊥
 HoldsNo read held file (Zone path e) = ⊥
 HoldsNo read held file (Block path line e) = ⊥
-HoldsNo read held file (NoWorld path e) = ⊥
+HoldsNo read held file (World path e) = ⊥
 HoldsNo read held file (BadName e) = ⊥
 HoldsNo read held file BadType = ⊥
 HoldsNo read held file Output = ⊥
@@ -59,7 +59,7 @@ HoldsNoWorld held file (Unreadable path) = (path.now ≡ file) × MayHold (held 
 HoldsNoWorld held file (Script path e) = (path.now ≡ file) × IsRefusedFor (held file) (of.Line e)
 HoldsNoWorld held file (File path e) = (path.now ≡ file) × IsRefusedFor (held file) (of.File e)
 HoldsNoWorld held file (Block path line e) = (path.now ≡ file) × IsRefusedFor (held file) (of.Zone line e)
-HoldsNoWorld held file (NoWorld path e) = (path.now ≡ file) × IsRefusedFor (held file) (of.World e)
+HoldsNoWorld held file (World path e) = (path.now ≡ file) × IsRefusedFor (held file) (of.World e)
 HoldsNoWorld held file Memory = Unit {0}
 HoldsNoWorld held file (Zone path e) = ⊥
 HoldsNoWorld held file (BadName e) = ⊥
@@ -72,7 +72,7 @@ HoldsNoWorld held file Threads = ⊥
 
 -- What the script's orders print in the world that the text says.
 pub record PrintsScript (world script : Option (Option (List ℕ))) (text : List ℕ) : Type 0 where
-  pub W : World
+  pub W : WorldSpec
   pub stands : HoldsWorld world W
   pub orders : List Order
   pub held : HoldsOrders script orders
@@ -80,7 +80,7 @@ pub record PrintsScript (world script : Option (Option (List ℕ))) (text : List
 
 -- The world stands, and the script is none.
 pub record FailsBehind (held : List ℕ → Option (Option (List ℕ))) (world script : List ℕ) (fault : Fault) : Type 0 where
-  pub W : World
+  pub W : WorldSpec
   pub stands : HoldsWorld (held world) W
   pub fails : HoldsNoOrders held script fault
 

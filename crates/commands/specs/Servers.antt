@@ -2,11 +2,11 @@
 use Rattle.std.specs.Prelude.{◌≡◌, ◌⊎◌, ℕ, List, [], ◌∷◌, ◌++◌, Option, Some, None, IfSome, Ok, codes, decimal}
 use Rattle.std.specs.Borrow.{Bor}
 use Rattle.rdata.specs.Text.{ipv4_text}
-use Rattle.zone.specs.Zones.{Zone as ZoneOf}
-use Rattle.exchange.specs.declared.path.Endpoint.{Endpoint}
-use Rattle.config.specs.Configs.{Config, End, Zone as Local, config_of}
+use Rattle.zone.specs.Zones.{Zone as ZoneSpec}
+use Rattle.events.specs.declared.path.Endpoint.{Endpoint}
+use Rattle.config.specs.Configs.{Config, End, LocalZone, config_of}
 use Rattle.runs.specs.States.{State}
-use Rattle.service.specs.Resolvers.{IsDescribed}
+use Rattle.server_start.specs.Resolvers.{IsDescribed}
 use Rattle.commands.specs.Faults.{IsReported}
 use Rattle.commands.specs.Scripts.{HoldsNo}
 use Rattle.commands.specs.Texts.{MayHold}
@@ -62,52 +62,61 @@ IsUnbound (Pool e) = ⊥
 IsUnbound Threads = ⊥
 IsUnbound Output = ⊥
 
+-- ---- The server that is started.
+
+-- A server that does not run yet: its resolver, and how many threads ask other servers over TCP.
+pub record Prepared : Type 0 where
+  pub resolver : State
+  pub workers : ℕ
+
 -- ---- The resolver that is started. `held` is what is known to stand at a path.
 
 -- The zones are those in the files, one for each line that names one, in their order.
-abbrev pub AreZonesIn : (List ℕ → Option (Option (List ℕ))) → List Local → List ZoneOf → Type 0
+abbrev pub AreZonesIn : (List ℕ → Option (Option (List ℕ))) → List LocalZone → List ZoneSpec → Type 0
 AreZonesIn held [] [] = Unit {0}
 AreZonesIn held [] (z ∷ zs) = ⊥
 AreZonesIn held (l ∷ ls) [] = ⊥
 AreZonesIn held (l ∷ ls) (z ∷ zs) = HoldsZone (held l.file) l.origin z × AreZonesIn held ls zs
 
--- The first of the lines whose file holds no zone counts, under that file's path. Want of memory leaves all open.
-abbrev pub LacksZone : (List ℕ → Option (Option (List ℕ))) → List Local → Fault → Type 0
+-- The first of the lines whose file holds no zone counts, under that file's path. Running out of memory leaves all open.
+abbrev pub LacksZone : (List ℕ → Option (Option (List ℕ))) → List LocalZone → Fault → Type 0
 LacksZone held [] f = f ≡ Memory
-LacksZone held (l ∷ ls) f = HoldsNoZone held l.file l.origin f ⊎ ((z : ZoneOf) × HoldsZone (held l.file) l.origin z × LacksZone held ls f)
+LacksZone held (l ∷ ls) f = HoldsNoZone held l.file l.origin f ⊎ ((z : ZoneSpec) × HoldsZone (held l.file) l.origin z × LacksZone held ls f)
 
 -- It is the seed that the file states, where it states one.
 abbrev pub IsSeedOf : Config → List ℕ → Type 0
 IsSeedOf c seed = IfSome c.seed (λ stated. stated ≡ seed)
 
--- It is the resolver with the hints, the settings and the zones that the file says, and it has done nothing yet.
-pub record IsMadeOf (held : List ℕ → Option (Option (List ℕ))) (config : Config) (made : State) : Type 0 where
-  pub zones : List ZoneOf
+-- Its resolver has the hints, the settings and the zones that the file says, and has done nothing yet; it has as many
+-- workers as the file says.
+pub record IsMadeOf (held : List ℕ → Option (Option (List ℕ))) (config : Config) (made : Prepared) : Type 0 where
+  pub zones : List ZoneSpec
   pub local : AreZonesIn held config.locals zones
   pub seed : List ℕ
   pub seeded : IsSeedOf config seed
-  pub is : IsDescribed config zones seed made
+  pub is : IsDescribed config zones seed made.resolver
+  pub workers : made.workers ≡ config.workers
 
--- It is the resolver that this text describes.
-pub record IsServer (held : List ℕ → Option (Option (List ℕ))) (text : List ℕ) (made : State) : Type 0 where
+-- It is the server that this text describes.
+pub record IsServer (held : List ℕ → Option (Option (List ℕ))) (text : List ℕ) (made : Prepared) : Type 0 where
   pub config : Config
   pub reads : config_of text ≡ Ok config
   pub is : IsMadeOf held config made
 
--- It is the resolver that the text at this path describes.
-pub record IsServerAt (held : List ℕ → Option (Option (List ℕ))) (path : List ℕ) (made : State) : Type 0 where
+-- It is the server that the text at this path describes.
+pub record IsServerAt (held : List ℕ → Option (Option (List ℕ))) (path : List ℕ) (made : Prepared) : Type 0 where
   pub text : List ℕ
   pub there : MayHold (held path) (Some text)
   pub is : IsServer held text made
 
 -- This server is there exactly where the status is 0.
-abbrev pub StartsWith : State → ℕ → Option State → Type 0
+abbrev pub StartsWith : Prepared → ℕ → Option Prepared → Type 0
 StartsWith made status server = ((status ≡ 0) × (server ≡ Some made)) ⊎ ((status ≡ 0 → ⊥) × (server ≡ None))
 
 -- The server that the text at the path describes is there exactly where the status is 0.
-abbrev pub Starts : (List ℕ → Option (Option (List ℕ))) → List ℕ → ℕ → Option State → Type 0
+abbrev pub Starts : (List ℕ → Option (Option (List ℕ))) → List ℕ → ℕ → Option Prepared → Type 0
 Starts held path status server =
-    ((status ≡ 0) × ((made : State) × (server ≡ Some made) × IsServerAt held path made)) ⊎ ((status ≡ 0 → ⊥) × (server ≡ None))
+    ((status ≡ 0) × ((made : Prepared) × (server ≡ Some made) × IsServerAt held path made)) ⊎ ((status ≡ 0 → ⊥) × (server ≡ None))
 
 -- ---- The server that does not start.
 

@@ -1,12 +1,12 @@
 -- What is printed of scripts that a worker each asks by in one network, and why nothing is.
 use Rattle.std.specs.Prelude.{◌≡◌, ◌⊎◌, ℕ, List, [], ◌∷◌, ◌++◌, Option, codes, decimal}
 use Rattle.std.specs.declared.alloc.Global.{Global}
-use Rattle.truth.specs.Worlds.{World}
-use Rattle.orders.specs.Orders.{Order, asks_of}
+use Rattle.world_truth.specs.Worlds.{World}
+use Rattle.script.specs.Orders.{Order, asks_of}
 use Rattle.simnet.specs.Beginnings.{IsNetworkOf}
-use Rattle.player.specs.Played.{settings}
-use Rattle.crowd.specs.Counts.{Network, IsStorm}
-use Rattle.crowd.specs.declared.count.Totals.{Totals}
+use Rattle.play.specs.Played.{settings}
+use Rattle.storm.specs.Counts.{Network, IsStorm}
+use Rattle.storm.specs.declared.count.Totals.{Totals}
 use Rattle.pool.specs.declared.fault.PoolError.{PoolError}
 use Rattle.commands.specs.Scripts.{Holds, HoldsNo, HoldsWorld, HoldsNoWorld}
 use Rattle.commands.specs.declared.fault.Fault.{Fault}
@@ -26,7 +26,7 @@ HoldAsks known [] (orders ∷ scripts) = ⊥
 HoldAsks known (path ∷ paths) [] = ⊥
 HoldAsks known (path ∷ paths) (orders ∷ scripts) = HoldsAsks (known path) orders × HoldAsks known paths scripts
 
--- The first of them that is refused counts, under its own path; `bytes` gives a path's bytes. Want of memory leaves all open.
+-- The first of them that is refused counts, under its own path; `bytes` gives a path's bytes. Running out of memory leaves all open.
 abbrev pub RefusesOne : {X : Type 0} → (List ℕ → Option (Option (List ℕ))) → (X → List ℕ) → List X → Fault → Type 0
 RefusesOne held bytes [] f = f ≡ Memory
 RefusesOne held bytes (path ∷ paths) f =

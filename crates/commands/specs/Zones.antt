@@ -2,7 +2,7 @@
 use Rattle.std.specs.Prelude.{◌≡◌, ℕ, List, Option, Some, None, Ok, Err}
 use Rattle.rdata.specs.Records.{Record}
 use Rattle.masterfile.specs.Files.{read_text}
-use Rattle.zone.specs.Zones.{Zone as ZoneOf}
+use Rattle.zone.specs.Zones.{Zone as ZoneSpec}
 use Rattle.zone.specs.Kept.{zone_with}
 use Rattle.zone.specs.Faults.{fault_of}
 use Rattle.commands.specs.Texts.{MayHold}
@@ -32,7 +32,7 @@ HoldsNoRecords held file origin (Block path line e) = ⊥
 HoldsNoRecords held file origin (World path e) = ⊥
 
 -- The text's records meet the rules of a zone.
-abbrev pub HoldsZone : Option (Option (List ℕ)) → List (List ℕ) → ZoneOf → Type 0
+abbrev pub HoldsZone : Option (Option (List ℕ)) → List (List ℕ) → ZoneSpec → Type 0
 HoldsZone known origin zone =
     (records : List Record) × HoldsRecords known origin records × (fault_of (zone_with origin records) ≡ None) × (zone ≡ zone_with origin records)
 

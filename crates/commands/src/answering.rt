@@ -1,21 +1,21 @@
 //! A query and its reply, as bytes.
 ghost use Rattle.std.specs.Prelude.{◌≡◌, [], IfOk, string_bytes};
 ghost use Rattle.rdata.specs.Types.{type_number};
-ghost use Rattle.layout.specs.Messages.{encoding};
-ghost use Rattle.front.specs.declared.queries.Asked.TheVariants as asked;
+ghost use Rattle.message_grammar.specs.Messages.{encoding};
+ghost use Rattle.front.specs.declared.queries.Request.TheVariants as asked;
 ghost use Rattle.front.specs.Replies.{reply_of};
 ghost use Rattle.wire.specs.declared.via.Via.TheVariants as via;
-ghost use Rattle.lines.specs.Lines.{ArePrinted};
+ghost use Rattle.reply_lines.specs.Lines.{ArePrinted};
 ghost use Rattle.commands.specs.Exchanges.{query_for, AreMessage, AreLinesOf, AreLines};
 
 use authority::Catalog;
 use causes::Cause;
 use dname::{Heap, Name, Starved};
 use front::{
-    Asked, Outcome, Query, Via, Writer, answer_local, read_query, refusal_bytes, reply_bytes,
+    Outcome, Query, Request, Via, Writer, answer_local, read_query, refusal_bytes, reply_bytes,
 };
-use lines::put_reply_bytes;
 use rdata::{INTERNET, RType, Records};
+use reply_lines::put_reply_bytes;
 use wire::{Header, Message, Question, Questions, UDP_LIMIT, encode};
 
 // The number of the client in the printed reply.
@@ -37,16 +37,20 @@ pub fn exchange<A: Heap>(
 }
 
 // The lines of the reply to what was asked over UDP.
-fn lines_of<A: Heap>(alloc: A, catalog: &Catalog<A>, asked: &Asked<A>) -> Result<String<A>, Starved>
+fn lines_of<A: Heap>(
+    alloc: A,
+    catalog: &Catalog<A>,
+    asked: &Request<A>,
+) -> Result<String<A>, Starved>
     ensures { IfOk result (λ s. AreLinesOf catalog.now asked.now (string_bytes s)) }
 {
     match asked {
-        Asked::Drop => Ok(String::new(alloc)),
-        Asked::Refuse(refusal, start, echo) => {
+        Request::Drop => Ok(String::new(alloc)),
+        Request::Refuse(refusal, start, echo) => {
             let reply = refusal_bytes(&mut Writer::new(alloc)?, *refusal, *start, echo.as_ref())?;
             Ok(printed(alloc, &reply, None)?)
         }
-        Asked::Query(query) => Ok(answer_lines(alloc, catalog, query)?),
+        Request::Query(query) => Ok(answer_lines(alloc, catalog, query)?),
     }
 }
 
@@ -111,15 +115,5 @@ fn query_bytes<A: Heap>(alloc: A, name: Name<A>, kind: RType) -> Result<Vec<u8, 
 fn query_header() -> Header
     ensures { result ≡ (query_for [] 0).header }
 {
-    Header {
-        id: 1,
-        qr: false,
-        opcode: 0,
-        aa: false,
-        tc: false,
-        rd: false,
-        ra: false,
-        z: 0,
-        rcode: 0,
-    }
+    Header::query(1, false)
 }

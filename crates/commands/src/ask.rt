@@ -1,7 +1,7 @@
 //! `ask`: one query, to one zone.
 ghost use Rattle.std.specs.Prelude.{◌≡◌, [], ◌∷◌, IfOk, IfErr, string_bytes};
 ghost use Rattle.rdata.specs.Types.{type_number};
-ghost use Rattle.commands.specs.Asks.{IsRefused};
+ghost use Rattle.commands.specs.Asks.{IsAskFault};
 ghost use Rattle.commands.specs.Exchanges.{AreLines, PrintsAnswer};
 
 use crate::answering::exchange;
@@ -24,7 +24,7 @@ pub fn ask<'a, A: Heap, T: Texts>(
     kind: &str,
 ) -> Result<String<A>, Fault<'a>>
     ensures ok { IfOk result (λ s. PrintsAnswer A (T.held texts.old file.entry.now) origin.now name.now kind.now (string_bytes s)) }
-    ensures err { IfErr result (IsRefused (T.held texts.old) file.entry.now origin.now name.now kind.now) }
+    ensures err { IfErr result (IsAskFault (T.held texts.old) file.entry.now origin.now name.now kind.now) }
 {
     let origin = Name::from_text(alloc, origin)?;
     let name = Name::from_text(alloc, name)?;

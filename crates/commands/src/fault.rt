@@ -5,15 +5,15 @@ ghost use Rattle.commands.specs.declared.fault.Fault.TheVariants.{Memory};
 
 use dname::{NameError, Starved};
 use masterfile::{FileError, FileKind};
-use orders::{LineError, LineKind};
 use pool::PoolError;
-use script::WorldFault;
+use script::{LineError, LineKind};
 use std::alloc::AllocFailed;
 use std::fmt;
+use world_text::WorldFault;
 use worlds::WorldError;
 use zone::ZoneError;
 
-/// Why a command came to nothing. Want of memory is `Memory`, wherever it was met.
+/// Why a command came to nothing. Running out of memory is `Memory`, wherever it was met.
 #[derive(Clone, Copy, Debug)]
 pub enum Fault<'a> {
     /// The text at this path is no master file.
@@ -102,7 +102,7 @@ impl<'a> Fault<'a> {
         }
     }
 
-    /// The exit status: 1 where the input is refused, 3 for want of memory, 4 for an unreadable file, an address
+    /// The exit status: 1 where the input is refused, 3 when out of memory, 4 for an unreadable file, an address
     /// that can't be bound, a thread that can't be made, a clock that can't be read or failed output.
     pub fn status(&self) -> u8
         ensures { result ≡ status_of self.now }

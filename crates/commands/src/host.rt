@@ -1,7 +1,7 @@
 //! The machine under a server: where its random bytes and its sockets come from. Tests put another in its place.
 ghost use Rattle.std.specs.Prelude.{◌≡◌, ◌⊎◌, IfSome};
 
-use exchange::Endpoint;
+use events::Endpoint;
 use server::Ends;
 use std::alloc::Global;
 use std::fs;

@@ -24,11 +24,11 @@ mod fault;
 mod files;
 mod host;
 mod outcome;
-mod play;
+mod play_script;
 mod run;
 mod serve;
 mod serving;
-mod storm;
+mod storm_scripts;
 mod texts;
 mod zones;
 

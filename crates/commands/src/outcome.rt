@@ -15,28 +15,28 @@ pub struct Server<A: Allocator = Global> {
 }
 
 impl<A: Allocator> Model for Server<A> {
-    ghost use Rattle.runs.specs.States.{State};
+    ghost use Rattle.commands.specs.Servers.{Prepared};
     ghost use Rattle.engine.specs.Beginnings.{IsBegun};
 
-    ghost Value = { State };
+    ghost Value = { Prepared };
 
-    ghost view = { λ s. s.core };
+    ghost view = { λ s. record { resolver = s.core; workers = s.workers } };
 
     ghost invariant = { λ s. IsBegun s.core };
 }
 
 impl<A: Allocator> Server<A> {
-    /// One of this resolver.
+    /// One of this resolver, with so many workers.
     pub(crate) fn new(core: Core<A>, workers: u16) -> Server<A>
         requires { IsBegun core }
-        ensures { result ≡ core }
+        ensures { result ≡ record { resolver = core; workers = workers } }
     {
         Server { core, workers }
     }
 
     /// The resolver.
     pub fn into_core(self) -> Core<A>
-        ensures is { result ≡ self }
+        ensures is { result ≡ self.resolver }
         ensures begun { IsBegun result }
     {
         self.core

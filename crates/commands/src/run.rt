@@ -11,9 +11,9 @@ use crate::fault::Fault;
 use crate::files::{check, dump};
 use crate::host::Host;
 use crate::outcome::Outcome;
-use crate::play::play;
-use crate::serve::serve;
-use crate::storm::storm;
+use crate::play_script::play;
+use crate::serve::start_server;
+use crate::storm_scripts::storm;
 use crate::texts::Texts;
 use commandline::{Command, LineFault, help_text, read_words};
 use dname::Heap;
@@ -44,7 +44,7 @@ pub fn run_words<R: Threads + Wait + AllocGlobal + Sync, T: Texts, H: Host, O: W
     }
 }
 
-/// Answers words that name no command: with the help text and status 2, or as want of memory.
+/// Answers words that name no command: with the help text and status 2, or as out of memory.
 pub fn refuse_line<O: Write, E: Write>(
     alloc: Global,
     fault: LineFault,
@@ -113,7 +113,7 @@ pub fn run_command<
             let done = storm(rt, texts, *keep, world.as_str(), scripts.as_slice());
             finished(done, out, err)
         }
-        Command::Serve { config } => serve(alloc, config.as_str(), texts, host, out, err),
+        Command::Serve { config } => start_server(alloc, config.as_str(), texts, host, out, err),
     }
 }
 

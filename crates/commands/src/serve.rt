@@ -1,6 +1,7 @@
 //! `serve`: a server, started from its file.
 ghost use Rattle.std.specs.Prelude.{◌≡◌, Some, None, IfOk, IfErr, string_bytes};
 ghost use Rattle.commands.specs.Faults.{IsReported};
+ghost use Rattle.commands.specs.declared.fault.Fault.TheVariants.{Settings};
 ghost use Rattle.commands.specs.Runs.{IsPrinted, IsRun};
 ghost use Rattle.commands.specs.Servers.{PrintsAddress, IsNoServer, Describes, IsStartFault, LacksSeed, LacksZone, NamesEnd, IsUnbound, AreZonesIn, IsMadeOf, IsSeedOf, IsServer, StartsWith, Starts, address_line, end_of};
 ghost use Rattle.commands.specs.Texts.{MayHold};
@@ -15,8 +16,8 @@ use crate::zones::read_zone;
 use config::{LocalFile, ServeConfig, read_config};
 use dname::{Heap, Starved};
 use engine::CoreError;
-use exchange::Endpoint;
-use service::resolver_of;
+use events::Endpoint;
+use server_start::resolver_of;
 use std::alloc::Allocator;
 use std::io::Write;
 use zone::Zone;
@@ -31,7 +32,7 @@ struct Prepared<A: Allocator> {
 
 /// Reads the file of a server at a path, and the files of its zones, binds its sockets and prints where it listens: the
 /// exit status, and the server. No socket is bound where a file is refused, and nothing printed where a socket is.
-pub fn serve<A: Heap, T: Texts, H: Host, O: Write, E: Write>(
+pub fn start_server<A: Heap, T: Texts, H: Host, O: Write, E: Write>(
     alloc: A,
     path: &str,
     texts: &mut T,
@@ -107,14 +108,13 @@ fn prepare_with<'t, A: Heap, T: Texts, H: Host>(
     texts: &mut T,
     host: &mut H,
 ) -> Result<Prepared<A>, Fault<'t>>
-    ensures ok { IfOk result (λ p. (config.entry.listen ≡ end_of p.listen) × IsMadeOf (T.held texts.old) config.entry p.server) }
+    ensures ok { IfOk result (λ p. (config.entry.listen ≡ end_of p.listen) × (p.sockets ≡ config.entry.sockets) × IsMadeOf (T.held texts.old) config.entry p.server) }
     ensures err { IfErr result (IsStartFault (T.held texts.old) config.entry) }
 {
     let zones = local_zones(alloc, texts, &config.locals)?;
     let seed = seed_of(&config, host)?;
     let listen = endpoint_of(&config.listen);
-    let sockets = u16::try_from(config.sockets).unwrap_or(u16::MAX);
-    let workers = u16::try_from(config.workers).unwrap_or(u16::MAX);
+    let (sockets, workers) = counts_of(&config)?;
     match resolver_of(alloc, config, zones, seed) {
         Ok(core) => Ok(Prepared {
             server: Server::new(core, workers),
@@ -123,6 +123,17 @@ fn prepare_with<'t, A: Heap, T: Texts, H: Host>(
         }),
         Err(CoreError::Memory) => Err(Fault::Memory),
         Err(_) => Err(Fault::Settings),
+    }
+}
+
+// How many sockets and workers the file says; more than can be counted are refused as more than allowed are.
+fn counts_of<A: Allocator>(config: &ServeConfig<'_, A>) -> Result<(u16, u16), Fault<'static>>
+    ensures ok { IfOk result (λ n. (n.0 ≡ config.now.sockets) × (n.1 ≡ config.now.workers)) }
+    ensures err { IfErr result (λ f. f ≡ Settings) }
+{
+    match (u16::try_from(config.sockets), u16::try_from(config.workers)) {
+        (Ok(sockets), Ok(workers)) => Ok((sockets, workers)),
+        _ => Err(Fault::Settings),
     }
 }
 

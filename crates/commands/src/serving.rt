@@ -29,7 +29,7 @@ pub fn serve_at<
     let stop = AtomicBool::new(false);
     let workers = server.workers;
     let core = server.into_core();
-    match service::serve(machine.runtime, machine.alloc, core, ends, workers, &stop) {
+    match server_start::run_server(machine.runtime, machine.alloc, core, ends, workers, &stop) {
         Ok(()) => 0,
         Err(ServeError::Memory) => report(&Fault::Memory, err),
         Err(ServeError::Clock) | Err(ServeError::Threads) => report(&Fault::Threads, err),

@@ -1,7 +1,7 @@
 //! A client of the resolver, who judges each reply.
 use crate::nameservers::{address, write_frame};
 use dname::Name;
-use exchange::Endpoint;
+use events::Endpoint;
 use rdata::{Addr, RType};
 use sockets::read_framed;
 use std::alloc::Global;

@@ -2,7 +2,7 @@
 use config::{LineKind, ServeConfig, read_config};
 use dname::Heap;
 use rdata::Addr;
-use refusing::Refusing;
+use refusing_alloc::Refusing;
 use std::test::Fail;
 
 const WHOLE: &str =

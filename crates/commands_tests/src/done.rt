@@ -2,7 +2,7 @@
 use commandline::Command;
 use commands::{Host, Outcome, Server, Texts, run_command};
 use dname::Heap;
-use pages::{Page, WIDE};
+use failing_writer::{Page, WIDE};
 use std::sync::Wait;
 use std::thread::Threads;
 

@@ -6,7 +6,7 @@ use crate::plays::{
 };
 use crate::scripts::Held;
 use dname::Heap;
-use refusing::Refusing;
+use refusing_alloc::Refusing;
 use std::alloc::AllocError;
 use std::process::Abort;
 use std::str::from_utf8;
@@ -14,7 +14,7 @@ use std::sync::Wait;
 use std::test::Fail;
 use std::thread::Threads;
 
-// Whether it ended for want of memory alone.
+// Whether it ended when out of memory alone.
 fn is_cut_off(done: &Done) -> bool {
     done.is((3, "", "error: memory\n"))
 }

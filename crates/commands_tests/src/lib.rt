@@ -1,5 +1,5 @@
 //! The tests of `config`, `commandline` and `commands`, from outside: by what they make public, and by scripts that are
-//! played in worlds in memory; and of `service`, a resolver at its sockets, with servers and clients beside it.
+//! played in worlds in memory; and of `server_start`, a resolver at its sockets, with servers and clients beside it.
 #![tactic(auto)]
 
 #[cfg(test)]

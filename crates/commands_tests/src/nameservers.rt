@@ -1,8 +1,7 @@
 //! Servers of a small world at addresses of this host.
 use dname::Starved;
-use exchange::Endpoint;
+use events::Endpoint;
 use rdata::Addr;
-use script::read_world;
 use sockets::{read_framed, write_framed};
 use std::alloc::Global;
 use std::io;
@@ -10,6 +9,7 @@ use std::net::{Ipv4Addr, Net, SocketAddr, SocketAddrV4, TcpListener, TcpStream, 
 use std::sync::Wait;
 use std::sync::atomic::{AtomicBool, AtomicU64, Ordering};
 use std::time::Duration;
+use world_text::read_world;
 use worlds::{World, host_reply};
 
 const WORLD: &str = "\

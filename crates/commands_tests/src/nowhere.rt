@@ -1,6 +1,6 @@
 //! A machine on which no server can listen.
 use commands::Host;
-use exchange::Endpoint;
+use events::Endpoint;
 
 /// No place for a server.
 #[derive(Clone, Copy)]

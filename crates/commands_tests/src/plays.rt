@@ -57,7 +57,7 @@ pub const KEPT: Worked = Worked {
     printed: "send 1 198.51.100.1 www.lab.example. A\nsend 2 198.51.100.2 www.lab.example. A\nsend 3 198.51.100.3 www.lab.example. A\nreply 1 NOERROR\n  an www.lab.example. 300 A 192.0.2.1\nreply 2 NOERROR\n  an www.lab.example. 1 A 192.0.2.1\nsend 4 198.51.100.3 www.lab.example. A\nright 2 of 2\n",
 };
 
-// A name error is kept.
+// An NXDOMAIN is kept.
 pub const DENIED: Worked = Worked {
     script: "at 0\nask gone.example. A\nrun\nat 59999\nask gone.example. TXT\nat 60000\nask gone.example. TXT\n",
     printed: "send 1 198.51.100.1 gone.example. A\nsend 2 198.51.100.2 gone.example. A\nreply 1 NXDOMAIN\n  ns example. 60 SOA ns.example. h.example. 1 2 3 4 60\nreply 2 NXDOMAIN\n  ns example. 1 SOA ns.example. h.example. 1 2 3 4 60\nsend 3 198.51.100.2 gone.example. TXT\nright 2 of 2\n",

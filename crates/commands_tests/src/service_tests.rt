@@ -8,7 +8,7 @@ use config::read_config;
 use dname::Starved;
 use engine::Core;
 use server::Ends;
-use service::{resolver_of, serve};
+use server_start::{resolver_of, run_server};
 use std::alloc::Global;
 use std::net::{Net, TcpListener, TcpStream};
 use std::sync::Wait;
@@ -44,7 +44,7 @@ fn resolve<R: Net<Listener = TcpListener, Stream = TcpStream> + Threads + Wait +
     stop: &AtomicBool,
 ) -> bool {
     match resolver(alloc, world, port) {
-        Ok(core) => serve(rt, alloc, core, ends, 2, stop).is_ok(),
+        Ok(core) => run_server(rt, alloc, core, ends, 2, stop).is_ok(),
         Err(_) => false,
     }
 }

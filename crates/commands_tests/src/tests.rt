@@ -5,8 +5,8 @@ use crate::nowhere::Nowhere;
 use commandline::{Command, LineFault};
 use commands::{Texts, refuse_line, run_words};
 use dname::{Heap, Starved};
-use pages::{Page, WIDE};
-use refusing::Refusing;
+use failing_writer::{Page, WIDE};
+use refusing_alloc::Refusing;
 use std::alloc::{AllocError, Global};
 use std::sync::Wait;
 use std::test::Fail;
@@ -337,7 +337,7 @@ fn a_long_set_is_answered(rt: HostRuntime) -> Result<(), Fail> {
     Ok(())
 }
 
-// The first growth of a command over the example whose refusal does not end it for want of memory, with nothing else
+// The first growth of a command over the example whose refusal does not end it when out of memory, with nothing else
 // printed. The command ends well where none is refused, and takes more than eight; else this is their number.
 fn wrong_growth<R: Threads + Wait + AllocGlobal + Sync>(
     rt: &R,

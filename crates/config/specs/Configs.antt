@@ -1,15 +1,16 @@
 -- What a server's file says, line by line.
 use Rattle.std.specs.Prelude.{ℕ, Bool, false, ◌||◌, cond, Result, Ok, Err, Option, Some, None, List, [], ◌∷◌, ◌++◌}
+use Rattle.limits.specs.Limits.{max_entries, max_sockets, max_workers}
 use Rattle.hex.specs.Hex.{decode_sized}
 use Rattle.hex.specs.declared.error.FromHexError.{FromHexError}
 use Rattle.dname.specs.Labels.{Name, same_name}
-use Rattle.statements.specs.declared.fault.LineKind.{LineKind}
-use Rattle.statements.specs.declared.fault.LineKind.TheVariants.{UnknownWord, WordCount, BadHex}
-use Rattle.statements.specs.declared.fault.LineError.{LineError}
-use Rattle.statements.specs.Faults.{◌>>=◌}
-use Rattle.statements.specs.Lines.{lines}
-use Rattle.statements.specs.Texts.{said_from}
-use Rattle.statements.specs.Words.{number_of, address_of, name_of, next, ended}
+use Rattle.text_lines.specs.declared.fault.LineKind.{LineKind}
+use Rattle.text_lines.specs.declared.fault.LineKind.TheVariants.{UnknownWord, WordCount, BadHex}
+use Rattle.text_lines.specs.declared.fault.LineError.{LineError}
+use Rattle.text_lines.specs.Faults.{◌>>=◌}
+use Rattle.text_lines.specs.Lines.{lines}
+use Rattle.text_lines.specs.Texts.{said_from}
+use Rattle.text_lines.specs.Words.{number_of, address_of, name_of, next, ended}
 use Rattle.config.specs.declared.keyword.Keyword.{Keyword}
 use Rattle.config.specs.declared.keyword.Keyword.TheVariants as the
 use Rattle.config.specs.Keywords.{keyword_of}
@@ -20,7 +21,7 @@ pub record End : Type 0 where
   pub port : ℕ
 
 -- A zone that a server serves itself, and its file.
-pub record Zone : Type 0 where
+pub record LocalZone : Type 0 where
   pub origin : Name
   pub file : List ℕ
 
@@ -29,7 +30,7 @@ pub record Draft : Type 0 where
   pub listen : Option End
   pub port : Option ℕ
   pub hints : List (List ℕ)
-  pub locals : List Zone
+  pub locals : List LocalZone
   pub cache : Option ℕ
   pub delegations : Option ℕ
   pub penalties : Option ℕ
@@ -64,7 +65,7 @@ number_in low high ws = next (number_of low high) ws >>= λ n. ended n.0 n.1
 abbrev pub hint_in : List (List ℕ) → Result (List ℕ) LineKind
 hint_in ws = next address_of ws >>= λ a. ended a.0 a.1
 
-abbrev pub zone_in : List (List ℕ) → Result Zone LineKind
+abbrev pub zone_in : List (List ℕ) → Result LocalZone LineKind
 zone_in ws = next name_of ws >>= λ o. (next Ok o.1 >>= λ f. ended (record { origin = o.0; file = f.0 }) f.1)
 
 abbrev pub seed_read : Result (List ℕ) FromHexError → Result (List ℕ) LineKind
@@ -85,12 +86,12 @@ abbrev pub once : {X : Type 0} → Option X → X → Result (Option X) LineKind
 once None x = Ok (Some x)
 once (Some y) x = Err WordCount
 
-abbrev pub has_origin : Name → List Zone → Bool
+abbrev pub has_origin : Name → List LocalZone → Bool
 has_origin n [] = false
 has_origin n (z ∷ zs) = same_name z.origin n || has_origin n zs
 
 -- An origin stands on one line alone.
-abbrev pub with_zone : Draft → Zone → Result Draft LineKind
+abbrev pub with_zone : Draft → LocalZone → Result Draft LineKind
 with_zone d z = cond (has_origin z.origin d.locals) (Err WordCount) (Ok (record d { locals = d.locals ++ z ∷ [] }))
 
 abbrev pub said_by : Draft → Keyword → List (List ℕ) → Result Draft LineKind
@@ -98,12 +99,12 @@ said_by d the.Listen ws = end_in ws >>= λ e. (once d.listen e >>= λ v. Ok (rec
 said_by d the.Port ws = number_in 1 65535 ws >>= λ n. (once d.port n >>= λ v. Ok (record d { port = v }))
 said_by d the.Hint ws = hint_in ws >>= λ a. Ok (record d { hints = d.hints ++ a ∷ [] })
 said_by d the.Local ws = zone_in ws >>= λ z. with_zone d z
-said_by d the.Cache ws = number_in 1 1000000 ws >>= λ n. (once d.cache n >>= λ v. Ok (record d { cache = v }))
-said_by d the.Delegations ws = number_in 1 1000000 ws >>= λ n. (once d.delegations n >>= λ v. Ok (record d { delegations = v }))
-said_by d the.Penalties ws = number_in 1 1000000 ws >>= λ n. (once d.penalties n >>= λ v. Ok (record d { penalties = v }))
-said_by d the.Failures ws = number_in 1 1000000 ws >>= λ n. (once d.failures n >>= λ v. Ok (record d { failures = v }))
-said_by d the.Sockets ws = number_in 1 16 ws >>= λ n. (once d.sockets n >>= λ v. Ok (record d { sockets = v }))
-said_by d the.Workers ws = number_in 1 16 ws >>= λ n. (once d.workers n >>= λ v. Ok (record d { workers = v }))
+said_by d the.Cache ws = number_in 1 max_entries ws >>= λ n. (once d.cache n >>= λ v. Ok (record d { cache = v }))
+said_by d the.Delegations ws = number_in 1 max_entries ws >>= λ n. (once d.delegations n >>= λ v. Ok (record d { delegations = v }))
+said_by d the.Penalties ws = number_in 1 max_entries ws >>= λ n. (once d.penalties n >>= λ v. Ok (record d { penalties = v }))
+said_by d the.Failures ws = number_in 1 max_entries ws >>= λ n. (once d.failures n >>= λ v. Ok (record d { failures = v }))
+said_by d the.Sockets ws = number_in 1 max_sockets ws >>= λ n. (once d.sockets n >>= λ v. Ok (record d { sockets = v }))
+said_by d the.Workers ws = number_in 1 max_workers ws >>= λ n. (once d.workers n >>= λ v. Ok (record d { workers = v }))
 said_by d the.Seed ws = seed_in ws >>= λ s. (once d.seed s >>= λ v. Ok (record d { seed = v }))
 
 abbrev pub said_if : Draft → Option Keyword → List (List ℕ) → Result Draft LineKind
@@ -121,7 +122,7 @@ pub record Config : Type 0 where
   pub listen : End
   pub port : ℕ
   pub hints : List (List ℕ)
-  pub locals : List Zone
+  pub locals : List LocalZone
   pub cache : ℕ
   pub delegations : ℕ
   pub penalties : ℕ

@@ -6,15 +6,15 @@
 //! upstream sockets (16) and TCP workers (4) there are, `seed HEX` where identifiers begin. Blank lines and lines that
 //! begin with `;` are skipped. Words are parted by spaces and tabs.
 ghost use Rattle.std.specs.Prelude.{◌≡◌, Ok, Err, MatchResult};
-ghost use Rattle.statements.specs.Texts.{IsTextFault};
+ghost use Rattle.text_lines.specs.Texts.{IsTextFault};
 ghost use Rattle.config.specs.Configs.{config_of};
 
 use crate::draft::Draft;
 use dname::{Heap, Name};
 use rdata::Addr;
-use statements::{LineError, TextLines};
 use std::alloc::{Allocator, Global};
 use std::marker::Model;
+use text_lines::{LineError, TextLines};
 
 /// Where a server listens. Port 0 is any that is free.
 #[derive(Drop)]
@@ -43,9 +43,9 @@ pub struct LocalFile<'t, A: Allocator = Global> {
 }
 
 impl<'t, A: Allocator> Model for LocalFile<'t, A> {
-    ghost use Rattle.config.specs.Configs.{Zone};
+    ghost use Rattle.config.specs.Configs.{LocalZone};
 
-    ghost Value = { Zone };
+    ghost Value = { LocalZone };
 
     ghost view = { λ l. record { origin = l.origin; file = l.file.now } };
 }
@@ -61,7 +61,7 @@ pub struct ServeConfig<'t, A: Allocator = Global> {
     pub hints: Vec<Addr, A>,
     /// The zones that the server serves itself, of different origins.
     pub locals: Vec<LocalFile<'t, A>, A>,
-    /// How many RRsets and denials are kept at most, 1 to 1,000,000.
+    /// How many RRsets and negative answers are kept at most, 1 to 1,000,000.
     pub cache: u32,
     /// How many delegations are kept at most, 1 to 1,000,000.
     pub delegations: u32,
@@ -96,7 +96,7 @@ pub fn read_config<'t, A: Heap>(alloc: A, text: &'t str) -> Result<ServeConfig<'
     let mut draft = Draft::new(alloc);
     let mut number = 1usize;
     for line in TextLines::new(text) {
-        match draft.take(alloc, line) {
+        match draft.take_line(alloc, line) {
             Ok(()) => {}
             Err(kind) => {
                 return Err(LineError { line: number, kind });

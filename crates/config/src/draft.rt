@@ -1,23 +1,24 @@
 //! What the lines of a server's file say, one after the other.
 ghost use Rattle.std.specs.Prelude.{◌≡◌, ◌≤◌, Ok, Err, MatchResult};
-ghost use Rattle.statements.specs.Faults.{IsLineFault};
-ghost use Rattle.statements.specs.Texts.{stated_words};
+ghost use Rattle.text_lines.specs.Faults.{IsLineFault};
+ghost use Rattle.text_lines.specs.Texts.{stated_words};
 ghost use Rattle.config.specs.Configs.{blank, end_in, number_in, hint_in, zone_in, seed_of, seed_in, once as once_of, has_origin, with_zone, said_by, said, finished};
 
 use crate::config::{Endpoint, LocalFile, ServeConfig};
 use crate::keyword::Keyword;
 use dname::{Heap, Name};
 use hex::FromHex;
+use limits::{MAX_ENTRIES, MAX_SOCKETS};
 use rdata::Addr;
-use statements::{LineKind, LineWords};
 use std::alloc::Allocator;
 use std::marker::Model;
+use text_lines::{LineKind, LineWords};
 
 // How many entries of one kind are kept at most.
-const ENTRIES: u64 = 1_000_000;
+const ENTRIES: u64 = MAX_ENTRIES as u64;
 
 // How many sockets, and how many workers, there are at most.
-const THREADS: u64 = 16;
+const THREADS: u64 = MAX_SOCKETS as u64;
 
 /// What the lines said up to here.
 #[derive(Drop)]
@@ -37,9 +38,9 @@ pub(crate) struct Draft<'t, A: Allocator> {
 
 impl<'t, A: Allocator> Model for Draft<'t, A> {
     ghost use Rattle.std.specs.Prelude.{map};
-    ghost use Rattle.config.specs.Configs.{Draft as Stated};
+    ghost use Rattle.config.specs.Configs.{Draft as DraftSpec};
 
-    ghost Value = { Stated };
+    ghost Value = { DraftSpec };
 
     ghost view = { λ d. record { listen = d.listen; port = d.port; hints = map (λ a. a.0) d.hints.items; locals = d.locals.items; cache = d.cache; delegations = d.delegations; penalties = d.penalties; failures = d.failures; sockets = d.sockets; workers = d.workers; seed = d.seed } };
 }
@@ -74,7 +75,7 @@ impl<'t, A: Heap> Draft<'t, A> {
     }
 
     /// One line more.
-    pub(crate) fn take(&mut self, alloc: A, line: &'t str) -> Result<(), LineKind>
+    pub(crate) fn take_line(&mut self, alloc: A, line: &'t str) -> Result<(), LineKind>
         ensures { MatchResult result (λ _. said self.old (stated_words line.entry.now) ≡ Ok self.new) (λ e. IsLineFault e (said self.old (stated_words line.entry.now))) }
     {
         let mut words = LineWords::stated(line);

@@ -7,7 +7,7 @@
 //!
 //! Promised: what the text says (`config_of`), or the first line that is refused and why (`LineError`): an unknown
 //! word, a value out of its limits, a line that may stand once and stands twice, no `listen`.
-//! Not here: reading files and binding sockets (`commands`); making the resolver (`service`).
+//! Not here: reading files and binding sockets (`commands`); making the resolver (`server_start`).
 //!
 //! ```text
 //! let config = read_config(alloc, "listen 127.0.0.1 5300\nhint 198.41.0.4\nlocal example. example.zone\n")?;
@@ -20,4 +20,4 @@ mod draft;
 mod keyword;
 
 pub use config::{Endpoint, LocalFile, ServeConfig, read_config};
-pub use statements::{LineError, LineKind};
+pub use text_lines::{LineError, LineKind};

@@ -21,7 +21,7 @@ pushed d b = cond (nat_le 63 (length d.opened)) (Err LongLabel) (cond (nat_le 25
 abbrev pub shut : Draft → Draft
 shut d = record { closed = d.closed ++ d.opened ∷ []; opened = [] }
 
--- A refusal is the one that stands there; want of memory can come at any time.
+-- A refusal is the one that stands there; running out of memory can come at any time.
 abbrev pub Refuses : Overflow → Result Draft Overflow → Type 0
 Refuses Memory r = Unit {0}
 Refuses LongLabel r = r ≡ Err LongLabel

@@ -102,7 +102,7 @@ name_under origin text = cond (nat_eq (length text) 0) (Err EmptyLabel)
 abbrev pub name_of_text : List ℕ → Result (List (List ℕ)) NameError
 name_of_text text = name_under root text
 
--- A reader's refusal: want of memory leaves all open, any other is the fault that stands first.
+-- A reader's refusal: running out of memory leaves all open, any other is the fault that stands first.
 abbrev pub IsFault : {X : Type 0} → NameError → Result X NameError → Type 0
 IsFault Memory read = Unit {0}
 IsFault EmptyLabel read = read ≡ Err EmptyLabel

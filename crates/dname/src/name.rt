@@ -118,7 +118,7 @@ impl<A: Heap> Name<A> {
 }
 
 impl<A: Heap> Name<A> {
-    /// Makes it the other name, in its own memory, which grows where that is too small. Want of memory changes
+    /// Makes it the other name, in its own memory, which grows where that is too small. Running out of memory changes
     /// nothing.
     pub fn copy_from<B: Allocator>(&mut self, other: &Name<B>) -> Result<(), Starved>
         ensures ok { OnOk result (self.new ≡ other.now) }

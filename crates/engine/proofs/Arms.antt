@@ -4,18 +4,18 @@ use Rattle.std.specs.Prelude.{MatchOption, is_some}
 use Rattle.resolution.specs.Jobs.{Stores, Input}
 use Rattle.resolution.specs.Jobs as jobs
 use Rattle.resolution.specs.Rules.{Stops}
-use Rattle.exchange.specs.declared.action.Action.{Action as Said}
-use Rattle.exchange.specs.Views.{listed}
-use Rattle.runs.specs.States.{Endpoint, Event, Datagram, TcpReply, TcpFailed, Tick, Action, Nobody, Query, Open, State}
+use Rattle.events.specs.declared.action.Action.{Action}
+use Rattle.events.specs.Views.{listed}
+use Rattle.runs.specs.States.{Endpoint, Event, Datagram, TcpReply, TcpFailed, Tick, Action as ActionSpec, Nobody, OpenQuery, Open, State}
 use Rattle.runs.specs.Steps.{AreOthers, IsOfLine, IsOfNumber, IsFirstDue, IsFollowed, IsInput, IsLeft, IsUnfit}
-use Rattle.queries.specs.Lookups.{IsTheOne}
+use Rattle.open_queries.specs.Lookups.{IsTheOne}
 use Rattle.engine.specs.Moves.{IsToldBy, IsHeard, IsPassed, IsServed, IsLost}
 use Rattle.engine.specs.Replies.{alone, if_any}
 use Rattle.engine.specs.Finds.{Finds, Reaches, NoneDue, Tells, Untold, Rings, Unrung}
 use Rattle.engine.specs.Turns.{Turns, IsQuiet}
 use Rattle.engine.proofs.Found.{found_is}
 
--- ---- want of memory
+-- ---- out of memory
 
 more_stores : (s : State) (k n : ℕ) (P Q : Stores → Type 0) (new : State) → k ≡ n → (P new.stores → Q new.stores) → IsLeft s k P new → IsLeft s n Q new
 more_stores s k n P Q new same weaker h = record {
@@ -43,7 +43,7 @@ module _ (s : State) (now sock : ℕ) (from : Endpoint) (bytes : List ℕ) where
   }
 
   module _ (k : ℕ) (h : Reaches s sock from bytes k) (new : State) where
-    reached : {A : Type 0} (o : Option (Said A)) → IsHeard s k at_socket o new → Turns s at_socket (Some (if_any o)) new
+    reached : {A : Type 0} (o : Option (Action A)) → IsHeard s k at_socket o new → Turns s at_socket (Some (if_any o)) new
     reached None p = record {
       served = Nobody;
       turn = inl record {
@@ -54,13 +54,13 @@ module _ (s : State) (now sock : ℕ) (from : Endpoint) (bytes : List ℕ) where
       };
     }
     reached (Some a) p = record {
-      served = Query (p.query).number;
+      served = OpenQuery (p.query).number;
       turn = inr record { query = p.query; input = p.input; served_is = refl; brings = p.told; serves = p.serves };
     }
 
     unreached : IsLost s k at_socket new → Turns s at_socket None new
     unreached p = record {
-      served = Query (p.query).number;
+      served = OpenQuery (p.query).number;
       turn = (
         p.query,
         p.one.stands,
@@ -83,7 +83,7 @@ module _ (s : State) (e : Event) (now sock : ℕ) (from : Endpoint) (bytes : Lis
   datagram_missed h = subst (λ (x : Event). Turns s x (Some []) s) (sym is) (missed s now sock from bytes h)
 
   module _ (k : ℕ) (h : Reaches s sock from bytes k) (new : State) where
-    pub datagram_heard : {A : Type 0} (o : Option (Said A)) → IsHeard s k e o new → Turns s e (Some (if_any o)) new
+    pub datagram_heard : {A : Type 0} (o : Option (Action A)) → IsHeard s k e o new → Turns s e (Some (if_any o)) new
     datagram_heard o p = subst (λ (x : Event). Turns s x (Some (if_any o)) new) (sym is) (reached s now sock from bytes k h new o (subst (λ (x : Event). IsHeard s k x o new) is p))
 
     pub datagram_lost : IsLost s k e new → Turns s e None new
@@ -109,10 +109,10 @@ module _ (s : State) (e : Event) (now ask : ℕ) (bytes : List ℕ) (is : e ≡ 
     of_number : (q : Open) → IsTheOne s.queries k q → IsOfNumber ask q
     of_number q one = found_is (IsOfNumber ask) s.queries k q h one
 
-    pub reply_heard : (out : List Action) (new : State) → IsServed s k e out new → Turns s e (Some out) new
+    pub reply_heard : (out : List ActionSpec) (new : State) → IsServed s k e out new → Turns s e (Some out) new
     reply_heard out new p = subst (λ (x : Event). Turns s x (Some out) new) (sym is)
         record {
-          served = Query (p.query).number;
+          served = OpenQuery (p.query).number;
           turn = inr record { query = p.query; input = p.input; served_is = refl; brings = inl (subst (λ (x : Event). IsToldBy (s.site).port (p.query).ask x p.input) is p.told); serves = p.serves };
         }
 
@@ -121,7 +121,7 @@ module _ (s : State) (e : Event) (now ask : ℕ) (bytes : List ℕ) (is : e ≡ 
         let p : IsLost s k on_stream new = subst (λ (x : Event). IsLost s k x new) is lost in
         subst (λ (x : Event). Turns s x None new) (sym is)
         record {
-          served = Query (p.query).number;
+          served = OpenQuery (p.query).number;
           turn = (
             p.query,
             p.one.stands,
@@ -142,12 +142,12 @@ module _ (s : State) (e : Event) (now ask : ℕ) (bytes : List ℕ) (is : e ≡ 
       unfit : (q : Open) → IsTheOne s.queries k q → IsUnfit s on_stream q
       unfit q one = subst (IsUnfit s on_stream) (one.alone passed.query passed.one.stands passed.one.number_is) (subst (λ (x : Event). IsUnfit s x passed.query) is passed.unfit)
 
-      pub reply_failed : (out : List Action) (new : State) → Tells mid k jobs.TcpFailed out new → Turns s e (Some out) new
+      pub reply_failed : (out : List ActionSpec) (new : State) → Tells mid k jobs.TcpFailed out new → Turns s e (Some out) new
       reply_failed out new told =
           let p : Tells s k jobs.TcpFailed out new = subst (λ (z : State). Tells z k jobs.TcpFailed out new) passed.state told in
           subst (λ (x : Event). Turns s x (Some out) new) (sym is)
           record {
-            served = Query (p.query).number;
+            served = OpenQuery (p.query).number;
             turn = inr record {
               query = p.query;
               input = jobs.TcpFailed ((p.query).ask).server;
@@ -162,7 +162,7 @@ module _ (s : State) (e : Event) (now ask : ℕ) (bytes : List ℕ) (is : e ≡ 
           let p : Untold s k jobs.TcpFailed new = subst (λ (z : State). Untold z k jobs.TcpFailed new) passed.state lost in
           subst (λ (x : Event). Turns s x None new) (sym is)
           record {
-            served = Query (p.query).number;
+            served = OpenQuery (p.query).number;
             turn = (
               p.query,
               p.one.stands,
@@ -190,10 +190,10 @@ module _ (s : State) (e : Event) (now ask : ℕ) (is : e ≡ TcpFailed now ask) 
     of_failed : (q : Open) → IsTheOne s.queries k q → IsOfNumber ask q
     of_failed q one = found_is (IsOfNumber ask) s.queries k q h one
 
-    pub failure_heard : (out : List Action) (new : State) → Tells s k jobs.TcpFailed out new → Turns s e (Some out) new
+    pub failure_heard : (out : List ActionSpec) (new : State) → Tells s k jobs.TcpFailed out new → Turns s e (Some out) new
     failure_heard out new p = subst (λ (x : Event). Turns s x (Some out) new) (sym is)
         record {
-          served = Query (p.query).number;
+          served = OpenQuery (p.query).number;
           turn = inr record {
             query = p.query;
             input = jobs.TcpFailed ((p.query).ask).server;
@@ -206,7 +206,7 @@ module _ (s : State) (e : Event) (now ask : ℕ) (is : e ≡ TcpFailed now ask) 
     pub failure_lost : (new : State) → Untold s k jobs.TcpFailed new → Turns s e None new
     failure_lost new p = subst (λ (x : Event). Turns s x None new) (sym is)
         record {
-          served = Query (p.query).number;
+          served = OpenQuery (p.query).number;
           turn = (
             p.query,
             p.one.stands,
@@ -228,7 +228,7 @@ module _ (s : State) (e : Event) (now ask : ℕ) (is : e ≡ TcpFailed now ask) 
 none_then_some : (s : State) (q : Open) → NoneDue s → IsFirstDue s q → ⊥
 none_then_some s q none first = let before = none q first.stands in let due = first.due in absurd (omega arith)
 
-pub followed : {A : Type 0} (new : State) (a : Said A) (o : Option ℕ) (more : Bool) → more ≡ is_some o → MatchOption o (NoneDue new) (λ k. Finds (IsFirstDue new) new.queries k) → IsFollowed (alone a) (listed (Some a) more) new
+pub followed : {A : Type 0} (new : State) (a : Action A) (o : Option ℕ) (more : Bool) → more ≡ is_some o → MatchOption o (NoneDue new) (λ k. Finds (IsFirstDue new) new.queries k) → IsFollowed (alone a) (listed (Some a) more) new
 followed new a None more is none = inr (
   ap (listed (Some a)) is,
   λ some. let before = none some.0 some.1 in let due = some.2 in absurd (omega arith),
@@ -246,13 +246,13 @@ module _ (s : State) (now : ℕ) where
     first_of_all : (q : Open) → IsTheOne s.queries k q → IsFirstDue s q
     first_of_all q one = found_is (IsFirstDue s) s.queries k q h one
 
-    pub tick_rung : (first out : List Action) → Rings s k first new → IsFollowed first out new → Turns s at_time (Some out) new
+    pub tick_rung : (first out : List ActionSpec) → Rings s k first new → IsFollowed first out new → Turns s at_time (Some out) new
     tick_rung first out (inl (late, p)) more = record {
-      served = Query (p.query).number;
+      served = OpenQuery (p.query).number;
       turn = inr (first, inl record { query = p.query; served_is = refl; due = first_of_all p.query p.one; late = late p.query p.one; ends = p.ends }, more);
     }
     tick_rung first out (inr (early, p)) more = record {
-      served = Query (p.query).number;
+      served = OpenQuery (p.query).number;
       turn = inr (
         first,
         inr record {
@@ -268,7 +268,7 @@ module _ (s : State) (now : ℕ) where
 
     pub tick_lost : Unrung s k new → Turns s at_time None new
     tick_lost (inl p) = record {
-      served = Query (p.query).number;
+      served = OpenQuery (p.query).number;
       turn = (
         p.query,
         p.taken.one.stands,
@@ -283,7 +283,7 @@ module _ (s : State) (now : ℕ) where
       );
     }
     tick_lost (inr (early, p)) = record {
-      served = Query (p.query).number;
+      served = OpenQuery (p.query).number;
       turn = (
         p.query,
         p.one.stands,

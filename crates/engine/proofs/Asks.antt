@@ -4,11 +4,11 @@ use Rattle.std.specs.List.{Contains}
 use Rattle.dname.specs.Labels.{Name}
 use Rattle.rdata.specs.declared.addr.Addr.{Addr}
 use Rattle.resolution.specs.Jobs.{Job, wait_of_job}
-use Rattle.runs.specs.States.{Action, Asker, Asking, IsFor, ByUdp, ByTcp, Open, open_query, State, word_of, word_taken, low_half, socket_of}
+use Rattle.runs.specs.States.{Action, ClientQuery, Ask, IsFor, ByUdp, ByTcp, Open, open_query, State, word_of, word_taken, low_half, socket_of}
 use Rattle.runs.specs.Messages.{IsSent}
 use Rattle.runs.specs.Steps.{IsInUse, IsRaised, AreWith, WaitsByUdp, WaitsByTcp}
-use Rattle.queries.specs.Lookups.{IsOnStream, HasNo, IsTakenId}
-use Rattle.engine.specs.Works.{IsSound}
+use Rattle.open_queries.specs.Lookups.{IsOnStream, HasNo, IsTakenId}
+use Rattle.engine.specs.ResolverStates.{IsSound}
 use Rattle.engine.specs.Moves.{Puts, Halts}
 
 -- Where the query itself is not open, asks in use are those of all open queries.
@@ -24,14 +24,14 @@ module _ (s s1 : State) (drew : s1 ≡ record s { generator = word_taken s.gener
   pub still_none : (k : ℕ) → HasNo s.queries k → HasNo s1.queries k
   still_none k h = subst (λ (z : State). HasNo z.queries k) (sym drew) h
 
-  pub over_fresh : IsSound s → (q : Open) → Contains s1.queries q → IsOnStream s1.asked q → ⊥
+  pub over_fresh : IsSound s → (q : Open) → Contains s1.queries q → IsOnStream s1.tcp_asks q → ⊥
   over_fresh sound q there on =
       let was : Contains s.queries q = subst (λ (z : State). Contains z.queries q) drew there in
-      let asked : s1.asked ≡ s.asked = ap (λ (z : State). z.asked) drew in
-      let less : s1.asked < s.asked = sound.asked q was s1.asked on in
+      let asked : s1.tcp_asks ≡ s.tcp_asks = ap (λ (z : State). z.tcp_asks) drew in
+      let less : s1.tcp_asks < s.tcp_asks = sound.asked q was s1.tcp_asks on in
       omega arith
 
-  module _ (mid : State) (who : Asker) (k : ℕ) (job : Job) (ask : Asking) (due : ℕ) (a : Action) (h : Puts s1 (open_query k who job ask due) a mid) where
+  module _ (mid : State) (who : ClientQuery) (k : ℕ) (job : Job) (ask : Ask) (due : ℕ) (a : Action) (h : Puts s1 (open_query k who job ask due) a mid) where
     sent_there : IsSent (s.site).port ask a
     sent_there = subst (λ (z : State). IsSent (z.site).port ask a) drew h.sent
 
@@ -63,8 +63,8 @@ module _ (s s1 : State) (drew : s1 ≡ record s { generator = word_taken s.gener
       };
     }
 
-    pub waits_by_tcp : (server : Addr) (n : Name) (t : ℕ) → IsFor server n t ask → ask.path ≡ ByTcp s.asked → ask.id ≡ low_half (word_of s.generator) → due ≡ s.clock + 3000
-        → WaitsByTcp s who k s.opened server n t job s.stores (a ∷ []) (record mid { asked = mid.asked + 1 })
+    pub waits_by_tcp : (server : Addr) (n : Name) (t : ℕ) → IsFor server n t ask → ask.path ≡ ByTcp s.tcp_asks → ask.id ≡ low_half (word_of s.generator) → due ≡ s.clock + 3000
+        → WaitsByTcp s who k s.opened server n t job s.stores (a ∷ []) (record mid { tcp_asks = mid.tcp_asks + 1 })
     waits_by_tcp server n t for path id due_is = record {
       ask = ask;
       for = for;
@@ -74,7 +74,7 @@ module _ (s s1 : State) (drew : s1 ≡ record s { generator = word_taken s.gener
         sent = sent_there;
         out_is = refl;
         queries = subst (λ (d : ℕ). AreWith (open_query k who job ask d) s.queries mid.queries) due_is with_it;
-        state = ap (λ (z : State). record z { asked = z.asked + 1 }) put_state;
+        state = ap (λ (z : State). record z { tcp_asks = z.tcp_asks + 1 }) put_state;
       };
     }
 

@@ -11,7 +11,7 @@ use Rattle.zone.proofs.LawLists.{none_in}
 use Rattle.runs.specs.States.{Open, State}
 use Rattle.runs.specs.Steps.{most_open}
 use Rattle.engine.specs.Beginnings.{IsAllowed, CoreRefuses, core_fault}
-use Rattle.engine.specs.Works.{IsSound}
+use Rattle.engine.specs.ResolverStates.{IsSound}
 use Rattle.engine.specs.declared.settings.Settings.{Settings}
 use Rattle.engine.specs.declared.settings.CoreError.{CoreError}
 

@@ -1,30 +1,30 @@
 -- What becomes of a client's bytes, and of the query that they are.
 use Rattle.std.proofs.Common.{◌≡◌, ℕ, ◌+◌, ◌<◌, ◌≤◌, inl, inr, true, false, List, [], ◌∷◌, length, Option, Some, None, Result, Ok, Err, OnErr, refl, sym, ◌∙◌, ap, subst, arith}
-use Rattle.layout.specs.Messages.{Question as Echoed}
+use Rattle.message_grammar.specs.Messages.{Question as QuestionSpec}
 use Rattle.wire.specs.declared.via.Via.{Via}
 use Rattle.front.specs.Openings.{Opening}
-use Rattle.front.specs.Queries.{IsAsked}
+use Rattle.front.specs.Queries.{IsRequest}
 use Rattle.front.specs.declared.queries.Refusal.{Refusal}
-use Rattle.front.specs.declared.queries.Query.{Query as Question}
-use Rattle.front.specs.declared.queries.Asked.{Asked}
-use Rattle.front.specs.declared.queries.Asked.TheVariants as heard
+use Rattle.front.specs.declared.queries.Query.{Query}
+use Rattle.front.specs.declared.queries.Request.{Request}
+use Rattle.front.specs.declared.queries.Request.TheVariants as request
 use Rattle.resolution.specs.Jobs.{Stores, Taken, Job, Start, Next, Done}
 use Rattle.resolution.specs.Rules.{Advances, Stops}
-use Rattle.runs.specs.States.{Client, Action, Plain, Asker, asker, recursive, Served, Own, Open, job_for, State}
+use Rattle.runs.specs.States.{Client, Action, Plain, ClientQuery, client_query, recursive, Served, Own, Open, job_for, State}
 use Rattle.runs.specs.Messages.{IsRefusal, outcome_of}
 use Rattle.runs.specs.Steps.{AreOthers, Ends, AnswersAtHand, IsOpened, at_once, crowded, admitted}
-use Rattle.engine.specs.Works.{IsSound}
+use Rattle.engine.specs.ResolverStates.{IsSound}
 use Rattle.engine.specs.Moves.{Halts, Falls, Opens}
 use Rattle.engine.specs.Calls.{Handles, IsResolved, Begins, IsGone}
 use Rattle.engine.specs.Turns.{Turns}
-use Rattle.engine.proofs.Begun.{next_is_fresh, opens_at_once}
+use Rattle.engine.proofs.Started.{next_is_fresh, opens_at_once}
 use Rattle.engine.proofs.Lift.{others_same, lift, ends_too, falls_after}
 
 pub at_err : {T E P : Type 0} (r : Result T E) → P → OnErr r P
 at_err (Ok x) h = tt
 at_err (Err e) h = h
 
--- ---- want of memory
+-- ---- out of memory
 
 pub lost_none : (s : State) → IsSound s → IsGone s s
 lost_none s sound = record { queries = others_same s.queries s.opened (next_is_fresh s sound); stores = inl refl; generator = inl refl; state = refl }
@@ -51,7 +51,7 @@ lost_after s mid job next after stores new sound e advances h = falls_lost s job
 
 -- ---- a query that begins: what was said of the state after its work is said of the one before
 
-module _ (s : State) (who : Asker) (stores : Stores) (next : Next) (job : Job) (served : Served) (out : List Action) (new : State) (sound : IsSound s) where
+module _ (s : State) (who : ClientQuery) (stores : Stores) (next : Next) (job : Job) (served : Served) (out : List Action) (new : State) (sound : IsSound s) where
   abbrev worked : State
   worked = record s { stores = stores }
 
@@ -60,7 +60,7 @@ module _ (s : State) (who : Asker) (stores : Stores) (next : Next) (job : Job) (
   opened_before (crowded is asks many ends) = crowded is asks many (ends_too s s.opened s.queries stores (others_same s.queries s.opened (next_is_fresh s sound)) who _ stores out new ends)
   opened_before (admitted is asks few comes) = admitted is asks few (lift s s.opened s.queries stores (others_same s.queries s.opened (next_is_fresh s sound)) who (s.opened + 1) job stores out new next comes)
 
-pub begins : (s mid : State) (who : Asker) (next : Next) (after : Job) (stores : Stores) (out : List Action) (new : State) → IsSound s → mid ≡ record s { stores = stores }
+pub begins : (s mid : State) (who : ClientQuery) (next : Next) (after : Job) (stores : Stores) (out : List Action) (new : State) → IsSound s → mid ≡ record s { stores = stores }
     → Advances (s.site).home s.clock Start (job_for s.clock who.query) s.stores next after stores → Opens mid who next after out new → Begins s who out new
 begins s mid who next after stores out new sound e advances h =
     let k = subst (λ (z : State). Opens z who next after out new) e h in
@@ -70,7 +70,7 @@ begins s mid who next after stores out new sound e advances h =
     }
 
 -- What is known at once is the answer, of a query that is not opened.
-pub begins_known : (s mid : State) (who : Asker) (chain : List Taken) (last : Taken) (over : Job) (stores : Stores) (out : List Action) (new : State) → IsSound s → mid ≡ record s { stores = stores } → chain ≡ []
+pub begins_known : (s mid : State) (who : ClientQuery) (chain : List Taken) (last : Taken) (over : Job) (stores : Stores) (out : List Action) (new : State) → IsSound s → mid ≡ record s { stores = stores } → chain ≡ []
     → Advances (s.site).home s.clock Start (job_for s.clock who.query) s.stores (Done [] last) over stores → Ends mid who mid.opened (outcome_of mid.clock chain last) mid.stores out new → Begins s who out new
 begins_known s mid who chain last over stores out new sound e none advances ends =
     begins s mid who (Done [] last) over stores out new sound e advances
@@ -78,32 +78,32 @@ begins_known s mid who chain last over stores out new sound e none advances ends
 
 -- ---- a query
 
-pub resolved : (s : State) (who : Asker) (out : List Action) (new : State) → recursive who.query ≡ true → Begins s who out new → IsResolved s who out new
+pub resolved : (s : State) (who : ClientQuery) (out : List Action) (new : State) → recursive who.query ≡ true → Begins s who out new → IsResolved s who out new
 resolved s who out new wants h = record { served = h.served; is = inr (wants, h.resolves) }
 
-pub answered : (s : State) (who : Asker) (out : List Action) (new : State) → recursive who.query ≡ false → AnswersAtHand s who Own out new → IsResolved s who out new
+pub answered : (s : State) (who : ClientQuery) (out : List Action) (new : State) → recursive who.query ≡ false → AnswersAtHand s who Own out new → IsResolved s who out new
 answered s who out new wants_not h = record { served = Own; is = inl (wants_not, h) }
 
 -- ---- a client's bytes
 
 -- Under twelve bytes are dropped.
-pub is_dropped : {A : Type 0} (bytes : List ℕ) (asked : Asked A) → IsAsked bytes asked → length bytes < 12 → asked ≡ heard.Drop
+pub is_dropped : {A : Type 0} (bytes : List ℕ) (asked : Request A) → IsRequest bytes asked → length bytes < 12 → asked ≡ request.Drop
 is_dropped bytes asked (inl dropped) short = dropped.1
 is_dropped bytes asked (inr read) short = let whole : 12 ≤ length bytes = read.whole in absurd (omega (arith, whole, short))
 
 module _ (s : State) (client : ℕ) (way : Via) where
-  pub handles_dropped : Handles s client way heard.Drop [] s
+  pub handles_dropped : Handles s client way request.Drop [] s
   handles_dropped = record { served = Own; is = (refl, refl, refl) }
 
-  pub handles_refused : (refusal : Refusal) (start : Opening) (echo : Option Echoed) (action : Action) → IsRefusal client way refusal start echo action
-      → Handles s client way (heard.Refuse refusal start echo) (action ∷ []) s
+  pub handles_refused : (refusal : Refusal) (start : Opening) (echo : Option QuestionSpec) (action : Action) → IsRefusal client way refusal start echo action
+      → Handles s client way (request.Refuse refusal start echo) (action ∷ []) s
   handles_refused refusal start echo action is = record { served = Own; is = (refl, (action, is, refl), refl) }
 
-  pub handles_query : (q : Question Plain) (out : List Action) (new : State) → IsResolved s (asker client way q) out new → Handles s client way (heard.Query q) out new
+  pub handles_query : (q : Query Plain) (out : List Action) (new : State) → IsResolved s (client_query client way q) out new → Handles s client way (request.Query q) out new
   handles_query q out new h = record { served = h.served; is = h.is }
 
 module _ (s : State) (now client : ℕ) (way : Via) (bytes : List ℕ) where
-  pub turns_handled : (asked : Asked Plain) (out : List Action) (new : State) → IsAsked bytes asked → Handles s client way asked out new → Turns s (Client now client way bytes) (Some out) new
+  pub turns_handled : (asked : Request Plain) (out : List Action) (new : State) → IsRequest bytes asked → Handles s client way asked out new → Turns s (Client now client way bytes) (Some out) new
   turns_handled asked out new reads h = record { served = h.served; turn = (asked, reads, h.is) }
 
   pub turns_gone : (new : State) → IsGone s new → Turns s (Client now client way bytes) None new

@@ -1,7 +1,7 @@
 -- How many queries a list has, by their numbers.
 use Rattle.std.proofs.Common.{◌≡◌, ℕ, suc, ◌+◌, ◌≤◌, inl, inr, List, [], ◌∷◌, length, Contains, refl, sym, ◌∙◌, ap, arith}
 use Rattle.slab.proofs.SlabLemmas.{Contains-cons}
-use Rattle.queries.proofs.Pigeons.{Without, without}
+use Rattle.open_queries.proofs.Pigeons.{Without, without}
 use Rattle.runs.specs.States.{Open, AreApart}
 use Rattle.runs.specs.Steps.{AreOthers, AreWith}
 

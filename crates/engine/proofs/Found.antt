@@ -8,10 +8,10 @@ use Rattle.causes.specs.declared.cause.Cause.TheVariants as cause
 use Rattle.front.specs.declared.queries.Outcome.TheVariants as outcome
 use Rattle.resolution.specs.Jobs.{Input}
 use Rattle.resolution.specs.Rules.{Stops}
-use Rattle.runs.specs.States.{Endpoint, Datagram, Action, Asker, Open, due_moment, AreApart, State}
+use Rattle.runs.specs.States.{Endpoint, Datagram, Action, ClientQuery, Open, due_moment, AreApart, State}
 use Rattle.runs.specs.Messages.{id_in}
 use Rattle.runs.specs.Steps.{Ends, Serves, IsLeft, IsOfLine, IsOfNumber, IsFirstDue}
-use Rattle.queries.specs.Lookups.{IsOnLine, IsOnStream, Stands, IsFound, IsNoLater, Leads, IsTheOne, IsTaken}
+use Rattle.open_queries.specs.Lookups.{IsOnLine, IsOnStream, Stands, IsFound, IsNoLater, IsEarliestQuery, IsTheOne, IsTaken}
 use Rattle.engine.specs.Moves.{ServesOne, DropsOne}
 use Rattle.engine.specs.Finds.{Finds, OfTheOne, Reaches, NoneDue, IsLateOne, IsEarlyOne, Tells, Untold, Expires}
 use Rattle.engine.specs.Turns.{IsQuiet}
@@ -56,15 +56,15 @@ untold s k word server new asked h = record {
   left = subst (λ (x : Addr). IsLeft s k (Stops (word x) s.clock h.query.job s.stores) new) (asked h.query h.one) h.left;
 }
 
-pub expires : (s : State) (k : ℕ) (q : Open) (others : List Open) (who : Asker) (out : List Action) (new : State) → IsTaken s.queries k q others → who ≡ q.asker
-    → Ends (record s { queries = others }) who k (outcome.Fail cause.Deadline) s.stores out new → Expires s k out new
+pub expires : (s : State) (k : ℕ) (q : Open) (others : List Open) (who : ClientQuery) (out : List Action) (new : State) → IsTaken s.queries k q others → who ≡ q.client_query
+    → Ends (record s { queries = others }) who k (outcome.Fail cause.DeadlineOver) s.stores out new → Expires s k out new
 expires s k q others who out new taken is h =
-    let at_number : Ends s who k (outcome.Fail cause.Deadline) s.stores out new = ends_too s k others s.stores taken.others who (outcome.Fail cause.Deadline) s.stores out new h in
+    let at_number : Ends s who k (outcome.Fail cause.DeadlineOver) s.stores out new = ends_too s k others s.stores taken.others who (outcome.Fail cause.DeadlineOver) s.stores out new h in
     record {
       query = q;
       one = taken.one;
-      ends = subst (λ (w : Asker). Ends s w q.number (outcome.Fail cause.Deadline) s.stores out new) is
-          (subst (λ (n : ℕ). Ends s who n (outcome.Fail cause.Deadline) s.stores out new) (sym taken.one.number_is) at_number);
+      ends = subst (λ (w : ClientQuery). Ends s w q.number (outcome.Fail cause.DeadlineOver) s.stores out new) is
+          (subst (λ (n : ℕ). Ends s who n (outcome.Fail cause.DeadlineOver) s.stores out new) (sym taken.one.number_is) at_number);
     }
 
 -- ---- look-ups
@@ -79,7 +79,7 @@ pub asked : (qs : List Open) (ask : ℕ) (o : Option ℕ) → AreApart qs → Is
 asked qs ask None apart none = none
 asked qs ask (Some k) apart h = finds (IsOfNumber ask) qs k apart h
 
-pub is_due : (s : State) (due k : ℕ) → AreApart s.queries → Leads s.queries due k → due ≤ s.clock → Finds (IsFirstDue s) s.queries k
+pub is_due : (s : State) (due k : ℕ) → AreApart s.queries → IsEarliestQuery s.queries due k → due ≤ s.clock → Finds (IsFirstDue s) s.queries k
 is_due s due k apart h now = finds (IsFirstDue s) s.queries k apart record {
   query = h.query;
   stands = h.stands;
@@ -91,7 +91,7 @@ is_due s due k apart h now = finds (IsFirstDue s) s.queries k apart record {
   number_is = h.number_is;
 }
 
-pub none_is_due : (s : State) (due k : ℕ) → Leads s.queries due k → s.clock < due → NoneDue s
+pub none_is_due : (s : State) (due k : ℕ) → IsEarliestQuery s.queries due k → s.clock < due → NoneDue s
 none_is_due s due k h later p there = elim (h.first p there) [ inl after ↦ omega arith | inr both ↦ (let same : due ≡ due_moment p = both.0 in omega arith) ]
 
 pub none_open : (s : State) → s.queries ≡ [] → NoneDue s

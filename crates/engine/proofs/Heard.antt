@@ -1,13 +1,13 @@
 -- An event that is for the open query of a number.
 use Rattle.std.proofs.Common.{◌≡◌, ℕ, inl, inr, List, sym, ◌∙◌, subst, ap, Some}
 use Rattle.resolution.specs.Rules.{Stops}
-use Rattle.iterate.specs.declared.calls.Input.{Input as Given}
+use Rattle.iterate.specs.declared.calls.Input.{Input}
 use Rattle.iterate.specs.Views.{input_view}
 use Rattle.runs.specs.States.{Event, Action, Open, State}
 use Rattle.runs.specs.Steps.{Serves}
 use Rattle.engine.specs.Moves.{ServesOne, DropsOne, IsRead, Forgets, IsServed, IsLost}
 
-pub is_served : {A : Type 0} (s : State) (k : ℕ) (event : Event) (input : Given A) (out : List Action) (new : State) → IsRead s k event (Some input) → ServesOne s k (input_view input) out new → IsServed s k event out new
+pub is_served : {A : Type 0} (s : State) (k : ℕ) (event : Event) (input : Input A) (out : List Action) (new : State) → IsRead s k event (Some input) → ServesOne s k (input_view input) out new → IsServed s k event out new
 is_served s k event input out new read h = record {
   query = read.query;
   one = read.one;
@@ -16,7 +16,7 @@ is_served s k event input out new read h = record {
   serves = subst (λ (q : Open). Serves s q (input_view input) out new) (read.one.alone h.query h.one.stands h.one.number_is) h.serves;
 }
 
-pub is_lost : {A : Type 0} (s : State) (k : ℕ) (event : Event) (input : Given A) (new : State) → IsRead s k event (Some input) → DropsOne s k (input_view input) new → IsLost s k event new
+pub is_lost : {A : Type 0} (s : State) (k : ℕ) (event : Event) (input : Input A) (new : State) → IsRead s k event (Some input) → DropsOne s k (input_view input) new → IsLost s k event new
 is_lost s k event input new read h =
     let same : h.query ≡ read.query = read.one.alone h.query h.one.stands h.one.number_is in
     record {

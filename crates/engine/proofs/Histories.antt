@@ -1,9 +1,9 @@
 -- A history of the resolver is a run.
 use Rattle.std.proofs.Common.{◌≡◌, ℕ, Result, Ok, Err, List, [], ◌∷◌, refl, ap, subst}
 use Rattle.memory.specs.declared.Starved.{Starved}
-use Rattle.book.specs.Histories.{Line, Leads}
-use Rattle.exchange.specs.declared.event.Event.{Event as Told}
-use Rattle.exchange.specs.Views.{event_view}
+use Rattle.book.specs.Histories.{Line, LeadsMachine}
+use Rattle.events.specs.declared.event.Event.{Event}
+use Rattle.events.specs.Views.{event_view}
 use Rattle.runs.specs.States.{Action, State, IsNew}
 use Rattle.engine.specs.Beginnings.{IsBegun, first_state}
 use Rattle.engine.specs.Promises.{Steps, turn_of}
@@ -21,16 +21,16 @@ begun_is_new start h =
       failures = ap (λ (z : State). (z.stores).failures) made;
       queries = ap (λ (z : State). z.queries) made;
       opened = ap (λ (z : State). z.opened) made;
-      asked = ap (λ (z : State). z.asked) made;
+      tcp_asks = ap (λ (z : State). z.tcp_asks) made;
       seeded = ((h.settings).seed, ap (λ (z : State). z.generator) made);
     }
 
 module _ (A : Type 0) where
-  step_by : (event : Told A) (result : Result (List Action) Starved) (s new : State) → Moves s event result new → Steps s (event_view event) (out_of result) new
+  step_by : (event : Event A) (result : Result (List Action) Starved) (s new : State) → Moves s event result new → Steps s (event_view event) (out_of result) new
   step_by event (Ok out) s new h = h
   step_by event (Err refused) s new h = h
 
-  one_more : (e : Line (Told A) (List Action)) (older : List (Line (Told A) (List Action))) (start mid s : State) → IsRunOf A older start mid → Steps mid (event_view e.event) (out_of e.out) s
+  one_more : (e : Line (Event A) (List Action)) (older : List (Line (Event A) (List Action))) (start mid s : State) → IsRunOf A older start mid → Steps mid (event_view e.event) (out_of e.out) s
       → IsRunOf A (e ∷ older) start s
   one_more e older start mid s before steps = record {
     run = turn_of (event_view e.event) steps.served (out_of e.out) ∷ before.run;
@@ -38,8 +38,8 @@ module _ (A : Type 0) where
     shows = (refl, refl, before.shows);
   }
 
-  pub history_is_run : (workers : ℕ) (start : State) (lines : List (Line (Told A) (List Action))) (s : State)
-      → IsBegun start → Leads (Moves {A = A}) workers start lines s → IsRunOf A lines start s
+  pub history_is_run : (workers : ℕ) (start : State) (lines : List (Line (Event A) (List Action))) (s : State)
+      → IsBegun start → LeadsMachine (Moves {A = A}) workers start lines s → IsRunOf A lines start s
   history_is_run workers start [] s begun same = record { run = []; legal = subst (λ (z : State). IsNew start.site z) same (begun_is_new start begun); shows = tt }
   history_is_run workers start (e ∷ older) s begun h =
       one_more e older start h.0 s (history_is_run workers start older h.0 begun h.1) (step_by e.event e.out h.0 s h.2)

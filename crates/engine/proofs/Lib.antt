@@ -2,7 +2,7 @@ pub mod Aliases
 pub mod Arms
 pub mod Asks
 pub mod Beginning
-pub mod Begun
+pub mod Started
 pub mod Called
 pub mod Found
 pub mod Heard

@@ -2,13 +2,13 @@
 use Rattle.std.proofs.Common.{◌≡◌, ℕ, ◌⊎◌, inl, inr, List, [], ◌∷◌, refl, sym, ◌∙◌, ap, subst}
 use Rattle.rdata.specs.declared.addr.Addr.{Addr}
 use Rattle.front.specs.declared.queries.Outcome.{Outcome}
-use Rattle.resolution.specs.Jobs.{Stores, Job, Input, Next, Ask, AskTcp, Done, Fail}
+use Rattle.resolution.specs.Jobs.{Stores, Job, Input, Next, AskUdp, AskTcp, Done, Fail}
 use Rattle.resolution.specs.Rules.{Advances, Stops}
 use Rattle.resolution.proofs.Keeping.{advances_stop}
-use Rattle.runs.specs.States.{Action, Plain, Asker, Open, State, word_taken}
+use Rattle.runs.specs.States.{Action, Plain, ClientQuery, Open, State, word_taken}
 use Rattle.runs.specs.Messages.{IsReply}
 use Rattle.runs.specs.Steps.{IsInUse, IsRaised, AreOthers, AreWith, Ends, Comes}
-use Rattle.queries.specs.Lookups.{HasNo, IsTaken}
+use Rattle.open_queries.specs.Lookups.{HasNo, IsTaken}
 use Rattle.engine.specs.Moves.{Halts, Goes, Falls, ServesOne, DropsOne}
 
 pub others_same : (qs : List Open) (k : ℕ) → HasNo qs k → AreOthers k qs qs
@@ -18,7 +18,7 @@ pub none_of : (k : ℕ) (old new : List Open) → AreOthers k old new → HasNo 
 none_of k old new h = λ q there. (h.only q there).1
 
 -- Where the query is not open, its reply ends it.
-pub ends_here : (s : State) (who : Asker) (k : ℕ) (o : Outcome Plain) (a : Action) → HasNo s.queries k → IsReply who o a → Ends s who k o s.stores (a ∷ []) s
+pub ends_here : (s : State) (who : ClientQuery) (k : ℕ) (o : Outcome Plain) (a : Action) → HasNo s.queries k → IsReply who o a → Ends s who k o s.stores (a ∷ []) s
 ends_here s who k o a none reply = record { action = a; reply = reply; out_is = refl; queries = others_same s.queries k none; state = refl }
 
 module _ (s : State) (k : ℕ) (others : List Open) (before : Stores) (are : AreOthers k s.queries others) where
@@ -47,12 +47,12 @@ module _ (s : State) (k : ℕ) (others : List Open) (before : Stores) (are : Are
     only = λ q there. let it = h.only q there in ((are.only q it.0).0, it.1);
   }
 
-  pub ends_too : (who : Asker) (o : Outcome Plain) (after : Stores) (out : List Action) (new : State) → Ends bare who k o after out new → Ends s who k o after out new
+  pub ends_too : (who : ClientQuery) (o : Outcome Plain) (after : Stores) (out : List Action) (new : State) → Ends bare who k o after out new → Ends s who k o after out new
   ends_too who o after out new h = record { action = h.action; reply = h.reply; out_is = h.out_is; queries = others_too new.queries h.queries; state = h.state }
 
-  module _ (who : Asker) (opened : ℕ) (job : Job) (stores : Stores) (out : List Action) (new : State) where
+  module _ (who : ClientQuery) (opened : ℕ) (job : Job) (stores : Stores) (out : List Action) (new : State) where
     pub lift : (next : Next) → Comes bare who k opened next job stores out new → Comes s who k opened next job stores out new
-    lift (Ask server n t) h = record {
+    lift (AskUdp server n t) h = record {
       ask = h.ask;
       for = h.for;
       goes = record { sock = h.goes.sock; sock_is = h.goes.sock_is; path = h.goes.path; id = raised_too h.goes.sock (h.ask).server _ (h.ask).id h.goes.id };
@@ -68,7 +68,7 @@ module _ (s : State) (k : ℕ) (others : List Open) (before : Stores) (are : Are
     lift (Fail c) h = ends_too who _ stores out new h
 
 -- The work of a query, and what comes of it.
-pub goes_on : (s mid : State) (who : Asker) (k : ℕ) (job : Job) (input : Input) (next : Next) (after : Job) (stores : Stores) (out : List Action) (new : State) → HasNo s.queries k
+pub goes_on : (s mid : State) (who : ClientQuery) (k : ℕ) (job : Job) (input : Input) (next : Next) (after : Job) (stores : Stores) (out : List Action) (new : State) → HasNo s.queries k
     → mid ≡ record s { stores = stores } → Advances (s.site).home s.clock input job s.stores next after stores → Comes mid who k mid.opened next after mid.stores out new → Goes s who k job input out new
 goes_on s mid who k job input next after stores out new none e advances comes = record {
   next = next;
@@ -99,9 +99,9 @@ falls_in s job input stores stops = record { stores = inr stops; generator = inl
 
 -- The open query of a number.
 pub serves_one : (s mid : State) (k : ℕ) (q : Open) (input : Input) (out : List Action) (new : State) (others : List Open) → IsTaken s.queries k q others → mid ≡ record s { queries = others }
-    → Goes mid q.asker k q.job input out new → ServesOne s k input out new
+    → Goes mid q.client_query k q.job input out new → ServesOne s k input out new
 serves_one s mid k q input out new others taken e goes =
-    let h = subst (λ (z : State). Goes z q.asker k q.job input out new) e goes in
+    let h = subst (λ (z : State). Goes z q.client_query k q.job input out new) e goes in
     let number = taken.one.number_is in
     record {
       query = q;
@@ -112,7 +112,7 @@ serves_one s mid k q input out new others taken e goes =
         job = h.after;
         stores = h.stores;
         advances = h.advances;
-        comes = subst (λ (n : ℕ). Comes s q.asker n s.opened h.next h.after h.stores out new) (sym number) (lift s k others s.stores taken.others q.asker s.opened h.after h.stores out new h.next h.comes);
+        comes = subst (λ (n : ℕ). Comes s q.client_query n s.opened h.next h.after h.stores out new) (sym number) (lift s k others s.stores taken.others q.client_query s.opened h.after h.stores out new h.next h.comes);
       };
     }
 

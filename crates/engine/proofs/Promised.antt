@@ -2,11 +2,11 @@
 use Rattle.std.proofs.Common.{◌≡◌, ℕ, ◌≤◌, true, Option, Some, List, [], ◌∷◌, length, sym, subst}
 use Rattle.rdata.specs.Types.{type_number}
 use Rattle.wire.specs.declared.via.Via.{Via}
-use Rattle.front.specs.Queries.{IsAsked}
-use Rattle.front.specs.declared.queries.Asked.TheVariants as heard
-use Rattle.front.specs.declared.queries.Query.{Query as Question}
+use Rattle.front.specs.Queries.{IsRequest}
+use Rattle.front.specs.declared.queries.Request.TheVariants as request
+use Rattle.front.specs.declared.queries.Query.{Query}
 use Rattle.resolution.specs.Jobs.{Taken}
-use Rattle.runs.specs.States.{Event, Client, Tick, Action, Served, Own, Turn, Plain, asker, recursive, Site, State, moved}
+use Rattle.runs.specs.States.{Event, Client, Tick, Action, Served, Own, Turn, Plain, client_query, recursive, Site, State, moved}
 use Rattle.runs.specs.Messages.{outcome_of, IsReply}
 use Rattle.runs.specs.Steps.{Step}
 use Rattle.runs.specs.Runs.{Run}
@@ -35,12 +35,12 @@ module _ (site : Site) (past : List Turn) (old : State) (t : Turn) (new : State)
       (due_in_order site past old now t.served out new legal
       (subst (λ (o : Option (List Action)). Step old (Tick now) t.served o new) gives (subst (λ (e : Event). Step old e t.served t.out new) tick step)))
 
-  held_here : (now client : ℕ) (way : Via) (bytes : List ℕ) (out : List Action) (q : Question Plain) (chain : List Taken) (last : Taken)
-      → t.event ≡ Client now client way bytes → t.out ≡ Some out → IsAsked bytes (heard.Query q) → recursive q ≡ true → length chain ≤ 8
+  held_here : (now client : ℕ) (way : Via) (bytes : List ℕ) (out : List Action) (q : Query Plain) (chain : List Taken) (last : Taken)
+      → t.event ≡ Client now client way bytes → t.out ≡ Some out → IsRequest bytes (request.Query q) → recursive q ≡ true → length chain ≤ 8
       → IsHeldChain site.home (moved old t.event).clock (type_number q.kind) (old.stores).cache q.name chain last
-      → (t.served ≡ Own) × ((action : Action) × IsReply (asker client way q) (outcome_of (moved old t.event).clock chain last) action × (out ≡ action ∷ []))
+      → (t.served ≡ Own) × ((action : Action) × IsReply (client_query client way q) (outcome_of (moved old t.event).clock chain last) action × (out ≡ action ∷ []))
   held_here now client way bytes out q chain last comes gives reads asks few held =
-      subst (λ (e : Event). (t.served ≡ Own) × ((action : Action) × IsReply (asker client way q) (outcome_of (moved old e).clock chain last) action × (out ≡ action ∷ []))) (sym comes)
+      subst (λ (e : Event). (t.served ≡ Own) × ((action : Action) × IsReply (client_query client way q) (outcome_of (moved old e).clock chain last) action × (out ≡ action ∷ []))) (sym comes)
       (held_is_replied site past old now client way bytes t.served out new q chain last legal
       (subst (λ (o : Option (List Action)). Step old (Client now client way bytes) t.served o new) gives (subst (λ (e : Event). Step old e t.served t.out new) comes step))
       reads asks few

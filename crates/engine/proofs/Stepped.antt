@@ -2,7 +2,7 @@
 use Rattle.std.proofs.Common.{◌≡◌, Option, List, Ok, Err, Result, IfOk, OnErr, sym, subst}
 use Rattle.runs.specs.States.{Event, Action, State, AreApart, moved}
 use Rattle.runs.specs.Steps.{IsTurn}
-use Rattle.engine.specs.Works.{IsSound}
+use Rattle.engine.specs.ResolverStates.{IsSound}
 use Rattle.engine.specs.Turns.{Turns}
 use Rattle.engine.specs.Promises.{Steps}
 use Rattle.engine.proofs.Sound.{moved_is_sound, turn_is_sound}

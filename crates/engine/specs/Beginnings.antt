@@ -1,12 +1,13 @@
 -- What a resolver may be set to, and its first state.
 use Rattle.std.specs.Prelude.{◌≡◌, ℕ, ◌≤◌, true, false, List, [], codes}
+use Rattle.limits.specs.Limits.{max_sockets}
 use Rattle.rdata.specs.declared.addr.Addr.{Addr}
 use Rattle.zone.specs.Zones.{Zone}
 use Rattle.authority.specs.Catalogs.{has_twins}
 use Rattle.authority.specs.declared.catalog.CatalogError.{CatalogError}
 use Rattle.authority.specs.declared.catalog.CatalogError.TheVariants as catalog
 use Rattle.rand_chacha.specs.ChaCha.{of_seed}
-use Rattle.known.specs.Views.{home_at, no_stores}
+use Rattle.lookup.specs.Views.{home_at, no_stores}
 use Rattle.runs.specs.States.{State}
 use Rattle.engine.specs.declared.settings.Settings.{Settings}
 use Rattle.engine.specs.declared.settings.CoreError.{CoreError}
@@ -22,7 +23,7 @@ pub record IsAllowed (s : Settings) : Type 0 where
   pub penalties : IsRoom s.penalties
   pub failures : IsRoom s.failures
   pub some_sockets : 1 ≤ s.sockets
-  pub few_sockets : s.sockets ≤ 16
+  pub few_sockets : s.sockets ≤ max_sockets
 
 -- A resolver with these zones, hints and settings that has done nothing yet.
 abbrev pub first_state : List Zone → List Addr → Settings → State
@@ -32,11 +33,11 @@ first_state zones hints s = record {
   stores = no_stores s.cache s.delegations s.penalties s.failures;
   queries = [];
   opened = 0;
-  asked = 0;
+  tcp_asks = 0;
   generator = of_seed s.seed;
 }
 
--- The first that holds counts: a setting, two zones of one origin, want of memory.
+-- The first that holds counts: a setting, two zones of one origin, out of memory.
 abbrev pub CoreRefuses : CoreError → Settings → List Zone → Type 0
 CoreRefuses Setting s zones = IsAllowed s → ⊥
 CoreRefuses Twins s zones = IsAllowed s × (has_twins zones ≡ true)

@@ -7,7 +7,7 @@ use Rattle.resolution.specs.Jobs.{Input, TimedOut}
 use Rattle.resolution.specs.Rules.{Stops}
 use Rattle.runs.specs.States.{Endpoint, Action, Open, due_moment, State}
 use Rattle.runs.specs.Steps.{Ends, Serves, IsLeft, IsOfLine}
-use Rattle.queries.specs.Lookups.{IsTheOne}
+use Rattle.open_queries.specs.Lookups.{IsTheOne}
 use Rattle.engine.specs.Moves.{Forgets}
 
 -- The one open query of a number is so.
@@ -52,7 +52,7 @@ IsEarlyOne s k = OfTheOne s.queries k (λ q. s.clock < (q.job).deadline)
 pub record Expires (s : State) (k : ℕ) (out : List Action) (new : State) : Type 0 where
   pub query : Open
   pub one : IsTheOne s.queries k query
-  pub ends : Ends s query.asker query.number (outcome.Fail cause.Deadline) s.stores out new
+  pub ends : Ends s query.client_query query.number (outcome.Fail cause.DeadlineOver) s.stores out new
 
 -- A query that is due: its time is up, or its ask waited too long; memory was wanting for that.
 abbrev pub Rings : State → ℕ → List Action → State → Type 0

@@ -1,16 +1,16 @@
 -- The resolver as a machine whose history is written down: that history is a run.
 use Rattle.std.specs.Prelude.{◌≡◌, ℕ, Option, Some, None, Result, Ok, Err, MatchResult, List, [], ◌∷◌}
 use Rattle.memory.specs.declared.Starved.{Starved}
-use Rattle.book.specs.Histories.{Line, Leads}
-use Rattle.exchange.specs.declared.event.Event.{Event as Told}
-use Rattle.exchange.specs.Views.{event_view}
+use Rattle.book.specs.Histories.{Line, LeadsMachine}
+use Rattle.events.specs.declared.event.Event.{Event}
+use Rattle.events.specs.Views.{event_view}
 use Rattle.runs.specs.States.{Action, Turn, State}
 use Rattle.runs.specs.Runs.{Run}
 use Rattle.engine.specs.Beginnings.{IsBegun}
 use Rattle.engine.specs.Promises.{Steps}
 
 -- What the machine may do: a step, also where memory was wanting.
-abbrev pub Moves : {A : Type 0} → State → Told A → Result (List Action) Starved → State → Type 0
+abbrev pub Moves : {A : Type 0} → State → Event A → Result (List Action) Starved → State → Type 0
 Moves s event result new = MatchResult result (λ out. Steps s (event_view event) (Some out) new) (λ _. Steps s (event_view event) None new)
 
 abbrev pub out_of : Result (List Action) Starved → Option (List Action)
@@ -18,13 +18,13 @@ out_of (Ok out) = Some out
 out_of (Err refused) = None
 
 -- The steps of a run are those that the lines of a history show.
-abbrev pub Shows : {A : Type 0} → List Turn → List (Line (Told A) (List Action)) → Type 0
+abbrev pub Shows : {A : Type 0} → List Turn → List (Line (Event A) (List Action)) → Type 0
 Shows [] [] = Unit {0}
 Shows [] (e ∷ older) = ⊥
 Shows (t ∷ past) [] = ⊥
 Shows (t ∷ past) (e ∷ older) = (t.event ≡ event_view e.event) × (t.out ≡ out_of e.out) × Shows past older
 
-pub record IsRunOf (A : Type 0) (lines : List (Line (Told A) (List Action))) (start s : State) : Type 0 where
+pub record IsRunOf (A : Type 0) (lines : List (Line (Event A) (List Action))) (start s : State) : Type 0 where
   pub run : List Turn
   pub legal : Run start.site run s
   pub shows : Shows run lines
@@ -32,5 +32,5 @@ pub record IsRunOf (A : Type 0) (lines : List (Line (Told A) (List Action))) (st
 -- Every history of the machine, from a resolver that has done nothing yet, is a run.
 abbrev pub HistoryIsRun : Type 0 → Type 0
 HistoryIsRun A =
-    (workers : ℕ) (start : State) (lines : List (Line (Told A) (List Action))) (s : State)
-    → IsBegun start → Leads (Moves {A = A}) workers start lines s → IsRunOf A lines start s
+    (workers : ℕ) (start : State) (lines : List (Line (Event A) (List Action))) (s : State)
+    → IsBegun start → LeadsMachine (Moves {A = A}) workers start lines s → IsRunOf A lines start s

@@ -8,5 +8,5 @@ pub mod Moves
 pub mod Calls
 pub mod Finds
 -- Kept: what the code's own values keep.
-pub mod Works
+pub mod ResolverStates
 pub mod Replies

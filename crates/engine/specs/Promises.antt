@@ -1,25 +1,26 @@
 -- What a step of the resolver promises: the laws of every run, said of its newest step.
 use Rattle.std.specs.Prelude.{◌≡◌, ◌≢◌, ℕ, ◌<◌, ◌≤◌, ◌⊎◌, true, false, Option, Some, List, [], ◌∷◌, length, Contains}
+use Rattle.limits.specs.Limits.{max_asks}
 use Rattle.dname.specs.Labels.{Name}
 use Rattle.rdata.specs.Records.{Record}
 use Rattle.rdata.specs.Types.{type_number}
 use Rattle.rdata.specs.declared.addr.Addr.{Addr}
 use Rattle.zone.specs.Links.{Link, Alias}
-use Rattle.layout.specs.Messages.{Message}
+use Rattle.message_grammar.specs.Messages.{Message}
 use Rattle.wire.specs.declared.via.Via.{Via}
-use Rattle.front.specs.Queries.{IsAsked}
-use Rattle.front.specs.declared.queries.Asked.TheVariants as heard
+use Rattle.front.specs.Queries.{IsRequest}
+use Rattle.front.specs.declared.queries.Request.TheVariants as request
 use Rattle.front.specs.declared.queries.Outcome.{Outcome}
-use Rattle.front.specs.declared.queries.Query.{Query as Question}
+use Rattle.front.specs.declared.queries.Query.{Query}
 use Rattle.rand_chacha.specs.ChaCha.{of_seed}
 use Rattle.classify.specs.Classes as class
 use Rattle.cache.specs.Cached.{lent, hit_of, is_live}
 use Rattle.referral.specs.Cuts.{Cut}
 use Rattle.frames.specs.Frames.{opened, taken_addresses}
-use Rattle.truth.specs.Worlds.{World, IsWorld}
+use Rattle.world_truth.specs.Worlds.{World, IsWorld}
 use Rattle.resolution.specs.Jobs.{level_of, with_answer, received_link, AreFresh, IsEnding, IsCutOf, Search, with_frame, fails_now, next_server, Taken}
 use Rattle.resolution.specs.Rules.{asked_of}
-use Rattle.runs.specs.States.{Event, Client, Tick, Action, MoreDue, Served, Own, Query, Turn, Plain, Asker, asker, recursive, Open, Site, State, moved}
+use Rattle.runs.specs.States.{Event, Client, Tick, Action, MoreDue, Served, Own, OpenQuery, Turn, Plain, ClientQuery, client_query, recursive, Open, Site, State, moved}
 use Rattle.runs.specs.Messages.{Brings, outcome_of, IsReply}
 use Rattle.runs.specs.Steps.{IsOfNumber, Step}
 use Rattle.runs.specs.Runs.{Run, Earlier, GivesOut, Came, clock_of, is_ask, asks_of}
@@ -29,17 +30,17 @@ use Rattle.laws.specs.Replies.{RepliesAre}
 use Rattle.laws.specs.Caused.{IsExplained}
 use Rattle.laws.specs.Failures.{IsSpentFor}
 use Rattle.laws.specs.Spent.{HasFailed, SendsTo, Twice}
-use Rattle.laws.specs.Laws.{GivesOne, IsTick, IsOver, Answers, AreOpenByRun, IsLine, TicksInOrder}
+use Rattle.laws.specs.Laws.{GivesOne, IsTick, IsOver, RepliesTo, AreOpenByRun, IsLine, TicksInOrder}
 use Rattle.laws.specs.Times.{CameLately}
 use Rattle.laws.specs.Words.{AreDrawn}
 use Rattle.laws.specs.Searches.{IsOfSearch}
 use Rattle.laws.specs.Steps as followed
-use Rattle.laws.specs.Steps.{Attends, at_moment, Accepted, EndsInVain, Replies}
+use Rattle.laws.specs.Steps.{Attends, at_moment, AcceptsAs, EndsInVain, Replies}
 use Rattle.laws.specs.Held.{IsHeldChain}
 use Rattle.laws.specs.Calls.{Opening}
 use Rattle.laws.specs.Opens.{Call, step_call, Opens, IsOpenedRightly}
-use Rattle.laws.specs.Looks.{IsKeptSince, IsAlone}
-use Rattle.laws.specs.Uses.{Accepted as Kept}
+use Rattle.laws.specs.Looks.{IsKeptSince, IsOnlyLiveEntry}
+use Rattle.laws.specs.Uses.{KeptAnswer}
 
 -- What every run keeps: the steps in `past` led from a new resolver to the state `old`, the step `turn` led on to
 -- `new`, and each law of runs holds of it. A field is a law; its words stand in the crate of that law.
@@ -51,37 +52,37 @@ pub record Keeps (site : Site) (past : List Turn) (old : State) (turn : Turn) (n
   pub twice : (k : ℕ) (z n : Name) (t : ℕ) (a : Addr) → HasFailed site.port (turn ∷ past) k z n t a → Twice (SendsTo site.port k a n t) (turn ∷ past)
   -- One action a step; one coming, one reply and 40 asks at most a query; one open ask, on a line of its own.
   pub action : (out : List Action) → turn.out ≡ Some out → GivesOne turn.event turn.served out
-  pub coming : (k : ℕ) (who : Asker) → Came (Query k) who turn past → Earlier (λ u before. (other : Asker) × Came (Query k) other u before) past → ⊥
-  pub reply : (k : ℕ) → Answers k turn past → Earlier (Answers k) past → ⊥
-  pub never_again : (k : ℕ) → turn.served ≡ Query k → Earlier (IsOver k) past → ⊥
-  pub asks : (k : ℕ) → asks_of k (turn ∷ past) ≤ 40
+  pub coming : (k : ℕ) (who : ClientQuery) → Came (OpenQuery k) who turn past → Earlier (λ u before. (other : ClientQuery) × Came (OpenQuery k) other u before) past → ⊥
+  pub reply : (k : ℕ) → RepliesTo k turn past → Earlier (RepliesTo k) past → ⊥
+  pub never_again : (k : ℕ) → turn.served ≡ OpenQuery k → Earlier (IsOver k) past → ⊥
+  pub asks : (k : ℕ) → asks_of k (turn ∷ past) ≤ max_asks
   pub waits : AreOpenByRun site.port (turn ∷ past) new.queries
   pub line : (p q : Open) (sock : ℕ) (server : Addr) (id : ℕ) → Contains new.queries p → Contains new.queries q → IsLine p sock server id → IsLine q sock server id → p ≡ q
   pub words : (seed : List ℕ) × (n : ℕ) × AreDrawn (of_seed seed) site (turn ∷ past) new (old, legal, step) n
   -- What is accepted is heard, and changes no other query; what is due is served in order, and nothing is late.
-  pub accepted : (q : Open) (m : Message) → Contains old.queries q → Brings site.port q.ask turn.event m → turn.served ≡ Query q.number
-  pub tcp : (q : Open) (number : ℕ) → Contains old.queries q → IsOfNumber number q → IsForTcp number turn.event → turn.served ≡ Query q.number
-  pub others : (q : Open) → turn.served ≢ Query q.number → (Contains old.queries q → Contains new.queries q) × (Contains new.queries q → Contains old.queries q)
+  pub accepted : (q : Open) (m : Message) → Contains old.queries q → Brings site.port q.ask turn.event m → turn.served ≡ OpenQuery q.number
+  pub tcp : (q : Open) (number : ℕ) → Contains old.queries q → IsOfNumber number q → IsForTcp number turn.event → turn.served ≡ OpenQuery q.number
+  pub others : (q : Open) → turn.served ≢ OpenQuery q.number → (Contains old.queries q → Contains new.queries q) × (Contains new.queries q → Contains old.queries q)
   pub order : (now : ℕ) (out : List Action) → turn.event ≡ Tick now → turn.out ≡ Some out → TicksInOrder (moved old turn.event) turn.served out new
   pub more_due : GivesOut turn.out MoreDue → IsTick turn.event
-  pub late : (k : ℕ) → turn.served ≡ Query k → (action : Action) → GivesOut turn.out action → is_ask action ≡ true → Earlier (CameLately k (clock_of (turn ∷ past))) (turn ∷ past)
+  pub late : (k : ℕ) → turn.served ≡ OpenQuery k → (action : Action) → GivesOut turn.out action → is_ask action ≡ true → Earlier (CameLately k (clock_of (turn ∷ past))) (turn ∷ past)
   -- What a search hears is followed in that very step.
   pub ask : (q : Open) → Contains new.queries q → IsOfSearch q
   pub lost : (out : List Action) (q : Open) (sought : Search) (around : List Search) (server : Addr)
       → Attends site past old turn out new q sought around → EndsInVain site (at_moment old turn) turn q sought → next_server (at_moment old turn).clock (new.stores).failures sought ≡ Some server
-      → followed.Asks followed.IsUdp site (at_moment old turn) q server sought out new
+      → followed.AsksServer followed.IsSentByUdp site (at_moment old turn) q server sought out new
   pub truncated : (out : List Action) (q : Open) (sought : Search) (around : List Search)
-      → Attends site past old turn out new q sought around → Accepted site turn q sought class.Truncated → followed.Asks followed.IsTcp site (at_moment old turn) q (q.ask).server sought out new
+      → Attends site past old turn out new q sought around → AcceptsAs site turn q sought class.Truncated → followed.AsksServer followed.IsTcp site (at_moment old turn) q (q.ask).server sought out new
   pub referral : (out : List Action) (q : Open) (sought : Search) (around : List Search) (at : Name) (ns glue : List Record) (ttl : ℕ)
-      → Attends site past old turn out new q sought around → Accepted site turn q sought (class.Referral at ns glue ttl)
+      → Attends site past old turn out new q sought around → AcceptsAs site turn q sought (class.Referral at ns glue ttl)
       → (c : Cut) × IsCutOf at ns glue c
-      × ((d : Addr) → next_server (at_moment old turn).clock (new.stores).failures (with_frame sought (opened (level_of (with_answer (at_moment old turn).stores (q.ask).server)) (sought.frame).nesting c)) ≡ Some d → followed.Asks followed.IsUdp site (at_moment old turn) q d sought out new)
-      × ((b : Addr) → Contains (taken_addresses c) b → fails_now (at_moment old turn).clock (new.stores).failures sought b ≡ false → (d : Addr) × Contains (taken_addresses c) d × followed.Asks followed.IsUdp site (at_moment old turn) q d sought out new)
+      × ((d : Addr) → next_server (at_moment old turn).clock (new.stores).failures (with_frame sought (opened (level_of (with_answer (at_moment old turn).stores (q.ask).server)) (sought.frame).nesting c)) ≡ Some d → followed.AsksServer followed.IsSentByUdp site (at_moment old turn) q d sought out new)
+      × ((b : Addr) → Contains (taken_addresses c) b → fails_now (at_moment old turn).clock (new.stores).failures sought b ≡ false → (d : Addr) × Contains (taken_addresses c) d × followed.AsksServer followed.IsSentByUdp site (at_moment old turn) q d sought out new)
   pub answered : (out : List Action) (q : Open) (sought : Search) (l : Link)
-      → Attends site past old turn out new q sought [] → Accepted site turn q sought (class.Answer l) → IsEnding l → AreFresh (at_moment old turn).clock (q.job).chain
+      → Attends site past old turn out new q sought [] → AcceptsAs site turn q sought (class.Answer l) → IsEnding l → AreFresh (at_moment old turn).clock (q.job).chain
       → Replies q (outcome_of (at_moment old turn).clock (q.job).chain (received_link sought.name l (at_moment old turn).clock)) out
   pub alias : (out : List Action) (q : Open) (sought : Search) (r : Record)
-      → Attends site past old turn out new q sought [] → Accepted site turn q sought (class.Answer (Alias r)) → AreFresh (at_moment old turn).clock (q.job).chain
+      → Attends site past old turn out new q sought [] → AcceptsAs site turn q sought (class.Answer (Alias r)) → AreFresh (at_moment old turn).clock (q.job).chain
       → ((after : Open) × Contains new.queries after × (after.number ≡ q.number) × Contains (after.job).chain (received_link sought.name (Alias r) (at_moment old turn).clock))
       ⊎ ((o : Outcome Plain) × Replies q o out)
   -- A frame opens where its question's servers are sought first, and the first address of its plan that did not fail
@@ -89,12 +90,12 @@ pub record Keeps (site : Site) (past : List Turn) (old : State) (turn : Turn) (n
   pub opens : (out : List Action) (call : Call (at_moment old turn)) (frame : Opening)
       → turn.out ≡ Some out → step_call old turn new step ≡ Some call → Opens (at_moment old turn) call frame → IsOpenedRightly site (at_moment old turn) turn.served out new call frame
   -- What is held is answered at once, and what was kept is found.
-  pub held : (now client : ℕ) (way : Via) (bytes : List ℕ) (out : List Action) (q : Question Plain) (chain : List Taken) (last : Taken)
-      → turn.event ≡ Client now client way bytes → turn.out ≡ Some out → IsAsked bytes (heard.Query q) → recursive q ≡ true → length chain ≤ 8
+  pub held : (now client : ℕ) (way : Via) (bytes : List ℕ) (out : List Action) (q : Query Plain) (chain : List Taken) (last : Taken)
+      → turn.event ≡ Client now client way bytes → turn.out ≡ Some out → IsRequest bytes (request.Query q) → recursive q ≡ true → length chain ≤ 8
       → IsHeldChain site.home (at_moment old turn).clock (type_number q.kind) (old.stores).cache q.name chain last
-      → (turn.served ≡ Own) × ((action : Action) × IsReply (asker client way q) (outcome_of (at_moment old turn).clock chain last) action × (out ≡ action ∷ []))
-  pub kept : (a : Kept) (n now : ℕ)
-      → IsKeptSince site a (turn ∷ past) new (old, legal, step) n → n < (new.stores).cache_cap → (a.hit).ttl ≢ 0 → is_live now a.hit ≡ true → IsAlone now a (new.stores).cache
+      → (turn.served ≡ Own) × ((action : Action) × IsReply (client_query client way q) (outcome_of (at_moment old turn).clock chain last) action × (out ≡ action ∷ []))
+  pub kept : (a : KeptAnswer) (n now : ℕ)
+      → IsKeptSince site a (turn ∷ past) new (old, legal, step) n → n < (new.stores).cache_cap → (a.hit).ttl ≢ 0 → is_live now a.hit ≡ true → IsOnlyLiveEntry now a (new.stores).cache
       → hit_of (lent (asked_of site.home a.name a.kind) now (new.stores).cache) ≡ Some a.hit
 
 abbrev pub turn_of : Event → Served → Option (List Action) → Turn

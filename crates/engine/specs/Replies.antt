@@ -1,12 +1,12 @@
 -- What a step's one action is among all that goes out.
 use Rattle.std.specs.Prelude.{Option, Some, None, List, [], ◌∷◌}
-use Rattle.exchange.specs.declared.action.Action.{Action as Said}
-use Rattle.exchange.specs.Views.{action_view}
-use Rattle.runs.specs.States.{Action}
+use Rattle.events.specs.declared.action.Action.{Action}
+use Rattle.events.specs.Views.{action_view}
+use Rattle.runs.specs.States.{Action as ActionSpec}
 
-abbrev pub alone : {A : Type 0} → Said A → List Action
+abbrev pub alone : {A : Type 0} → Action A → List ActionSpec
 alone a = action_view a ∷ []
 
-abbrev pub if_any : {A : Type 0} → Option (Said A) → List Action
+abbrev pub if_any : {A : Type 0} → Option (Action A) → List ActionSpec
 if_any None = []
 if_any (Some a) = alone a

@@ -2,14 +2,14 @@
 //! that was asked is of the zones at hand.
 ghost use Rattle.std.specs.Prelude.{◌≡◌, [], ◌∷◌, IfOk, MatchOption};
 ghost use Rattle.authority.specs.Answers.{link_view};
-ghost use Rattle.exchange.specs.Plain.{plain_end, plain_outcome};
+ghost use Rattle.events.specs.Plain.{plain_end, plain_outcome};
 ghost use Rattle.runs.specs.Messages.{is_local_first, alias_in, aliases_of, end_in, outcome_of};
 
 use authority::Link;
 use dname::{Heap, Starved};
 use front::{End, Outcome};
 use iterate::Chain;
-use known::Taken;
+use lookup::Taken;
 use rdata::{Record, Records};
 
 // The answer of a chain and its end, at the moment `now`.
@@ -73,7 +73,7 @@ fn aliases_of<A: Heap>(alloc: A, chain: Chain<A>, now: u64) -> Result<Records<A>
     Ok(aliases)
 }
 
-// A chain's end, with a denial's SOA as a list of one.
+// A chain's end, with a negative answer's SOA as a list of one.
 fn end_of<A: Heap>(alloc: A, link: Link<A>) -> Result<End<A>, Starved>
     ensures { IfOk result (λ e. plain_end e ≡ end_in (link_view link)) }
 {

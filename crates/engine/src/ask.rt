@@ -2,26 +2,24 @@
 //! open asks over UDP have socket, server and ID in common (RFC 5452, section 4).
 ghost use Rattle.std.specs.Prelude.{◌≡◌, ◌+◌, ◌<◌, ◌/◌, ◌%◌, IfOk, OnErr};
 ghost use Rattle.rdata.specs.Types.{type_number};
-ghost use Rattle.exchange.specs.Views.{action_view};
+ghost use Rattle.events.specs.Views.{action_view};
 ghost use Rattle.runs.specs.States.{open_query, word_of, word_taken};
 ghost use Rattle.runs.specs.Steps.{WaitsByUdp, WaitsByTcp};
-ghost use Rattle.queries.specs.Lookups.{HasNo, IsFree};
-ghost use Rattle.engine.specs.Works.{state_of, IsSound};
+ghost use Rattle.open_queries.specs.Lookups.{HasNo, IsFree};
+ghost use Rattle.engine.specs.ResolverStates.{state_of, IsSound};
 ghost use Rattle.engine.specs.Moves.{Puts, Halts};
 ghost use Rattle.engine.specs.Replies.{alone};
 
-use crate::works::Works;
+use crate::state::ResolverState;
 use dname::{Heap, Name, Starved};
-use exchange::{Action, Asker, Asking, Path, send};
+use events::{Action, Ask, ClientQuery, Path, send};
 use iterate::Job;
-use queries::Open;
+use limits::TCP_WAIT_MS;
+use open_queries::Open;
 use rand_core::utils::NextWord;
 use rdata::{Addr, RType};
 
-// How long a reply over TCP is waited for, in milliseconds.
-const TCP_WAIT_MS: u64 = 3_000;
-
-impl<A: Heap> Works<A> {
+impl<A: Heap> ResolverState<A> {
     // The next word of the generator.
     fn word(&mut self) -> u32
         ensures is { result ≡ word_of self.old.generator }
@@ -34,19 +32,19 @@ impl<A: Heap> Works<A> {
     fn put(
         &mut self,
         number: u64,
-        asker: Asker<A>,
+        client_query: ClientQuery<A>,
         job: Job<A>,
-        ask: Asking<A>,
+        ask: Ask<A>,
         due: u64,
     ) -> Result<Action<A>, Starved>
         requires fresh { HasNo self.old.queries number }
         requires free { IsFree self.old.queries ask }
-        ensures ok { IfOk result (λ a. Puts (state_of self.old) (open_query number asker job ask due) (action_view a) (state_of self.new)) }
+        ensures ok { IfOk result (λ a. Puts (state_of self.old) (open_query number client_query job ask due) (action_view a) (state_of self.new)) }
         ensures err { OnErr result (state_of self.new ≡ state_of self.old) }
     {
         let open = Open {
             number,
-            asker,
+            client_query,
             job,
             ask,
             due,
@@ -71,7 +69,7 @@ impl<A: Heap> Works<A> {
     pub fn ask_udp(
         &mut self,
         number: u64,
-        asker: Asker<A>,
+        client_query: ClientQuery<A>,
         job: Job<A>,
         server: Addr,
         name: Name<A>,
@@ -79,28 +77,28 @@ impl<A: Heap> Works<A> {
     ) -> Result<Action<A>, Starved>
         requires sound { IsSound (state_of self.old) }
         requires fresh { HasNo self.old.queries number }
-        ensures ok { IfOk result (λ a. WaitsByUdp (state_of self.old) asker number self.old.opened server name (type_number kind) job self.old.stores (alone a) (state_of self.new)) }
+        ensures ok { IfOk result (λ a. WaitsByUdp (state_of self.old) client_query number self.old.opened server name (type_number kind) job self.old.stores (alone a) (state_of self.new)) }
         ensures err { OnErr result (Halts (state_of self.old) (state_of self.new)) }
     {
         let word = self.word();
         let socket = (word / 65_536 % u32::from(self.sockets)) as u16;
         let id = self.queries.free_id(socket, server, (word % 65_536) as u16);
         let due = self.clock + u64::from(job.wait_ms());
-        let ask = Asking {
+        let ask = Ask {
             path: Path::Udp(socket),
             server,
             id,
             name,
             kind,
         };
-        self.put(number, asker, job, ask, due)
+        self.put(number, client_query, job, ask, due)
     }
 
     // A server is asked over TCP, under the next number: the ID by a word of the generator.
     pub fn ask_tcp(
         &mut self,
         number: u64,
-        asker: Asker<A>,
+        client_query: ClientQuery<A>,
         job: Job<A>,
         server: Addr,
         name: Name<A>,
@@ -108,26 +106,26 @@ impl<A: Heap> Works<A> {
     ) -> Result<Action<A>, Starved>
         requires sound { IsSound (state_of self.old) }
         requires fresh { HasNo self.old.queries number }
-        ensures ok { IfOk result (λ a. WaitsByTcp (state_of self.old) asker number self.old.opened server name (type_number kind) job self.old.stores (alone a) (state_of self.new)) }
+        ensures ok { IfOk result (λ a. WaitsByTcp (state_of self.old) client_query number self.old.opened server name (type_number kind) job self.old.stores (alone a) (state_of self.new)) }
         ensures err { OnErr result (Halts (state_of self.old) (state_of self.new)) }
     {
-        if self.asked == u64::MAX {
-            drop(asker);
+        if self.tcp_asks == u64::MAX {
+            drop(client_query);
             drop(job);
             drop(name);
             return Err(Starved);
         }
         let id = (self.word() % 65_536) as u16;
         let due = self.clock + TCP_WAIT_MS;
-        let ask = Asking {
-            path: Path::Tcp(self.asked),
+        let ask = Ask {
+            path: Path::Tcp(self.tcp_asks),
             server,
             id,
             name,
             kind,
         };
-        let action = self.put(number, asker, job, ask, due)?;
-        self.asked += 1;
+        let action = self.put(number, client_query, job, ask, due)?;
+        self.tcp_asks += 1;
         Ok(action)
     }
 }

@@ -5,7 +5,7 @@ ghost use Rattle.engine.specs.Histories.{HistoryIsRun};
 use crate::machine::Core;
 use book::Machine;
 use dname::Starved;
-use exchange::{Actions, Event};
+use events::{Actions, Event};
 use std::alloc::Allocator;
 
 impl Machine for Core {

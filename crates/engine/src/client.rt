@@ -1,58 +1,60 @@
 //! What clients send: what the bytes ask is dropped, refused, answered by the zones at hand (without RD), or resolved.
 ghost use Rattle.std.specs.Prelude.{◌≡◌, ℕ, ◌<◌, ◌≤◌, Some, None, IfOk, IsOk, OnErr, length};
-ghost use Rattle.resolution.specs.Jobs.{Start as Starting};
+ghost use Rattle.resolution.specs.Jobs.{Start as StartSpec};
 ghost use Rattle.resolution.specs.Rules.{Stops};
-ghost use Rattle.iterate.specs.Beginnings.{BeginsWith};
-ghost use Rattle.front.specs.declared.queries.Asked.TheVariants as heard;
+ghost use Rattle.iterate.specs.Beginnings.{StartsWith};
+ghost use Rattle.front.specs.declared.queries.Request.TheVariants as request;
 ghost use Rattle.runs.specs.States.{Client, Own, latest, recursive, job_for};
 ghost use Rattle.runs.specs.Messages.{IsRefusal};
 ghost use Rattle.runs.specs.Steps.{AnswersAtHand};
-ghost use Rattle.exchange.specs.Plain.{plain_asked};
-ghost use Rattle.exchange.specs.Views.{action_view};
-ghost use Rattle.engine.specs.Works.{state_of, IsSound};
+ghost use Rattle.events.specs.Plain.{plain_asked};
+ghost use Rattle.events.specs.Views.{action_view};
+ghost use Rattle.engine.specs.ResolverStates.{state_of, IsSound};
 ghost use Rattle.engine.specs.Replies.{alone, if_any};
 ghost use Rattle.engine.specs.Calls.{Handles, IsResolved, Begins, IsGone};
 ghost use Rattle.engine.specs.Turns.{Turns};
 
 use crate::hashing::StoreHasher;
-use crate::works::Works;
+use crate::state::ResolverState;
 use dname::{Heap, Starved};
-use exchange::{Action, Asker, local_answer_is_plain, read_asked, refuse, reply_to};
-use front::{Asked, Echo, Refusal, Start, answer_local};
-use iterate::{Begun, Chain, begin};
-use known::{Home, Stores};
+use events::{Action, ClientQuery, local_answer_is_plain, read_asked, refuse, reply_to};
+use front::{Echo, Refusal, Request, Start, answer_local};
+use iterate::{Chain, Started, begin_query};
+use lookup::{Home, Stores};
 use wire::{Via, Writer};
 
-// What comes at once of a query at `now` milliseconds.
+// The result of starting a query at `now` milliseconds: its answer, or work that waits. For the proof: it says of
+// `begin_query` what the steps of a run speak of.
 fn begun<A: Heap>(
     alloc: A,
-    asker: &Asker<A>,
+    client_query: &ClientQuery<A>,
     home: &Home<A>,
     stores: &mut Stores<StoreHasher, A>,
     now: u64,
-) -> Result<Begun<A>, Starved>
+) -> Result<Started<A>, Starved>
     requires { now ≤ latest }
-    ensures begins { IfOk result (λ b. BeginsWith home.now now (job_for now asker.now.query) stores.old b stores.new) }
-    ensures stops { OnErr result (Stops Starting now (job_for now asker.now.query) stores.old stores.new) }
+    ensures begins { IfOk result (λ b. StartsWith home.now now (job_for now client_query.now.query) stores.old b stores.new) }
+    ensures stops { OnErr result (Stops StartSpec now (job_for now client_query.now.query) stores.old stores.new) }
 {
-    begin(
+    begin_query(
         alloc,
-        &asker.query.name,
-        asker.query.kind,
+        &client_query.query.name,
+        client_query.query.kind,
         home,
         stores,
         now,
     )
 }
 
-// Whether the answer is to be found for the client (RFC 1035, section 4.1.1).
-fn is_recursive<A: Heap>(asker: &Asker<A>) -> bool
-    ensures { result ≡ recursive asker.now.query }
+// Whether the answer is to be found for the client (RFC 1035, section 4.1.1). For the proof: it names the bit RD as the
+// steps of a run do.
+fn is_recursive<A: Heap>(client_query: &ClientQuery<A>) -> bool
+    ensures { result ≡ recursive client_query.now.query }
 {
-    asker.query.start.wants_recursion()
+    client_query.query.start.wants_recursion()
 }
 
-// What is refused goes out with the question that it repeats.
+// What is refused goes out with the question that it repeats. For the proof: it says of `refuse` what a run speaks of.
 fn refused<A: Heap>(
     writer: &mut Writer<A>,
     client: u64,
@@ -66,7 +68,7 @@ fn refused<A: Heap>(
     refuse(writer, client, way, refusal, start, echo.as_ref())
 }
 
-impl<A: Heap> Works<A> {
+impl<A: Heap> ResolverState<A> {
     // Bytes from a client: what they ask is dropped, refused, answered or opened.
     pub fn client(
         &mut self,
@@ -83,59 +85,67 @@ impl<A: Heap> Works<A> {
         self.handle(client, way, asked)
     }
 
-    // What a client asks.
+    // Dispatches a client's request: it is dropped, refused, or resolved.
     fn handle(
         &mut self,
         client: u64,
         way: Via,
-        asked: Asked<A>,
+        asked: Request<A>,
     ) -> Result<Option<Action<A>>, Starved>
         requires sound { IsSound (state_of self.old) }
         ensures ok { IfOk result (λ a. Handles (state_of self.old) client way (plain_asked asked) (if_any a) (state_of self.new)) }
         ensures err { OnErr result (IsGone (state_of self.old) (state_of self.new)) }
-        ensures quiet { plain_asked asked ≡ heard.Drop → IsOk result }
+        ensures quiet { plain_asked asked ≡ request.Drop → IsOk result }
     {
         match asked {
-            Asked::Drop => Ok(None),
-            Asked::Refuse(refusal, start, echo) => {
+            Request::Drop => Ok(None),
+            Request::Refuse(refusal, start, echo) => {
                 Ok(Some(refused(&mut self.writer, client, way, refusal, start, echo)?))
             }
-            Asked::Query(query) => Ok(Some(self.resolve(Asker { client, way, query })?)),
+            Request::Query(query) => Ok(Some(self.resolve(ClientQuery { client, way, query })?)),
         }
     }
 
     // A query: without RD it is answered at hand (RFC 1034, section 4.3.1).
-    fn resolve(&mut self, asker: Asker<A>) -> Result<Action<A>, Starved>
+    fn resolve(&mut self, client_query: ClientQuery<A>) -> Result<Action<A>, Starved>
         requires sound { IsSound (state_of self.old) }
-        ensures ok { IfOk result (λ a. IsResolved (state_of self.old) asker (alone a) (state_of self.new)) }
+        ensures ok { IfOk result (λ a. IsResolved (state_of self.old) client_query (alone a) (state_of self.new)) }
         ensures err { OnErr result (IsGone (state_of self.old) (state_of self.new)) }
     {
-        if is_recursive(&asker) {
-            Ok(self.begin(asker)?)
+        if is_recursive(&client_query) {
+            Ok(self.begin_query(client_query)?)
         } else {
-            Ok(self.at_hand(&asker)?)
+            Ok(self.at_hand(&client_query)?)
         }
     }
 
     // The zones at hand alone answer.
-    fn at_hand(&mut self, asker: &Asker<A>) -> Result<Action<A>, Starved>
-        ensures ok { IfOk result (λ a. AnswersAtHand (state_of self.old) asker.now Own (alone a) (state_of self.new)) }
+    fn at_hand(&mut self, client_query: &ClientQuery<A>) -> Result<Action<A>, Starved>
+        ensures ok { IfOk result (λ a. AnswersAtHand (state_of self.old) client_query.now Own (alone a) (state_of self.new)) }
         ensures same { state_of self.new ≡ state_of self.old }
     {
         local_answer_is_plain(self.alloc);
-        let outcome = answer_local(self.alloc, &asker.query, self.home.catalog())?;
-        reply_to(&mut self.writer, asker, &outcome)
+        let outcome = answer_local(self.alloc, &client_query.query, self.home.catalog())?;
+        reply_to(&mut self.writer, client_query, &outcome)
     }
 
     // A recursive query: what is known answers it, or its work begins.
-    fn begin(&mut self, asker: Asker<A>) -> Result<Action<A>, Starved>
+    fn begin_query(&mut self, client_query: ClientQuery<A>) -> Result<Action<A>, Starved>
         requires sound { IsSound (state_of self.old) }
-        ensures ok { IfOk result (λ a. Begins (state_of self.old) asker (alone a) (state_of self.new)) }
+        ensures ok { IfOk result (λ a. Begins (state_of self.old) client_query (alone a) (state_of self.new)) }
         ensures err { OnErr result (IsGone (state_of self.old) (state_of self.new)) }
     {
-        match begun(self.alloc, &asker, &self.home, &mut self.stores, self.clock)? {
-            Begun::Known(last) => { self.answer(self.opened, &asker, Chain::new(self.alloc), last) }
-            Begun::Works(job, next) => self.admit(asker, job, next),
+        match begun(
+            self.alloc,
+            &client_query,
+            &self.home,
+            &mut self.stores,
+            self.clock,
+        )? {
+            Started::Answered(last) => {
+                self.answer(self.opened, &client_query, Chain::new(self.alloc), last)
+            }
+            Started::Working(job, next) => self.admit(client_query, job, next),
         }
     }
 }

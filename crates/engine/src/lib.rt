@@ -1,13 +1,13 @@
 //! The resolver as a machine of one thread: events in, actions out.
 //!
 //! `Core::new` makes a resolver of a `Config`: local zones, hints, and the `Settings` of an operator. `Core::step`
-//! takes one `exchange::Event` and gives what goes out: one action at most, a reply or an ask, and whether another
+//! takes one `events::Event` and gives what goes out: one action at most, a reply or an ask, and whether another
 //! query is due. `Core` is a `book::Machine`, so that many workers can share one.
 //!
 //! Promised: a step is one of `runs`, and each law of `laws` is kept by it, whatever run led there (`Steps`); the
 //! history of a shared resolver is a run (`history_is_run`); of a new one, that it is what the config says
 //! (`IsMade`) or why there is none (`CoreError`). Events that concern nobody take no memory (clause `quiet`).
-//! Not here: sockets and clocks (`server`); the file of a server (`config`, `service`).
+//! Not here: sockets and clocks (`server`); the file of a server (`config`, `server_start`).
 //!
 //! ```text
 //! let hints = Vec::from_slice(alloc, &[Addr([198, 41, 0, 4])])?;
@@ -21,22 +21,22 @@
 //! ```
 #![tactic(auto)]
 
+mod accept;
+mod admit;
+mod advance;
 mod answer;
 mod ask;
-mod begin;
 mod booked;
 mod client;
 mod datagram;
+mod handle;
 mod hashing;
-mod hear;
 mod machine;
-mod serve;
 mod settings;
+mod state;
 mod stream;
 mod tick;
-mod turn;
-mod works;
 
 pub use booked::history_is_run;
 pub use machine::Core;
-pub use settings::{Config, CoreError, MOST_ENTRIES, MOST_SOCKETS, Settings};
+pub use settings::{Config, CoreError, Settings};

@@ -3,22 +3,22 @@ ghost use Rattle.std.specs.Prelude.{◌≡◌, false, Some, None, IfOk, IsOk, On
 ghost use Rattle.std.specs.NonZero.{non_zero_usize_get};
 ghost use Rattle.authority.specs.Catalogs.{has_twins};
 ghost use Rattle.authority.specs.CatalogFaults.{CatalogRefuses};
-ghost use Rattle.known.specs.Views.{home_at, no_stores};
+ghost use Rattle.lookup.specs.Views.{home_at, no_stores};
 ghost use Rattle.engine.specs.Beginnings.{CoreRefuses, IsMade};
-ghost use Rattle.engine.specs.Works.{state_of};
+ghost use Rattle.engine.specs.ResolverStates.{state_of};
 ghost use Rattle.engine.specs.Turns.{IsQuiet};
 ghost use Rattle.engine.specs.Promises.{Steps};
-ghost use Rattle.exchange.specs.Views.{event_view};
+ghost use Rattle.events.specs.Views.{event_view};
 ghost use Rattle.runs.specs.States.{moved};
 
 use crate::hashing::{Seeded, StoreHasher};
 use crate::settings::{Config, CoreError};
-use crate::works::Works;
+use crate::state::ResolverState;
 use authority::{Catalog, CatalogError};
 use dname::{Heap, Starved};
-use exchange::{Actions, Event};
-use known::{Capacities, Hashers, Home, Stores};
-use queries::Queries;
+use events::{Actions, Event};
+use lookup::{Capacities, Hashers, Home, Stores};
+use open_queries::Queries;
 use rand_chacha::ChaCha20Rng;
 use rand_core::SeedableRng;
 use rdata::Addr;
@@ -30,26 +30,26 @@ use zone::Zone;
 
 /// A resolver: the zones and hints that it holds, what it learnt, and the open queries.
 pub struct Core<A: Allocator = Global> {
-    works: Works<A>,
+    state: ResolverState<A>,
 }
 
 // By hand, so that whatever drops a resolver calls this, and does not spell out all that it holds.
 impl<A: Allocator> Drop for Core<A> {
     fn drop(self) {
-        let Core { works } = self;
-        drop(works);
+        let Core { state } = self;
+        drop(state);
     }
 }
 
 impl<A: Allocator> Model for Core<A> {
     ghost use Rattle.runs.specs.States.{State};
-    ghost use Rattle.engine.specs.Works.{state_of, IsSound};
+    ghost use Rattle.engine.specs.ResolverStates.{state_of, IsSound};
 
     ghost Value = { State };
 
-    ghost view = { λ c. state_of c.works };
+    ghost view = { λ c. state_of c.state };
 
-    ghost invariant = { λ c. IsSound (state_of c.works) };
+    ghost invariant = { λ c. IsSound (state_of c.state) };
 }
 
 // Stores in which nothing stands yet, hashed behind the seed.
@@ -97,7 +97,7 @@ fn home<A: Heap>(
 
 impl<A: Heap> Core<A> {
     /// A resolver that has done nothing yet. The first that holds is refused: a setting out of its limits (1),
-    /// two zones of one origin (2), want of memory (3).
+    /// two zones of one origin (2), out of memory (3).
     pub fn new(alloc: A, config: Config<A>) -> Result<Core<A>, CoreError>
         ensures { MatchResult result (IsMade config.local.items config.hints.items config.settings) (λ e. CoreRefuses e config.settings config.local.items) }
     {
@@ -108,7 +108,7 @@ impl<A: Heap> Core<A> {
         let home = home(alloc, config.local, config.hints)?;
         let (stores, writer) = tools(alloc, room, &settings.seed)?;
         Ok(Core {
-            works: Works {
+            state: ResolverState {
                 alloc,
                 home,
                 port: settings.port,
@@ -117,23 +117,23 @@ impl<A: Heap> Core<A> {
                 stores,
                 queries: Queries::new(alloc),
                 opened: 0,
-                asked: 0,
+                tcp_asks: 0,
                 generator: ChaCha20Rng::from_seed(settings.seed),
                 writer,
             },
         })
     }
 
-    /// One step: an event comes, and at most one query is served. For want of memory nothing goes out, and the
+    /// One step: an event comes, and at most one query is served. When out of memory nothing goes out, and the
     /// query that the event was for is gone. With it every run keeps what the laws of runs promise.
     pub fn step(&mut self, event: &Event<A>) -> Result<Actions<A>, Starved>
         ensures ok { IfOk result (λ a. Steps self.old (event_view event.now) (Some a) self.new) }
         ensures err { OnErr result (Steps self.old (event_view event.now) None self.new) }
         ensures quiet { IsQuiet (moved self.old (event_view event.now)) (event_view event.now) → IsOk result }
     {
-        self.works.hear_of(event);
-        let out = self.works.turn(event);
-        self.works.queries.apart_law();
+        self.state.advance_clock(event);
+        let out = self.state.handle_event(event);
+        self.state.queries.apart_law();
         out
     }
 }

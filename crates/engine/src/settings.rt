@@ -5,18 +5,13 @@ ghost use Rattle.engine.specs.Beginnings.{IsRoom, IsAllowed, core_fault_number, 
 
 use authority::CatalogError;
 use dname::Starved;
-use known::Capacities;
+use limits::{MAX_ENTRIES, MAX_SOCKETS};
+use lookup::Capacities;
 use rdata::Addr;
 use std::alloc::{Allocator, Global};
 use std::fmt;
 use std::num::NonZeroUsize;
 use zone::Zone;
-
-/// The most entries that a store may have room for.
-pub const MOST_ENTRIES: usize = 1_000_000;
-
-/// The most sockets from which servers are asked.
-pub const MOST_SOCKETS: u16 = 16;
 
 /// What an operator may set.
 #[derive(Clone, Copy)]
@@ -42,7 +37,7 @@ impl Settings {
     pub fn room(&self) -> Option<Capacities>
         ensures { MatchOption result (IsAllowed self.now → ⊥) (λ c. IsAllowed self.now × (non_zero_usize_get c.links ≡ self.now.cache) × (non_zero_usize_get c.cuts ≡ self.now.delegations) × (non_zero_usize_get c.servers ≡ self.now.penalties) × (non_zero_usize_get c.failures ≡ self.now.failures)) }
     {
-        if self.sockets == 0 || self.sockets > MOST_SOCKETS {
+        if self.sockets == 0 || self.sockets > MAX_SOCKETS {
             return None;
         }
         Some(Capacities {
@@ -58,7 +53,7 @@ impl Settings {
 fn entries(count: usize) -> Option<NonZeroUsize>
     ensures { MatchOption result (IsRoom count → ⊥) (λ n. IsRoom count × (non_zero_usize_get n ≡ count)) }
 {
-    if count > MOST_ENTRIES {
+    if count > MAX_ENTRIES {
         return None;
     }
     NonZeroUsize::new(count)

@@ -1,22 +1,22 @@
 //! Replies over TCP, and asks over TCP that failed.
 ghost use Rattle.std.specs.Prelude.{◌≡◌, ℕ, List, Some, None, IfOk, IsOk, OnErr, MatchOption, Contains};
 ghost use Rattle.resolution.specs.Jobs as jobs;
-ghost use Rattle.exchange.specs.Views.{event_view};
+ghost use Rattle.events.specs.Views.{event_view};
 ghost use Rattle.runs.specs.States.{Open, TcpReply, TcpFailed};
 ghost use Rattle.runs.specs.Steps.{IsOfNumber};
-ghost use Rattle.queries.specs.Lookups.{IsTheOne};
-ghost use Rattle.engine.specs.Works.{state_of, IsSound};
+ghost use Rattle.open_queries.specs.Lookups.{IsTheOne};
+ghost use Rattle.engine.specs.ResolverStates.{state_of, IsSound};
 ghost use Rattle.engine.specs.Replies.{alone, if_any};
 ghost use Rattle.engine.specs.Finds.{Finds, OfTheOne, Tells, Untold};
 ghost use Rattle.engine.specs.Turns.{Turns, IsQuiet};
 
-use crate::works::Works;
+use crate::state::ResolverState;
 use dname::{Heap, Starved};
-use exchange::{Action, Event};
+use events::{Action, Event};
 use iterate::Input;
 use rdata::Addr;
 
-impl<A: Heap> Works<A> {
+impl<A: Heap> ResolverState<A> {
     // The server that the open query of that number asks.
     pub fn server_of(&self, number: u64) -> Addr
         requires { (q : Open) × IsTheOne self.now.queries number q }
@@ -59,7 +59,7 @@ impl<A: Heap> Works<A> {
         let Some(number) = self.asked_over(ask) else {
             return Ok(None);
         };
-        match self.hear(number, event)? {
+        match self.accept_event(number, event)? {
             Some(action) => Ok(Some(action)),
             None => Ok(Some(self.fail_ask(number)?)),
         }

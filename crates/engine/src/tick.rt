@@ -3,20 +3,20 @@ ghost use Rattle.std.specs.Prelude.{ℕ, Some, None, IfOk, IsOk, OnErr, MatchOpt
 ghost use Rattle.std.specs.Bool.{MatchBool};
 ghost use Rattle.runs.specs.States.{Tick, Open};
 ghost use Rattle.runs.specs.Steps.{IsFirstDue};
-ghost use Rattle.queries.specs.Lookups.{IsTheOne};
-ghost use Rattle.engine.specs.Works.{state_of, IsSound};
+ghost use Rattle.open_queries.specs.Lookups.{IsTheOne};
+ghost use Rattle.engine.specs.ResolverStates.{state_of, IsSound};
 ghost use Rattle.engine.specs.Replies.{alone};
 ghost use Rattle.engine.specs.Moves.{Forgets};
 ghost use Rattle.engine.specs.Finds.{Finds, NoneDue, IsLateOne, IsEarlyOne, Expires, Rings, Unrung};
 ghost use Rattle.engine.specs.Turns.{Turns, IsQuiet};
 
-use crate::works::Works;
+use crate::state::ResolverState;
 use causes::Cause;
 use dname::{Heap, Starved};
-use exchange::{Action, Actions};
+use events::{Action, Actions};
 use iterate::Input;
 
-impl<A: Heap> Works<A> {
+impl<A: Heap> ResolverState<A> {
     // The number of the query that is due first, where one is due.
     fn first_due(&self) -> Option<u64>
         ensures { MatchOption result (NoneDue (state_of self.now)) (λ k. Finds (IsFirstDue (state_of self.now)) self.now.queries k) }
@@ -45,11 +45,11 @@ impl<A: Heap> Works<A> {
         ensures ok { IfOk result (λ a. Expires (state_of self.old) number (alone a) (state_of self.new)) }
         ensures err { OnErr result (Forgets (state_of self.old) number (state_of self.new)) }
     {
-        match self.queries.take(number) {
+        match self.queries.take_out(number) {
             Some(open) => {
-                let (asker, job) = open.into_work();
+                let (client_query, job) = open.into_work();
                 drop(job);
-                self.fail(number, &asker, Cause::Deadline)
+                self.fail(number, &client_query, Cause::DeadlineOver)
             }
             None => unreachable!(),
         }

@@ -1,10 +1,10 @@
 //! A resolver with one server of the root, and messages about www.example, for tests.
 use crate::bytes::joined;
 use dname::{Heap, Starved};
-use engine_desk::{Ask, Desk, Out, bounded};
-use exchange::{Bytes, Event};
+use engine_fixture::{Ask, Desk, Out, bounded};
+use events::{Bytes, Event};
 use rdata::Addr;
-use refusing::Refusing;
+use refusing_alloc::Refusing;
 
 // The server of the root: 192.0.2.1.
 pub const ROOT: u8 = 1;
@@ -76,8 +76,6 @@ pub enum Act {
     Told(u8, &'static [u8], &'static [Line]),
     // Time has come to that moment.
     Tick(u64),
-    // Client 3 looks whether it was just sent this message under its own ID (`Replied`, else `Other`).
-    Looks(&'static [u8], &'static [Line]),
 }
 
 // A message from 192.0.2.`from` at the socket of the last ask and under its ID.
@@ -95,32 +93,16 @@ fn reply<A: Heap>(
     Ok(ask.told(0, bytes))
 }
 
-fn has_sent<A: Heap>(desk: &Desk<A>, rest: &[u8], lines: &[Line]) -> Result<bool, Starved> {
-    let wanted = message(desk.heap(), [0, 5], rest, lines)?;
-    Ok(desk.has_sent(3, wanted.as_slice()))
-}
-
-fn looks<A: Heap>(desk: &Desk<A>, rest: &[u8], lines: &[Line]) -> Out {
-    match has_sent(desk, rest, lines) {
-        Ok(true) => Out::Replied,
-        _ => Out::Other,
-    }
-}
-
-// What the resolver is told by an act. A look tells it nothing.
+// What the resolver is told by an act.
 fn event<A: Heap>(desk: &Desk<A>, act: Act) -> Result<Event<A>, Starved> {
     match act {
         Act::Asks(moment, bytes) => desk.query(3, moment, bytes),
         Act::Told(from, rest, lines) => reply(desk, from, rest, lines),
         Act::Tick(moment) => Ok(Event::Tick { moment }),
-        Act::Looks(_, _) => Err(Starved),
     }
 }
 
 fn perform<A: Heap>(desk: &mut Desk<A>, act: Act) -> Out {
-    if let Act::Looks(rest, lines) = act {
-        return looks(desk, rest, lines);
-    }
     let event = event(desk, act);
     desk.take(event)
 }
@@ -133,26 +115,6 @@ fn first_other<A: Heap>(desk: &mut Desk<A>, acts: &[(Act, Out)]) -> Option<usize
         }
     }
     None
-}
-
-fn wrong_act<A: Heap>(alloc: A, acts: &[(Act, Out)]) -> Result<Option<usize>, Starved> {
-    let mut desk = desk(alloc)?;
-    let place = first_other(&mut desk, acts);
-    end(desk);
-    Ok(place)
-}
-
-// Of these tales, each of a new resolver, the first in which something else comes, and the place of that act.
-pub fn first_wrong<A: Heap>(
-    alloc: A,
-    tales: &[&[(Act, Out)]],
-) -> Result<Option<(usize, usize)>, Starved> {
-    for (number, acts) in tales.iter().enumerate() {
-        if let Some(place) = wrong_act(alloc, *acts)? {
-            return Ok(Some((number, place)));
-        }
-    }
-    Ok(None)
 }
 
 fn perform_all<A: Heap>(desk: &mut Desk<A>, acts: &[(Act, Out)]) {

@@ -1,5 +1,5 @@
-//! The tests of `engine`, from outside: by what it makes public, and what no resolver is made of; by the bytes of
-//! messages, the first ones alone and each change of one of them; and while memory is refused.
+//! The tests of `engine`, from outside, that no row of `vectors_resolver` can hold: each change of one byte of a message,
+//! and what comes while memory is refused.
 #![tactic(auto)]
 
 #[cfg(test)]
@@ -9,11 +9,7 @@ mod fixtures;
 #[cfg(test)]
 mod query_tests;
 #[cfg(test)]
-mod referral_tests;
-#[cfg(test)]
 mod reply_tests;
-#[cfg(test)]
-mod settings_tests;
 #[cfg(test)]
 mod starved_tests;
 #[cfg(test)]

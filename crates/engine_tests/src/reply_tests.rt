@@ -3,7 +3,7 @@ use crate::bytes::{Change, Places, changed, joined, told};
 use crate::fixtures::{QUERY, end};
 use crate::talks::{Talk, goes_on, renew, waiting};
 use dname::{Heap, Starved};
-use engine_desk::{Desk, Out};
+use engine_fixture::{Desk, Out};
 use rdata::Addr;
 use std::test::Fail;
 

@@ -1,10 +1,10 @@
 //! Two clients wait, another one was answered, and an event for one of the two wants memory: what it leaves.
 use crate::fixtures::end;
 use dname::{Heap, Starved};
-use engine_desk::{Ask, Desk, Out, under};
-use exchange::{Event, Path};
+use engine_fixture::{Ask, Desk, Out, under};
+use events::{Event, Path};
 use rdata::Addr;
-use refusing::Refusing;
+use refusing_alloc::Refusing;
 use std::test::Fail;
 
 // What comes for client 3, who asks for www.example. A at 0: its query itself (at that event's own moment), the reply

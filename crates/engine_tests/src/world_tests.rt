@@ -1,10 +1,9 @@
-//! The replies of the servers of examples/small.world: the first bytes of each alone, and each change of one byte.
+//! The replies of the servers of examples/small.world: each change of one byte.
 use crate::bytes::{Change, Places, told};
 use crate::fixtures::end;
-use crate::reply_tests::TALK_OF_ADDRESS;
-use crate::talks::{Talk, first_wrong_front, goes_on, renew, waiting};
+use crate::talks::{Talk, goes_on, renew, waiting};
 use dname::{Heap, Starved};
-use engine_desk::{Desk, Out};
+use engine_fixture::{Desk, Out};
 use rdata::Addr;
 use std::test::Fail;
 
@@ -23,7 +22,7 @@ const TO_LAB: &[u8] =
 const FOUND: &[u8] =
     b"\x84\0\0\x01\0\x01\0\0\0\0\x03www\x03lab\x07example\0\0\x01\0\x01\xc0\x0c\0\x01\0\x01\0\0\x01\x2c\0\x04\xc0\0\x02\x01";
 
-// gone.example. A: a name error with the SOA of example.
+// gone.example. A: an NXDOMAIN with the SOA of example.
 const GONE: &[u8] = b"\0\x05\x01\0\0\x01\0\0\0\0\0\0\x04gone\x07example\0\0\x01\0\x01";
 
 const GONE_TO_EXAMPLE: &[u8] =
@@ -90,21 +89,6 @@ const TALK_OF_APP: Talk = Talk {
     out: Out::Asked(2),
     sent: None,
 };
-
-const TALKS: &[Talk] = &[
-    TALK_WITH_ROOT,
-    TALK_WITH_EXAMPLE,
-    TALK_WITH_LAB,
-    TALK_OF_GONE,
-    TALK_OF_APP,
-    TALK_OF_ADDRESS,
-];
-
-#[test]
-fn replies_are_taken_whole_alone(rt: HostRuntime) -> Result<(), Fail> {
-    assert_eq!(rt; first_wrong_front(rt.alloc(), TALKS)?, None);
-    Ok(())
-}
 
 // A resolver that waits for the reply is told it with a change. Where that brings something, another one waits then.
 fn tell<A: Heap>(desk: &mut Desk<A>, talk: Talk, change: Change) -> Result<bool, Starved> {
@@ -173,7 +157,7 @@ const PARTS: &[(Talk, Places)] = &[
     (TALK_WITH_EXAMPLE, (50, 66)),
     // An address.
     (TALK_WITH_LAB, (33, 49)),
-    // The names and the numbers of a denial.
+    // The names and the numbers of a negative answer.
     (TALK_OF_GONE, (30, 51)),
     (TALK_OF_GONE, (51, 71)),
     // An alias, and the names and the numbers beside it.

@@ -10,7 +10,7 @@ use Rattle.lru.proofs.CallerLemmas.{Contains-take}
 use Rattle.dname.specs.Labels.{Name, same_name}
 use Rattle.dname.specs.Laws.{same_name-exact}
 use Rattle.rdata.specs.declared.addr.Addr.{Addr}
-use Rattle.recency.specs.Orders.{HasSame}
+use Rattle.lru_laws.specs.Orders.{HasSame}
 use Rattle.referral.specs.Cuts.{Cut, ServerAddress}
 use Rattle.retry.specs.Penalties.{same_addr}
 use Rattle.retry.specs.Plans.{Plan, with_penalty, with_penalties_to, by_penalty, planned, upcoming, IsByPenalty}

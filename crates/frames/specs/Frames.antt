@@ -3,6 +3,7 @@
 -- 2 and 3; RFC 1035, section 7.2).
 use Rattle.std.specs.Prelude.{◌≡◌, ℕ, ◌+◌, ◌≤◌, ◌⊎◌, Contains, Bool, ◌&&◌, ◌||◌, not, cond, min, nat_le, Option, List, [], ◌∷◌, ◌++◌, map, filter, take, drop, length, slice_get}
 use Rattle.std.specs.List.{list_any}
+use Rattle.limits.specs.Limits.{max_nesting, max_servers}
 use Rattle.dname.specs.Labels.{Name, same_name, is_under, IsAtOrUnder}
 use Rattle.rdata.specs.declared.addr.Addr.{Addr}
 use Rattle.retry.specs.Penalties.{same_addr}
@@ -11,10 +12,10 @@ use Rattle.referral.specs.Cuts.{Cut, ServerAddress}
 
 -- The most names, and the most addresses, that are taken of a cut; the deepest look-up of a server's name.
 abbrev pub most_taken : ℕ
-most_taken = 16
+most_taken = max_servers
 
 abbrev pub deepest : ℕ
-deepest = 3
+deepest = max_nesting
 
 -- `nesting`: 0 for the name that a client asked for, one more for each look-up of a server's address.
 -- `names`: the servers whose addresses are not known, and `tried`: how many of them had their turn.

@@ -13,9 +13,9 @@ struct FailedName<A: Allocator = Global> {
 }
 
 impl<A: Allocator> Model for FailedName<A> {
-    ghost use Rattle.frames.specs.Frames.{FailedName as Marked};
+    ghost use Rattle.frames.specs.Frames.{FailedName as FailedNameSpec};
 
-    ghost Value = { Marked };
+    ghost Value = { FailedNameSpec };
 
     ghost view = { λ f. record { name = f.name; nesting = f.nesting } };
 }
@@ -29,9 +29,9 @@ pub struct Failed<A: Allocator = Global> {
 
 impl<A: Allocator> Model for Failed<A> {
     ghost use Rattle.std.specs.Prelude.{List};
-    ghost use Rattle.frames.specs.Frames.{FailedName as Marked};
+    ghost use Rattle.frames.specs.Frames.{FailedName as FailedNameSpec};
 
-    ghost Value = { List Marked };
+    ghost Value = { List FailedNameSpec };
 
     ghost view = { λ f. f.names.items };
 }

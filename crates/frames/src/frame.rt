@@ -7,15 +7,13 @@ ghost use Rattle.frames.specs.Frames.{opened, is_skipped, next_place, next_name,
 use crate::failed::Failed;
 use crate::taken::{first_names, fresh_addresses, taken_addresses, unknown_names};
 use dname::{Heap, Name, Starved};
+use limits::MAX_NESTING;
 use rdata::Addr;
 use referral::{Cut, Names};
 use retry::{Penalties, Plan};
 use std::alloc::{Allocator, Global};
 use std::hash::BuildHasher;
 use std::marker::Model;
-
-// The deepest look-up of a server's name.
-const DEEPEST: u8 = 3;
 
 /// The servers of a zone as they are asked for one name. It keeps every address that it took, and the names
 /// of which it took none, and counts the names that had their turn.
@@ -31,10 +29,10 @@ pub struct Frame<A: Allocator = Global> {
 
 impl<A: Allocator> Model for Frame<A> {
     ghost use Rattle.std.specs.Prelude.{◌≤◌, length};
-    ghost use Rattle.frames.specs.Frames.{Frame as Opened};
+    ghost use Rattle.frames.specs.Frames.{Frame as FrameSpec};
     ghost use Rattle.frames.specs.Members.{AreAmong};
 
-    ghost Value = { Opened };
+    ghost Value = { FrameSpec };
 
     ghost view = { λ f. record { nesting = f.nesting; zone = f.zone; names = f.names; tried = f.tried; addresses = f.addresses.items; plan = f.plan } };
 
@@ -72,7 +70,7 @@ impl<A: Heap> Frame<A> {
 
     /// The next name whose address is to be looked up. Each name has its turn once, and is skipped where it
     /// is at or under the zone, where this frame's nesting is 3, and where its look-up failed at the nesting
-    /// that it would have or at a lesser one. Want of memory changes nothing.
+    /// that it would have or at a lesser one. Running out of memory changes nothing.
     pub fn next_name(&mut self, failed: &Failed<A>) -> Result<Option<Name<A>>, Starved>
         ensures value { IfOk result (λ n. n ≡ next_name failed.now self.old) }
         ensures ok { OnOk result (self.new ≡ after_name failed.now self.old) }
@@ -94,7 +92,7 @@ impl<A: Heap> Frame<A> {
     }
 
     /// Addresses that were found for a name. Those that are not known yet, each once, are put at the end
-    /// and make a new plan; true where there are such. Want of memory changes nothing.
+    /// and make a new plan; true where there are such. Running out of memory changes nothing.
     pub fn add<S: BuildHasher + Drop, B: Heap>(
         &mut self,
         found: &[Addr],
@@ -175,7 +173,7 @@ impl<A: Allocator> Frame<A> {
         ensures { result ≡ is_skipped failed.now self.now name.now }
     {
         name.is_at_or_under(&self.zone)
-            || DEEPEST <= self.nesting
+            || MAX_NESTING <= self.nesting
             || failed.has(name, self.nesting + 1)
     }
 

@@ -4,7 +4,7 @@ ghost use Rattle.std.specs.Prelude.{◌≡◌, ℕ, ◌+◌, ◌*◌, ◌≤◌,
 ghost use Rattle.std.specs.List.{IsDistinct};
 ghost use Rattle.dname.specs.Labels.{Name, IsAtOrUnder};
 ghost use Rattle.rdata.specs.declared.addr.Addr.{Addr};
-ghost use Rattle.recency.specs.Orders.{HasSame};
+ghost use Rattle.lru_laws.specs.Orders.{HasSame};
 ghost use Rattle.referral.specs.Cuts.{Cut, ServerAddress};
 ghost use Rattle.retry.specs.Penalties.{same_addr};
 ghost use Rattle.retry.specs.Plans.{planned, IsByPenalty};

@@ -1,23 +1,21 @@
 //! What is taken of a cut, and what of addresses that were found is new.
 ghost use Rattle.std.specs.Prelude.{◌≡◌, ◌&&◌, not, filter, map, take, IfOk};
 ghost use Rattle.std.specs.List.{list_any};
-ghost use Rattle.dname.specs.Labels.{Name as Labels, same_name};
-ghost use Rattle.rdata.specs.declared.addr.Addr.{Addr as Address};
-ghost use Rattle.referral.specs.Cuts.{ServerAddress as Listed};
+ghost use Rattle.dname.specs.Labels.{Name as NameSpec, same_name};
+ghost use Rattle.rdata.specs.declared.addr.Addr.{Addr as AddrSpec};
+ghost use Rattle.referral.specs.Cuts.{ServerAddress as ServerAddressSpec};
 ghost use Rattle.frames.specs.Frames.{has_address, each_once, most_taken};
 ghost use Rattle.frames.specs.Seen.{AreSeen};
 
 use dname::{Heap, Name, Starved};
+use limits::MAX_SERVERS;
 use rdata::Addr;
 use referral::{Names, ServerAddress};
 use std::alloc::Allocator;
 use std::collections::BTreeSet;
 
-// The most names, and the most addresses, that are taken of a cut.
-const MOST_TAKEN: usize = 16;
-
 // So many found addresses are compared one by one; of more, each is sought by the order of addresses.
-const FEW: usize = 16;
+const SCANNED: usize = 16;
 
 // The addresses that were taken, by their bytes: whether one is a repeat is found in log n.
 type Seen<A> = BTreeSet<[u8; 4], A>;
@@ -33,11 +31,11 @@ pub(crate) fn taken_addresses<A: Heap>(
     alloc: A,
     servers: &[ServerAddress<A>],
 ) -> Result<Vec<Addr, A>, Starved>
-    ensures { IfOk result (λ v. v.items ≡ take most_taken (each_once (map (λ (s : Listed). s.address) servers.now))) }
+    ensures { IfOk result (λ v. v.items ≡ take most_taken (each_once (map (λ (s : ServerAddressSpec). s.address) servers.now))) }
 {
     let mut taken = Vec::new(alloc);
     for server in servers {
-        if taken.len() < MOST_TAKEN && !has_address(&taken, server.address) {
+        if taken.len() < MAX_SERVERS && !has_address(&taken, server.address) {
             taken.push(server.address)?;
         }
     }
@@ -48,12 +46,12 @@ pub(crate) fn taken_addresses<A: Heap>(
 pub(crate) fn first_names<A: Allocator>(names: &[Name<A>]) -> &[Name<A>]
     ensures { result.now ≡ take most_taken names.now }
 {
-    &names[..names.len().min(MOST_TAKEN)]
+    &names[..names.len().min(MAX_SERVERS)]
 }
 
 // Whether an address of this server was taken.
 fn is_known<A: Allocator>(servers: &[ServerAddress<A>], taken: &[Addr], name: &Name<A>) -> bool
-    ensures { result ≡ list_any (λ (s : Listed). same_name s.name name.now && has_address taken.now s.address) servers.now }
+    ensures { result ≡ list_any (λ (s : ServerAddressSpec). same_name s.name name.now && has_address taken.now s.address) servers.now }
 {
     servers.iter().any(|server| server.name == *name && has_address(taken, server.address))
 }
@@ -65,7 +63,7 @@ pub(crate) fn unknown_names<A: Heap>(
     servers: &[ServerAddress<A>],
     taken: &[Addr],
 ) -> Result<Names<A>, Starved>
-    ensures { IfOk result (λ v. v ≡ filter (λ (n : Labels). not (list_any (λ (s : Listed). same_name s.name n && has_address taken.now s.address) servers.now)) names.now) }
+    ensures { IfOk result (λ v. v ≡ filter (λ (n : NameSpec). not (list_any (λ (s : ServerAddressSpec). same_name s.name n && has_address taken.now s.address) servers.now)) names.now) }
 {
     let mut unknown = Names::new(alloc);
     for name in names {
@@ -83,16 +81,16 @@ pub(crate) fn fresh_addresses<A: Heap>(
     known: &[Addr],
     found: &[Addr],
 ) -> Result<Vec<Addr, A>, Starved>
-    ensures { IfOk result (λ v. v.items ≡ filter (λ (a : Address). not (has_address known.now a)) (each_once found.now)) }
+    ensures { IfOk result (λ v. v.items ≡ filter (λ (a : AddrSpec). not (has_address known.now a)) (each_once found.now)) }
 {
-    if found.len() <= FEW {
+    if found.len() <= SCANNED {
         return fresh_of_few(alloc, known, found);
     }
     fresh_of_many(alloc, known, found)
 }
 
 fn fresh_of_few<A: Heap>(alloc: A, known: &[Addr], found: &[Addr]) -> Result<Vec<Addr, A>, Starved>
-    ensures { IfOk result (λ v. v.items ≡ filter (λ (a : Address). not (has_address known.now a)) (each_once found.now)) }
+    ensures { IfOk result (λ v. v.items ≡ filter (λ (a : AddrSpec). not (has_address known.now a)) (each_once found.now)) }
 {
     let mut fresh = Vec::new(alloc);
     for address in found {
@@ -104,7 +102,7 @@ fn fresh_of_few<A: Heap>(alloc: A, known: &[Addr], found: &[Addr]) -> Result<Vec
 }
 
 fn fresh_of_many<A: Heap>(alloc: A, known: &[Addr], found: &[Addr]) -> Result<Vec<Addr, A>, Starved>
-    ensures { IfOk result (λ v. v.items ≡ filter (λ (a : Address). not (has_address known.now a)) (each_once found.now)) }
+    ensures { IfOk result (λ v. v.items ≡ filter (λ (a : AddrSpec). not (has_address known.now a)) (each_once found.now)) }
 {
     let mut seen = set_of(alloc, known)?;
     let mut fresh = Vec::new(alloc);

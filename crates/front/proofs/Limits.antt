@@ -1,9 +1,9 @@
 -- Which reply goes out, by the length of the whole one.
 use Rattle.std.proofs.Common.{◌≡◌, ◌∙◌, sym, ap, subst, ℕ, ◌<◌, ◌≤◌, nat_lt, false, if◌then◌else◌, Option, Some, List, [], ◌∷◌, length, refl}
 use Rattle.std.proofs.lemmas.Bool.{lt-ltb, le-ltb}
-use Rattle.layout.specs.Messages.{Message, IsMessage, encoding, folded_message}
+use Rattle.message_grammar.specs.Messages.{Message, IsMessage, encoding, folded_message}
 use Rattle.causes.specs.declared.cause.Cause.{Cause}
-use Rattle.causes.specs.declared.cause.Cause.TheVariants.{Large}
+use Rattle.causes.specs.declared.cause.Cause.TheVariants.{ReplyTooLarge}
 use Rattle.front.specs.Replies.{whole_reply, truncated_reply, bare, failure_of, reply_of}
 use Rattle.wire.specs.Limits.{limit_of}
 use Rattle.front.specs.declared.queries.Query.{Query}
@@ -31,7 +31,7 @@ pub reply_truncated : {A : Type 0} (q : Query A) (o : Outcome A) (m : Message) �
 reply_truncated q o m is long = over 512 (length (encoding (whole_reply q o))) _ _ (subst (λ (n : Message). 512 < length (encoding n)) is long)
 
 pub reply_fails : {A : Type 0} (q : Query A) (o : Outcome A) (m : Message) → m ≡ whole_reply q o → 65535 < length (encoding m)
-    → reply_of Tcp q o ≡ (bare q.start (q.echo ∷ []) false 2, Some Large)
+    → reply_of Tcp q o ≡ (bare q.start (q.echo ∷ []) false 2, Some ReplyTooLarge)
 reply_fails q o m is long = over 65535 (length (encoding (whole_reply q o))) _ _ (subst (λ (n : Message). 65535 < length (encoding n)) is long)
 
 -- What is read back as a message is read back as the reply, where that message goes out.

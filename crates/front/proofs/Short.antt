@@ -2,8 +2,8 @@
 use Rattle.std.proofs.Common.{◌≡◌, ◌∙◌, sym, ap, subst, arith, ℕ, ◌+◌, ◌≤◌, false, Option, Some, None, IfSome, List, [], ◌∷◌, length, length-append, refl}
 use Rattle.std.specs.Int.{bytes_high_first}
 use Rattle.dname.specs.Labels.{wire}
-use Rattle.layout.specs.Pieces.{Text, plain_bytes, asked_name, flat_piece, put_flat, put}
-use Rattle.layout.specs.Messages.{Header, Question, Message, encoding}
+use Rattle.message_grammar.specs.Pieces.{Text, plain_bytes, asked_name, flat_piece, put_flat, put}
+use Rattle.message_grammar.specs.Messages.{Header, Question, Message, encoding}
 use Rattle.wire.specs.Drafts.{asked_alone}
 use Rattle.front.specs.Openings.{Opening}
 use Rattle.front.specs.Replies.{reply_header, bare, whole_reply, truncated_reply}

@@ -4,13 +4,13 @@ use Rattle.rdata.specs.Records.{Record}
 use Rattle.zone.specs.Links as said
 use Rattle.zone.specs.Look as looked
 use Rattle.zone.specs.Look.{Local}
-use Rattle.layout.specs.Messages.{Message, Question}
-use Rattle.layout.proofs.Reading.{spelling_one}
-use Rattle.layout.proofs.Single.{message_one}
+use Rattle.message_grammar.specs.Messages.{Message, Question}
+use Rattle.message_grammar.proofs.Reading.{spelling_one}
+use Rattle.message_grammar.proofs.Single.{message_one}
 use Rattle.front.specs.Openings.{Opening, opening_of}
-use Rattle.front.specs.Queries.{Heard, nothing_heard, other_heard, one_heard, IsHeard, IsAsked, by_heard, by_question}
-use Rattle.front.specs.Chains.{Leads, IsEndAt, IsChain, IsLong, FollowsOn, AnswersFrom, AnswersLocally, target_of}
-use Rattle.front.specs.declared.queries.Asked.{Asked}
+use Rattle.front.specs.Queries.{Heard, nothing_heard, other_heard, one_heard, IsHeard, IsRequest, by_heard, by_question}
+use Rattle.front.specs.Chains.{AliasesLead, IsEndAt, IsChain, IsLong, FollowsOn, AnswersFrom, AnswersLocally, alias_target}
+use Rattle.front.specs.declared.queries.Request.{Request}
 use Rattle.front.specs.declared.queries.End.{End}
 use Rattle.front.specs.declared.queries.Outcome.{Outcome}
 use Rattle.front.specs.declared.queries.Outcome.TheVariants.{Answer}
@@ -35,7 +35,7 @@ heard_once bytes s (one_heard m q letters) (one_heard n r spelt) x y =
     ap₂ (by_question s) (one_of_list q r (sym x.1 ∙ ap (λ (k : Message). k.questions) (message_one bytes m n x.0 y.0) ∙ y.1))
     (spelling_one bytes 12 letters spelt x.2.0 y.2.0 x.2.1 y.2.1).0
 
-pub asked_once : {A : Type 0} (bytes : List ℕ) (a b : Asked A) → IsAsked bytes a → IsAsked bytes b → a ≡ b
+pub asked_once : {A : Type 0} (bytes : List ℕ) (a b : Request A) → IsRequest bytes a → IsRequest bytes b → a ≡ b
 asked_once bytes a b (inl x) (inl y) = x.1 ∙ sym y.1
 asked_once bytes a b (inl x) (inr y) = elim x.0 [ inl short ↦ (let whole : 12 ≤ length bytes = y.whole in absurd (omega arith)) | inr reply ↦ (let query = y.query in absurd (omega arith)) ]
 asked_once bytes a b (inr x) (inl y) = elim y.0 [ inl short ↦ (let whole : 12 ≤ length bytes = x.whole in absurd (omega arith)) | inr reply ↦ (let query = x.query in absurd (omega arith)) ]
@@ -59,23 +59,23 @@ end_once looked.NotHere x y a b = a ∙ sym b
 
 -- Two chains that end have the same aliases and the same last name.
 chains_agree : {A : Type 0} (look : List (List ℕ) → Local) (from : List (List ℕ)) (rs ss : List Record) (a b : List (List ℕ)) (x y : End A)
-    → Leads look from rs a → Leads look from ss b → IsEndAt (look a) x → IsEndAt (look b) y → (rs ≡ ss) × (a ≡ b)
+    → AliasesLead look from rs a → AliasesLead look from ss b → IsEndAt (look a) x → IsEndAt (look b) y → (rs ≡ ss) × (a ≡ b)
 chains_agree look from [] [] a b x y e f p q = (refl, e ∙ sym f)
 chains_agree look from [] (s ∷ ss) a b x y e f p q = absurd (no_end (look a) s x (ap look e ∙ f.0) p)
 chains_agree look from (r ∷ rs) [] a b x y e f p q = absurd (no_end (look b) r y (ap look f ∙ e.0) q)
 chains_agree look from (r ∷ rs) (s ∷ ss) a b x y e f p q =
     let same : r ≡ s = one_alias r s (sym e.0 ∙ f.0) in
-    let rest = chains_agree look (target_of r) rs ss a b x y e.1 (subst (λ (t : Record). Leads look (target_of t) ss b) (sym same) f.1) p q in
+    let rest = chains_agree look (alias_target r) rs ss a b x y e.1 (subst (λ (t : Record). AliasesLead look (alias_target t) ss b) (sym same) f.1) p q in
     (ap₂ (λ (t : Record) (ts : List Record). t ∷ ts) same rest.0, rest.1)
 
 -- A chain that ends is the longest.
 chain_is_longest : {A : Type 0} (look : List (List ℕ) → Local) (from : List (List ℕ)) (rs ss : List Record) (a b : List (List ℕ)) (x : End A)
-    → Leads look from rs a → Leads look from ss b → IsEndAt (look a) x → length ss ≤ length rs
+    → AliasesLead look from rs a → AliasesLead look from ss b → IsEndAt (look a) x → length ss ≤ length rs
 chain_is_longest look from rs [] a b x e f p = omega arith
 chain_is_longest look from [] (s ∷ ss) a b x e f p = absurd (no_end (look a) s x (ap look e ∙ f.0) p)
 chain_is_longest look from (r ∷ rs) (s ∷ ss) a b x e f p =
     let same : r ≡ s = one_alias r s (sym e.0 ∙ f.0) in
-    let rest = chain_is_longest look (target_of r) rs ss a b x e.1 (subst (λ (t : Record). Leads look (target_of t) ss b) (sym same) f.1) p in
+    let rest = chain_is_longest look (alias_target r) rs ss a b x e.1 (subst (λ (t : Record). AliasesLead look (alias_target t) ss b) (sym same) f.1) p in
     omega arith
 
 not_both : {A : Type 0} {X : Type 0} (look : List (List ℕ) → Local) (name : List (List ℕ)) (rs : List Record) (end : End A) → IsChain look name rs end → IsLong look name → X

@@ -1,12 +1,13 @@
 -- Local answers: the chain of aliases that local zones lead through, and what stands at its end (RFC 1034,
 -- sections 3.6.2 and 4.3.2). `look` is what the local zones say of a name, for the type that is asked for.
 use Rattle.std.specs.Prelude.{◌≡◌, ℕ, ◌≤◌, ◌⊎◌, true, List, [], ◌∷◌, length}
+use Rattle.limits.specs.Limits.{max_aliases}
 use Rattle.rdata.specs.Data.{Datum, Cname}
 use Rattle.rdata.specs.Records.{Record}
 use Rattle.zone.specs.Links as said
 use Rattle.zone.specs.Look as looked
 use Rattle.zone.specs.Look.{Local}
-use Rattle.causes.specs.declared.cause.Cause.TheVariants.{Chain}
+use Rattle.causes.specs.declared.cause.Cause.TheVariants.{ChainTooLong}
 use Rattle.front.specs.declared.queries.End.{End}
 use Rattle.front.specs.declared.queries.End.TheVariants.{Found, NoData, NxDomain, Outside}
 use Rattle.front.specs.declared.queries.Outcome.{Outcome}
@@ -17,13 +18,13 @@ abbrev pub target_in : List (List ℕ) → Datum → List (List ℕ)
 target_in owner (Cname name) = name
 target_in owner _ = owner
 
-abbrev pub target_of : Record → List (List ℕ)
-target_of r = target_in r.owner r.value
+abbrev pub alias_target : Record → List (List ℕ)
+alias_target r = target_in r.owner r.value
 
 -- These aliases lead from a name to another.
-abbrev pub Leads : (List (List ℕ) → Local) → List (List ℕ) → List Record → List (List ℕ) → Type 0
-Leads look from [] to = to ≡ from
-Leads look from (r ∷ rs) to = (look from ≡ looked.Linked (said.Alias r)) × Leads look (target_of r) rs to
+abbrev pub AliasesLead : (List (List ℕ) → Local) → List (List ℕ) → List Record → List (List ℕ) → Type 0
+AliasesLead look from [] to = to ≡ from
+AliasesLead look from (r ∷ rs) to = (look from ≡ looked.Linked (said.Alias r)) × AliasesLead look (alias_target r) rs to
 
 -- What ends a chain: anything but a further alias. At a cut, and where no local zone is over the name,
 -- nothing is said here.
@@ -41,22 +42,22 @@ IsEndAt looked.NotHere end = end ≡ Outside
 -- At most eight aliases, and what stands behind them.
 pub record IsChain {A : Type 0} (look : List (List ℕ) → Local) (from : List (List ℕ)) (aliases : List Record) (end : End A) : Type 0 where
   pub to : List (List ℕ)
-  pub leads : Leads look from aliases to
-  pub few : length aliases ≤ 8
+  pub leads : AliasesLead look from aliases to
+  pub few : length aliases ≤ max_aliases
   pub ends : IsEndAt (look to) end
 
 -- Nine aliases, one behind the other.
 pub record IsLong (look : List (List ℕ) → Local) (from : List (List ℕ)) : Type 0 where
   pub aliases : List Record
   pub to : List (List ℕ)
-  pub leads : Leads look from aliases to
+  pub leads : AliasesLead look from aliases to
   pub nine : length aliases ≡ 9
 
 -- The answer for a name that has a link here.
 abbrev pub FollowsOn : {A : Type 0} → (List (List ℕ) → Local) → List (List ℕ) → Outcome A → Type 0
 FollowsOn {A} look name o =
     ((aliases : List Record) × (end : End A) × IsChain look name aliases end × (o ≡ Answer true aliases end))
-    ⊎ (IsLong look name × (o ≡ Fail Chain))
+    ⊎ (IsLong look name × (o ≡ Fail ChainTooLong))
 
 -- The answer by what is said of the asked name itself.
 abbrev pub AnswersFrom : {A : Type 0} → (List (List ℕ) → Local) → List (List ℕ) → Local → Outcome A → Type 0

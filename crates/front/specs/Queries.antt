@@ -1,13 +1,14 @@
 -- What the bytes from a client ask (RFC 1035, sections 4.1.1 and 7.3).
 use Rattle.std.specs.Prelude.{◌≡◌, ℕ, ◌<◌, ◌≤◌, ◌⊎◌, cond, nat_eq, Option, Some, None, List, [], ◌∷◌, length, slice_index}
 use Rattle.rdata.specs.declared.rtype.RType.{RType}
-use Rattle.layout.specs.Messages.{Message, Question, served_type, IsMessage}
-use Rattle.layout.specs.Names.{SpeltAt}
+use Rattle.message_grammar.specs.Messages.{Message, Question, served_type, IsMessage}
+use Rattle.message_grammar.specs.Names.{SpeltAt}
 use Rattle.front.specs.Openings.{Opening, opening_of}
 use Rattle.front.specs.declared.queries.Refusal.TheVariants.{FormErr, NotImp}
-use Rattle.front.specs.declared.queries.Query.{Query as Asking}
-use Rattle.front.specs.declared.queries.Asked.{Asked}
-use Rattle.front.specs.declared.queries.Asked.TheVariants.{Drop, Refuse, Query}
+use Rattle.front.specs.declared.queries.Query.{Query}
+use Rattle.front.specs.declared.queries.Request.{Request}
+use Rattle.front.specs.declared.queries.Request.TheVariants.{Drop, Refuse}
+use Rattle.front.specs.declared.queries.Request.TheVariants as request
 
 -- What bytes mean: no message, a message of no question or several, or a message of one question, in the
 -- letters in which it was asked.
@@ -29,23 +30,23 @@ answerable_type s q = cond (nat_eq s.opcode 0) (served_type q.qtype q.qclass) No
 abbrev pub in_letters : Question → List (List ℕ) → Question
 in_letters q letters = record { name = letters; qtype = q.qtype; qclass = q.qclass }
 
-abbrev pub query_of : {A : Type 0} → Opening → Question → List (List ℕ) → RType → Asking A
+abbrev pub query_of : {A : Type 0} → Opening → Question → List (List ℕ) → RType → Query A
 query_of s q letters kind = record { start = s; name = q.name; kind = kind; echo = in_letters q letters }
 
-abbrev pub by_type : {A : Type 0} → Opening → Question → List (List ℕ) → Option RType → Asked A
+abbrev pub by_type : {A : Type 0} → Opening → Question → List (List ℕ) → Option RType → Request A
 by_type s q letters None = Refuse NotImp s (Some (in_letters q letters))
-by_type s q letters (Some kind) = Query (query_of s q letters kind)
+by_type s q letters (Some kind) = request.Query (query_of s q letters kind)
 
-abbrev pub by_question : {A : Type 0} → Opening → Question → List (List ℕ) → Asked A
+abbrev pub by_question : {A : Type 0} → Opening → Question → List (List ℕ) → Request A
 by_question s q letters = by_type s q letters (answerable_type s q)
 
-abbrev pub by_heard : {A : Type 0} → Opening → Heard → Asked A
+abbrev pub by_heard : {A : Type 0} → Opening → Heard → Request A
 by_heard s nothing_heard = Refuse FormErr s None
 by_heard s (other_heard m) = Refuse FormErr s None
 by_heard s (one_heard m q letters) = by_question s q letters
 
 -- Twelve bytes or more that are no reply are answered by what they mean.
-pub record IsRead {A : Type 0} (bytes : List ℕ) (asked : Asked A) : Type 0 where
+pub record IsRead {A : Type 0} (bytes : List ℕ) (asked : Request A) : Type 0 where
   pub whole : 12 ≤ length bytes
   pub query : slice_index bytes 2 < 128
   pub heard : Heard
@@ -53,8 +54,8 @@ pub record IsRead {A : Type 0} (bytes : List ℕ) (asked : Asked A) : Type 0 whe
   pub is : asked ≡ by_heard (opening_of bytes) heard
 
 -- Others are dropped.
-abbrev pub IsDropped : {A : Type 0} → List ℕ → Asked A → Type 0
+abbrev pub IsDropped : {A : Type 0} → List ℕ → Request A → Type 0
 IsDropped bytes asked = ((length bytes < 12) ⊎ (128 ≤ slice_index bytes 2)) × (asked ≡ Drop)
 
-abbrev pub IsAsked : {A : Type 0} → List ℕ → Asked A → Type 0
-IsAsked bytes asked = IsDropped bytes asked ⊎ IsRead bytes asked
+abbrev pub IsRequest : {A : Type 0} → List ℕ → Request A → Type 0
+IsRequest bytes asked = IsDropped bytes asked ⊎ IsRead bytes asked

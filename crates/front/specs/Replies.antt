@@ -1,10 +1,10 @@
 -- Replies (RFC 1035, sections 4.1.1 and 4.2.1).
 use Rattle.std.specs.Prelude.{ℕ, Bool, true, false, nat_lt, if◌then◌else◌, Option, Some, None, List, [], ◌∷◌, ◌++◌, length}
 use Rattle.rdata.specs.Records.{Record}
-use Rattle.layout.specs.Messages.{Header, Question, Message, encoding}
+use Rattle.message_grammar.specs.Messages.{Header, Question, Message, encoding}
 use Rattle.wire.specs.Drafts.{asked_alone}
 use Rattle.causes.specs.declared.cause.Cause.{Cause}
-use Rattle.causes.specs.declared.cause.Cause.TheVariants.{Large}
+use Rattle.causes.specs.declared.cause.Cause.TheVariants.{ReplyTooLarge}
 use Rattle.front.specs.Openings.{Opening}
 use Rattle.front.specs.declared.queries.Refusal.{Refusal}
 use Rattle.front.specs.declared.queries.Refusal.TheVariants.{FormErr, NotImp}
@@ -58,7 +58,7 @@ denied_by (NoData soa) = soa
 denied_by (NxDomain soa) = soa
 denied_by _ = []
 
--- The whole reply: the aliases and then what was found in the answer, the SOA of a denial in authority; a
+-- The whole reply: the aliases and then what was found in the answer, the SOA of a negative answer in authority; a
 -- referral's NS set in authority and its addresses in additional.
 abbrev pub whole_reply : {A : Type 0} → Query A → Outcome A → Message
 whole_reply q (Answer aa aliases end) = record {
@@ -97,7 +97,7 @@ failure_of _ = None
 abbrev pub reply_of : {A : Type 0} → Via → Query A → Outcome A → Message × Option Cause
 reply_of Udp q o = if nat_lt (limit_of Udp) (length (encoding (whole_reply q o))) then (truncated_reply (whole_reply q o), failure_of o)
     else (whole_reply q o, failure_of o)
-reply_of Tcp q o = if nat_lt (limit_of Tcp) (length (encoding (whole_reply q o))) then (bare q.start (q.echo ∷ []) false 2, Some Large)
+reply_of Tcp q o = if nat_lt (limit_of Tcp) (length (encoding (whole_reply q o))) then (bare q.start (q.echo ∷ []) false 2, Some ReplyTooLarge)
     else (whole_reply q o, failure_of o)
 
 -- The reply to a query that is refused before it is looked at.

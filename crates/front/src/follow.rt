@@ -4,18 +4,16 @@ ghost use Rattle.rdata.specs.Types.{type_number};
 ghost use Rattle.zone.specs.Look.{Linked};
 ghost use Rattle.authority.specs.Answers.{link_view, local_view};
 ghost use Rattle.authority.specs.Catalogs.{looked};
-ghost use Rattle.front.specs.Chains.{AnswersLocally, FollowsOn, target_of};
+ghost use Rattle.front.specs.Chains.{AnswersLocally, FollowsOn, alias_target};
 ghost use Rattle.front.specs.Steps.{IsStep};
 
 use crate::queries::{End, Outcome, Query};
 use authority::{Catalog, Link, Local};
 use causes::Cause;
 use dname::{Heap, Name, Starved};
+use limits::MAX_ALIASES;
 use rdata::{RData, RType, Record, Records};
 use std::alloc::{Allocator, Global};
-
-/// The links that a CNAME chain may have, to which the end comes (RFC 1034, section 3.6.2, leaves the number open).
-pub const MOST_ALIASES: usize = 8;
 
 /// What local zones alone answer a query, one whose RD is clear: nothing where none is over the name, a
 /// referral at a zone cut, else the CNAME chain through local zones and what stands at its end. A ninth alias
@@ -51,8 +49,8 @@ fn follow<A: Heap>(
         match step {
             Step::Ended(end) => return Ok(Outcome::Answer(true, aliases, end)),
             Step::Onward(alias) => {
-                if aliases.len() == MOST_ALIASES {
-                    return Ok(Outcome::Fail(Cause::Chain));
+                if aliases.len() == MAX_ALIASES {
+                    return Ok(Outcome::Fail(Cause::ChainTooLong));
                 }
                 found = catalog.look(alloc, alias_target(&alias), kind)?;
                 aliases.push(alias)?;
@@ -88,7 +86,7 @@ impl<A: Heap> Step<A> {
 
 /// The name that an alias leads to; of another record, its owner.
 pub fn alias_target<A: Allocator>(alias: &Record<A>) -> &Name<A>
-    ensures { result.now ≡ target_of alias.now }
+    ensures { result.now ≡ alias_target alias.now }
 {
     match &alias.value {
         RData::Cname(name) => name,

@@ -6,14 +6,14 @@
 //! long, and its end; a referral at a zone cut; or REFUSED. `reply_bytes` writes the reply of an `Outcome`,
 //! truncated over UDP where it is longer than 512 bytes; `refusal_bytes` that of a refusal.
 //!
-//! Promised: what bytes ask (`IsAsked`, one thing at most: `reading_is_one`), what local zones answer
+//! Promised: what bytes ask (`IsRequest`, one thing at most: `reading_is_one`), what local zones answer
 //! (`AnswersLocally`, `local_answer_is_one`), and the reply to the byte (`reply_of`), which repeats the client's
 //! question in its own letters (`echo_is_question`). A reply, or fewer than 12 bytes, takes no memory.
 //! Not here: recursion (`iterate`, `engine`); sockets (`server`).
 //!
 //! ```text
 //! let mut writer = Writer::new(alloc)?;
-//! if let Asked::Query(query) = read_query(alloc, bytes)? {
+//! if let Request::Query(query) = read_query(alloc, bytes)? {
 //!     let outcome = answer_local(alloc, &query, &catalog)?;
 //!     let (reply, cause) = reply_bytes(&mut writer, &query, &outcome, Via::Udp)?;
 //! }
@@ -27,9 +27,9 @@ mod read;
 mod reply;
 mod start;
 
-pub use follow::{MOST_ALIASES, Step, alias_target, answer_local};
+pub use follow::{Step, alias_target, answer_local};
 pub use laws::{echo_is_question, local_answer_is_one, reading_is_one};
-pub use queries::{Asked, End, Outcome, Query, Refusal};
+pub use queries::{End, Outcome, Query, Refusal, Request};
 pub use read::read_query;
 pub use reply::{refusal_bytes, reply_bytes};
 pub use start::Start;

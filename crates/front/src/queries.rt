@@ -9,7 +9,7 @@ use causes::Cause;
 use dname::Name;
 use rdata::{RType, Record, RecordSet, Records};
 use std::alloc::{Allocator, Global};
-use wire::Echo;
+use wire::{Echo, rcode};
 
 /// Why a query is refused before it is looked at.
 #[derive(Clone, Copy, Debug, PartialEq, Eq)]
@@ -26,8 +26,8 @@ impl Refusal {
         ensures { result ≡ refusal_rcode self }
     {
         match self {
-            Refusal::FormErr => 1,
-            Refusal::NotImp => 4,
+            Refusal::FormErr => rcode::FORM_ERR,
+            Refusal::NotImp => rcode::NOT_IMP,
         }
     }
 }
@@ -47,7 +47,7 @@ pub struct Query<A: Allocator = Global> {
 
 /// What the bytes from a client ask.
 #[derive(Drop)]
-pub enum Asked<A: Allocator = Global> {
+pub enum Request<A: Allocator = Global> {
     /// Nothing: under 12 bytes, or a reply.
     Drop,
     /// A refusal, with the question to repeat, if there is one.
@@ -76,8 +76,8 @@ impl<A: Allocator> End<A> {
         ensures fits { result < 16 }
     {
         match self {
-            End::NxDomain(_) => 3,
-            _ => 0,
+            End::NxDomain(_) => rcode::NX_DOMAIN,
+            _ => rcode::NO_ERROR,
         }
     }
 

@@ -1,9 +1,9 @@
 //! A client's bytes, read.
 ghost use Rattle.std.specs.Prelude.{◌≡◌, ◌≤◌, ◌<◌, IfOk, IsOk, length, slice_index};
 ghost use Rattle.front.specs.Openings.{opening_of};
-ghost use Rattle.front.specs.Queries.{IsAsked, by_question};
+ghost use Rattle.front.specs.Queries.{IsRequest, by_question};
 
-use crate::queries::{Asked, Query, Refusal};
+use crate::queries::{Query, Refusal, Request};
 use crate::start::Start;
 use dname::{Heap, Name, Starved};
 use rdata::{INTERNET, RType};
@@ -12,20 +12,20 @@ use wire::{Echo, WireError, decode_question};
 /// What the bytes from a client ask, in this order: under 12 bytes or QR set, nothing; no message, or other
 /// than one question, a format error; another operation than a query, a class other than IN or a type that
 /// is not served, not implemented; else a query. Under 12 bytes and a reply take no memory.
-pub fn read_query<A: Heap>(alloc: A, bytes: &[u8]) -> Result<Asked<A>, Starved>
-    ensures asked { IfOk result (IsAsked bytes.now) }
+pub fn read_query<A: Heap>(alloc: A, bytes: &[u8]) -> Result<Request<A>, Starved>
+    ensures asked { IfOk result (IsRequest bytes.now) }
     ensures dropped { length bytes.now < 12 → IsOk result }
     ensures replies { 128 ≤ slice_index bytes.now 2 → IsOk result }
 {
     if bytes.len() < 12 || bytes[2] >= 128 {
-        return Ok(Asked::Drop);
+        return Ok(Request::Drop);
     }
     let start = start_at(bytes);
     match decode_question(alloc, bytes) {
         Ok(Some((name, echo))) => Ok(sort_question(start, name, echo)),
-        Ok(None) => Ok(Asked::Refuse(Refusal::FormErr, start, None)),
+        Ok(None) => Ok(Request::Refuse(Refusal::FormErr, start, None)),
         Err(WireError::Memory) => Err(Starved),
-        Err(_) => Ok(Asked::Refuse(Refusal::FormErr, start, None)),
+        Err(_) => Ok(Request::Refuse(Refusal::FormErr, start, None)),
     }
 }
 
@@ -38,16 +38,16 @@ fn start_at(bytes: &[u8]) -> Start
 }
 
 // A message of one question: a query, or nothing that is served.
-fn sort_question<A: Heap>(start: Start, name: Name<A>, echo: Echo<A>) -> Asked<A>
+fn sort_question<A: Heap>(start: Start, name: Name<A>, echo: Echo<A>) -> Request<A>
     ensures { result ≡ by_question start (record { name = name; qtype = echo.qtype; qclass = echo.qclass }) echo.name }
 {
     match RType::from_number(echo.qtype) {
-        Some(kind) if start.opcode() == 0 && echo.qclass == INTERNET => Asked::Query(Query {
+        Some(kind) if start.opcode() == 0 && echo.qclass == INTERNET => Request::Query(Query {
             start,
             name,
             kind,
             echo,
         }),
-        _ => Asked::Refuse(Refusal::NotImp, start, Some(echo)),
+        _ => Request::Refuse(Refusal::NotImp, start, Some(echo)),
     }
 }

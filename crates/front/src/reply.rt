@@ -2,7 +2,7 @@
 ghost use Rattle.std.specs.Prelude.{◌≡◌, false, ◌≤◌, ◌<◌, [], IfOk, IfSome, length, option_copied};
 ghost use Rattle.dname.specs.Labels.{wire};
 ghost use Rattle.wire.specs.Drafts.{asked_alone};
-ghost use Rattle.layout.specs.Messages.{IsMessage, encoding, folded_message};
+ghost use Rattle.message_grammar.specs.Messages.{IsMessage, encoding, folded_message};
 ghost use Rattle.front.specs.Replies.{reply_header, whole_reply, truncated_reply, bare, reply_of, failure_of, refusal_reply};
 ghost use Rattle.wire.specs.Limits.{limit_of};
 
@@ -11,7 +11,7 @@ use crate::start::Start;
 use causes::Cause;
 use dname::{Heap, Starved};
 use std::alloc::Allocator;
-use wire::{Draft, Echo, Header, TCP_LIMIT, UDP_LIMIT, Via, Writer};
+use wire::{Draft, Echo, Header, TCP_LIMIT, UDP_LIMIT, Via, Writer, rcode};
 
 /// The bytes of the reply, and the cause of a SERVFAIL. A reply over 512 bytes on UDP keeps header and
 /// question, with TC set; one over 65,535 bytes on TCP is a SERVFAIL. The bytes are read back as the reply, its
@@ -41,10 +41,10 @@ pub fn reply_bytes<A: Heap>(
             Some(bytes) => Ok((bytes, cause)),
             None => {
                 short_law(Some(&query.echo));
-                let failure = empty_draft(query.start, Some(&query.echo), 2);
+                let failure = empty_draft(query.start, Some(&query.echo), rcode::SERV_FAIL);
                 Ok((
                     short_bytes(writer, &failure, TCP_LIMIT)?,
-                    Some(Cause::Large),
+                    Some(Cause::ReplyTooLarge),
                 ))
             }
         },
@@ -112,15 +112,11 @@ fn header(start: Start, aa: bool, tc: bool, rcode: u8) -> Header
     ensures { result ≡ reply_header start aa tc rcode }
 {
     Header {
-        id: start.id(),
-        qr: true,
-        opcode: start.opcode(),
         aa,
         tc,
-        rd: start.wants_recursion(),
         ra: true,
-        z: 0,
         rcode,
+        ..Header::reply(start.id(), start.opcode(), start.wants_recursion())
     }
 }
 
@@ -180,7 +176,7 @@ fn draft_of<'a, A: Allocator>(query: &'a Query<A>, outcome: &'a Outcome<A>) -> D
             authority: ns.as_slice(),
             additional: glue.as_slice(),
         },
-        Outcome::Refused => empty_draft(query.start, Some(&query.echo), 5),
-        Outcome::Fail(_) => empty_draft(query.start, Some(&query.echo), 2),
+        Outcome::Refused => empty_draft(query.start, Some(&query.echo), rcode::REFUSED),
+        Outcome::Fail(_) => empty_draft(query.start, Some(&query.echo), rcode::SERV_FAIL),
     }
 }

@@ -2,5 +2,5 @@ pub mod Accepted
 pub mod Alive
 pub mod Passed
 pub mod Sought
-pub mod Started
+pub mod QueryStarts
 pub mod Turns

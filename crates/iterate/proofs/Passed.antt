@@ -1,12 +1,12 @@
 -- The loop over addresses that failed lately: what each turn keeps.
 use Rattle.std.proofs.Common.{◌≡◌, ℕ, zero, suc, ◌<◌, Bool, true, false, length, refl, sym, ap, ◌∙◌, subst, arith}
-use Rattle.recency.specs.Orders.{used}
+use Rattle.lru_laws.specs.Orders.{used}
 use Rattle.cache.specs.Failures.{same_failed}
 use Rattle.resolution.specs.Jobs.{Home, Stores, Search, given, ask_of, left_of, Job, Go, point}
 use Rattle.resolution.specs.Rules.{PassesOver, Rule, skips}
 use Rattle.resolution.proofs.Passing.{left_first}
-use Rattle.known.specs.Uses.{OnlyUses}
-use Rattle.known.proofs.Uses.{uses_refl, uses_then}
+use Rattle.lookup.specs.Uses.{OnlyUses}
+use Rattle.lookup.proofs.Uses.{uses_refl, uses_then}
 use Rattle.iterate.specs.Moves.{with_search, skipping, IsNextFailed, has_some, ArePassed}
 
 pub record Passing (now : ℕ) (before : Search) (old : Stores) (here : Search) (stores : Stores) (some : Bool) : Type 0 where

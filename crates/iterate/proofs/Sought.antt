@@ -6,10 +6,10 @@ use Rattle.zone.specs.Links.{Link}
 use Rattle.frames.specs.Frames.{FailedName, next_name}
 use Rattle.frames.proofs.Places.{name_shallow}
 use Rattle.resolution.specs.Jobs.{Home, Stores, Taken, Search, Job, marked}
-use Rattle.resolution.specs.Rules.{Finds, Misses, HearsOf, turned}
-use Rattle.known.specs.Found.{IsFound}
-use Rattle.known.specs.declared.lookup.Found.{Found}
-use Rattle.known.specs.declared.lookup.Found.TheVariants as found
+use Rattle.resolution.specs.Rules.{Finds, Misses, UsesServerAddress, turned}
+use Rattle.lookup.specs.Found.{IsFound}
+use Rattle.lookup.specs.declared.lookup.Found.{Found}
+use Rattle.lookup.specs.declared.lookup.Found.TheVariants as found
 use Rattle.iterate.specs.Moves.{with_search}
 
 module _ {A : Type 0} (home : Home) (now : ℕ) (n m : Name) (t u : ℕ) (old : Stores) (f : Found A) (new : Stores) (named : n ≡ m) (typed : t ≡ u) (h : IsFound home now n t old f new) where
@@ -42,6 +42,6 @@ up_job j mid marks new before around n d popped mark push named nested =
 
 -- What is heard of a name, of the search as it was.
 pub heard_at : (stores : Stores) (n m : Name) (l : Link) (s before : Search) (failed : List FailedName) (after : Search) (marks : List FailedName) → n ≡ m → s ≡ before
-    → HearsOf stores n l s failed after marks → HearsOf stores m l before failed after marks
+    → UsesServerAddress stores n l s failed after marks → UsesServerAddress stores m l before failed after marks
 heard_at stores n m l s before failed after marks named is h =
-    subst (λ (x : Name). HearsOf stores x l before failed after marks) named (subst (λ (x : Search). HearsOf stores n l x failed after marks) is h)
+    subst (λ (x : Name). UsesServerAddress stores x l before failed after marks) named (subst (λ (x : Search). UsesServerAddress stores n l x failed after marks) is h)

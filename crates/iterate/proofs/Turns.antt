@@ -3,8 +3,8 @@ use Rattle.std.proofs.Common.{ℕ, suc, ◌<◌, refl}
 use Rattle.resolution.specs.Jobs.{Home, Point, IsFreshTask}
 use Rattle.resolution.specs.Rules.{Rule, Rules}
 use Rattle.resolution.proofs.Falls.{measure, falls, stays_fresh}
-use Rattle.known.specs.Uses.{OnlyUses}
-use Rattle.known.proofs.Uses.{uses_refl, uses_then}
+use Rattle.lookup.specs.Uses.{OnlyUses}
+use Rattle.lookup.proofs.Uses.{uses_refl, uses_then}
 
 -- So many rules were applied, and a link that is to be taken is fresh.
 pub record Running (home : Home) (now : ℕ) (first here : Point) : Type 0 where

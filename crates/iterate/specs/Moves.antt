@@ -3,7 +3,7 @@ use Rattle.std.specs.Prelude.{◌≡◌, ℕ, zero, suc, Bool, true, false, Some
 use Rattle.dname.specs.Labels.{Name}
 use Rattle.rdata.specs.Records.{Record}
 use Rattle.rdata.specs.declared.addr.Addr.{Addr}
-use Rattle.recency.specs.Orders.{used}
+use Rattle.lru_laws.specs.Orders.{used}
 use Rattle.retry.specs.Plans.{upcoming}
 use Rattle.cache.specs.Failures.{same_failed}
 use Rattle.frames.specs.Frames.{after_add, fresh_addresses}
@@ -11,11 +11,11 @@ use Rattle.resolution.specs.Jobs.{Home, Stores, level_of, Taken, AreFresh, IsDea
 use Rattle.resolution.specs.Rules.{PassesOver, IsFree, Rule, Leaves}
 
 -- The work goes on with a task, or something goes out.
-pub data Turn : Type 0 where
-  Onward : Task → Turn
-  Out : Next → Turn
+pub data Move : Type 0 where
+  Onward : Task → Move
+  Out : Next → Move
 
-abbrev pub IsMove : Home → ℕ → Point → Turn → Job → Stores → Type 0
+abbrev pub IsMove : Home → ℕ → Point → Move → Job → Stores → Type 0
 IsMove home now p (Onward task) job stores = Rule home now p (point task job stores)
 IsMove home now p (Out next) job stores = Leaves home now p next job stores
 

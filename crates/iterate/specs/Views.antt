@@ -8,8 +8,8 @@ use Rattle.iterate.specs.declared.calls.Next.{Next}
 use Rattle.iterate.specs.declared.calls.Next.TheVariants as next
 use Rattle.iterate.specs.declared.task.Task.{Task}
 use Rattle.iterate.specs.declared.task.Task.TheVariants as task
-use Rattle.iterate.specs.declared.task.Turn.{Turn}
-use Rattle.iterate.specs.declared.task.Turn.TheVariants as turn
+use Rattle.iterate.specs.declared.task.Move.{Move}
+use Rattle.iterate.specs.declared.task.Move.TheVariants as moves_of
 
 abbrev pub input_view : {A : Type 0} → Input A → plain.Input
 input_view input.Start = plain.Start
@@ -18,7 +18,7 @@ input_view (input.TimedOut server) = plain.TimedOut server
 input_view (input.TcpFailed server) = plain.TcpFailed server
 
 abbrev pub next_view : {A : Type 0} → Next A → plain.Next
-next_view (next.Ask server n t) = plain.Ask server n (type_number t)
+next_view (next.AskUdp server n t) = plain.AskUdp server n (type_number t)
 next_view (next.AskTcp server n t) = plain.AskTcp server n (type_number t)
 next_view (next.Done chain end) = plain.Done chain end
 next_view (next.Fail cause) = plain.Fail cause
@@ -29,6 +29,6 @@ task_view (task.Take l) = plain.Take l
 task_view task.Go = plain.Go
 task_view (task.Again server) = plain.Again server
 
-abbrev pub turn_view : {A : Type 0} → Turn A → moves.Turn
-turn_view (turn.Onward t) = moves.Onward (task_view t)
-turn_view (turn.Out n) = moves.Out (next_view n)
+abbrev pub move_view : {A : Type 0} → Move A → moves.Move
+move_view (moves_of.Onward t) = moves.Onward (task_view t)
+move_view (moves_of.Out n) = moves.Out (next_view n)

@@ -2,16 +2,16 @@
 ghost use Rattle.std.specs.Prelude.{ℕ, IfOk, OnErr};
 ghost use Rattle.resolution.specs.Jobs.{Point, point, IsFreshTask};
 ghost use Rattle.resolution.specs.Rules.{Rules, Leaves, Advances, Stops};
-ghost use Rattle.known.specs.Uses.{OnlyUses};
+ghost use Rattle.lookup.specs.Uses.{OnlyUses};
 ghost use Rattle.iterate.specs.Views.{input_view, next_view, task_view};
 
 use crate::calls::{Input, Next};
 use crate::entering::enter;
 use crate::job::Job;
-use crate::task::{Task, Turn};
-use crate::turn::turn;
+use crate::moves::make_move;
+use crate::task::{Move, Task};
 use dname::{Heap, Starved};
-use known::{Home, Stores};
+use lookup::{Home, Stores};
 use std::hash::BuildHasher;
 
 /// Does what is due, task by task, until something goes out.
@@ -29,9 +29,9 @@ pub(crate) fn run<S: BuildHasher + Drop, A: Heap>(
 {
     let mut task = first;
     'turns: loop {
-        match turn(alloc, job, task, home, stores, now)? {
-            Turn::Onward(onward) => task = onward,
-            Turn::Out(next) => return Ok(next),
+        match make_move(alloc, job, task, home, stores, now)? {
+            Move::Onward(onward) => task = onward,
+            Move::Out(next) => return Ok(next),
         }
     }
 }

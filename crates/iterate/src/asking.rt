@@ -2,14 +2,14 @@
 //! 40.
 ghost use Rattle.std.specs.Prelude.{◌≡◌, false, Some, IfOk, Contains};
 ghost use Rattle.retry.specs.Plans.{upcoming};
-ghost use Rattle.resolution.specs.Jobs.{Home as Grounds, Stores as Learnt, Search as Sought, Go as Going, Again as Repeating, point, given, fails_now};
+ghost use Rattle.resolution.specs.Jobs.{Home, Stores, Search as SearchSpec, Go, Again, point, given, fails_now};
 ghost use Rattle.iterate.specs.Moves.{IsMove, with_search};
-ghost use Rattle.iterate.specs.Views.{turn_view};
+ghost use Rattle.iterate.specs.Views.{move_view};
 
 use crate::calls::Next;
 use crate::job::Job;
 use crate::search::Search;
-use crate::task::Turn;
+use crate::task::Move;
 use causes::Cause;
 use dname::{Heap, Name, Starved};
 use rdata::Addr;
@@ -21,19 +21,19 @@ pub(crate) fn ask<A: Heap>(
     search: Search<A>,
     server: Addr,
     now: u64,
-) -> Result<Turn<A>, Starved>
-    ensures { (home : Grounds) (stores : Learnt) (before : Sought) → upcoming (before.frame).plan ≡ Some server → Contains (before.frame).addresses server → fails_now now stores.failures before server ≡ false → search ≡ given before
-        → IfOk result (λ t. IsMove home now (point Going (with_search job.old before) stores) (turn_view t) job.new stores) }
+) -> Result<Move<A>, Starved>
+    ensures { (home : Home) (stores : Stores) (before : SearchSpec) → upcoming (before.frame).plan ≡ Some server → Contains (before.frame).addresses server → fails_now now stores.failures before server ≡ false → search ≡ given before
+        → IfOk result (λ t. IsMove home now (point Go (with_search job.old before) stores) (move_view t) job.new stores) }
 {
     if let Some(cause) = job.refusal(now) {
         drop(search);
-        return Ok(Turn::Out(Next::Fail(cause)));
+        return Ok(Move::Out(Next::Fail(cause)));
     }
     let name: Result<Name<A>, AllocError> = search.name().clone();
     let kind = search.kind();
     job.count();
     job.push(search)?;
-    Ok(Turn::Out(Next::Ask(server, name?, kind)))
+    Ok(Move::Out(Next::AskUdp(server, name?, kind)))
 }
 
 // Asks the search's server again, over TCP, unless nothing more may be sent.
@@ -42,26 +42,26 @@ fn ask_again<A: Heap>(
     search: Search<A>,
     server: Addr,
     now: u64,
-) -> Result<Turn<A>, Starved>
-    ensures { IfOk result (λ t. (home : Grounds) (stores : Learnt) → IsMove home now (point (Repeating server) (with_search job.old search) stores) (turn_view t) job.new stores) }
+) -> Result<Move<A>, Starved>
+    ensures { IfOk result (λ t. (home : Home) (stores : Stores) → IsMove home now (point (Again server) (with_search job.old search) stores) (move_view t) job.new stores) }
 {
     if let Some(cause) = job.refusal(now) {
         drop(search);
-        return Ok(Turn::Out(Next::Fail(cause)));
+        return Ok(Move::Out(Next::Fail(cause)));
     }
     let name: Result<Name<A>, AllocError> = search.name().clone();
     let kind = search.kind();
     job.count();
     job.push(search)?;
-    Ok(Turn::Out(Next::AskTcp(server, name?, kind)))
+    Ok(Move::Out(Next::AskTcp(server, name?, kind)))
 }
 
 /// The reply of this server was truncated: it is asked again over TCP (RFC 2181, section 9).
-pub(crate) fn again<A: Heap>(job: &mut Job<A>, server: Addr, now: u64) -> Result<Turn<A>, Starved>
-    ensures { IfOk result (λ t. (home : Grounds) (stores : Learnt) → IsMove home now (point (Repeating server) job.old stores) (turn_view t) job.new stores) }
+pub(crate) fn again<A: Heap>(job: &mut Job<A>, server: Addr, now: u64) -> Result<Move<A>, Starved>
+    ensures { IfOk result (λ t. (home : Home) (stores : Stores) → IsMove home now (point (Again server) job.old stores) (move_view t) job.new stores) }
 {
     match job.pop() {
         Some(search) => Ok(ask_again(job, search, server, now)?),
-        None => Ok(Turn::Out(Next::Fail(Cause::NoServer))),
+        None => Ok(Move::Out(Next::Fail(Cause::NoServerLeft))),
     }
 }

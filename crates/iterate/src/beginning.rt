@@ -1,29 +1,29 @@
 //! A query that comes: its answer where that is known, or else the work on it.
 ghost use Rattle.std.specs.Prelude.{◌+◌, ◌^◌, ◌<◌, ◌↔◌, IsTrue, IfOk, OnErr};
 ghost use Rattle.rdata.specs.Types.{type_number};
-ghost use Rattle.resolution.specs.Jobs.{Stores as Learnt, Start, job_at, IsEnding};
+ghost use Rattle.resolution.specs.Jobs.{Stores as StoresSpec, Start, job_at, IsEnding};
 ghost use Rattle.resolution.specs.Rules.{Stops};
-ghost use Rattle.known.specs.Found.{IsFound};
-ghost use Rattle.known.specs.Uses.{OnlyUses};
-ghost use Rattle.iterate.specs.Beginnings.{BeginsWith};
+ghost use Rattle.lookup.specs.Found.{IsFound};
+ghost use Rattle.lookup.specs.Uses.{OnlyUses};
+ghost use Rattle.iterate.specs.Beginnings.{StartsWith};
 
 use crate::advancing::run;
 use crate::calls::Next;
 use crate::job::Job;
-use crate::turn::due_after;
+use crate::moves::due_after;
 use dname::{Heap, Name, Starved};
-use known::{Found, Home, Stores, Taken, find};
+use lookup::{Found, Home, Stores, Taken, find};
 use rdata::RType;
 use std::alloc::{Allocator, Global};
 use std::hash::BuildHasher;
 
-/// What comes of a query at once.
+/// The result of starting a query: its answer, or a job that waits.
 #[derive(Drop)]
-pub enum Begun<A: Allocator = Global> {
+pub enum Started<A: Allocator = Global> {
     /// Its answer, without an alias before it: no work is left.
-    Known(Taken<A>),
+    Answered(Taken<A>),
     /// The work on it, and what goes out for it.
-    Works(Job<A>, Next<A>),
+    Working(Job<A>, Next<A>),
 }
 
 // Whether the link ends a chain.
@@ -44,9 +44,9 @@ fn set_out<S: BuildHasher + Drop, A: Heap>(
     home: &Home<A>,
     stores: &mut Stores<S, A>,
     now: u64,
-) -> Result<Begun<A>, Starved>
-    requires { (before : Learnt) × IsFound home.now now job.name job.kind before found stores.old }
-    ensures begins { (before : Learnt) → IsFound home.now now job.name job.kind before found stores.old → IfOk result (λ b. BeginsWith home.now now job before b stores.new) }
+) -> Result<Started<A>, Starved>
+    requires { (before : StoresSpec) × IsFound home.now now job.name job.kind before found stores.old }
+    ensures begins { (before : StoresSpec) → IsFound home.now now job.name job.kind before found stores.old → IfOk result (λ b. StartsWith home.now now job before b stores.new) }
     ensures only { OnErr result (OnlyUses stores.old stores.new) }
 {
     match due_after(alloc, &mut job, found, stores) {
@@ -59,7 +59,7 @@ fn set_out<S: BuildHasher + Drop, A: Heap>(
                 drop(job);
                 Err(starved)
             }
-            Ok(next) => Ok(Begun::Works(job, next)),
+            Ok(next) => Ok(Started::Working(job, next)),
         },
     }
 }
@@ -73,10 +73,10 @@ fn work<S: BuildHasher + Drop, A: Heap>(
     home: &Home<A>,
     stores: &mut Stores<S, A>,
     now: u64,
-) -> Result<Begun<A>, Starved>
+) -> Result<Started<A>, Starved>
     requires time { now + 10000 < 2 ^ 64 }
-    requires found { (before : Learnt) × IsFound home.now now name.now (type_number kind) before found stores.old }
-    ensures begins { (before : Learnt) → IsFound home.now now name.now (type_number kind) before found stores.old → IfOk result (λ b. BeginsWith home.now now (job_at name.now (type_number kind) now) before b stores.new) }
+    requires found { (before : StoresSpec) × IsFound home.now now name.now (type_number kind) before found stores.old }
+    ensures begins { (before : StoresSpec) → IsFound home.now now name.now (type_number kind) before found stores.old → IfOk result (λ b. StartsWith home.now now (job_at name.now (type_number kind) now) before b stores.new) }
     ensures only { OnErr result (OnlyUses stores.old stores.new) }
 {
     match name.copied(alloc) {
@@ -90,23 +90,23 @@ fn work<S: BuildHasher + Drop, A: Heap>(
 
 /// What comes of a query for a name and a type at the moment `now`, in milliseconds. Where what is known of the
 /// name is no alias it is the answer, and neither a job is made nor the name copied for it; else the work begins,
-/// as by `advance` with `Input::Start`. Want of memory leaves the stores with the same entries.
-pub fn begin<S: BuildHasher + Drop, A: Heap>(
+/// as by `advance` with `Input::Start`. Running out of memory leaves the stores with the same entries.
+pub fn begin_query<S: BuildHasher + Drop, A: Heap>(
     alloc: A,
     name: &Name<A>,
     kind: RType,
     home: &Home<A>,
     stores: &mut Stores<S, A>,
     now: u64,
-) -> Result<Begun<A>, Starved>
+) -> Result<Started<A>, Starved>
     requires { now + 10000 < 2 ^ 64 }
-    ensures begins { IfOk result (λ b. BeginsWith home.now now (job_at name.now (type_number kind) now) stores.old b stores.new) }
+    ensures begins { IfOk result (λ b. StartsWith home.now now (job_at name.now (type_number kind) now) stores.old b stores.new) }
     ensures stops { OnErr result (Stops Start now (job_at name.now (type_number kind) now) stores.old stores.new) }
 {
     match find(alloc, home, name, kind, stores, now)? {
         Found::Known(last) => {
             if is_end(&last) {
-                return Ok(Begun::Known(last));
+                return Ok(Started::Answered(last));
             }
             work(alloc, name, kind, Found::Known(last), home, stores, now)
         }

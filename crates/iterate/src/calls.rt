@@ -4,7 +4,7 @@
 use crate::chain::Chain;
 use causes::Cause;
 use dname::Name;
-use known::Taken;
+use lookup::Taken;
 use rdata::{Addr, RType};
 use std::alloc::{Allocator, Global};
 use wire::{Via, View};
@@ -26,7 +26,7 @@ pub enum Input<'m, A: Allocator = Global> {
 #[derive(Drop)]
 pub enum Next<A: Allocator = Global> {
     /// An ask in a datagram: of this server, for this name and type.
-    Ask(Addr, Name<A>, RType),
+    AskUdp(Addr, Name<A>, RType),
     /// The same over TCP.
     AskTcp(Addr, Name<A>, RType),
     /// The answer: the CNAME chain in order, and the link that ends it.

@@ -1,11 +1,11 @@
 //! The CNAME chain of a query at work (RFC 1034, section 3.6.2): aliases join at its end, and it is cut off where one
 //! that came from the cache has run out.
 ghost use Rattle.std.specs.Prelude.{◌≡◌, [], ◌∷◌, ◌++◌, length, take, Some, None, OnOk, MatchOption, slice_get};
-ghost use Rattle.resolution.specs.Jobs.{Taken as Used, AreFresh, IsDead};
+ghost use Rattle.resolution.specs.Jobs.{Taken as TakenSpec, AreFresh, IsDead};
 ghost use Rattle.iterate.specs.Moves.{IsTakenFrom};
 
 use dname::{Heap, Starved};
-use known::Taken;
+use lookup::Taken;
 use std::alloc::{Allocator, Global};
 use std::marker::Model;
 
@@ -17,9 +17,9 @@ pub struct Chain<A: Allocator = Global> {
 
 impl<A: Allocator> Model for Chain<A> {
     ghost use Rattle.std.specs.Prelude.{List};
-    ghost use Rattle.resolution.specs.Jobs.{Taken as Used};
+    ghost use Rattle.resolution.specs.Jobs.{Taken as TakenSpec};
 
-    ghost Value = { List Used };
+    ghost Value = { List TakenSpec };
 
     ghost view = { λ c. c.links.items };
 }
@@ -78,7 +78,7 @@ impl<A: Allocator> Chain<A> {
 
 // The place of the first link that has run out at this moment.
 fn first_dead<A: Allocator>(links: &[Taken<A>], now: u64) -> Option<usize>
-    ensures { MatchOption result (AreFresh now links.now) (λ k. AreFresh now (take k links.now) × (d : Used) × (slice_get links.now k ≡ Some d) × IsDead now d) }
+    ensures { MatchOption result (AreFresh now links.now) (λ k. AreFresh now (take k links.now) × (d : TakenSpec) × (slice_get links.now k ≡ Some d) × IsDead now d) }
 {
     for place in 0..links.len() {
         if links[place].is_dead(now) {

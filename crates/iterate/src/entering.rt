@@ -6,11 +6,11 @@ ghost use Rattle.resolution.specs.Rules.{Enters, Stops};
 ghost use Rattle.iterate.specs.Views.{input_view, task_view};
 
 use crate::calls::Input;
-use crate::heard::hear;
 use crate::job::Job;
+use crate::replies::use_reply;
 use crate::task::Task;
 use dname::{Heap, Starved};
-use known::Stores;
+use lookup::Stores;
 use std::hash::BuildHasher;
 
 /// What is due after an input. A server that answered loses half its penalty, one that did not gains some.
@@ -28,7 +28,7 @@ pub(crate) fn enter<S: BuildHasher + Drop, A: Heap>(
         Input::Start => Ok(Task::Seek),
         Input::Told(via, server, message) => {
             stores.answered(server);
-            Ok(hear(alloc, job, via, server, &message, stores, now)?)
+            Ok(use_reply(alloc, job, via, server, &message, stores, now)?)
         }
         Input::TimedOut(server) | Input::TcpFailed(server) => {
             stores.timed_out(server)?;

@@ -3,7 +3,7 @@ ghost use Rattle.std.specs.Prelude.{◌≡◌, ◌+◌, ◌^◌, ◌<◌, [], le
 ghost use Rattle.rdata.specs.Types.{type_number};
 ghost use Rattle.frames.specs.Frames.{next_name};
 ghost use Rattle.resolution.specs.Jobs.{job_at, wait_of_job, marked, asked_again, MaySend};
-ghost use Rattle.resolution.specs.Rules.{IsRefused, turned, spent_cause};
+ghost use Rattle.resolution.specs.Rules.{MayNotSend, turned, spent_cause};
 ghost use Rattle.iterate.specs.Moves.{with_search, begun, followed, skipping, IsRestart};
 
 use crate::chain::Chain;
@@ -11,16 +11,12 @@ use crate::search::{Search, Searches};
 use causes::Cause;
 use dname::{Heap, Name, Starved};
 use frames::Failed;
-use known::Taken;
+use limits::{MAX_ASKS, QUERY_LIFETIME_MS};
+use lookup::Taken;
 use rdata::RType;
 use std::alloc::{Allocator, Global};
 use std::marker::Model;
 use std::mem;
-
-// How long a query has, in milliseconds.
-const LIFETIME_MS: u64 = 10_000;
-// The most asks that are sent for a query.
-const MOST_ASKS: u32 = 40;
 
 /// The work on one query: what is sought now, the aliases that led there, and the searches for it and for
 /// addresses of servers.
@@ -58,9 +54,9 @@ impl<A: Allocator> Drop for Job<A> {
 
 impl<A: Allocator> Model for Job<A> {
     ghost use Rattle.rdata.specs.Types.{type_number};
-    ghost use Rattle.resolution.specs.Jobs.{Job as Work};
+    ghost use Rattle.resolution.specs.Jobs.{Job as JobSpec};
 
-    ghost Value = { Work };
+    ghost Value = { JobSpec };
 
     ghost view = { λ j. record { name = j.name; kind = type_number j.kind; chain = j.chain; searches = j.searches; failed = j.failed; asks = j.asks; deadline = j.deadline; skipped = j.skipped } };
 }
@@ -79,7 +75,7 @@ impl<A: Heap> Job<A> {
             searches: Searches::new(alloc),
             failed: Failed::new(alloc),
             asks: 0,
-            deadline: now + LIFETIME_MS,
+            deadline: now + QUERY_LIFETIME_MS,
             skipped: false,
         }
     }
@@ -102,7 +98,7 @@ impl<A: Heap> Job<A> {
     }
 
     // A search that is the only one.
-    pub(crate) fn begin(&mut self, search: Search<A>) -> Result<(), Starved>
+    pub(crate) fn begin_search(&mut self, search: Search<A>) -> Result<(), Starved>
         ensures { OnOk result (self.new ≡ begun self.old search) }
     {
         self.searches.clear();
@@ -196,13 +192,13 @@ impl<A: Allocator> Job<A> {
 
     // Why nothing may be sent at this moment.
     pub(crate) fn refusal(&self, now: u64) -> Option<Cause>
-        ensures { MatchOption result (MaySend now self.now) (IsRefused now self.now) }
+        ensures { MatchOption result (MaySend now self.now) (MayNotSend now self.now) }
     {
         if self.deadline <= now {
-            return Some(Cause::Deadline);
+            return Some(Cause::DeadlineOver);
         }
-        if self.asks >= MOST_ASKS {
-            return Some(Cause::Sends);
+        if self.asks >= MAX_ASKS {
+            return Some(Cause::TooManyAsks);
         }
         None
     }
@@ -214,7 +210,7 @@ impl<A: Allocator> Job<A> {
         if self.skipped {
             Cause::KnownFailure
         } else {
-            Cause::NoServer
+            Cause::NoServerLeft
         }
     }
 

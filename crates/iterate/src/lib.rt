@@ -10,15 +10,15 @@
 //! Promised: each call is one by the rules of `resolution` (`Advances`); where memory is wanting the stores have
 //! nothing new but what was accepted, and have lost nothing but what one keep of that pushes out (`Stops`). At most
 //! 40 asks, eight aliases, and look-ups of servers' addresses three deep.
-//! Not here: which message is a reply (`exchange`), identifiers, sockets and many queries at once (`engine`).
+//! Not here: which message is a reply (`events`), identifiers, sockets and many queries at once (`engine`).
 //!
 //! ```text
-//! match begin(alloc, &name, RType::A, &home, &mut stores, now)? {
-//!     Begun::Known(last) => { /* the answer */ }
-//!     Begun::Works(job, Next::Ask(server, name, kind)) => { /* later: advance with Input::Told(Via::Udp, ..), or Input::TimedOut(server) */ }
-//!     Begun::Works(job, Next::AskTcp(server, name, kind)) => { /* later: Input::Told(Via::Tcp, ..), or Input::TcpFailed(server) */ }
-//!     Begun::Works(_, Next::Done(chain, last)) => { /* the aliases, and what ends them */ }
-//!     Begun::Works(_, Next::Fail(cause)) => { /* SERVFAIL */ }
+//! match begin_query(alloc, &name, RType::A, &home, &mut stores, now)? {
+//!     Started::Answered(last) => { /* the answer */ }
+//!     Started::Working(job, Next::AskUdp(server, name, kind)) => { /* later: advance with Input::Told(Via::Udp, ..), or Input::TimedOut(server) */ }
+//!     Started::Working(job, Next::AskTcp(server, name, kind)) => { /* later: Input::Told(Via::Tcp, ..), or Input::TcpFailed(server) */ }
+//!     Started::Working(_, Next::Done(chain, last)) => { /* the aliases, and what ends them */ }
+//!     Started::Working(_, Next::Fail(cause)) => { /* SERVFAIL */ }
 //! }
 //! ```
 #![tactic(auto)]
@@ -30,15 +30,15 @@ mod calls;
 mod chain;
 mod chaining;
 mod entering;
-mod heard;
 mod job;
+mod moves;
+mod replies;
 mod search;
 mod serving;
 mod task;
-mod turn;
 
 pub use advancing::advance;
-pub use beginning::{Begun, begin};
+pub use beginning::{Started, begin_query};
 pub use calls::{Input, Next};
 pub use chain::Chain;
 pub use job::Job;
@@ -46,4 +46,4 @@ pub use job::Job;
 #[doc(hidden)]
 pub use search::{Search, Searches};
 #[doc(hidden)]
-pub use task::{Task, Turn};
+pub use task::{Move, Task};

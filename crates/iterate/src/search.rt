@@ -8,7 +8,7 @@ ghost use Rattle.resolution.specs.Rules.{turned};
 
 use dname::{Heap, Name, Starved};
 use frames::{Failed, Frame};
-use known::Stores;
+use lookup::Stores;
 use rdata::{Addr, RType};
 use std::alloc::{Allocator, Global};
 use std::hash::BuildHasher;
@@ -36,9 +36,9 @@ impl<A: Allocator> Drop for Search<A> {
 
 impl<A: Allocator> Model for Search<A> {
     ghost use Rattle.rdata.specs.Types.{type_number};
-    ghost use Rattle.resolution.specs.Jobs.{Search as Sought};
+    ghost use Rattle.resolution.specs.Jobs.{Search as SearchSpec};
 
-    ghost Value = { Sought };
+    ghost Value = { SearchSpec };
 
     ghost view = { λ s. record { name = s.name; kind = type_number s.kind; frame = s.frame } };
 }
@@ -140,9 +140,9 @@ pub struct Searches<A: Allocator = Global> {
 
 impl<A: Allocator> Model for Searches<A> {
     ghost use Rattle.std.specs.Prelude.{List};
-    ghost use Rattle.resolution.specs.Jobs.{Search as Sought};
+    ghost use Rattle.resolution.specs.Jobs.{Search as SearchSpec};
 
-    ghost Value = { List Sought };
+    ghost Value = { List SearchSpec };
 
     ghost view = { λ s. s.searches.items };
 }

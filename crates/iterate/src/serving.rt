@@ -4,21 +4,21 @@ ghost use Rattle.std.specs.Prelude.{◌≡◌, ◌+◌, ◌<◌, ℕ, List, Some
 ghost use Rattle.retry.specs.Plans.{upcoming};
 ghost use Rattle.zone.specs.Zones.{a_type};
 ghost use Rattle.frames.specs.Frames.{FailedName, next_name, opened};
-ghost use Rattle.resolution.specs.Jobs.{Home as Grounds, Stores as Learnt, Search as Sought, Go as Going, point, level_of, search_at};
-ghost use Rattle.resolution.specs.Rules.{Rule, HearsOf, IsFree, turned};
-ghost use Rattle.known.specs.Uses.{OnlyUses};
+ghost use Rattle.resolution.specs.Jobs.{Home as HomeSpec, Stores as StoresSpec, Search as SearchSpec, Go, point, level_of, search_at};
+ghost use Rattle.resolution.specs.Rules.{Rule, UsesServerAddress, IsFree, turned};
+ghost use Rattle.lookup.specs.Uses.{OnlyUses};
 ghost use Rattle.iterate.specs.Moves.{IsMove, IsAdded, IsNextFailed, ArePassed, with_search};
-ghost use Rattle.iterate.specs.Views.{turn_view};
+ghost use Rattle.iterate.specs.Views.{move_view};
 
 use crate::asking::ask;
 use crate::calls::Next;
 use crate::job::Job;
 use crate::search::Search;
-use crate::task::{Task, Turn};
+use crate::task::{Move, Task};
 use authority::Link;
 use causes::Cause;
 use dname::{Heap, Name, Starved};
-use known::{Found, Home, Stores, Taken, find, found_addresses};
+use lookup::{Found, Home, Stores, Taken, find, found_addresses};
 use rdata::{RType, RecordSet};
 use referral::Cut;
 use std::hash::BuildHasher;
@@ -43,7 +43,7 @@ fn go_on_with<S: BuildHasher + Drop, A: Heap>(
     set: &RecordSet<A>,
     stores: &Stores<S, A>,
 ) -> Result<(), Starved>
-    ensures { OnOk result ((after : Sought) × IsAdded stores.now set.now search after × (job.new ≡ with_search job.old after)) }
+    ensures { OnOk result ((after : SearchSpec) × IsAdded stores.now set.now search after × (job.new ≡ with_search job.old after)) }
 {
     match add_set(&mut search, set, stores) {
         Err(starved) => {
@@ -58,13 +58,13 @@ fn go_on_with<S: BuildHasher + Drop, A: Heap>(
 }
 
 /// What is found for a server's name: addresses, or that it has none, which is noted for this query.
-pub(crate) fn hear_of<S: BuildHasher + Drop, A: Heap>(
+pub(crate) fn use_server_address<S: BuildHasher + Drop, A: Heap>(
     job: &mut Job<A>,
     search: Search<A>,
     link: &Taken<A>,
     stores: &Stores<S, A>,
 ) -> Result<(), Starved>
-    ensures { OnOk result ((after : Sought) × (marks : List FailedName) × HearsOf stores.now link.now.name link.now.link search (job.old).failed after marks × (job.new ≡ record job.old { searches = after ∷ (job.old).searches; failed = marks })) }
+    ensures { OnOk result ((after : SearchSpec) × (marks : List FailedName) × UsesServerAddress stores.now link.now.name link.now.link search (job.old).failed after marks × (job.new ≡ record job.old { searches = after ∷ (job.old).searches; failed = marks })) }
 {
     match link.link() {
         Link::Found(set) => {
@@ -109,8 +109,8 @@ fn look_for<S: BuildHasher + Drop, A: Heap>(
     now: u64,
 ) -> Result<(), Starved>
     requires { (search.frame).nesting < 3 }
-    ensures rule { (before : Sought) → upcoming (before.frame).plan ≡ None → next_name (job.old).failed before.frame ≡ Some name → search ≡ turned (job.old).failed before
-        → OnOk result (Rule home.now now (point Going (with_search job.old before) stores.old) (point Going job.new stores.new)) }
+    ensures rule { (before : SearchSpec) → upcoming (before.frame).plan ≡ None → next_name (job.old).failed before.frame ≡ Some name → search ≡ turned (job.old).failed before
+        → OnOk result (Rule home.now now (point Go (with_search job.old before) stores.old) (point Go job.new stores.new)) }
     ensures only { OnlyUses stores.old stores.new }
 {
     match find(alloc, home, &name, RType::A, stores, now) {
@@ -121,7 +121,7 @@ fn look_for<S: BuildHasher + Drop, A: Heap>(
         }
         Ok(Found::Known(link)) => {
             drop(name);
-            let heard = hear_of(job, search, &link, stores);
+            let heard = use_server_address(job, search, &link, stores);
             drop(link);
             heard?;
             Ok(())
@@ -136,21 +136,21 @@ fn look_for<S: BuildHasher + Drop, A: Heap>(
 }
 
 // No server is left for the innermost search: the one around it goes on, or none is left for the query.
-fn give_up<A: Heap>(job: &mut Job<A>, search: Search<A>) -> Result<Turn<A>, Starved>
-    ensures { (home : Grounds) (now : ℕ) (stores : Learnt) (before : Sought) → upcoming (before.frame).plan ≡ None → next_name (job.old).failed before.frame ≡ None → search ≡ turned (job.old).failed before
-        → IfOk result (λ t. IsMove home now (point Going (with_search job.old before) stores) (turn_view t) job.new stores) }
+fn give_up<A: Heap>(job: &mut Job<A>, search: Search<A>) -> Result<Move<A>, Starved>
+    ensures { (home : HomeSpec) (now : ℕ) (stores : StoresSpec) (before : SearchSpec) → upcoming (before.frame).plan ≡ None → next_name (job.old).failed before.frame ≡ None → search ≡ turned (job.old).failed before
+        → IfOk result (λ t. IsMove home now (point Go (with_search job.old before) stores) (move_view t) job.new stores) }
 {
     match job.pop() {
         None => {
             drop(search);
-            Ok(Turn::Out(Next::Fail(job.spent())))
+            Ok(Move::Out(Next::Fail(job.spent())))
         }
         Some(around) => {
             let marked = job.mark(search.name(), search.frame().nesting());
             drop(search);
             job.push(around)?;
             marked?;
-            Ok(Turn::Onward(Task::Go))
+            Ok(Move::Onward(Task::Go))
         }
     }
 }
@@ -163,9 +163,9 @@ fn go_further<S: BuildHasher + Drop, A: Heap>(
     home: &Home<A>,
     stores: &mut Stores<S, A>,
     now: u64,
-) -> Result<Turn<A>, Starved>
+) -> Result<Move<A>, Starved>
     requires { upcoming (search.frame).plan ≡ None }
-    ensures is { IfOk result (λ t. IsMove home.now now (point Going (with_search job.old search) stores.old) (turn_view t) job.new stores.new) }
+    ensures is { IfOk result (λ t. IsMove home.now now (point Go (with_search job.old search) stores.old) (move_view t) job.new stores.new) }
     ensures only { OnlyUses stores.old stores.new }
 {
     match job.next_name(&mut search) {
@@ -175,7 +175,7 @@ fn go_further<S: BuildHasher + Drop, A: Heap>(
         }
         Ok(Some(name)) => {
             look_for(alloc, job, search, name, home, stores, now)?;
-            Ok(Turn::Onward(Task::Go))
+            Ok(Move::Onward(Task::Go))
         }
         Ok(None) => Ok(give_up(job, search)?),
     }
@@ -222,9 +222,9 @@ fn ask_on<S: BuildHasher + Drop, A: Heap>(
     home: &Home<A>,
     stores: &mut Stores<S, A>,
     now: u64,
-) -> Result<Turn<A>, Starved>
+) -> Result<Move<A>, Starved>
     requires { IsFree now search stores.old.failures }
-    ensures is { IfOk result (λ t. IsMove home.now now (point Going (with_search job.old search) stores.old) (turn_view t) job.new stores.new) }
+    ensures is { IfOk result (λ t. IsMove home.now now (point Go (with_search job.old search) stores.old) (move_view t) job.new stores.new) }
     ensures only { OnlyUses stores.old stores.new }
 {
     match search.next_address() {
@@ -241,8 +241,8 @@ fn go_on<S: BuildHasher + Drop, A: Heap>(
     home: &Home<A>,
     stores: &mut Stores<S, A>,
     now: u64,
-) -> Result<Turn<A>, Starved>
-    ensures is { IfOk result (λ t. IsMove home.now now (point Going (with_search job.old search) stores.old) (turn_view t) job.new stores.new) }
+) -> Result<Move<A>, Starved>
+    ensures is { IfOk result (λ t. IsMove home.now now (point Go (with_search job.old search) stores.old) (move_view t) job.new stores.new) }
     ensures only { OnlyUses stores.old stores.new }
 {
     match pass_over(&mut search, stores, now) {
@@ -252,7 +252,7 @@ fn go_on<S: BuildHasher + Drop, A: Heap>(
         }
         Ok(true) => {
             job.skip(search)?;
-            Ok(Turn::Onward(Task::Go))
+            Ok(Move::Onward(Task::Go))
         }
         Ok(false) => Ok(ask_on(alloc, job, search, home, stores, now)?),
     }
@@ -265,12 +265,12 @@ pub(crate) fn go<S: BuildHasher + Drop, A: Heap>(
     home: &Home<A>,
     stores: &mut Stores<S, A>,
     now: u64,
-) -> Result<Turn<A>, Starved>
-    ensures is { IfOk result (λ t. IsMove home.now now (point Going job.old stores.old) (turn_view t) job.new stores.new) }
+) -> Result<Move<A>, Starved>
+    ensures is { IfOk result (λ t. IsMove home.now now (point Go job.old stores.old) (move_view t) job.new stores.new) }
     ensures only { OnlyUses stores.old stores.new }
 {
     match job.pop() {
         Some(search) => Ok(go_on(alloc, job, search, home, stores, now)?),
-        None => Ok(Turn::Out(Next::Fail(Cause::NoServer))),
+        None => Ok(Move::Out(Next::Fail(Cause::NoServerLeft))),
     }
 }

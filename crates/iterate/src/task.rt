@@ -1,7 +1,7 @@
 //! What is due for a query at work, between two rules of one call: to find, to use, or to ask (`Task`).
 
 use crate::calls::Next;
-use known::Taken;
+use lookup::Taken;
 use rdata::Addr;
 use std::alloc::{Allocator, Global};
 
@@ -20,7 +20,7 @@ pub enum Task<A: Allocator = Global> {
 
 /// What comes of a task: a further one, or something that goes out.
 #[derive(Drop)]
-pub enum Turn<A: Allocator = Global> {
+pub enum Move<A: Allocator = Global> {
     /// The same call goes on with this one.
     Onward(Task<A>),
     /// The call ends: an ask, a reply or a failure is due.

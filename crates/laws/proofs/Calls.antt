@@ -2,16 +2,16 @@
 use Rattle.std.proofs.Common.{◌≡◌, ℕ, zero, suc, ◌≤◌, ◌<◌, ◌⊎◌, inl, inr, true, false, Option, Some, None, List, ◌∷◌, refl, sym, ap, ◌∙◌, subst}
 use Rattle.dname.specs.Labels.{Name}
 use Rattle.rdata.specs.declared.addr.Addr.{Addr}
-use Rattle.recency.proofs.Kept.{by_test}
+use Rattle.lru_laws.proofs.Kept.{by_test}
 use Rattle.cache.specs.Failures.{FailedAsk, failed_ask, is_failed}
 use Rattle.classify.specs.Classes as class
 use Rattle.classify.specs.Classes.{class_of}
 use Rattle.classify.specs.declared.class.Failure.{Failure}
 use Rattle.retry.specs.Plans.{upcoming, advanced}
-use Rattle.resolution.specs.Jobs.{Home, Stores, with_timeout, with_told, Search, fails_now, left_of, first_without, next_server, Job, Input, Told, TimedOut, TcpFailed, Next, Ask, AskTcp, Go, Again, Point, point}
+use Rattle.resolution.specs.Jobs.{Home, Stores, with_timeout, with_told, Search, fails_now, left_of, first_without, next_server, Job, Input, Told, TimedOut, TcpFailed, Next, AskUdp, AskTcp, Go, Again, Point, point}
 use Rattle.resolution.specs.Rules.{IsFree, Rule, takes, asks, follows, restarts, skips, hears, descends, gives_up, Rules, Enters, ByClass, IsDue, IsDueAgain, Leaves, sends, sends_again, refuses, spent, nowhere, too_long, done}
 use Rattle.resolution.proofs.Passing.{passes_first, passes_name, passes_next, left_first, none_left, first_free}
-use Rattle.laws.specs.Calls.{Hears, IsLost, GoesOut, NextIsAsked, TruncatedIsRepeated, AskedDidNotFail}
+use Rattle.laws.specs.Calls.{AcceptsReply, IsLost, GoesOut, NextIsAsked, TruncatedIsRepeated, AskedDidNotFail}
 use Rattle.laws.proofs.Skipped.{rules_front, next_at}
 
 module _ (home : Home) (now : ℕ) where
@@ -41,7 +41,7 @@ module _ (home : Home) (now : ℕ) where
       due_stops free q (descends x others n c t turn m u j) = let a = turn.searches in let b = turn.asked_all in cc
       due_stops free q (gives_up x around others t up u j e) = let a = up.searches in let b = up.asked_all in cc
 
-      due_leaves : (next : Next) (new : Job) (after : Stores) → Leaves home now p next new after → GoesOut now p.job (Ask d s.name s.kind) next
+      due_leaves : (next : Next) (new : Job) (after : Stores) → Leaves home now p next new after → GoesOut now p.job (AskUdp d s.name s.kind) next
       due_leaves next new after (sends server x others is may n j e) = let a = is.searches in let b = is.next in inl (may, cc)
       due_leaves next new after (sends_again server x others is may n j e) = let a = is.task in absurd (cc)
       due_leaves next new after (refuses c server x others is refused n e) = inr (c, refused, n)
@@ -51,7 +51,7 @@ module _ (home : Home) (now : ℕ) where
       due_leaves next new after (done l t is fresh n e) = absurd (cc)
 
       asks_next : fails_now now (p.stores).failures s d ≡ false → (count : ℕ) (last : Point) (next : Next) (new : Job) (after : Stores) → Rules home now count p last → Leaves home now last next new after
-          → GoesOut now p.job (Ask d s.name s.kind) next
+          → GoesOut now p.job (AskUdp d s.name s.kind) next
       asks_next free count last next new after rules leaves =
           due_leaves next new after (subst (λ (q : Point). Leaves home now q next new after) (no_rule count p last (due_stops free) rules) leaves)
 
@@ -128,20 +128,20 @@ free_next now fs s a d next free is =
 module _ (home : Home) (now : ℕ) where
   -- A search whose next address did not fail lately asks it.
   free_asks : (p : Point) (s : Search) (rest : List Search) (d : Addr) → (p.job).searches ≡ s ∷ rest → p.task ≡ Go → IsFree now s (p.stores).failures → next_server now (p.stores).failures s ≡ Some d
-      → (count : ℕ) (last : Point) (next : Next) (new : Job) (after : Stores) → Rules home now count p last → Leaves home now last next new after → GoesOut now p.job (Ask d s.name s.kind) next
+      → (count : ℕ) (last : Point) (next : Next) (new : Job) (after : Stores) → Rules home now count p last → Leaves home now last next new after → GoesOut now p.job (AskUdp d s.name s.kind) next
   free_asks p s rest d searches task free is count last next new after rules leaves = by (upcoming (s.frame).plan) refl
     where
-      by : (o : Option Addr) → upcoming (s.frame).plan ≡ o → GoesOut now p.job (Ask d s.name s.kind) next
+      by : (o : Option Addr) → upcoming (s.frame).plan ≡ o → GoesOut now p.job (AskUdp d s.name s.kind) next
       by None e = absurd (nobody_next now (p.stores).failures s d e is)
       by (Some a) e =
           let same : a ≡ d = free_next now (p.stores).failures s a d e (free a e) is in
-          subst (λ (x : Addr). GoesOut now p.job (Ask x s.name s.kind) next) same (asks_next home now p s rest searches a task e (free a e) count last next new after rules leaves)
+          subst (λ (x : Addr). GoesOut now p.job (AskUdp x s.name s.kind) next) same (asks_next home now p s rest searches a task e (free a e) count last next new after rules leaves)
 
   -- Where some are passed over first, the rule for that is applied, and then it is asked.
   module _ (p : Point) (s : Search) (rest : List Search) (searches : (p.job).searches ≡ s ∷ rest) (a d : Addr) (task : p.task ≡ Go) (due : upcoming (s.frame).plan ≡ Some a)
       (is : next_server now (p.stores).failures s ≡ Some d) where
     skipped_asks : (count : ℕ) (mid last : Point) (next : Next) (new : Job) (after : Stores) → Rule home now p mid → Rules home now count mid last → Leaves home now last next new after
-        → GoesOut now p.job (Ask d s.name s.kind) next
+        → GoesOut now p.job (AskUdp d s.name s.kind) next
     skipped_asks count mid last next new after (takes l t f u j) rules leaves = absurd (cc)
     skipped_asks count mid last next new after (asks c t m u j) rules leaves = absurd (cc)
     skipped_asks count mid last next new after (follows l r t x few u j e) rules leaves = absurd (cc)
@@ -155,14 +155,14 @@ module _ (home : Home) (now : ℕ) where
         let free : IsFree now v (mid.stores).failures = subst (IsFree now v) (sym held) well in
         let goes = free_asks mid v others d (ap (λ (i : Job). i.searches) j) u free stays count last next new after rules leaves in
         let at_s : (v.name ≡ s.name) × (v.kind ≡ s.kind) = (name ∙ ap (λ (y : Search). y.name) same, kind ∙ ap (λ (y : Search). y.kind) same) in
-        goes_alike now mid.job p.job (Ask d s.name s.kind) next (ap (λ (i : Job). i.deadline) j) (ap (λ (i : Job). i.asks) j)
-        (subst (λ (m : Name). GoesOut now mid.job (Ask d m s.kind) next) at_s.0 (subst (λ (w : ℕ). GoesOut now mid.job (Ask d v.name w) next) at_s.1 goes))
+        goes_alike now mid.job p.job (AskUdp d s.name s.kind) next (ap (λ (i : Job). i.deadline) j) (ap (λ (i : Job). i.asks) j)
+        (subst (λ (m : Name). GoesOut now mid.job (AskUdp d m s.kind) next) at_s.0 (subst (λ (w : ℕ). GoesOut now mid.job (AskUdp d v.name w) next) at_s.1 goes))
     skipped_asks count mid last next new after (hears before around others n l marks t turn f h u j) rules leaves = let x = turn.searches in let y = turn.asked_all in absurd (cc)
     skipped_asks count mid last next new after (descends x others n c t turn m u j) rules leaves = let y = turn.searches in let z = turn.asked_all in absurd (cc)
     skipped_asks count mid last next new after (gives_up x around others t up u j e) rules leaves = let y = up.searches in let z = up.asked_all in absurd (cc)
 
     failed_asks : fails_now now (p.stores).failures s a ≡ true → (count : ℕ) (last : Point) (next : Next) (new : Job) (after : Stores) → Rules home now count p last → Leaves home now last next new after
-        → GoesOut now p.job (Ask d s.name s.kind) next
+        → GoesOut now p.job (AskUdp d s.name s.kind) next
     failed_asks fails zero last next new after e leaves =
         absurd (failed_leaves home now p s rest searches a task due fails next new after (subst (λ (q : Point). Leaves home now q next new after) e leaves))
     failed_asks fails (suc n) last next new after rules leaves =
@@ -172,17 +172,17 @@ module _ (home : Home) (now : ℕ) where
   -- A search asks whom it asks next.
   pub asks_first : (p : Point) (s : Search) (rest : List Search) (d : Addr) → (p.job).searches ≡ s ∷ rest → p.task ≡ Go
       → (count : ℕ) (last : Point) (next : Next) (new : Job) (after : Stores) → Rules home now count p last → Leaves home now last next new after
-      → next_server now after.failures s ≡ Some d → GoesOut now p.job (Ask d s.name s.kind) next
+      → next_server now after.failures s ≡ Some d → GoesOut now p.job (AskUdp d s.name s.kind) next
   asks_first p s rest d searches task count last next new after rules leaves after_is = by (upcoming (s.frame).plan) refl
     where
       is : next_server now (p.stores).failures s ≡ Some d
       is = sym (next_at home now p last count next new after rules leaves s) ∙ after_is
 
-      by : (o : Option Addr) → upcoming (s.frame).plan ≡ o → GoesOut now p.job (Ask d s.name s.kind) next
+      by : (o : Option Addr) → upcoming (s.frame).plan ≡ o → GoesOut now p.job (AskUdp d s.name s.kind) next
       by None e = absurd (nobody_next now (p.stores).failures s d e is)
       by (Some a) e = by_test (fails_now now (p.stores).failures s a)
           (λ fails. failed_asks p s rest searches a d task e is fails count last next new after rules leaves)
-          (λ free. subst (λ (x : Addr). GoesOut now p.job (Ask x s.name s.kind) next) (free_next now (p.stores).failures s a d e free is) (asks_next home now p s rest searches a task e free count last next new after rules leaves))
+          (λ free. subst (λ (x : Addr). GoesOut now p.job (AskUdp x s.name s.kind) next) (free_next now (p.stores).failures s a d e free is) (asks_next home now p s rest searches a task e free count last next new after rules leaves))
 
 -- Over UDP no server is asked that failed lately.
 pub asked_did_not_fail : AskedDidNotFail
@@ -190,7 +190,7 @@ asked_did_not_fail home now input old stores next new after server n t call is =
   where
     by : Leaves home now call.last next new after → is_failed now (failed_ask n t server) after.failures ≡ false
     by (sends a s others due may sent j e) =
-        let asked : Ask a s.name s.kind ≡ Ask server n t = sym sent ∙ is in
+        let asked : AskUdp a s.name s.kind ≡ AskUdp server n t = sym sent ∙ is in
         let whom : a ≡ server = cc in
         let name : s.name ≡ n = cc in
         let kind : s.kind ≡ t = cc in
@@ -207,7 +207,7 @@ asked_did_not_fail home now input old stores next new after server n t call is =
 
 -- A message for the innermost search, by its class.
 pub heard : (now : ℕ) (input : Input) (old : Job) (stores : Stores) (p : Point) (s : Search) (rest : List Search) (server : Addr) (c : class.Class)
-    → Enters now input old stores p → (h : Hears old input s rest server c) → ByClass now server s rest c old (with_told now s server h.message stores) p
+    → Enters now input old stores p → (h : AcceptsReply old input s rest server c) → ByClass now server s rest c old (with_told now s server h.message stores) p
 heard now input old stores p s rest server c e h = by (subst (λ (i : Input). Enters now i old stores p) h.told e)
   where
     by : Enters now (Told h.via server h.message) old stores p → ByClass now server s rest c old (with_told now s server h.message stores) p
@@ -225,7 +225,7 @@ pub lost_goes : (now : ℕ) (input : Input) (old : Job) (stores : Stores) (p : P
     → Enters now input old stores p → IsLost old input s rest → (after : Stores) × (p ≡ point Go old after)
 lost_goes now input old stores p s rest e h = by h.lost
   where
-    by : (input ≡ TimedOut h.server) ⊎ ((input ≡ TcpFailed h.server) ⊎ ((f : Failure) × Hears old input s rest h.server (class.Failed f))) → (after : Stores) × (p ≡ point Go old after)
+    by : (input ≡ TimedOut h.server) ⊎ ((input ≡ TcpFailed h.server) ⊎ ((f : Failure) × AcceptsReply old input s rest h.server (class.Failed f))) → (after : Stores) × (p ≡ point Go old after)
     by (inl is) = (with_timeout stores h.server, subst (λ (i : Input). Enters now i old stores p) is e)
     by (inr (inl is)) = (with_timeout stores h.server, subst (λ (i : Input). Enters now i old stores p) is e)
     by (inr (inr (f, told))) = (with_told now s h.server told.message stores, heard now input old stores p s rest h.server (class.Failed f) e told)
@@ -235,7 +235,7 @@ next_is_asked home now input old stores next new after s rest server call lost d
     let (left, is) = lost_goes now input old stores call.first s rest call.enters lost in
     let job : (call.first).job ≡ old = ap (λ (q : Point). q.job) is in
     let task : (call.first).task ≡ Go = ap (λ (q : Point). q.task) is in
-    subst (λ (j : Job). GoesOut now j (Ask server s.name s.kind) next) job
+    subst (λ (j : Job). GoesOut now j (AskUdp server s.name s.kind) next) job
     (asks_first home now call.first s rest server (ap (λ (j : Job). j.searches) job ∙ lost.searches) task call.count call.last next new after call.rules call.leaves due)
 
 pub truncated_is_repeated : TruncatedIsRepeated

@@ -4,23 +4,23 @@ use Rattle.dname.specs.Labels.{Name}
 use Rattle.rdata.specs.Records.{Record}
 use Rattle.rdata.specs.declared.addr.Addr.{Addr}
 use Rattle.zone.specs.Links.{Alias}
-use Rattle.front.specs.Chains.{target_of}
+use Rattle.front.specs.Chains.{alias_target}
 use Rattle.resolution.specs.Jobs.{Home, Taken, Job, Task, Seek, Take, Go, Again, Point}
 use Rattle.resolution.specs.Rules.{Rule, takes, asks, follows, restarts, skips, hears, descends, gives_up, Rules}
 use Rattle.runs.specs.States.{Turn}
-use Rattle.laws.specs.Spent.{IsAliasOf, AreLeading}
+use Rattle.laws.specs.Spent.{IsAliasOf, AcceptedAliasesLead}
 use Rattle.laws.proofs.Told.{AreTold, found_alias, found_name}
 use Rattle.laws.proofs.TimelyPoints.{IsSound, Lately, rule_keeps}
 
 module _ (port : ℕ) (home : Home) (run : List Turn) (t : ℕ) where
   abbrev pub LeadsOn : Name → List Taken → Name → Type 0
   LeadsOn from [] to = to ≡ from
-  LeadsOn from (l ∷ ls) to = (l.name ≡ from) × ((r : Record) × (l.link ≡ Alias r) × IsAliasOf port home run from t r × LeadsOn (target_of r) ls to)
+  LeadsOn from (l ∷ ls) to = (l.name ≡ from) × ((r : Record) × (l.link ≡ Alias r) × IsAliasOf port home run from t r × LeadsOn (alias_target r) ls to)
 
   pub leads_more : (from : Name) (chain : List Taken) (to : Name) (l : Taken) (r : Record) → LeadsOn from chain to → l.name ≡ to → l.link ≡ Alias r → IsAliasOf port home run to t r
-      → LeadsOn from (chain ++ l ∷ []) (target_of r)
+      → LeadsOn from (chain ++ l ∷ []) (alias_target r)
   leads_more from [] to l r h name is alias = (name ∙ h, (r, is, subst (λ (n : Name). IsAliasOf port home run n t r) h alias, refl))
-  leads_more from (x ∷ xs) to l r (n, (q, e, a, more)) name is alias = (n, (q, e, a, leads_more (target_of q) xs to l r more name is alias))
+  leads_more from (x ∷ xs) to l r (n, (q, e, a, more)) name is alias = (n, (q, e, a, leads_more (alias_target q) xs to l r more name is alias))
 
   nothing_past : {X P : Type 0} (front back : List X) (d : X) → [] ≡ front ++ d ∷ back → P
   nothing_past [] back d e = absurd (cc)
@@ -34,7 +34,7 @@ module _ (port : ℕ) (home : Home) (run : List Turn) (t : ℕ) where
   leads_to from (x ∷ xs) to l (y ∷ ys) d back (n, (r, is, a, more)) name e =
       let same : x ≡ y = cc in
       let rest : xs ++ l ∷ [] ≡ ys ++ d ∷ back = cc in
-      (sym (ap (λ (z : Taken). z.name) same) ∙ n, (r, sym (ap (λ (z : Taken). z.link) same) ∙ is, a, leads_to (target_of r) xs to l ys d back more name rest))
+      (sym (ap (λ (z : Taken). z.name) same) ∙ n, (r, sym (ap (λ (z : Taken). z.link) same) ∙ is, a, leads_to (alias_target r) xs to l ys d back more name rest))
 
   -- A link that is due is the current name's.
   abbrev pub IsOfName : Name → Task → Type 0
@@ -86,9 +86,9 @@ module _ (port : ℕ) (home : Home) (run : List Turn) (t : ℕ) where
   rule_reaches now from a b told h (gives_up s around rest task up to job stores) = reached_at from b Go _ to job (record { kind = h.kind; leads = h.leads; few = h.few; link = tt })
 
   -- The aliases' records.
-  pub led : (from : Name) (chain : List Taken) (to : Name) → LeadsOn from chain to → (rs : List Record) × (length rs ≡ length chain) × AreLeading port home run t from rs to
+  pub led : (from : Name) (chain : List Taken) (to : Name) → LeadsOn from chain to → (rs : List Record) × (length rs ≡ length chain) × AcceptedAliasesLead port home run t from rs to
   led from [] to h = ([], refl, h)
-  led from (l ∷ ls) to (n, (r, is, a, more)) = let (rs, len, leads) = led (target_of r) ls to more in (r ∷ rs, ap suc len, (a, leads))
+  led from (l ∷ ls) to (n, (r, is, a, more)) = let (rs, len, leads) = led (alias_target r) ls to more in (r ∷ rs, ap suc len, (a, leads))
 
 module _ (port : ℕ) (home : Home) (run : List Turn) (t : ℕ) (k : ℕ) (K : Name → ℕ → Addr → Type 0) where
   pub rules_reach : (Truncates : Addr → Name → ℕ → Type 0) (now : ℕ) → Lately port home k run K Truncates now → (n : ℕ) (from : Name) (a b : Point) → IsSound port home k run K Truncates a

@@ -5,8 +5,8 @@ use Rattle.rdata.specs.Records.{Record}
 use Rattle.rdata.specs.declared.addr.Addr.{Addr}
 use Rattle.zone.specs.Zones.{a_type}
 use Rattle.zone.specs.Links.{Link, Found, Alias, NoData, NxDomain}
-use Rattle.layout.specs.Messages.{Message}
-use Rattle.layout.proofs.Roots.{names_end_in_root}
+use Rattle.message_grammar.specs.Messages.{Message}
+use Rattle.message_grammar.proofs.Roots.{names_end_in_root}
 use Rattle.wire.specs.declared.via.Via.{Via}
 use Rattle.wire.specs.declared.via.Via.TheVariants as via
 use Rattle.classify.specs.Classes as class
@@ -23,24 +23,24 @@ use Rattle.cache.specs.Failures.{FailedAsk, after_failed}
 use Rattle.cache.proofs.Failed.{failed_members}
 use Rattle.resolution.specs.Jobs.{Home, Stores, level_of, with_timeout, with_told, is_server_failure, IsCutOf, Search, ask_of, Job, Input, Start, Told, TimedOut, TcpFailed, Task, Go, Again, Point, point, hit_from, cut_from}
 use Rattle.retry.specs.Penalties.{AreAtMost, answered, timed_out}
-use Rattle.resolution.specs.Rules.{Learnt, IsAnswered, IsReferred, ByClass, Enters, server_of, IsTakenEntry, IsTakenCut, IsTakenFailure, Stops}
-use Rattle.runs.specs.States.{Turn, Event, Client, Datagram, TcpReply, Tick, Query, Path, ByUdp, ByTcp, Asking, via_of}
+use Rattle.resolution.specs.Rules.{KeepsAnswer, IsAnswered, IsReferred, ByClass, Enters, server_of, IsTakenEntry, IsTakenCut, IsTakenFailure, Stops}
+use Rattle.runs.specs.States.{Turn, Event, Client, Datagram, TcpReply, Tick, OpenQuery, Path, ByUdp, ByTcp, Ask, via_of}
 use Rattle.runs.specs.States as states
 use Rattle.runs.specs.Messages.{Brings}
-use Rattle.runs.specs.Runs.{Asks, Earlier, clock_of}
+use Rattle.runs.specs.Runs.{IsOpenAskOf, Earlier, clock_of}
 use Rattle.laws.specs.Failures.{SaysFailure}
-use Rattle.laws.specs.Spent.{AsksBy, EndsBadly, IsBad, BringsTruncated, IsOpenAsk, IsOver, IsStart, IsUdp, Repeats, Takes, TellsOfNone}
+use Rattle.laws.specs.Spent.{AsksBy, EndsBadly, IsBad, BringsTruncated, IsOpenAsk, IsOver, MayStart, IsUdpPath, Repeats, LearnsLink, TellsOfNone}
 use Rattle.laws.proofs.TimelyLists.{more_followed}
 use Rattle.laws.proofs.TimelyStores.{kept_from, cut_kept_from}
 use Rattle.retry.proofs.Steps.{timed_out_low, answered_low}
-use Rattle.laws.proofs.TimelySearches.{Passed, SomeKnown, FailsOnce, FailsTwice, AreAsked, IsIdle, IsAsking, AreAround, AreMarked, idle_at}
+use Rattle.laws.proofs.TimelySearches.{Passed, SomeKnown, FailsOnce, FailsTwice, AreAsked, IsIdle, IsAsk, AreAround, AreMarked, idle_at}
 use Rattle.laws.proofs.Grown.{Grows, twice_on, stands_on, settled_on, asked_on, asking_on, waiting_on, around_on, marks_on}
 use Rattle.laws.proofs.Told.{AreTold, IsKeptStart, low_level}
 use Rattle.laws.proofs.TimelyPoints.{OnTop, StandsBy, IsSound, put, heard_at}
 use Rattle.laws.proofs.Later.{told_later, passed_on, some_on}
 
 -- A message that is brought is read from its bytes.
-pub brought_ends : (port : ℕ) (ask : Asking) (event : Event) (m : Message) → Brings port ask event m → EndInRoot m
+pub brought_ends : (port : ℕ) (ask : Ask) (event : Event) (m : Message) → Brings port ask event m → EndInRoot m
 brought_ends port ask (Client now client way bytes) m b = absurd b
 brought_ends port ask (Datagram now sock from bytes) m b = (names_end_in_root bytes m b.2).authority
 brought_ends port ask (TcpReply now number bytes) m b = (names_end_in_root bytes m b.1).authority
@@ -49,23 +49,23 @@ brought_ends port ask (Tick now) m b = absurd b
 
 -- ---- the ask over TCP is an open ask
 
-pub open_asks : (port k : ℕ) (ask : Asking) (path : Path) (run : List Turn) → AsksBy port k ask path run → Asks port k ask run
+pub open_asks : (port k : ℕ) (ask : Ask) (path : Path) (run : List Turn) → AsksBy port k ask path run → IsOpenAskOf port k ask run
 open_asks port k ask (ByUdp sock) run h = h
 open_asks port k ask (ByTcp number) run h = by run h
   where
-    by : (run : List Turn) → Repeats port k ask run → Asks port k ask run
+    by : (run : List Turn) → Repeats port k ask run → IsOpenAskOf port k ask run
     by [] h = absurd h
     by (turn ∷ past) (inl (served, sent, short)) = inl (served, sent)
     by (turn ∷ past) (inr (other, more)) = inr (other, by past more)
 
-module _ (port : ℕ) (home : Home) (k : ℕ) (turn : Turn) (past : List Turn) (ask : Asking) (served : turn.served ≡ Query k) (asked : IsOpenAsk port k ask past)
+module _ (port : ℕ) (home : Home) (k : ℕ) (turn : Turn) (past : List Turn) (ask : Ask) (served : turn.served ≡ OpenQuery k) (asked : IsOpenAsk port k ask past)
     (K M : Name → ℕ → Addr → Type 0) (more_known : (n : Name) (t : ℕ) (a : Addr) → K n t a → M n t a) where
   grown : Grows past (turn ∷ past)
   grown = inr (turn, refl)
 
   -- The asked server said nothing of use: the search goes on.
   pub ends_badly : (b : Bool) (s : Search) → ask.name ≡ s.name → ask.kind ≡ s.kind → ((c : Cut) → (s.frame).zone ≡ c.owner → IsBad port c.owner ask turn.event)
-      → IsAsking port home k past (Passed b K) s ask.server → IsIdle port home k (turn ∷ past) (Passed b M) s
+      → IsAsk port home k past (Passed b K) s ask.server → IsIdle port home k (turn ∷ past) (Passed b M) s
   ends_badly b s name kind bad h =
       let ended : EndsBadly port k h.cut.owner s.name s.kind ask.server turn past = (ask, served, asked, record { server = refl; name = name; kind = kind }, bad h.cut h.stands.zone) in
       let wider = passed_on port home past (turn ∷ past) grown k K M more_known b in
@@ -94,7 +94,7 @@ module _ (port : ℕ) (home : Home) (k : ℕ) (turn : Turn) (past : List Turn) (
 
   -- What the query's open search is.
   abbrev pub IsAskingAs : Bool → Search → Type 0
-  IsAskingAs b s = IsAsking port home k past (Passed b K) s ask.server × (ask.name ≡ s.name) × (ask.kind ≡ s.kind)
+  IsAskingAs b s = IsAsk port home k past (Passed b K) s ask.server × (ask.name ≡ s.name) × (ask.kind ≡ s.kind)
 
   abbrev pub TruncatedNow : Addr → Name → ℕ → Type 0
   TruncatedNow a n t = BringsTruncated port k a n t turn past
@@ -132,7 +132,7 @@ module _ (port : ℕ) (home : Home) (k : ℕ) (turn : Turn) (past : List Turn) (
 
     module _ (m : Message) (brings : Brings port ask turn.event m) where
       -- An answer.
-      pub taken_now : (l : Link) → class_of (s.frame).zone s.name s.kind (via_of ask.path) m ≡ class.Answer l → Takes port s.name s.kind (received l) turn past
+      pub taken_now : (l : Link) → class_of (s.frame).zone s.name s.kind (via_of ask.path) m ≡ class.Answer l → LearnsLink port s.name s.kind (received l) turn past
       taken_now l is = (
         k,
         l,
@@ -150,12 +150,12 @@ module _ (port : ℕ) (home : Home) (k : ℕ) (turn : Turn) (past : List Turn) (
       )
 
       pub fresh_entry : (l : Link) → class_of (s.frame).zone s.name s.kind (via_of ask.path) m ≡ class.Answer l → (x : Key × Hit) → IsKept s.name s.kind (hit_from l now) x
-          → (n : Name) × (u : ℕ) × (x.0 ≡ key_for n u (x.1).link) × Earlier (Takes port n u (x.1).link) (turn ∷ past)
+          → (n : Name) × (u : ℕ) × (x.0 ≡ key_for n u (x.1).link) × Earlier (LearnsLink port n u (x.1).link) (turn ∷ past)
       fresh_entry l is x new =
           let hit : x.1 ≡ hit_from l now = ap (λ y. y.1) new.0 in
-          (s.name, s.kind, ap (λ y. y.0) new.0 ∙ ap (λ (y : Hit). key_for s.name s.kind y.link) (sym hit), subst (λ (y : Hit). Earlier (Takes port s.name s.kind y.link) (turn ∷ past)) (sym hit) (inl (taken_now l is)))
+          (s.name, s.kind, ap (λ y. y.0) new.0 ∙ ap (λ (y : Hit). key_for s.name s.kind y.link) (sym hit), subst (λ (y : Hit). Earlier (LearnsLink port s.name s.kind y.link) (turn ∷ past)) (sym hit) (inl (taken_now l is)))
 
-      learnt_told : (l : Link) (new : Stores) → class_of (s.frame).zone s.name s.kind (via_of ask.path) m ≡ class.Answer l → Learnt now s l stores new → AreTold port home (turn ∷ past) new
+      learnt_told : (l : Link) (new : Stores) → class_of (s.frame).zone s.name s.kind (via_of ask.path) m ≡ class.Answer l → KeepsAnswer now s l stores new → AreTold port home (turn ∷ past) new
       learnt_told l new is learnt = subst (AreTold port home (turn ∷ past)) (sym learnt.stores) (record {
         links = λ key e c. elim (kept_from stores.cache_cap s.name s.kind (hit_from l now) stores.cache (key, e) c) [
           | inl d ↦ told.links key e d
@@ -179,15 +179,15 @@ module _ (port : ℕ) (home : Home) (k : ℕ) (turn : Turn) (past : List Turn) (
           by [] a (task, job, learnt) = put_now p _ _ task job (learnt_told l p.stores is learnt) marks_now tt known_now
           by (o ∷ os) (kind, nesting, waiting, further) (after, more, task, learnt, hears_of, job) =
               let new = learnt_told l p.stores is learnt in
-              let takes : Takes port s.name a_type (received l) turn past = subst (λ (t : ℕ). Takes port s.name t (received l) turn past) kind (taken_now l is) in
+              let takes : LearnsLink port s.name a_type (received l) turn past = subst (λ (t : ℕ). LearnsLink port s.name t (received l) turn past) kind (taken_now l is) in
               heard_at port home k (turn ∷ past) M TruncatedNow p s.name (received l) o after os j more new
-              (λ set e. inr (inl (subst (λ (x : Link). Takes port s.name a_type x turn past) e takes)))
+              (λ set e. inr (inl (subst (λ (x : Link). LearnsLink port s.name a_type x turn past) e takes)))
               (λ none. inr (inl (a_type, received l, inl takes, no_address l none)))
               (waiting_on port home past (turn ∷ past) grown k (Passed j.skipped K) (Passed j.skipped M) wider o s.name waiting)
               (around_on port home past (turn ∷ past) grown k (Passed j.skipped K) (Passed j.skipped M) wider j.name j.kind o.name o.kind (o.frame).nesting os further) marks_now hears_of task job known_now
 
       -- A referral.
-      pub referred_start : (at : Name) (ns glue : List Record) (ttl : ℕ) (c : Cut) → class_of (s.frame).zone s.name s.kind (via_of ask.path) m ≡ class.Referral at ns glue ttl → IsCutOf at ns glue c → IsStart port home (turn ∷ past) c
+      pub referred_start : (at : Name) (ns glue : List Record) (ttl : ℕ) (c : Cut) → class_of (s.frame).zone s.name s.kind (via_of ask.path) m ≡ class.Referral at ns glue ttl → IsCutOf at ns glue c → MayStart port home (turn ∷ past) c
       referred_start at ns glue ttl c is is_cut =
           inr (
             (top.0).cut,
@@ -208,7 +208,7 @@ module _ (port : ℕ) (home : Home) (k : ℕ) (turn : Turn) (past : List Turn) (
             ),
           )
 
-      pub fresh_cut : (c : Cut) (ttl : ℕ) → IsStart port home (turn ∷ past) c → (x : Name × Known) → referral.IsKept (cut_from c ttl now) x → (x.0 ≡ ((x.1).cut).owner) × IsKeptStart port home (turn ∷ past) (x.1).cut
+      pub fresh_cut : (c : Cut) (ttl : ℕ) → MayStart port home (turn ∷ past) c → (x : Name × Known) → referral.IsKept (cut_from c ttl now) x → (x.0 ≡ ((x.1).cut).owner) × IsKeptStart port home (turn ∷ past) (x.1).cut
       fresh_cut c ttl start x new =
           let kept : x.1 ≡ cut_from c ttl now = ap (λ y. y.1) new.0 in
           (ap (λ y. y.0) new.0 ∙ ap (λ (y : Known). (y.cut).owner) (sym kept), (c, start, ap (λ (y : Known). y.cut) kept))
@@ -238,7 +238,7 @@ module _ (port : ℕ) (home : Home) (k : ℕ) (turn : Turn) (past : List Turn) (
             told = told;
             marks = marks_now;
             known = known_now;
-            stands = subst (λ (l : List Search). OnTop port home k (turn ∷ past) (Passed j.skipped M) j.name j.kind l (λ s. IsAsking port home k (turn ∷ past) (Passed j.skipped M) s ask.server × TruncatedNow ask.server s.name s.kind)) (sym searches) (
+            stands = subst (λ (l : List Search). OnTop port home k (turn ∷ past) (Passed j.skipped M) j.name j.kind l (λ s. IsAsk port home k (turn ∷ past) (Passed j.skipped M) s ask.server × TruncatedNow ask.server s.name s.kind)) (sym searches) (
               (
                 asking_on port home past (turn ∷ past) grown k (Passed j.skipped K) (Passed j.skipped M) wider s ask.server top.0,
                 record {
@@ -255,11 +255,11 @@ module _ (port : ℕ) (home : Home) (k : ℕ) (turn : Turn) (past : List Turn) (
             );
           })
         where
-          udp_of : (path : Path) → via_of path ≡ via.Udp → IsUdp path
+          udp_of : (path : Path) → via_of path ≡ via.Udp → IsUdpPath path
           udp_of (ByUdp sock) e = tt
           udp_of (ByTcp number) e = absurd (cc)
 
-          open_udp : (path : Path) → IsUdp path → AsksBy port k ask path past → Asks port k ask past
+          open_udp : (path : Path) → IsUdpPath path → AsksBy port k ask path past → IsOpenAskOf port k ask past
           open_udp (ByUdp sock) u a = a
           open_udp (ByTcp number) u a = absurd u
 
@@ -357,7 +357,7 @@ module _ (port : ℕ) (home : Home) (k : ℕ) (turn : Turn) (past : List Turn) (
 
   module _ (now : ℕ) (clock : now ≡ clock_of (turn ∷ past)) (j : Job) (stores : Stores) (told : AreTold port home past stores) (marks : AreMarked port home k past (Passed j.skipped K) j.failed)
       (known : j.skipped ≡ true → SomeKnown K) (top : OnTop port home k past (Passed j.skipped K) j.name j.kind j.searches (IsAskingAs j.skipped)) where
-    taken_entry : (input : Input) → IsInputNow input → (x : Key × Hit) → IsTakenEntry j input now x → (n : Name) × (u : ℕ) × (x.0 ≡ key_for n u (x.1).link) × Earlier (Takes port n u (x.1).link) (turn ∷ past)
+    taken_entry : (input : Input) → IsInputNow input → (x : Key × Hit) → IsTakenEntry j input now x → (n : Name) × (u : ℕ) × (x.0 ≡ key_for n u (x.1).link) × Earlier (LearnsLink port n u (x.1).link) (turn ∷ past)
     taken_entry Start is x (s, l, c, kept) = absurd c
     taken_entry (Told way server m) (via_is, server_is, brings) x (s, l, ((rest, searches), is), kept) =
         let h = subst (λ (l : List Search). OnTop port home k past (Passed j.skipped K) j.name j.kind l (IsAskingAs j.skipped)) searches top in

@@ -2,7 +2,7 @@
 use Rattle.std.proofs.Common.{List, [], ◌∷◌, refl, subst}
 use Rattle.std.specs.Prelude.{Contains}
 use Rattle.zone.proofs.LawLists.{none_in}
-use Rattle.truth.specs.Worlds.{World, IsWorld}
+use Rattle.world_truth.specs.Worlds.{World, IsWorld}
 use Rattle.runs.specs.States.{Turn, Open, Site, State, moved}
 use Rattle.runs.specs.Runs.{Run, Always}
 use Rattle.runs.proofs.Clocks.{clock_of_run}

@@ -2,14 +2,14 @@
 use Rattle.std.proofs.Common.{ℕ, inl, inr, List, [], ◌∷◌, subst}
 use Rattle.front.specs.declared.queries.Outcome.{Outcome}
 use Rattle.resolution.specs.Jobs.{Home}
-use Rattle.runs.specs.States.{Turn, Plain, Asker}
+use Rattle.runs.specs.States.{Turn, Plain, ClientQuery}
 use Rattle.runs.specs.Runs.{Always}
 use Rattle.laws.specs.Replies.{RepliesAre}
 use Rattle.laws.specs.Failures.{IsSpentFor, EveryFailureIsSpent}
 use Rattle.laws.specs.Caused.{IsExplained}
 use Rattle.laws.proofs.Runs.{run_explained}
 
-spent_so : (port : ℕ) (home : Home) (who : Asker) (o : Outcome Plain) (turn : Turn) (past : List Turn) → IsExplained port home who o turn past → IsSpentFor port home who o turn past
+spent_so : (port : ℕ) (home : Home) (who : ClientQuery) (o : Outcome Plain) (turn : Turn) (past : List Turn) → IsExplained port home who o turn past → IsSpentFor port home who o turn past
 spent_so port home who o turn past h e = subst (λ (x : Outcome Plain). IsExplained port home who x turn past) e h
 
 spent_reply : (port : ℕ) (home : Home) (turn : Turn) (past : List Turn) → RepliesAre home (IsExplained port home) turn past → RepliesAre home (IsSpentFor port home) turn past

@@ -2,34 +2,34 @@
 use Rattle.std.proofs.Common.{◌≡◌, ◌≢◌, ℕ, ◌+◌, ◌<◌, ◌⊎◌, inl, inr, Bool, true, false, cond, min, nat_le, length, Option, Some, None, List, [], ◌∷◌, ◌++◌, Contains, refl, sym, ap, ◌∙◌, subst, arith}
 use Rattle.rdata.specs.declared.addr.Addr.{Addr}
 use Rattle.wire.specs.declared.via.Via.{Via}
-use Rattle.front.specs.Queries.{IsAsked}
-use Rattle.front.specs.declared.queries.Asked.{Asked}
-use Rattle.front.specs.declared.queries.Asked.TheVariants as heard
+use Rattle.front.specs.Queries.{IsRequest}
+use Rattle.front.specs.declared.queries.Request.{Request}
+use Rattle.front.specs.declared.queries.Request.TheVariants as request
 use Rattle.front.specs.declared.queries.Outcome.{Outcome}
 use Rattle.retry.specs.Plans.{Plan, wait_of}
-use Rattle.resolution.specs.Jobs.{Stores, Search, Job, wait_in, wait_of_job, Input, Start, Next, Ask, AskTcp, Done, Fail}
-use Rattle.runs.specs.States.{Event, Client, Datagram, TcpReply, TcpFailed, Tick, Action, MoreDue, Served, Nobody, Own, Query, Plain, Asker, Path, ByUdp, ByTcp, Asking, Open, open_query, due_moment, job_for, State, word_of, word_taken}
+use Rattle.resolution.specs.Jobs.{Stores, Search, Job, wait_in, wait_of_job, Input, Start, Next, AskUdp, AskTcp, Done, Fail}
+use Rattle.runs.specs.States.{Event, Client, Datagram, TcpReply, TcpFailed, Tick, Action, MoreDue, Served, Nobody, Own, OpenQuery, Plain, ClientQuery, Path, ByUdp, ByTcp, Ask, Open, open_query, due_moment, job_for, State, word_of, word_taken}
 use Rattle.runs.specs.Messages.{sending, IsSent, IsReply}
-use Rattle.runs.specs.Steps.{IsUdpAsk, AreOthers, AreWith, Ends, Comes, Serves, IsAsking, IsOpened, at_once, crowded, admitted, Resolves, IsHandled, IsIgnored, Hears, IsFollowed, IsTicked, IsLeft, IsTurn}
+use Rattle.runs.specs.Steps.{IsUdpAsk, AreOthers, AreWith, Ends, Comes, Serves, IsAsk, IsOpened, at_once, crowded, admitted, Resolves, IsHandled, IsIgnored, ServesOpen, IsFollowed, IsTicked, IsLeft, IsTurn}
 use Rattle.runs.specs.Runs.{is_ask}
-use Rattle.laws.specs.Laws.{is_reply, IsAlone, GivesOne, IsLine}
+use Rattle.laws.specs.Laws.{is_reply, IsOnlyAction, GivesOne, IsLine}
 use Rattle.laws.specs.Words.{IsByWord}
-use Rattle.laws.proofs.Asking.{OneMore, call_asks}
+use Rattle.laws.proofs.Ask.{OneMore, call_asks}
 
 -- A reply alone goes out.
 pub record IsOneReply (out : Option (List Action)) : Type 0 where
   pub actions : List Action
   pub action : Action
   pub out_is : out ≡ Some actions
-  pub alone : IsAlone action actions
+  pub alone : IsOnlyAction action actions
   pub reply : is_reply action ≡ true
 
 -- This ask alone goes out.
-pub record IsOneAsk (port : ℕ) (a : Asking) (out : Option (List Action)) : Type 0 where
+pub record IsOneAsk (port : ℕ) (a : Ask) (out : Option (List Action)) : Type 0 where
   pub actions : List Action
   pub action : Action
   pub out_is : out ≡ Some actions
-  pub alone : IsAlone action actions
+  pub alone : IsOnlyAction action actions
   pub sent : IsSent port a action
 
 -- A query that waits was open already, or is new.
@@ -40,7 +40,7 @@ IsFrom s after new =
 
 -- A client's query came in this event.
 abbrev pub IsComing : Event → Type 0
-IsComing event = (moment : ℕ) × (who : Asker) × (bytes : List ℕ) × (event ≡ Client moment who.client who.way bytes) × IsAsked {A = Plain} bytes (heard.Query who.query)
+IsComing event = (moment : ℕ) × (who : ClientQuery) × (bytes : List ℕ) × (event ≡ Client moment who.client who.way bytes) × IsRequest {A = Plain} bytes (request.Query who.query)
 
 -- Its deadline is what it was, or ten seconds from now where it comes now.
 abbrev pub IsDated : State → Event → Open → Type 0
@@ -65,10 +65,10 @@ pub data Fate (s : State) (event : Event) (served : Served) (out : Option (List 
   passes : (served ≡ Nobody) ⊎ (served ≡ Own) → ((actions : List Action) → out ≡ Some actions → GivesOne event served actions) → AreOthers s.opened s.queries new.queries
       → new.opened ≡ s.opened → KeepsWords s out new → Fate s event served out new
   -- An open query is over.
-  ends : (q : Open) → Contains s.queries q → served ≡ Query q.number → AreOthers q.number s.queries new.queries → new.opened ≡ s.opened → (out ≡ None) ⊎ IsOneReply out
+  ends : (q : Open) → Contains s.queries q → served ≡ OpenQuery q.number → AreOthers q.number s.queries new.queries → new.opened ≡ s.opened → (out ≡ None) ⊎ IsOneReply out
       → KeepsWords s out new → Fate s event served out new
   -- A query waits for the answer to an ask.
-  waits : (after : Open) → served ≡ Query after.number → AreWith after s.queries new.queries → IsFrom s after new → IsAlike s after → IsOneAsk (s.site).port after.ask out
+  waits : (after : Open) → served ≡ OpenQuery after.number → AreWith after s.queries new.queries → IsFrom s after new → IsAlike s after → IsOneAsk (s.site).port after.ask out
       → s.clock < due_moment after → TakesWord s after new → IsDated s event after → Fate s event served out new
 
 abbrev pub AreBelow : State → Type 0
@@ -76,10 +76,10 @@ AreBelow s = (q : Open) → Contains s.queries q → q.number < s.opened
 
 -- ---- single actions
 
-pub reply_is : (who : Asker) (o : Outcome Plain) (action : Action) → IsReply who o action → is_reply action ≡ true
+pub reply_is : (who : ClientQuery) (o : Outcome Plain) (action : Action) → IsReply who o action → is_reply action ≡ true
 reply_is who o action (bytes, written, is) = ap is_reply is
 
-pub ask_is : (port : ℕ) (a : Asking) (action : Action) → IsSent port a action → is_ask action ≡ true
+pub ask_is : (port : ℕ) (a : Ask) (action : Action) → IsSent port a action → is_ask action ≡ true
 ask_is port a action (bytes, written, is) = by a.path (ap is_ask is)
   where
     by : (path : Path) → is_ask action ≡ is_ask (sending port a path bytes) → is_ask action ≡ true
@@ -105,7 +105,7 @@ ignored_fate s event served out new below h =
 -- ---- what comes of a query
 
 abbrev IsBehind : List Action → List Action → Type 0
-IsBehind first out = (action : Action) → first ≡ action ∷ [] → IsAlone action out
+IsBehind first out = (action : Action) → first ≡ action ∷ [] → IsOnlyAction action out
 
 alone_behind : (out : List Action) → IsBehind out out
 alone_behind out action e = inl e
@@ -114,7 +114,7 @@ followed_behind : (first out : List Action) (new : State) → IsFollowed first o
 followed_behind first out new (inl (is, due)) action e = inr (is ∙ ap (λ (l : List Action). l ++ MoreDue ∷ []) e)
 followed_behind first out new (inr (is, none)) action e = inl (is ∙ e)
 
-ended_reply : (s : State) (who : Asker) (k : ℕ) (o : Outcome Plain) (stores : Stores) (first out : List Action) (new : State) → Ends s who k o stores first new → IsBehind first out → IsOneReply (Some out)
+ended_reply : (s : State) (who : ClientQuery) (k : ℕ) (o : Outcome Plain) (stores : Stores) (first out : List Action) (new : State) → Ends s who k o stores first new → IsBehind first out → IsOneReply (Some out)
 ended_reply s who k o stores first out new h behind =
     record { actions = out; action = h.action; out_is = refl; alone = behind h.action h.out_is; reply = reply_is who o h.action h.reply }
 
@@ -144,36 +144,36 @@ some_wait_in [] = omega arith
 some_wait_in (s ∷ rest) = some_wait (s.frame).plan
 
 -- An open query that is served.
-serves_fate : (s : State) (event : Event) (served : Served) (q : Open) (input : Input) (first out : List Action) (new : State) → served ≡ Query q.number → Serves s q input first new → IsBehind first out
+serves_fate : (s : State) (event : Event) (served : Served) (q : Open) (input : Input) (first out : List Action) (new : State) → served ≡ OpenQuery q.number → Serves s q input first new → IsBehind first out
     → Fate s event served (Some out) new
 serves_fate s event served q input first out new is h behind = by h.next refl h.comes
   where
-    more : IsAsking h.next → OneMore s.clock q.job h.job
+    more : IsAsk h.next → OneMore s.clock q.job h.job
     more asking = call_asks (s.site).home s.clock input q.job s.stores h.next h.job h.stores h.advances asking
 
-    by : (next : Next) → h.next ≡ next → Comes s q.asker q.number s.opened next h.job h.stores first new → Fate s event served (Some out) new
-    by (Ask server n t) e c =
+    by : (next : Next) → h.next ≡ next → Comes s q.client_query q.number s.opened next h.job h.stores first new → Fate s event served (Some out) new
+    by (AskUdp server n t) e c =
         let w = c.waits in
-        waits (open_query q.number q.asker h.job c.ask (s.clock + wait_of_job h.job)) is w.queries
-        (inl (q, h.stands, refl, ap (λ (x : State). x.opened) w.state, more (subst IsAsking (sym e) tt)))
-        (udp_alike s (open_query q.number q.asker h.job c.ask (s.clock + wait_of_job h.job)) c.goes)
+        waits (open_query q.number q.client_query h.job c.ask (s.clock + wait_of_job h.job)) is w.queries
+        (inl (q, h.stands, refl, ap (λ (x : State). x.opened) w.state, more (subst IsAsk (sym e) tt)))
+        (udp_alike s (open_query q.number q.client_query h.job c.ask (s.clock + wait_of_job h.job)) c.goes)
         (record { actions = out; action = w.action; out_is = refl; alone = behind w.action w.out_is; sent = w.sent })
-        (later s.clock (wait_of_job h.job) q.job h.job (more (subst IsAsking (sym e) tt)) (some_wait_in (h.job).searches)) (ap (λ (x : State). x.generator) w.state, inl ((c.goes).sock, (c.goes).sock_is, (c.goes).path, (c.goes).id))
-        (inl (q, h.stands, refl, (more (subst IsAsking (sym e) tt)).deadline))
+        (later s.clock (wait_of_job h.job) q.job h.job (more (subst IsAsk (sym e) tt)) (some_wait_in (h.job).searches)) (ap (λ (x : State). x.generator) w.state, inl ((c.goes).sock, (c.goes).sock_is, (c.goes).path, (c.goes).id))
+        (inl (q, h.stands, refl, (more (subst IsAsk (sym e) tt)).deadline))
     by (AskTcp server n t) e c =
         let w = c.waits in
-        waits (open_query q.number q.asker h.job c.ask (s.clock + 3000)) is w.queries
-        (inl (q, h.stands, refl, ap (λ (x : State). x.opened) w.state, more (subst IsAsking (sym e) tt)))
-        (tcp_alike s (open_query q.number q.asker h.job c.ask (s.clock + 3000)) s.asked (c.goes).path)
+        waits (open_query q.number q.client_query h.job c.ask (s.clock + 3000)) is w.queries
+        (inl (q, h.stands, refl, ap (λ (x : State). x.opened) w.state, more (subst IsAsk (sym e) tt)))
+        (tcp_alike s (open_query q.number q.client_query h.job c.ask (s.clock + 3000)) s.tcp_asks (c.goes).path)
         (record { actions = out; action = w.action; out_is = refl; alone = behind w.action w.out_is; sent = w.sent })
-        (later s.clock 3000 q.job h.job (more (subst IsAsking (sym e) tt)) (omega arith)) (ap (λ (x : State). x.generator) w.state, inr (s.asked, (c.goes).path, (c.goes).id))
-        (inl (q, h.stands, refl, (more (subst IsAsking (sym e) tt)).deadline))
-    by (Done chain last) e c = ends q h.stands is c.queries (ap (λ (x : State). x.opened) c.state) (inr (ended_reply s q.asker q.number _ h.stores first out new c behind)) (inl (ap (λ (x : State). x.generator) c.state))
-    by (Fail cause) e c = ends q h.stands is c.queries (ap (λ (x : State). x.opened) c.state) (inr (ended_reply s q.asker q.number _ h.stores first out new c behind)) (inl (ap (λ (x : State). x.generator) c.state))
+        (later s.clock 3000 q.job h.job (more (subst IsAsk (sym e) tt)) (omega arith)) (ap (λ (x : State). x.generator) w.state, inr (s.tcp_asks, (c.goes).path, (c.goes).id))
+        (inl (q, h.stands, refl, (more (subst IsAsk (sym e) tt)).deadline))
+    by (Done chain last) e c = ends q h.stands is c.queries (ap (λ (x : State). x.opened) c.state) (inr (ended_reply s q.client_query q.number _ h.stores first out new c behind)) (inl (ap (λ (x : State). x.generator) c.state))
+    by (Fail cause) e c = ends q h.stands is c.queries (ap (λ (x : State). x.opened) c.state) (inr (ended_reply s q.client_query q.number _ h.stores first out new c behind)) (inl (ap (λ (x : State). x.generator) c.state))
 
 -- ---- a client's query
 
-own_reply : (s : State) (event : Event) (served : Served) (who : Asker) (o : Outcome Plain) (stores : Stores) (out : List Action) (new : State) → served ≡ Own → Ends s who s.opened o stores out new
+own_reply : (s : State) (event : Event) (served : Served) (who : ClientQuery) (o : Outcome Plain) (stores : Stores) (out : List Action) (new : State) → served ≡ Own → Ends s who s.opened o stores out new
     → Fate s event served (Some out) new
 own_reply s event served who o stores out new is h = passes (inr is) gives h.queries (ap (λ (x : State). x.opened) h.state) (inl (ap (λ (x : State). x.generator) h.state))
   where
@@ -181,31 +181,31 @@ own_reply s event served who o stores out new is h = passes (inr is) gives h.que
     gives actions e = let same : actions ≡ h.action ∷ [] = let f = h.out_is in cc in
         subst (λ (v : Served). GivesOne event v actions) (sym is) (inr (h.action, reply_is who o h.action h.reply, same))
 
-opened_fate : (s : State) (event : Event) (served : Served) (who : Asker) (out : List Action) (new : State) → IsComing event → Resolves s who served out new → Fate s event served (Some out) new
+opened_fate : (s : State) (event : Event) (served : Served) (who : ClientQuery) (out : List Action) (new : State) → IsComing event → Resolves s who served out new → Fate s event served (Some out) new
 opened_fate s event served who out new came r = by r.opened
   where
-    more : IsAsking r.next → OneMore s.clock (job_for s.clock who.query) r.job
+    more : IsAsk r.next → OneMore s.clock (job_for s.clock who.query) r.job
     more asking = call_asks (s.site).home s.clock Start (job_for s.clock who.query) s.stores r.next r.job r.stores r.advances asking
 
-    over : (next : Next) → (IsAsking next → ⊥) → served ≡ Own → Comes s who s.opened s.opened next r.job r.stores out new → Fate s event served (Some out) new
-    over (Ask server n t) none is c = absurd (none tt)
+    over : (next : Next) → (IsAsk next → ⊥) → served ≡ Own → Comes s who s.opened s.opened next r.job r.stores out new → Fate s event served (Some out) new
+    over (AskUdp server n t) none is c = absurd (none tt)
     over (AskTcp server n t) none is c = absurd (none tt)
     over (Done chain last) none is c = own_reply s event served who _ r.stores out new is c
     over (Fail cause) none is c = own_reply s event served who _ r.stores out new is c
 
-    new_one : (next : Next) → r.next ≡ next → IsAsking next → served ≡ Query s.opened → Comes s who s.opened (s.opened + 1) next r.job r.stores out new → Fate s event served (Some out) new
-    new_one (Ask server n t) e asking is c =
+    new_one : (next : Next) → r.next ≡ next → IsAsk next → served ≡ OpenQuery s.opened → Comes s who s.opened (s.opened + 1) next r.job r.stores out new → Fate s event served (Some out) new
+    new_one (AskUdp server n t) e asking is c =
         let w = c.waits in
-        waits (open_query s.opened who r.job c.ask (s.clock + wait_of_job r.job)) is w.queries (inr (refl, ap (λ (x : State). x.opened) w.state, (more (subst IsAsking (sym e) asking)).asks)) (udp_alike s (open_query s.opened who r.job c.ask (s.clock + wait_of_job r.job)) c.goes)
+        waits (open_query s.opened who r.job c.ask (s.clock + wait_of_job r.job)) is w.queries (inr (refl, ap (λ (x : State). x.opened) w.state, (more (subst IsAsk (sym e) asking)).asks)) (udp_alike s (open_query s.opened who r.job c.ask (s.clock + wait_of_job r.job)) c.goes)
         (record { actions = out; action = w.action; out_is = refl; alone = inl w.out_is; sent = w.sent })
-        (later s.clock (wait_of_job r.job) (job_for s.clock who.query) r.job (more (subst IsAsking (sym e) asking)) (some_wait_in (r.job).searches)) (ap (λ (x : State). x.generator) w.state, inl ((c.goes).sock, (c.goes).sock_is, (c.goes).path, (c.goes).id))
-        (inr (came, (more (subst IsAsking (sym e) asking)).deadline))
+        (later s.clock (wait_of_job r.job) (job_for s.clock who.query) r.job (more (subst IsAsk (sym e) asking)) (some_wait_in (r.job).searches)) (ap (λ (x : State). x.generator) w.state, inl ((c.goes).sock, (c.goes).sock_is, (c.goes).path, (c.goes).id))
+        (inr (came, (more (subst IsAsk (sym e) asking)).deadline))
     new_one (AskTcp server n t) e asking is c =
         let w = c.waits in
-        waits (open_query s.opened who r.job c.ask (s.clock + 3000)) is w.queries (inr (refl, ap (λ (x : State). x.opened) w.state, (more (subst IsAsking (sym e) asking)).asks)) (tcp_alike s (open_query s.opened who r.job c.ask (s.clock + 3000)) s.asked (c.goes).path)
+        waits (open_query s.opened who r.job c.ask (s.clock + 3000)) is w.queries (inr (refl, ap (λ (x : State). x.opened) w.state, (more (subst IsAsk (sym e) asking)).asks)) (tcp_alike s (open_query s.opened who r.job c.ask (s.clock + 3000)) s.tcp_asks (c.goes).path)
         (record { actions = out; action = w.action; out_is = refl; alone = inl w.out_is; sent = w.sent })
-        (later s.clock 3000 (job_for s.clock who.query) r.job (more (subst IsAsking (sym e) asking)) (omega arith)) (ap (λ (x : State). x.generator) w.state, inr (s.asked, (c.goes).path, (c.goes).id))
-        (inr (came, (more (subst IsAsking (sym e) asking)).deadline))
+        (later s.clock 3000 (job_for s.clock who.query) r.job (more (subst IsAsk (sym e) asking)) (omega arith)) (ap (λ (x : State). x.generator) w.state, inr (s.tcp_asks, (c.goes).path, (c.goes).id))
+        (inr (came, (more (subst IsAsk (sym e) asking)).deadline))
     new_one (Done chain last) e asking is c = absurd asking
     new_one (Fail cause) e asking is c = absurd asking
 
@@ -219,20 +219,20 @@ own_gives event served out is h actions e =
     let same : out ≡ actions = cc in
     subst (λ (v : Served). GivesOne event v actions) (sym is) (subst (GivesOne event Own) same h)
 
-client_fate : (s : State) (now client : ℕ) (way : Via) (bytes : List ℕ) (served : Served) (out : List Action) (new : State) (asked : Asked Plain) → AreBelow s → IsAsked bytes asked
+client_fate : (s : State) (now client : ℕ) (way : Via) (bytes : List ℕ) (served : Served) (out : List Action) (new : State) (asked : Request Plain) → AreBelow s → IsRequest bytes asked
     → IsHandled s client way asked served out new → Fate s (Client now client way bytes) served (Some out) new
-client_fate s now client way bytes served out new heard.Drop below reads (is, none, same) =
+client_fate s now client way bytes served out new request.Drop below reads (is, none, same) =
     passes (inr is) (own_gives (Client now client way bytes) served out is (inl (reads, none))) (unchanged s new below same) (ap (λ (x : State). x.opened) same) (inl (ap (λ (x : State). x.generator) same))
-client_fate s now client way bytes served out new (heard.Refuse refusal start echo) below reads (is, (action, refuses, only), same) =
+client_fate s now client way bytes served out new (request.Refuse refusal start echo) below reads (is, (action, refuses, only), same) =
     passes (inr is) (own_gives (Client now client way bytes) served out is (inr (action, ap is_reply refuses.2, only))) (unchanged s new below same) (ap (λ (x : State). x.opened) same) (inl (ap (λ (x : State). x.generator) same))
-client_fate s now client way bytes served out new (heard.Query q) below reads (inl (rd, h)) =
+client_fate s now client way bytes served out new (request.Query q) below reads (inl (rd, h)) =
     passes (inr h.served_is) (own_gives (Client now client way bytes) served out h.served_is (inr (h.action, reply_is _ h.result h.action h.reply, h.out_is))) (unchanged s new below h.state)
     (ap (λ (x : State). x.opened) h.state) (inl (ap (λ (x : State). x.generator) h.state))
-client_fate s now client way bytes served out new (heard.Query q) below reads (inr (rd, h)) = opened_fate s (Client now client way bytes) served (record { client = client; way = way; query = q }) out new (now, record { client = client; way = way; query = q }, bytes, refl, reads) h
+client_fate s now client way bytes served out new (request.Query q) below reads (inr (rd, h)) = opened_fate s (Client now client way bytes) served (record { client = client; way = way; query = q }) out new (now, record { client = client; way = way; query = q }, bytes, refl, reads) h
 
 -- ---- other events
 
-hears_fate : (s : State) (event : Event) (served : Served) (first out : List Action) (new : State) → Hears s event served first new → IsBehind first out → Fate s event served (Some out) new
+hears_fate : (s : State) (event : Event) (served : Served) (first out : List Action) (new : State) → ServesOpen s event served first new → IsBehind first out → Fate s event served (Some out) new
 hears_fate s event served first out new h behind = serves_fate s event served h.query h.input first out new h.served_is h.serves behind
 
 left_own : (s : State) (event : Event) (served : Served) (P : Stores → Type 0) (new : State) → served ≡ Own → IsLeft s s.opened P new → Fate s event served None new
@@ -242,14 +242,14 @@ left_own s event served P new is h = passes (inr is) (λ actions e. absurd (cc))
     left_word (inl e) = inl e
     left_word (inr e) = inr (refl, e)
 
-left_open : (s : State) (event : Event) (served : Served) (q : Open) (P : Stores → Type 0) (new : State) → Contains s.queries q → served ≡ Query q.number → IsLeft s q.number P new → Fate s event served None new
+left_open : (s : State) (event : Event) (served : Served) (q : Open) (P : Stores → Type 0) (new : State) → Contains s.queries q → served ≡ OpenQuery q.number → IsLeft s q.number P new → Fate s event served None new
 left_open s event served q P new there is h = ends q there is h.queries (ap (λ (x : State). x.opened) h.state) (inl refl) (left_word h.generator)
   where
     left_word : (new.generator ≡ s.generator) ⊎ (new.generator ≡ word_taken s.generator) → KeepsWords s None new
     left_word (inl e) = inl e
     left_word (inr e) = inr (refl, e)
 
-either_fate : (s : State) (event : Event) (served : Served) (out : List Action) (new : State) → AreBelow s → IsIgnored s event served out new ⊎ Hears s event served out new → Fate s event served (Some out) new
+either_fate : (s : State) (event : Event) (served : Served) (out : List Action) (new : State) → AreBelow s → IsIgnored s event served out new ⊎ ServesOpen s event served out new → Fate s event served (Some out) new
 either_fate s event served out new below (inl h) = ignored_fate s event served out new below h
 either_fate s event served out new below (inr h) = hears_fate s event served out out new h (alone_behind out)
 

@@ -12,7 +12,7 @@ use Rattle.retry.specs.Penalties.{answered, AreAtMost}
 use Rattle.retry.proofs.Steps.{level_low, answered_low}
 use Rattle.referral.specs.Cuts.{Cut}
 use Rattle.frames.specs.Frames.{Frame, opened, taken_addresses}
-use Rattle.resolution.specs.Jobs.{Home, Stores, level_of, with_answer, with_told, with_frame, fails_now, next_server, Taken, received_link, is_dead, AreFresh, IsEnding, IsCutOf, Search, Job, Next, Ask, Done, Fail, Take, Go, Point}
+use Rattle.resolution.specs.Jobs.{Home, Stores, level_of, with_answer, with_told, with_frame, fails_now, next_server, Taken, received_link, is_dead, AreFresh, IsEnding, IsCutOf, Search, Job, Next, AskUdp, Done, Fail, Take, Go, Point}
 use Rattle.resolution.specs.Rules.{Rule, takes, asks, follows, restarts, skips, hears, descends, gives_up, Rules, IsDue, IsDueAgain, Leaves, sends, sends_again, refuses, spent, nowhere, too_long, done, IsReferred}
 use Rattle.laws.specs.Calls.{GoesOut, ReferralIsFollowed, AnswerIsUsed, HasLink, AliasStays}
 use Rattle.resolution.proofs.Falls.{found_fresh}
@@ -24,9 +24,9 @@ use Rattle.laws.proofs.Calls.{no_rule, goes_alike, asks_first, heard}
 -- A frame that was opened for a search is asked where it has an address.
 module _ (home : Home) (now : ℕ) (p last : Point) (old : Job) (s : Search) (rest : List Search) (f : Frame) (count : ℕ) (next : Next) (new : Job) (after : Stores)
     (task : p.task ≡ Go) (job : p.job ≡ record old { searches = with_frame s f ∷ rest }) (rules : Rules home now count p last) (leaves : Leaves home now last next new after) where
-  pub opened_asks : (d : Addr) → next_server now after.failures (with_frame s f) ≡ Some d → GoesOut now old (Ask d s.name s.kind) next
+  pub opened_asks : (d : Addr) → next_server now after.failures (with_frame s f) ≡ Some d → GoesOut now old (AskUdp d s.name s.kind) next
   opened_asks d due =
-      goes_alike now p.job old (Ask d s.name s.kind) next (ap (λ (j : Job). j.deadline) job) (ap (λ (j : Job). j.asks) job)
+      goes_alike now p.job old (AskUdp d s.name s.kind) next (ap (λ (j : Job). j.deadline) job) (ap (λ (j : Job). j.asks) job)
       (asks_first home now p (with_frame s f) rest d (ap (λ (j : Job). j.searches) job) task count last next new after rules leaves due)
 
 low_after : (stores : Stores) (server a : Addr) → AreAtMost 8 stores.penalties → level_of (with_answer stores server) a ≤ 8
@@ -38,21 +38,21 @@ referral_is_followed home now input old stores next new after s rest server at n
   where
     by : IsReferred now s rest at ns glue ttl old (with_told now s server told.message stores) call.first
         → (c : Cut) × IsCutOf at ns glue c
-        × ((d : Addr) → next_server now after.failures (with_frame s (opened (level_of (with_answer stores server)) (s.frame).nesting c)) ≡ Some d → Contains (taken_addresses c) d × GoesOut now old (Ask d s.name s.kind) next)
+        × ((d : Addr) → next_server now after.failures (with_frame s (opened (level_of (with_answer stores server)) (s.frame).nesting c)) ≡ Some d → Contains (taken_addresses c) d × GoesOut now old (AskUdp d s.name s.kind) next)
         × (AreAtMost 8 stores.penalties → (b : Addr) → Contains (taken_addresses c) b → fails_now now after.failures s b ≡ false
-        → (d : Addr) × Contains (taken_addresses c) d × GoesOut now old (Ask d s.name s.kind) next)
+        → (d : Addr) × Contains (taken_addresses c) d × GoesOut now old (AskUdp d s.name s.kind) next)
     by is = (is.cut, is.is_cut, asked, some)
       where
         level : Addr → ℕ
         level = level_of (with_answer stores server)
 
-        asked : (d : Addr) → next_server now after.failures (with_frame s (opened level (s.frame).nesting is.cut)) ≡ Some d → Contains (taken_addresses is.cut) d × GoesOut now old (Ask d s.name s.kind) next
+        asked : (d : Addr) → next_server now after.failures (with_frame s (opened level (s.frame).nesting is.cut)) ≡ Some d → Contains (taken_addresses is.cut) d × GoesOut now old (AskUdp d s.name s.kind) next
         asked d due = (
           next_in level (fails_now now after.failures s) (taken_addresses is.cut) d due,
           opened_asks home now call.first call.last old s rest (opened level (s.frame).nesting is.cut) call.count next new after is.task is.job call.rules call.leaves d due,
         )
 
-        some : AreAtMost 8 stores.penalties → (b : Addr) → Contains (taken_addresses is.cut) b → fails_now now after.failures s b ≡ false → (d : Addr) × Contains (taken_addresses is.cut) d × GoesOut now old (Ask d s.name s.kind) next
+        some : AreAtMost 8 stores.penalties → (b : Addr) → Contains (taken_addresses is.cut) b → fails_now now after.failures s b ≡ false → (d : Addr) × Contains (taken_addresses is.cut) d × GoesOut now old (AskUdp d s.name s.kind) next
         some low b c free = let (d, due) = some_next level (fails_now now after.failures s) (taken_addresses is.cut) b c (low_after stores server b low) free in (d, (asked d due).0, (asked d due).1)
 
 -- ---- answers

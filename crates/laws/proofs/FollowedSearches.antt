@@ -5,17 +5,17 @@ use Rattle.dname.specs.Labels.{Name}
 use Rattle.rdata.specs.declared.addr.Addr.{Addr}
 use Rattle.zone.specs.Links.{Link}
 use Rattle.wire.specs.declared.via.Via.{Via}
-use Rattle.front.specs.declared.queries.Asked.{Asked}
-use Rattle.front.specs.declared.queries.Asked.TheVariants as heard
+use Rattle.front.specs.declared.queries.Request.{Request}
+use Rattle.front.specs.declared.queries.Request.TheVariants as request
 use Rattle.classify.specs.Classes as class
 use Rattle.classify.specs.Classes.{class_of}
 use Rattle.frames.specs.Frames.{FailedName, opened}
-use Rattle.resolution.specs.Jobs.{Home, Stores, level_of, with_told, with_frame, given, Search, Job, Input, Start, Told, TimedOut, TcpFailed, Next, Ask, AskTcp, Done, Fail, Task, Seek, Take, Go, Again, Point}
-use Rattle.resolution.specs.Rules.{HearsOf, turned, Rule, takes, asks, follows, restarts, skips, hears, descends, gives_up, Rules, IsAnswered, ByClass, Enters, Leaves, sends, sends_again, refuses, spent, nowhere, too_long, done, Advances}
+use Rattle.resolution.specs.Jobs.{Home, Stores, level_of, with_told, with_frame, given, Search, Job, Input, Start, Told, TimedOut, TcpFailed, Next, AskUdp, AskTcp, Done, Fail, Task, Seek, Take, Go, Again, Point}
+use Rattle.resolution.specs.Rules.{UsesServerAddress, turned, Rule, takes, asks, follows, restarts, skips, hears, descends, gives_up, Rules, IsAnswered, ByClass, Enters, Leaves, sends, sends_again, refuses, spent, nowhere, too_long, done, Advances}
 use Rattle.resolution.proofs.Passing.{passes_name}
-use Rattle.runs.specs.States.{Event, Client, Datagram, TcpReply, Tick, Action, Served, Turn, Plain, Asker, Asking, IsFor, Open, Site, State, job_for, moved}
+use Rattle.runs.specs.States.{Event, Client, Datagram, TcpReply, Tick, Action, Served, Turn, Plain, ClientQuery, Ask, IsFor, Open, Site, State, job_for, moved}
 use Rattle.runs.specs.States as event
-use Rattle.runs.specs.Steps.{Comes, IsOpened, at_once, crowded, admitted, IsHandled, Hears, IsTurn}
+use Rattle.runs.specs.Steps.{Comes, IsOpened, at_once, crowded, admitted, IsHandled, ServesOpen, IsTurn}
 use Rattle.runs.specs.Runs.{Run}
 use Rattle.laws.specs.Searches.{AskIsOfSearch}
 
@@ -36,7 +36,7 @@ IsRight (Take l) j = j.searches ≡ []
 IsRight Go j = IsOutermost j.name j.kind j.searches
 IsRight (Again server) j = IsOutermost j.name j.kind j.searches
 
-heard_name : (stores : Stores) (n : Name) (l : Link) (before : Search) (failed : List FailedName) (after : Search) (marks : List FailedName) → HearsOf stores n l before failed after marks
+heard_name : (stores : Stores) (n : Name) (l : Link) (before : Search) (failed : List FailedName) (after : Search) (marks : List FailedName) → UsesServerAddress stores n l before failed after marks
     → (after.name ≡ before.name) × (after.kind ≡ before.kind)
 heard_name stores n l before failed after marks h = elim h.is [
   | inl x ↦ (ap (λ (s : Search). s.name) x.4, ap (λ (s : Search). s.kind) x.4)
@@ -80,7 +80,7 @@ pub record IsFound (n : Name) (t : ℕ) (new : Job) : Type 0 where
   pub outermost : IsOutermost new.name new.kind (sought ∷ others)
 
 abbrev pub IsAskOf : Next → Job → Type 0
-IsAskOf (Ask server n t) new = IsFound n t new
+IsAskOf (AskUdp server n t) new = IsFound n t new
 IsAskOf (AskTcp server n t) new = IsFound n t new
 IsAskOf (Done chain last) new = Unit {0}
 IsAskOf (Fail c) new = Unit {0}
@@ -146,12 +146,12 @@ ready_of q h = let f = h.found in subst (IsOutermost (q.job).name (q.job).kind) 
 abbrev AllSought : List Open → Type 0
 AllSought qs = (q : Open) → Contains qs q → IsSought q
 
-asked_found : (server : Addr) (n : Name) (t : ℕ) (ask : Asking) (job : Job) → IsFor server n t ask → IsFound n t job → IsFound ask.name ask.kind job
+asked_found : (server : Addr) (n : Name) (t : ℕ) (ask : Ask) (job : Job) → IsFor server n t ask → IsFound n t job → IsFound ask.name ask.kind job
 asked_found server n t ask job for f = record { sought = f.sought; others = f.others; searches = f.searches; name = f.name ∙ sym for.name; kind = f.kind ∙ sym for.kind; outermost = f.outermost }
 
-comes_sought : (s : State) (who : Asker) (k opened : ℕ) (next : Next) (job : Job) (stores : Stores) (out : List Action) (new : State) → AllSought s.queries → IsAskOf next job → Comes s who k opened next job stores out new
+comes_sought : (s : State) (who : ClientQuery) (k opened : ℕ) (next : Next) (job : Job) (stores : Stores) (out : List Action) (new : State) → AllSought s.queries → IsAskOf next job → Comes s who k opened next job stores out new
     → AllSought new.queries
-comes_sought s who k opened (Ask server n t) job stores out new all is h q c = elim (((h.waits).queries).only q c) [
+comes_sought s who k opened (AskUdp server n t) job stores out new all is h q c = elim (((h.waits).queries).only q c) [
   | inl e ↦ subst IsSought (sym e) (record { found = asked_found server n t h.ask job h.for is })
   | inr d ↦ all q d.0
 ]
@@ -165,11 +165,11 @@ comes_sought s who k opened (Fail x) job stores out new all is h q c = all q ((h
 same_sought : (s new : State) → AllSought s.queries → new ≡ s → AllSought new.queries
 same_sought s new all e = subst (λ (x : State). AllSought x.queries) (sym e) all
 
-handled_sought : (s : State) (client : ℕ) (way : Via) (asked : Asked Plain) (served : Served) (out : List Action) (new : State) → AllSought s.queries → IsHandled s client way asked served out new → AllSought new.queries
-handled_sought s client way heard.Drop served out new all h = same_sought s new all h.2
-handled_sought s client way (heard.Refuse refusal start echo) served out new all h = same_sought s new all h.2
-handled_sought s client way (heard.Query q) served out new all (inl (rd, h)) = same_sought s new all h.state
-handled_sought s client way (heard.Query q) served out new all (inr (rd, h)) = by h.opened
+handled_sought : (s : State) (client : ℕ) (way : Via) (asked : Request Plain) (served : Served) (out : List Action) (new : State) → AllSought s.queries → IsHandled s client way asked served out new → AllSought new.queries
+handled_sought s client way request.Drop served out new all h = same_sought s new all h.2
+handled_sought s client way (request.Refuse refusal start echo) served out new all h = same_sought s new all h.2
+handled_sought s client way (request.Query q) served out new all (inl (rd, h)) = same_sought s new all h.state
+handled_sought s client way (request.Query q) served out new all (inr (rd, h)) = by h.opened
   where
     is : IsAskOf h.next h.job
     is = call_right (s.site).home s.clock Start (job_for s.clock q) s.stores h.next h.job h.stores refl h.advances
@@ -185,7 +185,7 @@ ready_input s e q (Told via server m) h other = h
 ready_input s e q (TimedOut server) h other = h
 ready_input s e q (TcpFailed server) h other = h
 
-hears_sought : (s : State) (e : Event) (served : Served) (out : List Action) (new : State) → AllSought s.queries → (h : Hears s e served out new) → (h.input ≡ Start → ⊥) → AllSought new.queries
+hears_sought : (s : State) (e : Event) (served : Served) (out : List Action) (new : State) → AllSought s.queries → (h : ServesOpen s e served out new) → (h.input ≡ Start → ⊥) → AllSought new.queries
 hears_sought s e served out new all h other =
     let v = h.serves in
     comes_sought s _ _ _ v.next v.job v.stores out new all

@@ -3,16 +3,16 @@ use Rattle.std.proofs.Common.{◌≡◌, ℕ, ◌⊎◌, inl, inr, Option, Some,
 use Rattle.rdata.specs.declared.addr.Addr.{Addr}
 use Rattle.zone.specs.Links.{Link}
 use Rattle.wire.specs.declared.via.Via.{Via}
-use Rattle.front.specs.declared.queries.Asked.{Asked}
-use Rattle.front.specs.declared.queries.Asked.TheVariants as heard
+use Rattle.front.specs.declared.queries.Request.{Request}
+use Rattle.front.specs.declared.queries.Request.TheVariants as request
 use Rattle.classify.specs.Classes as class
 use Rattle.classify.specs.Classes.{class_of}
 use Rattle.retry.specs.Penalties.{AreAtMost}
 use Rattle.retry.proofs.Steps.{timed_out_low, answered_low}
-use Rattle.resolution.specs.Jobs.{Stores, with_answer, with_timeout, with_told, Search, Job, Input, Start, Told, TimedOut, TcpFailed, Next, Ask, AskTcp, Done, Fail, Point}
+use Rattle.resolution.specs.Jobs.{Stores, with_answer, with_timeout, with_told, Search, Job, Input, Start, Told, TimedOut, TcpFailed, Next, AskUdp, AskTcp, Done, Fail, Point}
 use Rattle.resolution.specs.Rules.{IsAnswered, ByClass, Enters, Advances, Stops}
-use Rattle.runs.specs.States.{Event, Client, Datagram, TcpReply, TcpFailed, Tick, Action, Served, Turn, Plain, Asker, Site, State, moved}
-use Rattle.runs.specs.Steps.{Comes, IsOpened, at_once, crowded, admitted, IsHandled, IsIgnored, Hears, IsLeft, IsTurn}
+use Rattle.runs.specs.States.{Event, Client, Datagram, TcpReply, TcpFailed, Tick, Action, Served, Turn, Plain, ClientQuery, Site, State, moved}
+use Rattle.runs.specs.Steps.{Comes, IsOpened, at_once, crowded, admitted, IsHandled, IsIgnored, ServesOpen, IsLeft, IsTurn}
 use Rattle.runs.specs.Runs.{Run}
 use Rattle.laws.proofs.Opened.{starts_rules}
 use Rattle.laws.proofs.Skipped.{same_after}
@@ -26,8 +26,8 @@ Changes s after =
     ⊎ (((input : Input) × (j : Job) × (next : Next) × (new : Job) × Advances (s.site).home s.clock input j s.stores next new after)
     ⊎ ((input : Input) × (j : Job) × Stops input s.clock j s.stores after))
 
-pub comes_stores : (s : State) (who : Asker) (k opened : ℕ) (next : Next) (job : Job) (stores : Stores) (out : List Action) (new : State) → Comes s who k opened next job stores out new → new.stores ≡ stores
-comes_stores s who k opened (Ask server n t) job stores out new h = ap (λ (x : State). x.stores) (h.waits).state
+pub comes_stores : (s : State) (who : ClientQuery) (k opened : ℕ) (next : Next) (job : Job) (stores : Stores) (out : List Action) (new : State) → Comes s who k opened next job stores out new → new.stores ≡ stores
+comes_stores s who k opened (AskUdp server n t) job stores out new h = ap (λ (x : State). x.stores) (h.waits).state
 comes_stores s who k opened (AskTcp server n t) job stores out new h = ap (λ (x : State). x.stores) (h.waits).state
 comes_stores s who k opened (Done chain last) job stores out new h = ap (λ (x : State). x.stores) h.state
 comes_stores s who k opened (Fail c) job stores out new h = ap (λ (x : State). x.stores) h.state
@@ -35,11 +35,11 @@ comes_stores s who k opened (Fail c) job stores out new h = ap (λ (x : State). 
 same : (s new : State) → new ≡ s → Changes s new.stores
 same s new e = inl (ap (λ (x : State). x.stores) e)
 
-handled_stores : (s : State) (client : ℕ) (way : Via) (asked : Asked Plain) (served : Served) (out : List Action) (new : State) → IsHandled s client way asked served out new → Changes s new.stores
-handled_stores s client way heard.Drop served out new h = same s new h.2
-handled_stores s client way (heard.Refuse refusal start echo) served out new h = same s new h.2
-handled_stores s client way (heard.Query q) served out new (inl (rd, h)) = same s new h.state
-handled_stores s client way (heard.Query q) served out new (inr (rd, h)) =
+handled_stores : (s : State) (client : ℕ) (way : Via) (asked : Request Plain) (served : Served) (out : List Action) (new : State) → IsHandled s client way asked served out new → Changes s new.stores
+handled_stores s client way request.Drop served out new h = same s new h.2
+handled_stores s client way (request.Refuse refusal start echo) served out new h = same s new h.2
+handled_stores s client way (request.Query q) served out new (inl (rd, h)) = same s new h.state
+handled_stores s client way (request.Query q) served out new (inr (rd, h)) =
     subst (Changes s) (sym (by h.opened)) (inr (inl (Start, _, h.next, h.job, h.advances)))
   where
     by : IsOpened s (record { client = client; way = way; query = q }) h.next h.job h.stores served out new → new.stores ≡ h.stores
@@ -47,12 +47,12 @@ handled_stores s client way (heard.Query q) served out new (inr (rd, h)) =
     by (crowded is asks many e) = ap (λ (x : State). x.stores) e.state
     by (admitted is asks few comes) = comes_stores s _ _ _ h.next h.job h.stores out new comes
 
-hears_stores : (s : State) (event : Event) (served : Served) (out : List Action) (new : State) → Hears s event served out new → Changes s new.stores
+hears_stores : (s : State) (event : Event) (served : Served) (out : List Action) (new : State) → ServesOpen s event served out new → Changes s new.stores
 hears_stores s event served out new h =
     let v = h.serves in
     subst (Changes s) (sym (comes_stores s _ _ _ v.next v.job v.stores out new v.comes)) (inr (inl (h.input, (h.query).job, v.next, v.job, v.advances)))
 
-either_stores : (s : State) (event : Event) (served : Served) (out : List Action) (new : State) → IsIgnored s event served out new ⊎ Hears s event served out new → Changes s new.stores
+either_stores : (s : State) (event : Event) (served : Served) (out : List Action) (new : State) → IsIgnored s event served out new ⊎ ServesOpen s event served out new → Changes s new.stores
 either_stores s event served out new (inl h) = same s new h.state
 either_stores s event served out new (inr h) = hears_stores s event served out new h
 

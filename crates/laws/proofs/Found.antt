@@ -8,9 +8,9 @@ use Rattle.zone.specs.Links.{Link, Found, Alias, NoData, NxDomain}
 use Rattle.zone.specs.Look.{Linked}
 use Rattle.authority.specs.Catalogs.{looked}
 use Rattle.wire.specs.declared.via.Via.{Via}
-use Rattle.layout.specs.Messages.{Message}
-use Rattle.front.specs.declared.queries.Asked.{Asked}
-use Rattle.front.specs.declared.queries.Asked.TheVariants as heard
+use Rattle.message_grammar.specs.Messages.{Message}
+use Rattle.front.specs.declared.queries.Request.{Request}
+use Rattle.front.specs.declared.queries.Request.TheVariants as request
 use Rattle.classify.specs.Classes as class
 use Rattle.classify.specs.Classes.{class_of}
 use Rattle.classify.specs.Lifetimes.{received}
@@ -22,11 +22,11 @@ use Rattle.resolution.specs.Jobs.{Home, Stores, with_told, Search, Taken, local_
 use Rattle.resolution.specs.Rules.{Says, asked_of, above_by, Hits, Finds, Rule, takes, asks, follows, restarts, skips, hears, descends, gives_up, Rules, IsAnswered, ByClass, Enters, Advances}
 use Rattle.runs.specs.States.{Event, Client, Datagram, TcpReply, Tick, Action, Served, Turn, Plain, job_for, Site, State, moved as moved_to}
 use Rattle.runs.specs.States as event
-use Rattle.runs.specs.Steps.{IsOpened, at_once, crowded, admitted, IsIgnored, Hears, IsHandled, IsTicked, IsTurn, Step}
+use Rattle.runs.specs.Steps.{IsOpened, at_once, crowded, admitted, IsIgnored, ServesOpen, IsHandled, IsTicked, IsTurn, Step}
 use Rattle.runs.specs.Runs.{Run}
 use Rattle.laws.proofs.Skipped.{same_after}
 use Rattle.laws.proofs.FollowedStores.{comes_stores}
-use Rattle.laws.specs.Uses.{Accepted, AreHits, took, is_kept}
+use Rattle.laws.specs.Uses.{KeptAnswer, AreHits, took, is_kept}
 use Rattle.laws.specs.Looks.{Looks, none, hits_by, rule_hits, rules_hits, accepted_by, enters_accepted, call_looks, handled_looks, hears_looks, either_looks, ticked_looks, turn_looks, step_looks, IsKeptSince, KeptIsFound}
 use Rattle.laws.proofs.KeptEntries.{looked_in, lone_is_lent}
 use Rattle.laws.proofs.Near.{IsNear, near_found, near_kept, near_other, near_hits}
@@ -36,7 +36,7 @@ Entries = List (Key × Hit)
 
 -- ---- look-ups, one after another
 
-hits_both : (now : ℕ) (xs ys : List cache.Asked) (a b c : Entries) → AreHits now xs a b → AreHits now ys b c → AreHits now (xs ++ ys) a c
+hits_both : (now : ℕ) (xs ys : List cache.Question) (a b c : Entries) → AreHits now xs a b → AreHits now ys b c → AreHits now (xs ++ ys) a c
 hits_both now [] ys a b c g h = subst (λ (es : Entries). AreHits now ys es c) g h
 hits_both now (x ∷ xs) ys a b c (some, g) h = (some, hits_both now xs ys (moved (lent x now a) a) b c g h)
 
@@ -45,7 +45,7 @@ pub record IsUsed (now : ℕ) (looks : Looks) (old new : Stores) : Type 0 where
   pub cache : AreHits now looks.hits (took old.cache_cap looks.accepted old.cache) new.cache
   pub cap : new.cache_cap ≡ old.cache_cap
 
-pub record IsLooked (now : ℕ) (hits : List cache.Asked) (old new : Stores) : Type 0 where
+pub record IsLooked (now : ℕ) (hits : List cache.Question) (old new : Stores) : Type 0 where
   pub cache : AreHits now hits old.cache new.cache
   pub cap : new.cache_cap ≡ old.cache_cap
 
@@ -92,7 +92,7 @@ module _ (home : Home) (now : ℕ) where
 
 -- ---- what is kept
 
-pub record IsTaken (accepted : Option Accepted) (old new : Stores) : Type 0 where
+pub record IsTaken (accepted : Option KeptAnswer) (old new : Stores) : Type 0 where
   pub cache : new.cache ≡ took old.cache_cap accepted old.cache
   pub cap : new.cache_cap ≡ old.cache_cap
 
@@ -124,7 +124,7 @@ call_used home now input old stores next new after call =
     let kept = enters_taken now input old stores call.first call.enters in
     let looked = rules_looked home now call.count call.first call.last call.rules in
     let left = same_after home now call.last next new after call.leaves in
-    let hits : List cache.Asked = rules_hits home now call.count call.first call.last call.rules in
+    let hits : List cache.Question = rules_hits home now call.count call.first call.last call.rules in
     record {
       cache = subst (λ (es : Entries). AreHits now hits es after.cache) kept.cache
           (subst (λ (x : Stores). AreHits now hits ((call.first).stores).cache x.cache) (sym left) looked.cache);
@@ -139,12 +139,12 @@ same_used s new e = record { cache = ap (λ (x : State). (x.stores).cache) e; ca
 used_by : (now : ℕ) (looks : Looks) (old new stores : Stores) → new ≡ stores → IsUsed now looks old stores → IsUsed now looks old new
 used_by now looks old new stores e h = subst (IsUsed now looks old) (sym e) h
 
-handled_used : (s : State) (client : ℕ) (way : Via) (asked : Asked Plain) (served : Served) (out : List Action) (new : State) → (h : IsHandled s client way asked served out new)
+handled_used : (s : State) (client : ℕ) (way : Via) (asked : Request Plain) (served : Served) (out : List Action) (new : State) → (h : IsHandled s client way asked served out new)
     → IsUsed s.clock (handled_looks s client way asked served out new h) s.stores new.stores
-handled_used s client way heard.Drop served out new h = same_used s new h.2
-handled_used s client way (heard.Refuse refusal start echo) served out new h = same_used s new h.2
-handled_used s client way (heard.Query q) served out new (inl (rd, h)) = same_used s new h.state
-handled_used s client way (heard.Query q) served out new (inr (rd, h)) =
+handled_used s client way request.Drop served out new h = same_used s new h.2
+handled_used s client way (request.Refuse refusal start echo) served out new h = same_used s new h.2
+handled_used s client way (request.Query q) served out new (inl (rd, h)) = same_used s new h.state
+handled_used s client way (request.Query q) served out new (inr (rd, h)) =
     used_by s.clock _ s.stores new.stores h.stores (by h.opened) (call_used _ _ _ _ _ _ _ _ h.advances)
   where
     by : IsOpened s (record { client = client; way = way; query = q }) h.next h.job h.stores served out new → new.stores ≡ h.stores
@@ -152,11 +152,11 @@ handled_used s client way (heard.Query q) served out new (inr (rd, h)) =
     by (crowded is asking many e) = ap (λ (x : State). x.stores) e.state
     by (admitted is asking few comes) = comes_stores s _ _ _ h.next h.job h.stores out new comes
 
-hears_used : (s : State) (e : Event) (served : Served) (out : List Action) (new : State) → (h : Hears s e served out new) → IsUsed s.clock (hears_looks s e served out new h) s.stores new.stores
+hears_used : (s : State) (e : Event) (served : Served) (out : List Action) (new : State) → (h : ServesOpen s e served out new) → IsUsed s.clock (hears_looks s e served out new h) s.stores new.stores
 hears_used s e served out new h = let v = h.serves in
     used_by s.clock _ s.stores new.stores v.stores (comes_stores s _ _ _ v.next v.job v.stores out new v.comes) (call_used _ _ _ _ _ _ _ _ v.advances)
 
-either_used : (s : State) (e : Event) (served : Served) (out : List Action) (new : State) → (h : IsIgnored s e served out new ⊎ Hears s e served out new) → IsUsed s.clock (either_looks s e served out new h) s.stores new.stores
+either_used : (s : State) (e : Event) (served : Served) (out : List Action) (new : State) → (h : IsIgnored s e served out new ⊎ ServesOpen s e served out new) → IsUsed s.clock (either_looks s e served out new h) s.stores new.stores
 either_used s e served out new (inl h) = same_used s new h.state
 either_used s e served out new (inr h) = hears_used s e served out new h
 
@@ -175,37 +175,37 @@ turn_used s (Tick now) served (Some out) new fed h = ticked_used s now served ou
 
 -- ---- how far down a kept link goes
 
-abbrev key_of : Accepted → Key
+abbrev key_of : KeptAnswer → Key
 key_of a = key_for a.name a.kind (a.hit).link
 
-near_step : (now : ℕ) (a : Accepted) (n : ℕ) (looks : Looks) (old new : Stores) → IsUsed now looks old new → ((b : Accepted) → looks.accepted ≡ Some b → (b.name ≢ a.name) × (n < old.cache_cap))
+near_step : (now : ℕ) (a : KeptAnswer) (n : ℕ) (looks : Looks) (old new : Stores) → IsUsed now looks old new → ((b : KeptAnswer) → looks.accepted ≡ Some b → (b.name ≢ a.name) × (n < old.cache_cap))
     → IsNear n (key_of a) a.hit old.cache → IsNear (n + (is_kept looks.accepted + length looks.hits)) (key_of a) a.hit new.cache
 near_step now a n looks old new used other near = by looks.accepted refl
   where
-    by : (o : Option Accepted) → looks.accepted ≡ o → IsNear (n + (is_kept looks.accepted + length looks.hits)) (key_of a) a.hit new.cache
+    by : (o : Option KeptAnswer) → looks.accepted ≡ o → IsNear (n + (is_kept looks.accepted + length looks.hits)) (key_of a) a.hit new.cache
     by None e =
-        let hits : AreHits now looks.hits old.cache new.cache = subst (λ (o : Option Accepted). AreHits now looks.hits (took old.cache_cap o old.cache) new.cache) e used.cache in
+        let hits : AreHits now looks.hits old.cache new.cache = subst (λ (o : Option KeptAnswer). AreHits now looks.hits (took old.cache_cap o old.cache) new.cache) e used.cache in
         let (m, le, w) = near_hits now n (key_of a) a.hit looks.hits old.cache new.cache hits near in
         let count : is_kept looks.accepted ≡ 0 = ap is_kept e in
         (m, omega arith, w)
     by (Some b) e =
-        let hits : AreHits now looks.hits (took old.cache_cap (Some b) old.cache) new.cache = subst (λ (o : Option Accepted). AreHits now looks.hits (took old.cache_cap o old.cache) new.cache) e used.cache in
+        let hits : AreHits now looks.hits (took old.cache_cap (Some b) old.cache) new.cache = subst (λ (o : Option KeptAnswer). AreHits now looks.hits (took old.cache_cap o old.cache) new.cache) e used.cache in
         let kept = near_other old.cache_cap n (key_of a) a.hit b.name b.kind b.hit old.cache (other b e).0 (other b e).1 near in
         let (m, le, w) = near_hits now (suc n) (key_of a) a.hit looks.hits (took old.cache_cap (Some b) old.cache) new.cache hits kept in
         let count : is_kept looks.accepted ≡ 1 = ap is_kept e in
         (m, omega arith, w)
 
-near_first : (now : ℕ) (a : Accepted) (looks : Looks) (old new : Stores) → IsUsed now looks old new → looks.accepted ≡ Some a → (a.hit).ttl ≢ 0
+near_first : (now : ℕ) (a : KeptAnswer) (looks : Looks) (old new : Stores) → IsUsed now looks old new → looks.accepted ≡ Some a → (a.hit).ttl ≢ 0
     → IsNear (1 + length looks.hits) (key_of a) a.hit new.cache
 near_first now a looks old new used e some =
-    let hits : AreHits now looks.hits (took old.cache_cap (Some a) old.cache) new.cache = subst (λ (o : Option Accepted). AreHits now looks.hits (took old.cache_cap o old.cache) new.cache) e used.cache in
+    let hits : AreHits now looks.hits (took old.cache_cap (Some a) old.cache) new.cache = subst (λ (o : Option KeptAnswer). AreHits now looks.hits (took old.cache_cap o old.cache) new.cache) e used.cache in
     near_hits now 1 (key_of a) a.hit looks.hits (took old.cache_cap (Some a) old.cache) new.cache hits (near_kept old.cache_cap a.name a.kind a.hit old.cache some)
 
 step_used : (old : State) (t : Turn) (new : State) → t.out ≢ None → (step : Step old t.event t.served t.out new)
     → IsUsed (moved_to old t.event).clock (step_looks old t new step) old.stores new.stores
 step_used old t new fed step = turn_used (moved_to old t.event) t.event t.served t.out new fed step.turn
 
-pub near_since : (site : Site) (run : List Turn) (s : State) (legal : Run site run s) (a : Accepted) (n : ℕ) → IsKeptSince site a run s legal n → n < (s.stores).cache_cap → (a.hit).ttl ≢ 0
+pub near_since : (site : Site) (run : List Turn) (s : State) (legal : Run site run s) (a : KeptAnswer) (n : ℕ) → IsKeptSince site a run s legal n → n < (s.stores).cache_cap → (a.hit).ttl ≢ 0
     → IsNear (suc n) (key_of a) a.hit (s.stores).cache
 near_since site [] s legal a n h few some = absurd h
 near_since site (t ∷ past) s (old, legal, step) a n (fed, inl (is, count)) few some =
@@ -218,7 +218,7 @@ near_since site (t ∷ past) s (old, legal, step) a n (fed, inr (other, (k, sinc
     less : k < (old.stores).cache_cap
     less = let same = used.cap in omega arith
 
-    room : (b : Accepted) → (step_looks old t s step).accepted ≡ Some b → suc k < (old.stores).cache_cap
+    room : (b : KeptAnswer) → (step_looks old t s step).accepted ≡ Some b → suc k < (old.stores).cache_cap
     room b e = let one : is_kept (step_looks old t s step).accepted ≡ 1 = ap is_kept e in let same = used.cap in omega arith
 
     by : IsNear (suc k) (key_of a) a.hit (old.stores).cache → IsNear (suc n) (key_of a) a.hit (s.stores).cache
@@ -234,10 +234,10 @@ no_alias f q t via m (NxDomain soa) r e is = absurd (cc)
 no_alias f q t via m (Alias x) r e is = λ cname. no_alias_class f q via m x (ap (λ (u : ℕ). class_of f q u via m) (sym cname) ∙ e)
 
 -- What was accepted as an alias was asked for by another type.
-abbrev IsPlain : Option Accepted → Type 0
-IsPlain o = (a : Accepted) → o ≡ Some a → (r : Record) → (a.hit).link ≡ Alias r → a.kind ≢ cname_type
+abbrev IsPlain : Option KeptAnswer → Type 0
+IsPlain o = (a : KeptAnswer) → o ≡ Some a → (r : Record) → (a.hit).link ≡ Alias r → a.kind ≢ cname_type
 
-nothing_plain : (o : Option Accepted) → o ≡ None → IsPlain o
+nothing_plain : (o : Option KeptAnswer) → o ≡ None → IsPlain o
 nothing_plain o e a f r is = absurd (cc)
 
 enters_plain : (now : ℕ) (input : Input) (j : Job) (stores : Stores) (p : Point) → (h : Enters now input j stores p) → IsPlain (enters_accepted now input j stores p h)
@@ -248,24 +248,24 @@ enters_plain now (Told via server m) j stores p (inr (s, rest, top, h)) a f r is
     by : (c : class.Class) → class_of (s.frame).zone s.name s.kind via m ≡ c → IsPlain (accepted_by now s c)
     by (class.Answer l) e b g x was =
         let same : record { name = s.name; kind = s.kind; hit = hit_from l now } ≡ b = cc in
-        subst (λ (y : Accepted). y.kind ≢ cname_type) same (no_alias (s.frame).zone s.name s.kind via m l x e (ap (λ (y : Accepted). (y.hit).link) same ∙ was))
+        subst (λ (y : KeptAnswer). y.kind ≢ cname_type) same (no_alias (s.frame).zone s.name s.kind via m l x e (ap (λ (y : KeptAnswer). (y.hit).link) same ∙ was))
     by (class.Referral at ns glue ttl) e b g x was = nothing_plain None refl b g x was
     by class.Truncated e b g x was = nothing_plain None refl b g x was
     by (class.Failed y) e b g x was = nothing_plain None refl b g x was
 enters_plain now (TimedOut server) j stores p h a f r is = nothing_plain None refl a f r is
 enters_plain now (TcpFailed server) j stores p h a f r is = nothing_plain None refl a f r is
 
-handled_plain : (s : State) (client : ℕ) (way : Via) (asked : Asked Plain) (served : Served) (out : List Action) (new : State) → (h : IsHandled s client way asked served out new)
+handled_plain : (s : State) (client : ℕ) (way : Via) (asked : Request Plain) (served : Served) (out : List Action) (new : State) → (h : IsHandled s client way asked served out new)
     → IsPlain (handled_looks s client way asked served out new h).accepted
-handled_plain s client way heard.Drop served out new h = nothing_plain None refl
-handled_plain s client way (heard.Refuse refusal start echo) served out new h = nothing_plain None refl
-handled_plain s client way (heard.Query q) served out new (inl h) = nothing_plain None refl
-handled_plain s client way (heard.Query q) served out new (inr (rd, h)) = enters_plain s.clock Start (job_for s.clock q) s.stores ((h.advances).first) (h.advances).enters
+handled_plain s client way request.Drop served out new h = nothing_plain None refl
+handled_plain s client way (request.Refuse refusal start echo) served out new h = nothing_plain None refl
+handled_plain s client way (request.Query q) served out new (inl h) = nothing_plain None refl
+handled_plain s client way (request.Query q) served out new (inr (rd, h)) = enters_plain s.clock Start (job_for s.clock q) s.stores ((h.advances).first) (h.advances).enters
 
-hears_plain : (s : State) (e : Event) (served : Served) (out : List Action) (new : State) → (h : Hears s e served out new) → IsPlain (hears_looks s e served out new h).accepted
+hears_plain : (s : State) (e : Event) (served : Served) (out : List Action) (new : State) → (h : ServesOpen s e served out new) → IsPlain (hears_looks s e served out new h).accepted
 hears_plain s e served out new h = enters_plain s.clock h.input (h.query).job s.stores (((h.serves).advances).first) ((h.serves).advances).enters
 
-either_plain : (s : State) (e : Event) (served : Served) (out : List Action) (new : State) → (h : IsIgnored s e served out new ⊎ Hears s e served out new) → IsPlain (either_looks s e served out new h).accepted
+either_plain : (s : State) (e : Event) (served : Served) (out : List Action) (new : State) → (h : IsIgnored s e served out new ⊎ ServesOpen s e served out new) → IsPlain (either_looks s e served out new h).accepted
 either_plain s e served out new (inl h) = nothing_plain None refl
 either_plain s e served out new (inr h) = hears_plain s e served out new h
 
@@ -283,7 +283,7 @@ turn_plain s (Tick now) served (Some out) new (inl h) = nothing_plain None refl
 turn_plain s (Tick now) served (Some out) new (inr (first, inl h, followed)) = nothing_plain None refl
 turn_plain s (Tick now) served (Some out) new (inr (first, inr h, followed)) = hears_plain s (Tick now) served first new h
 
-plain_since : (site : Site) (run : List Turn) (s : State) (legal : Run site run s) (a : Accepted) (n : ℕ) → IsKeptSince site a run s legal n → (r : Record) → (a.hit).link ≡ Alias r → a.kind ≢ cname_type
+plain_since : (site : Site) (run : List Turn) (s : State) (legal : Run site run s) (a : KeptAnswer) (n : ℕ) → IsKeptSince site a run s legal n → (r : Record) → (a.hit).link ≡ Alias r → a.kind ≢ cname_type
 plain_since site [] s legal a n h r is = absurd h
 plain_since site (t ∷ past) s (old, legal, step) a n (fed, inl (taken, count)) r is = turn_plain (moved_to old t.event) t.event t.served t.out s step.turn a taken r is
 plain_since site (t ∷ past) s (old, legal, step) a n (fed, inr (other, (k, since, count))) r is = plain_since site past old legal a k since r is

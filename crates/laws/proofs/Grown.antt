@@ -10,9 +10,9 @@ use Rattle.frames.specs.Frames.{FailedName}
 use Rattle.resolution.specs.Jobs.{Home, Search}
 use Rattle.runs.specs.States.{Turn}
 use Rattle.runs.specs.Runs.{Earlier}
-use Rattle.laws.specs.Spent.{EndsBadly, Takes, IsFound, HasNoAddress, IsStart, IsOfNoUse, AreUsedUp, IsBeyond}
+use Rattle.laws.specs.Spent.{EndsBadly, LearnsLink, IsFound, HasNoAddress, MayStart, IsOfNoUse, AreUsedUp, IsBeyond}
 use Rattle.laws.proofs.TimelyLists.{wider_followed}
-use Rattle.laws.proofs.TimelySearches.{FailsOnce, FailsTwice, Stands, AreSettled, AreAsked, IsIdle, IsAsking, IsWaiting, AreAround, IsMarked, AreMarked}
+use Rattle.laws.proofs.TimelySearches.{FailsOnce, FailsTwice, Stands, AreSettled, AreAsked, IsIdle, IsAsk, IsWaiting, AreAround, IsMarked, AreMarked}
 
 -- The same run, or one with a step more.
 abbrev pub Grows : List Turn → List Turn → Type 0
@@ -23,12 +23,12 @@ earlier_on P old new (inl e) h = subst (Earlier P) (sym e) h
 earlier_on P old new (inr (turn, e)) h = subst (Earlier P) (sym e) (inr h)
 
 module _ (port : ℕ) (home : Home) (old new : List Turn) (grows : Grows old new) where
-  start_on : (c : Cut) → IsStart port home old c → IsStart port home new c
+  start_on : (c : Cut) → MayStart port home old c → MayStart port home new c
   start_on c h = by grows
     where
-      by : Grows old new → IsStart port home new c
-      by (inl e) = subst (λ (run : List Turn). IsStart port home run c) (sym e) h
-      by (inr (turn, e)) = subst (λ (run : List Turn). IsStart port home run c) (sym e) (inl h)
+      by : Grows old new → MayStart port home new c
+      by (inl e) = subst (λ (run : List Turn). MayStart port home run c) (sym e) h
+      by (inr (turn, e)) = subst (λ (run : List Turn). MayStart port home run c) (sym e) (inl h)
 
   found_on : (n : Name) (set : List Record) → IsFound port home old n set → IsFound port home new n set
   found_on n set (inl s) = inl s
@@ -36,8 +36,8 @@ module _ (port : ℕ) (home : Home) (old new : List Turn) (grows : Grows old new
 
   pub none_on : (n : Name) → HasNoAddress port home old n → HasNoAddress port home new n
   none_on n (inl s) = inl s
-  none_on n (inr (inl (t, l, e, tells))) = inr (inl (t, l, earlier_on (Takes port n t l) old new grows e, tells))
-  none_on n (inr (inr (p, t, soa, there, e))) = inr (inr (p, t, soa, there, earlier_on (Takes port p t (NxDomain soa)) old new grows e))
+  none_on n (inr (inl (t, l, e, tells))) = inr (inl (t, l, earlier_on (LearnsLink port n t l) old new grows e, tells))
+  none_on n (inr (inr (p, t, soa, there, e))) = inr (inr (p, t, soa, there, earlier_on (LearnsLink port p t (NxDomain soa)) old new grows e))
 
   pub use_on : (z : Name) (Has More : Addr → Type 0) (Beneath Below : Name → Type 0) (x : Name) → ((a : Addr) → Has a → More a) → (Beneath x → Below x)
       → IsOfNoUse port home old z Has Beneath x → IsOfNoUse port home new z More Below x
@@ -93,7 +93,7 @@ module _ (port : ℕ) (home : Home) (old new : List Turn) (grows : Grows old new
       asked = asked_on s h.cut ((s.frame).plan).given h.asked;
     }
 
-    pub asking_on : (s : Search) (a : Addr) → IsAsking port home k old Known s a → IsAsking port home k new More s a
+    pub asking_on : (s : Search) (a : Addr) → IsAsk port home k old Known s a → IsAsk port home k new More s a
     asking_on s a h = record {
       cut = h.cut;
       ended = h.ended;

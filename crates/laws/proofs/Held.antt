@@ -2,31 +2,31 @@
 use Rattle.std.proofs.Common.{◌≡◌, ℕ, ◌≤◌, inl, inr, List, [], ◌∷◌, length, refl, sym, ap, subst}
 use Rattle.rdata.specs.Types.{type_number}
 use Rattle.wire.specs.declared.via.Via.{Via}
-use Rattle.front.specs.Queries.{IsAsked}
-use Rattle.front.specs.declared.queries.Asked.{Asked}
-use Rattle.front.specs.declared.queries.Asked.TheVariants as heard
-use Rattle.front.specs.declared.queries.Query.{Query as Question}
+use Rattle.front.specs.Queries.{IsRequest}
+use Rattle.front.specs.declared.queries.Request.{Request}
+use Rattle.front.specs.declared.queries.Request.TheVariants as request
+use Rattle.front.specs.declared.queries.Query.{Query}
 use Rattle.front.proofs.Single.{asked_once}
 use Rattle.resolution.specs.Jobs.{Home, Stores, Taken, Job, Next, Done, Seek, point}
-use Rattle.runs.specs.States.{Client, Action, Served, Own, Plain, asker, job_for, Site, State, moved}
+use Rattle.runs.specs.States.{Client, Action, Served, Own, Plain, client_query, job_for, Site, State, moved}
 use Rattle.runs.specs.Messages.{outcome_of, IsReply}
-use Rattle.runs.specs.Steps.{Comes, IsAsking, IsOpened, at_once, crowded, admitted, Resolves, IsHandled}
+use Rattle.runs.specs.Steps.{Comes, IsAsk, IsOpened, at_once, crowded, admitted, Resolves, IsHandled}
 use Rattle.runs.proofs.Clocks.{clock_of_run}
 use Rattle.laws.specs.Held.{IsHeldChain, HeldIsReplied}
 use Rattle.laws.proofs.Walks.{IsAlong, walks_along}
 
-module _ (s : State) (client : ℕ) (way : Via) (q : Question Plain) (chain : List Taken) (last : Taken) (few : length chain ≤ 8)
+module _ (s : State) (client : ℕ) (way : Via) (q : Query Plain) (chain : List Taken) (last : Taken) (few : length chain ≤ 8)
     (held : IsHeldChain (s.site).home s.clock (type_number q.kind) (s.stores).cache q.name chain last) (served : Served) (out : List Action) (new : State) where
   abbrev IsAnswered : Type 0
-  IsAnswered = (served ≡ Own) × ((action : Action) × IsReply (asker client way q) (outcome_of s.clock chain last) action × (out ≡ action ∷ []))
+  IsAnswered = (served ≡ Own) × ((action : Action) × IsReply (client_query client way q) (outcome_of s.clock chain last) action × (out ≡ action ∷ []))
 
-  opened_held : (next : Next) (job : Job) (stores : Stores) → next ≡ Done chain last → IsOpened s (asker client way q) next job stores served out new → IsAnswered
+  opened_held : (next : Next) (job : Job) (stores : Stores) → next ≡ Done chain last → IsOpened s (client_query client way q) next job stores served out new → IsAnswered
   opened_held next job stores is (at_once own none comes) =
-      let e = subst (λ (k : Next). Comes s (asker client way q) s.opened s.opened k job stores out new) is comes in (own, (e.action, e.reply, e.out_is))
-  opened_held next job stores is (crowded own asks many ends) = absurd (subst IsAsking is asks)
-  opened_held next job stores is (admitted own asks less comes) = absurd (subst IsAsking is asks)
+      let e = subst (λ (k : Next). Comes s (client_query client way q) s.opened s.opened k job stores out new) is comes in (own, (e.action, e.reply, e.out_is))
+  opened_held next job stores is (crowded own asks many ends) = absurd (subst IsAsk is asks)
+  opened_held next job stores is (admitted own asks less comes) = absurd (subst IsAsk is asks)
 
-  pub resolves_held : Resolves s (asker client way q) served out new → IsAnswered
+  pub resolves_held : Resolves s (client_query client way q) served out new → IsAnswered
   resolves_held h =
       let call = h.advances in
       let start : IsAlong (s.site).home s.clock (type_number q.kind) (s.stores).cache chain last few (point Seek (job_for s.clock q) s.stores)
@@ -49,14 +49,14 @@ held_is_replied site past old now client way bytes served out new q chain last l
     stands : IsHeldChain (s.site).home s.clock (type_number q.kind) (s.stores).cache q.name chain last
     stands = subst (λ (h : Home). IsHeldChain h s.clock (type_number q.kind) (s.stores).cache q.name chain last) here held
 
-    reading : {asked : Asked Plain} → IsAsked bytes asked → asked ≡ heard.Query q
-    reading {asked} is = asked_once bytes asked (heard.Query q) is reads
+    reading : {asked : Request Plain} → IsRequest bytes asked → asked ≡ request.Query q
+    reading {asked} is = asked_once bytes asked (request.Query q) is reads
 
-    by : (asked : Asked Plain) → asked ≡ heard.Query q → IsHandled s client way asked served out new
-        → (served ≡ Own) × ((action : Action) × IsReply (asker client way q) (outcome_of s.clock chain last) action × (out ≡ action ∷ []))
-    by asked is h = handled (subst (λ (x : Asked Plain). IsHandled s client way x served out new) is h)
+    by : (asked : Request Plain) → asked ≡ request.Query q → IsHandled s client way asked served out new
+        → (served ≡ Own) × ((action : Action) × IsReply (client_query client way q) (outcome_of s.clock chain last) action × (out ≡ action ∷ []))
+    by asked is h = handled (subst (λ (x : Request Plain). IsHandled s client way x served out new) is h)
       where
-        handled : IsHandled s client way (heard.Query q) served out new
-            → (served ≡ Own) × ((action : Action) × IsReply (asker client way q) (outcome_of s.clock chain last) action × (out ≡ action ∷ []))
+        handled : IsHandled s client way (request.Query q) served out new
+            → (served ≡ Own) × ((action : Action) × IsReply (client_query client way q) (outcome_of s.clock chain last) action × (out ≡ action ∷ []))
         handled (inl (rd, x)) = absurd (cc)
         handled (inr (rd, x)) = resolves_held s client way q chain last few stands served out new x

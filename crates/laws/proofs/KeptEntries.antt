@@ -5,9 +5,9 @@ use Rattle.lru.proofs.CallerLemmas.{Contains-lookup}
 use Rattle.rdata.specs.Records.{Record}
 use Rattle.zone.specs.Links.{Link, Found, Alias, NoData, NxDomain}
 use Rattle.zone.specs.Zones.{cname_type}
-use Rattle.recency.proofs.Kept.{used_found}
+use Rattle.lru_laws.proofs.Kept.{used_found}
 use Rattle.cache.specs.Keys.{Kind, NameError, Key, same_key, kind_key, error_key, key_for}
-use Rattle.cache.specs.Cached.{Hit, as_set, as_alias, with_link, is_live, live_from, live_at, set_from, alias_from, under, or_else, answer, Asked, error_above, lent, hit_of, moved}
+use Rattle.cache.specs.Cached.{Hit, as_set, as_alias, with_link, is_live, live_from, live_at, set_from, alias_from, under, or_else, answer, Question, error_above, lent, hit_of, moved}
 use Rattle.cache.specs.Laws.{same_key_exact}
 
 pub looked_in : (k : Key) (es : List (Key × Hit)) (h : Hit) → lookup (same_key k) es ≡ Some h → Contains es (k, h)
@@ -29,7 +29,7 @@ same_errors : (ns : List (List (List ℕ))) (now : ℕ) (es fs : List (Key × Hi
 same_errors [] now es fs same = refl
 same_errors (n ∷ ns) now es fs same = λ i. or_else (under (error_key n) (set_from (live_from now (same (error_key n) i)))) (same_errors ns now es fs same i)
 
-pub same_lent : (a : Asked) (now : ℕ) (es fs : List (Key × Hit)) → ((k : Key) → lookup (same_key k) fs ≡ lookup (same_key k) es) → lent a now fs ≡ lent a now es
+pub same_lent : (a : Question) (now : ℕ) (es fs : List (Key × Hit)) → ((k : Key) → lookup (same_key k) fs ≡ lookup (same_key k) es) → lent a now fs ≡ lent a now es
 same_lent a now es fs same = λ i. or_else (same_answer a.name a.kind now es fs same i) (same_errors a.above now es fs same i)
 
 -- What stands at the name itself goes before the errors of names above.

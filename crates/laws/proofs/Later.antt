@@ -3,11 +3,11 @@ use Rattle.std.proofs.Common.{◌≡◌, ℕ, inl, inr, Bool, true, List, [], �
 use Rattle.dname.specs.Labels.{Name}
 use Rattle.rdata.specs.Records.{Record}
 use Rattle.rdata.specs.declared.addr.Addr.{Addr}
-use Rattle.front.specs.Chains.{target_of}
+use Rattle.front.specs.Chains.{alias_target}
 use Rattle.resolution.specs.Jobs.{Home, Stores, Taken, Search, Job}
 use Rattle.runs.specs.States.{Turn}
 use Rattle.laws.specs.Spent.{IsAliasOf}
-use Rattle.laws.proofs.TimelySearches.{Passed, SomeKnown, IsAsking}
+use Rattle.laws.proofs.TimelySearches.{Passed, SomeKnown, IsAsk}
 use Rattle.laws.proofs.Grown.{Grows, asking_on, around_on, marks_on}
 use Rattle.laws.proofs.Told.{AreTold}
 use Rattle.laws.proofs.TimelyPoints.{OnTop}
@@ -21,7 +21,7 @@ module _ (port : ℕ) (home : Home) (turn : Turn) (past : List Turn) where
 
   pub leads_later : (t : ℕ) (from : Name) (chain : List Taken) (to : Name) → LeadsOn port home past t from chain to → LeadsOn port home (turn ∷ past) t from chain to
   leads_later t from [] to h = h
-  leads_later t from (l ∷ ls) to (n, (r, is, a, more)) = (n, (r, is, alias_later from t r a, leads_later t (target_of r) ls to more))
+  leads_later t from (l ∷ ls) to (n, (r, is, a, more)) = (n, (r, is, alias_later from t r a, leads_later t (alias_target r) ls to more))
 
   pub told_later : (stores : Stores) → AreTold port home past stores → AreTold port home (turn ∷ past) stores
   told_later stores h = record {
@@ -56,8 +56,8 @@ module _ (port : ℕ) (home : Home) (old new : List Turn) (grows : Grows old new
     few = h.few;
   }
     where
-      by : (l : List Search) → OnTop port home k old (Passed j.skipped K) j.name j.kind l (λ s. IsAsking port home k old (Passed j.skipped K) s server × (n ≡ s.name) × (u ≡ s.kind))
-          → OnTop port home k new (Passed j.skipped M) j.name j.kind l (λ s. IsAsking port home k new (Passed j.skipped M) s server × (n ≡ s.name) × (u ≡ s.kind))
+      by : (l : List Search) → OnTop port home k old (Passed j.skipped K) j.name j.kind l (λ s. IsAsk port home k old (Passed j.skipped K) s server × (n ≡ s.name) × (u ≡ s.kind))
+          → OnTop port home k new (Passed j.skipped M) j.name j.kind l (λ s. IsAsk port home k new (Passed j.skipped M) s server × (n ≡ s.name) × (u ≡ s.kind))
       by [] h = absurd h
       by (s ∷ rest) ((asking, name, kind), around) = (
         (asking_on port home old new grows k (Passed j.skipped K) (Passed j.skipped M) (passed_on j.skipped) s server asking, name, kind),

@@ -5,7 +5,7 @@ use Rattle.dname.specs.Labels.{Name}
 use Rattle.rdata.specs.declared.addr.Addr.{Addr}
 use Rattle.zone.specs.Zones.{cname_type}
 use Rattle.zone.specs.Links.{Link}
-use Rattle.layout.specs.Messages.{Message}
+use Rattle.message_grammar.specs.Messages.{Message}
 use Rattle.wire.specs.declared.via.Via.{Via}
 use Rattle.classify.specs.Classes as class
 use Rattle.classify.specs.Classes.{class_of}
@@ -13,12 +13,12 @@ use Rattle.classify.proofs.Roots.{of_root}
 use Rattle.cache.specs.Keys.{Key, key_for}
 use Rattle.cache.specs.Cached.{Hit, IsKept}
 use Rattle.resolution.specs.Jobs.{Home, Stores, with_answer, with_timeout, with_told, received_link, Search, Job, job_at, Input, Start, Told, TimedOut, TcpFailed, Next, Task, Take, Go, Again, Point, point, hit_from}
-use Rattle.resolution.specs.Rules.{IsRemote, Learnt, ByClass, Enters, Advances, IsTakenEntry, Stops}
-use Rattle.runs.specs.States.{Turn, Query, Asking, via_of}
+use Rattle.resolution.specs.Rules.{IsRemote, KeepsAnswer, ByClass, Enters, Advances, IsTakenEntry, Stops}
+use Rattle.runs.specs.States.{Turn, OpenQuery, Ask, via_of}
 use Rattle.runs.specs.Messages.{Brings}
 use Rattle.runs.specs.Runs.{Earlier, clock_of}
 use Rattle.laws.specs.Spent.{IsOpenAsk}
-use Rattle.laws.specs.Timely.{Learns}
+use Rattle.laws.specs.Timely.{AcceptsAnswer}
 use Rattle.laws.proofs.TimelyStores.{kept_from}
 use Rattle.laws.proofs.Told.{AreTold, KnownIn}
 use Rattle.laws.proofs.Chains.{IsReached, rules_reach}
@@ -29,18 +29,18 @@ use Rattle.laws.proofs.Timed.{IsLearnt, AreTimed, AreKnown, KnownBy, IsTimed, ti
 use Rattle.laws.proofs.TimelySent.{GoesTimely, leaves_timed}
 use Rattle.laws.proofs.States.{KnownNow, IsInputNow, TruncatedNow, top_at, enters_reach, lately_now, enters_now}
 
-module _ (port : ℕ) (home : Home) (k : ℕ) (turn : Turn) (past : List Turn) (ask : Asking) (served : turn.served ≡ Query k) (asked : IsOpenAsk port k ask past)
+module _ (port : ℕ) (home : Home) (k : ℕ) (turn : Turn) (past : List Turn) (ask : Ask) (served : turn.served ≡ OpenQuery k) (asked : IsOpenAsk port k ask past)
     (t : ℕ) (from : Name) (j : Job) (stores : Stores) (told : AreTold port home past stores) (work : IsWaitingFor port home past k (KnownIn port k past) t from ask.server ask.name ask.kind j)
     (now : ℕ) (clock : now ≡ clock_of (turn ∷ past)) (timed : AreTimed port home past stores) (chain : AreKnown port home past k t (Unit {0}) j.chain) (remote : IsRemote home j.name j.kind) (plain : t ≡ cname_type → j.chain ≡ []) where
   abbrev Mine : Type 0
-  Mine = turn.served ≡ Query k
+  Mine = turn.served ≡ OpenQuery k
 
   abbrev IsTimedNow : Point → Type 0
   IsTimedNow p = IsTimed port home (turn ∷ past) k t Mine j.deadline j.asks p
 
   -- What is accepted now.
   learns : (s : Search) (rest : List Search) (m : Message) (l : Link) → j.searches ≡ s ∷ rest → Brings port ask turn.event m
-      → class_of (s.frame).zone s.name s.kind (via_of ask.path) m ≡ class.Answer l → Learns port k s.name s.kind l now turn past
+      → class_of (s.frame).zone s.name s.kind (via_of ask.path) m ≡ class.Answer l → AcceptsAnswer port k s.name s.kind l now turn past
   learns s rest m l searches brings is =
       let h = top_at port home k turn past ask served asked t from j stores told work s rest searches in
       record {
@@ -65,7 +65,7 @@ module _ (port : ℕ) (home : Home) (k : ℕ) (turn : Turn) (past : List Turn) (
       )
 
   learnt_timed : (s : Search) (rest : List Search) (m : Message) (l : Link) (old new : Stores) → AreTimed port home past old → j.searches ≡ s ∷ rest → Brings port ask turn.event m
-      → class_of (s.frame).zone s.name s.kind (via_of ask.path) m ≡ class.Answer l → Learnt now s l old new → AreTimed port home (turn ∷ past) new
+      → class_of (s.frame).zone s.name s.kind (via_of ask.path) m ≡ class.Answer l → KeepsAnswer now s l old new → AreTimed port home (turn ∷ past) new
   learnt_timed s rest m l old new h searches brings is learnt = subst (AreTimed port home (turn ∷ past)) (sym learnt.stores)
       (λ key e c. elim (kept_from old.cache_cap s.name s.kind (hit_from l now) old.cache (key, e) c) [
         | inl d ↦ timed_later port home turn past old h key e d
@@ -89,7 +89,7 @@ module _ (port : ℕ) (home : Home) (k : ℕ) (turn : Turn) (past : List Turn) (
       going p (Take (received_link s.name l now)) (record j { searches = [] }) task job (learnt_timed s [] m l old p.stores h searches brings is learnt) (
         subst (λ (n : Name). IsRemote home n t) (sym top.1.0) (subst (IsRemote home j.name) work.kind remote),
         served,
-        (l, subst (λ (u : ℕ). Earlier (Learns port k s.name u l now) (turn ∷ past)) kind (inl (learns s [] m l searches brings is)), refl, refl),
+        (l, subst (λ (u : ℕ). Earlier (AcceptsAnswer port k s.name u l now) (turn ∷ past)) kind (inl (learns s [] m l searches brings is)), refl, refl),
       ) refl refl refl refl
   by_class s (around ∷ rest) server m (class.Answer l) old p h searches brings is (after, marks, task, learnt, hears_of, job) =
       going p Go (record j { searches = after ∷ rest; failed = marks }) task job (learnt_timed s (around ∷ rest) m l old p.stores h searches brings is learnt) remote refl refl refl refl
@@ -142,7 +142,7 @@ module _ (port : ℕ) (home : Home) (k : ℕ) (turn : Turn) (past : List Turn) (
 
 module _ (port : ℕ) (home : Home) (turn : Turn) (past : List Turn) (k : ℕ) (K : Name → ℕ → Addr → Type 0) (t now : ℕ) (clock : now ≡ clock_of (turn ∷ past)) (from : Name)
     (lately : Lately port home k (turn ∷ past) K (λ a n u. Unit {0}) now) where
-  never : ⊥ → turn.served ≡ Query k
+  never : ⊥ → turn.served ≡ OpenQuery k
   never e = absurd e
 
   pub start_timed : (deadline : ℕ) (stores : Stores) (next : Next) (new : Job) (after : Stores) → AreTold port home (turn ∷ past) stores → AreTimed port home (turn ∷ past) stores

@@ -1,5 +1,5 @@
 pub mod Actions
-pub mod Asking
+pub mod Ask
 pub mod Calls
 pub mod Chains
 pub mod Discipline

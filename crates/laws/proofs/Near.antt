@@ -3,13 +3,13 @@ use Rattle.std.proofs.Common.{◌≡◌, ◌≢◌, ℕ, suc, ◌+◌, ◌≤◌
 use Rattle.std.specs.Map.{lookup, remove_entry}
 use Rattle.zone.specs.Links.{Link, Found, Alias, NoData, NxDomain}
 use Rattle.zone.specs.Zones.{cname_type}
-use Rattle.recency.specs.Orders.{kept, IsWithin}
-use Rattle.recency.proofs.Kept.{by_test}
+use Rattle.lru_laws.specs.Orders.{kept, IsWithin}
+use Rattle.lru_laws.proofs.Kept.{by_test}
 use Rattle.cache.specs.Keys.{Kind, NameError, Key, same_key, error_key, key_for}
-use Rattle.cache.specs.Cached.{Hit, Asked, lent, moved, is_error, stored, after_keep}
+use Rattle.cache.specs.Cached.{Hit, Question, lent, moved, is_error, stored, after_keep}
 use Rattle.cache.specs.Laws.{same_key_exact}
 use Rattle.laws.specs.Uses.{AreHits}
-use Rattle.recency.proofs.Places.{within_put, within_kept, within_used, within_removed, within_found}
+use Rattle.lru_laws.proofs.Places.{within_put, within_kept, within_used, within_removed, within_found}
 
 -- Among the first n entries at most.
 abbrev pub IsNear : ℕ → Key → Hit → List (Key × Hit) → Type 0
@@ -66,7 +66,7 @@ near_moved : (n : ℕ) (k : Key) (v : Hit) (a : Option (Key × Hit)) (es : List 
 near_moved n k v None es (m, le, w) = (m, omega arith, w)
 near_moved n k v (Some a) es (m, le, w) = (suc m, omega arith, within_used same_key same_key_exact m k a.0 v es w)
 
-pub near_hits : (now n : ℕ) (k : Key) (v : Hit) (hits : List Asked) (old new : List (Key × Hit)) → AreHits now hits old new → IsNear n k v old → IsNear (n + length hits) k v new
+pub near_hits : (now n : ℕ) (k : Key) (v : Hit) (hits : List Question) (old new : List (Key × Hit)) → AreHits now hits old new → IsNear n k v old → IsNear (n + length hits) k v new
 near_hits now n k v [] old new are near = subst (λ es. IsNear (n + 0) k v es) (sym are) (let (m, le, w) = near in (m, omega arith, w))
 near_hits now n k v (a ∷ more) old new (some, are) near =
     let (m, le, w) = near_hits now (suc n) k v more (moved (lent a now old) old) new are (near_moved n k v (lent a now old) old near) in

@@ -6,16 +6,16 @@ use Rattle.rdata.specs.declared.addr.Addr.{Addr}
 use Rattle.zone.specs.Zones.{a_type}
 use Rattle.zone.specs.Links.{Link}
 use Rattle.zone.specs.Look.{Linked}
-use Rattle.recency.proofs.Kept.{used_found}
+use Rattle.lru_laws.proofs.Kept.{used_found}
 use Rattle.retry.specs.Penalties.{penalty}
 use Rattle.referral.specs.Cuts.{Cut, Known, nearest, moved, Lives, IsBest}
 use Rattle.referral.proofs.Exact.{same_name_exact}
 use Rattle.referral.proofs.Steps.{moved_same}
 use Rattle.cache.specs.Cached.{Hit}
 use Rattle.frames.specs.Frames.{opened}
-use Rattle.resolution.specs.Jobs.{Home, Stores, level_of, Taken, local_link, Search, search_at, next_server, Job, Next, Ask, Go, Point}
+use Rattle.resolution.specs.Jobs.{Home, Stores, level_of, Taken, local_link, Search, search_at, next_server, Job, Next, AskUdp, Go, Point}
 use Rattle.resolution.specs.Rules.{Says, turned, Hits, Finds, Misses, Rule, takes, asks, follows, restarts, skips, hears, descends, gives_up, Rules, Leaves}
-use Rattle.laws.specs.Calls.{GoesOut, Opening, IsStart, FramesOpenRightly}
+use Rattle.laws.specs.Calls.{GoesOut, Opening, StartsSearch, FramesOpenRightly}
 use Rattle.laws.proofs.Calls.{goes_alike, asks_first}
 use Rattle.laws.proofs.Skipped.{same_after}
 
@@ -95,16 +95,16 @@ module _ (home : Home) (now : ℕ) where
     level : level_of b.stores ≡ level_of after
     level = λ i x. penalty x (sym later.penalties i)
 
-    pub start_stands : IsStart home now n t after c
+    pub start_stands : StartsSearch home now n t after c
     start_stands = record { what = m.what; says = m.says; best = m.best; is_best = later.best n m.best ((starts_missed n t a.stores c b.stores m).best n m.best m.is_best); begins = m.begins }
 
     pub frame_stands : (more : List Search) × ((b.job).searches ≡ search_at n t (opened (level_of after) d c) ∷ more)
     frame_stands = (rest, job ∙ ap (λ (f : Addr → ℕ). search_at n t (opened f d c) ∷ rest) level)
 
-    pub first_is_asked : (x : Addr) → next_server now after.failures (search_at n t (opened (level_of after) d c)) ≡ Some x → GoesOut now a.job (Ask x n t) next
+    pub first_is_asked : (x : Addr) → next_server now after.failures (search_at n t (opened (level_of after) d c)) ≡ Some x → GoesOut now a.job (AskUdp x n t) next
     first_is_asked x due =
         let due_then : next_server now after.failures (search_at n t (opened (level_of b.stores) d c)) ≡ Some x = ap (λ (f : Addr → ℕ). next_server now after.failures (search_at n t (opened f d c))) level ∙ due in
-        goes_alike now b.job a.job (Ask x n t) next deadline number
+        goes_alike now b.job a.job (AskUdp x n t) next deadline number
         (asks_first home now b (search_at n t (opened (level_of b.stores) d c)) rest x job task count last next new after rules leaves due_then)
 
 pub frames_open_rightly : FramesOpenRightly
@@ -116,8 +116,8 @@ frames_open_rightly home now a b last count next new after (hears before around 
 frames_open_rightly home now a b last count next new after (gives_up s around rest t up u j e) o rules leaves is = absurd (cc)
 frames_open_rightly home now a b last count next new after (asks c t m u j) o rules leaves is =
     let same : record { name = (a.job).name; kind = (a.job).kind; nesting = 0; cut = c } ≡ o = cc in
-    let P : Opening → Type 0 = λ p. IsStart home now p.name p.kind after p.cut × ((rest : List Search) × ((b.job).searches ≡ search_at p.name p.kind (opened (level_of after) p.nesting p.cut) ∷ rest))
-    × ((d : Addr) → next_server now after.failures (search_at p.name p.kind (opened (level_of after) p.nesting p.cut)) ≡ Some d → GoesOut now a.job (Ask d p.name p.kind) next) in
+    let P : Opening → Type 0 = λ p. StartsSearch home now p.name p.kind after p.cut × ((rest : List Search) × ((b.job).searches ≡ search_at p.name p.kind (opened (level_of after) p.nesting p.cut) ∷ rest))
+    × ((d : Addr) → next_server now after.failures (search_at p.name p.kind (opened (level_of after) p.nesting p.cut)) ≡ Some d → GoesOut now a.job (AskUdp d p.name p.kind) next) in
     let searches : (b.job).searches ≡ search_at (a.job).name (a.job).kind (opened (level_of b.stores) 0 c) ∷ [] = ap (λ (k : Job). k.searches) j in
     let deadline : (b.job).deadline ≡ (a.job).deadline = ap (λ (k : Job). k.deadline) j in
     let number : (b.job).asks ≡ (a.job).asks = ap (λ (k : Job). k.asks) j in
@@ -128,8 +128,8 @@ frames_open_rightly home now a b last count next new after (asks c t m u j) o ru
     )
 frames_open_rightly home now a b last count next new after (descends s rest n c t turn m u j) o rules leaves is =
     let same : record { name = n; kind = a_type; nesting = (s.frame).nesting + 1; cut = c } ≡ o = cc in
-    let P : Opening → Type 0 = λ p. IsStart home now p.name p.kind after p.cut × ((rest : List Search) × ((b.job).searches ≡ search_at p.name p.kind (opened (level_of after) p.nesting p.cut) ∷ rest))
-    × ((d : Addr) → next_server now after.failures (search_at p.name p.kind (opened (level_of after) p.nesting p.cut)) ≡ Some d → GoesOut now a.job (Ask d p.name p.kind) next) in
+    let P : Opening → Type 0 = λ p. StartsSearch home now p.name p.kind after p.cut × ((rest : List Search) × ((b.job).searches ≡ search_at p.name p.kind (opened (level_of after) p.nesting p.cut) ∷ rest))
+    × ((d : Addr) → next_server now after.failures (search_at p.name p.kind (opened (level_of after) p.nesting p.cut)) ≡ Some d → GoesOut now a.job (AskUdp d p.name p.kind) next) in
     let more : List Search = turned (a.job).failed s ∷ rest in
     let searches : (b.job).searches ≡ search_at n a_type (opened (level_of b.stores) ((s.frame).nesting + 1) c) ∷ more = ap (λ (k : Job). k.searches) j in
     let deadline : (b.job).deadline ≡ (a.job).deadline = ap (λ (k : Job). k.deadline) j in

@@ -5,20 +5,20 @@ use Rattle.rdata.specs.declared.addr.Addr.{Addr}
 use Rattle.causes.specs.declared.cause.Cause.{Cause}
 use Rattle.causes.specs.declared.cause.Cause.TheVariants as cause
 use Rattle.wire.specs.declared.via.Via.{Via}
-use Rattle.front.specs.declared.queries.Asked.{Asked}
-use Rattle.front.specs.declared.queries.Asked.TheVariants as heard
+use Rattle.front.specs.declared.queries.Request.{Request}
+use Rattle.front.specs.declared.queries.Request.TheVariants as request
 use Rattle.frames.specs.Frames.{opened}
-use Rattle.resolution.specs.Jobs.{Home, Stores, level_of, search_at, next_server, Job, Start, Next, Ask, Fail, Point}
-use Rattle.resolution.specs.Rules.{Rule, Rules, IsRefused}
-use Rattle.runs.specs.States.{Event, Client, Datagram, TcpReply, Tick, Action, MoreDue, Served, Query, Plain, Asker, asker, Site, State, moved}
+use Rattle.resolution.specs.Jobs.{Home, Stores, level_of, search_at, next_server, Job, Start, Next, AskUdp, Fail, Point}
+use Rattle.resolution.specs.Rules.{Rule, Rules, MayNotSend}
+use Rattle.runs.specs.States.{Event, Client, Datagram, TcpReply, Tick, Action, MoreDue, Served, OpenQuery, Plain, ClientQuery, client_query, Site, State, moved}
 use Rattle.runs.specs.States as event
 use Rattle.runs.specs.Messages.{IsSent}
-use Rattle.runs.specs.Steps.{Comes, Serves, IsAsking, IsOpened, at_once, crowded, admitted, IsHandled, IsIgnored, Hears, IsFollowed, IsTicked, IsTurn}
+use Rattle.runs.specs.Steps.{Comes, Serves, IsAsk, IsOpened, at_once, crowded, admitted, IsHandled, IsIgnored, ServesOpen, IsFollowed, IsTicked, IsTurn}
 use Rattle.runs.proofs.Clocks.{clock_of_run}
-use Rattle.laws.specs.Laws.{IsAlone}
-use Rattle.laws.specs.Calls.{GoesOut, Opening, opening_of, IsStart}
+use Rattle.laws.specs.Laws.{IsOnlyAction}
+use Rattle.laws.specs.Calls.{GoesOut, Opening, opening_of, StartsSearch}
 use Rattle.laws.specs.Opens.{Call, handled_call, hears_call, either_call, ticked_call, turn_call, RulesOpen, Opens, Goes, MayNot, IsOpenedRightly, FramesOpenInSteps}
-use Rattle.laws.proofs.Asking.{SameTime, both, rules_keep, enters_keep}
+use Rattle.laws.proofs.Ask.{SameTime, both, rules_keep, enters_keep}
 use Rattle.laws.proofs.Calls.{goes_alike}
 use Rattle.laws.proofs.FollowedStores.{comes_stores}
 use Rattle.laws.proofs.Opened.{frames_open_rightly}
@@ -47,8 +47,8 @@ on_way home now (suc n) a b (mid, more, rule) frame (inr is) =
 -- What a call says of a frame that it opens.
 abbrev IsRightIn : (s : State) → Call s → Opening → Type 0
 IsRightIn s call frame =
-    IsStart (s.site).home s.clock frame.name frame.kind call.after frame.cut
-    × ((d : Addr) → next_server s.clock (call.after).failures (search_at frame.name frame.kind (opened (level_of call.after) frame.nesting frame.cut)) ≡ Some d → GoesOut s.clock call.old (Ask d frame.name frame.kind) call.next)
+    StartsSearch (s.site).home s.clock frame.name frame.kind call.after frame.cut
+    × ((d : Addr) → next_server s.clock (call.after).failures (search_at frame.name frame.kind (opened (level_of call.after) frame.nesting frame.cut)) ≡ Some d → GoesOut s.clock call.old (AskUdp d frame.name frame.kind) call.next)
 
 right_in : (s : State) (call : Call s) (frame : Opening) → Opens s call frame → IsRightIn s call frame
 right_in s call frame h =
@@ -57,13 +57,13 @@ right_in s call frame h =
     let same : SameTime call.old (w.x).job
     = both call.old (c.first).job (w.x).job (enters_keep s.clock call.input call.old s.stores c.first c.enters) (rules_keep (s.site).home s.clock w.before c.first w.x w.to) in
     let (start, stands, asks) = frames_open_rightly (s.site).home s.clock w.x w.y c.last w.behind call.next call.new call.after w.rule frame w.on c.leaves w.opens in
-    (start, λ d due. goes_alike s.clock (w.x).job call.old (Ask d frame.name frame.kind) call.next same.deadline same.asks (asks d due))
+    (start, λ d due. goes_alike s.clock (w.x).job call.old (AskUdp d frame.name frame.kind) call.next same.deadline same.asks (asks d due))
 
 -- ---- of what comes of it
 
 module _ (site : Site) (s : State) (here : s.site ≡ site) (served : Served) (out : List Action) (new : State) where
   abbrev Sends : Call s → Type 0
-  Sends call = (d : Addr) (n : Name) (t : ℕ) → GoesOut s.clock call.old (Ask d n t) call.next → Goes site served d n t out new ⊎ MayNot s call out
+  Sends call = (d : Addr) (n : Name) (t : ℕ) → GoesOut s.clock call.old (AskUdp d n t) call.next → Goes site served d n t out new ⊎ MayNot s call out
 
   abbrev AreRight : Option (Call s) → Type 0
   AreRight made = (call : Call s) → made ≡ Some call → (frame : Opening) → Opens s call frame → IsOpenedRightly site s served out new call frame
@@ -81,14 +81,14 @@ module _ (site : Site) (s : State) (here : s.site ≡ site) (served : Served) (o
       right frame h =
           let (start, asks) = right_in s call frame h in
           record {
-            start = subst (λ (x : Site). IsStart x.home s.clock frame.name frame.kind new.stores frame.cut) here
-                (subst (λ (x : Stores). IsStart (s.site).home s.clock frame.name frame.kind x frame.cut) (sym stores) start);
+            start = subst (λ (x : Site). StartsSearch x.home s.clock frame.name frame.kind new.stores frame.cut) here
+                (subst (λ (x : Stores). StartsSearch (s.site).home s.clock frame.name frame.kind x frame.cut) (sym stores) start);
             first = λ d due. sends d frame.name frame.kind (asks d (subst (λ (x : Stores). next_server s.clock x.failures (search_at frame.name frame.kind (opened (level_of x) frame.nesting frame.cut)) ≡ Some d) stores due));
           }
 
   -- The query's ask goes out, under its number.
-  goes : (who : Asker) (k opened : ℕ) (next : Next) (job : Job) (stores : Stores) (first : List Action) (d : Addr) (n : Name) (t : ℕ)
-      → served ≡ Query k → ((action : Action) → first ≡ action ∷ [] → IsAlone action out) → next ≡ Ask d n t → Comes s who k opened next job stores first new → Goes site served d n t out new
+  goes : (who : ClientQuery) (k opened : ℕ) (next : Next) (job : Job) (stores : Stores) (first : List Action) (d : Addr) (n : Name) (t : ℕ)
+      → served ≡ OpenQuery k → ((action : Action) → first ≡ action ∷ [] → IsOnlyAction action out) → next ≡ AskUdp d n t → Comes s who k opened next job stores first new → Goes site served d n t out new
   goes who k opened next job stores first d n t is behind e comes =
       let c = subst (λ (x : Next). Comes s who k opened x job stores first new) e comes in
       let w = c.waits in
@@ -103,19 +103,19 @@ module _ (site : Site) (s : State) (here : s.site ≡ site) (served : Served) (o
         alone = behind w.action w.out_is;
       }
 
-  hears_right : (e : Event) (first : List Action) → ((action : Action) → first ≡ action ∷ [] → IsAlone action out) → (h : Hears s e served first new) → AreRight (hears_call s e served first new h)
+  hears_right : (e : Event) (first : List Action) → ((action : Action) → first ≡ action ∷ [] → IsOnlyAction action out) → (h : ServesOpen s e served first new) → AreRight (hears_call s e served first new h)
   hears_right e first behind h = call_right _ (comes_stores s _ _ _ v.next v.job v.stores first new v.comes) sends
     where
       v : Serves s h.query h.input first new
       v = h.serves
 
-      sends : Sends (record { asker = (h.query).asker; input = h.input; old = (h.query).job; next = v.next; new = v.job; after = v.stores; advances = v.advances })
+      sends : Sends (record { client_query = (h.query).client_query; input = h.input; old = (h.query).job; next = v.next; new = v.job; after = v.stores; advances = v.advances })
       sends d n t (inl (may, is)) = inl (goes _ _ _ v.next v.job v.stores first d n t h.served_is behind is v.comes)
       sends d n t (inr (c, refused, is)) =
-          let ends = subst (λ (x : Next). Comes s (h.query).asker (h.query).number s.opened x v.job v.stores first new) is v.comes in
+          let ends = subst (λ (x : Next). Comes s (h.query).client_query (h.query).number s.opened x v.job v.stores first new) is v.comes in
           inr (record { c = c; may_not = inl refused; action = ends.action; reply = ends.reply; alone = behind ends.action ends.out_is })
 
-  either_right : (e : Event) → (h : IsIgnored s e served out new ⊎ Hears s e served out new) → AreRight (either_call s e served out new h)
+  either_right : (e : Event) → (h : IsIgnored s e served out new ⊎ ServesOpen s e served out new) → AreRight (either_call s e served out new h)
   either_right e (inl h) = none_right
   either_right e (inr h) = hears_right e out (λ action is. inl is) h
 
@@ -124,21 +124,21 @@ module _ (site : Site) (s : State) (here : s.site ≡ site) (served : Served) (o
   ticked_right now (inr (first, inl h, followed)) = none_right
   ticked_right now (inr (first, inr h, followed)) = hears_right (Tick now) first (behind followed) h
     where
-      behind : IsFollowed first out new → (action : Action) → first ≡ action ∷ [] → IsAlone action out
+      behind : IsFollowed first out new → (action : Action) → first ≡ action ∷ [] → IsOnlyAction action out
       behind (inl (e, due)) action f = inr (e ∙ ap (λ (l : List Action). l ++ MoreDue ∷ []) f)
       behind (inr (e, none)) action f = inl (e ∙ f)
 
-  handled_right : (client : ℕ) (way : Via) (asked : Asked Plain) → (h : IsHandled s client way asked served out new) → AreRight (handled_call s client way asked served out new h)
-  handled_right client way heard.Drop h = none_right
-  handled_right client way (heard.Refuse refusal start echo) h = none_right
-  handled_right client way (heard.Query q) (inl h) = none_right
-  handled_right client way (heard.Query q) (inr (rd, h)) = call_right call (stores h.opened) (sends h.opened)
+  handled_right : (client : ℕ) (way : Via) (asked : Request Plain) → (h : IsHandled s client way asked served out new) → AreRight (handled_call s client way asked served out new h)
+  handled_right client way request.Drop h = none_right
+  handled_right client way (request.Refuse refusal start echo) h = none_right
+  handled_right client way (request.Query q) (inl h) = none_right
+  handled_right client way (request.Query q) (inr (rd, h)) = call_right call (stores h.opened) (sends h.opened)
     where
-      who : Asker
-      who = asker client way q
+      who : ClientQuery
+      who = client_query client way q
 
       call : Call s
-      call = record { asker = who; input = Start; old = _; next = h.next; new = h.job; after = h.stores; advances = h.advances }
+      call = record { client_query = who; input = Start; old = _; next = h.next; new = h.job; after = h.stores; advances = h.advances }
 
       stores : IsOpened s who h.next h.job h.stores served out new → new.stores ≡ h.stores
       stores (at_once is over comes) = comes_stores s _ _ _ h.next h.job h.stores out new comes
@@ -146,13 +146,13 @@ module _ (site : Site) (s : State) (here : s.site ≡ site) (served : Served) (o
       stores (admitted is asking few comes) = comes_stores s _ _ _ h.next h.job h.stores out new comes
 
       fails : (k opened : ℕ) (c : Cause) → Comes s who k opened h.next h.job h.stores out new → h.next ≡ Fail c
-          → IsRefused s.clock call.old c → MayNot s call out
+          → MayNotSend s.clock call.old c → MayNot s call out
       fails k opened c comes is refused =
           let ends = subst (λ (x : Next). Comes s who k opened x h.job h.stores out new) is comes in
           record { c = c; may_not = inl refused; action = ends.action; reply = ends.reply; alone = inl ends.out_is }
 
       sends : IsOpened s who h.next h.job h.stores served out new → Sends call
-      sends (at_once is over comes) d n t (inl (may, e)) = absurd (over (subst IsAsking (sym e) tt))
+      sends (at_once is over comes) d n t (inl (may, e)) = absurd (over (subst IsAsk (sym e) tt))
       sends (at_once is over comes) d n t (inr (c, refused, e)) = inr (fails _ _ c comes e refused)
       sends (crowded is asking many ends) d n t x = inr (record { c = cause.TooManyOpen; may_not = inr (refl, refl, many); action = ends.action; reply = ends.reply; alone = inl ends.out_is })
       sends (admitted is asking few comes) d n t (inl (may, e)) = inl (goes _ _ _ h.next h.job h.stores out d n t is (λ action f. inl f) e comes)

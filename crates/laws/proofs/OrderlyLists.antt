@@ -1,7 +1,7 @@
 -- Open queries by their numbers, and what is among a step's actions.
 use Rattle.std.proofs.Common.{◌≡◌, ℕ, ◌⊎◌, inl, inr, Bool, true, false, cond, List, [], ◌∷◌, Contains, refl, sym, ap, ◌∙◌, arith, eq-eqb, eqb-true, ne_eqb}
 use Rattle.lru.proofs.Splits.{Contains-cons, Contains-nil}
-use Rattle.runs.specs.States.{Action, Served, Nobody, Own, Query, Open, AreApart}
+use Rattle.runs.specs.States.{Action, Served, Nobody, Own, OpenQuery, Open, AreApart}
 use Rattle.runs.specs.Runs.{is_ask, asks_among, is_for}
 
 -- One query has a number.
@@ -15,21 +15,21 @@ one_number (x ∷ qs) apart p q there here e = by (one_number qs apart.1 p q) (C
     by more (inr c) (inl b) = absurd (apart.0 p c (e ∙ ap (λ (o : Open). o.number) (sym b)))
     by more (inr c) (inr d) = more c d e
 
-pub same_number : {k n : ℕ} → Query k ≡ Query n → k ≡ n
+pub same_number : {k n : ℕ} → OpenQuery k ≡ OpenQuery n → k ≡ n
 same_number e = cc
 
-pub is_for_it : (k : ℕ) (served : Served) → served ≡ Query k → is_for k served ≡ true
+pub is_for_it : (k : ℕ) (served : Served) → served ≡ OpenQuery k → is_for k served ≡ true
 is_for_it k served e = ap (is_for k) e ∙ eq-eqb k k refl
 
-pub is_for_other : (k : ℕ) (served : Served) → (served ≡ Query k → ⊥) → is_for k served ≡ false
+pub is_for_other : (k : ℕ) (served : Served) → (served ≡ OpenQuery k → ⊥) → is_for k served ≡ false
 is_for_other k Nobody other = refl
 is_for_other k Own other = refl
-is_for_other k (Query n) other = ne_eqb n k (λ e. other (ap Query e))
+is_for_other k (OpenQuery n) other = ne_eqb n k (λ e. other (ap OpenQuery e))
 
-pub is_for_true : (k : ℕ) (served : Served) → is_for k served ≡ true → served ≡ Query k
+pub is_for_true : (k : ℕ) (served : Served) → is_for k served ≡ true → served ≡ OpenQuery k
 is_for_true k Nobody e = absurd (cc)
 is_for_true k Own e = absurd (cc)
-is_for_true k (Query n) e = ap Query (eqb-true n k e)
+is_for_true k (OpenQuery n) e = ap OpenQuery (eqb-true n k e)
 
 -- ---- asks that are counted
 

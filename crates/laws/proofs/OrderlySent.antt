@@ -4,10 +4,10 @@ use Rattle.std.proofs.lemmas.List.{length-map}
 use Rattle.std.proofs.Math.Seq.{take-append_seam, drop-append_seam}
 use Rattle.dname.specs.Labels.{Name, wire, folded, folded_label, folded_labels}
 use Rattle.dname.specs.Laws.{wire-injective}
-use Rattle.layout.specs.Messages.{Question, Message, encoding, folded_message, IsMessage}
-use Rattle.layout.proofs.Letters.{letters_apart}
-use Rattle.layout.proofs.Single.{message_one}
-use Rattle.runs.specs.States.{Endpoint, endpoint, Action, Path, ByUdp, ByTcp, Asking}
+use Rattle.message_grammar.specs.Messages.{Question, Message, encoding, folded_message, IsMessage}
+use Rattle.message_grammar.proofs.Letters.{letters_apart}
+use Rattle.message_grammar.proofs.Single.{message_one}
+use Rattle.runs.specs.States.{Endpoint, endpoint, Action, Path, ByUdp, ByTcp, Ask}
 use Rattle.runs.specs.Messages.{question_for, asking_message, sending, IsSent}
 
 folded_length : (n : Name) → length (wire (folded_labels n)) ≡ length (wire n)
@@ -26,7 +26,7 @@ split_right : (a b c d : List ℕ) → a ++ b ≡ c ++ d → length a ≡ length
 split_right a b c d e n = sym (drop-append_seam a b) ∙ (ap (λ (m : ℕ). drop m (a ++ b)) n ∙ (ap (drop (length c)) e ∙ drop-append_seam c d))
 
 -- One encoding and one message: one question, in its letters.
-one_question : (a b : Asking) → encoding (asking_message a) ≡ encoding (asking_message b) → folded_message (asking_message a) ≡ folded_message (asking_message b) → a.name ≡ b.name
+one_question : (a b : Ask) → encoding (asking_message a) ≡ encoding (asking_message b) → folded_message (asking_message a) ≡ folded_message (asking_message b) → a.name ≡ b.name
 one_question a b same message =
     let (head, tail, twelve, is, folds) = letters_apart (asking_message a) (question_for a.name a.kind) refl in
     let (front, back, also, was, other) = letters_apart (asking_message b) (question_for b.name b.kind) refl in
@@ -38,13 +38,13 @@ one_question a b same message =
     first_name : {p q : Question} → p ∷ [] ≡ q ∷ [] → p.name ≡ q.name
     first_name {p} {q} e = let is : p ≡ q = cc in ap (λ (x : Question). x.name) is
 
-one_kind : (a b : Asking) → folded_message (asking_message a) ≡ folded_message (asking_message b) → a.kind ≡ b.kind
+one_kind : (a b : Ask) → folded_message (asking_message a) ≡ folded_message (asking_message b) → a.kind ≡ b.kind
 one_kind a b message = first_kind (ap (λ (m : Message). m.questions) message)
   where
     first_kind : {p q : Question} → p ∷ [] ≡ q ∷ [] → p.qtype ≡ q.qtype
     first_kind {p} {q} e = let is : p ≡ q = cc in ap (λ (x : Question). x.qtype) is
 
-pub one_sent : (port : ℕ) (a b : Asking) (action : Action) → IsSent port a action → IsSent port b action → a ≡ b
+pub one_sent : (port : ℕ) (a b : Ask) (action : Action) → IsSent port a action → IsSent port b action → a ≡ b
 one_sent port a b action (xs, (encoded, read), is) (ys, (encoded_so, read_so), was) = by a.path b.path refl refl (sym is ∙ was)
   where
     together : a.path ≡ b.path → a.server ≡ b.server → xs ≡ ys → a ≡ b

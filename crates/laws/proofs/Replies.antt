@@ -7,27 +7,27 @@ use Rattle.rdata.specs.Records.{Record}
 use Rattle.rdata.specs.Types.{type_number}
 use Rattle.zone.specs.Links.{Link, Found, Alias, NoData, NxDomain}
 use Rattle.zone.specs.Same.{Same}
-use Rattle.layout.specs.Messages.{Message, IsMessage, encoding, folded_message, folded_question}
-use Rattle.layout.proofs.Letters.{letters_long}
+use Rattle.message_grammar.specs.Messages.{Message, IsMessage, encoding, folded_message, folded_question}
+use Rattle.message_grammar.proofs.Letters.{letters_long}
 use Rattle.causes.specs.declared.cause.Cause.{Cause}
 use Rattle.wire.specs.declared.via.Via.{Via}
 use Rattle.wire.specs.declared.via.Via.TheVariants.{Udp, Tcp}
-use Rattle.causes.specs.declared.cause.Cause.TheVariants.{Large}
-use Rattle.front.specs.Chains.{target_in, target_of}
+use Rattle.causes.specs.declared.cause.Cause.TheVariants.{ReplyTooLarge}
+use Rattle.front.specs.Chains.{target_in, alias_target}
 use Rattle.front.specs.Laws.{question_of}
 use Rattle.front.specs.Replies.{whole_reply, truncated_reply, bare, reply_of, found_in, end_rcode, denied_by}
-use Rattle.front.specs.declared.queries.Query.{Query as Question}
+use Rattle.front.specs.declared.queries.Query.{Query}
 use Rattle.front.specs.declared.queries.Outcome.TheVariants as outcome
-use Rattle.truth.specs.Worlds.{World}
-use Rattle.truth.specs.Truths.{IsEnd, Leads, Truth}
-use Rattle.truth.specs.Replies.{IsReplyTo, Ends, IsWhole}
-use Rattle.truth.proofs.Honest.{alias_is, IsShown}
+use Rattle.world_truth.specs.Worlds.{World}
+use Rattle.world_truth.specs.Truths.{IsEnd, ChainLeads, Truth}
+use Rattle.world_truth.specs.Replies.{IsReplyTo, Ends, IsWhole}
+use Rattle.world_truth.proofs.Honest.{alias_is, IsShown}
 use Rattle.resolution.specs.Jobs.{Source, Local, Cached, Accepted, Taken, IsEnding, sent_from, sent}
 use Rattle.runs.specs.States.{Plain}
 use Rattle.runs.specs.Messages.{AreWritten, alias_in, aliases_of, end_in, outcome_of}
 use Rattle.laws.specs.Headline.{IsServfail, IsRightWhole, IsRightReply}
 use Rattle.laws.proofs.RightEntries.{IsOnce, IsGood, sent_good}
-use Rattle.laws.proofs.RightPoints.{AreLeading, EndsTruly}
+use Rattle.laws.proofs.RightPoints.{TrueAliasesLead, EndsTruly}
 
 -- ---- chains
 
@@ -48,18 +48,18 @@ cname_of (Txt ts) h = absurd (omega (arith, h))
 cname_of (Ipv6 a) h = absurd (omega (arith, h))
 cname_of (Srv v) h = absurd (omega (arith, h))
 
-true_leads : (W : World) (t now : ℕ) (from to : Name) (ls : List Taken) → AreLeading W t from ls to → Leads W t from (aliases_of now ls) to × (length (aliases_of now ls) ≡ length ls)
+true_leads : (W : World) (t now : ℕ) (from to : Name) (ls : List Taken) → TrueAliasesLead W t from ls to → ChainLeads W t from (aliases_of now ls) to × (length (aliases_of now ls) ≡ length ls)
 true_leads W t now from to [] leads = (leads, refl)
 true_leads W t now from to (l ∷ ls) (name, (r, alias, good, more)) =
     let (s, is, same) = sent_alias now l.source r in
     let here : IsGood W from t (Alias s) = subst (IsGood W from t) is (sent_good W from t now l.source (Alias r) good) in
     let shown : IsShown from t s = alias_is here.is.0 from t s here.is.2 in
     let (n, value) = cname_of s.value shown.kind in
-    let target : target_of r ≡ n = ap (target_in r.owner) (sym same.1 ∙ value) in
-    let rest = true_leads W t now (target_of r) to ls more in
+    let target : alias_target r ≡ n = ap (target_in r.owner) (sym same.1 ∙ value) in
+    let rest = true_leads W t now (alias_target r) to ls more in
     let whole : sent now l ≡ Alias s = ap (sent_from now l.source) alias ∙ is in
-    subst (λ (k : Link). Leads W t from (alias_in k ++ aliases_of now ls) to × (length (alias_in k ++ aliases_of now ls) ≡ suc (length ls))) (sym whole)
-    ((here.is, (n, value, subst (λ (m : Name). Leads W t m (aliases_of now ls) to) target rest.0)), ap suc rest.1)
+    subst (λ (k : Link). ChainLeads W t from (alias_in k ++ aliases_of now ls) to × (length (alias_in k ++ aliases_of now ls) ≡ suc (length ls))) (sym whole)
+    ((here.is, (n, value, subst (λ (m : Name). ChainLeads W t m (aliases_of now ls) to) target rest.0)), ap suc rest.1)
 
 ending_sent : (now : ℕ) (o : Source) (l : Link) → IsEnding l → IsEnding (sent_from now o l)
 ending_sent now Local l h = h
@@ -99,7 +99,7 @@ chain_truth W q t now chain l h =
 
 -- ---- replies
 
-module _ (W : World) (q : Question Plain) (echo : folded_question q.echo ≡ question_of q) where
+module _ (W : World) (q : Query Plain) (echo : folded_question q.echo ≡ question_of q) where
   to_question : (m : Message) → (m.header).qr ≡ true → m.questions ≡ folded_question q.echo ∷ [] → IsReplyTo q.name (type_number q.kind) m
   to_question m qr asked = record { qr = qr; question = asked ∙ ap (λ x. x ∷ []) echo }
 
@@ -124,7 +124,7 @@ module _ (W : World) (q : Question Plain) (echo : folded_question q.echo ≡ que
       by false is = servfail bytes (whole_reply q (outcome.Fail c)) is refl refl refl refl refl refl
   fail_right Tcp c bytes written = by (nat_lt 65535 (length (encoding (whole_reply q (outcome.Fail c))))) written.1
     where
-      by : (b : Bool) → IsMessage bytes (folded_message (if◌then◌else◌ {A = Message × Option Cause} b (bare q.start (q.echo ∷ []) false 2, Some Large) (whole_reply q (outcome.Fail c), Some c)).0)
+      by : (b : Bool) → IsMessage bytes (folded_message (if◌then◌else◌ {A = Message × Option Cause} b (bare q.start (q.echo ∷ []) false 2, Some ReplyTooLarge) (whole_reply q (outcome.Fail c), Some c)).0)
           → IsServfail q.name (type_number q.kind) bytes
       by true is = servfail bytes (bare q.start (q.echo ∷ []) false 2) is refl refl refl refl refl refl
       by false is = servfail bytes (whole_reply q (outcome.Fail c)) is refl refl refl refl refl refl
@@ -168,7 +168,7 @@ module _ (W : World) (q : Question Plain) (echo : folded_question q.echo ≡ que
         by false long is = inr (inr (right_whole bytes is))
     chain_right Tcp bytes written = by (nat_lt 65535 (length (encoding full))) written.1
       where
-        by : (b : Bool) → IsMessage bytes (folded_message (if◌then◌else◌ {A = Message × Option Cause} b (bare q.start (q.echo ∷ []) false 2, Some Large) (full, None)).0)
+        by : (b : Bool) → IsMessage bytes (folded_message (if◌then◌else◌ {A = Message × Option Cause} b (bare q.start (q.echo ∷ []) false 2, Some ReplyTooLarge) (full, None)).0)
             → IsRightReply W Tcp q.name (type_number q.kind) bytes
         by true is = inl (servfail bytes (bare q.start (q.echo ∷ []) false 2) is refl refl refl refl refl refl)
         by false is = inr (inr (right_whole bytes is))

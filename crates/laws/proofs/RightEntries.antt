@@ -11,25 +11,26 @@ use Rattle.zone.specs.Same.{Same, Has, SameSet, SameLink}
 use Rattle.zone.specs.Look.{Local, Linked}
 use Rattle.zone.proofs.LawLists.{none_in, first_in, map_of, map_in}
 use Rattle.authority.specs.Catalogs.{IsLooked}
-use Rattle.layout.specs.Messages.{Message}
+use Rattle.message_grammar.specs.Messages.{Message}
 use Rattle.wire.specs.declared.via.Via.{Via}
 use Rattle.classify.specs.Classes.{Answer, class_of}
 use Rattle.classify.proofs.Uses.{found_once}
-use Rattle.classify.specs.Lifetimes.{longest, received}
+use Rattle.limits.specs.Limits.{max_ttl}
+use Rattle.classify.specs.Lifetimes.{received}
 use Rattle.classify.proofs.Shortened.{received_same}
 use Rattle.cache.specs.Keys.{Kind, NameError, Key, key_for}
-use Rattle.cache.specs.Cached.{Hit, Asked, after_keep, IsKept, Answers, IsHeld}
+use Rattle.cache.specs.Cached.{Hit, Question, after_keep, IsKept, EntryAnswers, IsHeld}
 use Rattle.cache.proofs.Members.{kept_members}
-use Rattle.truth.specs.Worlds.{World, IsWorld}
-use Rattle.truth.specs.Truths.{IsTrueLink}
-use Rattle.truth.specs.Replies.{Once}
-use Rattle.truth.specs.Frames.{AreHeld}
-use Rattle.truth.specs.Beneath.{MayDeny}
-use Rattle.truth.proofs.Beneath.{error_beneath}
-use Rattle.truth.proofs.Entries.{error_for_all, alias_for_all, found_as_alias, alias_as_found}
-use Rattle.truth.proofs.Sames.{same_back, same_on}
-use Rattle.truth.proofs.Grown.{local_is_true}
-use Rattle.truth.proofs.Stays.{same_is_true, held_once}
+use Rattle.world_truth.specs.Worlds.{World, IsWorld}
+use Rattle.world_truth.specs.Truths.{IsTrueLink}
+use Rattle.world_truth.specs.Replies.{Once}
+use Rattle.world_truth.specs.Frames.{AreHeld}
+use Rattle.world_truth.specs.Beneath.{MayDeny}
+use Rattle.world_truth.proofs.Beneath.{error_beneath}
+use Rattle.world_truth.proofs.Entries.{error_for_all, alias_for_all, found_as_alias, alias_as_found}
+use Rattle.world_truth.proofs.Sames.{same_back, same_on}
+use Rattle.world_truth.proofs.Grown.{local_is_true}
+use Rattle.world_truth.proofs.Stays.{same_is_true, held_once}
 use Rattle.cache.specs.Cached.{retimed}
 use Rattle.resolution.specs.Jobs.{Source, Cached, Accepted, sent_from}
 use Rattle.resolution.specs.Jobs as taken
@@ -73,7 +74,7 @@ module _ (f : Record → Record) (same : (r : Record) → Same (f r) r) where
   one_mapped : (r : Record) → SameSet (f r ∷ []) (r ∷ [])
   one_mapped r = set_mapped (r ∷ [])
 
-capped_same : (r : Record) → Same (capped longest r) r
+capped_same : (r : Record) → Same (capped max_ttl r) r
 capped_same r = (refl, refl)
 
 ttl_same : (ttl : ℕ) (r : Record) → Same (with_ttl ttl r) r
@@ -92,7 +93,7 @@ retimed_once ttl (NoData r) h = tt
 retimed_once ttl (NxDomain r) h = tt
 
 received_once : (l : Link) → IsOnce l → IsOnce (received l)
-received_once (Found rs) h = once_mapped (capped longest) capped_same rs h
+received_once (Found rs) h = once_mapped (capped max_ttl) capped_same rs h
 received_once (Alias r) h = tt
 received_once (NoData r) h = tt
 received_once (NxDomain r) h = tt
@@ -164,11 +165,11 @@ at_question : (W : World) (n q : Name) (u t : ℕ) (l : Link) → n ≡ q → u 
 at_question W n q u t l same kind h = subst (λ (x : Name). IsGood W x t l) same (subst (λ (v : ℕ). IsGood W n v l) kind h)
 
 -- Each of these names above the question's may deny it.
-abbrev pub Count : Asked → Local → Type 0
+abbrev pub Count : Question → Local → Type 0
 Count a said = (p : Name) → Contains a.above p → MayDeny said p × IsAtOrUnder a.name p
 
-module _ (W : World) (w : IsWorld W) (zs : List Zone) (held : AreHeld W zs) (a : Asked) (said : Local) (looked : IsLooked zs a.name a.kind said) (count : Count a said) (k : Key) (given : Link) where
-  answers_true : (e : Link) → IsTrueEntry W k e → Answers a k e given → IsGood W a.name a.kind given
+module _ (W : World) (w : IsWorld W) (zs : List Zone) (held : AreHeld W zs) (a : Question) (said : Local) (looked : IsLooked zs a.name a.kind said) (count : Count a said) (k : Key) (given : Link) where
+  answers_true : (e : Link) → IsTrueEntry W k e → EntryAnswers a k e given → IsGood W a.name a.kind given
   answers_true (Found rs) (n, u, key, good) (inl (at, is)) = kind_not_error u (slot_of (sym key ∙ at))
   answers_true (Found rs) (n, u, key, good) (inr (inl (at, is))) =
       subst (IsGood W a.name a.kind) (sym is) (at_question W n a.name u a.kind (Found rs) (name_of (sym key ∙ at)) (one_kind u a.kind (slot_of (sym key ∙ at))) good)
@@ -202,6 +203,6 @@ module _ (W : World) (w : IsWorld W) (zs : List Zone) (held : AreHeld W zs) (a :
       let (denies, under) = count p there in
       subst (IsGood W a.name a.kind) (sym is) (record { is = error_beneath W zs p a.name u a.kind r said w held looked denies under above.is; once = tt })
 
-pub hit_good : (W : World) (zs : List Zone) (a : Asked) (said : Local) (now : ℕ) (es : List (Key × Hit)) (h : Hit) → IsWorld W → AreHeld W zs → IsLooked zs a.name a.kind said → Count a said
+pub hit_good : (W : World) (zs : List Zone) (a : Question) (said : Local) (now : ℕ) (es : List (Key × Hit)) (h : Hit) → IsWorld W → AreHeld W zs → IsLooked zs a.name a.kind said → Count a said
     → AreTrueEntries W es → IsHeld a now es h → IsGood W a.name a.kind h.link
 hit_good W zs a said now es h w held looked count all (k, e, there, lives, answers, ttl, since) = answers_true W w zs held a said looked count k h.link e.link (all k e there) answers

@@ -8,9 +8,9 @@ use Rattle.zone.specs.Zones.{a_type}
 use Rattle.zone.specs.Links.{Link, Alias}
 use Rattle.zone.specs.Look as local
 use Rattle.zone.proofs.LawLists.{none_in}
-use Rattle.layout.specs.Messages.{Message}
+use Rattle.message_grammar.specs.Messages.{Message}
 use Rattle.wire.specs.declared.via.Via.{Via}
-use Rattle.front.specs.Chains.{target_of}
+use Rattle.front.specs.Chains.{alias_target}
 use Rattle.classify.specs.Classes as class
 use Rattle.classify.specs.Classes.{class_of}
 use Rattle.classify.specs.Lifetimes.{received}
@@ -22,12 +22,12 @@ use Rattle.cache.proofs.Above.{above_is_between}
 use Rattle.cache.proofs.Members.{looked_members}
 use Rattle.frames.specs.Frames.{Frame, FailedName, opened, after_add, fresh_addresses}
 use Rattle.frames.proofs.Places.{name_member}
-use Rattle.truth.specs.Worlds.{World, IsWorld}
-use Rattle.truth.specs.Serving.{MayServe}
-use Rattle.truth.specs.Frames.{MayAsk}
-use Rattle.truth.proofs.Honest.{honest_answer}
-use Rattle.resolution.specs.Jobs.{Home, Stores, level_of, with_told, Taken, IsEnding, bytes_of, Search, with_frame, given, Job, Input, Start, Told, TimedOut, TcpFailed, Next, Ask, AskTcp, Done, Fail, Task, Seek, Take, Go, Again, Point, hit_from}
-use Rattle.resolution.specs.Rules.{Says, IsRemote, asked_by, asked_of, Hits, Finds, Misses, HearsOf, turned, Rule, takes, asks, follows, restarts, skips, hears, descends, gives_up, Rules, ByClass, Enters, Leaves, sends, sends_again, refuses, spent, nowhere, too_long, done, Advances, IsTakenEntry, IsTakenCut, Stops}
+use Rattle.world_truth.specs.Worlds.{World, IsWorld}
+use Rattle.world_truth.specs.Serving.{MayServe}
+use Rattle.world_truth.specs.Frames.{MayAsk}
+use Rattle.world_truth.proofs.Honest.{honest_answer}
+use Rattle.resolution.specs.Jobs.{Home, Stores, level_of, with_told, Taken, IsEnding, bytes_of, Search, with_frame, given, Job, Input, Start, Told, TimedOut, TcpFailed, Next, AskUdp, AskTcp, Done, Fail, Task, Seek, Take, Go, Again, Point, hit_from}
+use Rattle.resolution.specs.Rules.{Says, IsRemote, asked_by, asked_of, Hits, Finds, Misses, UsesServerAddress, turned, Rule, takes, asks, follows, restarts, skips, hears, descends, gives_up, Rules, ByClass, Enters, Leaves, sends, sends_again, refuses, spent, nowhere, too_long, done, Advances, IsTakenEntry, IsTakenCut, Stops}
 use Rattle.resolution.proofs.Passing.{passes_keep}
 use Rattle.laws.specs.Headline.{IsHomeIn}
 use Rattle.laws.proofs.RightLists.{longer}
@@ -37,9 +37,9 @@ use Rattle.laws.proofs.Servers.{AreTrueCuts, IsTrueCut, IsTrueFrame, opened_true
 -- ---- what is true
 
 -- True aliases that lead from a name to another.
-abbrev pub AreLeading : World → ℕ → Name → List Taken → Name → Type 0
-AreLeading W t from [] to = to ≡ from
-AreLeading W t from (l ∷ ls) to = (l.name ≡ from) × ((r : Record) × (l.link ≡ Alias r) × IsGood W from t (Alias r) × AreLeading W t (target_of r) ls to)
+abbrev pub TrueAliasesLead : World → ℕ → Name → List Taken → Name → Type 0
+TrueAliasesLead W t from [] to = to ≡ from
+TrueAliasesLead W t from (l ∷ ls) to = (l.name ≡ from) × ((r : Record) × (l.link ≡ Alias r) × IsGood W from t (Alias r) × TrueAliasesLead W t (alias_target r) ls to)
 
 -- A search for the query's own name, or for a name of the servers of the search around it.
 abbrev pub IsWanted : Name → ℕ → Search → List Search → Type 0
@@ -52,7 +52,7 @@ AreTrueSearches W n t (s ∷ rest) = IsTrueFrame W s.name s.frame × IsWanted n 
 
 pub record IsTrueJob (W : World) (q : Name) (t : ℕ) (j : Job) : Type 0 where
   pub kind : j.kind ≡ t
-  pub leads : AreLeading W t q j.chain j.name
+  pub leads : TrueAliasesLead W t q j.chain j.name
   pub few : length j.chain ≤ 8
   pub searches : AreTrueSearches W j.name t j.searches
 
@@ -98,23 +98,23 @@ pub record AsksTruly (W : World) (server : Addr) (n : Name) (k : ℕ) (job : Job
 
 pub record EndsTruly (W : World) (q : Name) (t : ℕ) (chain : List Taken) (l : Taken) : Type 0 where
   pub to : Name
-  pub leads : AreLeading W t q chain to
+  pub leads : TrueAliasesLead W t q chain to
   pub few : length chain ≤ 8
   pub ending : IsEnding l.link
   pub good : IsGood W to t l.link
 
 abbrev pub IsTrueNext : World → Name → ℕ → Next → Job → Type 0
-IsTrueNext W q t (Ask server n k) job = AsksTruly W server n k job × IsTrueJob W q t job
+IsTrueNext W q t (AskUdp server n k) job = AsksTruly W server n k job × IsTrueJob W q t job
 IsTrueNext W q t (AskTcp server n k) job = AsksTruly W server n k job × IsTrueJob W q t job
 IsTrueNext W q t (Done chain l) job = EndsTruly W q t chain l
 IsTrueNext W q t (Fail c) job = Unit {0}
 
 -- ---- chains
 
-lead_more : (W : World) (t : ℕ) (from to : Name) (ls : List Taken) (l : Taken) (r : Record) → AreLeading W t from ls to → l.name ≡ to → l.link ≡ Alias r → IsGood W to t (Alias r)
-    → AreLeading W t from (ls ++ l ∷ []) (target_of r)
+lead_more : (W : World) (t : ℕ) (from to : Name) (ls : List Taken) (l : Taken) (r : Record) → TrueAliasesLead W t from ls to → l.name ≡ to → l.link ≡ Alias r → IsGood W to t (Alias r)
+    → TrueAliasesLead W t from (ls ++ l ∷ []) (alias_target r)
 lead_more W t from to [] l r leads name link good = (name ∙ leads, (r, link, subst (λ (n : Name). IsGood W n t (Alias r)) leads good, refl))
-lead_more W t from to (x ∷ ls) l r (first, (s, alias, is, more)) name link good = (first, (s, alias, is, lead_more W t (target_of s) to ls l r more name link good))
+lead_more W t from to (x ∷ ls) l r (first, (s, alias, is, more)) name link good = (first, (s, alias, is, lead_more W t (alias_target s) to ls l r more name link good))
 
 heads : {X : Type 0} {x y : X} {xs ys : List X} → x ∷ xs ≡ y ∷ ys → x ≡ y
 heads e = cc
@@ -126,14 +126,14 @@ none_more : {X P : Type 0} (xs ys : List X) (x : X) → [] ≡ xs ++ x ∷ ys �
 none_more [] ys x e = cc
 none_more (z ∷ xs) ys x e = cc
 
-front_leads : (W : World) (t : ℕ) (from to : Name) (chain front back : List Taken) (l d : Taken) → AreLeading W t from chain to → l.name ≡ to → chain ++ l ∷ [] ≡ front ++ d ∷ back
-    → AreLeading W t from front d.name
+front_leads : (W : World) (t : ℕ) (from to : Name) (chain front back : List Taken) (l d : Taken) → TrueAliasesLead W t from chain to → l.name ≡ to → chain ++ l ∷ [] ≡ front ++ d ∷ back
+    → TrueAliasesLead W t from front d.name
 front_leads W t from to [] [] back l d leads name split = ap (λ (x : Taken). x.name) (sym (heads split)) ∙ (name ∙ leads)
 front_leads W t from to (c ∷ cs) [] back l d (first, more) name split = ap (λ (x : Taken). x.name) (sym (heads split)) ∙ first
 front_leads W t from to [] (f ∷ fs) back l d leads name split = none_more fs back d (tails split)
 front_leads W t from to (c ∷ cs) (f ∷ fs) back l d (first, (r, alias, is, more)) name split =
     let same : c ≡ f = heads split in
-    (ap (λ (x : Taken). x.name) (sym same) ∙ first, (r, ap (λ (x : Taken). x.link) (sym same) ∙ alias, is, front_leads W t (target_of r) to cs fs back l d more name (tails split)))
+    (ap (λ (x : Taken). x.name) (sym same) ∙ first, (r, ap (λ (x : Taken). x.link) (sym same) ∙ alias, is, front_leads W t (alias_target r) to cs fs back l d more name (tails split)))
 
 front_few : {X : Type 0} (chain front back : List X) (l d : X) → chain ++ l ∷ [] ≡ front ++ d ∷ back → length chain ≤ 8 → length front ≤ 8
 front_few chain front back l d split few =
@@ -195,7 +195,7 @@ module _ (W : World) (w : IsWorld W) (home : Home) (ours : IsHomeIn W home) (now
 
   -- A search that hears of one of its servers' names.
   heard_true : (stores : Stores) (n p : Name) (t : ℕ) (l : Link) (before : Search) (rest : List Search) (failed : List FailedName) (after : Search) (marks : List FailedName)
-      → HearsOf stores n l before failed after marks → Contains (before.frame).names n → IsGood W n a_type l
+      → UsesServerAddress stores n l before failed after marks → Contains (before.frame).names n → IsGood W n a_type l
       → AreTrueSearches W p t (before ∷ rest) → AreTrueSearches W p t (after ∷ rest)
   heard_true stores n p t l before rest failed after marks h member good (frame, wanted, more) = elim h.is as (λ x. AreTrueSearches W p t (after ∷ rest)) [
     | inl x ↦ subst (λ (s : Search). AreTrueSearches W p t (s ∷ rest)) (sym x.4)
@@ -241,7 +241,7 @@ module _ (W : World) (w : IsWorld W) (home : Home) (ours : IsHomeIn W home) (now
         kind = (h.job).kind;
         leads = lead_more W t q (a.job).name (a.job).chain l r (h.job).leads name alias is;
         few = omega (arith, long, few);
-        searches = subst (AreTrueSearches W (target_of r) t) (sym free) tt;
+        searches = subst (AreTrueSearches W (alias_target r) t) (sym free) tt;
       })
       (subst (AreTrue W) (sym stores) h.stores) free
   rule_true q t a b h (restarts l d front back at ending split alive dead to job stores) =

@@ -3,16 +3,16 @@ use Rattle.std.proofs.Common.{◌≡◌, ℕ, ◌⊎◌, inl, inr, max, Option, 
 use Rattle.lru.proofs.Splits.{Contains-nil}
 use Rattle.dname.specs.Labels.{Name}
 use Rattle.wire.specs.declared.via.Via.{Via}
-use Rattle.front.specs.Queries.{IsAsked}
-use Rattle.front.specs.declared.queries.Asked.{Asked}
-use Rattle.front.specs.declared.queries.Asked.TheVariants as heard
+use Rattle.front.specs.Queries.{IsRequest}
+use Rattle.front.specs.declared.queries.Request.{Request}
+use Rattle.front.specs.declared.queries.Request.TheVariants as request
 use Rattle.resolution.specs.Jobs.{Home, Job, Start}
 use Rattle.resolution.specs.Rules.{Stops}
-use Rattle.runs.specs.States.{Event, Client, Datagram, TcpReply, Tick, Action, Reply, Turn, Served, Query, Plain, asker, Open, AreApart, moment, Site, State, IsNew, moved}
+use Rattle.runs.specs.States.{Event, Client, Datagram, TcpReply, Tick, Action, Reply, Turn, Served, OpenQuery, Plain, client_query, Open, AreApart, moment, Site, State, IsNew, moved}
 use Rattle.runs.specs.States as states
 use Rattle.runs.specs.Messages.{IsReply, IsRefusal}
 use Rattle.runs.specs.Runs.{Run, Always, clock_of, asks_among, is_for}
-use Rattle.runs.specs.Steps.{IsHandled, IsIgnored, Hears, IsFollowed, IsTicked, IsStarved, IsTurn}
+use Rattle.runs.specs.Steps.{IsHandled, IsIgnored, ServesOpen, IsFollowed, IsTicked, IsStarved, IsTurn}
 use Rattle.runs.proofs.Clocks.{clock_of_run}
 use Rattle.retry.specs.Penalties.{AreAtMost}
 use Rattle.referral.specs.Cuts.{Known}
@@ -20,7 +20,7 @@ use Rattle.cache.specs.Keys.{Key}
 use Rattle.cache.specs.Cached.{Hit}
 use Rattle.cache.specs.Failures.{FailedAsk}
 use Rattle.laws.specs.Replies.{RepliesAre}
-use Rattle.laws.specs.Caused.{IsExplained as IsResult}
+use Rattle.laws.specs.Caused.{IsExplained as IsExplainedSpec}
 use Rattle.laws.proofs.Timed.{timed_later}
 use Rattle.laws.proofs.Later.{told_later}
 use Rattle.laws.proofs.Learnt.{start_stop_timed}
@@ -35,13 +35,13 @@ module _ (past : List Turn) (s : State) (h : IsExplained (s.site).port (s.site).
   abbrev IsNow : Event → Type 0
   IsNow event = s.clock ≡ max (clock_of past) (moment event)
 
-  handled_now : (now client : ℕ) (way : Via) (bytes : List ℕ) (served : Served) (out : List Action) (new : State) (asked : Asked Plain) (clock : IsNow (Client now client way bytes)) → IsAsked bytes asked
+  handled_now : (now client : ℕ) (way : Via) (bytes : List ℕ) (served : Served) (out : List Action) (new : State) (asked : Request Plain) (clock : IsNow (Client now client way bytes)) → IsRequest bytes asked
       → IsHandled s client way asked served out new → Keeps past s h (turn_of (Client now client way bytes) served (Some out)) clock new out
-  handled_now now client way bytes served out new heard.Drop clock reads (is, none, same) = (
+  handled_now now client way bytes served out new request.Drop clock reads (is, none, same) = (
     same_state (s.site).port (s.site).home past s h (turn_of (Client now client way bytes) served (Some out)) new same (λ n e. not_own n (sym is ∙ e)) (λ j. ap (is_for j) is),
-    none_answered (s.site).home (turn_of (Client now client way bytes) served (Some out)) past (IsResult (s.site).port (s.site).home) out none,
+    none_answered (s.site).home (turn_of (Client now client way bytes) served (Some out)) past (IsExplainedSpec (s.site).port (s.site).home) out none,
   )
-  handled_now now client way bytes served out new (heard.Refuse refusal start echo) clock reads (is, (action, reply, only), same) = (
+  handled_now now client way bytes served out new (request.Refuse refusal start echo) clock reads (is, (action, reply, only), same) = (
     same_state (s.site).port (s.site).home past s h (turn_of (Client now client way bytes) served (Some out)) new same (λ n e. not_own n (sym is ∙ e)) (λ j. ap (is_for j) is),
     λ to by text c there. inl (record {
       moment = now;
@@ -56,18 +56,18 @@ module _ (past : List Turn) (s : State) (h : IsExplained (s.site).port (s.site).
       reply = subst (IsRefusal client way refusal start echo) (alone action (Reply to by text c) (subst (λ (l : List Action). Contains l (Reply to by text c)) only there)) reply;
     }),
   )
-  handled_now now client way bytes served out new (heard.Query q) clock reads (inl (no_rd, e)) = (
+  handled_now now client way bytes served out new (request.Query q) clock reads (inl (no_rd, e)) = (
     same_state (s.site).port (s.site).home past s h (turn_of (Client now client way bytes) served (Some out)) new e.state (λ n is. not_own n (sym e.served_is ∙ is)) (λ j. ap (is_for j) e.served_is),
     λ to by text c there. inr (record {
-      who = asker client way q;
+      who = client_query client way q;
       served = inl (record { is_served = e.served_is; moment = now; bytes = bytes; event = refl; reads = reads });
       result = e.result;
-      reply = subst (IsReply (asker client way q) e.result) (alone e.action (Reply to by text c) (subst (λ (l : List Action). Contains l (Reply to by text c)) e.out_is there)) e.reply;
+      reply = subst (IsReply (client_query client way q) e.result) (alone e.action (Reply to by text c) (subst (λ (l : List Action). Contains l (Reply to by text c)) e.out_is there)) e.reply;
       is = inl (no_rd, e.answers);
     }),
   )
-  handled_now now client way bytes served out new (heard.Query q) clock reads (inr (wanted, e)) =
-      resolved_now past s h (turn_of (Client now client way bytes) served (Some out)) clock (asker client way q) wanted out (λ a c. c) refl new apart
+  handled_now now client way bytes served out new (request.Query q) clock reads (inr (wanted, e)) =
+      resolved_now past s h (turn_of (Client now client way bytes) served (Some out)) clock (client_query client way q) wanted out (λ a c. c) refl new apart
       (λ as_served is. record { is_served = is; moment = now; bytes = bytes; event = refl; reads = reads }) e
 
   followed_count : (first out : List Action) (new : State) → IsFollowed first out new → asks_among out ≡ asks_among first
@@ -78,19 +78,19 @@ module _ (past : List Turn) (s : State) (h : IsExplained (s.site).port (s.site).
   ticked_now now served out new clock (inl e) = ignored_now past s h (turn_of (Tick now) served (Some out)) clock out new e
   ticked_now now served out new clock (inr (first, inl late, followed)) =
       let k = late_now past s h (turn_of (Tick now) served (Some out)) clock first new late in
-      (k.0, followed_answered (s.site).home (turn_of (Tick now) served (Some out)) past (IsResult (s.site).port (s.site).home) first out new followed k.1)
+      (k.0, followed_answered (s.site).home (turn_of (Tick now) served (Some out)) past (IsExplainedSpec (s.site).port (s.site).home) first out new followed k.1)
   ticked_now now served out new clock (inr (first, inr hears, followed)) =
       let k = hears_now past s h (turn_of (Tick now) served (Some out)) clock first new (λ a c. followed_gives first out new followed a c) (followed_count first out new followed) hears in
-      (k.0, followed_answered (s.site).home (turn_of (Tick now) served (Some out)) past (IsResult (s.site).port (s.site).home) first out new followed k.1)
+      (k.0, followed_answered (s.site).home (turn_of (Tick now) served (Some out)) past (IsExplainedSpec (s.site).port (s.site).home) first out new followed k.1)
 
-  heard_now : (event : Event) (served : Served) (out : List Action) (new : State) (clock : IsNow event) → IsIgnored s event served out new ⊎ Hears s event served out new → Keeps past s h (turn_of event served (Some out)) clock new out
+  heard_now : (event : Event) (served : Served) (out : List Action) (new : State) (clock : IsNow event) → IsIgnored s event served out new ⊎ ServesOpen s event served out new → Keeps past s h (turn_of event served (Some out)) clock new out
   heard_now event served out new clock (inl e) = ignored_now past s h (turn_of event served (Some out)) clock out new e
   heard_now event served out new clock (inr e) = hears_now past s h (turn_of event served (Some out)) clock out new (λ a c. c) refl e
 
   -- Of a step where memory was wanting nothing goes out.
   abbrev pub Explains : Event → Served → Option (List Action) → State → Type 0
   Explains event served out new =
-      IsExplained (s.site).port (s.site).home (turn_of event served out ∷ past) new × RepliesAre (s.site).home (IsResult (s.site).port (s.site).home) (turn_of event served out) past
+      IsExplained (s.site).port (s.site).home (turn_of event served out ∷ past) new × RepliesAre (s.site).home (IsExplainedSpec (s.site).port (s.site).home) (turn_of event served out) past
 
   starved_turn : (event : Event) (served : Served) (new : State) → IsNow event → IsStarved s event served new → Explains event served None new
   starved_turn (Client now client way bytes) served new clock (is, e) = (
@@ -142,7 +142,7 @@ stays_apart : (site : Site) (run : List Turn) (s : State) → Run site run s →
 stays_apart site [] s new = subst AreApart (sym new.queries) tt
 stays_apart site (t ∷ past) s (old, before, step) = step.apart
 
-pub run_explained : (site : Site) (run : List Turn) (s : State) → Run site run s → IsExplained site.port site.home run s × Always (RepliesAre site.home (IsResult site.port site.home)) run
+pub run_explained : (site : Site) (run : List Turn) (s : State) → Run site run s → IsExplained site.port site.home run s × Always (RepliesAre site.home (IsExplainedSpec site.port site.home)) run
 run_explained site [] s new = (starts site s new, tt)
 run_explained site (t ∷ past) s (old, before, step) =
     let (h, all) = run_explained site past old before in
@@ -150,5 +150,5 @@ run_explained site (t ∷ past) s (old, before, step) =
     let keeps = turn_explained past (moved old t.event) (moves (old.site).port (old.site).home past old t.event (subst (λ (x : Site). IsExplained x.port x.home past old) (sym here) h)) (stays_apart site past old before)
     t.event t.served t.out s (ap (λ (n : ℕ). max n (moment t.event)) clock) step.turn in (
       subst (λ (x : Site). IsExplained x.port x.home (t ∷ past) s) here keeps.0,
-      (subst (λ (x : Site). RepliesAre x.home (IsResult x.port x.home) t past) here keeps.1, all),
+      (subst (λ (x : Site). RepliesAre x.home (IsExplainedSpec x.port x.home) t past) here keeps.1, all),
     )

@@ -10,7 +10,7 @@ use Rattle.zone.specs.Links.{Found}
 use Rattle.zone.specs.Look as local
 use Rattle.zone.proofs.LawLists.{none_in, first_in, in_cases, map_of, map_in}
 use Rattle.authority.specs.Catalogs.{IsLooked}
-use Rattle.layout.specs.Messages.{Message}
+use Rattle.message_grammar.specs.Messages.{Message}
 use Rattle.wire.specs.declared.via.Via.{Via}
 use Rattle.classify.specs.Classes.{Referral, class_of}
 use Rattle.classify.specs.Laws.{AreServers, AreAddresses}
@@ -21,13 +21,13 @@ use Rattle.frames.specs.Frames.{Frame, opened, after_add, fresh_addresses}
 use Rattle.frames.specs.Trimmed.{trimmed}
 use Rattle.frames.proofs.Steps.{taken_from, unknown_from, added_only}
 use Rattle.frames.proofs.Trims.{trimmed_names, trimmed_addresses}
-use Rattle.truth.specs.Worlds.{Address, World, IsWorld, Serves}
-use Rattle.truth.specs.Serving.{MayServe}
-use Rattle.truth.specs.Reading.{IsReferralTo, NamesServer, GivesAddress}
-use Rattle.truth.specs.Frames.{MayAsk, IsDelegation, IsFrame, frame_at, AreTargets, AreTaken}
-use Rattle.truth.specs.Frames as truth
-use Rattle.truth.proofs.Grown.{hints_start, cut_starts, kept_starts, kept_below_starts, referral_kept, referral_starts, address_adds, frame_asks}
-use Rattle.classify.specs.Targets.{target_of as target_names}
+use Rattle.world_truth.specs.Worlds.{Address, World, IsWorld, Serves}
+use Rattle.world_truth.specs.Serving.{MayServe}
+use Rattle.world_truth.specs.Reading.{IsReferralTo, NamesServer, GivesAddress}
+use Rattle.world_truth.specs.Frames.{MayAsk, IsDelegation, IsFrame, frame_at, AreTargets, AreTaken}
+use Rattle.world_truth.specs.Frames as truth
+use Rattle.world_truth.proofs.Grown.{hints_start, cut_starts, kept_starts, kept_below_starts, referral_kept, referral_starts, address_adds, frame_asks}
+use Rattle.classify.specs.Targets.{ns_target as target_names}
 use Rattle.resolution.specs.Jobs.{Home, Stores, ipv4_of, row_of, IsCutOf, hinted, root_cut, bytes_of, AreAddressesOf, cut_from}
 use Rattle.resolution.specs.Rules.{Begins, Misses}
 use Rattle.laws.specs.Headline.{IsHomeIn}

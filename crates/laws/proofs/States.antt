@@ -9,24 +9,24 @@ use Rattle.retry.specs.Penalties.{AreAtMost}
 use Rattle.classify.specs.Classes as class
 use Rattle.classify.specs.Classes.{class_of}
 use Rattle.classify.specs.Lifetimes.{received}
-use Rattle.layout.specs.Messages.{Message}
+use Rattle.message_grammar.specs.Messages.{Message}
 use Rattle.wire.specs.declared.via.Via.{Via}
 use Rattle.lru.proofs.Splits.{Contains-nil}
-use Rattle.recency.specs.Orders.{KeepsOnly}
+use Rattle.lru_laws.specs.Orders.{KeepsOnly}
 use Rattle.resolution.specs.Jobs.{Home, Stores, with_told, Taken, received_link, Search, Job, job_at, Input, Start, Told, TimedOut, TcpFailed, Next, Task, Take, Go, Again, Point, point}
 use Rattle.resolution.specs.Rules.{IsRemote, ByClass, Enters, Advances, IsTakenEntry, IsTakenCut, IsTakenFailure, Stops}
-use Rattle.runs.specs.States.{Event, Client, Datagram, TcpReply, Tick, Action, Turn, Served, Nobody, Own, Query, Asker, recursive, Path, ByUdp, ByTcp, Asking, via_of, Open, State}
+use Rattle.runs.specs.States.{Event, Client, Datagram, TcpReply, Tick, Action, Turn, Served, Nobody, Own, OpenQuery, ClientQuery, recursive, Path, ByUdp, ByTcp, Ask, via_of, Open, State}
 use Rattle.runs.specs.States as states
 use Rattle.runs.specs.Messages.{Brings}
 use Rattle.runs.specs.Runs.{Earlier, Came, clock_of, asks_in, is_for, asks_of}
 use Rattle.runs.specs.Steps.{IsInput}
-use Rattle.laws.specs.Spent.{BringsTruncated, AsksBy, IsOpenAsk, Takes}
-use Rattle.laws.proofs.TimelySearches.{Passed, IsAsking, AreAround}
+use Rattle.laws.specs.Spent.{BringsTruncated, AsksBy, IsOpenAsk, LearnsLink}
+use Rattle.laws.proofs.TimelySearches.{Passed, IsAsk, AreAround}
 use Rattle.laws.proofs.Told.{AreTold, KnownIn}
 use Rattle.laws.proofs.Timed.{AreTimed, AreKnown, timed_later, known_later}
 use Rattle.laws.proofs.TimelyPoints.{OnTop, IsSound, Lately}
 use Rattle.laws.proofs.Chains.{LeadsOn, IsOfName, IsReached, rules_reach}
-use Rattle.laws.proofs.Leaving.{IsWaitingFor, GoesOut as Leads, leaves_tell}
+use Rattle.laws.proofs.Leaving.{IsWaitingFor, GoesOut, leaves_tell}
 use Rattle.laws.proofs.Later.{told_later, leads_later, work_on}
 use Rattle.laws.proofs.Enters as enters
 use Rattle.laws.proofs.Enters.{taken_now, enters_sound, stops_told}
@@ -44,19 +44,19 @@ module _ (port : ℕ) (home : Home) where
   held_later turn past stores h = (told_later port home turn past stores h.0, timed_later port home turn past stores h.1)
 
   -- A query came ten seconds before its deadline.
-  abbrev pub IsBorn : ℕ → Asker → ℕ → List Turn → Type 0
-  IsBorn k who deadline run = Earlier (λ came before. Came (Query k) who came before × (deadline ≡ clock_of (came ∷ before) + 10000)) run
+  abbrev pub IsBorn : ℕ → ClientQuery → ℕ → List Turn → Type 0
+  IsBorn k who deadline run = Earlier (λ came before. Came (OpenQuery k) who came before × (deadline ≡ clock_of (came ∷ before) + 10000)) run
 
   -- An open query: it came, its ask is open, and its work stands.
   pub record IsOpenSound (run : List Turn) (q : Open) : Type 0 where
-    pub came : Earlier (Came (Query q.number) q.asker) run
-    pub born : IsBorn q.number q.asker (q.job).deadline run
-    pub wanted : recursive (q.asker).query ≡ true
+    pub came : Earlier (Came (OpenQuery q.number) q.client_query) run
+    pub born : IsBorn q.number q.client_query (q.job).deadline run
+    pub wanted : recursive (q.client_query).query ≡ true
     pub asked : IsOpenAsk port q.number q.ask run
-    pub work : IsWaitingFor port home run q.number (KnownIn port q.number run) (type_number ((q.asker).query).kind) ((q.asker).query).name (q.ask).server (q.ask).name (q.ask).kind q.job
-    pub known : AreKnown port home run q.number (type_number ((q.asker).query).kind) (Unit {0}) (q.job).chain
+    pub work : IsWaitingFor port home run q.number (KnownIn port q.number run) (type_number ((q.client_query).query).kind) ((q.client_query).query).name (q.ask).server (q.ask).name (q.ask).kind q.job
+    pub known : AreKnown port home run q.number (type_number ((q.client_query).query).kind) (Unit {0}) (q.job).chain
     pub remote : IsRemote home (q.job).name (q.job).kind
-    pub plain : type_number ((q.asker).query).kind ≡ cname_type → (q.job).chain ≡ []
+    pub plain : type_number ((q.client_query).query).kind ≡ cname_type → (q.job).chain ≡ []
     pub asks : (q.job).asks ≡ asks_of q.number run
     pub few : asks_of q.number run ≤ 40
 
@@ -68,14 +68,14 @@ module _ (port : ℕ) (home : Home) where
 
   -- ---- later
 
-  asks_later : (turn : Turn) (past : List Turn) (k : ℕ) (ask : Asking) (path : Path) → turn.served ≢ Query k → AsksBy port k ask path past → AsksBy port k ask path (turn ∷ past)
+  asks_later : (turn : Turn) (past : List Turn) (k : ℕ) (ask : Ask) (path : Path) → turn.served ≢ OpenQuery k → AsksBy port k ask path past → AsksBy port k ask path (turn ∷ past)
   asks_later turn past k ask (ByUdp sock) other h = inr (other, h)
   asks_later turn past k ask (ByTcp number) other h = inr (other, h)
 
-  pub not_for : (k : ℕ) (served : Served) → served ≢ Query k → is_for k served ≡ false
+  pub not_for : (k : ℕ) (served : Served) → served ≢ OpenQuery k → is_for k served ≡ false
   not_for k Nobody other = refl
   not_for k Own other = refl
-  not_for k (Query n) other = ne_eqb n k (λ e. absurd (other (ap Query e)))
+  not_for k (OpenQuery n) other = ne_eqb n k (λ e. absurd (other (ap OpenQuery e)))
 
   none_more : (b : Bool) (n m : ℕ) → b ≡ false → cond b n 0 + m ≡ m
   none_more b n m e = let first : cond b n 0 ≡ 0 = ap (λ (c : Bool). cond c n 0) e in omega arith
@@ -83,15 +83,15 @@ module _ (port : ℕ) (home : Home) where
   pub asks_stay : (turn : Turn) (past : List Turn) (k : ℕ) → is_for k turn.served ≡ false → asks_of k (turn ∷ past) ≡ asks_of k past
   asks_stay turn past k e = none_more (is_for k turn.served) (asks_in turn.out) (asks_of k past) e
 
-  pub open_later : (turn : Turn) (past : List Turn) (q : Open) → turn.served ≢ Query q.number → IsOpenSound past q → IsOpenSound (turn ∷ past) q
+  pub open_later : (turn : Turn) (past : List Turn) (q : Open) → turn.served ≢ OpenQuery q.number → IsOpenSound past q → IsOpenSound (turn ∷ past) q
   open_later turn past q other h = record {
     came = inr h.came;
     born = inr h.born;
     wanted = h.wanted;
     asked = asks_later turn past q.number q.ask (q.ask).path other h.asked;
-    work = work_on port home past (turn ∷ past) (inr (turn, refl)) q.number (KnownIn port q.number past) (KnownIn port q.number (turn ∷ past)) (λ n t a e. inr e) (type_number ((q.asker).query).kind) ((q.asker).query).name
+    work = work_on port home past (turn ∷ past) (inr (turn, refl)) q.number (KnownIn port q.number past) (KnownIn port q.number (turn ∷ past)) (λ n t a e. inr e) (type_number ((q.client_query).query).kind) ((q.client_query).query).name
         (q.ask).server (q.ask).name (q.ask).kind q.job h.work;
-    known = known_later port home turn past q.number (type_number ((q.asker).query).kind) (Unit {0}) (Unit {0}) (λ u. u) (q.job).chain h.known;
+    known = known_later port home turn past q.number (type_number ((q.client_query).query).kind) (Unit {0}) (Unit {0}) (λ u. u) (q.job).chain h.known;
     remote = h.remote;
     plain = h.plain;
     asks = h.asks ∙ sym (asks_stay turn past q.number (not_for q.number turn.served other));
@@ -104,7 +104,7 @@ module _ (port : ℕ) (home : Home) where
   pub unasked_later : (turn : Turn) (past : List Turn) (k : ℕ) → is_for k turn.served ≡ false → asks_of k past ≡ 0 → asks_of k (turn ∷ past) ≡ 0
   unasked_later turn past k e z = none_asked (is_for k turn.served) (asks_in turn.out) (asks_of k past) e z
 
-  pub other_number : (k n : ℕ) → n < k → is_for k (Query n) ≡ false
+  pub other_number : (k n : ℕ) → n < k → is_for k (OpenQuery n) ≡ false
   other_number k n lt = ne_eqb n k (λ e. absurd (apart e))
     where
       apart : n ≡ k → ⊥
@@ -112,7 +112,7 @@ module _ (port : ℕ) (home : Home) where
 
   -- ---- what the event is for an ask
 
-  pub is_input : (s : State) (q : Open) (event : Event) (served : Served) (out : Option (List Action)) (past : List Turn) (k : ℕ) (is : served ≡ Query k) (asked : IsOpenAsk port k q.ask past) (K M : Name → ℕ → Addr → Type 0) (f : (n : Name) (t : ℕ) (a : Addr) → K n t a → M n t a) (input : Input) → (s.site).port ≡ port
+  pub is_input : (s : State) (q : Open) (event : Event) (served : Served) (out : Option (List Action)) (past : List Turn) (k : ℕ) (is : served ≡ OpenQuery k) (asked : IsOpenAsk port k q.ask past) (K M : Name → ℕ → Addr → Type 0) (f : (n : Name) (t : ℕ) (a : Addr) → K n t a → M n t a) (input : Input) → (s.site).port ≡ port
       → IsInput s event q input → enters.IsInputNow port home k (turn_of event served out) past q.ask is asked K M f input
   is_input s q (Client now client way bytes) served out past k is asked K M f input at h = absurd h
   is_input s q (Datagram now sock from bytes) served out past k is asked K M f input at (m, brings, e) =
@@ -131,7 +131,7 @@ module _ (port : ℕ) (home : Home) where
 
 -- ---- one call
 
-module _ (port : ℕ) (home : Home) (k : ℕ) (turn : Turn) (past : List Turn) (ask : Asking) (served : turn.served ≡ Query k) (asked : IsOpenAsk port k ask past)
+module _ (port : ℕ) (home : Home) (k : ℕ) (turn : Turn) (past : List Turn) (ask : Ask) (served : turn.served ≡ OpenQuery k) (asked : IsOpenAsk port k ask past)
     (t : ℕ) (from : Name) (j : Job) (stores : Stores) (told : AreTold port home past stores) (work : IsWaitingFor port home past k (KnownIn port k past) t from ask.server ask.name ask.kind j) where
   abbrev pub KnownBefore : Name → ℕ → Addr → Type 0
   KnownBefore n u a = KnownIn port k past n u a
@@ -162,12 +162,12 @@ module _ (port : ℕ) (home : Home) (k : ℕ) (turn : Turn) (past : List Turn) (
 
   -- The innermost search of the open query.
   pub top_at : (s : Search) (rest : List Search) → j.searches ≡ s ∷ rest
-      → (IsAsking port home k past (Passed j.skipped KnownBefore) s ask.server × (ask.name ≡ s.name) × (ask.kind ≡ s.kind)) × AreAround port home k past (Passed j.skipped KnownBefore) j.name j.kind s.name s.kind (s.frame).nesting rest
+      → (IsAsk port home k past (Passed j.skipped KnownBefore) s ask.server × (ask.name ≡ s.name) × (ask.kind ≡ s.kind)) × AreAround port home k past (Passed j.skipped KnownBefore) j.name j.kind s.name s.kind (s.frame).nesting rest
   top_at s rest e =
-      subst (λ (l : List Search). OnTop port home k past (Passed j.skipped KnownBefore) j.name j.kind l (λ s. IsAsking port home k past (Passed j.skipped KnownBefore) s ask.server × (ask.name ≡ s.name) × (ask.kind ≡ s.kind))) e work.top
+      subst (λ (l : List Search). OnTop port home k past (Passed j.skipped KnownBefore) j.name j.kind l (λ s. IsAsk port home k past (Passed j.skipped KnownBefore) s ask.server × (ask.name ≡ s.name) × (ask.kind ≡ s.kind))) e work.top
 
   pub takes_now : (now : ℕ) (s : Search) (rest : List Search) (m : Message) (l : Link) → j.searches ≡ s ∷ rest → Brings port ask turn.event m
-      → class_of (s.frame).zone s.name s.kind (via_of ask.path) m ≡ class.Answer l → Takes port s.name s.kind (received l) turn past
+      → class_of (s.frame).zone s.name s.kind (via_of ask.path) m ≡ class.Answer l → LearnsLink port s.name s.kind (received l) turn past
   takes_now now s rest m l searches brings is =
       let h = top_at s rest searches in
       taken_now port home k turn past ask served asked KnownBefore KnownNow still_known s rest now j stores (point Go j stores) (told_later port home turn past stores told) work.marks work.known h.0 h.1 m brings l is
@@ -176,7 +176,7 @@ module _ (port : ℕ) (home : Home) (k : ℕ) (turn : Turn) (past : List Turn) (
       → class_of (s.frame).zone s.name s.kind (via_of ask.path) m ≡ class.Answer l → IsOfName port home (turn ∷ past) t j.name (Take (received_link s.name l now))
   taken_reach now s m l searches brings is =
       let h = top_at s [] searches in
-      (h.1.0, λ r e. inr (s.kind, received l, inl (subst (λ (n : Name). Takes port n s.kind (received l) turn past) h.1.0 (takes_now now s [] m l searches brings is)), inl e))
+      (h.1.0, λ r e. inr (s.kind, received l, inl (subst (λ (n : Name). LearnsLink port n s.kind (received l) turn past) h.1.0 (takes_now now s [] m l searches brings is)), inl e))
 
   by_class : (now : ℕ) (s : Search) (rest : List Search) (server : Addr) (m : Message) (c : class.Class) (old : Stores) (p : Point) → j.searches ≡ s ∷ rest → Brings port ask turn.event m
       → class_of (s.frame).zone s.name s.kind (via_of ask.path) m ≡ c → ByClass now server s rest c j old p → ReachedBy p
@@ -208,7 +208,7 @@ module _ (port : ℕ) (home : Home) (k : ℕ) (turn : Turn) (past : List Turn) (
     enters_now input p is h = enters_sound port home k turn past ask served asked KnownBefore KnownNow still_known now clock input j stores p told work.marks work.known work.top is h
 
     pub call_tells : (input : Input) (next : Next) (new : Job) (after : Stores) → IsInputNow input → Advances home now input j stores next new after
-        → Leads port home (turn ∷ past) k KnownNow t from TruncatedNow next new × AreTold port home (turn ∷ past) after
+        → GoesOut port home (turn ∷ past) k KnownNow t from TruncatedNow next new × AreTold port home (turn ∷ past) after
     call_tells input next new after is a =
         let first = enters_now input a.first is a.enters in
         let reached = enters_reach now input stores a.first is a.enters in
@@ -222,7 +222,7 @@ module _ (port : ℕ) (home : Home) (k : ℕ) (turn : Turn) (past : List Turn) (
 
 module _ (port : ℕ) (home : Home) (run : List Turn) (k : ℕ) (K : Name → ℕ → Addr → Type 0) (t : ℕ) (from : Name) (Truncates : Addr → Name → ℕ → Type 0) where
   pub start_tells : (now : ℕ) → Lately port home k run K Truncates now → (deadline : ℕ) (j : Job) (stores : Stores) (next : Next) (new : Job) (after : Stores) → AreTold port home run stores
-      → Advances home now Start (job_at from t deadline) stores next new after → Leads port home run k K t from Truncates next new × AreTold port home run after
+      → Advances home now Start (job_at from t deadline) stores next new after → GoesOut port home run k K t from Truncates next new × AreTold port home run after
   start_tells now lately deadline j stores next new after told a =
       let sound : IsSound port home k run K Truncates a.first = subst (IsSound port home k run K Truncates) (sym a.enters) (record { told = told; marks = λ f c. absurd (Contains-nil f c); stands = tt; known = λ e. absurd (cc) }) in
       let reached : IsReached port home run t from a.first.task a.first.job = subst (λ (p : Point). IsReached port home run t from p.task p.job) (sym a.enters)

@@ -10,12 +10,12 @@ use Rattle.classify.specs.Lifetimes.{received, lifetime_of}
 use Rattle.classify.proofs.Uses.{no_alias_class}
 use Rattle.referral.specs.Cuts.{Cut}
 use Rattle.cache.specs.Keys.{Key, key_for}
-use Rattle.cache.specs.Cached.{Hit, Asked, as_set, Answers}
+use Rattle.cache.specs.Cached.{Hit, Question, as_set, EntryAnswers}
 use Rattle.resolution.specs.Jobs.{Home, Stores, Source, Local, Cached, Accepted, Taken, Job, Task, Seek, Take, Go, Again, Point}
 use Rattle.resolution.specs.Rules.{Says, IsRemote, asked_of, Finds, Begins, Misses, Rule, takes, asks, follows, restarts, skips, hears, descends, gives_up, Rules}
 use Rattle.runs.specs.States.{Turn, via_of}
 use Rattle.runs.specs.Runs.{Earlier}
-use Rattle.laws.specs.Timely.{Learns}
+use Rattle.laws.specs.Timely.{AcceptsAnswer}
 use Rattle.laws.proofs.TimelyStores.{AreKept, Tells, hit_tells, looked_from}
 
 -- Some step of the run is such, of which something follows.
@@ -39,13 +39,13 @@ no_set (Alias q) r e = cc
 no_set (NoData soa) r e = cc
 no_set (NxDomain soa) r e = cc
 
-answers_plain : (a : Asked) (k : Key) (l : Link) (r : Record) → a.kind ≡ cname_type → Answers a k l (Alias r) → ⊥
+answers_plain : (a : Question) (k : Key) (l : Link) (r : Record) → a.kind ≡ cname_type → EntryAnswers a k l (Alias r) → ⊥
 answers_plain a k l r c (inl h) = no_set l r h.1
 answers_plain a k l r c (inr (inl h)) = no_set l r h.1
 answers_plain a k l r c (inr (inr (inl h))) = h.1 c
 answers_plain a k l r c (inr (inr (inr (p, there, key, is)))) = no_set l r is
 
-said_plain : (port by : ℕ) (n : Name) (said : Link) (since : ℕ) (r : Record) (turn : Turn) (past : List Turn) → received said ≡ Alias r → Learns port by n cname_type said since turn past → ⊥
+said_plain : (port by : ℕ) (n : Name) (said : Link) (since : ℕ) (r : Record) (turn : Turn) (past : List Turn) → received said ≡ Alias r → AcceptsAnswer port by n cname_type said since turn past → ⊥
 said_plain port by n (Found rs) since r turn past e h = cc
 said_plain port by n (NoData soa) since r turn past e h = cc
 said_plain port by n (NxDomain soa) since r turn past e h = cc
@@ -55,7 +55,7 @@ said_plain port by n (Alias q) since r turn past e h = no_alias_class root n (vi
 
 module _ (port : ℕ) (home : Home) (run : List Turn) where
   abbrev pub IsLearnt : Name → ℕ → Hit → Type 0
-  IsLearnt n u e = (by : ℕ) × (said : Link) × Earlier (Learns port by n u said e.since) run × (e.link ≡ received said) × (e.ttl ≡ lifetime_of (received said))
+  IsLearnt n u e = (by : ℕ) × (said : Link) × Earlier (AcceptsAnswer port by n u said e.since) run × (e.link ≡ received said) × (e.ttl ≡ lifetime_of (received said))
 
   abbrev pub AreTimed : Stores → Type 0
   AreTimed stores = AreKept IsLearnt stores.cache
@@ -82,9 +82,9 @@ module _ (port : ℕ) (home : Home) (run : List Turn) (k t : ℕ) (Mine : Type 0
   abbrev pub IsKnownAs : Name → Source → Link → Type 0
   IsKnownAs n Local l = Says home n t (local.Linked l)
   IsKnownAs n (Cached ttl since) l =
-      IsRemote home n t × ((by : ℕ) × (m : Name) × (u : ℕ) × (said : Link) × Earlier (Learns port by m u said since) run × Answers (asked_of home n t) (key_for m u (received said)) (received said) l
+      IsRemote home n t × ((by : ℕ) × (m : Name) × (u : ℕ) × (said : Link) × Earlier (AcceptsAnswer port by m u said since) run × EntryAnswers (asked_of home n t) (key_for m u (received said)) (received said) l
       × (ttl ≡ lifetime_of (received said)))
-  IsKnownAs n (Accepted ttl since) l = IsRemote home n t × Mine × ((said : Link) × Earlier (Learns port k n t said since) run × (l ≡ received said) × (ttl ≡ lifetime_of (received said)))
+  IsKnownAs n (Accepted ttl since) l = IsRemote home n t × Mine × ((said : Link) × Earlier (AcceptsAnswer port k n t said since) run × (l ≡ received said) × (ttl ≡ lifetime_of (received said)))
 
   abbrev pub IsKnown : Taken → Type 0
   IsKnown l = IsKnownAs l.name l.source l.link
@@ -120,8 +120,8 @@ module _ (port : ℕ) (home : Home) (run : List Turn) (k t : ℕ) (Mine : Type 0
               tells.at,
               tells.kind,
               said,
-              subst (λ (m : ℕ). Earlier (Learns port by tells.at tells.kind said m) run) (sym tells.since) learnt,
-              subst (λ (x : Link). Answers (asked_of home n t) (key_for tells.at tells.kind x) x hit.link) link tells.answers,
+              subst (λ (m : ℕ). Earlier (AcceptsAnswer port by tells.at tells.kind said m) run) (sym tells.since) learnt,
+              subst (λ (x : Link). EntryAnswers (asked_of home n t) (key_for tells.at tells.kind x) x hit.link) link tells.answers,
               tells.ttl ∙ ttl,
             ),
           )
@@ -130,10 +130,10 @@ module _ (port : ℕ) (home : Home) (run : List Turn) (k t : ℕ) (Mine : Type 0
   pub known_plain : (n : Name) (o : Source) (l : Link) (r : Record) → t ≡ cname_type → l ≡ Alias r → IsKnownAs n o l → ⊥
   known_plain n Local l r c e h = local_plain home n r (subst (λ (u : ℕ). Says home n u (local.Linked (Alias r))) c (subst (λ (x : Link). Says home n t (local.Linked x)) e h))
   known_plain n (Cached ttl since) l r c e (remote, (by, m, u, said, learnt, answers, life)) =
-      answers_plain (asked_of home n t) (key_for m u (received said)) (received said) r c (subst (λ (x : Link). Answers (asked_of home n t) (key_for m u (received said)) (received said) x) e answers)
+      answers_plain (asked_of home n t) (key_for m u (received said)) (received said) r c (subst (λ (x : Link). EntryAnswers (asked_of home n t) (key_for m u (received said)) (received said) x) e answers)
   known_plain n (Accepted ttl since) l r c e (remote, mine, (said, learnt, is, life)) =
-      earlier_tells (Learns port k n cname_type said since) run (λ turn past h. said_plain port k n said since r turn past (sym is ∙ e) h)
-      (subst (λ (u : ℕ). Earlier (Learns port k n u said since) run) c learnt)
+      earlier_tells (AcceptsAnswer port k n cname_type said since) run (λ turn past h. said_plain port k n said since r turn past (sym is ∙ e) h)
+      (subst (λ (u : ℕ). Earlier (AcceptsAnswer port k n u said since) run) c learnt)
 
   -- ---- over the rules
 

@@ -6,21 +6,21 @@ use Rattle.causes.specs.declared.cause.Cause.{Cause}
 use Rattle.wire.specs.declared.via.Via.{Via}
 use Rattle.front.specs.declared.queries.Outcome.{Outcome}
 use Rattle.resolution.specs.Jobs.{Home, Stores}
-use Rattle.runs.specs.States.{Action, Reply, MoreDue, Turn, Plain, Asker, recursive, Open, State}
+use Rattle.runs.specs.States.{Action, Reply, MoreDue, Turn, Plain, ClientQuery, recursive, Open, State}
 use Rattle.runs.specs.Messages.{IsReply}
 use Rattle.runs.specs.Steps.{Ends, Waits, IsFollowed}
 use Rattle.runs.specs.Replies.{IsServedFor, Refuses}
-use Rattle.laws.specs.Replies.{Answers}
+use Rattle.laws.specs.Replies.{RepliesWith}
 use Rattle.laws.proofs.TimelyOpens.{alone, no_reply}
 
 -- ---- replies
 
-module _ (home : Home) (turn : Turn) (past : List Turn) (Good : Asker → Outcome Plain → Turn → List Turn → Type 0) where
+module _ (home : Home) (turn : Turn) (past : List Turn) (Good : ClientQuery → Outcome Plain → Turn → List Turn → Type 0) where
   abbrev pub AreAnswered : List Action → Type 0
   AreAnswered out = (client : ℕ) (way : Via) (bytes : List ℕ) (c : Option Cause) → Contains out (Reply client way bytes c)
-      → Refuses (Reply client way bytes c) turn ⊎ Answers home Good (Reply client way bytes c) turn past
+      → Refuses (Reply client way bytes c) turn ⊎ RepliesWith home Good (Reply client way bytes c) turn past
 
-  pub ends_answered : (s new : State) (who : Asker) (k : ℕ) (o : Outcome Plain) (stores : Stores) (out : List Action) → Ends s who k o stores out new → IsServedFor who turn past → recursive who.query ≡ true
+  pub ends_answered : (s new : State) (who : ClientQuery) (k : ℕ) (o : Outcome Plain) (stores : Stores) (out : List Action) → Ends s who k o stores out new → IsServedFor who turn past → recursive who.query ≡ true
       → Good who o turn past → AreAnswered out
   ends_answered s new who k o stores out e served wanted good client way bytes c there =
       let same = alone e.action (Reply client way bytes c) (subst (λ (l : List Action). Contains l (Reply client way bytes c)) e.out_is there) in

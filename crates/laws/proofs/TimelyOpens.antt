@@ -8,7 +8,7 @@ use Rattle.causes.specs.declared.cause.Cause.{Cause}
 use Rattle.wire.specs.declared.via.Via.{Via}
 use Rattle.front.specs.declared.queries.Outcome.{Outcome}
 use Rattle.resolution.specs.Jobs.{Home, Stores, Job}
-use Rattle.runs.specs.States.{Action, Reply, MoreDue, Turn, Served, Nobody, Own, Query, Plain, Asker, recursive, Path, ByUdp, ByTcp, Asking, IsFor, Open, open_query, AreApart, State}
+use Rattle.runs.specs.States.{Action, Reply, MoreDue, Turn, Served, Nobody, Own, OpenQuery, Plain, ClientQuery, recursive, Path, ByUdp, ByTcp, Ask, IsFor, Open, open_query, AreApart, State}
 use Rattle.runs.specs.Messages.{sending, IsSent}
 use Rattle.runs.specs.Runs.{Earlier, GivesOut, Came, clock_of, is_ask, asks_among, asks_in, is_for, asks_of}
 use Rattle.runs.specs.Steps.{AreOthers, AreWith, Ends, Waits, WaitsByUdp, WaitsByTcp}
@@ -24,7 +24,7 @@ pub alone : {X : Type 0} (a b : X) → Contains (a ∷ []) b → a ≡ b
 alone a b c = elim (Contains-cons a [] b c) [ inl e ↦ e | inr d ↦ absurd (Contains-nil b d) ]
 
 -- An ask is no reply.
-pub no_reply : (port : ℕ) (ask : Asking) (client : ℕ) (way : Via) (bytes : List ℕ) (c : Option Cause) (action : Action) → IsSent port ask action → action ≡ Reply client way bytes c → ⊥
+pub no_reply : (port : ℕ) (ask : Ask) (client : ℕ) (way : Via) (bytes : List ℕ) (c : Option Cause) (action : Action) → IsSent port ask action → action ≡ Reply client way bytes c → ⊥
 no_reply port ask client way bytes c action (text, written, is) e = by ask.path (sym is ∙ e)
   where
     by : (path : Path) → sending port ask path text ≡ Reply client way bytes c → ⊥
@@ -32,7 +32,7 @@ no_reply port ask client way bytes c action (text, written, is) e = by ask.path 
     by (ByTcp number) e = cc
 
 -- An ask is one.
-pub one_ask : (port : ℕ) (ask : Asking) (action : Action) → IsSent port ask action → asks_among (action ∷ []) ≡ 1
+pub one_ask : (port : ℕ) (ask : Ask) (action : Action) → IsSent port ask action → asks_among (action ∷ []) ≡ 1
 one_ask port ask action (text, written, is) = ap (λ (a : Action). asks_among (a ∷ [])) is ∙ by ask.path
   where
     by : (path : Path) → asks_among (sending port ask path text ∷ []) ≡ 1
@@ -73,19 +73,19 @@ unfolding numbers_of
 all_distinct [] h = tt
 all_distinct (q ∷ qs) (apart, more) = (λ c. let (p, there, e) = number_of qs q.number c in apart p there e, all_distinct qs more)
 
-pub not_same : (k n : ℕ) → n ≢ k → Query k ≢ Query n
+pub not_same : (k n : ℕ) → n ≢ k → OpenQuery k ≢ OpenQuery n
 not_same k n apart e = let same : k ≡ n = cc in apart (sym same)
 
-pub not_own : (n : ℕ) → Own ≢ Query n
+pub not_own : (n : ℕ) → Own ≢ OpenQuery n
 not_own n e = cc
 
-pub not_nobody : (n : ℕ) → Nobody ≢ Query n
+pub not_nobody : (n : ℕ) → Nobody ≢ OpenQuery n
 not_nobody n e = cc
 
 module _ (port : ℕ) (home : Home) (past : List Turn) (s : State) (h : IsExplained port home past s) (turn : Turn) where
   -- Nothing is open that was not.
   pub ended : (k : ℕ) (new : State) → new.opened ≡ s.opened → AreHeld port home (turn ∷ past) new.stores → AreOthers k s.queries new.queries
-      → ((q : Open) → Contains s.queries q → q.number ≢ k → turn.served ≢ Query q.number) → ((j : ℕ) → s.opened ≤ j → is_for j turn.served ≡ false) → IsExplained port home (turn ∷ past) new
+      → ((q : Open) → Contains s.queries q → q.number ≢ k → turn.served ≢ OpenQuery q.number) → ((j : ℕ) → s.opened ≤ j → is_for j turn.served ≡ false) → IsExplained port home (turn ∷ past) new
   ended k new count told others apart free = record {
     told = told;
     queries = λ q c. let (old, other) = others.only q c in open_later port home turn past q (apart q old other) (h.queries q old);
@@ -95,7 +95,7 @@ module _ (port : ℕ) (home : Home) (past : List Turn) (s : State) (h : IsExplai
 
   -- One is open with a new ask.
   waiting : (after : Open) (new : State) → s.opened ≤ new.opened → after.number < new.opened → AreHeld port home (turn ∷ past) new.stores → AreWith after s.queries new.queries
-      → turn.served ≡ Query after.number → IsOpenSound port home (turn ∷ past) after → IsExplained port home (turn ∷ past) new
+      → turn.served ≡ OpenQuery after.number → IsOpenSound port home (turn ∷ past) after → IsExplained port home (turn ∷ past) new
   waiting after new more count told queries is sound = record {
     told = told;
     queries = λ q c. elim (queries.only q c) [
@@ -119,9 +119,9 @@ module _ (port : ℕ) (home : Home) (past : List Turn) (s : State) (h : IsExplai
       low j le = omega arith
 
   -- What comes of a query that is served under a number.
-  module _ (at : (s.site).port ≡ port) (who : Asker) (k opened : ℕ) (is : turn.served ≡ Query k) (came : Earlier (Came (Query k) who) (turn ∷ past)) (wanted : recursive who.query ≡ true) (more : s.opened ≤ opened) (count : k < opened)
-      (d m now : ℕ) (clock : now ≡ clock_of (turn ∷ past)) (Mine : Type 0) (mine : Mine → turn.served ≡ Query k) (born : IsBorn port home k who d (turn ∷ past)) (total : asks_of k past ≡ m) where
-    one_more : (action : Action) (ask : Asking) (out : List Action) → IsSent port ask action → out ≡ action ∷ [] → asks_in turn.out ≡ asks_among out → asks_of k (turn ∷ past) ≡ m + 1
+  module _ (at : (s.site).port ≡ port) (who : ClientQuery) (k opened : ℕ) (is : turn.served ≡ OpenQuery k) (came : Earlier (Came (OpenQuery k) who) (turn ∷ past)) (wanted : recursive who.query ≡ true) (more : s.opened ≤ opened) (count : k < opened)
+      (d m now : ℕ) (clock : now ≡ clock_of (turn ∷ past)) (Mine : Type 0) (mine : Mine → turn.served ≡ OpenQuery k) (born : IsBorn port home k who d (turn ∷ past)) (total : asks_of k past ≡ m) where
+    one_more : (action : Action) (ask : Ask) (out : List Action) → IsSent port ask action → out ≡ action ∷ [] → asks_in turn.out ≡ asks_among out → asks_of k (turn ∷ past) ≡ m + 1
     one_more action ask out sent only counts =
         let here : is_for k turn.served ≡ true = ap (is_for k) is ∙ eq-eqb k k refl in
         let first : asks_in turn.out ≡ 1 = counts ∙ (ap asks_among only ∙ one_ask port ask action sent) in
@@ -131,7 +131,7 @@ module _ (port : ℕ) (home : Home) (past : List Turn) (s : State) (h : IsExplai
         sum b n l e f g = let first : cond b n 0 ≡ n = ap (λ (c : Bool). cond c n 0) e in omega arith
 
     -- The open query that comes of an ask.
-    opens : (server : Addr) (n : Name) (u : ℕ) (job : Job) (ask : Asking) (due : ℕ) → IsFor server n u ask → IsOpenAsk port k ask (turn ∷ past) → asks_of k (turn ∷ past) ≡ m + 1
+    opens : (server : Addr) (n : Name) (u : ℕ) (job : Job) (ask : Ask) (due : ℕ) → IsFor server n u ask → IsOpenAsk port k ask (turn ∷ past) → asks_of k (turn ∷ past) ≡ m + 1
         → IsWaitingFor port home (turn ∷ past) k (KnownIn port k (turn ∷ past)) (type_number (who.query).kind) (who.query).name server n u job → IsOpenFor port home turn past k (type_number (who.query).kind) now clock Mine mine d m job
         → IsOpenSound port home (turn ∷ past) (open_query k who job ask due)
     opens server n u job ask due for_it asked one work timely = record {
@@ -152,7 +152,7 @@ module _ (port : ℕ) (home : Home) (past : List Turn) (s : State) (h : IsExplai
         within : m < 40 → m + 1 ≤ 40
         within lt = omega arith
 
-    waits_on : (ask : Asking) (job : Job) (stores : Stores) (due asks : ℕ) (out : List Action) (new : State) → AreHeld port home (turn ∷ past) stores
+    waits_on : (ask : Ask) (job : Job) (stores : Stores) (due asks : ℕ) (out : List Action) (new : State) → AreHeld port home (turn ∷ past) stores
         → Waits s (open_query k who job ask due) opened asks stores out new → IsOpenSound port home (turn ∷ past) (open_query k who job ask due) → IsExplained port home (turn ∷ past) new
     waits_on ask job stores due asks out new told w sound =
         let total : new.opened ≡ opened = ap (λ (x : State). x.opened) w.state in
@@ -181,13 +181,13 @@ module _ (port : ℕ) (home : Home) (past : List Turn) (s : State) (h : IsExplai
           (one_more w.waits.action w.ask out sent w.waits.out_is counts) work timely)
 
   -- A query that is over.
-  pub ends_so : (who : Asker) (k : ℕ) (o : Outcome Plain) (stores : Stores) (out : List Action) (new : State) → AreHeld port home (turn ∷ past) stores → Ends s who k o stores out new
-      → ((q : Open) → Contains s.queries q → q.number ≢ k → turn.served ≢ Query q.number) → ((j : ℕ) → s.opened ≤ j → is_for j turn.served ≡ false) → IsExplained port home (turn ∷ past) new
+  pub ends_so : (who : ClientQuery) (k : ℕ) (o : Outcome Plain) (stores : Stores) (out : List Action) (new : State) → AreHeld port home (turn ∷ past) stores → Ends s who k o stores out new
+      → ((q : Open) → Contains s.queries q → q.number ≢ k → turn.served ≢ OpenQuery q.number) → ((j : ℕ) → s.opened ≤ j → is_for j turn.served ≡ false) → IsExplained port home (turn ∷ past) new
   ends_so who k o stores out new told e apart free =
       ended k new (ap (λ (x : State). x.opened) e.state) (subst (AreHeld port home (turn ∷ past)) (sym (ap (λ (x : State). x.stores) e.state)) told) e.queries apart free
 
   -- Nothing happens.
-  pub same_state : (new : State) → new ≡ s → ((n : ℕ) → turn.served ≢ Query n) → ((j : ℕ) → is_for j turn.served ≡ false) → IsExplained port home (turn ∷ past) new
+  pub same_state : (new : State) → new ≡ s → ((n : ℕ) → turn.served ≢ OpenQuery n) → ((j : ℕ) → is_for j turn.served ≡ false) → IsExplained port home (turn ∷ past) new
   same_state new e apart free = subst (IsExplained port home (turn ∷ past)) (sym e) (record {
     told = held_later port home turn past s.stores h.told;
     queries = λ q c. open_later port home turn past q (apart q.number) (h.queries q c);

@@ -15,13 +15,13 @@ use Rattle.frames.specs.Trimmed.{trimmed}
 use Rattle.frames.proofs.Steps.{added_there}
 use Rattle.frames.proofs.Trims.{trimmed_opens}
 use Rattle.resolution.specs.Jobs.{Home, Stores, level_of, IsCutOf, IsRootCut, Search, search_at, ask_of, fails_now, Job, marked, Task, Seek, Take, Go, Again, Point}
-use Rattle.resolution.specs.Rules.{Says, Begins, Misses, HearsOf, turned, Rule, takes, asks, follows, restarts, skips, hears, descends, gives_up, Rules}
+use Rattle.resolution.specs.Rules.{Says, Begins, Misses, UsesServerAddress, turned, Rule, takes, asks, follows, restarts, skips, hears, descends, gives_up, Rules}
 use Rattle.resolution.proofs.Passing.{passes_first, passes_keep, passes_name, passes_members}
 use Rattle.runs.specs.States.{Turn}
 use Rattle.runs.specs.Runs.{Earlier}
 use Rattle.laws.specs.Failures.{SaysFailure}
-use Rattle.laws.specs.Spent.{HasNoAddress, IsFound, IsStart, IsOver, IsBeyond}
-use Rattle.laws.proofs.TimelySearches.{Passed, SomeKnown, FailsTwice, IsIdle, IsAsking, IsWaiting, AreAround, IsMarked, AreMarked, idle_at, passes_idle, waits, goes_on, adds, nesting_stays, used_up, marked_up}
+use Rattle.laws.specs.Spent.{HasNoAddress, IsFound, MayStart, IsOver, IsBeyond}
+use Rattle.laws.proofs.TimelySearches.{Passed, SomeKnown, FailsTwice, IsIdle, IsAsk, IsWaiting, AreAround, IsMarked, AreMarked, idle_at, passes_idle, waits, goes_on, adds, nesting_stays, used_up, marked_up}
 use Rattle.laws.proofs.Grown.{idle_on, around_on, marks_on}
 use Rattle.laws.proofs.Told.{AreTold, low_level, found_told, found_set, found_none, missed_told, local_start}
 
@@ -36,12 +36,12 @@ looked_over home n t at ns glue says = by says.1
 module _ (port : ℕ) (home : Home) (run : List Turn) where
   -- A start over the name, at which a frame opens as at the cut.
   abbrev pub BeginsAt : Cut → Name → Type 0
-  BeginsAt c n = (s : Cut) × IsStart port home run s × IsOver s n × ((level : Addr → ℕ) (nesting : ℕ) → opened level nesting c ≡ opened level nesting s)
+  BeginsAt c n = (s : Cut) × MayStart port home run s × IsOver s n × ((level : Addr → ℕ) (nesting : ℕ) → opened level nesting c ≡ opened level nesting s)
 
   pub missed_start : (now : ℕ) (n : Name) (t : ℕ) (old new : Stores) (c : Cut) → AreTold port home run old → Misses home now n t old c new → BeginsAt c n
   missed_start now n t old new c told m = by m.what m.best m.says m.is_best m.begins
     where
-      root_start : (past : List Turn) → IsRootCut home c → IsStart port home past c
+      root_start : (past : List Turn) → IsRootCut home c → MayStart port home past c
       root_start [] e = inl e
       root_start (turn ∷ past) e = inl (root_start past e)
 
@@ -78,7 +78,7 @@ module _ (port : ℕ) (home : Home) (k : ℕ) (run : List Turn) (Known : Name �
   -- What a server's name has, or that it has none, goes to the search that waits for it.
   pub heard : (stores : Stores) (n : Name) (l : Link) (w after : Search) (failed marks : List FailedName) → AreTold port home run stores
       → ((set : List Record) → l ≡ Found set → IsFound port home run n set) → (((set : List Record) → l ≢ Found set) → HasNoAddress port home run n)
-      → IsWaiting port home k run Known w n → AreMarked port home k run Known failed → HearsOf stores n l w failed after marks
+      → IsWaiting port home k run Known w n → AreMarked port home k run Known failed → UsesServerAddress stores n l w failed after marks
       → IsIdle port home k run Known after × AreMarked port home k run Known marks × (after.name ≡ w.name) × (after.kind ≡ w.kind) × ((after.frame).nesting ≡ (w.frame).nesting)
   heard stores n l w after failed marks told sets nones waiting marked h = elim h.is [
     | inl (set, found, is, are, new, marks_is) ↦
@@ -112,7 +112,7 @@ module _ (port : ℕ) (home : Home) (k : ℕ) (run : List Turn) (K : Name → �
   StandsBy Seek j = Unit {0}
   StandsBy (Take l) j = Unit {0}
   StandsBy Go j = OnTop port home k run (Passed j.skipped K) j.name j.kind j.searches (IsIdle port home k run (Passed j.skipped K))
-  StandsBy (Again a) j = OnTop port home k run (Passed j.skipped K) j.name j.kind j.searches (λ s. IsAsking port home k run (Passed j.skipped K) s a × Truncates a s.name s.kind)
+  StandsBy (Again a) j = OnTop port home k run (Passed j.skipped K) j.name j.kind j.searches (λ s. IsAsk port home k run (Passed j.skipped K) s a × Truncates a s.name s.kind)
 
   pub record IsSound (p : Point) : Type 0 where
     pub told : AreTold port home run p.stores
@@ -136,7 +136,7 @@ module _ (port : ℕ) (home : Home) (k : ℕ) (run : List Turn) (K : Name → �
   pub heard_at : (p : Point) (n : Name) (l : Link) (w after : Search) (rest : List Search) (j : Job) (marks : List FailedName) → AreTold port home run p.stores
       → ((set : List Record) → l ≡ Found set → IsFound port home run n set) → (((set : List Record) → l ≢ Found set) → HasNoAddress port home run n)
       → IsWaiting port home k run (Passed j.skipped K) w n → AreAround port home k run (Passed j.skipped K) j.name j.kind w.name w.kind (w.frame).nesting rest → AreMarked port home k run (Passed j.skipped K) j.failed
-      → HearsOf p.stores n l w j.failed after marks → p.task ≡ Go → p.job ≡ record j { searches = after ∷ rest; failed = marks } → (j.skipped ≡ true → SomeKnown K) → IsSound p
+      → UsesServerAddress p.stores n l w j.failed after marks → p.task ≡ Go → p.job ≡ record j { searches = after ∷ rest; failed = marks } → (j.skipped ≡ true → SomeKnown K) → IsSound p
   heard_at p n l w after rest j marks told sets nones waiting around marked h to job known =
       let (idle, more, name, kind, nesting) = heard port home k run (Passed j.skipped K) p.stores n l w after j.failed marks told sets nones waiting marked h in
       put p Go _ to job told more (idle, around_stays port home k run (Passed j.skipped K) j.name j.kind rest after.name w.name after.kind w.kind (after.frame).nesting (w.frame).nesting name kind nesting around) known

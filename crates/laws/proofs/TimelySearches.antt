@@ -21,7 +21,7 @@ use Rattle.resolution.specs.Rules.{turned, PassesOver}
 use Rattle.resolution.proofs.Passing.{passes_name, passes_fails_now}
 use Rattle.runs.specs.States.{Turn}
 use Rattle.runs.specs.Runs.{Earlier}
-use Rattle.laws.specs.Spent.{EndsBadly, HasFailed, IsFound, HasNoAddress, IsStart, IsOver, IsOfNoUse, AreUsedUp, IsBeyond, IsSpent}
+use Rattle.laws.specs.Spent.{EndsBadly, HasFailed, IsFound, HasNoAddress, MayStart, IsOver, IsOfNoUse, AreUsedUp, IsBeyond, IsSpent}
 use Rattle.laws.proofs.TimelyLists.{some_is, Followed, none_followed, more_followed, all_twice, taken_more}
 
 -- Fewer look-ups within one another need no more.
@@ -76,7 +76,7 @@ module _ (port : ℕ) (home : Home) (k : ℕ) (run : List Turn) (Known : Name �
 
   -- A search whose frame was opened at the cut.
   pub record Stands (s : Search) (c : Cut) : Type 0 where
-    pub start : IsStart port home run c
+    pub start : MayStart port home run c
     pub over : IsOver c s.name
     pub zone : (s.frame).zone ≡ c.owner
     pub names : (s.frame).names ≡ unknown_names c
@@ -99,7 +99,7 @@ module _ (port : ℕ) (home : Home) (k : ℕ) (run : List Turn) (Known : Name �
     pub asked : AreAsked s cut ((s.frame).plan).given
 
   -- This server was asked.
-  pub record IsAsking (s : Search) (a : Addr) : Type 0 where
+  pub record IsAsk (s : Search) (a : Addr) : Type 0 where
     pub cut : Cut
     pub ended : ℕ
     pub stands : Stands s cut
@@ -132,7 +132,7 @@ module _ (port : ℕ) (home : Home) (k : ℕ) (run : List Turn) (Known : Name �
 
   -- ---- a search that begins
 
-  pub idle_at : (level : Addr → ℕ) (low : (a : Addr) → level a ≤ 8) (nesting : ℕ) (c : Cut) (n : Name) (t : ℕ) → IsStart port home run c → IsOver c n → IsIdle (search_at n t (opened level nesting c))
+  pub idle_at : (level : Addr → ℕ) (low : (a : Addr) → level a ≤ 8) (nesting : ℕ) (c : Cut) (n : Name) (t : ℕ) → MayStart port home run c → IsOver c n → IsIdle (search_at n t (opened level nesting c))
   idle_at level low nesting c n t start over = record {
     cut = c;
     stands = record { start = start; over = over; zone = refl; names = refl; addresses = λ a h. h };

@@ -7,13 +7,13 @@ use Rattle.zone.specs.Zones.{cname_type}
 use Rattle.zone.specs.Links.{Link, Found, Alias, NoData, NxDomain}
 use Rattle.zone.specs.Look as local
 use Rattle.causes.specs.declared.cause.Cause.{Cause}
-use Rattle.causes.specs.declared.cause.Cause.TheVariants.{TooManyOpen, Deadline, Chain, Sends, NoServer, Large, KnownFailure}
+use Rattle.causes.specs.declared.cause.Cause.TheVariants.{TooManyOpen, DeadlineOver, ChainTooLong, TooManyAsks, NoServerLeft, ReplyTooLarge, KnownFailure}
 use Rattle.classify.specs.Lifetimes.{received, lifetime_of}
-use Rattle.front.specs.Chains.{target_of, IsEndOf}
+use Rattle.front.specs.Chains.{alias_target, IsEndOf}
 use Rattle.cache.specs.Cached.{retimed}
-use Rattle.resolution.specs.Jobs.{Home, Stores, Source, Local, Cached, Accepted, Taken, has_ended, AreFresh, IsEnding, sent_from, sent, Job, Next, Ask, AskTcp, Done, Fail, Task, Take, Go, Again, Point}
-use Rattle.resolution.specs.Rules.{Says, IsRemote, IsRefused, spent_cause, Leaves, sends, sends_again, refuses, spent, nowhere, too_long, done}
-use Rattle.runs.specs.States.{Turn, Query}
+use Rattle.resolution.specs.Jobs.{Home, Stores, Source, Local, Cached, Accepted, Taken, has_ended, AreFresh, IsEnding, sent_from, sent, Job, Next, AskUdp, AskTcp, Done, Fail, Task, Take, Go, Again, Point}
+use Rattle.resolution.specs.Rules.{Says, IsRemote, MayNotSend, spent_cause, Leaves, sends, sends_again, refuses, spent, nowhere, too_long, done}
+use Rattle.runs.specs.States.{Turn, OpenQuery}
 use Rattle.runs.specs.Messages.{is_from_here, is_local_first, alias_in, aliases_of, end_in}
 use Rattle.runs.specs.Runs.{clock_of}
 use Rattle.laws.specs.Timely.{IsTimelyLink, IsTimelyChain, IsTimely}
@@ -21,7 +21,7 @@ use Rattle.laws.proofs.Chains.{LeadsOn, IsOfName, IsReached}
 use Rattle.laws.proofs.Timed.{AreTimed, IsKnownAs, IsKnown, AreKnown, KnownBy, IsTimed}
 
 -- An alias as it goes out leads where it led.
-sent_alias : (now : ℕ) (o : Source) (r : Record) → (q : Record) × (sent_from now o (Alias r) ≡ Alias q) × (target_of q ≡ target_of r)
+sent_alias : (now : ℕ) (o : Source) (r : Record) → (q : Record) × (sent_from now o (Alias r) ≡ Alias q) × (alias_target q ≡ alias_target r)
 sent_alias now Local r = (r, refl, refl)
 sent_alias now (Cached ttl since) r = (_, refl, refl)
 sent_alias now (Accepted ttl since) r = (_, refl, refl)
@@ -41,7 +41,7 @@ sent_end now (Accepted ttl since) (Alias r) h = absurd h
 sent_end now (Accepted ttl since) (NoData soa) h = refl
 sent_end now (Accepted ttl since) (NxDomain soa) h = refl
 
-module _ (port : ℕ) (home : Home) (turn : Turn) (past : List Turn) (k t now : ℕ) (clock : now ≡ clock_of (turn ∷ past)) (Mine : Type 0) (mine : Mine → turn.served ≡ Query k) where
+module _ (port : ℕ) (home : Home) (turn : Turn) (past : List Turn) (k t now : ℕ) (clock : now ≡ clock_of (turn ∷ past)) (Mine : Type 0) (mine : Mine → turn.served ≡ OpenQuery k) where
   left_of : (ttl life since : ℕ) (l : Link) → ttl ≡ life → retimed (ttl - (now - since) / 1000) l ≡ retimed (life - (clock_of (turn ∷ past) - since) / 1000) l
   left_of ttl life since l e = λ i. retimed (e i - (clock i - since) / 1000) l
 
@@ -87,7 +87,7 @@ module _ (port : ℕ) (home : Home) (turn : Turn) (past : List Turn) (k t now : 
       let (q, out, target) = sent_alias now x.source r in
       let goes : sent now x ≡ Alias q = ap (sent_from now x.source) link ∙ out in
       let first = subst (λ (n : Name). IsTimelyLink port home turn past n t (sent now x)) name (timely_as x.name x.source x.link fresh.0 known.0) in
-      let rest = timely_chain (target_of r) xs to last more at known.1 is fresh.1 ending in
+      let rest = timely_chain (alias_target r) xs to last more at known.1 is fresh.1 ending in
       subst (λ (rs : List Record). IsTimelyChain port home turn past t from (rs ++ aliases_of now xs) (end_in (sent now last))) (sym (ap alias_in goes))
       (subst (IsTimelyLink port home turn past from t) goes first, subst (λ (n : Name). IsTimelyChain port home turn past t n (aliases_of now xs) (end_in (sent now last))) (sym target) rest)
 
@@ -95,7 +95,7 @@ module _ (port : ℕ) (home : Home) (turn : Turn) (past : List Turn) (k t now : 
   as_many from [] to leads = refl
   as_many from (x ∷ xs) to (name, (r, link, alias, more)) =
       let (q, out, target) = sent_alias now x.source r in
-      ap (λ (rs : List Record). length (rs ++ aliases_of now xs)) (ap alias_in (ap (sent_from now x.source) link ∙ out)) ∙ ap suc (as_many (target_of r) xs to more)
+      ap (λ (rs : List Record). length (rs ++ aliases_of now xs)) (ap alias_in (ap (sent_from now x.source) link ∙ out)) ∙ ap suc (as_many (alias_target r) xs to more)
 
   Authority : Name → Bool → Type 0
   Authority n aa = ((aa ≡ true) × ((l : Link) × Says home n t (local.Linked l))) ⊎ ((aa ≡ false) × IsRemote home n t)
@@ -135,11 +135,11 @@ module _ (port : ℕ) (home : Home) (turn : Turn) (past : List Turn) (k t now : 
 
   abbrev pub FailsAt : ℕ → ℕ → Cause → Type 0
   FailsAt deadline sent TooManyOpen = ⊥
-  FailsAt deadline sent Deadline = deadline ≤ now
-  FailsAt deadline sent Chain = Unit {0}
-  FailsAt deadline sent Sends = 40 ≤ sent
-  FailsAt deadline sent NoServer = Unit {0}
-  FailsAt deadline sent Large = ⊥
+  FailsAt deadline sent DeadlineOver = deadline ≤ now
+  FailsAt deadline sent ChainTooLong = Unit {0}
+  FailsAt deadline sent TooManyAsks = 40 ≤ sent
+  FailsAt deadline sent NoServerLeft = Unit {0}
+  FailsAt deadline sent ReplyTooLarge = ⊥
   FailsAt deadline sent KnownFailure = Unit {0}
 
   spent_at : (d m : ℕ) (b : Bool) → FailsAt d m (spent_cause b)
@@ -147,7 +147,7 @@ module _ (port : ℕ) (home : Home) (turn : Turn) (past : List Turn) (k t now : 
   spent_at d m false = tt
 
   abbrev pub GoesTimely : Name → ℕ → ℕ → Next → Job → Type 0
-  GoesTimely from d m (Ask server n u) job = IsOpenFor d m job
+  GoesTimely from d m (AskUdp server n u) job = IsOpenFor d m job
   GoesTimely from d m (AskTcp server n u) job = IsOpenFor d m job
   GoesTimely from d m (Done chain last) job = IsTimely port home turn past from t (is_local_first chain last) (aliases_of now chain) (end_in (sent now last))
   GoesTimely from d m (Fail c) job = FailsAt d m c
@@ -181,7 +181,7 @@ module _ (port : ℕ) (home : Home) (turn : Turn) (past : List Turn) (k t now : 
   leaves_timed from d m p next job stores h reached (refuses c server s rest due may is same) =
       (subst (λ (x : Next). GoesTimely from d m x job) (sym is) (refused c may), subst (AreTimed port home (turn ∷ past)) (sym same) h.stores)
     where
-      refused : (c : Cause) → IsRefused now p.job c → FailsAt d m c
+      refused : (c : Cause) → MayNotSend now p.job c → FailsAt d m c
       refused c (inl r) = subst (FailsAt d m) (sym r.0) (subst (λ (n : ℕ). n ≤ now) h.deadline_is r.1)
       refused c (inr r) = subst (FailsAt d m) (sym r.0) (subst (λ (n : ℕ). 40 ≤ n) h.sent_is r.2)
   leaves_timed from d m p next job stores h reached (spent s te up is same) = (subst (λ (x : Next). GoesTimely from d m x job) (sym is) (spent_at d m (p.job).skipped), subst (AreTimed port home (turn ∷ past)) (sym same) h.stores)

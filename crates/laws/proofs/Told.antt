@@ -12,14 +12,14 @@ use Rattle.retry.proofs.Steps.{looked_most}
 use Rattle.referral.specs.Cuts.{Cut, Known}
 use Rattle.frames.specs.Trimmed.{trimmed}
 use Rattle.cache.specs.Keys.{Key, Kind, NameError, key_for}
-use Rattle.cache.specs.Cached.{Hit, Asked, Answers}
+use Rattle.cache.specs.Cached.{Hit, Question, EntryAnswers}
 use Rattle.cache.specs.Failures.{FailedAsk}
 use Rattle.resolution.specs.Jobs.{Home, Stores, level_of, Taken, IsCutOf}
 use Rattle.resolution.specs.Rules.{Says, asked_of, above_by, Hits, Finds, Misses}
-use Rattle.runs.specs.States.{Turn, Query}
+use Rattle.runs.specs.States.{Turn, OpenQuery}
 use Rattle.runs.specs.Runs.{Earlier}
 use Rattle.laws.specs.Failures.{SaysFailure, FailedLately, WasKnown}
-use Rattle.laws.specs.Spent.{Takes, IsFound, TellsOfNone, IsNotFound, HasNoAddress, IsAliasOf, IsStart}
+use Rattle.laws.specs.Spent.{LearnsLink, IsFound, TellsOfNone, IsNotFound, HasNoAddress, IsAliasOf, MayStart}
 use Rattle.laws.proofs.TimelyStores.{AreKept, Tells, hit_tells, looked_from, best_from}
 
 -- ---- what an entry that answers says of its own link
@@ -37,11 +37,11 @@ kind_not_error : {P : Type 0} (a : ℕ) → Kind a ≡ NameError → P
 kind_not_error a e = cc
 
 -- A question, where these names above it count.
-abbrev asking : Name → ℕ → List Name → Asked
+abbrev asking : Name → ℕ → List Name → Question
 asking n t above = record { name = n; kind = t; above = above }
 
 module _ (n : Name) (above : List Name) (m : Name) (u : ℕ) where
-  answers_set : (l : Link) (set : List Record) → Answers (asking n a_type above) (key_for m u l) l (Found set) → (m ≡ n) × (u ≡ a_type) × (l ≡ Found set)
+  answers_set : (l : Link) (set : List Record) → EntryAnswers (asking n a_type above) (key_for m u l) l (Found set) → (m ≡ n) × (u ≡ a_type) × (l ≡ Found set)
   answers_set (Found rs) set (inl h) = kind_not_error u (slot_of h.0)
   answers_set (Found rs) set (inr (inl h)) = let s : Kind u ≡ Kind a_type = slot_of h.0 in (name_of h.0, cc, sym h.1)
   answers_set (Found []) set (inr (inr (inl h))) = let s = h.2 in absurd (cc)
@@ -61,7 +61,7 @@ module _ (n : Name) (above : List Name) (m : Name) (u : ℕ) where
   answers_set (NxDomain soa) set (inr (inr (inr (p, there, key, is)))) = absurd (cc)
 
   -- What answers and is no set tells that the name has no address, or is the error of a name above.
-  answers_none : (l given : Link) → Answers (asking n a_type above) (key_for m u l) l given → IsNotFound given
+  answers_none : (l given : Link) → EntryAnswers (asking n a_type above) (key_for m u l) l given → IsNotFound given
       → ((m ≡ n) × TellsOfNone u l) ⊎ (Contains above m × ((soa : Record) × (l ≡ NxDomain soa)))
   answers_none (Found rs) given (inl h) none = kind_not_error u (slot_of h.0)
   answers_none (Found rs) given (inr (inl h)) none = absurd (none rs h.1)
@@ -80,7 +80,7 @@ module _ (n : Name) (above : List Name) (m : Name) (u : ℕ) where
   answers_none (NxDomain soa) given (inr (inr (inl h))) none = inl (name_of h.0, tt)
   answers_none (NxDomain soa) given (inr (inr (inr (p, there, key, is)))) none = inr (subst (Contains above) (sym (name_of key)) there, (soa, refl))
 
-  answers_alias : (t : ℕ) (l : Link) (r : Record) → Answers (asking n t above) (key_for m u l) l (Alias r)
+  answers_alias : (t : ℕ) (l : Link) (r : Record) → EntryAnswers (asking n t above) (key_for m u l) l (Alias r)
       → (m ≡ n) × ((l ≡ Alias r) ⊎ ((u ≡ cname_type) × ((rs : List Record) × (l ≡ Found (r ∷ rs)))))
   answers_alias t (Found rs) r (inl h) = let s = h.1 in absurd (cc)
   answers_alias t (Found rs) r (inr (inl h)) = let s = h.1 in absurd (cc)
@@ -107,11 +107,11 @@ module _ (n : Name) (above : List Name) (m : Name) (u : ℕ) where
 module _ (port : ℕ) (home : Home) (run : List Turn) where
   -- Of a start that was kept what a frame can use is kept.
   abbrev pub IsKeptStart : Cut → Type 0
-  IsKeptStart c = (s : Cut) × IsStart port home run s × (c ≡ trimmed s)
+  IsKeptStart c = (s : Cut) × MayStart port home run s × (c ≡ trimmed s)
 
   -- What was kept was accepted; a cut that was kept is one of a start; no penalty is over 8; and each failure came.
   pub record AreTold (stores : Stores) : Type 0 where
-    pub links : AreKept (λ n u e. Earlier (Takes port n u e.link) run) stores.cache
+    pub links : AreKept (λ n u e. Earlier (LearnsLink port n u e.link) run) stores.cache
     pub cuts : (n : Name) (c : Known) → Contains stores.delegations (n, c) → (n ≡ (c.cut).owner) × IsKeptStart c.cut
     pub low : AreAtMost 8 stores.penalties
     pub failures : (f : FailedAsk) (since : ℕ) → Contains stores.failures (f, since) → Earlier (SaysFailure port f.name f.kind f.server since) run
@@ -128,8 +128,8 @@ module _ (port : ℕ) (home : Home) (run : List Turn) where
   ]
 
   told_hit : (now : ℕ) (n : Name) (t : ℕ) (old new : Stores) (l : Taken) (hit : Hit) → AreTold old → Hits home now n t old l hit new
-      → Tells (λ m u e. Earlier (Takes port m u e.link) run) (asked_of home n t) now hit
-  told_hit now n t old new l hit told hits = hit_tells (λ m u e. Earlier (Takes port m u e.link) run) (asked_of home n t) now old.cache hit told.links hits.found
+      → Tells (λ m u e. Earlier (LearnsLink port m u e.link) run) (asked_of home n t) now hit
+  told_hit now n t old new l hit told hits = hit_tells (λ m u e. Earlier (LearnsLink port m u e.link) run) (asked_of home n t) now old.cache hit told.links hits.found
 
   pub found_set : (now : ℕ) (n : Name) (old new : Stores) (l : Taken) (set : List Record) → AreTold old → Finds home now n a_type old l new → l.link ≡ Found set → IsFound port home run n set
   found_set now n old new l set told finds is = elim finds.is [
@@ -137,12 +137,12 @@ module _ (port : ℕ) (home : Home) (run : List Turn) where
     | inr (hit, hits) ↦ inr (by_hit (told_hit now n a_type old new l hit told hits) (sym (ap (λ (x : Taken). x.link) hits.link) ∙ is))
   ]
     where
-      by_hit : {hit : Hit} → Tells (λ m u e. Earlier (Takes port m u e.link) run) (asked_of home n a_type) now hit → hit.link ≡ Found set → Earlier (Takes port n a_type (Found set)) run
+      by_hit : {hit : Hit} → Tells (λ m u e. Earlier (LearnsLink port m u e.link) run) (asked_of home n a_type) now hit → hit.link ≡ Found set → Earlier (LearnsLink port n a_type (Found set)) run
       by_hit tells e =
           let (name, kind, link) = answers_set n (above_by (looked home.zones n a_type) n) tells.at tells.kind tells.entry.link set
-          (subst (Answers (asked_of home n a_type) (key_for tells.at tells.kind tells.entry.link) tells.entry.link) e tells.answers) in
-          subst (λ (m : Name). Earlier (Takes port m a_type (Found set)) run) name
-          (subst (λ (u : ℕ). Earlier (Takes port tells.at u (Found set)) run) kind (subst (λ (m : Link). Earlier (Takes port tells.at tells.kind m) run) link tells.kept))
+          (subst (EntryAnswers (asked_of home n a_type) (key_for tells.at tells.kind tells.entry.link) tells.entry.link) e tells.answers) in
+          subst (λ (m : Name). Earlier (LearnsLink port m a_type (Found set)) run) name
+          (subst (λ (u : ℕ). Earlier (LearnsLink port tells.at u (Found set)) run) kind (subst (λ (m : Link). Earlier (LearnsLink port tells.at tells.kind m) run) link tells.kept))
 
   pub found_none : (now : ℕ) (n : Name) (old new : Stores) (l : Taken) → AreTold old → Finds home now n a_type old l new → IsNotFound l.link → HasNoAddress port home run n
   found_none now n old new l told finds none = elim finds.is [
@@ -150,12 +150,12 @@ module _ (port : ℕ) (home : Home) (run : List Turn) where
     | inr (hit, hits) ↦ inr (by_hit (told_hit now n a_type old new l hit told hits) (subst IsNotFound (ap (λ (x : Taken). x.link) hits.link) none))
   ]
     where
-      by_hit : {hit : Hit} → Tells (λ m u e. Earlier (Takes port m u e.link) run) (asked_of home n a_type) now hit → IsNotFound hit.link
-          → ((t : ℕ) × (k : Link) × Earlier (Takes port n t k) run × TellsOfNone t k)
-          ⊎ ((p : Name) × (t : ℕ) × (soa : Record) × Contains (asked_of home n a_type).above p × Earlier (Takes port p t (NxDomain soa)) run)
+      by_hit : {hit : Hit} → Tells (λ m u e. Earlier (LearnsLink port m u e.link) run) (asked_of home n a_type) now hit → IsNotFound hit.link
+          → ((t : ℕ) × (k : Link) × Earlier (LearnsLink port n t k) run × TellsOfNone t k)
+          ⊎ ((p : Name) × (t : ℕ) × (soa : Record) × Contains (asked_of home n a_type).above p × Earlier (LearnsLink port p t (NxDomain soa)) run)
       by_hit {hit} tells none = elim (answers_none n (above_by (looked home.zones n a_type) n) tells.at tells.kind tells.entry.link hit.link tells.answers none) [
-        | inl (name, says) ↦ inl (tells.kind, tells.entry.link, subst (λ (m : Name). Earlier (Takes port m tells.kind tells.entry.link) run) name tells.kept, says)
-        | inr (there, (soa, is)) ↦ inr (tells.at, tells.kind, soa, there, subst (λ (m : Link). Earlier (Takes port tells.at tells.kind m) run) is tells.kept)
+        | inl (name, says) ↦ inl (tells.kind, tells.entry.link, subst (λ (m : Name). Earlier (LearnsLink port m tells.kind tells.entry.link) run) name tells.kept, says)
+        | inr (there, (soa, is)) ↦ inr (tells.at, tells.kind, soa, there, subst (λ (m : Link). Earlier (LearnsLink port tells.at tells.kind m) run) is tells.kept)
       ]
 
   pub found_alias : (now : ℕ) (n : Name) (t : ℕ) (old new : Stores) (l : Taken) (r : Record) → AreTold old → Finds home now n t old l new → l.link ≡ Alias r → IsAliasOf port home run n t r
@@ -164,12 +164,12 @@ module _ (port : ℕ) (home : Home) (run : List Turn) where
     | inr (hit, hits) ↦ inr (by_hit (told_hit now n t old new l hit told hits) (sym (ap (λ (x : Taken). x.link) hits.link) ∙ is))
   ]
     where
-      by_hit : {hit : Hit} → Tells (λ m u e. Earlier (Takes port m u e.link) run) (asked_of home n t) now hit → hit.link ≡ Alias r
-          → (v : ℕ) × (k : Link) × Earlier (Takes port n v k) run × ((k ≡ Alias r) ⊎ ((v ≡ cname_type) × ((rs : List Record) × (k ≡ Found (r ∷ rs)))))
+      by_hit : {hit : Hit} → Tells (λ m u e. Earlier (LearnsLink port m u e.link) run) (asked_of home n t) now hit → hit.link ≡ Alias r
+          → (v : ℕ) × (k : Link) × Earlier (LearnsLink port n v k) run × ((k ≡ Alias r) ⊎ ((v ≡ cname_type) × ((rs : List Record) × (k ≡ Found (r ∷ rs)))))
       by_hit tells e =
           let (name, says) = answers_alias n (above_by (looked home.zones n t) n) tells.at tells.kind t tells.entry.link r
-          (subst (Answers (asked_of home n t) (key_for tells.at tells.kind tells.entry.link) tells.entry.link) e tells.answers) in
-          (tells.kind, tells.entry.link, subst (λ (m : Name). Earlier (Takes port m tells.kind tells.entry.link) run) name tells.kept, says)
+          (subst (EntryAnswers (asked_of home n t) (key_for tells.at tells.kind tells.entry.link) tells.entry.link) e tells.answers) in
+          (tells.kind, tells.entry.link, subst (λ (m : Name). Earlier (LearnsLink port m tells.kind tells.entry.link) run) name tells.kept, says)
 
   pub found_name : (now : ℕ) (n : Name) (t : ℕ) (old new : Stores) (l : Taken) → Finds home now n t old l new → l.name ≡ n
   found_name now n t old new l finds = elim finds.is [ inl (k, says, link, same) ↦ ap (λ (x : Taken). x.name) link | inr (hit, hits) ↦ ap (λ (x : Taken). x.name) hits.link ]
@@ -181,7 +181,7 @@ module _ (port : ℕ) (home : Home) (run : List Turn) where
       subst AreTold (sym m.stores) (record { links = told.links; cuts = λ d k h. told.cuts d k (best_from n now old.delegations (d, k) h); low = told.low; failures = told.failures })
 
 -- A cut of a zone at hand is a start, and so are the hints.
-pub local_start : (port : ℕ) (home : Home) (run : List Turn) (n : Name) (t : ℕ) (at : Name) (ns glue : List Record) (c : Cut) → Says home n t (local.Cut at ns glue) → IsCutOf at ns glue c → IsStart port home run c
+pub local_start : (port : ℕ) (home : Home) (run : List Turn) (n : Name) (t : ℕ) (at : Name) (ns glue : List Record) (c : Cut) → Says home n t (local.Cut at ns glue) → IsCutOf at ns glue c → MayStart port home run c
 local_start port home [] n t at ns glue c says is = inr (n, t, at, ns, glue, says, is)
 local_start port home (turn ∷ past) n t at ns glue c says is = inl (local_start port home past n t at ns glue c says is)
 
@@ -189,7 +189,7 @@ local_start port home (turn ∷ past) n t at ns glue c says is = inl (local_star
 
 -- It was known in a step that served the query that the server had failed lately to answer the question.
 abbrev pub KnownIn : ℕ → ℕ → List Turn → Name → ℕ → Addr → Type 0
-KnownIn port k run n t a = Earlier (λ u before. (u.served ≡ Query k) × FailedLately port n t a u before) run
+KnownIn port k run n t a = Earlier (λ u before. (u.served ≡ OpenQuery k) × FailedLately port n t a u before) run
 
 -- What is known in a run up to a step that serves the query is so in words, and back.
 pub known_was : (port k : ℕ) (turn : Turn) (past : List Turn) (n : Name) (t : ℕ) (a : Addr) → KnownIn port k (turn ∷ past) n t a → WasKnown port k turn past n t a

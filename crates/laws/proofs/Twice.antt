@@ -2,16 +2,16 @@
 use Rattle.std.proofs.Common.{◌≡◌, ℕ, inl, inr, true, cond, List, [], ◌∷◌, refl, sym, ap, ◌∙◌, subst}
 use Rattle.dname.specs.Labels.{Name}
 use Rattle.rdata.specs.declared.addr.Addr.{Addr}
-use Rattle.layout.specs.Messages.{Message}
-use Rattle.layout.proofs.Single.{message_one}
+use Rattle.message_grammar.specs.Messages.{Message}
+use Rattle.message_grammar.proofs.Single.{message_one}
 use Rattle.classify.specs.Classes as class
 use Rattle.classify.specs.Classes.{class_of, by_code, truncated_over}
 use Rattle.classify.specs.declared.class.Failure.{Failure}
 use Rattle.wire.specs.declared.via.Via.TheVariants as via
-use Rattle.runs.specs.States.{Turn, Event, Client, Datagram, TcpReply, TcpFailed, Tick, Path, ByUdp, ByTcp, Asking, IsFor, via_of}
+use Rattle.runs.specs.States.{Turn, Event, Client, Datagram, TcpReply, TcpFailed, Tick, Path, ByUdp, ByTcp, Ask, IsFor, via_of}
 use Rattle.runs.specs.Messages.{Brings}
-use Rattle.runs.specs.Runs.{Earlier, Asks}
-use Rattle.laws.specs.Spent.{Twice, IsUdp, Repeats, AsksBy, IsBad, EndsBadly, HasFailed, SendsTo}
+use Rattle.runs.specs.Runs.{Earlier, IsOpenAskOf}
+use Rattle.laws.specs.Spent.{Twice, IsUdpPath, Repeats, AsksBy, IsBad, EndsBadly, HasFailed, SendsTo}
 
 module _ (port k : ℕ) where
   -- A reply that was truncated over UDP is no bad end.
@@ -21,9 +21,9 @@ module _ (port k : ℕ) where
       apart : class.Truncated ≡ class.Failed f → ⊥
       apart e = cc
 
-  not_both : (z : Name) (bad short : Asking) (event : Event) (m : Message) → IsUdp short.path → Brings port short event m → m.header.tc ≡ true → IsBad port z bad event → ⊥
+  not_both : (z : Name) (bad short : Ask) (event : Event) (m : Message) → IsUdpPath short.path → Brings port short event m → m.header.tc ≡ true → IsBad port z bad event → ⊥
   not_both z bad short (Client now client way bytes) m udp brings tc is = brings
-  not_both z bad short (TcpReply now number bytes) m udp (path, is_m, answers) tc is = subst IsUdp path udp
+  not_both z bad short (TcpReply now number bytes) m udp (path, is_m, answers) tc is = subst IsUdpPath path udp
   not_both z bad short (TcpFailed now number) m udp brings tc is = brings
   not_both z bad short (Tick now) m udp brings tc is = brings
   not_both z bad short (Datagram now sock from bytes) m udp (path, source, is_m, answers) tc (inl (later, e)) = cc
@@ -35,21 +35,21 @@ module _ (port k : ℕ) where
       truncated_no_failure z bad.name bad.kind other f (subst (λ (x : Message). x.header.tc ≡ true) same tc) (subst (λ w. class_of z bad.name bad.kind w other ≡ class.Failed f) way failed)
 
   module _ (z n : Name) (t : ℕ) (a : Addr) where
-    asked_by_udp : (ask : Asking) (run : List Turn) → IsUdp ask.path → IsFor a n t ask → Asks port k ask run → Earlier (SendsTo port k a n t) run
+    asked_by_udp : (ask : Ask) (run : List Turn) → IsUdpPath ask.path → IsFor a n t ask → IsOpenAskOf port k ask run → Earlier (SendsTo port k a n t) run
     asked_by_udp ask [] udp same h = absurd h
     asked_by_udp ask (turn ∷ past) udp same (inl (served, sent)) = inl (ask, udp, same, served, sent)
     asked_by_udp ask (turn ∷ past) udp same (inr (other, more)) = inr (asked_by_udp ask past udp same more)
 
-    same_ask : (ask short : Asking) → IsFor a n t ask → IsFor ask.server ask.name ask.kind short → IsFor a n t short
+    same_ask : (ask short : Ask) → IsFor a n t ask → IsFor ask.server ask.name ask.kind short → IsFor a n t short
     same_ask ask short f g = record { server = g.server ∙ f.server; name = g.name ∙ f.name; kind = g.kind ∙ f.kind }
 
-    repeated : (ask : Asking) (run : List Turn) → IsFor a n t ask → Repeats port k ask run → Earlier (SendsTo port k a n t) run
+    repeated : (ask : Ask) (run : List Turn) → IsFor a n t ask → Repeats port k ask run → Earlier (SendsTo port k a n t) run
     repeated ask [] same h = absurd h
     repeated ask (turn ∷ past) same (inl (served, sent, short)) = inr (asked_by_udp short.ask past short.udp (same_ask ask short.ask same short.same) short.asked)
     repeated ask (turn ∷ past) same (inr (other, more)) = inr (repeated ask past same more)
 
-    origin : (ask : Asking) (path : Path) (run : List Turn) → ask.path ≡ path → IsFor a n t ask → AsksBy port k ask path run → Earlier (SendsTo port k a n t) run
-    origin ask (ByUdp sock) run e same h = asked_by_udp ask run (subst IsUdp (sym e) tt) same h
+    origin : (ask : Ask) (path : Path) (run : List Turn) → ask.path ≡ path → IsFor a n t ask → AsksBy port k ask path run → Earlier (SendsTo port k a n t) run
+    origin ask (ByUdp sock) run e same h = asked_by_udp ask run (subst IsUdpPath (sym e) tt) same h
     origin ask (ByTcp number) run e same h = repeated ask run same h
 
     abbrev Bad : Turn → List Turn → Type 0
@@ -63,22 +63,22 @@ module _ (port k : ℕ) where
     earlier_origin (turn ∷ past) (inl b) = inr (bad_origin turn past b)
     earlier_origin (turn ∷ past) (inr h) = inr (earlier_origin past h)
 
-    second_by_udp : (ask : Asking) (run : List Turn) → IsUdp ask.path → IsFor a n t ask → Asks port k ask run → Earlier Bad run → Twice (SendsTo port k a n t) run
+    second_by_udp : (ask : Ask) (run : List Turn) → IsUdpPath ask.path → IsFor a n t ask → IsOpenAskOf port k ask run → Earlier Bad run → Twice (SendsTo port k a n t) run
     second_by_udp ask [] udp same h e = absurd h
     second_by_udp ask (turn ∷ past) udp same (inl (served, sent)) (inl b) = inl ((ask, udp, same, served, sent), bad_origin turn past b)
     second_by_udp ask (turn ∷ past) udp same (inl (served, sent)) (inr e) = inl ((ask, udp, same, served, sent), earlier_origin past e)
     second_by_udp ask (turn ∷ past) udp same (inr (other, more)) (inl (bad, served, asked, for_it, ends)) = absurd (other served)
     second_by_udp ask (turn ∷ past) udp same (inr (other, more)) (inr e) = inr (second_by_udp ask past udp same more e)
 
-    second_repeated : (ask : Asking) (run : List Turn) → IsFor a n t ask → Repeats port k ask run → Earlier Bad run → Twice (SendsTo port k a n t) run
+    second_repeated : (ask : Ask) (run : List Turn) → IsFor a n t ask → Repeats port k ask run → Earlier Bad run → Twice (SendsTo port k a n t) run
     second_repeated ask [] same h e = absurd h
     second_repeated ask (turn ∷ past) same (inl (served, sent, short)) (inl (bad, is, asked, for_it, ends)) = absurd (not_both z bad short.ask turn.event short.message short.udp short.brings short.tc ends)
     second_repeated ask (turn ∷ past) same (inl (served, sent, short)) (inr e) = inr (second_by_udp short.ask past short.udp (same_ask ask short.ask same short.same) short.asked e)
     second_repeated ask (turn ∷ past) same (inr (other, more)) (inl (bad, served, asked, for_it, ends)) = absurd (other served)
     second_repeated ask (turn ∷ past) same (inr (other, more)) (inr e) = inr (second_repeated ask past same more e)
 
-    second : (ask : Asking) (path : Path) (run : List Turn) → ask.path ≡ path → IsFor a n t ask → AsksBy port k ask path run → Earlier Bad run → Twice (SendsTo port k a n t) run
-    second ask (ByUdp sock) run e same h earlier = second_by_udp ask run (subst IsUdp (sym e) tt) same h earlier
+    second : (ask : Ask) (path : Path) (run : List Turn) → ask.path ≡ path → IsFor a n t ask → AsksBy port k ask path run → Earlier Bad run → Twice (SendsTo port k a n t) run
+    second ask (ByUdp sock) run e same h earlier = second_by_udp ask run (subst IsUdpPath (sym e) tt) same h earlier
     second ask (ByTcp number) run e same h earlier = second_repeated ask run same h earlier
 
     pub two_asks : (run : List Turn) → HasFailed port run k z n t a → Twice (SendsTo port k a n t) run

@@ -7,7 +7,7 @@ use Rattle.rdata.specs.Records.{Record}
 use Rattle.zone.specs.Links.{Link, Found, Alias, NoData, NxDomain}
 use Rattle.zone.specs.Look as local
 use Rattle.authority.specs.Catalogs.{looked}
-use Rattle.front.specs.Chains.{target_of}
+use Rattle.front.specs.Chains.{alias_target}
 use Rattle.referral.specs.Cuts.{Cut}
 use Rattle.cache.specs.Keys.{Key, same_key}
 use Rattle.cache.specs.Cached.{Hit, lent, hit_of}
@@ -71,7 +71,7 @@ module _ (home : Home) (now t : ℕ) (es : List (Key × Hit)) where
     abbrev IsAt : Task → Job → Type 0
     IsAt Seek j = (rest : List Taken) × (j.chain ++ rest ≡ chain) × IsHeldChain home now t es j.name rest last
     IsAt (Take l) j =
-        ((rest : List Taken) × (r : Record) × (j.chain ++ l ∷ rest ≡ chain) × (l.link ≡ Alias r) × IsHeldChain home now t es (target_of r) rest last)
+        ((rest : List Taken) × (r : Record) × (j.chain ++ l ∷ rest ≡ chain) × (l.link ≡ Alias r) × IsHeldChain home now t es (alias_target r) rest last)
         ⊎ ((j.chain ≡ chain) × (l ≡ last) × IsEnding l.link)
     IsAt Go j = ⊥
     IsAt (Again server) j = ⊥
@@ -132,10 +132,10 @@ module _ (home : Home) (now t : ℕ) (es : List (Key × Hit)) where
           at = subst (λ (x : Task). IsAt x b.job) (sym u) (subst (IsAt Seek) (sym j) (on (subst (λ (x : Task). IsAt x a.job) task h.at)));
         }
       where
-        on : IsAt (Take l) a.job → IsAt Seek (record a.job { chain = (a.job).chain ++ l ∷ []; name = target_of r })
+        on : IsAt (Take l) a.job → IsAt Seek (record a.job { chain = (a.job).chain ++ l ∷ []; name = alias_target r })
         on (inl (rest, s, whole, alias, more)) =
             let same : s ≡ r = cc in
-            (rest, append_assoc (a.job).chain (l ∷ []) rest ∙ whole, subst (λ (x : Record). IsHeldChain home now t es (target_of x) rest last) same more)
+            (rest, append_assoc (a.job).chain (l ∷ []) rest ∙ whole, subst (λ (x : Record). IsHeldChain home now t es (alias_target x) rest last) same more)
         on (inr (whole, end, ends)) = absurd (no_alias l.link r is ends)
     along_rule a b h (restarts l d front back task ends whole fresh dead u j e) =
         absurd (none_dead now front back d (subst (AreFresh now) whole (fresh_both now (a.job).chain l h.fresh (subst IsLive task h.live))) dead)

@@ -8,7 +8,7 @@ use Rattle.zone.specs.Zones.{a_type}
 use Rattle.zone.specs.Links.{Link, Alias}
 use Rattle.zone.specs.Look.{Local}
 use Rattle.causes.specs.declared.cause.Cause.{Cause}
-use Rattle.layout.specs.Messages.{Message}
+use Rattle.message_grammar.specs.Messages.{Message}
 use Rattle.wire.specs.declared.via.Via.{Via}
 use Rattle.classify.specs.Classes as class
 use Rattle.classify.specs.Classes.{Class, class_of}
@@ -17,13 +17,13 @@ use Rattle.retry.specs.Penalties.{AreAtMost}
 use Rattle.referral.specs.Cuts.{Cut, IsBest}
 use Rattle.cache.specs.Failures.{failed_ask, is_failed}
 use Rattle.frames.specs.Frames.{opened, taken_addresses}
-use Rattle.resolution.specs.Jobs.{Home, Stores, level_of, with_answer, Taken, received_link, AreFresh, IsEnding, IsCutOf, Search, search_at, with_frame, fails_now, next_server, is_server_failure, Job, Input, Told, TimedOut, TcpFailed, Next, Ask, AskTcp, Done, Fail, MaySend, Point}
-use Rattle.resolution.specs.Rules.{Says, Begins, Rule, takes, asks, follows, restarts, skips, hears, descends, gives_up, Rules, Leaves, Advances, IsRefused}
+use Rattle.resolution.specs.Jobs.{Home, Stores, level_of, with_answer, Taken, received_link, AreFresh, IsEnding, IsCutOf, Search, search_at, with_frame, fails_now, next_server, is_server_failure, Job, Input, Told, TimedOut, TcpFailed, Next, AskUdp, AskTcp, Done, Fail, MaySend, Point}
+use Rattle.resolution.specs.Rules.{Says, Begins, Rule, takes, asks, follows, restarts, skips, hears, descends, gives_up, Rules, Leaves, Advances, MayNotSend}
 
 -- ---- what comes in
 
 -- A message that was accepted for the innermost search, and its class under that search's zone.
-pub record Hears (old : Job) (input : Input) (s : Search) (rest : List Search) (server : Addr) (c : Class) : Type 0 where
+pub record AcceptsReply (old : Job) (input : Input) (s : Search) (rest : List Search) (server : Addr) (c : Class) : Type 0 where
   pub searches : old.searches ≡ s ∷ rest
   pub via : Via
   pub message : Message
@@ -34,13 +34,13 @@ pub record Hears (old : Job) (input : Input) (s : Search) (rest : List Search) (
 pub record IsLost (old : Job) (input : Input) (s : Search) (rest : List Search) : Type 0 where
   pub searches : old.searches ≡ s ∷ rest
   pub server : Addr
-  pub lost : (input ≡ TimedOut server) ⊎ ((input ≡ TcpFailed server) ⊎ ((f : Failure) × Hears old input s rest server (class.Failed f)))
+  pub lost : (input ≡ TimedOut server) ⊎ ((input ≡ TcpFailed server) ⊎ ((f : Failure) × AcceptsReply old input s rest server (class.Failed f)))
 
 -- ---- what goes out
 
 -- This ask, where the deadline and the number of asks allow one.
 abbrev pub GoesOut : ℕ → Job → Next → Next → Type 0
-GoesOut now j ask next = (MaySend now j × (next ≡ ask)) ⊎ ((c : Cause) × IsRefused now j c × (next ≡ Fail c))
+GoesOut now j ask next = (MaySend now j × (next ≡ ask)) ⊎ ((c : Cause) × MayNotSend now j c × (next ≡ Fail c))
 
 -- ---- laws
 
@@ -50,13 +50,13 @@ abbrev pub NextIsAsked : Type 0
 NextIsAsked =
     (home : Home) (now : ℕ) (input : Input) (old : Job) (stores : Stores) (next : Next) (new : Job) (after : Stores) (s : Search) (rest : List Search) (server : Addr)
     → Advances home now input old stores next new after → IsLost old input s rest → next_server now after.failures s ≡ Some server
-    → GoesOut now old (Ask server s.name s.kind) next
+    → GoesOut now old (AskUdp server s.name s.kind) next
 
 -- A reply that was truncated over UDP: the same server is asked the same question over TCP.
 abbrev pub TruncatedIsRepeated : Type 0
 TruncatedIsRepeated =
     (home : Home) (now : ℕ) (input : Input) (old : Job) (stores : Stores) (next : Next) (new : Job) (after : Stores) (s : Search) (rest : List Search) (server : Addr)
-    → Advances home now input old stores next new after → Hears old input s rest server class.Truncated
+    → Advances home now input old stores next new after → AcceptsReply old input s rest server class.Truncated
     → GoesOut now old (AskTcp server s.name s.kind) next
 
 -- A referral: where an address of one of its servers is taken that did not fail lately, such a one is asked the same
@@ -65,36 +65,36 @@ abbrev pub ReferralIsFollowed : Type 0
 ReferralIsFollowed =
     (home : Home) (now : ℕ) (input : Input) (old : Job) (stores : Stores) (next : Next) (new : Job) (after : Stores) (s : Search) (rest : List Search) (server : Addr)
     (at : Name) (ns glue : List Record) (ttl : ℕ)
-    → Advances home now input old stores next new after → Hears old input s rest server (class.Referral at ns glue ttl)
+    → Advances home now input old stores next new after → AcceptsReply old input s rest server (class.Referral at ns glue ttl)
     → (c : Cut) × IsCutOf at ns glue c
-    × ((d : Addr) → next_server now after.failures (with_frame s (opened (level_of (with_answer stores server)) (s.frame).nesting c)) ≡ Some d → Contains (taken_addresses c) d × GoesOut now old (Ask d s.name s.kind) next)
+    × ((d : Addr) → next_server now after.failures (with_frame s (opened (level_of (with_answer stores server)) (s.frame).nesting c)) ≡ Some d → Contains (taken_addresses c) d × GoesOut now old (AskUdp d s.name s.kind) next)
     × (AreAtMost 8 stores.penalties → (b : Addr) → Contains (taken_addresses c) b → fails_now now after.failures s b ≡ false
-    → (d : Addr) × Contains (taken_addresses c) d × GoesOut now old (Ask d s.name s.kind) next)
+    → (d : Addr) × Contains (taken_addresses c) d × GoesOut now old (AskUdp d s.name s.kind) next)
 
 -- An answer for the query's own name that ends the chain is used at once, where no link from the cache ran
 -- out meanwhile.
 abbrev pub AnswerIsUsed : Type 0
 AnswerIsUsed =
     (home : Home) (now : ℕ) (input : Input) (old : Job) (stores : Stores) (next : Next) (new : Job) (after : Stores) (s : Search) (server : Addr) (l : Link)
-    → Advances home now input old stores next new after → Hears old input s [] server (class.Answer l) → IsEnding l → AreFresh now old.chain
+    → Advances home now input old stores next new after → AcceptsReply old input s [] server (class.Answer l) → IsEnding l → AreFresh now old.chain
     → next ≡ Done old.chain (received_link s.name l now)
 
 -- Over UDP no server is asked that failed lately to answer the same question.
 abbrev pub AskedDidNotFail : Type 0
 AskedDidNotFail =
     (home : Home) (now : ℕ) (input : Input) (old : Job) (stores : Stores) (next : Next) (new : Job) (after : Stores) (server : Addr) (n : Name) (t : ℕ)
-    → Advances home now input old stores next new after → next ≡ Ask server n t → is_failed now (failed_ask n t server) after.failures ≡ false
+    → Advances home now input old stores next new after → next ≡ AskUdp server n t → is_failed now (failed_ask n t server) after.failures ≡ false
 
 -- Where a message says that its server failed to answer, that counts for 30 seconds, while no want of room removes it.
 abbrev pub FailureIsKept : Type 0
 FailureIsKept =
     (home : Home) (now : ℕ) (input : Input) (old : Job) (stores : Stores) (next : Next) (new : Job) (after : Stores) (s : Search) (rest : List Search) (server : Addr) (c : Class) (later : ℕ)
-    → Advances home now input old stores next new after → (h : Hears old input s rest server c) → is_server_failure h.message ≡ true → later - now < 30000
+    → Advances home now input old stores next new after → (h : AcceptsReply old input s rest server c) → is_server_failure h.message ≡ true → later - now < 30000
     → fails_now later after.failures s server ≡ true
 
 -- The chain of what goes out, whole or under way; a failure has none.
 abbrev pub HasLink : Next → Job → Taken → Type 0
-HasLink (Ask server n t) new l = Contains new.chain l
+HasLink (AskUdp server n t) new l = Contains new.chain l
 HasLink (AskTcp server n t) new l = Contains new.chain l
 HasLink (Done chain end) new l = Contains chain l
 HasLink (Fail c) new l = ⊥
@@ -103,7 +103,7 @@ HasLink (Fail c) new l = ⊥
 abbrev pub AliasStays : Type 0
 AliasStays =
     (home : Home) (now : ℕ) (input : Input) (old : Job) (stores : Stores) (next : Next) (new : Job) (after : Stores) (s : Search) (server : Addr) (r : Record)
-    → Advances home now input old stores next new after → Hears old input s [] server (class.Answer (Alias r)) → AreFresh now old.chain
+    → Advances home now input old stores next new after → AcceptsReply old input s [] server (class.Answer (Alias r)) → AreFresh now old.chain
     → HasLink next new (received_link s.name (Alias r) now) ⊎ ((c : Cause) × (next ≡ Fail c))
 
 -- ---- frames that open
@@ -127,7 +127,7 @@ opening_of home now a b (descends s rest n c t turn m u j) = Some (record { name
 opening_of home now a b (gives_up s around rest t up u j e) = None
 
 -- The cut where a question's servers are sought first, by what the resolver holds and has learnt.
-pub record IsStart (home : Home) (now : ℕ) (n : Name) (t : ℕ) (stores : Stores) (c : Cut) : Type 0 where
+pub record StartsSearch (home : Home) (now : ℕ) (n : Name) (t : ℕ) (stores : Stores) (c : Cut) : Type 0 where
   pub what : Local
   pub says : Says home n t what
   pub best : Option Cut
@@ -140,6 +140,6 @@ abbrev pub FramesOpenRightly : Type 0
 FramesOpenRightly =
     (home : Home) (now : ℕ) (a b last : Point) (count : ℕ) (next : Next) (new : Job) (after : Stores) (rule : Rule home now a b) (o : Opening)
     → Rules home now count b last → Leaves home now last next new after → opening_of home now a b rule ≡ Some o
-    → IsStart home now o.name o.kind after o.cut
+    → StartsSearch home now o.name o.kind after o.cut
     × ((rest : List Search) × ((b.job).searches ≡ search_at o.name o.kind (opened (level_of after) o.nesting o.cut) ∷ rest))
-    × ((d : Addr) → next_server now after.failures (search_at o.name o.kind (opened (level_of after) o.nesting o.cut)) ≡ Some d → GoesOut now a.job (Ask d o.name o.kind) next)
+    × ((d : Addr) → next_server now after.failures (search_at o.name o.kind (opened (level_of after) o.nesting o.cut)) ≡ Some d → GoesOut now a.job (AskUdp d o.name o.kind) next)

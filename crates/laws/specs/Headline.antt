@@ -5,22 +5,22 @@ use Rattle.std.specs.Prelude.{◌≡◌, ◌∷◌, ℕ, ◌<◌, ◌⊎◌, tru
 use Rattle.dname.specs.Labels.{Name}
 use Rattle.rdata.specs.Types.{type_number}
 use Rattle.rdata.specs.declared.addr.Addr.{Addr}
-use Rattle.layout.specs.Messages.{Message, IsMessage, encoding}
+use Rattle.message_grammar.specs.Messages.{Message, IsMessage, encoding}
 use Rattle.causes.specs.declared.cause.Cause.{Cause}
 use Rattle.wire.specs.declared.via.Via.{Via}
 use Rattle.wire.specs.declared.via.Via.TheVariants.{Udp}
-use Rattle.truth.specs.Worlds.{World, IsWorld}
-use Rattle.truth.specs.Serving.{MayServe}
-use Rattle.truth.specs.Frames.{AreHeld}
-use Rattle.truth.specs.Replies.{IsReplyTo, IsBare, IsWhole}
+use Rattle.world_truth.specs.Worlds.{World, IsWorld}
+use Rattle.world_truth.specs.Serving.{MayServe}
+use Rattle.world_truth.specs.Frames.{AreHeld}
+use Rattle.world_truth.specs.Replies.{IsReplyTo, IsBare, IsWhole}
 use Rattle.resolution.specs.Jobs.{Home}
-use Rattle.runs.specs.States.{Reply, Turn, Asker, recursive, Asking, Site, State}
+use Rattle.runs.specs.States.{Reply, Turn, ClientQuery, recursive, Ask, Site, State}
 use Rattle.runs.specs.Runs.{Run, Always, GivesOut, Accepts}
 use Rattle.runs.specs.Replies.{IsServedFor, Refuses}
 
 -- Every message that is accepted is one that the asked server may send to the question.
 abbrev pub IsHonest : World → ℕ → List Turn → Type 0
-IsHonest W port run = Always (λ t past. (k : ℕ) (a : Asking) (m : Message) → Accepts port k a m t past → MayServe W (a.server).0 a.name a.kind m) run
+IsHonest W port run = Always (λ t past. (k : ℕ) (a : Ask) (m : Message) → Accepts port k a m t past → MayServe W (a.server).0 a.name a.kind m) run
 
 -- The resolver holds the world's local zones, and its hints are the world's.
 pub record IsHomeIn (W : World) (home : Home) : Type 0 where
@@ -64,8 +64,8 @@ IsRightReply W way q t bytes = IsServfail q t bytes ⊎ IsTruncated W way q t by
 -- A reply of a step goes to the client whose query the step serves, or refuses bytes that are none; and to
 -- every recursive query that the step serves it is right.
 pub record IsRightAnswer (W : World) (t : Turn) (past : List Turn) (client : ℕ) (way : Via) (bytes : List ℕ) (c : Option Cause) : Type 0 where
-  pub to : Refuses (Reply client way bytes c) t ⊎ ((who : Asker) × (who.client ≡ client) × (who.way ≡ way) × IsServedFor who t past)
-  pub right : (who : Asker) → IsServedFor who t past → recursive who.query ≡ true → IsRightReply W who.way (who.query).name (type_number (who.query).kind) bytes
+  pub to : Refuses (Reply client way bytes c) t ⊎ ((who : ClientQuery) × (who.client ≡ client) × (who.way ≡ way) × IsServedFor who t past)
+  pub right : (who : ClientQuery) → IsServedFor who t past → recursive who.query ≡ true → IsRightReply W who.way (who.query).name (type_number (who.query).kind) bytes
 
 abbrev pub RepliesAreRight : World → Turn → List Turn → Type 0
 RepliesAreRight W t past = (client : ℕ) (way : Via) (bytes : List ℕ) (c : Option Cause) → GivesOut t.out (Reply client way bytes c) → IsRightAnswer W t past client way bytes c

@@ -7,15 +7,15 @@ use Rattle.rdata.specs.Types.{type_number}
 use Rattle.zone.specs.Links.{Link, Alias}
 use Rattle.zone.specs.Look.{Linked}
 use Rattle.wire.specs.declared.via.Via.{Via}
-use Rattle.front.specs.Queries.{IsAsked}
-use Rattle.front.specs.Chains.{target_of}
-use Rattle.front.specs.declared.queries.Asked.TheVariants as heard
-use Rattle.front.specs.declared.queries.Query.{Query as Question}
+use Rattle.front.specs.Queries.{IsRequest}
+use Rattle.front.specs.Chains.{alias_target}
+use Rattle.front.specs.declared.queries.Request.TheVariants as request
+use Rattle.front.specs.declared.queries.Query.{Query}
 use Rattle.cache.specs.Keys.{Key}
 use Rattle.cache.specs.Cached.{Hit, lent, hit_of}
 use Rattle.resolution.specs.Jobs.{Home, Taken, local_link, kept_link, IsEnding}
 use Rattle.resolution.specs.Rules.{Says, IsRemote, asked_of}
-use Rattle.runs.specs.States.{Client, Action, Served, Own, Turn, Plain, asker, recursive, Site, State, moved}
+use Rattle.runs.specs.States.{Client, Action, Served, Own, Turn, Plain, client_query, recursive, Site, State, moved}
 use Rattle.runs.specs.Messages.{outcome_of, IsReply}
 use Rattle.runs.specs.Steps.{Step}
 use Rattle.runs.specs.Runs.{Run}
@@ -29,13 +29,13 @@ Holds home now t es n l =
 -- The aliases that are held from a name on, each the target of the one before, and the end behind them.
 abbrev pub IsHeldChain : Home → ℕ → ℕ → List (Key × Hit) → Name → List Taken → Taken → Type 0
 IsHeldChain home now t es n [] last = Holds home now t es n last × IsEnding last.link
-IsHeldChain home now t es n (l ∷ ls) last = Holds home now t es n l × ((r : Record) × (l.link ≡ Alias r) × IsHeldChain home now t es (target_of r) ls last)
+IsHeldChain home now t es n (l ∷ ls) last = Holds home now t es n l × ((r : Record) × (l.link ≡ Alias r) × IsHeldChain home now t es (alias_target r) ls last)
 
 -- A recursive query of which such a chain stands, of at most eight aliases, is answered with it in the very
 -- step in which it comes, and nothing is sent.
 abbrev pub HeldIsReplied : Type 0
 HeldIsReplied =
-    (site : Site) (past : List Turn) (old : State) (now client : ℕ) (way : Via) (bytes : List ℕ) (served : Served) (out : List Action) (new : State) (q : Question Plain) (chain : List Taken) (last : Taken)
-    → Run site past old → Step old (Client now client way bytes) served (Some out) new → IsAsked bytes (heard.Query q) → recursive q ≡ true → length chain ≤ 8
+    (site : Site) (past : List Turn) (old : State) (now client : ℕ) (way : Via) (bytes : List ℕ) (served : Served) (out : List Action) (new : State) (q : Query Plain) (chain : List Taken) (last : Taken)
+    → Run site past old → Step old (Client now client way bytes) served (Some out) new → IsRequest bytes (request.Query q) → recursive q ≡ true → length chain ≤ 8
     → IsHeldChain site.home (moved old (Client now client way bytes)).clock (type_number q.kind) (old.stores).cache q.name chain last
-    → (served ≡ Own) × ((action : Action) × IsReply (asker client way q) (outcome_of (moved old (Client now client way bytes)).clock chain last) action × (out ≡ action ∷ []))
+    → (served ≡ Own) × ((action : Action) × IsReply (client_query client way q) (outcome_of (moved old (Client now client way bytes)).clock chain last) action × (out ≡ action ∷ []))

@@ -1,14 +1,15 @@
 -- One reply and one open ask for each query, whatever comes (RFC 1035, section 7; RFC 5452, section 4).
 use Rattle.std.specs.Prelude.{◌≡◌, ◌≢◌, ℕ, ◌≤◌, ◌⊎◌, Bool, true, false, Some, List, [], ◌∷◌, Contains}
+use Rattle.limits.specs.Limits.{max_asks}
 use Rattle.causes.specs.declared.cause.Cause.TheVariants as cause
-use Rattle.front.specs.Queries.{IsAsked}
-use Rattle.front.specs.declared.queries.Asked.TheVariants as heard
+use Rattle.front.specs.Queries.{IsRequest}
+use Rattle.front.specs.declared.queries.Request.TheVariants as request
 use Rattle.front.specs.declared.queries.Outcome.TheVariants as outcome
 use Rattle.rdata.specs.declared.addr.Addr.{Addr}
-use Rattle.runs.specs.States.{Event, Client, Datagram, TcpReply, TcpFailed, Tick, Action, Reply, Send, TcpAsk, MoreDue, Served, Nobody, Own, Query, Turn, Plain, Asker, ByUdp, Asking, Open, due_moment, Site, State, moved}
+use Rattle.runs.specs.States.{Event, Client, Datagram, TcpReply, TcpFailed, Tick, Action, Reply, Send, TcpAsk, MoreDue, Served, Nobody, Own, OpenQuery, Turn, Plain, ClientQuery, ByUdp, Ask, Open, due_moment, Site, State, moved}
 use Rattle.runs.specs.Messages.{IsReply}
 use Rattle.runs.specs.Steps.{Step, IsFirstDue}
-use Rattle.runs.specs.Runs.{Run, Earlier, Always, GivesOut, Asks, Came, is_ask, asks_of}
+use Rattle.runs.specs.Runs.{Run, Earlier, Always, GivesOut, IsOpenAskOf, Came, is_ask, asks_of}
 
 abbrev pub is_reply : Action → Bool
 is_reply (Reply client way bytes cause) = true
@@ -19,12 +20,12 @@ is_reply MoreDue = false
 -- ---- one action a step
 
 -- Behind it word may stand that another query is due.
-abbrev pub IsAlone : Action → List Action → Type 0
-IsAlone action out = (out ≡ action ∷ []) ⊎ (out ≡ action ∷ MoreDue ∷ [])
+abbrev pub IsOnlyAction : Action → List Action → Type 0
+IsOnlyAction action out = (out ≡ action ∷ []) ⊎ (out ≡ action ∷ MoreDue ∷ [])
 
 -- Bytes of a client that are not answered: those that are no query at all.
 abbrev pub IsNoQuery : Event → Type 0
-IsNoQuery (Client now client way bytes) = IsAsked {A = Plain} bytes heard.Drop
+IsNoQuery (Client now client way bytes) = IsRequest {A = Plain} bytes request.Drop
 IsNoQuery (Datagram now sock from bytes) = ⊥
 IsNoQuery (TcpReply now number bytes) = ⊥
 IsNoQuery (TcpFailed now number) = ⊥
@@ -35,7 +36,7 @@ IsNoQuery (Tick now) = ⊥
 abbrev pub GivesOne : Event → Served → List Action → Type 0
 GivesOne event Nobody out = out ≡ []
 GivesOne event Own out = (IsNoQuery event × (out ≡ [])) ⊎ ((action : Action) × (is_reply action ≡ true) × (out ≡ action ∷ []))
-GivesOne event (Query k) out = (action : Action) × ((is_reply action ≡ true) ⊎ (is_ask action ≡ true)) × IsAlone action out
+GivesOne event (OpenQuery k) out = (action : Action) × ((is_reply action ≡ true) ⊎ (is_ask action ≡ true)) × IsOnlyAction action out
 
 abbrev pub OneAction : Type 0
 OneAction = (site : Site) (run : List Turn) (s : State) → Run site run s → Always (λ t past. (out : List Action) → t.out ≡ Some out → GivesOne t.event t.served out) run
@@ -51,31 +52,31 @@ MoreDueAtTicks = (site : Site) (run : List Turn) (s : State) → Run site run s 
 
 -- Query k is over in a step that serves it and sends no ask: it is answered, or memory was wanting.
 pub record IsOver (k : ℕ) (t : Turn) (past : List Turn) : Type 0 where
-  pub served : t.served ≡ Query k
+  pub served : t.served ≡ OpenQuery k
   pub no_ask : (action : Action) → GivesOut t.out action → is_ask action ≡ true → ⊥
 
 -- A query that is over is never served again. So it has one reply at most.
 abbrev pub NeverAgain : Type 0
-NeverAgain = (site : Site) (run : List Turn) (s : State) → Run site run s → (k : ℕ) → Always (λ t past. t.served ≡ Query k → Earlier (IsOver k) past → ⊥) run
+NeverAgain = (site : Site) (run : List Turn) (s : State) → Run site run s → (k : ℕ) → Always (λ t past. t.served ≡ OpenQuery k → Earlier (IsOver k) past → ⊥) run
 
-abbrev pub Answers : ℕ → Turn → List Turn → Type 0
-Answers k t past = (t.served ≡ Query k) × ((action : Action) × GivesOut t.out action × (is_reply action ≡ true))
+abbrev pub RepliesTo : ℕ → Turn → List Turn → Type 0
+RepliesTo k t past = (t.served ≡ OpenQuery k) × ((action : Action) × GivesOut t.out action × (is_reply action ≡ true))
 
 abbrev pub OneReply : Type 0
-OneReply = (site : Site) (run : List Turn) (s : State) → Run site run s → (k : ℕ) → Always (λ t past. Answers k t past → Earlier (Answers k) past → ⊥) run
+OneReply = (site : Site) (run : List Turn) (s : State) → Run site run s → (k : ℕ) → Always (λ t past. RepliesTo k t past → Earlier (RepliesTo k) past → ⊥) run
 
 -- One client's query comes under a number.
 abbrev pub OneComing : Type 0
 OneComing =
     (site : Site) (run : List Turn) (s : State) → Run site run s → (k : ℕ)
-    → Always (λ t past. (who : Asker) → Came (Query k) who t past → Earlier (λ u before. (other : Asker) × Came (Query k) other u before) past → ⊥) run
+    → Always (λ t past. (who : ClientQuery) → Came (OpenQuery k) who t past → Earlier (λ u before. (other : ClientQuery) × Came (OpenQuery k) other u before) past → ⊥) run
 
 -- ---- one open ask
 
 -- The open queries are those whose last step sent an ask, and that is their one open ask.
 pub record AreOpenByRun (port : ℕ) (run : List Turn) (queries : List Open) : Type 0 where
-  pub waits : (q : Open) → Contains queries q → Asks port q.number q.ask run
-  pub asked : (k : ℕ) (a : Asking) → Asks port k a run → (q : Open) × Contains queries q × (q.number ≡ k) × (q.ask ≡ a)
+  pub waits : (q : Open) → Contains queries q → IsOpenAskOf port q.number q.ask run
+  pub asked : (k : ℕ) (a : Ask) → IsOpenAskOf port k a run → (q : Open) × Contains queries q × (q.number ≡ k) × (q.ask ≡ a)
   pub one : (p q : Open) → Contains queries p → Contains queries q → p.number ≡ q.number → p ≡ q
 
 abbrev pub OpenByRun : Type 0
@@ -83,7 +84,7 @@ OpenByRun = (site : Site) (run : List Turn) (s : State) → Run site run s → A
 
 -- At most 40 asks go out for a query.
 abbrev pub FewAsks : Type 0
-FewAsks = (site : Site) (run : List Turn) (s : State) → Run site run s → (k : ℕ) → asks_of k run ≤ 40
+FewAsks = (site : Site) (run : List Turn) (s : State) → Run site run s → (k : ℕ) → asks_of k run ≤ max_asks
 
 -- The open asks of two queries from one socket to one server have two IDs.
 abbrev pub IsLine : Open → ℕ → Addr → ℕ → Type 0
@@ -100,7 +101,7 @@ OneLine =
 abbrev pub OthersStay : Type 0
 OthersStay =
     (site : Site) (past : List Turn) (old : State) (t : Turn) (new : State) → Run site past old → Step old t.event t.served t.out new
-    → (q : Open) → t.served ≢ Query q.number → (Contains old.queries q → Contains new.queries q) × (Contains new.queries q → Contains old.queries q)
+    → (q : Open) → t.served ≢ OpenQuery q.number → (Contains old.queries q → Contains new.queries q) × (Contains new.queries q → Contains old.queries q)
 
 -- ---- due queries
 
@@ -111,10 +112,10 @@ IsDue s q = Contains s.queries q × (due_moment q ≤ s.clock)
 -- whose time is up is answered so. Word is given that another query is due exactly where one is.
 pub record TicksInOrder (s : State) (served : Served) (out : List Action) (new : State) : Type 0 where
   pub none : ((q : Open) → IsDue s q → ⊥) → served ≡ Nobody
-  pub first : (p : Open) → IsDue s p → (q : Open) × (served ≡ Query q.number) × IsFirstDue s q
-      × ((q.job).deadline ≤ s.clock → (action : Action) × IsReply q.asker (outcome.Fail cause.Deadline) action × IsAlone action out)
-  pub more : Contains out MoreDue → (p : Open) × IsDue s p × (served ≢ Query p.number)
-  pub told : (p : Open) → IsDue s p → served ≢ Query p.number → Contains out MoreDue
+  pub first : (p : Open) → IsDue s p → (q : Open) × (served ≡ OpenQuery q.number) × IsFirstDue s q
+      × ((q.job).deadline ≤ s.clock → (action : Action) × IsReply q.client_query (outcome.Fail cause.DeadlineOver) action × IsOnlyAction action out)
+  pub more : Contains out MoreDue → (p : Open) × IsDue s p × (served ≢ OpenQuery p.number)
+  pub told : (p : Open) → IsDue s p → served ≢ OpenQuery p.number → Contains out MoreDue
 
 abbrev pub DueInOrder : Type 0
 DueInOrder =

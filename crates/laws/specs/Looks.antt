@@ -5,8 +5,8 @@ use Rattle.std.proofs.Common.{inl, inr}
 use Rattle.dname.specs.Labels.{Name}
 use Rattle.zone.specs.Zones.{a_type}
 use Rattle.wire.specs.declared.via.Via.{Via}
-use Rattle.front.specs.declared.queries.Asked.{Asked}
-use Rattle.front.specs.declared.queries.Asked.TheVariants as heard
+use Rattle.front.specs.declared.queries.Request.{Request}
+use Rattle.front.specs.declared.queries.Request.TheVariants as request
 use Rattle.classify.specs.Classes as class
 use Rattle.classify.specs.Classes.{class_of}
 use Rattle.cache.specs.Keys.{Key, key_for}
@@ -16,14 +16,14 @@ use Rattle.resolution.specs.Jobs.{Home, Stores, Search, Job, Input, Start, Told,
 use Rattle.resolution.specs.Rules.{asked_of, Rule, takes, asks, follows, restarts, skips, hears, descends, gives_up, Rules, Enters, Advances}
 use Rattle.runs.specs.States.{Event, Client, Datagram, TcpReply, Tick, Action, Served, Turn, Plain, Site, State, moved}
 use Rattle.runs.specs.States as event
-use Rattle.runs.specs.Steps.{IsIgnored, Hears, IsHandled, IsTicked, IsTurn, Step}
+use Rattle.runs.specs.Steps.{IsIgnored, ServesOpen, IsHandled, IsTicked, IsTurn, Step}
 use Rattle.runs.specs.Runs.{Run}
-use Rattle.laws.specs.Uses.{Accepted, is_kept}
+use Rattle.laws.specs.Uses.{KeptAnswer, is_kept}
 
 -- The link that is kept, if one is, and the look-ups that find something, in order.
 pub record Looks : Type 0 where
-  pub accepted : Option Accepted
-  pub hits : List cache.Asked
+  pub accepted : Option KeptAnswer
+  pub hits : List cache.Question
 
 abbrev pub none : Looks
 none = record { accepted = None; hits = [] }
@@ -31,11 +31,11 @@ none = record { accepted = None; hits = [] }
 -- ---- of one call
 
 -- What is found is the zones' own, or the cache's.
-abbrev pub hits_by : {A B : Type 0} → Home → Name → ℕ → A ⊎ B → List cache.Asked
+abbrev pub hits_by : {A B : Type 0} → Home → Name → ℕ → A ⊎ B → List cache.Question
 hits_by home n t (inl zones) = []
 hits_by home n t (inr kept) = asked_of home n t ∷ []
 
-abbrev pub rule_hits : (home : Home) (now : ℕ) (a b : Point) → Rule home now a b → List cache.Asked
+abbrev pub rule_hits : (home : Home) (now : ℕ) (a b : Point) → Rule home now a b → List cache.Question
 rule_hits home now a b (takes l t f u j) = hits_by home (a.job).name (a.job).kind f.is
 rule_hits home now a b (asks c t m u j) = []
 rule_hits home now a b (follows l r t is few u j e) = []
@@ -45,18 +45,18 @@ rule_hits home now a b (hears before around rest n l marks t turn f h u j) = hit
 rule_hits home now a b (descends s rest n c t turn m u j) = []
 rule_hits home now a b (gives_up s around rest t up u j e) = []
 
-abbrev pub rules_hits : (home : Home) (now count : ℕ) (a b : Point) → Rules home now count a b → List cache.Asked
+abbrev pub rules_hits : (home : Home) (now count : ℕ) (a b : Point) → Rules home now count a b → List cache.Question
 rules_hits home now zero a b same = []
 rules_hits home now (suc n) a b (mid, before, rule) = rules_hits home now n a mid before ++ rule_hits home now mid b rule
 
 -- An answer is kept for the search that it is for.
-abbrev pub accepted_by : ℕ → Search → class.Class → Option Accepted
+abbrev pub accepted_by : ℕ → Search → class.Class → Option KeptAnswer
 accepted_by now s (class.Answer l) = Some (record { name = s.name; kind = s.kind; hit = hit_from l now })
 accepted_by now s (class.Referral at ns glue ttl) = None
 accepted_by now s class.Truncated = None
 accepted_by now s (class.Failed f) = None
 
-abbrev pub enters_accepted : (now : ℕ) (input : Input) (j : Job) (stores : Stores) (p : Point) → Enters now input j stores p → Option Accepted
+abbrev pub enters_accepted : (now : ℕ) (input : Input) (j : Job) (stores : Stores) (p : Point) → Enters now input j stores p → Option KeptAnswer
 enters_accepted now Start j stores p enters = None
 enters_accepted now (Told via server m) j stores p (inl nothing) = None
 enters_accepted now (Told via server m) j stores p (inr (s, rest, top, is)) = accepted_by now s (class_of (s.frame).zone s.name s.kind via m)
@@ -71,16 +71,16 @@ call_looks home now input old stores next new after call = record {
 
 -- ---- of a step
 
-abbrev pub handled_looks : (s : State) (client : ℕ) (way : Via) (asked : Asked Plain) (served : Served) (out : List Action) (new : State) → IsHandled s client way asked served out new → Looks
-handled_looks s client way heard.Drop served out new h = none
-handled_looks s client way (heard.Refuse refusal start echo) served out new h = none
-handled_looks s client way (heard.Query q) served out new (inl h) = none
-handled_looks s client way (heard.Query q) served out new (inr h) = call_looks _ _ _ _ _ _ _ _ (h.1).advances
+abbrev pub handled_looks : (s : State) (client : ℕ) (way : Via) (asked : Request Plain) (served : Served) (out : List Action) (new : State) → IsHandled s client way asked served out new → Looks
+handled_looks s client way request.Drop served out new h = none
+handled_looks s client way (request.Refuse refusal start echo) served out new h = none
+handled_looks s client way (request.Query q) served out new (inl h) = none
+handled_looks s client way (request.Query q) served out new (inr h) = call_looks _ _ _ _ _ _ _ _ (h.1).advances
 
-abbrev pub hears_looks : (s : State) (event : Event) (served : Served) (out : List Action) (new : State) → Hears s event served out new → Looks
+abbrev pub hears_looks : (s : State) (event : Event) (served : Served) (out : List Action) (new : State) → ServesOpen s event served out new → Looks
 hears_looks s event served out new h = call_looks _ _ _ _ _ _ _ _ (h.serves).advances
 
-abbrev pub either_looks : (s : State) (event : Event) (served : Served) (out : List Action) (new : State) → IsIgnored s event served out new ⊎ Hears s event served out new → Looks
+abbrev pub either_looks : (s : State) (event : Event) (served : Served) (out : List Action) (new : State) → IsIgnored s event served out new ⊎ ServesOpen s event served out new → Looks
 either_looks s event served out new (inl h) = none
 either_looks s event served out new (inr h) = hears_looks s event served out new h
 
@@ -108,23 +108,23 @@ step_looks old t new step = turn_looks (moved old t.event) t.event t.served t.ou
 
 -- This link was accepted in a step of the run, since then none of its name was, memory was wanting in no
 -- step, and n links were kept and found in the cache.
-abbrev pub IsKeptSince : (site : Site) (a : Accepted) (run : List Turn) (s : State) → Run site run s → ℕ → Type 0
+abbrev pub IsKeptSince : (site : Site) (a : KeptAnswer) (run : List Turn) (s : State) → Run site run s → ℕ → Type 0
 IsKeptSince site a [] s new n = ⊥
 IsKeptSince site a (t ∷ past) s (old, legal, step) n =
     (t.out ≢ None)
     × ((((step_looks old t s step).accepted ≡ Some a) × (n ≡ length (step_looks old t s step).hits))
-    ⊎ (((b : Accepted) → (step_looks old t s step).accepted ≡ Some b → b.name ≢ a.name)
+    ⊎ (((b : KeptAnswer) → (step_looks old t s step).accepted ≡ Some b → b.name ≢ a.name)
     × ((m : ℕ) × IsKeptSince site a past old legal m × (n ≡ m + (is_kept (step_looks old t s step).accepted + length (step_looks old t s step).hits)))))
 
 -- No other entry of its name lives.
-abbrev pub IsAlone : ℕ → Accepted → List (Key × Hit) → Type 0
-IsAlone now a es = (k : Key) (h : Hit) → Contains es (k, h) → k.name ≡ a.name → k ≢ key_for a.name a.kind (a.hit).link → is_live now h ≡ false
+abbrev pub IsOnlyLiveEntry : ℕ → KeptAnswer → List (Key × Hit) → Type 0
+IsOnlyLiveEntry now a es = (k : Key) (h : Hit) → Contains es (k, h) → k.name ≡ a.name → k ≢ key_for a.name a.kind (a.hit).link → is_live now h ≡ false
 
 -- A link that was accepted with a time to live is what the cache gives for its question while it lives, where
 -- since then no link of its name was accepted, no other entry of its name lives, fewer links were kept and
 -- found than the cache has room for, and memory was wanting in no step.
 abbrev pub KeptIsFound : Type 0
 KeptIsFound =
-    (site : Site) (run : List Turn) (s : State) (legal : Run site run s) (a : Accepted) (n now : ℕ)
-    → IsKeptSince site a run s legal n → n < (s.stores).cache_cap → (a.hit).ttl ≢ 0 → is_live now a.hit ≡ true → IsAlone now a (s.stores).cache
+    (site : Site) (run : List Turn) (s : State) (legal : Run site run s) (a : KeptAnswer) (n now : ℕ)
+    → IsKeptSince site a run s legal n → n < (s.stores).cache_cap → (a.hit).ttl ≢ 0 → is_live now a.hit ≡ true → IsOnlyLiveEntry now a (s.stores).cache
     → hit_of (lent (asked_of site.home a.name a.kind) now (s.stores).cache) ≡ Some a.hit

@@ -7,24 +7,24 @@ use Rattle.rdata.specs.declared.addr.Addr.{Addr}
 use Rattle.causes.specs.declared.cause.Cause.{Cause}
 use Rattle.causes.specs.declared.cause.Cause.TheVariants as cause
 use Rattle.wire.specs.declared.via.Via.{Via}
-use Rattle.front.specs.declared.queries.Asked.{Asked}
-use Rattle.front.specs.declared.queries.Asked.TheVariants as heard
+use Rattle.front.specs.declared.queries.Request.{Request}
+use Rattle.front.specs.declared.queries.Request.TheVariants as request
 use Rattle.front.specs.declared.queries.Outcome.TheVariants as outcome
 use Rattle.frames.specs.Frames.{opened}
 use Rattle.resolution.specs.Jobs.{Home, Stores, level_of, search_at, next_server, Job, Input, Start, Next, Point}
-use Rattle.resolution.specs.Rules.{Rules, IsRefused, Advances}
-use Rattle.runs.specs.States.{Event, Client, Datagram, TcpReply, Tick, Action, Served, Query, Turn, Plain, Asker, asker, job_for, IsFor, Open, Site, State, moved}
+use Rattle.resolution.specs.Rules.{Rules, MayNotSend, Advances}
+use Rattle.runs.specs.States.{Event, Client, Datagram, TcpReply, Tick, Action, Served, OpenQuery, Turn, Plain, ClientQuery, client_query, job_for, IsFor, Open, Site, State, moved}
 use Rattle.runs.specs.States as event
 use Rattle.runs.specs.Messages.{IsSent, IsReply}
-use Rattle.runs.specs.Steps.{most_open, IsHandled, IsIgnored, Hears, IsTicked, IsTurn, Step}
+use Rattle.runs.specs.Steps.{most_open, IsHandled, IsIgnored, ServesOpen, IsTicked, IsTurn, Step}
 use Rattle.runs.specs.Runs.{Run}
-use Rattle.laws.specs.Laws.{IsAlone}
-use Rattle.laws.specs.Calls.{Opening, opening_of, IsStart}
-use Rattle.laws.specs.Steps.{IsUdp}
+use Rattle.laws.specs.Laws.{IsOnlyAction}
+use Rattle.laws.specs.Calls.{Opening, opening_of, StartsSearch}
+use Rattle.laws.specs.Steps.{IsSentByUdp}
 
 -- The call of a query's work that a step makes: who asked, what came in, and the work before and after.
 pub record Call (s : State) : Type 0 where
-  pub asker : Asker
+  pub client_query : ClientQuery
   pub input : Input
   pub old : Job
   pub next : Next
@@ -34,17 +34,17 @@ pub record Call (s : State) : Type 0 where
 
 -- ---- which call a step makes
 
-abbrev pub handled_call : (s : State) (client : ℕ) (way : Via) (asked : Asked Plain) (served : Served) (out : List Action) (new : State) → IsHandled s client way asked served out new → Option (Call s)
-handled_call s client way heard.Drop served out new h = None
-handled_call s client way (heard.Refuse refusal start echo) served out new h = None
-handled_call s client way (heard.Query q) served out new (inl h) = None
-handled_call s client way (heard.Query q) served out new (inr (rd, h)) = Some (record { asker = asker client way q; input = Start; old = job_for s.clock q; next = h.next; new = h.job; after = h.stores; advances = h.advances })
+abbrev pub handled_call : (s : State) (client : ℕ) (way : Via) (asked : Request Plain) (served : Served) (out : List Action) (new : State) → IsHandled s client way asked served out new → Option (Call s)
+handled_call s client way request.Drop served out new h = None
+handled_call s client way (request.Refuse refusal start echo) served out new h = None
+handled_call s client way (request.Query q) served out new (inl h) = None
+handled_call s client way (request.Query q) served out new (inr (rd, h)) = Some (record { client_query = client_query client way q; input = Start; old = job_for s.clock q; next = h.next; new = h.job; after = h.stores; advances = h.advances })
 
-abbrev pub hears_call : (s : State) (event : Event) (served : Served) (out : List Action) (new : State) → Hears s event served out new → Option (Call s)
+abbrev pub hears_call : (s : State) (event : Event) (served : Served) (out : List Action) (new : State) → ServesOpen s event served out new → Option (Call s)
 hears_call s event served out new h =
-    Some (record { asker = (h.query).asker; input = h.input; old = (h.query).job; next = (h.serves).next; new = (h.serves).job; after = (h.serves).stores; advances = (h.serves).advances })
+    Some (record { client_query = (h.query).client_query; input = h.input; old = (h.query).job; next = (h.serves).next; new = (h.serves).job; after = (h.serves).stores; advances = (h.serves).advances })
 
-abbrev pub either_call : (s : State) (event : Event) (served : Served) (out : List Action) (new : State) → IsIgnored s event served out new ⊎ Hears s event served out new → Option (Call s)
+abbrev pub either_call : (s : State) (event : Event) (served : Served) (out : List Action) (new : State) → IsIgnored s event served out new ⊎ ServesOpen s event served out new → Option (Call s)
 either_call s event served out new (inl h) = None
 either_call s event served out new (inr h) = hears_call s event served out new h
 
@@ -84,25 +84,25 @@ Opens s call frame = RulesOpen (s.site).home s.clock (call.advances).count (call
 pub record Goes (site : Site) (served : Served) (server : Addr) (n : Name) (t : ℕ) (out : List Action) (new : State) : Type 0 where
   pub query : Open
   pub there : Contains new.queries query
-  pub number : served ≡ Query query.number
+  pub number : served ≡ OpenQuery query.number
   pub for : IsFor server n t query.ask
-  pub path : IsUdp (query.ask).path
+  pub path : IsSentByUdp (query.ask).path
   pub action : Action
   pub sent : IsSent site.port query.ask action
-  pub alone : IsAlone action out
+  pub alone : IsOnlyAction action out
 
 -- Or its time is up, or 40 asks went out for it, or it has only come and 1,024 others are open; it is answered so.
 pub record MayNot (s : State) (call : Call s) (out : List Action) : Type 0 where
   pub c : Cause
-  pub may_not : IsRefused s.clock (call.old) c ⊎ ((call.input ≡ Start) × (c ≡ cause.TooManyOpen) × (most_open ≤ length s.queries))
+  pub may_not : MayNotSend s.clock (call.old) c ⊎ ((call.input ≡ Start) × (c ≡ cause.TooManyOpen) × (most_open ≤ length s.queries))
   pub action : Action
-  pub reply : IsReply call.asker (outcome.Fail c) action
-  pub alone : IsAlone action out
+  pub reply : IsReply call.client_query (outcome.Fail c) action
+  pub alone : IsOnlyAction action out
 
 -- The frame's cut is where servers of its question are sought first, and its plan's first address that did not fail
 -- lately is asked, both by the stores as the step leaves them.
 pub record IsOpenedRightly (site : Site) (s : State) (served : Served) (out : List Action) (new : State) (call : Call s) (frame : Opening) : Type 0 where
-  pub start : IsStart site.home s.clock frame.name frame.kind new.stores frame.cut
+  pub start : StartsSearch site.home s.clock frame.name frame.kind new.stores frame.cut
   pub first : (d : Addr) → next_server s.clock (new.stores).failures (search_at frame.name frame.kind (opened (level_of new.stores) frame.nesting frame.cut)) ≡ Some d
       → Goes site served d frame.name frame.kind out new ⊎ MayNot s call out
 

@@ -5,7 +5,7 @@ use Rattle.std.specs.Prelude.{◌≡◌, ◌≢◌, ℕ, zero, suc, ◌-◌, ◌
 use Rattle.dname.specs.Labels.{Name, root, IsAtOrUnder}
 use Rattle.rdata.specs.Records.{Record}
 use Rattle.rdata.specs.declared.addr.Addr.{Addr}
-use Rattle.layout.specs.Messages.{Message}
+use Rattle.message_grammar.specs.Messages.{Message}
 use Rattle.zone.specs.Zones.{a_type, cname_type}
 use Rattle.zone.specs.Links.{Link, Found, Alias, NoData, NxDomain}
 use Rattle.zone.specs.Look as local
@@ -15,13 +15,13 @@ use Rattle.classify.specs.declared.class.Failure.{Failure}
 use Rattle.classify.specs.Lifetimes.{received}
 use Rattle.referral.specs.Cuts.{Cut}
 use Rattle.frames.specs.Frames.{taken_addresses, unknown_names}
-use Rattle.front.specs.Chains.{target_of}
+use Rattle.front.specs.Chains.{alias_target}
 use Rattle.resolution.specs.Jobs.{Home, IsCutOf, IsRootCut, AreAddressesOf}
 use Rattle.resolution.specs.Rules.{Says, asked_of}
-use Rattle.runs.specs.States.{Turn, Event, Tick, TcpReply, TcpFailed, Action, Query, Path, ByUdp, ByTcp, Asking, IsFor, via_of}
+use Rattle.runs.specs.States.{Turn, Event, Tick, TcpReply, TcpFailed, Action, OpenQuery, Path, ByUdp, ByTcp, Ask, IsFor, via_of}
 use Rattle.runs.specs.Messages.{IsSent, Brings}
-use Rattle.runs.specs.Runs.{GivesOut, Earlier, Asks, Accepts}
-use Rattle.laws.specs.Timely.{Learns}
+use Rattle.runs.specs.Runs.{GivesOut, Earlier, IsOpenAskOf, Accepts}
+use Rattle.laws.specs.Timely.{AcceptsAnswer}
 
 -- Two steps of the run are so.
 abbrev pub Twice : (Turn → List Turn → Type 0) → List Turn → Type 0
@@ -29,15 +29,15 @@ Twice P run = Earlier (λ turn past. P turn past × Earlier P past) run
 
 -- ---- asks
 
-abbrev pub IsUdp : Path → Type 0
-IsUdp (ByUdp sock) = Unit {0}
-IsUdp (ByTcp number) = ⊥
+abbrev pub IsUdpPath : Path → Type 0
+IsUdpPath (ByUdp sock) = Unit {0}
+IsUdpPath (ByTcp number) = ⊥
 
 -- This step brings a truncated reply to the query's open ask over UDP of that server.
 pub record BringsTruncated (port k : ℕ) (a : Addr) (n : Name) (t : ℕ) (turn : Turn) (past : List Turn) : Type 0 where
-  pub ask : Asking
-  pub udp : IsUdp ask.path
-  pub asked : Asks port k ask past
+  pub ask : Ask
+  pub udp : IsUdpPath ask.path
+  pub asked : IsOpenAskOf port k ask past
   pub same : IsFor a n t ask
   pub message : Message
   pub brings : Brings port ask turn.event message
@@ -45,25 +45,25 @@ pub record BringsTruncated (port k : ℕ) (a : Addr) (n : Name) (t : ℕ) (turn 
 
 -- The query's open ask over TCP: it went out in the step that brought a truncated reply to the same ask over
 -- UDP (RFC 1035, section 4.2.1). With it that ask goes on.
-abbrev pub Repeats : ℕ → ℕ → Asking → List Turn → Type 0
+abbrev pub Repeats : ℕ → ℕ → Ask → List Turn → Type 0
 Repeats port k ask [] = ⊥
 Repeats port k ask (turn ∷ past) =
-    ((turn.served ≡ Query k) × ((action : Action) × GivesOut turn.out action × IsSent port ask action) × BringsTruncated port k ask.server ask.name ask.kind turn past)
-    ⊎ ((turn.served ≢ Query k) × Repeats port k ask past)
+    ((turn.served ≡ OpenQuery k) × ((action : Action) × GivesOut turn.out action × IsSent port ask action) × BringsTruncated port k ask.server ask.name ask.kind turn past)
+    ⊎ ((turn.served ≢ OpenQuery k) × Repeats port k ask past)
 
-abbrev pub AsksBy : ℕ → ℕ → Asking → Path → List Turn → Type 0
-AsksBy port k ask (ByUdp sock) run = Asks port k ask run
+abbrev pub AsksBy : ℕ → ℕ → Ask → Path → List Turn → Type 0
+AsksBy port k ask (ByUdp sock) run = IsOpenAskOf port k ask run
 AsksBy port k ask (ByTcp number) run = Repeats port k ask run
 
 -- The open ask of the query with this number.
-abbrev pub IsOpenAsk : ℕ → ℕ → Asking → List Turn → Type 0
+abbrev pub IsOpenAsk : ℕ → ℕ → Ask → List Turn → Type 0
 IsOpenAsk port k ask run = AsksBy port k ask ask.path run
 
 -- ---- asks that end for nothing
 
 -- What is heard of an ask is of no use to the servers of the zone z: nothing in time, a TCP ask that fails or
 -- brings no reply to it, or a reply that is neither an answer nor a referral from that zone.
-abbrev pub IsBad : ℕ → Name → Asking → Event → Type 0
+abbrev pub IsBad : ℕ → Name → Ask → Event → Type 0
 IsBad port z ask event =
     ((now : ℕ) × (event ≡ Tick now))
     ⊎ (((now : ℕ) × (number : ℕ) × (ask.path ≡ ByTcp number)
@@ -72,7 +72,7 @@ IsBad port z ask event =
 
 -- In this step an ask of the address for the name and type ends so.
 abbrev pub EndsBadly : ℕ → ℕ → Name → Name → ℕ → Addr → Turn → List Turn → Type 0
-EndsBadly port k z n t a turn past = (ask : Asking) × (turn.served ≡ Query k) × IsOpenAsk port k ask past × IsFor a n t ask × IsBad port z ask turn.event
+EndsBadly port k z n t a turn past = (ask : Ask) × (turn.served ≡ OpenQuery k) × IsOpenAsk port k ask past × IsFor a n t ask × IsBad port z ask turn.event
 
 -- The address was asked twice, and each time for nothing.
 abbrev pub HasFailed : ℕ → List Turn → ℕ → Name → Name → ℕ → Addr → Type 0
@@ -81,7 +81,7 @@ HasFailed port run k z n t a = Twice (EndsBadly port k z n t a) run
 -- In this step the address is asked for the name and type over UDP.
 abbrev pub SendsTo : ℕ → ℕ → Addr → Name → ℕ → Turn → List Turn → Type 0
 SendsTo port k a n t turn past =
-    (ask : Asking) × IsUdp ask.path × IsFor a n t ask × (turn.served ≡ Query k) × ((action : Action) × GivesOut turn.out action × IsSent port ask action)
+    (ask : Ask) × IsUdpPath ask.path × IsFor a n t ask × (turn.served ≡ OpenQuery k) × ((action : Action) × GivesOut turn.out action × IsSent port ask action)
 
 -- So two such ends are those of two asks over UDP: one that goes on over TCP ends once.
 abbrev pub FailedIsAskedTwice : Type 0
@@ -90,14 +90,14 @@ FailedIsAskedTwice = (port k : ℕ) (z n : Name) (t : ℕ) (a : Addr) (run : Lis
 -- ---- what servers' names have
 
 -- In this step an answer was accepted for the name and type that gives this link.
-abbrev pub Takes : ℕ → Name → ℕ → Link → Turn → List Turn → Type 0
-Takes port n t l turn past = (by : ℕ) × (said : Link) × (since : ℕ) × Learns port by n t said since turn past × (l ≡ received said)
+abbrev pub LearnsLink : ℕ → Name → ℕ → Link → Turn → List Turn → Type 0
+LearnsLink port n t l turn past = (by : ℕ) × (said : Link) × (since : ℕ) × AcceptsAnswer port by n t said since turn past × (l ≡ received said)
 
 -- The name has this set of A records: by the zones at hand, or by an answer.
 abbrev pub IsFound : ℕ → Home → List Turn → Name → List Record → Type 0
-IsFound port home run n set = Says home n a_type (local.Linked (Found set)) ⊎ Earlier (Takes port n a_type (Found set)) run
+IsFound port home run n set = Says home n a_type (local.Linked (Found set)) ⊎ Earlier (LearnsLink port n a_type (Found set)) run
 
--- A link for the type t says that the name has no A record: an alias and a name error for any type, a want of
+-- A link for the type t says that the name has no A record: an alias and an NXDOMAIN for any type, a want of
 -- data for A alone; and a CNAME that was asked for.
 abbrev pub TellsOfNone : ℕ → Link → Type 0
 TellsOfNone t (Found set) = t ≡ cname_type
@@ -113,35 +113,35 @@ IsNotFound l = (set : List Record) → l ≢ Found set
 abbrev pub HasNoAddress : ℕ → Home → List Turn → Name → Type 0
 HasNoAddress port home run n =
     ((l : Link) × Says home n a_type (local.Linked l) × IsNotFound l)
-    ⊎ (((t : ℕ) × (l : Link) × Earlier (Takes port n t l) run × TellsOfNone t l)
-    ⊎ ((p : Name) × (t : ℕ) × (soa : Record) × Contains (asked_of home n a_type).above p × Earlier (Takes port p t (NxDomain soa)) run))
+    ⊎ (((t : ℕ) × (l : Link) × Earlier (LearnsLink port n t l) run × TellsOfNone t l)
+    ⊎ ((p : Name) × (t : ℕ) × (soa : Record) × Contains (asked_of home n a_type).above p × Earlier (LearnsLink port p t (NxDomain soa)) run))
 
 -- The name is an alias for the type t by this record: by the zones at hand, or by an answer; a CNAME that was
 -- asked for is an alias for every other type.
 abbrev pub IsAliasOf : ℕ → Home → List Turn → Name → ℕ → Record → Type 0
 IsAliasOf port home run n t r =
     Says home n t (local.Linked (Alias r))
-    ⊎ ((v : ℕ) × (l : Link) × Earlier (Takes port n v l) run × ((l ≡ Alias r) ⊎ ((v ≡ cname_type) × ((rs : List Record) × (l ≡ Found (r ∷ rs))))))
+    ⊎ ((v : ℕ) × (l : Link) × Earlier (LearnsLink port n v l) run × ((l ≡ Alias r) ⊎ ((v ≡ cname_type) × ((rs : List Record) × (l ≡ Found (r ∷ rs))))))
 
 -- These aliases lead from a name to another.
-abbrev pub AreLeading : ℕ → Home → List Turn → ℕ → Name → List Record → Name → Type 0
-AreLeading port home run t from [] to = to ≡ from
-AreLeading port home run t from (r ∷ rs) to = IsAliasOf port home run from t r × AreLeading port home run t (target_of r) rs to
+abbrev pub AcceptedAliasesLead : ℕ → Home → List Turn → ℕ → Name → List Record → Name → Type 0
+AcceptedAliasesLead port home run t from [] to = to ≡ from
+AcceptedAliasesLead port home run t from (r ∷ rs) to = IsAliasOf port home run from t r × AcceptedAliasesLead port home run t (alias_target r) rs to
 
 -- ---- where a search for servers starts
 
 -- In this step a server of the zone z refers the query to the cut c.
 abbrev pub Refers : ℕ → Name → Cut → Turn → List Turn → Type 0
 Refers port z c turn past =
-    (k : ℕ) × (ask : Asking) × (m : Message) × (at : Name) × (ns : List Record) × (glue : List Record) × (ttl : ℕ)
+    (k : ℕ) × (ask : Ask) × (m : Message) × (at : Name) × (ns : List Record) × (glue : List Record) × (ttl : ℕ)
     × Accepts port k ask m turn past × (class_of z ask.name ask.kind (via_of ask.path) m ≡ class.Referral at ns glue ttl) × IsCutOf at ns glue c
 
 -- The hints; a cut of a zone at hand; a cut that a server of such a start referred to. The zone whose server
 -- was asked decides which addresses of a referral are taken.
-abbrev pub IsStart : ℕ → Home → List Turn → Cut → Type 0
-IsStart port home [] c =
+abbrev pub MayStart : ℕ → Home → List Turn → Cut → Type 0
+MayStart port home [] c =
     IsRootCut home c ⊎ ((n : Name) × (t : ℕ) × (at : Name) × (ns : List Record) × (glue : List Record) × Says home n t (local.Cut at ns glue) × IsCutOf at ns glue c)
-IsStart port home (turn ∷ past) c = IsStart port home past c ⊎ ((z : Cut) × IsStart port home past z × Refers port z.owner c turn past)
+MayStart port home (turn ∷ past) c = MayStart port home past c ⊎ ((z : Cut) × MayStart port home past z × Refers port z.owner c turn past)
 
 -- The cut is over the name; the root is over every name.
 abbrev pub IsOver : Cut → Name → Type 0
@@ -160,7 +160,7 @@ IsOfNoUse port home run z Has Beneath x =
 -- All that is taken of the start c, the first sixteen addresses and the first sixteen names without one of
 -- these, is of no use for the name n and the type t. `Fails`: why a server of a zone is of none for a name and a type.
 pub record AreUsedUp (port : ℕ) (home : Home) (run : List Turn) (Fails : Name → Name → ℕ → Addr → Type 0) (n : Name) (t : ℕ) (Beneath : Name → Type 0) (c : Cut) : Type 0 where
-  pub start : IsStart port home run c
+  pub start : MayStart port home run c
   pub over : IsOver c n
   pub addresses : (a : Addr) → Contains (taken_addresses c) a → Fails c.owner n t a
   pub names : (x : Name) → Contains (unknown_names c) x → IsOfNoUse port home run c.owner (Fails c.owner n t) Beneath x

@@ -1,7 +1,7 @@
 -- From which words of its generator a resolver takes the identifiers of its asks (RFC 5452, section 9.2).
 use Rattle.std.specs.Prelude.{◌≡◌, ℕ, zero, suc, ◌⊎◌, None, List, [], ◌∷◌}
 use Rattle.rand_chacha.specs.ChaCha.{ChaCha, of_seed}
-use Rattle.runs.specs.States.{Action, Query, Turn, ByUdp, ByTcp, Asking, Site, State, word_of, word_taken, low_half, socket_of}
+use Rattle.runs.specs.States.{Action, OpenQuery, Turn, ByUdp, ByTcp, Ask, Site, State, word_of, word_taken, low_half, socket_of}
 use Rattle.runs.specs.Messages.{IsSent}
 use Rattle.runs.specs.Steps.{IsInUse, IsRaised}
 use Rattle.runs.specs.Runs.{Run, GivesOut, asks_in}
@@ -13,7 +13,7 @@ drawn (suc n) g = word_taken (drawn n g)
 
 -- The socket of an ask is chosen by a word's high half, and its ID is the word's low half, raised until no open
 -- ask of another query is like it; an ask over TCP has the low half itself.
-abbrev pub IsByWord : State → ℕ → Asking → ℕ → Type 0
+abbrev pub IsByWord : State → ℕ → Ask → ℕ → Type 0
 IsByWord s k a w =
     ((sock : ℕ) × (sock ≡ socket_of (s.site).sockets w) × (a.path ≡ ByUdp sock) × IsRaised (IsInUse s.queries k sock a.server) (low_half w) a.id)
     ⊎ ((number : ℕ) × (a.path ≡ ByTcp number) × (a.id ≡ low_half w))
@@ -23,7 +23,7 @@ IsByWord s k a w =
 abbrev pub Draws : ChaCha → Site → State → Turn → ℕ → ℕ → Type 0
 Draws start site old t m n =
     ((asks_in t.out ≡ 0) × ((n ≡ m) ⊎ ((t.out ≡ None) × (n ≡ suc m))))
-    ⊎ ((n ≡ suc m) × ((k : ℕ) × (a : Asking) × (action : Action) × (t.served ≡ Query k) × GivesOut t.out action × IsSent site.port a action × IsByWord old k a (word_of (drawn m start))))
+    ⊎ ((n ≡ suc m) × ((k : ℕ) × (a : Ask) × (action : Action) × (t.served ≡ OpenQuery k) × GivesOut t.out action × IsSent site.port a action × IsByWord old k a (word_of (drawn m start))))
 
 -- n words were taken in a run, and each ask has the first that none before it has.
 abbrev pub AreDrawn : (start : ChaCha) (site : Site) (run : List Turn) (s : State) → Run site run s → ℕ → Type 0

@@ -9,7 +9,7 @@
 //! `held_law`, `kept_law`: what is held is answered, what is kept is found.
 //!
 //! `engine::Core::step` keeps each of them. docs/DEFINITIONS.md says which definitions a reader has to believe.
-//! Not here: that the premises can be met (`sample`); the same without a premise on servers, in a network in memory
+//! Not here: that the premises can be met (`witness`); the same without a premise on servers, in a network in memory
 //! (`network`).
 //!
 //! ```text

@@ -11,8 +11,8 @@ use Rattle.std.proofs.NetLemmas.Arrays.{four_items, sixteen_items}
 use Rattle.dname.proofs.Spellings.{told}
 use Rattle.dname.specs.Spelling.{AreBytes}
 use Rattle.rdata.specs.Text.{ipv4_text, ipv6_text, group_text, next_group_text}
-use Rattle.words.specs.Lexemes.{ends_word}
-use Rattle.words.specs.Lines.{is_plain}
+use Rattle.master_lexer.specs.Lexemes.{ends_word}
+use Rattle.master_lexer.specs.Lines.{is_plain}
 use Rattle.masterfile.specs.declared.faults.FileKind.{FileKind}
 use Rattle.masterfile.specs.Addresses.{fields, octet, octets, ipv4_of, has_dot, ipv6_of}
 use Rattle.masterfile.proofs.Ipv6Lemmas.{ipv6_read}

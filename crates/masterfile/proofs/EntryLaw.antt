@@ -1,9 +1,9 @@
 -- What an entry says: by cases, and by the function that reads it.
 use Rattle.std.proofs.Common.{◌≡◌, ℕ, Bool, true, false, cond, Option, Some, None, Result, Ok, Err, List, [], ◌∷◌, refl, sym, ap, subst, ◌∙◌, codes}
 use Rattle.rdata.specs.Records.{Record, greatest_ttl}
-use Rattle.words.specs.Lexemes.{Word, plain, quoted, broken}
-use Rattle.words.specs.Entries.{Lead, margin, blank, shifted}
-use Rattle.words.specs.Parts.{AreWhole}
+use Rattle.master_lexer.specs.Lexemes.{Word, plain, quoted, broken}
+use Rattle.master_lexer.specs.Entries.{Lead, margin, blank, shifted}
+use Rattle.master_lexer.specs.Parts.{AreWhole}
 use Rattle.masterfile.specs.declared.faults.FileKind.{FileKind}
 use Rattle.masterfile.specs.declared.faults.FileKind.TheVariants.{UnknownDirective}
 use Rattle.masterfile.specs.Faults.{◌>>=◌}

@@ -1,7 +1,7 @@
 -- On the entries of a file.
 use Rattle.std.proofs.Common.{◌≡◌, ℕ, false, Option, Some, None, Result, Ok, Err, List, [], ◌∷◌, ◌++◌, refl, sym, ap, ◌∙◌, append-nil}
 use Rattle.rdata.specs.Records.{Record}
-use Rattle.words.specs.Entries.{Entry, Text, Lead, lead, text_from}
+use Rattle.master_lexer.specs.Entries.{Entry, Text, Lead, lead, text_from}
 use Rattle.masterfile.specs.declared.faults.FileKind.{FileKind}
 use Rattle.masterfile.specs.declared.faults.FileError.{FileError}
 use Rattle.masterfile.specs.Entries.{Context, entry_in}

@@ -2,14 +2,14 @@
 use Rattle.std.proofs.Common.{◌≡◌, ℕ, Bool, true, false, cond, Option, Some, None, is_some, Ok, Err, List, [], ◌∷◌, refl, sym, ap, ◌∙◌}
 use Rattle.rdata.specs.Records.{greatest_ttl}
 use Rattle.rdata.specs.declared.rtype.RType.{RType}
-use Rattle.words.specs.Lexemes.{Word, plain, quoted, broken}
+use Rattle.master_lexer.specs.Lexemes.{Word, plain, quoted, broken}
 use Rattle.masterfile.specs.declared.faults.FileKind.TheVariants.{UnknownType, BadClass, BadData}
 use Rattle.masterfile.specs.Faults.{◌>>=◌}
 use Rattle.masterfile.specs.Numbers.{is_number, value_from, within, number_of}
 use Rattle.masterfile.specs.Fields.{type_named}
 use Rattle.masterfile.specs.Entries.{Head, take_head, head_of_type, is_internet, is_foreign_class}
 use Rattle.masterfile.specs.MasterText.{IsTtlWord, IsClassWord, IsTypeWord, HasHead, type_alone, class_first, ttl_first, ttl_and_class, class_and_ttl}
-use Rattle.words.specs.Parts.{AreWhole}
+use Rattle.master_lexer.specs.Parts.{AreWhole}
 use Rattle.masterfile.proofs.HeadLemmas.{third}
 use Rattle.masterfile.proofs.WordLemmas.{type_no_number, type_no_internet, type_no_class, class_no_number}
 use Rattle.masterfile.proofs.Inverse.{steps, cond_ok, ok_is}

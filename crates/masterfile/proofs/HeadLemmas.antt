@@ -7,7 +7,7 @@ use Rattle.masterfile.specs.declared.faults.FileKind.{FileKind}
 use Rattle.masterfile.specs.declared.faults.FileKind.TheVariants.{UnknownType, BadName, BadNumber, NoTtl, NoOwner, OpenText, UnknownDirective, BadClass, BadData, Memory}
 use Rattle.masterfile.specs.Faults.{◌>>=◌, FaultIn}
 use Rattle.rdata.specs.Records.{Record, greatest_ttl}
-use Rattle.words.specs.Lexemes.{Word, plain, quoted, broken}
+use Rattle.master_lexer.specs.Lexemes.{Word, plain, quoted, broken}
 use Rattle.masterfile.specs.Given.{GivesEntry}
 use Rattle.masterfile.specs.Numbers.{is_number, within, number_of}
 use Rattle.masterfile.specs.Fields.{plain_word, name_of, take_data}

@@ -1,8 +1,8 @@
 -- What a reading that succeeded says of each of its steps.
 use Rattle.std.proofs.Common.{◌≡◌, ℕ, ◌+◌, ◌≤◌, Bool, true, false, cond, nat_le, Result, Ok, Err, List, [], ◌∷◌, length, refl, sym, ap, ◌∙◌, arith}
 use Rattle.std.proofs.lemmas.Bool.Decides.{nat_tests}
-use Rattle.words.specs.Lexemes.{Word, plain, quoted, broken}
-use Rattle.words.specs.Parts.{AreWhole}
+use Rattle.master_lexer.specs.Lexemes.{Word, plain, quoted, broken}
+use Rattle.master_lexer.specs.Parts.{AreWhole}
 use Rattle.rdata.specs.Data.{Datum, Ipv4, Ns, Cname, Soa, Ptr, Mx, Txt, Ipv6, Srv, Authority, Service}
 use Rattle.rdata.specs.declared.rtype.RType.{RType}
 use Rattle.rdata.specs.declared.rtype.RType.TheVariants as rtype

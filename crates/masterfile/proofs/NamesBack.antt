@@ -8,7 +8,7 @@ use Rattle.dname.specs.Text.{Token, Dot, Byte, tokens, name_under, byte_text, la
 use Rattle.dname.specs.Spelling.{first_part, later_parts, parts, Writes, absolute, AreBytes}
 use Rattle.dname.proofs.Spellings.{NoBad, spells}
 use Rattle.dname.proofs.ReadNames.{both_ways}
-use Rattle.words.specs.Lines.{is_plain}
+use Rattle.master_lexer.specs.Lines.{is_plain}
 use Rattle.masterfile.specs.Fields.{name_of}
 use Rattle.masterfile.specs.Entries.{begins_directive}
 use Rattle.masterfile.proofs.PlainWords.{plain_append}

@@ -4,8 +4,8 @@ use Rattle.std.proofs.lemmas.Bool.{cases_lt}
 use Rattle.std.proofs.lemmas.Bool.Decides.{nat_tests}
 use Rattle.std.proofs.lemmas.Fmt.{decimal_nonempty, first_decimal, decimal_digit, digits_decimal, digits_value-decimal}
 use Rattle.std.proofs.lemmas.Str.Parse.{IsNumeralModel, numerals_by_fold}
-use Rattle.words.specs.Lexemes.{ends_word}
-use Rattle.words.specs.Lines.{is_plain}
+use Rattle.master_lexer.specs.Lexemes.{ends_word}
+use Rattle.master_lexer.specs.Lines.{is_plain}
 use Rattle.masterfile.specs.Numbers.{is_digit, are_digits, is_number, value_from, number_of}
 use Rattle.masterfile.specs.Addresses.{is_decimal, octet, has_dot}
 use Rattle.masterfile.proofs.PlainWords.{both, and_true, plain_byte}

@@ -1,8 +1,8 @@
 -- Words that stand between spaces as they are.
 use Rattle.std.proofs.Common.{◌≡◌, ℕ, ◌==◌, Bool, true, false, ◌&&◌, not, List, [], ◌∷◌, ◌++◌, refl, append_assoc}
 use Rattle.std.proofs.lemmas.List.{append-nil}
-use Rattle.words.specs.Lexemes.{ends_word}
-use Rattle.words.specs.Lines.{is_plain}
+use Rattle.master_lexer.specs.Lexemes.{ends_word}
+use Rattle.master_lexer.specs.Lines.{is_plain}
 
 pub both : (a b : Bool) → (a && b) ≡ true → (a ≡ true) × (b ≡ true)
 both true b e = (refl, e)

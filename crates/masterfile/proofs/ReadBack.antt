@@ -3,10 +3,10 @@ use Rattle.std.proofs.Common.{◌≡◌, ℕ, ◌+◌, Some, None, Ok, List, [],
 use Rattle.dname.specs.Labels.{IsName}
 use Rattle.dname.specs.Text.{name_text}
 use Rattle.rdata.specs.Records.{Record}
-use Rattle.words.specs.Lexemes.{Word, plain}
-use Rattle.words.specs.Entries.{Entry, margin}
-use Rattle.words.specs.Lines.{line_of, lines_of, AreWritable, AllWritable, entries_of}
-use Rattle.words.proofs.LinesLaw.{lines_are_read}
+use Rattle.master_lexer.specs.Lexemes.{Word, plain}
+use Rattle.master_lexer.specs.Entries.{Entry, margin}
+use Rattle.master_lexer.specs.Lines.{line_of, lines_of, AreWritable, AllWritable, entries_of}
+use Rattle.master_lexer.proofs.LinesLaw.{lines_are_read}
 use Rattle.masterfile.specs.Entries.{Context, entry_in}
 use Rattle.masterfile.specs.Files.{start, read_from, read_text}
 use Rattle.masterfile.specs.Printed.{line_text, file_text}

@@ -10,9 +10,9 @@ use Rattle.rdata.specs.Text.{ipv4_text, ipv6_text, spaced_name, spaced_number, s
 use Rattle.rdata.specs.Types.{type_word}
 use Rattle.rdata.specs.declared.rtype.RType.{RType}
 use Rattle.rdata.specs.declared.rtype.RType.TheVariants as rtype
-use Rattle.words.specs.Lexemes.{Word, plain}
-use Rattle.words.specs.Entries.{margin}
-use Rattle.words.specs.Lines.{written, line_of, IsWritable, AreWritable}
+use Rattle.master_lexer.specs.Lexemes.{Word, plain}
+use Rattle.master_lexer.specs.Entries.{margin}
+use Rattle.master_lexer.specs.Lines.{written, line_of, IsWritable, AreWritable}
 use Rattle.masterfile.specs.Fields.{type_named, take_data, greatest_16, greatest_32}
 use Rattle.masterfile.specs.Entries.{Context, take_head, entry_in}
 use Rattle.masterfile.specs.Printed.{line_text}

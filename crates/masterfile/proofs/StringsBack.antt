@@ -3,8 +3,8 @@ use Rattle.std.proofs.Common.{◌≡◌, ℕ, ◌+◌, ◌<◌, ◌≤◌, true,
 use Rattle.std.proofs.lemmas.Bool.Decides.{nat_tests}
 use Rattle.dname.specs.Spelling.{AreBytes}
 use Rattle.rdata.specs.Text.{glyph}
-use Rattle.words.specs.Lexemes.{Word, quoted}
-use Rattle.words.specs.Lines.{is_quotable, AreWritable}
+use Rattle.master_lexer.specs.Lexemes.{Word, quoted}
+use Rattle.master_lexer.specs.Lines.{is_quotable, AreWritable}
 use Rattle.masterfile.specs.Strings.{unescaped, byte_onto, string_of, strings_from, take_strings}
 use Rattle.masterfile.specs.MasterText.{strings_size}
 use Rattle.masterfile.specs.ReadBack.{AreCharacterStrings}

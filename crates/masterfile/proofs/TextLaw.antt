@@ -1,9 +1,9 @@
 -- What a text stands for is what is read.
 use Rattle.std.proofs.Common.{◌≡◌, Option, Some, None, Result, Ok, Err, List, [], ◌∷◌, refl, ap, ◌∙◌}
 use Rattle.rdata.specs.Records.{Record}
-use Rattle.words.specs.Entries.{Entry, entries_from}
-use Rattle.words.specs.Parts.{AreWholeEntries}
-use Rattle.words.proofs.PartsLaw.{parts_are_found}
+use Rattle.master_lexer.specs.Entries.{Entry, entries_from}
+use Rattle.master_lexer.specs.Parts.{AreWholeEntries}
+use Rattle.master_lexer.proofs.PartsLaw.{parts_are_found}
 use Rattle.masterfile.specs.declared.faults.FileKind.{FileKind}
 use Rattle.masterfile.specs.declared.faults.FileError.{FileError}
 use Rattle.masterfile.specs.Entries.{Context, entry_in}

@@ -3,8 +3,8 @@ use Rattle.std.specs.Prelude.{◌≤◌, ℕ, Bool, true, false, ◌||◌, cond,
 use Rattle.rdata.specs.Data.{Datum}
 use Rattle.rdata.specs.Records.{Record, greatest_ttl}
 use Rattle.rdata.specs.declared.rtype.RType.{RType}
-use Rattle.words.specs.Lexemes.{Word, plain, quoted, broken}
-use Rattle.words.specs.Entries.{Lead, margin, blank, shifted}
+use Rattle.master_lexer.specs.Lexemes.{Word, plain, quoted, broken}
+use Rattle.master_lexer.specs.Entries.{Lead, margin, blank, shifted}
 use Rattle.masterfile.specs.declared.faults.FileKind.{FileKind}
 use Rattle.masterfile.specs.declared.faults.FileKind.TheVariants.{UnknownType, NoTtl, NoOwner, OpenText, UnknownDirective, BadClass, BadData}
 use Rattle.masterfile.specs.Faults.{◌>>=◌}

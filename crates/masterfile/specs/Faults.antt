@@ -42,7 +42,7 @@ abbrev pub onto : {X E : Type 0} → X → Result (List X) E → Result (List X)
 onto x (Ok xs) = Ok (x ∷ xs)
 onto x (Err e) = Err e
 
--- A refusal: want of memory leaves all open, any other is the fault that was read first.
+-- A refusal: running out of memory leaves all open, any other is the fault that was read first.
 abbrev pub FaultIn : {X : Type 0} → FileKind → Result X FileKind → Type 0
 FaultIn Memory read = Unit {0}
 FaultIn kind read = read ≡ Err kind

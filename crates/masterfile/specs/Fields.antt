@@ -8,7 +8,7 @@ pub use Rattle.rdata.specs.Types.{same_word, find_type, served_types}
 unfoldable pub use Rattle.rdata.specs.Types.{type_named}
 use Rattle.rdata.specs.declared.rtype.RType.{RType}
 use Rattle.rdata.specs.declared.rtype.RType.TheVariants as rtype
-use Rattle.words.specs.Lexemes.{Word, plain, quoted, broken}
+use Rattle.master_lexer.specs.Lexemes.{Word, plain, quoted, broken}
 use Rattle.masterfile.specs.declared.faults.FileKind.{FileKind}
 use Rattle.masterfile.specs.declared.faults.FileKind.TheVariants.{BadData, BadName, OpenText}
 use Rattle.masterfile.specs.Faults.{◌>>=◌}

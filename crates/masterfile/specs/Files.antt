@@ -1,7 +1,7 @@
 -- The records of a master file, or its first fault.
 use Rattle.std.specs.Prelude.{◌≡◌, ℕ, Option, Some, None, Result, Ok, Err, List, [], ◌∷◌}
 use Rattle.rdata.specs.Records.{Record}
-use Rattle.words.specs.Entries.{Entry, entries_from}
+use Rattle.master_lexer.specs.Entries.{Entry, entries_from}
 use Rattle.masterfile.specs.declared.faults.FileKind.{FileKind}
 use Rattle.masterfile.specs.declared.faults.FileKind.TheVariants.{Memory}
 use Rattle.masterfile.specs.declared.faults.FileError.{FileError}
@@ -36,7 +36,7 @@ read_lines origin line text = read_from (start origin) (entries_from line text)
 abbrev pub read_text : List (List ℕ) → List ℕ → Result (List Record) FileError
 read_text origin text = read_lines origin 1 text
 
--- A refusal: want of memory leaves all open, any other is the first fault and its line.
+-- A refusal: running out of memory leaves all open, any other is the first fault and its line.
 abbrev pub IsFirstFault : FileKind → FileError → Result (List Record) FileError → Type 0
 IsFirstFault Memory e read = Unit {0}
 IsFirstFault kind e read = read ≡ Err e

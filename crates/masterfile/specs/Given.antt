@@ -1,10 +1,10 @@
 -- What a reader of fields gives back, and the words that it leaves.
 use Rattle.std.specs.Prelude.{◌≡◌, Result, Ok, Err, Option, List}
-use Rattle.words.specs.Lexemes.{Word}
+use Rattle.master_lexer.specs.Lexemes.{Word}
 use Rattle.masterfile.specs.declared.faults.FileKind.{FileKind}
 use Rattle.rdata.specs.Records.{Record}
-use Rattle.masterfile.specs.declared.entries.Head.{Head as KeptHead}
-use Rattle.masterfile.specs.Entries.{Context, Head}
+use Rattle.masterfile.specs.declared.entries.Head.{Head}
+use Rattle.masterfile.specs.Entries.{Context, Head as HeadSpec}
 use Rattle.masterfile.specs.Faults.{FaultIn}
 
 abbrev pub GivesRest : {X Y : Type 0} → (X → Y) → Result X FileKind → List Word → Result (Y × List Word) FileKind → Type 0
@@ -20,7 +20,7 @@ abbrev pub same : {X : Type 0} → X → X
 same x = x
 
 -- A head, and the words that it leaves.
-abbrev pub GivesHead : Result KeptHead FileKind → List Word → Result Head FileKind → Type 0
+abbrev pub GivesHead : Result Head FileKind → List Word → Result HeadSpec FileKind → Type 0
 GivesHead (Ok h) rest read = read ≡ Ok (record { ttl = h.ttl; kind = h.kind; rest = rest })
 GivesHead (Err e) rest read = read ≡ Err e
 

@@ -4,9 +4,9 @@ use Rattle.rdata.specs.Data.{Datum, Ipv4, Ns, Cname, Soa, Ptr, Mx, Txt, Ipv6, Sr
 use Rattle.rdata.specs.Records.{Record, greatest_ttl}
 use Rattle.rdata.specs.declared.rtype.RType.{RType}
 use Rattle.rdata.specs.declared.rtype.RType.TheVariants as rtype
-use Rattle.words.specs.Lexemes.{Word, plain}
-use Rattle.words.specs.Entries.{Entry, Lead, margin, blank, shifted}
-use Rattle.words.specs.Parts.{IsPartedFrom}
+use Rattle.master_lexer.specs.Lexemes.{Word, plain}
+use Rattle.master_lexer.specs.Entries.{Entry, Lead, margin, blank, shifted}
+use Rattle.master_lexer.specs.Parts.{IsPartedFrom}
 use Rattle.masterfile.specs.Numbers.{number_of}
 use Rattle.masterfile.specs.Addresses.{ipv4_of, ipv6_of}
 use Rattle.masterfile.specs.Strings.{string_word}

@@ -1,7 +1,7 @@
 -- Character-strings in a master file (RFC 1035, section 5.1): escapes are those of names, and any other byte is itself.
 use Rattle.std.specs.Prelude.{ℕ, zero, suc, ◌+◌, cond, nat_eq, nat_le, Option, Some, None, Result, Ok, Err, List, [], ◌∷◌, length}
 use Rattle.dname.specs.Text.{Token, Dot, Byte, Bad, escaped_token}
-use Rattle.words.specs.Lexemes.{Word, plain, quoted, broken}
+use Rattle.master_lexer.specs.Lexemes.{Word, plain, quoted, broken}
 use Rattle.masterfile.specs.declared.faults.FileKind.{FileKind}
 use Rattle.masterfile.specs.declared.faults.FileKind.TheVariants.{BadData, OpenText}
 use Rattle.masterfile.specs.Faults.{◌>>=◌, onto}

@@ -1,7 +1,7 @@
 //! Entries read one by one, records and directives, each under the origin, owner and TTL in force.
 ghost use Rattle.std.specs.Prelude.{◌≡◌, [], ◌∷◌, Ok, Err, None, Some, IfOk, OnOk, false};
-ghost use Rattle.words.specs.Lexemes.{plain as plain_text};
-ghost use Rattle.words.specs.Views.{lead_of};
+ghost use Rattle.master_lexer.specs.Lexemes.{plain as plain_text};
+ghost use Rattle.master_lexer.specs.Views.{lead_of};
 ghost use Rattle.masterfile.specs.Entries.{is_internet as internet_test, is_foreign_class as foreign_test, take_head, record_of, begins_directive, directive_in, record_of_named, entry_in, IsTtl};
 ghost use Rattle.masterfile.specs.Files.{start};
 ghost use Rattle.masterfile.specs.Given.{GivesHead, GivesEntry, GivesContext};
@@ -10,10 +10,10 @@ use crate::faults::FileKind;
 use crate::fields::{end, name, name_of_word, number_field, plain, rdata};
 use crate::numbers::{is_number, number};
 use dname::{Heap, Name};
+use master_lexer::{Lead, Word, Words};
 use rdata::{GREATEST_TTL, RType, Record, is_same_word};
 use std::alloc::{Allocator, Global};
 use std::marker::Model;
-use words::{Lead, Word, Words};
 
 /// What earlier entries leave to the later ones.
 #[derive(Drop)]

@@ -1,6 +1,6 @@
 //! The fields of an entry, read word by word.
 ghost use Rattle.std.specs.Prelude.{◌≡◌, ◌≤◌, [], length, IfOk, OnOk, MatchResult, Ok, Err, None, Some};
-ghost use Rattle.words.specs.Views.{word_of};
+ghost use Rattle.master_lexer.specs.Views.{word_of};
 ghost use Rattle.rdata.specs.Kept.{datum};
 ghost use Rattle.masterfile.specs.Faults.{FaultIn};
 ghost use Rattle.masterfile.specs.Strings.{string_word, take_strings};
@@ -12,8 +12,8 @@ use crate::faults::FileKind;
 use crate::numbers::number;
 use crate::strings::string;
 use dname::{Heap, Name, NameError};
+use master_lexer::{Word, Words};
 use rdata::{Addr, CharacterString, RData, RType, Soa, Srv, Texts};
-use words::{Word, Words};
 
 /// The next word, which may have no quotes.
 pub(crate) fn plain<'a>(words: &mut Words<'a>) -> Result<&'a [u8], FileKind>

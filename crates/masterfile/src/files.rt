@@ -6,8 +6,8 @@ ghost use Rattle.masterfile.specs.MasterText.{IsMasterText};
 use crate::entries::Context;
 use crate::faults::{FileError, FileKind};
 use dname::{Heap, Name, Starved};
+use master_lexer::{Lead, Words};
 use rdata::{Record, Records};
-use words::{Lead, Words};
 
 /// The records of a zone text, in order (RFC 1035, section 5.1; `$TTL`: RFC 2308, section 4). A name that no dot ends is
 /// relative to `origin`, until an `$ORIGIN` line. Refused by the first fault, at the line on which its entry starts, or

@@ -2,7 +2,7 @@
 //!
 //! `Starved` is the refusal of a call that can fail in no other way; the error enum of a crate has a variant
 //! `Memory` for it. `Heap` bounds an allocator that is passed by value: `Global`, or a reference to one that is
-//! lent. Public data is generic over it, so that a test refuses each growth in turn (`refusing`).
+//! lent. Public data is generic over it, so that a test refuses each growth in turn (`refusing_alloc`).
 //!
 //! Promised: the number of the refusal (`Starved::number`) and its words, "out of memory".
 //! Not here: what stands after a refusal. The contract of each call says it.
@@ -19,7 +19,7 @@ ghost use Rattle.std.specs.Prelude.{◌≡◌, Some, codes};
 use std::alloc::{AllocError, AllocFailed, Allocator};
 use std::fmt;
 
-/// Want of memory: a growth was refused. A call that can fail in no other way answers it.
+/// Out of memory: a growth was refused. A call that can fail in no other way answers it.
 #[derive(Clone, Copy, Debug, PartialEq, Eq)]
 pub struct Starved;
 

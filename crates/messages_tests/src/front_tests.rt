@@ -1,3 +1,2 @@
 //! The tests of `front`, from outside: by what it makes public.
 mod exchange_tests;
-mod tests;

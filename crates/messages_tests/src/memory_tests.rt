@@ -1,5 +1,5 @@
 use memory::{Heap, Starved};
-use refusing::Refusing;
+use refusing_alloc::Refusing;
 use std::test::Fail;
 
 fn two_bytes<A: Heap>(alloc: A) -> Result<Vec<u8, A>, Starved> {

@@ -1,4 +1,4 @@
-use pages::Page;
+use failing_writer::Page;
 use std::io::Write;
 use std::test::Fail;
 

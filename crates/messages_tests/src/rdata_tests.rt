@@ -1,11 +1,10 @@
 //! The tests of `rdata`, from outside: by what it makes public.
 mod growth_tests;
 mod long_tests;
-mod tests;
 
 use dname::{Heap, Starved};
-use fixtures::name;
 use rdata::{Addr, RData, RType, Record, RecordSet, Records, set_at};
+use record_fixtures::name;
 
 // The set of that type at a.example., of these records.
 fn set_of<A: Heap>(

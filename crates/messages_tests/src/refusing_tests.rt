@@ -1,4 +1,4 @@
-use refusing::Refusing;
+use refusing_alloc::Refusing;
 use std::alloc::{AllocError, Allocator};
 use std::test::Fail;
 

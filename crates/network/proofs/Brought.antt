@@ -2,14 +2,14 @@
 use Rattle.std.proofs.Common.{◌≡◌, ℕ, ◌⊎◌, inl, inr, true, Option, Some, None, List, [], ◌∷◌, refl, sym, ap, ◌∙◌, subst}
 use Rattle.zone.proofs.LawLists.{none_in}
 use Rattle.dname.specs.Labels.{Name}
-use Rattle.layout.specs.Messages.{Header, Question, Message, IsMessage}
-use Rattle.layout.proofs.Single.{message_one}
-use Rattle.truth.specs.Worlds.{Address, World, IsWorld}
-use Rattle.truth.specs.Serving.{IsTruncationOf, MayServe}
+use Rattle.message_grammar.specs.Messages.{Header, Question, Message, IsMessage}
+use Rattle.message_grammar.proofs.Single.{message_one}
+use Rattle.world_truth.specs.Worlds.{Address, World, IsWorld}
+use Rattle.world_truth.specs.Serving.{IsTruncationOf, MayServe}
 use Rattle.front.proofs.Echoes.{echo_is_question}
 use Rattle.worlds.specs.Hosting.{IsServed}
 use Rattle.worlds.proofs.Hosted.{host_serves}
-use Rattle.runs.specs.States.{Endpoint, Path, ByUdp, ByTcp, Asking, Plain}
+use Rattle.runs.specs.States.{Endpoint, Path, ByUdp, ByTcp, Ask, Plain}
 use Rattle.runs.specs.States as resolver
 use Rattle.runs.specs.Messages.{question_for, AnswersAsk, Brings}
 use Rattle.network.specs.Networks.{Sent, Network, sent_at, NetworkEvent, Client, Carry, CarryTruncated, CarryTcp, Lose, Tick, IsGiven, truncated, IsTruncatedReply, IsFitReply, IsDatagram, IsStream, OverUdp, OverTcp, lost, OfSend, Reaches}
@@ -33,7 +33,7 @@ fit_comes given come (inr (many, short)) = inr short
 one_question : (x : Question) (y : Question) → (x ∷ []) ≡ y ∷ [] → x ≡ y
 one_question x y e = cc
 
-module _ (W : World) (at : Address) (a : Asking) (m : Message) (fits : AnswersAsk a m) where
+module _ (W : World) (at : Address) (a : Ask) (m : Message) (fits : AnswersAsk a m) where
   -- The same question is asked and answered.
   to_asked : (n : Name) (t : ℕ) (read : Message) → read.questions ≡ question_for n t ∷ [] → m.questions ≡ read.questions → MayServe W at n t m → MayServe W at a.name a.kind m
   to_asked n t read answers same serves =
@@ -55,10 +55,10 @@ module _ (W : World) (at : Address) (a : Asking) (m : Message) (fits : AnswersAs
 -- ---- by the event
 
 -- The server whose reply is carried is the one that is asked under this ask's number.
-abbrev pub IsAskOf : Asking → Sent → Type 0
+abbrev pub IsAskOf : Ask → Sent → Type 0
 IsAskOf a x = (number : ℕ) → a.path ≡ ByTcp number → x.path ≡ ByTcp number → ((x.to).address) ≡ a.server
 
-module _ (s : Network) (w : IsWorld s.world) (port : ℕ) (a : Asking) (m : Message) where
+module _ (s : Network) (w : IsWorld s.world) (port : ℕ) (a : Ask) (m : Message) where
   abbrev Goal : Type 0
   Goal = MayServe s.world (a.server).0 a.name a.kind m
 

@@ -2,12 +2,12 @@
 use Rattle.std.proofs.Common.{◌≡◌, ℕ, ◌-◌, ◌<◌, ◌⊎◌, inl, inr, ⊎_elim, zero, suc, Bool, true, false, cond, nat_eq, Option, Some, None, List, [], ◌∷◌, ◌++◌, slice_get, refl, sym, ap, ◌∙◌, subst, arith}
 use Rattle.std.specs.Prelude.{Contains}
 use Rattle.zone.proofs.LawLists.{none_in, first_in, later_in, in_cases}
-use Rattle.truth.specs.Worlds.{World, IsWorld}
-use Rattle.truth.specs.Serving.{MayServe}
-use Rattle.runs.specs.States.{Endpoint, endpoint, Path, ByUdp, ByTcp, Asking, Turn, Site}
+use Rattle.world_truth.specs.Worlds.{World, IsWorld}
+use Rattle.world_truth.specs.Serving.{MayServe}
+use Rattle.runs.specs.States.{Endpoint, endpoint, Path, ByUdp, ByTcp, Ask, Turn, Site}
 use Rattle.runs.specs.States as resolver
 use Rattle.runs.specs.Messages.{sending, IsSent}
-use Rattle.runs.specs.Runs.{Run, Earlier, GivesOut, Asks, Accepts}
+use Rattle.runs.specs.Runs.{Run, Earlier, GivesOut, IsOpenAskOf, Accepts}
 use Rattle.laws.specs.Headline.{IsHonest}
 use Rattle.laws.proofs.Every.{sound_run}
 use Rattle.laws.proofs.RightLists.{both_cases, front_in}
@@ -76,7 +76,7 @@ back_in (y ∷ xs) ys x m = later_in y x (xs ++ ys) (back_in xs ys x m)
 
 -- One number over TCP is one server's.
 pub record AreSends (s : Network) (run : List Turn) : Type 0 where
-  pub below : (x : Sent) (n : ℕ) → Contains s.sends x → x.path ≡ ByTcp n → n < (s.resolver).asked
+  pub below : (x : Sent) (n : ℕ) → Contains s.sends x → x.path ≡ ByTcp n → n < (s.resolver).tcp_asks
   pub one : (x y : Sent) (n : ℕ) → Contains s.sends x → Contains s.sends y → x.path ≡ ByTcp n → y.path ≡ ByTcp n → x.to ≡ y.to
   pub went : (n : ℕ) (to : Endpoint) (bytes : List ℕ) → Earlier (λ t past. GivesOut t.out (resolver.TcpAsk n to bytes)) run → (x : Sent) × Contains s.sends x × (x.path ≡ ByTcp n) × (x.to ≡ to)
 
@@ -114,10 +114,10 @@ module _ (old new : Network) (run : List Turn) (t : Turn) (before : AreSends old
     went = went_on;
   }
     where
-      of : (x : Sent) (n : ℕ) → x.path ≡ ByTcp n → Contains (sends_in t.out) x → (n ≡ (old.resolver).asked) × (x.to ≡ at)
+      of : (x : Sent) (n : ℕ) → x.path ≡ ByTcp n → Contains (sends_in t.out) x → (n ≡ (old.resolver).tcp_asks) × (x.to ≡ at)
       of x n path m = one n x.to x.bytes (in_out t.out x n path m)
 
-      below : (x : Sent) (n : ℕ) → x.path ≡ ByTcp n → Where x → n < (new.resolver).asked
+      below : (x : Sent) (n : ℕ) → x.path ≡ ByTcp n → Where x → n < (new.resolver).tcp_asks
       below x n path (inl m) = let less = before.below x n m path in omega (arith, less, e)
       below x n path (inr m) = let same = (of x n path m).0 in omega (arith, same, e)
 
@@ -128,17 +128,17 @@ module _ (old new : Network) (run : List Turn) (t : Turn) (before : AreSends old
       pair x y n px py (inr mx) (inr my) = (of x n px mx).1 ∙ sym (of y n py my).1
 
 -- The server of an open ask over TCP is the one that it went out to.
-sending_tcp : (port : ℕ) (a : Asking) (number : ℕ) (action : resolver.Action) → a.path ≡ ByTcp number → IsSent port a action → (bytes : List ℕ) × (action ≡ resolver.TcpAsk number (endpoint a.server port) bytes)
+sending_tcp : (port : ℕ) (a : Ask) (number : ℕ) (action : resolver.Action) → a.path ≡ ByTcp number → IsSent port a action → (bytes : List ℕ) × (action ≡ resolver.TcpAsk number (endpoint a.server port) bytes)
 sending_tcp port a number action path (bytes, written, is) = (bytes, is ∙ ap (λ (p : Path). sending port a p bytes) path)
 
-went_out : (port k : ℕ) (a : Asking) (number : ℕ) (run : List Turn) → a.path ≡ ByTcp number → Asks port k a run
+went_out : (port k : ℕ) (a : Ask) (number : ℕ) (run : List Turn) → a.path ≡ ByTcp number → IsOpenAskOf port k a run
     → (bytes : List ℕ) × Earlier (λ t past. GivesOut t.out (resolver.TcpAsk number (endpoint a.server port) bytes)) run
 went_out port k a number [] path none = absurd none
 went_out port k a number (t ∷ past) path (inl (served, (action, out, sent))) =
     let (bytes, is) = sending_tcp port a number action path sent in (bytes, inl (subst (GivesOut t.out) is out))
 went_out port k a number (t ∷ past) path (inr (other, more)) = let (bytes, earlier) = went_out port k a number past path more in (bytes, inr earlier)
 
-ask_of : (s : Network) (run : List Turn) (port k : ℕ) (a : Asking) → AreSends s run → Asks port k a run → (j : ℕ) (x : Sent) → sent_at s.sends j ≡ Some x → IsAskOf a x
+ask_of : (s : Network) (run : List Turn) (port k : ℕ) (a : Ask) → AreSends s run → IsOpenAskOf port k a run → (j : ℕ) (x : Sent) → sent_at s.sends j ≡ Some x → IsAskOf a x
 ask_of s run port k a sends asked j x at number path is =
     let (bytes, earlier) = went_out port k a number run path asked in
     let (y, there, its, to) = sends.went number (endpoint a.server port) bytes earlier in
@@ -172,7 +172,7 @@ module _ (W : World) (w : IsWorld W) (site : Site) (l : Line) (past : List Line)
       t : Turn
       t = record { event = h.brought; served = h.served; out = h.actions }
 
-      honest : (k : ℕ) (a : Asking) (m : _) → Accepts site.port k a m t so.run → MayServe W (a.server).0 a.name a.kind m
+      honest : (k : ℕ) (a : Ask) (m : _) → Accepts site.port k a m t so.run → MayServe W (a.server).0 a.name a.kind m
       honest k a m accepts = subst (λ (V : World). MayServe V (a.server).0 a.name a.kind m) so.world
           (reached_serves old (subst IsWorld (sym so.world) w) site.port a m l.event h.brought (ask_of old so.run site.port k a so.sends accepts.ask) h.reaches accepts.brings)
 

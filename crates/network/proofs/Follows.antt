@@ -5,11 +5,11 @@ use Rattle.zone.proofs.LawLists.{none_in, first_in, later_in, in_cases}
 use Rattle.rdata.specs.Types.{type_number}
 use Rattle.causes.specs.declared.cause.Cause.{Cause}
 use Rattle.wire.specs.declared.via.Via.{Via}
-use Rattle.front.specs.declared.queries.Query.{Query as Asking}
-use Rattle.front.specs.declared.queries.Asked.{Asked}
-use Rattle.front.specs.declared.queries.Asked.TheVariants as heard
-use Rattle.truth.specs.Worlds.{World}
-use Rattle.runs.specs.States.{Path, ByUdp, ByTcp, Endpoint, Turn, Plain, Asker, Served, Own, Query, recursive}
+use Rattle.front.specs.declared.queries.Query.{Query}
+use Rattle.front.specs.declared.queries.Request.{Request}
+use Rattle.front.specs.declared.queries.Request.TheVariants as request
+use Rattle.world_truth.specs.Worlds.{World}
+use Rattle.runs.specs.States.{Path, ByUdp, ByTcp, Endpoint, Turn, Plain, ClientQuery, Served, Own, OpenQuery, recursive}
 use Rattle.runs.specs.States as resolver
 use Rattle.runs.specs.Runs.{Earlier, Always, GivesOut, Came}
 use Rattle.runs.specs.Replies.{IsServedFor, Refuses}
@@ -17,7 +17,7 @@ use Rattle.laws.specs.Headline.{IsRightAnswer}
 use Rattle.laws.specs.Headline as theorem
 use Rattle.laws.proofs.Actions.{own_not_query}
 use Rattle.network.specs.Networks.{Sent, Network, sent_at, NetworkAction, NetworkEvent, Client, Carry, CarryTruncated, CarryTcp, Lose, Tick, Reply, WasSent, WasAsked, MoreDue, IsTruncatedReply, IsFitReply, IsDatagram, IsStream, OverUdp, OverTcp, lost, OfSend, Reaches, numbered, shown}
-use Rattle.network.specs.Laws.{Line, Throughout, Shows, BringsOf, IsOfNoClient, IsTo, IsAnswered, IsRefused, RepliesAreRight, Mirrors, Follows}
+use Rattle.network.specs.Laws.{Line, Throughout, Shows, BringsOf, IsOfNoClient, IsTo, IsAnswered, RefusesLine, RepliesAreRight, Mirrors, Follows}
 use Rattle.network.proofs.Owned.{IsStepOf, reply_is_own, open_is_recursive}
 
 -- What a line tells of the step that it mirrors: no other replies, and that step's client, if there is one.
@@ -97,30 +97,30 @@ told l t h = record {
 -- ---- replies
 
 -- A query that came in a step came on that step's line; one that stays open is recursive.
-came_on : (l : Line) (t : Turn) (before : List Turn) (served : Served) (who : Asker) → Tells l t → Came served who t before → BringsOf l who.client who.way (heard.Query who.query)
+came_on : (l : Line) (t : Turn) (before : List Turn) (served : Served) (who : ClientQuery) → Tells l t → Came served who t before → BringsOf l who.client who.way (request.Query who.query)
 came_on l t before served who mirrors came = (came.moment, came.bytes, mirrors.clients came.moment who.client who.way came.bytes came.event, came.reads)
 
-abbrev CameOpen : List Line → Asker → Type 0
-CameOpen lines who = (recursive who.query ≡ true) × ((m : Line) × Contains lines m × BringsOf m who.client who.way (heard.Query who.query))
+abbrev CameOpen : List Line → ClientQuery → Type 0
+CameOpen lines who = (recursive who.query ≡ true) × ((m : Line) × Contains lines m × BringsOf m who.client who.way (request.Query who.query))
 
-later_open : (l : Line) (past : List Line) (who : Asker) → CameOpen past who → CameOpen (l ∷ past) who
+later_open : (l : Line) (past : List Line) (who : ClientQuery) → CameOpen past who → CameOpen (l ∷ past) who
 later_open l past who (wish, (m, there, brings)) = (wish, (m, later_in l m past there, brings))
 
-earlier_open : (lines : List Line) (run : List Turn) (k : ℕ) (who : Asker) → Follows lines run → Earlier (Came (Query k) who) run → CameOpen lines who
-earlier_open [] run k who none h = absurd (subst (Earlier (Came (Query k) who)) none h)
+earlier_open : (lines : List Line) (run : List Turn) (k : ℕ) (who : ClientQuery) → Follows lines run → Earlier (Came (OpenQuery k) who) run → CameOpen lines who
+earlier_open [] run k who none h = absurd (subst (Earlier (Came (OpenQuery k) who)) none h)
 earlier_open (l ∷ past) run k who (inl (quiet, more)) h = later_open l past who (earlier_open past run k who more h)
 earlier_open (l ∷ past) run k who (inr (t, before, is, mirrors, more)) h = ⊎_elim
-    (λ came. let tells : Tells l t = told l t mirrors in (open_is_recursive t before k who tells.step came, (l, first_in l past, came_on l t before (Query k) who tells came)))
+    (λ came. let tells : Tells l t = told l t mirrors in (open_is_recursive t before k who tells.step came, (l, first_in l past, came_on l t before (OpenQuery k) who tells came)))
     (λ earlier. later_open l past who (earlier_open past before k who more earlier))
-    (subst (Earlier (Came (Query k) who)) is h)
+    (subst (Earlier (Came (OpenQuery k) who)) is h)
 
 module _ (W : World) (l : Line) (past : List Line) (t : Turn) (before : List Turn) (mirrors : Tells l t) (more : Follows past before) where
-  refused_is : (client : ℕ) (way : Via) (bytes : List ℕ) (c : Option Cause) → Refuses (resolver.Reply client way bytes c) t → IsRefused l client way
+  refused_is : (client : ℕ) (way : Via) (bytes : List ℕ) (c : Option Cause) → Refuses (resolver.Reply client way bytes c) t → RefusesLine l client way
   refused_is client way bytes c h =
       let (sent, written, is) = h.reply in
       let whose : client ≡ h.client = cc in
       let by : way ≡ h.way = cc in
-      let asked : Asked Plain = heard.Refuse h.refusal h.start h.echo in (
+      let asked : Request Plain = request.Refuse h.refusal h.start h.echo in (
         h.refusal,
         h.start,
         h.echo,
@@ -129,7 +129,7 @@ module _ (W : World) (l : Line) (past : List Line) (t : Turn) (before : List Tur
       )
 
   -- Where a client's bytes come, the step serves them.
-  module _ (client : ℕ) (way : Via) (bytes : List ℕ) (c : Option Cause) (gives : GivesOut t.out (resolver.Reply client way bytes c)) (who : Asker) (k : ℕ) (served : t.served ≡ Query k) (open_then : CameOpen past who) where
+  module _ (client : ℕ) (way : Via) (bytes : List ℕ) (c : Option Cause) (gives : GivesOut t.out (resolver.Reply client way bytes c)) (who : ClientQuery) (k : ℕ) (served : t.served ≡ OpenQuery k) (open_then : CameOpen past who) where
     open_to : (e : NetworkEvent) → l.event ≡ e → IsTo l past who.client who.way who.query
     open_to (Client now from by said) is = own_not_query k (sym (reply_is_own t mirrors.step now from by said (mirrors.brought now from by said is) client way bytes c gives) ∙ served)
     open_to (Carry now n) is = inr (subst IsOfNoClient (sym is) tt, open_then.0, open_then.1)
@@ -138,11 +138,11 @@ module _ (W : World) (l : Line) (past : List Line) (t : Turn) (before : List Tur
     open_to (Lose now n) is = inr (subst IsOfNoClient (sym is) tt, open_then.0, open_then.1)
     open_to (Tick now) is = inr (subst IsOfNoClient (sym is) tt, open_then.0, open_then.1)
 
-  served_to : (client : ℕ) (way : Via) (bytes : List ℕ) (c : Option Cause) → GivesOut t.out (resolver.Reply client way bytes c) → (who : Asker) → IsServedFor who t before → IsTo l past who.client who.way who.query
+  served_to : (client : ℕ) (way : Via) (bytes : List ℕ) (c : Option Cause) → GivesOut t.out (resolver.Reply client way bytes c) → (who : ClientQuery) → IsServedFor who t before → IsTo l past who.client who.way who.query
   served_to client way bytes c gives who (inl came) = inl (came_on l t before Own who mirrors came)
   served_to client way bytes c gives who (inr (k, served, earlier)) = open_to client way bytes c gives who k served (earlier_open past before k who more earlier) l.event refl
 
-  answered_is : (client : ℕ) (way : Via) (bytes : List ℕ) (c : Option Cause) (who : Asker) → GivesOut t.out (resolver.Reply client way bytes c) → IsRightAnswer W t before client way bytes c → who.client ≡ client
+  answered_is : (client : ℕ) (way : Via) (bytes : List ℕ) (c : Option Cause) (who : ClientQuery) → GivesOut t.out (resolver.Reply client way bytes c) → IsRightAnswer W t before client way bytes c → who.client ≡ client
       → who.way ≡ way → IsServedFor who t before → IsAnswered W l past client way bytes
   answered_is client way bytes c who gives good whose by served = record {
     query = who.query;
@@ -159,13 +159,13 @@ module _ (W : World) (l : Line) (past : List Line) (t : Turn) (before : List Tur
       good : IsRightAnswer W t before client way bytes c
       good = right client way bytes c gives
 
-      by : IsRightAnswer W t before client way bytes c → Refuses (resolver.Reply client way bytes c) t ⊎ ((who : Asker) × (who.client ≡ client) × (who.way ≡ way) × IsServedFor who t before)
-          → IsRefused l client way ⊎ IsAnswered W l past client way bytes
+      by : IsRightAnswer W t before client way bytes c → Refuses (resolver.Reply client way bytes c) t ⊎ ((who : ClientQuery) × (who.client ≡ client) × (who.way ≡ way) × IsServedFor who t before)
+          → RefusesLine l client way ⊎ IsAnswered W l past client way bytes
       by g (inl refuses) = inl (refused_is client way bytes c refuses)
       by g (inr (who, whose, way_is, served)) = inr (answered_is client way bytes c who gives g whose way_is served)
 
 -- What a reply is to came on that line or on an earlier one.
-pub heard_of : (l : Line) (past : List Line) (client : ℕ) (way : Via) (query : Asking Plain) → IsTo l past client way query → (m : Line) × Contains (l ∷ past) m × BringsOf m client way (heard.Query query)
+pub heard_of : (l : Line) (past : List Line) (client : ℕ) (way : Via) (query : Query Plain) → IsTo l past client way query → (m : Line) × Contains (l ∷ past) m × BringsOf m client way (request.Query query)
 heard_of l past client way query (inl brings) = (l, first_in l past, brings)
 heard_of l past client way query (inr (none, wish, (m, there, brings))) = (m, later_in l m past there, brings)
 

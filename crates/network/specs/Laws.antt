@@ -1,16 +1,16 @@
 -- The laws that the function of this crate states, and the lists of events that they speak of.
 use Rattle.std.specs.Prelude.{◌≡◌, ℕ, ◌⊎◌, true, Option, Some, None, List, [], ◌∷◌, length, Contains}
 use Rattle.rdata.specs.Types.{type_number}
-use Rattle.layout.specs.Messages.{Question}
+use Rattle.message_grammar.specs.Messages.{Question}
 use Rattle.causes.specs.declared.cause.Cause.{Cause}
 use Rattle.wire.specs.declared.via.Via.{Via}
 use Rattle.front.specs.Openings.{Opening}
-use Rattle.front.specs.Queries.{IsAsked}
-use Rattle.front.specs.declared.queries.Query.{Query as Asking}
-use Rattle.front.specs.declared.queries.Asked.{Asked}
-use Rattle.front.specs.declared.queries.Asked.TheVariants as heard
+use Rattle.front.specs.Queries.{IsRequest}
+use Rattle.front.specs.declared.queries.Query.{Query}
+use Rattle.front.specs.declared.queries.Request.{Request}
+use Rattle.front.specs.declared.queries.Request.TheVariants as request
 use Rattle.front.specs.declared.queries.Refusal.{Refusal}
-use Rattle.truth.specs.Worlds.{World, IsWorld}
+use Rattle.world_truth.specs.Worlds.{World, IsWorld}
 use Rattle.runs.specs.States.{Plain, recursive, Turn, Site, State, IsNew}
 use Rattle.runs.specs.Steps.{Step}
 use Rattle.runs.specs.Runs.{Run, Always}
@@ -43,8 +43,8 @@ Shows None action = ⊥
 Shows (Some out) action = Contains out action
 
 -- On this line this client's bytes come by this way, and that is what they ask.
-abbrev pub BringsOf : Line → ℕ → Via → Asked Plain → Type 0
-BringsOf l client way asked = (now : ℕ) × (bytes : List ℕ) × (l.event ≡ Client now client way bytes) × IsAsked bytes asked
+abbrev pub BringsOf : Line → ℕ → Via → Request Plain → Type 0
+BringsOf l client way asked = (now : ℕ) × (bytes : List ℕ) × (l.event ≡ Client now client way bytes) × IsRequest bytes asked
 
 -- On this line no client's bytes come.
 abbrev pub IsOfNoClient : NetworkEvent → Type 0
@@ -57,23 +57,23 @@ IsOfNoClient (Tick now) = Unit {0}
 
 -- Where a client's bytes come on a line, its reply is to them. Else it is to a recursive query that came on an
 -- earlier line.
-abbrev pub IsTo : Line → List Line → ℕ → Via → Asking Plain → Type 0
-IsTo l past client way query = BringsOf l client way (heard.Query query)
-    ⊎ (IsOfNoClient l.event × (recursive query ≡ true) × ((m : Line) × Contains past m × BringsOf m client way (heard.Query query)))
+abbrev pub IsTo : Line → List Line → ℕ → Via → Query Plain → Type 0
+IsTo l past client way query = BringsOf l client way (request.Query query)
+    ⊎ (IsOfNoClient l.event × (recursive query ≡ true) × ((m : Line) × Contains past m × BringsOf m client way (request.Query query)))
 
 -- A reply answers a query of its client; where that is recursive the reply is right.
 pub record IsAnswered (W : World) (l : Line) (past : List Line) (client : ℕ) (way : Via) (bytes : List ℕ) : Type 0 where
-  pub query : Asking Plain
+  pub query : Query Plain
   pub to : IsTo l past client way query
   pub right : recursive query ≡ true → IsRightReply W way query.name (type_number query.kind) bytes
 
 -- Or it refuses bytes of its client that came on its own line and are no query to be answered.
-abbrev pub IsRefused : Line → ℕ → Via → Type 0
-IsRefused l client way = (refusal : Refusal) × (start : Opening) × (echo : Option Question) × BringsOf l client way (heard.Refuse refusal start echo)
+abbrev pub RefusesLine : Line → ℕ → Via → Type 0
+RefusesLine l client way = (refusal : Refusal) × (start : Opening) × (echo : Option Question) × BringsOf l client way (request.Refuse refusal start echo)
 
 abbrev pub RepliesAreRight : World → Line → List Line → Type 0
 RepliesAreRight W l past = (client : ℕ) (way : Via) (bytes : List ℕ) (c : Option Cause) → Shows l.out (Reply client way bytes c)
-    → IsRefused l client way ⊎ IsAnswered W l past client way bytes
+    → RefusesLine l client way ⊎ IsAnswered W l past client way bytes
 
 -- In every list of events each reply to a recursive query is right: in a well formed world whose local zones and
 -- hints are the resolver's, with no premise on any message.

@@ -1,12 +1,12 @@
 -- A network in memory: a resolver, and the servers of a world, which reply to what it asks. A reply is carried
 -- in any order, any number of times, truncated or not, or is lost. Moments are milliseconds.
 use Rattle.std.specs.Prelude.{◌≡◌, ℕ, ◌+◌, ◌-◌, ◌<◌, ◌≤◌, ◌⊎◌, true, cond, nat_eq, Option, Some, None, List, [], ◌∷◌, ◌++◌, length, slice_get}
-use Rattle.layout.specs.Messages.{Message, IsMessage, encoding}
+use Rattle.message_grammar.specs.Messages.{Message, IsMessage, encoding}
 use Rattle.causes.specs.declared.cause.Cause.{Cause}
 use Rattle.wire.specs.Limits.{limit_of}
 use Rattle.wire.specs.declared.via.Via.{Via}
 use Rattle.wire.specs.declared.via.Via.TheVariants as via
-use Rattle.truth.specs.Worlds.{World}
+use Rattle.world_truth.specs.Worlds.{World}
 use Rattle.worlds.specs.Hosting.{IsHostReply}
 use Rattle.runs.specs.States.{Endpoint, Plain, Path, ByUdp, ByTcp, Served, State}
 use Rattle.runs.specs.States as resolver

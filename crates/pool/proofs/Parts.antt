@@ -3,7 +3,7 @@ use Rattle.std.proofs.Common.{◌≡◌, ℕ, ◌<◌, ◌≤◌, Result, List, 
 use Rattle.std.proofs.lemmas.List.{reverse-append, reverse-reverse}
 use Rattle.std.proofs.lemmas.List.Elements.{All-nil, All-cons, All-head, All-tail, All-push, All-same, All-weaker}
 use Rattle.memory.specs.declared.Starved.{Starved}
-use Rattle.book.specs.Histories.{Line, lines_of, Leads}
+use Rattle.book.specs.Histories.{Line, lines_of, LeadsMachine}
 use Rattle.book.specs.Books.{Page, Seat, IsHistory}
 use Rattle.pool.specs.Closings.{Part, OneEach, Closes}
 
@@ -21,7 +21,7 @@ same_lists {E} {O} h l parts ps is are all =
 
 module _ {S E O : Type 0} (moves : S → E → Result O Starved → S → Type 0) where
   -- each line is one of the workers'
-  workers_of : (n : ℕ) (start : S) (es : List (Line E O)) (t : S) → Leads moves n start es t → All (λ e. e.worker < n) es
+  workers_of : (n : ℕ) (start : S) (es : List (Line E O)) (t : S) → LeadsMachine moves n start es t → All (λ e. e.worker < n) es
   workers_of n start [] t h = All-nil (λ (e : Line E O). e.worker < n)
   workers_of n start (e ∷ es) t h = All-cons (λ (d : Line E O). d.worker < n) e es h.3 (workers_of n start es h.0 h.1)
 

@@ -14,13 +14,13 @@ pub record Enters {E O : Type 0} (t : Seat) (event : E) (e : Line E O) (u : Seat
   pub event_is : e.event ≡ event
   pub ticket : u ≡ seat t.worker (t.count + 1)
 
--- Why an event was refused: for want of memory, before its line was written or after; or since the ticket is not one
+-- Why an event was refused: when out of memory, before its line was written or after; or since the ticket is not one
 -- of the book's, and then the ticket is as it was.
-abbrev pub IsRefused : Seat → Seat → PoolError → Type 0
-IsRefused t u Memory = (u ≡ t) ⊎ (u ≡ seat t.worker (t.count + 1))
-IsRefused t u Stranger = u ≡ t
-IsRefused t u Differs = ⊥
-IsRefused t u Forgot = ⊥
+abbrev pub IsEventRefused : Seat → Seat → PoolError → Type 0
+IsEventRefused t u Memory = (u ≡ t) ⊎ (u ≡ seat t.worker (t.count + 1))
+IsEventRefused t u Stranger = u ≡ t
+IsEventRefused t u Differs = ⊥
+IsEventRefused t u Forgot = ⊥
 
 -- What a worker hands back: its ticket, and the lines that it kept, in their order.
 pub record Part (E O : Type 0) : Type 0 where

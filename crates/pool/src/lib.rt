@@ -7,7 +7,7 @@
 //! Promised: an entry is of that worker, that event and its next number (`Enters`), and a refusal leaves the ticket
 //! as `IsRefused` says; a history that closes is legal, and a shuffle of the lists that the workers kept
 //! (`Closes`); why it does not close (`IsOpen`).
-//! Not here: making threads (`crew`, `server`); what the machine does (`engine`, `simnet`).
+//! Not here: making threads (`workers`, `server`); what the machine does (`engine`, `simnet`).
 //!
 //! ```text
 //! let shared = Shared::new(book);

@@ -1,6 +1,6 @@
 //! A book behind a lock.
 ghost use Rattle.std.specs.Prelude.{IfOk, IfErr};
-ghost use Rattle.pool.specs.Closings.{Enters, IsRefused};
+ghost use Rattle.pool.specs.Closings.{Enters, IsEventRefused};
 
 use crate::fault::PoolError;
 use book::{Book, Entry, Machine, Ticket};
@@ -40,7 +40,7 @@ pub fn submit<M: Machine, L: Ledger, A: Heap, R: Wait>(
     event: M::Event,
 ) -> Result<Entry<M>, PoolError>
     ensures ok { IfOk result (λ e. Enters ticket.old event e ticket.new) }
-    ensures err { IfErr result (IsRefused ticket.old ticket.new) }
+    ensures err { IfErr result (IsEventRefused ticket.old ticket.new) }
 {
     let mut book = shared.book.lock(rt);
     if !book.owns(ticket) {

@@ -1,6 +1,6 @@
 -- Which entries a look-up and a keep leave, over plain lists.
 use Rattle.std.proofs.Common.{◌≢◌, ℕ, List, Contains}
-use Rattle.recency.specs.Orders.{KeepsOnly, LosesOnly, HasSame}
+use Rattle.lru_laws.specs.Orders.{KeepsOnly, LosesOnly, HasSame}
 use Rattle.referral.specs.Cuts.{Known, nearest, after_best, after_keep, IsKept, IsGone}
 use Rattle.referral.proofs.Steps.{moved_same, after_there, after_only, after_gone}
 

@@ -2,7 +2,7 @@
 use Rattle.std.proofs.Common.{◌≡◌, ℕ, inl, inr, List, Some, refl, sym, ap, ◌∙◌, subst}
 use Rattle.lru.specs.LruCache.{lru_cache, IsValid}
 use Rattle.dname.specs.Labels.{same_name, IsAtOrUnder}
-use Rattle.recency.proofs.Stored.{moved_valid, stored_valid}
+use Rattle.lru_laws.proofs.Stored.{moved_valid, stored_valid}
 use Rattle.referral.specs.Cuts.{Cut, Known, AreNamed, nearest, cut_of, after_best, after_keep, IsBest}
 use Rattle.referral.proofs.Exact.{same_name_exact}
 use Rattle.referral.proofs.Steps.{cut_is_best}

@@ -4,8 +4,8 @@ use Rattle.std.specs.Map.{lookup}
 use Rattle.lru.specs.LruCache.{LruCache, lru_cache, IsValid, promoted}
 use Rattle.lru.proofs.Splits.{Contains-cons, Contains-nil}
 use Rattle.dname.specs.Labels.{same_name}
-use Rattle.recency.specs.Stores.{stored, put_for}
-use Rattle.recency.proofs.Seen as stores
+use Rattle.lru_laws.specs.Stores.{stored, put_for}
+use Rattle.lru_laws.proofs.Seen as stores
 use Rattle.referral.specs.Cuts.{Servers, Known, known_of, shown, AreNamed, is_live, live_at, after_keep}
 use Rattle.referral.proofs.Exact.{same_name_exact}
 

@@ -4,9 +4,9 @@ use Rattle.std.specs.Map.{lookup}
 use Rattle.lru.specs.LruCache.{LruCache, lru_cache, promoted}
 use Rattle.lru.proofs.CallerLemmas.{Contains-lookup}
 use Rattle.dname.specs.Labels.{same_name, root, parent_of, IsName, IsAtOrUnder}
-use Rattle.recency.specs.Orders.{KeepsOnly, LosesOnly, HasSame}
-use Rattle.recency.proofs.Kept.{promoted_is_used}
-use Rattle.recency.proofs.Stored as stores
+use Rattle.lru_laws.specs.Orders.{KeepsOnly, LosesOnly, HasSame}
+use Rattle.lru_laws.proofs.Kept.{promoted_is_used}
+use Rattle.lru_laws.proofs.Stored as stores
 use Rattle.referral.specs.Cuts.{Cut, Known, is_live, live_from, live_at, under, or_else, nearest, cut_of, moved, after_keep, Lives, IsDeepest, IsBest, IsKept, IsGone}
 use Rattle.referral.proofs.Exact.{same_name_exact}
 

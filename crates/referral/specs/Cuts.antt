@@ -3,9 +3,9 @@ use Rattle.std.specs.Prelude.{◌≡◌, ◌≢◌, ℕ, ◌≤◌, Bool, true, 
 use Rattle.std.specs.Map.{lookup}
 use Rattle.dname.specs.Labels.{same_name, IsAtOrUnder}
 use Rattle.rdata.specs.declared.addr.Addr.{Addr}
-use Rattle.recency.specs.Ages.{is_young}
-use Rattle.recency.specs.Orders.{mapped, MayGo}
-use Rattle.recency.specs.Stores as stores
+use Rattle.lru_laws.specs.Ages.{is_young}
+use Rattle.lru_laws.specs.Orders.{mapped, MayGo}
+use Rattle.lru_laws.specs.Stores as stores
 
 -- An address of a server, and the server's name: the root's where the name is not known, as of hints.
 pub record ServerAddress : Type 0 where

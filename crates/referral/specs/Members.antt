@@ -2,7 +2,7 @@
 use Rattle.std.specs.Prelude.{◌≡◌, ◌≢◌, ℕ, List, Some, Contains}
 use Rattle.lru.specs.LruCache.{lru_cache, IsValid}
 use Rattle.dname.specs.Labels.{same_name, IsAtOrUnder}
-use Rattle.recency.specs.Orders.{KeepsOnly, LosesOnly, HasSame}
+use Rattle.lru_laws.specs.Orders.{KeepsOnly, LosesOnly, HasSame}
 use Rattle.referral.specs.Cuts.{Cut, Known, AreNamed, nearest, cut_of, after_best, after_keep, IsBest, IsKept, IsGone}
 
 -- A look-up brings nothing and takes nothing.

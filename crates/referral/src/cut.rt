@@ -4,7 +4,7 @@ ghost use Rattle.referral.specs.Cuts.{is_live, as_kept, known_of};
 
 use crate::lists::{Addresses, Names};
 use dname::{Heap, Name};
-use recency::is_young;
+use lru_laws::is_young;
 use std::alloc::{AllocError, Allocator, Global};
 use std::marker::Model;
 
@@ -20,9 +20,9 @@ pub struct Cut<A: Allocator = Global> {
 }
 
 impl<A: Allocator> Model for Cut<A> {
-    ghost use Rattle.referral.specs.Cuts.{Cut as Named};
+    ghost use Rattle.referral.specs.Cuts.{Cut as CutSpec};
 
-    ghost Value = { Named };
+    ghost Value = { CutSpec };
 
     ghost view = { λ c. record { owner = c.at; names = c.names; addresses = c.addresses } };
 }
@@ -49,9 +49,9 @@ pub struct Servers<A: Allocator = Global> {
 }
 
 impl<A: Allocator> Model for Servers<A> {
-    ghost use Rattle.referral.specs.Cuts.{Servers as Kept};
+    ghost use Rattle.referral.specs.Cuts.{Servers as ServersSpec};
 
-    ghost Value = { Kept };
+    ghost Value = { ServersSpec };
 
     ghost view = { λ s. record { names = s.names; addresses = s.addresses; ttl = s.ttl; since = s.since } };
 }

@@ -3,13 +3,13 @@ ghost use Rattle.std.specs.Prelude.{◌≡◌, ◌≢◌, [], IfOk, OnOk, OnErr,
 ghost use Rattle.std.specs.NonZero.{non_zero_usize_get};
 ghost use Rattle.lru.specs.LruCache.{lru_cache, IsValid};
 ghost use Rattle.dname.specs.Labels.{same_name, IsAtOrUnder};
-ghost use Rattle.recency.specs.Orders.{KeepsOnly, LosesOnly, HasSame};
+ghost use Rattle.lru_laws.specs.Orders.{KeepsOnly, LosesOnly, HasSame};
 ghost use Rattle.referral.specs.Cuts.{as_kept, known_of, AreNamed, live_at, under, nearest, cut_of, after_best, after_keep, IsBest, IsKept, IsGone};
 
 use crate::cut::{Cut, Servers};
 use dname::{Heap, Name, Starved};
 use lru::LruCache;
-use recency::keep_for;
+use lru_laws::keep_for;
 use std::alloc::{Allocator, Global};
 use std::hash::BuildHasher;
 use std::marker::Model;
@@ -24,10 +24,10 @@ pub struct Delegations<S: BuildHasher + Drop, A: Allocator = Global> {
 
 impl<S: BuildHasher + Drop, A: Allocator> Model for Delegations<S, A> {
     ghost use Rattle.std.specs.Prelude.{List, ℕ};
-    ghost use Rattle.lru.specs.LruCache.{LruCache as Entries};
-    ghost use Rattle.referral.specs.Cuts.{Known as Kept};
+    ghost use Rattle.lru.specs.LruCache.{LruCache as LruCacheSpec};
+    ghost use Rattle.referral.specs.Cuts.{Known};
 
-    ghost Value = { Entries (List (List ℕ)) Kept };
+    ghost Value = { LruCacheSpec (List (List ℕ)) Known };
 
     ghost use Rattle.lru.specs.LruCache.{lru_cache};
     ghost use Rattle.referral.specs.Cuts.{shown};
@@ -55,7 +55,7 @@ impl<S: BuildHasher + Drop, A: Heap> Delegations<S, A> {
     }
 
     /// Keeps the cut from the moment `now`, in milliseconds, for `ttl` seconds. A cut with TTL 0 is not
-    /// kept, and what was kept of its name goes. Want of memory changes nothing, and the cut is gone.
+    /// kept, and what was kept of its name goes. Running out of memory changes nothing, and the cut is gone.
     pub fn keep(&mut self, cut: Cut<A>, ttl: u32, now: u64) -> Result<(), Starved>
         ensures ok { OnOk result (self.new ≡ lru_cache (after_keep self.old.cap (as_kept cut ttl now) self.old.entries) self.old.cap) }
         ensures err { OnErr result (self.new ≡ self.old) }

@@ -78,9 +78,9 @@ pub struct ServerAddress<A: Allocator = Global> {
 }
 
 impl<A: Allocator> Model for ServerAddress<A> {
-    ghost use Rattle.referral.specs.Cuts.{ServerAddress as Listed};
+    ghost use Rattle.referral.specs.Cuts.{ServerAddress as ServerAddressSpec};
 
-    ghost Value = { Listed };
+    ghost Value = { ServerAddressSpec };
 
     ghost view = { λ s. record { name = s.name; address = s.address } };
 }
@@ -104,9 +104,9 @@ pub struct Addresses<A: Allocator = Global> {
 
 impl<A: Allocator> Model for Addresses<A> {
     ghost use Rattle.std.specs.Prelude.{List};
-    ghost use Rattle.referral.specs.Cuts.{ServerAddress as Listed};
+    ghost use Rattle.referral.specs.Cuts.{ServerAddress as ServerAddressSpec};
 
-    ghost Value = { List Listed };
+    ghost Value = { List ServerAddressSpec };
 
     ghost view = { λ a. a.addresses.items };
 }

@@ -16,7 +16,7 @@ use Rattle.classify.specs.Classes as class
 use Rattle.classify.specs.Classes.{class_of}
 use Rattle.zone.specs.Zones.{a_type}
 use Rattle.resolution.specs.Jobs.{Home, Stores, Taken, is_dead, IsDead, AreFresh, Search, search_at, ask_of, fails_now, Job, Input, Start, Told, TimedOut, TcpFailed, Task, Seek, Take, Go, Again, IsFreshTask, Point, level_of}
-use Rattle.resolution.specs.Rules.{Finds, Hits, HearsOf, turned, PassesOver, IsFree, Rule, takes, asks, follows, restarts, skips, hears, descends, gives_up, Rules, ByClass, Enters}
+use Rattle.resolution.specs.Rules.{Finds, Hits, UsesServerAddress, turned, PassesOver, IsFree, Rule, takes, asks, follows, restarts, skips, hears, descends, gives_up, Rules, ByClass, Enters}
 use Rattle.resolution.proofs.Passing.{passes_fails, passes_first, passes_keep, found_failures, missed_failures}
 
 -- ---- the measure
@@ -139,7 +139,7 @@ added_weight level f [] = refl
 added_weight level f (a ∷ xs) = refl
 
 heard_weight : (stores : Stores) (n : Name) (l : Link) (before : Search) (failed : List FailedName) (after : Search) (marks : List FailedName)
-    → HearsOf stores n l before failed after marks → weight after.frame ≡ weight before.frame
+    → UsesServerAddress stores n l before failed after marks → weight after.frame ≡ weight before.frame
 heard_weight stores n l before failed after marks h = elim h.is as (λ x. weight after.frame ≡ weight before.frame) [
   | inl w ↦ ap (λ (s : Search). weight s.frame) w.4 ∙ added_weight (level_of stores) before.frame _
   | inr w ↦ ap (λ (s : Search). weight s.frame) w.1

@@ -4,11 +4,11 @@ use Rattle.std.specs.Prelude.{Contains}
 use Rattle.dname.specs.Labels.{Name}
 use Rattle.rdata.specs.declared.addr.Addr.{Addr}
 use Rattle.zone.specs.Links.{Link}
-use Rattle.layout.specs.Messages.{Message}
+use Rattle.message_grammar.specs.Messages.{Message}
 use Rattle.wire.specs.declared.via.Via.{Via}
 use Rattle.classify.specs.Classes as class
 use Rattle.classify.specs.Classes.{class_of}
-use Rattle.recency.specs.Orders.{KeepsOnly, LosesOnly, HasSame}
+use Rattle.lru_laws.specs.Orders.{KeepsOnly, LosesOnly, HasSame}
 use Rattle.referral.specs.Cuts.{Cut}
 use Rattle.referral.specs.Cuts as held
 use Rattle.referral.proofs.Members as cuts
@@ -18,7 +18,7 @@ use Rattle.cache.proofs.Members as cache
 use Rattle.cache.specs.Failures.{FailedAsk, after_failed}
 use Rattle.cache.proofs.Failed.{failed_members, failed_lost}
 use Rattle.resolution.specs.Jobs.{Home, Stores, with_answer, with_told, is_server_failure, Taken, Search, ask_of, Job, Input, Start, Told, TimedOut, TcpFailed, Next, Point, hit_from, cut_from}
-use Rattle.resolution.specs.Rules.{asked_of, Finds, Hits, Misses, PassesOver, Rule, takes, asks, follows, restarts, skips, hears, descends, gives_up, Rules, Learnt, ByClass, Enters, Leaves, sends, sends_again, refuses, spent, nowhere, too_long, done, Advances, IsTakenEntry, IsTakenCut, IsLostEntry, IsLostCut, IsTakenFailure, IsLostFailure, Stops}
+use Rattle.resolution.specs.Rules.{asked_of, Finds, Hits, Misses, PassesOver, Rule, takes, asks, follows, restarts, skips, hears, descends, gives_up, Rules, KeepsAnswer, ByClass, Enters, Leaves, sends, sends_again, refuses, spent, nowhere, too_long, done, Advances, IsTakenEntry, IsTakenCut, IsLostEntry, IsLostCut, IsTakenFailure, IsLostFailure, Stops}
 use Rattle.resolution.proofs.Passing.{passes_members}
 
 still_only : {X : Type 0} (old mid new : List X) (P : X → Type 0) → KeepsOnly old P mid → HasSame mid new → KeepsOnly old P new
@@ -150,7 +150,7 @@ module _ (now : ℕ) (j : Job) (stores : Stores) where
     }
 
   pub learnt_stops : (server : Addr) (via : Via) (m : Message) (s : Search) (rest : List Search) (l : Link) (new : Stores) → j.searches ≡ s ∷ rest
-      → class_of (s.frame).zone s.name s.kind via m ≡ class.Answer l → Learnt now s l (with_told now s server m stores) new → Stops (Told via server m) now j stores new
+      → class_of (s.frame).zone s.name s.kind via m ≡ class.Answer l → KeepsAnswer now s l (with_told now s server m stores) new → Stops (Told via server m) now j stores new
   learnt_stops server via m s rest l new searches is learnt = subst (Stops (Told via server m) now j stores) (sym learnt.stores) (record {
     cache = λ e there. elim (cache.kept_members stores.cache_cap s.name s.kind (hit_from l now) stores.cache e there) as (λ x. Contains stores.cache e ⊎ IsTakenEntry j (Told via server m) now e) [
       | inl old ↦ inl old

@@ -2,7 +2,7 @@
 use Rattle.std.proofs.Common.{◌≡◌, ℕ, zero, suc, ◌+◌, Bool, true, false, cond, Option, Some, None, is_some, List, [], ◌∷◌, ◌++◌, drop, slice_get, inl, inr, refl, sym, ap, ◌∙◌, subst, add-one}
 use Rattle.dname.specs.Labels.{Name}
 use Rattle.rdata.specs.declared.addr.Addr.{Addr}
-use Rattle.recency.specs.Orders.{HasSame}
+use Rattle.lru_laws.specs.Orders.{HasSame}
 use Rattle.retry.specs.Plans.{Plan, upcoming, advanced}
 use Rattle.cache.specs.Cached.{Hit}
 use Rattle.cache.specs.Failures.{FailedAsk, is_failed}

@@ -3,6 +3,7 @@
 -- are milliseconds, times to live seconds.
 use Rattle.std.specs.Prelude.{◌≡◌, ℕ, ◌+◌, ◌-◌, ◌*◌, ◌<◌, Bool, true, false, not, ◌&&◌, cond, nat_eq, nat_le, Option, Some, None, List, [], ◌∷◌, ◌++◌, drop, map}
 use Rattle.std.specs.List.{flat_map}
+use Rattle.limits.specs.Limits.{max_asks, query_lifetime}
 use Rattle.dname.specs.Labels.{Name, root}
 use Rattle.rdata.specs.Data.{Datum, Ipv4}
 use Rattle.rdata.specs.Records.{Record}
@@ -10,7 +11,7 @@ use Rattle.rdata.specs.declared.addr.Addr.{Addr}
 use Rattle.zone.specs.Zones.{Zone}
 use Rattle.zone.specs.Links.{Link, Found, Alias, NoData, NxDomain}
 use Rattle.causes.specs.declared.cause.Cause.{Cause}
-use Rattle.layout.specs.Messages.{Message}
+use Rattle.message_grammar.specs.Messages.{Message}
 use Rattle.wire.specs.declared.via.Via.{Via}
 use Rattle.classify.specs.Lifetimes.{received, lifetime_of, referral_lifetime}
 use Rattle.classify.specs.Targets.{targets_of}
@@ -175,7 +176,7 @@ pub record Job : Type 0 where
 
 -- A query has ten seconds.
 abbrev pub job_at : Name → ℕ → ℕ → Job
-job_at n t now = record { name = n; kind = t; chain = []; searches = []; failed = []; asks = 0; deadline = now + 10000; skipped = false }
+job_at n t now = record { name = n; kind = t; chain = []; searches = []; failed = []; asks = 0; deadline = now + query_lifetime; skipped = false }
 
 abbrev pub marked : List FailedName → Name → ℕ → List FailedName
 marked failed n nesting = record { name = n; nesting = nesting } ∷ failed
@@ -191,7 +192,7 @@ pub data Input : Type 0 where
 -- What goes out: an ask of a server for a name and a type, by UDP or by TCP; the aliases and the end of a
 -- whole chain; a failure.
 pub data Next : Type 0 where
-  Ask : Addr → Name → ℕ → Next
+  AskUdp : Addr → Name → ℕ → Next
   AskTcp : Addr → Name → ℕ → Next
   Done : List Taken → Taken → Next
   Fail : Cause → Next
@@ -199,7 +200,7 @@ pub data Next : Type 0 where
 -- An ask may be sent before the deadline, and where fewer than 40 were.
 pub record MaySend (now : ℕ) (j : Job) : Type 0 where
   pub early : now < j.deadline
-  pub few : j.asks < 40
+  pub few : j.asks < max_asks
 
 -- How long the answer of the innermost search's server is waited for.
 abbrev pub wait_in : List Search → ℕ

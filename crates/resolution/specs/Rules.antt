@@ -2,6 +2,7 @@
 -- how what comes in is taken up (`Enters`), the eight rules (`Rule`), and what goes out where none of them
 -- applies (`Leaves`).
 use Rattle.std.specs.Prelude.{◌≡◌, ◌≢◌, ℕ, zero, suc, ◌+◌, ◌<◌, ◌≤◌, ◌⊎◌, Bool, true, false, Option, Some, None, List, [], ◌∷◌, ◌++◌, length, Contains}
+use Rattle.limits.specs.Limits.{max_aliases, max_asks}
 use Rattle.dname.specs.Labels.{Name, root, IsName}
 use Rattle.rdata.specs.Records.{Record}
 use Rattle.rdata.specs.declared.addr.Addr.{Addr}
@@ -14,18 +15,18 @@ use Rattle.causes.specs.declared.cause.Cause.{Cause}
 use Rattle.causes.specs.declared.cause.Cause.TheVariants as cause
 use Rattle.classify.specs.Classes as class
 use Rattle.classify.specs.Classes.{class_of}
-use Rattle.front.specs.Chains.{target_of}
-use Rattle.recency.specs.Orders.{used, KeepsOnly, LosesOnly, MayGo}
+use Rattle.front.specs.Chains.{alias_target}
+use Rattle.lru_laws.specs.Orders.{used, KeepsOnly, LosesOnly, MayGo}
 use Rattle.retry.specs.Penalties.{answered, timed_out}
 use Rattle.retry.specs.Plans.{upcoming}
 use Rattle.referral.specs.Cuts.{Cut, Known, IsBest, after_best}
 use Rattle.referral.specs.Cuts as referral
 use Rattle.cache.specs.Keys.{Key}
-use Rattle.cache.specs.Cached.{Hit, Asked, above_to, lent, hit_of, moved, IsHeld}
+use Rattle.cache.specs.Cached.{Hit, Question, above_to, lent, hit_of, moved, IsHeld}
 use Rattle.cache.specs.Cached as cache
 use Rattle.cache.specs.Failures.{FailedAsk, same_failed}
 use Rattle.frames.specs.Frames.{FailedName, opened, next_name, after_name, after_add, fresh_addresses}
-use Rattle.resolution.specs.Jobs.{Home, Stores, level_of, with_answer, with_timeout, with_told, Taken, local_link, kept_link, received_link, IsDead, AreFresh, IsEnding, IsCutOf, IsRootCut, AreAddressesOf, Search, search_at, with_frame, given, ask_of, fails_now, is_server_failure, Job, marked, Input, Start, Told, TimedOut, TcpFailed, Next, Ask, AskTcp, Done, Fail, MaySend, asked, asked_again, Seek, Take, Go, Again, Point, point, hit_from, cut_from}
+use Rattle.resolution.specs.Jobs.{Home, Stores, level_of, with_answer, with_timeout, with_told, Taken, local_link, kept_link, received_link, IsDead, AreFresh, IsEnding, IsCutOf, IsRootCut, AreAddressesOf, Search, search_at, with_frame, given, ask_of, fails_now, is_server_failure, Job, marked, Input, Start, Told, TimedOut, TcpFailed, Next, AskUdp, AskTcp, Done, Fail, MaySend, asked, asked_again, Seek, Take, Go, Again, Point, point, hit_from, cut_from}
 
 -- ---- what is known without asking
 
@@ -43,10 +44,10 @@ above_by (local.Linked l) n = []
 above_by (local.Cut at ns glue) n = above_to at n
 above_by local.NotHere n = above_to root n
 
-abbrev pub asked_by : local.Local → Name → ℕ → Asked
+abbrev pub asked_by : local.Local → Name → ℕ → Question
 asked_by what n t = record { name = n; kind = t; above = above_by what n }
 
-abbrev pub asked_of : Home → Name → ℕ → Asked
+abbrev pub asked_of : Home → Name → ℕ → Question
 asked_of home n t = asked_by (looked home.zones n t) n t
 
 -- A remote question that the cache answers.
@@ -87,7 +88,7 @@ pub record Misses (home : Home) (now : ℕ) (n : Name) (t : ℕ) (old : Stores) 
 
 -- What is found for a server's name: the addresses of a set, those not yet known to be asked next; any other
 -- link says that the name has none, in this query for good. `before` is the search that wanted them.
-pub record HearsOf (stores : Stores) (n : Name) (l : Link) (before : Search) (failed : List FailedName) (after : Search) (marks : List FailedName) : Type 0 where
+pub record UsesServerAddress (stores : Stores) (n : Name) (l : Link) (before : Search) (failed : List FailedName) (after : Search) (marks : List FailedName) : Type 0 where
   pub is :
       ((set : List Record) × (found : List Addr) × (l ≡ said.Found set) × AreAddressesOf set found
       × (after ≡ with_frame before (after_add (level_of stores) before.frame (fresh_addresses before.frame found))) × (marks ≡ failed))
@@ -132,8 +133,8 @@ pub data Rule (home : Home) (now : ℕ) (a b : Point) : Type 0 where
   asks : (c : Cut) → a.task ≡ Seek → Misses home now (a.job).name (a.job).kind a.stores c b.stores → b.task ≡ Go
       → b.job ≡ record a.job { searches = search_at (a.job).name (a.job).kind (opened (level_of b.stores) 0 c) ∷ [] } → Rule home now a b
   -- An alias joins the chain, and its target is sought: up to eight of them.
-  follows : (l : Taken) (r : Record) → a.task ≡ Take l → l.link ≡ said.Alias r → length (a.job).chain < 8 → b.task ≡ Seek
-      → b.job ≡ record a.job { chain = (a.job).chain ++ l ∷ []; name = target_of r } → b.stores ≡ a.stores → Rule home now a b
+  follows : (l : Taken) (r : Record) → a.task ≡ Take l → l.link ≡ said.Alias r → length (a.job).chain < max_aliases → b.task ≡ Seek
+      → b.job ≡ record a.job { chain = (a.job).chain ++ l ∷ []; name = alias_target r } → b.stores ≡ a.stores → Rule home now a b
   -- The chain has its end, and a link from the cache ran out meanwhile: its name is sought again.
   restarts : (l d : Taken) (front back : List Taken) → a.task ≡ Take l → IsEnding l.link → (a.job).chain ++ l ∷ [] ≡ front ++ d ∷ back → AreFresh now front → IsDead now d
       → b.task ≡ Seek → b.job ≡ record a.job { chain = front; name = d.name; searches = [] } → b.stores ≡ a.stores → Rule home now a b
@@ -144,7 +145,7 @@ pub data Rule (home : Home) (now : ℕ) (a b : Point) : Type 0 where
       → b.job ≡ record a.job { searches = t ∷ rest; skipped = true } → b.stores ≡ record a.stores { failures = failures } → Rule home now a b
   -- A server's name of which something is known.
   hears : (before after : Search) (rest : List Search) (n : Name) (l : Taken) (marks : List FailedName) → a.task ≡ Go → IsTurnOf a.job before rest n
-      → Finds home now n a_type a.stores l b.stores → HearsOf b.stores n l.link (turned (a.job).failed before) (a.job).failed after marks → b.task ≡ Go
+      → Finds home now n a_type a.stores l b.stores → UsesServerAddress b.stores n l.link (turned (a.job).failed before) (a.job).failed after marks → b.task ≡ Go
       → b.job ≡ record a.job { searches = after ∷ rest; failed = marks } → Rule home now a b
   -- A server's name of which nothing is known: its address is sought, one nesting deeper.
   descends : (s : Search) (rest : List Search) (n : Name) (c : Cut) → a.task ≡ Go → IsTurnOf a.job s rest n → Misses home now n a_type a.stores c b.stores → b.task ≡ Go
@@ -162,15 +163,15 @@ Rules home now (suc n) a b = (mid : Point) × Rules home now n a mid × Rule hom
 
 -- A link that was accepted for the innermost search is kept. For the query's own name it is taken; for a
 -- server's name it is what the search around hears.
-pub record Learnt (now : ℕ) (s : Search) (l : Link) (old new : Stores) : Type 0 where
+pub record KeepsAnswer (now : ℕ) (s : Search) (l : Link) (old new : Stores) : Type 0 where
   pub stores : new ≡ record old { cache = cache.after_keep old.cache_cap s.name s.kind (hit_from l now) old.cache }
 
 abbrev pub IsAnswered : ℕ → Search → List Search → Link → Job → Stores → Point → Type 0
 IsAnswered now s [] l j stores p =
-    (p.task ≡ Take (received_link s.name l now)) × (p.job ≡ record j { searches = [] }) × Learnt now s l stores p.stores
+    (p.task ≡ Take (received_link s.name l now)) × (p.job ≡ record j { searches = [] }) × KeepsAnswer now s l stores p.stores
 IsAnswered now s (around ∷ rest) l j stores p =
-    (after : Search) × (marks : List FailedName) × (p.task ≡ Go) × Learnt now s l stores p.stores
-    × HearsOf p.stores s.name (received_link s.name l now).link around j.failed after marks
+    (after : Search) × (marks : List FailedName) × (p.task ≡ Go) × KeepsAnswer now s l stores p.stores
+    × UsesServerAddress p.stores s.name (received_link s.name l now).link around j.failed after marks
     × (p.job ≡ record j { searches = after ∷ rest; failed = marks })
 
 -- A referral is kept, and the search begins anew at its cut.
@@ -215,29 +216,29 @@ pub record IsDueAgain (p : Point) (server : Addr) (s : Search) (rest : List Sear
   pub searches : (p.job).searches ≡ s ∷ rest
 
 -- Nothing more is sent from the deadline on, or after 40 asks.
-abbrev pub IsRefused : ℕ → Job → Cause → Type 0
-IsRefused now j c = ((c ≡ cause.Deadline) × (j.deadline ≤ now)) ⊎ ((c ≡ cause.Sends) × (now < j.deadline) × (40 ≤ j.asks))
+abbrev pub MayNotSend : ℕ → Job → Cause → Type 0
+MayNotSend now j c = ((c ≡ cause.DeadlineOver) × (j.deadline ≤ now)) ⊎ ((c ≡ cause.TooManyAsks) × (now < j.deadline) × (max_asks ≤ j.asks))
 
 -- Why no server is left: some were passed over since they failed lately, or none was.
 abbrev pub spent_cause : Bool → Cause
 spent_cause true = cause.KnownFailure
-spent_cause false = cause.NoServer
+spent_cause false = cause.NoServerLeft
 
 pub data Leaves (home : Home) (now : ℕ) (p : Point) (next : Next) (job : Job) (stores : Stores) : Type 0 where
   -- A server is asked.
-  sends : (server : Addr) (s : Search) (rest : List Search) → IsDue now p server s rest → MaySend now p.job → next ≡ Ask server s.name s.kind → job ≡ asked p.job s rest
+  sends : (server : Addr) (s : Search) (rest : List Search) → IsDue now p server s rest → MaySend now p.job → next ≡ AskUdp server s.name s.kind → job ≡ asked p.job s rest
       → stores ≡ p.stores → Leaves home now p next job stores
   sends_again : (server : Addr) (s : Search) (rest : List Search) → IsDueAgain p server s rest → MaySend now p.job → next ≡ AskTcp server s.name s.kind
       → job ≡ asked_again p.job → stores ≡ p.stores → Leaves home now p next job stores
   -- A server would have to be asked, and may not.
-  refuses : (c : Cause) (server : Addr) (s : Search) (rest : List Search) → IsDue now p server s rest ⊎ IsDueAgain p server s rest → IsRefused now p.job c → next ≡ Fail c
+  refuses : (c : Cause) (server : Addr) (s : Search) (rest : List Search) → IsDue now p server s rest ⊎ IsDueAgain p server s rest → MayNotSend now p.job c → next ≡ Fail c
       → stores ≡ p.stores → Leaves home now p next job stores
   -- No server is left for the query's own name.
   spent : (s : Search) → p.task ≡ Go → IsUsedUp p.job s [] → next ≡ Fail (spent_cause (p.job).skipped) → stores ≡ p.stores → Leaves home now p next job stores
   -- Servers are to be asked, and nothing is sought of them: this does not come about.
-  nowhere : (p.task ≡ Go) ⊎ ((server : Addr) × (p.task ≡ Again server)) → (p.job).searches ≡ [] → next ≡ Fail cause.NoServer → stores ≡ p.stores → Leaves home now p next job stores
+  nowhere : (p.task ≡ Go) ⊎ ((server : Addr) × (p.task ≡ Again server)) → (p.job).searches ≡ [] → next ≡ Fail cause.NoServerLeft → stores ≡ p.stores → Leaves home now p next job stores
   -- A ninth alias.
-  too_long : (l : Taken) (r : Record) → p.task ≡ Take l → l.link ≡ said.Alias r → 8 ≤ length (p.job).chain → next ≡ Fail cause.Chain → stores ≡ p.stores
+  too_long : (l : Taken) (r : Record) → p.task ≡ Take l → l.link ≡ said.Alias r → max_aliases ≤ length (p.job).chain → next ≡ Fail cause.ChainTooLong → stores ≡ p.stores
       → Leaves home now p next job stores
   -- The whole chain, of which nothing has run out.
   done : (l : Taken) → p.task ≡ Take l → IsEnding l.link → AreFresh now ((p.job).chain ++ l ∷ []) → next ≡ Done (p.job).chain l → stores ≡ p.stores

@@ -2,7 +2,7 @@
 use Rattle.std.proofs.Common.{◌≡◌, true, refl}
 use Rattle.std.specs.Cmp.Lexicographic.{bytes_decides}
 use Rattle.rdata.specs.declared.addr.Addr.{Addr}
-use Rattle.recency.specs.Orders.{IsExact}
+use Rattle.lru_laws.specs.Orders.{IsExact}
 use Rattle.retry.specs.Penalties.{same_addr}
 
 equal : (a b : Addr) → same_addr a b ≡ true → a ≡ b

@@ -6,8 +6,8 @@ use Rattle.lru.specs.LruCache.{LruCache, lru_cache, put_entries, promoted}
 use Rattle.lru.proofs.Splits.{Contains-cons, Contains-tail}
 use Rattle.lru.proofs.CallerLemmas.{Contains-remove_entry}
 use Rattle.rdata.specs.declared.addr.Addr.{Addr}
-use Rattle.recency.specs.Orders.{kept, kept_from, KeepsOnly, LosesOnly, MayGo}
-use Rattle.recency.proofs.Kept.{put_is_kept, kept_only, kept_gone, set_promoted, removed_gone}
+use Rattle.lru_laws.specs.Orders.{kept, kept_from, KeepsOnly, LosesOnly, MayGo}
+use Rattle.lru_laws.proofs.Kept.{put_is_kept, kept_only, kept_gone, set_promoted, removed_gone}
 use Rattle.retry.specs.Penalties.{same_addr, penalty, raised, timed_out, answered, answered_from, AreAtMost}
 use Rattle.retry.proofs.Exact.{same_addr_exact}
 

@@ -4,7 +4,7 @@ use Rattle.std.specs.Option.{unwrap_or}
 use Rattle.std.specs.Cmp.Lexicographic.{pointwise}
 use Rattle.std.specs.Map.{lookup, remove_entry}
 use Rattle.rdata.specs.declared.addr.Addr.{Addr}
-use Rattle.recency.specs.Orders.{kept}
+use Rattle.lru_laws.specs.Orders.{kept}
 
 abbrev pub same_addr : Addr → Addr → Bool
 same_addr a b = pointwise nat_eq a.0 b.0

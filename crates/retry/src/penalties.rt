@@ -3,7 +3,7 @@ ghost use Rattle.std.specs.Prelude.{◌≡◌, ◌≤◌, [], IfOk, OnOk, OnErr,
 ghost use Rattle.std.specs.Map.{lookup};
 ghost use Rattle.std.specs.NonZero.{non_zero_usize_get};
 ghost use Rattle.lru.specs.LruCache.{lru_cache, IsValid};
-ghost use Rattle.recency.specs.Orders.{KeepsOnly, LosesOnly, MayGo};
+ghost use Rattle.lru_laws.specs.Orders.{KeepsOnly, LosesOnly, MayGo};
 ghost use Rattle.retry.specs.Penalties.{same_addr, penalty, raised, timed_out, answered, AreAtMost};
 
 use dname::{Heap, Starved};
@@ -23,11 +23,11 @@ pub struct Penalties<S: BuildHasher + Drop, A: Allocator = Global> {
 
 impl<S: BuildHasher + Drop, A: Allocator> Model for Penalties<S, A> {
     ghost use Rattle.std.specs.Prelude.{ℕ};
-    ghost use Rattle.lru.specs.LruCache.{LruCache as Entries};
-    ghost use Rattle.rdata.specs.declared.addr.Addr.{Addr as Address};
+    ghost use Rattle.lru.specs.LruCache.{LruCache as LruCacheSpec};
+    ghost use Rattle.rdata.specs.declared.addr.Addr.{Addr as AddrSpec};
     ghost use Rattle.retry.specs.Penalties.{AreAtMost};
 
-    ghost Value = { Entries Address ℕ };
+    ghost Value = { LruCacheSpec AddrSpec ℕ };
 
     ghost view = { λ p. p.levels };
 

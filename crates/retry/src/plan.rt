@@ -20,9 +20,9 @@ pub struct Plan<A: Allocator = Global> {
 
 impl<A: Allocator> Model for Plan<A> {
     ghost use Rattle.std.specs.Prelude.{◌+◌, ◌≤◌, length};
-    ghost use Rattle.retry.specs.Plans.{Plan as Planned};
+    ghost use Rattle.retry.specs.Plans.{Plan as PlanSpec};
 
-    ghost Value = { Planned };
+    ghost Value = { PlanSpec };
 
     ghost view = { λ p. record { order = p.order.items; given = p.given } };
 

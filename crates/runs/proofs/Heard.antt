@@ -2,9 +2,9 @@
 use Rattle.std.proofs.Common.{◌≡◌, ℕ, ◌≤◌, inl, inr, ◌⊎◌, Option, Some, None, List, [], ◌∷◌, length, refl, sym, ◌∙◌, ap, subst, arith}
 use Rattle.std.specs.Prelude.{Contains}
 use Rattle.zone.proofs.LawLists.{none_in, in_cases}
-use Rattle.layout.specs.Messages.{Header, Message, IsMessage}
+use Rattle.message_grammar.specs.Messages.{Header, Message, IsMessage}
 use Rattle.wire.proofs.Heading.{header_takes}
-use Rattle.runs.specs.States.{Endpoint, Event, Client, Datagram, TcpReply, TcpFailed, Tick, Action, Served, Query, Turn, ByTcp, Open, AreApart, Site, State, moved}
+use Rattle.runs.specs.States.{Endpoint, Event, Client, Datagram, TcpReply, TcpFailed, Tick, Action, Served, OpenQuery, Turn, ByTcp, Open, AreApart, Site, State, moved}
 use Rattle.runs.specs.Messages.{Brings, id_in}
 use Rattle.runs.specs.Steps.{IsOfLine, IsOfNumber, IsForNobody, IsInput, IsTurn, Step}
 use Rattle.resolution.specs.Jobs.{Input}
@@ -49,11 +49,11 @@ lines_alike sock from bytes p q (a, b, c) (x, y, z) = by_udp sock a x (b ∙ sym
 
 module _ (port : ℕ) (s : State) (here : (s.site).port ≡ port) (parted : IsParted s) (apart : AreApart s.queries) (q : Open) (stands : Contains s.queries q) where
   -- Queries whose asks are alike are served under one number.
-  same_served : (served : Served) (p : Open) → Contains s.queries p → served ≡ Query p.number → AreAlike p.ask q.ask → served ≡ Query q.number
-  same_served served p m is alike = is ∙ ap Query (parted.one p q m stands alike)
+  same_served : (served : Served) (p : Open) → Contains s.queries p → served ≡ OpenQuery p.number → AreAlike p.ask q.ask → served ≡ OpenQuery q.number
+  same_served served p m is alike = is ∙ ap OpenQuery (parted.one p q m stands alike)
 
   datagram_heard : (now sock : ℕ) (from : Endpoint) (bytes : List ℕ) (m : Message) (served : Served) (out : Option (List Action)) (new : State) → Brings port q.ask (Datagram now sock from bytes) m
-      → IsTurn s (Datagram now sock from bytes) served out new → served ≡ Query q.number
+      → IsTurn s (Datagram now sock from bytes) served out new → served ≡ OpenQuery q.number
   datagram_heard now sock from bytes m served None new brings (p, mp, is, meant, left) =
       same_served served p mp is (lines_alike sock from bytes p q meant.1 (line_of port now sock from bytes q m brings))
   datagram_heard now sock from bytes m served (Some out) new brings (inl h) = absurd (nobody h.nobody)
@@ -76,7 +76,7 @@ module _ (port : ℕ) (s : State) (here : (s.site).port ≡ port) (parted : IsPa
       same_served served h.query (h.serves).stands h.served_is
       (lines_alike sock from bytes h.query q (line_of (s.site).port now sock from bytes h.query n theirs) (line_of port now sock from bytes q m brings))
 
-  tcp_heard : (number : ℕ) (event : Event) (served : Served) (out : Option (List Action)) (new : State) → IsOfNumber number q → IsForTcp number event → IsTurn s event served out new → served ≡ Query q.number
+  tcp_heard : (number : ℕ) (event : Event) (served : Served) (out : Option (List Action)) (new : State) → IsOfNumber number q → IsForTcp number event → IsTurn s event served out new → served ≡ OpenQuery q.number
   tcp_heard number (Client now client way bytes) served out new path none turn = absurd none
   tcp_heard number (Datagram now sock from bytes) served out new path none turn = absurd none
   tcp_heard number (Tick now) served out new path none turn = absurd none
@@ -91,7 +91,7 @@ module _ (port : ℕ) (s : State) (here : (s.site).port ≡ port) (parted : IsPa
   tcp_heard number (TcpFailed now other) served (Some out) new path is (inl h) = absurd (h.nobody q stands (path ∙ ap ByTcp (sym is)))
   tcp_heard number (TcpFailed now other) served (Some out) new path is (inr h) = same_served served h.query (h.serves).stands h.served_is (by_tcp number ((h.brings).0 ∙ ap ByTcp is) path)
 
-  brings_heard : (m : Message) (event : Event) (served : Served) (out : Option (List Action)) (new : State) → Brings port q.ask event m → IsTurn s event served out new → served ≡ Query q.number
+  brings_heard : (m : Message) (event : Event) (served : Served) (out : Option (List Action)) (new : State) → Brings port q.ask event m → IsTurn s event served out new → served ≡ OpenQuery q.number
   brings_heard m (Client now client way bytes) served out new none turn = absurd none
   brings_heard m (Datagram now sock from bytes) served out new brings turn = datagram_heard now sock from bytes m served out new brings turn
   brings_heard m (TcpReply now number bytes) served out new brings turn = tcp_heard number (TcpReply now number bytes) served out new brings.0 refl turn
@@ -99,14 +99,14 @@ module _ (port : ℕ) (s : State) (here : (s.site).port ≡ port) (parted : IsPa
   brings_heard m (Tick now) served out new none turn = absurd none
 
 pub accepted_is_heard : (site : Site) (past : List Turn) (old : State) (t : Turn) (new : State) → Run site past old → Step old t.event t.served t.out new → (q : Open) (m : Message) → Contains old.queries q
-    → Brings site.port q.ask t.event m → t.served ≡ Query q.number
+    → Brings site.port q.ask t.event m → t.served ≡ OpenQuery q.number
 accepted_is_heard site past old t new legal step q m stands brings =
     let parted = run_parted site past old legal in
     brings_heard site.port (moved old t.event) (ap (λ (x : Site). x.port) (clock_of_run site past old legal).1) (record { below = parted.below; tcp = parted.tcp; one = parted.one })
     (run_apart site past old legal) q stands m t.event t.served t.out new brings step.turn
 
 pub tcp_is_heard : (site : Site) (past : List Turn) (old : State) (t : Turn) (new : State) → Run site past old → Step old t.event t.served t.out new → (q : Open) (number : ℕ) → Contains old.queries q
-    → IsOfNumber number q → IsForTcp number t.event → t.served ≡ Query q.number
+    → IsOfNumber number q → IsForTcp number t.event → t.served ≡ OpenQuery q.number
 tcp_is_heard site past old t new legal step q number stands path is =
     let parted = run_parted site past old legal in
     tcp_heard site.port (moved old t.event) (ap (λ (x : Site). x.port) (clock_of_run site past old legal).1) (record { below = parted.below; tcp = parted.tcp; one = parted.one })

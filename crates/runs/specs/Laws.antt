@@ -1,7 +1,7 @@
 -- The laws that the functions of this crate state.
 use Rattle.std.specs.Prelude.{◌≡◌, ℕ, List, Contains}
-use Rattle.layout.specs.Messages.{Message}
-use Rattle.runs.specs.States.{Event, Client, Datagram, TcpReply, TcpFailed, Tick, Query, Turn, Open, Site, State}
+use Rattle.message_grammar.specs.Messages.{Message}
+use Rattle.runs.specs.States.{Event, Client, Datagram, TcpReply, TcpFailed, Tick, OpenQuery, Turn, Open, Site, State}
 use Rattle.runs.specs.Messages.{Brings}
 use Rattle.runs.specs.Steps.{IsOfNumber, Step}
 use Rattle.runs.specs.Runs.{Run, clock_of}
@@ -14,7 +14,7 @@ ClockOfRun = (site : Site) (run : List Turn) (s : State) → Run site run s → 
 abbrev pub AcceptedIsHeard : Type 0
 AcceptedIsHeard =
     (site : Site) (past : List Turn) (old : State) (t : Turn) (new : State) → Run site past old → Step old t.event t.served t.out new
-    → (q : Open) (m : Message) → Contains old.queries q → Brings site.port q.ask t.event m → t.served ≡ Query q.number
+    → (q : Open) (m : Message) → Contains old.queries q → Brings site.port q.ask t.event m → t.served ≡ OpenQuery q.number
 
 -- A reply over TCP under this number, or the failure of that ask.
 abbrev pub IsForTcp : ℕ → Event → Type 0
@@ -28,4 +28,4 @@ IsForTcp number (Tick now) = ⊥
 abbrev pub TcpIsHeard : Type 0
 TcpIsHeard =
     (site : Site) (past : List Turn) (old : State) (t : Turn) (new : State) → Run site past old → Step old t.event t.served t.out new
-    → (q : Open) (number : ℕ) → Contains old.queries q → IsOfNumber number q → IsForTcp number t.event → t.served ≡ Query q.number
+    → (q : Open) (number : ℕ) → Contains old.queries q → IsOfNumber number q → IsForTcp number t.event → t.served ≡ OpenQuery q.number

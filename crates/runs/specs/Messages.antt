@@ -2,7 +2,7 @@
 use Rattle.std.specs.Prelude.{◌≡◌, ℕ, ◌+◌, ◌*◌, true, false, Bool, Option, None, List, [], ◌∷◌, ◌++◌, slice_index}
 use Rattle.dname.specs.Labels.{Name}
 use Rattle.rdata.specs.Records.{Record}
-use Rattle.layout.specs.Messages.{Header, Question, Message, internet, encoding, folded_message, IsMessage}
+use Rattle.message_grammar.specs.Messages.{Header, Question, Message, internet, encoding, folded_message, IsMessage}
 use Rattle.zone.specs.Links.{Link, Found, Alias, NoData, NxDomain}
 use Rattle.front.specs.Openings.{Opening}
 use Rattle.front.specs.Replies.{reply_of, refusal_reply}
@@ -13,7 +13,7 @@ use Rattle.front.specs.declared.queries.Outcome.TheVariants.{Answer}
 use Rattle.front.specs.declared.queries.Refusal.{Refusal}
 use Rattle.wire.specs.declared.via.Via.{Via}
 use Rattle.resolution.specs.Jobs.{Source, Local, Cached, Accepted, Taken, sent}
-use Rattle.runs.specs.States.{endpoint, Event, Client, Datagram, TcpReply, TcpFailed, Tick, Action, Reply, Send, TcpAsk, Plain, Asker, Path, ByUdp, ByTcp, Asking}
+use Rattle.runs.specs.States.{endpoint, Event, Client, Datagram, TcpReply, TcpFailed, Tick, Action, Reply, Send, TcpAsk, Plain, ClientQuery, Path, ByUdp, ByTcp, Ask}
 
 -- The bytes are the one encoding of the message, and are read as it, names in lower case.
 abbrev pub AreWritten : List ℕ → Message → Type 0
@@ -28,7 +28,7 @@ question_for n t = record { name = n; qtype = t; qclass = internet }
 abbrev pub asking_header : ℕ → Header
 asking_header id = record { id = id; qr = false; opcode = 0; aa = false; tc = false; rd = false; ra = false; z = 0; rcode = 0 }
 
-abbrev pub asking_message : Asking → Message
+abbrev pub asking_message : Ask → Message
 asking_message a = record {
   header = asking_header a.id;
   questions = question_for a.name a.kind ∷ [];
@@ -38,15 +38,15 @@ asking_message a = record {
 }
 
 -- An ask as it goes out on its path, to the server's port.
-abbrev pub sending : ℕ → Asking → Path → List ℕ → Action
+abbrev pub sending : ℕ → Ask → Path → List ℕ → Action
 sending port a (ByUdp sock) bytes = Send sock (endpoint a.server port) bytes
 sending port a (ByTcp number) bytes = TcpAsk number (endpoint a.server port) bytes
 
-abbrev pub IsSent : ℕ → Asking → Action → Type 0
+abbrev pub IsSent : ℕ → Ask → Action → Type 0
 IsSent port a action = (bytes : List ℕ) × AreWritten bytes (asking_message a) × (action ≡ sending port a a.path bytes)
 
 -- A message that answers an ask: a reply of operation 0 under its ID, with its one question.
-pub record AnswersAsk (a : Asking) (m : Message) : Type 0 where
+pub record AnswersAsk (a : Ask) (m : Message) : Type 0 where
   pub qr : (m.header).qr ≡ true
   pub opcode : (m.header).opcode ≡ 0
   pub id : (m.header).id ≡ a.id
@@ -54,7 +54,7 @@ pub record AnswersAsk (a : Asking) (m : Message) : Type 0 where
 
 -- What is accepted for an ask: an event that brings such a message, over UDP at the ask's socket from the port
 -- of the server that was asked, over TCP under the ask's number.
-abbrev pub Brings : ℕ → Asking → Event → Message → Type 0
+abbrev pub Brings : ℕ → Ask → Event → Message → Type 0
 Brings port a (Client now client way bytes) m = ⊥
 Brings port a (Datagram now sock from bytes) m = (a.path ≡ ByUdp sock) × (from ≡ endpoint a.server port) × IsMessage bytes m × AnswersAsk a m
 Brings port a (TcpReply now number bytes) m = (a.path ≡ ByTcp number) × IsMessage bytes m × AnswersAsk a m
@@ -100,7 +100,7 @@ abbrev pub outcome_of : ℕ → List Taken → Taken → Outcome Plain
 outcome_of now chain last = Answer (is_local_first chain last) (aliases_of now chain) (end_in (sent now last))
 
 -- The reply of an outcome goes to the client who asked, by its way.
-abbrev pub IsReply : Asker → Outcome Plain → Action → Type 0
+abbrev pub IsReply : ClientQuery → Outcome Plain → Action → Type 0
 IsReply who o action =
     (bytes : List ℕ) × AreWritten bytes (reply_of who.way who.query o).0
     × (action ≡ Reply who.client who.way bytes (reply_of who.way who.query o).1)

@@ -1,18 +1,18 @@
 -- Whom the replies of a step go to.
 use Rattle.std.specs.Prelude.{◌≡◌, ℕ, ◌⊎◌, Option, List}
-use Rattle.layout.specs.Messages.{Question}
+use Rattle.message_grammar.specs.Messages.{Question}
 use Rattle.wire.specs.declared.via.Via.{Via}
-use Rattle.front.specs.Queries.{IsAsked}
+use Rattle.front.specs.Queries.{IsRequest}
 use Rattle.front.specs.Openings.{Opening}
 use Rattle.front.specs.declared.queries.Refusal.{Refusal}
-use Rattle.front.specs.declared.queries.Asked.TheVariants as heard
-use Rattle.runs.specs.States.{Client, Action, Own, Query, Turn, Plain, Asker}
+use Rattle.front.specs.declared.queries.Request.TheVariants as request
+use Rattle.runs.specs.States.{Client, Action, Own, OpenQuery, Turn, Plain, ClientQuery}
 use Rattle.runs.specs.Messages.{IsRefusal}
 use Rattle.runs.specs.Runs.{Earlier, Came}
 
 -- A step serves the query that this client asked: in the step itself, or earlier, under its number.
-abbrev pub IsServedFor : Asker → Turn → List Turn → Type 0
-IsServedFor who turn past = Came Own who turn past ⊎ ((k : ℕ) × (turn.served ≡ Query k) × Earlier (Came (Query k) who) past)
+abbrev pub IsServedFor : ClientQuery → Turn → List Turn → Type 0
+IsServedFor who turn past = Came Own who turn past ⊎ ((k : ℕ) × (turn.served ≡ OpenQuery k) × Earlier (Came (OpenQuery k) who) past)
 
 -- A step answers bytes that are no query to be answered: FORMERR or NOTIMP (RFC 1035, section 4.1.1).
 pub record Refuses (action : Action) (turn : Turn) : Type 0 where
@@ -24,5 +24,5 @@ pub record Refuses (action : Action) (turn : Turn) : Type 0 where
   pub start : Opening
   pub echo : Option Question
   pub event : turn.event ≡ Client moment client way bytes
-  pub reads : IsAsked {A = Plain} bytes (heard.Refuse refusal start echo)
+  pub reads : IsRequest {A = Plain} bytes (request.Refuse refusal start echo)
   pub reply : IsRefusal client way refusal start echo action

@@ -1,9 +1,9 @@
 -- Runs: the steps of a resolver from its start on, the newest first, and what is said of them.
 use Rattle.std.specs.Prelude.{◌≡◌, ◌≢◌, ℕ, ◌+◌, max, ◌⊎◌, Bool, true, false, cond, nat_eq, Option, Some, None, List, [], ◌∷◌, Contains}
-use Rattle.layout.specs.Messages.{Message}
-use Rattle.front.specs.Queries.{IsAsked}
-use Rattle.front.specs.declared.queries.Asked.TheVariants as heard
-use Rattle.runs.specs.States.{Client, moment, Action, Reply, Send, TcpAsk, MoreDue, Served, Nobody, Own, Query, Turn, Plain, Asker, Asking, Site, State, IsNew}
+use Rattle.message_grammar.specs.Messages.{Message}
+use Rattle.front.specs.Queries.{IsRequest}
+use Rattle.front.specs.declared.queries.Request.TheVariants as request
+use Rattle.runs.specs.States.{Client, moment, Action, Reply, Send, TcpAsk, MoreDue, Served, Nobody, Own, OpenQuery, Turn, Plain, ClientQuery, Ask, Site, State, IsNew}
 use Rattle.runs.specs.Messages.{IsSent, Brings}
 use Rattle.runs.specs.Steps.{Step}
 
@@ -32,24 +32,24 @@ GivesOut None action = ⊥
 GivesOut (Some out) action = Contains out action
 
 -- The open ask of query k: the last one that went out for it, until a later step serves the query.
-abbrev pub Asks : ℕ → ℕ → Asking → List Turn → Type 0
-Asks port k a [] = ⊥
-Asks port k a (t ∷ past) =
-    ((t.served ≡ Query k) × ((action : Action) × GivesOut t.out action × IsSent port a action)) ⊎ ((t.served ≢ Query k) × Asks port k a past)
+abbrev pub IsOpenAskOf : ℕ → ℕ → Ask → List Turn → Type 0
+IsOpenAskOf port k a [] = ⊥
+IsOpenAskOf port k a (t ∷ past) =
+    ((t.served ≡ OpenQuery k) × ((action : Action) × GivesOut t.out action × IsSent port a action)) ⊎ ((t.served ≢ OpenQuery k) × IsOpenAskOf port k a past)
 
 -- A step accepts a message for the open ask of the query that it serves.
-pub record Accepts (port k : ℕ) (a : Asking) (m : Message) (t : Turn) (past : List Turn) : Type 0 where
-  pub served : t.served ≡ Query k
-  pub ask : Asks port k a past
+pub record Accepts (port k : ℕ) (a : Ask) (m : Message) (t : Turn) (past : List Turn) : Type 0 where
+  pub served : t.served ≡ OpenQuery k
+  pub ask : IsOpenAskOf port k a past
   pub brings : Brings port a t.event m
 
 -- A step in which a client's query comes. It is served under its number, or is over in this step.
-pub record Came (served : Served) (who : Asker) (t : Turn) (past : List Turn) : Type 0 where
+pub record Came (served : Served) (who : ClientQuery) (t : Turn) (past : List Turn) : Type 0 where
   pub is_served : t.served ≡ served
   pub moment : ℕ
   pub bytes : List ℕ
   pub event : t.event ≡ Client moment who.client who.way bytes
-  pub reads : IsAsked {A = Plain} bytes (heard.Query who.query)
+  pub reads : IsRequest {A = Plain} bytes (request.Query who.query)
 
 -- How many asks went out for query k.
 abbrev pub is_ask : Action → Bool
@@ -69,7 +69,7 @@ asks_in (Some out) = asks_among out
 abbrev pub is_for : ℕ → Served → Bool
 is_for k Nobody = false
 is_for k Own = false
-is_for k (Query n) = nat_eq n k
+is_for k (OpenQuery n) = nat_eq n k
 
 abbrev pub asks_of : ℕ → List Turn → ℕ
 asks_of k [] = 0

@@ -1,12 +1,13 @@
 -- What the resolver is told and does, and its state between two steps. Moments are milliseconds.
 use Rattle.std.specs.Prelude.{◌≡◌, ◌≢◌, ℕ, ◌/◌, ◌%◌, min, max, Bool, Option, List, [], ◌∷◌, Contains}
+use Rattle.limits.specs.Limits.{latest_moment}
 use Rattle.dname.specs.Labels.{Name}
 use Rattle.rdata.specs.declared.addr.Addr.{Addr}
 use Rattle.rdata.specs.Types.{type_number}
 use Rattle.causes.specs.declared.cause.Cause.{Cause}
 use Rattle.wire.specs.declared.via.Via.{Via}
 use Rattle.wire.specs.declared.via.Via.TheVariants as via
-use Rattle.front.specs.declared.queries.Query.{Query as Question}
+use Rattle.front.specs.declared.queries.Query.{Query}
 use Rattle.rand_chacha.specs.ChaCha.{ChaCha, next_word, of_seed}
 use Rattle.resolution.specs.Jobs.{Home, Stores, Job, job_at}
 
@@ -39,7 +40,7 @@ pub data Action : Type 0 where
 
 -- Moments above 2^62 count as 2^62.
 abbrev pub latest : ℕ
-latest = 4611686018427387904
+latest = latest_moment
 
 abbrev pub told_moment : Event → ℕ
 told_moment (Client now client way bytes) = now
@@ -56,7 +57,7 @@ moment e = min (told_moment e) latest
 pub data Served : Type 0 where
   Nobody : Served
   Own : Served
-  Query : ℕ → Served
+  OpenQuery : ℕ → Served
 
 -- A step of a run: what came, which query was served, and what went out; `None`: memory was wanting.
 pub record Turn : Type 0 where
@@ -71,20 +72,20 @@ abbrev pub Plain : Type 0
 Plain = Unit {0}
 
 -- Who asks what: the client and its way, and the query as it was read.
-pub record Asker : Type 0 where
+pub record ClientQuery : Type 0 where
   pub client : ℕ
   pub way : Via
-  pub query : Question Plain
+  pub query : Query Plain
 
-abbrev pub asker : ℕ → Via → Question Plain → Asker
-asker client way q = record { client = client; way = way; query = q }
+abbrev pub client_query : ℕ → Via → Query Plain → ClientQuery
+client_query client way q = record { client = client; way = way; query = q }
 
 -- RD: the client wants the answer found for it (RFC 1034, section 4.3.1).
-abbrev pub recursive : Question Plain → Bool
+abbrev pub recursive : Query Plain → Bool
 recursive q = (q.start).rd
 
 -- The work on a query that comes now.
-abbrev pub job_for : ℕ → Question Plain → Job
+abbrev pub job_for : ℕ → Query Plain → Job
 job_for now q = job_at q.name (type_number q.kind) now
 
 -- How an ask goes: from a socket, or over TCP under a number.
@@ -97,7 +98,7 @@ via_of (ByUdp sock) = via.Udp
 via_of (ByTcp number) = via.Tcp
 
 -- An ask: whom, under which ID, for which name and type.
-pub record Asking : Type 0 where
+pub record Ask : Type 0 where
   pub path : Path
   pub server : Addr
   pub id : ℕ
@@ -105,7 +106,7 @@ pub record Asking : Type 0 where
   pub kind : ℕ
 
 -- This server is asked for this name and type.
-pub record IsFor (to : Addr) (n : Name) (t : ℕ) (a : Asking) : Type 0 where
+pub record IsFor (to : Addr) (n : Name) (t : ℕ) (a : Ask) : Type 0 where
   pub server : a.server ≡ to
   pub name : a.name ≡ n
   pub kind : a.kind ≡ t
@@ -113,13 +114,13 @@ pub record IsFor (to : Addr) (n : Name) (t : ℕ) (a : Asking) : Type 0 where
 -- A query that waits for the answer to its one open ask, until the moment `due`.
 pub record Open : Type 0 where
   pub number : ℕ
-  pub asker : Asker
+  pub client_query : ClientQuery
   pub job : Job
-  pub ask : Asking
+  pub ask : Ask
   pub due : ℕ
 
-abbrev pub open_query : ℕ → Asker → Job → Asking → ℕ → Open
-open_query number who job ask due = record { number = number; asker = who; job = job; ask = ask; due = due }
+abbrev pub open_query : ℕ → ClientQuery → Job → Ask → ℕ → Open
+open_query number who job ask due = record { number = number; client_query = who; job = job; ask = ask; due = due }
 
 -- It is due when the wait is over, or its time is up.
 abbrev pub due_moment : Open → ℕ
@@ -138,7 +139,7 @@ pub record Site : Type 0 where
   pub port : ℕ
   pub sockets : ℕ
 
--- `opened` and `asked`: how many queries were opened and how many asks went over TCP, and so the number of the
+-- `opened` and `tcp_asks`: how many queries were opened and how many asks went over TCP, and so the number of the
 -- next. `generator`: gives a word for each ask.
 pub record State : Type 0 where
   pub site : Site
@@ -146,7 +147,7 @@ pub record State : Type 0 where
   pub stores : Stores
   pub queries : List Open
   pub opened : ℕ
-  pub asked : ℕ
+  pub tcp_asks : ℕ
   pub generator : ChaCha
 
 -- The clock never goes back.
@@ -163,7 +164,7 @@ pub record IsNew (here : Site) (s : State) : Type 0 where
   pub failures : (s.stores).failures ≡ []
   pub queries : s.queries ≡ []
   pub opened : s.opened ≡ 0
-  pub asked : s.asked ≡ 0
+  pub tcp_asks : s.tcp_asks ≡ 0
   pub seeded : (seed : List ℕ) × (s.generator ≡ of_seed seed)
 
 -- ---- the generator's words (ChaCha20: ten double rounds)

@@ -1,23 +1,24 @@
 -- One step of the resolver: which query an event is for, and what becomes of it. `s` is the state before, its
 -- clock at the event's moment.
 use Rattle.std.specs.Prelude.{◌≡◌, ◌≢◌, ℕ, ◌+◌, ◌<◌, ◌≤◌, ◌%◌, ◌⊎◌, true, false, Option, Some, None, List, [], ◌∷◌, ◌++◌, length, Contains}
+use Rattle.limits.specs.Limits.{max_open, tcp_wait}
 use Rattle.dname.specs.Labels.{Name}
 use Rattle.rdata.specs.Types.{type_number}
 use Rattle.rdata.specs.declared.addr.Addr.{Addr}
 use Rattle.authority.specs.Catalogs.{looked}
 use Rattle.causes.specs.declared.cause.Cause.TheVariants as cause
-use Rattle.layout.specs.Messages.{Message}
+use Rattle.message_grammar.specs.Messages.{Message}
 use Rattle.wire.specs.declared.via.Via.{Via}
-use Rattle.front.specs.Queries.{IsAsked}
+use Rattle.front.specs.Queries.{IsRequest}
 use Rattle.front.specs.Chains.{AnswersLocally}
-use Rattle.front.specs.declared.queries.Asked.{Asked}
-use Rattle.front.specs.declared.queries.Asked.TheVariants as heard
+use Rattle.front.specs.declared.queries.Request.{Request}
+use Rattle.front.specs.declared.queries.Request.TheVariants as request
 use Rattle.front.specs.declared.queries.Outcome.{Outcome}
 use Rattle.front.specs.declared.queries.Outcome.TheVariants as outcome
-use Rattle.resolution.specs.Jobs.{Stores, Job, wait_of_job, Input, Start, Told, TimedOut, Next, Ask, AskTcp, Done, Fail}
+use Rattle.resolution.specs.Jobs.{Stores, Job, wait_of_job, Input, Start, Told, TimedOut, Next, AskUdp, AskTcp, Done, Fail}
 use Rattle.resolution.specs.Jobs as jobs
 use Rattle.resolution.specs.Rules.{Advances, Stops}
-use Rattle.runs.specs.States.{Endpoint, Event, Client, Datagram, TcpReply, TcpFailed, Tick, Action, MoreDue, Served, Nobody, Own, Query, Plain, Asker, asker, recursive, job_for, ByUdp, ByTcp, via_of, Asking, IsFor, Open, open_query, due_moment, AreApart, State, moved, word_of, word_taken, low_half, socket_of}
+use Rattle.runs.specs.States.{Endpoint, Event, Client, Datagram, TcpReply, TcpFailed, Tick, Action, MoreDue, Served, Nobody, Own, OpenQuery, Plain, ClientQuery, client_query, recursive, job_for, ByUdp, ByTcp, via_of, Ask, IsFor, Open, open_query, due_moment, AreApart, State, moved, word_of, word_taken, low_half, socket_of}
 use Rattle.runs.specs.Messages.{IsSent, Brings, id_in, outcome_of, IsReply, IsRefusal}
 
 -- ---- asks
@@ -35,14 +36,14 @@ pub record IsRaised (taken : ℕ → Type 0) (from id : ℕ) : Type 0 where
 
 -- How query k asks a server: the socket and the ID by a word of the generator, the ID raised until no open
 -- ask of another query is like it; an ask over TCP has a number in place of a socket, and its ID stays.
-pub record IsUdpAsk (s : State) (k : ℕ) (a : Asking) : Type 0 where
+pub record IsUdpAsk (s : State) (k : ℕ) (a : Ask) : Type 0 where
   pub sock : ℕ
   pub sock_is : sock ≡ socket_of (s.site).sockets (word_of s.generator)
   pub path : a.path ≡ ByUdp sock
   pub id : IsRaised (IsInUse s.queries k sock a.server) (low_half (word_of s.generator)) a.id
 
-pub record IsTcpAsk (s : State) (a : Asking) : Type 0 where
-  pub path : a.path ≡ ByTcp s.asked
+pub record IsTcpAsk (s : State) (a : Ask) : Type 0 where
+  pub path : a.path ≡ ByTcp s.tcp_asks
   pub id : a.id ≡ low_half (word_of s.generator)
 
 -- ---- what becomes of a query
@@ -58,7 +59,7 @@ pub record AreWith (after : Open) (old new : List Open) : Type 0 where
   pub only : (q : Open) → Contains new q → (q ≡ after) ⊎ (Contains old q × (q.number ≢ after.number))
 
 -- Query k is over: the reply goes out, and it is no longer open.
-pub record Ends (s : State) (who : Asker) (k : ℕ) (o : Outcome Plain) (stores : Stores) (out : List Action) (new : State) : Type 0 where
+pub record Ends (s : State) (who : ClientQuery) (k : ℕ) (o : Outcome Plain) (stores : Stores) (out : List Action) (new : State) : Type 0 where
   pub action : Action
   pub reply : IsReply who o action
   pub out_is : out ≡ action ∷ []
@@ -66,29 +67,29 @@ pub record Ends (s : State) (who : Asker) (k : ℕ) (o : Outcome Plain) (stores 
   pub state : new ≡ record s { stores = stores; queries = new.queries }
 
 -- Its ask goes out, and it is open with this ask. A word of the generator is taken.
-pub record Waits (s : State) (after : Open) (opened asked : ℕ) (stores : Stores) (out : List Action) (new : State) : Type 0 where
+pub record Waits (s : State) (after : Open) (opened tcp_asks : ℕ) (stores : Stores) (out : List Action) (new : State) : Type 0 where
   pub action : Action
   pub sent : IsSent (s.site).port after.ask action
   pub out_is : out ≡ action ∷ []
   pub queries : AreWith after s.queries new.queries
-  pub state : new ≡ record s { stores = stores; queries = new.queries; opened = opened; asked = asked; generator = word_taken s.generator }
+  pub state : new ≡ record s { stores = stores; queries = new.queries; opened = opened; tcp_asks = tcp_asks; generator = word_taken s.generator }
 
 -- An ask by UDP is waited for as long as its search's plan says, one over TCP for three seconds.
-pub record WaitsByUdp (s : State) (who : Asker) (k opened : ℕ) (server : Addr) (n : Name) (t : ℕ) (job : Job) (stores : Stores) (out : List Action) (new : State) : Type 0 where
-  pub ask : Asking
+pub record WaitsByUdp (s : State) (who : ClientQuery) (k opened : ℕ) (server : Addr) (n : Name) (t : ℕ) (job : Job) (stores : Stores) (out : List Action) (new : State) : Type 0 where
+  pub ask : Ask
   pub for : IsFor server n t ask
   pub goes : IsUdpAsk s k ask
-  pub waits : Waits s (open_query k who job ask (s.clock + wait_of_job job)) opened s.asked stores out new
+  pub waits : Waits s (open_query k who job ask (s.clock + wait_of_job job)) opened s.tcp_asks stores out new
 
-pub record WaitsByTcp (s : State) (who : Asker) (k opened : ℕ) (server : Addr) (n : Name) (t : ℕ) (job : Job) (stores : Stores) (out : List Action) (new : State) : Type 0 where
-  pub ask : Asking
+pub record WaitsByTcp (s : State) (who : ClientQuery) (k opened : ℕ) (server : Addr) (n : Name) (t : ℕ) (job : Job) (stores : Stores) (out : List Action) (new : State) : Type 0 where
+  pub ask : Ask
   pub for : IsFor server n t ask
   pub goes : IsTcpAsk s ask
-  pub waits : Waits s (open_query k who job ask (s.clock + 3000)) opened (s.asked + 1) stores out new
+  pub waits : Waits s (open_query k who job ask (s.clock + tcp_wait)) opened (s.tcp_asks + 1) stores out new
 
 -- What comes of query k by what its work gave: an ask, or the end. `opened`: how many queries were opened then.
-abbrev pub Comes : State → Asker → ℕ → ℕ → Next → Job → Stores → List Action → State → Type 0
-Comes s who k opened (Ask server n t) job stores out new = WaitsByUdp s who k opened server n t job stores out new
+abbrev pub Comes : State → ClientQuery → ℕ → ℕ → Next → Job → Stores → List Action → State → Type 0
+Comes s who k opened (AskUdp server n t) job stores out new = WaitsByUdp s who k opened server n t job stores out new
 Comes s who k opened (AskTcp server n t) job stores out new = WaitsByTcp s who k opened server n t job stores out new
 Comes s who k opened (Done chain last) job stores out new = Ends s who k (outcome_of s.clock chain last) stores out new
 Comes s who k opened (Fail c) job stores out new = Ends s who k (outcome.Fail c) stores out new
@@ -100,29 +101,29 @@ pub record Serves (s : State) (q : Open) (input : Input) (out : List Action) (ne
   pub job : Job
   pub stores : Stores
   pub advances : Advances (s.site).home s.clock input q.job s.stores next job stores
-  pub comes : Comes s q.asker q.number s.opened next job stores out new
+  pub comes : Comes s q.client_query q.number s.opened next job stores out new
 
 -- ---- a client's query
 
 -- It is over at once; or it would have to wait, and 1,024 others do; or it is opened, under a new number.
-abbrev pub IsAsking : Next → Type 0
-IsAsking (Ask server n t) = Unit {0}
-IsAsking (AskTcp server n t) = Unit {0}
-IsAsking (Done chain last) = ⊥
-IsAsking (Fail c) = ⊥
+abbrev pub IsAsk : Next → Type 0
+IsAsk (AskUdp server n t) = Unit {0}
+IsAsk (AskTcp server n t) = Unit {0}
+IsAsk (Done chain last) = ⊥
+IsAsk (Fail c) = ⊥
 
 abbrev pub most_open : ℕ
-most_open = 1024
+most_open = max_open
 
-pub data IsOpened (s : State) (who : Asker) (next : Next) (job : Job) (stores : Stores) (served : Served) (out : List Action) (new : State) : Type 0 where
-  at_once : served ≡ Own → (IsAsking next → ⊥) → Comes s who s.opened s.opened next job stores out new → IsOpened s who next job stores served out new
-  crowded : served ≡ Own → IsAsking next → most_open ≤ length s.queries → Ends s who s.opened (outcome.Fail cause.TooManyOpen) stores out new
+pub data IsOpened (s : State) (who : ClientQuery) (next : Next) (job : Job) (stores : Stores) (served : Served) (out : List Action) (new : State) : Type 0 where
+  at_once : served ≡ Own → (IsAsk next → ⊥) → Comes s who s.opened s.opened next job stores out new → IsOpened s who next job stores served out new
+  crowded : served ≡ Own → IsAsk next → most_open ≤ length s.queries → Ends s who s.opened (outcome.Fail cause.TooManyOpen) stores out new
       → IsOpened s who next job stores served out new
-  admitted : served ≡ Query s.opened → IsAsking next → length s.queries < most_open → Comes s who s.opened (s.opened + 1) next job stores out new
+  admitted : served ≡ OpenQuery s.opened → IsAsk next → length s.queries < most_open → Comes s who s.opened (s.opened + 1) next job stores out new
       → IsOpened s who next job stores served out new
 
 -- A recursive query is resolved.
-pub record Resolves (s : State) (who : Asker) (served : Served) (out : List Action) (new : State) : Type 0 where
+pub record Resolves (s : State) (who : ClientQuery) (served : Served) (out : List Action) (new : State) : Type 0 where
   pub next : Next
   pub job : Job
   pub stores : Stores
@@ -130,7 +131,7 @@ pub record Resolves (s : State) (who : Asker) (served : Served) (out : List Acti
   pub opened : IsOpened s who next job stores served out new
 
 -- A query that is not is answered by the zones at hand alone.
-pub record AnswersAtHand (s : State) (who : Asker) (served : Served) (out : List Action) (new : State) : Type 0 where
+pub record AnswersAtHand (s : State) (who : ClientQuery) (served : Served) (out : List Action) (new : State) : Type 0 where
   pub served_is : served ≡ Own
   pub result : Outcome Plain
   pub answers : AnswersLocally (λ n. looked ((s.site).home).zones n (type_number (who.query).kind)) (who.query).name result
@@ -140,13 +141,13 @@ pub record AnswersAtHand (s : State) (who : Asker) (served : Served) (out : List
   pub state : new ≡ s
 
 -- What a client's bytes ask is dropped, refused, or answered.
-abbrev pub IsHandled : State → ℕ → Via → Asked Plain → Served → List Action → State → Type 0
-IsHandled s client way heard.Drop served out new = (served ≡ Own) × (out ≡ []) × (new ≡ s)
-IsHandled s client way (heard.Refuse refusal start echo) served out new =
+abbrev pub IsHandled : State → ℕ → Via → Request Plain → Served → List Action → State → Type 0
+IsHandled s client way request.Drop served out new = (served ≡ Own) × (out ≡ []) × (new ≡ s)
+IsHandled s client way (request.Refuse refusal start echo) served out new =
     (served ≡ Own) × ((action : Action) × IsRefusal client way refusal start echo action × (out ≡ action ∷ [])) × (new ≡ s)
-IsHandled s client way (heard.Query q) served out new =
-    ((recursive q ≡ false) × AnswersAtHand s (asker client way q) served out new)
-    ⊎ ((recursive q ≡ true) × Resolves s (asker client way q) served out new)
+IsHandled s client way (request.Query q) served out new =
+    ((recursive q ≡ false) × AnswersAtHand s (client_query client way q) served out new)
+    ⊎ ((recursive q ≡ true) × Resolves s (client_query client way q) served out new)
 
 -- ---- an event for an open query
 
@@ -196,20 +197,20 @@ pub record IsIgnored (s : State) (event : Event) (served : Served) (out : List A
   pub state : new ≡ s
 
 -- An open query is served by what the event is for it.
-pub record Hears (s : State) (event : Event) (served : Served) (out : List Action) (new : State) : Type 0 where
+pub record ServesOpen (s : State) (event : Event) (served : Served) (out : List Action) (new : State) : Type 0 where
   pub query : Open
   pub input : Input
-  pub served_is : served ≡ Query query.number
+  pub served_is : served ≡ OpenQuery query.number
   pub brings : IsInput s event query input
   pub serves : Serves s query input out new
 
 -- The time of a query is up.
 pub record IsLate (s : State) (served : Served) (out : List Action) (new : State) : Type 0 where
   pub query : Open
-  pub served_is : served ≡ Query query.number
+  pub served_is : served ≡ OpenQuery query.number
   pub due : IsFirstDue s query
   pub late : (query.job).deadline ≤ s.clock
-  pub ends : Ends s query.asker query.number (outcome.Fail cause.Deadline) s.stores out new
+  pub ends : Ends s query.client_query query.number (outcome.Fail cause.DeadlineOver) s.stores out new
 
 -- A tick handles one query that is due, and says where another is.
 abbrev pub SomeDue : State → Type 0
@@ -221,9 +222,9 @@ IsFollowed first out new = ((out ≡ first ++ MoreDue ∷ []) × SomeDue new) �
 abbrev pub IsTicked : State → ℕ → Served → List Action → State → Type 0
 IsTicked s now served out new =
     IsIgnored s (Tick now) served out new
-    ⊎ ((first : List Action) × (IsLate s served first new ⊎ Hears s (Tick now) served first new) × IsFollowed first out new)
+    ⊎ ((first : List Action) × (IsLate s served first new ⊎ ServesOpen s (Tick now) served first new) × IsFollowed first out new)
 
--- ---- want of memory
+-- ---- out of memory
 
 -- Whose query an event is.
 abbrev pub IsMeant : State → Event → Open → Type 0
@@ -245,16 +246,16 @@ abbrev pub IsStarved : State → Event → Served → State → Type 0
 IsStarved s (Client now client way bytes) served new =
     (served ≡ Own) × IsLeft s s.opened (λ stores. (j : Job) × Stops Start s.clock j s.stores stores) new
 IsStarved s event served new =
-    (q : Open) × Contains s.queries q × (served ≡ Query q.number) × IsMeant s event q
+    (q : Open) × Contains s.queries q × (served ≡ OpenQuery q.number) × IsMeant s event q
     × IsLeft s q.number (λ stores. (input : Input) × IsInput s event q input × Stops input s.clock q.job s.stores stores) new
 
 -- ---- a step
 
 abbrev pub IsTurn : State → Event → Served → Option (List Action) → State → Type 0
 IsTurn s event served None new = IsStarved s event served new
-IsTurn s (Client now client way bytes) served (Some out) new = (asked : Asked Plain) × IsAsked bytes asked × IsHandled s client way asked served out new
+IsTurn s (Client now client way bytes) served (Some out) new = (asked : Request Plain) × IsRequest bytes asked × IsHandled s client way asked served out new
 IsTurn s (Tick now) served (Some out) new = IsTicked s now served out new
-IsTurn s event served (Some out) new = IsIgnored s event served out new ⊎ Hears s event served out new
+IsTurn s event served (Some out) new = IsIgnored s event served out new ⊎ ServesOpen s event served out new
 
 -- The clock is at the event's moment, or was past it already. No two open queries have one number.
 pub record Step (old : State) (event : Event) (served : Served) (out : Option (List Action)) (new : State) : Type 0 where

@@ -7,7 +7,7 @@
 //!
 //! Promised: the clock of a run is the greatest moment of its events (`clock_law`); what is accepted for the open
 //! ask of a query serves that query, and no other (`heard_law`).
-//! Not here: what every run keeps (`laws`); the code (`exchange`, `engine`).
+//! Not here: what every run keeps (`laws`); the code (`events`, `engine`).
 //!
 //! ```text
 //! Run site run s          -- these steps lead from a new resolver of this site to the state s

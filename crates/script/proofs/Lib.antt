@@ -1,4 +1,0 @@
-pub mod Building
-pub mod Places
-pub mod Reading
-pub mod WorldTexts

@@ -1,30 +1,24 @@
-//! World texts: which zones a world has, who serves them, and where a resolver starts; read, and built into a
-//! world.
+//! Scripts of a network in memory: what clients ask, what comes of the asks of servers, and when.
 //!
-//! `world_in` gives the `World` of a text. In two steps: `read_world` reads its lines, `zone` and `local` blocks of
-//! master file text, `host` and `hint` lines, into a `WorldText`; `WorldText::build` reads the blocks as master
-//! files, checks each zone and then the world.
+//! `read_script` reads the orders of a script, a line each: `at` sets the moment, `ask` and `raw` are clients,
+//! `carry`, `cut` and `lose` say whether the reply to a numbered ask comes, comes truncated or never comes, `run`
+//! carries all that are left, `tick` lets time pass. `read_asks` reads a script that may only ask.
 //!
-//! Promised: the world that the text says (`IsWorldOf`), or why it says none: the first fault, of its lines, its
-//! blocks or the rules of a world, in this order (`WorldFault`, `IsNoWorld`).
-//! Not here: scripts of what happens in a world (`orders`).
+//! Promised: the orders that the text says (`script_of`, `asks_of`), or the first line that is refused and why
+//! (`LineError`).
+//! Not here: playing them (`play` in one thread, `storm` in many).
 //!
 //! ```text
-//! let text = "zone .\n. 60 IN SOA r. h. 1 2 3 4 60\n. 60 IN NS ns.\nend\nhost 192.0.2.1 .\nhint 192.0.2.1\n";
-//! let world = world_in(alloc, text)?;
-//! assert_eq!(world.hints().len(), 1);
+//! let orders = read_script(alloc, "at 0\nask www.lab.example. A\ncut 1\nrun\n")?;
+//! assert!(matches!(orders.as_slice()[2], Order::Truncate(1)));
 //! ```
 #![tactic(auto)]
 
-mod build;
 mod keyword;
-mod open_block;
-mod reader;
-mod statement;
-mod world_fault;
-mod world_text;
+mod mark;
+mod order;
+mod script;
 
-pub use build::world_in;
-pub use statements::{LineError, LineKind};
-pub use world_fault::WorldFault;
-pub use world_text::{Block, WorldText, read_world};
+pub use order::Order;
+pub use script::{read_asks, read_script};
+pub use text_lines::{LineError, LineKind};

@@ -4,7 +4,7 @@ use Rattle.std.specs.Net.Addr.{ipv4_octets}
 use Rattle.std.specs.Net.Socket.{v4_ip, v4_port}
 use Rattle.std.specs.declared.net.socket_addr.SocketAddr.{SocketAddr}
 use Rattle.std.specs.declared.net.socket_addr.SocketAddr.TheVariants.{V4, V6}
-use Rattle.exchange.specs.declared.path.Endpoint.{Endpoint}
+use Rattle.events.specs.declared.path.Endpoint.{Endpoint}
 
 -- It is this IPv4 address with this port.
 abbrev pub IsAt : SocketAddr → Endpoint → Type 0

@@ -1,7 +1,7 @@
 //! The loop that lets time pass, so that queries which are due are served.
 use crate::desk::Desk;
 use book::{Machine, Ticket};
-use exchange::{Actions, Event};
+use events::{Actions, Event};
 use std::sync::Wait;
 use std::sync::ledger::Ledger;
 use std::thread;

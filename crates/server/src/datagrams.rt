@@ -5,8 +5,8 @@ use crate::clock::rest;
 use crate::desk::Desk;
 use crate::ends::{MOST_BYTES, endpoint_of};
 use book::{Machine, Ticket};
-use delivery::asked;
-use exchange::{Actions, Endpoint, Event};
+use dispatch::query_event;
+use events::{Actions, Endpoint, Event};
 use std::io::ErrorKind;
 use std::net::UdpSocket;
 use std::sync::Wait;
@@ -26,7 +26,7 @@ pub(crate) fn take_datagrams<M: Machine<Event = Event, Out = Actions>, L: Ledger
             return;
         }
         if let Some((count, from)) = next_datagram(rt, &ends.clients, &mut buffer)
-            && let Ok(event) = asked(desk.alloc, desk.moment(rt), from, &buffer[..count])
+            && let Ok(event) = query_event(desk.alloc, desk.moment(rt), from, &buffer[..count])
         {
             desk.put(rt, ticket, event);
         }

@@ -3,8 +3,8 @@ use crate::ends::Ends;
 use crate::outbox::{Outbox, StreamAsk, StreamReply};
 use book::{Machine, Ticket};
 use crossbeam_channel::{Receiver, Sender};
-use delivery::{hand_over, heard_on_stream};
-use exchange::{Actions, Event};
+use dispatch::{hand_over, stream_reply_event};
+use events::{Actions, Event};
 use pool::{Shared, submit};
 use std::alloc::Global;
 use std::sync::Wait;
@@ -13,7 +13,7 @@ use std::sync::ledger::Ledger;
 use std::time::{Clock, Instant};
 
 // More asks than one query makes: a query that comes to nothing but refused asks ends before.
-const MOST_ASKS: u32 = 64;
+const MAX_REFUSED_HANDOVERS: u32 = 64;
 
 /// What came of an event.
 #[derive(Clone, Copy)]
@@ -63,7 +63,7 @@ impl<M: Machine<Event = Event, Out = Actions>, L: Ledger> Desk<'_, M, L> {
     /// failed, which is an event again.
     pub fn put<R: Wait + Clock>(&self, rt: &R, ticket: &mut Ticket<L>, event: Event) -> Upshot {
         let mut event = event;
-        for _ in 0..MOST_ASKS {
+        for _ in 0..MAX_REFUSED_HANDOVERS {
             let Ok(entry) = submit(rt, self.shared, ticket, event) else {
                 return NOTHING;
             };
@@ -71,7 +71,7 @@ impl<M: Machine<Event = Event, Out = Actions>, L: Ledger> Desk<'_, M, L> {
                 return NOTHING;
             };
             match self.send_out(rt, actions) {
-                Some(number) => event = heard_on_stream(self.moment(rt), number, None),
+                Some(number) => event = stream_reply_event(self.moment(rt), number, None),
                 None => {
                     return Upshot {
                         speaks: actions.first.is_some(),

@@ -3,7 +3,7 @@ ghost use Rattle.std.specs.Prelude.{◌≡◌, IfOk, MatchOption};
 ghost use Rattle.server.specs.Addresses.{IsAt, IsElsewhere};
 ghost use Rattle.server.specs.Waits.{IsShort};
 
-use exchange::Endpoint;
+use events::Endpoint;
 use libc::net as c;
 use rdata::Addr;
 use std::alloc::Global;
@@ -17,7 +17,7 @@ use std::time::Duration;
 pub(crate) const SLICE_MS: u64 = 100;
 
 // How many bytes of datagrams that nobody took yet a socket holds, where the system allows it.
-const ROOM: u32 = 4_194_304;
+const SOCKET_BUFFER_BYTES: u32 = 4_194_304;
 
 /// Bytes of a datagram at most: its length stands in 16 bits (RFC 768).
 pub(crate) const MOST_BYTES: usize = 65_535;
@@ -114,7 +114,7 @@ const ANY: Endpoint = Endpoint {
 };
 
 // How many ports are tried where any will do.
-const TRIES: u32 = 16;
+const BIND_TRIES: u32 = 16;
 
 // A socket for datagrams and one for streams, at one port. Where any port will do and the one that was given for
 // datagrams is not free for streams, another is tried.
@@ -122,7 +122,7 @@ fn both<R: Net<Listener = TcpListener, Stream = TcpStream>>(
     rt: &R,
     listen: Endpoint,
 ) -> io::Result<(UdpSocket, TcpListener)> {
-    for _ in 1..TRIES {
+    for _ in 1..BIND_TRIES {
         let clients = datagrams(rt, listen)?;
         if let Ok(listener) = streams(rt, clients.local_addr()?) {
             return Ok((clients, listener));
@@ -146,7 +146,7 @@ fn datagrams<R: Net>(rt: &R, end: Endpoint) -> io::Result<UdpSocket> {
 // Makes room for many datagrams. Where the system refuses it the socket keeps the room that it has.
 fn set_receive_room(socket: &UdpSocket) {
     let mut value = [0u8; 16];
-    value[..4].copy_from_slice(&ROOM.to_le_bytes());
+    value[..4].copy_from_slice(&SOCKET_BUFFER_BYTES.to_le_bytes());
     let _ = unsafe { c::setsockopt(socket.as_raw_fd(), c::SOL_SOCKET, c::SO_RCVBUF, &value, 4) };
 }
 

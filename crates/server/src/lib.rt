@@ -2,11 +2,11 @@
 //! what goes out. They end once a flag is up.
 //!
 //! `Ends::open` binds the sockets for clients, UDP and TCP at one address and port, and the upstream ones.
-//! `serve_until` runs a loop a ticket, by the roles of `delivery`: datagrams, streams, the clock, upstream sockets,
+//! `serve_until` runs a loop a ticket, by the roles of `dispatch`: datagrams, streams, the clock, upstream sockets,
 //! asks over TCP. Each loop reaches the machine by `pool::submit` alone.
 //!
 //! Promised: the loops are safe, and there is a worker for each (`IsStaffed`). Where replies and asks go is proved
-//! in `delivery`, frames in `sockets`, the machine's one history in `book`.
+//! in `dispatch`, frames in `sockets`, the machine's one history in `book`.
 //! Not here: what the machine is (`engine`); lists of who may ask, and limits of how often.
 //!
 //! ```text

@@ -2,15 +2,13 @@
 use crate::ends::{Ends, address_of};
 use crate::span::Span;
 use crossbeam_channel::Sender;
-use delivery::Carrier;
-use exchange::{Bytes, Endpoint};
+use dispatch::Carrier;
+use events::{Bytes, Endpoint};
+use limits::TCP_WAIT_MS;
 use std::alloc::Global;
 use std::net::UdpSocket;
 use std::sync::Wait;
 use std::time::Clock;
-
-// How long an ask over TCP may take once it is handed over, in milliseconds: as long as the resolver waits for it.
-const ASK_MS: u64 = 3_000;
 
 /// An ask over TCP, for whichever worker takes it.
 #[derive(Drop)]
@@ -59,7 +57,7 @@ impl<R: Wait + Clock> Carrier<Global> for Outbox<'_, R> {
     }
 
     fn to_worker(&mut self, number: u64, to: Endpoint, bytes: &Bytes) -> bool {
-        let Some(span) = Span::begin(self.rt, ASK_MS) else {
+        let Some(span) = Span::start(self.rt, TCP_WAIT_MS) else {
             return false;
         };
         let Ok(bytes) = bytes.copied() else {

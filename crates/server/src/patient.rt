@@ -11,9 +11,9 @@ use std::time::Clock;
 const SILENCE_MS: u64 = 3_000;
 
 // How many short waits a read or a write makes at most.
-const WAITS: u64 = 30;
+const SLICES_OF_SILENCE: u64 = 30;
 
-const _: () = prove!(WAITS * SLICE_MS == SILENCE_MS);
+const _: () = prove!(SLICES_OF_SILENCE * SLICE_MS == SILENCE_MS);
 
 /// A stream within a span: a read waits in short waits until a byte comes, and a write until one is taken, for 3,000 ms
 /// at most. Both give up once the span is over, however many bytes came, and once the flag is up.
@@ -35,7 +35,7 @@ impl<R: Clock> Patient<'_, R> {
 impl<R: Clock> Read for Patient<'_, R> {
     fn read(&mut self, buf: &mut [u8]) -> io::Result<usize> {
         let mut stream = self.stream;
-        for _ in 0..WAITS {
+        for _ in 0..SLICES_OF_SILENCE {
             if self.is_over() {
                 break;
             }
@@ -51,7 +51,7 @@ impl<R: Clock> Read for Patient<'_, R> {
 impl<R: Clock> Write for Patient<'_, R> {
     fn write(&mut self, buf: &[u8]) -> io::Result<usize> {
         let mut stream = self.stream;
-        for _ in 0..WAITS {
+        for _ in 0..SLICES_OF_SILENCE {
             if self.is_over() {
                 break;
             }

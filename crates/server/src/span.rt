@@ -14,7 +14,7 @@ pub(crate) struct Span {
 
 impl Span {
     /// So many milliseconds from now on. None where the clock can't be read.
-    pub fn begin<R: Clock>(rt: &R, millis: u64) -> Option<Span> {
+    pub fn start<R: Clock>(rt: &R, millis: u64) -> Option<Span> {
         let start = Instant::now(rt).ok()?;
         Some(Span { start, millis })
     }

@@ -5,8 +5,9 @@ use crate::ends::{limit, slice};
 use crate::patient::Patient;
 use crate::span::Span;
 use book::{Machine, Ticket};
-use delivery::asked_on_stream;
-use exchange::{Actions, Bytes, Event};
+use dispatch::stream_query_event;
+use events::{Actions, Bytes, Event};
+use limits::QUERY_LIFETIME_MS;
 use sockets::{read_framed, write_framed};
 use std::io::ErrorKind;
 use std::net::TcpStream;
@@ -14,13 +15,10 @@ use std::sync::Wait;
 use std::sync::ledger::Ledger;
 use std::time::Clock;
 
-// How long a query stays open at most, in milliseconds.
-const OPEN_MS: u64 = 10_000;
-
 // How long a reply is waited for, in milliseconds: longer than a query stays open, so that its reply comes before.
 const REPLY_MS: u64 = 12_000;
 
-const _: () = prove!(OPEN_MS < REPLY_MS);
+const _: () = prove!(QUERY_LIFETIME_MS < REPLY_MS);
 
 // For how long frames of one stream are taken, in milliseconds: as long as one query stays open. Other clients wait
 // meanwhile, and a client asks again on a new stream what had no reply on this one (RFC 7766, section 6.2.4).
@@ -64,7 +62,7 @@ fn converse<M: Machine<Event = Event, Out = Actions>, L: Ledger, R: Wait + Clock
     frames: u64,
 ) -> u64 {
     let mut client = frames;
-    let Some(span) = Span::begin(rt, STREAM_MS) else {
+    let Some(span) = Span::start(rt, STREAM_MS) else {
         return client;
     };
     for _ in rt.forever() {
@@ -95,7 +93,7 @@ fn answer_next<M: Machine<Event = Event, Out = Actions>, L: Ledger, R: Wait + Cl
         span,
     };
     let bytes = read_framed(desk.alloc, &mut reader).ok()??;
-    let event = asked_on_stream(desk.moment(rt), client, bytes);
+    let event = stream_query_event(desk.moment(rt), client, bytes);
     if !desk.put(rt, ticket, event).speaks {
         return None;
     }
@@ -104,7 +102,7 @@ fn answer_next<M: Machine<Event = Event, Out = Actions>, L: Ledger, R: Wait + Cl
         rt,
         stream,
         stop: desk.stop,
-        span: Span::begin(rt, WRITE_MS)?,
+        span: Span::start(rt, WRITE_MS)?,
     };
     write_framed(&mut writer, reply.as_slice()).ok()
 }
@@ -115,7 +113,7 @@ fn reply_for<M: Machine<Event = Event, Out = Actions>, L: Ledger, R: Wait + Cloc
     desk: &Desk<'_, M, L>,
     client: u64,
 ) -> Option<Bytes> {
-    let span = Span::begin(rt, REPLY_MS)?;
+    let span = Span::start(rt, REPLY_MS)?;
     for _ in rt.forever() {
         if desk.is_over() || span.left(rt).is_none() {
             return None;

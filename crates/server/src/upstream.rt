@@ -3,8 +3,8 @@ use crate::datagrams::next_datagram;
 use crate::desk::Desk;
 use crate::ends::MOST_BYTES;
 use book::{Machine, Ticket};
-use delivery::heard;
-use exchange::{Actions, Event};
+use dispatch::datagram_event;
+use events::{Actions, Event};
 use std::sync::Wait;
 use std::sync::ledger::Ledger;
 use std::time::Clock;
@@ -26,7 +26,13 @@ pub(crate) fn take_answers<M: Machine<Event = Event, Out = Actions>, L: Ledger, 
             return;
         }
         if let Some((count, from)) = next_datagram(rt, socket, &mut buffer)
-            && let Ok(event) = heard(desk.alloc, desk.moment(rt), number, from, &buffer[..count])
+            && let Ok(event) = datagram_event(
+                desk.alloc,
+                desk.moment(rt),
+                number,
+                from,
+                &buffer[..count],
+            )
         {
             desk.put(rt, ticket, event);
         }

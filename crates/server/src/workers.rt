@@ -6,8 +6,8 @@ use crate::ends::{address_of, limit, slice};
 use crate::outbox::StreamAsk;
 use crate::patient::Patient;
 use book::{Machine, Ticket};
-use delivery::heard_on_stream;
-use exchange::{Actions, Event};
+use dispatch::stream_reply_event;
+use events::{Actions, Event};
 use sockets::{read_framed, write_framed};
 use std::alloc::Global;
 use std::net::{Net, TcpListener, TcpStream};
@@ -29,7 +29,7 @@ pub(crate) fn ask_servers<
         }
         if let Ok(ask) = desk.asks.recv_timeout(rt, slice()) {
             let frame = frame_for(rt, desk.alloc, desk.stop, &ask);
-            let event = heard_on_stream(desk.moment(rt), ask.number, frame);
+            let event = stream_reply_event(desk.moment(rt), ask.number, frame);
             desk.put(rt, ticket, event);
         }
     }

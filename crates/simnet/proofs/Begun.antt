@@ -4,8 +4,8 @@ use Rattle.std.specs.Prelude.{Contains}
 use Rattle.rdata.specs.declared.addr.Addr.{Addr}
 use Rattle.zone.specs.Zones.{Zone}
 use Rattle.zone.proofs.LawLists.{map_in}
-use Rattle.truth.specs.Worlds.{World}
-use Rattle.truth.specs.Frames.{AreHeld}
+use Rattle.world_truth.specs.Worlds.{World}
+use Rattle.world_truth.specs.Frames.{AreHeld}
 use Rattle.worlds.specs.Kept.{bytes_of, addresses}
 use Rattle.runs.specs.States.{State, IsNew}
 use Rattle.laws.specs.Headline.{IsHomeIn}
@@ -24,7 +24,7 @@ module _ (W : World) (local : List Zone) (hints : List Addr) (settings : Setting
     failures = ap (λ (x : State). (x.stores).failures) made.is;
     queries = ap (λ (x : State). x.queries) made.is;
     opened = ap (λ (x : State). x.opened) made.is;
-    asked = ap (λ (x : State). x.asked) made.is;
+    tcp_asks = ap (λ (x : State). x.tcp_asks) made.is;
     seeded = (settings.seed, ap (λ (x : State). x.generator) made.is);
   }
 

@@ -4,22 +4,22 @@ use Rattle.std.specs.Prelude.{IfSome}
 use Rattle.dname.specs.Labels.{Name}
 use Rattle.rdata.specs.Records.{Record}
 use Rattle.rdata.specs.Types.{type_number}
-use Rattle.layout.specs.Messages.{internet}
+use Rattle.message_grammar.specs.Messages.{internet}
 use Rattle.zone.specs.Links.{Link, Found, Alias, NoData, NxDomain}
 use Rattle.zone.specs.Look.{Local, Linked, Cut, NotHere}
-use Rattle.truth.specs.Worlds.{Address, World, IsWorld}
+use Rattle.world_truth.specs.Worlds.{Address, World, IsWorld}
 use Rattle.front.specs.Chains.{IsEndOf, IsEndAt}
 use Rattle.front.specs.Laws.{EchoIsQuestion}
-use Rattle.front.specs.declared.queries.Query.{Query as Asking}
-use Rattle.front.specs.declared.queries.Asked.{Asked}
-use Rattle.front.specs.declared.queries.Asked.TheVariants as heard
+use Rattle.front.specs.declared.queries.Query.{Query}
+use Rattle.front.specs.declared.queries.Request.{Request}
+use Rattle.front.specs.declared.queries.Request.TheVariants as request
 use Rattle.front.specs.declared.queries.End.{End}
 use Rattle.front.specs.declared.queries.End.TheVariants as end
 use Rattle.worlds.specs.Hosting.{says, IsFollowed, answer_to, IsReplyBy, IsReplyFrom, IsHostReply}
 use Rattle.worlds.proofs.Hosted.{host_serves}
 use Rattle.runs.specs.States.{Plain}
-use Rattle.exchange.specs.Plain.{plain, plain_asked, plain_end}
-use Rattle.exchange.proofs.Plainly.{asked_plainly}
+use Rattle.events.specs.Plain.{plain, plain_asked, plain_end}
+use Rattle.events.proofs.Plainly.{asked_plainly}
 use Rattle.simnet.specs.Replies.{AsksOne}
 
 module _ (A : Type 0) where
@@ -41,22 +41,22 @@ module _ (A : Type 0) where
     ends = ⊎_elim (λ p. inl (p.0, end_at (look h.to) e p.1)) (λ p. inr (p.0, ap plain_end p.1)) h.ends;
   }
 
-  answer_plainly : (q : Asking A) (aliases : List Record) (e : End A) → answer_to q aliases e ≡ answer_to (plain q) aliases (plain_end e)
+  answer_plainly : (q : Query A) (aliases : List Record) (e : End A) → answer_to q aliases e ≡ answer_to (plain q) aliases (plain_end e)
   answer_plainly q aliases (end.Found set) = refl
   answer_plainly q aliases (end.NoData soa) = refl
   answer_plainly q aliases (end.NxDomain soa) = refl
   answer_plainly q aliases end.Outside = refl
 
-  reply_plainly : (look : Name → Local) (q : Asking A) (l : Local) (m : _) → IsReplyBy look q l m → IsReplyBy look (plain q) l m
+  reply_plainly : (look : Name → Local) (q : Query A) (l : Local) (m : _) → IsReplyBy look q l m → IsReplyBy look (plain q) l m
   reply_plainly look q NotHere m is = is
   reply_plainly look q (Cut c ns glue) m is = is
   reply_plainly look q (Linked l) m (aliases, e, followed, is) =
       (aliases, plain_end e, followed_plainly look q.name aliases e followed, is ∙ ap Some (answer_plainly q aliases e))
 
-  from_plainly : (W : World) (a : Address) (asked : Asked A) (sent : Option (List ℕ)) → IsReplyFrom W a asked sent → IsReplyFrom W a (plain_asked asked) sent
-  from_plainly W a heard.Drop sent is = is
-  from_plainly W a (heard.Refuse refusal start echo) sent is = is
-  from_plainly W a (heard.Query q) sent (m, by, is) = (m, reply_plainly (says W a (type_number q.kind)) q (says W a (type_number q.kind) q.name) m by, is)
+  from_plainly : (W : World) (a : Address) (asked : Request A) (sent : Option (List ℕ)) → IsReplyFrom W a asked sent → IsReplyFrom W a (plain_asked asked) sent
+  from_plainly W a request.Drop sent is = is
+  from_plainly W a (request.Refuse refusal start echo) sent is = is
+  from_plainly W a (request.Query q) sent (m, by, is) = (m, reply_plainly (says W a (type_number q.kind)) q (says W a (type_number q.kind) q.name) m by, is)
 
   pub host_plainly : (W : World) (a : Address) (bytes : List ℕ) (sent : Option (List ℕ)) → IsHostReply A W a bytes sent → IsHostReply Plain W a bytes sent
   host_plainly W a bytes sent (asked, reads, by) = (plain_asked asked, asked_plainly bytes asked reads, from_plainly W a asked sent by)
@@ -69,11 +69,11 @@ module _ (A : Type 0) where
       record { message = h.read; is = h.message; question = record { name = n; qtype = t; qclass = internet }; only = (h.reply).question }
 
   -- It fits a stream (RFC 1035, section 4.2.2).
-  short_from : (W : World) (a : Address) (asked : Asked A) (sent : List ℕ) → IsReplyFrom W a asked (Some sent) → length sent ≤ 65535
-  short_from W a heard.Drop sent none = absurd (cc)
-  short_from W a (heard.Refuse refusal start echo) sent none = absurd (cc)
-  short_from W a (heard.Query q) sent (None, by, none) = absurd (cc)
-  short_from W a (heard.Query q) sent (Some m, by, (few, same, message)) = subst (λ (bytes : List ℕ). length bytes ≤ 65535) (sym same) few
+  short_from : (W : World) (a : Address) (asked : Request A) (sent : List ℕ) → IsReplyFrom W a asked (Some sent) → length sent ≤ 65535
+  short_from W a request.Drop sent none = absurd (cc)
+  short_from W a (request.Refuse refusal start echo) sent none = absurd (cc)
+  short_from W a (request.Query q) sent (None, by, none) = absurd (cc)
+  short_from W a (request.Query q) sent (Some m, by, (few, same, message)) = subst (λ (bytes : List ℕ). length bytes ≤ 65535) (sym same) few
 
   pub is_short : {V : Type 0} (W : World) (a : Address) (bytes : List ℕ) (items : V → List ℕ) (o : Option V) → IsHostReply A W a bytes (option_map items o)
       → IfSome o (λ v. length (items v) ≤ 65535)

@@ -2,8 +2,8 @@
 use Rattle.std.proofs.Common.{◌≡◌, ◌∙◌, ℕ, ◌+◌, Bool, true, false, Option, Some, None, List, [], ◌∷◌, ◌++◌, refl, sym, ap}
 use Rattle.std.proofs.lemmas.List.{append-nil}
 use Rattle.runs.specs.States as resolver
-use Rattle.exchange.specs.declared.action.Action.{Action as Said}
-use Rattle.exchange.specs.Views as exchange
+use Rattle.events.specs.declared.action.Action.{Action}
+use Rattle.events.specs.Views as exchange
 use Rattle.network.specs.Networks.{Sent, NetworkAction, Reply, WasSent, WasAsked, MoreDue, numbered, sends_among}
 use Rattle.runs.specs.States.{ByUdp, ByTcp}
 use Rattle.simnet.specs.Views.{due_listed}
@@ -33,19 +33,19 @@ behind_sends (resolver.TcpAsk number to bytes) due = ap (λ (l : List Sent). rec
 behind_sends resolver.MoreDue due = due_sends due
 
 -- All that comes out, as it is kept: one action at most, and word that another query is due.
-module _ {A : Type 0} (n : ℕ) (sends : List Sent) (first : Option (Said A)) (due : Bool) (actions : List resolver.Action) (is : exchange.listed first due ≡ actions) where
+module _ {A : Type 0} (n : ℕ) (sends : List Sent) (first : Option (Action A)) (due : Bool) (actions : List resolver.Action) (is : exchange.listed first due ≡ actions) where
   pub none_shown : first ≡ None → due_listed due ≡ numbered n actions
-  none_shown none = due_numbered n due ∙ ap (numbered n) (ap (λ (f : Option (Said A)). exchange.listed f due) (sym none) ∙ is)
+  none_shown none = due_numbered n due ∙ ap (numbered n) (ap (λ (f : Option (Action A)). exchange.listed f due) (sym none) ∙ is)
 
   pub none_stands : first ≡ None → sends ≡ sends ++ sends_among actions
   none_stands none =
-      sym (append-nil sends) ∙ ap (λ (l : List Sent). sends ++ l) (due_sends due ∙ ap sends_among (ap (λ (f : Option (Said A)). exchange.listed f due) (sym none) ∙ is))
+      sym (append-nil sends) ∙ ap (λ (l : List Sent). sends ++ l) (due_sends due ∙ ap sends_among (ap (λ (f : Option (Action A)). exchange.listed f due) (sym none) ∙ is))
 
-  module _ (action : Said A) (some : first ≡ Some action) where
+  module _ (action : Action A) (some : first ≡ Some action) where
     pub some_shown : (out : NetworkAction) → out ∷ [] ≡ numbered n (exchange.action_view action ∷ []) → out ∷ due_listed due ≡ numbered n actions
     some_shown out shown =
-        behind_numbered n (exchange.action_view action) due out shown ∙ ap (numbered n) (ap (λ (f : Option (Said A)). exchange.listed f due) (sym some) ∙ is)
+        behind_numbered n (exchange.action_view action) due out shown ∙ ap (numbered n) (ap (λ (f : Option (Action A)). exchange.listed f due) (sym some) ∙ is)
 
     pub some_stands : (noted : List Sent) → noted ≡ sends ++ sends_among (exchange.action_view action ∷ []) → noted ≡ sends ++ sends_among actions
     some_stands noted stands =
-        stands ∙ ap (λ (l : List Sent). sends ++ l) (behind_sends (exchange.action_view action) due ∙ ap sends_among (ap (λ (f : Option (Said A)). exchange.listed f due) (sym some) ∙ is))
+        stands ∙ ap (λ (l : List Sent). sends ++ l) (behind_sends (exchange.action_view action) due ∙ ap sends_among (ap (λ (f : Option (Action A)). exchange.listed f due) (sym some) ∙ is))

@@ -1,7 +1,7 @@
 -- One step of a network.
 use Rattle.std.proofs.Common.{◌≡◌, ◌∙◌, inl, inr, Option, Some, None, Result, Ok, Err, OnErr, option_map, List, [], ◌∷◌, ◌++◌, length, refl, sym, ap, subst}
 use Rattle.std.proofs.lemmas.List.{append-nil}
-use Rattle.truth.specs.Worlds.{World}
+use Rattle.world_truth.specs.Worlds.{World}
 use Rattle.runs.specs.States as resolver
 use Rattle.engine.specs.Promises.{Steps}
 use Rattle.network.specs.Networks.{Sent, Network, NetworkEvent, NetworkAction, Reaches, NetworkStep, numbered, sends_among, sends_in, shown}

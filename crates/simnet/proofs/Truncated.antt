@@ -1,12 +1,12 @@
 -- A truncated reply of one question fits a datagram, and its question is in lower case already.
 use Rattle.std.proofs.Common.{◌≡◌, ◌⊎◌, inl, inr, ℕ, ◌≤◌, List, [], ◌∷◌, length, refl, sym, ap, ◌∙◌, subst, arith}
 use Rattle.dname.specs.Labels.{folded_label, folded_labels, AreFolded, AreLabels, IsName}
-use Rattle.layout.specs.Messages.{Question, Message, IsMessage, folded_question, folded_message, encoding}
+use Rattle.message_grammar.specs.Messages.{Question, Message, IsMessage, folded_question, folded_message, encoding}
 use Rattle.front.proofs.Short.{asked_once_long}
 use Rattle.wire.specs.declared.error.WireError.{WireError}
 use Rattle.wire.specs.declared.error.WireError.TheVariants.{Memory}
 use Rattle.wire.specs.Drafts.{RefusesText}
-use Rattle.exchange.proofs.Short.{only_memory}
+use Rattle.events.proofs.Short.{only_memory}
 use Rattle.network.specs.Networks.{truncated}
 
 folded_is : (l : List ℕ) → AreFolded l → folded_label l ≡ l
@@ -36,7 +36,7 @@ module _ (m : Message) (q : Question) (only : m.questions ≡ q ∷ []) (name : 
   pub only_starved : (e : WireError) → RefusesText e (encoding (truncated m)) 512 → e ≡ Memory
   only_starved e refused = only_memory e (encoding (truncated m)) truncated_is_short refused
 
--- Bytes that are a message are refused for want of memory alone.
+-- Bytes that are a message are refused when out of memory alone.
 pub starved_only : (e : WireError) (bytes : List ℕ) (m : Message) → IsMessage bytes m → (e ≡ Memory) ⊎ ((n : Message) → IsMessage bytes n → ⊥) → e ≡ Memory
 starved_only e bytes m is (inl memory) = memory
 starved_only e bytes m is (inr none) = absurd (none m is)

@@ -2,7 +2,7 @@
 use Rattle.std.specs.Prelude.{◌≡◌, ℕ, List, codes}
 use Rattle.rdata.specs.declared.addr.Addr.{Addr}
 use Rattle.zone.specs.Zones.{Zone}
-use Rattle.truth.specs.Worlds.{World, IsWorld}
+use Rattle.world_truth.specs.Worlds.{World, IsWorld}
 use Rattle.worlds.specs.Kept.{addresses}
 use Rattle.runs.specs.States.{Site, State}
 use Rattle.laws.specs.Headline.{IsHomeIn}
@@ -34,7 +34,7 @@ pub record Begins (s : Network) : Type 0 where
   pub home : IsHomeIn world site.home
   pub fresh : IsFresh world site s
 
--- A setting out of its limits counts before want of memory.
+-- A setting out of its limits counts before running out of memory.
 abbrev pub SimRefuses : SimError → Settings → Type 0
 SimRefuses Setting settings = IsAllowed settings → ⊥
 SimRefuses Memory settings = IsAllowed settings

@@ -1,7 +1,7 @@
 -- What a step is, and what it keeps of all that came before.
 use Rattle.std.specs.Prelude.{Option, Some, None, Result, List, ◌∷◌, MatchResult}
 use Rattle.memory.specs.declared.Starved.{Starved}
-use Rattle.truth.specs.Worlds.{World, IsWorld}
+use Rattle.world_truth.specs.Worlds.{World, IsWorld}
 use Rattle.runs.specs.States.{Site}
 use Rattle.laws.specs.Headline.{IsHomeIn}
 use Rattle.network.specs.Networks.{NetworkEvent, NetworkAction, Network, NetworkStep}

@@ -1,6 +1,6 @@
 -- What a server's reply is read as.
 use Rattle.std.specs.Prelude.{◌≡◌, List, [], ◌∷◌, ℕ}
-use Rattle.layout.specs.Messages.{Question, Message, IsMessage}
+use Rattle.message_grammar.specs.Messages.{Question, Message, IsMessage}
 
 -- The bytes are a message of one question.
 pub record AsksOne (bytes : List ℕ) : Type 0 where

@@ -4,7 +4,7 @@ ghost use Rattle.simnet.specs.declared.action.SimAction.TheVariants.{Reply};
 
 use causes::Cause;
 use dname::{Heap, Starved};
-use exchange::Bytes;
+use events::Bytes;
 use front::Via;
 use std::alloc::{Allocator, Global};
 use std::marker::Model;

@@ -1,14 +1,14 @@
 //! What comes of an ask that went out.
 ghost use Rattle.std.specs.Prelude.{◌≡◌, ◌≤◌, [], ◌∷◌, IfOk, IfSome, length, option_map};
 ghost use Rattle.dname.specs.Labels.{IsName};
-ghost use Rattle.layout.specs.Messages as layouts;
-ghost use Rattle.layout.specs.Messages.{IsMessage};
+ghost use Rattle.message_grammar.specs.Messages as layouts;
+ghost use Rattle.message_grammar.specs.Messages.{IsMessage};
 ghost use Rattle.network.specs.Networks.{truncated, IsGiven, IsTruncatedReply, IsFitReply};
 ghost use Rattle.simnet.specs.Replies.{AsksOne};
 
 use crate::sent::Sent;
 use dname::{Heap, Starved};
-use exchange::Bytes;
+use events::Bytes;
 use front::echo_is_question;
 use rdata::Records;
 use std::alloc::Allocator;

@@ -3,7 +3,7 @@ ghost use Rattle.std.specs.Prelude.{◌≡◌, ◌↔◌, IfOk, IsTrue};
 ghost use Rattle.simnet.specs.declared.event.SimEvent.TheVariants.{Client};
 
 use dname::{Heap, Starved};
-use exchange::Bytes;
+use events::Bytes;
 use front::Via;
 use std::alloc::{Allocator, Global};
 

@@ -8,7 +8,7 @@
 //!
 //! Promised: each step is one of `network` (`NetworkStep`), and every reply so far is right (`StaysRight`, by
 //! `network::network_law`).
-//! Not here: scripts (`player`, `crowd`); which reply comes when, which the caller says.
+//! Not here: scripts (`play`, `storm`); which reply comes when, which the caller says.
 //!
 //! ```text
 //! let mut sim = Sim::new(alloc, world, settings)?;

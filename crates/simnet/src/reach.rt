@@ -1,13 +1,13 @@
 //! Which event, if any, an ask that went out brings to the resolver.
 ghost use Rattle.std.specs.Prelude.{◌≡◌, IfOk, Option, option_map};
 ghost use Rattle.runs.specs.States as runs;
-ghost use Rattle.exchange.specs.Views.{event_view};
+ghost use Rattle.events.specs.Views.{event_view};
 ghost use Rattle.network.specs.Networks.{IsTruncatedReply, IsFitReply, OverUdp, OverTcp, lost};
 
 use crate::come::{fit, given, truncated};
 use crate::sent::Sent;
 use dname::{Heap, Starved};
-use exchange::{Bytes, Event, Path};
+use events::{Bytes, Event, Path};
 use worlds::World;
 
 /// A reply over UDP as it comes: whole where it has at most 512 bytes, else truncated; nothing from a server that does

@@ -1,5 +1,5 @@
 //! An ask on its way through the network in memory.
-use exchange::{Bytes, Endpoint, Path};
+use events::{Bytes, Endpoint, Path};
 use std::alloc::{Allocator, Global};
 use std::marker::Model;
 
@@ -15,7 +15,7 @@ pub struct Sent<A: Allocator = Global> {
 }
 
 impl<A: Allocator> Model for Sent<A> {
-    ghost use Rattle.exchange.specs.Paths.{endpoint_view, path_view};
+    ghost use Rattle.events.specs.Paths.{endpoint_view, path_view};
     ghost use Rattle.network.specs.Networks.{Sent};
 
     ghost Value = { Sent };

@@ -1,12 +1,12 @@
 //! What the resolver does, as it is shown: its asks stand in the network from now on.
 ghost use Rattle.std.specs.Prelude.{◌≡◌, ◌+◌, ◌<◌, [], ◌∷◌, ◌++◌, length, vec_len, vec_capacity};
 ghost use Rattle.network.specs.Networks.{numbered, sends_among};
-ghost use Rattle.exchange.specs.Views.{action_view};
+ghost use Rattle.events.specs.Views.{action_view};
 ghost use Rattle.simnet.specs.Views.{sim_action_view};
 
 use crate::action::{SimAction, SimActions};
 use crate::sent::Sent;
-use exchange::{Action, Actions, Path};
+use events::{Action, Actions, Path};
 use std::alloc::Allocator;
 
 // An ask goes out; its number.

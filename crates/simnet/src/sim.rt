@@ -1,7 +1,7 @@
 //! A network in memory: a resolver and the servers of a world.
 ghost use Rattle.std.specs.Prelude.{◌≡◌, Some, None, IfOk, OnErr, MatchResult, length, option_copied, option_map};
 ghost use Rattle.network.specs.Networks.{NetworkEvent, Carry, CarryTruncated, CarryTcp, Lose, sent_at, Reaches, NetworkStep};
-ghost use Rattle.exchange.specs.Views.{event_view};
+ghost use Rattle.events.specs.Views.{event_view};
 ghost use Rattle.simnet.specs.Beginnings.{IsNetworkOf, SimRefuses};
 ghost use Rattle.simnet.specs.Promises.{StaysRight, StaysRun};
 ghost use Rattle.simnet.specs.Views.{sim_event_view};
@@ -15,7 +15,7 @@ use crate::sent::Sent;
 use crate::show::shown;
 use dname::{Heap, Starved};
 use engine::{Core, Settings};
-use exchange::Event;
+use events::Event;
 use network::network_law;
 use std::alloc::{Allocator, Global};
 use std::marker::Model;
@@ -80,7 +80,7 @@ impl<A: Allocator> Sim<A> {
 
 impl<A: Heap> Sim<A> {
     /// A network of that world before its first event. The first that holds is refused: a setting out of its
-    /// limits (1), want of memory (2).
+    /// limits (1), out of memory (2).
     pub fn new(alloc: A, world: World<A>, settings: Settings) -> Result<Sim<A>, SimError>
         ensures { MatchResult result (IsNetworkOf world settings) (λ e. SimRefuses e settings) }
     {

@@ -1,11 +1,11 @@
 //! A network of three zones and their servers, and what is asked in it.
 use dname::{Heap, Starved};
 use engine::Settings;
-use exchange::Bytes;
+use events::Bytes;
 use rdata::Addr;
-use script::world_in;
 use simnet::Sim;
 use wire::TCP_LIMIT;
+use world_text::world_in;
 use worlds::World;
 
 // The world up to the addresses of a.example., and behind them: the root, example. and a local zone, the servers of the

@@ -1,4 +1,4 @@
-//! The tests of `simnet` and `player`, from outside: by what they make public, and by whole scripts, in which the resolver
+//! The tests of `simnet` and `play`, from outside: by what they make public, and by whole scripts, in which the resolver
 //! serves by index the very query that a walk through all waiting ones serves.
 #![tactic(auto)]
 

@@ -1,4 +1,4 @@
-//! The tests of `player`, from outside: by what it makes public.
+//! The tests of `play`, from outside: by what it makes public.
 mod deep_tests;
 mod growth_tests;
 mod made;

@@ -1,8 +1,8 @@
 //! Questions, and for whom they are asked.
 use dname::{Heap, Name, Starved};
-use exchange::Bytes;
+use events::Bytes;
 use rdata::RType;
-use tally::query_bytes;
+use score::query_bytes;
 
 /// A question, and the client for whom it is asked of servers. What a client itself asks is the first one of its own.
 #[derive(Drop)]

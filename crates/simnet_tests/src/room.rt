@@ -1,6 +1,6 @@
 //! Queries that wait, each looked up by a walk through all of them.
 use dname::{Heap, Starved};
-use exchange::Path;
+use events::Path;
 use rdata::Addr;
 
 // The longest that a query waits, in milliseconds.

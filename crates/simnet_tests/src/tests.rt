@@ -2,9 +2,9 @@
 use crate::fixtures::{LONG, SETTINGS, WWW, end, message_bytes, network, world};
 use dname::{Heap, Starved};
 use engine::Settings;
-use exchange::Path;
+use events::Path;
 use rdata::Addr;
-use refusing::Refusing;
+use refusing_alloc::Refusing;
 use simnet::{Sim, SimAction, SimActions, SimError, SimEvent};
 use std::test::Fail;
 use wire::Via;

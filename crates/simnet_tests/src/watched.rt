@@ -3,7 +3,7 @@ use crate::fixtures::{end, network_of};
 use crate::question::{Question, ask_alike};
 use crate::room::{Ask, Room, Served};
 use dname::{Heap, Starved};
-use exchange::Bytes;
+use events::Bytes;
 use simnet::{Sent, Settings, Sim, SimAction, SimActions, SimEvent};
 use wire::Via;
 
@@ -127,7 +127,7 @@ impl<A: Heap> Watched<A> {
     }
 
     // The client for whom these bytes ask.
-    fn asker(&self, bytes: &[u8]) -> Option<u64> {
+    fn client_query(&self, bytes: &[u8]) -> Option<u64> {
         for question in self.questions.iter() {
             if question.is_asked(bytes) {
                 return Some(question.client);
@@ -139,7 +139,7 @@ impl<A: Heap> Watched<A> {
     // The ask of a number.
     fn ask(&self, number: u64) -> Option<Ask> {
         let sent = self.sent(number)?;
-        let client = self.asker(sent.bytes.as_slice())?;
+        let client = self.client_query(sent.bytes.as_slice())?;
         Some(Ask {
             path: sent.path,
             server: sent.to.address,

@@ -8,7 +8,7 @@ use byteorder::{BigEndian, ByteOrder};
 use std::io::Write;
 
 // How many bytes go out with the first write: what a segment of TCP mostly holds.
-const FIRST: usize = 1_460;
+const FIRST_WRITE_BYTES: usize = 1_460;
 
 /// Writes the bytes as one frame of a stream. Refused with `Write` at a fault of the writer; what was written before it
 /// stands. The length and the first bytes go out in one write (RFC 7766, section 8).
@@ -19,14 +19,14 @@ pub fn write_framed<W: Write>(writer: &mut W, bytes: &[u8]) -> Result<(), FrameE
         (λ _. Appends (W.contents writer.old) (W.contents writer.new) (frame bytes.now))
         (IsNotWritten (W.contents writer.old) (W.contents writer.new) (frame bytes.now)) }
 {
-    let mut first = [0u8; FIRST];
-    let count = begin(&mut first, bytes);
+    let mut first = [0u8; FIRST_WRITE_BYTES];
+    let count = begin_frame(&mut first, bytes);
     put(writer, &first[..2 + count])?;
     put(writer, &bytes[count..])
 }
 
 // Puts the length into `first`, and behind it as many of the bytes as there is room for: their count.
-fn begin(first: &mut [u8], bytes: &[u8]) -> usize
+fn begin_frame(first: &mut [u8], bytes: &[u8]) -> usize
     requires room { 2 ≤ length first.old }
     requires few { length bytes.now < 2 ^ 16 }
     ensures within { 2 + result ≤ length first.new }

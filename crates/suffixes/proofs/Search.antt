@@ -8,7 +8,7 @@ use Rattle.std.proofs.lemmas.List.Elements.{All-get_or}
 use Rattle.std.proofs.Math.Seq.{take-suc, take-length}
 use Rattle.dname.specs.Labels.{same_name, wire}
 use Rattle.dname.specs.Wire.{labels_of, IsWire}
-use Rattle.layout.specs.Packing.{Note, find}
+use Rattle.message_grammar.specs.Packing.{Note, find}
 use Rattle.suffixes.specs.declared.earlier.Noted.{Noted}
 use Rattle.suffixes.specs.Kept.{kept_bytes, note_of, notes_of, IsKept, AreKept, size_at, before_at, IsEnd, AreLinked}
 

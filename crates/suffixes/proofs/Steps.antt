@@ -9,7 +9,7 @@ use Rattle.dname.specs.Labels.{root, wire, AreLabels, IsName}
 use Rattle.dname.specs.Wire.{labels_of, IsWire, IsSplit}
 use Rattle.dname.specs.Laws.{labels_of-wire}
 use Rattle.dname.proofs.Split.{wire_is}
-use Rattle.layout.specs.Packing.{Note, find, noted}
+use Rattle.message_grammar.specs.Packing.{Note, find, noted}
 use Rattle.suffixes.specs.declared.earlier.Found.{Found}
 use Rattle.suffixes.specs.declared.earlier.Noted.{Noted}
 use Rattle.suffixes.specs.Kept.{kept_bytes, note_of, notes_of, IsKept, AreKept}

@@ -2,7 +2,7 @@
 use Rattle.std.specs.Prelude.{◌≡◌, ℕ, ◌+◌, ◌-◌, ◌<◌, ◌≤◌, List, length, take, drop, map, slice_index}
 use Rattle.std.specs.List.{All}
 use Rattle.dname.specs.Wire.{labels_of, IsWire}
-use Rattle.layout.specs.Packing.{Note}
+use Rattle.message_grammar.specs.Packing.{Note}
 use Rattle.suffixes.specs.declared.earlier.Noted.{Noted}
 
 -- The bytes of a suffix among those of the names.

@@ -1,6 +1,6 @@
 -- What is looked for among the notes of a message, and what a name adds to them.
 use Rattle.std.specs.Prelude.{ℕ, zero, suc, ◌+◌, Option, Some, None, List, [], ◌∷◌, length}
-use Rattle.layout.specs.Packing.{Note, find, noted}
+use Rattle.message_grammar.specs.Packing.{Note, find, noted}
 use Rattle.suffixes.specs.declared.earlier.Found.{Found}
 
 -- A suffix that was found for the name behind one more label of this length.

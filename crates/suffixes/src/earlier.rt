@@ -2,7 +2,7 @@
 ghost use Rattle.std.specs.Prelude.{◌≡◌, ◌<◌, ◌≤◌, ◌++◌, [], ◌∷◌, length, drop, IfOk, IfSome, OnOk, OnErr, vec_len, vec_capacity, min, ◌+◌};
 ghost use Rattle.dname.specs.Labels.{wire};
 ghost use Rattle.dname.specs.Wire.{labels_of, IsWire};
-ghost use Rattle.layout.specs.Packing.{find};
+ghost use Rattle.message_grammar.specs.Packing.{find};
 ghost use Rattle.suffixes.specs.Kept.{note_of, notes_of, IsKept, AreKept, AreLinked};
 ghost use Rattle.suffixes.specs.Longest.{longest, first_notes};
 
@@ -53,7 +53,7 @@ pub struct Suffixes<A: Allocator = Global> {
 
 impl<A: Allocator> Model for Suffixes<A> {
     ghost use Rattle.std.specs.Prelude.{List};
-    ghost use Rattle.layout.specs.Packing.{Note};
+    ghost use Rattle.message_grammar.specs.Packing.{Note};
     ghost use Rattle.suffixes.specs.Kept.{notes_of, AreKept, AreLinked};
 
     ghost Value = { List Note };

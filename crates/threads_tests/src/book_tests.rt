@@ -2,7 +2,7 @@ ghost use Rattle.std.specs.Prelude.{◌≡◌, ◌<◌, IfOk};
 
 use book::{Book, Entry, Machine, Ticket};
 use memory::{Heap, Starved};
-use refusing::Refusing;
+use refusing_alloc::Refusing;
 use std::alloc::{Allocator, Global};
 use std::marker::Brand;
 use std::sync::Mutex;

@@ -2,7 +2,6 @@
 ghost use Rattle.std.specs.Prelude.{◌≡◌, ◌<◌, IfOk, length};
 
 use book::{Entry, Machine};
-use crew::{Errands, Meeting, Open, run_all};
 use memory::Starved;
 use pool::{Closed, PoolError};
 use std::alloc::Global;
@@ -13,6 +12,7 @@ use std::sync::ledger::{Blank, Ledger};
 use std::test::Fail;
 use std::thread::Threads;
 use std::time::Clock;
+use workers::{Errands, Meeting, Open, run_all};
 
 // Counts its steps. Each event but 0 calls for one errand: the event that is less by one.
 struct Falling;

@@ -1,4 +1,4 @@
-//! The tests of `book`, `pool`, `crew` and `crowd`, from outside: by what they make public.
+//! The tests of `book`, `pool`, `workers` and `storm`, from outside: by what they make public.
 #![tactic(auto)]
 
 #[cfg(test)]

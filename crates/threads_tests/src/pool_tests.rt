@@ -3,7 +3,7 @@ ghost use Rattle.std.specs.Prelude.{◌≡◌, ◌<◌};
 use book::{Book, Entry, Machine, Ticket};
 use memory::{Heap, Starved};
 use pool::{Closed, Kept, PoolError, Shared, gather, submit};
-use refusing::Refusing;
+use refusing_alloc::Refusing;
 use std::alloc::Global;
 use std::marker::Brand;
 use std::sync::Wait;

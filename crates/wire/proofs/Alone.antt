@@ -3,8 +3,8 @@ use Rattle.std.proofs.Common.{◌≡◌, ℕ, ◌+◌, ◌-◌, ◌<◌, ◌≤�
 use Rattle.std.specs.Prelude.{nat_lt, if◌then◌else◌}
 use Rattle.std.proofs.lemmas.Bool.Decides.{nat_tests}
 use Rattle.dname.specs.Labels.{folded_labels}
-use Rattle.layout.specs.Names.{SpeltAt}
-use Rattle.layout.specs.Messages.{Question, Message, IsMessage}
+use Rattle.message_grammar.specs.Names.{SpeltAt}
+use Rattle.message_grammar.specs.Messages.{Question, Message, IsMessage}
 use Rattle.wire.specs.declared.error.WireError.{WireError}
 use Rattle.wire.specs.declared.error.WireError.TheVariants.{Short}
 use Rattle.wire.specs.Numbers.{two_at}

@@ -4,7 +4,7 @@ use Rattle.std.proofs.Common.{◌≡◌, ℕ, suc, ◌+◌, ◌-◌, ◌*◌, �
 use Rattle.std.specs.Prelude.{if◌then◌else◌, slice_index, slice_range}
 use Rattle.std.specs.Int.{bytes_high_first}
 use Rattle.std.proofs.Math.Seq.{drop-cons}
-use Rattle.layout.specs.Places.{IsAt}
+use Rattle.message_grammar.specs.Places.{IsAt}
 use Rattle.wire.specs.declared.error.WireError.{WireError}
 use Rattle.wire.specs.Numbers.{two_at, four_at}
 use Rattle.wire.specs.Results.{and_then}

@@ -10,9 +10,9 @@ use Rattle.rdata.specs.Data.{Authority, Service, Datum, Ipv4, Ns, Cname, Soa, Pt
 use Rattle.rdata.specs.Types.{type_number}
 use Rattle.rdata.specs.declared.rtype.RType.{RType}
 use Rattle.rdata.specs.declared.rtype.RType.TheVariants as served
-use Rattle.layout.specs.Names.{NameAt, FullAt}
-use Rattle.layout.specs.Places.{IsAt, FlatsAt}
-use Rattle.layout.specs.Messages.{strings_bytes, data_flats, FitsRdata}
+use Rattle.message_grammar.specs.Names.{NameAt, FullAt}
+use Rattle.message_grammar.specs.Places.{IsAt, FlatsAt}
+use Rattle.message_grammar.specs.Messages.{strings_bytes, data_flats, FitsRdata}
 use Rattle.wire.specs.declared.error.WireError.TheVariants.{BadRdataLength}
 use Rattle.wire.specs.Numbers.{two_at, four_at}
 use Rattle.wire.specs.Parts.{rdata_faults, full_name_at}

@@ -2,7 +2,7 @@
 use Rattle.std.proofs.Common.{◌≡◌, ℕ, ◌+◌, ◌-◌, ◌<◌, ◌≤◌, List, Option, Some, None, Result, Ok, Err, refl, sym, ◌∙◌, ap, arith}
 use Rattle.rdata.specs.Records.{Record}
 use Rattle.rdata.specs.declared.rtype.RType.TheVariants as served
-use Rattle.layout.specs.Messages.{Question}
+use Rattle.message_grammar.specs.Messages.{Question}
 use Rattle.wire.specs.declared.error.WireError.{WireError}
 use Rattle.wire.specs.declared.parts.Faults.{Faults}
 use Rattle.wire.specs.Parts.{spelt_before, in_lower_case, name_at, full_name_at}

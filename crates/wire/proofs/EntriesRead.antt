@@ -6,14 +6,14 @@ use Rattle.rdata.specs.Data.{Datum, Ipv4, Ns, Cname, Soa, Ptr, Mx, Txt, Ipv6, Sr
 use Rattle.rdata.specs.Records.{Record}
 use Rattle.rdata.specs.Types.{type_number}
 use Rattle.rdata.specs.declared.rtype.RType.{RType}
-use Rattle.layout.specs.Names.{NameAt}
-use Rattle.layout.specs.Pieces.{Flat, plain_bytes}
-use Rattle.layout.specs.Places.{FlatsAt, PiecesAt}
-use Rattle.layout.specs.Messages.{Question, data_flats, internet, any_record_pieces, served_type, ttl_of, QuestionAt, QuestionsAt, RecordAt, SkippedAt, SectionAt, none_left, kept_first, skipped_first}
+use Rattle.message_grammar.specs.Names.{NameAt}
+use Rattle.message_grammar.specs.Pieces.{Flat, plain_bytes}
+use Rattle.message_grammar.specs.Places.{FlatsAt, PiecesAt}
+use Rattle.message_grammar.specs.Messages.{Question, data_flats, internet, any_record_pieces, served_type, ttl_of, QuestionAt, QuestionsAt, RecordAt, SkippedAt, SectionAt, none_left, kept_first, skipped_first}
 use Rattle.wire.specs.declared.error.WireError.TheVariants.{Short}
 use Rattle.wire.specs.Numbers.{two_at, four_at}
 use Rattle.wire.specs.Parts.{message_faults, name_at}
-use Rattle.layout.proofs.Served.{served_numbers}
+use Rattle.message_grammar.proofs.Served.{served_numbers}
 use Rattle.wire.specs.Values.{value_at}
 use Rattle.wire.specs.Results.{and_then}
 use Rattle.wire.specs.Entries.{kept_value, entry_kept, entry_sized, entry_behind, entry_at, with_kept, section_from, question_behind, question_at, with_question, questions_from}
@@ -231,17 +231,17 @@ section_read bytes at count records end (skipped_first _ _ left mid _ rest more 
 
 -- ---- questions
 
-abbrev IsAsked : List ℕ → ℕ → Question × ℕ → Type 0
-IsAsked bytes at found = QuestionAt bytes at found.0 found.1
+abbrev IsRequest : List ℕ → ℕ → Question × ℕ → Type 0
+IsRequest bytes at found = QuestionAt bytes at found.0 found.1
 
-question_stands : (bytes : List ℕ) (at : ℕ) → AreSmall bytes → IfOk (question_at bytes at) (IsAsked bytes at)
+question_stands : (bytes : List ℕ) (at : ℕ) → AreSmall bytes → IfOk (question_at bytes at) (IsRequest bytes at)
 unfolding question_at
 question_stands bytes at small =
-    then_read (λ x. NameAt bytes at x.0 x.1 × (x.1 ≤ length bytes)) (IsAsked bytes at) (name_at bytes message_faults (length bytes) at) (question_behind bytes)
+    then_read (λ x. NameAt bytes at x.0 x.1 × (x.1 ≤ length bytes)) (IsRequest bytes at) (name_at bytes message_faults (length bytes) at) (question_behind bytes)
     (name_stands bytes message_faults (length bytes) at small (omega arith))
     (λ x h.
     let mid = x.1 in
-    test_read (IsAsked bytes at) (nat_lt (length bytes) (mid + 4)) (Err Short) _ (λ _. tt)
+    test_read (IsRequest bytes at) (nat_lt (length bytes) (mid + 4)) (Err Short) _ (λ _. tt)
     (λ over.
     let fits : mid + 4 ≤ length bytes = grind (arith, nat_tests) in
     record {
@@ -282,7 +282,7 @@ AreAsked bytes at count found = QuestionsAt bytes at found.0 found.1 × (count �
 pub questions_stand : (count : ℕ) (bytes : List ℕ) (at : ℕ) → AreSmall bytes → IfOk (questions_from count bytes at) (AreAsked bytes at count)
 questions_stand zero bytes at small = (refl, refl)
 questions_stand (suc count) bytes at small =
-    then_read (IsAsked bytes at) (AreAsked bytes at (suc count)) (question_at bytes at) (λ q. and_then (questions_from count bytes q.1) (with_question q.0)) (question_stands bytes at small)
+    then_read (IsRequest bytes at) (AreAsked bytes at (suc count)) (question_at bytes at) (λ q. and_then (questions_from count bytes q.1) (with_question q.0)) (question_stands bytes at small)
     (λ found h. then_read (AreAsked bytes found.1 count) (AreAsked bytes at (suc count)) (questions_from count bytes found.1) (with_question found.0)
     (questions_stand count bytes found.1 small) (λ rest k. ((found.1, h, k.0), ap suc k.1)))
 

@@ -4,8 +4,8 @@ use Rattle.std.proofs.lemmas.List.{take_more}
 use Rattle.std.specs.Prelude.{IfSome, MatchOption}
 use Rattle.std.specs.List.{AllByRecursion}
 use Rattle.dname.specs.Labels.{AreLabels, AreSpelled, IsName}
-use Rattle.layout.specs.Messages.{IsSpelling, Message, IsWritable, IsMessage, encoding, folded_message}
-use Rattle.layout.proofs.Whole.{encoding_holds}
+use Rattle.message_grammar.specs.Messages.{IsSpelling, Message, IsWritable, IsMessage, encoding, folded_message}
+use Rattle.message_grammar.proofs.Whole.{encoding_holds}
 
 pub all_both : {X : Type 0} (P : X → Type 0) (xs ys : List X) → AllByRecursion P xs → AllByRecursion P ys → AllByRecursion P (xs ++ ys)
 all_both P [] ys h k = k

@@ -1,8 +1,8 @@
 -- A header that stands at a message's start is the one that is read there.
 use Rattle.std.proofs.Common.{◌≡◌, ℕ, zero, suc, ◌/◌, ◌%◌, ◌<◌, ◌≤◌, Bool, true, false, List, [], ◌∷◌, length, refl, sym, ◌∙◌, ap, arith}
 use Rattle.std.specs.Prelude.{nat_eq, slice_index}
-use Rattle.layout.specs.Places.{IsAt, PiecesAt}
-use Rattle.layout.specs.Messages.{Header, Counts, bit, high_flags, low_flags, IsHeader, AreCounts, header_pieces}
+use Rattle.message_grammar.specs.Places.{IsAt, PiecesAt}
+use Rattle.message_grammar.specs.Messages.{Header, Counts, bit, high_flags, low_flags, IsHeader, AreCounts, header_pieces}
 use Rattle.wire.specs.Numbers.{two_at}
 use Rattle.wire.specs.Heads.{is_set, header_by, header_of}
 use Rattle.wire.proofs.Bytes.{AreSmall, at-along, two_bytes, two_stands, two_small, two_takes}

@@ -6,7 +6,7 @@ use Rattle.rdata.specs.Data.{Datum, type_of}
 use Rattle.rdata.specs.Records.{Record, greatest_ttl}
 use Rattle.rdata.specs.Types.{type_number}
 use Rattle.rdata.specs.declared.rtype.RType.{RType}
-use Rattle.layout.specs.Messages.{served_type, ttl_of}
+use Rattle.message_grammar.specs.Messages.{served_type, ttl_of}
 use Rattle.wire.specs.declared.error.WireError.{WireError}
 use Rattle.wire.specs.declared.error.WireError.TheVariants.{Short}
 use Rattle.wire.specs.Chains.{AreChainEnds}

@@ -3,7 +3,7 @@ use Rattle.std.proofs.Common.{◌≡◌, ℕ, zero, suc, ◌≤◌, true, false,
 use Rattle.std.specs.Prelude.{nat_eq, nat_lt}
 use Rattle.std.proofs.lemmas.Bool.Decides.{nat_tests}
 use Rattle.dname.specs.Spelling.{AreBytes}
-use Rattle.layout.specs.Messages.{Message, QuestionsAt, SectionAt, IsMessage}
+use Rattle.message_grammar.specs.Messages.{Message, QuestionsAt, SectionAt, IsMessage}
 use Rattle.wire.specs.declared.error.WireError.{WireError}
 use Rattle.wire.specs.declared.error.WireError.TheVariants.{Short, BadLabel, PointerNotEarlier, NameTooLong, BadRdataLength, BadRdataName, TrailingBytes, OverLimit, Memory}
 use Rattle.wire.specs.Numbers.{two_at}

@@ -4,9 +4,9 @@ use Rattle.std.specs.Prelude.{nat_eq, nat_lt, nat_le, slice_get, slice_index, sl
 use Rattle.std.proofs.lemmas.Bool.Decides.{nat_tests}
 use Rattle.std.proofs.lemmas.Option.{slice_get-get_or, get_or_from_slice_get, slice_get_within}
 use Rattle.dname.specs.Labels.{wire, folded_label, folded_labels}
-use Rattle.layout.specs.Names.{IsPointerAt, Stands, root_here, label_here, pointer_here, as_written, SpeltAt, NameAt, FullAt}
-use Rattle.layout.proofs.Reading.{folds_to, name_one, spelling_of}
-use Rattle.layout.proofs.Whole.{wire_folded_long, name_takes, name_spelt, spelling_is_name}
+use Rattle.message_grammar.specs.Names.{IsPointerAt, Stands, root_here, label_here, pointer_here, as_written, SpeltAt, NameAt, FullAt}
+use Rattle.message_grammar.proofs.Reading.{folds_to, name_one, spelling_of}
+use Rattle.message_grammar.proofs.Whole.{wire_folded_long, name_takes, name_spelt, spelling_is_name}
 use Rattle.wire.specs.declared.error.WireError.{WireError}
 use Rattle.wire.specs.declared.error.WireError.TheVariants.{Short}
 use Rattle.wire.specs.declared.parts.Part.{Part}

@@ -3,9 +3,9 @@ use Rattle.std.proofs.Common.{◌≡◌, ℕ, ◌<◌, ◌≤◌, inl, inr, List
 use Rattle.std.proofs.lemmas.List.{take-append-drop}
 use Rattle.std.proofs.lemmas.Grind.{flat_map-append}
 use Rattle.std.specs.Prelude.{flat_map, IfSome, MatchOption}
-use Rattle.layout.specs.Pieces.{Piece, Text, after}
-use Rattle.layout.specs.Messages.{Message, IsMessage, IsWritable, encoding, folded_message}
-use Rattle.layout.proofs.Letters.{after-append, pieces_both}
+use Rattle.message_grammar.specs.Pieces.{Piece, Text, after}
+use Rattle.message_grammar.specs.Messages.{Message, IsMessage, IsWritable, encoding, folded_message}
+use Rattle.message_grammar.proofs.Letters.{after-append, pieces_both}
 use Rattle.wire.specs.Puts.{Puts, IsOver}
 use Rattle.wire.proofs.Fitting.{message_some}
 use Rattle.wire.proofs.Writing.{text_given}

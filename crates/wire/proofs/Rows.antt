@@ -5,7 +5,7 @@ use Rattle.std.specs.Option.{option_to_list}
 use Rattle.std.proofs.lemmas.Bool.Decides.{nat_tests}
 use Rattle.std.proofs.lemmas.List.{append-nil}
 use Rattle.rdata.specs.Records.{Record}
-use Rattle.layout.specs.Messages.{Question}
+use Rattle.message_grammar.specs.Messages.{Question}
 use Rattle.wire.specs.declared.error.WireError.{WireError}
 use Rattle.wire.specs.Results.{Fails, and_then}
 use Rattle.wire.specs.Values.{string_at, with_string, strings_from, txt_behind, texts_at}

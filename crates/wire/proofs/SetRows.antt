@@ -3,7 +3,7 @@ use Rattle.std.proofs.Common.{◌≡◌, ℕ, ◌+◌, ◌<◌, List, length, ta
 use Rattle.std.specs.Prelude.{flat_map}
 use Rattle.std.specs.List.{AllByRecursion}
 use Rattle.std.proofs.lemmas.List.{get_or-map, length-map, take-map}
-use Rattle.layout.specs.Pieces.{Piece, Text, after}
+use Rattle.message_grammar.specs.Pieces.{Piece, Text, after}
 use Rattle.wire.proofs.Fitting.{all_more}
 use Rattle.wire.proofs.Writing.{row_on}
 

@@ -6,7 +6,7 @@ use Rattle.dname.specs.Labels.{folded_labels}
 use Rattle.rdata.specs.Data.{Datum}
 use Rattle.rdata.specs.Records.{Record}
 use Rattle.rdata.specs.declared.rtype.RType.{RType}
-use Rattle.layout.specs.Messages.{served_type}
+use Rattle.message_grammar.specs.Messages.{served_type}
 use Rattle.wire.specs.declared.error.WireError.{WireError}
 use Rattle.wire.specs.declared.error.WireError.TheVariants.{Short, BadLabel}
 use Rattle.wire.specs.declared.parts.Part.{Part}

@@ -1,9 +1,9 @@
--- What bytes give is never refused for want of memory: that befalls only the code that reads them.
+-- What bytes give is never refused when out of memory: that befalls only the code that reads them.
 use Rattle.std.proofs.Common.{◌≡◌, ◌≢◌, ℕ, zero, suc, ◌+◌, ◌-◌, ◌*◌, Bool, true, false, List, [], length, Option, Some, None, Result, Ok, Err, IfErr, IsErrAnd, sym, ◌∙◌}
 use Rattle.std.specs.Prelude.{nat_eq, nat_le, nat_lt, if◌then◌else◌, slice_index, slice_range}
 use Rattle.rdata.specs.declared.rtype.RType.{RType}
 use Rattle.rdata.specs.declared.rtype.RType.TheVariants as served
-use Rattle.layout.specs.Messages.{Message, served_type}
+use Rattle.message_grammar.specs.Messages.{Message, served_type}
 use Rattle.rdata.specs.Records.{Record}
 use Rattle.wire.specs.declared.error.WireError.{WireError}
 use Rattle.wire.specs.declared.error.WireError.TheVariants.{Short, BadRdataLength, TrailingBytes, Memory}

@@ -3,7 +3,7 @@ use Rattle.std.proofs.Common.{◌≡◌, ℕ, zero, suc, ◌≤◌, ◌<◌, ◌
 use Rattle.std.specs.Prelude.{nat_lt, if◌then◌else◌}
 use Rattle.std.proofs.lemmas.Bool.Decides.{nat_tests}
 use Rattle.rdata.specs.Records.{Record}
-use Rattle.layout.specs.Messages.{Question, Message}
+use Rattle.message_grammar.specs.Messages.{Question, Message}
 use Rattle.wire.specs.declared.error.WireError.{WireError}
 use Rattle.wire.specs.declared.error.WireError.TheVariants.{Short, TrailingBytes}
 use Rattle.wire.specs.Numbers.{two_at}
@@ -144,22 +144,22 @@ first_name [] = []
 first_name (q ∷ qs) = q.name
 
 module _ (bytes : List ℕ) (answer : ℕ) (one : OneAsked bytes answer) (q : Question) where
-  abbrev IsAsked : ℕ → Type 0
-  IsAsked n = listed (questions_from n bytes 12) ≡ q ∷ []
+  abbrev IsRequest : ℕ → Type 0
+  IsRequest n = listed (questions_from n bytes 12) ≡ q ∷ []
 
-  pub asked_type : (n : ℕ) → n ≡ 1 → IsAsked n → two_at bytes (answer - 4) ≡ q.qtype
+  pub asked_type : (n : ℕ) → n ≡ 1 → IsRequest n → two_at bytes (answer - 4) ≡ q.qtype
   unfolding first_type
   asked_type n e h = ap first_type (sym one.is ∙ (ap (λ k. listed (questions_from k bytes 12)) (sym e) ∙ h))
 
-  pub asked_class : (n : ℕ) → n ≡ 1 → IsAsked n → two_at bytes (answer - 2) ≡ q.qclass
+  pub asked_class : (n : ℕ) → n ≡ 1 → IsRequest n → two_at bytes (answer - 2) ≡ q.qclass
   unfolding first_class
   asked_class n e h = ap first_class (sym one.is ∙ (ap (λ k. listed (questions_from k bytes 12)) (sym e) ∙ h))
 
-  pub asked_name : (n : ℕ) → n ≡ 1 → IsAsked n → labels_in (name_at bytes message_faults (length bytes) 12) ≡ q.name
+  pub asked_name : (n : ℕ) → n ≡ 1 → IsRequest n → labels_in (name_at bytes message_faults (length bytes) 12) ≡ q.name
   unfolding first_name
   asked_name n e h = ap first_name (sym one.is ∙ (ap (λ k. listed (questions_from k bytes 12)) (sym e) ∙ h))
 
-  pub is_asked : (n : ℕ) → n ≡ 1 → labels_in (name_at bytes message_faults (length bytes) 12) ≡ q.name → two_at bytes (answer - 4) ≡ q.qtype → two_at bytes (answer - 2) ≡ q.qclass → IsAsked n
+  pub is_asked : (n : ℕ) → n ≡ 1 → labels_in (name_at bytes message_faults (length bytes) 12) ≡ q.name → two_at bytes (answer - 4) ≡ q.qtype → two_at bytes (answer - 2) ≡ q.qclass → IsRequest n
   is_asked n e name kind class =
       ap (λ k. listed (questions_from k bytes 12)) e ∙ (one.is ∙ (λ i. record { name = name i; qtype = kind i; qclass = class i } ∷ []))
 

@@ -3,7 +3,7 @@ use Rattle.std.proofs.Common.{◌≡◌, ℕ, ◌≤◌, true, false, List, leng
 use Rattle.std.specs.Prelude.{nat_lt, nat_eq, if◌then◌else◌}
 use Rattle.std.proofs.lemmas.Bool.Decides.{nat_tests}
 use Rattle.rdata.specs.Records.{Record}
-use Rattle.layout.specs.Messages.{Header, Question}
+use Rattle.message_grammar.specs.Messages.{Header, Question}
 use Rattle.wire.specs.declared.error.WireError.{WireError}
 use Rattle.wire.specs.declared.error.WireError.TheVariants.{Short, TrailingBytes}
 use Rattle.wire.specs.Numbers.{two_at}

@@ -6,18 +6,18 @@ use Rattle.std.specs.Int.{bytes_high_first}
 use Rattle.std.specs.Option.{ok_or}
 use Rattle.std.specs.Prelude.{OnOk, IfOk, IfErr, IfSome, MatchOption, flat_map}
 use Rattle.std.proofs.lemmas.Grind.{flat_map-append}
-use Rattle.layout.specs.Messages.{strings_bytes, string_bytes_of}
-use Rattle.layout.proofs.Letters.{after-append, flats_both, headed, questioned, encoding_parts}
+use Rattle.message_grammar.specs.Messages.{strings_bytes, string_bytes_of}
+use Rattle.message_grammar.proofs.Letters.{after-append, flats_both, headed, questioned, encoding_parts}
 use Rattle.rdata.specs.Records.{Record}
 use Rattle.wire.specs.Drafts.{asked_alone, drafted}
-use Rattle.layout.specs.Pieces.{flat_piece, short_number, long_number}
-use Rattle.layout.specs.Messages.{Header, Question, high_flags, low_flags, Message, IsMessage, folded_message, header_pieces, question_pieces, record_pieces, encoding}
+use Rattle.message_grammar.specs.Pieces.{flat_piece, short_number, long_number}
+use Rattle.message_grammar.specs.Messages.{Header, Question, high_flags, low_flags, Message, IsMessage, folded_message, header_pieces, question_pieces, record_pieces, encoding}
 use Rattle.wire.specs.declared.error.WireError.{WireError}
 use Rattle.wire.specs.declared.error.WireError.TheVariants.{OverLimit}
 use Rattle.wire.specs.Drafts.{RefusesText}
 use Rattle.dname.specs.Labels.{wire, folded_label, folded_labels, AreLabels, AreFolded, IsName}
-use Rattle.layout.specs.Packing.{Note, find, pointer, pointer_or, packed, noted, notes_or, packed_notes, full_notes}
-use Rattle.layout.specs.Pieces.{Flat, plain_bytes, packed_name, asked_name, full_name, Text, place_of, Piece, put_flat, put_flats, group_of, put, after, empty, sized_group}
+use Rattle.message_grammar.specs.Packing.{Note, find, pointer, pointer_or, packed, noted, notes_or, packed_notes, full_notes}
+use Rattle.message_grammar.specs.Pieces.{Flat, plain_bytes, packed_name, asked_name, full_name, Text, place_of, Piece, put_flat, put_flats, group_of, put, after, empty, sized_group}
 use Rattle.suffixes.specs.declared.earlier.Found.{Found}
 use Rattle.suffixes.specs.Longest.{one_more, here_or, longest, first_notes}
 

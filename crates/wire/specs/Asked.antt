@@ -1,7 +1,7 @@
 -- The one question of a message, read alone.
 use Rattle.std.specs.Prelude.{◌≡◌, ◌⊎◌, ℕ, Ok, List, [], ◌∷◌, length}
-use Rattle.layout.specs.Names.{SpeltAt}
-use Rattle.layout.specs.Messages.{Question, Message, IsMessage}
+use Rattle.message_grammar.specs.Names.{SpeltAt}
+use Rattle.message_grammar.specs.Messages.{Question, Message, IsMessage}
 use Rattle.wire.specs.Entries.{message_first, message_of}
 
 -- From a place on stand the sections of a message, whatever its questions before that place are.

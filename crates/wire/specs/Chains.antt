@@ -1,6 +1,6 @@
 -- Pointers that lead to pointers (RFC 1035, section 4.1.4).
 use Rattle.std.specs.Prelude.{◌≡◌, ℕ, ◌<◌, nat_lt, if◌then◌else◌, List, length, slice_index}
-use Rattle.layout.specs.Names.{IsPointerAt}
+use Rattle.message_grammar.specs.Names.{IsPointerAt}
 
 -- A pointer stands there that leads to an earlier place.
 pub record LeadsBack (bytes : List ℕ) (at target : ℕ) : Type 0 where

@@ -1,12 +1,12 @@
 -- What an encoder answers, and a reply's message as the parts that it is written from.
 use Rattle.std.specs.Prelude.{ℕ, ◌<◌, Option, Some, None, List, [], ◌∷◌, ◌++◌, length}
 use Rattle.rdata.specs.Records.{Record}
-use Rattle.layout.specs.Messages.{Header, Question, Message, Counts}
+use Rattle.message_grammar.specs.Messages.{Header, Question, Message, Counts}
 use Rattle.wire.specs.declared.error.WireError.{WireError}
 use Rattle.wire.specs.declared.error.WireError.TheVariants.{OverLimit, Memory}
 use Rattle.wire.specs.declared.writer.Tally.{Tally}
 
--- A refusal of an encoder: the text is longer than the limit; want of memory can come at any time.
+-- A refusal of an encoder: the text is longer than the limit; running out of memory can come at any time.
 abbrev pub RefusesText : WireError → List ℕ → ℕ → Type 0
 RefusesText OverLimit text limit = limit < length text
 RefusesText Memory text limit = Unit {0}

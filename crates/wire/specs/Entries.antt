@@ -3,7 +3,7 @@ use Rattle.std.specs.Prelude.{ℕ, zero, suc, ◌+◌, nat_eq, nat_lt, if◌then
 use Rattle.rdata.specs.Data.{Datum}
 use Rattle.rdata.specs.Records.{Record}
 use Rattle.rdata.specs.declared.rtype.RType.{RType}
-use Rattle.layout.specs.Messages.{Question, Message, served_type, ttl_of}
+use Rattle.message_grammar.specs.Messages.{Question, Message, served_type, ttl_of}
 use Rattle.wire.specs.declared.error.WireError.{WireError}
 use Rattle.wire.specs.declared.error.WireError.TheVariants.{Short, TrailingBytes}
 use Rattle.wire.specs.Numbers.{two_at, four_at}

@@ -1,7 +1,7 @@
 -- The laws about reading that the functions of this crate state.
 use Rattle.std.specs.Prelude.{◌≡◌, ℕ, ◌≤◌, Ok, List, length}
 use Rattle.dname.specs.Spelling.{AreBytes}
-use Rattle.layout.specs.Messages.{Message, IsWritable, IsMessage, encoding, folded_message}
+use Rattle.message_grammar.specs.Messages.{Message, IsWritable, IsMessage, encoding, folded_message}
 use Rattle.wire.specs.Entries.{message_of}
 
 -- A message that is read is what the bytes are.

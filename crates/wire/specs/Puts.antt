@@ -1,6 +1,6 @@
 -- Pieces put behind a text until it is longer than a limit.
 use Rattle.std.specs.Prelude.{◌≡◌, ◌⊎◌, ℕ, ◌<◌, List, length}
-use Rattle.layout.specs.Pieces.{Piece, Text, after}
+use Rattle.message_grammar.specs.Pieces.{Piece, Text, after}
 
 -- The text is longer than the limit, and with all of these pieces behind the old one it would be so too.
 pub record IsOver (limit : ℕ) (pieces : List Piece) (old new : Text) : Type 0 where

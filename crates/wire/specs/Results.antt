@@ -3,7 +3,7 @@ use Rattle.std.specs.Prelude.{◌≡◌, ℕ, Result, Ok, Err}
 use Rattle.wire.specs.declared.error.WireError.{WireError}
 use Rattle.wire.specs.declared.error.WireError.TheVariants.{Short, BadLabel, PointerNotEarlier, NameTooLong, BadRdataLength, BadRdataName, TrailingBytes, OverLimit, Memory}
 
--- The refusal stands there; want of memory can come at any time.
+-- The refusal stands there; running out of memory can come at any time.
 abbrev pub Fails : {X : Type 0} → WireError → Result X WireError → Type 0
 Fails Memory read = Unit {0}
 Fails Short read = read ≡ Err Short

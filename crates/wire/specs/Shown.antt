@@ -4,7 +4,7 @@ use Rattle.std.specs.List.{flat_map}
 use Rattle.dname.specs.Text.{name_text}
 use Rattle.rdata.specs.Records.{Record}
 use Rattle.rdata.specs.Text.{record_text}
-use Rattle.layout.specs.Messages.{Header, Question, Message}
+use Rattle.message_grammar.specs.Messages.{Header, Question, Message}
 
 -- A word behind a space, where its flag is set.
 unfoldable pub flag_text : Bool → List ℕ → List ℕ

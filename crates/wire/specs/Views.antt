@@ -4,7 +4,7 @@ use Rattle.rdata.specs.Data.{Datum, Ipv4, type_of}
 use Rattle.rdata.specs.Records.{Record, greatest_ttl}
 use Rattle.rdata.specs.Types.{type_number}
 use Rattle.rdata.specs.declared.rtype.RType.{RType}
-use Rattle.layout.specs.Messages.{Message}
+use Rattle.message_grammar.specs.Messages.{Message}
 use Rattle.wire.specs.declared.error.WireError.{WireError}
 use Rattle.wire.specs.Chains.{AreChainEnds}
 use Rattle.wire.specs.Numbers.{two_at}

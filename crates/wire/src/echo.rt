@@ -15,7 +15,7 @@ pub struct Echo<A: Allocator = Global> {
 }
 
 impl<A: Allocator> Model for Echo<A> {
-    ghost use Rattle.layout.specs.Messages.{Question};
+    ghost use Rattle.message_grammar.specs.Messages.{Question};
 
     ghost Value = { Question };
 

@@ -3,8 +3,8 @@ ghost use Rattle.std.specs.Prelude.{◌≡◌, ◌≤◌, ◌<◌, ◌+◌, ◌%
 ghost use Rattle.std.specs.List.{AllByRecursion};
 ghost use Rattle.std.specs.Option.{option_copied};
 ghost use Rattle.rdata.specs.Rows.{in_set};
-ghost use Rattle.layout.specs.Pieces.{after};
-ghost use Rattle.layout.specs.Messages.{encoding, question_pieces, record_pieces, IsQuestion, IsRecord, IsMessage, folded_message};
+ghost use Rattle.message_grammar.specs.Pieces.{after};
+ghost use Rattle.message_grammar.specs.Messages.{encoding, question_pieces, record_pieces, IsQuestion, IsRecord, IsMessage, folded_message};
 ghost use Rattle.wire.specs.Drafts.{RefusesText, asked_alone};
 ghost use Rattle.wire.specs.Puts.{Puts};
 
@@ -41,7 +41,7 @@ pub struct Draft<'a, A: Allocator = Global> {
 impl<'a, A: Allocator> Model for Draft<'a, A> {
     ghost use Rattle.std.specs.Option.{option_copied};
     ghost use Rattle.rdata.specs.Rows.{in_set};
-    ghost use Rattle.layout.specs.Messages.{Message};
+    ghost use Rattle.message_grammar.specs.Messages.{Message};
     ghost use Rattle.wire.specs.Drafts.{drafted};
 
     ghost Value = { Message };
@@ -135,7 +135,7 @@ impl<A: Heap> Draft<'_, A> {
         ensures bytes { IfOk result (λ o. MatchOption o (limit < length (encoding self.now)) (λ v. (v.items ≡ encoding self.now) × (length v.items ≤ limit))) }
         ensures message { IfOk result (λ o. IfSome o (λ v. IsMessage v.items (folded_message self.now))) }
     {
-        writer.begin()?;
+        writer.begin_message()?;
         writer.put_header(
             self.header,
             Tally {

@@ -1,8 +1,9 @@
 //! The header (RFC 1035, section 4.1.1).
-ghost use Rattle.std.specs.Prelude.{◌≡◌, ◌≤◌, length};
-ghost use Rattle.wire.specs.Heads.{header_of};
+ghost use Rattle.std.specs.Prelude.{◌≡◌, ◌≤◌, ◌<◌, length};
+ghost use Rattle.wire.specs.Heads.{header_of, blank_query, blank_reply};
 
 use crate::fields::two_at;
+use crate::rcode;
 use std::marker::Model;
 
 /// A message's header without the counts (RFC 1035, section 4.1.1). Opcode and RCODE are at most 15, Z is at
@@ -25,13 +26,13 @@ pub struct Header {
     pub ra: bool,
     /// Z: three bits that are reserved: 0 in every query and reply.
     pub z: u8,
-    /// RCODE: 0 no error, 1 FORMERR, 2 SERVFAIL, 3 NXDOMAIN, 4 NOTIMP, 5 REFUSED.
+    /// RCODE: one of `rcode`, or a number of a later RFC.
     pub rcode: u8,
 }
 
 impl Model for Header {
     ghost use Rattle.std.specs.Prelude.{◌<◌};
-    ghost use Rattle.layout.specs.Messages.{Header};
+    ghost use Rattle.message_grammar.specs.Messages.{Header};
 
     ghost Value = { Header };
 
@@ -43,6 +44,35 @@ impl Model for Header {
 }
 
 impl Header {
+    /// The header of a standard query under this ID, with RD or without: no other flag is set.
+    pub fn query(id: u16, rd: bool) -> Header
+        ensures { result ≡ blank_query id rd }
+    {
+        Header {
+            id,
+            qr: false,
+            opcode: 0,
+            aa: false,
+            tc: false,
+            rd,
+            ra: false,
+            z: 0,
+            rcode: rcode::NO_ERROR,
+        }
+    }
+
+    /// The header of a reply to a message of this ID, opcode (at most 15) and RD: QR is set, and no other flag.
+    pub fn reply(id: u16, opcode: u8, rd: bool) -> Header
+        requires { opcode < 16 }
+        ensures { result ≡ blank_reply id opcode rd }
+    {
+        Header {
+            qr: true,
+            opcode,
+            ..Header::query(id, rd)
+        }
+    }
+
     // The header that the first bytes of a message hold.
     pub(crate) fn read(bytes: &[u8]) -> Header
         requires { 12 ≤ length bytes.now }

@@ -8,9 +8,9 @@
 //! `Via::limit` is what a datagram or a stream allows.
 //!
 //! Promised: what is read is the message that the bytes are, and every message is read (`decoding_is_message`, over
-//! `layout`'s `IsMessage`), else the first fault from the left is answered (`WireError`); what is written is
+//! `message_grammar`'s `IsMessage`), else the first fault from the left is answered (`WireError`); what is written is
 //! `encoding`, and read back (`encoding_is_read_back`). A `View` is the message that `decode` reads.
-//! Not here: what a message means (`front`, `exchange`, `classify`); EDNS (RFC 6891).
+//! Not here: what a message means (`front`, `events`, `classify`); EDNS (RFC 6891).
 //!
 //! ```text
 //! let message = decode(alloc, bytes)?;
@@ -30,6 +30,7 @@ mod lent;
 mod message;
 mod names;
 mod parts;
+pub mod rcode;
 mod reader;
 mod records;
 mod served;

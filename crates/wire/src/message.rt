@@ -19,7 +19,7 @@ pub struct Question<A: Allocator = Global> {
 }
 
 impl<A: Allocator> Model for Question<A> {
-    ghost use Rattle.layout.specs.Messages.{Question};
+    ghost use Rattle.message_grammar.specs.Messages.{Question};
 
     ghost Value = { Question };
 
@@ -34,7 +34,7 @@ pub struct Questions<A: Allocator = Global> {
 
 impl<A: Allocator> Model for Questions<A> {
     ghost use Rattle.std.specs.Prelude.{List};
-    ghost use Rattle.layout.specs.Messages.{Question};
+    ghost use Rattle.message_grammar.specs.Messages.{Question};
 
     ghost Value = { List Question };
 
@@ -93,14 +93,14 @@ pub struct Message<A: Allocator = Global> {
     pub questions: Questions<A>,
     /// The answer section: records that answer the question, the CNAME chain first (RFC 1034, section 4.3.1).
     pub answer: Records<A>,
-    /// The authority section: a zone's NS records at a referral, or the SOA record of a denial.
+    /// The authority section: a zone's NS records at a referral, or the SOA record of a negative answer.
     pub authority: Records<A>,
     /// The additional section: such as the addresses of name servers.
     pub additional: Records<A>,
 }
 
 impl<A: Allocator> Model for Message<A> {
-    ghost use Rattle.layout.specs.Messages.{Message};
+    ghost use Rattle.message_grammar.specs.Messages.{Message};
 
     ghost Value = { Message };
 

@@ -1,7 +1,7 @@
 //! Bytes read as a message.
 ghost use Rattle.std.specs.Prelude.{◌≡◌, ◌≢◌, ◌≤◌, ◌⊎◌, List, length, IfOk, IfErr, IfNone, IsOk, MatchOption};
-ghost use Rattle.layout.specs.Messages as layouts;
-ghost use Rattle.layout.specs.Messages.{IsMessage};
+ghost use Rattle.message_grammar.specs.Messages as layouts;
+ghost use Rattle.message_grammar.specs.Messages.{IsMessage};
 ghost use Rattle.wire.specs.declared.error.WireError.TheVariants.{Memory};
 ghost use Rattle.wire.specs.Chains.{AreChainEnds};
 ghost use Rattle.wire.specs.Numbers.{two_at};

@@ -1,8 +1,8 @@
 //! Records and questions read; those that are not served are stepped over.
 ghost use Rattle.std.specs.Prelude.{◌≡◌, ℕ, ◌≤◌, ◌+◌, List, Option, option_to_list, ◌++◌, OnOk, IsOk, IsTrue, Ok, None};
 ghost use Rattle.rdata.specs.Records as plain;
-ghost use Rattle.layout.specs.Messages as layouts;
-ghost use Rattle.layout.specs.Messages.{ttl_of};
+ghost use Rattle.message_grammar.specs.Messages as layouts;
+ghost use Rattle.message_grammar.specs.Messages.{ttl_of};
 ghost use Rattle.wire.specs.Chains.{AreChainEnds};
 ghost use Rattle.wire.specs.Entries.{entry_at, section_from, question_at, questions_from};
 ghost use Rattle.wire.specs.Results.{Gives};

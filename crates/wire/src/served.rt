@@ -1,6 +1,6 @@
 //! Which records are kept: of a served type, in class IN.
 ghost use Rattle.std.specs.Prelude.{◌≡◌};
-ghost use Rattle.layout.specs.Messages.{served_type};
+ghost use Rattle.message_grammar.specs.Messages.{served_type};
 
 use rdata::{INTERNET, RType};
 

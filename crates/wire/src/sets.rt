@@ -3,7 +3,7 @@ ghost use Rattle.std.specs.Prelude.{◌≤◌, OnOk, flat_map};
 ghost use Rattle.std.specs.List.{AllByRecursion};
 ghost use Rattle.rdata.specs.Records.{greatest_ttl};
 ghost use Rattle.rdata.specs.Rows.{rows};
-ghost use Rattle.layout.specs.Messages.{record_pieces, IsRecord};
+ghost use Rattle.message_grammar.specs.Messages.{record_pieces, IsRecord};
 ghost use Rattle.wire.specs.Puts.{Puts};
 
 use crate::writer::Writer;

@@ -2,7 +2,7 @@
 ghost use Rattle.std.specs.Prelude.{◌≡◌, ◌≤◌, IfOk, length};
 ghost use Rattle.dname.specs.Labels.{wire, folded_labels};
 ghost use Rattle.dname.specs.Wire.{labels_of, IsSpellingWire};
-ghost use Rattle.layout.specs.Messages.{IsSpelling};
+ghost use Rattle.message_grammar.specs.Messages.{IsSpelling};
 
 use dname::{Heap, Name, Starved};
 use std::alloc::{Allocator, Global};

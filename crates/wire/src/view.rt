@@ -1,7 +1,7 @@
 //! A message seen in its bytes.
 ghost use Rattle.std.specs.Prelude.{◌≡◌, ◌≢◌, ◌≤◌, ◌⊎◌, [], ◌∷◌, ◌↔◌, length, IfOk, IfErr, IsTrue};
-ghost use Rattle.layout.specs.Messages as layouts;
-ghost use Rattle.layout.specs.Messages.{IsMessage};
+ghost use Rattle.message_grammar.specs.Messages as layouts;
+ghost use Rattle.message_grammar.specs.Messages.{IsMessage};
 ghost use Rattle.wire.specs.declared.error.WireError.TheVariants.{Memory};
 ghost use Rattle.wire.specs.declared.via.TheConstants.{UDP_LIMIT};
 ghost use Rattle.wire.specs.Entries.{message_of};
@@ -31,7 +31,7 @@ pub struct View<'a, A: Allocator = Global> {
 }
 
 impl<'a, A: Allocator> Model for View<'a, A> {
-    ghost use Rattle.layout.specs.Messages.{Message};
+    ghost use Rattle.message_grammar.specs.Messages.{Message};
     ghost use Rattle.wire.specs.Views.{viewed, IsViewed};
 
     ghost Value = { Message };

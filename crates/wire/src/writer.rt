@@ -7,9 +7,9 @@ ghost use Rattle.rdata.specs.Data as plain;
 ghost use Rattle.rdata.specs.Kept.{datum};
 ghost use Rattle.rdata.specs.Records.{greatest_ttl};
 ghost use Rattle.rdata.specs.Rows.{row};
-ghost use Rattle.layout.specs.Pieces.{put_flat, put_flats, put, after, empty, plain_bytes, short_number, long_number, packed_name, asked_name, full_name, sized_group};
-ghost use Rattle.layout.specs.Packing.{pointer};
-ghost use Rattle.layout.specs.Messages.{data_flats, record_pieces, question_pieces, header_pieces, strings_bytes, FitsRdata, AreNamesOf, IsSpelling, IsHeader, IsQuestion, IsRecord};
+ghost use Rattle.message_grammar.specs.Pieces.{put_flat, put_flats, put, after, empty, plain_bytes, short_number, long_number, packed_name, asked_name, full_name, sized_group};
+ghost use Rattle.message_grammar.specs.Packing.{pointer};
+ghost use Rattle.message_grammar.specs.Messages.{data_flats, record_pieces, question_pieces, header_pieces, strings_bytes, FitsRdata, AreNamesOf, IsSpelling, IsHeader, IsQuestion, IsRecord};
 ghost use Rattle.wire.specs.Drafts.{counts_by};
 ghost use Rattle.wire.specs.Puts.{Puts};
 
@@ -49,7 +49,7 @@ pub struct Writer<A: Allocator = Global> {
 }
 
 impl<A: Allocator> Model for Writer<A> {
-    ghost use Rattle.layout.specs.Pieces.{Text};
+    ghost use Rattle.message_grammar.specs.Pieces.{Text};
 
     ghost Value = { Text };
 
@@ -253,7 +253,7 @@ impl<A: Heap> Writer<A> {
     }
 
     // A record of these parts.
-    #[tactic(auto, unfolding(layout::specs::Pieces::put))]
+    #[tactic(auto, unfolding(message_grammar::specs::Pieces::put))]
     pub(crate) fn put_row(
         &mut self,
         owner: &Name<A>,
@@ -297,7 +297,7 @@ impl<A: Heap> Writer<A> {
         Ok(())
     }
 
-    #[tactic(auto, using(crate::proofs::Fitting::spelling_of_name), unfolding(layout::specs::Pieces::put))]
+    #[tactic(auto, using(crate::proofs::Fitting::spelling_of_name), unfolding(message_grammar::specs::Pieces::put))]
     fn put_question(&mut self, question: &Question<A>) -> Result<(), Starved>
         ensures written { OnOk result (self.new ≡ after self.old (question_pieces question.now)) }
         ensures fits { OnOk result (IsQuestion question.now) }
@@ -317,7 +317,7 @@ impl<A: Heap> Writer<A> {
         Ok(())
     }
 
-    #[tactic(auto, unfolding(layout::specs::Pieces::put))]
+    #[tactic(auto, unfolding(message_grammar::specs::Pieces::put))]
     // A question in its own letters.
     pub(crate) fn put_echo(&mut self, echo: &Echo<A>) -> Result<(), Starved>
         ensures written { OnOk result (self.new ≡ after self.old (question_pieces echo.now)) }
@@ -327,7 +327,7 @@ impl<A: Heap> Writer<A> {
         self.put_type_and_class(echo.qtype, echo.qclass)
     }
 
-    #[tactic(auto, unfolding(layout::specs::Pieces::put))]
+    #[tactic(auto, unfolding(message_grammar::specs::Pieces::put))]
     // A header with its counts.
     pub(crate) fn put_header(&mut self, header: Header, counts: Tally) -> Result<(), Starved>
         ensures written { OnOk result (self.new ≡ after self.old (header_pieces header (counts_by counts))) }
@@ -348,7 +348,7 @@ impl<A: Heap> Writer<A> {
     }
 
     // Begins another message.
-    pub(crate) fn begin(&mut self) -> Result<(), Starved>
+    pub(crate) fn begin_message(&mut self) -> Result<(), Starved>
         ensures { OnOk result (self.new ≡ empty) }
     {
         self.names.clear();

@@ -16,7 +16,7 @@ pub record No (b : Bool) (P : Type 0) : Type 0 where
   pub so : b ≡ false → P
   pub test : P → b ≡ false
 
--- Each is the other's denial.
+-- Each is the other's negative answer.
 no_of : (b : Bool) → (b ≡ true → ⊥) → b ≡ false
 no_of true h = absurd (h refl)
 no_of false h = refl
@@ -45,7 +45,7 @@ no_not {b} d = record { so = λ h. d.so (not_false b h); test = λ p. ap not (d.
 pub yes_not : {b : Bool} {P : Type 0} → No b P → Yes (not b) P
 yes_not {b} d = record { so = λ h. d.so (not_true b h); test = λ p. ap not (d.test p) }
 
--- The denial of a fact that is tested.
+-- The negative answer of a fact that is tested.
 pub yes_un : {b : Bool} {P : Type 0} → Yes b P → Yes (not b) (P → ⊥)
 yes_un {b} d = record { so = λ h p. fails d (not_true b h) p; test = λ p. ap not (no_of b (λ h. p (d.so h))) }
 

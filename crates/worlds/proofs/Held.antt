@@ -5,8 +5,8 @@ use Rattle.std.specs.Prelude.{Contains, filter}
 use Rattle.std.proofs.lemmas.List.Elements.{filter_more}
 use Rattle.zone.specs.Zones.{Zone}
 use Rattle.zone.proofs.LawLists.{filter_of, filter_in}
-use Rattle.truth.specs.Frames.{AreHeld}
-use Rattle.truth.specs.Worlds.{World, HaveOwnOrigins}
+use Rattle.world_truth.specs.Frames.{AreHeld}
+use Rattle.world_truth.specs.Worlds.{World, HaveOwnOrigins}
 use Rattle.worlds.specs.Rules.{has_name}
 use Rattle.worlds.proofs.Worlds.{yes_name}
 

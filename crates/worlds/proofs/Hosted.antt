@@ -4,7 +4,7 @@ use Rattle.std.specs.Prelude.{Contains, IfSome, true, map, option_map}
 use Rattle.dname.specs.Labels.{Name}
 use Rattle.rdata.specs.Records.{Record}
 use Rattle.rdata.specs.Types.{type_number}
-use Rattle.layout.specs.Messages.{Question, Message, folded_question, folded_message}
+use Rattle.message_grammar.specs.Messages.{Question, Message, folded_question, folded_message}
 use Rattle.zone.specs.Zones.{Zone}
 use Rattle.zone.specs.Links.{Link, Found, Alias, NoData, NxDomain, IsFrom, IsLink, Says}
 use Rattle.zone.specs.Look.{Local, Linked, Cut, NotHere}
@@ -12,15 +12,15 @@ use Rattle.zone.specs.Referrals.{IsReferral, IsGlue}
 use Rattle.zone.specs.Same.{Same}
 use Rattle.zone.proofs.LawLists.{none_in, first_in, later_in, in_cases, filter_of, filter_in}
 use Rattle.authority.specs.Catalogs.{IsInCharge, IsLooked, AreZones}
-use Rattle.truth.specs.Worlds.{Address, World, Serves, IsWorld}
-use Rattle.truth.specs.Serving.{AnswersFrom, IsServersAddress, Refers, Gives, Tells, MayServe}
-use Rattle.truth.proofs.Sames.{has_itself, link_itself}
-use Rattle.front.specs.Chains.{Leads, IsEndAt, IsEndOf, target_of}
+use Rattle.world_truth.specs.Worlds.{Address, World, Serves, IsWorld}
+use Rattle.world_truth.specs.Serving.{AnswersFrom, IsServersAddress, Refers, Gives, Tells, MayServe}
+use Rattle.world_truth.proofs.Sames.{has_itself, link_itself}
+use Rattle.front.specs.Chains.{AliasesLead, IsEndAt, IsEndOf, alias_target}
 use Rattle.front.specs.Replies.{end_rcode, found_in}
 use Rattle.front.specs.Laws.{OneReading, IsEchoed, EchoIsQuestion}
-use Rattle.front.specs.Queries.{IsAsked}
-use Rattle.front.specs.declared.queries.Asked.TheVariants as asked
-use Rattle.front.specs.declared.queries.Query.{Query as Asking}
+use Rattle.front.specs.Queries.{IsRequest}
+use Rattle.front.specs.declared.queries.Request.TheVariants as asked
+use Rattle.front.specs.declared.queries.Query.{Query}
 use Rattle.front.specs.declared.queries.End.{End}
 use Rattle.front.specs.declared.queries.End.TheVariants as end
 use Rattle.worlds.specs.Hosting.{served, says, IsFollowed, referral_to, answer_to, IsReplyBy, IsReplyFrom, IsHostReply, IsServed, IsHonestReply}
@@ -81,7 +81,7 @@ found_owner W a t q set w e r n =
 glue_served : (W : World) (a : Address) (z : Zone) (c : Name) (r : Record) → Contains W.zones z → Serves W a z.origin → IsGlue z c r → IsServersAddress W a z c r
 glue_served W a z c r m s (stands, kind, target) = (kind, target, (z, m, s, has_itself z.records r stands))
 
-refers : {A : Type 0} (W : World) (a : Address) (t : ℕ) (q : Asking A) (c : Name) (ns glue : List Record) → IsWorld W → says W a t q.name ≡ Cut c ns glue → Tells W a q.name t (referral_to q ns glue)
+refers : {A : Type 0} (W : World) (a : Address) (t : ℕ) (q : Query A) (c : Name) (ns glue : List Record) → IsWorld W → says W a t q.name ≡ Cut c ns glue → Tells W a q.name t (referral_to q ns glue)
 refers W a t q c ns glue w e =
     let m = zone_cut W a t q.name c ns glue (spoken W a t q.name (Cut c ns glue) w e) in
     let from : AnswersFrom W a q.name m.0 = answers_from W a q.name m.0 m.1 in
@@ -103,7 +103,7 @@ refers W a t q c ns glue w e =
     )
 
 -- A link that is no alias.
-ended : {A : Type 0} (z : Zone) (t : ℕ) (q : Asking A) (l : Link) (e : End A) → IsLink z q.name t l → IsEndOf l e → Gives z q.name t (answer_to q [] e) l
+ended : {A : Type 0} (z : Zone) (t : ℕ) (q : Query A) (l : Link) (e : End A) → IsLink z q.name t l → IsEndOf l e → Gives z q.name t (answer_to q [] e) l
 ended z t q (Found set) e k is = subst (λ x. Gives z q.name t (answer_to q [] x) (Found set)) (sym is) (refl, refl, (λ r m owner. m, λ r m. (m, says_found z k.says.0 q.name t set k.says.2 r m)), (Found set, k, link_itself (Found set)))
 ended z t q (Alias r) e k is = absurd is
 ended z t q (NoData soa) e k is = subst (λ x. Gives z q.name t (answer_to q [] x) (NoData soa)) (sym is) (refl, refl, refl, refl, (NoData soa, k, link_itself (NoData soa)))
@@ -117,9 +117,9 @@ in_append (y ∷ xs) ys x m = ⊎_elim
     (λ n. ⊎_elim (λ k. inl (later_in y x xs k)) (λ k. inr k) (in_append xs ys x n))
     (in_cases y x (xs ++ ys) m)
 
-in_chain : (look : Name → Local) (from to : Name) (rs : List Record) (s : Record) → Leads look from rs to → Contains rs s → (n : Name) × (look n ≡ Linked (Alias s))
+in_chain : (look : Name → Local) (from to : Name) (rs : List Record) (s : Record) → AliasesLead look from rs to → Contains rs s → (n : Name) × (look n ≡ Linked (Alias s))
 in_chain look from to [] s leads m = absurd (none_in s m)
-in_chain look from to (r ∷ rs) s (e, leads) m = ⊎_elim (λ p. (from, e ∙ ap (λ x. Linked (Alias x)) p)) (λ n. in_chain look (target_of r) to rs s leads n) (in_cases r s rs m)
+in_chain look from to (r ∷ rs) s (e, leads) m = ⊎_elim (λ p. (from, e ∙ ap (λ x. Linked (Alias x)) p)) (λ n. in_chain look (alias_target r) to rs s leads n) (in_cases r s rs m)
 
 end_found : {A : Type 0} (l : Local) (e : End A) (r : Record) → IsEndAt l e → Contains (found_in e) r → (set : List Record) × (l ≡ Linked (Found set)) × Contains set r
 end_found (Linked (Found set)) e r is m = (set, refl, subst (λ x. Contains (found_in x) r) is m)
@@ -141,7 +141,7 @@ two_rcodes (end.NoData soa) = inl refl
 two_rcodes (end.NxDomain soa) = inr refl
 two_rcodes end.Outside = inl refl
 
-module _ {A : Type 0} (W : World) (a : Address) (t : ℕ) (q : Asking A) (w : IsWorld W) where
+module _ {A : Type 0} (W : World) (a : Address) (t : ℕ) (q : Query A) (w : IsWorld W) where
   alias_again : (r s : Record) (n : Name) → says W a t q.name ≡ Linked (Alias r) → says W a t n ≡ Linked (Alias s) → s.owner ≡ q.name → Same s r
   alias_again r s n first e owner =
       let k : n ≡ q.name = sym (alias_owner W a t n s w e) ∙ owner in
@@ -212,24 +212,24 @@ folded_tells W a q t m (z, from, inl (c, over, told)) =
 folded_tells W a q t m (z, from, inr (l, gives)) = (z, from, inr (l, folded_gives z q t m l gives))
 
 -- A server's reply, its question in lower case, is one that it may serve.
-pub reply_is_honest : {A : Type 0} (W : World) (a : Address) (q : Asking A) (m : Message) → IsWorld W
+pub reply_is_honest : {A : Type 0} (W : World) (a : Address) (q : Query A) (m : Message) → IsWorld W
     → IsReplyBy (says W a (type_number q.kind)) q (says W a (type_number q.kind) q.name) (Some m) → MayServe W a q.name (type_number q.kind) (folded_message m)
 reply_is_honest W a q m w h = inl (folded_tells W a q.name (type_number q.kind) m (tells W a (type_number q.kind) q w (says W a (type_number q.kind) q.name) m refl h))
 
 -- It repeats the query's question.
-abbrev Repeats : {A : Type 0} → Asking A → Message → Type 0
+abbrev Repeats : {A : Type 0} → Query A → Message → Type 0
 Repeats q m = (m.header.qr ≡ true) × (m.questions ≡ q.echo ∷ [])
 
-as_built : {A : Type 0} (q : Asking A) (built m : Message) → Repeats q built → Some m ≡ Some built → Repeats q m
+as_built : {A : Type 0} (q : Query A) (built m : Message) → Repeats q built → Some m ≡ Some built → Repeats q m
 as_built q built m is e = let same : built ≡ m = cc in subst (Repeats q) same is
 
-repeats : {A : Type 0} (look : Name → Local) (q : Asking A) (l : Local) (m : Message) → IsReplyBy look q l (Some m) → Repeats q m
+repeats : {A : Type 0} (look : Name → Local) (q : Query A) (l : Local) (m : Message) → IsReplyBy look q l (Some m) → Repeats q m
 repeats look q (Linked l) m (aliases, e, followed, same) = as_built q (answer_to q aliases e) m (refl, refl) same
 repeats look q (Cut c ns glue) m same = as_built q (referral_to q ns glue) m (refl, refl) same
 repeats look q NotHere m same = absurd (cc)
 
 -- What is sent is a reply to the question that is read, and one that the server may serve.
-served_by : {A : Type 0} (W : World) (a : Address) (bytes : List ℕ) (q : Asking A) (sent : List ℕ) → EchoIsQuestion A → IsWorld W → IsAsked bytes (asked.Query q)
+served_by : {A : Type 0} (W : World) (a : Address) (bytes : List ℕ) (q : Query A) (sent : List ℕ) → EchoIsQuestion A → IsWorld W → IsRequest bytes (asked.Query q)
     → IsReplyFrom W a (asked.Query q) (Some sent) → IsServed W a q.name (type_number q.kind) sent
 served_by W a bytes q sent echoes w reads (None, is, none) = absurd (cc)
 served_by W a bytes q sent echoes w reads (Some m, is, (few, same, message)) =
@@ -243,11 +243,11 @@ served_by W a bytes q sent echoes w reads (Some m, is, (few, same, message)) =
     }
 
 -- Bytes ask one thing at most.
-same_query : {A : Type 0} (p q : Asking A) → asked.Query p ≡ asked.Query q → p ≡ q
+same_query : {A : Type 0} (p q : Query A) → asked.Query p ≡ asked.Query q → p ≡ q
 same_query p q e = cc
 
-pub sent_is_honest : {A V : Type 0} (W : World) (a : Address) (bytes : List ℕ) (items : V → List ℕ) (sent : Option V) (q : Asking A) → OneReading A → EchoIsQuestion A → IsWorld W
-    → IsAsked bytes (asked.Query q) → IsReplyFrom W a (asked.Query q) (option_map items sent) → IfSome sent (λ v. IsHonestReply A W a bytes (items v))
+pub sent_is_honest : {A V : Type 0} (W : World) (a : Address) (bytes : List ℕ) (items : V → List ℕ) (sent : Option V) (q : Query A) → OneReading A → EchoIsQuestion A → IsWorld W
+    → IsRequest bytes (asked.Query q) → IsReplyFrom W a (asked.Query q) (option_map items sent) → IfSome sent (λ v. IsHonestReply A W a bytes (items v))
 sent_is_honest W a bytes items None q one echoes w reads by = tt
 sent_is_honest W a bytes items (Some v) q one echoes w reads by = λ p other.
     served_by W a bytes p (items v) echoes w other (subst (λ x. IsReplyFrom W a (asked.Query x) (Some (items v))) (same_query q p (one bytes (asked.Query q) (asked.Query p) reads other)) by)

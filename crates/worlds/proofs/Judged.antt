@@ -13,13 +13,13 @@ use Rattle.zone.specs.Same.{Same, Has, SameSet, SameLink}
 use Rattle.zone.specs.Zones.{IsCutOver}
 use Rattle.zone.specs.Look.{Linked, Cut, NotHere}
 use Rattle.authority.specs.Catalogs.{IsLooked}
-use Rattle.truth.specs.Worlds.{World, IsWorld}
-use Rattle.truth.specs.Truths.{IsTrueLink, IsEnd, Leads}
-use Rattle.truth.specs.Replies.{Ends, Once}
-use Rattle.truth.proofs.Charges.{charge_uncut}
-use Rattle.truth.proofs.SomeTruth.{some_charge}
-use Rattle.truth.proofs.Sames.{link_itself, link_on, one_same, same_one}
-use Rattle.truth.proofs.OneTruth.{one_true_link, no_alias}
+use Rattle.world_truth.specs.Worlds.{World, IsWorld}
+use Rattle.world_truth.specs.Truths.{IsTrueLink, IsEnd, ChainLeads}
+use Rattle.world_truth.specs.Replies.{Ends, Once}
+use Rattle.world_truth.proofs.Charges.{charge_uncut}
+use Rattle.world_truth.proofs.SomeTruth.{some_charge}
+use Rattle.world_truth.proofs.Sames.{link_itself, link_on, one_same, same_one}
+use Rattle.world_truth.proofs.OneTruth.{one_true_link, no_alias}
 use Rattle.worlds.specs.Judging.{IsRest, has, lacks_some, once, is_set, is_only, is_none}
 use Rattle.worlds.proofs.Decided.{Yes, fails, yes_and, yes_not, no_not, yes_un, yes_any, no_any, yes_as, yes_same}
 
@@ -99,7 +99,7 @@ starts_here W t q left l answer rcode authority link e = record {
 }
 
 at_once : (W : World) (t : ℕ) (q to : Name) (l last : Link) (chain rest answer : List Record) (rcode : ℕ) (authority : List Record) → IsWorld W → IsTrueLink W q t l → IsEnd l
-    → Leads W t q chain to → IsTrueLink W to t last → answer ≡ chain ++ rest → Ends last rest rcode authority → AtEnd l answer rcode authority
+    → ChainLeads W t q chain to → IsTrueLink W to t last → answer ≡ chain ++ rest → Ends last rest rcode authority → AtEnd l answer rcode authority
 at_once W t q to l last [] rest answer rcode authority w link stops leads final is ends = record {
   last = last;
   same = one_true_link W q t last l w (subst (λ (n : Name). IsTrueLink W n t last) leads final) link;
@@ -172,7 +172,7 @@ module _ (W : World) (t : ℕ) (q : Name) (w : IsWorld W) (r : Record) (link : I
     pub behind : IsRest W t next (left - 1) others rcode authority
 
   begins_so : (to : Name) (last : Link) (chain rest answer : List Record) (left rcode : ℕ) (authority : List Record)
-      → Leads W t q chain to → length chain ≤ left → IsTrueLink W to t last → IsEnd last → answer ≡ chain ++ rest → Ends last rest rcode authority → Begins left answer rcode authority
+      → ChainLeads W t q chain to → length chain ≤ left → IsTrueLink W to t last → IsEnd last → answer ≡ chain ++ rest → Ends last rest rcode authority → Begins left answer rcode authority
   begins_so to last [] rest answer left rcode authority leads few final stops is ends =
       absurd (no_alias last r stops (one_true_link W q t last (Alias r) w (subst (λ (n : Name). IsTrueLink W n t last) leads final) link))
   begins_so to last (s ∷ ss) rest answer left rcode authority (first, (n, target, onward)) few final stops is ends =

@@ -7,13 +7,13 @@ use Rattle.std.specs.List.{list_any}
 use Rattle.dname.specs.Labels.{Name, same_name}
 use Rattle.dname.specs.Laws.{same_name-exact, same_name-equal}
 use Rattle.rdata.specs.Types.{type_number}
-use Rattle.layout.specs.Messages.{Message}
+use Rattle.message_grammar.specs.Messages.{Message}
 use Rattle.zone.specs.Zones.{Zone}
 use Rattle.zone.specs.Look.{Local}
 use Rattle.authority.specs.Catalogs.{has_origin_in, among, looked}
-use Rattle.truth.specs.Worlds.{Address, Host, World}
-use Rattle.front.specs.declared.queries.Query.{Query as Asking}
-use Rattle.front.specs.declared.queries.Asked.TheVariants.{Query}
+use Rattle.world_truth.specs.Worlds.{Address, Host, World}
+use Rattle.front.specs.declared.queries.Query.{Query}
+use Rattle.front.specs.declared.queries.Request.TheVariants as request
 use Rattle.worlds.specs.Hosting.{served, says, IsReplyBy, IsSent, IsReplyFrom}
 use Rattle.worlds.specs.Rules.{has_name, serves_at, serves}
 
@@ -59,7 +59,7 @@ said_is W a zs hs origins listed t ez eh el h =
     let saying : List Zone → Name → Local = λ ys n. looked ys n t in
     ap saying zones
 
-pub replied : {A : Type 0} (W : World) (a : Address) (q : Asking A) (look : Name → Local) (l : Local) (m : Option Message) (sent : Option (List ℕ)) → look ≡ says W a (type_number q.kind)
-    → l ≡ look q.name → IsReplyBy look q l m → IsSent m sent → IsReplyFrom W a (Query q) sent
+pub replied : {A : Type 0} (W : World) (a : Address) (q : Query A) (look : Name → Local) (l : Local) (m : Option Message) (sent : Option (List ℕ)) → look ≡ says W a (type_number q.kind)
+    → l ≡ look q.name → IsReplyBy look q l m → IsSent m sent → IsReplyFrom W a (request.Query q) sent
 replied W a q look l m sent same is by written =
     (m, subst (λ (f : Name → Local). IsReplyBy f q (f q.name) m) same (subst (λ (k : Local). IsReplyBy look q k m) is by), written)

@@ -2,9 +2,9 @@
 use Rattle.std.proofs.Common.{◌≡◌, true, false}
 use Rattle.dname.specs.Labels.{root}
 use Rattle.authority.specs.Catalogs.{has_twins, AreZones}
-use Rattle.truth.specs.Worlds.{World, HaveOwnOrigins, IsOrigin, IsWorld}
+use Rattle.world_truth.specs.Worlds.{World, HaveOwnOrigins, IsOrigin, IsWorld}
 use Rattle.worlds.specs.Rules.{has_origin, has_loose_cuts, has_undelegated, has_lame_cuts, has_idle_host, has_bad_hint, lacks_start}
-use Rattle.worlds.specs.Refusals.{HasCutZones, IsDelegated, IsServed, IsStarted, IsRefused}
+use Rattle.worlds.specs.Refusals.{HasCutZones, IsDelegated, IsServed, IsStarted, IsWorldRefused}
 use Rattle.worlds.specs.declared.fault.WorldError.TheVariants.{NoRoot, LooseCut, Undelegated, Lame, NoStart, Twins}
 use Rattle.worlds.proofs.Decided.{Yes, No, fails, breaks}
 use Rattle.worlds.proofs.Worlds.{parted_is, yes_origin, cuts_are, placed_are, servers_are, hosts_are, hints_are, start_is}
@@ -57,19 +57,19 @@ module _ (W : World) where
     hosts = No.so (hosts_are W) p.before.housed;
   }
 
-  pub no_root : Parts W → has_origin root W.zones ≡ false → IsRefused W NoRoot
+  pub no_root : Parts W → has_origin root W.zones ≡ false → IsWorldRefused W NoRoot
   no_root p h = (apart_so p, fails (yes_origin root W.zones) h)
 
-  pub loose : Rooted W → has_loose_cuts W.zones W.zones ≡ true → IsRefused W LooseCut
+  pub loose : Rooted W → has_loose_cuts W.zones W.zones ≡ true → IsWorldRefused W LooseCut
   loose p h = (apart_so p.parts, root_so p, breaks (cuts_are W) h)
 
-  pub undelegated : CutOff W → has_undelegated W.zones W.locals W.zones ≡ true → IsRefused W Undelegated
+  pub undelegated : CutOff W → has_undelegated W.zones W.locals W.zones ≡ true → IsWorldRefused W Undelegated
   undelegated p h = (apart_so p.before.parts, root_so p.before, cuts_so p, breaks (placed_are W) h)
 
-  pub idle : Placed W → has_idle_host W.zones W.hosts ≡ true → IsRefused W Lame
+  pub idle : Placed W → has_idle_host W.zones W.hosts ≡ true → IsWorldRefused W Lame
   idle p h = (apart_so p.before.before.parts, root_so p.before.before, cuts_so p.before, placed_so p, λ s. let k : IsServed W = s in breaks (hosts_are W) h k.hosts)
 
-  pub lame : Housed W → has_lame_cuts W.zones W.hosts W.zones ≡ true → IsRefused W Lame
+  pub lame : Housed W → has_lame_cuts W.zones W.hosts W.zones ≡ true → IsWorldRefused W Lame
   lame p h = (
     apart_so p.before.before.before.parts,
     root_so p.before.before.before,
@@ -78,13 +78,13 @@ module _ (W : World) where
     λ s. let k : IsServed W = s in breaks (servers_are W p.before.before.before.parts.all p.before.before.before.parts.apart) h k.servers,
   )
 
-  not_started : Served W → (IsStarted W → ⊥) → IsRefused W NoStart
+  not_started : Served W → (IsStarted W → ⊥) → IsWorldRefused W NoStart
   not_started p h = (apart_so p.before.before.before.before.parts, root_so p.before.before.before.before, cuts_so p.before.before.before, placed_so p.before.before, served_so p, h)
 
-  pub bad_hint : Served W → has_bad_hint W.hosts W.hints ≡ true → IsRefused W NoStart
+  pub bad_hint : Served W → has_bad_hint W.hosts W.hints ≡ true → IsWorldRefused W NoStart
   bad_hint p h = not_started p (λ s. let k : IsStarted W = s in breaks (hints_are W) h k.hints)
 
-  pub no_start : Hinted W → lacks_start W.hints W.locals ≡ true → IsRefused W NoStart
+  pub no_start : Hinted W → lacks_start W.hints W.locals ≡ true → IsWorldRefused W NoStart
   no_start p h = not_started p.before (λ s. let k : IsStarted W = s in breaks (start_is W.hints W.locals) h k.start)
 
   pub well_formed : Hinted W → lacks_start W.hints W.locals ≡ false → IsWorld W
@@ -104,5 +104,5 @@ module _ (W : World) where
         start = No.so (start_is W.hints W.locals) h;
       }
 
-pub twins : (W : World) → has_twins W.zones ≡ true → IsRefused W Twins
+pub twins : (W : World) → has_twins W.zones ≡ true → IsWorldRefused W Twins
 twins W h = breaks (parted_is W.zones) h

@@ -2,11 +2,11 @@
 use Rattle.std.proofs.Common.{◌≡◌, ℕ, inl, inr, IsTrue, Bool, true, false, not, List, [], ◌∷◌, refl, sym, ◌∙◌, ap, subst}
 use Rattle.std.proofs.lemmas.Bool.{both_ways}
 use Rattle.dname.specs.Labels.{Name}
-use Rattle.layout.specs.Messages.{Question, Message, IsMessage, internet}
-use Rattle.layout.proofs.Single.{message_one}
-use Rattle.truth.specs.Worlds.{World}
-use Rattle.truth.specs.Truths.{Truth}
-use Rattle.truth.specs.Replies.{IsReplyTo, IsBare, IsWhole, IsRight}
+use Rattle.message_grammar.specs.Messages.{Question, Message, IsMessage, internet}
+use Rattle.message_grammar.proofs.Single.{message_one}
+use Rattle.world_truth.specs.Worlds.{World}
+use Rattle.world_truth.specs.Truths.{Truth}
+use Rattle.world_truth.specs.Replies.{IsReplyTo, IsBare, IsWhole, IsRight}
 use Rattle.worlds.specs.Judging.{IsRest, IsRightMessage, is_none, is_asked, is_reply_to, is_empty}
 use Rattle.worlds.proofs.Decided.{Yes, fails, yes_and, yes_as, yes_same}
 use Rattle.worlds.proofs.Judged.{yes_none, yes_code}

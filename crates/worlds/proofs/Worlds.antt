@@ -19,7 +19,7 @@ use Rattle.authority.specs.OneAnswer.{SameLocal}
 use Rattle.authority.proofs.Ascents.{looked_by}
 use Rattle.authority.proofs.Charges.{charge_is, looked_here, looked_nowhere}
 use Rattle.authority.proofs.OneAnswers.{one_answer}
-use Rattle.truth.specs.Worlds.{Address, Host, World, Serves, IsOrigin, IsParent, IsServerName, IsAddressOf, HaveOwnOrigins}
+use Rattle.world_truth.specs.Worlds.{Address, Host, World, Serves, IsOrigin, IsParent, IsServerName, IsAddressOf, HaveOwnOrigins}
 use Rattle.worlds.specs.Rules.{has_name, has_origin, serves, makes_cut, has_loose_cuts, is_above, is_between, delegates, has_undelegated, is_missed, zone_misses, look_misses, target_misses, has_lame_cuts, has_idle_host, has_bad_hint, lacks_start}
 use Rattle.worlds.specs.Refusals.{HasCutZones, IsDelegated}
 use Rattle.worlds.proofs.Decided.{Yes, No, no_not, yes_not, yes_un, no_un, yes_and, no_and, yes_or, no_or, yes_any, no_any, no_as, yes_as, yes_same, yes_under, no_less}

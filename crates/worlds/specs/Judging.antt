@@ -5,10 +5,10 @@ use Rattle.dname.specs.Labels.{Name, same_name}
 use Rattle.rdata.specs.Records.{Record}
 use Rattle.rdata.specs.Sets.{is_repeat}
 use Rattle.zone.specs.Links.{Link}
-use Rattle.truth.specs.Worlds.{World}
-use Rattle.truth.specs.Truths.{IsTrueLink, IsEnd, Leads}
-use Rattle.layout.specs.Messages.{Question, Message, internet}
-use Rattle.truth.specs.Replies.{Ends, IsReplyTo, IsBare, IsWhole}
+use Rattle.world_truth.specs.Worlds.{World}
+use Rattle.world_truth.specs.Truths.{IsTrueLink, IsEnd, ChainLeads}
+use Rattle.message_grammar.specs.Messages.{Question, Message, internet}
+use Rattle.world_truth.specs.Replies.{Ends, IsReplyTo, IsBare, IsWhole}
 
 -- A whole reply from a name on: at most so many aliases more, and an end.
 pub record IsRest (W : World) (t : ℕ) (q : Name) (left : ℕ) (answer : List Record) (rcode : ℕ) (authority : List Record) : Type 0 where
@@ -16,7 +16,7 @@ pub record IsRest (W : World) (t : ℕ) (q : Name) (left : ℕ) (answer : List R
   pub rest : List Record
   pub last : Link
   pub to : Name
-  pub leads : Leads W t q chain to
+  pub leads : ChainLeads W t q chain to
   pub few : length chain ≤ left
   pub link : IsTrueLink W to t last
   pub stops : IsEnd last

@@ -3,7 +3,7 @@ use Rattle.std.specs.Prelude.{List, map}
 use Rattle.dname.specs.Labels.{Name}
 use Rattle.rdata.specs.declared.addr.Addr.{Addr}
 use Rattle.zone.specs.Zones.{Zone}
-use Rattle.truth.specs.Worlds.{Address, Host, World}
+use Rattle.world_truth.specs.Worlds.{Address, Host, World}
 
 abbrev pub host_with : Address → List Name → Host
 host_with address origins = record { address = address; origins = origins }

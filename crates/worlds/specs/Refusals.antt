@@ -3,7 +3,7 @@
 use Rattle.std.specs.Prelude.{◌≡◌, ℕ, ◌⊎◌, List, codes, Contains}
 use Rattle.dname.specs.Labels.{Name, root}
 use Rattle.zone.specs.Zones.{Zone, IsCut}
-use Rattle.truth.specs.Worlds.{Address, World, Serves, IsOrigin, IsParent, IsServerName, IsAddressOf, HaveOwnOrigins}
+use Rattle.world_truth.specs.Worlds.{Address, World, Serves, IsOrigin, IsParent, IsServerName, IsAddressOf, HaveOwnOrigins}
 use Rattle.worlds.specs.declared.fault.WorldError.{WorldError}
 use Rattle.worlds.specs.declared.fault.WorldError.TheVariants.{NoRoot, LooseCut, Undelegated, Lame, NoStart, Memory, Twins}
 
@@ -44,13 +44,13 @@ world_fault_text NoStart = codes "no hint that serves the root"
 world_fault_text Memory = codes "out of memory"
 world_fault_text Twins = codes "two zones have one origin"
 
--- A refusal's rule is broken, and those before it hold, in the order 7, 1, 2, 3, 4, 5; want of memory can
+-- A refusal's rule is broken, and those before it hold, in the order 7, 1, 2, 3, 4, 5; running out of memory can
 -- come at any time.
-abbrev pub IsRefused : World → WorldError → Type 0
-IsRefused W Twins = HaveOwnOrigins W.zones → ⊥
-IsRefused W NoRoot = HaveOwnOrigins W.zones × (IsOrigin W root → ⊥)
-IsRefused W LooseCut = HaveOwnOrigins W.zones × IsOrigin W root × (HasCutZones W → ⊥)
-IsRefused W Undelegated = HaveOwnOrigins W.zones × IsOrigin W root × HasCutZones W × (IsDelegated W → ⊥)
-IsRefused W Lame = HaveOwnOrigins W.zones × IsOrigin W root × HasCutZones W × IsDelegated W × (IsServed W → ⊥)
-IsRefused W NoStart = HaveOwnOrigins W.zones × IsOrigin W root × HasCutZones W × IsDelegated W × IsServed W × (IsStarted W → ⊥)
-IsRefused W Memory = Unit {0}
+abbrev pub IsWorldRefused : World → WorldError → Type 0
+IsWorldRefused W Twins = HaveOwnOrigins W.zones → ⊥
+IsWorldRefused W NoRoot = HaveOwnOrigins W.zones × (IsOrigin W root → ⊥)
+IsWorldRefused W LooseCut = HaveOwnOrigins W.zones × IsOrigin W root × (HasCutZones W → ⊥)
+IsWorldRefused W Undelegated = HaveOwnOrigins W.zones × IsOrigin W root × HasCutZones W × (IsDelegated W → ⊥)
+IsWorldRefused W Lame = HaveOwnOrigins W.zones × IsOrigin W root × HasCutZones W × IsDelegated W × (IsServed W → ⊥)
+IsWorldRefused W NoStart = HaveOwnOrigins W.zones × IsOrigin W root × HasCutZones W × IsDelegated W × IsServed W × (IsStarted W → ⊥)
+IsWorldRefused W Memory = Unit {0}

@@ -9,7 +9,7 @@ use Rattle.zone.specs.Zones.{Zone, a_type, ns_type}
 use Rattle.zone.specs.Links.{Link, Found, Alias, NoData, NxDomain}
 use Rattle.zone.specs.Look.{Local, Linked, Cut, NotHere, is_type, is_owned, owns}
 use Rattle.authority.specs.Catalogs.{looked}
-use Rattle.truth.specs.Worlds.{Address, Host}
+use Rattle.world_truth.specs.Worlds.{Address, Host}
 
 abbrev pub has_name : Name → List Name → Bool
 has_name n ns = list_any (λ (m : Name). same_name m n) ns

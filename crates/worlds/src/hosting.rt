@@ -4,7 +4,7 @@ ghost use Rattle.rdata.specs.Types.{type_number};
 ghost use Rattle.zone.specs.Look.{Linked};
 ghost use Rattle.authority.specs.Answers.{link_view};
 ghost use Rattle.authority.specs.Catalogs.{looked, among};
-ghost use Rattle.front.specs.declared.queries.Asked.TheVariants as asked;
+ghost use Rattle.front.specs.declared.queries.Request.TheVariants as asked;
 ghost use Rattle.worlds.specs.Rules.{has_name, serves_at, serves};
 ghost use Rattle.worlds.specs.Hosting.{IsFollowed, host_header, referral_to, answer_to, IsSent, IsReplyFrom, IsHostReply, IsHonestReply};
 
@@ -12,9 +12,10 @@ use crate::world::{Host, World};
 use authority::{Catalog, Link, Local};
 use dname::{Heap, Name, Starved};
 use front::{
-    Asked, Draft, End, MOST_ALIASES, Query, Start, Step, alias_target, echo_is_question,
-    read_query, reading_is_one,
+    Draft, End, Query, Request, Start, Step, alias_target, echo_is_question, read_query,
+    reading_is_one,
 };
+use limits::MAX_ALIASES;
 use rdata::{Addr, RType, Records};
 use std::alloc::Allocator;
 use wire::{Header, TCP_LIMIT, Writer};
@@ -71,7 +72,7 @@ fn follow<A: Heap>(
 {
     let mut aliases = Records::new(alloc);
     let mut found = Local::Link(first);
-    'aliases: while aliases.len() < MOST_ALIASES {
+    'aliases: while aliases.len() < MAX_ALIASES {
         match Step::of(alloc, found)? {
             Step::Ended(end) => return Ok((aliases, end)),
             Step::Onward(alias) => {
@@ -88,15 +89,9 @@ fn header(start: Start, aa: bool, rcode: u8) -> Header
     ensures { result ≡ host_header start aa rcode }
 {
     Header {
-        id: start.id(),
-        qr: true,
-        opcode: start.opcode(),
         aa,
-        tc: false,
-        rd: start.wants_recursion(),
-        ra: false,
-        z: 0,
         rcode,
+        ..Header::reply(start.id(), start.opcode(), start.wants_recursion())
     }
 }
 
@@ -183,7 +178,7 @@ pub fn host_reply<A: Heap>(
     reading_is_one(alloc);
     echo_is_question(alloc);
     match read_query(alloc, bytes)? {
-        Asked::Query(query) => Ok(reply_to(alloc, world, address, &query)?),
-        Asked::Drop | Asked::Refuse(_, _, _) => Ok(None),
+        Request::Query(query) => Ok(reply_to(alloc, world, address, &query)?),
+        Request::Drop | Request::Refuse(_, _, _) => Ok(None),
     }
 }

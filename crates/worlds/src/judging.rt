@@ -3,16 +3,17 @@ ghost use Rattle.std.specs.Prelude.{◌≡◌, ◌↔◌, ◌&&◌, nat_eq, ℕ,
 ghost use Rattle.rdata.specs.Data.{Cname};
 ghost use Rattle.zone.specs.Links.{Alias};
 ghost use Rattle.rdata.specs.Types.{type_number};
-ghost use Rattle.truth.specs.Truths.{IsTrueLink};
-ghost use Rattle.truth.specs.Replies.{IsRight};
+ghost use Rattle.world_truth.specs.Truths.{IsTrueLink};
+ghost use Rattle.world_truth.specs.Replies.{IsRight};
 ghost use Rattle.worlds.specs.Judging.{IsRest, IsRightMessage, is_reply_to, is_empty, has, lacks_some, once, is_set, is_only, is_none};
 
 use crate::world::World;
 use authority::Link;
 use dname::{Heap, Name, Starved};
-use front::MOST_ALIASES;
+use limits::MAX_ALIASES;
 use rdata::{INTERNET, RData, RType, Record, RecordSet};
 use std::alloc::Allocator;
+use wire::rcode::{NO_ERROR, NX_DOMAIN};
 use wire::{Message, WireError, decode};
 
 // Whether the records have that one.
@@ -79,10 +80,10 @@ fn are_found<A: Allocator>(
 ) -> bool
     ensures { result ≡ (is_set answer.now set.now && nat_eq rcode 0 && is_none authority.now) }
 {
-    is_set(answer, set) && rcode == 0 && authority.is_empty()
+    is_set(answer, set) && rcode == NO_ERROR && authority.is_empty()
 }
 
-// Whether a reply ends with that denial and RCODE.
+// Whether a reply ends with that negative answer and RCODE.
 fn is_denied<A: Allocator>(
     soa: &Record<A>,
     denial: u8,
@@ -151,8 +152,8 @@ fn is_rest<A: Heap>(
     match world.link(name, kind)? {
         Link::Alias(alias) => Ok(goes_on(world, &alias, kind, answer, left, rcode, authority)?),
         Link::Found(set) => Ok(is_found(&set, answer, rcode, authority)?),
-        Link::NoData(soa) => Ok(is_denied(&soa, 0, answer, rcode, authority)),
-        Link::NxDomain(soa) => Ok(is_denied(&soa, 3, answer, rcode, authority)),
+        Link::NoData(soa) => Ok(is_denied(&soa, NO_ERROR, answer, rcode, authority)),
+        Link::NxDomain(soa) => Ok(is_denied(&soa, NX_DOMAIN, answer, rcode, authority)),
     }
 }
 
@@ -194,7 +195,7 @@ fn is_right<A: Heap>(
     }
     let (answer, authority) = (reply.answer.as_slice(), reply.authority.as_slice());
     let rcode = reply.header.rcode;
-    Ok(is_rest(world, name, kind, answer, MOST_ALIASES, rcode, authority)?)
+    Ok(is_rest(world, name, kind, answer, MAX_ALIASES, rcode, authority)?)
 }
 
 /// Whether the bytes are the right reply to the question, TTLs aside: a reply to it in class IN that is

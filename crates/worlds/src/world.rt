@@ -3,11 +3,11 @@ ghost use Rattle.std.specs.Prelude.{◌≡◌, IfOk, MatchResult, filter};
 ghost use Rattle.dname.specs.Labels.{root};
 ghost use Rattle.rdata.specs.Types.{type_number};
 ghost use Rattle.authority.specs.Answers.{link_view};
-ghost use Rattle.truth.specs.Frames.{AreHeld};
-ghost use Rattle.truth.specs.Worlds.{IsWorld, HaveOwnOrigins};
-ghost use Rattle.truth.specs.Truths.{IsTrueLink};
+ghost use Rattle.world_truth.specs.Frames.{AreHeld};
+ghost use Rattle.world_truth.specs.Worlds.{IsWorld, HaveOwnOrigins};
+ghost use Rattle.world_truth.specs.Truths.{IsTrueLink};
 ghost use Rattle.worlds.specs.Kept.{addresses, world_with};
-ghost use Rattle.worlds.specs.Refusals.{IsRefused};
+ghost use Rattle.worlds.specs.Refusals.{IsWorldRefused};
 ghost use Rattle.worlds.specs.Rules.{has_name};
 
 use crate::fault::WorldError;
@@ -31,7 +31,7 @@ pub struct Host<A: Allocator = Global> {
 }
 
 impl<A: Allocator> Model for Host<A> {
-    ghost use Rattle.truth.specs.Worlds.{Host};
+    ghost use Rattle.world_truth.specs.Worlds.{Host};
     ghost use Rattle.worlds.specs.Kept.{host_with};
 
     ghost Value = { Host };
@@ -65,7 +65,7 @@ impl<A: Allocator> Drop for World<A> {
 }
 
 impl<A: Allocator> Model for World<A> {
-    ghost use Rattle.truth.specs.Worlds.{World, IsWorld};
+    ghost use Rattle.world_truth.specs.Worlds.{World, IsWorld};
     ghost use Rattle.worlds.specs.Kept.{world_with};
 
     ghost Value = { World };
@@ -84,7 +84,7 @@ fn check_rules<A: Heap>(
     top: &Name<A>,
 ) -> Result<(), WorldError>
     requires { top.now ≡ root }
-    ensures { MatchResult result (λ _. IsWorld (world_with catalog.now hosts.now hints.now locals.now)) (λ e. IsRefused (world_with catalog.now hosts.now hints.now locals.now) e) }
+    ensures { MatchResult result (λ _. IsWorld (world_with catalog.now hosts.now hints.now locals.now)) (λ e. IsWorldRefused (world_with catalog.now hosts.now hints.now locals.now) e) }
 {
     let zones = catalog.zones();
     if !has_origin(zones, top) {
@@ -120,7 +120,7 @@ impl<A: Heap> World<A> {
         hints: Vec<Addr, A>,
         locals: Vec<Name<A>, A>,
     ) -> Result<World<A>, WorldError>
-        ensures { MatchResult result (λ w. (w ≡ world_with zones.items hosts.items hints.items locals.items) × IsWorld (world_with zones.items hosts.items hints.items locals.items)) (λ e. IsRefused (world_with zones.items hosts.items hints.items locals.items) e) }
+        ensures { MatchResult result (λ w. (w ≡ world_with zones.items hosts.items hints.items locals.items) × IsWorld (world_with zones.items hosts.items hints.items locals.items)) (λ e. IsWorldRefused (world_with zones.items hosts.items hints.items locals.items) e) }
     {
         let top = Name::root(*zones.allocator())?;
         let catalog = match Catalog::new(zones) {

@@ -11,7 +11,7 @@ use Rattle.rdata.specs.Records.{Record, same_set}
 use Rattle.zone.specs.Zones.{cname_type}
 use Rattle.zone.specs.Look.{is_type, is_owned}
 use Rattle.zone.specs.Rules.{clashes, differs}
-use Rattle.zone.specs.Last.{kept_after, last_of, target_of, owner_of, alias_of, last_target, is_beside, SetKey, same_key, set_of, ttl_of, last_ttl, is_other_ttl}
+use Rattle.zone.specs.Last.{kept_after, last_of, cname_target, owner_of, alias_of, last_target, is_beside, SetKey, same_key, set_of, ttl_of, last_ttl, is_other_ttl}
 use Rattle.zone.proofs.Members.{here, there, member_cases, no_member, passing, passes, same_tests, any_step}
 
 from_step : {V : Type 0} (b : Bool) (o acc : Option V) (v : V) → kept_after b o acc ≡ Some v → (acc ≡ Some v) ⊎ ((b ≡ true) × (o ≡ Some v))
@@ -87,7 +87,7 @@ same_cname (Txt ts) n h = cc
 same_cname (Ipv6 a) n h = cc
 same_cname (Srv v) n h = cc
 
-is_target : (d : Datum) (n : List (List ℕ)) → target_of d ≡ Some n → d ≡ Cname n
+is_target : (d : Datum) (n : List (List ℕ)) → cname_target d ≡ Some n → d ≡ Cname n
 is_target (Ipv4 a) n h = cc
 is_target (Ns m) n h = cc
 is_target (Cname m) n h = cc
@@ -157,7 +157,7 @@ clash_last rs h =
     let (t, et) = is_cname c.value k in
     let (s, ms, bs) = passing (clashes c) rs cl in
     let (own, diff) = and_parts (is_owned c.owner s) (not (same_data c.value s.value)) bs in
-    let some : is_some (last_target c.owner rs) ≡ true = kept same_name owner_of alias_of c.owner rs None c m (same_name-refl c.owner) (ap (λ (d : Datum). is_some (target_of d)) et) in
+    let some : is_some (last_target c.owner rs) ≡ true = kept same_name owner_of alias_of c.owner rs None c m (same_name-refl c.owner) (ap (λ (d : Datum). is_some (cname_target d)) et) in
     let (u, eu) = value_of (last_target c.owner rs) some in
     elim (cases_Bool (same_name t u)) [
       | inl equal ↦ passes (λ (x : Record). is_beside x.value (last_target x.owner rs)) rs s ms

@@ -99,7 +99,7 @@ wild_says z s q t soa (r ∷ rs) one none d e =
     here : At z s (type_of r.value) r
     here = at_of z s (type_of r.value) r (filter_in (is_type (type_of r.value)) (at s z.records) r stands (eq-eqb (type_of r.value) (type_of r.value) refl))
 
--- The zone's SOA, and its denial.
+-- The zone's SOA, and its negative answer.
 pub record SoaIs (z : Zone) (soa : Record) : Type 0 where
   pub it : Record
   pub stands : Contains z.records it

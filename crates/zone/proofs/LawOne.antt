@@ -41,7 +41,7 @@ some_of : (rs : List Record) → rs ≢ [] → (r : Record) × Contains rs r
 some_of [] n = absurd (n refl)
 some_of (r ∷ rs) n = (r, first_in r rs)
 
--- One alias, one denial.
+-- One alias, one negative answer.
 one_alias : (z : Zone) (s q : List (List ℕ)) (a b : Record) → HasOneAlias z → IsFrom z s q cname_type a → IsFrom z s q cname_type b → SameSet (a ∷ []) (b ∷ [])
 one_alias z s q a b one h k =
     let m : At z s cname_type (record a { owner = s }) = h.1 in

@@ -27,7 +27,7 @@ one_soa z k r s h m e f = ap (λ (w : Record). w.value) (sym (the_soa z k r h e)
 pub one_alias_name : (z : Zone) → IsZone z → HasOneAlias z
 one_alias_name z k r s h m o e f = k.alone r s h m o e
 
--- It has a denial.
+-- It has a negative answer.
 find_some : (p : Record → Bool) (xs : List Record) (x : Record) → Contains xs x → p x ≡ true → (y : Record) × (find p xs ≡ Some y)
 find_some p [] x h e = absurd (none_in x h)
 find_some p (w ∷ xs) x h e = find_more p w xs (p w) refl (λ f. ⊎_elim (λ q. absurd (let g : p x ≡ false = sym (ap p q) ∙ f in cc)) (λ m. find_some p xs x m e) (in_cases w x xs h))

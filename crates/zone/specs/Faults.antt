@@ -36,7 +36,7 @@ fault_of z =
     (cond (has_cname_clash z) (Some CnameClash) (cond (has_mixed_ttls z) (Some MixedTtls) (cond (has_data_at_cut z) (Some DataAtCut)
     (cond (has_inner_star z) (Some InnerStar) (cond (has_wildcard_authority z) (Some WildcardAuthority) (cond (has_wildcard_beneath_cut z) (Some WildcardBeneathCut) None))))))))
 
--- A refusal is the one that holds; want of memory can come at any time.
+-- A refusal is the one that holds; running out of memory can come at any time.
 abbrev pub IsFault : ZoneError → Option ZoneError → Type 0
 IsFault Memory f = Unit {0}
 IsFault e f = f ≡ Some e

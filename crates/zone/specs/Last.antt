@@ -13,15 +13,15 @@ abbrev pub last_of : {K V : Type 0} → (K → K → Bool) → (Record → K) �
 last_of eq key pick q rs = fold (λ kept r. kept_after (eq (key r) q) (pick r) kept) None rs
 
 -- The target of the last CNAME of an owner.
-abbrev pub target_of : Datum → Option (List (List ℕ))
-target_of (Cname n) = Some n
-target_of _ = None
+abbrev pub cname_target : Datum → Option (List (List ℕ))
+cname_target (Cname n) = Some n
+cname_target _ = None
 
 abbrev pub owner_of : Record → List (List ℕ)
 owner_of r = r.owner
 
 abbrev pub alias_of : Record → Option (List (List ℕ))
-alias_of r = target_of r.value
+alias_of r = cname_target r.value
 
 abbrev pub last_target : List (List ℕ) → List Record → Option (List (List ℕ))
 last_target q rs = last_of same_name owner_of alias_of q rs

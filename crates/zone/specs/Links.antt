@@ -5,7 +5,7 @@ use Rattle.rdata.specs.Data.{Datum, Soa}
 use Rattle.rdata.specs.Records.{Record, greatest_ttl}
 use Rattle.zone.specs.Zones.{Zone, At, IsUncut, Exists, IsEncloser, cname_type, soa_type}
 
--- A record set, an alias, no such data, no such name; a denial has its SOA.
+-- A record set, an alias, no such data, no such name; a negative answer has its SOA.
 pub data Link : Type 0 where
   Found : List Record → Link
   Alias : Record → Link
@@ -32,7 +32,7 @@ IsEmpty z s = (t : ℕ) → HasNone z s t
 abbrev pub counted : ℕ → ℕ
 counted n = cond (nat_lt greatest_ttl n) 0 n
 
--- The TTL of a denial: the lesser of its SOA's TTL and MINIMUM (RFC 2308, section 3).
+-- The TTL of a negative answer: the lesser of its SOA's TTL and MINIMUM (RFC 2308, section 3).
 abbrev pub denial_ttl : ℕ → Datum → ℕ
 denial_ttl ttl (Soa s) = min ttl (counted s.minimum)
 denial_ttl ttl _ = ttl

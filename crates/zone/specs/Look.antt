@@ -124,7 +124,7 @@ local_of soa z q t (Some c) = Cut c (ns_of z c) (glue_of z.records (ns_of z c))
 abbrev pub local_by : Record → Zone → List (List ℕ) → ℕ → Local
 local_by soa z q t = local_of soa z q t (cut_of z q)
 
--- The zone's denial: its SOA with the lesser TTL.
+-- The zone's negative answer: its SOA with the lesser TTL.
 abbrev pub denial_by : Option Record → Option Record
 denial_by None = None
 denial_by (Some r) = Some (lessened r)

@@ -17,10 +17,10 @@ pub struct Held<'a, A: Allocator> {
 
 impl<'a, A: Allocator> Model for Held<'a, A> {
     ghost use Rattle.std.specs.Prelude.{List, length};
-    ghost use Rattle.rdata.specs.Records.{Record as Plain};
+    ghost use Rattle.rdata.specs.Records.{Record as RecordSpec};
     ghost use Rattle.zone.specs.Tree.{picks, AreWithin};
 
-    ghost Value = { List Plain };
+    ghost Value = { List RecordSpec };
 
     ghost view = { λ h. picks h.records.now h.places.now };
 
@@ -92,10 +92,10 @@ pub struct Tree<A: Allocator> {
 
 impl<A: Allocator> Model for Tree<A> {
     ghost use Rattle.std.specs.Prelude.{List};
-    ghost use Rattle.rdata.specs.Records.{Record as Plain};
+    ghost use Rattle.rdata.specs.Records.{Record as RecordSpec};
     ghost use Rattle.zone.specs.Tree.{IsTree};
 
-    ghost Value = { List Plain };
+    ghost Value = { List RecordSpec };
 
     ghost view = { λ t. t.records };
 

@@ -1,5 +1,5 @@
-//! The tests of `words`, `masterfile`, `zone`, `authority`, `worlds`, `script` and `orders`, from outside: by what they
-//! make public.
+//! What no row of `vectors_zones` shows of `masterfile`, `zone`, `authority`, `worlds`, `world_text` and `world_text`:
+//! refused growths, zones made at random, and what is too large for a row.
 #![tactic(auto)]
 
 #[cfg(test)]
@@ -7,11 +7,11 @@ mod authority_tests;
 #[cfg(test)]
 mod masterfile_tests;
 #[cfg(test)]
-mod orders_tests;
+mod refusals;
 #[cfg(test)]
 mod script_tests;
 #[cfg(test)]
-mod words_tests;
+mod world_text_tests;
 #[cfg(test)]
 mod worlds_tests;
 #[cfg(test)]

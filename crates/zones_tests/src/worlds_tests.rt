@@ -1,5 +1,185 @@
-//! The tests of `worlds`, from outside: by what it makes public.
-mod host_tests;
-mod judge_tests;
-mod parts;
-mod tests;
+//! Memory refused while worlds are checked, servers reply and replies are judged; and what is too large for a row.
+
+use crate::refusals::{Work, refuse_each};
+use dname::{Heap, Starved};
+use rdata::{Addr, RType};
+use record_fixtures::name;
+use std::test::Fail;
+use world_text::{WorldFault, world_in};
+use worlds::{World, WorldError, host_reply, judge};
+
+// Three zones below one another, one without addresses of its servers above, and a local one.
+const SMALL_WORLD: &str =
+    "zone .\n. 3600 IN SOA r. h. 1 2 3 4 60\n. 3600 IN NS ns.\nns. 3600 IN A 198.51.100.1\nexample. 3600 IN NS ns.example.\nns.example. 3600 IN A 198.51.100.2\nend\nzone example.\n$TTL 3600\n@ SOA ns h 1 2 3 4 60\n@ NS ns\nns A 198.51.100.2\nold 5 CNAME www.lab\napp CNAME db.corp\nlab NS ns.lab\nns.lab A 198.51.100.3\ndark NS ns.dark\nend\nzone lab.example.\n$TTL 300\n@ SOA ns h 1 2 3 4 60\n@ NS ns\nns A 198.51.100.3\nwww A 192.0.2.1\nend\nzone dark.example.\n$TTL 300\n@ SOA ns h 1 2 3 4 60\n@ NS ns\nns A 198.51.100.4\nwww A 192.0.2.4\nend\nlocal corp.example.\n$TTL 300\n@ SOA ns h 1 2 3 4 60\n@ NS ns\ndb A 10.0.0.5\nend\nhost 198.51.100.1 .\nhost 198.51.100.2 example.\nhost 198.51.100.3 lab.example.\nhost 198.51.100.4 dark.example.\nhint 198.51.100.1\n";
+
+// The world, and the zone that a resolver in it holds itself.
+struct Held;
+
+fn holds_one<A: Heap>(world: &World<A>) -> Result<bool, Starved> {
+    let held = world.held()?;
+    Ok(held.len() == 1)
+}
+
+impl Work for Held {
+    fn is_done<A: Heap>(&self, alloc: A) -> Result<bool, Starved> {
+        match world_in(alloc, SMALL_WORLD) {
+            Ok(world) => holds_one(&world),
+            Err(WorldFault::Memory) => Err(Starved),
+            Err(_) => Ok(false),
+        }
+    }
+}
+
+// The world of a text. A text of no world is `Starved` too.
+fn world_of<A: Heap>(alloc: A, text: &str) -> Result<World<A>, Starved> {
+    match world_in(alloc, text) {
+        Ok(world) => Ok(world),
+        Err(_) => Err(Starved),
+    }
+}
+
+// An alias, and a cut over it.
+const ALIAS_WORLD: &str =
+    "zone .\n. 60 SOA r. h. 1 2 3 4 60\n. 60 NS ns.\nns. 60 A 198.51.100.1\na. 60 NS ns.a.\nns.a. 60 A 198.51.100.5\nend\nzone a.\n$TTL 60\n@ SOA ns h 1 2 3 4 60\n@ NS ns\nns A 198.51.100.5\nout CNAME ns.\nend\nhost 198.51.100.1 .\nhost 198.51.100.5 a.\nhint 198.51.100.1\n";
+
+// A query for the address of out.a.
+const QUERY: &[u8] = b"\x12\x67\x01\0\0\x01\0\0\0\0\0\0\x03out\x01a\0\0\x01\0\x01";
+
+// The replies of both servers.
+struct Replied;
+
+fn both_reply<A: Heap>(alloc: A, world: &World<A>) -> Result<bool, Starved> {
+    for server in [1, 5] {
+        let reply = host_reply(alloc, world, Addr([198, 51, 100, server]), QUERY)?;
+        if reply.is_none() {
+            return Ok(false);
+        }
+    }
+    Ok(true)
+}
+
+impl Work for Replied {
+    fn is_done<A: Heap>(&self, alloc: A) -> Result<bool, Starved> {
+        let world = world_of(alloc, ALIAS_WORLD)?;
+        both_reply(alloc, &world)
+    }
+}
+
+// An alias to a name that does not exist.
+const GONE_WORLD: &str =
+    "zone .\n. 60 SOA r. h. 1 2 3 4 60\n. 60 NS ns.\nns. 60 A 198.51.100.1\nd. 60 CNAME gone.\nend\nhost 198.51.100.1 .\nhint 198.51.100.1\n";
+
+// The right reply to a question for the address of d.: NXDOMAIN behind the alias, and the SOA.
+const GONE: &[u8] =
+    b"\0\x07\x84\x83\0\x01\0\x01\0\x01\0\0\x01d\0\0\x01\0\x01\xc0\x0c\0\x05\0\x01\0\0\0\x01\0\x06\x04gone\0\0\0\x06\0\x01\0\0\0\x07\0\x1a\x01r\0\x01h\0\0\0\0\x01\0\0\0\x02\0\0\0\x03\0\0\0\x04\0\0\0\x3c";
+
+// Whether a reply about the address of a name is judged right.
+fn is_right<A: Heap>(
+    alloc: A,
+    world: &World<A>,
+    asked: &str,
+    reply: &[u8],
+) -> Result<bool, Starved> {
+    let asked = name(alloc, asked)?;
+    judge(world, &asked, RType::A, reply)
+}
+
+struct Judged;
+
+impl Work for Judged {
+    fn is_done<A: Heap>(&self, alloc: A) -> Result<bool, Starved> {
+        let world = world_of(alloc, GONE_WORLD)?;
+        is_right(alloc, &world, "d.", GONE)
+    }
+}
+
+#[test]
+fn each_growth_is_refused_in_turn(rt: HostRuntime) -> Result<(), Fail> {
+    refuse_each(&rt, &Held);
+    refuse_each(&rt, &Replied);
+    refuse_each(&rt, &Judged);
+    Ok(())
+}
+
+// A root zone with an address.
+const ROOT: &str = "zone .\n. 60 SOA r. h. 1 2 3 4 60\n. 60 NS ns.\nns. 60 A 198.51.100.1\n";
+
+// Its end, and its server.
+const SERVED: &str = "end\nhost 198.51.100.1 .\nhint 198.51.100.1\n";
+
+// Why a world of a hundred thousand hints and this line is refused, if it is. A text of no zones and servers is
+// `Starved` too.
+fn fault_of_many<A: Heap>(alloc: A, more: &str) -> Result<Option<WorldError>, Starved> {
+    let mut text = String::from_str(alloc, ROOT)?;
+    text.push_str(SERVED)?;
+    for _ in 0..100_000 {
+        text.push_str("hint 198.51.100.1\n")?;
+    }
+    text.push_str(more)?;
+    match world_in(alloc, text.as_str()) {
+        Ok(_) => Ok(None),
+        Err(WorldFault::World(fault)) => Ok(Some(fault)),
+        Err(_) => Err(Starved),
+    }
+}
+
+#[test]
+fn a_hundred_thousand_hints_are_tested(rt: HostRuntime) -> Result<(), Fail> {
+    for (more, wanted) in [
+        ("", None),
+        ("hint 198.51.100.2\n", Some(WorldError::NoStart)),
+    ] {
+        assert_eq!(rt;
+            fault_of_many(rt.alloc(), more)?,
+            wanted,
+            "behind them {more:?}"
+        );
+    }
+    Ok(())
+}
+
+// Of this owner's addresses a message over TCP holds 4,094: header and question take 19 bytes, each record 16. The
+// world has one fewer.
+const COUNT: u16 = 4_093;
+
+// A world in which w. has these addresses, numbered from 10.0.0.0 on.
+fn world_of_many<A: Heap>(alloc: A) -> Result<World<A>, Starved> {
+    let mut text = String::from_str(alloc, ROOT)?;
+    for number in 0..COUNT {
+        let [high, low] = number.to_be_bytes();
+        write!(text, "w. 60 A 10.0.{high}.{low}\n")?;
+    }
+    text.push_str(SERVED)?;
+    world_of(alloc, text.as_str())
+}
+
+// A reply with so many addresses: those of the world, and then the last one again.
+fn reply_of_many<A: Heap>(alloc: A, count: u16) -> Result<Vec<u8, A>, Starved> {
+    let mut bytes = Vec::from_slice(alloc, b"\0\x07\x84\x80\0\x01")?;
+    bytes.extend_from_slice(&count.to_be_bytes())?;
+    bytes.extend_from_slice(b"\0\0\0\0\x01w\0\0\x01\0\x01")?;
+    for number in 0..count {
+        bytes.extend_from_slice(b"\xc0\x0c\0\x01\0\x01\0\0\0\x3c\0\x04\x0a\0")?;
+        bytes.extend_from_slice(&number.min(COUNT - 1).to_be_bytes())?;
+    }
+    Ok(bytes)
+}
+
+fn judged_many<A: Heap>(alloc: A, world: &World<A>, count: u16) -> Result<bool, Starved> {
+    let reply = reply_of_many(alloc, count)?;
+    is_right(alloc, world, "w.", &reply)
+}
+
+// Each once, and the last one twice.
+fn judged_longest<A: Heap>(alloc: A) -> Result<(bool, bool), Starved> {
+    let world = world_of_many(alloc)?;
+    let whole = judged_many(alloc, &world, COUNT)?;
+    let doubled = judged_many(alloc, &world, COUNT + 1)?;
+    Ok((whole, doubled))
+}
+
+#[test]
+fn the_longest_replies_are_judged(rt: HostRuntime) -> Result<(), Fail> {
+    assert_eq!(rt; judged_longest(rt.alloc())?, (true, false));
+    Ok(())
+}

@@ -1,11 +1,11 @@
 //! A query that a local zone answers, bytes to bytes.
-use crate::records::{name, put};
-use crate::wire_tests::{DENIAL, QUERY, REPLY};
+use crate::wire_tests::{QUERY, REPLY};
 use authority::Catalog;
 use dname::{Heap, Starved};
-use front::{Asked, Outcome, Query, Via, Writer, answer_local, read_query, reply_bytes};
-use rdata::{Addr, RData, RType, Records, Soa};
-use refusing::Refusing;
+use front::{Outcome, Query, Request, Via, Writer, answer_local, read_query, reply_bytes};
+use rdata::{Addr, RData, Record, Records, Soa};
+use record_fixtures::name;
+use refusing_alloc::Refusing;
 use std::alloc::Allocator;
 use std::test::Fail;
 use zone::Zone;
@@ -20,15 +20,6 @@ const EXAMPLE: Small<'static> = (
     [7200, 600, 3_600_000],
     "www.example",
     Addr([192, 0, 2, 1]),
-);
-
-const LAB: Small<'static> = (
-    "lab.example",
-    "ns.lab.example",
-    "h.lab.example",
-    [2, 3, 4],
-    "a.b.lab.example",
-    Addr([192, 0, 2, 7]),
 );
 
 // The SOA of the zone.
@@ -48,6 +39,21 @@ fn soa<A: Heap>(alloc: A, zone: Small<'_>) -> Result<RData<A>, Starved> {
     Ok(RData::Soa(Box::new(alloc, soa)?))
 }
 
+// One record more, of that owner, with 300 seconds to live.
+fn put<A: Heap>(
+    alloc: A,
+    records: &mut Records<A>,
+    owner: &str,
+    value: RData<A>,
+) -> Result<(), Starved> {
+    let owner = name(alloc, owner)?;
+    records.push(Record {
+        owner,
+        ttl: 300,
+        value,
+    })
+}
+
 // The records of the zone.
 fn put_records<A: Heap>(
     alloc: A,
@@ -56,10 +62,10 @@ fn put_records<A: Heap>(
 ) -> Result<(), Starved> {
     let (origin, server, _, _, host, address) = zone;
     let soa = soa(alloc, zone)?;
-    put(alloc, records, origin, 300, soa)?;
+    put(alloc, records, origin, soa)?;
     let server = RData::Ns(name(alloc, server)?);
-    put(alloc, records, origin, 300, server)?;
-    put(alloc, records, host, 300, RData::A(address))
+    put(alloc, records, origin, server)?;
+    put(alloc, records, host, RData::A(address))
 }
 
 fn built<A: Heap>(alloc: A, zone: Small<'_>) -> Result<Zone<A>, Starved> {
@@ -83,9 +89,9 @@ fn catalog<A: Heap>(alloc: A, zone: Small<'_>) -> Result<Catalog<A>, Starved> {
 }
 
 // The query that these bytes are.
-pub fn query_of<A: Heap>(alloc: A, bytes: &[u8]) -> Result<Query<A>, Starved> {
+fn query_of<A: Heap>(alloc: A, bytes: &[u8]) -> Result<Query<A>, Starved> {
     match read_query(alloc, bytes)? {
-        Asked::Query(query) => Ok(query),
+        Request::Query(query) => Ok(query),
         _ => Err(Starved),
     }
 }
@@ -123,60 +129,7 @@ fn is_answered<A: Heap>(
     is_answer(alloc, catalog, &query, reply)
 }
 
-// The same of the catalog of the zone alone.
-fn is_answered_from<A: Heap>(
-    alloc: A,
-    zone: Small<'_>,
-    query: &[u8],
-    reply: &[u8],
-) -> Result<bool, Starved> {
-    let catalog = catalog(alloc, zone)?;
-    is_answered(alloc, &catalog, query, reply)
-}
-
-#[test]
-fn queries_are_answered_from_a_zone(rt: HostRuntime) -> Result<(), Fail> {
-    for (zone, query, reply, sizes) in [
-        (EXAMPLE, QUERY, REPLY, (29, 45)),
-        // A name between others has no data. ID 1, RD clear, one question: b.lab.example. TXT IN.
-        (
-            LAB,
-            b"\0\x01\0\0\0\x01\0\0\0\0\0\0\x01b\x03lab\x07example\0\0\x10\0\x01",
-            DENIAL,
-            (31, 72),
-        ),
-    ] {
-        assert_eq!(rt; (query.len(), reply.len()), sizes);
-        assert!(rt;
-            is_answered_from(rt.alloc(), zone, query, reply)?,
-            "from {}",
-            zone.0
-        );
-    }
-    Ok(())
-}
-
-// How many looks that name between others takes in the tree of its zone.
-fn looks<A: Heap>(alloc: A, catalog: &Catalog<A>) -> Result<usize, Starved> {
-    let asked = name(alloc, "b.lab.example")?;
-    let (_, looks) = catalog.look_counted(alloc, &asked, RType::Txt)?;
-    Ok(looks)
-}
-
-fn looks_in_lab<A: Heap>(alloc: A) -> Result<usize, Starved> {
-    let catalog = catalog(alloc, LAB)?;
-    looks(alloc, &catalog)
-}
-
-// The tree of the zone is asked at most once a label of the name, once for the root, and once more.
-#[test]
-fn a_name_between_others_takes_five_looks(rt: HostRuntime) -> Result<(), Fail> {
-    let looks = looks_in_lab(rt.alloc())?;
-    assert!(rt; 1 <= looks && looks <= 5, "{looks} looks");
-    Ok(())
-}
-
-// The first growth of the answer that is not refused as want of memory, or behind which the answer is another.
+// The first growth of the answer that is not refused as out of memory, or behind which the answer is another.
 fn first_wrong_growth<'a, B: Allocator>(
     heap: &'a Refusing<B>,
     catalog: &Catalog<&'a Refusing<B>>,

@@ -1,8 +1,8 @@
 use super::{copies, set_of};
 use dname::{Heap, Name, NameError, Starved, put_name};
-use fixtures::{Row, Value, name, record, records};
 use rdata::{RType, Record, Records, put_data, set_at};
-use refusing::Refusing;
+use record_fixtures::{Row, Value, name, record, records};
+use refusing_alloc::Refusing;
 use std::alloc::Allocator;
 use std::test::Fail;
 

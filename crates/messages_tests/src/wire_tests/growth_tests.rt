@@ -1,20 +1,27 @@
 use crate::wire_tests::DENIAL;
-use crate::wire_tests::tests::is_rewritten;
 use dname::Heap;
-use refusing::Refusing;
+use refusing_alloc::Refusing;
 use std::test::Fail;
-use wire::{WireError, decode_question};
+use wire::{WireError, decode, decode_question, encode};
 
-// Whether a denial is written as it was read, or whether its question alone is read.
+// Whether what is read is written as it stood.
+fn is_rewritten<A: Heap>(alloc: A, bytes: &[u8]) -> Result<bool, WireError> {
+    let message = decode(alloc, bytes)?;
+    let written = encode(alloc, &message, 65_535);
+    drop(message);
+    Ok(written?.as_slice() == bytes)
+}
+
+// Whether a negative answer is written as it was read, or whether its question alone is read.
 fn is_read<A: Heap>(alloc: A, whole: bool) -> Result<bool, WireError> {
     if whole {
-        is_rewritten(alloc, DENIAL, 65_535)
+        is_rewritten(alloc, DENIAL)
     } else {
         Ok(decode_question(alloc, DENIAL)?.is_some())
     }
 }
 
-// A denial takes more than eight growths, its question alone at least one.
+// A negative answer takes more than eight growths, its question alone at least one.
 #[test]
 fn each_growth_is_refused_in_turn(rt: HostRuntime) -> Result<(), Fail> {
     for (whole, least) in [(true, 9), (false, 1)] {

@@ -1,7 +1,7 @@
 //! Zones beneath one another, each a label further down: a query may have to walk through all of them.
 
 use crate::player_tests::texts::{script, world};
-use player::play;
+use play::play;
 use std::alloc::{AllocError, Global};
 use std::test::Fail;
 

@@ -2,8 +2,8 @@
 
 use crate::player_tests::texts::{all_right, script, world};
 use dname::Starved;
-use player::play;
-use refusing::Refusing;
+use play::play;
+use refusing_alloc::Refusing;
 use std::alloc::{AllocError, Global};
 use std::process::Abort;
 use std::test::Fail;
@@ -23,7 +23,7 @@ const SCRIPTS: [&str; 7] = [
     "ask www.out.example. A\nrun\nask www.sub.corp.example. A\nrun\n",
 ];
 
-// Whether a play ends for want of memory, or with each reply that counts right, where the growth behind `n` others is
+// Whether a play ends when out of memory, or with each reply that counts right, where the growth behind `n` others is
 // refused.
 fn is_well(heap: &Refusing<Global>, text: &str, n: u64) -> bool {
     heap.refuse_after(u64::MAX);

@@ -3,7 +3,7 @@
 use crate::made::Dice;
 use crate::player_tests::made::Tree;
 use crate::player_tests::texts::{all_right, script, world};
-use player::play;
+use play::play;
 use std::alloc::Global;
 use std::test::Fail;
 

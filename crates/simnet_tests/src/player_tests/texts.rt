@@ -1,8 +1,8 @@
 //! What texts say, and what a play's last line says.
 
 use dname::Heap;
-use orders::{Order, read_script};
-use script::read_world;
+use script::{Order, read_script};
+use world_text::read_world;
 use worlds::World;
 
 /// The world of a text.

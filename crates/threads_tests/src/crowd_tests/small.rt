@@ -3,10 +3,10 @@ ghost use Rattle.std.specs.Prelude.{◌≡◌, IfOk};
 ghost use Rattle.simnet.specs.Beginnings.{Begins};
 
 use dname::Starved;
-use orders::{Order, read_script};
-use script::world_in;
+use script::{Order, read_script};
 use simnet::{Settings, Sim};
 use std::alloc::Global;
+use world_text::world_in;
 use worlds::World;
 
 const WORLD: &str =

@@ -5,10 +5,9 @@ ghost use Rattle.simnet.specs.Beginnings.{Begins};
 
 use crate::crowd_tests::small::{network, orders_of};
 use book::Entry;
-use crew::{Meeting, Open};
-use crowd::{Asking, Beginning, Within, lists_of, run_shared};
 use dname::Starved;
 use pool::PoolError;
+use score::Clients;
 use simnet::{Sim, SimAction, SimActions, SimEvent};
 use std::alloc::Global;
 use std::marker::Brand;
@@ -17,10 +16,11 @@ use std::sync::ledger::{Blank, Ledger};
 use std::test::Fail;
 use std::thread::Threads;
 use std::time::Clock;
-use tally::Clients;
+use storm::{Beginning, StormQuery, Within, lists_of, run_shared};
+use workers::{Meeting, Open};
 
 // What so many workers ask, each by this script.
-fn lists(alloc: Global, workers: usize, script: &str) -> Result<Vec<Vec<Asking>>, Starved> {
+fn lists(alloc: Global, workers: usize, script: &str) -> Result<Vec<Vec<StormQuery>>, Starved> {
     let mut scripts = Vec::new(alloc);
     for _ in 0..workers {
         scripts.push(orders_of(alloc, script)?)?;
@@ -43,7 +43,7 @@ fn rounds(alloc: Global) -> Result<String, Starved> {
 }
 
 // What four workers ask who meet, fifty queries each.
-fn lists_of_four(alloc: Global) -> Result<Vec<Vec<Asking>>, Starved> {
+fn lists_of_four(alloc: Global) -> Result<Vec<Vec<StormQuery>>, Starved> {
     let script = rounds(alloc)?;
     lists(alloc, 4, script.as_str())
 }

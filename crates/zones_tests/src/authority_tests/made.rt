@@ -2,13 +2,13 @@
 
 use authority::Catalog;
 use dname::{Heap, Name, Starved};
-use fixtures::{Row, Value, name, record, records};
 use rand_chacha::ChaCha8Rng;
 use rand_core::{Rng, SeedableRng};
 use rdata::{RType, Record, Records};
+use record_fixtures::{Row, Value, name, record, records};
 use zone::Zone;
 
-/// The catalog of these zones. One that is refused counts as want of memory.
+/// The catalog of these zones. One that is refused counts as out of memory.
 pub fn known<A: Heap>(zones: Vec<Zone<A>, A>) -> Result<Catalog<A>, Starved> {
     match Catalog::new(zones) {
         Ok(catalog) => Ok(catalog),

@@ -142,7 +142,7 @@ fn alike_in<A: Heap>(alloc: A, seed: u8) -> Result<u32, Starved> {
 #[test]
 fn the_tree_answers_as_the_list_does(rt: HostRuntime) -> Result<(), Fail> {
     for seed in 0..50 {
-        assert!(rt; alike_in(rt.alloc(), seed)? == 40, "seed {seed}");
+        assert_eq!(rt; alike_in(rt.alloc(), seed)?, 40, "of seed {seed}");
     }
     Ok(())
 }

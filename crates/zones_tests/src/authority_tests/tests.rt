@@ -1,9 +1,9 @@
 use crate::authority_tests::made::known;
-use authority::{Catalog, CatalogError, Link, Local};
+use crate::refusals::{Work, refuse_each};
+use authority::{Catalog, CatalogError, Local};
 use dname::{Heap, Name, Starved};
-use fixtures::{Row, Value, name, record, records};
 use rdata::{RType, Records};
-use refusing::Refusing;
+use record_fixtures::{Row, Value, name, record, records};
 use std::test::Fail;
 use zone::Zone;
 
@@ -73,144 +73,25 @@ fn catalog<A: Heap>(alloc: A) -> Result<Catalog<A>, Starved> {
     known(zones)
 }
 
-// The kind of an answer, the name that it speaks of, if any, and how many records and addresses it has.
-type Answer = (&'static str, &'static str, usize, usize);
+// What is asked for, of the zones with which origins (`None`: of all).
+type Case = (&'static str, RType, Option<&'static [&'static str]>);
 
-// What is asked for, of the zones with which origins (`None`: of all), and the answer.
-type Case = (&'static str, RType, Option<&'static [&'static str]>, Answer);
-
+// One of each kind of answer.
 const CASES: &[Case] = &[
-    // A wildcard answers where no name is closer.
-    (
-        "x.lab.example",
-        RType::Txt,
-        None,
-        ("found", "x.lab.example.", 1, 0),
-    ),
-    (
-        "x.y.lab.example",
-        RType::Txt,
-        None,
-        ("found", "x.y.lab.example.", 1, 0),
-    ),
-    (
-        "x.lab.example",
-        RType::A,
-        None,
-        ("no data", "lab.example.", 0, 0),
-    ),
-    (
-        "x.b.lab.example",
-        RType::Txt,
-        None,
-        ("no name", "lab.example.", 0, 0),
-    ),
-    (
-        "b.lab.example",
-        RType::Txt,
-        None,
-        ("no data", "lab.example.", 0, 0),
-    ),
-    // Records, an alias, a cut.
-    (
-        "a.b.lab.example",
-        RType::A,
-        None,
-        ("found", "a.b.lab.example.", 1, 0),
-    ),
-    (
-        "www.lab.example",
-        RType::A,
-        None,
-        ("alias", "www.lab.example.", 1, 0),
-    ),
-    (
-        "x.sub.lab.example",
-        RType::A,
-        None,
-        ("cut", "sub.lab.example.", 1, 1),
-    ),
-    (
-        "sub.lab.example",
-        RType::Ns,
-        None,
-        ("cut", "sub.lab.example.", 1, 1),
-    ),
-    (
-        "lab.example",
-        RType::Ns,
-        None,
-        ("found", "lab.example.", 1, 0),
-    ),
+    ("x.y.lab.example", RType::Txt, None),
+    ("www.lab.example", RType::A, None),
+    ("x.lab.example", RType::A, None),
+    ("x.b.lab.example", RType::Txt, None),
+    ("x.sub.lab.example", RType::A, None),
     // Repeats are found in a long set: each address once.
-    (
-        "many.example",
-        RType::A,
-        None,
-        ("found", "many.example.", 40, 0),
-    ),
-    // The zone of the longest origin answers, as above; else that of a shorter one, or none.
-    (
-        "other.example",
-        RType::Txt,
-        None,
-        ("no name", "example.", 0, 0),
-    ),
-    ("example", RType::Txt, None, ("no data", "example.", 0, 0)),
-    ("test", RType::A, None, ("not here", "", 0, 0)),
-    // Of the zones whose origins are listed, and of no others.
+    ("many.example", RType::A, None),
+    ("test", RType::A, None),
     (
         "x.lab.example",
         RType::Txt,
         Some(&["example", "lab.example"]),
-        ("found", "x.lab.example.", 1, 0),
-    ),
-    (
-        "x.lab.example",
-        RType::Txt,
-        Some(&["lab.example"]),
-        ("found", "x.lab.example.", 1, 0),
-    ),
-    // The shorter origin, where the longer one is not listed.
-    (
-        "x.lab.example",
-        RType::Txt,
-        Some(&["example"]),
-        ("no name", "example.", 0, 0),
-    ),
-    // Listed, but not over the name; without a zone; none at all.
-    (
-        "x.example",
-        RType::Txt,
-        Some(&["lab.example"]),
-        ("not here", "", 0, 0),
-    ),
-    (
-        "a.b.lab.example",
-        RType::Txt,
-        Some(&["test", "b.lab.example"]),
-        ("not here", "", 0, 0),
-    ),
-    (
-        "x.lab.example",
-        RType::Txt,
-        Some(&[]),
-        ("not here", "", 0, 0),
     ),
 ];
-
-fn is_answer<A: Heap>(said: &Local<A>, wanted: Answer) -> Result<bool, Starved> {
-    let (answer, owner, records, addresses) = match said {
-        Local::Link(Link::Found(set)) => ("found", &set.owner, set.len(), 0),
-        Local::Link(Link::Alias(alias)) => ("alias", &alias.owner, 1, 0),
-        Local::Link(Link::NoData(soa)) => ("no data", &soa.owner, 0, 0),
-        Local::Link(Link::NxDomain(soa)) => ("no name", &soa.owner, 0, 0),
-        Local::Cut(cut, servers, glue) => ("cut", cut, servers.len(), glue.len()),
-        Local::NotHere => return Ok(wanted == ("not here", "", 0, 0)),
-    };
-    let owner = owner.to_text()?;
-    Ok((answer, owner.as_str(), records, addresses) == wanted)
-}
 
 fn names<A: Heap>(alloc: A, texts: &[&str]) -> Result<Vec<Name<A>, A>, Starved> {
     let mut names = Vec::new(alloc);
@@ -247,65 +128,34 @@ fn said<A: Heap>(
     }
 }
 
-// Whether they say of a name what they say of the case's.
-fn is_met_by<A: Heap>(
-    alloc: A,
-    zones: &Catalog<A>,
-    case: Case,
-    asked: &Name<A>,
-) -> Result<bool, Starved> {
-    let (_, kind, listed, answer) = case;
-    let said = said(alloc, zones, listed, asked, kind)?;
-    is_answer(&said, answer)
-}
-
-fn is_met<A: Heap>(alloc: A, zones: &Catalog<A>, case: Case) -> Result<bool, Starved> {
-    let asked = name(alloc, case.0)?;
-    is_met_by(alloc, zones, case, &asked)
-}
-
-// The first case in which these zones answer something else.
-fn first_wrong_of<A: Heap>(alloc: A, zones: &Catalog<A>) -> Result<Option<usize>, Starved> {
-    for (place, case) in CASES.iter().enumerate() {
-        if !is_met(alloc, zones, *case)? {
-            return Ok(Some(place));
-        }
-    }
-    Ok(None)
-}
-
-// The same of the zones above.
-fn first_wrong<A: Heap>(alloc: A) -> Result<Option<usize>, Starved> {
-    let zones = catalog(alloc)?;
-    first_wrong_of(alloc, &zones)
-}
-
-#[test]
-fn zones_answer(rt: HostRuntime) -> Result<(), Fail> {
-    assert_eq!(rt; first_wrong(rt.alloc())?, None);
+fn ask<A: Heap>(alloc: A, zones: &Catalog<A>, case: Case) -> Result<(), Starved> {
+    let (text, kind, listed) = case;
+    let asked = name(alloc, text)?;
+    said(alloc, zones, listed, &asked, kind)?;
     Ok(())
+}
+
+fn ask_all<A: Heap>(alloc: A, zones: &Catalog<A>) -> Result<(), Starved> {
+    for case in CASES {
+        ask(alloc, zones, *case)?;
+    }
+    Ok(())
+}
+
+struct Asked;
+
+impl Work for Asked {
+    fn is_done<A: Heap>(&self, alloc: A) -> Result<bool, Starved> {
+        let zones = catalog(alloc)?;
+        ask_all(alloc, &zones)?;
+        Ok(true)
+    }
 }
 
 #[test]
 fn each_growth_is_refused_in_turn(rt: HostRuntime) -> Result<(), Fail> {
-    let heap = Refusing::new(rt.alloc());
-    assert!(rt; matches!(first_wrong(&heap), Ok(None)));
-    let growths = heap.growths();
-    for n in 0..growths {
-        heap.refuse_after(n);
-        assert!(rt; first_wrong(&heap).is_err(), "growth {n}");
-    }
-    heap.refuse_after(growths);
-    assert!(rt; matches!(first_wrong(&heap), Ok(None)));
+    refuse_each(&rt, &Asked);
     Ok(())
-}
-
-// Twice the same zone.
-fn twins<A: Heap>(alloc: A) -> Result<Vec<Zone<A>, A>, Starved> {
-    let mut zones = Vec::new(alloc);
-    put_lab(alloc, &mut zones)?;
-    put_lab(alloc, &mut zones)?;
-    Ok(zones)
 }
 
 // The zone of an origin, with nothing in it.
@@ -348,29 +198,18 @@ fn many_zones<A: Heap>(alloc: A, more: &[&str]) -> Result<Vec<Zone<A>, A>, Starv
     Ok(zones)
 }
 
-// Why they are no catalog, if they are none.
-fn refusal<A: Heap>(zones: Vec<Zone<A>, A>) -> Option<CatalogError> {
-    Catalog::new(zones).err()
-}
-
 // Why many zones and these are no catalog, if they are none.
 fn refusal_of_many<A: Heap>(alloc: A, more: &[&str]) -> Result<Option<CatalogError>, Starved> {
     let zones = many_zones(alloc, more)?;
-    Ok(refusal(zones))
-}
-
-// The same of twins, of many zones, and of these with a twin of the first behind them.
-fn refusals<A: Heap>(alloc: A) -> Result<[Option<CatalogError>; 3], Starved> {
-    let of_two = refusal(twins(alloc)?);
-    let of_none = refusal_of_many(alloc, &[])?;
-    let of_ends = refusal_of_many(alloc, &["ZONE-0.example"])?;
-    Ok([of_two, of_none, of_ends])
+    Ok(Catalog::new(zones).err())
 }
 
 // Two zones of one origin are refused, also where they are the first and the last of many.
 #[test]
 fn twins_are_refused(rt: HostRuntime) -> Result<(), Fail> {
-    let twins = Some(CatalogError::Twins);
-    assert_eq!(rt; refusals(rt.alloc())?, [twins, None, twins]);
+    let of_none = refusal_of_many(rt.alloc(), &[])?;
+    assert_eq!(rt; of_none, None);
+    let of_ends = refusal_of_many(rt.alloc(), &["ZONE-0.example"])?;
+    assert_eq!(rt; of_ends, Some(CatalogError::Twins));
     Ok(())
 }

@@ -1,6 +1,6 @@
 -- The bytes are a message, so its lines are printed, and nothing stood before them.
 use Rattle.std.proofs.Common.{◌∙◌, ap, ⊎_elim, List, ℕ, ◌++◌}
-use Rattle.lines.specs.Lines.{reply_text}
+use Rattle.reply_lines.specs.Lines.{reply_text}
 use Rattle.commands.proofs.answering.printed.Goals as goal
 
 pub returns : goal.returns

@@ -5,7 +5,7 @@ use Rattle.commands.proofs.Storms.{ran}
 use Rattle.commands.proofs.run.run_command.Goals as goal
 
 pub returns-in-Serve-clause-run : goal.returns-in-Serve-clause-run
-returns-in-Serve-clause-run g c = rw c.in-Serve.is (rw c.as_str-in-Serve.ensures.value at c.serve.ensures.run)
+returns-in-Serve-clause-run g c = rw c.in-Serve.is (rw c.as_str-in-Serve.ensures.value at c.start_server.ensures.run)
 
 pub returns-in-Storm-clause-run : goal.returns-in-Storm-clause-run
 returns-in-Storm-clause-run g c =

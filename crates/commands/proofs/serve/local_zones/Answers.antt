@@ -2,7 +2,7 @@
 use Rattle.std.proofs.Common.{◌∙◌, sym, subst, ℕ, List}
 use Rattle.std.specs.Prelude.{Option}
 use Rattle.std.proofs.lemmas.List.{take_all}
-use Rattle.config.specs.Configs.{Zone as Local}
+use Rattle.config.specs.Configs.{LocalZone}
 use Rattle.commands.specs.Servers.{AreZonesIn, LacksZone}
 use Rattle.commands.specs.Zones.{HoldsZone, HoldsNoZone}
 use Rattle.commands.specs.declared.fault.Fault.{Fault}
@@ -21,7 +21,7 @@ loop-local-preserved g c = (
 
 pub returns-clause-ok : goal.returns-clause-ok
 returns-clause-ok g c =
-    subst (λ (ls : List Local). AreZonesIn (g.T.Texts.held c.args.texts.now) ls c.loop-local.zones.items) (take_all c.loop-local.local-index c.args.locals.now c.loop-local-test.false)
+    subst (λ (ls : List LocalZone). AreZonesIn (g.T.Texts.held c.args.texts.now) ls c.loop-local.zones.items) (take_all c.loop-local.local-index c.args.locals.now c.loop-local-test.false)
     c.loop-local.invariant.1
 
 pub returns-in_err-zone_of-clause-err : goal.returns-in_err-zone_of-clause-err

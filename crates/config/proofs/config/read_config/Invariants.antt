@@ -1,5 +1,5 @@
 use Rattle.std.proofs.Common.{◌≡◌}
-use Rattle.statements.specs.Texts.{said_from}
+use Rattle.text_lines.specs.Texts.{said_from}
 use Rattle.config.specs.Configs.{said, whole, config_of}
 use Rattle.config.proofs.config.read_config.Given as goal
 

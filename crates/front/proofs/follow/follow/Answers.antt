@@ -13,8 +13,8 @@ returns-in-Ended g c =
     let ends : IsEndAt (local_view c.aliases.found) c.in-Ended.end = subst (IsStep (local_view c.aliases.found)) c.in-Ended.is c.in_ok-step.ensures in
     going-ends _ _ _ _ _ c.aliases.invariant ends
 
-pub returns-then-len-eq-MOST_ALIASES : goal.returns-then-len-eq-MOST_ALIASES
-returns-then-len-eq-MOST_ALIASES g c =
+pub returns-then-len-eq-MAX_ALIASES : goal.returns-then-len-eq-MAX_ALIASES
+returns-then-len-eq-MAX_ALIASES g c =
     let onward : local_view c.aliases.found ≡ Linked (Alias c.in-Onward.alias) = subst (IsStep (local_view c.aliases.found)) c.in-Onward.is c.in_ok-step.ensures in
     going-long _ _ _ _ _ c.aliases.invariant onward (search rules)
 

@@ -1,7 +1,7 @@
 -- A refusal has no records.
 use Rattle.std.proofs.Common.{◌∙◌, ap, subst, option_copied, false, ℕ}
 use Rattle.std.proofs.lemmas.Result.{IfOk-weaker}
-use Rattle.layout.specs.Messages.{Message, IsMessage, encoding, folded_message}
+use Rattle.message_grammar.specs.Messages.{Message, IsMessage, encoding, folded_message}
 use Rattle.wire.specs.Drafts.{asked_alone}
 use Rattle.front.specs.Replies.{bare}
 use Rattle.front.proofs.Short.{bare_fits}

@@ -1,6 +1,6 @@
 -- The short reply where the whole one does not fit.
 use Rattle.std.proofs.Common.{rules, ◌∙◌, sym, ap, refl, arith, ◌<◌, ◌≤◌, Option, Some, length}
-use Rattle.layout.specs.Messages.{Message, encoding}
+use Rattle.message_grammar.specs.Messages.{Message, encoding}
 use Rattle.causes.specs.declared.cause.Cause.{Cause}
 use Rattle.front.specs.Replies.{reply_of, truncated_reply}
 use Rattle.wire.specs.declared.via.Via.{Via}

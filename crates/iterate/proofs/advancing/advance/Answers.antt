@@ -1,7 +1,7 @@
 use Rattle.resolution.specs.Jobs.{point}
 use Rattle.resolution.proofs.Falls.{enters_fresh}
 use Rattle.resolution.proofs.Keeping.{enters_stop}
-use Rattle.known.proofs.Uses.{uses_stop}
+use Rattle.lookup.proofs.Uses.{uses_stop}
 use Rattle.iterate.specs.Views.{input_view, task_view}
 use Rattle.iterate.proofs.Accepted.{on_err}
 use Rattle.iterate.proofs.advancing.advance.Goals as goal

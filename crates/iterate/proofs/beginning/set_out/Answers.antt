@@ -1,7 +1,7 @@
 use Rattle.resolution.specs.Jobs.{Seek, point}
 use Rattle.resolution.proofs.Falls.{stays_fresh}
 use Rattle.iterate.specs.Views.{task_view, next_view}
-use Rattle.iterate.proofs.Started.{begins_work}
+use Rattle.iterate.proofs.QueryStarts.{begins_work}
 use Rattle.iterate.proofs.beginning.set_out.Goals as goal
 
 pub run-requires : goal.run-requires

@@ -1,6 +1,6 @@
 use Rattle.std.proofs.Common.{true}
 use Rattle.iterate.specs.Moves.{ArePassed}
-use Rattle.known.proofs.Uses.{uses_then}
+use Rattle.lookup.proofs.Uses.{uses_then}
 use Rattle.iterate.proofs.Passed.{some_passed}
 use Rattle.iterate.proofs.serving.go_on.Goals as goal
 

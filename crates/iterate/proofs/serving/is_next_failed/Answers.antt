@@ -1,6 +1,6 @@
 use Rattle.rdata.specs.Types.{type_number}
 use Rattle.cache.specs.Failures.{failed_ask}
-use Rattle.known.proofs.Uses.{failure_uses}
+use Rattle.lookup.proofs.Uses.{failure_uses}
 use Rattle.iterate.proofs.serving.is_next_failed.Goals as goal
 
 pub returns-in_ok-is_failed-in-Some-clause-only : goal.returns-in_ok-is_failed-in-Some-clause-only

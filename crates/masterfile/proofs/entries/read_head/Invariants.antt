@@ -1,5 +1,5 @@
 use Rattle.std.proofs.Common.{◌≡◌, ◌∷◌, None, false, length}
-use Rattle.words.specs.Lexemes.{plain}
+use Rattle.master_lexer.specs.Lexemes.{plain}
 use Rattle.masterfile.specs.Entries.{take_head, IsTtl}
 use Rattle.masterfile.proofs.entries.read_head.Given as goal
 

@@ -1,5 +1,5 @@
 use Rattle.std.proofs.Common.{sym, ◌∙◌}
-use Rattle.words.specs.Views.{lead_of}
+use Rattle.master_lexer.specs.Views.{lead_of}
 use Rattle.masterfile.proofs.FileLemmas.{first_read, step_read}
 use Rattle.masterfile.proofs.files.read_block.Goals as goal
 

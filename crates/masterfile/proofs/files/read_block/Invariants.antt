@@ -1,5 +1,5 @@
 use Rattle.std.proofs.Common.{◌≡◌, ◌∷◌, length}
-use Rattle.words.specs.Views.{lead_of}
+use Rattle.master_lexer.specs.Views.{lead_of}
 use Rattle.masterfile.specs.Files.{read_from, read_lines}
 use Rattle.masterfile.proofs.Fronts.{with_front}
 use Rattle.masterfile.proofs.files.read_block.Given as goal

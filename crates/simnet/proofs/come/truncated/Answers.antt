@@ -1,7 +1,7 @@
 use Rattle.std.proofs.Common.{rules, ◌∙◌, ap}
-use Rattle.layout.specs.Messages.{Message}
+use Rattle.message_grammar.specs.Messages.{Message}
 use Rattle.simnet.proofs.Truncated.{starved_only}
-use Rattle.layout.proofs.Single.{message_one}
+use Rattle.message_grammar.proofs.Single.{message_one}
 use Rattle.simnet.proofs.come.truncated.Goals as goal
 
 pub written-requires : goal.written-requires

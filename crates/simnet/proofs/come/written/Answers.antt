@@ -1,5 +1,5 @@
 use Rattle.std.proofs.Common.{rules, ◌≡◌, ◌∙◌, sym, ap, subst, ℕ, List}
-use Rattle.layout.specs.Messages.{Message, IsMessage, encoding, folded_message}
+use Rattle.message_grammar.specs.Messages.{Message, IsMessage, encoding, folded_message}
 use Rattle.wire.specs.Drafts.{RefusesText}
 use Rattle.simnet.proofs.Truncated.{truncated_is_folded, only_starved}
 use Rattle.simnet.proofs.come.written.Goals as goal

@@ -1,7 +1,7 @@
 -- A message is written as the draft that lends all of it.
 use Rattle.std.proofs.Common.{◌∙◌, ◌≡◌, []}
 use Rattle.std.specs.Prelude.{None}
-use Rattle.layout.specs.Messages.{Message}
+use Rattle.message_grammar.specs.Messages.{Message}
 use Rattle.wire.specs.Drafts.{drafted}
 use Rattle.wire.proofs.Writing.{lent_is, lent_ok, lent_err, lent_message}
 use Rattle.wire.proofs.encoder.encode.Given.{Over}

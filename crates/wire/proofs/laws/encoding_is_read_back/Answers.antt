@@ -1,5 +1,5 @@
-use Rattle.layout.specs.Messages.{encoding, folded_message}
-use Rattle.layout.proofs.Whole.{encoding_holds}
+use Rattle.message_grammar.specs.Messages.{encoding, folded_message}
+use Rattle.message_grammar.proofs.Whole.{encoding_holds}
 use Rattle.wire.proofs.MessagesRead.{message_read}
 use Rattle.wire.proofs.laws.encoding_is_read_back.Goals as goal
 

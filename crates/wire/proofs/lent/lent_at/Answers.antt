@@ -1,5 +1,5 @@
 use Rattle.std.proofs.Common.{◌∙◌, sym, ap, arith}
-use Rattle.layout.specs.Messages.{served_type, ttl_of}
+use Rattle.message_grammar.specs.Messages.{served_type, ttl_of}
 use Rattle.wire.proofs.Lending.{no_owner, fits, lent_none, lent_some, is_lent}
 use Rattle.wire.proofs.lent.lent_at.Goals as goal
 

@@ -1,5 +1,5 @@
 use Rattle.std.proofs.Common.{◌∙◌, sym, arith}
-use Rattle.layout.specs.Messages.{served_type}
+use Rattle.message_grammar.specs.Messages.{served_type}
 use Rattle.wire.proofs.Skipping.{usual_by}
 use Rattle.wire.proofs.records.begins_usual.Goals as goal
 

@@ -1,5 +1,5 @@
 use Rattle.std.proofs.Common.{ℕ, ◌+◌, ◌-◌, ◌<◌, ◌≤◌, ◌∙◌, sym, ap, subst, length, Ok, None}
-use Rattle.layout.specs.Messages.{served_type}
+use Rattle.message_grammar.specs.Messages.{served_type}
 use Rattle.wire.proofs.Skipping.{handed, skipping_refused, skip_refused, skip_short, skip_cut, skip_done, skip_kept}
 use Rattle.wire.proofs.records.skipped_end.Goals as goal
 

@@ -1,5 +1,5 @@
 use Rattle.std.proofs.Common.{◌≡◌, ℕ, ◌+◌, ◌-◌, ◌≤◌, ◌∙◌, sym, subst, length, Err}
-use Rattle.layout.specs.Messages.{served_type}
+use Rattle.message_grammar.specs.Messages.{served_type}
 use Rattle.wire.specs.Results.{end_of}
 use Rattle.wire.specs.Values.{form_at}
 use Rattle.wire.proofs.Skipping.{handed, form_fails}

@@ -2,8 +2,8 @@ use Rattle.std.proofs.Common.{rules, sym, ◌∙◌, ap, subst, ◌≡◌, ℕ, 
 use Rattle.dname.specs.Labels.{Name}
 use Rattle.rdata.specs.Records.{Record}
 use Rattle.rdata.specs.Types.{type_number}
-use Rattle.layout.specs.Messages.{Message}
-use Rattle.truth.specs.Worlds.{World}
+use Rattle.message_grammar.specs.Messages.{Message}
+use Rattle.world_truth.specs.Worlds.{World}
 use Rattle.worlds.specs.Judging.{IsRest, is_none}
 use Rattle.worlds.proofs.Replied.{Clause, truncated_reply, whole_reply}
 use Rattle.worlds.proofs.judging.is_right.Goals as goal

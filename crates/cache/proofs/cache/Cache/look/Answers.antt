@@ -3,7 +3,7 @@ use Rattle.std.proofs.Common.{◌∙◌, sym, subst, ℕ, List}
 use Rattle.std.specs.Prelude.{IfSome, IfNone}
 use Rattle.lru.specs.LruCache.{LruCache, lru_cache}
 use Rattle.rdata.specs.Types.{type_number}
-use Rattle.recency.specs.Orders.{HasSame}
+use Rattle.lru_laws.specs.Orders.{HasSame}
 use Rattle.cache.specs.Keys.{Key}
 use Rattle.cache.specs.Cached.{Hit, asked_to, hit_of, lent, moved, IsHeld, IsMiss}
 use Rattle.cache.proofs.cache.Cache.look.Goals as goal

@@ -1,34 +1,34 @@
 use Rattle.std.proofs.Common.{◌≡◌, Some, None, ◌∙◌, ap, sym, subst}
 use Rattle.std.proofs.lemmas.Result.{IfOk-weaker, on_err_weaker}
-use Rattle.exchange.specs.Views.{event_view}
+use Rattle.events.specs.Views.{event_view}
 use Rattle.runs.specs.States.{Event, State, moved}
-use Rattle.engine.specs.Works.{state_of, IsSound}
+use Rattle.engine.specs.ResolverStates.{state_of, IsSound}
 use Rattle.engine.specs.Turns.{Turns, IsQuiet}
 use Rattle.engine.proofs.Stepped.{by_result, heard_is_sound, stepped, stepped_is_sound}
 use Rattle.engine.proofs.machine.Core.step.Goals as goal
 
-pub turn-out-requires : goal.turn-out-requires
-turn-out-requires g c = record { sound = heard_is_sound (state_of c.self.inside.works) (state_of c.hear_of.new.self) (event_view c.args.event.now) c.hear_of.ensures c.self.invariant }
+pub handle_event-out-requires : goal.handle_event-out-requires
+handle_event-out-requires g c = record { sound = heard_is_sound (state_of c.self.inside.state) (state_of c.advance_clock.new.self) (event_view c.args.event.now) c.advance_clock.ensures c.self.invariant }
 
 pub invariant_of-self : goal.invariant_of-self
 invariant_of-self g c =
-    let was : State = state_of c.self.inside.works in
-    let mid : State = state_of c.hear_of.new.self in
-    let new : State = state_of c.turn-out.new.self in
+    let was : State = state_of c.self.inside.state in
+    let mid : State = state_of c.advance_clock.new.self in
+    let new : State = state_of c.handle_event-out.new.self in
     let event : Event = event_view c.args.event.now in
-    by_result c.turn-out.result (λ a. Turns mid event (Some a) new) (Turns mid event None new) (IsSound new) c.turn-out.ensures.ok c.turn-out.ensures.err
-    (λ a h. stepped_is_sound was mid event c.hear_of.ensures new c.apart_law.ensures (Some a) h c.self.invariant)
-    (λ h. stepped_is_sound was mid event c.hear_of.ensures new c.apart_law.ensures None h c.self.invariant)
+    by_result c.handle_event-out.result (λ a. Turns mid event (Some a) new) (Turns mid event None new) (IsSound new) c.handle_event-out.ensures.ok c.handle_event-out.ensures.err
+    (λ a h. stepped_is_sound was mid event c.advance_clock.ensures new c.apart_law.ensures (Some a) h c.self.invariant)
+    (λ h. stepped_is_sound was mid event c.advance_clock.ensures new c.apart_law.ensures None h c.self.invariant)
 
 pub returns : goal.returns
 returns g c =
     let was : State = c.args.self.now in
-    let mid : State = state_of c.hear_of.new.self in
-    let new : State = state_of c.turn-out.new.self in
+    let mid : State = state_of c.advance_clock.new.self in
+    let new : State = state_of c.handle_event-out.new.self in
     let event : Event = event_view c.args.event.now in
-    let heard : mid ≡ moved was event = c.hear_of.ensures ∙ ap (λ (z : State). moved z event) c.self.view_is in
+    let heard : mid ≡ moved was event = c.advance_clock.ensures ∙ ap (λ (z : State). moved z event) c.self.view_is in
     record {
-      ok = IfOk-weaker c.turn-out.result _ _ (λ a h. stepped was mid event heard new c.apart_law.ensures (Some a) h) c.turn-out.ensures.ok;
-      err = on_err_weaker c.turn-out.result (stepped was mid event heard new c.apart_law.ensures None) c.turn-out.ensures.err;
-      quiet = λ q. c.turn-out.ensures.quiet (subst (λ (z : State). IsQuiet z event) (sym heard) q);
+      ok = IfOk-weaker c.handle_event-out.result _ _ (λ a h. stepped was mid event heard new c.apart_law.ensures (Some a) h) c.handle_event-out.ensures.ok;
+      err = on_err_weaker c.handle_event-out.result (stepped was mid event heard new c.apart_law.ensures None) c.handle_event-out.ensures.err;
+      quiet = λ q. c.handle_event-out.ensures.quiet (subst (λ (z : State). IsQuiet z event) (sym heard) q);
     }

@@ -1,5 +1,5 @@
 use Rattle.std.proofs.Common.{◌≡◌, Ok, ◌∷◌, subst}
-use Rattle.words.specs.Lexemes.{plain}
+use Rattle.master_lexer.specs.Lexemes.{plain}
 use Rattle.masterfile.specs.Entries.{Context, Head, ttl_in, record_of}
 use Rattle.masterfile.specs.Given.{GivesEntry}
 use Rattle.masterfile.proofs.HeadLemmas.{ttl_found, record_fails, gives_fault}

@@ -1,4 +1,4 @@
-use Rattle.exchange.specs.Views.{event_view}
+use Rattle.events.specs.Views.{event_view}
 use Rattle.simnet.proofs.Stepped.{passed, starved_before, starved_within}
 use Rattle.simnet.proofs.sim.Sim.pass.Goals as goal
 

@@ -1,5 +1,5 @@
 use Rattle.std.proofs.Common.{Some}
-use Rattle.exchange.specs.Views.{event_view}
+use Rattle.events.specs.Views.{event_view}
 use Rattle.simnet.specs.Views.{sim_event_view}
 use Rattle.simnet.proofs.Stepped.{comes, is_quiet, is_starved, stays_right, stays_run}
 use Rattle.simnet.proofs.sim.Sim.step.Goals as goal

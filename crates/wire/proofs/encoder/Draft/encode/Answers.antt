@@ -2,8 +2,8 @@ use Rattle.std.proofs.Common.{◌∙◌, ◌+◌, ◌%◌, ◌++◌, ap, subst, 
 use Rattle.std.specs.Prelude.{flat_map}
 use Rattle.std.specs.Option.{option_copied}
 use Rattle.rdata.specs.Rows.{in_set}
-use Rattle.layout.specs.Messages.{IsQuestion, IsRecord, IsWritable, encoding, record_pieces}
-use Rattle.layout.specs.Pieces.{Text, after}
+use Rattle.message_grammar.specs.Messages.{IsQuestion, IsRecord, IsWritable, encoding, record_pieces}
+use Rattle.message_grammar.specs.Pieces.{Text, after}
 use Rattle.wire.specs.Drafts.{asked_alone}
 use Rattle.wire.proofs.Writing.{draft_text}
 use Rattle.wire.proofs.Fitting.{all_both}
@@ -19,9 +19,9 @@ returns-clause-bytes g c =
     let additional = flat_map record_pieces d.additional.now in
     let q : Text = c.put_repeated.new.writer in
     let text = draft_text d.header d.questions.now (option_copied d.echo) d.first.now (in_set (option_copied d.second)) d.authority.now d.additional.now
-    c.begin.new.self c.put_header.new.self c.put_questions.new.self q (after q first) (after (after q first) second) (after (after (after q first) second) authority)
+    c.begin_message.new.self c.put_header.new.self c.put_questions.new.self q (after q first) (after (after q first) second) (after (after (after q first) second) authority)
     (after (after (after (after q first) second) authority) additional)
-    c.low_count.result c.low_count-2.result (length d.authority.now) (length d.additional.now) c.in_ok-begin.ensures c.in_ok-put_header.ensures.written
+    c.low_count.result c.low_count-2.result (length d.authority.now) (length d.additional.now) c.in_ok-begin_message.ensures c.in_ok-put_header.ensures.written
     (c.low_count.ensures ∙ ap (λ n. length d.questions.now % 65536 + n % 65536) c.count_of.ensures)
     (c.low_count-2.ensures ∙ ap (λ n. length d.first.now % 65536 + n % 65536) c.len_of.ensures) refl refl
     c.in_ok-put_questions.ensures.written c.in_ok-put_repeated.ensures.written refl refl refl refl in
@@ -39,9 +39,9 @@ returns-clause-message g c =
     let additional = flat_map record_pieces d.additional.now in
     let q : Text = c.put_repeated.new.writer in
     let text = draft_text d.header d.questions.now (option_copied d.echo) d.first.now (in_set (option_copied d.second)) d.authority.now d.additional.now
-    c.begin.new.self c.put_header.new.self c.put_questions.new.self q (after q first) (after (after q first) second) (after (after (after q first) second) authority)
+    c.begin_message.new.self c.put_header.new.self c.put_questions.new.self q (after q first) (after (after q first) second) (after (after (after q first) second) authority)
     (after (after (after (after q first) second) authority) additional)
-    c.low_count.result c.low_count-2.result (length d.authority.now) (length d.additional.now) c.in_ok-begin.ensures c.in_ok-put_header.ensures.written
+    c.low_count.result c.low_count-2.result (length d.authority.now) (length d.additional.now) c.in_ok-begin_message.ensures c.in_ok-put_header.ensures.written
     (c.low_count.ensures ∙ ap (λ n. length d.questions.now % 65536 + n % 65536) c.count_of.ensures)
     (c.low_count-2.ensures ∙ ap (λ n. length d.first.now % 65536 + n % 65536) c.len_of.ensures) refl refl
     c.in_ok-put_questions.ensures.written c.in_ok-put_repeated.ensures.written refl refl refl refl in

@@ -1,7 +1,7 @@
 -- The numbers, then the flags.
 use Rattle.std.proofs.Common.{◌≡◌, ◌∙◌, ap, ℕ, List, ◌++◌, append_assoc, refl, codes, decimal}
 use Rattle.std.proofs.lemmas.Grind.{put_two}
-use Rattle.layout.specs.Messages.{Header}
+use Rattle.message_grammar.specs.Messages.{Header}
 use Rattle.wire.specs.Shown.{flag_text, header_text}
 use Rattle.wire.proofs.shown.HeaderDisplay.fmt.Goals as goal
 

@@ -1,6 +1,6 @@
 use Rattle.std.proofs.Common.{◌-◌, ◌∙◌, length, sym, ap, arith}
 use Rattle.dname.specs.Laws.{same_name-exact, same_name-equal}
-use Rattle.layout.specs.Messages.{Question, Message}
+use Rattle.message_grammar.specs.Messages.{Question, Message}
 use Rattle.wire.specs.Numbers.{two_at}
 use Rattle.wire.specs.Parts.{message_faults, name_at}
 use Rattle.wire.specs.Views.{labels_in}

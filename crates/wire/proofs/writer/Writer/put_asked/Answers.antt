@@ -1,5 +1,5 @@
 use Rattle.std.proofs.Common.{◌∙◌, ap, refl}
-use Rattle.layout.specs.Pieces.{asked_name, put_flat}
+use Rattle.message_grammar.specs.Pieces.{asked_name, put_flat}
 use Rattle.wire.proofs.Writing.{on_ok, name_asked, name_folded}
 use Rattle.wire.proofs.writer.Writer.put_asked.Goals as goal
 

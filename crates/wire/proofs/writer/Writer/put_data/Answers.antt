@@ -1,8 +1,8 @@
 use Rattle.std.proofs.Common.{◌∙◌, ap, sym, subst}
 use Rattle.rdata.specs.Data.{Soa}
 use Rattle.rdata.specs.Kept.{datum}
-use Rattle.layout.specs.Pieces.{put_flats}
-use Rattle.layout.specs.Messages.{data_flats, FitsRdata, AreNamesOf}
+use Rattle.message_grammar.specs.Pieces.{put_flats}
+use Rattle.message_grammar.specs.Messages.{data_flats, FitsRdata, AreNamesOf}
 use Rattle.wire.proofs.Writing.{on_ok}
 use Rattle.wire.proofs.writer.Writer.put_data.Goals as goal
 

@@ -1,6 +1,6 @@
 use Rattle.std.proofs.Common.{◌≡◌, ◌∙◌, refl, length, arith}
 use Rattle.rdata.specs.Kept.{datum}
-use Rattle.layout.specs.Messages.{data_flats}
+use Rattle.message_grammar.specs.Messages.{data_flats}
 use Rattle.wire.proofs.Writing.{group_room, group_written}
 use Rattle.wire.proofs.writer.Writer.put_group.Goals as goal
 

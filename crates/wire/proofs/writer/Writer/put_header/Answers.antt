@@ -1,6 +1,6 @@
 use Rattle.std.proofs.Common.{rules, ◌∙◌, ap}
-use Rattle.layout.specs.Pieces.{after}
-use Rattle.layout.specs.Messages.{Header, Counts, header_pieces}
+use Rattle.message_grammar.specs.Pieces.{after}
+use Rattle.message_grammar.specs.Messages.{Header, Counts, header_pieces}
 use Rattle.wire.proofs.Writing.{on_ok, header_put}
 use Rattle.wire.proofs.writer.Writer.put_header.Goals as goal
 

@@ -1,5 +1,5 @@
 use Rattle.std.proofs.Common.{◌∙◌, ◌++◌, ap, refl}
-use Rattle.layout.specs.Pieces.{packed_name, put_flat}
+use Rattle.message_grammar.specs.Pieces.{packed_name, put_flat}
 use Rattle.wire.proofs.Writing.{on_ok, name_whole, name_cut}
 use Rattle.wire.proofs.writer.Writer.put_name.Goals as goal
 

@@ -1,4 +1,4 @@
-use Rattle.layout.specs.Messages.{question_pieces, IsQuestion}
+use Rattle.message_grammar.specs.Messages.{question_pieces, IsQuestion}
 use Rattle.wire.proofs.Writing.{row_on}
 use Rattle.wire.proofs.Fitting.{all_more}
 use Rattle.wire.proofs.writer.Writer.put_questions.Goals as goal

@@ -1,5 +1,5 @@
 use Rattle.std.proofs.Common.{inr}
-use Rattle.layout.specs.Messages.{record_pieces, IsRecord}
+use Rattle.message_grammar.specs.Messages.{record_pieces, IsRecord}
 use Rattle.wire.proofs.Writing.{row_on}
 use Rattle.wire.proofs.Fitting.{all_more}
 use Rattle.wire.proofs.Putting.{stopped}

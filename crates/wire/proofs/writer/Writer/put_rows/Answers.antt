@@ -3,8 +3,8 @@ use Rattle.std.proofs.lemmas.List.{take-map}
 use Rattle.std.specs.Prelude.{flat_map}
 use Rattle.rdata.specs.Records.{Record}
 use Rattle.rdata.specs.Rows.{row, rows}
-use Rattle.layout.specs.Pieces.{after}
-use Rattle.layout.specs.Messages.{record_pieces, IsRecord}
+use Rattle.message_grammar.specs.Pieces.{after}
+use Rattle.message_grammar.specs.Messages.{record_pieces, IsRecord}
 use Rattle.wire.proofs.SetRows.{pieces_on, all_on}
 use Rattle.wire.proofs.Putting.{stopped}
 use Rattle.wire.proofs.writer.Writer.put_rows.Goals as goal

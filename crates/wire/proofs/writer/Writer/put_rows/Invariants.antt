@@ -2,8 +2,8 @@ use Rattle.std.proofs.Common.{◌≡◌, take}
 use Rattle.std.specs.Prelude.{flat_map}
 use Rattle.std.specs.List.{AllByRecursion}
 use Rattle.rdata.specs.Rows.{rows}
-use Rattle.layout.specs.Pieces.{after}
-use Rattle.layout.specs.Messages.{record_pieces, IsRecord}
+use Rattle.message_grammar.specs.Pieces.{after}
+use Rattle.message_grammar.specs.Messages.{record_pieces, IsRecord}
 use Rattle.wire.proofs.writer.Writer.put_rows.Given as goal
 
 abbrev pub invariant-loop-value : goal.invariant-loop-value

@@ -1,5 +1,5 @@
 use Rattle.std.proofs.Common.{◌∙◌, ap, refl}
-use Rattle.layout.specs.Pieces.{asked_name, put_flat}
+use Rattle.message_grammar.specs.Pieces.{asked_name, put_flat}
 use Rattle.wire.proofs.Writing.{on_ok, name_asked}
 use Rattle.wire.proofs.writer.Writer.put_spelling.Goals as goal
 

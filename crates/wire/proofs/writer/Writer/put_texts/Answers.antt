@@ -1,5 +1,5 @@
 use Rattle.std.proofs.Common.{◌∙◌, ◌<◌, ◌∷◌, [], ap, length, arith}
-use Rattle.layout.specs.Pieces.{put_flat, plain_bytes}
+use Rattle.message_grammar.specs.Pieces.{put_flat, plain_bytes}
 use Rattle.wire.proofs.Writing.{nothing_put, strings_row_on}
 use Rattle.wire.proofs.Fitting.{all_more}
 use Rattle.wire.proofs.writer.Writer.put_texts.Goals as goal

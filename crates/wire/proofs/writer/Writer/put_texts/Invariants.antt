@@ -1,7 +1,7 @@
 use Rattle.std.proofs.Common.{◌≡◌, ◌<◌, length, take}
 use Rattle.std.specs.List.{AllByRecursion}
-use Rattle.layout.specs.Pieces.{put_flat, plain_bytes}
-use Rattle.layout.specs.Messages.{strings_bytes}
+use Rattle.message_grammar.specs.Pieces.{put_flat, plain_bytes}
+use Rattle.message_grammar.specs.Messages.{strings_bytes}
 use Rattle.wire.proofs.writer.Writer.put_texts.Given as goal
 
 abbrev pub invariant-loop-string : goal.invariant-loop-string

@@ -2,7 +2,7 @@ use Rattle.std.proofs.Common.{◌∙◌, sym, ap, subst, List}
 use Rattle.std.specs.Prelude.{filter}
 use Rattle.dname.specs.Labels.{Name}
 use Rattle.zone.specs.Zones.{Zone}
-use Rattle.truth.specs.Worlds.{HaveOwnOrigins}
+use Rattle.world_truth.specs.Worlds.{HaveOwnOrigins}
 use Rattle.worlds.specs.Rules.{has_name}
 use Rattle.worlds.proofs.Held.{are_held, parted_some}
 use Rattle.worlds.proofs.world.World.held.Goals as goal

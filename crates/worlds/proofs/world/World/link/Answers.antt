@@ -2,7 +2,7 @@ use Rattle.std.proofs.Common.{inl, inr, subst}
 use Rattle.rdata.specs.Types.{type_number}
 use Rattle.authority.specs.Answers.{link_view, local_view}
 use Rattle.authority.specs.Catalogs.{IsLooked}
-use Rattle.truth.specs.Worlds.{World}
+use Rattle.world_truth.specs.Worlds.{World}
 use Rattle.worlds.proofs.Judged.{looked_true, no_cut, not_nowhere}
 use Rattle.worlds.proofs.world.World.link.Goals as goal
 

@@ -1,6 +1,0 @@
-use Rattle.std.proofs.Common.{drop}
-use Rattle.crowd.proofs.Counting.{RepliesTo}
-use Rattle.crowd.proofs.count.count_replies.Given as goal
-
-abbrev pub invariant-loop-entry : goal.invariant-loop-entry
-invariant-loop-entry g l = RepliesTo l.history (drop l.entry-index l.history) l.replies

@@ -1,8 +1,0 @@
-use Rattle.std.proofs.lemmas.Result.{IfOk-weaker}
-use Rattle.exchange.specs.Views.{action_view}
-use Rattle.engine.specs.Works.{state_of}
-use Rattle.engine.proofs.Lift.{ends_here}
-use Rattle.engine.proofs.works.Works.fail.Goals as goal
-
-pub returns-clause-ok : goal.returns-clause-ok
-returns-clause-ok g c = IfOk-weaker c.reply_to.result _ _ (λ a h. ends_here (state_of c.args.self.now) c.args.asker.now c.args.number _ (action_view a) c.requires h) c.reply_to.ensures.reply

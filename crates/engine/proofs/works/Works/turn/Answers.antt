@@ -1,4 +1,0 @@
-use Rattle.engine.proofs.works.Works.turn.Goals as goal
-
-pub returns-in-Tick-clause-quiet : goal.returns-in-Tick-clause-quiet
-returns-in-Tick-clause-quiet g c = λ q. c.tick.ensures.quiet c.in-Tick.moment (rw c.in-Tick.is at q)

@@ -1,0 +1,24 @@
+//! Who asks what.
+use front::{Query, Via};
+use std::alloc::{Allocator, Global};
+use std::marker::Model;
+
+/// A client by its number, the way by which it asks and is answered, and its query.
+#[derive(Drop)]
+pub struct ClientQuery<A: Allocator = Global> {
+    /// The number under which the sockets know where the reply goes.
+    pub client: u64,
+    /// UDP or TCP; over UDP a reply of more than 512 bytes is truncated.
+    pub way: Via,
+    /// What it asks, and what the reply repeats of it: ID, RD, and the question in its own letters.
+    pub query: Query<A>,
+}
+
+impl<A: Allocator> Model for ClientQuery<A> {
+    ghost use Rattle.runs.specs.States.{ClientQuery};
+    ghost use Rattle.events.specs.Plain.{plain};
+
+    ghost Value = { ClientQuery };
+
+    ghost view = { λ a. record { client = a.client; way = a.way; query = plain a.query } };
+}

@@ -1,0 +1,41 @@
+-- A query that comes, by what was found for its name first.
+use Rattle.std.proofs.Common.{◌≡◌, ℕ, zero, suc, List, [], ◌∷◌, ◌++◌, refl, sym, subst}
+use Rattle.resolution.specs.Jobs.{Home, Stores, Taken, AreFresh, IsEnding, Job, Start, Next, Done, Seek, Take, Point, point}
+use Rattle.resolution.specs.Rules.{Finds, Rule, takes, Rules, Leaves, done, Advances, Stops}
+use Rattle.resolution.proofs.Falls.{stays_fresh}
+use Rattle.resolution.proofs.Keeping.{enters_stop}
+use Rattle.lookup.specs.Found.{IsFound}
+use Rattle.lookup.specs.declared.lookup.Found.{Found}
+use Rattle.lookup.specs.Uses.{OnlyUses}
+use Rattle.lookup.proofs.Uses.{uses_stop}
+
+-- A rule, and further ones after it.
+rules_after : (home : Home) (now n : ℕ) (a b c : Point) → Rule home now a b → Rules home now n b c → Rules home now (suc n) a c
+rules_after home now zero a b c rule is = (a, refl, subst (Rule home now a) (sym is) rule)
+rules_after home now (suc n) a b c rule (mid, rules, last) = (mid, rules_after home now n a b mid rule rules, last)
+
+module _ (home : Home) (now : ℕ) (j : Job) (old : Stores) where
+  pub begins_known : (l : Taken) (new : Stores) → j.chain ≡ [] → Finds home now j.name j.kind old l new → IsEnding l.link → Advances home now Start j old (Done j.chain l) j new
+  begins_known l new none finds ending = record { first = point Seek j old; count = 1; last = point (Take l) j new; enters = refl; rules = (point Seek j old, refl, used); leaves = leaves }
+    where
+      used : Rule home now (point Seek j old) (point (Take l) j new)
+      used = takes l refl finds refl refl
+
+      fresh : AreFresh now (j.chain ++ l ∷ [])
+      fresh = subst (λ (chain : List Taken). AreFresh now (chain ++ l ∷ [])) (sym none) (stays_fresh home now (point Seek j old) (point (Take l) j new) used, tt)
+
+      leaves : Leaves home now (point (Take l) j new) (Done j.chain l) j new
+      leaves = done l refl ending fresh refl refl
+
+  pub begins_work : (mid last : Point) (count : ℕ) (next : Next) (job : Job) (new : Stores) → Rule home now (point Seek j old) mid → Rules home now count mid last → Leaves home now last next job new
+      → Advances home now Start j old next job new
+  begins_work mid last count next job new rule rules leaves =
+      record { first = point Seek j old; count = suc count; last = last; enters = refl; rules = rules_after home now count (point Seek j old) mid last rule rules; leaves = leaves }
+
+-- Where look-ups alone came before memory was wanting.
+pub uses_started : (now : ℕ) (j : Job) (old new : Stores) → OnlyUses old new → Stops Start now j old new
+uses_started now j old new uses = uses_stop Start now j old old new (enters_stop now j old Start (point Seek j old) refl) uses
+
+-- What was found for a query was found for its job.
+pub found_of : {A : Type 0} (home : Home) (now : ℕ) (query j : Job) (before mid : Stores) (f : Found A) → j ≡ query → IsFound home now query.name query.kind before f mid → IsFound home now j.name j.kind before f mid
+found_of home now query j before mid f is = subst (λ (x : Job). IsFound home now x.name x.kind before f mid) (sym is)

@@ -1,0 +1,94 @@
+//! One move of a query at work: `turn` does one task by the rule that fits it (RFC 1034, section 5.3.3), and
+//! `due_after` says what a look-up leads to, for a query at work and for one that comes.
+ghost use Rattle.std.specs.Prelude.{◌≡◌, ℕ, IfOk, OnOk};
+ghost use Rattle.frames.specs.Frames.{opened};
+ghost use Rattle.resolution.specs.Jobs.{Home as HomeSpec, Stores as StoresSpec, Seek, point, search_at, level_of, IsFreshTask};
+ghost use Rattle.resolution.specs.Rules.{Rule};
+ghost use Rattle.lookup.specs.Found.{IsFound};
+ghost use Rattle.lookup.specs.Uses.{OnlyUses};
+ghost use Rattle.iterate.specs.Moves.{IsMove, begun};
+ghost use Rattle.iterate.specs.Views.{task_view, move_view};
+
+use crate::asking::again;
+use crate::chaining::use_link;
+use crate::job::Job;
+use crate::search::Search;
+use crate::serving::go;
+use crate::task::{Move, Task};
+use dname::{Heap, Name, Starved};
+use lookup::{Found, Home, Stores, find};
+use referral::Cut;
+use std::alloc::AllocError;
+use std::hash::BuildHasher;
+
+// Servers are sought for the query's own name.
+fn open_search<S: BuildHasher + Drop, A: Heap>(
+    alloc: A,
+    job: &mut Job<A>,
+    cut: &Cut<A>,
+    stores: &Stores<S, A>,
+) -> Result<(), Starved>
+    ensures { OnOk result (job.new ≡ begun job.old (search_at (job.old).name (job.old).kind (opened (level_of stores.now) 0 cut.now))) }
+{
+    let name: Result<Name<A>, AllocError> = job.name().clone();
+    let frame = stores.open(alloc, cut, 0)?;
+    job.begin_search(Search::new(name?, job.kind(), frame))?;
+    Ok(())
+}
+
+/// What is due after what was found for the query's name: the link is used, or servers are sought for it.
+pub(crate) fn due_after<S: BuildHasher + Drop, A: Heap>(
+    alloc: A,
+    job: &mut Job<A>,
+    found: Found<A>,
+    stores: &Stores<S, A>,
+) -> Result<Task<A>, Starved>
+    ensures { (home : HomeSpec) (now : ℕ) (before : StoresSpec) → IsFound home now (job.old).name (job.old).kind before found stores.now → IfOk result (λ t. Rule home now (point Seek job.old before) (point (task_view t) job.new stores.now)) }
+{
+    match found {
+        Found::Known(link) => Ok(Task::Take(link)),
+        Found::Start(cut) => {
+            let begun = open_search(alloc, job, &cut, stores);
+            drop(cut);
+            begun?;
+            Ok(Task::Go)
+        }
+    }
+}
+
+// What is known of the query's name is used, or servers are sought for it.
+fn seek<S: BuildHasher + Drop, A: Heap>(
+    alloc: A,
+    job: &mut Job<A>,
+    home: &Home<A>,
+    stores: &mut Stores<S, A>,
+    now: u64,
+) -> Result<Move<A>, Starved>
+    ensures is { IfOk result (λ t. IsMove home.now now (point Seek job.old stores.old) (move_view t) job.new stores.new) }
+    ensures only { OnlyUses stores.old stores.new }
+{
+    let found = find(alloc, home, job.name(), job.kind(), stores, now)?;
+    Ok(Move::Onward(due_after(alloc, job, found, stores)?))
+}
+
+/// One move: the task is done, by one rule, or something goes out. Of the job nothing is said where memory was
+/// wanting: it is to be dropped.
+pub(crate) fn make_move<S: BuildHasher + Drop, A: Heap>(
+    alloc: A,
+    job: &mut Job<A>,
+    task: Task<A>,
+    home: &Home<A>,
+    stores: &mut Stores<S, A>,
+    now: u64,
+) -> Result<Move<A>, Starved>
+    requires fresh { IsFreshTask now (task_view task) }
+    ensures is { IfOk result (λ t. IsMove home.now now (point (task_view task) job.old stores.old) (move_view t) job.new stores.new) }
+    ensures only { OnlyUses stores.old stores.new }
+{
+    match task {
+        Task::Seek => seek(alloc, job, home, stores, now),
+        Task::Take(link) => use_link(job, link, now),
+        Task::Go => go(alloc, job, home, stores, now),
+        Task::Again(server) => again(job, server, now),
+    }
+}

@@ -1,0 +1,235 @@
+//! What is made of the messages that are accepted for a query (RFC 1034, section 5.3.3, step 4).
+ghost use Rattle.std.specs.Prelude.{◌≡◌, ◌⊎◌, ℕ, IfOk, OnOk, OnErr};
+ghost use Rattle.zone.specs.Links.{Link as LinkSpec};
+ghost use Rattle.authority.specs.Answers.{link_view};
+ghost use Rattle.classify.specs.Classes.{class_of};
+ghost use Rattle.resolution.specs.Jobs.{Stores as StoresSpec, Search as SearchSpec, Told, Go, point, with_answer, with_failure, with_told, is_server_failure, received_link, IsCutOf, with_frame, level_of};
+ghost use Rattle.resolution.specs.Rules.{KeepsAnswer, IsAnswered, IsReferred, ByClass, Enters, Stops};
+ghost use Rattle.frames.specs.Frames.{opened};
+ghost use Rattle.lookup.specs.Views.{with_cut};
+ghost use Rattle.iterate.specs.Moves.{with_search};
+ghost use Rattle.iterate.specs.Views.{task_view};
+
+use crate::job::Job;
+use crate::search::Search;
+use crate::serving::use_server_address;
+use crate::task::Task;
+use authority::Link;
+use classify::{Class, Referral, classify, received};
+use dname::{Heap, Starved};
+use lookup::{Stores, Taken, cut_of};
+use rdata::Addr;
+use referral::Cut;
+use std::alloc::Allocator;
+use std::hash::BuildHasher;
+use wire::rcode::SERV_FAIL;
+use wire::{Via, View};
+
+// A link was accepted for the innermost search, which is over. The query's own name has its link; what a
+// server's name has is heard by the search around.
+fn answer_search<S: BuildHasher + Drop, A: Heap>(
+    job: &mut Job<A>,
+    link: Taken<A>,
+    stores: &Stores<S, A>,
+) -> Result<Task<A>, Starved>
+    ensures { (s : SearchSpec) (l : LinkSpec) (now : ℕ) (before : StoresSpec) → link ≡ received_link s.name l now → KeepsAnswer now s l before stores.now → IfOk result (λ t. IsAnswered now s (job.old).searches l (with_search job.old s) before (point (task_view t) job.new stores.now)) }
+{
+    match job.pop() {
+        None => Ok(Task::Take(link)),
+        Some(around) => {
+            let heard = use_server_address(job, around, &link, stores);
+            drop(link);
+            heard?;
+            Ok(Task::Go)
+        }
+    }
+}
+
+// A server's answer is kept, and is what the search is told.
+fn answer<S: BuildHasher + Drop, A: Heap>(
+    job: &mut Job<A>,
+    search: Search<A>,
+    link: Link<A>,
+    stores: &mut Stores<S, A>,
+    now: u64,
+) -> Result<Task<A>, Starved>
+    ensures by { IfOk result (λ t. IsAnswered now search (job.old).searches (link_view link) (with_search job.old search) stores.old (point (task_view t) job.new stores.new)) }
+    ensures stops { OnErr result ((stores.new ≡ stores.old) ⊎ KeepsAnswer now search (link_view link) stores.old stores.new) }
+{
+    let kind = search.kind();
+    let name = search.into_name();
+    let kept = received(link);
+    let stored = stores.keep_link(&name, kind, &kept, now);
+    let link = Taken::accepted(name, kept, now);
+    match stored {
+        Err(starved) => {
+            drop(link);
+            Err(starved)
+        }
+        Ok(()) => answer_search(job, link, stores),
+    }
+}
+
+// The cut that a referral leads to.
+fn cut_from<A: Heap>(alloc: A, referral: Referral<A>) -> Result<Cut<A>, Starved>
+    ensures { IfOk result (IsCutOf referral.at referral.servers referral.addresses) }
+{
+    let Referral {
+        at,
+        servers,
+        addresses,
+        ttl: _,
+    } = referral;
+    let cut = cut_of(alloc, at, servers.as_slice(), addresses.as_slice());
+    drop(servers);
+    drop(addresses);
+    Ok(cut?)
+}
+
+// The search begins anew at a cut, which is kept.
+fn reopen<S: BuildHasher + Drop, A: Heap>(
+    alloc: A,
+    job: &mut Job<A>,
+    mut search: Search<A>,
+    cut: &Cut<A>,
+    ttl: u32,
+    stores: &mut Stores<S, A>,
+    now: u64,
+) -> Result<(), Starved>
+    ensures job { OnOk result (job.new ≡ with_search job.old (with_frame search (opened (level_of stores.old) search.frame.nesting cut.now))) }
+    ensures kept { OnOk result (stores.new ≡ with_cut stores.old cut.now ttl now) }
+    ensures err { OnErr result (stores.new ≡ stores.old) }
+{
+    match stores.open(alloc, cut, search.frame().nesting()) {
+        Err(starved) => {
+            drop(search);
+            Err(starved)
+        }
+        Ok(frame) => {
+            search.reopen(frame);
+            job.push(search)?;
+            stores.keep_cut(alloc, cut, ttl, now)?;
+            Ok(())
+        }
+    }
+}
+
+// A referral is followed, and kept.
+fn refer<S: BuildHasher + Drop, A: Heap>(
+    alloc: A,
+    job: &mut Job<A>,
+    search: Search<A>,
+    referral: Referral<A>,
+    stores: &mut Stores<S, A>,
+    now: u64,
+) -> Result<(), Starved>
+    ensures by { OnOk result (IsReferred now search (job.old).searches referral.at referral.servers referral.addresses referral.ttl (with_search job.old search) stores.old (point Go job.new stores.new)) }
+    ensures err { OnErr result (stores.new ≡ stores.old) }
+{
+    let ttl = referral.ttl;
+    match cut_from(alloc, referral) {
+        Err(starved) => {
+            drop(search);
+            Err(starved)
+        }
+        Ok(cut) => {
+            let reopened = reopen(alloc, job, search, &cut, ttl, stores, now);
+            drop(cut);
+            Ok(reopened?)
+        }
+    }
+}
+
+// Whether the message says that its server failed to answer (RFC 1035, section 4.1.1).
+fn is_server_failure<A: Allocator>(message: &View<'_, A>) -> bool
+    ensures { result ≡ is_server_failure message.now }
+{
+    message.header().rcode == SERV_FAIL && !message.header().tc
+}
+
+// That the server failed to answer what is sought is kept, where the message says so (RFC 2308, section 7.1).
+fn note_failure<S: BuildHasher + Drop, A: Heap>(
+    search: &Search<A>,
+    server: Addr,
+    message: &View<'_, A>,
+    stores: &mut Stores<S, A>,
+    now: u64,
+) -> Result<(), Starved>
+    ensures ok { OnOk result (stores.new ≡ with_failure now search.now server message.now stores.old) }
+    ensures err { OnErr result (stores.new ≡ stores.old) }
+{
+    if is_server_failure(message) {
+        stores.failed(search.name(), search.kind(), server, now)?;
+    }
+    Ok(())
+}
+
+// A message was accepted for this search, the innermost one, which the job no longer has.
+fn use_reply_for<S: BuildHasher + Drop, A: Heap>(
+    alloc: A,
+    job: &mut Job<A>,
+    search: Search<A>,
+    via: Via,
+    server: Addr,
+    message: &View<'_, A>,
+    stores: &mut Stores<S, A>,
+    now: u64,
+) -> Result<Task<A>, Starved>
+    ensures by { IfOk result (λ t. ByClass now server search (job.old).searches (class_of search.frame.zone search.name search.kind via message.now) (with_search job.old search) stores.old (point (task_view t) job.new stores.new)) }
+    ensures stops { (before : StoresSpec) → stores.old ≡ with_told now search server message.now before → OnErr result (Stops (Told via server message.now) now (with_search job.old search) before stores.new) }
+{
+    let class = classify(
+        alloc,
+        search.frame().zone(),
+        search.name(),
+        search.kind(),
+        via,
+        message,
+    );
+    match class {
+        Err(starved) => {
+            drop(search);
+            Err(starved)
+        }
+        Ok(Class::Answer(link)) => answer(job, search, link, stores, now),
+        Ok(Class::Referral(referral)) => {
+            refer(alloc, job, search, referral, stores, now)?;
+            Ok(Task::Go)
+        }
+        Ok(Class::Truncated) => {
+            job.push(search)?;
+            Ok(Task::Again(server))
+        }
+        Ok(Class::Failed(_)) => {
+            job.push(search)?;
+            Ok(Task::Go)
+        }
+    }
+}
+
+/// What is due after a message was accepted for the innermost search: an answer is kept and taken up, a
+/// referral is kept and followed, what was truncated is asked for again over TCP; the rest is of no use, but that a
+/// server failed to answer is kept. A job without a search has nothing that a message could be for.
+pub(crate) fn use_reply<S: BuildHasher + Drop, A: Heap>(
+    alloc: A,
+    job: &mut Job<A>,
+    via: Via,
+    server: Addr,
+    message: &View<'_, A>,
+    stores: &mut Stores<S, A>,
+    now: u64,
+) -> Result<Task<A>, Starved>
+    ensures enters { (before : StoresSpec) → stores.old ≡ with_answer before server → IfOk result (λ t. Enters now (Told via server message.now) job.old before (point (task_view t) job.new stores.new)) }
+    ensures stops { (before : StoresSpec) → stores.old ≡ with_answer before server → OnErr result (Stops (Told via server message.now) now job.old before stores.new) }
+{
+    match job.pop() {
+        None => Ok(Task::Go),
+        Some(search) => match note_failure(&search, server, message, stores, now) {
+            Err(starved) => {
+                drop(search);
+                Err(starved)
+            }
+            Ok(()) => use_reply_for(alloc, job, search, via, server, message, stores, now),
+        },
+    }
+}

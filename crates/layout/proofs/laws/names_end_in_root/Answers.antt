@@ -1,5 +1,0 @@
-use Rattle.layout.proofs.Roots.{names_end_in_root}
-use Rattle.layout.proofs.laws.names_end_in_root.Goals as goal
-
-pub returns : goal.returns
-returns c = names_end_in_root

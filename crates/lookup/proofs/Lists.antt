@@ -1,0 +1,95 @@
+-- Lists of hints, and of what records give.
+use Rattle.std.proofs.Common.{◌≡◌, ℕ, ◌+◌, ◌<◌, ◌≤◌, List, [], ◌∷◌, ◌++◌, length, take, get_or, refl, sym, ap, subst, ◌∙◌, append-nil}
+use Rattle.std.specs.Prelude.{map}
+use Rattle.std.specs.List.{flat_map}
+use Rattle.std.proofs.lemmas.List.{take_more}
+use Rattle.std.proofs.lemmas.Grind.{flat_map-append}
+use Rattle.dname.specs.Labels.{Name}
+use Rattle.rdata.specs.Data.{Datum, Ipv4, Ns, Cname, Soa, Ptr, Mx, Txt, Ipv6, Srv}
+use Rattle.rdata.specs.Kept.{datum}
+use Rattle.rdata.specs.Records.{Record}
+use Rattle.rdata.specs.Rows.{row, rows}
+use Rattle.rdata.specs.declared.addr.Addr.{Addr}
+use Rattle.rdata.specs.declared.data.RData.{RData}
+use Rattle.rdata.proofs.SetRows.{rows_long, row_at, rows_whole}
+use Rattle.zone.specs.Zones.{Zone}
+use Rattle.classify.specs.Targets as classify
+use Rattle.referral.specs.Cuts.{ServerAddress, Cut}
+use Rattle.referral.specs.Made as made
+use Rattle.resolution.specs.Jobs.{ipv4_of, rows_of, row_of, hinted, root_cut, IsCutOf, bytes_of, AreAddressesOf}
+use Rattle.lookup.specs.Views.{hints_of, home_at, home_of}
+
+hints_same : (hints : List Addr) → map (λ (s : ServerAddress). s.address) (map hinted hints) ≡ hints
+hints_same [] = refl
+hints_same (a ∷ rest) = ap (λ (xs : List Addr). a ∷ xs) (hints_same rest)
+
+hints_are : (hints : List Addr) (root : Cut) → root ≡ made.hint_cut hints → hints_of root ≡ hints
+hints_are hints root is = ap hints_of is ∙ hints_same hints
+
+pub root_is : (zones : List Zone) (hints : List Addr) (root : Cut) → root ≡ made.hint_cut hints → root ≡ root_cut (home_of zones root)
+root_is zones hints root is = is ∙ ap made.hint_cut (sym (hints_are hints root is))
+
+pub home_is : (zones : List Zone) (hints : List Addr) (root : Cut) → root ≡ made.hint_cut hints → home_of zones root ≡ home_at zones hints
+home_is zones hints root is = ap (home_at zones) (hints_are hints root is)
+
+target_same : (d : Datum) → made.target_names d ≡ classify.ns_target d
+target_same (Ipv4 b) = refl
+target_same (Ns n) = refl
+target_same (Cname n) = refl
+target_same (Soa s) = refl
+target_same (Ptr n) = refl
+target_same (Mx p n) = refl
+target_same (Txt ts) = refl
+target_same (Ipv6 b) = refl
+target_same (Srv v) = refl
+
+targets_same : (ns : List Record) → made.targets_of ns ≡ classify.targets_of ns
+targets_same [] = refl
+targets_same (r ∷ rs) = ap (λ (xs : List Name). xs ++ made.targets_of rs) (target_same r.value) ∙ ap (λ (xs : List Name). classify.ns_target r.value ++ xs) (targets_same rs)
+
+row_step : (n : Name) (d : Datum) (rest : List ServerAddress) (rows : List (Name × List ℕ)) → map row_of rest ≡ rows
+    → map row_of (made.addresses_at n d ++ rest) ≡ map (λ (b : List ℕ). (n, b)) (ipv4_of d) ++ rows
+row_step n (Ipv4 b) rest rows is = ap (λ (xs : List (Name × List ℕ)). (n, b) ∷ xs) is
+row_step n (Ns m) rest rows is = is
+row_step n (Cname m) rest rows is = is
+row_step n (Soa s) rest rows is = is
+row_step n (Ptr m) rest rows is = is
+row_step n (Mx p m) rest rows is = is
+row_step n (Txt ts) rest rows is = is
+row_step n (Ipv6 b) rest rows is = is
+row_step n (Srv v) rest rows is = is
+
+rows_same : (glue : List Record) → map row_of (made.addresses_in glue) ≡ rows_of glue
+rows_same [] = refl
+rows_same (r ∷ rs) = row_step r.owner r.value (made.addresses_in rs) (rows_of rs) (rows_same rs)
+
+pub made_is_cut : (at : Name) (ns glue : List Record) (c : Cut) → c ≡ made.record_cut at ns glue → IsCutOf at ns glue c
+made_is_cut at ns glue c is = record {
+  owner = ap (λ (x : Cut). x.owner) is;
+  names = ap (λ (x : Cut). x.names) is ∙ targets_same ns;
+  addresses = ap (λ (x : Cut). map row_of x.addresses) is ∙ rows_same glue;
+}
+
+-- ---- addresses of a set
+
+-- One element more of a walk.
+flat_more : {X Y : Type 0} (f : X → List Y) (xs : List X) (i : ℕ) (x : X) → i < length xs → x ≡ get_or xs i x → flat_map f (take (i + 1) xs) ≡ flat_map f (take i xs) ++ f x
+flat_more {X} {Y} f xs i x lt is =
+    ap (flat_map f) (take_more xs i x lt ∙ ap (λ (y : X). take i xs ++ y ∷ []) (sym is))
+    ∙ (flat_map-append f (take i xs) (x ∷ []) ∙ ap (λ (l : List Y). flat_map f (take i xs) ++ l) (append-nil (f x)))
+
+pub found_more : (set : List Record) (i : ℕ) (r : Record) (old new : List Addr) → i < length set → r ≡ get_or set i r → AreAddressesOf (take i set) old → map bytes_of new ≡ map bytes_of old ++ ipv4_of r.value
+    → AreAddressesOf (take (i + 1) set) new
+found_more set i r old new lt is walked put =
+    put ∙ (ap (λ (l : List (List ℕ)). l ++ ipv4_of r.value) walked ∙ sym (flat_more (λ (x : Record). ipv4_of x.value) set i r lt is))
+
+-- A walk over a set's data is one over its records.
+pub found_later : {H : Type 0} (q : Name) (t : ℕ) (xs : List (RData H)) (set : List Record) (i : ℕ) (x : RData H) (old new : List Addr) → rows q t xs ≡ set → i < length xs → x ≡ get_or xs i x
+    → AreAddressesOf (take i set) old → map bytes_of new ≡ map bytes_of old ++ ipv4_of (datum x) → AreAddressesOf (take (i + 1) set) new
+found_later q t xs set i x old new is lt at_i walked put =
+    subst (λ (rs : List Record). AreAddressesOf (take (i + 1) rs) new) is
+    (found_more (rows q t xs) i (row q t x) old new (rows_long q t xs i lt) (row_at q t xs i x lt at_i) (subst (λ (rs : List Record). AreAddressesOf (take i rs) old) (sym is) walked) put)
+
+pub found_whole : {H : Type 0} (q : Name) (t : ℕ) (xs : List (RData H)) (set : List Record) (i : ℕ) (found : List Addr) → rows q t xs ≡ set → length xs ≤ i → AreAddressesOf (take i set) found → AreAddressesOf set found
+found_whole q t xs set i found is le walked =
+    subst (λ (rs : List Record). AreAddressesOf rs found) (rows_whole q t xs set (take i set) i is le refl) walked

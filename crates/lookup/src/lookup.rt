@@ -1,0 +1,165 @@
+//! The look-up without asking anybody: local zones, cache, and else where the search starts.
+ghost use Rattle.std.specs.Prelude.{◌↔◌, IsTrue, IfOk};
+ghost use Rattle.rdata.specs.Types.{type_number};
+ghost use Rattle.zone.specs.Zones.{IsBeneath};
+ghost use Rattle.dname.specs.Labels.{Name as NameSpec};
+ghost use Rattle.zone.specs.Look.{Cut as CutSpec, NotHere};
+ghost use Rattle.resolution.specs.Jobs.{Home as HomeSpec};
+ghost use Rattle.resolution.specs.Rules.{Begins};
+ghost use Rattle.lookup.specs.Found.{IsFound, IsKept, IsDeeper, IsBegun};
+ghost use Rattle.lookup.specs.Uses.{OnlyUses};
+
+use crate::home::Home;
+use crate::made::cut_of;
+use crate::stores::Stores;
+use crate::taken::Taken;
+use authority::Local;
+use dname::{Heap, Name, Starved};
+use rdata::{RType, Record, Records};
+use referral::Cut;
+use std::alloc::{Allocator, Global};
+use std::hash::BuildHasher;
+
+/// What is found for a name and a type without asking anybody.
+#[derive(Drop)]
+pub enum Found<A: Allocator = Global> {
+    /// What is known.
+    Known(Taken<A>),
+    /// Nothing; its servers are sought at this cut.
+    Start(Cut<A>),
+}
+
+// What is kept of a name and a type.
+#[derive(Drop)]
+enum Kept<A: Allocator = Global> {
+    Hit(Taken<A>),
+    // No link. The deepest cut that is kept.
+    Best(Option<Cut<A>>),
+}
+
+// Whether the name is another one, under that name.
+fn is_beneath<A: Allocator>(name: &Name<A>, other: &Name<A>) -> bool
+    ensures { IsTrue result ↔ IsBeneath name.now other.now }
+{
+    name.is_at_or_under(other) && *name != *other
+}
+
+// A link of the cache, in which errors of names above count up to `top`, or else the best cut.
+fn find_kept<S: BuildHasher + Drop, A: Heap>(
+    name: &Name<A>,
+    kind: RType,
+    top: &Name<A>,
+    stores: &mut Stores<S, A>,
+    now: u64,
+) -> Result<Kept<A>, Starved>
+    ensures kept { IfOk result (λ k. IsKept top.now now name.now (type_number kind) stores.old k stores.new) }
+    ensures only { OnlyUses stores.old stores.new }
+{
+    name.well_formed_law();
+    match stores.look(name, kind, top, now)? {
+        Some(hit) => Ok(Kept::Hit(Taken::cached(name, hit)?)),
+        None => Ok(Kept::Best(stores.best(name, now)?)),
+    }
+}
+
+// The kept cut, if it is beneath the one that the zones at hand name.
+fn deeper<A: Allocator>(best: Option<Cut<A>>, at: &Name<A>) -> Option<Cut<A>>
+    ensures { IsDeeper at.now best result }
+{
+    match best {
+        Some(cut) => {
+            if is_beneath(&cut.at, at) {
+                Some(cut)
+            } else {
+                drop(cut);
+                None
+            }
+        }
+        None => None,
+    }
+}
+
+// Where servers are sought under the cut that the zones at hand name.
+fn start_under<A: Heap>(
+    alloc: A,
+    at: Name<A>,
+    servers: &[Record<A>],
+    glue: &[Record<A>],
+    best: Option<Cut<A>>,
+) -> Result<Cut<A>, Starved>
+    ensures { (home : HomeSpec) (n : NameSpec) → IfOk result (Begins home n (CutSpec at servers.now glue.now) best) }
+{
+    match deeper(best, &at) {
+        Some(cut) => Ok(cut),
+        None => Ok(cut_of(alloc, at, servers, glue)?),
+    }
+}
+
+fn found_under<A: Heap>(
+    alloc: A,
+    at: Name<A>,
+    servers: Records<A>,
+    glue: Records<A>,
+    kept: Kept<A>,
+) -> Result<Found<A>, Starved>
+    ensures { (home : HomeSpec) (n : NameSpec) → IfOk result (IsBegun home n (CutSpec at servers glue) kept) }
+{
+    match kept {
+        Kept::Hit(link) => Ok(Found::Known(link)),
+        Kept::Best(best) => Ok(Found::Start(start_under(
+            alloc,
+            at,
+            servers.as_slice(),
+            glue.as_slice(),
+            best,
+        )?)),
+    }
+}
+
+// Where the zones at hand say nothing.
+fn found_beyond<A: Heap>(home: &Home<A>, kept: Kept<A>) -> Result<Found<A>, Starved>
+    ensures { (n : NameSpec) → IfOk result (IsBegun home.now n NotHere kept) }
+{
+    match kept {
+        Kept::Hit(link) => Ok(Found::Known(link)),
+        Kept::Best(Some(cut)) => Ok(Found::Start(cut)),
+        Kept::Best(None) => Ok(Found::Start(home.root().clone()?)),
+    }
+}
+
+/// What is known of a name and a type at the moment `now`, in milliseconds: what the zones at hand say, else
+/// what the cache has (RFC 1034, section 5.3.3, step 1), the NXDOMAIN of a name above among it, as far up as
+/// the cut that the zones at hand name (RFC 8020, section 2). Where neither says anything, the cut where
+/// servers are sought (step 2): the one that the zones at hand name, or a deeper one that is kept; where they
+/// name none, the deepest that is kept, or the root's. Running out of memory leaves the stores with the same entries.
+pub fn find<S: BuildHasher + Drop, A: Heap>(
+    alloc: A,
+    home: &Home<A>,
+    name: &Name<A>,
+    kind: RType,
+    stores: &mut Stores<S, A>,
+    now: u64,
+) -> Result<Found<A>, Starved>
+    ensures found { IfOk result (λ f. IsFound home.now now name.now (type_number kind) stores.old f stores.new) }
+    ensures only { OnlyUses stores.old stores.new }
+{
+    match home.catalog().look(alloc, name, kind)? {
+        Local::Link(link) => Ok(Found::Known(Taken::local(name, link)?)),
+        Local::Cut(at, servers, glue) => {
+            let kept = find_kept(name, kind, &at, stores, now);
+            match kept {
+                Ok(kept) => Ok(found_under(alloc, at, servers, glue, kept)?),
+                Err(starved) => {
+                    drop(at);
+                    drop(servers);
+                    drop(glue);
+                    Err(starved)
+                }
+            }
+        }
+        Local::NotHere => {
+            let kept = find_kept(name, kind, home.root_name(), stores, now)?;
+            Ok(found_beyond(home, kept)?)
+        }
+    }
+}

@@ -1,0 +1,10 @@
+use Rattle.std.proofs.Common.{length, drop, ◌-◌, ◌≡◌, ◌≤◌, false}
+use Rattle.master_lexer.specs.Lexemes.{quote_size}
+use Rattle.master_lexer.proofs.Shifted.{shifted}
+use Rattle.master_lexer.proofs.lexemes.quote_len.Given as goal
+
+abbrev pub invariant-loop-size : goal.invariant-loop-size
+invariant-loop-size l = (l.size ≤ length l.text) × (shifted l.size (quote_size l.escaped (drop l.size l.text)) ≡ quote_size false l.text)
+
+abbrev pub decreases-loop-size : goal.decreases-loop-size
+decreases-loop-size l = length l.text - l.size

@@ -1,7 +1,0 @@
-use Rattle.std.proofs.Common.{◌≡◌, map, Ok}
-use Rattle.statements.specs.Texts.{said_from}
-use Rattle.orders.specs.Orders.{order_seen, said, orders_of}
-use Rattle.orders.proofs.script.read_orders.Given as goal
-
-abbrev pub invariant-loop-line : goal.invariant-loop-line
-invariant-loop-line g l = said_from (said l.scope) Ok l.number (map order_seen l.orders.items) l.line-iterator ≡ orders_of l.scope l.fn.text

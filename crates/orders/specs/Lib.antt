@@ -1,3 +1,0 @@
--- To be read: what the words of the contracts mean.
-pub mod Orders
-pub mod Keywords

@@ -1,5 +1,0 @@
-use Rattle.std.proofs.Common.{◌∙◌}
-use Rattle.queries.proofs.indexes.key_of.Goals as goal
-
-pub returns : goal.returns
-returns g c = c.copied.ensures ∙ c.get.ensures.value

@@ -1,5 +1,0 @@
-use Rattle.queries.proofs.Free.{AreTaken}
-use Rattle.queries.proofs.queries.Queries.free_id.Given as goal
-
-abbrev pub invariant-loop-tried : goal.invariant-loop-tried
-invariant-loop-tried g l = AreTaken l.self l.socket l.server l.from l.tried

@@ -1,0 +1,309 @@
+//! A resolver in memory for tests: what comes in for a query, and what goes out, in short.
+ghost use Rattle.std.specs.Prelude.{◌<◌, ◌+◌, ◌^◌};
+
+use crate::shared::{home, stores};
+use authority::Link;
+use causes::Cause;
+use dname::{Heap, Name, Starved};
+use iterate::{Input, Job, Next, Started, advance, begin_query};
+use lookup::{Home, Stores};
+use lru::DefaultHasher;
+use rdata::{RData, RType, RecordSet, Records};
+use record_fixtures::{Row, Value, address, name, record, records};
+use wire::{Header, Message, Questions, UDP_LIMIT, Via, View, encode};
+
+// Servers are known by the last byte of their address, which stands in 192.0.2.0/24: one of the root, one of
+// the zone example, one of a zone beneath the one at hand.
+pub const ROOT: u8 = 1;
+
+pub const EXAMPLE: u8 = 2;
+
+pub const SUB: u8 = 3;
+
+// The zone at hand: an address, an alias that leads out of it, and a cut.
+const ZONE_ROWS: &[Row<'static>] = &[
+    ("local", 60, Value::Soa(60)),
+    ("local", 60, Value::Ns("www.local")),
+    ("www.local", 60, Value::A(7)),
+    ("alias.local", 60, Value::Cname("www.example")),
+    ("sub.local", 60, Value::Ns("ns.sub.local")),
+    ("ns.sub.local", 60, Value::A(SUB)),
+];
+
+// What comes in.
+#[derive(Clone, Copy)]
+pub enum Event {
+    // A query for the address of this name.
+    Query(&'static str),
+    // A server gives one record for an answer.
+    Answer(u8, Row<'static>),
+    // A server of the root refers to a zone: its servers, and addresses of the first one.
+    Referral(&'static str, &'static [&'static str], &'static [u8]),
+}
+
+// What goes out.
+#[derive(Clone, Copy, Debug, PartialEq, Eq)]
+pub enum Out {
+    Ask(u8),
+    AskTcp(u8),
+    // An address behind so many aliases.
+    Address(usize, u8),
+    // A negative answer behind so many aliases.
+    Denied(usize),
+    Failed(Cause),
+    Other,
+}
+
+// The moment, what comes in, and what has to go out.
+pub type Step = (u32, Event, Out);
+
+fn header(aa: bool) -> Header {
+    Header {
+        id: 1,
+        qr: true,
+        opcode: 0,
+        aa,
+        tc: false,
+        rd: false,
+        ra: false,
+        z: 0,
+        rcode: 0,
+    }
+}
+
+fn message<A: Heap>(
+    alloc: A,
+    header: Header,
+    answer: Records<A>,
+    authority: Records<A>,
+    additional: Records<A>,
+) -> Message<A> {
+    Message {
+        header,
+        questions: Questions::new(alloc),
+        answer,
+        authority,
+        additional,
+    }
+}
+
+fn empty<A: Heap>(alloc: A) -> Records<A> {
+    Records::new(alloc)
+}
+
+fn answer<A: Heap>(alloc: A, row: Row<'_>) -> Result<Message<A>, Starved> {
+    let header = header(true);
+    let answer = records(alloc, &[row])?;
+    Ok(message(alloc, header, answer, empty(alloc), empty(alloc)))
+}
+
+fn push<A: Heap>(records: &mut Records<A>, alloc: A, row: Row<'_>) -> Result<(), Starved> {
+    let added = record(alloc, row)?;
+    records.push(added)
+}
+
+fn servers<A: Heap>(alloc: A, zone: &str, names: &[&str]) -> Result<Records<A>, Starved> {
+    let mut servers = Records::new(alloc);
+    for name in names {
+        push(&mut servers, alloc, (zone, 300, Value::Ns(*name)))?;
+    }
+    Ok(servers)
+}
+
+fn addresses<A: Heap>(alloc: A, name: &str, glue: &[u8]) -> Result<Records<A>, Starved> {
+    let mut addresses = Records::new(alloc);
+    for last in glue {
+        push(&mut addresses, alloc, (name, 300, Value::A(*last)))?;
+    }
+    Ok(addresses)
+}
+
+fn addresses_of_first<A: Heap>(
+    alloc: A,
+    names: &[&str],
+    glue: &[u8],
+) -> Result<Records<A>, Starved> {
+    match names {
+        [first, ..] => addresses(alloc, *first, glue),
+        [] => Ok(empty(alloc)),
+    }
+}
+
+fn referral<A: Heap>(
+    alloc: A,
+    zone: &str,
+    names: &[&str],
+    glue: &[u8],
+) -> Result<Message<A>, Starved> {
+    let header = header(false);
+    let servers = servers(alloc, zone, names)?;
+    let addresses = addresses_of_first(alloc, names, glue)?;
+    Ok(message(alloc, header, empty(alloc), servers, addresses))
+}
+
+// The message that an event brings, and the server that it comes from.
+fn told<A: Heap>(alloc: A, event: Event) -> Result<Option<(u8, Message<A>)>, Starved> {
+    Ok(match event {
+        Event::Answer(server, row) => Some((server, answer(alloc, row)?)),
+        Event::Referral(zone, names, glue) => Some((ROOT, referral(alloc, zone, names, glue)?)),
+        _ => None,
+    })
+}
+
+// A moment at which a query may come: its deadline, ten seconds later, is a number of milliseconds too.
+fn moment(now: u32) -> u64
+    ensures { result + 10000 < 2 ^ 64 }
+{
+    u64::from(now)
+}
+
+fn job_of<A: Heap>(name: Name<A>) -> Job<A> {
+    Job::new(name, RType::A, moment(0))
+}
+
+fn job<A: Heap>(alloc: A, text: &str) -> Result<Job<A>, Starved> {
+    Ok(job_of(name(alloc, text)?))
+}
+
+fn last_byte_of<A: Heap>(value: &RData<A>) -> u8 {
+    match value {
+        RData::A(address) => address.0[3],
+        _ => 0,
+    }
+}
+
+fn found<A: Heap>(aliases: usize, set: &RecordSet<A>) -> Out {
+    match set.values.as_slice() {
+        [only] => Out::Address(aliases, last_byte_of(only)),
+        _ => Out::Other,
+    }
+}
+
+fn done<A: Heap>(aliases: usize, link: &Link<A>) -> Out {
+    match link {
+        Link::Found(set) => found(aliases, set),
+        Link::NoData(_) | Link::NxDomain(_) => Out::Denied(aliases),
+        Link::Alias(_) => Out::Other,
+    }
+}
+
+fn short<A: Heap>(next: &Next<A>) -> Out {
+    match next {
+        Next::AskUdp(server, _, _) => Out::Ask(server.0[3]),
+        Next::AskTcp(server, _, _) => Out::AskTcp(server.0[3]),
+        Next::Done(chain, link) => done(chain.len(), link.link()),
+        Next::Fail(cause) => Out::Failed(*cause),
+    }
+}
+
+// A resolver with one zone at hand and one server of the root, and the query at work.
+#[derive(Drop)]
+pub struct Asked<A: Heap> {
+    alloc: A,
+    home: Home<A>,
+    stores: Stores<DefaultHasher, A>,
+    job: Job<A>,
+}
+
+impl<A: Heap> Asked<A> {
+    // One that has learnt nothing.
+    pub fn new(alloc: A) -> Result<Asked<A>, Starved> {
+        let job = job(alloc, ".")?;
+        let home = home(alloc, "local", ZONE_ROWS, address(ROOT))?;
+        Ok(Asked {
+            alloc,
+            home,
+            stores: stores(alloc, 20)?,
+            job,
+        })
+    }
+
+    // What goes out for a query whose work has begun.
+    fn begun(&mut self, begun: Started<A>) -> Out {
+        match begun {
+            Started::Answered(last) => done(0, last.link()),
+            Started::Working(job, next) => {
+                self.job = job;
+                short(&next)
+            }
+        }
+    }
+
+    // What goes out at this moment for another query that comes.
+    pub fn query(&mut self, name: &Name<A>, now: u32) -> Result<Out, Starved> {
+        let begun = begin_query(
+            self.alloc,
+            name,
+            RType::A,
+            &self.home,
+            &mut self.stores,
+            moment(now),
+        )?;
+        Ok(self.begun(begun))
+    }
+
+    fn ask(&mut self, text: &str, now: u32) -> Result<Out, Starved> {
+        let name = name(self.alloc, text)?;
+        self.query(&name, now)
+    }
+
+    fn advance(&mut self, input: Input<'_, A>, now: u32) -> Result<Out, Starved> {
+        let next = advance(
+            self.alloc,
+            &mut self.job,
+            input,
+            &self.home,
+            &mut self.stores,
+            u64::from(now),
+        )?;
+        Ok(short(&next))
+    }
+
+    // What goes out at this moment for a message over UDP from that server.
+    fn told(&mut self, server: u8, message: &Message<A>, now: u32) -> Result<Out, Starved> {
+        let Ok(bytes) = encode(self.alloc, message, UDP_LIMIT) else {
+            return Err(Starved);
+        };
+        match View::new(self.alloc, &bytes) {
+            Ok(view) => self.advance(Input::Told(Via::Udp, address(server), view), now),
+            Err(_) => Err(Starved),
+        }
+    }
+
+    // What goes out at this moment for what comes in.
+    pub fn hear(&mut self, now: u32, event: Event) -> Result<Out, Starved> {
+        if let Event::Query(text) = event {
+            return self.ask(text, now);
+        }
+        match told(self.alloc, event)? {
+            Some((server, message)) => self.told(server, &message, now),
+            None => self.advance(Input::Start, now),
+        }
+    }
+
+    // What goes out in place of what has to.
+    fn wrong(&mut self, step: Step) -> Result<Option<Out>, Starved> {
+        let (now, event, want) = step;
+        let out = self.hear(now, event)?;
+        if out == want {
+            return Ok(None);
+        }
+        Ok(Some(out))
+    }
+
+    // The first of these steps after which something else went out, by its place, and what it was.
+    pub fn first_wrong(&mut self, steps: &[Step]) -> Result<Option<(usize, Out)>, Starved> {
+        for (place, step) in steps.iter().enumerate() {
+            if let Some(out) = self.wrong(*step)? {
+                return Ok(Some((place, out)));
+            }
+        }
+        Ok(None)
+    }
+}
+
+// The first wrong step of a resolver that has learnt nothing.
+pub fn first_wrong<A: Heap>(alloc: A, steps: &[Step]) -> Result<Option<(usize, Out)>, Starved> {
+    let mut asked = Asked::new(alloc)?;
+    asked.first_wrong(steps)
+}

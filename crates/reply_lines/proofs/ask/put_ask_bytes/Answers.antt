@@ -1,0 +1,14 @@
+-- Bytes are a message, or nothing is printed.
+use Rattle.std.proofs.Common.{rules, ◌≡◌, ⊎_elim, inl, inr, refl}
+use Rattle.std.proofs.lemmas.Result.{on_ok_weaker}
+use Rattle.wire.specs.declared.error.WireError.TheVariants.{Memory}
+use Rattle.reply_lines.proofs.ask.put_ask_bytes.Goals as goal
+
+pub returns-in-Ok : goal.returns-in-Ok
+returns-in-Ok g c =
+    on_ok_weaker c.put_ask.result (λ printed. inl (c.in-Ok.message, c.in-Ok.ensures.read, printed)) c.put_ask.ensures
+
+pub returns-in-Err : goal.returns-in-Err
+returns-in-Err g c =
+    let other : c.in-Err.field-0 ≡ Memory → ⊥ = search rules in
+    inr (λ m is. ⊎_elim (λ e. absurd (other e)) (λ none. absurd (none m is)) c.in-Err.ensures.refused, refl)

@@ -1,6 +1,0 @@
-use Rattle.std.proofs.Common.{◌≡◌, drop}
-use Rattle.script.specs.WorldTexts.{zones_from, zones_of}
-use Rattle.script.proofs.build.zones.Given as goal
-
-abbrev pub invariant-loop-block : goal.invariant-loop-block
-invariant-loop-block g l = zones_from l.zones.items (drop l.block-index l.blocks) ≡ zones_of l.blocks

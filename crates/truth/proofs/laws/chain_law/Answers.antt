@@ -1,5 +1,0 @@
-use Rattle.truth.proofs.SomeTruth.{chain_grows, nine_have_none, cname_is_plain}
-use Rattle.truth.proofs.laws.chain_law.Goals as goal
-
-pub returns : goal.returns
-returns c = record { grows = chain_grows; nine = nine_have_none; plain = cname_is_plain }

@@ -1,5 +1,0 @@
-use Rattle.truth.proofs.Grown.{referral_kept}
-use Rattle.truth.proofs.laws.delegation_law.Goals as goal
-
-pub returns : goal.returns
-returns c = referral_kept

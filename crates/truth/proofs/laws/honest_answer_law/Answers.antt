@@ -1,5 +1,0 @@
-use Rattle.truth.proofs.Honest.{honest_answer}
-use Rattle.truth.proofs.laws.honest_answer_law.Goals as goal
-
-pub returns : goal.returns
-returns c = honest_answer

@@ -1,5 +1,0 @@
-use Rattle.truth.proofs.Grown.{local_is_true}
-use Rattle.truth.proofs.laws.local_law.Goals as goal
-
-pub returns : goal.returns
-returns c = local_is_true

@@ -1,5 +1,0 @@
-use Rattle.words.proofs.LinesLaw.{lines_are_read}
-use Rattle.words.proofs.laws.lines_are_read_back.Goals as goal
-
-pub returns : goal.returns
-returns c = lines_are_read

@@ -1,5 +1,0 @@
-use Rattle.words.proofs.PartsLaw.{parts_are_found}
-use Rattle.words.proofs.laws.parts_both_ways.Goals as goal
-
-pub returns : goal.returns
-returns c = parts_are_found

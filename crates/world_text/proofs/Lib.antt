@@ -1,0 +1,4 @@
+pub mod Building
+pub mod Places
+pub mod Reading
+pub mod WorldTexts

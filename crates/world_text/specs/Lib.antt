@@ -1,0 +1,10 @@
+-- To be read: what the words of the contracts mean.
+pub mod Worlds
+pub mod WorldTexts
+pub mod Statements
+pub mod Readings
+pub mod WorldFaults
+pub mod Keywords
+pub mod Places
+-- Kept: what the code's own values keep.
+pub mod Seen
