@@ -1,0 +1,137 @@
+//! Rows about one reply. `classify ZONE NAME TYPE WAY FLAG .. : SECTION RECORD ; ..` says what it is used for where a
+//! server of that zone was asked, and `received KIND : RECORDS` for how long a link is kept that a server said.
+//! Flags are `aa`, `tc`, `name-error`, `refused` and `failure`; sections `answer`, `authority` and `additional`.
+use crate::row::Row;
+use crate::shown::{put_link, put_records};
+use classify::{Class, Referral, classify, lifetime, received};
+use dname::Name;
+use front::Via;
+use rdata::RType;
+use text_lines::LineKind;
+use wire::{Header, Message, Questions, TCP_LIMIT, View, encode};
+
+/// How a message came, as the next word says.
+pub fn way(row: &mut Row<'_>) -> Result<Via, LineKind> {
+    match row.word()? {
+        "udp" => Ok(Via::Udp),
+        "tcp" => Ok(Via::Tcp),
+        _ => Err(LineKind::UnknownWord),
+    }
+}
+
+// What a flag makes of a header.
+fn flagged(header: Header, flag: &str) -> Option<Header> {
+    match flag {
+        "aa" => Some(Header { aa: true, ..header }),
+        "tc" => Some(Header { tc: true, ..header }),
+        "failure" => Some(Header { rcode: 2, ..header }),
+        "name-error" => Some(Header { rcode: 3, ..header }),
+        "refused" => Some(Header { rcode: 5, ..header }),
+        _ => None,
+    }
+}
+
+// The header with the flags that are left.
+fn header(row: &mut Row<'_>) -> Result<Header, LineKind> {
+    let mut header = Header {
+        id: 1,
+        qr: true,
+        opcode: 0,
+        aa: false,
+        tc: false,
+        rd: false,
+        ra: false,
+        z: 0,
+        rcode: 0,
+    };
+    for flag in row.rest() {
+        header = flagged(header, flag).ok_or(LineKind::UnknownWord)?;
+    }
+    Ok(header)
+}
+
+fn message(row: &Row<'_>, header: Header) -> Result<Message, LineKind> {
+    let answer = row.section("answer ")?;
+    let authority = row.section("authority ")?;
+    let additional = row.section("additional ")?;
+    Ok(Message {
+        header,
+        questions: Questions::new(row.alloc),
+        answer,
+        authority,
+        additional,
+    })
+}
+
+fn encoded(row: &Row<'_>, message: &Message) -> Result<Vec<u8>, LineKind> {
+    match encode(row.alloc, message, TCP_LIMIT) {
+        Ok(bytes) => Ok(bytes),
+        Err(_) => Err(LineKind::Memory),
+    }
+}
+
+/// The bytes of a reply with the flags that are left and the records of the row.
+pub fn reply(row: &mut Row<'_>) -> Result<Vec<u8>, LineKind> {
+    let header = header(row)?;
+    let message = message(row, header)?;
+    encoded(row, &message)
+}
+
+fn put_referral(out: &mut String, referral: &Referral) -> Result<(), LineKind> {
+    let at = &referral.at;
+    let ttl = referral.ttl;
+    let kept = referral.lifetime();
+    writeln!(out, "referral to {at} for {ttl} s, kept for {kept} s")?;
+    put_records(out, referral.servers.as_slice())?;
+    writeln!(out, "with")?;
+    put_records(out, referral.addresses.as_slice())
+}
+
+fn put_class(row: &Row<'_>, out: &mut String, class: &Class) -> Result<(), LineKind> {
+    match class {
+        Class::Answer(link) => put_link(out, row.alloc, link),
+        Class::Referral(referral) => put_referral(out, referral),
+        Class::Truncated => Ok(out.push_str("truncated\n")?),
+        Class::Failed(failure) => {
+            let number = failure.number();
+            Ok(writeln!(out, "failed {number}")?)
+        }
+    }
+}
+
+// What a reply of these bytes is used for.
+fn class(
+    row: &Row<'_>,
+    zone: &Name,
+    name: &Name,
+    kind: RType,
+    via: Via,
+    bytes: &[u8],
+) -> Result<Class, LineKind> {
+    match View::new(row.alloc, bytes) {
+        Ok(reply) => Ok(classify(row.alloc, zone, name, kind, via, &reply)?),
+        Err(_) => Err(LineKind::BadHex),
+    }
+}
+
+/// What comes of a row of `classify`.
+pub fn show_class(row: &mut Row<'_>, out: &mut String) -> Result<(), LineKind> {
+    let zone = row.name()?;
+    let name = row.name()?;
+    let kind = row.rtype()?;
+    let via = way(row)?;
+    let bytes = reply(row)?;
+    let class = class(row, &zone, &name, kind, via, &bytes)?;
+    put_class(row, out, &class)
+}
+
+/// What comes of a row of `received`.
+pub fn show_received(row: &mut Row<'_>, out: &mut String) -> Result<(), LineKind> {
+    let link = received(row.link()?);
+    let seconds = lifetime(&link);
+    let put = put_link(out, row.alloc, &link);
+    drop(link);
+    put?;
+    writeln!(out, "kept for {seconds} s")?;
+    Ok(())
+}
