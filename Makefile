@@ -2,26 +2,43 @@
 PREFIX = /usr/local
 PROGRAM = crates/resolverd
 
+# The program as `make prove-program` builds it.
+BUILT = $(PROGRAM)/out/resolverd
+
 # The words of the example: which zone, its file, and what is asked.
 QUESTION = ask lab.example. $(CURDIR)/examples/lab.zone x.lab.example. TXT
 
-.PHONY: ask serve bench test turned try install kit
+.PHONY: ask prove-program serve hints bench test turned install deb kit built
 
 # Tells where the toolchain is not the one with which all of this was proved; the proofs are tried all the same.
 kit:
 	@test "$$(rt version)" = "$$(cat KIT)" || echo "note: this tree was proved with $$(cat KIT), and rt version prints $$(rt version)" >&2
 
-# Proves and builds the program and all below it, and answers one query.
+# Answers one query, by the quick build: nothing is proved.
 ask:
-	cd $(PROGRAM) && rt run -- $(QUESTION)
+	@tools/ask $(QUESTION)
 
-# Proves and builds the program, and runs a resolver for this machine alone, at 127.0.0.1 port 5300, until it is
-# stopped: `dig @127.0.0.1 -p 5300 example.org` asks it.
-serve: ask
-	cd examples/serve && $(CURDIR)/$(PROGRAM)/out/resolverd serve resolverd.conf
+# Proves and builds the program, with all below it.
+prove-program: kit
+	tools/prove-program
 
-# How long the libraries' calls take, and the server of the program: README has the figures of one machine.
-bench: ask
+# Says where there is no proved program yet.
+built:
+	@test -x $(BUILT) || { echo "there is no proved program: make prove-program builds it" >&2; exit 2; }
+
+# Runs the proved program as a resolver for this machine alone, at 127.0.0.1 port 5300, until it is stopped:
+# `dig @127.0.0.1 -p 5300 example.org` asks it.
+serve: built
+	cd examples/serve && $(CURDIR)/$(BUILT) serve resolverd.conf
+
+# Writes the root's addresses of a root hints file, HINTS=FILE or Debian's, into the files that are shipped.
+hints:
+	tools/hints $(or $(HINTS),/usr/share/dns/root.hints) examples/serve/resolverd.conf examples/dnsdist/one.conf \
+	    examples/dnsdist/two.conf
+
+# How long the libraries' calls take, and the server of the program: docs/TIMES.md has the figures
+# of one machine.
+bench: built
 	cd crates/bench && rt run -- measure
 	tools/pace
 
@@ -30,6 +47,7 @@ bench: ask
 test: kit
 	tools/layers --check
 	tools/definitions
+	tools/names
 	tools/turned --texts
 	tools/prove
 	tools/examples
@@ -40,14 +58,14 @@ test: kit
 turned:
 	tools/turned $(if $(SINCE),--since $(SINCE))
 
-# The same query without any proof, by an instrumented build: for use while the code changes.
-try:
-	cd $(PROGRAM) && rt try -- $(QUESTION)
-
-# Puts the proved program to $(PREFIX)/bin, and its manual page beside it.
-install:
-	cd $(PROGRAM) && rt run -- $(QUESTION)
+# Puts the program that was built to $(PREFIX)/bin, and its manual page beside it. It builds nothing.
+install: built
 	install -d $(DESTDIR)$(PREFIX)/bin
-	install -m 755 $(PROGRAM)/out/resolverd $(DESTDIR)$(PREFIX)/bin/resolverd
+	install -m 755 $(BUILT) $(DESTDIR)$(PREFIX)/bin/resolverd
 	install -d $(DESTDIR)$(PREFIX)/share/man/man8
 	install -m 644 man/resolverd.8 $(DESTDIR)$(PREFIX)/share/man/man8/resolverd.8
+
+# Makes a Debian package of the program that was built, in crates/resolverd/out. It builds no program, and refuses one that
+# is older than its sources.
+deb: built
+	tools/deb
