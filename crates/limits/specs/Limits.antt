@@ -9,6 +9,10 @@ max_aliases = 8
 abbrev pub max_asks : ℕ
 max_asks = 40
 
+-- The most turns of servers' names that a query takes to look their addresses up.
+abbrev pub max_look_ups : ℕ
+max_look_ups = 64
+
 -- The most queries that are open at once.
 abbrev pub max_open : ℕ
 max_open = 1024

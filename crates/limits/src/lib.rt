@@ -13,6 +13,9 @@ pub const MAX_ALIASES: usize = 8;
 /// The most asks that are sent for a query, over UDP and TCP together.
 pub const MAX_ASKS: u32 = 40;
 
+/// The most turns of servers' names that a query takes to look their addresses up.
+pub const MAX_LOOK_UPS: u32 = 64;
+
 /// The most queries that are open at once.
 pub const MAX_OPEN_QUERIES: usize = 1_024;
 
