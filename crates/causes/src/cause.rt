@@ -20,6 +20,8 @@ pub enum Cause {
     /// No server is left to ask, and at least one was passed over since it had failed to answer the same less than 30
     /// seconds before (RFC 2308, section 7.1).
     KnownFailure,
+    /// The query has looked up addresses of servers' names as often as it may.
+    TooManyLookUps,
 }
 
 impl Cause {
@@ -35,6 +37,7 @@ impl Cause {
             Cause::NoServerLeft => 5,
             Cause::ReplyTooLarge => 6,
             Cause::KnownFailure => 7,
+            Cause::TooManyLookUps => 8,
         }
     }
 }

@@ -16,6 +16,8 @@ use Rattle.laws.proofs.Runs.{run_explained}
 use Rattle.laws.proofs.Failing.{every_failure}
 use Rattle.laws.proofs.Twice.{two_asks}
 use Rattle.laws.specs.Laws.{TicksInOrder}
+use Rattle.laws.proofs.LookUps.{few_look_ups, look_ups_are_spent}
+use Rattle.laws.proofs.Short.{steps_are_short}
 use Rattle.laws.proofs.Discipline.{one_action, one_coming, one_reply, never_again, open_by_run, few_asks, one_line, others_stay, more_at_ticks}
 use Rattle.laws.proofs.Due.{due_in_order}
 use Rattle.laws.proofs.Times.{nothing_is_late}
@@ -57,6 +59,9 @@ module _ (site : Site) (past : List Turn) (old : State) (t : Turn) (new : State)
     reply = λ k. (one_reply site (t ∷ past) new (old, legal, step) k).0;
     never_again = λ k. (never_again site (t ∷ past) new (old, legal, step) k).0;
     asks = few_asks site (t ∷ past) new (old, legal, step);
+    look_ups = few_look_ups site (t ∷ past) new (old, legal, step);
+    looked_out = look_ups_are_spent site past old t new legal step;
+    short = steps_are_short site past old t new legal step;
     waits = open_by_run site (t ∷ past) new (old, legal, step);
     line = one_line site (t ∷ past) new (old, legal, step);
     words = words_in_order site (t ∷ past) new (old, legal, step);

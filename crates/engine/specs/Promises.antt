@@ -1,6 +1,6 @@
 -- What a step of the resolver promises: the laws of every run, said of its newest step.
 use Rattle.std.specs.Prelude.{◌≡◌, ◌≢◌, ℕ, ◌<◌, ◌≤◌, ◌⊎◌, true, false, Option, Some, List, [], ◌∷◌, length, Contains}
-use Rattle.limits.specs.Limits.{max_asks}
+use Rattle.limits.specs.Limits.{max_asks, max_look_ups}
 use Rattle.dname.specs.Labels.{Name}
 use Rattle.rdata.specs.Records.{Record}
 use Rattle.rdata.specs.Types.{type_number}
@@ -18,8 +18,9 @@ use Rattle.cache.specs.Cached.{lent, hit_of, is_live}
 use Rattle.referral.specs.Cuts.{Cut}
 use Rattle.frames.specs.Frames.{opened, taken_addresses}
 use Rattle.world_truth.specs.Worlds.{World, IsWorld}
-use Rattle.resolution.specs.Jobs.{level_of, with_answer, received_link, AreFresh, IsEnding, IsCutOf, Search, with_frame, fails_now, next_server, Taken}
+use Rattle.resolution.specs.Jobs.{Fail, level_of, with_answer, received_link, AreFresh, IsEnding, IsCutOf, Search, with_frame, fails_now, next_server, Taken}
 use Rattle.resolution.specs.Rules.{asked_of}
+use Rattle.causes.specs.declared.cause.Cause.TheVariants.{TooManyLookUps}
 use Rattle.runs.specs.States.{Event, Client, Tick, Action, MoreDue, Served, Own, OpenQuery, Turn, Plain, ClientQuery, client_query, recursive, Open, Site, State, moved}
 use Rattle.runs.specs.Messages.{Brings, outcome_of, IsReply}
 use Rattle.runs.specs.Steps.{IsOfNumber, Step}
@@ -40,6 +41,7 @@ use Rattle.laws.specs.Held.{IsHeldChain}
 use Rattle.laws.specs.Calls.{Opening}
 use Rattle.laws.specs.Opens.{Call, step_call, Opens, IsOpenedRightly}
 use Rattle.laws.specs.Looks.{IsKeptSince, IsOnlyLiveEntry}
+use Rattle.laws.specs.LookUps.{look_ups_of, look_ups_by}
 use Rattle.laws.specs.Uses.{KeptAnswer}
 
 -- What every run keeps: the steps in `past` led from a new resolver to the state `old`, the step `turn` led on to
@@ -56,6 +58,10 @@ pub record Keeps (site : Site) (past : List Turn) (old : State) (turn : Turn) (n
   pub reply : (k : ℕ) → RepliesTo k turn past → Earlier (RepliesTo k) past → ⊥
   pub never_again : (k : ℕ) → turn.served ≡ OpenQuery k → Earlier (IsOver k) past → ⊥
   pub asks : (k : ℕ) → asks_of k (turn ∷ past) ≤ max_asks
+  -- Servers' names have 64 turns at most for a query; where it fails for that they had 64; and a step is short.
+  pub look_ups : (k : ℕ) → look_ups_of k site (turn ∷ past) new (old, legal, step) ≤ max_look_ups
+  pub looked_out : (call : Call (moved old turn.event)) → step_call old turn new step ≡ Some call → call.next ≡ Fail TooManyLookUps → look_ups_by turn.served site past old turn new legal step ≡ max_look_ups
+  pub short : (call : Call (moved old turn.event)) → step_call old turn new step ≡ Some call → (call.advances).count ≤ 488
   pub waits : AreOpenByRun site.port (turn ∷ past) new.queries
   pub line : (p q : Open) (sock : ℕ) (server : Addr) (id : ℕ) → Contains new.queries p → Contains new.queries q → IsLine p sock server id → IsLine q sock server id → p ≡ q
   pub words : (seed : List ℕ) × (n : ℕ) × AreDrawn (of_seed seed) site (turn ∷ past) new (old, legal, step) n

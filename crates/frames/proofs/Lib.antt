@@ -1,3 +1,4 @@
+pub mod Marks
 pub mod Members
 pub mod Once
 pub mod Passed

@@ -1,14 +1,14 @@
 -- The names that were passed over, and why.
 use Rattle.std.proofs.Common.{◌≡◌, ℕ, zero, suc, ◌+◌, ◌-◌, ◌≤◌, ◌<◌, Bool, true, false, ◌&&◌, ◌||◌, ◌⊎◌, inl, inr, nat_le, Some, None, List, [], ◌∷◌, length, get_or, take, drop, slice_get, Contains, refl, sym, ap, ◌∙◌, subst, arith}
 use Rattle.std.specs.List.{list_any}
-use Rattle.std.proofs.lemmas.Bool.{and_parts, leb-true, cases_lt}
+use Rattle.std.proofs.lemmas.Bool.{leb-true, cases_lt}
 use Rattle.std.proofs.lemmas.List.{take_all, length-drop}
 use Rattle.std.proofs.lemmas.Option.{slice_get-get_or}
 use Rattle.lru.proofs.Splits.{Contains-head, Contains-tail, Contains-cons, Contains-nil}
-use Rattle.dname.specs.Labels.{Name, same_name, is_under}
-use Rattle.dname.specs.Laws.{same_name-exact}
+use Rattle.dname.specs.Labels.{Name, is_under}
 use Rattle.dname.proofs.Under.{under_is}
-use Rattle.frames.specs.Frames.{Frame, FailedName, deepest, has_failed, is_skipped, HasFailed, IsPassedOver, place_from, next_place, next_name}
+use Rattle.frames.specs.Frames.{Frame, Failed, deepest, has_failed, is_skipped, HasFailed, IsPassedOver, place_from, next_place, next_name}
+use Rattle.frames.proofs.Marks.{has_failed_is}
 use Rattle.frames.proofs.Members.{by_test, first_of, second_of, other_or}
 use Rattle.frames.proofs.Places.{place_least}
 
@@ -60,20 +60,14 @@ either : (b c : Bool) → (b || c) ≡ true → (b ≡ true) ⊎ (c ≡ true)
 either true c h = inl refl
 either false c h = inr h
 
-module _ (fs : List FailedName) (f : Frame) where
-  has_failed_is : (n : Name) (nesting : ℕ) → has_failed fs n nesting ≡ true → HasFailed fs n nesting
-  has_failed_is n nesting h =
-      let (g, c, t) = any_of (λ (g : FailedName). same_name g.name n && nat_le g.nesting nesting) fs h in
-      let p = and_parts (same_name g.name n) (nat_le g.nesting nesting) t in
-      (g, c, same_name-exact g.name n p.0, leb-true g.nesting nesting p.1)
-
+module _ (fs : Failed) (f : Frame) where
   pub passed_over : (n : Name) → is_skipped fs f n ≡ true → IsPassedOver fs f n
   passed_over n h = elim (either (is_under n f.zone || nat_le deepest f.nesting) (has_failed fs n (f.nesting + 1)) h) [
     | inl e ↦ elim (either (is_under n f.zone) (nat_le deepest f.nesting) e) [
       | inl u ↦ inl (under_is n f.zone u)
       | inr d ↦ inr (inl (leb-true deepest f.nesting d))
     ]
-    | inr e ↦ inr (inr (has_failed_is n (f.nesting + 1) e))
+    | inr e ↦ inr (inr (has_failed_is fs n (f.nesting + 1) e))
   ]
 
   -- Of the names before the next place each was tried or is passed over.

@@ -6,7 +6,7 @@ use Rattle.std.proofs.lemmas.List.Elements.{Contains-get_or}
 use Rattle.std.proofs.lemmas.Option.{slice_get_within, get_or_from_slice_get, slice_get-get_or}
 use Rattle.dname.specs.Labels.{Name, is_under, IsAtOrUnder}
 use Rattle.dname.proofs.Under.{is_under_holds}
-use Rattle.frames.specs.Frames.{Frame, FailedName, deepest, has_failed, is_skipped, place_from, next_place, next_name, after_name}
+use Rattle.frames.specs.Frames.{Frame, Failed, deepest, has_failed, is_skipped, place_from, next_place, next_name, after_name}
 use Rattle.frames.proofs.Members.{by_test, first_of, second_of, true_or_false}
 
 some_is : {X : Type 0} {x y : X} → Some x ≡ Some y → x ≡ y
@@ -80,7 +80,7 @@ none_of_three true b c h = true_or_false refl h
 none_of_three false true c h = true_or_false refl h
 none_of_three false false c h = (refl, refl, h)
 
-module _ (fs : List FailedName) (f : Frame) (n : Name) (is : next_name fs f ≡ Some n) where
+module _ (fs : Failed) (f : Frame) (n : Name) (is : next_name fs f ≡ Some n) where
   not_skipped : is_skipped fs f n ≡ false
   not_skipped = chosen (is_skipped fs f) f.names (drop f.tried f.names) f.tried n refl is
 

@@ -1,10 +1,13 @@
 -- The servers of a zone that a query asks for one name: where they come from, in which order they are asked,
 -- and which of their names are looked up when all known addresses were asked (RFC 1034, section 5.3.3, steps
 -- 2 and 3; RFC 1035, section 7.2).
-use Rattle.std.specs.Prelude.{◌≡◌, ℕ, ◌+◌, ◌≤◌, ◌⊎◌, Contains, Bool, ◌&&◌, ◌||◌, not, cond, min, nat_le, Option, List, [], ◌∷◌, ◌++◌, map, filter, take, drop, length, slice_get}
+use Rattle.std.specs.Prelude.{◌≡◌, ℕ, ◌+◌, ◌≤◌, ◌⊎◌, Contains, Bool, ◌&&◌, ◌||◌, false, not, cond, min, nat_le, Option, Some, None, List, [], ◌∷◌, ◌++◌, map, filter, take, drop, length, slice_get}
 use Rattle.std.specs.List.{list_any}
+use Rattle.std.specs.Map.{lookup}
+use Rattle.std.specs.BTreeMap.{is_at, insert_entry}
 use Rattle.limits.specs.Limits.{max_nesting, max_servers}
 use Rattle.dname.specs.Labels.{Name, same_name, is_under, IsAtOrUnder}
+use Rattle.dname.specs.Order.{name_cmp}
 use Rattle.rdata.specs.declared.addr.Addr.{Addr}
 use Rattle.retry.specs.Penalties.{same_addr}
 use Rattle.retry.specs.Plans.{Plan, planned}
@@ -58,24 +61,40 @@ opened level nesting c = record {
   plan = planned level (taken_addresses c);
 }
 
--- Names whose look-up failed in this query, each with the nesting of that look-up.
-pub record FailedName : Type 0 where
-  pub name : Name
-  pub nesting : ℕ
+-- Names whose look-up failed in this query, in the order of names, each once with the least nesting of a look-up that
+-- did.
+abbrev pub Failed : Type 0
+Failed = List (Name × ℕ)
 
-abbrev pub has_failed : List FailedName → Name → ℕ → Bool
-has_failed fs n nesting = list_any (λ (f : FailedName). same_name f.name n && nat_le f.nesting nesting) fs
+abbrev pub least_failed : Failed → Name → Option ℕ
+least_failed fs n = lookup (is_at (name_cmp n)) fs
+
+-- The look-up of a name failed at this nesting too.
+abbrev pub least_of : ℕ → Option ℕ → ℕ
+least_of nesting None = nesting
+least_of nesting (Some least) = min nesting least
+
+abbrev pub marked : Failed → Name → ℕ → Failed
+marked fs n nesting = insert_entry name_cmp fs n (least_of nesting (least_failed fs n))
+
+-- Whether it failed at this nesting or a lesser one.
+abbrev pub is_within : ℕ → Option ℕ → Bool
+is_within nesting None = false
+is_within nesting (Some least) = nat_le least nesting
+
+abbrev pub has_failed : Failed → Name → ℕ → Bool
+has_failed fs n nesting = is_within nesting (least_failed fs n)
 
 -- A name is not looked up: beneath the zone whose servers are sought, too deep, or where it failed at the
 -- nesting that its look-up would have, or at a lesser one.
-abbrev pub is_skipped : List FailedName → Frame → Name → Bool
+abbrev pub is_skipped : Failed → Frame → Name → Bool
 is_skipped fs f n = is_under n f.zone || nat_le deepest f.nesting || has_failed fs n (f.nesting + 1)
 
 -- The same in words: why a name is passed over (RFC 1034, section 5.3.3, step 2).
-abbrev pub HasFailed : List FailedName → Name → ℕ → Type 0
-HasFailed fs n nesting = (f : FailedName) × Contains fs f × (f.name ≡ n) × (f.nesting ≤ nesting)
+abbrev pub HasFailed : Failed → Name → ℕ → Type 0
+HasFailed fs n nesting = (least : ℕ) × Contains fs (n, least) × (least ≤ nesting)
 
-abbrev pub IsPassedOver : List FailedName → Frame → Name → Type 0
+abbrev pub IsPassedOver : Failed → Frame → Name → Type 0
 IsPassedOver fs f n = IsAtOrUnder n f.zone ⊎ ((deepest ≤ f.nesting) ⊎ HasFailed fs n (f.nesting + 1))
 
 -- The place of the first name, from a place on, that is not skipped.
@@ -83,14 +102,14 @@ abbrev pub place_from : (Name → Bool) → ℕ → List Name → ℕ
 place_from skips at [] = at
 place_from skips at (n ∷ ns) = cond (skips n) (place_from skips (at + 1) ns) at
 
-abbrev pub next_place : List FailedName → Frame → ℕ
+abbrev pub next_place : Failed → Frame → ℕ
 next_place fs f = place_from (is_skipped fs f) f.tried (drop f.tried f.names)
 
 -- The name whose turn it is; each has its turn once.
-abbrev pub next_name : List FailedName → Frame → Option Name
+abbrev pub next_name : Failed → Frame → Option Name
 next_name fs f = slice_get f.names (next_place fs f)
 
-abbrev pub after_name : List FailedName → Frame → Frame
+abbrev pub after_name : Failed → Frame → Frame
 after_name fs f = record f { tried = min (next_place fs f + 1) (length f.names) }
 
 -- Addresses that were found for a name: those not known yet make a new plan.

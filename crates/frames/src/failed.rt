@@ -1,39 +1,24 @@
 //! Names of servers whose look-up failed.
-ghost use Rattle.std.specs.Prelude.{◌≡◌, [], ◌∷◌, OnOk, OnErr};
-ghost use Rattle.frames.specs.Frames.{has_failed};
+ghost use Rattle.std.specs.Prelude.{◌≡◌, [], OnOk, OnErr};
+ghost use Rattle.frames.specs.Frames.{has_failed, marked};
 
 use dname::{Heap, Name, Starved};
 use std::alloc::{Allocator, Global};
+use std::collections::BTreeMap;
 use std::marker::Model;
 
-#[derive(Drop)]
-struct FailedName<A: Allocator = Global> {
-    name: Name<A>,
-    nesting: u8,
-}
-
-impl<A: Allocator> Model for FailedName<A> {
-    ghost use Rattle.frames.specs.Frames.{FailedName as FailedNameSpec};
-
-    ghost Value = { FailedNameSpec };
-
-    ghost view = { λ f. record { name = f.name; nesting = f.nesting } };
-}
-
-/// Names whose look-up failed, each with the nesting of that look-up, the last one first. Contracts see their
-/// list.
+/// Names whose look-up failed, each with the least nesting of a look-up that did. One of n is found in log n.
 #[derive(Drop)]
 pub struct Failed<A: Allocator = Global> {
-    names: Vec<FailedName<A>, A>,
+    least: BTreeMap<Name<A>, u8, A>,
 }
 
 impl<A: Allocator> Model for Failed<A> {
-    ghost use Rattle.std.specs.Prelude.{List};
-    ghost use Rattle.frames.specs.Frames.{FailedName as FailedNameSpec};
+    ghost use Rattle.frames.specs.Frames.{Failed as FailedSpec};
 
-    ghost Value = { List FailedNameSpec };
+    ghost Value = { FailedSpec };
 
-    ghost view = { λ f. f.names.items };
+    ghost view = { λ f. f.least.entries };
 }
 
 impl<A: Heap> Failed<A> {
@@ -42,17 +27,21 @@ impl<A: Heap> Failed<A> {
         ensures { result ≡ [] }
     {
         Failed {
-            names: Vec::new(alloc),
+            least: BTreeMap::new(alloc),
         }
     }
 
-    /// The look-up of this name failed at this nesting.
+    /// The look-up of this name failed at this nesting. Running out of memory changes nothing.
     pub fn mark(&mut self, name: &Name<A>, nesting: u8) -> Result<(), Starved>
-        ensures ok { OnOk result (self.new ≡ record { name = name.now; nesting = nesting } ∷ self.old) }
+        ensures ok { OnOk result (self.new ≡ marked self.old name.now nesting) }
         ensures err { OnErr result (self.new ≡ self.old) }
     {
+        let least = match self.least.get(name) {
+            Some(least) => nesting.min(*least),
+            None => nesting,
+        };
         let name = name.clone()?;
-        self.names.insert(0, FailedName { name, nesting })?;
+        self.least.insert(name, least)?;
         Ok(())
     }
 }
@@ -62,8 +51,9 @@ impl<A: Allocator> Failed<A> {
     pub fn has(&self, name: &Name<A>, nesting: u8) -> bool
         ensures { result ≡ has_failed self.now name.now nesting }
     {
-        self.names
-            .iter()
-            .any(|failed| failed.name == *name && failed.nesting <= nesting)
+        match self.least.get(name) {
+            Some(least) => *least <= nesting,
+            None => false,
+        }
     }
 }

@@ -8,7 +8,7 @@ ghost use Rattle.lru_laws.specs.Orders.{HasSame};
 ghost use Rattle.referral.specs.Cuts.{Cut, ServerAddress};
 ghost use Rattle.retry.specs.Penalties.{same_addr};
 ghost use Rattle.retry.specs.Plans.{planned, IsByPenalty};
-ghost use Rattle.frames.specs.Frames.{Frame, FailedName, opened, is_known, has_failed, IsPassedOver, next_place, next_name, after_name, fresh_addresses, after_add};
+ghost use Rattle.frames.specs.Frames.{Frame, Failed, opened, is_known, has_failed, IsPassedOver, next_place, next_name, after_name, fresh_addresses, after_add};
 ghost use Rattle.frames.specs.Members.{AreAmong, times};
 ghost use Rattle.frames.specs.Trimmed.{trimmed};
 
@@ -43,13 +43,13 @@ pub fn order_law()
 /// or a lesser one, and is no deeper than 3; its turn is over afterwards. A name before it that had no turn,
 /// and each that is left where none is looked up, is passed over for one of these reasons.
 pub fn next_name_law()
-    ensures member { (fs : List FailedName) (f : Frame) (n : Name) → next_name fs f ≡ Some n → Contains f.names n }
-    ensures outside { (fs : List FailedName) (f : Frame) (n : Name) → next_name fs f ≡ Some n → IsAtOrUnder n f.zone → ⊥ }
-    ensures shallow { (fs : List FailedName) (f : Frame) (n : Name) → next_name fs f ≡ Some n → f.nesting < 3 }
-    ensures untried { (fs : List FailedName) (f : Frame) (n : Name) → next_name fs f ≡ Some n → has_failed fs n (f.nesting + 1) ≡ false }
-    ensures passed { (fs : List FailedName) (f : Frame) (n : Name) → Contains (take (next_place fs f) f.names) n → Contains (take f.tried f.names) n ⊎ IsPassedOver fs f n }
-    ensures spent { (fs : List FailedName) (f : Frame) (n : Name) → next_name fs f ≡ None → Contains (drop f.tried f.names) n → IsPassedOver fs f n }
-    ensures turn { (fs : List FailedName) (f : Frame) (n : Name) → next_name fs f ≡ Some n → (f.tried ≤ next_place fs f) × ((after_name fs f).tried ≡ next_place fs f + 1) }
+    ensures member { (fs : Failed) (f : Frame) (n : Name) → next_name fs f ≡ Some n → Contains f.names n }
+    ensures outside { (fs : Failed) (f : Frame) (n : Name) → next_name fs f ≡ Some n → IsAtOrUnder n f.zone → ⊥ }
+    ensures shallow { (fs : Failed) (f : Frame) (n : Name) → next_name fs f ≡ Some n → f.nesting < 3 }
+    ensures untried { (fs : Failed) (f : Frame) (n : Name) → next_name fs f ≡ Some n → has_failed fs n (f.nesting + 1) ≡ false }
+    ensures passed { (fs : Failed) (f : Frame) (n : Name) → Contains (take (next_place fs f) f.names) n → Contains (take f.tried f.names) n ⊎ IsPassedOver fs f n }
+    ensures spent { (fs : Failed) (f : Frame) (n : Name) → next_name fs f ≡ None → Contains (drop f.tried f.names) n → IsPassedOver fs f n }
+    ensures turn { (fs : Failed) (f : Frame) (n : Name) → next_name fs f ≡ Some n → (f.tried ≤ next_place fs f) × ((after_name fs f).tried ≡ next_place fs f + 1) }
 {}
 
 /// After addresses were added each one was there or is one of those found, none is lost, all found are

@@ -3,9 +3,9 @@ use Rattle.std.proofs.Common.{◌≡◌, ℕ, ◌<◌, inl, inr, Some, List, ◌
 use Rattle.dname.specs.Labels.{Name}
 use Rattle.referral.specs.Cuts.{Cut}
 use Rattle.zone.specs.Links.{Link}
-use Rattle.frames.specs.Frames.{FailedName, next_name}
+use Rattle.frames.specs.Frames.{Failed, marked, next_name}
 use Rattle.frames.proofs.Places.{name_shallow}
-use Rattle.resolution.specs.Jobs.{Home, Stores, Taken, Search, Job, marked}
+use Rattle.resolution.specs.Jobs.{Home, Stores, Taken, Search, Job}
 use Rattle.resolution.specs.Rules.{Finds, Misses, UsesServerAddress, turned}
 use Rattle.lookup.specs.Found.{IsFound}
 use Rattle.lookup.specs.declared.lookup.Found.{Found}
@@ -30,7 +30,7 @@ found_name home now n t old l new h = elim h.is as (λ x. l.name ≡ n) [
 ]
 
 -- A name whose turn it is may be looked up one nesting deeper.
-pub turn_shallow : (failed : List FailedName) (s after : Search) (n : Name) → after ≡ turned failed s → Some n ≡ next_name failed s.frame → (after.frame).nesting < 3
+pub turn_shallow : (failed : Failed) (s after : Search) (n : Name) → after ≡ turned failed s → Some n ≡ next_name failed s.frame → (after.frame).nesting < 3
 turn_shallow failed s after n is turn = subst (λ (x : Search). (x.frame).nesting < 3) (sym is) (name_shallow failed s.frame n (sym turn))
 
 -- Back in the search around one that is given up.
@@ -41,7 +41,7 @@ up_job j mid marks new before around n d popped mark push named nested =
     push ∙ (λ i. with_search (mark i) around) ∙ (λ i. record (back i) { searches = around ∷ mid.searches; failed = marked (back i).failed (named i) (nested i) })
 
 -- What is heard of a name, of the search as it was.
-pub heard_at : (stores : Stores) (n m : Name) (l : Link) (s before : Search) (failed : List FailedName) (after : Search) (marks : List FailedName) → n ≡ m → s ≡ before
+pub heard_at : (stores : Stores) (n m : Name) (l : Link) (s before : Search) (failed : Failed) (after : Search) (marks : Failed) → n ≡ m → s ≡ before
     → UsesServerAddress stores n l s failed after marks → UsesServerAddress stores m l before failed after marks
 heard_at stores n m l s before failed after marks named is h =
     subst (λ (x : Name). UsesServerAddress stores x l before failed after marks) named (subst (λ (x : Search). UsesServerAddress stores n l x failed after marks) is h)

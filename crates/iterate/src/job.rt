@@ -1,8 +1,10 @@
-//! The work on one query, and its bounds: asks, time, the length of its chain.
-ghost use Rattle.std.specs.Prelude.{◌≡◌, ◌+◌, ◌^◌, ◌<◌, [], length, IfOk, OnOk, MatchOption};
+//! The work on one query, and its bounds: asks, look-ups of servers' names, time, the length of its chain.
+ghost use Rattle.std.specs.Prelude.{◌≡◌, ◌+◌, ◌^◌, ◌<◌, ◌≤◌, [], length, IfOk, OnOk, MatchOption};
+ghost use Rattle.std.specs.Bool.{MatchBool};
+ghost use Rattle.limits.specs.Limits.{max_look_ups};
 ghost use Rattle.rdata.specs.Types.{type_number};
-ghost use Rattle.frames.specs.Frames.{next_name};
-ghost use Rattle.resolution.specs.Jobs.{job_at, wait_of_job, marked, asked_again, MaySend};
+ghost use Rattle.frames.specs.Frames.{marked, next_name};
+ghost use Rattle.resolution.specs.Jobs.{job_at, wait_of_job, asked_again, looked_up, MayLookUp, MaySend};
 ghost use Rattle.resolution.specs.Rules.{MayNotSend, turned, spent_cause};
 ghost use Rattle.iterate.specs.Moves.{with_search, begun, followed, skipping, IsRestart};
 
@@ -11,7 +13,7 @@ use crate::search::{Search, Searches};
 use causes::Cause;
 use dname::{Heap, Name, Starved};
 use frames::Failed;
-use limits::{MAX_ASKS, QUERY_LIFETIME_MS};
+use limits::{MAX_ASKS, MAX_LOOK_UPS, QUERY_LIFETIME_MS};
 use lookup::Taken;
 use rdata::RType;
 use std::alloc::{Allocator, Global};
@@ -27,6 +29,8 @@ pub struct Job<A: Allocator = Global> {
     searches: Searches<A>,
     failed: Failed<A>,
     asks: u32,
+    // How often a server's name had its turn.
+    look_ups: u32,
     deadline: u64,
     // Whether a server was passed over, since it had failed lately.
     skipped: bool,
@@ -42,6 +46,7 @@ impl<A: Allocator> Drop for Job<A> {
             searches,
             failed,
             asks: _,
+            look_ups: _,
             deadline: _,
             skipped: _,
         } = self;
@@ -58,7 +63,7 @@ impl<A: Allocator> Model for Job<A> {
 
     ghost Value = { JobSpec };
 
-    ghost view = { λ j. record { name = j.name; kind = type_number j.kind; chain = j.chain; searches = j.searches; failed = j.failed; asks = j.asks; deadline = j.deadline; skipped = j.skipped } };
+    ghost view = { λ j. record { name = j.name; kind = type_number j.kind; chain = j.chain; searches = j.searches; failed = j.failed; asks = j.asks; look_ups = j.look_ups; deadline = j.deadline; skipped = j.skipped } };
 }
 
 impl<A: Heap> Job<A> {
@@ -75,6 +80,7 @@ impl<A: Heap> Job<A> {
             searches: Searches::new(alloc),
             failed: Failed::new(alloc),
             asks: 0,
+            look_ups: 0,
             deadline: now + QUERY_LIFETIME_MS,
             skipped: false,
         }
@@ -201,6 +207,21 @@ impl<A: Allocator> Job<A> {
             return Some(Cause::TooManyAsks);
         }
         None
+    }
+
+    // Whether one more server's name may have its turn.
+    pub(crate) fn may_look_up(&self) -> bool
+        ensures { MatchBool result (MayLookUp self.now) (max_look_ups ≤ (self.now).look_ups) }
+    {
+        self.look_ups < MAX_LOOK_UPS
+    }
+
+    // A server's name had its turn.
+    pub(crate) fn count_look_up(&mut self)
+        requires { MayLookUp self.old }
+        ensures { self.new ≡ looked_up self.old }
+    {
+        self.look_ups += 1;
     }
 
     // Why the query fails where no server is left.

@@ -1,10 +1,10 @@
 //! Servers of the innermost search: the next of its plan, and where all were asked, addresses of those that
 //! are known by name alone (RFC 1034, section 5.3.3, steps 2 and 3).
-ghost use Rattle.std.specs.Prelude.{◌≡◌, ◌+◌, ◌<◌, ℕ, List, Some, None, ◌∷◌, IfOk, OnOk};
+ghost use Rattle.std.specs.Prelude.{◌≡◌, ◌+◌, ◌<◌, ℕ, Some, None, ◌∷◌, IfOk, OnOk};
 ghost use Rattle.retry.specs.Plans.{upcoming};
 ghost use Rattle.zone.specs.Zones.{a_type};
-ghost use Rattle.frames.specs.Frames.{FailedName, next_name, opened};
-ghost use Rattle.resolution.specs.Jobs.{Home as HomeSpec, Stores as StoresSpec, Search as SearchSpec, Go, point, level_of, search_at};
+ghost use Rattle.frames.specs.Frames.{Failed as FailedSpec, next_name, opened};
+ghost use Rattle.resolution.specs.Jobs.{Home as HomeSpec, Stores as StoresSpec, Search as SearchSpec, Go, point, level_of, search_at, MayLookUp};
 ghost use Rattle.resolution.specs.Rules.{Rule, UsesServerAddress, IsFree, turned};
 ghost use Rattle.lookup.specs.Uses.{OnlyUses};
 ghost use Rattle.iterate.specs.Moves.{IsMove, IsAdded, IsNextFailed, ArePassed, with_search};
@@ -64,7 +64,7 @@ pub(crate) fn use_server_address<S: BuildHasher + Drop, A: Heap>(
     link: &Taken<A>,
     stores: &Stores<S, A>,
 ) -> Result<(), Starved>
-    ensures { OnOk result ((after : SearchSpec) × (marks : List FailedName) × UsesServerAddress stores.now link.now.name link.now.link search (job.old).failed after marks × (job.new ≡ record job.old { searches = after ∷ (job.old).searches; failed = marks })) }
+    ensures { OnOk result ((after : SearchSpec) × (marks : FailedSpec) × UsesServerAddress stores.now link.now.name link.now.link search (job.old).failed after marks × (job.new ≡ record job.old { searches = after ∷ (job.old).searches; failed = marks })) }
 {
     match link.link() {
         Link::Found(set) => {
@@ -98,7 +98,7 @@ fn descend<S: BuildHasher + Drop, A: Heap>(
     Ok(())
 }
 
-// The address of a server's name: what is known of it, or else a search.
+// The address of a server's name: what is known of it, or else a search. Its turn is counted.
 fn look_for<S: BuildHasher + Drop, A: Heap>(
     alloc: A,
     job: &mut Job<A>,
@@ -108,7 +108,8 @@ fn look_for<S: BuildHasher + Drop, A: Heap>(
     stores: &mut Stores<S, A>,
     now: u64,
 ) -> Result<(), Starved>
-    requires { (search.frame).nesting < 3 }
+    requires shallow { (search.frame).nesting < 3 }
+    requires few { MayLookUp job.old }
     ensures rule { (before : SearchSpec) → upcoming (before.frame).plan ≡ None → next_name (job.old).failed before.frame ≡ Some name → search ≡ turned (job.old).failed before
         → OnOk result (Rule home.now now (point Go (with_search job.old before) stores.old) (point Go job.new stores.new)) }
     ensures only { OnlyUses stores.old stores.new }
@@ -124,12 +125,14 @@ fn look_for<S: BuildHasher + Drop, A: Heap>(
             let heard = use_server_address(job, search, &link, stores);
             drop(link);
             heard?;
+            job.count_look_up();
             Ok(())
         }
         Ok(Found::Start(cut)) => {
             let sought = descend(alloc, job, search, name, &cut, stores);
             drop(cut);
             sought?;
+            job.count_look_up();
             Ok(())
         }
     }
@@ -174,6 +177,11 @@ fn go_further<S: BuildHasher + Drop, A: Heap>(
             Err(starved)
         }
         Ok(Some(name)) => {
+            if !job.may_look_up() {
+                drop(search);
+                drop(name);
+                return Ok(Move::Out(Next::Fail(Cause::TooManyLookUps)));
+            }
             look_for(alloc, job, search, name, home, stores, now)?;
             Ok(Move::Onward(Task::Go))
         }

@@ -5,7 +5,7 @@ use Rattle.zone.specs.Links.{Link}
 use Rattle.classify.specs.Classes as class
 use Rattle.classify.specs.Classes.{class_of}
 use Rattle.resolution.specs.Jobs.{Home, Stores, with_told, Search, Job, Input, Start, Told, TimedOut, TcpFailed, Next, MaySend, Point}
-use Rattle.resolution.specs.Rules.{Rule, takes, asks, follows, restarts, skips, hears, descends, gives_up, Rules, IsAnswered, ByClass, Enters, Leaves, sends, sends_again, refuses, spent, nowhere, too_long, done, Advances}
+use Rattle.resolution.specs.Rules.{Rule, takes, asks, follows, restarts, skips, hears, descends, gives_up, Rules, IsAnswered, ByClass, Enters, Leaves, sends, sends_again, refuses, spent, looked_out, nowhere, too_long, done, Advances}
 use Rattle.runs.specs.Steps.{IsAsk}
 
 -- The same number of asks, and the same deadline.
@@ -72,6 +72,7 @@ asks_leave home now old p next new after same (sends x y others is may n j e) as
 asks_leave home now old p next new after same (sends_again x y others is may n j e) asking = one_more now old p.job new same may (ap (λ (k : Job). k.asks) j) (ap (λ (k : Job). k.deadline) j)
 asks_leave home now old p next new after same (refuses c x y others is refused n e) asking = absurd (subst IsAsk n asking)
 asks_leave home now old p next new after same (spent x t up n e) asking = absurd (subst IsAsk n asking)
+asks_leave home now old p next new after same (looked_out x others m t out n e) asking = absurd (subst IsAsk n asking)
 asks_leave home now old p next new after same (nowhere t none n e) asking = absurd (subst IsAsk n asking)
 asks_leave home now old p next new after same (too_long l r t is long n e) asking = absurd (subst IsAsk n asking)
 asks_leave home now old p next new after same (done l t is fresh n e) asking = absurd (subst IsAsk n asking)

@@ -9,7 +9,7 @@ use Rattle.classify.specs.Classes.{class_of}
 use Rattle.classify.specs.declared.class.Failure.{Failure}
 use Rattle.retry.specs.Plans.{upcoming, advanced}
 use Rattle.resolution.specs.Jobs.{Home, Stores, with_timeout, with_told, Search, fails_now, left_of, first_without, next_server, Job, Input, Told, TimedOut, TcpFailed, Next, AskUdp, AskTcp, Go, Again, Point, point}
-use Rattle.resolution.specs.Rules.{IsFree, Rule, takes, asks, follows, restarts, skips, hears, descends, gives_up, Rules, Enters, ByClass, IsDue, IsDueAgain, Leaves, sends, sends_again, refuses, spent, nowhere, too_long, done}
+use Rattle.resolution.specs.Rules.{IsFree, Rule, takes, asks, follows, restarts, skips, hears, descends, gives_up, Rules, Enters, ByClass, IsDue, IsDueAgain, Leaves, sends, sends_again, refuses, spent, looked_out, nowhere, too_long, done}
 use Rattle.resolution.proofs.Passing.{passes_first, passes_name, passes_next, left_first, none_left, first_free}
 use Rattle.laws.specs.Calls.{AcceptsReply, IsLost, GoesOut, NextIsAsked, TruncatedIsRepeated, AskedDidNotFail}
 use Rattle.laws.proofs.Skipped.{rules_front, next_at}
@@ -46,6 +46,7 @@ module _ (home : Home) (now : ℕ) where
       due_leaves next new after (sends_again server x others is may n j e) = let a = is.task in absurd (cc)
       due_leaves next new after (refuses c server x others is refused n e) = inr (c, refused, n)
       due_leaves next new after (spent x t up n e) = let a = up.searches in let b = up.asked_all in absurd (cc)
+      due_leaves next new after (looked_out x others m t out n e) = let a = out.searches in let b = out.asked_all in absurd (cc)
       due_leaves next new after (nowhere t none n e) = absurd (cc)
       due_leaves next new after (too_long l r t is long n e) = absurd (cc)
       due_leaves next new after (done l t is fresh n e) = absurd (cc)
@@ -80,6 +81,7 @@ module _ (home : Home) (now : ℕ) where
               cc
           either (inr due_again) = let a = due_again.task in cc
       failed_leaves fails next new after (spent x t up n e) = let a = up.searches in let b = up.asked_all in cc
+      failed_leaves fails next new after (looked_out x others m t out n e) = let a = out.searches in let b = out.asked_all in cc
       failed_leaves fails next new after (nowhere t none n e) = cc
       failed_leaves fails next new after (too_long l r t is long n e) = cc
       failed_leaves fails next new after (done l t is fresh n e) = cc
@@ -102,6 +104,7 @@ module _ (home : Home) (now : ℕ) where
       again_leaves next new after (sends_again x y others is may n j e) = let a = is.task in let b = is.searches in inl (may, cc)
       again_leaves next new after (refuses c x y others is refused n e) = inr (c, refused, n)
       again_leaves next new after (spent x t up n e) = absurd (cc)
+      again_leaves next new after (looked_out x others m t out n e) = absurd (cc)
       again_leaves next new after (nowhere t none n e) = absurd (cc)
       again_leaves next new after (too_long l r t is long n e) = absurd (cc)
       again_leaves next new after (done l t is fresh n e) = absurd (cc)
@@ -199,6 +202,7 @@ asked_did_not_fail home now input old stores next new after server n t call is =
     by (sends_again a s others due may sent j e) = absurd (cc)
     by (refuses c a s others due refused sent e) = absurd (cc)
     by (spent s u up sent e) = absurd (cc)
+    by (looked_out s others m u out sent e) = absurd (cc)
     by (nowhere u none sent e) = absurd (cc)
     by (too_long l r u alias long sent e) = absurd (cc)
     by (done l u ends fresh sent e) = absurd (cc)

@@ -13,7 +13,7 @@ use Rattle.retry.proofs.Steps.{level_low, answered_low}
 use Rattle.referral.specs.Cuts.{Cut}
 use Rattle.frames.specs.Frames.{Frame, opened, taken_addresses}
 use Rattle.resolution.specs.Jobs.{Home, Stores, level_of, with_answer, with_told, with_frame, fails_now, next_server, Taken, received_link, is_dead, AreFresh, IsEnding, IsCutOf, Search, Job, Next, AskUdp, Done, Fail, Take, Go, Point}
-use Rattle.resolution.specs.Rules.{Rule, takes, asks, follows, restarts, skips, hears, descends, gives_up, Rules, IsDue, IsDueAgain, Leaves, sends, sends_again, refuses, spent, nowhere, too_long, done, IsReferred}
+use Rattle.resolution.specs.Rules.{Rule, takes, asks, follows, restarts, skips, hears, descends, gives_up, Rules, IsDue, IsDueAgain, Leaves, sends, sends_again, refuses, spent, looked_out, nowhere, too_long, done, IsReferred}
 use Rattle.laws.specs.Calls.{GoesOut, ReferralIsFollowed, AnswerIsUsed, HasLink, AliasStays}
 use Rattle.resolution.proofs.Falls.{found_fresh}
 use Rattle.laws.proofs.FollowedLists.{fresh_both, none_dead, some_next, next_in}
@@ -91,6 +91,7 @@ module _ (home : Home) (now : ℕ) (p : Point) (l : Taken) (task : p.task ≡ Ta
       due (inl d) = let a = d.task in absurd (cc)
       due (inr d) = let a = d.task in absurd (cc)
   end_leaves next new after (spent x t up n e) = absurd (cc)
+  end_leaves next new after (looked_out x others m t out n e) = absurd (cc)
   end_leaves next new after (nowhere t none n e) = elim t [ inl g ↦ absurd (cc) | inr g ↦ let a = g.1 in absurd (cc) ]
   end_leaves next new after (too_long x r t is long n e) = let same : x ≡ l = cc in absurd (no_alias l.link r (ap (λ (y : Taken). y.link) (sym same) ∙ is) ends)
   end_leaves next new after (done x t is alive n e) = cc
@@ -174,6 +175,7 @@ module _ (home : Home) (now : ℕ) (l : Taken) (r : Record) (alias : l.link ≡ 
       inl (subst (λ (k : Next). HasLink k new l) (sym n) (subst (λ (k : Job). Contains k.chain l) (sym j) (in_chain p h (λ f. cc))))
   holds_leaves p next new after h (refuses c x y others is refused n e) = inr (c, n)
   holds_leaves p next new after h (spent x t up n e) = inr (_, n)
+  holds_leaves p next new after h (looked_out x others m t out n e) = inr (_, n)
   holds_leaves p next new after h (nowhere t none n e) = inr (_, n)
   holds_leaves p next new after h (too_long x s t is long n e) = inr (_, n)
   holds_leaves p next new after h (done x t is fresh n e) =

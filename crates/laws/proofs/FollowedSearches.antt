@@ -9,9 +9,9 @@ use Rattle.front.specs.declared.queries.Request.{Request}
 use Rattle.front.specs.declared.queries.Request.TheVariants as request
 use Rattle.classify.specs.Classes as class
 use Rattle.classify.specs.Classes.{class_of}
-use Rattle.frames.specs.Frames.{FailedName, opened}
+use Rattle.frames.specs.Frames.{Failed, opened}
 use Rattle.resolution.specs.Jobs.{Home, Stores, level_of, with_told, with_frame, given, Search, Job, Input, Start, Told, TimedOut, TcpFailed, Next, AskUdp, AskTcp, Done, Fail, Task, Seek, Take, Go, Again, Point}
-use Rattle.resolution.specs.Rules.{UsesServerAddress, turned, Rule, takes, asks, follows, restarts, skips, hears, descends, gives_up, Rules, IsAnswered, ByClass, Enters, Leaves, sends, sends_again, refuses, spent, nowhere, too_long, done, Advances}
+use Rattle.resolution.specs.Rules.{UsesServerAddress, turned, Rule, takes, asks, follows, restarts, skips, hears, descends, gives_up, Rules, IsAnswered, ByClass, Enters, Leaves, sends, sends_again, refuses, spent, looked_out, nowhere, too_long, done, Advances}
 use Rattle.resolution.proofs.Passing.{passes_name}
 use Rattle.runs.specs.States.{Event, Client, Datagram, TcpReply, Tick, Action, Served, Turn, Plain, ClientQuery, Ask, IsFor, Open, Site, State, job_for, moved}
 use Rattle.runs.specs.States as event
@@ -36,7 +36,7 @@ IsRight (Take l) j = j.searches ≡ []
 IsRight Go j = IsOutermost j.name j.kind j.searches
 IsRight (Again server) j = IsOutermost j.name j.kind j.searches
 
-heard_name : (stores : Stores) (n : Name) (l : Link) (before : Search) (failed : List FailedName) (after : Search) (marks : List FailedName) → UsesServerAddress stores n l before failed after marks
+heard_name : (stores : Stores) (n : Name) (l : Link) (before : Search) (failed : Failed) (after : Search) (marks : Failed) → UsesServerAddress stores n l before failed after marks
     → (after.name ≡ before.name) × (after.kind ≡ before.kind)
 heard_name stores n l before failed after marks h = elim h.is [
   | inl x ↦ (ap (λ (s : Search). s.name) x.4, ap (λ (s : Search). s.kind) x.4)
@@ -96,6 +96,7 @@ right_leaves home now p next new after h (sends_again server s rest is may n j e
     (record { sought = s; others = rest; searches = is.searches; name = refl; kind = refl; outermost = top }))
 right_leaves home now p next new after h (refuses c x y others is refused n e) = subst (λ (k : Next). IsAskOf k new) (sym n) tt
 right_leaves home now p next new after h (spent x t up n e) = subst (λ (k : Next). IsAskOf k new) (sym n) tt
+right_leaves home now p next new after h (looked_out x others m t out n e) = subst (λ (k : Next). IsAskOf k new) (sym n) tt
 right_leaves home now p next new after h (nowhere t none n e) = subst (λ (k : Next). IsAskOf k new) (sym n) tt
 right_leaves home now p next new after h (too_long l r t is long n e) = subst (λ (k : Next). IsAskOf k new) (sym n) tt
 right_leaves home now p next new after h (done l t is fresh n e) = subst (λ (k : Next). IsAskOf k new) (sym n) tt

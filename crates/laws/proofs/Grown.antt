@@ -6,7 +6,7 @@ use Rattle.rdata.specs.declared.addr.Addr.{Addr}
 use Rattle.zone.specs.Zones.{a_type}
 use Rattle.zone.specs.Links.{NxDomain}
 use Rattle.referral.specs.Cuts.{Cut}
-use Rattle.frames.specs.Frames.{FailedName}
+use Rattle.frames.specs.Frames.{Failed}
 use Rattle.resolution.specs.Jobs.{Home, Search}
 use Rattle.runs.specs.States.{Turn}
 use Rattle.runs.specs.Runs.{Earlier}
@@ -120,9 +120,9 @@ module _ (port : ℕ) (home : Home) (old new : List Turn) (grows : Grows old new
     around_on name kind n t d [] h = h
     around_on name kind n t d (o ∷ os) (a, b, w, more) = (a, b, waiting_on o n w, around_on name kind o.name o.kind (o.frame).nesting os more)
 
-    pub marked_on : (m : FailedName) → IsMarked port home k old Known m → IsMarked port home k new More m
-    marked_on m (inl none) = inl (none_on m.name none)
-    marked_on m (inr b) = inr (beyond_on (4 - m.nesting) m.name b)
+    pub marked_on : (n : Name) (d : ℕ) → IsMarked port home k old Known n d → IsMarked port home k new More n d
+    marked_on n d (inl none) = inl (none_on n none)
+    marked_on n d (inr b) = inr (beyond_on (4 - d) n b)
 
-    pub marks_on : (fs : List FailedName) → AreMarked port home k old Known fs → AreMarked port home k new More fs
-    marks_on fs h m c = marked_on m (h m c)
+    pub marks_on : (fs : Failed) → AreMarked port home k old Known fs → AreMarked port home k new More fs
+    marks_on fs h n d c = marked_on n d (h n d c)

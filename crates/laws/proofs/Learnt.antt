@@ -150,7 +150,7 @@ module _ (port : ℕ) (home : Home) (turn : Turn) (past : List Turn) (k : ℕ) (
       → GoesTimely port home turn past k t now clock ⊥ (λ e. absurd e) from (deadline + 10000) 0 next new × AreTimed port home (turn ∷ past) after
   start_timed deadline stores next new after told timed a =
       let sound : IsSound port home k (turn ∷ past) K (λ a n u. Unit {0}) a.first = subst (IsSound port home k (turn ∷ past) K (λ a n u. Unit {0})) (sym a.enters)
-      (record { told = told; marks = λ f c. absurd (Contains-nil f c); stands = tt; known = λ e. absurd (cc) }) in
+      (record { told = told; marks = λ n d c. absurd (Contains-nil (n, d) c); stands = tt; known = λ e. absurd (cc) }) in
       let reached : IsReached port home (turn ∷ past) t from a.first.task a.first.job = subst (λ (p : Point). IsReached port home (turn ∷ past) t from p.task p.job) (sym a.enters)
       (record { kind = refl; leads = refl; few = zero_least; link = tt }) in
       let (last_sound, reach) = rules_reach port home (turn ∷ past) t k K (λ a n u. Unit {0}) now lately a.count from a.first a.last sound reached a.rules in

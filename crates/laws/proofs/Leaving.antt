@@ -6,10 +6,10 @@ use Rattle.rdata.specs.declared.addr.Addr.{Addr}
 use Rattle.zone.specs.Links.{Alias}
 use Rattle.front.specs.Chains.{alias_target}
 use Rattle.causes.specs.declared.cause.Cause.{Cause}
-use Rattle.causes.specs.declared.cause.Cause.TheVariants.{TooManyOpen, DeadlineOver, ChainTooLong, TooManyAsks, NoServerLeft, ReplyTooLarge, KnownFailure}
+use Rattle.causes.specs.declared.cause.Cause.TheVariants.{TooManyOpen, DeadlineOver, ChainTooLong, TooManyAsks, NoServerLeft, ReplyTooLarge, KnownFailure, TooManyLookUps}
 use Rattle.retry.specs.Plans.{upcoming}
 use Rattle.resolution.specs.Jobs.{Home, Stores, Taken, Search, Job, Next, AskUdp, AskTcp, Done, Fail, given, Task, Take, Go, Again, Point}
-use Rattle.resolution.specs.Rules.{MayNotSend, IsUsedUp, spent_cause, Leaves, sends, sends_again, refuses, spent, nowhere, too_long, done}
+use Rattle.resolution.specs.Rules.{MayNotSend, IsUsedUp, spent_cause, Leaves, sends, sends_again, refuses, spent, looked_out, nowhere, too_long, done}
 use Rattle.runs.specs.States.{Turn}
 use Rattle.laws.specs.Spent.{HasFailed, AcceptedAliasesLead, IsBeyond, AreUsedUp}
 use Rattle.laws.specs.Failures.{EndsSpent}
@@ -39,6 +39,7 @@ module _ (port : ℕ) (home : Home) (run : List Turn) (k : ℕ) (K : Name → �
   FailsFor TooManyAsks = Unit {0}
   FailsFor NoServerLeft = EndsSpent port home run (HasFailed port run k) t from
   FailsFor ReplyTooLarge = Unit {0}
+  FailsFor TooManyLookUps = Unit {0}
   FailsFor KnownFailure = SomeKnown K × EndsSpent port home run (λ z n u a. HasFailed port run k z n u a ⊎ K n u a) t from
 
 module _ (port : ℕ) (home : Home) (run : List Turn) (k : ℕ) (K : Name → ℕ → Addr → Type 0) (t : ℕ) (from : Name) (Truncates : Addr → Name → ℕ → Type 0) where
@@ -151,6 +152,8 @@ module _ (port : ℕ) (home : Home) (run : List Turn) (k : ℕ) (K : Name → �
       (subst (λ (x : Next). GoesOut x job) (sym is) (refused now p.job c may), subst (AreTold port home run) (sym same) sound.told)
   leaves_tell now p next job stores sound reached (spent s te up is same) =
       (subst (λ (x : Next). GoesOut x job) (sym is) (spent_for (p.job).skipped sound.known (all_spent p s sound reached te up)), subst (AreTold port home run) (sym same) sound.told)
+  leaves_tell now p next job stores sound reached (looked_out s rest n te out is same) =
+      (subst (λ (x : Next). GoesOut x job) (sym is) tt, subst (AreTold port home run) (sym same) sound.told)
   leaves_tell now p next job stores sound reached (nowhere te none is same) = absurd (elim te [
     | inl go ↦ subst (λ (l : List Search). OnTop port home k run (Passed (p.job).skipped K) (p.job).name (p.job).kind l (IsIdle port home k run (Passed (p.job).skipped K))) none (subst (λ (y : Task). StandsBy port home k run K Truncates y p.job) go sound.stands)
     | inr (a, again) ↦ subst (λ (l : List Search). OnTop port home k run (Passed (p.job).skipped K) (p.job).name (p.job).kind l (λ s. IsAsk port home k run (Passed (p.job).skipped K) s a × Truncates a s.name s.kind)) none (subst (λ (y : Task). StandsBy port home k run K Truncates y p.job) again sound.stands)

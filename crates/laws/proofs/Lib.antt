@@ -20,6 +20,7 @@ pub mod KeptEntries
 pub mod Later
 pub mod Learnt
 pub mod Leaving
+pub mod LookUps
 pub mod Near
 pub mod Opened
 pub mod Opens
@@ -33,6 +34,8 @@ pub mod RightOpens
 pub mod RightPoints
 pub mod Runs
 pub mod Servers
+pub mod Served
+pub mod Short
 pub mod Skipped
 pub mod Sound
 pub mod States

@@ -20,14 +20,14 @@ use Rattle.cache.specs.Keys.{Key}
 use Rattle.cache.specs.Cached.{Hit, IsHeld}
 use Rattle.cache.proofs.Above.{above_is_between}
 use Rattle.cache.proofs.Members.{looked_members}
-use Rattle.frames.specs.Frames.{Frame, FailedName, opened, after_add, fresh_addresses}
+use Rattle.frames.specs.Frames.{Frame, Failed, opened, after_add, fresh_addresses}
 use Rattle.frames.proofs.Places.{name_member}
 use Rattle.world_truth.specs.Worlds.{World, IsWorld}
 use Rattle.world_truth.specs.Serving.{MayServe}
 use Rattle.world_truth.specs.Frames.{MayAsk}
 use Rattle.world_truth.proofs.Honest.{honest_answer}
 use Rattle.resolution.specs.Jobs.{Home, Stores, level_of, with_told, Taken, IsEnding, bytes_of, Search, with_frame, given, Job, Input, Start, Told, TimedOut, TcpFailed, Next, AskUdp, AskTcp, Done, Fail, Task, Seek, Take, Go, Again, Point, hit_from}
-use Rattle.resolution.specs.Rules.{Says, IsRemote, asked_by, asked_of, Hits, Finds, Misses, UsesServerAddress, turned, Rule, takes, asks, follows, restarts, skips, hears, descends, gives_up, Rules, ByClass, Enters, Leaves, sends, sends_again, refuses, spent, nowhere, too_long, done, Advances, IsTakenEntry, IsTakenCut, Stops}
+use Rattle.resolution.specs.Rules.{Says, IsRemote, asked_by, asked_of, Hits, Finds, Misses, UsesServerAddress, turned, Rule, takes, asks, follows, restarts, skips, hears, descends, gives_up, Rules, ByClass, Enters, Leaves, sends, sends_again, refuses, spent, looked_out, nowhere, too_long, done, Advances, IsTakenEntry, IsTakenCut, Stops}
 use Rattle.resolution.proofs.Passing.{passes_keep}
 use Rattle.laws.specs.Headline.{IsHomeIn}
 use Rattle.laws.proofs.RightLists.{longer}
@@ -194,7 +194,7 @@ module _ (W : World) (w : IsWorld W) (home : Home) (ours : IsHomeIn W home) (now
   missed_true n t old c new all h = subst (AreTrue W) (sym h.stores) (record { cache = all.cache; cuts = cuts_used_true W n now old.delegations all.cuts })
 
   -- A search that hears of one of its servers' names.
-  heard_true : (stores : Stores) (n p : Name) (t : ℕ) (l : Link) (before : Search) (rest : List Search) (failed : List FailedName) (after : Search) (marks : List FailedName)
+  heard_true : (stores : Stores) (n p : Name) (t : ℕ) (l : Link) (before : Search) (rest : List Search) (failed : Failed) (after : Search) (marks : Failed)
       → UsesServerAddress stores n l before failed after marks → Contains (before.frame).names n → IsGood W n a_type l
       → AreTrueSearches W p t (before ∷ rest) → AreTrueSearches W p t (after ∷ rest)
   heard_true stores n p t l before rest failed after marks h member good (frame, wanted, more) = elim h.is as (λ x. AreTrueSearches W p t (after ∷ rest)) [
@@ -209,7 +209,7 @@ module _ (W : World) (w : IsWorld W) (home : Home) (ours : IsHomeIn W home) (now
 
   -- ---- rules
 
-  turned_true : (p : Name) (t : ℕ) (failed : List FailedName) (s : Search) (rest : List Search) → AreTrueSearches W p t (s ∷ rest) → AreTrueSearches W p t (turned failed s ∷ rest)
+  turned_true : (p : Name) (t : ℕ) (failed : Failed) (s : Search) (rest : List Search) → AreTrueSearches W p t (s ∷ rest) → AreTrueSearches W p t (turned failed s ∷ rest)
   turned_true p t failed s [] h = h
   turned_true p t failed s (around ∷ rest) h = h
 
@@ -378,6 +378,7 @@ module _ (W : World) (w : IsWorld W) (home : Home) (ours : IsHomeIn W home) (now
       )
   leaves_true q t p next job stores h (refuses c server s rest due refused is stores_is) = (subst (λ (x : Next). IsTrueNext W q t x job) (sym is) tt, subst (AreTrue W) (sym stores_is) h.stores)
   leaves_true q t p next job stores h (spent s at up is stores_is) = (subst (λ (x : Next). IsTrueNext W q t x job) (sym is) tt, subst (AreTrue W) (sym stores_is) h.stores)
+  leaves_true q t p next job stores h (looked_out s rest n at out is stores_is) = (subst (λ (x : Next). IsTrueNext W q t x job) (sym is) tt, subst (AreTrue W) (sym stores_is) h.stores)
   leaves_true q t p next job stores h (nowhere at free is stores_is) = (subst (λ (x : Next). IsTrueNext W q t x job) (sym is) tt, subst (AreTrue W) (sym stores_is) h.stores)
   leaves_true q t p next job stores h (too_long l r at alias many is stores_is) = (subst (λ (x : Next). IsTrueNext W q t x job) (sym is) tt, subst (AreTrue W) (sym stores_is) h.stores)
   leaves_true q t p next job stores h (done l at ending fresh is stores_is) =

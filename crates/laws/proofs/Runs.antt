@@ -27,6 +27,9 @@ use Rattle.laws.proofs.Learnt.{start_stop_timed}
 use Rattle.laws.proofs.States.{turn_of, IsExplained, start_stops}
 use Rattle.laws.proofs.TimelyOpens.{alone, not_own, same_count, same_state}
 use Rattle.laws.proofs.TimelyAnswered.{followed_answered, followed_gives, none_answered}
+use Rattle.laws.specs.LookUps.{HasLookedUp}
+use Rattle.laws.specs.Opens.{handled_call, either_call, ticked_call, turn_call}
+use Rattle.laws.proofs.LookUps.{Spends, step_spends}
 use Rattle.laws.proofs.Turns.{Keeps, hears_now, ignored_now, late_now, left_now, resolved_now, starved_now}
 
 -- ---- a step
@@ -35,13 +38,18 @@ module _ (past : List Turn) (s : State) (h : IsExplained (s.site).port (s.site).
   abbrev IsNow : Event → Type 0
   IsNow event = s.clock ≡ max (clock_of past) (moment event)
 
+  -- What stands where the query that is served fails since its look-ups are used up.
+  abbrev LooksUp : Turn → Type 0
+  LooksUp turn = HasLookedUp (s.site).port (s.site).home turn past
+
   handled_now : (now client : ℕ) (way : Via) (bytes : List ℕ) (served : Served) (out : List Action) (new : State) (asked : Request Plain) (clock : IsNow (Client now client way bytes)) → IsRequest bytes asked
-      → IsHandled s client way asked served out new → Keeps past s h (turn_of (Client now client way bytes) served (Some out)) clock new out
-  handled_now now client way bytes served out new request.Drop clock reads (is, none, same) = (
+      → (handled : IsHandled s client way asked served out new) → Spends s (LooksUp (turn_of (Client now client way bytes) served (Some out))) (handled_call s client way asked served out new handled)
+      → Keeps past s h (turn_of (Client now client way bytes) served (Some out)) clock new out
+  handled_now now client way bytes served out new request.Drop clock reads (is, none, same) enough = (
     same_state (s.site).port (s.site).home past s h (turn_of (Client now client way bytes) served (Some out)) new same (λ n e. not_own n (sym is ∙ e)) (λ j. ap (is_for j) is),
     none_answered (s.site).home (turn_of (Client now client way bytes) served (Some out)) past (IsExplainedSpec (s.site).port (s.site).home) out none,
   )
-  handled_now now client way bytes served out new (request.Refuse refusal start echo) clock reads (is, (action, reply, only), same) = (
+  handled_now now client way bytes served out new (request.Refuse refusal start echo) clock reads (is, (action, reply, only), same) enough = (
     same_state (s.site).port (s.site).home past s h (turn_of (Client now client way bytes) served (Some out)) new same (λ n e. not_own n (sym is ∙ e)) (λ j. ap (is_for j) is),
     λ to by text c there. inl (record {
       moment = now;
@@ -56,7 +64,7 @@ module _ (past : List Turn) (s : State) (h : IsExplained (s.site).port (s.site).
       reply = subst (IsRefusal client way refusal start echo) (alone action (Reply to by text c) (subst (λ (l : List Action). Contains l (Reply to by text c)) only there)) reply;
     }),
   )
-  handled_now now client way bytes served out new (request.Query q) clock reads (inl (no_rd, e)) = (
+  handled_now now client way bytes served out new (request.Query q) clock reads (inl (no_rd, e)) enough = (
     same_state (s.site).port (s.site).home past s h (turn_of (Client now client way bytes) served (Some out)) new e.state (λ n is. not_own n (sym e.served_is ∙ is)) (λ j. ap (is_for j) e.served_is),
     λ to by text c there. inr (record {
       who = client_query client way q;
@@ -66,26 +74,28 @@ module _ (past : List Turn) (s : State) (h : IsExplained (s.site).port (s.site).
       is = inl (no_rd, e.answers);
     }),
   )
-  handled_now now client way bytes served out new (request.Query q) clock reads (inr (wanted, e)) =
+  handled_now now client way bytes served out new (request.Query q) clock reads (inr (wanted, e)) enough =
       resolved_now past s h (turn_of (Client now client way bytes) served (Some out)) clock (client_query client way q) wanted out (λ a c. c) refl new apart
-      (λ as_served is. record { is_served = is; moment = now; bytes = bytes; event = refl; reads = reads }) e
+      (λ as_served is. record { is_served = is; moment = now; bytes = bytes; event = refl; reads = reads }) e enough
 
   followed_count : (first out : List Action) (new : State) → IsFollowed first out new → asks_among out ≡ asks_among first
   followed_count first out new (inl (e, due)) = ap asks_among e ∙ same_count first
   followed_count first out new (inr (e, none)) = ap asks_among e
 
-  ticked_now : (now : ℕ) (served : Served) (out : List Action) (new : State) (clock : IsNow (Tick now)) → IsTicked s now served out new → Keeps past s h (turn_of (Tick now) served (Some out)) clock new out
-  ticked_now now served out new clock (inl e) = ignored_now past s h (turn_of (Tick now) served (Some out)) clock out new e
-  ticked_now now served out new clock (inr (first, inl late, followed)) =
+  ticked_now : (now : ℕ) (served : Served) (out : List Action) (new : State) (clock : IsNow (Tick now)) → (ticked : IsTicked s now served out new)
+      → Spends s (LooksUp (turn_of (Tick now) served (Some out))) (ticked_call s now served out new ticked) → Keeps past s h (turn_of (Tick now) served (Some out)) clock new out
+  ticked_now now served out new clock (inl e) enough = ignored_now past s h (turn_of (Tick now) served (Some out)) clock out new e
+  ticked_now now served out new clock (inr (first, inl late, followed)) enough =
       let k = late_now past s h (turn_of (Tick now) served (Some out)) clock first new late in
       (k.0, followed_answered (s.site).home (turn_of (Tick now) served (Some out)) past (IsExplainedSpec (s.site).port (s.site).home) first out new followed k.1)
-  ticked_now now served out new clock (inr (first, inr hears, followed)) =
-      let k = hears_now past s h (turn_of (Tick now) served (Some out)) clock first new (λ a c. followed_gives first out new followed a c) (followed_count first out new followed) hears in
+  ticked_now now served out new clock (inr (first, inr hears, followed)) enough =
+      let k = hears_now past s h (turn_of (Tick now) served (Some out)) clock first new (λ a c. followed_gives first out new followed a c) (followed_count first out new followed) hears enough in
       (k.0, followed_answered (s.site).home (turn_of (Tick now) served (Some out)) past (IsExplainedSpec (s.site).port (s.site).home) first out new followed k.1)
 
-  heard_now : (event : Event) (served : Served) (out : List Action) (new : State) (clock : IsNow event) → IsIgnored s event served out new ⊎ ServesOpen s event served out new → Keeps past s h (turn_of event served (Some out)) clock new out
-  heard_now event served out new clock (inl e) = ignored_now past s h (turn_of event served (Some out)) clock out new e
-  heard_now event served out new clock (inr e) = hears_now past s h (turn_of event served (Some out)) clock out new (λ a c. c) refl e
+  heard_now : (event : Event) (served : Served) (out : List Action) (new : State) (clock : IsNow event) → (heard : IsIgnored s event served out new ⊎ ServesOpen s event served out new)
+      → Spends s (LooksUp (turn_of event served (Some out))) (either_call s event served out new heard) → Keeps past s h (turn_of event served (Some out)) clock new out
+  heard_now event served out new clock (inl e) enough = ignored_now past s h (turn_of event served (Some out)) clock out new e
+  heard_now event served out new clock (inr e) enough = hears_now past s h (turn_of event served (Some out)) clock out new (λ a c. c) refl e enough
 
   -- Of a step where memory was wanting nothing goes out.
   abbrev pub Explains : Event → Served → Option (List Action) → State → Type 0
@@ -109,13 +119,14 @@ module _ (past : List Turn) (s : State) (h : IsExplained (s.site).port (s.site).
   starved_turn (states.TcpFailed now number) served new clock (q, there, is, meant, e) = (starved_now past s h (turn_of (states.TcpFailed now number) served None) clock q new there is e, λ to by text c there. absurd there)
   starved_turn (Tick now) served new clock (q, there, is, meant, e) = (starved_now past s h (turn_of (Tick now) served None) clock q new there is e, λ to by text c there. absurd there)
 
-  turn_explained : (event : Event) (served : Served) (out : Option (List Action)) (new : State) → IsNow event → IsTurn s event served out new → Explains event served out new
-  turn_explained event served None new clock e = starved_turn event served new clock e
-  turn_explained (Client now client way bytes) served (Some out) new clock (asked, reads, e) = handled_now now client way bytes served out new asked clock reads e
-  turn_explained (Tick now) served (Some out) new clock e = ticked_now now served out new clock e
-  turn_explained (Datagram now sock from bytes) served (Some out) new clock e = heard_now (Datagram now sock from bytes) served out new clock e
-  turn_explained (TcpReply now number bytes) served (Some out) new clock e = heard_now (TcpReply now number bytes) served out new clock e
-  turn_explained (states.TcpFailed now number) served (Some out) new clock e = heard_now (states.TcpFailed now number) served out new clock e
+  turn_explained : (event : Event) (served : Served) (out : Option (List Action)) (new : State) → IsNow event → (is : IsTurn s event served out new) → Spends s (LooksUp (turn_of event served out)) (turn_call s event served out new is)
+      → Explains event served out new
+  turn_explained event served None new clock e enough = starved_turn event served new clock e
+  turn_explained (Client now client way bytes) served (Some out) new clock (asked, reads, e) enough = handled_now now client way bytes served out new asked clock reads e enough
+  turn_explained (Tick now) served (Some out) new clock e enough = ticked_now now served out new clock e enough
+  turn_explained (Datagram now sock from bytes) served (Some out) new clock e enough = heard_now (Datagram now sock from bytes) served out new clock e enough
+  turn_explained (TcpReply now number bytes) served (Some out) new clock e enough = heard_now (TcpReply now number bytes) served out new clock e enough
+  turn_explained (states.TcpFailed now number) served (Some out) new clock e enough = heard_now (states.TcpFailed now number) served out new clock e enough
 
 -- ---- a run
 
@@ -148,7 +159,8 @@ run_explained site (t ∷ past) s (old, before, step) =
     let (h, all) = run_explained site past old before in
     let (clock, here) = clock_of_run site past old before in
     let keeps = turn_explained past (moved old t.event) (moves (old.site).port (old.site).home past old t.event (subst (λ (x : Site). IsExplained x.port x.home past old) (sym here) h)) (stays_apart site past old before)
-    t.event t.served t.out s (ap (λ (n : ℕ). max n (moment t.event)) clock) step.turn in (
+    t.event t.served t.out s (ap (λ (n : ℕ). max n (moment t.event)) clock) step.turn
+    (step_spends (old.site).port (old.site).home site past old t s (sym (ap (λ (x : Site). x.port) here)) (sym (ap (λ (x : Site). x.home) here)) before step) in (
       subst (λ (x : Site). IsExplained x.port x.home (t ∷ past) s) here keeps.0,
       (subst (λ (x : Site). RepliesAre x.home (IsExplainedSpec x.port x.home) t past) here keeps.1, all),
     )

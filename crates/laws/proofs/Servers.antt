@@ -17,7 +17,9 @@ use Rattle.classify.specs.Laws.{AreServers, AreAddresses}
 use Rattle.classify.proofs.Readings.{referral_read}
 use Rattle.referral.specs.Cuts.{ServerAddress, Cut, Known, IsBest, IsKept, after_best, after_keep}
 use Rattle.referral.proofs.Members.{looked_members, kept_members}
-use Rattle.frames.specs.Frames.{Frame, opened, after_add, fresh_addresses}
+use Rattle.std.specs.List.{flat_map}
+use Rattle.lru.proofs.CallerLemmas.{Contains-take}
+use Rattle.frames.specs.Frames.{Frame, most_taken, opened, after_add, fresh_addresses}
 use Rattle.frames.specs.Trimmed.{trimmed}
 use Rattle.frames.proofs.Steps.{taken_from, unknown_from, added_only}
 use Rattle.frames.proofs.Trims.{trimmed_names, trimmed_addresses}
@@ -202,7 +204,8 @@ module _ (W : World) (w : IsWorld W) (q n : Name) (f : Frame) (frame : IsTrueFra
     (are : AreAddressesOf set found) where
   found_serves : (a : Addr) → Contains found a → Serves W (bytes_of a) f.zone
   found_serves a m =
-      let there = subst (λ (xs : List Address). Contains xs (bytes_of a)) are (map_in bytes_of found a m) in
+      let taken = subst (λ (xs : List Address). Contains xs (bytes_of a)) are (map_in bytes_of found a m) in
+      let there = Contains-take most_taken (flat_map (λ (r : Record). ipv4_of r.value) set) (bytes_of a) taken in
       let (r, mr, is) = flat_from (λ (r : Record). ipv4_of r.value) set (bytes_of a) there in
       let more : IsFrame W q (frame_at f.zone f.names (bytes_of a ∷ map bytes_of f.addresses)) =
       address_adds W q (frame_of f) (frame_at f.zone f.names (bytes_of a ∷ map bytes_of f.addresses)) n set r (bytes_of a) w frame member good.is mr (addressed r.value (bytes_of a) is)

@@ -2,7 +2,7 @@
 use Rattle.std.proofs.Common.{◌≡◌, ℕ, zero, suc, refl, ap, ◌∙◌, subst}
 use Rattle.cache.specs.Failures.{FailedAsk, is_failed}
 use Rattle.resolution.specs.Jobs.{Home, Stores, Search, ask_of, fails_now, left_of, next_server, Job, Next, Point}
-use Rattle.resolution.specs.Rules.{Rule, takes, asks, follows, restarts, skips, hears, descends, gives_up, Rules, Leaves, sends, sends_again, refuses, spent, nowhere, too_long, done}
+use Rattle.resolution.specs.Rules.{Rule, takes, asks, follows, restarts, skips, hears, descends, gives_up, Rules, Leaves, sends, sends_again, refuses, spent, looked_out, nowhere, too_long, done}
 use Rattle.resolution.proofs.Passing.{passes_fails, found_failures, missed_failures, same_first}
 
 module _ (home : Home) (now : ℕ) where
@@ -16,6 +16,7 @@ module _ (home : Home) (now : ℕ) where
   same_after p next new after (sends_again x y others is may n j e) = e
   same_after p next new after (refuses c x y others is refused n e) = e
   same_after p next new after (spent x t up n e) = e
+  same_after p next new after (looked_out x others m t out n e) = e
   same_after p next new after (nowhere t none n e) = e
   same_after p next new after (too_long l r t is long n e) = e
   same_after p next new after (done l t is fresh n e) = e

@@ -224,7 +224,7 @@ module _ (port : ℕ) (home : Home) (run : List Turn) (k : ℕ) (K : Name → �
   pub start_tells : (now : ℕ) → Lately port home k run K Truncates now → (deadline : ℕ) (j : Job) (stores : Stores) (next : Next) (new : Job) (after : Stores) → AreTold port home run stores
       → Advances home now Start (job_at from t deadline) stores next new after → GoesOut port home run k K t from Truncates next new × AreTold port home run after
   start_tells now lately deadline j stores next new after told a =
-      let sound : IsSound port home k run K Truncates a.first = subst (IsSound port home k run K Truncates) (sym a.enters) (record { told = told; marks = λ f c. absurd (Contains-nil f c); stands = tt; known = λ e. absurd (cc) }) in
+      let sound : IsSound port home k run K Truncates a.first = subst (IsSound port home k run K Truncates) (sym a.enters) (record { told = told; marks = λ n d c. absurd (Contains-nil (n, d) c); stands = tt; known = λ e. absurd (cc) }) in
       let reached : IsReached port home run t from a.first.task a.first.job = subst (λ (p : Point). IsReached port home run t from p.task p.job) (sym a.enters)
       (record { kind = refl; leads = refl; few = zero_least; link = tt }) in
       let (last, reach) = rules_reach port home run t k K Truncates now lately a.count from a.first a.last sound reached a.rules in

@@ -10,11 +10,12 @@ use Rattle.zone.specs.Look as local
 use Rattle.authority.specs.Catalogs.{IsLooked}
 use Rattle.cache.proofs.Failed.{failed_was_kept}
 use Rattle.referral.specs.Cuts.{Cut, IsBest}
-use Rattle.frames.specs.Frames.{Frame, FailedName, fresh_addresses, opened}
+use Rattle.frames.specs.Frames.{Frame, Failed, marked, fresh_addresses, opened}
+use Rattle.frames.proofs.Marks.{marked_only}
 use Rattle.frames.specs.Trimmed.{trimmed}
 use Rattle.frames.proofs.Steps.{added_there}
 use Rattle.frames.proofs.Trims.{trimmed_opens}
-use Rattle.resolution.specs.Jobs.{Home, Stores, level_of, IsCutOf, IsRootCut, Search, search_at, ask_of, fails_now, Job, marked, Task, Seek, Take, Go, Again, Point}
+use Rattle.resolution.specs.Jobs.{Home, Stores, level_of, IsCutOf, IsRootCut, Search, search_at, ask_of, fails_now, Job, Task, Seek, Take, Go, Again, Point}
 use Rattle.resolution.specs.Rules.{Says, Begins, Misses, UsesServerAddress, turned, Rule, takes, asks, follows, restarts, skips, hears, descends, gives_up, Rules}
 use Rattle.resolution.proofs.Passing.{passes_first, passes_keep, passes_name, passes_members}
 use Rattle.runs.specs.States.{Turn}
@@ -72,11 +73,11 @@ module _ (port : ℕ) (home : Home) (k : ℕ) (run : List Turn) (Known : Name �
   OnTop name kind [] P = ⊥
   OnTop name kind (s ∷ rest) P = P s × AreAround port home k run Known name kind s.name s.kind (s.frame).nesting rest
 
-  more_marks : (fs : List FailedName) (n : Name) (d : ℕ) → AreMarked port home k run Known fs → IsMarked port home k run Known (record { name = n; nesting = d }) → AreMarked port home k run Known (marked fs n d)
-  more_marks fs n d marks is f c = elim (Contains-cons (record { name = n; nesting = d }) fs f c) [ inl e ↦ subst (IsMarked port home k run Known) e is | inr h ↦ marks f h ]
+  more_marks : (fs : Failed) (n : Name) (d : ℕ) → AreMarked port home k run Known fs → IsMarked port home k run Known n d → AreMarked port home k run Known (marked fs n d)
+  more_marks fs n d marks is m e c = elim (marked_only fs n d (m, e) c) [ inl h ↦ marks m e h | inr same ↦ subst (λ (x : Name × ℕ). IsMarked port home k run Known x.0 x.1) (sym same) is ]
 
   -- What a server's name has, or that it has none, goes to the search that waits for it.
-  pub heard : (stores : Stores) (n : Name) (l : Link) (w after : Search) (failed marks : List FailedName) → AreTold port home run stores
+  pub heard : (stores : Stores) (n : Name) (l : Link) (w after : Search) (failed marks : Failed) → AreTold port home run stores
       → ((set : List Record) → l ≡ Found set → IsFound port home run n set) → (((set : List Record) → l ≢ Found set) → HasNoAddress port home run n)
       → IsWaiting port home k run Known w n → AreMarked port home k run Known failed → UsesServerAddress stores n l w failed after marks
       → IsIdle port home k run Known after × AreMarked port home k run Known marks × (after.name ≡ w.name) × (after.kind ≡ w.kind) × ((after.frame).nesting ≡ (w.frame).nesting)
@@ -133,7 +134,7 @@ module _ (port : ℕ) (home : Home) (k : ℕ) (run : List Turn) (K : Name → �
   at_go p h te s rest e = subst (λ (l : List Search). OnTop port home k run (Passed (p.job).skipped K) (p.job).name (p.job).kind l (IsIdle port home k run (Passed (p.job).skipped K))) e (subst (λ (y : Task). StandsBy y p.job) te h.stands)
 
   -- The search that waits goes on.
-  pub heard_at : (p : Point) (n : Name) (l : Link) (w after : Search) (rest : List Search) (j : Job) (marks : List FailedName) → AreTold port home run p.stores
+  pub heard_at : (p : Point) (n : Name) (l : Link) (w after : Search) (rest : List Search) (j : Job) (marks : Failed) → AreTold port home run p.stores
       → ((set : List Record) → l ≡ Found set → IsFound port home run n set) → (((set : List Record) → l ≢ Found set) → HasNoAddress port home run n)
       → IsWaiting port home k run (Passed j.skipped K) w n → AreAround port home k run (Passed j.skipped K) j.name j.kind w.name w.kind (w.frame).nesting rest → AreMarked port home k run (Passed j.skipped K) j.failed
       → UsesServerAddress p.stores n l w j.failed after marks → p.task ≡ Go → p.job ≡ record j { searches = after ∷ rest; failed = marks } → (j.skipped ≡ true → SomeKnown K) → IsSound p

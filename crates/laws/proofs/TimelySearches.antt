@@ -11,7 +11,7 @@ use Rattle.zone.specs.Zones.{a_type}
 use Rattle.retry.specs.Plans.{Plan, upcoming, advanced}
 use Rattle.cache.specs.Failures.{FailedAsk}
 use Rattle.referral.specs.Cuts.{Cut}
-use Rattle.frames.specs.Frames.{Frame, FailedName, taken_addresses, unknown_names, opened, IsPassedOver, next_place, next_name, after_add}
+use Rattle.frames.specs.Frames.{Frame, Failed, taken_addresses, unknown_names, opened, IsPassedOver, next_place, next_name, after_add}
 use Rattle.frames.specs.Members.{AreAmong}
 use Rattle.frames.proofs.Passed.{passed, spent}
 use Rattle.frames.proofs.Places.{name_turn}
@@ -124,11 +124,11 @@ module _ (port : ℕ) (home : Home) (k : ℕ) (run : List Turn) (Known : Name �
   AreAround name kind n t d [] = (n ≡ name) × (t ≡ kind) × (d ≡ 0)
   AreAround name kind n t d (o ∷ os) = (t ≡ a_type) × (d ≡ suc (o.frame).nesting) × IsWaiting o n × AreAround name kind o.name o.kind (o.frame).nesting os
 
-  abbrev pub IsMarked : FailedName → Type 0
-  IsMarked f = HasNoAddress port home run f.name ⊎ IsBeyond port home run FailsTwice (4 - f.nesting) f.name
+  abbrev pub IsMarked : Name → ℕ → Type 0
+  IsMarked n d = HasNoAddress port home run n ⊎ IsBeyond port home run FailsTwice (4 - d) n
 
-  abbrev pub AreMarked : List FailedName → Type 0
-  AreMarked fs = (f : FailedName) → Contains fs f → IsMarked f
+  abbrev pub AreMarked : Failed → Type 0
+  AreMarked fs = (n : Name) (d : ℕ) → Contains fs (n, d) → IsMarked n d
 
   -- ---- a search that begins
 
@@ -176,18 +176,18 @@ module _ (port : ℕ) (home : Home) (k : ℕ) (run : List Turn) (Known : Name �
     ]
 
   -- What is passed over is of no use.
-  passed_use : (fs : List FailedName) (s : Search) (z : Name) (x : Name) → AreMarked fs → (s.frame).zone ≡ z → IsPassedOver fs s.frame x
+  passed_use : (fs : Failed) (s : Search) (z : Name) (x : Name) → AreMarked fs → (s.frame).zone ≡ z → IsPassedOver fs s.frame x
       → IsOfNoUse port home run z (Contains (s.frame).addresses) (IsBeyond port home run FailsTwice (3 - (s.frame).nesting)) x
   passed_use fs s z x marks zone (inl under) = inl (subst (IsAtOrUnder x) zone under)
   passed_use fs s z x marks zone (inr (inl deep)) = let none : 0 ≡ 3 - (s.frame).nesting = omega arith in inr (inr (inr (subst (λ (d : ℕ). IsBeyond port home run FailsTwice d x) none tt)))
-  passed_use fs s z x marks zone (inr (inr (f, there, is, le))) =
-      let less : 3 - (s.frame).nesting ≤ 4 - f.nesting = omega arith in
-      elim (marks f there) [
-        | inl none ↦ inr (inr (inl (subst (HasNoAddress port home run) is none)))
-        | inr b ↦ inr (inr (inr (subst (IsBeyond port home run FailsTwice (3 - (s.frame).nesting)) is (beyond_to port home run FailsTwice (3 - (s.frame).nesting) (4 - f.nesting) f.name less b))))
+  passed_use fs s z x marks zone (inr (inr (least, there, le))) =
+      let less : 3 - (s.frame).nesting ≤ 4 - least = omega arith in
+      elim (marks x least there) [
+        | inl none ↦ inr (inr (inl none))
+        | inr b ↦ inr (inr (inr (beyond_to port home run FailsTwice (3 - (s.frame).nesting) (4 - least) x less b)))
       ]
 
-  all_passed : (fs : List FailedName) (f : Frame) → next_name fs f ≡ None → (x : Name) → Contains f.names x → Contains (take f.tried f.names) x ⊎ IsPassedOver fs f x
+  all_passed : (fs : Failed) (f : Frame) → next_name fs f ≡ None → (x : Name) → Contains f.names x → Contains (take f.tried f.names) x ⊎ IsPassedOver fs f x
   all_passed fs f none x c = elim (Contains-append_cases (take f.tried f.names) (drop f.tried f.names) x (subst (λ (l : List Name). Contains l x) (sym (take-append-drop f.tried f.names)) c)) [
     | inl d ↦ inl d
     | inr d ↦ inr (spent fs f x none d)
@@ -195,7 +195,7 @@ module _ (port : ℕ) (home : Home) (k : ℕ) (run : List Turn) (Known : Name �
 
   -- ---- a server's name has its turn
 
-  pub waits : (fs : List FailedName) (s : Search) (n : Name) → AreMarked fs → IsIdle s → upcoming (s.frame).plan ≡ None → next_name fs s.frame ≡ Some n → IsWaiting (turned fs s) n
+  pub waits : (fs : Failed) (s : Search) (n : Name) → AreMarked fs → IsIdle s → upcoming (s.frame).plan ≡ None → next_name fs s.frame ≡ Some n → IsWaiting (turned fs s) n
   waits fs s n marks idle asked_all next =
       let turn = name_turn fs s.frame n next in
       record {
@@ -285,7 +285,7 @@ module _ (port : ℕ) (home : Home) (k : ℕ) (run : List Turn) (Known : Name �
 
   -- ---- a search with no server left
 
-  pub used_up : (fs : List FailedName) (s : Search) → AreMarked fs → IsIdle s → upcoming (s.frame).plan ≡ None → next_name fs s.frame ≡ None
+  pub used_up : (fs : Failed) (s : Search) → AreMarked fs → IsIdle s → upcoming (s.frame).plan ≡ None → next_name fs s.frame ≡ None
       → (c : Cut) × AreUsedUp port home run FailsTwice s.name s.kind (IsBeyond port home run FailsTwice (3 - (s.frame).nesting)) c
   used_up fs s marks idle asked_all none_left = (
     idle.cut,

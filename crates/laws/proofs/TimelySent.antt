@@ -7,12 +7,12 @@ use Rattle.zone.specs.Zones.{cname_type}
 use Rattle.zone.specs.Links.{Link, Found, Alias, NoData, NxDomain}
 use Rattle.zone.specs.Look as local
 use Rattle.causes.specs.declared.cause.Cause.{Cause}
-use Rattle.causes.specs.declared.cause.Cause.TheVariants.{TooManyOpen, DeadlineOver, ChainTooLong, TooManyAsks, NoServerLeft, ReplyTooLarge, KnownFailure}
+use Rattle.causes.specs.declared.cause.Cause.TheVariants.{TooManyOpen, DeadlineOver, ChainTooLong, TooManyAsks, NoServerLeft, ReplyTooLarge, KnownFailure, TooManyLookUps}
 use Rattle.classify.specs.Lifetimes.{received, lifetime_of}
 use Rattle.front.specs.Chains.{alias_target, IsEndOf}
 use Rattle.cache.specs.Cached.{retimed}
 use Rattle.resolution.specs.Jobs.{Home, Stores, Source, Local, Cached, Accepted, Taken, has_ended, AreFresh, IsEnding, sent_from, sent, Job, Next, AskUdp, AskTcp, Done, Fail, Task, Take, Go, Again, Point}
-use Rattle.resolution.specs.Rules.{Says, IsRemote, MayNotSend, spent_cause, Leaves, sends, sends_again, refuses, spent, nowhere, too_long, done}
+use Rattle.resolution.specs.Rules.{Says, IsRemote, MayNotSend, spent_cause, Leaves, sends, sends_again, refuses, spent, looked_out, nowhere, too_long, done}
 use Rattle.runs.specs.States.{Turn, OpenQuery}
 use Rattle.runs.specs.Messages.{is_from_here, is_local_first, alias_in, aliases_of, end_in}
 use Rattle.runs.specs.Runs.{clock_of}
@@ -141,6 +141,7 @@ module _ (port : ℕ) (home : Home) (turn : Turn) (past : List Turn) (k t now : 
   FailsAt deadline sent NoServerLeft = Unit {0}
   FailsAt deadline sent ReplyTooLarge = ⊥
   FailsAt deadline sent KnownFailure = Unit {0}
+  FailsAt deadline sent TooManyLookUps = Unit {0}
 
   spent_at : (d m : ℕ) (b : Bool) → FailsAt d m (spent_cause b)
   spent_at d m true = tt
@@ -185,6 +186,7 @@ module _ (port : ℕ) (home : Home) (turn : Turn) (past : List Turn) (k t now : 
       refused c (inl r) = subst (FailsAt d m) (sym r.0) (subst (λ (n : ℕ). n ≤ now) h.deadline_is r.1)
       refused c (inr r) = subst (FailsAt d m) (sym r.0) (subst (λ (n : ℕ). 40 ≤ n) h.sent_is r.2)
   leaves_timed from d m p next job stores h reached (spent s te up is same) = (subst (λ (x : Next). GoesTimely from d m x job) (sym is) (spent_at d m (p.job).skipped), subst (AreTimed port home (turn ∷ past)) (sym same) h.stores)
+  leaves_timed from d m p next job stores h reached (looked_out s rest n te out is same) = (subst (λ (x : Next). GoesTimely from d m x job) (sym is) tt, subst (AreTimed port home (turn ∷ past)) (sym same) h.stores)
   leaves_timed from d m p next job stores h reached (nowhere te none is same) = (subst (λ (x : Next). GoesTimely from d m x job) (sym is) tt, subst (AreTimed port home (turn ∷ past)) (sym same) h.stores)
   leaves_timed from d m p next job stores h reached (too_long l r te alias long is same) = (subst (λ (x : Next). GoesTimely from d m x job) (sym is) tt, subst (AreTimed port home (turn ∷ past)) (sym same) h.stores)
   leaves_timed from d m p next job stores h reached (done l te ending fresh is same) =

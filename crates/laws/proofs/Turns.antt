@@ -18,6 +18,7 @@ use Rattle.laws.proofs.Told.{KnownIn, known_was}
 use Rattle.laws.proofs.TimelySearches.{spent_with}
 use Rattle.laws.proofs.TimelyPoints.{Lately}
 use Rattle.laws.proofs.Later.{work_on}
+use Rattle.laws.specs.LookUps.{HasLookedUp}
 use Rattle.laws.specs.Caused.{AreCrowded, IsPastDeadline, IsExplained as IsExplainedSpec}
 use Rattle.laws.proofs.Enters.{open_asks}
 use Rattle.laws.proofs.Leaving.{FailsFor, IsWaitingFor, GoesOut}
@@ -45,20 +46,25 @@ module _ (past : List Turn) (s : State) (h : IsExplained (s.site).port (s.site).
         (λ came before x. (x.0, subst (λ (n : ℕ). n ≤ clock_of (turn ∷ past)) x.1 (subst (λ (n : ℕ). (q.job).deadline ≤ n) clock late))) (h.queries q there).born,
   )
 
+  -- What stands where the query that is served fails since its look-ups are used up.
+  abbrev pub LooksUp : Next → Type 0
+  LooksUp next = next ≡ Fail cause.TooManyLookUps → HasLookedUp (s.site).port (s.site).home turn past
+
   -- The causes, for an open query.
   fails_open : (q : Open) → Contains s.queries q → (is : turn.served ≡ OpenQuery q.number) → (c : Cause) → FailsFor (s.site).port (s.site).home (turn ∷ past) q.number (KnownIn (s.site).port q.number (turn ∷ past)) (type_number ((q.client_query).query).kind) ((q.client_query).query).name c
       → FailsAt (s.site).port (s.site).home turn past q.number (type_number ((q.client_query).query).kind) s.clock clock (turn.served ≡ OpenQuery q.number) (λ is. is) (q.job).deadline (q.job).asks c
-      → IsExplainedSpec (s.site).port (s.site).home q.client_query (outcome.Fail c) turn past
-  fails_open q there is cause.TooManyOpen f late = absurd late
-  fails_open q there is cause.DeadlineOver f late = late_open q there is late
-  fails_open q there is cause.ChainTooLong f late = f
-  fails_open q there is cause.TooManyAsks f late = (q.number, is, forty (q.job).asks (asks_of q.number past) late (h.queries q there).asks (h.queries q there).few)
+      → LooksUp (Fail c) → IsExplainedSpec (s.site).port (s.site).home q.client_query (outcome.Fail c) turn past
+  fails_open q there is cause.TooManyOpen f late enough = absurd late
+  fails_open q there is cause.DeadlineOver f late enough = late_open q there is late
+  fails_open q there is cause.ChainTooLong f late enough = f
+  fails_open q there is cause.TooManyAsks f late enough = (q.number, is, forty (q.job).asks (asks_of q.number past) late (h.queries q there).asks (h.queries q there).few)
     where
       forty : (a n : ℕ) → 40 ≤ a → a ≡ n → n ≤ 40 → n ≡ 40
       forty a n le e few = omega arith
-  fails_open q there is cause.NoServerLeft f late = (q.number, inl is, f)
-  fails_open q there is cause.ReplyTooLarge f late = absurd late
-  fails_open q there is cause.KnownFailure ((n, t, a, known), (m, rs, few, leads, spent)) late = (
+  fails_open q there is cause.NoServerLeft f late enough = (q.number, inl is, f)
+  fails_open q there is cause.ReplyTooLarge f late enough = absurd late
+  fails_open q there is cause.TooManyLookUps f late enough = enough refl
+  fails_open q there is cause.KnownFailure ((n, t, a, known), (m, rs, few, leads, spent)) late enough = (
     q.number,
     inl is,
     (n, t, a, known_was (s.site).port q.number turn past n t a known),
@@ -93,30 +99,30 @@ module _ (past : List Turn) (s : State) (h : IsExplained (s.site).port (s.site).
       → ((a : Action) → Contains out a → GivesOut turn.out a) → asks_in turn.out ≡ asks_among out
       → GoesOut (s.site).port (s.site).home (turn ∷ past) q.number (KnownIn (s.site).port q.number (turn ∷ past)) (type_number ((q.client_query).query).kind) ((q.client_query).query).name (λ a n u. BringsTruncated (s.site).port q.number a n u turn past) next job
       → GoesTimely (s.site).port (s.site).home turn past q.number (type_number ((q.client_query).query).kind) s.clock clock (turn.served ≡ OpenQuery q.number) (λ is. is) ((q.client_query).query).name (q.job).deadline (q.job).asks next job
-      → AreHeld (s.site).port (s.site).home (turn ∷ past) stores → Comes s q.client_query q.number s.opened next job stores out new → Keeps new out
-  comes_of q (AskUdp server n u) job stores out new there is goes counts leads timely told w = (
+      → AreHeld (s.site).port (s.site).home (turn ∷ past) stores → LooksUp next → Comes s q.client_query q.number s.opened next job stores out new → Keeps new out
+  comes_of q (AskUdp server n u) job stores out new there is goes counts leads timely told enough w = (
     by_udp (s.site).port (s.site).home past s h turn refl q.client_query q.number s.opened is (inr (h.queries q there).came) (h.queries q there).wanted (at_least s.opened) (h.below q there)
         (q.job).deadline (q.job).asks s.clock clock (turn.served ≡ OpenQuery q.number) (λ is. is) (inr (h.queries q there).born) (sym (h.queries q there).asks) server n u job stores out new goes counts told leads timely w,
     waits_answered (s.site).home turn past (IsExplainedSpec (s.site).port (s.site).home) s new (s.site).port _ _ _ stores out w.waits,
   )
-  comes_of q (AskTcp server n u) job stores out new there is goes counts leads timely told w = (
+  comes_of q (AskTcp server n u) job stores out new there is goes counts leads timely told enough w = (
     by_tcp (s.site).port (s.site).home past s h turn refl q.client_query q.number s.opened is (inr (h.queries q there).came) (h.queries q there).wanted (at_least s.opened) (h.below q there)
         (q.job).deadline (q.job).asks s.clock clock (turn.served ≡ OpenQuery q.number) (λ is. is) (inr (h.queries q there).born) (sym (h.queries q there).asks) server n u job stores out new goes counts told leads.0 timely leads.1 w,
     waits_answered (s.site).home turn past (IsExplainedSpec (s.site).port (s.site).home) s new (s.site).port _ _ _ stores out w.waits,
   )
-  comes_of q (Done chain last) job stores out new there is goes counts leads timely told e = (
+  comes_of q (Done chain last) job stores out new there is goes counts leads timely told enough e = (
     ends_so (s.site).port (s.site).home past s h turn q.client_query q.number _ stores out new told e (others_apart q is) (others_free q there is),
     ends_answered (s.site).home turn past (IsExplainedSpec (s.site).port (s.site).home) s new q.client_query q.number _ stores out e (inr (q.number, is, (h.queries q there).came)) (h.queries q there).wanted timely,
   )
-  comes_of q (Fail c) job stores out new there is goes counts leads timely told e = (
+  comes_of q (Fail c) job stores out new there is goes counts leads timely told enough e = (
     ends_so (s.site).port (s.site).home past s h turn q.client_query q.number _ stores out new told e (others_apart q is) (others_free q there is),
     ends_answered (s.site).home turn past (IsExplainedSpec (s.site).port (s.site).home) s new q.client_query q.number _ stores out e (inr (q.number, is, (h.queries q there).came)) (h.queries q there).wanted
-        (fails_open q there is c leads timely),
+        (fails_open q there is c leads timely enough),
   )
 
   -- An open query is served by what the event is for it.
-  pub hears_now : (first : List Action) (new : State) → ((a : Action) → Contains first a → GivesOut turn.out a) → asks_in turn.out ≡ asks_among first → ServesOpen s turn.event turn.served first new → Keeps new first
-  hears_now first new goes counts e =
+  pub hears_now : (first : List Action) (new : State) → ((a : Action) → Contains first a → GivesOut turn.out a) → asks_in turn.out ≡ asks_among first → (e : ServesOpen s turn.event turn.served first new) → LooksUp (e.serves).next → Keeps new first
+  hears_now first new goes counts e enough =
       let q = e.query in
       let sound = h.queries q e.serves.stands in
       let input = is_input (s.site).port (s.site).home s q turn.event turn.served turn.out past q.number e.served_is sound.asked (KnownIn (s.site).port q.number past) (KnownIn (s.site).port q.number (turn ∷ past)) (λ n t a e. inr e) e.input refl e.brings in
@@ -124,7 +130,7 @@ module _ (past : List Turn) (s : State) (h : IsExplained (s.site).port (s.site).
       s.clock clock e.input e.serves.next e.serves.job e.serves.stores input e.serves.advances in
       let timely = call_timed (s.site).port (s.site).home q.number turn past q.ask e.served_is sound.asked (type_number ((q.client_query).query).kind) ((q.client_query).query).name q.job s.stores h.told.0 sound.work
       s.clock clock h.told.1 sound.known sound.remote sound.plain e.input e.serves.next e.serves.job e.serves.stores input e.serves.advances in
-      comes_of q e.serves.next e.serves.job e.serves.stores first new e.serves.stands e.served_is goes counts tells.0 timely.0 (tells.1, timely.1) e.serves.comes
+      comes_of q e.serves.next e.serves.job e.serves.stores first new e.serves.stands e.served_is goes counts tells.0 timely.0 (tells.1, timely.1) enough e.serves.comes
 
   -- Its time is up.
   pub late_now : (first : List Action) (new : State) → IsLate s turn.served first new → Keeps new first
@@ -183,14 +189,15 @@ module _ (past : List Turn) (s : State) (h : IsExplained (s.site).port (s.site).
 
     -- The causes, for a query that is over in its own step.
     fails_own : turn.served ≡ Own → (c : Cause) → FailsFor (s.site).port (s.site).home (turn ∷ past) s.opened KnownHere (type_number (who.query).kind) (who.query).name c
-        → FailsAt (s.site).port (s.site).home turn past s.opened (type_number (who.query).kind) s.clock clock ⊥ (λ e. absurd e) (s.clock + 10000) 0 c → IsExplainedSpec (s.site).port (s.site).home who (outcome.Fail c) turn past
-    fails_own is cause.TooManyOpen f late = absurd late
-    fails_own is cause.DeadlineOver f late = absurd (omega (arith, late))
-    fails_own is cause.ChainTooLong f late = f
-    fails_own is cause.TooManyAsks f late = absurd (omega (arith, late))
-    fails_own is cause.NoServerLeft f late = (s.opened, inr (is, h.unasked s.opened (at_least s.opened)), f)
-    fails_own is cause.ReplyTooLarge f late = absurd late
-    fails_own is cause.KnownFailure ((n, t, a, known), (m, rs, few, leads, spent)) late = (
+        → FailsAt (s.site).port (s.site).home turn past s.opened (type_number (who.query).kind) s.clock clock ⊥ (λ e. absurd e) (s.clock + 10000) 0 c → LooksUp (Fail c) → IsExplainedSpec (s.site).port (s.site).home who (outcome.Fail c) turn past
+    fails_own is cause.TooManyOpen f late enough = absurd late
+    fails_own is cause.DeadlineOver f late enough = absurd (omega (arith, late))
+    fails_own is cause.ChainTooLong f late enough = f
+    fails_own is cause.TooManyAsks f late enough = absurd (omega (arith, late))
+    fails_own is cause.NoServerLeft f late enough = (s.opened, inr (is, h.unasked s.opened (at_least s.opened)), f)
+    fails_own is cause.ReplyTooLarge f late enough = absurd late
+    fails_own is cause.TooManyLookUps f late enough = enough refl
+    fails_own is cause.KnownFailure ((n, t, a, known), (m, rs, few, leads, spent)) late enough = (
       s.opened,
       inr (is, h.unasked s.opened (at_least s.opened)),
       (n, t, a, inl known),
@@ -235,12 +242,12 @@ module _ (past : List Turn) (s : State) (h : IsExplained (s.site).port (s.site).
     )
 
     at_once_now : (next : Next) (job : Job) (stores : Stores) (new : State) → turn.served ≡ Own → Came Own who turn past → (IsAsk next → ⊥) → Tells_of next job → Timely_of next job → AreHeld (s.site).port (s.site).home (turn ∷ past) stores
-        → Comes s who s.opened s.opened next job stores out new → Keeps new out
+        → LooksUp next → Comes s who s.opened s.opened next job stores out new → Keeps new out
     unfolding Tells_of Timely_of
-    at_once_now (AskUdp server n u) job stores new is came never tells timely told w = absurd (never tt)
-    at_once_now (AskTcp server n u) job stores new is came never tells timely told w = absurd (never tt)
-    at_once_now (Done chain last) job stores new is came never tells timely told e = over_now _ stores new is came told timely e
-    at_once_now (Fail c) job stores new is came never tells timely told e = over_now _ stores new is came told (fails_own is c tells timely) e
+    at_once_now (AskUdp server n u) job stores new is came never tells timely told enough w = absurd (never tt)
+    at_once_now (AskTcp server n u) job stores new is came never tells timely told enough w = absurd (never tt)
+    at_once_now (Done chain last) job stores new is came never tells timely told enough e = over_now _ stores new is came told timely e
+    at_once_now (Fail c) job stores new is came never tells timely told enough e = over_now _ stores new is came told (fails_own is c tells timely enough) e
 
     -- What is known in this step is so for the query's number.
     opened_work : turn.served ≡ OpenQuery s.opened → (server : Addr) (n : Name) (u : ℕ) (job : Job)
@@ -277,15 +284,15 @@ module _ (past : List Turn) (s : State) (h : IsExplained (s.site).port (s.site).
     admitted_now (Done chain last) job stores new is came asks tells timely told e = absurd asks
     admitted_now (Fail c) job stores new is came asks tells timely told e = absurd asks
 
-    pub resolved_now : (new : State) → AreApart s.queries → ((served : Served) → turn.served ≡ served → Came served who turn past) → Resolves s who turn.served out new → Keeps new out
+    pub resolved_now : (new : State) → AreApart s.queries → ((served : Served) → turn.served ≡ served → Came served who turn past) → (e : Resolves s who turn.served out new) → LooksUp e.next → Keeps new out
     unfolding Tells_of Timely_of
-    resolved_now new apart came e =
+    resolved_now new apart came e enough =
         let tells = start_tells (s.site).port (s.site).home (turn ∷ past) s.opened KnownHere (type_number (who.query).kind) (who.query).name (λ a n u. BringsTruncated (s.site).port s.opened a n u turn past) s.clock
         (lately_here (λ a n u. BringsTruncated (s.site).port s.opened a n u turn past)) s.clock e.job s.stores e.next e.job e.stores told_now.0 e.advances in
         let timely = start_timed (s.site).port (s.site).home turn past s.opened KnownHere (type_number (who.query).kind) s.clock clock (who.query).name (lately_here (λ a n u. Unit {0})) s.clock s.stores e.next e.job e.stores told_now.0 told_now.1 e.advances in
         by tells.0 timely.0 (tells.1, timely.1) e.opened
       where
         by : Tells_of e.next e.job → Timely_of e.next e.job → AreHeld (s.site).port (s.site).home (turn ∷ past) e.stores → IsOpened s who e.next e.job e.stores turn.served out new → Keeps new out
-        by tells timely told (at_once is never c) = at_once_now e.next e.job e.stores new is (came Own is) never tells timely told c
+        by tells timely told (at_once is never c) = at_once_now e.next e.job e.stores new is (came Own is) never tells timely told enough c
         by tells timely told (crowded is asks many c) = over_now _ e.stores new is (came Own is) told (crowded_own is apart many) c
         by tells timely told (admitted is asks few c) = admitted_now e.next e.job e.stores new is (came (OpenQuery s.opened) is) asks tells timely told c

@@ -12,7 +12,7 @@ use Rattle.referral.specs.Cuts.{Cut}
 use Rattle.cache.specs.Keys.{Key, same_key}
 use Rattle.cache.specs.Cached.{Hit, lent, hit_of}
 use Rattle.resolution.specs.Jobs.{Home, Stores, Taken, local_link, kept_link, is_dead, AreFresh, IsEnding, Job, Next, Done, Task, Seek, Take, Go, Again, Point}
-use Rattle.resolution.specs.Rules.{Says, IsRemote, asked_of, Hits, Finds, Begins, Misses, Rule, takes, asks, follows, restarts, skips, hears, descends, gives_up, Rules, Leaves, sends, sends_again, refuses, spent, nowhere, too_long, done}
+use Rattle.resolution.specs.Rules.{Says, IsRemote, asked_of, Hits, Finds, Begins, Misses, Rule, takes, asks, follows, restarts, skips, hears, descends, gives_up, Rules, Leaves, sends, sends_again, refuses, spent, looked_out, nowhere, too_long, done}
 use Rattle.resolution.proofs.Falls.{found_fresh}
 use Rattle.laws.proofs.FollowedLists.{fresh_both, none_dead}
 use Rattle.laws.specs.Held.{Holds, IsHeldChain}
@@ -156,6 +156,7 @@ module _ (home : Home) (now t : ℕ) (es : List (Key × Hit)) where
       | inr d ↦ subst (λ (x : Task). IsAt x p.job) d.task h.at
     ])
     along_leaves p next new after h (spent x task up n e) = absurd (subst (λ (x : Task). IsAt x p.job) task h.at)
+    along_leaves p next new after h (looked_out x others m task out n e) = absurd (subst (λ (x : Task). IsAt x p.job) task h.at)
     along_leaves p next new after h (nowhere is none n e) = absurd (elim is [
       | inl d ↦ subst (λ (x : Task). IsAt x p.job) d h.at
       | inr d ↦ subst (λ (x : Task). IsAt x p.job) d.1 h.at

@@ -5,7 +5,7 @@ use Rattle.dname.specs.Labels.{Name}
 use Rattle.rdata.specs.Records.{Record}
 use Rattle.rdata.specs.Types.{type_number}
 use Rattle.causes.specs.declared.cause.Cause.{Cause}
-use Rattle.causes.specs.declared.cause.Cause.TheVariants.{TooManyOpen, DeadlineOver, ChainTooLong, TooManyAsks, NoServerLeft, ReplyTooLarge, KnownFailure}
+use Rattle.causes.specs.declared.cause.Cause.TheVariants.{TooManyOpen, DeadlineOver, ChainTooLong, TooManyAsks, NoServerLeft, ReplyTooLarge, KnownFailure, TooManyLookUps}
 use Rattle.front.specs.declared.queries.Outcome.{Outcome}
 use Rattle.front.specs.declared.queries.Outcome.TheVariants.{Answer, Referral, Refused, Fail}
 use Rattle.resolution.specs.Jobs.{Home}
@@ -13,6 +13,7 @@ use Rattle.runs.specs.States.{OpenQuery, Own, Turn, Plain, ClientQuery, Ask, Sit
 use Rattle.runs.specs.Runs.{Run, Earlier, Always, IsOpenAskOf, Came, clock_of, asks_of}
 use Rattle.laws.specs.Spent.{AcceptedAliasesLead}
 use Rattle.laws.specs.Failures.{HasNoServer, HasKnownFailure}
+use Rattle.laws.specs.LookUps.{HasLookedUp}
 use Rattle.laws.specs.Timely.{IsTimely}
 use Rattle.laws.specs.Replies.{RepliesAre}
 
@@ -48,6 +49,7 @@ IsCaused port home who TooManyAsks turn past = HasAskedEnough turn past
 IsCaused port home who NoServerLeft turn past = HasNoServer port home who turn past
 IsCaused port home who ReplyTooLarge turn past = ⊥
 IsCaused port home who KnownFailure turn past = HasKnownFailure port home who turn past
+IsCaused port home who TooManyLookUps turn past = HasLookedUp port home turn past
 
 -- What a recursive query comes to: an answer within its time, or a failure whose cause stands in the run.
 abbrev pub IsExplained : ℕ → Home → ClientQuery → Outcome Plain → Turn → List Turn → Type 0

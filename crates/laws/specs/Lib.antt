@@ -14,4 +14,5 @@ pub mod Steps
 pub mod Held
 pub mod Opens
 pub mod Looks
+pub mod LookUps
 pub mod Uses

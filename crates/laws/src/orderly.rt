@@ -1,12 +1,14 @@
 //! One reply and one open ask: functions that do nothing, whose clauses are proved.
 
 ghost use Rattle.laws.specs.Laws.{OneAction, MoreDueAtTicks, NeverAgain, OneReply, OneComing, OpenByRun, FewAsks, OneLine, OthersStay, DueInOrder};
+ghost use Rattle.laws.specs.LookUps.{FewLookUps, LookUpsAreSpent, StepsAreShort};
 ghost use Rattle.laws.specs.Times.{NothingIsLate};
 ghost use Rattle.laws.specs.Words.{WordsInOrder};
 
 /// Over every run, whatever comes: a step that serves a query gives one reply or one ask of it, and bytes
 /// that are no query are dropped; a query has one Client step, one reply at most and 40 asks at most, and is
-/// never served again when it is over; the open queries are those whose last step sent an ask, which is
+/// never served again when it is over; servers' names have 64 turns for it at most, and where it fails for that they
+/// had 64; no step takes more than 488 rules; the open queries are those whose last step sent an ask, which is
 /// their one open ask; no two open asks over UDP agree in socket, server and ID (RFC 5452, section 4).
 pub fn discipline_law()
     ensures action { OneAction }
@@ -15,6 +17,9 @@ pub fn discipline_law()
     ensures never_again { NeverAgain }
     ensures waits { OpenByRun }
     ensures asks { FewAsks }
+    ensures look_ups { FewLookUps }
+    ensures looked_out { LookUpsAreSpent }
+    ensures short { StepsAreShort }
     ensures line { OneLine }
 {}
 

@@ -1,8 +1,9 @@
 -- Lists of hints, and of what records give.
-use Rattle.std.proofs.Common.{◌≡◌, ℕ, ◌+◌, ◌<◌, ◌≤◌, List, [], ◌∷◌, ◌++◌, length, take, get_or, refl, sym, ap, subst, ◌∙◌, append-nil}
+use Rattle.std.proofs.Common.{◌≡◌, ℕ, ◌+◌, ◌<◌, ◌≤◌, Bool, true, false, cond, nat_lt, List, [], ◌∷◌, ◌++◌, length, take, get_or, refl, sym, ap, subst, ◌∙◌, append-nil, arith}
 use Rattle.std.specs.Prelude.{map}
 use Rattle.std.specs.List.{flat_map}
-use Rattle.std.proofs.lemmas.List.{take_more}
+use Rattle.std.proofs.lemmas.Bool.{ltb-true, ltb-false}
+use Rattle.std.proofs.lemmas.List.{take_more, take_all, take-append-le, length-take, length-map, length-append}
 use Rattle.std.proofs.lemmas.Grind.{flat_map-append}
 use Rattle.dname.specs.Labels.{Name}
 use Rattle.rdata.specs.Data.{Datum, Ipv4, Ns, Cname, Soa, Ptr, Mx, Txt, Ipv6, Srv}
@@ -16,6 +17,7 @@ use Rattle.zone.specs.Zones.{Zone}
 use Rattle.classify.specs.Targets as classify
 use Rattle.referral.specs.Cuts.{ServerAddress, Cut}
 use Rattle.referral.specs.Made as made
+use Rattle.frames.specs.Frames.{most_taken}
 use Rattle.resolution.specs.Jobs.{ipv4_of, rows_of, row_of, hinted, root_cut, IsCutOf, bytes_of, AreAddressesOf}
 use Rattle.lookup.specs.Views.{hints_of, home_at, home_of}
 
@@ -78,14 +80,51 @@ flat_more {X} {Y} f xs i x lt is =
     ap (flat_map f) (take_more xs i x lt ∙ ap (λ (y : X). take i xs ++ y ∷ []) (sym is))
     ∙ (flat_map-append f (take i xs) (x ∷ []) ∙ ap (λ (l : List Y). flat_map f (take i xs) ++ l) (append-nil (f x)))
 
-pub found_more : (set : List Record) (i : ℕ) (r : Record) (old new : List Addr) → i < length set → r ≡ get_or set i r → AreAddressesOf (take i set) old → map bytes_of new ≡ map bytes_of old ++ ipv4_of r.value
-    → AreAddressesOf (take (i + 1) set) new
+-- A datum gives one address at most.
+one_at_most : (d : Datum) → length (ipv4_of d) ≤ 1
+one_at_most (Ipv4 b) = omega arith
+one_at_most (Ns n) = omega arith
+one_at_most (Cname n) = omega arith
+one_at_most (Soa s) = omega arith
+one_at_most (Ptr n) = omega arith
+one_at_most (Mx p n) = omega arith
+one_at_most (Txt ts) = omega arith
+one_at_most (Ipv6 b) = omega arith
+one_at_most (Srv v) = omega arith
+
+-- One more is put while there are fewer than are taken.
+put_taken : (xs ds : List (List ℕ)) (old new : List Addr) → length ds ≤ 1 → map bytes_of old ≡ take most_taken xs → map bytes_of new ≡ map bytes_of old ++ cond (nat_lt (length old) most_taken) ds []
+    → map bytes_of new ≡ take most_taken (xs ++ ds)
+put_taken xs ds old new one walked put = by (nat_lt (length old) most_taken) refl put
+  where
+    taken_long : length old ≡ length (take most_taken xs)
+    taken_long = sym (length-map old bytes_of) ∙ ap (λ (l : List (List ℕ)). length l) walked
+
+    by : (b : Bool) → nat_lt (length old) most_taken ≡ b → map bytes_of new ≡ map bytes_of old ++ cond b ds [] → map bytes_of new ≡ take most_taken (xs ++ ds)
+    by true e put =
+        let long = taken_long in
+        let cut = length-take most_taken xs in
+        let room = ltb-true (length old) most_taken e in
+        let all = length-append xs ds in
+        let few : length xs ≤ most_taken = omega (arith, long, cut, room) in
+        let fit : length (xs ++ ds) ≤ most_taken = omega (arith, long, cut, room, all, one) in
+        put ∙ (ap (λ (l : List (List ℕ)). l ++ ds) (walked ∙ take_all most_taken xs few) ∙ sym (take_all most_taken (xs ++ ds) fit))
+    by false e put =
+        let long = taken_long in
+        let cut = length-take most_taken xs in
+        let full = ltb-false (length old) most_taken e in
+        let many : most_taken ≤ length xs = omega (arith, long, cut, full) in
+        put ∙ (append-nil (map bytes_of old) ∙ (walked ∙ sym (take-append-le most_taken xs ds many)))
+
+pub found_more : (set : List Record) (i : ℕ) (r : Record) (old new : List Addr) → i < length set → r ≡ get_or set i r → AreAddressesOf (take i set) old
+    → map bytes_of new ≡ map bytes_of old ++ cond (nat_lt (length old) most_taken) (ipv4_of r.value) [] → AreAddressesOf (take (i + 1) set) new
 found_more set i r old new lt is walked put =
-    put ∙ (ap (λ (l : List (List ℕ)). l ++ ipv4_of r.value) walked ∙ sym (flat_more (λ (x : Record). ipv4_of x.value) set i r lt is))
+    put_taken (flat_map (λ (x : Record). ipv4_of x.value) (take i set)) (ipv4_of r.value) old new (one_at_most r.value) walked put
+    ∙ ap (take most_taken) (sym (flat_more (λ (x : Record). ipv4_of x.value) set i r lt is))
 
 -- A walk over a set's data is one over its records.
 pub found_later : {H : Type 0} (q : Name) (t : ℕ) (xs : List (RData H)) (set : List Record) (i : ℕ) (x : RData H) (old new : List Addr) → rows q t xs ≡ set → i < length xs → x ≡ get_or xs i x
-    → AreAddressesOf (take i set) old → map bytes_of new ≡ map bytes_of old ++ ipv4_of (datum x) → AreAddressesOf (take (i + 1) set) new
+    → AreAddressesOf (take i set) old → map bytes_of new ≡ map bytes_of old ++ cond (nat_lt (length old) most_taken) (ipv4_of (datum x)) [] → AreAddressesOf (take (i + 1) set) new
 found_later q t xs set i x old new is lt at_i walked put =
     subst (λ (rs : List Record). AreAddressesOf (take (i + 1) rs) new) is
     (found_more (rows q t xs) i (row q t x) old new (rows_long q t xs i lt) (row_at q t xs i x lt at_i) (subst (λ (rs : List Record). AreAddressesOf (take i rs) old) (sym is) walked) put)

@@ -1,10 +1,12 @@
 //! Cuts and addresses made of records: `cut_of` a delegation of its NS set and glue, `found_addresses` the addresses
 //! of a server of its set of A records.
-ghost use Rattle.std.specs.Prelude.{◌≡◌, ◌++◌, map, IfOk, OnOk};
+ghost use Rattle.std.specs.Prelude.{◌≡◌, ◌++◌, [], cond, nat_lt, length, map, IfOk, OnOk};
 ghost use Rattle.rdata.specs.Kept.{datum};
+ghost use Rattle.frames.specs.Frames.{most_taken};
 ghost use Rattle.resolution.specs.Jobs.{ipv4_of, bytes_of, IsCutOf, AreAddressesOf};
 
 use dname::{Heap, Name, Starved};
+use limits::MAX_SERVERS;
 use rdata::{Addr, RData, Record, RecordSet};
 use referral::Cut;
 
@@ -22,17 +24,19 @@ pub fn cut_of<A: Heap>(
     Ok(Cut::of_records(alloc, at, servers, glue)?)
 }
 
-// One address more, where the data are of type A.
+// One address more, where the data are of type A and fewer than sixteen were found.
 fn put_found<A: Heap>(found: &mut Vec<Addr, A>, given: &RData<A>) -> Result<(), Starved>
-    ensures { OnOk result (map bytes_of found.new.items ≡ map bytes_of found.old.items ++ ipv4_of (datum given.now)) }
+    ensures { OnOk result (map bytes_of found.new.items ≡ map bytes_of found.old.items ++ cond (nat_lt (length found.old.items) most_taken) (ipv4_of (datum given.now)) []) }
 {
-    if let RData::A(address) = given {
+    if let RData::A(address) = given
+        && found.len() < MAX_SERVERS
+    {
         found.push(*address)?;
     }
     Ok(())
 }
 
-/// The addresses that an RRset of A records gives, in order.
+/// The addresses that an RRset of A records gives, in order: the first sixteen, however many it has.
 pub fn found_addresses<A: Heap>(alloc: A, set: &RecordSet<A>) -> Result<Vec<Addr, A>, Starved>
     ensures { IfOk result (λ found. AreAddressesOf set.now found.items) }
 {

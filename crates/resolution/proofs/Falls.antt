@@ -1,35 +1,23 @@
 -- The rules end: a measure of points that each rule lets fall.
 use Rattle.std.proofs.Common.{◌≡◌, ℕ, zero, suc, ◌+◌, ◌-◌, ◌*◌, ◌≤◌, ◌<◌, Bool, true, false, cond, nat_eq, nat_le, nat_lt, inl, inr, Option, Some, None, List, [], ◌∷◌, ◌++◌, length, refl, sym, ◌∙◌, ap, subst, arith}
 use Rattle.std.proofs.lemmas.Bool.{ltb-true, lt-leb}
-use Rattle.std.proofs.lemmas.Option.{slice_get_within}
-use Rattle.dname.specs.Labels.{Name}
 use Rattle.rdata.specs.declared.addr.Addr.{Addr}
-use Rattle.zone.specs.Links.{Link}
-use Rattle.referral.specs.Cuts.{Cut}
 use Rattle.retry.specs.Plans.{upcoming}
 use Rattle.cache.specs.Cached.{Hit}
 use Rattle.cache.specs.Failures.{FailedAsk, is_failed}
-use Rattle.frames.specs.Frames.{Frame, FailedName, opened, unknown_names, next_place, next_name, after_name, after_add}
-use Rattle.frames.proofs.Places.{name_shallow, name_turn}
-use Rattle.frames.proofs.Steps.{few_unknown}
+use Rattle.frames.specs.Frames.{opened}
 use Rattle.classify.specs.Classes as class
 use Rattle.classify.specs.Classes.{class_of}
 use Rattle.zone.specs.Zones.{a_type}
-use Rattle.resolution.specs.Jobs.{Home, Stores, Taken, is_dead, IsDead, AreFresh, Search, search_at, ask_of, fails_now, Job, Input, Start, Told, TimedOut, TcpFailed, Task, Seek, Take, Go, Again, IsFreshTask, Point, level_of}
+use Rattle.resolution.specs.Jobs.{Home, Stores, Taken, is_dead, IsDead, AreFresh, Search, search_at, with_frame, ask_of, fails_now, Job, Input, Start, Told, TimedOut, TcpFailed, Task, Seek, Take, Go, Again, IsFreshTask, Point, level_of}
 use Rattle.resolution.specs.Rules.{Finds, Hits, UsesServerAddress, turned, PassesOver, IsFree, Rule, takes, asks, follows, restarts, skips, hears, descends, gives_up, Rules, ByClass, Enters}
-use Rattle.resolution.proofs.Passing.{passes_fails, passes_first, passes_keep, found_failures, missed_failures}
+use Rattle.resolution.specs.Laws.{RulesEnd}
+use Rattle.resolution.proofs.Passing.{passes_fails, passes_first, found_failures, missed_failures}
 
 -- ---- the measure
 
 abbrev Failures : Type 0
 Failures = List (FailedAsk × ℕ)
-
--- More than 16 times the next one, and three more; the last more than one.
-abbrev pub factor : ℕ → ℕ
-factor n = cond (nat_eq n 0) 10000 (cond (nat_eq n 1) 600 (cond (nat_eq n 2) 36 2))
-
-abbrev pub weight : Frame → ℕ
-weight f = (length f.names - f.tried) * factor f.nesting + 1
 
 -- One more where the address that comes next failed lately.
 abbrev pub failing_by : ℕ → Failures → Search → Option Addr → ℕ
@@ -41,19 +29,19 @@ failing now fs s = failing_by now fs s (upcoming (s.frame).plan)
 
 abbrev pub total : ℕ → Failures → List Search → ℕ
 total now fs [] = 0
-total now fs (s ∷ ss) = weight s.frame + failing now fs s + total now fs ss
+total now fs (s ∷ ss) = 1 + failing now fs s + total now fs ss
 
 abbrev pub deads : ℕ → List Taken → ℕ
 deads now [] = 0
 deads now (l ∷ ls) = cond (is_dead now l) 1 0 + deads now ls
 
 abbrev pub chain_measure : ℕ → List Taken → ℕ
-chain_measure now chain = 200000 + 20 * deads now chain + 2 * (8 - length chain)
+chain_measure now chain = 300 + 20 * deads now chain + 2 * (8 - length chain)
 
 abbrev pub measure_by : ℕ → Task → Job → Failures → ℕ
 measure_by now Seek j fs = chain_measure now j.chain + 1
 measure_by now (Take l) j fs = chain_measure now j.chain
-measure_by now Go j fs = total now fs j.searches
+measure_by now Go j fs = 4 * (64 - j.look_ups) + total now fs j.searches
 measure_by now (Again server) j fs = 0
 
 abbrev pub measure : ℕ → Point → ℕ
@@ -79,72 +67,6 @@ longer : {X : Type 0} (xs : List X) (x : X) → length (xs ++ x ∷ []) ≡ leng
 longer [] x = refl
 longer (y ∷ xs) x = let more = longer xs x in omega (arith, more)
 
--- ---- frames
-
-times_least : (a b : ℕ) → 1 ≤ b → a ≤ a * b
-times_least a b h = by b h
-  where
-    by : (b : ℕ) → 1 ≤ b → a ≤ a * b
-    by zero h = omega arith
-    by (suc c) h = omega arith
-
--- One name fewer.
-fewer_times : (m n f : ℕ) → m + 1 ≤ n → m * f + f ≤ n * f
-fewer_times m zero f h = omega arith
-fewer_times zero (suc n) f h = omega arith
-fewer_times (suc m) (suc n) f h = let less = fewer_times m n f (omega (arith, h)) in omega (arith, less)
-
-factor_least : (n : ℕ) → 2 ≤ factor n
-factor_least n = by (nat_eq n 0) (nat_eq n 1) (nat_eq n 2)
-  where
-    by : (b c d : Bool) → 2 ≤ cond b 10000 (cond c 600 (cond d 36 2))
-    by true c d = omega arith
-    by false true d = omega arith
-    by false false true = omega arith
-    by false false false = omega arith
-
-factor_falls : (n : ℕ) → n < 3 → 16 * factor (n + 1) + 3 < factor n
-factor_falls zero h = omega arith
-factor_falls (suc zero) h = omega arith
-factor_falls (suc (suc zero)) h = omega arith
-factor_falls (suc (suc (suc n))) h = omega (arith, h)
-
-weight_least : (f : Frame) → 1 ≤ weight f
-weight_least f = omega arith
-
-module _ (fs : List FailedName) (f : Frame) (n : Name) (is : next_name fs f ≡ Some n) where
-  -- After a turn of a name a whole factor is gone.
-  turn_falls : weight (after_name fs f) + factor f.nesting ≤ weight f
-  turn_falls =
-      let place : next_place fs f < length f.names = slice_get_within f.names (next_place fs f) n is in
-      let turn = name_turn fs f n is in
-      let tried : (after_name fs f).tried ≡ next_place fs f + 1 = turn.1 in
-      let le : f.tried ≤ next_place fs f = turn.0 in
-      let less = fewer_times (length f.names - (after_name fs f).tried) (length f.names - f.tried) (factor f.nesting) (omega (arith, place, tried, le)) in
-      omega (arith, less)
-
-most_times : (m n f : ℕ) → m ≤ n → m * f ≤ n * f
-most_times zero n f h = omega arith
-most_times (suc m) zero f h = omega (arith, h)
-most_times (suc m) (suc n) f h = let less = most_times m n f (omega (arith, h)) in omega (arith, less)
-
-opened_weight : (level : Addr → ℕ) (nesting : ℕ) (c : Cut) → weight (opened level nesting c) ≤ 16 * factor nesting + 1
-opened_weight level nesting c =
-    let few : length (unknown_names c) - 0 ≤ 16 = let f = few_unknown c in omega (arith, f) in
-    let most = most_times (length (unknown_names c) - 0) 16 (factor nesting) few in
-    omega (arith, most)
-
-added_weight : (level : Addr → ℕ) (f : Frame) (fresh : List Addr) → weight (after_add level f fresh) ≡ weight f
-added_weight level f [] = refl
-added_weight level f (a ∷ xs) = refl
-
-heard_weight : (stores : Stores) (n : Name) (l : Link) (before : Search) (failed : List FailedName) (after : Search) (marks : List FailedName)
-    → UsesServerAddress stores n l before failed after marks → weight after.frame ≡ weight before.frame
-heard_weight stores n l before failed after marks h = elim h.is as (λ x. weight after.frame ≡ weight before.frame) [
-  | inl w ↦ ap (λ (s : Search). weight s.frame) w.4 ∙ added_weight (level_of stores) before.frame _
-  | inr w ↦ ap (λ (s : Search). weight s.frame) w.1
-]
-
 -- ---- failures
 
 failing_few : (now : ℕ) (fs : Failures) (s : Search) → failing now fs s ≤ 1
@@ -167,7 +89,7 @@ failing_same now fs gs s same = by (upcoming (s.frame).plan)
 
 total_same : (now : ℕ) (fs gs : Failures) (ss : List Search) → ((k : FailedAsk) → is_failed now k gs ≡ is_failed now k fs) → total now gs ss ≡ total now fs ss
 total_same now fs gs [] same = refl
-total_same now fs gs (s ∷ ss) same = λ i. weight s.frame + failing_same now fs gs s same i + total_same now fs gs ss same i
+total_same now fs gs (s ∷ ss) same = λ i. 1 + failing_same now fs gs s same i + total_same now fs gs ss same i
 
 -- Where the next one fails, and where it does not.
 failing_one : (now : ℕ) (fs : Failures) (s : Search) (a : Addr) → upcoming (s.frame).plan ≡ Some a → fails_now now fs s a ≡ true → failing now fs s ≡ 1
@@ -179,9 +101,6 @@ failing_none now fs s free = by (upcoming (s.frame).plan) refl
     by : (o : Option Addr) → upcoming (s.frame).plan ≡ o → failing_by now fs s o ≡ 0
     by None e = refl
     by (Some a) e = ap (λ (b : Bool). cond b 1 0) (free a e)
-
-passes_weight : (now n : ℕ) (s : Search) (fs : Failures) (t : Search) (gs : Failures) → PassesOver now n s fs t gs → weight t.frame ≡ weight s.frame
-passes_weight now n s fs t gs h = passes_keep (λ x. weight x.frame ≡ weight s.frame) now n s fs t gs (λ x e. e) h refl
 
 -- ---- what is found is alive
 
@@ -209,10 +128,9 @@ falls home now a b (takes l at finds to job) fresh =
 falls home now a b (asks c at misses to job) fresh =
     let one = ap (λ (t : Task). measure_by now t a.job (a.stores).failures) at in
     let first : Search = search_at (a.job).name (a.job).kind (opened (level_of b.stores) 0 c) in
-    let two : measure now b ≡ weight (opened (level_of b.stores) 0 c) + failing now (b.stores).failures first + 0 = λ i. measure_by now (to i) (job i) (b.stores).failures in
-    let most = opened_weight (level_of b.stores) 0 c in
+    let two : measure now b ≡ 4 * (64 - (a.job).look_ups) + (1 + failing now (b.stores).failures first + 0) = λ i. measure_by now (to i) (job i) (b.stores).failures in
     let few = failing_few now (b.stores).failures first in
-    omega (arith, one, two, most, few)
+    omega (arith, one, two, few)
 falls home now a b (follows l r at alias few to job stores) fresh =
     let one : measure now a ≡ chain_measure now (a.job).chain = ap (λ (t : Task). measure_by now t a.job (a.stores).failures) at in
     let two : measure now b ≡ chain_measure now ((a.job).chain ++ l ∷ []) + 1 = λ i. measure_by now (to i) (job i) (b.stores).failures in
@@ -232,43 +150,36 @@ falls home now a b (restarts l d front back at ending split alive dead to job st
     let zero_front = fresh_deads now front alive in
     omega (arith, one, two, whole, none, parts, first, zero_front)
 falls home now a b (skips n s t rest failures at searches passes free to job stores) fresh =
-    let one : measure now a ≡ weight s.frame + failing now (a.stores).failures s + total now (a.stores).failures rest = λ i. measure_by now (at i) (record a.job { searches = searches i }) (a.stores).failures in
-    let two : measure now b ≡ weight t.frame + failing now failures t + total now failures rest = λ i. measure_by now (to i) (job i) (stores i).failures in
+    let one : measure now a ≡ 4 * (64 - (a.job).look_ups) + (1 + failing now (a.stores).failures s + total now (a.stores).failures rest) = λ i. measure_by now (at i) (record a.job { searches = searches i }) (a.stores).failures in
+    let two : measure now b ≡ 4 * (64 - (a.job).look_ups) + (1 + failing now failures t + total now failures rest) = λ i. measure_by now (to i) (job i) (stores i).failures in
     let (server, next, fails) = passes_first now n s (a.stores).failures t failures passes in
     let some = failing_one now (a.stores).failures s server next fails in
     let none = failing_none now failures t free in
-    let same = passes_weight now (suc n) s (a.stores).failures t failures passes in
     let around = total_same now (a.stores).failures failures rest (passes_fails now (suc n) s (a.stores).failures t failures passes now) in
-    omega (arith, one, two, some, none, same, around)
+    omega (arith, one, two, some, none, around)
 falls home now a b (hears before after rest n l marks at turn finds heard to job) fresh =
     let kept = found_failures home now n a_type a.stores l b.stores finds in
-    let one : measure now a ≡ weight before.frame + failing now (a.stores).failures before + total now (a.stores).failures rest = λ i. measure_by now (at i) (record a.job { searches = turn.searches i }) (a.stores).failures in
-    let two : measure now b ≡ weight after.frame + failing now (a.stores).failures after + total now (a.stores).failures rest = λ i. measure_by now (to i) (job i) (kept i) in
-    let same = heard_weight b.stores n l.link (turned (a.job).failed before) (a.job).failed after marks heard in
-    let less = turn_falls (a.job).failed before.frame n turn.turn in
-    let some = factor_least (before.frame).nesting in
+    let one : measure now a ≡ 4 * (64 - (a.job).look_ups) + (1 + failing now (a.stores).failures before + total now (a.stores).failures rest) = λ i. measure_by now (at i) (record a.job { searches = turn.searches i }) (a.stores).failures in
+    let two : measure now b ≡ 4 * (64 - ((a.job).look_ups + 1)) + (1 + failing now (a.stores).failures after + total now (a.stores).failures rest) = λ i. measure_by now (to i) (job i) (kept i) in
+    let room : (a.job).look_ups < 64 = turn.few in
     let few = failing_few now (a.stores).failures after in
-    omega (arith, one, two, same, less, some, few)
+    omega (arith, one, two, room, few)
 falls home now a b (descends s rest n c at turn misses to job) fresh =
     let kept = missed_failures home now n a_type a.stores c b.stores misses in
     let fs = (a.stores).failures in
     let within : Search = search_at n a_type (opened (level_of b.stores) ((s.frame).nesting + 1) c) in
     let around : Search = turned (a.job).failed s in
-    let one : measure now a ≡ weight s.frame + failing now fs s + total now fs rest = λ i. measure_by now (at i) (record a.job { searches = turn.searches i }) fs in
-    let two : measure now b ≡ weight (opened (level_of b.stores) ((s.frame).nesting + 1) c) + failing now fs within + (weight (after_name (a.job).failed s.frame) + failing now fs around + total now fs rest) = λ i. measure_by now (to i) (job i) (kept i) in
+    let one : measure now a ≡ 4 * (64 - (a.job).look_ups) + (1 + failing now fs s + total now fs rest) = λ i. measure_by now (at i) (record a.job { searches = turn.searches i }) fs in
+    let two : measure now b ≡ 4 * (64 - ((a.job).look_ups + 1)) + (1 + failing now fs within + (1 + failing now fs around + total now fs rest)) = λ i. measure_by now (to i) (job i) (kept i) in
+    let room : (a.job).look_ups < 64 = turn.few in
     let few = failing_few now fs within in
     let fewer = failing_few now fs around in
-    let most = opened_weight (level_of b.stores) ((s.frame).nesting + 1) c in
-    let less = turn_falls (a.job).failed s.frame n turn.turn in
-    let shallow = name_shallow (a.job).failed s.frame n turn.turn in
-    let gap = factor_falls (s.frame).nesting shallow in
-    omega (arith, one, two, most, less, gap, few, fewer)
+    omega (arith, one, two, room, few, fewer)
 falls home now a b (gives_up s around rest at up to job stores) fresh =
     let fs = (a.stores).failures in
-    let one : measure now a ≡ weight s.frame + failing now fs s + (weight around.frame + failing now fs around + total now fs rest) = λ i. measure_by now (at i) (record a.job { searches = up.searches i }) fs in
-    let two : measure now b ≡ weight around.frame + failing now fs around + total now fs rest = λ i. measure_by now (to i) (job i) (stores i).failures in
-    let some = weight_least s.frame in
-    omega (arith, one, two, some)
+    let one : measure now a ≡ 4 * (64 - (a.job).look_ups) + (1 + failing now fs s + (1 + failing now fs around + total now fs rest)) = λ i. measure_by now (at i) (record a.job { searches = up.searches i }) fs in
+    let two : measure now b ≡ 4 * (64 - (a.job).look_ups) + (1 + failing now fs around + total now fs rest) = λ i. measure_by now (to i) (job i) (stores i).failures in
+    omega (arith, one, two)
 
 -- A link that is to be used stays fresh.
 pub stays_fresh : (home : Home) (now : ℕ) (a b : Point) → Rule home now a b → IsFreshTask now b.task
@@ -305,7 +216,66 @@ enters_fresh now (Told via server m) j stores p (inr (s, rest, searches, h)) = c
 enters_fresh now (TimedOut server) j stores p h = subst (λ (p : Point). IsFreshTask now p.task) (sym h) tt
 enters_fresh now (TcpFailed server) j stores p h = subst (λ (p : Point). IsFreshTask now p.task) (sym h) tt
 
-pub rules_end : (home : Home) (now : ℕ) (input : Input) (j : Job) (stores : Stores) (first : Point) → Enters now input j stores first
-    → (most : ℕ) × ((n : ℕ) (last : Point) → Rules home now n first last → n ≤ most)
-rules_end home now input j stores first enters =
-    (measure now first, λ n last rules. let h = (rules_fall home now n first last (enters_fresh now input j stores first enters) rules).0 in omega (arith, h))
+-- ---- how many
+
+deads_most : (now : ℕ) (ls : List Taken) → deads now ls ≤ length ls
+deads_most now [] = omega arith
+deads_most now (l ∷ ls) = let one = by (is_dead now l) in let more = deads_most now ls in omega (arith, one, more)
+  where
+    by : (b : Bool) → cond b 1 0 ≤ 1
+    by true = omega arith
+    by false = omega arith
+
+total_most : (now : ℕ) (fs : Failures) (ss : List Search) → total now fs ss ≤ 2 * length ss
+total_most now fs [] = omega arith
+total_most now fs (s ∷ ss) = let one = failing_few now fs s in let more = total_most now fs ss in omega (arith, one, more)
+
+-- The most that a job's measure is, by its chain and its searches.
+abbrev most_by : ℕ → ℕ → ℕ
+most_by chain searches = 320 + 20 * chain + 2 * searches
+
+seek_most : (now : ℕ) (j : Job) (fs : Failures) → measure_by now Seek j fs ≤ most_by (length j.chain) (length j.searches)
+seek_most now j fs = let dead = deads_most now j.chain in omega (arith, dead)
+
+take_most : (now : ℕ) (j : Job) (l : Taken) (fs : Failures) (searches : ℕ) → measure_by now (Take l) j fs ≤ most_by (length j.chain) searches
+take_most now j l fs searches = let dead = deads_most now j.chain in omega (arith, dead)
+
+go_most : (now : ℕ) (j : Job) (fs : Failures) (chain : ℕ) → measure_by now Go j fs ≤ most_by chain (length j.searches)
+go_most now j fs chain = let all = total_most now fs j.searches in omega (arith, all)
+
+at_most : (now : ℕ) (p : Point) (task : Task) (i : Job) (most : ℕ) → p.task ≡ task → p.job ≡ i → measure_by now task i (p.stores).failures ≤ most → measure now p ≤ most
+at_most now p task i most te je le = let same : measure now p ≡ measure_by now task i (p.stores).failures = λ x. measure_by now (te x) (je x) (p.stores).failures in omega (arith, same, le)
+
+fewer_searches : (chain n m : ℕ) → n ≤ m → most_by chain n ≤ most_by chain m
+fewer_searches chain n m le = omega (arith, le)
+
+class_most : (now : ℕ) (server : Addr) (s : Search) (rest : List Search) (c : class.Class) (j : Job) (stores : Stores) (p : Point) → j.searches ≡ s ∷ rest → ByClass now server s rest c j stores p
+    → measure now p ≤ most_by (length j.chain) (length j.searches)
+class_most now server s [] (class.Answer l) j stores p searches (task, job, learnt) =
+    at_most now p _ _ _ task job (take_most now (record j { searches = [] }) _ (p.stores).failures (length j.searches))
+class_most now server s (around ∷ rest) (class.Answer l) j stores p searches (after, marks, task, learnt, heard, job) =
+    let long : length j.searches ≡ suc (suc (length rest)) = ap (λ (ss : List Search). length ss) searches in
+    let le = go_most now (record j { searches = after ∷ rest; failed = marks }) (p.stores).failures (length j.chain) in
+    at_most now p _ _ _ task job (omega (arith, long, le))
+class_most now server s rest (class.Referral at ns glue ttl) j stores p searches h =
+    let long : length j.searches ≡ suc (length rest) = ap (λ (ss : List Search). length ss) searches in
+    let again : Search = with_frame s (opened (level_of stores) (s.frame).nesting h.cut) in
+    let le = go_most now (record j { searches = again ∷ rest }) (p.stores).failures (length j.chain) in
+    at_most now p _ _ _ h.task h.job (omega (arith, long, le))
+class_most now server s rest class.Truncated j stores p searches h =
+    at_most now p (Again server) j _ (ap (λ (x : Point). x.task) h) (ap (λ (x : Point). x.job) h) (omega arith)
+class_most now server s rest (class.Failed f) j stores p searches h =
+    at_most now p Go j _ (ap (λ (x : Point). x.task) h) (ap (λ (x : Point). x.job) h) (go_most now j (p.stores).failures (length j.chain))
+
+enters_most : (now : ℕ) (input : Input) (j : Job) (stores : Stores) (p : Point) → Enters now input j stores p → measure now p ≤ most_by (length j.chain) (length j.searches)
+enters_most now Start j stores p h = at_most now p Seek j _ (ap (λ (x : Point). x.task) h) (ap (λ (x : Point). x.job) h) (seek_most now j (p.stores).failures)
+enters_most now (Told via server m) j stores p (inl (none, h)) = at_most now p Go j _ (ap (λ (x : Point). x.task) h) (ap (λ (x : Point). x.job) h) (go_most now j (p.stores).failures (length j.chain))
+enters_most now (Told via server m) j stores p (inr (s, rest, searches, h)) = class_most now server s rest (class_of (s.frame).zone s.name s.kind via m) j _ p searches h
+enters_most now (TimedOut server) j stores p h = at_most now p Go j _ (ap (λ (x : Point). x.task) h) (ap (λ (x : Point). x.job) h) (go_most now j (p.stores).failures (length j.chain))
+enters_most now (TcpFailed server) j stores p h = at_most now p Go j _ (ap (λ (x : Point). x.task) h) (ap (λ (x : Point). x.job) h) (go_most now j (p.stores).failures (length j.chain))
+
+pub rules_end : RulesEnd
+rules_end home now input j stores first n last enters rules =
+    let h = (rules_fall home now n first last (enters_fresh now input j stores first enters) rules).0 in
+    let most = enters_most now input j stores first enters in
+    omega (arith, h, most)

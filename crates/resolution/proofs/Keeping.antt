@@ -18,7 +18,7 @@ use Rattle.cache.proofs.Members as cache
 use Rattle.cache.specs.Failures.{FailedAsk, after_failed}
 use Rattle.cache.proofs.Failed.{failed_members, failed_lost}
 use Rattle.resolution.specs.Jobs.{Home, Stores, with_answer, with_told, is_server_failure, Taken, Search, ask_of, Job, Input, Start, Told, TimedOut, TcpFailed, Next, Point, hit_from, cut_from}
-use Rattle.resolution.specs.Rules.{asked_of, Finds, Hits, Misses, PassesOver, Rule, takes, asks, follows, restarts, skips, hears, descends, gives_up, Rules, KeepsAnswer, ByClass, Enters, Leaves, sends, sends_again, refuses, spent, nowhere, too_long, done, Advances, IsTakenEntry, IsTakenCut, IsLostEntry, IsLostCut, IsTakenFailure, IsLostFailure, Stops}
+use Rattle.resolution.specs.Rules.{asked_of, Finds, Hits, Misses, PassesOver, Rule, takes, asks, follows, restarts, skips, hears, descends, gives_up, Rules, KeepsAnswer, ByClass, Enters, Leaves, sends, sends_again, refuses, spent, looked_out, nowhere, too_long, done, Advances, IsTakenEntry, IsTakenCut, IsLostEntry, IsLostCut, IsTakenFailure, IsLostFailure, Stops}
 use Rattle.resolution.proofs.Passing.{passes_members}
 
 still_only : {X : Type 0} (old mid new : List X) (P : X → Type 0) → KeepsOnly old P mid → HasSame mid new → KeepsOnly old P new
@@ -98,6 +98,7 @@ module _ (input : Input) (now : ℕ) (j : Job) (stores : Stores) where
   leaves_stop home p next job after (sends_again server s rest due may next_is job_is is) h = same_stops p.stores after is h
   leaves_stop home p next job after (refuses c server s rest due refused next_is is) h = same_stops p.stores after is h
   leaves_stop home p next job after (spent s at up next_is is) h = same_stops p.stores after is h
+  leaves_stop home p next job after (looked_out s rest n at out next_is is) h = same_stops p.stores after is h
   leaves_stop home p next job after (nowhere at free next_is is) h = same_stops p.stores after is h
   leaves_stop home p next job after (too_long l r at alias many next_is is) h = same_stops p.stores after is h
   leaves_stop home p next job after (done l at ending fresh next_is is) h = same_stops p.stores after is h

@@ -1,9 +1,9 @@
 -- What the work on one query is made of (RFC 1034, section 5.3.3): what the resolver holds, the links that
 -- were taken so far, the searches for servers that are under way, what comes in and what goes out. Moments
 -- are milliseconds, times to live seconds.
-use Rattle.std.specs.Prelude.{◌≡◌, ℕ, ◌+◌, ◌-◌, ◌*◌, ◌<◌, Bool, true, false, not, ◌&&◌, cond, nat_eq, nat_le, Option, Some, None, List, [], ◌∷◌, ◌++◌, drop, map}
+use Rattle.std.specs.Prelude.{◌≡◌, ℕ, ◌+◌, ◌-◌, ◌*◌, ◌<◌, Bool, true, false, not, ◌&&◌, cond, nat_eq, nat_le, Option, Some, None, List, [], ◌∷◌, ◌++◌, take, drop, map}
 use Rattle.std.specs.List.{flat_map}
-use Rattle.limits.specs.Limits.{max_asks, query_lifetime}
+use Rattle.limits.specs.Limits.{max_asks, max_look_ups, query_lifetime}
 use Rattle.dname.specs.Labels.{Name, root}
 use Rattle.rdata.specs.Data.{Datum, Ipv4}
 use Rattle.rdata.specs.Records.{Record}
@@ -23,7 +23,7 @@ use Rattle.cache.specs.Keys.{Key}
 use Rattle.cache.specs.Cached.{Hit, retimed, seconds_left}
 use Rattle.cache.specs.Cached as cache
 use Rattle.cache.specs.Failures.{FailedAsk, failed_ask, is_failed, after_failed}
-use Rattle.frames.specs.Frames.{Frame, FailedName}
+use Rattle.frames.specs.Frames.{Frame, Failed, most_taken}
 use Rattle.frames.specs.Trimmed.{trimmed}
 
 -- ---- what the resolver holds
@@ -142,12 +142,12 @@ root_cut home = record { owner = root; names = []; addresses = map hinted home.h
 abbrev pub IsRootCut : Home → Cut → Type 0
 IsRootCut home c = c ≡ root_cut home
 
--- The addresses that a set of A records gives.
+-- The addresses that a set of A records gives: of these the first sixteen are of use.
 abbrev pub bytes_of : Addr → List ℕ
 bytes_of a = a.0
 
 abbrev pub AreAddressesOf : List Record → List Addr → Type 0
-AreAddressesOf set found = map bytes_of found ≡ flat_map (λ (r : Record). ipv4_of r.value) set
+AreAddressesOf set found = map bytes_of found ≡ take most_taken (flat_map (λ (r : Record). ipv4_of r.value) set)
 
 -- ---- one query's work
 
@@ -162,24 +162,22 @@ search_at n t f = record { name = n; kind = t; frame = f }
 
 -- `name` and `kind`: what is sought now. `chain`: the aliases that led there. `searches`: for that name, and
 -- for addresses of servers, the innermost first. `failed`: servers' names that were looked up in vain.
--- `asks`: how many were sent. `deadline`: the moment past which nothing more is sent. `skipped`: whether a server was
--- passed over, since it had failed lately to answer what was sought.
+-- `asks`: how many were sent. `look_ups`: how often a server's name had its turn. `deadline`: the moment past which
+-- nothing more is sent. `skipped`: whether a server was passed over, since it had failed lately to answer what was sought.
 pub record Job : Type 0 where
   pub name : Name
   pub kind : ℕ
   pub chain : List Taken
   pub searches : List Search
-  pub failed : List FailedName
+  pub failed : Failed
   pub asks : ℕ
+  pub look_ups : ℕ
   pub deadline : ℕ
   pub skipped : Bool
 
 -- A query has ten seconds.
 abbrev pub job_at : Name → ℕ → ℕ → Job
-job_at n t now = record { name = n; kind = t; chain = []; searches = []; failed = []; asks = 0; deadline = now + query_lifetime; skipped = false }
-
-abbrev pub marked : List FailedName → Name → ℕ → List FailedName
-marked failed n nesting = record { name = n; nesting = nesting } ∷ failed
+job_at n t now = record { name = n; kind = t; chain = []; searches = []; failed = []; asks = 0; look_ups = 0; deadline = now + query_lifetime; skipped = false }
 
 -- What comes in: the query itself; the message that was accepted for its ask of a server; the end of the wait
 -- for one; the failure of an ask over TCP.
@@ -222,6 +220,13 @@ asked j s rest = record j { searches = given s ∷ rest; asks = j.asks + 1 }
 
 abbrev pub asked_again : Job → Job
 asked_again j = record j { asks = j.asks + 1 }
+
+-- A server's name may have its turn where fewer than 64 had; and the job after one.
+abbrev pub MayLookUp : Job → Type 0
+MayLookUp j = j.look_ups < max_look_ups
+
+abbrev pub looked_up : Job → Job
+looked_up j = record j { look_ups = j.look_ups + 1 }
 
 -- ---- servers that failed lately (RFC 2308, section 7.1)
 

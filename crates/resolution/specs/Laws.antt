@@ -1,14 +1,14 @@
 -- The laws that the functions of this crate state.
-use Rattle.std.specs.Prelude.{◌≡◌, ℕ, ◌≤◌, false}
+use Rattle.std.specs.Prelude.{◌≡◌, ℕ, ◌+◌, ◌*◌, ◌≤◌, false, length}
 use Rattle.dname.specs.Labels.{Name}
 use Rattle.zone.specs.Links.{Link}
 use Rattle.resolution.specs.Jobs.{Home, Stores, is_dead, received_link, Job, Input, Next, Point}
 use Rattle.resolution.specs.Rules.{Rules, Enters, Advances, Stops}
 
--- Whatever comes in, only so many rules can follow.
+-- Whatever comes in, only so many rules can follow: with eight aliases and four searches 488.
 abbrev pub RulesEnd : Type 0
-RulesEnd = (home : Home) (now : ℕ) (input : Input) (j : Job) (stores : Stores) (first : Point) → Enters now input j stores first
-    → (most : ℕ) × ((n : ℕ) (last : Point) → Rules home now n first last → n ≤ most)
+RulesEnd = (home : Home) (now : ℕ) (input : Input) (j : Job) (stores : Stores) (first : Point) (n : ℕ) (last : Point)
+    → Enters now input j stores first → Rules home now n first last → n ≤ 320 + 20 * length j.chain + 2 * length j.searches
 
 -- What was accepted for a query serves that query, whatever its time to live.
 abbrev pub ReceivedServes : Type 0

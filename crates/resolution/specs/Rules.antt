@@ -2,7 +2,7 @@
 -- how what comes in is taken up (`Enters`), the eight rules (`Rule`), and what goes out where none of them
 -- applies (`Leaves`).
 use Rattle.std.specs.Prelude.{◌≡◌, ◌≢◌, ℕ, zero, suc, ◌+◌, ◌<◌, ◌≤◌, ◌⊎◌, Bool, true, false, Option, Some, None, List, [], ◌∷◌, ◌++◌, length, Contains}
-use Rattle.limits.specs.Limits.{max_aliases, max_asks}
+use Rattle.limits.specs.Limits.{max_aliases, max_asks, max_look_ups}
 use Rattle.dname.specs.Labels.{Name, root, IsName}
 use Rattle.rdata.specs.Records.{Record}
 use Rattle.rdata.specs.declared.addr.Addr.{Addr}
@@ -25,8 +25,8 @@ use Rattle.cache.specs.Keys.{Key}
 use Rattle.cache.specs.Cached.{Hit, Question, above_to, lent, hit_of, moved, IsHeld}
 use Rattle.cache.specs.Cached as cache
 use Rattle.cache.specs.Failures.{FailedAsk, same_failed}
-use Rattle.frames.specs.Frames.{FailedName, opened, next_name, after_name, after_add, fresh_addresses}
-use Rattle.resolution.specs.Jobs.{Home, Stores, level_of, with_answer, with_timeout, with_told, Taken, local_link, kept_link, received_link, IsDead, AreFresh, IsEnding, IsCutOf, IsRootCut, AreAddressesOf, Search, search_at, with_frame, given, ask_of, fails_now, is_server_failure, Job, marked, Input, Start, Told, TimedOut, TcpFailed, Next, AskUdp, AskTcp, Done, Fail, MaySend, asked, asked_again, Seek, Take, Go, Again, Point, point, hit_from, cut_from}
+use Rattle.frames.specs.Frames.{Failed, marked, opened, next_name, after_name, after_add, fresh_addresses}
+use Rattle.resolution.specs.Jobs.{Home, Stores, level_of, with_answer, with_timeout, with_told, Taken, local_link, kept_link, received_link, IsDead, AreFresh, IsEnding, IsCutOf, IsRootCut, AreAddressesOf, Search, search_at, with_frame, given, ask_of, fails_now, is_server_failure, Job, MayLookUp, Input, Start, Told, TimedOut, TcpFailed, Next, AskUdp, AskTcp, Done, Fail, MaySend, asked, asked_again, Seek, Take, Go, Again, Point, point, hit_from, cut_from}
 
 -- ---- what is known without asking
 
@@ -88,21 +88,29 @@ pub record Misses (home : Home) (now : ℕ) (n : Name) (t : ℕ) (old : Stores) 
 
 -- What is found for a server's name: the addresses of a set, those not yet known to be asked next; any other
 -- link says that the name has none, in this query for good. `before` is the search that wanted them.
-pub record UsesServerAddress (stores : Stores) (n : Name) (l : Link) (before : Search) (failed : List FailedName) (after : Search) (marks : List FailedName) : Type 0 where
+pub record UsesServerAddress (stores : Stores) (n : Name) (l : Link) (before : Search) (failed : Failed) (after : Search) (marks : Failed) : Type 0 where
   pub is :
       ((set : List Record) × (found : List Addr) × (l ≡ said.Found set) × AreAddressesOf set found
       × (after ≡ with_frame before (after_add (level_of stores) before.frame (fresh_addresses before.frame found))) × (marks ≡ failed))
       ⊎ (((set : List Record) → l ≢ said.Found set) × (after ≡ before) × (marks ≡ marked failed n 0))
 
 -- The search after the turn of a server's name.
-abbrev pub turned : List FailedName → Search → Search
+abbrev pub turned : Failed → Search → Search
 turned failed s = with_frame s (after_name failed s.frame)
 
--- All known addresses of this search's servers were asked, and this server's name has its turn.
+-- All known addresses of this search's servers were asked, and this server's name has its turn: fewer than 64 had.
 pub record IsTurnOf (j : Job) (s : Search) (rest : List Search) (n : Name) : Type 0 where
   pub searches : j.searches ≡ s ∷ rest
   pub asked_all : upcoming (s.frame).plan ≡ None
   pub turn : next_name j.failed s.frame ≡ Some n
+  pub few : MayLookUp j
+
+-- It would have its turn, and 64 had.
+pub record IsLookedOut (j : Job) (s : Search) (rest : List Search) (n : Name) : Type 0 where
+  pub searches : j.searches ≡ s ∷ rest
+  pub asked_all : upcoming (s.frame).plan ≡ None
+  pub turn : next_name j.failed s.frame ≡ Some n
+  pub many : max_look_ups ≤ j.look_ups
 
 -- All addresses were asked, and no name is left.
 pub record IsUsedUp (j : Job) (s : Search) (rest : List Search) : Type 0 where
@@ -144,12 +152,12 @@ pub data Rule (home : Home) (now : ℕ) (a b : Point) : Type 0 where
       → PassesOver now (suc n) s (a.stores).failures t failures → IsFree now t failures → b.task ≡ Go
       → b.job ≡ record a.job { searches = t ∷ rest; skipped = true } → b.stores ≡ record a.stores { failures = failures } → Rule home now a b
   -- A server's name of which something is known.
-  hears : (before after : Search) (rest : List Search) (n : Name) (l : Taken) (marks : List FailedName) → a.task ≡ Go → IsTurnOf a.job before rest n
+  hears : (before after : Search) (rest : List Search) (n : Name) (l : Taken) (marks : Failed) → a.task ≡ Go → IsTurnOf a.job before rest n
       → Finds home now n a_type a.stores l b.stores → UsesServerAddress b.stores n l.link (turned (a.job).failed before) (a.job).failed after marks → b.task ≡ Go
-      → b.job ≡ record a.job { searches = after ∷ rest; failed = marks } → Rule home now a b
+      → b.job ≡ record a.job { searches = after ∷ rest; failed = marks; look_ups = (a.job).look_ups + 1 } → Rule home now a b
   -- A server's name of which nothing is known: its address is sought, one nesting deeper.
   descends : (s : Search) (rest : List Search) (n : Name) (c : Cut) → a.task ≡ Go → IsTurnOf a.job s rest n → Misses home now n a_type a.stores c b.stores → b.task ≡ Go
-      → b.job ≡ record a.job { searches = search_at n a_type (opened (level_of b.stores) ((s.frame).nesting + 1) c) ∷ turned (a.job).failed s ∷ rest } → Rule home now a b
+      → b.job ≡ record a.job { searches = search_at n a_type (opened (level_of b.stores) ((s.frame).nesting + 1) c) ∷ turned (a.job).failed s ∷ rest; look_ups = (a.job).look_ups + 1 } → Rule home now a b
   -- The search for a server's address has no server left: back to the search around it.
   gives_up : (s around : Search) (rest : List Search) → a.task ≡ Go → IsUsedUp a.job s (around ∷ rest) → b.task ≡ Go
       → b.job ≡ record a.job { searches = around ∷ rest; failed = marked (a.job).failed s.name (s.frame).nesting } → b.stores ≡ a.stores → Rule home now a b
@@ -170,7 +178,7 @@ abbrev pub IsAnswered : ℕ → Search → List Search → Link → Job → Stor
 IsAnswered now s [] l j stores p =
     (p.task ≡ Take (received_link s.name l now)) × (p.job ≡ record j { searches = [] }) × KeepsAnswer now s l stores p.stores
 IsAnswered now s (around ∷ rest) l j stores p =
-    (after : Search) × (marks : List FailedName) × (p.task ≡ Go) × KeepsAnswer now s l stores p.stores
+    (after : Search) × (marks : Failed) × (p.task ≡ Go) × KeepsAnswer now s l stores p.stores
     × UsesServerAddress p.stores s.name (received_link s.name l now).link around j.failed after marks
     × (p.job ≡ record j { searches = after ∷ rest; failed = marks })
 
@@ -235,6 +243,8 @@ pub data Leaves (home : Home) (now : ℕ) (p : Point) (next : Next) (job : Job) 
       → stores ≡ p.stores → Leaves home now p next job stores
   -- No server is left for the query's own name.
   spent : (s : Search) → p.task ≡ Go → IsUsedUp p.job s [] → next ≡ Fail (spent_cause (p.job).skipped) → stores ≡ p.stores → Leaves home now p next job stores
+  -- A server's name would have to be looked up, and 64 were.
+  looked_out : (s : Search) (rest : List Search) (n : Name) → p.task ≡ Go → IsLookedOut p.job s rest n → next ≡ Fail cause.TooManyLookUps → stores ≡ p.stores → Leaves home now p next job stores
   -- Servers are to be asked, and nothing is sought of them: this does not come about.
   nowhere : (p.task ≡ Go) ⊎ ((server : Addr) × (p.task ≡ Again server)) → (p.job).searches ≡ [] → next ≡ Fail cause.NoServerLeft → stores ≡ p.stores → Leaves home now p next job stores
   -- A ninth alias.
