@@ -18,7 +18,7 @@ use Rattle.runs.specs.Runs.{Run}
 use Rattle.laws.specs.Opens.{Call, step_call}
 use Rattle.laws.specs.LookUps.{StepsAreShort}
 use Rattle.laws.proofs.Orders.{IsStep, one_step, run_orderly}
-use Rattle.laws.proofs.Served.{IsNewJob, IsJobOf, BeginsWith, IsCallOf, step_calls}
+use Rattle.laws.proofs.Served.{IsNewJob, IsJobOf, BeginsWith, is_ask, IsCallOf, step_calls}
 
 -- ---- searches, one within another
 
@@ -30,7 +30,7 @@ pub record IsShort (j : Job) : Type 0 where
   pub few : length j.chain ≤ 8
   pub nested : AreNested j.searches
 
-four_at_most : (ss : List Search) → AreNested ss → length ss ≤ 4
+pub four_at_most : (ss : List Search) → AreNested ss → length ss ≤ 4
 four_at_most [] h = omega arith
 four_at_most (s ∷ rest) (is, le, more) = omega (arith, is, le)
 
@@ -135,7 +135,7 @@ call_short s call asking h =
 
 -- ---- runs
 
-abbrev AreShort : State → Type 0
+abbrev pub AreShort : State → Type 0
 AreShort s = (q : Open) → Contains s.queries q → IsShort q.job
 
 new_short : (j : Job) → IsNewJob j → IsShort j
@@ -147,7 +147,7 @@ begins_short s Own j all h = new_short j h
 begins_short s (OpenQuery k) j all (inl (p, there, number, is)) = short_as p.job j is (all p there)
 begins_short s (OpenQuery k) j all (inr (number, fresh)) = new_short j fresh
 
-run_short : (site : Site) (run : List Turn) (s : State) → Run site run s → AreShort s
+pub run_short : (site : Site) (run : List Turn) (s : State) → Run site run s → AreShort s
 run_short site [] s new = λ q c. absurd (Contains-nil q (subst (λ (l : List Open). Contains l q) new.queries c))
 run_short site (t ∷ past) s (old, legal, step) = λ q c. elim (is.from_old q c) [ inl d ↦ before q d.0 | inr d ↦ by q c d.0 (step_call old t s step) (step_calls old t s step) ]
   where
@@ -160,8 +160,8 @@ run_short site (t ∷ past) s (old, legal, step) = λ q c. elim (is.from_old q c
     by : (q : Open) → Contains s.queries q → t.served ≡ OpenQuery q.number → (o : Option (Call (moved old t.event))) → IsCallOf (moved old t.event) t.served s o → IsShort q.job
     by q c e None h = absurd (h q c e)
     by q c e (Some call) h =
-        let (asking, job) = h.1 q c e in
-        short_as call.new q.job job (call_short (moved old t.event) call asking (begins_short (moved old t.event) t.served call.old before h.0))
+        let after = h.1 q c e in
+        short_as call.new q.job after.job_is (call_short (moved old t.event) call (is_ask (moved old t.event).clock call.new call.next q after.asks) (begins_short (moved old t.event) t.served call.old before h.0))
 
 pub steps_are_short : StepsAreShort
 steps_are_short site past old t new legal step call made =
