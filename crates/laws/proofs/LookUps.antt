@@ -1,5 +1,5 @@
 -- Turns of servers' names are counted, and no query has more than 64.
-use Rattle.std.proofs.Common.{◌≡◌, ℕ, zero, suc, ◌+◌, ◌≤◌, ◌⊎◌, inl, inr, Bool, true, false, cond, Option, Some, None, List, [], ◌∷◌, Contains, refl, sym, ap, ◌∙◌, subst, arith}
+use Rattle.std.proofs.Common.{◌≡◌, ℕ, zero, suc, ◌+◌, ◌≤◌, ◌<◌, ◌⊎◌, inl, inr, Bool, true, false, cond, Option, Some, None, List, [], ◌∷◌, Contains, refl, sym, ap, ◌∙◌, subst, arith}
 use Rattle.lru.proofs.Splits.{Contains-nil}
 use Rattle.lru_laws.proofs.Kept.{by_test}
 use Rattle.rdata.specs.declared.addr.Addr.{Addr}
@@ -171,7 +171,7 @@ module _ (site : Site) (past : List Turn) (t : Turn) (old new : State) (legal : 
   few_it k e = by (step_call old t new step) (step_calls old t new step)
     where
       by : (o : Option (Call (moved old t.event))) → IsCallOf (moved old t.event) t.served new o → call_look_ups (moved old t.event) o + was k ≤ 64
-      by None h = before.few k
+      by None h = let few = before.few k in omega (arith, few)
       by (Some call) h =
           let same = begins_counted t.served k call.old e h.0 in
           let le : (call.old).look_ups ≤ 64 = subst (λ (n : ℕ). n ≤ 64) (sym same) (before.few k) in

@@ -124,10 +124,13 @@ nobody_failing_is_asked site past old t new legal step q there is udp = by (step
 
 -- ---- what an open query shows
 
+abbrev wait_by : Bool → ℕ
+wait_by b = cond b 1000 2000
+
 wait_is : (p : Plan) → (wait_of p ≡ 1000) ⊎ (wait_of p ≡ 2000)
 wait_is p = by (nat_le p.given (length p.order))
   where
-    by : (b : Bool) → (cond b 1000 2000 ≡ 1000) ⊎ (cond b 1000 2000 ≡ 2000)
+    by : (b : Bool) → (wait_by b ≡ 1000) ⊎ (wait_by b ≡ 2000)
     by true = inl refl
     by false = inr refl
 
@@ -150,20 +153,20 @@ asks_until past t s clock q job (Fail c) is h = absurd h
 
 run_due : (site : Site) (run : List Turn) (s : State) → Run site run s → AreDue run s
 run_due site [] s new = λ q c. absurd (Contains-nil q (subst (λ (l : List Open). Contains l q) new.queries c))
-run_due site (t ∷ past) s (old, legal, step) = λ q c. elim (is.from_old q c) [
-  | inl d ↦ inr (before q d.0)
-  | inr d ↦ inl (by q c d.0 (step_call old t s step) (step_calls old t s step))
-]
+run_due site (t ∷ past) s (old, legal, step) = on (run_due site past old legal)
   where
-    before : (q : Open) → Contains old.queries q → Earlier (AsksUntil q.number q.due) past
-    before = run_due site past old legal
-
     is : IsStep site.port t old s
     is = one_step site past t old s legal step (run_orderly site past old legal).below
 
     by : (q : Open) → Contains s.queries q → t.served ≡ OpenQuery q.number → (o : Option (Call (moved old t.event))) → IsCallOf (moved old t.event) t.served s o → AsksUntil q.number q.due t past
     by q c e None h = absurd (h q c e)
     by q c e (Some call) h = asks_until past t (moved old t.event) (clock_then site past t old legal) q call.new call.next e (h.1 q c e).asks
+
+    on : AreDue past old → AreDue (t ∷ past) s
+    on before q c = elim (is.from_old q c) [
+      | inl d ↦ inr (before q d.0)
+      | inr d ↦ inl (by q c d.0 (step_call old t s step) (step_calls old t s step))
+    ]
 
 pub open_is_of_run : OpenIsOfRun
 open_is_of_run site run s legal q there = record {

@@ -1,12 +1,13 @@
 -- Which work a step's call begins with, and which it leaves open.
 use Rattle.std.proofs.Common.{◌≡◌, ℕ, ◌+◌, ◌⊎◌, inl, inr, Option, Some, None, List, Contains, refl, sym, ap, ◌∙◌, subst}
 use Rattle.dname.specs.Labels.{Name}
+use Rattle.rdata.specs.Types.{type_number}
 use Rattle.wire.specs.declared.via.Via.{Via}
 use Rattle.front.specs.declared.queries.Request.{Request}
 use Rattle.front.specs.declared.queries.Request.TheVariants as request
 use Rattle.limits.specs.Limits.{tcp_wait}
 use Rattle.resolution.specs.Jobs.{Stores, Job, job_at, wait_of_job, Next, AskUdp, AskTcp, Done, Fail}
-use Rattle.runs.specs.States.{Event, Client, Datagram, TcpReply, Tick, Action, Served, Nobody, Own, OpenQuery, Turn, Plain, ClientQuery, client_query, ByUdp, ByTcp, IsFor, Open, State, moved}
+use Rattle.runs.specs.States.{Event, Client, Datagram, TcpReply, Tick, Action, Served, Nobody, Own, OpenQuery, Turn, Plain, ClientQuery, client_query, job_for, ByUdp, ByTcp, IsFor, Open, State, moved}
 use Rattle.runs.specs.States as event
 use Rattle.runs.specs.Steps.{AreOthers, AreWith, Comes, IsAsk, IsOpened, at_once, crowded, admitted, Resolves, IsHandled, IsIgnored, ServesOpen, IsLate, IsTicked, IsStarved, IsTurn, Step}
 use Rattle.laws.specs.Opens.{Call, handled_call, hears_call, either_call, ticked_call, turn_call, step_call}
@@ -86,14 +87,14 @@ handled_calls s client way (request.Refuse refusal start echo) served out new (i
 handled_calls s client way (request.Query q) served out new (inl h) = λ p c e. not_own p.number (sym (h.1).served_is ∙ e)
 handled_calls s client way (request.Query q) served out new (inr (rd, h)) = by h.opened
   where
-    fresh : IsNewJob (job_at q.name _ s.clock)
-    fresh = (q.name, _, s.clock, refl)
+    fresh : IsNewJob (job_for s.clock q)
+    fresh = (q.name, type_number q.kind, s.clock, refl)
 
     by : IsOpened s (client_query client way q) h.next h.job h.stores served out new → IsCallOf s served new (handled_call s client way (request.Query q) served out new (inr (rd, h)))
-    by (at_once is none comes) = (subst (λ (v : Served). BeginsWith s v _) (sym is) fresh, λ p c e. absurd (not_own p.number (sym is ∙ e)))
-    by (crowded is asks many ends) = (subst (λ (v : Served). BeginsWith s v _) (sym is) fresh, λ p c e. absurd (not_own p.number (sym is ∙ e)))
+    by (at_once is none comes) = (subst (λ (v : Served). BeginsWith s v (job_for s.clock q)) (sym is) fresh, λ p c e. absurd (not_own p.number (sym is ∙ e)))
+    by (crowded is asks many ends) = (subst (λ (v : Served). BeginsWith s v (job_for s.clock q)) (sym is) fresh, λ p c e. absurd (not_own p.number (sym is ∙ e)))
     by (admitted is asks few comes) = (
-      subst (λ (v : Served). BeginsWith s v _) (sym is) (inr (refl, fresh)),
+      subst (λ (v : Served). BeginsWith s v (job_for s.clock q)) (sym is) (inr (refl, fresh)),
       λ p c e. comes_after s (client_query client way q) s.opened (s.opened + 1) h.next h.job h.stores out new comes p c (same_number (sym e ∙ is)),
     )
 
