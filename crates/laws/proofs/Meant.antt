@@ -143,10 +143,13 @@ AreDue run s = (q : Open) → Contains s.queries q → Earlier (AsksUntil q.numb
 
 asks_until : (past : List Turn) (t : Turn) (s : State) (clock : s.clock ≡ clock_of (t ∷ past)) (q : Open) (job : Job) (next : Next) → t.served ≡ OpenQuery q.number → AsksAs s.clock job next q
     → AsksUntil q.number q.due t past
-asks_until past t s clock q job (AskUdp server n u) is (for, path, due) = (is, elim (waits_in job.searches) [
-  | inl e ↦ inl (due ∙ (λ i. clock i + e i))
-  | inr e ↦ inr (inl (due ∙ (λ i. clock i + e i)))
-])
+asks_until past t s clock q job (AskUdp server n u) is (for, path, due) = (
+  is,
+  elim (waits_in job.searches) [
+    | inl e ↦ inl (due ∙ (λ i. clock i + e i))
+    | inr e ↦ inr (inl (due ∙ (λ i. clock i + e i)))
+  ],
+)
 asks_until past t s clock q job (AskTcp server n u) is (for, path, due) = (is, inr (inr (due ∙ ap (λ (n : ℕ). n + tcp_wait) clock)))
 asks_until past t s clock q job (Done chain last) is h = absurd h
 asks_until past t s clock q job (Fail c) is h = absurd h
