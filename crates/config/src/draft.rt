@@ -17,8 +17,11 @@ use text_lines::{LineKind, LineWords};
 // How many entries of one kind are kept at most.
 const ENTRIES: u64 = MAX_ENTRIES as u64;
 
-// How many sockets, and how many workers, there are at most.
+// How many socket numbers, and how many workers, there are at most.
 const THREADS: u64 = MAX_SOCKETS as u64;
+
+// How many streams of clients are open at once, at most.
+const STREAMS: u64 = 256;
 
 /// What the lines said up to here.
 #[derive(Drop)]
@@ -33,6 +36,7 @@ pub(crate) struct Draft<'t, A: Allocator> {
     failures: Option<u32>,
     sockets: Option<u32>,
     workers: Option<u32>,
+    streams: Option<u32>,
     seed: Option<[u8; 32]>,
 }
 
@@ -42,7 +46,7 @@ impl<'t, A: Allocator> Model for Draft<'t, A> {
 
     ghost Value = { DraftSpec };
 
-    ghost view = { λ d. record { listen = d.listen; port = d.port; hints = map (λ a. a.0) d.hints.items; locals = d.locals.items; cache = d.cache; delegations = d.delegations; penalties = d.penalties; failures = d.failures; sockets = d.sockets; workers = d.workers; seed = d.seed } };
+    ghost view = { λ d. record { listen = d.listen; port = d.port; hints = map (λ a. a.0) d.hints.items; locals = d.locals.items; cache = d.cache; delegations = d.delegations; penalties = d.penalties; failures = d.failures; sockets = d.sockets; workers = d.workers; streams = d.streams; seed = d.seed } };
 }
 
 // A value that one line alone may state.
@@ -70,6 +74,7 @@ impl<'t, A: Heap> Draft<'t, A> {
             failures: None,
             sockets: None,
             workers: None,
+            streams: None,
             seed: None,
         }
     }
@@ -105,6 +110,7 @@ impl<'t, A: Heap> Draft<'t, A> {
             Keyword::Failures => self.failures = once(self.failures, number(words, ENTRIES)?)?,
             Keyword::Sockets => self.sockets = once(self.sockets, number(words, THREADS)?)?,
             Keyword::Workers => self.workers = once(self.workers, number(words, THREADS)?)?,
+            Keyword::Streams => self.streams = once(self.streams, number(words, STREAMS)?)?,
             Keyword::Seed => self.seed = once(self.seed, seed(words)?)?,
         }
         Ok(())
@@ -136,6 +142,7 @@ impl<'t, A: Heap> Draft<'t, A> {
             failures,
             sockets,
             workers,
+            streams,
             seed,
         } = self;
         let Some(listen) = listen else {
@@ -152,6 +159,7 @@ impl<'t, A: Heap> Draft<'t, A> {
             failures: failures.unwrap_or(1_024),
             sockets: sockets.unwrap_or(16),
             workers: workers.unwrap_or(4),
+            streams: streams.unwrap_or(1),
             seed,
         })
     }

@@ -15,6 +15,7 @@ pub(crate) enum Keyword {
     Failures,
     Sockets,
     Workers,
+    Streams,
     Seed,
 }
 
@@ -34,6 +35,7 @@ impl Keyword {
             "failures" => Some(Keyword::Failures),
             "sockets" => Some(Keyword::Sockets),
             "workers" => Some(Keyword::Workers),
+            "streams" => Some(Keyword::Streams),
             "seed" => Some(Keyword::Seed),
             _ => None,
         }

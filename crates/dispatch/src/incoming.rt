@@ -50,7 +50,7 @@ pub fn stream_query_event<A: Heap>(moment: u64, client: u64, bytes: Vec<u8, A>) 
     }
 }
 
-/// A datagram at the upstream socket of this number.
+/// A datagram for an ask under this socket number.
 pub fn datagram_event<A: Heap>(
     alloc: A,
     moment: u64,

@@ -1,16 +1,17 @@
 //! What the loops share: the machine, the sockets, the channels between the loops, and the flag.
 use crate::ends::Ends;
+use crate::moments::Beginning;
 use crate::outbox::{Outbox, StreamAsk, StreamReply};
 use book::{Machine, Ticket};
 use crossbeam_channel::{Receiver, Sender};
-use dispatch::{hand_over, stream_reply_event};
+use dispatch::{Reach, hand_over, stream_reply_event};
 use events::{Actions, Event};
 use pool::{Shared, submit};
 use std::alloc::Global;
 use std::sync::Wait;
 use std::sync::atomic::{AtomicBool, Ordering};
 use std::sync::ledger::Ledger;
-use std::time::{Clock, Instant};
+use std::time::Clock;
 
 // More asks than one query makes: a query that comes to nothing but refused asks ends before.
 const MAX_REFUSED_HANDOVERS: u32 = 64;
@@ -30,18 +31,30 @@ const NOTHING: Upshot = Upshot {
     more_due: false,
 };
 
+/// What a server's file says of its loops.
+#[derive(Clone, Copy, Debug, PartialEq, Eq)]
+pub struct Bounds {
+    /// How many streams of clients are open at once, 1 to 256.
+    pub streams: u16,
+    /// Sixteen asks over TCP are under way for each of these, 1 to 16.
+    pub workers: u16,
+    /// At which addresses servers are asked.
+    pub reach: Reach,
+}
+
 /// What the loops share.
 #[derive(Drop)]
 pub(crate) struct Desk<'a, M: Machine, L: Ledger> {
     pub alloc: Global,
     pub shared: &'a Shared<M, L>,
     pub ends: &'a Ends,
-    pub to_workers: &'a Sender<StreamAsk>,
+    pub bounds: Bounds,
+    pub to_servers: &'a Sender<StreamAsk>,
     pub asks: &'a Receiver<StreamAsk>,
     pub to_streams: &'a Sender<StreamReply>,
     pub replies: &'a Receiver<StreamReply>,
     pub stop: &'a AtomicBool,
-    pub start: Instant,
+    pub beginning: Beginning,
 }
 
 impl<M: Machine<Event = Event, Out = Actions>, L: Ledger> Desk<'_, M, L> {
@@ -50,16 +63,12 @@ impl<M: Machine<Event = Event, Out = Actions>, L: Ledger> Desk<'_, M, L> {
         self.stop.load(Ordering::SeqCst)
     }
 
-    /// Milliseconds since the server began. Where the clock can't be read no time has passed: the machine takes the
-    /// latest moment that it heard of.
+    /// Milliseconds since the server began.
     pub fn moment<R: Clock>(&self, rt: &R) -> u64 {
-        match self.start.elapsed(rt) {
-            Ok(passed) => u64::try_from(passed.as_millis()).unwrap_or(u64::MAX),
-            Err(_) => 0,
-        }
+        self.beginning.moment(rt)
     }
 
-    /// Puts an event, and hands over what goes out; what came of it. An ask over TCP that no worker can be handed has
+    /// Puts an event, and hands over what goes out; what came of it. An ask over TCP that can't be made has
     /// failed, which is an event again.
     pub fn put<R: Wait + Clock>(&self, rt: &R, ticket: &mut Ticket<L>, event: Event) -> Upshot {
         let mut event = event;
@@ -83,14 +92,16 @@ impl<M: Machine<Event = Event, Out = Actions>, L: Ledger> Desk<'_, M, L> {
         NOTHING
     }
 
-    // Hands over what goes out of a step; the number of an ask over TCP that no worker can be handed.
+    // Hands over what goes out of a step; the number of an ask over TCP that can't be made.
     fn send_out<R: Wait + Clock>(&self, rt: &R, actions: &Actions) -> Option<u64> {
         let action = actions.first.as_ref()?;
         let mut outbox = Outbox {
             rt,
             ends: self.ends,
+            bounds: self.bounds,
             to_streams: self.to_streams,
-            to_workers: self.to_workers,
+            to_servers: self.to_servers,
+            moment: self.moment(rt),
         };
         hand_over(&mut outbox, action)
     }

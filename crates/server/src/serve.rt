@@ -3,56 +3,59 @@ ghost use Rattle.server.specs.Staff.{IsStaffed};
 
 use crate::clock::pass_time;
 use crate::datagrams::take_datagrams;
-use crate::desk::Desk;
+use crate::desk::{Bounds, Desk};
 use crate::ends::Ends;
 use crate::fault::ServeError;
+use crate::moments::Beginning;
+use crate::server_streams::ask_servers;
 use crate::streams::take_streams;
 use crate::upstream::take_answers;
-use crate::workers::ask_servers;
 use book::{Machine, Ticket};
 use dispatch::{Role, role_of};
 use events::{Actions, Event};
 use pool::Shared;
 use std::alloc::Global;
-use std::net::{Net, TcpListener, TcpStream};
+use std::net::Net;
 use std::sync::Wait;
 use std::sync::atomic::{AtomicBool, Ordering};
 use std::sync::ledger::Ledger;
 use std::thread;
 use std::thread::{Scope, Threads};
-use std::time::{Clock, Instant};
+use std::time::Clock;
 
-/// Serves at these ends until the flag is up: each ticket is for one loop, by its worker's number. Every loop has ended
+/// Serves at these ends within these bounds until the flag is up: each ticket is for one loop, by its worker's number. Every loop has ended
 /// when this returns. Where a thread can't be made the flag is put up, and the server is refused with `Threads`.
 pub fn serve_until<
     M: Machine<Event = Event, Out = Actions> + Send + Sync,
     L: Ledger + Send + Sync,
-    R: Net<Listener = TcpListener, Stream = TcpStream> + Threads + Wait + Clock + Sync,
+    R: Net + Threads + Wait + Clock + Sync,
 >(
     rt: &R,
     alloc: Global,
     shared: &Shared<M, L>,
     tickets: Vec<Ticket<L>>,
     ends: &Ends,
+    bounds: Bounds,
     stop: &AtomicBool,
 ) -> Result<(), ServeError>
-    requires { IsStaffed ends.now tickets.items }
+    requires { IsStaffed tickets.items }
 {
-    let Ok(start) = Instant::now(rt) else {
+    let Some(beginning) = Beginning::now(rt) else {
         return Err(ServeError::Clock);
     };
-    let (to_workers, asks) = crossbeam_channel::unbounded(alloc)?;
+    let (to_servers, asks) = crossbeam_channel::unbounded(alloc)?;
     let (to_streams, replies) = crossbeam_channel::unbounded(alloc)?;
     let desk = Desk {
         alloc,
         shared,
         ends,
-        to_workers: &to_workers,
+        bounds,
+        to_servers: &to_servers,
         asks: &asks,
         to_streams: &to_streams,
         replies: &replies,
         stop,
-        start,
+        beginning,
     };
     if run(rt, &desk, tickets) {
         Ok(())
@@ -65,7 +68,7 @@ pub fn serve_until<
 fn run<
     M: Machine<Event = Event, Out = Actions> + Send + Sync,
     L: Ledger + Send + Sync,
-    R: Net<Listener = TcpListener, Stream = TcpStream> + Threads + Wait + Clock + Sync,
+    R: Net + Threads + Wait + Clock + Sync,
 >(rt: &R, desk: &Desk<'_, M, L>, tickets: Vec<Ticket<L>>) -> bool {
     thread::scope(
         thread::scope_env(),
@@ -81,7 +84,7 @@ fn start_all<
     E,
     M: Machine<Event = Event, Out = Actions> + Send + Sync,
     L: Ledger + Send + Sync,
-    R: Net<Listener = TcpListener, Stream = TcpStream> + Wait + Clock + Sync,
+    R: Net + Wait + Clock + Sync,
 >(rt: &'s R, scope: &Scope<'s, E>, desk: &'s Desk<'d, M, L>, tickets: Vec<Ticket<L>>) -> bool {
     let mut well = true;
     for ticket in tickets {
@@ -98,7 +101,7 @@ fn start<
     E,
     M: Machine<Event = Event, Out = Actions> + Send + Sync,
     L: Ledger + Send + Sync,
-    R: Net<Listener = TcpListener, Stream = TcpStream> + Wait + Clock + Sync,
+    R: Net + Wait + Clock + Sync,
 >(rt: &'s R, scope: &Scope<'s, E>, desk: &'s Desk<'d, M, L>, ticket: Ticket<L>) -> bool {
     let started = scope.spawn(move || work(rt, desk, ticket)).is_ok();
     if !started {
@@ -108,17 +111,17 @@ fn start<
 }
 
 // Does what the ticket is for, until the flag is up.
-fn work<
-    M: Machine<Event = Event, Out = Actions>,
-    L: Ledger,
-    R: Net<Listener = TcpListener, Stream = TcpStream> + Wait + Clock,
->(rt: &R, desk: &Desk<'_, M, L>, ticket: Ticket<L>) {
+fn work<M: Machine<Event = Event, Out = Actions>, L: Ledger, R: Net + Wait + Clock>(
+    rt: &R,
+    desk: &Desk<'_, M, L>,
+    ticket: Ticket<L>,
+) {
     let mut ticket = ticket;
-    match role_of(ticket.worker(), desk.ends.sockets()) {
+    match role_of(ticket.worker()) {
         Role::Datagrams => take_datagrams(rt, desk, &mut ticket),
         Role::Streams => take_streams(rt, desk, &mut ticket),
         Role::Clock => pass_time(rt, desk, &mut ticket),
-        Role::Upstream(number) => take_answers(rt, desk, &mut ticket, number),
+        Role::Upstream => take_answers(rt, desk, &mut ticket),
         Role::Asks => ask_servers(rt, desk, &mut ticket),
     }
 }
