@@ -20,10 +20,8 @@ const CHECK_MS: u64 = 100;
 // How often a stream is tried that waits for a place, or could not be taken, in milliseconds.
 const RETRY_MS: u64 = 20;
 
-// How many replies are taken in a row, and how many times in a row replies lead on to the next questions.
+// How many replies are taken in a row.
 const REPLIES_IN_A_ROW: u32 = 1_024;
-
-const ROUNDS: u32 = 16;
 
 /// Takes the streams of clients, and answers their frames, each as its reply comes, until the flag is up.
 pub(crate) fn take_streams<M: Machine<Event = Event, Out = Actions>, L: Ledger, R: Wait + Clock>(
@@ -51,7 +49,10 @@ pub(crate) fn take_streams<M: Machine<Event = Event, Out = Actions>, L: Ledger, 
                 key => stir(&mut places, key),
             }
         }
-        converse(rt, desk, ticket, &mut places, &mut buffer);
+        hand_out(rt, desk, &mut places);
+        for key in 0..places.keys() {
+            take_questions(rt, desk, ticket, &mut places, key, &mut buffer);
+        }
         let now = desk.moment(rt);
         places.end_over(now);
         waits = waits && places.welcome(desk.ends, now);
@@ -76,39 +77,19 @@ fn stir(places: &mut Places, key: usize) {
     }
 }
 
-// Goes on with each stream that has something to do, and again where replies came meanwhile.
-fn converse<M: Machine<Event = Event, Out = Actions>, L: Ledger, R: Wait + Clock>(
-    rt: &R,
-    desk: &Desk<'_, M, L>,
-    ticket: &mut Ticket<L>,
-    places: &mut Places,
-    buffer: &mut [u8],
-) {
-    hand_out(rt, desk, places);
-    for _ in 0..ROUNDS {
-        for key in 0..places.keys() {
-            take_questions(rt, desk, ticket, places, key, buffer);
-        }
-        if !hand_out(rt, desk, places) {
-            return;
-        }
-    }
-}
-
-// Puts the replies that have come on their streams; whether there was one.
+// Puts the replies that have come on their streams.
 fn hand_out<M: Machine<Event = Event, Out = Actions>, L: Ledger, R: Wait + Clock>(
     rt: &R,
     desk: &Desk<'_, M, L>,
     places: &mut Places,
-) -> bool {
+) {
     let now = desk.moment(rt);
-    for count in 0..REPLIES_IN_A_ROW {
+    for _ in 0..REPLIES_IN_A_ROW {
         let Ok(reply) = desk.replies.try_recv(rt) else {
-            return count > 0;
+            return;
         };
         places.reply(reply.client, now, reply.bytes.as_slice());
     }
-    true
 }
 
 // Writes and reads the stream at this key where there is something to do, and puts the questions that came. Where one
