@@ -1,7 +1,8 @@
 -- What is printed of a server, which resolver it is, and why there is none.
-use Rattle.std.specs.Prelude.{◌≡◌, ◌⊎◌, ℕ, List, [], ◌∷◌, ◌++◌, Option, Some, None, IfSome, Ok, codes, decimal}
+use Rattle.std.specs.Prelude.{◌≡◌, ◌⊎◌, ℕ, List, [], ◌∷◌, ◌++◌, Option, Some, None, IfSome, Ok, codes, decimal, map}
 use Rattle.std.specs.Borrow.{Bor}
 use Rattle.rdata.specs.Text.{ipv4_text}
+use Rattle.rdata.specs.declared.addr.Addr.{Addr}
 use Rattle.zone.specs.Zones.{Zone as ZoneSpec}
 use Rattle.events.specs.declared.path.Endpoint.{Endpoint}
 use Rattle.config.specs.Configs.{Config, End, LocalZone, config_of}
@@ -93,7 +94,9 @@ IsSeedOf c seed = IfSome c.seed (λ stated. stated ≡ seed)
 pub record IsBounded (config : Config) (b : Bounds) : Type 0 where
   pub streams : b.streams ≡ config.streams
   pub workers : b.workers ≡ config.workers
-  pub reach : IsReach config.hints b.reach
+  pub hints : List Addr
+  pub hinted : map (λ (a : Addr). a.0) hints ≡ config.hints
+  pub reach : IsReach hints b.reach
 
 -- Its resolver has the hints, the settings and the zones that the file says, and has done nothing yet; its loops have
 -- the bounds that the file says.

@@ -1,7 +1,7 @@
 -- Which messages repeat an ask, by their bytes (RFC 1035, section 4.1; RFC 5452, section 9.1). An ask is a header of
 -- twelve bytes and one question, whose last four bytes are its type and its class.
 use Rattle.std.specs.Prelude.{◌≡◌, ℕ, ◌+◌, ◌-◌, ◌<◌, ◌≤◌, List, [], ◌∷◌, length, map, take, drop, slice_index}
-use Rattle.std.specs.Ascii.{to_ascii_lowercase}
+use Rattle.std.specs.Char.{to_ascii_lowercase}
 
 -- QR is set and the operation is 0: these are the five higher bits of the third byte.
 abbrev pub IsReplyByte : ℕ → Type 0

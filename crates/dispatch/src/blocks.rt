@@ -1,5 +1,5 @@
 //! Which addresses of servers are asked: none of the blocks that no server of the Internet has, unless a hint has one.
-ghost use Rattle.std.specs.Prelude.{◌≡◌, ◌↔◌, IsTrue, map};
+ghost use Rattle.std.specs.Prelude.{◌≡◌, ◌↔◌, IsTrue};
 ghost use Rattle.dispatch.specs.Blocks.{block_in, reaches, HasHintIn, IsReach};
 
 use rdata::Addr;
@@ -47,7 +47,7 @@ pub struct Reach {
 impl Reach {
     /// The blocks in which one of these hints lies.
     pub fn of_hints(hints: &[Addr]) -> Reach
-        ensures { IsReach (map (λ a. a.0) hints.now) result }
+        ensures { IsReach hints.now result }
     {
         Reach {
             this_network: has_hint_in(hints, Block::ThisNetwork),
@@ -71,7 +71,7 @@ impl Reach {
 
 // Whether one of the hints lies in this block.
 fn has_hint_in(hints: &[Addr], block: Block) -> bool
-    ensures { IsTrue result ↔ HasHintIn (map (λ a. a.0) hints.now) block }
+    ensures { IsTrue result ↔ HasHintIn hints.now block }
 {
     hints.iter().any(|hint| block_of(*hint) == block)
 }

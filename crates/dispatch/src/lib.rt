@@ -23,8 +23,8 @@ mod blocks;
 mod carrier;
 mod destinations;
 mod incoming;
+mod matching;
 mod places;
-mod repeats;
 mod roles;
 mod senders;
 
@@ -32,7 +32,7 @@ pub use blocks::{Block, Reach, block_of};
 pub use carrier::{Carrier, hand_over};
 pub use destinations::{Destination, bytes_of, destination_of};
 pub use incoming::{datagram_event, query_event, stream_query_event, stream_reply_event};
+pub use matching::repeats;
 pub use places::{place_of, places_are_kept, silence_before_yielding, stream_number};
-pub use repeats::repeats;
 pub use roles::{LOOPS, Role, role_of};
 pub use senders::{client_of, replies_go_back, sender_of};

@@ -1,5 +1,5 @@
 //! Whether a datagram repeats the ask for which it came.
-ghost use Rattle.std.specs.Prelude.{◌↔◌, ◌≤◌, IsTrue, length};
+ghost use Rattle.std.specs.Prelude.{◌≡◌, ◌↔◌, ◌≤◌, IsTrue, length};
 ghost use Rattle.dispatch.specs.Repeats.{Repeats, RepeatsHead, RepeatsQuestion};
 
 // The bytes of a header, and those of a question's type and class (RFC 1035, section 4.1).
