@@ -94,6 +94,7 @@ IsSeedOf c seed = IfSome c.seed (λ stated. stated ≡ seed)
 pub record IsBounded (config : Config) (b : Bounds) : Type 0 where
   pub streams : b.streams ≡ config.streams
   pub workers : b.workers ≡ config.workers
+  pub clients : b.clients ≡ config.clients
   pub hints : List Addr
   pub hinted : map (λ (a : Addr). a.0) hints ≡ config.hints
   pub reach : IsReach hints b.reach

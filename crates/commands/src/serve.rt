@@ -114,7 +114,7 @@ fn prepare_with<'t, A: Heap, T: Texts, H: Host>(
     let zones = local_zones(alloc, texts, &config.locals)?;
     let seed = seed_of(&config, host)?;
     let listen = endpoint_of(&config.listen);
-    let bounds = bounds_of(&config)?;
+    let bounds = bounds_of(&config, seed)?;
     match resolver_of(alloc, config, zones, seed) {
         Ok(core) => Ok(Prepared {
             server: Server::new(core, bounds),
@@ -127,15 +127,24 @@ fn prepare_with<'t, A: Heap, T: Texts, H: Host>(
 
 // What the file says of the loops, and where its hints let servers be asked; more than can be counted is refused as more
 // than allowed is.
-fn bounds_of<A: Allocator>(config: &ServeConfig<'_, A>) -> Result<Bounds, Fault<'static>>
+fn bounds_of<A: Allocator>(
+    config: &ServeConfig<'_, A>,
+    seed: [u8; 32],
+) -> Result<Bounds, Fault<'static>>
     ensures ok { IfOk result (IsBounded config.now) }
     ensures err { IfErr result (λ f. f ≡ Settings) }
 {
-    match (u16::try_from(config.streams), u16::try_from(config.workers)) {
-        (Ok(streams), Ok(workers)) => Ok(Bounds {
+    match (
+        u16::try_from(config.streams),
+        u16::try_from(config.workers),
+        u16::try_from(config.clients),
+    ) {
+        (Ok(streams), Ok(workers), Ok(clients)) => Ok(Bounds {
             streams,
             workers,
             reach: Reach::of_hints(&config.hints),
+            clients,
+            seed,
         }),
         _ => Err(Fault::Settings),
     }

@@ -76,6 +76,8 @@ pub struct ServeConfig<'t, A: Allocator = Global> {
     pub workers: u32,
     /// Streams of clients that are open at once, 1 to 256.
     pub streams: u32,
+    /// Questions that one address may have under way in datagrams, 1 to 1,024.
+    pub clients: u32,
     /// The 32 bytes from which IDs and sockets are drawn, and behind which keys are hashed: for tests alone. Where
     /// there are none, the system gives them.
     pub seed: Option<[u8; 32]>,
@@ -87,7 +89,7 @@ impl<'t, A: Allocator> Model for ServeConfig<'t, A> {
 
     ghost Value = { Config };
 
-    ghost view = { λ c. record { listen = c.listen; port = c.port; hints = map (λ a. a.0) c.hints.items; locals = c.locals.items; cache = c.cache; delegations = c.delegations; penalties = c.penalties; failures = c.failures; sockets = c.sockets; workers = c.workers; streams = c.streams; seed = c.seed } };
+    ghost view = { λ c. record { listen = c.listen; port = c.port; hints = map (λ a. a.0) c.hints.items; locals = c.locals.items; cache = c.cache; delegations = c.delegations; penalties = c.penalties; failures = c.failures; sockets = c.sockets; workers = c.workers; streams = c.streams; clients = c.clients; seed = c.seed } };
 }
 
 /// What a server's file says. Refused by its first bad line, counted from 1: a value out of its limits as a bad number,

@@ -23,6 +23,9 @@ const THREADS: u64 = MAX_SOCKETS as u64;
 // How many streams of clients are open at once, at most.
 const STREAMS: u64 = 256;
 
+// How many questions one address may have under way, at most.
+const CLIENTS: u64 = 1_024;
+
 /// What the lines said up to here.
 #[derive(Drop)]
 pub(crate) struct Draft<'t, A: Allocator> {
@@ -37,6 +40,7 @@ pub(crate) struct Draft<'t, A: Allocator> {
     sockets: Option<u32>,
     workers: Option<u32>,
     streams: Option<u32>,
+    clients: Option<u32>,
     seed: Option<[u8; 32]>,
 }
 
@@ -46,7 +50,7 @@ impl<'t, A: Allocator> Model for Draft<'t, A> {
 
     ghost Value = { DraftSpec };
 
-    ghost view = { λ d. record { listen = d.listen; port = d.port; hints = map (λ a. a.0) d.hints.items; locals = d.locals.items; cache = d.cache; delegations = d.delegations; penalties = d.penalties; failures = d.failures; sockets = d.sockets; workers = d.workers; streams = d.streams; seed = d.seed } };
+    ghost view = { λ d. record { listen = d.listen; port = d.port; hints = map (λ a. a.0) d.hints.items; locals = d.locals.items; cache = d.cache; delegations = d.delegations; penalties = d.penalties; failures = d.failures; sockets = d.sockets; workers = d.workers; streams = d.streams; clients = d.clients; seed = d.seed } };
 }
 
 // A value that one line alone may state.
@@ -75,6 +79,7 @@ impl<'t, A: Heap> Draft<'t, A> {
             sockets: None,
             workers: None,
             streams: None,
+            clients: None,
             seed: None,
         }
     }
@@ -111,6 +116,7 @@ impl<'t, A: Heap> Draft<'t, A> {
             Keyword::Sockets => self.sockets = once(self.sockets, number(words, THREADS)?)?,
             Keyword::Workers => self.workers = once(self.workers, number(words, THREADS)?)?,
             Keyword::Streams => self.streams = once(self.streams, number(words, STREAMS)?)?,
+            Keyword::Clients => self.clients = once(self.clients, number(words, CLIENTS)?)?,
             Keyword::Seed => self.seed = once(self.seed, seed(words)?)?,
         }
         Ok(())
@@ -143,6 +149,7 @@ impl<'t, A: Heap> Draft<'t, A> {
             sockets,
             workers,
             streams,
+            clients,
             seed,
         } = self;
         let Some(listen) = listen else {
@@ -160,6 +167,7 @@ impl<'t, A: Heap> Draft<'t, A> {
             sockets: sockets.unwrap_or(16),
             workers: workers.unwrap_or(4),
             streams: streams.unwrap_or(1),
+            clients: clients.unwrap_or(256),
             seed,
         })
     }

@@ -16,6 +16,7 @@ pub(crate) enum Keyword {
     Sockets,
     Workers,
     Streams,
+    Clients,
     Seed,
 }
 
@@ -36,6 +37,7 @@ impl Keyword {
             "sockets" => Some(Keyword::Sockets),
             "workers" => Some(Keyword::Workers),
             "streams" => Some(Keyword::Streams),
+            "clients" => Some(Keyword::Clients),
             "seed" => Some(Keyword::Seed),
             _ => None,
         }

@@ -37,6 +37,18 @@ pub fn query_event<A: Heap>(
     })
 }
 
+/// A datagram of the client of this number.
+pub fn held_query_event<A: Heap>(moment: u64, client: u64, bytes: Bytes<A>) -> Event<A>
+    ensures { event_view result ≡ Client moment client Udp bytes }
+{
+    Event::Client {
+        moment,
+        client,
+        way: Via::Udp,
+        bytes,
+    }
+}
+
 /// A frame of a client's stream, under a number.
 pub fn stream_query_event<A: Heap>(moment: u64, client: u64, bytes: Vec<u8, A>) -> Event<A>
     requires { length bytes.items ≤ 65535 }

@@ -25,14 +25,18 @@ mod destinations;
 mod incoming;
 mod matching;
 mod places;
+mod questions;
 mod roles;
 mod senders;
 
 pub use blocks::{Block, Reach, block_of};
 pub use carrier::{Carrier, hand_over};
 pub use destinations::{Destination, bytes_of, destination_of};
-pub use incoming::{datagram_event, query_event, stream_query_event, stream_reply_event};
+pub use incoming::{
+    datagram_event, held_query_event, query_event, stream_query_event, stream_reply_event,
+};
 pub use matching::repeats;
 pub use places::{place_of, places_are_kept, silence_before_yielding, stream_number};
+pub use questions::{failure_for, is_failure, is_plain_query, question_end};
 pub use roles::{LOOPS, Role, role_of};
 pub use senders::{client_of, replies_go_back, sender_of};

@@ -5,7 +5,6 @@ use crate::clock::rest;
 use crate::desk::Desk;
 use crate::ends::{MOST_BYTES, endpoint_of, is_early};
 use book::{Machine, Ticket};
-use dispatch::query_event;
 use events::{Actions, Endpoint, Event};
 use std::net::UdpSocket;
 use std::sync::Wait;
@@ -24,10 +23,8 @@ pub(crate) fn take_datagrams<M: Machine<Event = Event, Out = Actions>, L: Ledger
         if desk.is_over() {
             return;
         }
-        if let Some((count, from)) = next_datagram(rt, &ends.clients, &mut buffer)
-            && let Ok(event) = query_event(desk.alloc, desk.moment(rt), from, &buffer[..count])
-        {
-            desk.put(rt, ticket, event);
+        if let Some((count, from)) = next_datagram(rt, &ends.clients, &mut buffer) {
+            desk.put_datagram(rt, ticket, from, &buffer[..count]);
         }
     }
 }

@@ -22,6 +22,7 @@ mod clock;
 mod datagrams;
 mod desk;
 mod ends;
+mod entrance;
 mod fault;
 mod framed_stream;
 mod moments;

@@ -5,6 +5,7 @@ use crate::clock::pass_time;
 use crate::datagrams::take_datagrams;
 use crate::desk::{Bounds, Desk};
 use crate::ends::Ends;
+use crate::entrance::Entrance;
 use crate::fault::ServeError;
 use crate::moments::Beginning;
 use crate::server_streams::ask_servers;
@@ -23,8 +24,8 @@ use std::thread;
 use std::thread::{Scope, Threads};
 use std::time::Clock;
 
-/// Serves at these ends within these bounds until the flag is up: each ticket is for one loop, by its worker's number. Every loop has ended
-/// when this returns. Where a thread can't be made the flag is put up, and the server is refused with `Threads`.
+/// Serves at these ends within these bounds until the flag is up: each ticket is for one loop, by its worker's number.
+/// Every loop has ended when this returns. Where a thread can't be made the flag is put up, and the server is refused with `Threads`.
 pub fn serve_until<
     M: Machine<Event = Event, Out = Actions> + Send + Sync,
     L: Ledger + Send + Sync,
@@ -43,6 +44,9 @@ pub fn serve_until<
     let Some(beginning) = Beginning::now(rt) else {
         return Err(ServeError::Clock);
     };
+    let Some(entrance) = Entrance::new(alloc, &bounds.seed, bounds.clients) else {
+        return Err(ServeError::Memory);
+    };
     let (to_servers, asks) = crossbeam_channel::unbounded(alloc)?;
     let (to_streams, replies) = crossbeam_channel::unbounded(alloc)?;
     let desk = Desk {
@@ -50,6 +54,7 @@ pub fn serve_until<
         shared,
         ends,
         bounds,
+        entrance: &entrance,
         to_servers: &to_servers,
         asks: &asks,
         to_streams: &to_streams,
