@@ -59,17 +59,13 @@ impl Poller {
         }
     }
 
-    /// Waits for a socket or a notice, for some milliseconds at most. What was handed on before it is to be looked at is
-    /// found by `has_work`: then nothing is waited for.
-    pub fn wait<F: Fn() -> bool>(
-        &self,
-        poll: &mut Poll,
-        events: &mut Events,
-        millis: u64,
-        has_work: F,
-    ) {
+    /// From now on a notice ends the next wait: what was handed on before is to be looked for in between.
+    pub fn expect_notice(&self) {
         self.asleep.store(true, Ordering::SeqCst);
-        let millis = if has_work() { 0 } else { millis };
+    }
+
+    /// Waits for a socket or a notice, for so many milliseconds at most.
+    pub fn wait(&self, poll: &mut Poll, events: &mut Events, millis: u64) {
         let _ = poll.poll(events, Some(Duration::from_millis(millis)));
         self.asleep.store(false, Ordering::SeqCst);
     }

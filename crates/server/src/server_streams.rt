@@ -1,7 +1,7 @@
 //! The loop that asks servers over TCP.
 ghost use Rattle.std.specs.Prelude.{◌≤◌, IfSome, length};
 
-use crate::desk::Desk;
+use crate::desk::{Bounds, Desk};
 use crate::ends::{SLICE_MS, address_of};
 use crate::framed_stream::{FramedStream, MOST_FRAME_BYTES};
 use crate::outbox::StreamAsk;
@@ -83,8 +83,10 @@ pub(crate) fn ask_servers<
         if desk.is_over() {
             return;
         }
-        let millis = if talks.is_empty() { SLICE_MS } else { CHECK_MS };
-        servers.wait(&mut poll, &mut events, millis, || !desk.asks.is_empty());
+        servers.expect_notice();
+        let begins = talks.len() < most_talks(desk.bounds) && !desk.asks.is_empty();
+        let millis = wait_of(&talks, begins);
+        servers.wait(&mut poll, &mut events, millis);
         for event in events.iter() {
             stir(&mut talks, event.token().0);
         }
@@ -97,6 +99,22 @@ pub(crate) fn ask_servers<
         for key in 0..talks.capacity() {
             advance(rt, desk, ticket, &mut talks, key, check, &mut buffer);
         }
+    }
+}
+
+// How many asks are under way at most.
+fn most_talks(bounds: Bounds) -> usize {
+    usize::from(bounds.workers) * ASKS_OF_A_WORKER
+}
+
+// How long is waited, in milliseconds, where another ask can begin at once or not.
+fn wait_of(talks: &Slab<Talk>, begins: bool) -> u64 {
+    if begins {
+        0
+    } else if talks.is_empty() {
+        SLICE_MS
+    } else {
+        CHECK_MS
     }
 }
 
@@ -115,7 +133,7 @@ fn begin_all<M: Machine<Event = Event, Out = Actions>, L: Ledger, R: Net + Wait 
     ticket: &mut Ticket<L>,
     talks: &mut Slab<Talk>,
 ) {
-    let most = usize::from(desk.bounds.workers) * ASKS_OF_A_WORKER;
+    let most = most_talks(desk.bounds);
     for _ in 0..most {
         if talks.len() >= most {
             return;

@@ -41,8 +41,13 @@ pub(crate) fn take_streams<M: Machine<Event = Event, Out = Actions>, L: Ledger, 
         if desk.is_over() {
             return;
         }
-        let millis = wait_of(&places, waits);
-        streams.wait(&mut poll, &mut events, millis, || !desk.replies.is_empty());
+        streams.expect_notice();
+        let millis = if desk.replies.is_empty() {
+            wait_of(&places, waits)
+        } else {
+            0
+        };
+        streams.wait(&mut poll, &mut events, millis);
         for event in events.iter() {
             match event.token().0 {
                 LISTENER => waits = true,

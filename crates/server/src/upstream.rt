@@ -29,7 +29,7 @@ pub(crate) fn take_answers<M: Machine<Event = Event, Out = Actions>, L: Ledger, 
         if desk.is_over() {
             return;
         }
-        asks.poller.wait(&mut poll, &mut events, SLICE_MS, || false);
+        asks.poller.wait(&mut poll, &mut events, SLICE_MS);
         for event in events.iter() {
             take_answer(rt, desk, ticket, event.token().0, &mut buffer);
         }

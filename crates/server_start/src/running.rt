@@ -55,13 +55,5 @@ fn serve_by<
     let Ok((book, tickets)) = Book::<Core, L>::new(alloc, blank, core, LOOPS, KEPT) else {
         return Err(ServeError::Memory);
     };
-    serve_until(
-        rt,
-        alloc,
-        &Shared::new(book),
-        tickets,
-        ends,
-        bounds,
-        stop,
-    )
+    serve_until(rt, alloc, &Shared::new(book), tickets, ends, bounds, stop)
 }
