@@ -7,7 +7,8 @@ use server::Bounds;
 use std::alloc::{Allocator, Global};
 use std::marker::Model;
 
-/// A server that is started and does not run yet: a resolver that has done nothing, and what its file says of its loops.
+/// A server that is started and does not run yet: a resolver that has done nothing, and what its file says of its
+/// loops.
 #[derive(Drop)]
 pub struct Server<A: Allocator = Global> {
     pub(crate) core: Core<A>,

@@ -125,7 +125,7 @@ fn prepare_with<'t, A: Heap, T: Texts, H: Host>(
     }
 }
 
-// What the file says of the loops, and where its hints let servers be asked; more than can be counted is refused as more
+// What the file says of the loops, and where its hints let servers be asked. More than can be counted is refused as more
 // than allowed is.
 fn bounds_of<A: Allocator>(
     config: &ServeConfig<'_, A>,

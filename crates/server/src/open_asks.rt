@@ -85,7 +85,7 @@ impl OpenAsks {
                 moment,
                 bytes,
             };
-            self.put(rt, ask, Poller::watch);
+            self.put(rt, ask, false);
         }
     }
 
@@ -98,16 +98,23 @@ impl OpenAsks {
         datagram_socket()
     }
 
-    // Waits for the replies to an ask from now on. One that can't be waited for is lost.
-    fn put<R: Wait>(&self, rt: &R, ask: OpenAsk, watch: fn(&Poller, i32, usize, Interest) -> bool) {
+    // Waits for the replies to an ask from now on, or, where it was taken out, again. One that can't be waited for is
+    // lost.
+    fn put<R: Wait>(&self, rt: &R, ask: OpenAsk, again: bool) {
         let socket = ask.socket.as_raw_fd();
         let mut open = self.open.lock(rt);
         if open.len() >= self.most {
             close_oldest(&mut open);
         }
-        if let Ok(key) = open.insert(ask)
-            && !watch(&self.poller, socket, key, Interest::READABLE)
-        {
+        let Ok(key) = open.insert(ask) else {
+            return;
+        };
+        let watched = if again {
+            self.poller.watch_again(socket, key, Interest::READABLE)
+        } else {
+            self.poller.watch(socket, key, Interest::READABLE)
+        };
+        if !watched {
             open.try_remove(key);
         }
     }
@@ -121,7 +128,7 @@ impl OpenAsks {
         match self.reply_to(&ask, buffer) {
             Some(count) => Some((count, ask)),
             None => {
-                self.put(rt, ask, Poller::watch_again);
+                self.put(rt, ask, true);
                 None
             }
         }
