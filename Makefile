@@ -36,10 +36,11 @@ hints:
 	tools/hints $(or $(HINTS),/usr/share/dns/root.hints) examples/serve/resolverd.conf examples/dnsdist/one.conf \
 	    examples/dnsdist/two.conf
 
-# How long the libraries' calls take, and the server of the program: docs/TIMES.md has the figures
-# of one machine.
+# How long the libraries' calls take, the dearest steps that strangers can bring about, and the server of the program:
+# docs/TIMES.md has the figures of one machine.
 bench: built
 	cd crates/bench && rt run -- measure
+	cd crates/bench && rt run -- hostile
 	tools/pace
 
 # The gate: every proof, every edit that must fail, every test and every run, and with the proved program the examples

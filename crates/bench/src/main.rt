@@ -1,9 +1,11 @@
 //! `bench`: how long the calls of the libraries take.
 //!
-//! Without words each kind of work (`Work`) is done a few times and its sum printed, the same each time; with the
-//! word `measure` it is done often, and nanoseconds for one time are printed; a step that takes over 1.5 times as long
-//! with 1,024 queries open as with one then makes the status 1. Both print how often one message read or written,
-//! and one answer that is known, asks for memory.
+//! Without words each kind of work (`Work`) is done a few times and its sum printed, the same each time, and what comes
+//! of the dearest single steps that strangers can bring about (`hostile::Hostile`). With the word `measure` work is
+//! done often, and nanoseconds for one time are printed; a step that takes over 1.5 times as long with 1,024 queries
+//! open as with one then makes the status 1. Both print how often one message read or written, and one answer that is
+//! known, asks for memory. With the word `hostile` those steps are measured, and one that takes over 3 milliseconds
+//! makes the status 1.
 //! Nothing is proved of it but that it is safe.
 //!
 //! ```text
@@ -15,6 +17,7 @@ ghost use Rattle.std.specs.Prelude.{◌<◌};
 
 mod answers;
 mod done;
+mod hostile;
 mod links;
 mod made_worlds;
 mod messages;
@@ -33,14 +36,11 @@ use std::io::Write;
 use std::rt::Runtime;
 
 fn main(rt: HostRuntime) -> Result<()> {
-    let measures = env::args(&rt)?
-        .skip(1)
-        .next()
-        .is_some_and(|word| word.as_str() == "measure");
-    if measures {
-        measure_all(&rt)
-    } else {
-        sample_all(&rt)
+    let word = env::args(&rt)?.skip(1).next();
+    match word.as_ref().map_or("", |word| word.as_str()) {
+        "measure" => measure_all(&rt),
+        "hostile" => hostile::measure(&rt),
+        _ => sample_all(&rt),
     }
 }
 
@@ -50,7 +50,8 @@ fn sample_all<R: Runtime + AllocGlobal>(rt: &R) -> Result<()> {
         let sum = work.run(rt, 3)?.sum;
         println!(rt; "{work}: {sum}")?;
     }
-    count_growths(rt)
+    count_growths(rt)?;
+    hostile::sample(rt)
 }
 
 fn measure_all<R: Runtime + AllocGlobal>(rt: &R) -> Result<()> {

@@ -2,7 +2,8 @@
 //!
 //! A query that can't be answered ends with a `Cause`: too many queries are open, its time is over, its CNAME chain
 //! is too long, its asks or its look-ups of servers' addresses are used up, no server is left to ask (one may have
-//! been passed over since it had lately failed to answer), or the reply is too large for TCP. Output lines print `Cause::number`.
+//! been passed over since it had lately failed to answer), or the reply is too large for TCP. Output lines print
+//! `Cause::number`.
 //!
 //! Promised: the number of each. That a cause that is given stands in the run is a law of its own
 //! (`laws::timely_law`, `IsCaused`).

@@ -31,7 +31,8 @@ A reply is printed as a line for its header and one for each of its records.
     tc                       the reply was over 512 bytes, and its records were left out
     cause K                  why SERVFAIL: 1 too many open queries, 2 its time is up, 3 more than eight aliases,
                              4 too many sends, 5 no server is left, 6 the reply is too large,
-                             7 no server is left, and one was passed over that had lately failed to answer
+                             7 no server is left, and one was passed over that had lately failed to answer,
+                             8 look-ups of servers' addresses used up
   an OWNER TTL TYPE DATA     a record of the answer section; ns of the authority section, ar of the additional one
 
 play prints besides:

@@ -3,6 +3,7 @@ use Rattle.std.proofs.Common.{◌≡◌, ℕ, ◌≤◌, true, Option, Some, Lis
 use Rattle.rdata.specs.Types.{type_number}
 use Rattle.wire.specs.declared.via.Via.{Via}
 use Rattle.front.specs.Queries.{IsRequest}
+use Rattle.front.specs.declared.queries.Request.{Request}
 use Rattle.front.specs.declared.queries.Request.TheVariants as request
 use Rattle.front.specs.declared.queries.Query.{Query}
 use Rattle.resolution.specs.Jobs.{Taken}
@@ -16,7 +17,10 @@ use Rattle.laws.proofs.Runs.{run_explained}
 use Rattle.laws.proofs.Failing.{every_failure}
 use Rattle.laws.proofs.Twice.{two_asks}
 use Rattle.laws.specs.Laws.{TicksInOrder}
+use Rattle.runs.proofs.Clocks.{clock_of_run}
 use Rattle.laws.proofs.LookUps.{few_look_ups, look_ups_are_spent}
+use Rattle.laws.specs.Meant.{IsOverAtOnce}
+use Rattle.laws.proofs.Meant.{served_is_meant, at_hand_is_replied, nobody_failing_is_asked, open_is_of_run}
 use Rattle.laws.proofs.Short.{steps_are_short}
 use Rattle.laws.proofs.Discipline.{one_action, one_coming, one_reply, never_again, open_by_run, few_asks, one_line, others_stay, more_at_ticks}
 use Rattle.laws.proofs.Due.{due_in_order}
@@ -48,6 +52,12 @@ module _ (site : Site) (past : List Turn) (old : State) (t : Turn) (new : State)
       reads asks few
       (subst (λ (e : Event). IsHeldChain site.home (moved old e).clock (type_number q.kind) (old.stores).cache q.name chain last) comes held))
 
+  at_hand_here : (now client : ℕ) (way : Via) (bytes : List ℕ) (out : List Action) (asked : Request Plain)
+      → t.event ≡ Client now client way bytes → t.out ≡ Some out → IsRequest bytes asked → IsOverAtOnce client way asked t.served out
+  at_hand_here now client way bytes out asked comes gives reads =
+      at_hand_is_replied site past old now client way bytes t.served out new asked legal
+      (subst (λ (o : Option (List Action)). Step old (Client now client way bytes) t.served o new) gives (subst (λ (e : Event). Step old e t.served t.out new) comes step)) reads
+
   pub keeps : Keeps site past old t new legal step
   keeps = record {
     right = λ W is ours honest. (every_reply_is_right W site (t ∷ past) new is ours (old, legal, step)).0 honest;
@@ -65,6 +75,11 @@ module _ (site : Site) (past : List Turn) (old : State) (t : Turn) (new : State)
     waits = open_by_run site (t ∷ past) new (old, legal, step);
     line = one_line site (t ∷ past) new (old, legal, step);
     words = words_in_order site (t ∷ past) new (old, legal, step);
+    clock = clock_of_run site (t ∷ past) new (old, legal, step);
+    served = served_is_meant site past old t new legal step;
+    at_hand = at_hand_here;
+    free = nobody_failing_is_asked site past old t new legal step;
+    shown = open_is_of_run site (t ∷ past) new (old, legal, step);
     accepted = accepted_is_heard site past old t new legal step;
     tcp = tcp_is_heard site past old t new legal step;
     others = others_stay site past old t new legal step;

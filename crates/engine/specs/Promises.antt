@@ -9,12 +9,14 @@ use Rattle.zone.specs.Links.{Link, Alias}
 use Rattle.message_grammar.specs.Messages.{Message}
 use Rattle.wire.specs.declared.via.Via.{Via}
 use Rattle.front.specs.Queries.{IsRequest}
+use Rattle.front.specs.declared.queries.Request.{Request}
 use Rattle.front.specs.declared.queries.Request.TheVariants as request
 use Rattle.front.specs.declared.queries.Outcome.{Outcome}
 use Rattle.front.specs.declared.queries.Query.{Query}
 use Rattle.rand_chacha.specs.ChaCha.{of_seed}
 use Rattle.classify.specs.Classes as class
 use Rattle.cache.specs.Cached.{lent, hit_of, is_live}
+use Rattle.cache.specs.Failures.{failed_ask, is_failed}
 use Rattle.referral.specs.Cuts.{Cut}
 use Rattle.frames.specs.Frames.{opened, taken_addresses}
 use Rattle.world_truth.specs.Worlds.{World, IsWorld}
@@ -30,7 +32,7 @@ use Rattle.laws.specs.Headline.{IsHomeIn, IsHonest, RepliesAreRight}
 use Rattle.laws.specs.Replies.{RepliesAre}
 use Rattle.laws.specs.Caused.{IsExplained}
 use Rattle.laws.specs.Failures.{IsSpentFor}
-use Rattle.laws.specs.Spent.{HasFailed, SendsTo, Twice}
+use Rattle.laws.specs.Spent.{IsUdpPath, HasFailed, SendsTo, Twice}
 use Rattle.laws.specs.Laws.{GivesOne, IsTick, IsOver, RepliesTo, AreOpenByRun, IsLine, TicksInOrder}
 use Rattle.laws.specs.Times.{CameLately}
 use Rattle.laws.specs.Words.{AreDrawn}
@@ -42,6 +44,7 @@ use Rattle.laws.specs.Calls.{Opening}
 use Rattle.laws.specs.Opens.{Call, step_call, Opens, IsOpenedRightly}
 use Rattle.laws.specs.Looks.{IsKeptSince, IsOnlyLiveEntry}
 use Rattle.laws.specs.LookUps.{look_ups_of, look_ups_by}
+use Rattle.laws.specs.Meant.{IsFor, IsOverAtOnce, IsOfRun}
 use Rattle.laws.specs.Uses.{KeptAnswer}
 
 -- What every run keeps: the steps in `past` led from a new resolver to the state `old`, the step `turn` led on to
@@ -65,6 +68,16 @@ pub record Keeps (site : Site) (past : List Turn) (old : State) (turn : Turn) (n
   pub waits : AreOpenByRun site.port (turn ∷ past) new.queries
   pub line : (p q : Open) (sock : ℕ) (server : Addr) (id : ℕ) → Contains new.queries p → Contains new.queries q → IsLine p sock server id → IsLine q sock server id → p ≡ q
   pub words : (seed : List ℕ) × (n : ℕ) × AreDrawn (of_seed seed) site (turn ∷ past) new (old, legal, step) n
+  -- The clock is the run's. A query is served by what is for it; what is answered at hand is so in its own step; nobody
+  -- is asked who failed lately; and what an open query shows is the run's.
+  pub clock : (new.clock ≡ clock_of (turn ∷ past)) × (new.site ≡ site)
+  pub served : (k : ℕ) → turn.served ≡ OpenQuery k
+      → ((who : ClientQuery) × Came (OpenQuery k) who turn past) ⊎ ((q : Open) × Contains old.queries q × (q.number ≡ k) × IsFor site (moved old turn.event) turn q)
+  pub at_hand : (now client : ℕ) (way : Via) (bytes : List ℕ) (out : List Action) (asked : Request Plain)
+      → turn.event ≡ Client now client way bytes → turn.out ≡ Some out → IsRequest bytes asked → IsOverAtOnce client way asked turn.served out
+  pub free : (q : Open) → Contains new.queries q → turn.served ≡ OpenQuery q.number → IsUdpPath (q.ask).path
+      → is_failed (moved old turn.event).clock (failed_ask (q.ask).name (q.ask).kind (q.ask).server) (new.stores).failures ≡ false
+  pub shown : (q : Open) → Contains new.queries q → IsOfRun site (turn ∷ past) new (old, legal, step) q
   -- What is accepted is heard, and changes no other query; what is due is served in order, and nothing is late.
   pub accepted : (q : Open) (m : Message) → Contains old.queries q → Brings site.port q.ask turn.event m → turn.served ≡ OpenQuery q.number
   pub tcp : (q : Open) (number : ℕ) → Contains old.queries q → IsOfNumber number q → IsForTcp number turn.event → turn.served ≡ OpenQuery q.number

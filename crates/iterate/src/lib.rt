@@ -9,7 +9,7 @@
 //!
 //! Promised: each call is one by the rules of `resolution` (`Advances`); where memory is wanting the stores have
 //! nothing new but what was accepted, and have lost nothing but what one keep of that pushes out (`Stops`). At most
-//! 40 asks, eight aliases, and look-ups of servers' addresses three deep.
+//! 40 asks, 64 look-ups of servers' names, which are three deep, and eight aliases.
 //! Not here: which message is a reply (`events`), identifiers, sockets and many queries at once (`engine`).
 //!
 //! ```text

@@ -21,6 +21,7 @@ pub mod Later
 pub mod Learnt
 pub mod Leaving
 pub mod LookUps
+pub mod Meant
 pub mod Near
 pub mod Opened
 pub mod Opens

@@ -1,5 +1,5 @@
 -- Turns of servers' names are counted, and no query has more than 64.
-use Rattle.std.proofs.Common.{◌≡◌, ℕ, zero, suc, ◌+◌, ◌≤◌, ◌⊎◌, inl, inr, Bool, true, false, cond, Option, Some, None, List, [], ◌∷◌, Contains, refl, sym, ap, ◌∙◌, subst, arith}
+use Rattle.std.proofs.Common.{◌≡◌, ℕ, zero, suc, ◌+◌, ◌≤◌, ◌<◌, ◌⊎◌, inl, inr, Bool, true, false, cond, Option, Some, None, List, [], ◌∷◌, Contains, refl, sym, ap, ◌∙◌, subst, arith}
 use Rattle.lru.proofs.Splits.{Contains-nil}
 use Rattle.lru_laws.proofs.Kept.{by_test}
 use Rattle.rdata.specs.declared.addr.Addr.{Addr}
@@ -17,7 +17,7 @@ use Rattle.laws.specs.Opens.{Call, step_call}
 use Rattle.laws.specs.LookUps.{rule_look_ups, rules_look_ups, call_look_ups, step_look_ups, look_ups_of, look_ups_by, FewLookUps, LookUpsAreSpent, HasLookedUp}
 use Rattle.laws.proofs.OrderlyLists.{is_for_it, is_for_other, is_for_true}
 use Rattle.laws.proofs.Orders.{IsStep, one_step, run_orderly}
-use Rattle.laws.proofs.Served.{IsNewJob, IsJobOf, BeginsWith, IsCallOf, step_calls}
+use Rattle.laws.proofs.Served.{IsNewJob, IsJobOf, BeginsWith, is_ask, IsCallOf, step_calls}
 
 -- ---- one call
 
@@ -171,7 +171,7 @@ module _ (site : Site) (past : List Turn) (t : Turn) (old new : State) (legal : 
   few_it k e = by (step_call old t new step) (step_calls old t new step)
     where
       by : (o : Option (Call (moved old t.event))) → IsCallOf (moved old t.event) t.served new o → call_look_ups (moved old t.event) o + was k ≤ 64
-      by None h = before.few k
+      by None h = let few = before.few k in omega (arith, few)
       by (Some call) h =
           let same = begins_counted t.served k call.old e h.0 in
           let le : (call.old).look_ups ≤ 64 = subst (λ (n : ℕ). n ≤ 64) (sym same) (before.few k) in
@@ -184,9 +184,9 @@ module _ (site : Site) (past : List Turn) (t : Turn) (old new : State) (legal : 
       by : (o : Option (Call (moved old t.event))) → IsCallOf (moved old t.event) t.served new o → (q.job).look_ups ≡ call_look_ups (moved old t.event) o + was q.number
       by None h = absurd (h q c e)
       by (Some call) h =
-          let (asking, job) = h.1 q c e in
+          let after = h.1 q c e in
           let same = begins_counted t.served q.number call.old e h.0 in
-          let left = ap counter job ∙ call_leaves (moved old t.event) call asking in
+          let left = ap counter after.job_is ∙ call_leaves (moved old t.event) call (is_ask (moved old t.event).clock call.new call.next q after.asks) in
           omega (arith, same, left)
 
   number_below : (k : ℕ) → t.served ≡ OpenQuery k → new.opened ≤ k → ⊥

@@ -6,9 +6,9 @@ use Rattle.rdata.specs.declared.addr.Addr.{Addr}
 use Rattle.zone.specs.Links.{Link}
 use Rattle.classify.specs.Classes as class
 use Rattle.classify.specs.Classes.{class_of}
-use Rattle.frames.specs.Frames.{Frame, Failed, after_add}
+use Rattle.frames.specs.Frames.{Frame, Failed, opened, after_add}
 use Rattle.frames.proofs.Places.{name_shallow}
-use Rattle.resolution.specs.Jobs.{Home, Stores, with_told, Taken, Search, Job, Input, Start, Told, TimedOut, TcpFailed, Next, Point}
+use Rattle.resolution.specs.Jobs.{Home, Stores, level_of, with_frame, given, with_told, Taken, Search, Job, Input, Start, Told, TimedOut, TcpFailed, Next, Point}
 use Rattle.resolution.specs.Rules.{UsesServerAddress, turned, Rule, takes, asks, follows, restarts, skips, hears, descends, gives_up, Rules, IsAnswered, ByClass, Enters, Leaves, sends, sends_again, refuses, spent, looked_out, nowhere, too_long, done}
 use Rattle.resolution.proofs.Falls.{rules_end}
 use Rattle.resolution.proofs.Passing.{passes_keep}
@@ -18,7 +18,7 @@ use Rattle.runs.specs.Runs.{Run}
 use Rattle.laws.specs.Opens.{Call, step_call}
 use Rattle.laws.specs.LookUps.{StepsAreShort}
 use Rattle.laws.proofs.Orders.{IsStep, one_step, run_orderly}
-use Rattle.laws.proofs.Served.{IsNewJob, IsJobOf, BeginsWith, IsCallOf, step_calls}
+use Rattle.laws.proofs.Served.{IsNewJob, IsJobOf, BeginsWith, is_ask, IsCallOf, step_calls}
 
 -- ---- searches, one within another
 
@@ -30,7 +30,7 @@ pub record IsShort (j : Job) : Type 0 where
   pub few : length j.chain ≤ 8
   pub nested : AreNested j.searches
 
-four_at_most : (ss : List Search) → AreNested ss → length ss ≤ 4
+pub four_at_most : (ss : List Search) → AreNested ss → length ss ≤ 4
 four_at_most [] h = omega arith
 four_at_most (s ∷ rest) (is, le, more) = omega (arith, is, le)
 
@@ -105,7 +105,8 @@ class_short : (now : ℕ) (server : Addr) (s : Search) (rest : List Search) (c :
     → IsShort j → IsShort p.job
 class_short now server s rest (class.Answer l) j stores p searches is h = answered_short now s rest l j stores p searches is h
 class_short now server s rest (class.Referral at ns glue ttl) j stores p searches is h =
-    short_as _ p.job is.job (record { few = h.few; nested = nested_as s _ rest refl (subst AreNested searches h.nested) })
+    let again : Search = with_frame s (opened (level_of stores) (s.frame).nesting is.cut) in
+    short_as _ p.job is.job (record { few = h.few; nested = nested_as s again rest refl (subst AreNested searches h.nested) })
 class_short now server s rest class.Truncated j stores p searches is h = short_as j p.job (ap (λ (x : Point). x.job) is) h
 class_short now server s rest (class.Failed f) j stores p searches is h = short_as j p.job (ap (λ (x : Point). x.job) is) h
 
@@ -118,7 +119,7 @@ enters_short now (TimedOut server) j stores p is h = short_as j p.job (ap (λ (x
 enters_short now (TcpFailed server) j stores p is h = short_as j p.job (ap (λ (x : Point). x.job) is) h
 
 asks_short : (home : Home) (now : ℕ) (p : Point) (next : Next) (new : Job) (after : Stores) → Leaves home now p next new after → IsAsk next → IsShort p.job → IsShort new
-asks_short home now p next new after (sends x s others is may n j e) asking h = short_as _ new j (record { few = h.few; nested = nested_as s _ others refl (subst AreNested is.searches h.nested) })
+asks_short home now p next new after (sends x s others is may n j e) asking h = short_as _ new j (record { few = h.few; nested = nested_as s (given s) others refl (subst AreNested is.searches h.nested) })
 asks_short home now p next new after (sends_again x s others is may n j e) asking h = short_as _ new j (record { few = h.few; nested = h.nested })
 asks_short home now p next new after (refuses c x y others is refused n e) asking h = absurd (subst IsAsk n asking)
 asks_short home now p next new after (spent x t up n e) asking h = absurd (subst IsAsk n asking)
@@ -135,7 +136,7 @@ call_short s call asking h =
 
 -- ---- runs
 
-abbrev AreShort : State → Type 0
+abbrev pub AreShort : State → Type 0
 AreShort s = (q : Open) → Contains s.queries q → IsShort q.job
 
 new_short : (j : Job) → IsNewJob j → IsShort j
@@ -147,21 +148,21 @@ begins_short s Own j all h = new_short j h
 begins_short s (OpenQuery k) j all (inl (p, there, number, is)) = short_as p.job j is (all p there)
 begins_short s (OpenQuery k) j all (inr (number, fresh)) = new_short j fresh
 
-run_short : (site : Site) (run : List Turn) (s : State) → Run site run s → AreShort s
+pub run_short : (site : Site) (run : List Turn) (s : State) → Run site run s → AreShort s
 run_short site [] s new = λ q c. absurd (Contains-nil q (subst (λ (l : List Open). Contains l q) new.queries c))
-run_short site (t ∷ past) s (old, legal, step) = λ q c. elim (is.from_old q c) [ inl d ↦ before q d.0 | inr d ↦ by q c d.0 (step_call old t s step) (step_calls old t s step) ]
+run_short site (t ∷ past) s (old, legal, step) = on (run_short site past old legal)
   where
-    before : AreShort old
-    before = run_short site past old legal
-
     is : IsStep site.port t old s
     is = one_step site past t old s legal step (run_orderly site past old legal).below
 
-    by : (q : Open) → Contains s.queries q → t.served ≡ OpenQuery q.number → (o : Option (Call (moved old t.event))) → IsCallOf (moved old t.event) t.served s o → IsShort q.job
-    by q c e None h = absurd (h q c e)
-    by q c e (Some call) h =
-        let (asking, job) = h.1 q c e in
-        short_as call.new q.job job (call_short (moved old t.event) call asking (begins_short (moved old t.event) t.served call.old before h.0))
+    by : AreShort old → (q : Open) → Contains s.queries q → t.served ≡ OpenQuery q.number → (o : Option (Call (moved old t.event))) → IsCallOf (moved old t.event) t.served s o → IsShort q.job
+    by before q c e None h = absurd (h q c e)
+    by before q c e (Some call) h =
+        let after = h.1 q c e in
+        short_as call.new q.job after.job_is (call_short (moved old t.event) call (is_ask (moved old t.event).clock call.new call.next q after.asks) (begins_short (moved old t.event) t.served call.old before h.0))
+
+    on : AreShort old → AreShort s
+    on before q c = elim (is.from_old q c) [ inl d ↦ before q d.0 | inr d ↦ by before q c d.0 (step_call old t s step) (step_calls old t s step) ]
 
 pub steps_are_short : StepsAreShort
 steps_are_short site past old t new legal step call made =

@@ -15,7 +15,7 @@ use Rattle.frames.proofs.Marks.{marked_only}
 use Rattle.frames.specs.Trimmed.{trimmed}
 use Rattle.frames.proofs.Steps.{added_there}
 use Rattle.frames.proofs.Trims.{trimmed_opens}
-use Rattle.resolution.specs.Jobs.{Home, Stores, level_of, IsCutOf, IsRootCut, Search, search_at, ask_of, fails_now, Job, Task, Seek, Take, Go, Again, Point}
+use Rattle.resolution.specs.Jobs.{Home, Stores, level_of, IsCutOf, IsRootCut, Search, search_at, ask_of, fails_now, Job, looked_up, Task, Seek, Take, Go, Again, Point}
 use Rattle.resolution.specs.Rules.{Says, Begins, Misses, UsesServerAddress, turned, Rule, takes, asks, follows, restarts, skips, hears, descends, gives_up, Rules}
 use Rattle.resolution.proofs.Passing.{passes_first, passes_keep, passes_name, passes_members}
 use Rattle.runs.specs.States.{Turn}
@@ -178,7 +178,7 @@ module _ (port : ℕ) (home : Home) (k : ℕ) (run : List Turn) (K : Name → �
       (λ e. (s.name, s.kind, server, known server fails))
   rule_keeps now lately a b h (hears before after rest n l marks task turn finds hears_of to job) =
       let here = at_go a h task before rest turn.searches in
-      heard_at b n l.link (turned (a.job).failed before) after rest a.job marks (found_told port home run now n a_type a.stores b.stores l h.told finds)
+      heard_at b n l.link (turned (a.job).failed before) after rest (looked_up a.job) marks (found_told port home run now n a_type a.stores b.stores l h.told finds)
       (λ set e. found_set port home run now n a.stores b.stores l set h.told finds e) (λ none. found_none port home run now n a.stores b.stores l h.told finds none)
       (waits port home k run (Passed (a.job).skipped K) (a.job).failed before n h.marks here.0 turn.asked_all turn.turn) here.1 h.marks hears_of to job h.known
   rule_keeps now lately a b h (descends s rest n c task turn misses to job) =

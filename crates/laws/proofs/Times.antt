@@ -17,12 +17,12 @@ IsDatedBy k deadline u before = ((who : ClientQuery) × Came (OpenQuery k) who u
 abbrev AreDated : List Turn → State → Type 0
 AreDated run s = (q : Open) → Contains s.queries q → Earlier (IsDatedBy q.number (q.job).deadline) run
 
-along : (P Q : Turn → List Turn → Type 0) → ((u : Turn) (before : List Turn) → P u before → Q u before) → (run : List Turn) → Earlier P run → Earlier Q run
+pub along : (P Q : Turn → List Turn → Type 0) → ((u : Turn) (before : List Turn) → P u before → Q u before) → (run : List Turn) → Earlier P run → Earlier Q run
 along P Q f [] e = e
 along P Q f (t ∷ past) (inl h) = inl (f t past h)
 along P Q f (t ∷ past) (inr e) = inr (along P Q f past e)
 
-clock_then : (site : Site) (past : List Turn) (t : Turn) (old : State) → Run site past old → (moved old t.event).clock ≡ clock_of (t ∷ past)
+pub clock_then : (site : Site) (past : List Turn) (t : Turn) (old : State) → Run site past old → (moved old t.event).clock ≡ clock_of (t ∷ past)
 clock_then site past t old legal = ap (λ (n : ℕ). max n (moment t.event)) (clock_of_run site past old legal).0
 
 dated_by : (past : List Turn) (t : Turn) (old : State) → (moved old t.event).clock ≡ clock_of (t ∷ past) → AreDated past old → (q : Open) → t.served ≡ OpenQuery q.number → IsDated (moved old t.event) t.event q

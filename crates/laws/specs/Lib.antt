@@ -15,4 +15,5 @@ pub mod Held
 pub mod Opens
 pub mod Looks
 pub mod LookUps
+pub mod Meant
 pub mod Uses

@@ -2,6 +2,7 @@
 
 ghost use Rattle.laws.specs.Laws.{OneAction, MoreDueAtTicks, NeverAgain, OneReply, OneComing, OpenByRun, FewAsks, OneLine, OthersStay, DueInOrder};
 ghost use Rattle.laws.specs.LookUps.{FewLookUps, LookUpsAreSpent, StepsAreShort};
+ghost use Rattle.laws.specs.Meant.{ServedIsMeant, AtHandIsReplied, NobodyFailingIsAsked, OpenIsOfRun};
 ghost use Rattle.laws.specs.Times.{NothingIsLate};
 ghost use Rattle.laws.specs.Words.{WordsInOrder};
 
@@ -21,6 +22,18 @@ pub fn discipline_law()
     ensures looked_out { LookUpsAreSpent }
     ensures short { StepsAreShort }
     ensures line { OneLine }
+{}
+
+/// Over every run: a query is served by its own coming, by a message that is accepted for its open ask, by the end of its
+/// ask over TCP, or by a tick when it is due, and in no other step; what is dropped, refused, or asked without RD is over
+/// in its own step; over UDP nobody is asked who failed lately to answer the same (RFC 2308, section 7.1); and what an
+/// open query shows is the run's: its client, its deadline and the end of its ask's wait, its type, its chain, and how
+/// many asks and look-ups there were.
+pub fn meant_law()
+    ensures served { ServedIsMeant }
+    ensures at_hand { AtHandIsReplied }
+    ensures free { NobodyFailingIsAsked }
+    ensures shown { OpenIsOfRun }
 {}
 
 /// An event changes no open query but the one that it serves.

@@ -28,8 +28,8 @@ pub fn cut_of<A: Heap>(
 fn put_found<A: Heap>(found: &mut Vec<Addr, A>, given: &RData<A>) -> Result<(), Starved>
     ensures { OnOk result (map bytes_of found.new.items ≡ map bytes_of found.old.items ++ cond (nat_lt (length found.old.items) most_taken) (ipv4_of (datum given.now)) []) }
 {
-    if let RData::A(address) = given
-        && found.len() < MAX_SERVERS
+    if found.len() < MAX_SERVERS
+        && let RData::A(address) = given
     {
         found.push(*address)?;
     }

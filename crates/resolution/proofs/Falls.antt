@@ -1,6 +1,7 @@
 -- The rules end: a measure of points that each rule lets fall.
 use Rattle.std.proofs.Common.{◌≡◌, ℕ, zero, suc, ◌+◌, ◌-◌, ◌*◌, ◌≤◌, ◌<◌, Bool, true, false, cond, nat_eq, nat_le, nat_lt, inl, inr, Option, Some, None, List, [], ◌∷◌, ◌++◌, length, refl, sym, ◌∙◌, ap, subst, arith}
 use Rattle.std.proofs.lemmas.Bool.{ltb-true, lt-leb}
+use Rattle.dname.specs.Labels.{Name}
 use Rattle.rdata.specs.declared.addr.Addr.{Addr}
 use Rattle.retry.specs.Plans.{upcoming}
 use Rattle.cache.specs.Cached.{Hit}
@@ -9,7 +10,7 @@ use Rattle.frames.specs.Frames.{opened}
 use Rattle.classify.specs.Classes as class
 use Rattle.classify.specs.Classes.{class_of}
 use Rattle.zone.specs.Zones.{a_type}
-use Rattle.resolution.specs.Jobs.{Home, Stores, Taken, is_dead, IsDead, AreFresh, Search, search_at, with_frame, ask_of, fails_now, Job, Input, Start, Told, TimedOut, TcpFailed, Task, Seek, Take, Go, Again, IsFreshTask, Point, level_of}
+use Rattle.resolution.specs.Jobs.{Home, Stores, Taken, received_link, is_dead, IsDead, AreFresh, Search, search_at, with_frame, ask_of, fails_now, Job, Input, Start, Told, TimedOut, TcpFailed, Task, Seek, Take, Go, Again, IsFreshTask, Point, level_of}
 use Rattle.resolution.specs.Rules.{Finds, Hits, UsesServerAddress, turned, PassesOver, IsFree, Rule, takes, asks, follows, restarts, skips, hears, descends, gives_up, Rules, ByClass, Enters}
 use Rattle.resolution.specs.Laws.{RulesEnd}
 use Rattle.resolution.proofs.Passing.{passes_fails, passes_first, found_failures, missed_failures}
@@ -252,7 +253,7 @@ fewer_searches chain n m le = omega (arith, le)
 class_most : (now : ℕ) (server : Addr) (s : Search) (rest : List Search) (c : class.Class) (j : Job) (stores : Stores) (p : Point) → j.searches ≡ s ∷ rest → ByClass now server s rest c j stores p
     → measure now p ≤ most_by (length j.chain) (length j.searches)
 class_most now server s [] (class.Answer l) j stores p searches (task, job, learnt) =
-    at_most now p _ _ _ task job (take_most now (record j { searches = [] }) _ (p.stores).failures (length j.searches))
+    at_most now p _ _ _ task job (take_most now (record j { searches = [] }) (received_link s.name l now) (p.stores).failures (length j.searches))
 class_most now server s (around ∷ rest) (class.Answer l) j stores p searches (after, marks, task, learnt, heard, job) =
     let long : length j.searches ≡ suc (suc (length rest)) = ap (λ (ss : List Search). length ss) searches in
     let le = go_most now (record j { searches = after ∷ rest; failed = marks }) (p.stores).failures (length j.chain) in

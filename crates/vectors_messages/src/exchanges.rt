@@ -191,7 +191,7 @@ fn put_found(alloc: Global, query: &Query, set: RecordSet, via: Via, out: &mut S
     }
 }
 
-const CAUSES: [Cause; 7] = [
+const CAUSES: [Cause; 8] = [
     Cause::TooManyOpen,
     Cause::DeadlineOver,
     Cause::ChainTooLong,
@@ -199,6 +199,7 @@ const CAUSES: [Cause; 7] = [
     Cause::NoServerLeft,
     Cause::ReplyTooLarge,
     Cause::KnownFailure,
+    Cause::TooManyLookUps,
 ];
 
 // The cause of that number, and none for 0.

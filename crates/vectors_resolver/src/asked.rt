@@ -1,7 +1,8 @@
 //! Rows about one query and what was learnt. `zone ORIGIN HINT : RECORDS` says what every later `resolver ROOM` has at
 //! hand, with its one server of the root. `learn NAME AT : RECORDS` and `learn-cut CUT TTL AT : RECORDS` tell it
 //! something, and `seek NAME TYPE AT` shows what it knows; `late-server SERVER`, `prompt-server SERVER`, `open CUT :
-//! RECORDS` and `join : RECORDS` are of whom a frame asks next, and `accepted NAME AT LATER : RECORD` of a link alone.
+//! RECORDS` and `join : RECORDS` are of whom a frame asks next, `found : RECORDS` shows which addresses a look-up of
+//! a server's name takes, and `accepted NAME AT LATER : RECORD` is of a link alone.
 //! `query NAME TYPE AT`, `reply SERVER AT FLAG .. : SECTION RECORD ; ..`, `time-out SERVER AT` and `tcp-failed SERVER
 //! AT` are the work on one query; `until-failure` before one of them does it again until the query fails.
 ghost use Rattle.std.specs.Prelude.{◌<◌, ◌+◌, ◌^◌};
@@ -179,6 +180,15 @@ fn show_accepted(row: &mut Row<'_>, out: &mut String) -> Result<(), LineKind> {
     let taken = Taken::accepted(name, link, now);
     put_taken(out, &taken, later)?;
     put_name(out, taken)
+}
+
+fn show_found(row: &mut Row<'_>, out: &mut String) -> Result<(), LineKind> {
+    let set = row.set()?;
+    let found = found_addresses(row.alloc, &set)?;
+    for address in found.as_slice() {
+        writeln!(out, "{address}")?;
+    }
+    Ok(())
 }
 
 fn put_name(out: &mut String, taken: Taken) -> Result<(), LineKind> {
@@ -378,6 +388,7 @@ impl Resolvers {
             "zone" => self.hold(row),
             "resolver" => self.start(row),
             "accepted" => show_accepted(row, out),
+            "found" => show_found(row, out),
             _ => self.asked()?.perform(row, out),
         }
     }

@@ -22,4 +22,4 @@ returns-in_ok-sought-in-Ok-Start-clause-rule g c = λ before up next is.
     let cut = c.in-Ok-Start.cut in
     let misses = misses_at c.args.home.now c.args.now c.args.name c.args.name a_type a_type c.args.stores.now c.in-Ok-Start.field-0 c.find.new.stores refl refl c.in-Ok-Start.ensures.found cut c.in-Ok-Start.field-0-is in
     descends before c.args.job.now.searches c.args.name cut refl (record { searches = refl; asked_all = up; turn = next; few = c.requires.few }) misses refl
-    (c.count_look_up.ensures ∙ ap looked_up (c.in_ok-sought-in-Ok-Start.ensures ∙ (λ i. with_search (with_search c.args.job.now (is i)) (search_at c.args.name a_type (opened (level_of c.find.new.stores) (((is i).frame).nesting + 1) cut)))))
+    (c.count_look_up-in-Ok-Start.ensures ∙ ap looked_up (c.in_ok-sought-in-Ok-Start.ensures ∙ (λ i. with_search (with_search c.args.job.now (is i)) (search_at c.args.name a_type (opened (level_of c.find.new.stores) (((is i).frame).nesting + 1) cut)))))

@@ -1,0 +1,191 @@
+//! Delegations whose servers are named in other zones: what a resolver has learnt of them.
+use crate::hostile::bytes::{
+    A_TYPE, NS_TYPE, QUESTION, pointer, put_label, put_middle, put_root_soa,
+};
+use crate::hostile::talk::{Says, Talk};
+use dname::{Heap, Starved};
+
+/// How many addresses of a server's name are cached, where they are many.
+pub const ADDRESSES: u16 = 4_000;
+
+// Sixteen names: a front, a number from `from` on, and an end.
+fn sixteen<H: Heap>(
+    alloc: H,
+    front: &str,
+    from: u16,
+    end: &str,
+) -> Result<Vec<String<H>, H>, Starved> {
+    let mut names = Vec::new(alloc);
+    for n in 0..16u16 {
+        let number = from.saturating_add(n);
+        let mut name = String::new(alloc);
+        write!(name, "{front}{number}{end}")?;
+        names.push(name)?;
+    }
+    Ok(names)
+}
+
+fn numbered<H: Heap>(alloc: H, front: &str, number: u16) -> Result<String<H>, Starved> {
+    let mut name = String::new(alloc);
+    write!(name, "{front}{number}")?;
+    Ok(name)
+}
+
+/// The servers of `a.` are named in sixteen zones, those of each of these in sixteen others, and those of all 256 in
+/// `d0.`, whose one server has no address: 274 delegations.
+pub fn learn_tree<H: Heap>(talk: &mut Talk<H>) -> Result<(), Starved> {
+    let heap = talk.heap();
+    let mut own = Vec::new(heap);
+    own.push(numbered(heap, "ns.d", 0)?)?;
+    talk.delegate("d0", &own)?;
+    for c in 0..256u16 {
+        let mut end = String::new(heap);
+        write!(end, "c{c}.d0")?;
+        let zone = numbered(heap, "c", c)?;
+        talk.delegate(zone.as_str(), &sixteen(heap, "s", 0, end.as_str())?)?;
+    }
+    for b in 0..16u16 {
+        let zone = numbered(heap, "b", b)?;
+        talk.delegate(
+            zone.as_str(),
+            &sixteen(heap, "s.c", b.saturating_mul(16), "")?,
+        )?;
+    }
+    talk.delegate("a", &sixteen(heap, "s.b", 0, "")?)
+}
+
+// Four zones, whose names end with a number, and the zone e. whose four servers are named in them.
+fn learn_four<H: Heap>(talk: &mut Talk<H>) -> Result<(), Starved> {
+    let heap = talk.heap();
+    let mut servers = Vec::new(heap);
+    for z in 0..4u16 {
+        servers.push(numbered(heap, "ns.z", z)?)?;
+    }
+    talk.delegate("e", &servers)
+}
+
+/// The addresses 10.9.0.0, 10.9.0.1 and so on, of the name that is asked for.
+pub fn many_addresses<H: Heap>(alloc: H) -> Result<Vec<u8, H>, Starved> {
+    let mut records = Vec::new(alloc);
+    for n in 0..ADDRESSES {
+        let [high, low] = n.to_be_bytes();
+        records.extend_from_slice(&QUESTION)?;
+        put_middle(&mut records, A_TYPE, 4)?;
+        records.extend_from_slice(&[10, 9, high, low])?;
+    }
+    Ok(records)
+}
+
+/// Sixteen names of servers have 4,000 addresses each, the same ones. The servers of four zones have these names, and
+/// those of `e.` are named in the four. All that are asked for what is sought in these zones failed to answer it.
+pub fn learn_many_addresses<H: Heap>(talk: &mut Talk<H>) -> Result<(), Starved> {
+    let heap = talk.heap();
+    let records = many_addresses(heap)?;
+    let names = sixteen(heap, "n", 0, "")?;
+    for name in &names {
+        talk.ask(name.as_str(), A_TYPE)?;
+        talk.tell_by_tcp(Says::answer(ADDRESSES, &records))?;
+    }
+    for z in 0..4u16 {
+        let zone = numbered(heap, "z", z)?;
+        talk.delegate(zone.as_str(), &names)?;
+    }
+    learn_four(talk)?;
+    talk.fail_all()?;
+    for _ in 0..3 {
+        talk.ask("x.e", A_TYPE)?;
+        talk.fail_all()?;
+    }
+    Ok(())
+}
+
+/// A name of 127 labels, one of 1,296.
+pub fn long_name<H: Heap>(alloc: H, number: u16) -> Result<String<H>, Starved> {
+    let mut name = String::new(alloc);
+    for _ in 0..125 {
+        name.push_str("a.")?;
+    }
+    write!(name, "{}.{}", letter(number / 36), letter(number % 36))?;
+    Ok(name)
+}
+
+fn letter(number: u16) -> char {
+    char::from_digit(u32::from(number % 36), 36).unwrap_or('0')
+}
+
+fn long_names<H: Heap>(alloc: H, from: u16, count: u16) -> Result<Vec<String<H>, H>, Starved> {
+    let mut names = Vec::new(alloc);
+    for n in 0..count {
+        names.push(long_name(alloc, from.saturating_add(n))?)?;
+    }
+    Ok(names)
+}
+
+/// Cache and delegations are full: of names of 127 labels that do not exist, and of zones without a server. The last 64
+/// of these names are those of the servers of four zones, and those of `e.` are named in the four.
+pub fn learn_long_names<H: Heap>(talk: &mut Talk<H>) -> Result<(), Starved> {
+    let heap = talk.heap();
+    let mut soa = Vec::new(heap);
+    put_root_soa(&mut soa)?;
+    for name in &long_names(heap, 0, 1_024)? {
+        talk.ask(name.as_str(), A_TYPE)?;
+        talk.tell(Says::name_error(&soa))?;
+    }
+    for server in &long_names(heap, 0, 1_024)? {
+        learn_long_zone(talk, server)?;
+    }
+    for z in 0..4u16 {
+        let zone = numbered(heap, "z", z)?;
+        talk.delegate(
+            zone.as_str(),
+            &long_names(heap, 960u16.saturating_add(z.saturating_mul(16)), 16)?,
+        )?;
+    }
+    learn_four(talk)
+}
+
+// The zone of 126 labels that this server's name stands in, which names no other.
+fn learn_long_zone<H: Heap>(talk: &mut Talk<H>, server: &String<H>) -> Result<(), Starved> {
+    let mut own = Vec::new(talk.heap());
+    own.push(server.clone()?)?;
+    talk.delegate(server.as_str().get(2..).unwrap_or(""), &own)
+}
+
+/// How many servers the large referral has.
+pub const SERVERS: u16 = 3_600;
+
+/// The records of a referral of 3,600 servers, whose names have 250 bytes: the first one stands in full, the others end
+/// with it. The zone is that of the question's last label, before which one of a byte stands.
+pub fn many_servers<H: Heap>(talk: &Talk<H>) -> Result<Vec<u8, H>, Starved> {
+    let mut records = Vec::new(talk.heap());
+    let data = talk.question_size().saturating_add(24);
+    for n in 0..SERVERS {
+        records.extend_from_slice(&pointer(14))?;
+        if n == 0 {
+            put_middle(&mut records, NS_TYPE, 253)?;
+            put_long_server(&mut records)?;
+        } else {
+            put_middle(&mut records, NS_TYPE, 6)?;
+            put_label(&mut records, &digits(n))?;
+            records.extend_from_slice(&pointer(data.saturating_add(4)))?;
+        }
+    }
+    Ok(records)
+}
+
+// 63 labels of three bytes: 253 bytes.
+fn put_long_server<H: Heap>(out: &mut Vec<u8, H>) -> Result<(), Starved> {
+    for _ in 0..63 {
+        put_label(out, b"zzz")?;
+    }
+    out.push(0)?;
+    Ok(())
+}
+
+fn digits(number: u16) -> [u8; 3] {
+    [digit(number / 1_296), digit(number / 36), digit(number)]
+}
+
+fn digit(number: u16) -> u8 {
+    u8::try_from(letter(number)).unwrap_or(b'0')
+}

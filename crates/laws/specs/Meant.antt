@@ -1,0 +1,81 @@
+-- Whom a step serves and whom it asks, and what an open query shows of the run.
+use Rattle.std.specs.Prelude.{◌≡◌, ℕ, ◌+◌, ◌≤◌, ◌⊎◌, true, false, Option, Some, None, List, [], ◌∷◌, length, Contains}
+use Rattle.limits.specs.Limits.{max_aliases, max_look_ups, query_lifetime, tcp_wait}
+use Rattle.rdata.specs.Records.{Record}
+use Rattle.rdata.specs.Types.{type_number}
+use Rattle.message_grammar.specs.Messages.{Message}
+use Rattle.wire.specs.declared.via.Via.{Via}
+use Rattle.front.specs.Queries.{IsRequest}
+use Rattle.front.specs.declared.queries.Request.{Request}
+use Rattle.front.specs.declared.queries.Request.TheVariants as request
+use Rattle.front.specs.declared.queries.Outcome.{Outcome}
+use Rattle.cache.specs.Failures.{failed_ask, is_failed}
+use Rattle.runs.specs.States.{Client, Tick, Action, Served, Own, OpenQuery, Turn, Plain, ClientQuery, client_query, recursive, Open, due_moment, Site, State, moved}
+use Rattle.runs.specs.Messages.{Brings, IsReply, IsRefusal}
+use Rattle.runs.specs.Steps.{IsMeant, IsOfNumber, Step}
+use Rattle.runs.specs.Runs.{Run, Earlier, Came, clock_of, asks_of}
+use Rattle.runs.specs.Laws.{IsForTcp}
+use Rattle.laws.specs.Spent.{IsUdpPath, AcceptedAliasesLead}
+use Rattle.laws.specs.LookUps.{look_ups_of}
+
+-- ---- whom a step serves
+
+-- Why an event is for an open query: it brings a message that its ask accepts; it is the end of its ask over TCP; it is a
+-- tick, and the query is due. Where memory was wanting: it names the query's ask.
+abbrev pub IsFor : Site → State → Turn → Open → Type 0
+IsFor site s t q =
+    ((m : Message) × Brings site.port q.ask t.event m)
+    ⊎ (((number : ℕ) × IsOfNumber number q × IsForTcp number t.event)
+    ⊎ (((now : ℕ) × (t.event ≡ Tick now) × (due_moment q ≤ s.clock)) ⊎ ((t.out ≡ None) × IsMeant s t.event q)))
+
+-- A query is served under its number where it comes, or where the event is for it, and in no other step.
+abbrev pub ServedIsMeant : Type 0
+ServedIsMeant =
+    (site : Site) (past : List Turn) (old : State) (t : Turn) (new : State) → Run site past old → Step old t.event t.served t.out new → (k : ℕ) → t.served ≡ OpenQuery k
+    → ((who : ClientQuery) × Came (OpenQuery k) who t past) ⊎ ((q : Open) × Contains old.queries q × (q.number ≡ k) × IsFor site (moved old t.event) t q)
+
+-- What is dropped, refused, or asked without RD is over in its own step, with its one reply.
+abbrev pub IsOverAtOnce : ℕ → Via → Request Plain → Served → List Action → Type 0
+IsOverAtOnce client way request.Drop served out = (served ≡ Own) × (out ≡ [])
+IsOverAtOnce client way (request.Refuse refusal start echo) served out = (served ≡ Own) × ((action : Action) × IsRefusal client way refusal start echo action × (out ≡ action ∷ []))
+IsOverAtOnce client way (request.Query q) served out =
+    recursive q ≡ false → (served ≡ Own) × ((o : Outcome Plain) × (action : Action) × IsReply (client_query client way q) o action × (out ≡ action ∷ []))
+
+abbrev pub AtHandIsReplied : Type 0
+AtHandIsReplied =
+    (site : Site) (past : List Turn) (old : State) (now client : ℕ) (way : Via) (bytes : List ℕ) (served : Served) (out : List Action) (new : State) (asked : Request Plain)
+    → Run site past old → Step old (Client now client way bytes) served (Some out) new → IsRequest bytes asked → IsOverAtOnce client way asked served out
+
+-- ---- whom a step asks
+
+-- Over UDP nobody is asked who failed less than 30 seconds ago to answer the same question (RFC 2308, section 7.1).
+abbrev pub NobodyFailingIsAsked : Type 0
+NobodyFailingIsAsked =
+    (site : Site) (past : List Turn) (old : State) (t : Turn) (new : State) → Run site past old → Step old t.event t.served t.out new
+    → (q : Open) → Contains new.queries q → t.served ≡ OpenQuery q.number → IsUdpPath (q.ask).path
+    → is_failed (moved old t.event).clock (failed_ask (q.ask).name (q.ask).kind (q.ask).server) (new.stores).failures ≡ false
+
+-- ---- what an open query shows
+
+-- In this step the query's ask went out, and it is waited for until `due`: 1,000 or 2,000 milliseconds over UDP, 3,000
+-- over TCP.
+abbrev pub AsksUntil : ℕ → ℕ → Turn → List Turn → Type 0
+AsksUntil k due u before =
+    (u.served ≡ OpenQuery k) × ((due ≡ clock_of (u ∷ before) + 1000) ⊎ ((due ≡ clock_of (u ∷ before) + 2000) ⊎ (due ≡ clock_of (u ∷ before) + tcp_wait)))
+
+-- It came so, ten seconds before its deadline, with RD, and its type is sought; its aliases lead from the asked name to
+-- the one that is sought; its asks and its look-ups are those of the run.
+pub record IsOfRun (site : Site) (run : List Turn) (s : State) (legal : Run site run s) (q : Open) : Type 0 where
+  pub came : Earlier (λ u before. Came (OpenQuery q.number) q.client_query u before × ((q.job).deadline ≡ clock_of (u ∷ before) + query_lifetime)) run
+  pub wanted : recursive (q.client_query).query ≡ true
+  pub kind : (q.job).kind ≡ type_number ((q.client_query).query).kind
+  pub few : length (q.job).chain ≤ max_aliases
+  pub chain : (aliases : List Record) × (length aliases ≡ length (q.job).chain)
+      × AcceptedAliasesLead site.port site.home run (type_number ((q.client_query).query).kind) ((q.client_query).query).name aliases (q.job).name
+  pub searches : length (q.job).searches ≤ 4
+  pub due : Earlier (AsksUntil q.number q.due) run
+  pub asks : (q.job).asks ≡ asks_of q.number run
+  pub look_ups : (q.job).look_ups ≡ look_ups_of q.number site run s legal
+
+abbrev pub OpenIsOfRun : Type 0
+OpenIsOfRun = (site : Site) (run : List Turn) (s : State) (legal : Run site run s) (q : Open) → Contains s.queries q → IsOfRun site run s legal q
