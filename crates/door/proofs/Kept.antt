@@ -8,7 +8,7 @@ use Rattle.door.specs.declared.queries.Admitted.{Admitted}
 use Rattle.door.specs.declared.queries.Held.{Held}
 use Rattle.door.specs.States.{State, state, address_in, admitted_with, admitted_from, held_with, held_from, inside, of_key, waiting_of, of_address, is_shut, IsKept}
 use Rattle.door.specs.Moves.{first_of, without_first, called, admitted}
-use Rattle.door.proofs.Lists.{by_test, one, one-true, one-false, count-push, count-append, count_without, length_without, none_goes, none_passes, passes}
+use Rattle.door.proofs.Lists.{by_test, one, one-true, one-false, count-push, count-append, count-cons, count_without, length_without, none_goes, none_passes, passes}
 
 -- None of three where not one of them.
 first_false : (a b c : Bool) → (a || b || c) ≡ false → a ≡ false
@@ -32,6 +32,10 @@ longer xs x = length-append xs (x ∷ [])
 -- One that has the key k where it has the key j.
 same_key : (k j l : ℕ) → k ≡ j → one (eqb k l) ≡ one (eqb j l)
 same_key k j l e = ap (λ x. one (eqb x l)) e
+
+-- The same of equal lists.
+pub kept_as : {T : Type 0} (l : Limits) (a : List Admitted) {r s v w : List (Held T)} → r ≡ s → v ≡ w → IsKept (state l a r v) → IsKept (state l a s w)
+kept_as l a {r} {s} {v} {w} e f kept = subst (λ x. IsKept (state l a x w)) e (subst (λ x. IsKept (state l a r x)) f kept)
 
 module _ {T : Type 0} (d : State T) (kept : IsKept d) where
   -- A query that is let in.

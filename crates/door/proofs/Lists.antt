@@ -4,7 +4,7 @@ use Rattle.std.specs.List.{count_by, filter, remove, position, position_or_len}
 use Rattle.std.specs.Option.{OnSome}
 use Rattle.std.proofs.lemmas.Bool.{ltb-false}
 use Rattle.std.proofs.lemmas.List.Quantifiers.{position-Some}
-use Rattle.std.proofs.lemmas.List.Sums.{sum_by-cons, sum_by-append, sum_by_push}
+use Rattle.std.proofs.lemmas.List.Sums.{sum_by-cons, sum_by-append, sum_by_push, length-filter, count_by-le-length}
 use Rattle.door.specs.Moves.{first_of, without_first}
 
 -- Either answer of a test.
@@ -121,6 +121,9 @@ module _ {X : Type 0} (test : X → Bool) where
   stands_within [] i e = cc
   stands_within (x ∷ xs) i e = let h = position-Some test (x ∷ xs) i x e in h.0
 
+  pub passes_there : (xs : List X) (i : ℕ) (q : X) → position test xs ≡ Some i → q ≡ get_or xs i q → test q ≡ true
+  passes_there xs i q e f = let h = position-Some test xs i q e in ap test f ∙ h.1
+
   absent : (xs : List X) → length xs ≤ position_or_len test xs → first_of test xs ≡ None
   absent [] l = refl
   absent (y ∷ ys) l = by_test (test y)
@@ -132,3 +135,64 @@ module _ {X : Type 0} (test : X → Bool) where
   not_there xs e = by_test (ltb (position_or_len test xs) (length xs))
       (λ t. let s : Some (position_or_len test xs) ≡ None = sym (when_true (Some (position_or_len test xs)) None t) ∙ e in cc)
       (λ f. absent xs (ltb-false (position_or_len test xs) (length xs) f))
+
+-- What is left where the one at a place was removed.
+pub count_removed : {X : Type 0} (p : X → Bool) (xs : List X) (i : ℕ) (d : X) → i < length xs → count_by p (remove xs i) + one (p (get_or xs i d)) ≡ count_by p xs
+count_removed p [] i d l = absurd (omega arith)
+count_removed p (x ∷ xs) zero d l = let n : count_by p (x ∷ xs) ≡ one (p x) + count_by p xs = count-cons p x xs in let m : count_by p xs + one (p x) ≡ one (p x) + count_by p xs = omega arith in m ∙ sym n
+count_removed p (x ∷ xs) (suc i) d l =
+    let h : count_by p (remove xs i) + one (p (get_or xs i d)) ≡ count_by p xs = count_removed p xs i d (omega arith) in
+    let n : count_by p (x ∷ xs) ≡ one (p x) + count_by p xs = count-cons p x xs in
+    let m : count_by p (x ∷ remove xs i) ≡ one (p x) + count_by p (remove xs i) = count-cons p x (remove xs i) in
+    let r : count_by p (x ∷ remove xs i) + one (p (get_or xs i d)) ≡ count_by p (x ∷ xs) = omega (arith, h, n, m) in
+    r
+
+pub length_removed : {X : Type 0} (xs : List X) (i : ℕ) → i < length xs → length (remove xs i) + 1 ≡ length xs
+length_removed [] i l = absurd (omega arith)
+length_removed (x ∷ xs) zero l = let r : length xs + 1 ≡ suc (length xs) = omega arith in r
+length_removed (x ∷ xs) (suc i) l =
+    let h : length (remove xs i) + 1 ≡ length xs = length_removed xs i (omega arith) in
+    let r : suc (length (remove xs i)) + 1 ≡ suc (length xs) = omega (arith, h) in
+    r
+
+pub count_left : {X : Type 0} (p : X → Bool) (xs ys : List X) (i : ℕ) (q : X) → i < length xs → q ≡ get_or xs i q → ys ≡ remove xs i → count_by p ys + one (p q) ≡ count_by p xs
+count_left p xs ys i q l e f =
+    let n : count_by p ys ≡ count_by p (remove xs i) = ap (λ zs. count_by p zs) f in
+    let m : one (p q) ≡ one (p (get_or xs i q)) = ap (λ z. one (p z)) e in
+    let r : count_by p (remove xs i) + one (p (get_or xs i q)) ≡ count_by p xs = count_removed p xs i q l in
+    omega (arith, n, m, r)
+
+pub length_left : {X : Type 0} (xs ys : List X) (i : ℕ) → i < length xs → ys ≡ remove xs i → length ys + 1 ≡ length xs
+length_left xs ys i l f = let n : length ys ≡ length (remove xs i) = ap length f in let r : length (remove xs i) + 1 ≡ length xs = length_removed xs i l in omega (arith, n, r)
+
+-- Fewer, or as many, pass of what is left.
+module _ {X : Type 0} (test p : X → Bool) where
+  fewer_by : (xs : List X) (o : Option X) → first_of test xs ≡ o → count_by p (without_first test xs) ≤ count_by p xs
+  fewer_by xs None e = let n : count_by p (without_first test xs) ≡ count_by p xs = ap (λ zs. count_by p zs) (none_goes test xs e) in omega (arith, n)
+  fewer_by xs (Some x) e = let n : count_by p (without_first test xs) + one (p x) ≡ count_by p xs = count_without test p xs x e in omega (arith, n)
+
+  pub fewer_without : (xs : List X) → count_by p (without_first test xs) ≤ count_by p xs
+  fewer_without xs = fewer_by xs (first_of test xs) refl
+
+  pub fewer_filtered : (xs : List X) → count_by p (filter test xs) ≤ count_by p xs
+  fewer_filtered [] = omega arith
+  fewer_filtered (x ∷ xs) =
+      let h : count_by p (filter test xs) ≤ count_by p xs = fewer_filtered xs in
+      let n : count_by p (x ∷ xs) ≡ one (p x) + count_by p xs = count-cons p x xs in
+      by_test (test x)
+      (λ t. let m : count_by p (filter test (x ∷ xs)) ≡ count_by p (x ∷ filter test xs) = ap (λ zs. count_by p zs) (when_true (x ∷ filter test xs) (filter test xs) t) in
+      let r : count_by p (x ∷ filter test xs) ≡ one (p x) + count_by p (filter test xs) = count-cons p x (filter test xs) in
+      omega (arith, h, n, m, r))
+      (λ f. let m : count_by p (filter test (x ∷ xs)) ≡ count_by p (filter test xs) = ap (λ zs. count_by p zs) (when_false (x ∷ filter test xs) (filter test xs) f) in
+      omega (arith, h, n, m))
+
+module _ {X : Type 0} (test : X → Bool) where
+  shorter_by : (xs : List X) (o : Option X) → first_of test xs ≡ o → length (without_first test xs) ≤ length xs
+  shorter_by xs None e = let n : length (without_first test xs) ≡ length xs = ap length (none_goes test xs e) in omega (arith, n)
+  shorter_by xs (Some x) e = let n : length (without_first test xs) + 1 ≡ length xs = length_without test xs x e in omega (arith, n)
+
+  pub shorter_without : (xs : List X) → length (without_first test xs) ≤ length xs
+  shorter_without xs = shorter_by xs (first_of test xs) refl
+
+  pub shorter_filtered : (xs : List X) → length (filter test xs) ≤ length xs
+  shorter_filtered xs = let n : length (filter test xs) ≡ count_by test xs = length-filter test xs in let m : count_by test xs ≤ length xs = count_by-le-length test xs in omega (arith, n, m)

@@ -62,7 +62,7 @@ impl<T: Drop, A: Allocator> Door<T, A> {
     pub fn admit(&mut self, key: u64, client: u64, moment: u64, payload: T) -> Admission<T>
         ensures { Admits self.old key client moment payload result self.new }
     {
-        if self.is_shut(address_in(client)) {
+        if self.is_shut(client) {
             return Admission::Refused(payload);
         }
         if self.of_key(key) < self.limits.equal {
@@ -155,17 +155,15 @@ impl<T: Drop, A: Allocator> Door<T, A> {
         ensures dropped { self.new ≡ dropped now self.old }
         ensures count { result + length self.new.waiting ≡ length self.old.waiting }
     {
-        let before = self.waiting.len();
-        drop_late(&mut self.waiting, now);
-        before - self.waiting.len()
+        drop_late(&mut self.waiting, now)
     }
 
-    // Whether no query from that address is let in now, nor held.
-    fn is_shut(&self, address: u64) -> bool
-        ensures { result ≡ is_shut address self.now }
+    // Whether no query from the address of that client is let in now, nor held.
+    fn is_shut(&self, client: u64) -> bool
+        ensures { result ≡ is_shut (address_in client) self.now }
     {
         let inside = self.inside();
-        let from_address = self.of_address(address);
+        let from_address = self.of_address(address_in(client));
         self.limits.each <= from_address
             || self.limits.places <= inside
             || (0 < from_address

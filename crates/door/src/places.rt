@@ -1,5 +1,5 @@
 //! How many queries there are of a key and of an address, and where the first of a kind stands.
-ghost use Rattle.std.specs.Prelude.{◌≡◌};
+ghost use Rattle.std.specs.Prelude.{◌≡◌, ◌+◌, length};
 ghost use Rattle.std.specs.List.{count_by, filter, position};
 ghost use Rattle.std.specs.VecDeque.{deque_capacity};
 ghost use Rattle.door.specs.States.{address_in, admitted_with, admitted_from, held_with, held_from};
@@ -97,10 +97,13 @@ pub fn take_first<T, A: Allocator>(queries: &mut VecDeque<Held<T>, A>, key: u64)
     }
 }
 
-// Drops those that have waited for their time.
-pub fn drop_late<T: Drop, A: Allocator>(queries: &mut VecDeque<Held<T>, A>, now: u64)
+// Drops those that have waited for their time, and says how many.
+pub fn drop_late<T: Drop, A: Allocator>(queries: &mut VecDeque<Held<T>, A>, now: u64) -> usize
     ensures items { queries.new.items ≡ filter (may_wait now) queries.old.items }
+    ensures count { result + length queries.new.items ≡ length queries.old.items }
     ensures capacity { deque_capacity queries.new ≡ deque_capacity queries.old }
 {
+    let before = queries.len();
     queries.retain(|query| now.saturating_sub(query.since) < WAIT_MS);
+    before - queries.len()
 }
