@@ -4,6 +4,7 @@ use Rattle.std.proofs.lemmas.Bool.{and_parts, eqb-true}
 use Rattle.std.specs.List.{remove, position}
 use Rattle.std.specs.Option.{is_none, is_some}
 use Rattle.door.specs.declared.queries.Admitted.{Admitted}
+use Rattle.door.specs.declared.queries.Held.{Held}
 use Rattle.door.specs.States.{State, state}
 use Rattle.door.specs.Moves.{first_of, without_first, is_entering, admitted, opened, opened_as, called, left, left_by}
 use Rattle.door.proofs.Lists.{found_there, gone_there, not_there}
@@ -14,6 +15,12 @@ key_of k c q e = eqb-true q.key k (and_parts (eqb q.key k) (eqb q.client c) (and
 
 pub client_of : (k c : ℕ) (q : Admitted) → is_entering k c q ≡ true → q.client ≡ c
 client_of k c q e = eqb-true q.client c (and_parts (eqb q.key k) (eqb q.client c) (and_parts (eqb q.key k && eqb q.client c) (is_none q.opened) e).0).1
+
+-- The same of the state that contracts see.
+pub waits_longer : {T : Type 0} (d e : State T) (q : Held T) (ws : List (Held T)) → d ≡ e → ws ≡ d.waiting ++ q ∷ [] → state d.limits d.admitted d.ready ws ≡ record e { waiting = e.waiting ++ q ∷ [] }
+waits_longer {T} d e q ws same f =
+    let g : State T → State T = λ s. record s { waiting = s.waiting ++ q ∷ [] } in
+    ap (λ xs. state d.limits d.admitted d.ready xs) f ∙ ap g same
 
 module _ {T : Type 0} (d : State T) where
   pub opened_none : (k c m : ℕ) → position (is_entering k c) d.admitted ≡ None → d ≡ opened k c m d

@@ -2,6 +2,7 @@ use Rattle.std.proofs.Common.{◌≡◌, ◌<◌, ◌≤◌, ◌+◌, false, inl
 use Rattle.door.specs.States.{state, of_key, is_shut, address_in}
 use Rattle.door.specs.Moves.{held}
 use Rattle.door.proofs.Kept.{kept_as, kept_waiting}
+use Rattle.door.proofs.Steps.{waits_longer}
 use Rattle.door.proofs.door.Door.admit.Goals as goal
 
 pub returns-then-is_shut : goal.returns-then-is_shut
@@ -41,6 +42,7 @@ invariant_of-self g c =
 pub returns : goal.returns
 returns g c =
     let b = c.self.inside in
+    let d = state b.limits b.admitted.items b.ready.items b.waiting.items in
     let q = held c.args.key c.args.client c.args.moment c.args.payload in
     let l = ap (λ s. s.limits) c.self.view_is in
     let room : length b.waiting.items < b.limits.waiting = search rules in
@@ -48,5 +50,5 @@ returns g c =
       sym c.is_shut.ensures ∙ c.if-is_shut.false,
       subst (λ l. l.equal ≤ of_key c.args.key c.args.self.now) l (subst (λ n. b.limits.equal ≤ n) c.of_key.ensures c.if-of_key-self.false),
       subst (λ s. length s.waiting < s.limits.waiting) c.self.view_is room,
-      ap (λ ws. state b.limits b.admitted.items b.ready.items ws) items ∙ ap (λ s. record s { waiting = s.waiting ++ q ∷ [] }) c.self.view_is,
+      waits_longer d c.args.self.now q c.push_back.new.self.items c.self.view_is items,
     )
