@@ -1,14 +1,14 @@
 -- What holds of a door at all times is kept by each move.
-use Rattle.std.proofs.Common.{◌≡◌, ℕ, zero, suc, ◌+◌, ◌-◌, ◌<◌, ◌≤◌, Bool, true, false, not, cond, ◌||◌, ◌&&◌, List, [], ◌∷◌, ◌++◌, length, Option, Some, None, refl, sym, ap, ◌∙◌, subst, arith, eqb, leb, ltb, length-append}
-use Rattle.std.proofs.lemmas.Bool.{eqb-true, eqb-false, leb-false, eq-eqb}
-use Rattle.std.specs.List.{count_by, filter}
+use Rattle.std.proofs.Common.{◌≡◌, ℕ, suc, ◌+◌, ◌<◌, ◌≤◌, Bool, true, false, ◌||◌, List, [], ◌∷◌, ◌++◌, length, Option, Some, None, refl, ap, ◌∙◌, subst, arith, eqb, leb, length-append}
+use Rattle.std.proofs.lemmas.Bool.{eqb-true, leb-false}
+use Rattle.std.specs.List.{count_by}
 use Rattle.std.specs.Option.{option_to_list}
 use Rattle.door.specs.declared.limits.Limits.{Limits}
 use Rattle.door.specs.declared.queries.Admitted.{Admitted}
 use Rattle.door.specs.declared.queries.Held.{Held}
 use Rattle.door.specs.States.{State, state, address_in, admitted_with, admitted_from, held_with, held_from, inside, of_key, waiting_of, of_address, is_shut, IsKept}
-use Rattle.door.specs.Moves.{first_of, without_first, called, admitted}
-use Rattle.door.proofs.Lists.{by_test, one, one-true, one-false, count-push, count-append, count-cons, count_without, length_without, none_goes, none_passes, passes}
+use Rattle.door.specs.Moves.{first_of, without_first, admitted}
+use Rattle.door.proofs.Lists.{by_test, one, one-false, count-push, count-append, count-cons, count_without, length_without, none_goes, none_passes, passes}
 
 -- None of three where not one of them.
 first_false : (a b c : Bool) → (a || b || c) ≡ false → a ≡ false

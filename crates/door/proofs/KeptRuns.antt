@@ -1,17 +1,13 @@
 -- The laws: what is kept over runs, the order in line, and that each is handed out or dropped once.
-use Rattle.std.proofs.Common.{◌≡◌, ℕ, zero, suc, ◌+◌, ◌<◌, ◌≤◌, Bool, true, false, not, cond, List, [], ◌∷◌, ◌++◌, length, Option, Some, None, refl, sym, ap, ◌∙◌, subst, arith, eqb, append-nil, append_assoc}
-use Rattle.std.proofs.lemmas.Bool.{eqb-true}
-use Rattle.std.specs.List.{count_by, filter}
-use Rattle.std.specs.Option.{option_to_list}
+use Rattle.std.proofs.Common.{◌≡◌, ℕ, Bool, true, List, [], ◌∷◌, Option, Some, None, refl, sym, subst, arith}
+use Rattle.std.specs.List.{filter}
 use Rattle.door.specs.declared.limits.Limits.{Limits}
 use Rattle.door.specs.declared.queries.Admitted.{Admitted}
-use Rattle.door.specs.declared.queries.Held.{Held}
-use Rattle.door.specs.declared.queries.Admission.{Admission}
 use Rattle.door.specs.declared.queries.Admission.TheVariants.{In, Waits, Refused}
 use Rattle.door.specs.States.{State, state, held_with, IsKept}
-use Rattle.door.specs.Moves.{Admits, LetsIn, opened, opened_as, left, left_by, called, taken, dropped, first_of, without_first, held, admitted, may_wait, is_entering, is_open, is_late}
-use Rattle.door.specs.Runs.{Move, admits, opens, settles, closes, expires, fails, lets_in, drops, Moves, Runs, line, held_by, too_late, told_by, told, ended, all}
-use Rattle.door.proofs.Lists.{by_test, when_true, when_false, one, one-true, one-false, count-cons, count-append, count-push, count_without, length_without, none_goes, passes, fewer_without, shorter_without, fewer_filtered, shorter_filtered}
+use Rattle.door.specs.Moves.{opened_as, left, left_by, first_of, without_first, held, admitted, may_wait, is_entering, is_open, is_late}
+use Rattle.door.specs.Runs.{Move, admits, opens, settles, closes, expires, fails, lets_in, drops, Moves, Runs}
+use Rattle.door.proofs.Lists.{count_without, length_without, passes, fewer_without, shorter_without, fewer_filtered, shorter_filtered}
 use Rattle.door.proofs.Kept.{kept_admitted, kept_waiting, kept_fewer, kept_next, kept_moved, kept_left}
 use Rattle.door.proofs.Steps.{key_of, client_of}
 

@@ -1,5 +1,5 @@
 -- The order in line, and that each is handed out or dropped once.
-use Rattle.std.proofs.Common.{◌≡◌, ℕ, zero, suc, ◌+◌, ◌<◌, ◌≤◌, Bool, true, false, not, cond, List, [], ◌∷◌, ◌++◌, length, Option, Some, None, refl, sym, ap, ◌∙◌, subst, arith, eqb, append-nil, append_assoc}
+use Rattle.std.proofs.Common.{◌≡◌, ℕ, ◌+◌, Bool, false, not, cond, List, [], ◌∷◌, ◌++◌, Option, Some, None, refl, sym, ap, ◌∙◌, subst, arith, eqb, append-nil, append_assoc}
 use Rattle.std.proofs.lemmas.Bool.{eqb-true, eq-eqb}
 use Rattle.std.proofs.lemmas.List.Elements.{filter-append}
 use Rattle.std.proofs.lemmas.List.Filters.{sum_by-filter_both}
@@ -7,12 +7,11 @@ use Rattle.std.specs.List.{count_by, filter}
 use Rattle.std.specs.Option.{option_to_list}
 use Rattle.door.specs.declared.queries.Admitted.{Admitted}
 use Rattle.door.specs.declared.queries.Held.{Held}
-use Rattle.door.specs.declared.queries.Admission.{Admission}
 use Rattle.door.specs.declared.queries.Admission.TheVariants.{In, Waits, Refused}
-use Rattle.door.specs.States.{State, state, held_with}
-use Rattle.door.specs.Moves.{Admits, LetsIn, opened, opened_as, left, left_by, called, taken, dropped, first_of, without_first, held, may_wait, is_entering, is_open, is_late}
-use Rattle.door.specs.Runs.{Move, admits, opens, settles, closes, expires, fails, lets_in, drops, Moves, Runs, line, held_by, too_late, told_by, told, ended, all}
-use Rattle.door.proofs.Lists.{by_test, when_true, when_false, one, one-true, one-false, count-cons, count-append, count-push, count_without, none_goes, passes}
+use Rattle.door.specs.States.{State, held_with}
+use Rattle.door.specs.Moves.{Admits, LetsIn, opened_as, left, left_by, taken, dropped, first_of, without_first, held, may_wait, is_entering, is_open, is_late}
+use Rattle.door.specs.Runs.{Move, admits, opens, settles, closes, expires, fails, lets_in, drops, Moves, Runs, line, held_by, too_late, told, ended, all}
+use Rattle.door.proofs.Lists.{by_test, when_true, when_false, one, count-cons, count-append, count-push, count_without, none_goes, passes}
 
 module _ {X : Type 0} where
   -- The first that passes is the first of those that pass.

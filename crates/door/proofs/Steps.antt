@@ -1,12 +1,12 @@
 -- The moves, by the place at which a query stands.
-use Rattle.std.proofs.Common.{◌≡◌, ℕ, ◌&&◌, Bool, true, List, [], ◌∷◌, ◌++◌, get_or, Option, Some, None, refl, sym, ap, ◌∙◌, eqb}
+use Rattle.std.proofs.Common.{◌≡◌, ℕ, ◌&&◌, Bool, true, List, [], ◌∷◌, ◌++◌, get_or, Some, None, sym, ap, ◌∙◌, eqb}
 use Rattle.std.proofs.lemmas.Bool.{and_parts, eqb-true}
 use Rattle.std.specs.List.{remove, position}
-use Rattle.std.specs.Option.{is_none, is_some}
+use Rattle.std.specs.Option.{is_none}
 use Rattle.door.specs.declared.queries.Admitted.{Admitted}
 use Rattle.door.specs.declared.queries.Held.{Held}
 use Rattle.door.specs.States.{State, state}
-use Rattle.door.specs.Moves.{first_of, without_first, is_entering, admitted, opened, opened_as, called, left, left_by}
+use Rattle.door.specs.Moves.{is_entering, admitted, opened, opened_as, called, left, left_by}
 use Rattle.door.proofs.Lists.{found_there, gone_there, not_there}
 
 -- The key and the client of a query that enters.

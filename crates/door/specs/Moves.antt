@@ -1,5 +1,5 @@
 -- What each move does to the queries at the door.
-use Rattle.std.specs.Prelude.{◌≡◌, ℕ, ◌+◌, ◌-◌, ◌<◌, ◌≤◌, Bool, true, false, cond, ◌&&◌, ◌⊎◌, nat_eq, nat_lt, nat_le, Option, Some, None, option_to_list, List, [], ◌∷◌, ◌++◌, length}
+use Rattle.std.specs.Prelude.{◌≡◌, ℕ, ◌-◌, ◌<◌, ◌≤◌, Bool, true, false, cond, ◌&&◌, ◌⊎◌, nat_eq, nat_lt, nat_le, Option, Some, None, option_to_list, List, [], ◌∷◌, ◌++◌, length}
 use Rattle.std.specs.List.{filter}
 use Rattle.std.specs.Option.{is_some, is_none}
 use Rattle.door.specs.declared.limits.TheConstants.{OPEN_MS, WAIT_MS}

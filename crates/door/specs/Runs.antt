@@ -1,5 +1,5 @@
 -- Lists of moves, and what they did with the queries that were told to wait.
-use Rattle.std.specs.Prelude.{◌≡◌, ℕ, ◌+◌, Bool, not, Option, Some, None, option_to_list, List, [], ◌∷◌, ◌++◌}
+use Rattle.std.specs.Prelude.{◌≡◌, ℕ, ◌+◌, Bool, not, Option, option_to_list, List, [], ◌∷◌, ◌++◌}
 use Rattle.std.specs.List.{count_by, filter}
 use Rattle.door.specs.declared.queries.Held.{Held}
 use Rattle.door.specs.declared.queries.Admission.{Admission}

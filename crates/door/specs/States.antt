@@ -1,5 +1,5 @@
 -- The queries at the door, and how many there are of a key and of an address.
-use Rattle.std.specs.Prelude.{◌≡◌, ℕ, ◌+◌, ◌-◌, ◌/◌, ◌<◌, ◌≤◌, Bool, true, false, cond, ◌&&◌, ◌||◌, nat_eq, nat_lt, nat_le, Option, Some, None, List, [], ◌∷◌, length}
+use Rattle.std.specs.Prelude.{◌≡◌, ℕ, ◌+◌, ◌-◌, ◌/◌, ◌<◌, ◌≤◌, Bool, ◌&&◌, ◌||◌, nat_eq, nat_lt, nat_le, List, length}
 use Rattle.std.specs.List.{count_by}
 use Rattle.door.specs.declared.limits.Limits.{Limits}
 use Rattle.door.specs.declared.queries.Admitted.{Admitted}

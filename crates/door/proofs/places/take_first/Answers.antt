@@ -1,4 +1,4 @@
-use Rattle.std.proofs.Common.{◌≡◌, Some, None, refl, sym, ◌∙◌, rules, arith}
+use Rattle.std.proofs.Common.{refl, sym, ◌∙◌, rules}
 use Rattle.door.specs.States.{held_with}
 use Rattle.door.proofs.Lists.{taken_there, not_there, none_goes}
 use Rattle.door.proofs.places.take_first.Goals as goal

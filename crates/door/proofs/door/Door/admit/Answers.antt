@@ -1,4 +1,4 @@
-use Rattle.std.proofs.Common.{◌≡◌, ◌<◌, ◌≤◌, ◌+◌, false, inl, List, ◌∷◌, [], ◌++◌, length, refl, sym, ap, ◌∙◌, subst, rules}
+use Rattle.std.proofs.Common.{◌≡◌, ◌<◌, ◌≤◌, false, inl, ◌∷◌, [], ◌++◌, length, refl, sym, ap, ◌∙◌, subst, rules}
 use Rattle.door.specs.States.{state, of_key, is_shut, address_in}
 use Rattle.door.specs.Moves.{held}
 use Rattle.door.proofs.Kept.{kept_as, kept_waiting}

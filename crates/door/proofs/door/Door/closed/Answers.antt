@@ -1,8 +1,6 @@
-use Rattle.std.proofs.Common.{◌≡◌, Some, None, sym, ◌∙◌, subst, refl, ap, true, false}
+use Rattle.std.proofs.Common.{◌≡◌, Some, None, sym, ◌∙◌, subst}
 use Rattle.std.specs.List.{position}
-use Rattle.std.specs.Option.{is_some}
-use Rattle.door.specs.Moves.{is_open, first_of}
-use Rattle.door.proofs.Lists.{found_there, not_there}
+use Rattle.door.specs.Moves.{is_open}
 use Rattle.door.proofs.Steps.{left_some, left_none}
 use Rattle.door.proofs.door.Door.closed.Goals as goal
 

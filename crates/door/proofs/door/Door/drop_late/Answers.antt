@@ -1,4 +1,4 @@
-use Rattle.std.proofs.Common.{sym, refl, subst, rules}
+use Rattle.std.proofs.Common.{sym, refl, rules}
 use Rattle.std.specs.List.{filter}
 use Rattle.door.specs.States.{state}
 use Rattle.door.specs.Moves.{may_wait}

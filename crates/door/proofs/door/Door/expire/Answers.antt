@@ -1,7 +1,7 @@
-use Rattle.std.proofs.Common.{◌≡◌, Some, None, sym, ◌∙◌, subst, refl, ap, true, false}
+use Rattle.std.proofs.Common.{◌≡◌, Some, None, sym, ◌∙◌, subst, ap}
 use Rattle.std.specs.List.{position}
 use Rattle.std.specs.Option.{is_some}
-use Rattle.door.specs.Moves.{is_late, admitted, first_of}
+use Rattle.door.specs.Moves.{is_late, admitted}
 use Rattle.door.proofs.Lists.{found_there, not_there}
 use Rattle.door.proofs.Steps.{left_some, left_none}
 use Rattle.door.proofs.door.Door.expire.Goals as goal

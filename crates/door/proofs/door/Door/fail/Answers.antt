@@ -1,4 +1,4 @@
-use Rattle.std.proofs.Common.{sym, refl, subst, rules}
+use Rattle.std.proofs.Common.{sym, refl, rules}
 use Rattle.door.specs.States.{state, held_with}
 use Rattle.door.specs.Moves.{without_first}
 use Rattle.door.proofs.Lists.{fewer_without, shorter_without}

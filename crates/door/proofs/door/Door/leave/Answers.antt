@@ -1,8 +1,6 @@
-use Rattle.std.proofs.Common.{◌≡◌, ℕ, ◌+◌, ◌<◌, Bool, Some, None, List, ◌∷◌, [], ◌++◌, length, get_or, refl, sym, ap, ◌∙◌, subst, rules, arith, append-nil}
-use Rattle.std.specs.List.{count_by, remove}
-use Rattle.door.specs.declared.queries.Admitted.{Admitted}
-use Rattle.door.specs.States.{state, held_with, IsKept}
-use Rattle.door.specs.Moves.{first_of, without_first}
+use Rattle.std.proofs.Common.{◌≡◌, ◌<◌, Some, None, ◌∷◌, [], ◌++◌, length, sym, ◌∙◌, subst, rules, append-nil}
+use Rattle.door.specs.States.{state, held_with}
+use Rattle.door.specs.Moves.{first_of}
 use Rattle.door.proofs.Lists.{count_left, length_left}
 use Rattle.door.proofs.Kept.{kept_as, kept_left}
 use Rattle.door.proofs.door.Door.leave.Goals as goal

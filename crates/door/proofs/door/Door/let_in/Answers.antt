@@ -1,4 +1,4 @@
-use Rattle.std.proofs.Common.{◌≡◌, ◌<◌, false, None, ◌∷◌, [], ◌++◌, refl, sym, subst, rules, arith}
+use Rattle.std.proofs.Common.{◌≡◌, ◌<◌, false, None, ◌∷◌, [], ◌++◌, sym, subst, rules}
 use Rattle.door.specs.States.{state, of_key, is_shut, address_in, IsKept}
 use Rattle.door.specs.Moves.{admitted}
 use Rattle.door.proofs.Kept.{kept_admitted}

@@ -1,4 +1,4 @@
-use Rattle.std.proofs.Common.{◌≡◌, None, ◌∷◌, [], ◌++◌, refl, sym, subst, rules, arith}
+use Rattle.std.proofs.Common.{◌≡◌, None, ◌∷◌, [], ◌++◌, sym, subst, rules}
 use Rattle.door.specs.States.{state, IsKept}
 use Rattle.door.specs.Moves.{admitted}
 use Rattle.door.proofs.Kept.{kept_next}

@@ -1,6 +1,5 @@
-use Rattle.std.proofs.Common.{◌≡◌, Some, None, List, ◌∷◌, [], ◌++◌, true, sym, ap, ◌∙◌, subst, rules}
+use Rattle.std.proofs.Common.{◌≡◌, Some, None, ◌∷◌, [], ◌++◌, true, sym, ap, ◌∙◌, subst, rules}
 use Rattle.std.specs.List.{position}
-use Rattle.door.specs.declared.queries.Admitted.{Admitted}
 use Rattle.door.specs.States.{state, IsKept}
 use Rattle.door.specs.Moves.{admitted, opened, is_entering}
 use Rattle.door.proofs.Lists.{count_left, length_left, stands_within, passes_there}
