@@ -58,7 +58,9 @@ impl<T: Drop, A: Heap> Door<T, A> {
 }
 
 impl<T: Drop, A: Allocator> Door<T, A> {
-    /// A query comes, with what is needed to put it in.
+    /// A query comes, with what is needed to put it in. It is let in where fewer equal ones are inside than may be,
+    /// and waits where not. It is refused, and nothing changes, where its address or the places are full or too many
+    /// wait.
     pub fn admit(&mut self, key: u64, client: u64, moment: u64, payload: T) -> Admission<T>
         ensures { Admits self.old key client moment payload result self.new }
     {
@@ -82,7 +84,8 @@ impl<T: Drop, A: Allocator> Door<T, A> {
         Admission::Waits
     }
 
-    /// The step of a query has asked other servers: the query is open from that moment on.
+    /// The step of a query has asked other servers: the query is open from that moment on. Nothing changes where no
+    /// such query enters.
     pub fn opened(&mut self, key: u64, client: u64, moment: u64)
         ensures { self.new ≡ opened key client moment self.old }
     {
@@ -98,7 +101,8 @@ impl<T: Drop, A: Allocator> Door<T, A> {
         self.admitted.push(query).unwrap();
     }
 
-    /// The step of a query has answered it, or lost it.
+    /// The step of a query has answered it, or lost it: it leaves, and the first that waits for its key is called in.
+    /// Nothing changes where no such query enters.
     pub fn settled(&mut self, key: u64, client: u64)
         ensures { self.new ≡ left (is_entering key client) self.old }
     {
@@ -107,7 +111,8 @@ impl<T: Drop, A: Allocator> Door<T, A> {
         }
     }
 
-    /// A reply to an open query has gone out.
+    /// A reply to an open query has gone out: it leaves, and the first that waits for its key is called in. Nothing
+    /// changes where no such query is open.
     pub fn closed(&mut self, key: u64, client: u64)
         ensures { self.new ≡ left (is_open key client) self.old }
     {
@@ -116,7 +121,8 @@ impl<T: Drop, A: Allocator> Door<T, A> {
         }
     }
 
-    /// The first query that has been open for its time leaves, if there is one.
+    /// The first query that has been open for its time leaves, and the first that waits for its key is called in;
+    /// whether there was one. To be called until there is none.
     pub fn expire(&mut self, now: u64) -> bool
         ensures some { result ≡ is_some (first_of (is_late now) self.old.admitted) }
         ensures left { self.new ≡ left (is_late now) self.old }
@@ -128,7 +134,8 @@ impl<T: Drop, A: Allocator> Door<T, A> {
         true
     }
 
-    /// The first query that waits with this key, which no longer waits: a query with this key has failed.
+    /// A query with this key has failed: the first that waits with it, which no longer waits, to be told so. To be
+    /// called until there is none, before `closed`.
     pub fn fail(&mut self, key: u64) -> Option<Held<T>>
         ensures first { result ≡ first_of (held_with key) self.old.waiting }
         ensures others { self.new ≡ taken key self.old }
@@ -170,8 +177,22 @@ impl<T: Drop, A: Allocator> Door<T, A> {
                 && self.limits.places.saturating_sub(self.limits.reserve) <= inside)
     }
 
-    // How many queries are inside.
-    fn inside(&self) -> usize
+    /// How many queries are called in, and come with `next`.
+    pub fn ready(&self) -> usize
+        ensures { result ≡ length self.now.ready }
+    {
+        self.ready.len()
+    }
+
+    /// How many queries wait.
+    pub fn waiting(&self) -> usize
+        ensures { result ≡ length self.now.waiting }
+    {
+        self.waiting.len()
+    }
+
+    /// How many queries are inside.
+    pub fn inside(&self) -> usize
         ensures { result ≡ inside self.now }
     {
         self.admitted.len() + self.ready.len()

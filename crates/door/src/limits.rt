@@ -1,4 +1,5 @@
 //! How many queries may be inside and wait, and for how long.
+ghost use Rattle.std.specs.Prelude.{◌≡◌};
 
 /// After so many milliseconds a query that is open leaves.
 pub const OPEN_MS: u64 = 12_000;
@@ -19,4 +20,19 @@ pub struct Limits {
     pub reserve: usize,
     /// Queries that wait at a time.
     pub waiting: usize,
+}
+
+impl Limits {
+    /// Four equal queries inside; so many of one address; 1,024 places, of which 64 are the reserve; 4,096 that wait.
+    pub const fn of_address(each: usize) -> Limits
+        ensures { result ≡ record { equal = 4; each = each; places = 1024; reserve = 64; waiting = 4096 } }
+    {
+        Limits {
+            equal: 4,
+            each,
+            places: 1_024,
+            reserve: 64,
+            waiting: 4_096,
+        }
+    }
 }

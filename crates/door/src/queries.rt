@@ -1,4 +1,4 @@
-//! Queries as the door sees them.
+//! Queries as the door sees them: by key, client and moment.
 
 /// A query that was let in. It is open since the moment `opened`, in milliseconds; while its step runs it has none.
 #[derive(Clone, Copy, Debug, PartialEq, Eq)]
