@@ -69,7 +69,7 @@ const OF_ONE_ADDRESS: [Row; 7] = [
     (Admit(6, A, 0), Refused(3)),
     (Admit(6, B, 0), In(4)),
     (Settled(5, A_OTHER), Done),
-    (Admit(6, A, 0), Refused(6)),
+    (Admit(6, A, 0), In(6)),
 ];
 
 // The last two of six places go to addresses that have none.
