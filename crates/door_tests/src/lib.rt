@@ -5,3 +5,7 @@
 mod moves;
 #[cfg(test)]
 mod moves_tests;
+#[cfg(test)]
+mod plain;
+#[cfg(test)]
+mod random_tests;

@@ -17,11 +17,17 @@ const SMALL: Limits = Limits {
 
 // Clients: of addresses 1 to 7, at port 9.
 const A: u64 = 65_545;
+
 const B: u64 = 131_081;
+
 const C: u64 = 196_617;
+
 const D: u64 = 262_153;
+
 const E: u64 = 327_689;
+
 const F: u64 = 393_225;
+
 const G: u64 = 458_761;
 // A's address at another port.
 const A_OTHER: u64 = 65_546;
