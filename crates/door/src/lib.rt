@@ -42,4 +42,4 @@ mod queries;
 pub use door::Door;
 pub use laws::{fair_law, kept_law, once_law};
 pub use limits::{Limits, OPEN_MS, WAIT_MS};
-pub use queries::{Admission, Admitted, Held};
+pub use queries::{Admission, Held};

@@ -3,17 +3,24 @@
 /// A query that was let in. It is open since the moment `opened`, in milliseconds; while its step runs it has none.
 #[derive(Clone, Copy, Debug, PartialEq, Eq)]
 pub struct Admitted {
+    /// A hash of its question.
     pub key: u64,
+    /// The client's address and, in the low sixteen bits, its port.
     pub client: u64,
+    /// The moment since which it is open.
     pub opened: Option<u64>,
 }
 
 /// A query that is held back since that moment, in milliseconds, with what the caller needs to put it in.
 #[derive(Debug, Drop)]
 pub struct Held<T> {
+    /// A hash of its question.
     pub key: u64,
+    /// The client's address and, in the low sixteen bits, its port.
     pub client: u64,
+    /// The moment since which it is held.
     pub since: u64,
+    /// What it is put in with.
     pub payload: T,
 }
 
