@@ -29,12 +29,7 @@ pub fn query_event<A: Heap>(
     requires { length bytes.now ≤ 65535 }
     ensures { IfOk result (λ e. event_view e ≡ Client moment (client_number from) Udp bytes.now) }
 {
-    Ok(Event::Client {
-        moment,
-        client: client_of(from),
-        way: Via::Udp,
-        bytes: owned(alloc, bytes)?,
-    })
+    Ok(held_query_event(moment, client_of(from), owned(alloc, bytes)?))
 }
 
 /// A datagram of the client of this number.

@@ -5,7 +5,7 @@ use door::{Door, Limits};
 use memory::{Heap, Starved};
 use refusing_alloc::Refusing;
 use std::alloc::Allocator;
-use std::test::Fail as Failure;
+use std::test;
 
 const SMALL: Limits = Limits {
     equal: 2,
@@ -120,7 +120,7 @@ fn first_wrong<H: Heap>(alloc: H, rows: &[Row]) -> Result<Option<(usize, Answer)
 }
 
 #[test]
-fn each_move(rt: HostRuntime) -> Result<(), Failure> {
+fn each_move(rt: HostRuntime) -> Result<(), test::Fail> {
     for rows in [&IN_ORDER[..], &FAILED, &OF_ONE_ADDRESS, &RESERVE, &TIMES] {
         assert_eq!(rt; first_wrong(rt.alloc(), rows)?, None);
     }
@@ -142,7 +142,7 @@ fn equal_ones<H: Heap>(alloc: H, count: u64) -> Result<(u64, u64, u64), Starved>
 }
 
 #[test]
-fn the_4097th_that_waits_is_refused(rt: HostRuntime) -> Result<(), Failure> {
+fn the_4097th_that_waits_is_refused(rt: HostRuntime) -> Result<(), test::Fail> {
     assert_eq!(rt; equal_ones(rt.alloc(), 4_102)?, (4, 4_096, 2));
     Ok(())
 }
@@ -153,7 +153,7 @@ fn comes_about<H: Allocator>(heap: &Refusing<H>) -> bool {
 }
 
 #[test]
-fn a_door_takes_its_memory_at_once(rt: HostRuntime) -> Result<(), Failure> {
+fn a_door_takes_its_memory_at_once(rt: HostRuntime) -> Result<(), test::Fail> {
     let heap = Refusing::new(rt.alloc());
     assert!(rt; comes_about(&heap));
     assert_eq!(rt; heap.growths(), 3);
