@@ -132,7 +132,7 @@ fn equal_ones<H: Heap>(alloc: H, count: u64) -> Result<(u64, u64, u64), Starved>
     let mut door = Door::new(alloc, Limits::of_address(256))?;
     let mut counts = (0, 0, 0);
     for address in 0..count {
-        match made(&mut door, Admit(1, address * 65_536, 0), 0) {
+        match made(&mut door, Admit(1, address.saturating_mul(65_536), 0), 0) {
             In(_) => counts.0 += 1,
             Waits => counts.1 += 1,
             _ => counts.2 += 1,
