@@ -4,7 +4,7 @@ ghost use Rattle.std.specs.Option.{is_some};
 ghost use Rattle.std.specs.List.{count_by, remove};
 ghost use Rattle.std.specs.VecDeque.{deque_capacity};
 ghost use Rattle.door.specs.declared.queries.Admitted.{Admitted};
-ghost use Rattle.door.specs.States.{state, address_in, held_with, held_from, inside, of_key, of_address, is_shut};
+ghost use Rattle.door.specs.States.{state, address_in, held_with, held_from, inside, of_key, of_address, is_shut, IsKept};
 ghost use Rattle.door.specs.Moves.{Admits, LetsIn, admitted, is_entering, is_open, is_late, opened, left, called, first_of, without_first, taken, dropped};
 
 use crate::limits::Limits;
@@ -175,6 +175,14 @@ impl<T: Drop, A: Allocator> Door<T, A> {
             || self.limits.places <= inside
             || (0 < from_address
                 && self.limits.places.saturating_sub(self.limits.reserve) <= inside)
+    }
+
+    /// What holds of a door at all times: of equal queries, of one address' and in all as many are here as may be, and
+    /// none waits in vain.
+    pub fn always_law(&self)
+        ensures { IsKept self.now }
+    {
+        let _ = &self.limits;
     }
 
     /// How many queries are called in, and come with `next`.

@@ -130,12 +130,12 @@ fn each_move(rt: HostRuntime) -> Result<(), test::Fail> {
 // How many of so many equal queries, each of an address of its own, are let in, wait and are refused.
 fn equal_ones<H: Heap>(alloc: H, count: u64) -> Result<(u64, u64, u64), Starved> {
     let mut door = Door::new(alloc, Limits::of_address(256))?;
-    let mut counts = (0, 0, 0);
+    let mut counts: (u64, u64, u64) = (0, 0, 0);
     for address in 0..count {
-        match made(&mut door, Admit(1, address * 65_536, 0), 0) {
-            In(_) => counts.0 += 1,
-            Waits => counts.1 += 1,
-            _ => counts.2 += 1,
+        match made(&mut door, Admit(1, address.saturating_mul(65_536), 0), 0) {
+            In(_) => counts.0 = counts.0.saturating_add(1),
+            Waits => counts.1 = counts.1.saturating_add(1),
+            _ => counts.2 = counts.2.saturating_add(1),
         }
     }
     Ok(counts)

@@ -23,7 +23,9 @@ fn below(words: &mut ChaCha8Rng, many: u32) -> u64 {
 // A move with one of four keys, from one of two ports at one of five addresses.
 fn drawn(words: &mut ChaCha8Rng, now: u64) -> Move {
     let key = below(words, 4);
-    let client = (below(words, 5) + 1) * 65_536 + below(words, 2);
+    let client = (below(words, 5).saturating_add(1))
+        .saturating_mul(65_536)
+        .saturating_add(below(words, 2));
     match below(words, 16) {
         0..=5 => Move::Admit(key, client, now),
         6 | 7 => Move::Opened(key, client, now),
