@@ -125,8 +125,8 @@ fn prepare_with<'t, A: Heap, T: Texts, H: Host>(
     }
 }
 
-// What the file says of the loops, and where its hints let servers be asked. More than can be counted is refused as more
-// than allowed is.
+// What the file says of the loops, and where its hints let servers be asked. More than can be counted is refused as
+// more than allowed is.
 fn bounds_of<A: Allocator>(config: &ServeConfig<'_, A>) -> Result<Bounds, Fault<'static>>
     ensures ok { IfOk result (IsBounded config.now) }
     ensures err { IfErr result (λ f. f ≡ Settings) }
