@@ -82,7 +82,10 @@ impl FramedStream {
     /// Writes what it takes; whether it took a byte.
     pub fn write(&mut self) -> bool {
         let mut took = false;
-        while self.writable && !self.broken && self.written < self.out.len() {
+        for _ in 0..u64::MAX {
+            if !self.writable || self.broken || self.written >= self.out.len() {
+                break;
+            }
             match self.stream.write(&self.out[self.written..]) {
                 Ok(0) => self.broken = true,
                 Ok(count) => {
@@ -135,7 +138,10 @@ impl FramedStream {
     /// Reads what has come, as much as it holds; whether a byte came.
     pub fn read(&mut self, buffer: &mut [u8]) -> bool {
         let mut came = false;
-        while self.readable && !self.ended && !self.broken {
+        for _ in 0..u64::MAX {
+            if !self.readable || self.ended || self.broken {
+                break;
+            }
             let room = MOST_FRAME_BYTES
                 .saturating_sub(self.got.len())
                 .min(buffer.len());
