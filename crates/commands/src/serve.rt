@@ -125,18 +125,12 @@ fn prepare_with<'t, A: Heap, T: Texts, H: Host>(
     }
 }
 
-<<<<<<< HEAD
 // What the file says of the loops, and where its hints let servers be asked. More than can be counted is refused as more
 // than allowed is.
 fn bounds_of<A: Allocator>(
     config: &ServeConfig<'_, A>,
     seed: [u8; 32],
 ) -> Result<Bounds, Fault<'static>>
-=======
-// What the file says of the loops, and where its hints let servers be asked. More than can be counted is refused as
-// more than allowed is.
-fn bounds_of<A: Allocator>(config: &ServeConfig<'_, A>) -> Result<Bounds, Fault<'static>>
->>>>>>> 28aaeefd490a061a625c56629404b3f124a80b70
     ensures ok { IfOk result (IsBounded config.now) }
     ensures err { IfErr result (λ f. f ≡ Settings) }
 {
