@@ -2,7 +2,7 @@
 ghost use Rattle.std.specs.Prelude.{◌≡◌, ◌≤◌, Ok, Err, MatchResult};
 ghost use Rattle.text_lines.specs.Faults.{IsLineFault};
 ghost use Rattle.text_lines.specs.Texts.{stated_words};
-ghost use Rattle.config.specs.Configs.{blank, end_in, number_in, hint_in, zone_in, seed_of, seed_in, once as once_of, has_origin, with_zone, said_by, said, finished};
+ghost use Rattle.config.specs.Configs.{blank, end_in, number_in, hint_in, zone_in, seed_of, seed_in, once as once_of, has_origin, with_zone, said_by, said, finished, stated};
 
 use crate::config::{Endpoint, LocalFile, ServeConfig};
 use crate::keyword::Keyword;
@@ -160,17 +160,24 @@ impl<'t, A: Heap> Draft<'t, A> {
             port: port.unwrap_or(53),
             hints,
             locals,
-            cache: cache.unwrap_or(1_024),
-            delegations: delegations.unwrap_or(1_024),
-            penalties: penalties.unwrap_or(1_024),
-            failures: failures.unwrap_or(1_024),
-            sockets: sockets.unwrap_or(16),
-            workers: workers.unwrap_or(4),
-            streams: streams.unwrap_or(1),
-            clients: clients.unwrap_or(256),
+            cache: or_usual(cache, 1_024),
+            delegations: or_usual(delegations, 1_024),
+            penalties: or_usual(penalties, 1_024),
+            failures: or_usual(failures, 1_024),
+            sockets: or_usual(sockets, 16),
+            workers: or_usual(workers, 4),
+            streams: or_usual(streams, 1),
+            clients: or_usual(clients, 256),
             seed,
         })
     }
+}
+
+// The number that a line states, or else the usual one.
+fn or_usual(number: Option<u32>, usual: u32) -> u32
+    ensures { result ≡ stated number usual }
+{
+    number.unwrap_or(usual)
 }
 
 // Whether a zone of this origin is there.
