@@ -1,4 +1,6 @@
 //! The door between clients' datagrams and the resolver: of equal questions few are under way at a time, the others wait.
+ghost use Rattle.std.specs.Prelude.{◌≤◌, IfSome, length};
+
 use dispatch::{failure_for, is_failure, is_plain_query, question_end};
 use door::{Admission, Door, Held, Limits};
 use events::{Action, Actions, Bytes};
@@ -83,7 +85,9 @@ impl Entrance {
     }
 
     // A hash of the question in lower case, of its type and class, and of RD. None where there is no plain question.
-    fn key_in(&self, message: &[u8]) -> Option<u64> {
+    fn key_in(&self, message: &[u8]) -> Option<u64>
+        ensures { IfSome result (λ key. 17 ≤ length message.now) }
+    {
         let end = question_end(message)?;
         let name = message.get(HEADER..end - TYPE_AND_CLASS)?;
         let rest = message.get(end - TYPE_AND_CLASS..end)?;
