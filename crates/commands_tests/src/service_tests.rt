@@ -41,6 +41,8 @@ fn bounds() -> Bounds {
         streams: 4,
         workers: 2,
         reach: Reach::of_hints(&[Addr([127, 0, 0, 2])]),
+        clients: 256,
+        seed: [7; 32],
     }
 }
 

@@ -1,5 +1,5 @@
 //! The loop that asks servers over TCP.
-ghost use Rattle.std.specs.Prelude.{◌≤◌, IfSome, length};
+ghost use Rattle.std.specs.Prelude.{◌<◌, ◌^◌, IfSome, length};
 
 use crate::desk::{Bounds, Desk};
 use crate::ends::{SLICE_MS, address_of};
@@ -44,22 +44,17 @@ struct Talk {
     due: bool,
 }
 
-// What has come of an ask.
-enum Progress {
-    Waits,
-    Failed,
-    Came(Vec<u8>),
-}
-
 impl Talk {
-    // Writes and reads what can be; what has come of it.
-    fn advance(&mut self, alloc: Global, buffer: &mut [u8]) -> Progress {
+    // Writes and reads what can be. None where it waits on; else it has ended, with the frame that came if one did.
+    fn advance(&mut self, alloc: Global, buffer: &mut [u8]) -> Option<Option<Vec<u8>>>
+        ensures { IfSome result (λ end. IfSome end (λ v. length v.items < 2 ^ 16)) }
+    {
         self.due = false;
         self.stream.write();
         match self.stream.next(alloc, buffer) {
-            Some(frame) => Progress::Came(frame),
-            None if self.stream.is_broken() || self.stream.has_ended() => Progress::Failed,
-            None => Progress::Waits,
+            Some(frame) => Some(Some(frame)),
+            None if self.stream.is_broken() || self.stream.has_ended() => Some(None),
+            None => None,
         }
     }
 }
@@ -210,17 +205,15 @@ fn advance<M: Machine<Event = Event, Out = Actions>, L: Ledger, R: Wait + Clock>
         return;
     };
     let number = talk.number;
-    let progress = if talk.due {
+    let end = if talk.due {
         talk.advance(desk.alloc, buffer)
     } else if check && desk.moment(rt).saturating_sub(talk.moment) >= TCP_WAIT_MS {
-        Progress::Failed
+        Some(None)
     } else {
-        Progress::Waits
+        None
     };
-    let frame = match progress {
-        Progress::Waits => return,
-        Progress::Failed => None,
-        Progress::Came(frame) => Some(frame),
+    let Some(frame) = end else {
+        return;
     };
     talks.try_remove(key);
     let event = stream_reply_event(desk.moment(rt), number, frame);
