@@ -16,7 +16,7 @@ use dispatch::{Role, role_of};
 use events::{Actions, Event};
 use pool::Shared;
 use std::alloc::Global;
-use std::net::Net;
+use std::net::{Net, TcpListener, TcpStream};
 use std::sync::Wait;
 use std::sync::atomic::{AtomicBool, Ordering};
 use std::sync::ledger::Ledger;
@@ -29,7 +29,7 @@ use std::time::Clock;
 pub fn serve_until<
     M: Machine<Event = Event, Out = Actions> + Send + Sync,
     L: Ledger + Send + Sync,
-    R: Net + Threads + Wait + Clock + Sync,
+    R: Net<Listener = TcpListener, Stream = TcpStream> + Threads + Wait + Clock + Sync,
 >(
     rt: &R,
     alloc: Global,
@@ -73,7 +73,7 @@ pub fn serve_until<
 fn run<
     M: Machine<Event = Event, Out = Actions> + Send + Sync,
     L: Ledger + Send + Sync,
-    R: Net + Threads + Wait + Clock + Sync,
+    R: Net<Listener = TcpListener, Stream = TcpStream> + Threads + Wait + Clock + Sync,
 >(rt: &R, desk: &Desk<'_, M, L>, tickets: Vec<Ticket<L>>) -> bool {
     thread::scope(
         thread::scope_env(),
@@ -89,7 +89,7 @@ fn start_all<
     E,
     M: Machine<Event = Event, Out = Actions> + Send + Sync,
     L: Ledger + Send + Sync,
-    R: Net + Wait + Clock + Sync,
+    R: Net<Listener = TcpListener, Stream = TcpStream> + Wait + Clock + Sync,
 >(rt: &'s R, scope: &Scope<'s, E>, desk: &'s Desk<'d, M, L>, tickets: Vec<Ticket<L>>) -> bool {
     let mut well = true;
     for ticket in tickets {
@@ -106,7 +106,7 @@ fn start<
     E,
     M: Machine<Event = Event, Out = Actions> + Send + Sync,
     L: Ledger + Send + Sync,
-    R: Net + Wait + Clock + Sync,
+    R: Net<Listener = TcpListener, Stream = TcpStream> + Wait + Clock + Sync,
 >(rt: &'s R, scope: &Scope<'s, E>, desk: &'s Desk<'d, M, L>, ticket: Ticket<L>) -> bool {
     let started = scope.spawn(move || work(rt, desk, ticket)).is_ok();
     if !started {
@@ -116,11 +116,11 @@ fn start<
 }
 
 // Does what the ticket is for, until the flag is up.
-fn work<M: Machine<Event = Event, Out = Actions>, L: Ledger, R: Net + Wait + Clock>(
-    rt: &R,
-    desk: &Desk<'_, M, L>,
-    ticket: Ticket<L>,
-) {
+fn work<
+    M: Machine<Event = Event, Out = Actions>,
+    L: Ledger,
+    R: Net<Listener = TcpListener, Stream = TcpStream> + Wait + Clock,
+>(rt: &R, desk: &Desk<'_, M, L>, ticket: Ticket<L>) {
     let mut ticket = ticket;
     match role_of(ticket.worker()) {
         Role::Datagrams => take_datagrams(rt, desk, &mut ticket),
