@@ -44,7 +44,7 @@ bench: built
 	tools/pace
 
 # The gate: every proof, every edit that must fail, every test and every run, and with the proved program the examples
-# and a run of the server (tools/serving); of the other edits, that they can still be applied.
+# and runs of the server (tools/serving, tools/sockets); of the other edits, that they can still be applied.
 test: kit
 	tools/layers --check
 	tools/definitions
@@ -53,6 +53,7 @@ test: kit
 	tools/prove
 	tools/examples
 	tools/serving
+	tools/sockets
 
 # Tries the edits of single functions, which the gate leaves out: of all crates, or with SINCE=COMMIT of those that
 # differ from that commit's.

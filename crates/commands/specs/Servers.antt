@@ -1,11 +1,14 @@
 -- What is printed of a server, which resolver it is, and why there is none.
-use Rattle.std.specs.Prelude.{◌≡◌, ◌⊎◌, ℕ, List, [], ◌∷◌, ◌++◌, Option, Some, None, IfSome, Ok, codes, decimal}
+use Rattle.std.specs.Prelude.{◌≡◌, ◌⊎◌, ℕ, List, [], ◌∷◌, ◌++◌, Option, Some, None, IfSome, Ok, codes, decimal, map}
 use Rattle.std.specs.Borrow.{Bor}
 use Rattle.rdata.specs.Text.{ipv4_text}
+use Rattle.rdata.specs.declared.addr.Addr.{Addr}
 use Rattle.zone.specs.Zones.{Zone as ZoneSpec}
 use Rattle.events.specs.declared.path.Endpoint.{Endpoint}
 use Rattle.config.specs.Configs.{Config, End, LocalZone, config_of}
 use Rattle.runs.specs.States.{State}
+use Rattle.dispatch.specs.Blocks.{IsReach}
+use Rattle.server.specs.declared.desk.Bounds.{Bounds}
 use Rattle.server_start.specs.Resolvers.{IsDescribed}
 use Rattle.commands.specs.Faults.{IsReported}
 use Rattle.commands.specs.Scripts.{HoldsNo}
@@ -64,10 +67,10 @@ IsUnbound Output = ⊥
 
 -- ---- The server that is started.
 
--- A server that does not run yet: its resolver, and how many threads ask other servers over TCP.
+-- A server that does not run yet: its resolver, and the bounds of its loops.
 pub record Prepared : Type 0 where
   pub resolver : State
-  pub workers : ℕ
+  pub bounds : Bounds
 
 -- ---- The resolver that is started. `held` is what is known to stand at a path.
 
@@ -87,15 +90,24 @@ LacksZone held (l ∷ ls) f = HoldsNoZone held l.file l.origin f ⊎ ((z : ZoneS
 abbrev pub IsSeedOf : Config → List ℕ → Type 0
 IsSeedOf c seed = IfSome c.seed (λ stated. stated ≡ seed)
 
--- Its resolver has the hints, the settings and the zones that the file says, and has done nothing yet; it has as many
--- workers as the file says.
+-- As many streams and workers as the file says, and servers are asked in the blocks of its hints.
+pub record IsBounded (config : Config) (b : Bounds) : Type 0 where
+  pub streams : b.streams ≡ config.streams
+  pub workers : b.workers ≡ config.workers
+  pub clients : b.clients ≡ config.clients
+  pub hints : List Addr
+  pub hinted : map (λ (a : Addr). a.0) hints ≡ config.hints
+  pub reach : IsReach hints b.reach
+
+-- Its resolver has the hints, the settings and the zones that the file says, and has done nothing yet; its loops have
+-- the bounds that the file says.
 pub record IsMadeOf (held : List ℕ → Option (Option (List ℕ))) (config : Config) (made : Prepared) : Type 0 where
   pub zones : List ZoneSpec
   pub local : AreZonesIn held config.locals zones
   pub seed : List ℕ
   pub seeded : IsSeedOf config seed
   pub is : IsDescribed config zones seed made.resolver
-  pub workers : made.workers ≡ config.workers
+  pub bounds : IsBounded config made.bounds
 
 -- It is the server that this text describes.
 pub record IsServer (held : List ℕ → Option (Option (List ℕ))) (text : List ℕ) (made : Prepared) : Type 0 where

@@ -15,7 +15,7 @@ pub trait Host {
     fn seed(&mut self) -> Option<[u8; 32]>;
 
     /// Binds the sockets of a server: the port at which clients find it, or none where an address can't be bound.
-    fn open(&mut self, listen: Endpoint, sockets: u16) -> Option<u16>
+    fn open(&mut self, listen: Endpoint) -> Option<u16>
         ensures { IfSome result (λ port. (port ≡ listen.port) ⊎ (listen.port ≡ 0)) };
 }
 
@@ -53,8 +53,8 @@ where
         Some(seed)
     }
 
-    fn open(&mut self, listen: Endpoint, sockets: u16) -> Option<u16> {
-        let ends = Ends::open(self.runtime, self.alloc, listen, sockets).ok()?;
+    fn open(&mut self, listen: Endpoint) -> Option<u16> {
+        let ends = Ends::open(self.runtime, self.alloc, listen).ok()?;
         let bound = ends.listen().ok()?;
         self.ends = Some(ends);
         if listen.port == 0 {

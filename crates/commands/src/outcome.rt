@@ -3,15 +3,16 @@ ghost use Rattle.std.specs.Prelude.{◌≡◌};
 ghost use Rattle.engine.specs.Beginnings.{IsBegun};
 
 use engine::Core;
+use server::Bounds;
 use std::alloc::{Allocator, Global};
 use std::marker::Model;
 
-/// A server that is started and does not run yet: a resolver that has done nothing, and how many workers it has for
-/// asks over TCP.
+/// A server that is started and does not run yet: a resolver that has done nothing, and what its file says of its
+/// loops.
 #[derive(Drop)]
 pub struct Server<A: Allocator = Global> {
     pub(crate) core: Core<A>,
-    pub(crate) workers: u16,
+    pub(crate) bounds: Bounds,
 }
 
 impl<A: Allocator> Model for Server<A> {
@@ -20,18 +21,18 @@ impl<A: Allocator> Model for Server<A> {
 
     ghost Value = { Prepared };
 
-    ghost view = { λ s. record { resolver = s.core; workers = s.workers } };
+    ghost view = { λ s. record { resolver = s.core; bounds = s.bounds } };
 
     ghost invariant = { λ s. IsBegun s.core };
 }
 
 impl<A: Allocator> Server<A> {
-    /// One of this resolver, with so many workers.
-    pub(crate) fn new(core: Core<A>, workers: u16) -> Server<A>
+    /// One of this resolver, within these bounds.
+    pub(crate) fn new(core: Core<A>, bounds: Bounds) -> Server<A>
         requires { IsBegun core }
-        ensures { result ≡ record { resolver = core; workers = workers } }
+        ensures { result ≡ record { resolver = core; bounds = bounds } }
     {
-        Server { core, workers }
+        Server { core, bounds }
     }
 
     /// The resolver.

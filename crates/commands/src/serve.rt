@@ -3,7 +3,7 @@ ghost use Rattle.std.specs.Prelude.{◌≡◌, Some, None, IfOk, IfErr, string_b
 ghost use Rattle.commands.specs.Faults.{IsReported};
 ghost use Rattle.commands.specs.declared.fault.Fault.TheVariants.{Settings};
 ghost use Rattle.commands.specs.Runs.{IsPrinted, IsRun};
-ghost use Rattle.commands.specs.Servers.{PrintsAddress, IsNoServer, Describes, IsStartFault, LacksSeed, LacksZone, NamesEnd, IsUnbound, AreZonesIn, IsMadeOf, IsSeedOf, IsServer, StartsWith, Starts, address_line, end_of};
+ghost use Rattle.commands.specs.Servers.{PrintsAddress, IsNoServer, Describes, IsStartFault, LacksSeed, LacksZone, NamesEnd, IsUnbound, AreZonesIn, IsMadeOf, IsBounded, IsSeedOf, IsServer, StartsWith, Starts, address_line, end_of};
 ghost use Rattle.commands.specs.Texts.{MayHold};
 ghost use Rattle.commands.specs.Zones.{HoldsZone, HoldsNoZone};
 
@@ -17,17 +17,17 @@ use config::{LocalFile, ServeConfig, read_config};
 use dname::{Heap, Starved};
 use engine::CoreError;
 use events::Endpoint;
+use server::{Bounds, Reach};
 use server_start::resolver_of;
 use std::alloc::Allocator;
 use std::io::Write;
 use zone::Zone;
 
-// A server that is made, where it is to listen, and how many sockets it has.
+// A server that is made, and where it is to listen.
 #[derive(Drop)]
 struct Prepared<A: Allocator> {
     server: Server<A>,
     listen: Endpoint,
-    sockets: u16,
 }
 
 /// Reads the file of a server at a path, and the files of its zones, binds its sockets and prints where it listens: the
@@ -108,31 +108,44 @@ fn prepare_with<'t, A: Heap, T: Texts, H: Host>(
     texts: &mut T,
     host: &mut H,
 ) -> Result<Prepared<A>, Fault<'t>>
-    ensures ok { IfOk result (λ p. (config.entry.listen ≡ end_of p.listen) × (p.sockets ≡ config.entry.sockets) × IsMadeOf (T.held texts.old) config.entry p.server) }
+    ensures ok { IfOk result (λ p. (config.entry.listen ≡ end_of p.listen) × IsMadeOf (T.held texts.old) config.entry p.server) }
     ensures err { IfErr result (IsStartFault (T.held texts.old) config.entry) }
 {
     let zones = local_zones(alloc, texts, &config.locals)?;
     let seed = seed_of(&config, host)?;
     let listen = endpoint_of(&config.listen);
-    let (sockets, workers) = counts_of(&config)?;
+    let bounds = bounds_of(&config, seed)?;
     match resolver_of(alloc, config, zones, seed) {
         Ok(core) => Ok(Prepared {
-            server: Server::new(core, workers),
+            server: Server::new(core, bounds),
             listen,
-            sockets,
         }),
         Err(CoreError::Memory) => Err(Fault::Memory),
         Err(_) => Err(Fault::Settings),
     }
 }
 
-// How many sockets and workers the file says; more than can be counted are refused as more than allowed are.
-fn counts_of<A: Allocator>(config: &ServeConfig<'_, A>) -> Result<(u16, u16), Fault<'static>>
-    ensures ok { IfOk result (λ n. (n.0 ≡ config.now.sockets) × (n.1 ≡ config.now.workers)) }
+// What the file says of the loops, and where its hints let servers be asked. More than can be counted is refused as more
+// than allowed is.
+fn bounds_of<A: Allocator>(
+    config: &ServeConfig<'_, A>,
+    seed: [u8; 32],
+) -> Result<Bounds, Fault<'static>>
+    ensures ok { IfOk result (IsBounded config.now) }
     ensures err { IfErr result (λ f. f ≡ Settings) }
 {
-    match (u16::try_from(config.sockets), u16::try_from(config.workers)) {
-        (Ok(sockets), Ok(workers)) => Ok((sockets, workers)),
+    match (
+        u16::try_from(config.streams),
+        u16::try_from(config.workers),
+        u16::try_from(config.clients),
+    ) {
+        (Ok(streams), Ok(workers), Ok(clients)) => Ok(Bounds {
+            streams,
+            workers,
+            reach: Reach::of_hints(&config.hints),
+            clients,
+            seed,
+        }),
         _ => Err(Fault::Settings),
     }
 }
@@ -203,7 +216,7 @@ fn start<A: Heap, H: Host, O: Write, E: Write>(
     ensures run { IsRun (NamesEnd (end_of prepared.listen)) IsUnbound (O.contents out.old) (O.contents out.new) (E.contents err.old) (E.contents err.new) result.status }
     ensures starts { StartsWith prepared.server result.status result.server }
 {
-    match bind(alloc, prepared.listen, prepared.sockets, host) {
+    match bind(alloc, prepared.listen, host) {
         Ok(line) => go(&line, prepared.server, out, err),
         Err(fault) => {
             drop(prepared);
@@ -242,13 +255,12 @@ fn go<A: Heap, O: Write, E: Write>(
 fn bind<A: Heap, H: Host>(
     alloc: A,
     listen: Endpoint,
-    sockets: u16,
     host: &mut H,
 ) -> Result<String<A>, Fault<'static>>
     ensures ok { IfOk result (λ s. NamesEnd (end_of listen) (string_bytes s)) }
     ensures err { IfErr result IsUnbound }
 {
-    match host.open(listen, sockets) {
+    match host.open(listen) {
         Some(port) => Ok(line(alloc, listen, port)?),
         None => Err(Fault::Socket),
     }

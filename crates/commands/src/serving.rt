@@ -27,9 +27,9 @@ pub fn serve_at<
         return report(&Fault::Socket, err);
     };
     let stop = AtomicBool::new(false);
-    let workers = server.workers;
+    let bounds = server.bounds;
     let core = server.into_core();
-    match server_start::run_server(machine.runtime, machine.alloc, core, ends, workers, &stop) {
+    match server_start::run_server(machine.runtime, machine.alloc, core, ends, bounds, &stop) {
         Ok(()) => 0,
         Err(ServeError::Memory) => report(&Fault::Memory, err),
         Err(ServeError::Clock) | Err(ServeError::Threads) => report(&Fault::Threads, err),

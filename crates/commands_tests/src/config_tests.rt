@@ -6,7 +6,7 @@ use refusing_alloc::Refusing;
 use std::test::Fail;
 
 const WHOLE: &str =
-    "; a server\n\nlisten 127.0.0.1 5300\nport 5353\nhint 198.41.0.4\n hint\t170.247.170.2\nlocal corp.example. corp.zone\nlocal . \tr/\u{e9}.zone \ncache 1000000\ndelegations 1\npenalties 7\nfailures 8\nsockets 16\nworkers 1\nseed 000102030405060708090A0b0c0d0e0f101112131415161718191a1b1c1d1e1f\n";
+    "; a server\n\nlisten 127.0.0.1 5300\nport 5353\nhint 198.41.0.4\n hint\t170.247.170.2\nlocal corp.example. corp.zone\nlocal . \tr/\u{e9}.zone \ncache 1000000\ndelegations 1\npenalties 7\nfailures 8\nsockets 16\nworkers 1\nstreams 256\nclients 1024\nseed 000102030405060708090A0b0c0d0e0f101112131415161718191a1b1c1d1e1f\n";
 
 // Whether the text is refused at this line with this number.
 fn is_refused<A: Heap>(alloc: A, text: &str, line: usize, number: u8) -> bool {
@@ -16,7 +16,7 @@ fn is_refused<A: Heap>(alloc: A, text: &str, line: usize, number: u8) -> bool {
     }
 }
 
-fn has_numbers<A: Heap>(config: &ServeConfig<'_, A>, numbers: [u32; 7]) -> bool {
+fn has_numbers<A: Heap>(config: &ServeConfig<'_, A>, numbers: [u32; 9]) -> bool {
     let port = u32::from(config.port);
     numbers
         == [
@@ -27,6 +27,8 @@ fn has_numbers<A: Heap>(config: &ServeConfig<'_, A>, numbers: [u32; 7]) -> bool 
             config.failures,
             config.sockets,
             config.workers,
+            config.streams,
+            config.clients,
         ]
 }
 
@@ -50,7 +52,7 @@ fn each_line_is_read(rt: HostRuntime) -> Result<(), Fail> {
         Err(_) => assert!(rt; false, "the text is a server's"),
         Ok(config) => {
             assert!(rt; is_whole(&config));
-            assert!(rt; has_numbers(&config, [5353, 1_000_000, 1, 7, 8, 16, 1]));
+            assert!(rt; has_numbers(&config, [5353, 1_000_000, 1, 7, 8, 16, 1, 256, 1_024]));
         }
     }
     Ok(())
@@ -61,7 +63,7 @@ fn what_is_left_out_is_as_usual(rt: HostRuntime) -> Result<(), Fail> {
     match read_config(rt.alloc(), "listen 0.0.0.0 0") {
         Err(_) => assert!(rt; false, "the text is a server's"),
         Ok(config) => {
-            assert!(rt; has_numbers(&config, [53, 1024, 1024, 1024, 1024, 16, 4]));
+            assert!(rt; has_numbers(&config, [53, 1024, 1024, 1024, 1024, 16, 4, 1, 256]));
             assert!(rt;
                 config.seed.is_none() && config.hints.is_empty() && config.locals.is_empty()
             );
@@ -108,6 +110,11 @@ fn the_first_bad_line_is_named(rt: HostRuntime) -> Result<(), Fail> {
         ("workers 0", 1, 2),
         ("workers 17", 1, 2),
         ("workers 16\nworkers 16", 2, 5),
+        ("streams 0", 1, 2),
+        ("streams 257", 1, 2),
+        ("streams 8\nstreams 8", 2, 5),
+        ("clients 0", 1, 2),
+        ("clients 1025", 1, 2),
         ("hint 1.2.3.04", 1, 8),
         ("local a..b x", 1, 3),
         ("local a", 1, 5),

@@ -11,7 +11,7 @@ impl Host for Nowhere {
         None
     }
 
-    fn open(&mut self, _listen: Endpoint, _sockets: u16) -> Option<u16> {
+    fn open(&mut self, _listen: Endpoint) -> Option<u16> {
         None
     }
 }

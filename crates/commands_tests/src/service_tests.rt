@@ -7,7 +7,8 @@ use crate::nameservers::{Nameserver, nameservers, port_of, world};
 use config::read_config;
 use dname::Starved;
 use engine::Core;
-use server::Ends;
+use rdata::Addr;
+use server::{Bounds, Ends, Reach};
 use server_start::{resolver_of, run_server};
 use std::alloc::Global;
 use std::net::{Net, TcpListener, TcpStream};
@@ -23,7 +24,7 @@ fn resolver(alloc: Global, world: &World, port: u16) -> Result<Core, Starved>
     ensures { IfOk result IsBegun }
 {
     let text = format!(in alloc;
-        "listen 127.0.0.1 0\nport {port}\nhint 127.0.0.2\nlocal corp.example. corp\nsockets 2\nworkers 2\n"
+        "listen 127.0.0.1 0\nport {port}\nhint 127.0.0.2\nlocal corp.example. corp\nsockets 2\nworkers 2\nstreams 4\n"
     )?;
     let Ok(config) = read_config(alloc, text.as_str()) else {
         return Err(Starved);
@@ -31,6 +32,17 @@ fn resolver(alloc: Global, world: &World, port: u16) -> Result<Core, Starved>
     match resolver_of(alloc, config, world.held()?, [7; 32]) {
         Ok(core) => Ok(core),
         Err(_) => Err(Starved),
+    }
+}
+
+// What the text says of its loops.
+fn bounds() -> Bounds {
+    Bounds {
+        streams: 4,
+        workers: 2,
+        reach: Reach::of_hints(&[Addr([127, 0, 0, 2])]),
+        clients: 256,
+        seed: [7; 32],
     }
 }
 
@@ -44,7 +56,7 @@ fn resolve<R: Net<Listener = TcpListener, Stream = TcpStream> + Threads + Wait +
     stop: &AtomicBool,
 ) -> bool {
     match resolver(alloc, world, port) {
-        Ok(core) => run_server(rt, alloc, core, ends, 2, stop).is_ok(),
+        Ok(core) => run_server(rt, alloc, core, ends, bounds(), stop).is_ok(),
         Err(_) => false,
     }
 }
@@ -91,7 +103,7 @@ fn meeting<R: Net<Listener = TcpListener, Stream = TcpStream> + Threads + Wait +
 ) -> Result<u64, &'static str> {
     let hosts = nameservers(rt, alloc).ok_or("no sockets for the servers")?;
     let port = port_of(&hosts).ok_or("no port")?;
-    let Ok(ends) = Ends::open(rt, alloc, ANYWHERE, 2) else {
+    let Ok(ends) = Ends::open(rt, alloc, ANYWHERE) else {
         return Err("no sockets for the resolver");
     };
     let Ok(at) = ends.listen() else {

@@ -15,6 +15,14 @@ use Rattle.config.specs.declared.keyword.Keyword.{Keyword}
 use Rattle.config.specs.declared.keyword.Keyword.TheVariants as the
 use Rattle.config.specs.Keywords.{keyword_of}
 
+-- The most streams of clients that are open at once.
+abbrev pub max_streams : ℕ
+max_streams = 256
+
+-- The most questions that one address may have under way.
+abbrev pub max_clients : ℕ
+max_clients = 1024
+
 -- Where a server listens.
 pub record End : Type 0 where
   pub address : List ℕ
@@ -37,6 +45,8 @@ pub record Draft : Type 0 where
   pub failures : Option ℕ
   pub sockets : Option ℕ
   pub workers : Option ℕ
+  pub streams : Option ℕ
+  pub clients : Option ℕ
   pub seed : Option (List ℕ)
 
 abbrev pub blank : Draft
@@ -51,6 +61,8 @@ blank = record {
   failures = None;
   sockets = None;
   workers = None;
+  streams = None;
+  clients = None;
   seed = None;
 }
 
@@ -105,6 +117,8 @@ said_by d the.Penalties ws = number_in 1 max_entries ws >>= λ n. (once d.penalt
 said_by d the.Failures ws = number_in 1 max_entries ws >>= λ n. (once d.failures n >>= λ v. Ok (record d { failures = v }))
 said_by d the.Sockets ws = number_in 1 max_sockets ws >>= λ n. (once d.sockets n >>= λ v. Ok (record d { sockets = v }))
 said_by d the.Workers ws = number_in 1 max_workers ws >>= λ n. (once d.workers n >>= λ v. Ok (record d { workers = v }))
+said_by d the.Streams ws = number_in 1 max_streams ws >>= λ n. (once d.streams n >>= λ v. Ok (record d { streams = v }))
+said_by d the.Clients ws = number_in 1 max_clients ws >>= λ n. (once d.clients n >>= λ v. Ok (record d { clients = v }))
 said_by d the.Seed ws = seed_in ws >>= λ s. (once d.seed s >>= λ v. Ok (record d { seed = v }))
 
 abbrev pub said_if : Draft → Option Keyword → List (List ℕ) → Result Draft LineKind
@@ -129,6 +143,8 @@ pub record Config : Type 0 where
   pub failures : ℕ
   pub sockets : ℕ
   pub workers : ℕ
+  pub streams : ℕ
+  pub clients : ℕ
   pub seed : Option (List ℕ)
 
 abbrev pub stated : Option ℕ → ℕ → ℕ
@@ -149,6 +165,8 @@ finished d (Some e) = Ok (record {
   failures = stated d.failures 1024;
   sockets = stated d.sockets 16;
   workers = stated d.workers 4;
+  streams = stated d.streams 1;
+  clients = stated d.clients 256;
   seed = d.seed;
 })
 

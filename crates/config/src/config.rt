@@ -2,9 +2,10 @@
 //!
 //! `listen ADDRESS PORT` says where the server listens. `port N` is the port of other servers (53), `hint ADDRESS` a
 //! server of the root, `local ORIGIN FILE` a zone that is served from its file. `cache N`, `delegations N`,
-//! `penalties N` and `failures N` say how many entries are kept of each (1,024), `sockets N` and `workers N` how many
-//! upstream sockets (16) and TCP workers (4) there are, `seed HEX` where identifiers begin. Blank lines and lines that
-//! begin with `;` are skipped. Words are parted by spaces and tabs.
+//! `penalties N` and `failures N` say how many entries are kept of each (1,024), `sockets N` of how many socket
+//! numbers each ask draws one (16), `workers N` how many times sixteen asks over TCP are under way (4), `streams N` how
+//! many streams of clients are open (1), `seed HEX` where identifiers begin. Blank lines and lines that begin with `;`
+//! are skipped. Words are parted by spaces and tabs.
 ghost use Rattle.std.specs.Prelude.{◌≡◌, Ok, Err, MatchResult};
 ghost use Rattle.text_lines.specs.Texts.{IsTextFault};
 ghost use Rattle.config.specs.Configs.{config_of};
@@ -69,10 +70,14 @@ pub struct ServeConfig<'t, A: Allocator = Global> {
     pub penalties: u32,
     /// How many questions that a server failed to answer are kept at most, 1 to 1,000,000.
     pub failures: u32,
-    /// Upstream sockets, 1 to 16.
+    /// Numbers of sockets that are drawn for asks, 1 to 16.
     pub sockets: u32,
-    /// TCP workers, 1 to 16.
+    /// Sixteen asks over TCP are under way for each of these, 1 to 16.
     pub workers: u32,
+    /// Streams of clients that are open at once, 1 to 256.
+    pub streams: u32,
+    /// Questions that one address may have under way in datagrams, 1 to 1,024.
+    pub clients: u32,
     /// The 32 bytes from which IDs and sockets are drawn, and behind which keys are hashed: for tests alone. Where
     /// there are none, the system gives them.
     pub seed: Option<[u8; 32]>,
@@ -84,7 +89,7 @@ impl<'t, A: Allocator> Model for ServeConfig<'t, A> {
 
     ghost Value = { Config };
 
-    ghost view = { λ c. record { listen = c.listen; port = c.port; hints = map (λ a. a.0) c.hints.items; locals = c.locals.items; cache = c.cache; delegations = c.delegations; penalties = c.penalties; failures = c.failures; sockets = c.sockets; workers = c.workers; seed = c.seed } };
+    ghost view = { λ c. record { listen = c.listen; port = c.port; hints = map (λ a. a.0) c.hints.items; locals = c.locals.items; cache = c.cache; delegations = c.delegations; penalties = c.penalties; failures = c.failures; sockets = c.sockets; workers = c.workers; streams = c.streams; clients = c.clients; seed = c.seed } };
 }
 
 /// What a server's file says. Refused by its first bad line, counted from 1: a value out of its limits as a bad number,

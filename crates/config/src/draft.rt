@@ -2,7 +2,7 @@
 ghost use Rattle.std.specs.Prelude.{◌≡◌, ◌≤◌, Ok, Err, MatchResult};
 ghost use Rattle.text_lines.specs.Faults.{IsLineFault};
 ghost use Rattle.text_lines.specs.Texts.{stated_words};
-ghost use Rattle.config.specs.Configs.{blank, end_in, number_in, hint_in, zone_in, seed_of, seed_in, once as once_of, has_origin, with_zone, said_by, said, finished};
+ghost use Rattle.config.specs.Configs.{blank, end_in, number_in, hint_in, zone_in, seed_of, seed_in, once as once_of, has_origin, with_zone, said_by, said, finished, stated};
 
 use crate::config::{Endpoint, LocalFile, ServeConfig};
 use crate::keyword::Keyword;
@@ -17,8 +17,14 @@ use text_lines::{LineKind, LineWords};
 // How many entries of one kind are kept at most.
 const ENTRIES: u64 = MAX_ENTRIES as u64;
 
-// How many sockets, and how many workers, there are at most.
+// How many socket numbers, and how many workers, there are at most.
 const THREADS: u64 = MAX_SOCKETS as u64;
+
+// How many streams of clients are open at once, at most.
+const STREAMS: u64 = 256;
+
+// How many questions one address may have under way, at most.
+const CLIENTS: u64 = 1_024;
 
 /// What the lines said up to here.
 #[derive(Drop)]
@@ -33,6 +39,8 @@ pub(crate) struct Draft<'t, A: Allocator> {
     failures: Option<u32>,
     sockets: Option<u32>,
     workers: Option<u32>,
+    streams: Option<u32>,
+    clients: Option<u32>,
     seed: Option<[u8; 32]>,
 }
 
@@ -42,7 +50,7 @@ impl<'t, A: Allocator> Model for Draft<'t, A> {
 
     ghost Value = { DraftSpec };
 
-    ghost view = { λ d. record { listen = d.listen; port = d.port; hints = map (λ a. a.0) d.hints.items; locals = d.locals.items; cache = d.cache; delegations = d.delegations; penalties = d.penalties; failures = d.failures; sockets = d.sockets; workers = d.workers; seed = d.seed } };
+    ghost view = { λ d. record { listen = d.listen; port = d.port; hints = map (λ a. a.0) d.hints.items; locals = d.locals.items; cache = d.cache; delegations = d.delegations; penalties = d.penalties; failures = d.failures; sockets = d.sockets; workers = d.workers; streams = d.streams; clients = d.clients; seed = d.seed } };
 }
 
 // A value that one line alone may state.
@@ -70,6 +78,8 @@ impl<'t, A: Heap> Draft<'t, A> {
             failures: None,
             sockets: None,
             workers: None,
+            streams: None,
+            clients: None,
             seed: None,
         }
     }
@@ -105,6 +115,8 @@ impl<'t, A: Heap> Draft<'t, A> {
             Keyword::Failures => self.failures = once(self.failures, number(words, ENTRIES)?)?,
             Keyword::Sockets => self.sockets = once(self.sockets, number(words, THREADS)?)?,
             Keyword::Workers => self.workers = once(self.workers, number(words, THREADS)?)?,
+            Keyword::Streams => self.streams = once(self.streams, number(words, STREAMS)?)?,
+            Keyword::Clients => self.clients = once(self.clients, number(words, CLIENTS)?)?,
             Keyword::Seed => self.seed = once(self.seed, seed(words)?)?,
         }
         Ok(())
@@ -136,6 +148,8 @@ impl<'t, A: Heap> Draft<'t, A> {
             failures,
             sockets,
             workers,
+            streams,
+            clients,
             seed,
         } = self;
         let Some(listen) = listen else {
@@ -146,15 +160,24 @@ impl<'t, A: Heap> Draft<'t, A> {
             port: port.unwrap_or(53),
             hints,
             locals,
-            cache: cache.unwrap_or(1_024),
-            delegations: delegations.unwrap_or(1_024),
-            penalties: penalties.unwrap_or(1_024),
-            failures: failures.unwrap_or(1_024),
-            sockets: sockets.unwrap_or(16),
-            workers: workers.unwrap_or(4),
+            cache: or_usual(cache, 1_024),
+            delegations: or_usual(delegations, 1_024),
+            penalties: or_usual(penalties, 1_024),
+            failures: or_usual(failures, 1_024),
+            sockets: or_usual(sockets, 16),
+            workers: or_usual(workers, 4),
+            streams: or_usual(streams, 1),
+            clients: or_usual(clients, 256),
             seed,
         })
     }
+}
+
+// The number that a line states, or else the usual one.
+fn or_usual(number: Option<u32>, usual: u32) -> u32
+    ensures { result ≡ stated number usual }
+{
+    number.unwrap_or(usual)
 }
 
 // Whether a zone of this origin is there.

@@ -15,6 +15,8 @@ pub(crate) enum Keyword {
     Failures,
     Sockets,
     Workers,
+    Streams,
+    Clients,
     Seed,
 }
 
@@ -34,6 +36,8 @@ impl Keyword {
             "failures" => Some(Keyword::Failures),
             "sockets" => Some(Keyword::Sockets),
             "workers" => Some(Keyword::Workers),
+            "streams" => Some(Keyword::Streams),
+            "clients" => Some(Keyword::Clients),
             "seed" => Some(Keyword::Seed),
             _ => None,
         }

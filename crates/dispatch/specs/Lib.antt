@@ -3,3 +3,6 @@ pub mod Parcels
 pub mod Targets
 pub mod Senders
 pub mod Roles
+pub mod Repeats
+pub mod Blocks
+pub mod Places

@@ -1,12 +1,12 @@
--- The workers of a server, by their numbers: one for the datagrams of clients, one for their streams, one for the
--- clock, one for each upstream socket, and the rest for asks over TCP.
-use Rattle.std.specs.Prelude.{◌≡◌, ℕ, ◌+◌, ◌<◌, ◌≤◌}
+-- The loops of a server, by their numbers: for the datagrams of clients, their streams, the clock, the datagrams of other
+-- servers, and, whatever is left, asks over TCP.
+use Rattle.std.specs.Prelude.{◌≡◌, ℕ, ◌≤◌}
 use Rattle.dispatch.specs.declared.roles.Role.{Role}
 use Rattle.dispatch.specs.declared.roles.Role.TheVariants.{Datagrams, Streams, Clock, Upstream, Asks}
 
-abbrev pub IsRole : ℕ → ℕ → Role → Type 0
-IsRole worker sockets Datagrams = worker ≡ 0
-IsRole worker sockets Streams = worker ≡ 1
-IsRole worker sockets Clock = worker ≡ 2
-IsRole worker sockets (Upstream n) = (worker ≡ 3 + n) × (n < sockets)
-IsRole worker sockets Asks = 3 + sockets ≤ worker
+abbrev pub IsRole : ℕ → Role → Type 0
+IsRole worker Datagrams = worker ≡ 0
+IsRole worker Streams = worker ≡ 1
+IsRole worker Clock = worker ≡ 2
+IsRole worker Upstream = worker ≡ 3
+IsRole worker Asks = 4 ≤ worker

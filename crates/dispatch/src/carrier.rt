@@ -24,16 +24,16 @@ pub trait Carrier<A: Allocator> {
     fn to_stream(&mut self, client: u64, bytes: &Bytes<A>)
         ensures { Adds (carried self.old) (parcel (Stream client) bytes.now) (carried self.new) };
 
-    /// To this server, in a datagram from the upstream socket of this number.
+    /// To this server, in a datagram, as an ask under this socket number.
     fn to_server(&mut self, socket: u16, to: Endpoint, bytes: &Bytes<A>)
         ensures { Adds (carried self.old) (parcel (Server socket to) bytes.now) (carried self.new) };
 
-    /// To a worker, who asks this server over TCP and tells of it under this number: whether one can be handed it.
+    /// To this server over TCP, of which is told under this number: whether it can be asked so.
     fn to_worker(&mut self, number: u64, to: Endpoint, bytes: &Bytes<A>) -> bool
         ensures { MatchBool result (Adds (carried self.old) (parcel (Worker number to) bytes.now) (carried self.new)) (carried self.new ≡ carried self.old) };
 }
 
-/// Hands an action over, to where it goes. Gives the number of an ask over TCP that no worker can be handed.
+/// Hands an action over, to where it goes. Gives the number of an ask over TCP that can't be made.
 pub fn hand_over<A: Allocator, C: Carrier<A>>(carrier: &mut C, action: &Action<A>) -> Option<u64>
     ensures { MatchOption result (Adds (C.carried carrier.old) (parcel_of action.now) (C.carried carrier.new)) (λ number. IsTcpAskRefused action.now number (C.carried carrier.old) (C.carried carrier.new)) }
 {

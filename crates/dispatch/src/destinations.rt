@@ -15,9 +15,9 @@ pub enum Destination {
     Client(Endpoint),
     /// To the client whose frame came under this number, on its stream.
     Stream(u64),
-    /// To this server, in a datagram from the upstream socket of this number.
+    /// To this server, in a datagram, as an ask under this socket number.
     Server(u16, Endpoint),
-    /// To this server over TCP, by any worker, who tells of it under this number.
+    /// To this server over TCP, of which is told under this number.
     Worker(u64, Endpoint),
 }
 

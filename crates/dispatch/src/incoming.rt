@@ -29,12 +29,19 @@ pub fn query_event<A: Heap>(
     requires { length bytes.now ≤ 65535 }
     ensures { IfOk result (λ e. event_view e ≡ Client moment (client_number from) Udp bytes.now) }
 {
-    Ok(Event::Client {
+    Ok(held_query_event(moment, client_of(from), owned(alloc, bytes)?))
+}
+
+/// A datagram of the client of this number.
+pub fn held_query_event<A: Heap>(moment: u64, client: u64, bytes: Bytes<A>) -> Event<A>
+    ensures { event_view result ≡ Client moment client Udp bytes }
+{
+    Event::Client {
         moment,
-        client: client_of(from),
+        client,
         way: Via::Udp,
-        bytes: owned(alloc, bytes)?,
-    })
+        bytes,
+    }
 }
 
 /// A frame of a client's stream, under a number.
@@ -50,7 +57,7 @@ pub fn stream_query_event<A: Heap>(moment: u64, client: u64, bytes: Vec<u8, A>) 
     }
 }
 
-/// A datagram at the upstream socket of this number.
+/// A datagram for an ask under this socket number.
 pub fn datagram_event<A: Heap>(
     alloc: A,
     moment: u64,

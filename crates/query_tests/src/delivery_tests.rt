@@ -1,5 +1,8 @@
 //! Clients by their numbers, the loops of a small server, and what is handed over of each action.
-use dispatch::{Carrier, Role, client_of, hand_over, role_of, seats_of, sender_of};
+use dispatch::{
+    Carrier, LOOPS, Reach, Role, client_of, hand_over, place_of, repeats, role_of, sender_of,
+    silence_before_yielding, stream_number,
+};
 use dname::Starved;
 use events::{Action, Bytes, Endpoint};
 use front::Via;
@@ -25,14 +28,88 @@ fn each_worker_has_its_loop(rt: HostRuntime) -> Result<(), Fail> {
         Role::Datagrams,
         Role::Streams,
         Role::Clock,
-        Role::Upstream(0),
-        Role::Upstream(1),
-        Role::Asks,
+        Role::Upstream,
         Role::Asks,
     ];
-    assert_eq!(rt; seats_of(2, 2), roles.len());
+    assert_eq!(rt; LOOPS, roles.len());
     for (worker, role) in roles.iter().enumerate() {
-        assert!(rt; role_of(worker, 2) == *role, "worker {worker}");
+        assert!(rt; role_of(worker) == *role, "worker {worker}");
+    }
+    Ok(())
+}
+
+// An ask for `Ab.c.`, type A, and what a server says of it: the bytes that differ from the right reply, and whether it
+// repeats the ask.
+const ASK: [u8; 22] = [
+    1, 2, 0, 0, 0, 1, 0, 0, 0, 0, 0, 0, 2, b'A', b'b', 1, b'c', 0, 0, 1, 0, 1,
+];
+
+const REPLIES: [(&str, usize, u8, bool); 13] = [
+    ("as it was asked", 2, 0x80, true),
+    ("authoritative, truncated, RD", 2, 0x87, true),
+    ("another ID", 0, 9, false),
+    ("another ID, lower byte", 1, 9, false),
+    ("no reply", 2, 0, false),
+    ("operation 1", 2, 0x88, false),
+    ("no question", 5, 0, false),
+    ("257 questions", 4, 1, false),
+    ("an answer behind", 7, 1, true),
+    ("a small letter", 13, b'a', true),
+    ("another letter", 13, b'x', false),
+    ("another type", 19, 65, false),
+    ("another class", 21, 3, false),
+];
+
+#[test]
+fn a_reply_repeats_its_ask(rt: HostRuntime) -> Result<(), Fail> {
+    for (what, at, byte, wanted) in REPLIES {
+        let mut reply = ASK;
+        reply[2] = 0x80;
+        reply[at] = byte;
+        assert_eq!(rt; repeats(&ASK, &reply), wanted, "{what}");
+        assert!(rt; !repeats(&ASK, &reply[..21]), "{what}, cut");
+    }
+    Ok(())
+}
+
+#[test]
+fn streams_have_places(rt: HostRuntime) -> Result<(), Fail> {
+    for (serial, place) in [(0, 0), (1, 255), (u64::MAX, 7)] {
+        assert_eq!(rt; place_of(stream_number(serial, place)), place);
+    }
+    assert_eq!(rt; stream_number(3, 4), 0x304);
+    for (places, awaits, wanted) in [
+        (1, false, 3_000),
+        (1, true, 10_000),
+        (4, true, 2_500),
+        (128, false, 23),
+        (128, true, 1_000),
+    ] {
+        assert_eq!(rt; silence_before_yielding(places, awaits), wanted);
+    }
+    Ok(())
+}
+
+// First bytes of addresses, and whether a server there is asked without a hint in its block.
+const ADDRESSES: [(u8, bool); 8] = [
+    (0, false),
+    (1, true),
+    (10, true),
+    (126, true),
+    (127, false),
+    (128, true),
+    (223, true),
+    (224, false),
+];
+
+#[test]
+fn hints_let_their_blocks_be_asked(rt: HostRuntime) -> Result<(), Fail> {
+    let none = Reach::of_hints(&[Addr([198, 41, 0, 4])]);
+    for (first, wanted) in ADDRESSES {
+        assert_eq!(rt; none.has(Addr([first, 0, 0, 1])), wanted, "{first}");
+        let hinted = Reach::of_hints(&[Addr([198, 41, 0, 4]), Addr([first, 9, 9, 9])]);
+        assert!(rt; hinted.has(Addr([first, 0, 0, 1])), "{first}, hinted");
+        assert!(rt; !hinted.has(Addr([0, 0, 0, 1])) || !hinted.has(Addr([255, 0, 0, 1])));
     }
     Ok(())
 }

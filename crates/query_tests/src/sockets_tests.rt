@@ -1,7 +1,7 @@
 //! Frames over readers and writers that end or fault at each byte.
 use dname::Heap;
 use refusing_alloc::Refusing;
-use sockets::{FrameError, read_framed, write_framed};
+use sockets::{FrameError, framed, read_framed, write_framed};
 use std::alloc::Global;
 use std::io;
 use std::io::{ErrorKind, Read, Write};
@@ -9,6 +9,21 @@ use std::test::Fail;
 
 // A frame of three bytes, and what stands behind it.
 const STREAM: [u8; 7] = [0, 3, 0xaa, 0xbb, 0xcc, 0, 9];
+
+#[test]
+fn the_first_frame_that_came_is_told(rt: HostRuntime) -> Result<(), Fail> {
+    for count in 0..5 {
+        assert!(rt; framed(&STREAM[..count]).is_none(), "of {count} bytes");
+    }
+    for count in 5..8 {
+        assert!(rt;
+            framed(&STREAM[..count]) == Some(&STREAM[2..5]),
+            "of {count} bytes"
+        );
+    }
+    assert!(rt; framed(&[0, 0]).is_some_and(|bytes| bytes.is_empty()));
+    Ok(())
+}
 
 // A stream that gives its bytes two at a time, and then ends or faults.
 #[derive(Drop)]

@@ -21,6 +21,7 @@ pub(crate) fn pass_time<M: Machine<Event = Event, Out = Actions>, L: Ledger, R: 
             return;
         }
         let moment = desk.moment(rt);
+        desk.entrance.pass_time(rt, moment);
         if !desk.put(rt, ticket, Event::Tick { moment }).more_due {
             rest(rt);
         }

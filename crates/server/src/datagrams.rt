@@ -3,11 +3,9 @@ ghost use Rattle.std.specs.Prelude.{◌≤◌, IfSome, length};
 
 use crate::clock::rest;
 use crate::desk::Desk;
-use crate::ends::{MOST_BYTES, endpoint_of};
+use crate::ends::{MOST_BYTES, endpoint_of, is_early};
 use book::{Machine, Ticket};
-use dispatch::query_event;
 use events::{Actions, Endpoint, Event};
-use std::io::ErrorKind;
 use std::net::UdpSocket;
 use std::sync::Wait;
 use std::sync::ledger::Ledger;
@@ -25,17 +23,15 @@ pub(crate) fn take_datagrams<M: Machine<Event = Event, Out = Actions>, L: Ledger
         if desk.is_over() {
             return;
         }
-        if let Some((count, from)) = next_datagram(rt, &ends.clients, &mut buffer)
-            && let Ok(event) = query_event(desk.alloc, desk.moment(rt), from, &buffer[..count])
-        {
-            desk.put(rt, ticket, event);
+        if let Some((count, from)) = next_datagram(rt, &ends.clients, &mut buffer) {
+            desk.put_datagram(rt, ticket, from, &buffer[..count]);
         }
     }
 }
 
-/// The next datagram at a socket: how many bytes it has, which stand at the front of the buffer, and who sent it. None
-/// where none came in time, and at a fault, which is a loss: since it may last, the loop rests for a while.
-pub(crate) fn next_datagram<R: Clock>(
+// The next datagram at a socket: how many bytes it has, which stand at the front of the buffer, and who sent it. None
+// where none came in time, and at a fault, which is a loss: since it may last, the loop rests for a while.
+fn next_datagram<R: Clock>(
     rt: &R,
     socket: &UdpSocket,
     buffer: &mut [u8],
@@ -44,7 +40,7 @@ pub(crate) fn next_datagram<R: Clock>(
 {
     match socket.recv_from(buffer) {
         Ok((count, from)) => Some((count, endpoint_of(from)?)),
-        Err(error) if error.kind() == ErrorKind::WouldBlock => None,
+        Err(error) if is_early(&error) => None,
         Err(_) => {
             rest(rt);
             None

@@ -1,19 +1,31 @@
-//! What the loops share: the machine, the sockets, the channels between the loops, and the flag.
-use crate::ends::Ends;
+//! What the loops share: the machine, the sockets, the door, the channels between the loops, and the flag.
+ghost use Rattle.std.specs.Prelude.{◌≤◌, length};
+
+use crate::ends::{Ends, address_of};
+use crate::entrance::{Entrance, Entry, Question};
+use crate::moments::Beginning;
 use crate::outbox::{Outbox, StreamAsk, StreamReply};
 use book::{Machine, Ticket};
 use crossbeam_channel::{Receiver, Sender};
-use dispatch::{hand_over, stream_reply_event};
-use events::{Actions, Event};
+use dispatch::{
+    Reach, client_of, hand_over, held_query_event, query_event, sender_of, stream_reply_event,
+};
+use events::{Action, Actions, Bytes, Endpoint, Event};
 use pool::{Shared, submit};
 use std::alloc::Global;
 use std::sync::Wait;
 use std::sync::atomic::{AtomicBool, Ordering};
 use std::sync::ledger::Ledger;
-use std::time::{Clock, Instant};
+use std::time::Clock;
 
 // More asks than one query makes: a query that comes to nothing but refused asks ends before.
 const MAX_REFUSED_HANDOVERS: u32 = 64;
+
+// How many questions are let in in a row; the others are at the next event, or the next tick.
+const MOST_LET_IN: u32 = 256;
+
+// How many questions get a failure in a row: as many as wait.
+const MOST_FAILED: u32 = 4_096;
 
 /// What came of an event.
 #[derive(Clone, Copy)]
@@ -30,18 +42,35 @@ const NOTHING: Upshot = Upshot {
     more_due: false,
 };
 
+/// What a server's file says of its loops.
+#[derive(Clone, Copy, Debug, PartialEq, Eq)]
+pub struct Bounds {
+    /// How many streams of clients are open at once, 1 to 256.
+    pub streams: u16,
+    /// Sixteen asks over TCP are under way for each of these, 1 to 16.
+    pub workers: u16,
+    /// At which addresses servers are asked.
+    pub reach: Reach,
+    /// How many questions one address may have under way in datagrams, 1 to 1,024.
+    pub clients: u16,
+    /// Behind this the questions of clients are hashed.
+    pub seed: [u8; 32],
+}
+
 /// What the loops share.
 #[derive(Drop)]
 pub(crate) struct Desk<'a, M: Machine, L: Ledger> {
     pub alloc: Global,
     pub shared: &'a Shared<M, L>,
     pub ends: &'a Ends,
-    pub to_workers: &'a Sender<StreamAsk>,
+    pub bounds: Bounds,
+    pub entrance: &'a Entrance,
+    pub to_servers: &'a Sender<StreamAsk>,
     pub asks: &'a Receiver<StreamAsk>,
     pub to_streams: &'a Sender<StreamReply>,
     pub replies: &'a Receiver<StreamReply>,
     pub stop: &'a AtomicBool,
-    pub start: Instant,
+    pub beginning: Beginning,
 }
 
 impl<M: Machine<Event = Event, Out = Actions>, L: Ledger> Desk<'_, M, L> {
@@ -50,26 +79,91 @@ impl<M: Machine<Event = Event, Out = Actions>, L: Ledger> Desk<'_, M, L> {
         self.stop.load(Ordering::SeqCst)
     }
 
-    /// Milliseconds since the server began. Where the clock can't be read no time has passed: the machine takes the
-    /// latest moment that it heard of.
+    /// Milliseconds since the server began.
     pub fn moment<R: Clock>(&self, rt: &R) -> u64 {
-        match self.start.elapsed(rt) {
-            Ok(passed) => u64::try_from(passed.as_millis()).unwrap_or(u64::MAX),
-            Err(_) => 0,
+        self.beginning.moment(rt)
+    }
+
+    /// Puts a client's datagram: a question that equals others which are under way waits for them at the door.
+    pub fn put_datagram<R: Wait + Clock>(
+        &self,
+        rt: &R,
+        ticket: &mut Ticket<L>,
+        from: Endpoint,
+        bytes: &[u8],
+    )
+        requires { length bytes.now ≤ 65535 }
+    {
+        let moment = self.moment(rt);
+        let Some(question) = self.entrance.question(client_of(from), bytes) else {
+            if let Ok(event) = query_event(self.alloc, moment, from, bytes) {
+                self.put(rt, ticket, event);
+            }
+            return;
+        };
+        let Ok(bytes) = Vec::from_slice(self.alloc, bytes) else {
+            return;
+        };
+        if let Entry::In(bytes) = self.entrance.admit(rt, question, moment, Bytes::new(bytes)) {
+            self.put_question(rt, ticket, question, bytes);
+        }
+        self.let_in(rt, ticket);
+    }
+
+    // Puts a question that was let in.
+    fn put_question<R: Wait + Clock>(
+        &self,
+        rt: &R,
+        ticket: &mut Ticket<L>,
+        question: Question,
+        bytes: Bytes,
+    ) {
+        let event = held_query_event(self.moment(rt), question.client, bytes);
+        self.step(rt, ticket, event, Some(question));
+    }
+
+    /// Puts the questions that are called in, some of them.
+    pub fn let_in<R: Wait + Clock>(&self, rt: &R, ticket: &mut Ticket<L>) {
+        for _ in 0..MOST_LET_IN {
+            let Some(held) = self.entrance.next(rt) else {
+                return;
+            };
+            let question = Question {
+                key: held.key,
+                client: held.client,
+            };
+            self.put_question(rt, ticket, question, held.payload);
         }
     }
 
-    /// Puts an event, and hands over what goes out; what came of it. An ask over TCP that no worker can be handed has
-    /// failed, which is an event again.
+    /// Puts an event, and hands over what goes out; what came of it. Then who waited for it comes in.
     pub fn put<R: Wait + Clock>(&self, rt: &R, ticket: &mut Ticket<L>, event: Event) -> Upshot {
+        let upshot = self.step(rt, ticket, event, None);
+        self.let_in(rt, ticket);
+        upshot
+    }
+
+    // Puts an event, of a question that was let in or another one, and hands over what goes out; what came of it. An ask
+    // over TCP that can't be made has failed, which is an event again.
+    fn step<R: Wait + Clock>(
+        &self,
+        rt: &R,
+        ticket: &mut Ticket<L>,
+        event: Event,
+        question: Option<Question>,
+    ) -> Upshot {
         let mut event = event;
+        let mut question = question;
         for _ in 0..MAX_REFUSED_HANDOVERS {
             let Ok(entry) = submit(rt, self.shared, ticket, event) else {
+                self.tell_door(rt, question, None);
                 return NOTHING;
             };
             let Ok(actions) = entry.out() else {
+                self.tell_door(rt, question, None);
                 return NOTHING;
             };
+            self.tell_door(rt, question.take(), Some(actions));
             match self.send_out(rt, actions) {
                 Some(number) => event = stream_reply_event(self.moment(rt), number, None),
                 None => {
@@ -83,14 +177,52 @@ impl<M: Machine<Event = Event, Out = Actions>, L: Ledger> Desk<'_, M, L> {
         NOTHING
     }
 
-    // Hands over what goes out of a step; the number of an ask over TCP that no worker can be handed.
+    // Tells the door what came of a step, before that is handed over: else a reply might come before its question is
+    // noted. Those who wait for a question that failed get the failure too (RFC 9520, section 3.2).
+    fn tell_door<R: Wait + Clock>(
+        &self,
+        rt: &R,
+        question: Option<Question>,
+        actions: Option<&Actions>,
+    ) {
+        match (question, actions) {
+            (Some(question), actions) => {
+                let action = actions.and_then(|actions| actions.first.as_ref());
+                self.entrance.stepped(rt, question, self.moment(rt), action);
+            }
+            (None, Some(actions)) => {
+                if let Some(action) = &actions.first {
+                    self.fail_others(rt, action);
+                }
+                self.entrance.other_stepped(rt, actions);
+            }
+            (None, None) => {}
+        }
+    }
+
+    // Where a query failed, those held for the same question get that failure.
+    fn fail_others<R: Wait + Clock>(&self, rt: &R, action: &Action) {
+        for _ in 0..MOST_FAILED {
+            let Some((client, reply)) = self.entrance.next_failed(rt, action) else {
+                return;
+            };
+            let ends = self.ends;
+            let _ = ends
+                .clients
+                .send_to(reply.as_slice(), address_of(sender_of(client)));
+        }
+    }
+
+    // Hands over what goes out of a step; the number of an ask over TCP that can't be made.
     fn send_out<R: Wait + Clock>(&self, rt: &R, actions: &Actions) -> Option<u64> {
         let action = actions.first.as_ref()?;
         let mut outbox = Outbox {
             rt,
             ends: self.ends,
+            bounds: self.bounds,
             to_streams: self.to_streams,
-            to_workers: self.to_workers,
+            to_servers: self.to_servers,
+            moment: self.moment(rt),
         };
         hand_over(&mut outbox, action)
     }

@@ -1,20 +1,24 @@
 //! The sockets of a server.
-ghost use Rattle.std.specs.Prelude.{◌≡◌, IfOk, MatchOption};
+ghost use Rattle.std.specs.Prelude.{◌≡◌, MatchOption};
 ghost use Rattle.server.specs.Addresses.{IsAt, IsElsewhere};
 ghost use Rattle.server.specs.Waits.{IsShort};
 
+use crate::open_asks::OpenAsks;
+use crate::poller::Poller;
 use events::Endpoint;
 use libc::net as c;
+use mio::Interest;
+use mio::net::TcpListener;
 use rdata::Addr;
 use std::alloc::Global;
 use std::io;
-use std::marker::Model;
-use std::net::{Ipv4Addr, Net, SocketAddr, SocketAddrV4, TcpListener, TcpStream, UdpSocket};
-use std::os::fd::{AsRawFd, OwnedFd};
+use std::io::ErrorKind;
+use std::net::{Ipv4Addr, Net, SocketAddr, SocketAddrV4, UdpSocket};
+use std::os::fd::AsRawFd;
 use std::time::Duration;
 
-/// How long a read or an accept waits at most, in milliseconds: so often the flag is seen.
-pub(crate) const SLICE_MS: u64 = 100;
+/// How long a loop waits at most, in milliseconds: so often the flag is seen.
+pub(crate) const SLICE_MS: u64 = 250;
 
 // How many bytes of datagrams that nobody took yet a socket holds, where the system allows it.
 const SOCKET_BUFFER_BYTES: u32 = 4_194_304;
@@ -22,7 +26,10 @@ const SOCKET_BUFFER_BYTES: u32 = 4_194_304;
 /// Bytes of a datagram at most: its length stands in 16 bits (RFC 768).
 pub(crate) const MOST_BYTES: usize = 65_535;
 
-/// How long a read or an accept waits at most.
+/// The key of the listener among clients' streams, which is no place of a stream.
+pub(crate) const LISTENER: usize = 1_000_000;
+
+/// How long a loop waits at most.
 pub(crate) fn slice() -> Duration
     ensures { IsShort result }
 {
@@ -49,82 +56,63 @@ pub(crate) fn endpoint_of(address: SocketAddr) -> Option<Endpoint>
     }
 }
 
-/// The sockets at which a server meets its clients and other servers. Contracts see how many upstream sockets there
-/// are.
+/// Whether an error says that nothing came yet, or that a signal came first.
+pub(crate) fn is_early(error: &io::Error) -> bool {
+    matches!(error.kind(), ErrorKind::WouldBlock | ErrorKind::Interrupted)
+}
+
+/// The sockets at which a server meets its clients, and those through which it asks other servers.
 #[derive(Drop)]
 pub struct Ends {
     /// Where the datagrams of clients come.
     pub(crate) clients: UdpSocket,
     /// Where the streams of clients come.
     pub(crate) listener: TcpListener,
-    /// From where servers are asked in datagrams.
-    pub(crate) upstream: Vec<UdpSocket>,
-}
-
-impl Model for Ends {
-    ghost use Rattle.std.specs.Prelude.{ℕ, ◌≤◌, length};
-
-    ghost Value = { ℕ };
-
-    ghost view = { λ e. length e.upstream.items };
-
-    ghost invariant = { λ e. length e.upstream.items ≤ 65535 };
+    /// The streams of clients.
+    pub(crate) streams: Poller,
+    /// The asks in datagrams that are open.
+    pub(crate) asks: OpenAsks,
+    /// The streams to other servers.
+    pub(crate) servers: Poller,
 }
 
 impl Ends {
-    /// Binds both sockets for clients at `listen`, where port 0 stands for any that is free for both, and so many
-    /// upstream sockets at any port.
-    pub fn open<R: Net<Listener = TcpListener, Stream = TcpStream>>(
-        rt: &R,
-        alloc: Global,
-        listen: Endpoint,
-        sockets: u16,
-    ) -> io::Result<Ends>
-        ensures { IfOk result (λ e. e ≡ sockets) }
-    {
+    /// Binds both sockets for clients at `listen`, where port 0 stands for any that is free for both.
+    pub fn open<R: Net>(rt: &R, alloc: Global, listen: Endpoint) -> io::Result<Ends> {
         let (clients, listener) = both(rt, listen)?;
-        let mut upstream = Vec::with_capacity(alloc, usize::from(sockets))?;
-        for _ in 0..sockets {
-            upstream.push(datagrams(rt, ANY)?)?;
+        let streams = Poller::new(rt)?;
+        if !streams.watch(listener.as_raw_fd(), LISTENER, Interest::READABLE) {
+            return Err(io::Error::from(ErrorKind::Other));
         }
         Ok(Ends {
             clients,
             listener,
-            upstream,
+            streams,
+            asks: OpenAsks::new(rt, alloc)?,
+            servers: Poller::new(rt)?,
         })
     }
 
     /// Where clients are served.
     pub fn listen(&self) -> io::Result<Endpoint> {
-        endpoint_of(self.clients.local_addr()?).ok_or(io::Error::from(io::ErrorKind::Unsupported))
+        endpoint_of(self.clients.local_addr()?).ok_or(io::Error::from(ErrorKind::Unsupported))
     }
 
-    /// How many upstream sockets there are.
-    pub fn sockets(&self) -> u16
-        ensures { result ≡ self.now }
-    {
-        self.upstream.len() as u16
+    /// How many datagrams came from servers that were asked and repeat no ask: many of them are the work of a forger.
+    pub fn strange_datagrams(&self) -> u64 {
+        self.asks.strange_datagrams()
     }
 }
-
-// Any address of this host, and any port.
-const ANY: Endpoint = Endpoint {
-    address: Addr([0, 0, 0, 0]),
-    port: 0,
-};
 
 // How many ports are tried where any will do.
 const BIND_TRIES: u32 = 16;
 
 // A socket for datagrams and one for streams, at one port. Where any port will do and the one that was given for
 // datagrams is not free for streams, another is tried.
-fn both<R: Net<Listener = TcpListener, Stream = TcpStream>>(
-    rt: &R,
-    listen: Endpoint,
-) -> io::Result<(UdpSocket, TcpListener)> {
+fn both<R: Net>(rt: &R, listen: Endpoint) -> io::Result<(UdpSocket, TcpListener)> {
     for _ in 1..BIND_TRIES {
         let clients = datagrams(rt, listen)?;
-        if let Ok(listener) = streams(rt, clients.local_addr()?) {
+        if let Ok(listener) = TcpListener::bind(rt, clients.local_addr()?) {
             return Ok((clients, listener));
         }
         if listen.port != 0 {
@@ -132,7 +120,7 @@ fn both<R: Net<Listener = TcpListener, Stream = TcpStream>>(
         }
     }
     let clients = datagrams(rt, listen)?;
-    let listener = streams(rt, clients.local_addr()?)?;
+    let listener = TcpListener::bind(rt, clients.local_addr()?)?;
     Ok((clients, listener))
 }
 
@@ -146,28 +134,6 @@ fn datagrams<R: Net>(rt: &R, end: Endpoint) -> io::Result<UdpSocket> {
 // Makes room for many datagrams. Where the system refuses it the socket keeps the room that it has.
 fn set_receive_room(socket: &UdpSocket) {
     let mut value = [0u8; 16];
-    value[..4].copy_from_slice(&SOCKET_BUFFER_BYTES.to_le_bytes());
+    value[..4].copy_from_slice(&SOCKET_BUFFER_BYTES.to_ne_bytes());
     let _ = unsafe { c::setsockopt(socket.as_raw_fd(), c::SOL_SOCKET, c::SO_RCVBUF, &value, 4) };
-}
-
-fn streams<R: Net<Listener = TcpListener, Stream = TcpStream>>(
-    rt: &R,
-    address: SocketAddr,
-) -> io::Result<TcpListener> {
-    let listener = TcpListener::bind(rt, address)?;
-    limit_accept(&listener)?;
-    Ok(listener)
-}
-
-// How long an accept waits is the listener's time-out for reads. `TcpListener` has no call for it, but another handle
-// of the same socket does.
-fn limit_accept(listener: &TcpListener) -> io::Result<()> {
-    let other = UdpSocket::from(OwnedFd::from(listener.try_clone()?));
-    other.set_read_timeout(Some(slice()))
-}
-
-/// Bounds each read and each write of a stream.
-pub(crate) fn limit(stream: &TcpStream) -> io::Result<()> {
-    stream.set_read_timeout(Some(slice()))?;
-    stream.set_write_timeout(Some(slice()))
 }

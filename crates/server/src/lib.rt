@@ -1,33 +1,42 @@
 //! A resolver at its sockets: loops that take what comes, put it as events to the machine that they share, and send
 //! what goes out. They end once a flag is up.
 //!
-//! `Ends::open` binds the sockets for clients, UDP and TCP at one address and port, and the upstream ones.
-//! `serve_until` runs a loop a ticket, by the roles of `dispatch`: datagrams, streams, the clock, upstream sockets,
-//! asks over TCP. Each loop reaches the machine by `pool::submit` alone.
+//! `Ends::open` binds the sockets for clients, UDP and TCP at one address and port. `serve_until` runs a loop a
+//! ticket, by the roles of `dispatch`: clients' datagrams, clients' streams, the clock, other servers' datagrams, asks
+//! over TCP. Each loop reaches the machine by `pool::submit` alone. Each ask in a datagram has a socket of its own, at
+//! a port that the system picks, and only what repeats the ask is put as an event (RFC 5452, section 9.2). One loop
+//! holds all streams of clients, and one all streams to servers, and neither waits for any of them.
 //!
-//! Promised: the loops are safe, and there is a worker for each (`IsStaffed`). Where replies and asks go is proved
-//! in `dispatch`, frames in `sockets`, the machine's one history in `book`.
+//! Promised: the loops are safe, and there is a ticket for each (`IsStaffed`). Where replies and asks go, and which
+//! messages repeat an ask, is proved in `dispatch`, frames in `sockets`, the machine's one history in `book`.
 //! Not here: what the machine is (`engine`); lists of who may ask, and limits of how often.
 //!
 //! ```text
-//! let ends = Ends::open(&rt, alloc, listen, 4)?;
-//! serve_until(&rt, alloc, &Shared::new(book), tickets, &ends, &stop)?;
+//! let ends = Ends::open(&rt, alloc, listen)?;
+//! serve_until(&rt, alloc, &Shared::new(book), tickets, &ends, bounds, &stop)?;
 //! ```
 #![tactic(auto)]
 
+mod client_stream;
 mod clock;
 mod datagrams;
 mod desk;
 mod ends;
+mod entrance;
 mod fault;
+mod framed_stream;
+mod moments;
+mod open_asks;
 mod outbox;
-mod patient;
+mod places;
+mod poller;
 mod serve;
-mod span;
+mod server_streams;
 mod streams;
 mod upstream;
-mod workers;
 
+pub use desk::Bounds;
+pub use dispatch::{LOOPS, Reach};
 pub use ends::Ends;
 pub use fault::ServeError;
 pub use serve::serve_until;

@@ -1,23 +1,21 @@
 //! What goes out, by the sockets and the channels of a server.
+use crate::desk::Bounds;
 use crate::ends::{Ends, address_of};
-use crate::span::Span;
 use crossbeam_channel::Sender;
 use dispatch::Carrier;
 use events::{Bytes, Endpoint};
-use limits::TCP_WAIT_MS;
 use std::alloc::Global;
-use std::net::UdpSocket;
 use std::sync::Wait;
 use std::time::Clock;
 
-/// An ask over TCP, for whichever worker takes it.
+/// An ask over TCP, for the loop that makes them.
 #[derive(Drop)]
 pub(crate) struct StreamAsk {
     pub number: u64,
     pub to: Endpoint,
     pub bytes: Bytes,
-    /// How long it may take, time in the channel included.
-    pub span: Span,
+    /// When it was made: its time runs in the channel too.
+    pub moment: u64,
 }
 
 /// A reply for the client whose frame came under this number.
@@ -27,39 +25,41 @@ pub(crate) struct StreamReply {
     pub bytes: Bytes,
 }
 
-/// The sockets, and the channels to the loop of streams and to the workers.
+/// The sockets, and the channels to the loops of streams.
 #[derive(Drop)]
 pub(crate) struct Outbox<'a, R> {
     pub rt: &'a R,
     pub ends: &'a Ends,
+    pub bounds: Bounds,
     pub to_streams: &'a Sender<StreamReply>,
-    pub to_workers: &'a Sender<StreamAsk>,
+    pub to_servers: &'a Sender<StreamAsk>,
+    pub moment: u64,
 }
 
-// What can't be sent or handed on is lost, as a datagram on its way; but an ask over TCP that no worker takes is told.
+// What can't be sent or handed on is lost, as a datagram on its way; but an ask over TCP that can't be made is told.
 impl<R: Wait + Clock> Carrier<Global> for Outbox<'_, R> {
     fn to_client(&mut self, to: Endpoint, bytes: &Bytes) {
         let ends = self.ends;
-        send(&ends.clients, to, bytes);
+        let _ = ends.clients.send_to(bytes.as_slice(), address_of(to));
     }
 
     fn to_stream(&mut self, client: u64, bytes: &Bytes) {
         if let Ok(bytes) = bytes.copied() {
             let _ = self.to_streams.send(self.rt, StreamReply { client, bytes });
+            self.ends.streams.notify();
         }
     }
 
     fn to_server(&mut self, socket: u16, to: Endpoint, bytes: &Bytes) {
-        let ends = self.ends;
-        if let Some(socket) = ends.upstream.get(usize::from(socket)) {
-            send(socket, to, bytes);
+        if self.bounds.reach.has(to.address) {
+            self.ends.asks.send(self.rt, self.moment, socket, to, bytes);
         }
     }
 
     fn to_worker(&mut self, number: u64, to: Endpoint, bytes: &Bytes) -> bool {
-        let Some(span) = Span::start(self.rt, TCP_WAIT_MS) else {
+        if !self.bounds.reach.has(to.address) {
             return false;
-        };
+        }
         let Ok(bytes) = bytes.copied() else {
             return false;
         };
@@ -67,12 +67,10 @@ impl<R: Wait + Clock> Carrier<Global> for Outbox<'_, R> {
             number,
             to,
             bytes,
-            span,
+            moment: self.moment,
         };
-        self.to_workers.send(self.rt, ask).is_ok()
+        let sent = self.to_servers.send(self.rt, ask).is_ok();
+        self.ends.servers.notify();
+        sent
     }
-}
-
-fn send(socket: &UdpSocket, to: Endpoint, bytes: &Bytes) {
-    let _ = socket.send_to(bytes.as_slice(), address_of(to));
 }

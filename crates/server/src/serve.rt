@@ -3,12 +3,14 @@ ghost use Rattle.server.specs.Staff.{IsStaffed};
 
 use crate::clock::pass_time;
 use crate::datagrams::take_datagrams;
-use crate::desk::Desk;
+use crate::desk::{Bounds, Desk};
 use crate::ends::Ends;
+use crate::entrance::Entrance;
 use crate::fault::ServeError;
+use crate::moments::Beginning;
+use crate::server_streams::ask_servers;
 use crate::streams::take_streams;
 use crate::upstream::take_answers;
-use crate::workers::ask_servers;
 use book::{Machine, Ticket};
 use dispatch::{Role, role_of};
 use events::{Actions, Event};
@@ -20,10 +22,10 @@ use std::sync::atomic::{AtomicBool, Ordering};
 use std::sync::ledger::Ledger;
 use std::thread;
 use std::thread::{Scope, Threads};
-use std::time::{Clock, Instant};
+use std::time::Clock;
 
-/// Serves at these ends until the flag is up: each ticket is for one loop, by its worker's number. Every loop has ended
-/// when this returns. Where a thread can't be made the flag is put up, and the server is refused with `Threads`.
+/// Serves at these ends within these bounds until the flag is up: each ticket is for one loop, by its worker's number.
+/// Every loop has ended when this returns. Where a thread can't be made the flag is put up, and the server is refused with `Threads`.
 pub fn serve_until<
     M: Machine<Event = Event, Out = Actions> + Send + Sync,
     L: Ledger + Send + Sync,
@@ -34,25 +36,31 @@ pub fn serve_until<
     shared: &Shared<M, L>,
     tickets: Vec<Ticket<L>>,
     ends: &Ends,
+    bounds: Bounds,
     stop: &AtomicBool,
 ) -> Result<(), ServeError>
-    requires { IsStaffed ends.now tickets.items }
+    requires { IsStaffed tickets.items }
 {
-    let Ok(start) = Instant::now(rt) else {
+    let Some(beginning) = Beginning::now(rt) else {
         return Err(ServeError::Clock);
     };
-    let (to_workers, asks) = crossbeam_channel::unbounded(alloc)?;
+    let Some(entrance) = Entrance::new(alloc, &bounds.seed, bounds.clients) else {
+        return Err(ServeError::Memory);
+    };
+    let (to_servers, asks) = crossbeam_channel::unbounded(alloc)?;
     let (to_streams, replies) = crossbeam_channel::unbounded(alloc)?;
     let desk = Desk {
         alloc,
         shared,
         ends,
-        to_workers: &to_workers,
+        bounds,
+        entrance: &entrance,
+        to_servers: &to_servers,
         asks: &asks,
         to_streams: &to_streams,
         replies: &replies,
         stop,
-        start,
+        beginning,
     };
     if run(rt, &desk, tickets) {
         Ok(())
@@ -114,11 +122,11 @@ fn work<
     R: Net<Listener = TcpListener, Stream = TcpStream> + Wait + Clock,
 >(rt: &R, desk: &Desk<'_, M, L>, ticket: Ticket<L>) {
     let mut ticket = ticket;
-    match role_of(ticket.worker(), desk.ends.sockets()) {
+    match role_of(ticket.worker()) {
         Role::Datagrams => take_datagrams(rt, desk, &mut ticket),
         Role::Streams => take_streams(rt, desk, &mut ticket),
         Role::Clock => pass_time(rt, desk, &mut ticket),
-        Role::Upstream(number) => take_answers(rt, desk, &mut ticket, number),
+        Role::Upstream => take_answers(rt, desk, &mut ticket),
         Role::Asks => ask_servers(rt, desk, &mut ticket),
     }
 }

@@ -1,128 +1,127 @@
 //! The loop that takes clients' TCP streams.
-use crate::clock::rest;
 use crate::desk::Desk;
-use crate::ends::{limit, slice};
-use crate::patient::Patient;
-use crate::span::Span;
+use crate::ends::{LISTENER, SLICE_MS};
+use crate::framed_stream::MOST_FRAME_BYTES;
+use crate::places::Places;
 use book::{Machine, Ticket};
 use dispatch::stream_query_event;
-use events::{Actions, Bytes, Event};
-use limits::QUERY_LIFETIME_MS;
-use sockets::{read_framed, write_framed};
-use std::io::ErrorKind;
-use std::net::TcpStream;
+use events::{Actions, Event};
+use mio::Events;
 use std::sync::Wait;
 use std::sync::ledger::Ledger;
 use std::time::Clock;
 
-// How long a reply is waited for, in milliseconds: longer than a query stays open, so that its reply comes before.
-const REPLY_MS: u64 = 12_000;
+// How many sockets are told of at once.
+const EVENTS: usize = 300;
 
-const _: () = prove!(QUERY_LIFETIME_MS < REPLY_MS);
+// How often it is looked whose time is over, in milliseconds, while streams are open.
+const CHECK_MS: u64 = 100;
 
-// For how long frames of one stream are taken, in milliseconds: as long as one query stays open. Other clients wait
-// meanwhile, and a client asks again on a new stream what had no reply on this one (RFC 7766, section 6.2.4).
-const STREAM_MS: u64 = 10_000;
+// How often a stream is tried that waits for a place, or could not be taken, in milliseconds.
+const RETRY_MS: u64 = 20;
 
-// How long a reply may take to be written, in milliseconds: as long as a stream may be silent.
-const WRITE_MS: u64 = 3_000;
+// How many replies are taken in a row.
+const REPLIES_IN_A_ROW: u32 = 1_024;
 
-/// Takes the streams of clients, one after the other, until the flag is up. Where none can be taken, as for want of
-/// descriptors, the loop rests for a while.
+/// Takes the streams of clients, and answers their frames, each as its reply comes, until the flag is up.
 pub(crate) fn take_streams<M: Machine<Event = Event, Out = Actions>, L: Ledger, R: Wait + Clock>(
     rt: &R,
     desk: &Desk<'_, M, L>,
     ticket: &mut Ticket<L>,
 ) {
-    let ends = desk.ends;
-    let mut frames = 0;
+    let streams = &desk.ends.streams;
+    let Ok(mut events) = Events::with_capacity(desk.alloc, EVENTS) else {
+        return;
+    };
+    let mut poll = streams.poll.lock(rt);
+    let mut places = Places::new(desk.alloc, desk.bounds.streams);
+    let mut buffer = [0u8; MOST_FRAME_BYTES];
+    let mut waits = false;
     for _ in rt.forever() {
         if desk.is_over() {
             return;
         }
-        match ends.listener.accept() {
-            Ok((stream, _)) => {
-                if limit(&stream).is_ok() {
-                    frames = converse(rt, desk, ticket, &stream, frames);
-                }
+        streams.expect_notice();
+        let millis = if desk.replies.is_empty() {
+            wait_of(&places, waits)
+        } else {
+            0
+        };
+        streams.wait(&mut poll, &mut events, millis);
+        for event in events.iter() {
+            match event.token().0 {
+                LISTENER => waits = true,
+                key => stir(&mut places, key),
             }
-            Err(error) if error.kind() == ErrorKind::WouldBlock => {}
-            Err(_) => rest(rt),
         }
+        hand_out(rt, desk, &mut places);
+        for key in 0..places.keys() {
+            take_questions(rt, desk, ticket, &mut places, key, &mut buffer);
+        }
+        let now = desk.moment(rt);
+        places.end_over(now);
+        waits = waits && places.welcome(desk.ends, now);
     }
 }
 
-// Answers the frames of a stream, each once the one before has its reply, until the stream is to end. Frames are
-// numbered on from `frames`: the number of the next one.
-fn converse<M: Machine<Event = Event, Out = Actions>, L: Ledger, R: Wait + Clock>(
+// How long is waited, in milliseconds.
+fn wait_of(places: &Places, waits: bool) -> u64 {
+    if waits {
+        RETRY_MS
+    } else if places.is_empty() {
+        SLICE_MS
+    } else {
+        CHECK_MS
+    }
+}
+
+// The stream at this key has something to do.
+fn stir(places: &mut Places, key: usize) {
+    if let Some(client) = places.get_mut(key) {
+        client.stir();
+    }
+}
+
+// Puts the replies that have come on their streams.
+fn hand_out<M: Machine<Event = Event, Out = Actions>, L: Ledger, R: Wait + Clock>(
+    rt: &R,
+    desk: &Desk<'_, M, L>,
+    places: &mut Places,
+) {
+    let now = desk.moment(rt);
+    for _ in 0..REPLIES_IN_A_ROW {
+        let Ok(reply) = desk.replies.try_recv(rt) else {
+            return;
+        };
+        places.reply(reply.client, now, reply.bytes.as_slice());
+    }
+}
+
+// Writes and reads the stream at this key where there is something to do, and puts the questions that came. Where one
+// is no query nothing goes out for it, which is known at once: the stream is to end.
+fn take_questions<M: Machine<Event = Event, Out = Actions>, L: Ledger, R: Wait + Clock>(
     rt: &R,
     desk: &Desk<'_, M, L>,
     ticket: &mut Ticket<L>,
-    stream: &TcpStream,
-    frames: u64,
-) -> u64 {
-    let mut client = frames;
-    let Some(span) = Span::start(rt, STREAM_MS) else {
-        return client;
+    places: &mut Places,
+    key: usize,
+    buffer: &mut [u8],
+) {
+    let Some(client) = places.get_mut(key) else {
+        return;
     };
+    if !client.due {
+        return;
+    }
+    client.exchange(desk.moment(rt), buffer);
     for _ in rt.forever() {
-        let answered = answer_next(rt, desk, ticket, stream, span, client);
-        client = client.wrapping_add(1);
-        if answered.is_none() {
-            return client;
+        let now = desk.moment(rt);
+        let Some(bytes) = client.next_question(desk.alloc, now, buffer) else {
+            return;
+        };
+        let event = stream_query_event(now, client.number, bytes);
+        if !desk.put(rt, ticket, event).speaks {
+            client.close();
         }
     }
-    unreachable!()
-}
-
-// Answers the next frame of a stream, under this number. None where the stream is to end: where it ended, faulted, was
-// silent or had its time, and where the frame has no reply. Where it is no query nothing goes out, which is known at
-// once.
-fn answer_next<M: Machine<Event = Event, Out = Actions>, L: Ledger, R: Wait + Clock>(
-    rt: &R,
-    desk: &Desk<'_, M, L>,
-    ticket: &mut Ticket<L>,
-    stream: &TcpStream,
-    span: Span,
-    client: u64,
-) -> Option<()> {
-    let mut reader = Patient {
-        rt,
-        stream,
-        stop: desk.stop,
-        span,
-    };
-    let bytes = read_framed(desk.alloc, &mut reader).ok()??;
-    let event = stream_query_event(desk.moment(rt), client, bytes);
-    if !desk.put(rt, ticket, event).speaks {
-        return None;
-    }
-    let reply = reply_for(rt, desk, client)?;
-    let mut writer = Patient {
-        rt,
-        stream,
-        stop: desk.stop,
-        span: Span::start(rt, WRITE_MS)?,
-    };
-    write_framed(&mut writer, reply.as_slice()).ok()
-}
-
-// The reply for the frame of this number, where one comes in time. One for an earlier frame is late, and is dropped.
-fn reply_for<M: Machine<Event = Event, Out = Actions>, L: Ledger, R: Wait + Clock>(
-    rt: &R,
-    desk: &Desk<'_, M, L>,
-    client: u64,
-) -> Option<Bytes> {
-    let span = Span::start(rt, REPLY_MS)?;
-    for _ in rt.forever() {
-        if desk.is_over() || span.left(rt).is_none() {
-            return None;
-        }
-        if let Ok(reply) = desk.replies.recv_timeout(rt, slice())
-            && reply.client == client
-        {
-            return Some(reply.bytes);
-        }
-    }
-    unreachable!()
 }

@@ -1,12 +1,11 @@
 //! A resolver at its sockets: its state in a book, which the loops of a server take turns at.
-ghost use Rattle.std.specs.Prelude.{◌≡◌, ℕ, ◌+◌};
+ghost use Rattle.std.specs.Prelude.{◌≡◌};
 ghost use Rattle.engine.specs.Beginnings.{IsBegun};
 
 use book::Book;
-use dispatch::seats_of;
 use engine::Core;
 use pool::Shared;
-use server::{Ends, ServeError, serve_until};
+use server::{Bounds, Ends, LOOPS, ServeError, serve_until};
 use std::alloc::Global;
 use std::marker::Brand;
 use std::net::{Net, TcpListener, TcpStream};
@@ -19,7 +18,7 @@ use std::time::Clock;
 // How many entries of its history a server keeps: nobody reads them, so no message is copied for them.
 const KEPT: usize = 0;
 
-/// Serves with this resolver at these ends until the flag is up, with so many workers for asks over TCP.
+/// Serves with this resolver at these ends, within these bounds, until the flag is up.
 pub fn run_server<
     R: Net<Listener = TcpListener, Stream = TcpStream> + Threads + Wait + Clock + Sync,
 >(
@@ -27,16 +26,16 @@ pub fn run_server<
     alloc: Global,
     core: Core,
     ends: &Ends,
-    asks: u16,
+    bounds: Bounds,
     stop: &AtomicBool,
 ) -> Result<(), ServeError>
     requires { IsBegun core }
 {
-    let seats = seats_of(ends.sockets(), asks);
-    serve_by::<Brand, R>(rt, alloc, Blank::new(seats as u64), seats, core, ends, stop)
+    let blank = Blank::new(LOOPS as u64);
+    serve_by::<Brand, R>(rt, alloc, blank, core, ends, bounds, stop)
 }
 
-// Serves with a book whose tickets are of the ledger that `L` names, one for each seat.
+// Serves with a book whose tickets are of the ledger that `L` names, one for each loop.
 fn serve_by<
     L: Ledger + Send + Sync,
     R: Net<Listener = TcpListener, Stream = TcpStream> + Threads + Wait + Clock + Sync,
@@ -44,18 +43,17 @@ fn serve_by<
     rt: &R,
     alloc: Global,
     blank: Blank,
-    seats: usize,
     core: Core,
     ends: &Ends,
+    bounds: Bounds,
     stop: &AtomicBool,
 ) -> Result<(), ServeError>
     requires name { blank.name ≡ L.name }
-    requires parts { (blank.parts ≡ L.parts) × (blank.parts ≡ seats) }
-    requires staff { (asks : ℕ) × (seats ≡ 3 + ends.now + asks) }
+    requires parts { (blank.parts ≡ L.parts) × (blank.parts ≡ 5) }
     requires begun { IsBegun core }
 {
-    let Ok((book, tickets)) = Book::<Core, L>::new(alloc, blank, core, seats, KEPT) else {
+    let Ok((book, tickets)) = Book::<Core, L>::new(alloc, blank, core, LOOPS, KEPT) else {
         return Err(ServeError::Memory);
     };
-    serve_until(rt, alloc, &Shared::new(book), tickets, ends, stop)
+    serve_until(rt, alloc, &Shared::new(book), tickets, ends, bounds, stop)
 }

@@ -1,12 +1,12 @@
 -- What is read into a buffer and written from one, piece by piece.
-use Rattle.std.proofs.Common.{◌≡◌, ℕ, ◌+◌, ◌-◌, ◌*◌, ◌/◌, ◌%◌, ◌<◌, ◌≤◌, List, [], ◌∷◌, ◌++◌, length, take, drop, slice_range, slice_index, Result, Ok, Err, MatchResult, sym, ap, ◌∙◌, subst, arith, append_assoc, take-append-drop, drop_at, length-take-le}
+use Rattle.std.proofs.Common.{◌≡◌, ℕ, ◌+◌, ◌-◌, ◌*◌, ◌/◌, ◌%◌, ◌<◌, ◌≤◌, ◌^◌, List, [], ◌∷◌, ◌++◌, length, take, drop, slice_range, slice_index, Result, Ok, Err, MatchResult, sym, ap, ◌∙◌, subst, arith, append_assoc, take-append-drop, drop_at, length-take-le}
 use Rattle.std.proofs.lemmas.List.{take_rest}
 use Rattle.std.specs.Io.KnownBytes.{Appends}
 use Rattle.std.specs.declared.option.Option.{Option}
 use Rattle.std.proofs.KnownBytes.{Appends-trans}
 use Rattle.byteorder.specs.Endian.{big_bytes}
 use Rattle.sockets.specs.declared.fault.FrameError.{FrameError}
-use Rattle.sockets.specs.Frames.{IsNotWritten}
+use Rattle.sockets.specs.Frames.{IsNotWritten, BeginsWith}
 use borrow.Rule.Slice.PartMut.{put_mid, post_of}
 use lib.Seq.{take-add, take-append-le}
 
@@ -60,3 +60,14 @@ pub both_written : {T : Type 0} (r : Result T FrameError) (a b c : Option (List 
     → MatchResult r (λ _. Appends b c ys) (IsNotWritten b c ys) → MatchResult r (λ _. Appends a c all) (IsNotWritten a c all)
 both_written (Ok x) a b c xs ys all same p q = frame_written a b c xs ys all same p q
 both_written (Err e) a b c xs ys all same p q = frame_broken a b c xs ys all e same p q
+
+-- a frame whose length came, and its bytes behind that
+pub frame_first : (got head rest : List ℕ) (n : ℕ) → got ≡ head ++ rest → head ≡ big_bytes 2 n → n ≤ length rest → n < 2 ^ 16 → BeginsWith got (take n rest)
+frame_first got head rest n split counted there small =
+    let long : length (take n rest) ≡ n = length-take-le n rest there in
+    record {
+      rest = drop n rest;
+      is = split ∙ ap (λ l. l ++ rest) counted ∙ ap (λ l. big_bytes 2 n ++ l) (sym (take-append-drop n rest))
+          ∙ sym (append_assoc (big_bytes 2 n) (take n rest) (drop n rest)) ∙ ap (λ m. (big_bytes 2 m ++ take n rest) ++ drop n rest) (sym long);
+      short = subst (λ m. m < 2 ^ 16) (sym long) small;
+    }

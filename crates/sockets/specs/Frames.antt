@@ -15,6 +15,16 @@ frame bytes = big_bytes 2 (length bytes) ++ bytes
 abbrev pub EndsInside : List ℕ → Type 0
 EndsInside xs = (0 < length xs) × (length xs < 2 + big_number 2 xs)
 
+-- The frame of these bytes stands first.
+pub record BeginsWith (got bytes : List ℕ) : Type 0 where
+  pub rest : List ℕ
+  pub is : got ≡ frame bytes ++ rest
+  pub short : length bytes < 2 ^ 16
+
+-- It has fewer bytes than the length takes and says.
+abbrev pub IsIncomplete : List ℕ → Type 0
+IsIncomplete got = length got < 2 + big_number 2 got
+
 abbrev pub Holds : (List ℕ → Type 0) → Option (List ℕ) → Type 0
 Holds P None = Unit {0}
 Holds P (Some xs) = P xs

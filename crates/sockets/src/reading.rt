@@ -41,8 +41,8 @@ fn read_length<R: Read>(reader: &mut R) -> Result<Option<u16>, FrameError>
     }
 }
 
-// The length in these two bytes, the higher first.
-fn length_in(head: &[u8]) -> u16
+/// The length in these two bytes, the higher first.
+pub(crate) fn length_in(head: &[u8]) -> u16
     requires { length head.now ≡ 2 }
     ensures { head.now ≡ big_bytes 2 result }
 {

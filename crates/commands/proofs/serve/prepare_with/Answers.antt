@@ -2,7 +2,7 @@
 use Rattle.std.proofs.Common.{◌∙◌, sym, ap, subst, inl, inr, List}
 use Rattle.config.specs.Configs.{Config, LocalZone}
 use Rattle.server_start.specs.Resolvers.{IsDescribed}
-use Rattle.commands.specs.Servers.{Prepared, AreZonesIn, IsStartFault, LacksZone}
+use Rattle.commands.specs.Servers.{Prepared, AreZonesIn, IsBounded, IsStartFault, LacksZone}
 use Rattle.commands.specs.declared.fault.Fault.{Fault}
 use Rattle.commands.proofs.Storms.{err_weaker}
 use Rattle.commands.proofs.serve.prepare_with.Goals as goal
@@ -10,7 +10,6 @@ use Rattle.commands.proofs.serve.prepare_with.Goals as goal
 pub returns-in-Ok-clause-ok : goal.returns-in-Ok-clause-ok
 returns-in-Ok-clause-ok g c = (
   sym (ap (λ (s : Config). s.listen) c.config.view_is) ∙ sym c.endpoint_of-listen.ensures,
-  c.in_ok-sockets.ensures.ok.0,
   record {
     zones = c.in_ok-zones.zones.items;
     local = subst (λ (ls : List LocalZone). AreZonesIn (g.T.Texts.held c.args.texts.now) ls c.in_ok-zones.zones.items) (c.deref.ensures.value ∙ ap (λ (s : Config). s.locals) c.config.view_is)
@@ -18,7 +17,7 @@ returns-in-Ok-clause-ok g c = (
     seed = c.in_ok-seed.seed;
     seeded = c.in_ok-seed.ensures.ok;
     is = subst (λ (made : Prepared). IsDescribed c.args.config c.in_ok-zones.zones.items c.in_ok-seed.seed made.resolver) (sym c.new.ensures) c.in-Ok.ensures.is;
-    workers = ap (λ (made : Prepared). made.workers) c.new.ensures ∙ c.in_ok-sockets.ensures.ok.1;
+    bounds = subst (λ (made : Prepared). IsBounded c.args.config made.bounds) (sym c.new.ensures) c.in_ok-bounds.ensures.ok;
   },
 )
 

@@ -1,0 +1,5 @@
+pub mod Lists
+pub mod Kept
+pub mod Steps
+pub mod KeptRuns
+pub mod Lines

@@ -1,0 +1,4 @@
+-- To be read: what the words of the contracts mean.
+pub mod States
+pub mod Moves
+pub mod Runs

@@ -1,0 +1,38 @@
+//! How many queries may be inside and wait, and for how long.
+ghost use Rattle.std.specs.Prelude.{◌≡◌};
+
+/// After so many milliseconds a query that is open leaves.
+pub const OPEN_MS: u64 = 12_000;
+
+/// After so many milliseconds a query that waits is dropped.
+pub const WAIT_MS: u64 = 5_000;
+
+/// How many queries may be inside, and how many may wait.
+#[derive(Clone, Copy, Debug, PartialEq, Eq)]
+pub struct Limits {
+    /// Equal queries inside at a time.
+    pub equal: usize,
+    /// Queries of one client address, inside and waiting.
+    pub each: usize,
+    /// Queries inside at a time.
+    pub places: usize,
+    /// The last of the places, which go to addresses that have no query inside or waiting.
+    pub reserve: usize,
+    /// Queries that wait at a time.
+    pub waiting: usize,
+}
+
+impl Limits {
+    /// Four equal queries inside; so many of one address; 1,024 places, of which 64 are the reserve; 4,096 that wait.
+    pub const fn of_address(each: usize) -> Limits
+        ensures { result ≡ record { equal = 4; each = each; places = 1024; reserve = 64; waiting = 4096 } }
+    {
+        Limits {
+            equal: 4,
+            each,
+            places: 1_024,
+            reserve: 64,
+            waiting: 4_096,
+        }
+    }
+}

@@ -1,0 +1,148 @@
+//! One stream of a client: its questions that are under way, and how long it may be silent.
+ghost use Rattle.std.specs.Prelude.{◌<◌, ◌≤◌, ◌^◌, IfSome, length};
+
+use crate::framed_stream::FramedStream;
+use dispatch::silence_before_yielding;
+use limits::QUERY_LIFETIME_MS;
+use rdata::Addr;
+use std::alloc::Global;
+
+// How many questions of a stream are under way at most, their replies written included (RFC 7766, section 6.2.1.1).
+const MOST_UNDER_WAY: u32 = 16;
+
+// How long a stream stays open on which no whole frame comes and no reply goes, in milliseconds.
+const IDLE_MS: u64 = 10_000;
+
+// How long a reply is waited for, in milliseconds: longer than a query stays open, so that its reply comes before.
+const REPLY_MS: u64 = 12_000;
+
+const _: () = prove!(QUERY_LIFETIME_MS < REPLY_MS);
+
+// How long a stream may take no byte of a reply, in milliseconds.
+const WRITE_MS: u64 = 3_000;
+
+// How long replies are awaited for a client that has ended what it sends, in milliseconds.
+const LEFT_MS: u64 = 500;
+
+/// One stream of a client.
+#[derive(Drop)]
+pub(crate) struct ClientStream {
+    /// Its number, under which its frames are put.
+    pub number: u64,
+    /// Who has it.
+    pub address: Addr,
+    /// Whether there is something to do.
+    pub due: bool,
+    stream: FramedStream,
+    // How many questions have no reply yet, and how many replies are not written.
+    awaited: u32,
+    unwritten: u32,
+    // When the last whole frame came, or the last reply was written.
+    since: u64,
+    // When a byte of a reply was taken, or the first one was put.
+    taken: u64,
+    // When the client had ended what it sends.
+    left: Option<u64>,
+    // Whether no more frames are taken.
+    closing: bool,
+}
+
+impl ClientStream {
+    /// One that has just come.
+    pub fn new(stream: FramedStream, number: u64, address: Addr, now: u64) -> ClientStream {
+        ClientStream {
+            number,
+            address,
+            due: true,
+            stream,
+            awaited: 0,
+            unwritten: 0,
+            since: now,
+            taken: now,
+            left: None,
+            closing: false,
+        }
+    }
+
+    /// Something changed at the stream.
+    pub fn stir(&mut self) {
+        self.stream.stir();
+        self.due = true;
+    }
+
+    /// Writes what it takes, and reads what has come.
+    pub fn exchange(&mut self, now: u64, buffer: &mut [u8]) {
+        self.due = false;
+        if self.stream.write() {
+            self.taken = now;
+        }
+        if self.unwritten > 0 && self.stream.is_written() {
+            self.unwritten = 0;
+            self.since = now;
+        }
+        self.stream.read(buffer);
+        if self.stream.has_ended() && self.left.is_none() {
+            self.left = Some(now);
+        }
+    }
+
+    /// The next frame, if one has come and another question may be under way.
+    pub fn next_question(&mut self, alloc: Global, now: u64, buffer: &mut [u8]) -> Option<Vec<u8>>
+        ensures { IfSome result (λ v. length v.items < 2 ^ 16) }
+    {
+        if self.closing || self.awaited.saturating_add(self.unwritten) >= MOST_UNDER_WAY {
+            return None;
+        }
+        let frame = self.stream.next(alloc, buffer)?;
+        self.awaited = self.awaited.saturating_add(1);
+        self.since = now;
+        Some(frame)
+    }
+
+    /// The last question has no reply: no more are taken, and the stream ends once the others have theirs.
+    pub fn close(&mut self) {
+        self.awaited = self.awaited.saturating_sub(1);
+        self.closing = true;
+    }
+
+    /// Puts a reply behind what is to be written.
+    pub fn reply(&mut self, now: u64, bytes: &[u8])
+        requires { length bytes.now < 2 ^ 16 }
+    {
+        if self.stream.is_written() {
+            self.taken = now;
+        }
+        self.awaited = self.awaited.saturating_sub(1);
+        self.unwritten = self.unwritten.saturating_add(1);
+        self.stream.put(bytes);
+        self.due = true;
+    }
+
+    /// Whether the stream is to end: where it failed, where nothing is under way and no more will come, and where what
+    /// is waited for has not come in time.
+    pub fn is_over(&self, now: u64) -> bool {
+        let silence = self.silence(now);
+        let over = if !self.stream.is_written() {
+            now.saturating_sub(self.taken) >= WRITE_MS
+        } else if self.awaited > 0 {
+            silence >= REPLY_MS
+                || self
+                    .left
+                    .is_some_and(|left| now.saturating_sub(left) >= LEFT_MS)
+        } else {
+            silence >= IDLE_MS || self.closing || self.left.is_some()
+        };
+        over || self.stream.is_broken()
+    }
+
+    /// For how long it has been silent, in milliseconds: a byte that ends no frame counts for nothing.
+    pub fn silence(&self, now: u64) -> u64 {
+        now.saturating_sub(self.since)
+    }
+
+    /// Whether another may take its place, where all of so many places are taken.
+    pub fn yields(&self, now: u64, places: u16) -> bool {
+        let awaits = self.awaited > 0 || !self.stream.is_written();
+        self.left.is_some() || self.silence(now) >= silence_before_yielding(places, awaits)
+    }
+}

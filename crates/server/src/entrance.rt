@@ -1,0 +1,206 @@
+//! The door between clients' datagrams and the resolver: of equal questions few are under way at a time, the others wait.
+ghost use Rattle.std.specs.Prelude.{◌≤◌, IfSome, length};
+
+use dispatch::{failure_for, is_failure, is_plain_query, question_end};
+use door::{Admission, Door, Held, Limits};
+use events::{Action, Actions, Bytes};
+use front::Via;
+use std::alloc::Global;
+use std::hash::{DefaultHasher, Hasher};
+use std::sync::atomic::{AtomicBool, AtomicU64, Ordering};
+use std::sync::{Mutex, Wait};
+
+// Equal questions that are under way at a time.
+const EQUAL: usize = 4;
+
+// Places, and how many of them are for addresses that have none.
+const PLACES: usize = 1_024;
+
+const RESERVE: usize = 64;
+
+// Questions that wait at most.
+const WAITING: usize = 4_096;
+
+// Bytes of a header, and of a type and a class.
+const HEADER: usize = 12;
+
+const TYPE_AND_CLASS: usize = 4;
+
+// Bytes of a name on the wire at most (RFC 1035, section 2.3.4).
+const MOST_NAME: usize = 255;
+
+/// A question of a client's datagram: a hash of what is asked, and who asks.
+#[derive(Clone, Copy)]
+pub(crate) struct Question {
+    pub key: u64,
+    pub client: u64,
+}
+
+/// What a client's datagram comes to at the door.
+#[derive(Drop)]
+pub(crate) enum Entry {
+    /// Its step is to be taken now.
+    In(Bytes),
+    /// It waits, or is dropped.
+    Held,
+}
+
+/// The door, and what is counted there.
+#[derive(Drop)]
+pub(crate) struct Entrance {
+    alloc: Global,
+    door: Mutex<Door<Bytes>>,
+    // Hashes begin as this one, behind a seed.
+    start: DefaultHasher,
+    // Whether someone may have been called in.
+    called: AtomicBool,
+    dropped: AtomicU64,
+}
+
+impl Entrance {
+    /// With nobody at the door. One address has so many questions under way and waiting at most.
+    pub fn new(alloc: Global, seed: &[u8], each: u16) -> Option<Entrance> {
+        let limits = Limits {
+            equal: EQUAL,
+            each: usize::from(each),
+            places: PLACES,
+            reserve: RESERVE,
+            waiting: WAITING,
+        };
+        let door = Door::new(alloc, limits).ok()?;
+        let mut start = DefaultHasher::new();
+        start.write(seed);
+        Some(Entrance {
+            alloc,
+            door: Mutex::new(door),
+            start,
+            called: AtomicBool::new(false),
+            dropped: AtomicU64::new(0),
+        })
+    }
+
+    /// How many datagrams were dropped.
+    pub fn dropped_datagrams(&self) -> u64 {
+        self.dropped.load(Ordering::SeqCst)
+    }
+
+    // A hash of the question in lower case, of its type and class, and of RD. None where there is no plain question.
+    fn key_in(&self, message: &[u8]) -> Option<u64>
+        ensures { IfSome result (λ key. 17 ≤ length message.now) }
+    {
+        let end = question_end(message)?;
+        let name = message.get(HEADER..end - TYPE_AND_CLASS)?;
+        let rest = message.get(end - TYPE_AND_CLASS..end)?;
+        let mut letters = [0u8; MOST_NAME];
+        let letters = letters.get_mut(..name.len())?;
+        letters.copy_from_slice(name);
+        letters.make_ascii_lowercase();
+        let mut hasher = self.start;
+        hasher.write(letters);
+        hasher.write(rest);
+        hasher.write_u8(message.get(2)? & 1);
+        Some(hasher.finish())
+    }
+
+    /// What this datagram asks. None where it passes by: it is no plain query.
+    pub fn question(&self, client: u64, bytes: &[u8]) -> Option<Question> {
+        if !is_plain_query(bytes) {
+            return None;
+        }
+        let key = self.key_in(bytes)?;
+        Some(Question { key, client })
+    }
+
+    /// A question comes to the door.
+    pub fn admit<R: Wait>(&self, rt: &R, question: Question, moment: u64, bytes: Bytes) -> Entry {
+        let Question { key, client } = question;
+        match self.door.lock(rt).admit(key, client, moment, bytes) {
+            Admission::In(bytes) => Entry::In(bytes),
+            Admission::Waits => Entry::Held,
+            Admission::Refused(bytes) => {
+                drop(bytes);
+                self.dropped.fetch_add(1, Ordering::SeqCst);
+                Entry::Held
+            }
+        }
+    }
+
+    /// The step of a question gave this.
+    pub fn stepped<R: Wait>(
+        &self,
+        rt: &R,
+        question: Question,
+        moment: u64,
+        action: Option<&Action>,
+    ) {
+        let Question { key, client } = question;
+        match action {
+            Some(Action::Send { .. } | Action::TcpAsk { .. }) => {
+                self.door.lock(rt).opened(key, client, moment);
+            }
+            Some(Action::Reply { .. }) | None => {
+                self.door.lock(rt).settled(key, client);
+                self.called.store(true, Ordering::SeqCst);
+            }
+        }
+    }
+
+    /// Another step gave this. Where it is a reply to a client's datagram, its question is no longer open.
+    pub fn other_stepped<R: Wait>(&self, rt: &R, actions: &Actions) {
+        if let Some(
+            Action::Reply {
+                client,
+                way: Via::Udp,
+                bytes,
+                ..
+            },
+        ) = &actions.first
+            && let Some(key) = self.key_in(bytes.as_slice())
+        {
+            self.door.lock(rt).closed(key, *client);
+            self.called.store(true, Ordering::SeqCst);
+        }
+    }
+
+    /// A question that waits for what failed now, with the failure as its reply.
+    pub fn next_failed<R: Wait>(&self, rt: &R, action: &Action) -> Option<(u64, Bytes)> {
+        let Action::Reply { bytes, .. } = action else {
+            return None;
+        };
+        let failure = bytes.as_slice();
+        if !is_failure(failure) {
+            return None;
+        }
+        let key = self.key_in(failure)?;
+        let held = self.door.lock(rt).fail(key)?;
+        let query = held.payload.as_slice();
+        let end = question_end(query)?;
+        let reply = failure_for(self.alloc, failure, query, end).ok()?;
+        Some((held.client, reply))
+    }
+
+    /// A question that is called in.
+    pub fn next<R: Wait>(&self, rt: &R) -> Option<Held<Bytes>> {
+        if !self.called.load(Ordering::SeqCst) {
+            return None;
+        }
+        let next = self.door.lock(rt).next();
+        if next.is_none() {
+            self.called.store(false, Ordering::SeqCst);
+        }
+        next
+    }
+
+    /// Lets time pass: who is open or waits for too long leaves.
+    pub fn pass_time<R: Wait>(&self, rt: &R, now: u64) {
+        let mut door = self.door.lock(rt);
+        for _ in 0..PLACES {
+            if !door.expire(now) {
+                break;
+            }
+        }
+        let late = door.drop_late(now);
+        self.dropped.fetch_add(late as u64, Ordering::SeqCst);
+        self.called.store(true, Ordering::SeqCst);
+    }
+}

@@ -1,0 +1,166 @@
+//! Streams of frames that are not waited for.
+ghost use Rattle.std.specs.Prelude.{◌<◌, ◌^◌, IfOk, IfSome, length};
+
+use crate::ends::is_early;
+use mio::net::TcpStream;
+use sockets::{framed, write_framed};
+use std::alloc::{AllocError, Global};
+use std::io::{ErrorKind, Read, Write};
+use std::os::fd::{AsRawFd, RawFd};
+
+/// Bytes of a frame at most, with the two of its length: so much is held of what came and is no whole frame yet.
+pub(crate) const MOST_FRAME_BYTES: usize = 65_537;
+
+/// A stream of frames that is not waited for: what came of the next frames, and what is still to be written.
+#[derive(Drop)]
+pub(crate) struct FramedStream {
+    stream: TcpStream,
+    got: Vec<u8>,
+    out: Vec<u8>,
+    // How much of `out` was written.
+    written: usize,
+    // Whether something may have come, or may be written, since the last time that there was nothing to do.
+    readable: bool,
+    writable: bool,
+    // Whether the other side has ended what it sends.
+    ended: bool,
+    // Whether the stream has failed.
+    broken: bool,
+}
+
+impl FramedStream {
+    /// One on which nothing came yet. What is written goes out at once.
+    pub fn new(alloc: Global, stream: TcpStream) -> FramedStream {
+        let _ = stream.set_nodelay(true);
+        FramedStream {
+            stream,
+            got: Vec::new(alloc),
+            out: Vec::new(alloc),
+            written: 0,
+            readable: true,
+            writable: true,
+            ended: false,
+            broken: false,
+        }
+    }
+
+    /// Its descriptor.
+    pub fn descriptor(&self) -> RawFd {
+        self.stream.as_raw_fd()
+    }
+
+    /// Something changed: it is to be read and written again.
+    pub fn stir(&mut self) {
+        self.readable = true;
+        self.writable = true;
+    }
+
+    /// Whether all that was put has been written.
+    pub fn is_written(&self) -> bool {
+        self.out.is_empty()
+    }
+
+    /// Whether the other side has ended what it sends, and all of that was read.
+    pub fn has_ended(&self) -> bool {
+        self.ended
+    }
+
+    /// Whether it has failed.
+    pub fn is_broken(&self) -> bool {
+        self.broken
+    }
+
+    /// Puts a frame behind what is to be written.
+    pub fn put(&mut self, bytes: &[u8])
+        requires { length bytes.now < 2 ^ 16 }
+    {
+        if write_framed(&mut self.out, bytes).is_err() {
+            self.broken = true;
+        }
+    }
+
+    /// Writes what it takes; whether it took a byte.
+    pub fn write(&mut self) -> bool {
+        let mut took = false;
+        for _ in 0..u64::MAX {
+            if !self.writable || self.broken || self.written >= self.out.len() {
+                break;
+            }
+            match self.stream.write(&self.out[self.written..]) {
+                Ok(0) => self.broken = true,
+                Ok(count) => {
+                    self.written = self.written.saturating_add(count);
+                    took = true;
+                }
+                Err(error) if is_early(&error) => {
+                    self.writable = error.kind() != ErrorKind::WouldBlock;
+                    break;
+                }
+                Err(_) => self.broken = true,
+            }
+        }
+        if self.written >= self.out.len() {
+            self.out.clear();
+            self.written = 0;
+        }
+        took
+    }
+
+    /// The next frame, of what came before or comes now. None where all of it is not there.
+    pub fn next(&mut self, alloc: Global, buffer: &mut [u8]) -> Option<Vec<u8>>
+        ensures { IfSome result (λ v. length v.items < 2 ^ 16) }
+    {
+        for _ in 0..3 {
+            if let Some(frame) = framed(&self.got) {
+                let count = frame.len() + 2;
+                let frame: Result<_, _> = Vec::from_slice(alloc, frame);
+                self.got.drain(..count);
+                return self.kept(frame);
+            }
+            if !self.read(buffer) {
+                return None;
+            }
+        }
+        None
+    }
+
+    // A frame, where there was memory for it; else the stream has failed.
+    fn kept(&mut self, frame: Result<Vec<u8>, AllocError>) -> Option<Vec<u8>>
+        requires { IfOk frame (λ v. length v.items < 2 ^ 16) }
+        ensures { IfSome result (λ v. length v.items < 2 ^ 16) }
+    {
+        if frame.is_err() {
+            self.broken = true;
+        }
+        frame.ok()
+    }
+
+    /// Reads what has come, as much as it holds; whether a byte came.
+    pub fn read(&mut self, buffer: &mut [u8]) -> bool {
+        let mut came = false;
+        for _ in 0..u64::MAX {
+            if !self.readable || self.ended || self.broken {
+                break;
+            }
+            let room = MOST_FRAME_BYTES
+                .saturating_sub(self.got.len())
+                .min(buffer.len());
+            if room == 0 {
+                break;
+            }
+            match self.stream.read(&mut buffer[..room]) {
+                Ok(0) => self.ended = true,
+                Ok(count) => {
+                    came = true;
+                    self.broken = self.got.extend_from_slice(&buffer[..count]).is_err();
+                }
+                Err(error) if is_early(&error) => {
+                    self.readable = error.kind() != ErrorKind::WouldBlock;
+                    break;
+                }
+                Err(_) => self.broken = true,
+            }
+        }
+        came
+    }
+}

@@ -1,0 +1,175 @@
+//! The places of clients' streams.
+ghost use Rattle.std.specs.Prelude.{◌<◌, ◌^◌, length};
+
+use crate::client_stream::ClientStream;
+use crate::ends::{Ends, endpoint_of};
+use crate::framed_stream::FramedStream;
+use dispatch::{place_of, stream_number};
+use events::Endpoint;
+use mio::Interest;
+use mio::net::TcpStream;
+use rdata::Addr;
+use slab::Slab;
+use std::alloc::Global;
+use std::io::ErrorKind;
+
+// How many streams are taken in a row.
+const STREAMS_IN_A_ROW: u32 = 64;
+
+// One address has the places over this number, but one at least.
+const SHARES: u16 = 4;
+
+/// The streams of clients that are open, and one that has come and has no place yet.
+#[derive(Drop)]
+pub(crate) struct Places {
+    alloc: Global,
+    open: Slab<ClientStream>,
+    most: u16,
+    // How many streams had a place.
+    serial: u64,
+    waiting: Option<(TcpStream, Endpoint)>,
+}
+
+// What comes of a stream that is to have a place.
+enum Room {
+    Free,
+    // All places are taken, and none of their streams has to give way.
+    Taken,
+    // Its address has as many as it may.
+    TooMany,
+}
+
+impl Places {
+    /// With none taken, of so many.
+    pub fn new(alloc: Global, most: u16) -> Places {
+        Places {
+            alloc,
+            open: Slab::new(alloc),
+            most,
+            serial: 0,
+            waiting: None,
+        }
+    }
+
+    /// Whether no place is taken.
+    pub fn is_empty(&self) -> bool {
+        self.open.is_empty()
+    }
+
+    /// How many keys there are to look at.
+    pub fn keys(&self) -> usize {
+        self.open.capacity()
+    }
+
+    /// The stream at this key.
+    pub fn get_mut(&mut self, key: usize) -> Option<&mut ClientStream> {
+        self.open.get_mut(key)
+    }
+
+    /// Puts a reply on the stream of this number, if that is still open.
+    pub fn reply(&mut self, number: u64, now: u64, bytes: &[u8])
+        requires { length bytes.now < 2 ^ 16 }
+    {
+        if let Some(client) = self.open.get_mut(usize::from(place_of(number)))
+            && client.number == number
+        {
+            client.reply(now, bytes);
+        }
+    }
+
+    /// Ends what is over.
+    pub fn end_over(&mut self, now: u64) {
+        self.open.retain(|_, client| !client.is_over(now));
+    }
+
+    /// Takes the streams that wait at the listener; whether one still waits.
+    pub fn welcome(&mut self, ends: &Ends, now: u64) -> bool {
+        for _ in 0..STREAMS_IN_A_ROW {
+            let (stream, from) = match self.waiting.take() {
+                Some(waiting) => waiting,
+                None => match ends.listener.accept() {
+                    Ok((stream, from)) => match endpoint_of(from) {
+                        Some(from) => (stream, from),
+                        None => continue,
+                    },
+                    Err(error) => return error.kind() != ErrorKind::WouldBlock,
+                },
+            };
+            match self.room_for(from.address, now) {
+                Room::Free => self.admit(ends, stream, from.address, now),
+                Room::TooMany => drop(stream),
+                Room::Taken => {
+                    self.waiting = Some((stream, from));
+                    return true;
+                }
+            }
+        }
+        true
+    }
+
+    // Whether there is a place for a stream of this address. If need be the stream gives way that has been silent
+    // longest, of this address where that has its share.
+    fn room_for(&mut self, address: Addr, now: u64) -> Room {
+        let has = self
+            .open
+            .iter()
+            .filter(|(_, client)| client.address == address)
+            .count();
+        let share = usize::from((self.most / SHARES).max(1));
+        let is_full = self.open.len() >= usize::from(self.most);
+        if has < share && !is_full {
+            return Room::Free;
+        }
+        let whose = if has < share { None } else { Some(address) };
+        match self.most_silent(whose, now) {
+            Some(key) => {
+                self.open.try_remove(key);
+                Room::Free
+            }
+            None if is_full => Room::Taken,
+            None => Room::TooMany,
+        }
+    }
+
+    // Of the streams that yield, of this address if one is given, the one that has been silent longest.
+    fn most_silent(&self, whose: Option<Addr>, now: u64) -> Option<usize> {
+        let mut found: Option<(usize, u64)> = None;
+        for (key, client) in self.open.iter() {
+            let silence = client.silence(now);
+            let counts = match whose {
+                Some(address) => client.address == address,
+                None => true,
+            };
+            let longest = match found {
+                Some((_, other)) => silence > other,
+                None => true,
+            };
+            if counts && longest && client.yields(now, self.most) {
+                found = Some((key, silence));
+            }
+        }
+        found.map(|(key, _)| key)
+    }
+
+    // Gives the stream a place.
+    fn admit(&mut self, ends: &Ends, stream: TcpStream, address: Addr, now: u64) {
+        let key = self.open.vacant_key();
+        let Ok(place) = u8::try_from(key) else {
+            return;
+        };
+        self.serial = self.serial.wrapping_add(1);
+        let number = stream_number(self.serial, place);
+        let stream = FramedStream::new(self.alloc, stream);
+        let socket = stream.descriptor();
+        let client = ClientStream::new(stream, number, address, now);
+        if self.open.insert(client).is_err() {
+            return;
+        }
+        if !ends
+            .streams
+            .watch(socket, key, Interest::READABLE | Interest::WRITABLE)
+        {
+            self.open.try_remove(key);
+        }
+    }
+}

@@ -1,0 +1,221 @@
+//! The loop that asks servers over TCP.
+ghost use Rattle.std.specs.Prelude.{◌<◌, ◌^◌, IfSome, length};
+
+use crate::desk::{Bounds, Desk};
+use crate::ends::{SLICE_MS, address_of};
+use crate::framed_stream::{FramedStream, MOST_FRAME_BYTES};
+use crate::outbox::StreamAsk;
+use crate::poller::Poller;
+use book::{Machine, Ticket};
+use dispatch::stream_reply_event;
+use events::{Actions, Event};
+use limits::TCP_WAIT_MS;
+use mio::net::TcpStream;
+use mio::{Events, Interest};
+use rdata::Addr;
+use slab::Slab;
+use std::alloc::Global;
+use std::net::Net;
+use std::sync::Wait;
+use std::sync::ledger::Ledger;
+use std::time::Clock;
+
+// How many asks are under way for each worker of the server's file.
+const ASKS_OF_A_WORKER: usize = 16;
+
+// How many asks are under way to one server, at most.
+const ASKS_OF_A_SERVER: usize = 32;
+
+// How many sockets are told of at once.
+const EVENTS: usize = 256;
+
+// How often it is looked whose time is over, in milliseconds, while asks are under way.
+const CHECK_MS: u64 = 100;
+
+// An ask that is under way.
+#[derive(Drop)]
+struct Talk {
+    number: u64,
+    server: Addr,
+    // When the ask was made.
+    moment: u64,
+    stream: FramedStream,
+    // Whether there is something to do.
+    due: bool,
+}
+
+impl Talk {
+    // Writes and reads what can be. None where it waits on; else it has ended, with the frame that came if one did.
+    fn advance(&mut self, alloc: Global, buffer: &mut [u8]) -> Option<Option<Vec<u8>>>
+        ensures { IfSome result (λ end. IfSome end (λ v. length v.items < 2 ^ 16)) }
+    {
+        self.due = false;
+        self.stream.write();
+        match self.stream.next(alloc, buffer) {
+            Some(frame) => Some(Some(frame)),
+            None if self.stream.is_broken() || self.stream.has_ended() => Some(None),
+            None => None,
+        }
+    }
+}
+
+/// Asks servers over TCP, many at a time, until the flag is up. What is no reply is told as a failure, and so is an ask
+/// whose time is over, its wait for a stream included.
+pub(crate) fn ask_servers<
+    M: Machine<Event = Event, Out = Actions>,
+    L: Ledger,
+    R: Net + Wait + Clock,
+>(rt: &R, desk: &Desk<'_, M, L>, ticket: &mut Ticket<L>) {
+    let servers = &desk.ends.servers;
+    let Ok(mut events) = Events::with_capacity(desk.alloc, EVENTS) else {
+        return;
+    };
+    let mut poll = servers.poll.lock(rt);
+    let mut talks = Slab::new(desk.alloc);
+    let mut buffer = [0u8; MOST_FRAME_BYTES];
+    let mut checked = 0;
+    for _ in rt.forever() {
+        if desk.is_over() {
+            return;
+        }
+        servers.expect_notice();
+        let begins = talks.len() < most_talks(desk.bounds) && !desk.asks.is_empty();
+        let millis = wait_of(&talks, begins);
+        servers.wait(&mut poll, &mut events, millis);
+        for event in events.iter() {
+            stir(&mut talks, event.token().0);
+        }
+        begin_all(rt, desk, ticket, &mut talks);
+        let now = desk.moment(rt);
+        let check = now.saturating_sub(checked) >= CHECK_MS;
+        if check {
+            checked = now;
+        }
+        for key in 0..talks.capacity() {
+            advance(rt, desk, ticket, &mut talks, key, check, &mut buffer);
+        }
+    }
+}
+
+// How many asks are under way at most.
+fn most_talks(bounds: Bounds) -> usize {
+    usize::from(bounds.workers) * ASKS_OF_A_WORKER
+}
+
+// How long is waited, in milliseconds, where another ask can begin at once or not.
+fn wait_of(talks: &Slab<Talk>, begins: bool) -> u64 {
+    if begins {
+        0
+    } else if talks.is_empty() {
+        SLICE_MS
+    } else {
+        CHECK_MS
+    }
+}
+
+// The talk of this key has something to do.
+fn stir(talks: &mut Slab<Talk>, key: usize) {
+    if let Some(talk) = talks.get_mut(key) {
+        talk.stream.stir();
+        talk.due = true;
+    }
+}
+
+// Begins the asks that were handed on, as many as may be under way.
+fn begin_all<M: Machine<Event = Event, Out = Actions>, L: Ledger, R: Net + Wait + Clock>(
+    rt: &R,
+    desk: &Desk<'_, M, L>,
+    ticket: &mut Ticket<L>,
+    talks: &mut Slab<Talk>,
+) {
+    let most = most_talks(desk.bounds);
+    for _ in 0..most {
+        if talks.len() >= most {
+            return;
+        }
+        let Ok(ask) = desk.asks.try_recv(rt) else {
+            return;
+        };
+        let number = ask.number;
+        let begun = begin(
+            rt,
+            desk.alloc,
+            &desk.ends.servers,
+            talks,
+            ask,
+            desk.moment(rt),
+        );
+        if begun.is_none() {
+            let event = stream_reply_event(desk.moment(rt), number, None);
+            desk.put(rt, ticket, event);
+        }
+    }
+}
+
+// Begins to connect, and puts down what is to be written. None where the ask's time is over, where as many as may be
+// are at that server, and where there is no stream.
+fn begin<R: Net>(
+    rt: &R,
+    alloc: Global,
+    servers: &Poller,
+    talks: &mut Slab<Talk>,
+    ask: StreamAsk,
+    now: u64,
+) -> Option<()> {
+    let server = ask.to.address;
+    let at_server = talks
+        .iter()
+        .filter(|(_, talk)| talk.server == server)
+        .count();
+    if now.saturating_sub(ask.moment) >= TCP_WAIT_MS || at_server >= ASKS_OF_A_SERVER {
+        return None;
+    }
+    let stream = TcpStream::connect(rt, address_of(ask.to)).ok()?;
+    let mut stream = FramedStream::new(alloc, stream);
+    stream.put(ask.bytes.as_slice());
+    let socket = stream.descriptor();
+    let talk = Talk {
+        number: ask.number,
+        server,
+        moment: ask.moment,
+        stream,
+        due: false,
+    };
+    let key = talks.insert(talk).ok()?;
+    if servers.watch(socket, key, Interest::READABLE | Interest::WRITABLE) {
+        Some(())
+    } else {
+        talks.try_remove(key);
+        None
+    }
+}
+
+// Goes on with the talk of this key where there is something to do, and ends it where its reply has come, where it has
+// failed and, at a check, where its time is over.
+fn advance<M: Machine<Event = Event, Out = Actions>, L: Ledger, R: Wait + Clock>(
+    rt: &R,
+    desk: &Desk<'_, M, L>,
+    ticket: &mut Ticket<L>,
+    talks: &mut Slab<Talk>,
+    key: usize,
+    check: bool,
+    buffer: &mut [u8],
+) {
+    let Some(talk) = talks.get_mut(key) else {
+        return;
+    };
+    let number = talk.number;
+    let end = if talk.due {
+        talk.advance(desk.alloc, buffer)
+    } else if check && desk.moment(rt).saturating_sub(talk.moment) >= TCP_WAIT_MS {
+        Some(None)
+    } else {
+        None
+    };
+    let Some(frame) = end else {
+        return;
+    };
+    talks.try_remove(key);
+    let event = stream_reply_event(desk.moment(rt), number, frame);
+    desk.put(rt, ticket, event);
+}
