@@ -1,4 +1,6 @@
+pub mod Cached
 pub mod Course
+pub mod Failing
 pub mod Place
 pub mod Steps
 pub mod Talk
