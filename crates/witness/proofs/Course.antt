@@ -66,7 +66,7 @@ abbrev first_of : List Question → Question
 first_of [] = question
 first_of (q ∷ qs) = q
 
-brought : (sock : ℕ) (server : Addr) (now : ℕ) (bytes : List ℕ) (said : Message) → IsMessage bytes said → said.questions ≡ question ∷ []
+pub brought : (sock : ℕ) (server : Addr) (now : ℕ) (bytes : List ℕ) (said : Message) → IsMessage bytes said → said.questions ≡ question ∷ []
     → MayServe world server.0 host_name 1 said → (a : Ask) (m : Message) → Brings 53 a (Datagram now sock (endpoint server 53) bytes) m
     → MayServe world (a.server).0 a.name a.kind m
 brought sock server now bytes said is asked may a m (path, from, reads, fits) =

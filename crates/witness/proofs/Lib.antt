@@ -3,4 +3,5 @@ pub mod Course
 pub mod Failing
 pub mod Place
 pub mod Steps
+pub mod Streams
 pub mod Talk

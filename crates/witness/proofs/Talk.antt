@@ -51,6 +51,10 @@ failed_reply = record { header = failing (header 7 true false true true); questi
 abbrev pub failure_message : ℕ → Message
 failure_message id = record { header = failing (header id true false false false); questions = question ∷ []; answer = []; authority = []; additional = [] }
 
+-- The answer, cut for want of room in a datagram.
+abbrev pub cut_message : ℕ → Message
+cut_message id = record { header = record (header id true true false false) { tc = true }; questions = question ∷ []; answer = []; authority = []; additional = [] }
+
 abbrev pub younger : List Record
 younger = record (entry host_name (Ipv4 server_address)) { ttl = 299 } ∷ []
 
@@ -89,6 +93,10 @@ failed_long = refl
 failure_long : (id : ℕ) → length (encoding (failure_message id)) ≡ 21
 unfolding encoding put put_flat
 failure_long id = refl
+
+cut_long : (id : ℕ) → length (encoding (cut_message id)) ≡ 21
+unfolding encoding put put_flat
+cut_long id = refl
 
 later_long : length (encoding later_reply) ≡ 37
 unfolding encoding put put_flat
@@ -157,6 +165,10 @@ failed_writable = record { header = is_failing 7 true false true true (omega ari
 failure_writable : (id : ℕ) → id < 65536 → IsWritable (failure_message id)
 failure_writable id fits = record { header = is_failing id true false false false fits; questions = (is_question, tt); answer = tt; authority = tt; additional = tt }
 
+cut_writable : (id : ℕ) → id < 65536 → IsWritable (cut_message id)
+cut_writable id fits =
+    record { header = record { id = fits; opcode = omega arith; z = omega arith; rcode = omega arith }; questions = (is_question, tt); answer = tt; authority = tt; additional = tt }
+
 younger_record : IsRecord (record (entry host_name (Ipv4 server_address)) { ttl = 299 })
 younger_record = record { owner = host_is_name; ttl = omega arith; fits = refl; names = tt }
 
@@ -194,6 +206,9 @@ failed_is = encoding_holds failed_reply failed_writable (let e = failed_long in 
 
 pub failure_is : (id : ℕ) → id < 65536 → IsMessage (encoding (failure_message id)) (failure_message id)
 failure_is id fits = encoding_holds (failure_message id) (failure_writable id fits) (let e = failure_long id in omega (arith, e))
+
+pub cut_is : (id : ℕ) → id < 65536 → IsMessage (encoding (cut_message id)) (cut_message id)
+cut_is id fits = encoding_holds (cut_message id) (cut_writable id fits) (let e = cut_long id in omega (arith, e))
 
 pub later_is : IsMessage (encoding later_reply) later_reply
 later_is = encoding_holds later_reply later_writable (let e = later_long in omega (arith, e))

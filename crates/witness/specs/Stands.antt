@@ -1,6 +1,6 @@
 -- The premises of the laws over runs can be met: by a run in which a referral is followed and a query answered, by one
--- in which servers are silent, one in which a server fails, one in which memory is refused, and one in which the cache
--- answers.
+-- in which servers are silent, one in which a server fails, one in which memory is refused, one in which the cache
+-- answers, and one that goes on over TCP.
 use Rattle.std.specs.Prelude.{◌≡◌, ◌≢◌, ℕ, ◌<◌, true, Some, None, List, [], ◌∷◌, ◌++◌, Contains}
 use Rattle.dname.specs.Labels.{Name, root}
 use Rattle.rdata.specs.Data.{Ipv4}
@@ -17,7 +17,7 @@ use Rattle.cache.specs.Cached.{is_live}
 use Rattle.resolution.specs.Jobs.{Taken}
 use Rattle.classify.specs.Classes.{Referral, class_of}
 use Rattle.world_truth.specs.Worlds.{World, IsWorld}
-use Rattle.runs.specs.States.{Client, Tick, Action, Reply, Own, OpenQuery, Turn, Plain, ClientQuery, recursive, Ask, Site, State, via_of}
+use Rattle.runs.specs.States.{Client, TcpReply, Tick, Action, Reply, Own, OpenQuery, Turn, Plain, ClientQuery, recursive, ByTcp, Ask, Site, State, via_of}
 use Rattle.runs.specs.Messages.{IsSent}
 use Rattle.runs.specs.Runs.{Run, GivesOut, Accepts, Came}
 use Rattle.laws.specs.Headline.{IsHonest, IsHomeIn}
@@ -162,3 +162,33 @@ pub record IsHeldLater (site : Site) (run : List Turn) (s : State) (legal : Run 
 
 abbrev pub CacheStands : Type 0
 CacheStands = (W : World) × (site : Site) × (run : List Turn) × (s : State) × (met : AreMet W site run s) × IsHeldLater site run s met.leads
+
+-- ---- streams
+
+-- A reply that is accepted for the ask is truncated, so the same is asked over TCP, and the reply that comes there is
+-- answered with (RFC 1035, section 4.2.1).
+pub record IsAnsweredOverTcp (port : ℕ) (run : List Turn) : Type 0 where
+  pub k : ℕ
+  pub who : ClientQuery
+  pub last : Turn
+  pub cut : Turn
+  pub past : List Turn
+  pub run_is : run ≡ last ∷ cut ∷ past
+  pub ask : Ask
+  pub message : Message
+  pub accepts : Accepts port k ask message cut past
+  pub truncated : (message.header).tc ≡ true
+  pub again : Ask
+  pub number : ℕ
+  pub path : again.path ≡ ByTcp number
+  pub same : (again.server ≡ ask.server) × (again.name ≡ ask.name) × (again.kind ≡ ask.kind)
+  pub action : Action
+  pub gives : GivesOut cut.out action
+  pub sent : IsSent port again action
+  pub moment : ℕ
+  pub bytes : List ℕ
+  pub event : last.event ≡ TcpReply moment number bytes
+  pub replies : RepliesWithRecord k who last (cut ∷ past)
+
+abbrev pub StreamStands : Type 0
+StreamStands = (W : World) × (site : Site) × (run : List Turn) × (s : State) × AreMet W site run s × IsAnsweredOverTcp site.port run
