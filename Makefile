@@ -49,6 +49,7 @@ test: kit
 	tools/layers --check
 	tools/definitions
 	tools/names
+	tools/glossary
 	tools/turned --texts
 	tools/prove
 	tools/examples
