@@ -1,0 +1,2 @@
+-- To be trusted: the checker reads them, you need not.
+mod Texts

@@ -49,13 +49,21 @@ buckets =
     bucket.Ms1 ∷ bucket.Ms5 ∷ bucket.Ms10 ∷ bucket.Ms25 ∷ bucket.Ms50 ∷ bucket.Ms100 ∷
     bucket.Ms250 ∷ bucket.Ms500 ∷ bucket.Ms1000 ∷ bucket.Ms2500 ∷ bucket.Ms5000 ∷ bucket.Ms10000 ∷ bucket.Longer ∷ []
 
--- Milliseconds as seconds: `3e-3` is a number of the format, three thousandths.
+-- The sum of the times. Milliseconds as seconds: `3e-3` is a number of the format, three thousandths.
+abbrev pub sum_line : List ℕ → List ℕ
+sum_line cells = series counter.WaitedMillis ++ codes " " ++ decimal (value cells counter.WaitedMillis) ++ codes "e-3\n"
+
+-- The number of the times.
+abbrev pub count_line : ℕ → List ℕ
+count_line n = codes "resolverd_reply_seconds_count " ++ decimal n ++ codes "\n"
+
+abbrev pub totals : List ℕ → ℕ → List ℕ
+totals cells n = sum_line cells ++ count_line n
+
 unfoldable pub times : List ℕ → List ℕ
 times cells =
     head (codes "resolverd_reply_seconds") (codes "Seconds from query to reply.") (codes "histogram")
-    ++ (bucket_lines cells 0 buckets
-    ++ (series counter.WaitedMillis ++ codes " " ++ decimal (value cells counter.WaitedMillis) ++ codes "e-3\n"
-    ++ (codes "resolverd_reply_seconds_count " ++ decimal (times_in cells buckets) ++ codes "\n")))
+    ++ (bucket_lines cells 0 buckets ++ totals cells (times_in cells buckets))
 
 -- ---- All metrics, in their order.
 

@@ -3,3 +3,4 @@ pub mod Labels
 pub mod Counters
 pub mod Outcomes
 pub mod Exposition
+pub mod Kinds

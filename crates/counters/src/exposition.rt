@@ -1,8 +1,8 @@
 //! The text of the counters, in the exposition format of Prometheus (version 0.0.4).
-ghost use Rattle.std.specs.Prelude.{◌≡◌, ◌++◌, codes, length, IfOk, OnOk, string_bytes};
+ghost use Rattle.std.specs.Prelude.{◌≡◌, ◌≤◌, ◌++◌, codes, length, IfOk, OnOk, string_bytes};
 ghost use Rattle.std.specs.List.{flat_map};
 ghost use Rattle.counters.specs.Counters.{counters};
-ghost use Rattle.counters.specs.Exposition.{bucket_line, bucket_lines, buckets, counter_line, exposition, head, metric, times, times_in, value};
+ghost use Rattle.counters.specs.Exposition.{bucket_line, bucket_lines, buckets, count_line, counter_line, exposition, head, metric, sum_line, times, times_in, totals, value};
 
 use crate::counter::{COUNTERS, Counter};
 use crate::labels::{AskFault, Bucket, QueryType, Rcode, Source, Way};
@@ -252,24 +252,51 @@ fn put_times<A: Allocator>(out: &mut String<A>, cells: &[u64; COUNTERS]) -> Resu
         "Seconds from query to reply.",
         "histogram",
     )?;
-    let count = put_buckets(out, cells)?;
+    let count = put_buckets(out, &BUCKETS, cells)?;
+    put_totals(out, count, cells)
+}
+
+// The lines of the sum and of the number of the times.
+fn put_totals<A: Allocator>(
+    out: &mut String<A>,
+    count: u128,
+    cells: &[u64; COUNTERS],
+) -> Result<(), Starved>
+    ensures { OnOk result (string_bytes out.new ≡ string_bytes out.old ++ totals cells.now count) }
+{
+    put_sum(out, cells)?;
+    put_count(out, count)
+}
+
+fn put_sum<A: Allocator>(out: &mut String<A>, cells: &[u64; COUNTERS]) -> Result<(), Starved>
+    ensures { OnOk result (string_bytes out.new ≡ string_bytes out.old ++ sum_line cells.now) }
+{
     let sum = Counter::WaitedMillis;
     let millis = value(cells, sum);
-    write!(
-        out,
-        "{sum} {millis}e-3\nresolverd_reply_seconds_count {count}\n"
-    )?;
+    write!(out, "{sum} {millis}e-3\n")?;
     Ok(())
 }
 
-// The lines of the buckets, each with those before it in it, and how many times they hold.
-fn put_buckets<A: Allocator>(out: &mut String<A>, cells: &[u64; COUNTERS]) -> Result<u128, Starved>
-    ensures { IfOk result (λ n. (n ≡ times_in cells.now buckets) × (string_bytes out.new ≡ string_bytes out.old ++ bucket_lines cells.now 0 buckets)) }
+fn put_count<A: Allocator>(out: &mut String<A>, count: u128) -> Result<(), Starved>
+    ensures { OnOk result (string_bytes out.new ≡ string_bytes out.old ++ count_line count) }
+{
+    write!(out, "resolverd_reply_seconds_count {count}\n")?;
+    Ok(())
+}
+
+// The lines of these buckets, each with those before it in it, and how many times they hold.
+fn put_buckets<A: Allocator>(
+    out: &mut String<A>,
+    buckets: &[Bucket],
+    cells: &[u64; COUNTERS],
+) -> Result<u128, Starved>
+    requires { length buckets.now ≤ 13 }
+    ensures { IfOk result (λ n. (n ≡ times_in cells.now buckets.now) × (string_bytes out.new ≡ string_bytes out.old ++ bucket_lines cells.now 0 buckets.now)) }
 {
     let mut before = 0;
-    for bucket in BUCKETS {
-        before += u128::from(value(cells, Counter::Waited(bucket)));
-        put_bucket(out, bucket, before)?;
+    for bucket in buckets {
+        before += u128::from(value(cells, Counter::Waited(*bucket)));
+        put_bucket(out, *bucket, before)?;
     }
     Ok(before)
 }

@@ -21,10 +21,12 @@ mod cells;
 mod counter;
 mod exposition;
 mod labels;
+mod laws;
 mod outcome;
 
 pub use cells::{Adder, Cells};
 pub use counter::{COUNTERS, Counter};
 pub use exposition::put_metrics;
 pub use labels::{AskFault, Bucket, QueryType, Rcode, Source, Way};
+pub use laws::{places_law, reply_law};
 pub use outcome::{Counting, Outcome, Reply, count};
