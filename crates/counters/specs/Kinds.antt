@@ -1,5 +1,5 @@
 -- Which kind of thing a counter counts, for the laws.
-use Rattle.std.specs.Prelude.{ℕ, ◌+◌, Bool, true, false, List, [], ◌∷◌, nat_eq}
+use Rattle.std.specs.Prelude.{ℕ, Bool, true, false, List, nat_eq}
 use Rattle.std.specs.List.{count_by}
 use Rattle.counters.specs.declared.counter.Counter.{Counter}
 use Rattle.counters.specs.declared.counter.Counter.TheVariants as counter
