@@ -5,11 +5,11 @@ use Rattle.counters.specs.Exposition.{bucket_line, bucket_lines, times_in, value
 use Rattle.counters.specs.declared.counter.Counter.TheVariants as counter
 use Rattle.counters.specs.declared.labels.Bucket.{Bucket}
 
--- Twelve texts, each behind those before it.
-pub twelve_behind : (t0 t1 t2 t3 t4 t5 t6 t7 t8 t9 t10 t11 t12 m1 m2 m3 m4 m5 m6 m7 m8 m9 m10 m11 m12 : List ℕ)
-    → t1 ≡ t0 ++ m1 → t2 ≡ t1 ++ m2 → t3 ≡ t2 ++ m3 → t4 ≡ t3 ++ m4 → t5 ≡ t4 ++ m5 → t6 ≡ t5 ++ m6 → t7 ≡ t6 ++ m7 → t8 ≡ t7 ++ m8 → t9 ≡ t8 ++ m9 → t10 ≡ t9 ++ m10 → t11 ≡ t10 ++ m11 → t12 ≡ t11 ++ m12
-    → t12 ≡ t0 ++ (m1 ++ (m2 ++ (m3 ++ (m4 ++ (m5 ++ (m6 ++ (m7 ++ (m8 ++ (m9 ++ (m10 ++ (m11 ++ (m12))))))))))))
-twelve_behind t0 t1 t2 t3 t4 t5 t6 t7 t8 t9 t10 t11 t12 m1 m2 m3 m4 m5 m6 m7 m8 m9 m10 m11 m12 h1 h2 h3 h4 h5 h6 h7 h8 h9 h10 h11 h12 = rw (h12, h11, h10, h9, h8, h7, h6, h5, h4, h3, h2, h1) (simp append_assoc)
+-- Thirteen texts, each behind those before it.
+pub thirteen_behind : (t0 t1 t2 t3 t4 t5 t6 t7 t8 t9 t10 t11 t12 t13 m1 m2 m3 m4 m5 m6 m7 m8 m9 m10 m11 m12 m13 : List ℕ)
+    → t1 ≡ t0 ++ m1 → t2 ≡ t1 ++ m2 → t3 ≡ t2 ++ m3 → t4 ≡ t3 ++ m4 → t5 ≡ t4 ++ m5 → t6 ≡ t5 ++ m6 → t7 ≡ t6 ++ m7 → t8 ≡ t7 ++ m8 → t9 ≡ t8 ++ m9 → t10 ≡ t9 ++ m10 → t11 ≡ t10 ++ m11 → t12 ≡ t11 ++ m12 → t13 ≡ t12 ++ m13
+    → t13 ≡ t0 ++ (m1 ++ (m2 ++ (m3 ++ (m4 ++ (m5 ++ (m6 ++ (m7 ++ (m8 ++ (m9 ++ (m10 ++ (m11 ++ (m12 ++ (m13)))))))))))))
+thirteen_behind t0 t1 t2 t3 t4 t5 t6 t7 t8 t9 t10 t11 t12 t13 m1 m2 m3 m4 m5 m6 m7 m8 m9 m10 m11 m12 m13 h1 h2 h3 h4 h5 h6 h7 h8 h9 h10 h11 h12 h13 = rw (h13, h12, h11, h10, h9, h8, h7, h6, h5, h4, h3, h2, h1) (simp append_assoc)
 
 -- Three, of which the last is told of another number.
 pub three_behind : (f : ℕ → List ℕ) (m n : ℕ) (t0 t1 t2 t3 m1 m2 : List ℕ)

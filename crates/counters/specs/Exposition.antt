@@ -123,8 +123,13 @@ abbrev pub refused : List Counter
 refused =
     counter.RefusedMemory ∷ []
 
-unfoldable pub exposition : List ℕ → List ℕ
-exposition cells =
+-- A number that goes up and down.
+unfoldable pub gauge : List ℕ → List ℕ → ℕ → List ℕ
+gauge name help n = head name help (codes "gauge") ++ (name ++ codes " " ++ decimal n ++ codes "\n")
+
+-- The counters' cells, and how many queries wait for other servers.
+unfoldable pub exposition : List ℕ → ℕ → List ℕ
+exposition cells waiting =
     metric cells (codes "resolverd_queries_total") (codes "Queries that came, by the way and the type.") queries
     ++ (metric cells (codes "resolverd_replies_total") (codes "Replies that went to clients, by the RCODE.") replies
     ++ (metric cells (codes "resolverd_truncated_replies_total") (codes "Replies that were cut to fit into a datagram.") truncated
@@ -136,4 +141,4 @@ exposition cells =
     ++ (metric cells (codes "resolverd_held_queries_total") (codes "Queries that waited for an equal one.") held
     ++ (metric cells (codes "resolverd_dropped_queries_total") (codes "Queries that were dropped before the resolver.") dropped
     ++ (metric cells (codes "resolverd_refused_memory_total") (codes "Growths that were refused for want of memory.") refused
-    ++ times cells))))))))))
+    ++ (times cells ++ gauge (codes "resolverd_open_queries") (codes "Queries that wait for other servers.") waiting)))))))))))

@@ -4,3 +4,4 @@ pub mod Counters
 pub mod Outcomes
 pub mod Exposition
 pub mod Kinds
+pub mod Responses

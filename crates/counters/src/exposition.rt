@@ -2,7 +2,7 @@
 ghost use Rattle.std.specs.Prelude.{◌≡◌, ◌≤◌, ◌++◌, codes, length, IfOk, OnOk, string_bytes};
 ghost use Rattle.std.specs.List.{flat_map};
 ghost use Rattle.counters.specs.Counters.{counters};
-ghost use Rattle.counters.specs.Exposition.{bucket_line, bucket_lines, buckets, count_line, counter_line, exposition, head, metric, sum_line, times, times_in, totals, value};
+ghost use Rattle.counters.specs.Exposition.{bucket_line, bucket_lines, buckets, count_line, counter_line, exposition, gauge, head, metric, sum_line, times, times_in, totals, value};
 
 use crate::counter::{COUNTERS, Counter};
 use crate::labels::{AskFault, Bucket, QueryType, Rcode, Source, Way};
@@ -93,13 +93,14 @@ const BUCKETS: [Bucket; 13] = [
     Bucket::Longer,
 ];
 
-/// Appends the text of all counters, whose cells hold these values. Where memory is refused, a part of it stands.
-#[tactic(auto, unfolding(crate::specs::Exposition::exposition))]
+/// Appends the text of all counters, whose cells hold these values, and of how many queries wait for other servers.
+/// Where memory is refused, a part of it stands.
 pub fn put_metrics<A: Allocator>(
     out: &mut String<A>,
     cells: &[u64; COUNTERS],
+    waiting: u64,
 ) -> Result<(), Starved>
-    ensures { OnOk result (string_bytes out.new ≡ string_bytes out.old ++ exposition cells.now) }
+    ensures { OnOk result (string_bytes out.new ≡ string_bytes out.old ++ exposition cells.now waiting) }
 {
     put_metric(
         out,
@@ -178,7 +179,28 @@ pub fn put_metrics<A: Allocator>(
         &[Counter::RefusedMemory],
         cells,
     )?;
-    put_times(out, cells)
+    put_times(out, cells)?;
+    put_gauge(
+        out,
+        "resolverd_open_queries",
+        "Queries that wait for other servers.",
+        waiting,
+    )
+}
+
+// The lines of a number that goes up and down.
+#[tactic(auto, unfolding(crate::specs::Exposition::gauge))]
+fn put_gauge<A: Allocator>(
+    out: &mut String<A>,
+    name: &str,
+    help: &str,
+    value: u64,
+) -> Result<(), Starved>
+    ensures { OnOk result (string_bytes out.new ≡ string_bytes out.old ++ gauge name.now help.now value) }
+{
+    put_head(out, name, help, "gauge")?;
+    write!(out, "{name} {value}\n")?;
+    Ok(())
 }
 
 // What the cell of a counter holds.
