@@ -14,8 +14,9 @@ pub trait Host {
     /// Bytes from which identifiers may be drawn; none where they can't be read.
     fn seed(&mut self) -> Option<[u8; 32]>;
 
-    /// Binds the sockets of a server: the port at which clients find it, or none where an address can't be bound.
-    fn open(&mut self, listen: Endpoint) -> Option<u16>
+    /// Binds the sockets of a server, and where its counters are served if they are: the port at which clients find it, or
+    /// none where an address can't be bound.
+    fn open(&mut self, listen: Endpoint, metrics: Option<Endpoint>) -> Option<u16>
         ensures { IfSome result (λ port. (port ≡ listen.port) ⊎ (listen.port ≡ 0)) };
 }
 
@@ -53,8 +54,12 @@ where
         Some(seed)
     }
 
-    fn open(&mut self, listen: Endpoint) -> Option<u16> {
+    fn open(&mut self, listen: Endpoint, metrics: Option<Endpoint>) -> Option<u16> {
         let ends = Ends::open(self.runtime, self.alloc, listen).ok()?;
+        let ends = match metrics {
+            Some(at) => ends.with_counters(self.runtime, self.alloc, at).ok()?,
+            None => ends,
+        };
         let bound = ends.listen().ok()?;
         self.ends = Some(ends);
         if listen.port == 0 {

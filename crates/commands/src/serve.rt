@@ -23,11 +23,12 @@ use std::alloc::Allocator;
 use std::io::Write;
 use zone::Zone;
 
-// A server that is made, and where it is to listen.
+// A server that is made, where it is to listen, and where its counters are served if they are.
 #[derive(Drop)]
 struct Prepared<A: Allocator> {
     server: Server<A>,
     listen: Endpoint,
+    metrics: Option<Endpoint>,
 }
 
 /// Reads the file of a server at a path, and the files of its zones, binds its sockets and prints where it listens: the
@@ -114,11 +115,13 @@ fn prepare_with<'t, A: Heap, T: Texts, H: Host>(
     let zones = local_zones(alloc, texts, &config.locals)?;
     let seed = seed_of(&config, host)?;
     let listen = endpoint_of(&config.listen);
+    let metrics = metrics_of(&config);
     let bounds = bounds_of(&config, seed)?;
     match resolver_of(alloc, config, zones, seed) {
         Ok(core) => Ok(Prepared {
             server: Server::new(core, bounds),
             listen,
+            metrics,
         }),
         Err(CoreError::Memory) => Err(Fault::Memory),
         Err(_) => Err(Fault::Settings),
@@ -147,6 +150,14 @@ fn bounds_of<A: Allocator>(
             seed,
         }),
         _ => Err(Fault::Settings),
+    }
+}
+
+// Where the file says that counters are served.
+fn metrics_of<A: Allocator>(config: &ServeConfig<'_, A>) -> Option<Endpoint> {
+    match &config.metrics {
+        Some(at) => Some(endpoint_of(at)),
+        None => None,
     }
 }
 
@@ -216,7 +227,7 @@ fn start<A: Heap, H: Host, O: Write, E: Write>(
     ensures run { IsRun (NamesEnd (end_of prepared.listen)) IsUnbound (O.contents out.old) (O.contents out.new) (E.contents err.old) (E.contents err.new) result.status }
     ensures starts { StartsWith prepared.server result.status result.server }
 {
-    match bind(alloc, prepared.listen, host) {
+    match bind(alloc, prepared.listen, prepared.metrics, host) {
         Ok(line) => go(&line, prepared.server, out, err),
         Err(fault) => {
             drop(prepared);
@@ -255,12 +266,13 @@ fn go<A: Heap, O: Write, E: Write>(
 fn bind<A: Heap, H: Host>(
     alloc: A,
     listen: Endpoint,
+    metrics: Option<Endpoint>,
     host: &mut H,
 ) -> Result<String<A>, Fault<'static>>
     ensures ok { IfOk result (λ s. NamesEnd (end_of listen) (string_bytes s)) }
     ensures err { IfErr result IsUnbound }
 {
-    match host.open(listen) {
+    match host.open(listen, metrics) {
         Some(port) => Ok(line(alloc, listen, port)?),
         None => Err(Fault::Socket),
     }

@@ -11,7 +11,7 @@ impl Host for Nowhere {
         None
     }
 
-    fn open(&mut self, _listen: Endpoint) -> Option<u16> {
+    fn open(&mut self, _listen: Endpoint, _metrics: Option<Endpoint>) -> Option<u16> {
         None
     }
 }

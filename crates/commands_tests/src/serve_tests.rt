@@ -38,7 +38,7 @@ impl Host for Place {
         self.seed
     }
 
-    fn open(&mut self, listen: Endpoint) -> Option<u16> {
+    fn open(&mut self, listen: Endpoint, _metrics: Option<Endpoint>) -> Option<u16> {
         if listen.port == 0 { self.port } else { None }
     }
 }

@@ -1,6 +1,7 @@
 //! The loop that lets time pass, so that queries which are due are served.
 use crate::desk::Desk;
 use book::{Machine, Ticket};
+use counters::Outcome;
 use events::{Actions, Event};
 use std::sync::Wait;
 use std::sync::ledger::Ledger;
@@ -21,7 +22,10 @@ pub(crate) fn pass_time<M: Machine<Event = Event, Out = Actions>, L: Ledger, R: 
             return;
         }
         let moment = desk.moment(rt);
-        desk.entrance.pass_time(rt, moment);
+        let late = desk.entrance.pass_time(rt, moment);
+        if late > 0 {
+            desk.ends.count(Outcome::Dropped(late));
+        }
         if !desk.put(rt, ticket, Event::Tick { moment }).more_due {
             rest(rt);
         }

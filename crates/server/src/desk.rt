@@ -5,7 +5,9 @@ use crate::ends::{Ends, address_of};
 use crate::entrance::{Entrance, Entry, Question};
 use crate::moments::Beginning;
 use crate::outbox::{Outbox, StreamAsk, StreamReply};
+use crate::tally::Came;
 use book::{Machine, Ticket};
+use counters::{Outcome, Way};
 use crossbeam_channel::{Receiver, Sender};
 use dispatch::{
     Reach, client_of, hand_over, held_query_event, query_event, sender_of, stream_reply_event,
@@ -95,31 +97,42 @@ impl<M: Machine<Event = Event, Out = Actions>, L: Ledger> Desk<'_, M, L> {
         requires { length bytes.now ≤ 65535 }
     {
         let moment = self.moment(rt);
+        if let Some(tally) = &self.ends.tally {
+            tally.count_query(Way::Udp, bytes);
+        }
         let Some(question) = self.entrance.question(client_of(from), bytes) else {
-            if let Ok(event) = query_event(self.alloc, moment, from, bytes) {
-                self.put(rt, ticket, event);
+            match query_event(self.alloc, moment, from, bytes) {
+                Ok(event) => {
+                    self.put(rt, ticket, event);
+                }
+                Err(_) => self.ends.count(Outcome::MemoryRefused),
             }
             return;
         };
         let Ok(bytes) = Vec::from_slice(self.alloc, bytes) else {
+            self.ends.count(Outcome::MemoryRefused);
             return;
         };
-        if let Entry::In(bytes) = self.entrance.admit(rt, question, moment, Bytes::new(bytes)) {
-            self.put_question(rt, ticket, question, bytes);
+        match self.entrance.admit(rt, question, moment, Bytes::new(bytes)) {
+            Entry::In(bytes) => self.put_question(rt, ticket, question, moment, bytes),
+            Entry::Held => self.ends.count(Outcome::Held),
+            Entry::Dropped => self.ends.count(Outcome::Dropped(1)),
         }
         self.let_in(rt, ticket);
     }
 
-    // Puts a question that was let in.
+    // Puts a question that was let in, and came at that moment.
     fn put_question<R: Wait + Clock>(
         &self,
         rt: &R,
         ticket: &mut Ticket<L>,
         question: Question,
+        came: u64,
         bytes: Bytes,
     ) {
         let event = held_query_event(self.moment(rt), question.client, bytes);
-        self.step(rt, ticket, event, Some(question));
+        let came = self.came(&event, Some(came));
+        self.step(rt, ticket, event, Some(question), came);
     }
 
     /// Puts the questions that are called in, some of them.
@@ -132,13 +145,14 @@ impl<M: Machine<Event = Event, Out = Actions>, L: Ledger> Desk<'_, M, L> {
                 key: held.key,
                 client: held.client,
             };
-            self.put_question(rt, ticket, question, held.payload);
+            self.put_question(rt, ticket, question, held.since, held.payload);
         }
     }
 
     /// Puts an event, and hands over what goes out; what came of it. Then who waited for it comes in.
     pub fn put<R: Wait + Clock>(&self, rt: &R, ticket: &mut Ticket<L>, event: Event) -> Upshot {
-        let upshot = self.step(rt, ticket, event, None);
+        let came = self.came(&event, None);
+        let upshot = self.step(rt, ticket, event, None, came);
         self.let_in(rt, ticket);
         upshot
     }
@@ -151,18 +165,23 @@ impl<M: Machine<Event = Event, Out = Actions>, L: Ledger> Desk<'_, M, L> {
         ticket: &mut Ticket<L>,
         event: Event,
         question: Option<Question>,
+        came: Option<Came>,
     ) -> Upshot {
         let mut event = event;
         let mut question = question;
+        let mut came = came;
         for _ in 0..MAX_REFUSED_HANDOVERS {
             let Ok(entry) = submit(rt, self.shared, ticket, event) else {
+                self.ends.count(Outcome::MemoryRefused);
                 self.tell_door(rt, question, None);
                 return NOTHING;
             };
             let Ok(actions) = entry.out() else {
+                self.ends.count(Outcome::MemoryRefused);
                 self.tell_door(rt, question, None);
                 return NOTHING;
             };
+            self.count_step(rt, came.take(), actions);
             self.tell_door(rt, question.take(), Some(actions));
             match self.send_out(rt, actions) {
                 Some(number) => event = stream_reply_event(self.moment(rt), number, None),
@@ -175,6 +194,24 @@ impl<M: Machine<Event = Event, Out = Actions>, L: Ledger> Desk<'_, M, L> {
             }
         }
         NOTHING
+    }
+
+    // The query of an event, where queries are counted. One that was held came at the moment that is given.
+    fn came(&self, event: &Event, held: Option<u64>) -> Option<Came> {
+        if self.ends.tally.is_some() {
+            Came::of(event, held)
+        } else {
+            None
+        }
+    }
+
+    // Counts what came of a step, where it is counted.
+    fn count_step<R: Wait + Clock>(&self, rt: &R, came: Option<Came>, actions: &Actions) {
+        if let Some(tally) = &self.ends.tally
+            && let Some(action) = &actions.first
+        {
+            tally.count_step(rt, came, self.moment(rt), action);
+        }
     }
 
     // Tells the door what came of a step, before that is handed over: else a reply might come before its question is
@@ -203,10 +240,13 @@ impl<M: Machine<Event = Event, Out = Actions>, L: Ledger> Desk<'_, M, L> {
     // Where a query failed, those held for the same question get that failure.
     fn fail_others<R: Wait + Clock>(&self, rt: &R, action: &Action) {
         for _ in 0..MOST_FAILED {
-            let Some((client, reply)) = self.entrance.next_failed(rt, action) else {
+            let Some((client, since, reply)) = self.entrance.next_failed(rt, action) else {
                 return;
             };
             let ends = self.ends;
+            if let Some(tally) = &ends.tally {
+                tally.count_copy(action, reply.as_slice(), since, self.moment(rt));
+            }
             let _ = ends
                 .clients
                 .send_to(reply.as_slice(), address_of(sender_of(client)));

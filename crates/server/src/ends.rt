@@ -3,8 +3,11 @@ ghost use Rattle.std.specs.Prelude.{◌≡◌, MatchOption};
 ghost use Rattle.server.specs.Addresses.{IsAt, IsElsewhere};
 ghost use Rattle.server.specs.Waits.{IsShort};
 
+use crate::metrics::Scrapes;
 use crate::open_asks::OpenAsks;
 use crate::poller::Poller;
+use crate::tally::Tally;
+use counters::Outcome;
 use events::Endpoint;
 use libc::net as c;
 use mio::Interest;
@@ -74,6 +77,10 @@ pub struct Ends {
     pub(crate) asks: OpenAsks,
     /// The streams to other servers.
     pub(crate) servers: Poller,
+    /// What is counted, where it is.
+    pub(crate) tally: Option<Tally>,
+    /// Where the counters are served, where they are.
+    pub(crate) scrapes: Option<Scrapes>,
 }
 
 impl Ends {
@@ -90,7 +97,32 @@ impl Ends {
             streams,
             asks: OpenAsks::new(rt, alloc)?,
             servers: Poller::new(rt)?,
+            tally: None,
+            scrapes: None,
         })
+    }
+
+    /// The same, which count, and serve their counters at this address over HTTP.
+    pub fn with_counters<R: Net<Listener = std::net::TcpListener, Stream = std::net::TcpStream>>(
+        self,
+        rt: &R,
+        alloc: Global,
+        at: Endpoint,
+    ) -> io::Result<Ends> {
+        let Some(tally) = Tally::new(alloc) else {
+            return Err(io::Error::from(ErrorKind::OutOfMemory));
+        };
+        let mut ends = self;
+        ends.scrapes = Some(Scrapes::open(rt, at)?);
+        ends.tally = Some(tally);
+        Ok(ends)
+    }
+
+    /// Counts an outcome, where it is counted.
+    pub(crate) fn count(&self, outcome: Outcome) {
+        if let Some(tally) = &self.tally {
+            tally.count(outcome);
+        }
     }
 
     /// Where clients are served.

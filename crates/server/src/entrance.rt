@@ -41,8 +41,10 @@ pub(crate) struct Question {
 pub(crate) enum Entry {
     /// Its step is to be taken now.
     In(Bytes),
-    /// It waits, or is dropped.
+    /// It waits.
     Held,
+    /// It is dropped.
+    Dropped,
 }
 
 /// The door, and what is counted there.
@@ -120,7 +122,7 @@ impl Entrance {
             Admission::Refused(bytes) => {
                 drop(bytes);
                 self.dropped.fetch_add(1, Ordering::SeqCst);
-                Entry::Held
+                Entry::Dropped
             }
         }
     }
@@ -162,8 +164,8 @@ impl Entrance {
         }
     }
 
-    /// A question that waits for what failed now, with the failure as its reply.
-    pub fn next_failed<R: Wait>(&self, rt: &R, action: &Action) -> Option<(u64, Bytes)> {
+    /// A question that waits for what failed now: who asks and since when, with the failure as its reply.
+    pub fn next_failed<R: Wait>(&self, rt: &R, action: &Action) -> Option<(u64, u64, Bytes)> {
         let Action::Reply { bytes, .. } = action else {
             return None;
         };
@@ -176,7 +178,7 @@ impl Entrance {
         let query = held.payload.as_slice();
         let end = question_end(query)?;
         let reply = failure_for(self.alloc, failure, query, end).ok()?;
-        Some((held.client, reply))
+        Some((held.client, held.since, reply))
     }
 
     /// A question that is called in.
@@ -191,16 +193,17 @@ impl Entrance {
         next
     }
 
-    /// Lets time pass: who is open or waits for too long leaves.
-    pub fn pass_time<R: Wait>(&self, rt: &R, now: u64) {
+    /// Lets time pass: who is open or waits for too long leaves. How many were dropped that waited.
+    pub fn pass_time<R: Wait>(&self, rt: &R, now: u64) -> u64 {
         let mut door = self.door.lock(rt);
         for _ in 0..PLACES {
             if !door.expire(now) {
                 break;
             }
         }
-        let late = door.drop_late(now);
-        self.dropped.fetch_add(late as u64, Ordering::SeqCst);
+        let late = door.drop_late(now) as u64;
+        self.dropped.fetch_add(late, Ordering::SeqCst);
         self.called.store(true, Ordering::SeqCst);
+        late
     }
 }

@@ -1,6 +1,7 @@
 //! What goes out, by the sockets and the channels of a server.
 use crate::desk::Bounds;
 use crate::ends::{Ends, address_of};
+use counters::{AskFault, Outcome, Way};
 use crossbeam_channel::Sender;
 use dispatch::Carrier;
 use events::{Bytes, Endpoint};
@@ -51,16 +52,22 @@ impl<R: Wait + Clock> Carrier<Global> for Outbox<'_, R> {
     }
 
     fn to_server(&mut self, socket: u16, to: Endpoint, bytes: &Bytes) {
-        if self.bounds.reach.has(to.address) {
-            self.ends.asks.send(self.rt, self.moment, socket, to, bytes);
+        let ends = self.ends;
+        if !self.bounds.reach.has(to.address) {
+            ends.count(Outcome::AskFailed(Way::Udp, AskFault::Barred));
+        } else if let Err(fault) = ends.asks.send(self.rt, self.moment, socket, to, bytes) {
+            ends.count(Outcome::AskFailed(Way::Udp, fault));
         }
     }
 
     fn to_worker(&mut self, number: u64, to: Endpoint, bytes: &Bytes) -> bool {
         if !self.bounds.reach.has(to.address) {
+            self.ends
+                .count(Outcome::AskFailed(Way::Tcp, AskFault::Barred));
             return false;
         }
         let Ok(bytes) = bytes.copied() else {
+            self.ends.count(Outcome::MemoryRefused);
             return false;
         };
         let ask = StreamAsk {

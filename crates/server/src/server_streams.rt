@@ -7,6 +7,7 @@ use crate::framed_stream::{FramedStream, MOST_FRAME_BYTES};
 use crate::outbox::StreamAsk;
 use crate::poller::Poller;
 use book::{Machine, Ticket};
+use counters::{AskFault, Outcome, Way};
 use dispatch::stream_reply_event;
 use events::{Actions, Event};
 use limits::TCP_WAIT_MS;
@@ -145,15 +146,16 @@ fn begin_all<M: Machine<Event = Event, Out = Actions>, L: Ledger, R: Net + Wait 
             ask,
             desk.moment(rt),
         );
-        if begun.is_none() {
+        if let Err(fault) = begun {
+            desk.ends.count(Outcome::AskFailed(Way::Tcp, fault));
             let event = stream_reply_event(desk.moment(rt), number, None);
             desk.put(rt, ticket, event);
         }
     }
 }
 
-// Begins to connect, and puts down what is to be written. None where the ask's time is over, where as many as may be
-// are at that server, and where there is no stream.
+// Begins to connect, and puts down what is to be written. Fails where the ask's time is over, where as many as may be are
+// at that server, and where there is no stream.
 fn begin<R: Net>(
     rt: &R,
     alloc: Global,
@@ -161,16 +163,21 @@ fn begin<R: Net>(
     talks: &mut Slab<Talk>,
     ask: StreamAsk,
     now: u64,
-) -> Option<()> {
+) -> Result<(), AskFault> {
     let server = ask.to.address;
     let at_server = talks
         .iter()
         .filter(|(_, talk)| talk.server == server)
         .count();
-    if now.saturating_sub(ask.moment) >= TCP_WAIT_MS || at_server >= ASKS_OF_A_SERVER {
-        return None;
+    if now.saturating_sub(ask.moment) >= TCP_WAIT_MS {
+        return Err(AskFault::Silent);
     }
-    let stream = TcpStream::connect(rt, address_of(ask.to)).ok()?;
+    if at_server >= ASKS_OF_A_SERVER {
+        return Err(AskFault::Crowded);
+    }
+    let Ok(stream) = TcpStream::connect(rt, address_of(ask.to)) else {
+        return Err(AskFault::Refused);
+    };
     let mut stream = FramedStream::new(alloc, stream);
     stream.put(ask.bytes.as_slice());
     let socket = stream.descriptor();
@@ -181,12 +188,14 @@ fn begin<R: Net>(
         stream,
         due: false,
     };
-    let key = talks.insert(talk).ok()?;
+    let Ok(key) = talks.insert(talk) else {
+        return Err(AskFault::Refused);
+    };
     if servers.watch(socket, key, Interest::READABLE | Interest::WRITABLE) {
-        Some(())
+        Ok(())
     } else {
         talks.try_remove(key);
-        None
+        Err(AskFault::Refused)
     }
 }
 
@@ -205,6 +214,11 @@ fn advance<M: Machine<Event = Event, Out = Actions>, L: Ledger, R: Wait + Clock>
         return;
     };
     let number = talk.number;
+    let fault = if talk.due {
+        AskFault::Refused
+    } else {
+        AskFault::Silent
+    };
     let end = if talk.due {
         talk.advance(desk.alloc, buffer)
     } else if check && desk.moment(rt).saturating_sub(talk.moment) >= TCP_WAIT_MS {
@@ -216,6 +230,9 @@ fn advance<M: Machine<Event = Event, Out = Actions>, L: Ledger, R: Wait + Clock>
         return;
     };
     talks.try_remove(key);
+    if frame.is_none() {
+        desk.ends.count(Outcome::AskFailed(Way::Tcp, fault));
+    }
     let event = stream_reply_event(desk.moment(rt), number, frame);
     desk.put(rt, ticket, event);
 }

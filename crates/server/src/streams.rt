@@ -4,6 +4,7 @@ use crate::ends::{LISTENER, SLICE_MS};
 use crate::framed_stream::MOST_FRAME_BYTES;
 use crate::places::Places;
 use book::{Machine, Ticket};
+use counters::Way;
 use dispatch::stream_query_event;
 use events::{Actions, Event};
 use mio::Events;
@@ -119,6 +120,9 @@ fn take_questions<M: Machine<Event = Event, Out = Actions>, L: Ledger, R: Wait +
         let Some(bytes) = client.next_question(desk.alloc, now, buffer) else {
             return;
         };
+        if let Some(tally) = &desk.ends.tally {
+            tally.count_query(Way::Tcp, bytes.as_slice());
+        }
         let event = stream_query_event(now, client.number, bytes);
         if !desk.put(rt, ticket, event).speaks {
             client.close();

@@ -1,0 +1,35 @@
+-- Texts one behind the other.
+use Rattle.std.proofs.Common.{◌≡◌, ◌∙◌, ap, sym, ℕ, ◌+◌, ◌<◌, List, ◌++◌, drop, length, get_or, arith, append_assoc}
+use Rattle.std.proofs.lemmas.List.{at_drop_more}
+use Rattle.counters.specs.Exposition.{bucket_line, bucket_lines, times_in, value}
+use Rattle.counters.specs.declared.counter.Counter.TheVariants as counter
+use Rattle.counters.specs.declared.labels.Bucket.{Bucket}
+
+-- Thirteen texts, each behind those before it.
+pub thirteen_behind : (t0 t1 t2 t3 t4 t5 t6 t7 t8 t9 t10 t11 t12 t13 m1 m2 m3 m4 m5 m6 m7 m8 m9 m10 m11 m12 m13 : List ℕ)
+    → t1 ≡ t0 ++ m1 → t2 ≡ t1 ++ m2 → t3 ≡ t2 ++ m3 → t4 ≡ t3 ++ m4 → t5 ≡ t4 ++ m5 → t6 ≡ t5 ++ m6 → t7 ≡ t6 ++ m7 → t8 ≡ t7 ++ m8 → t9 ≡ t8 ++ m9 → t10 ≡ t9 ++ m10 → t11 ≡ t10 ++ m11 → t12 ≡ t11 ++ m12 → t13 ≡ t12 ++ m13
+    → t13 ≡ t0 ++ (m1 ++ (m2 ++ (m3 ++ (m4 ++ (m5 ++ (m6 ++ (m7 ++ (m8 ++ (m9 ++ (m10 ++ (m11 ++ (m12 ++ (m13)))))))))))))
+thirteen_behind t0 t1 t2 t3 t4 t5 t6 t7 t8 t9 t10 t11 t12 t13 m1 m2 m3 m4 m5 m6 m7 m8 m9 m10 m11 m12 m13 h1 h2 h3 h4 h5 h6 h7 h8 h9 h10 h11 h12 h13 = rw (h13, h12, h11, h10, h9, h8, h7, h6, h5, h4, h3, h2, h1) (simp append_assoc)
+
+-- Three, of which the last is told of another number.
+pub three_behind : (f : ℕ → List ℕ) (m n : ℕ) (t0 t1 t2 t3 m1 m2 : List ℕ)
+    → m ≡ n → t1 ≡ t0 ++ m1 → t2 ≡ t1 ++ m2 → t3 ≡ t2 ++ f m → t3 ≡ t0 ++ (m1 ++ (m2 ++ f n))
+three_behind f m n t0 t1 t2 t3 m1 m2 same h1 h2 h3 = rw (h3, h2, h1, same) (simp append_assoc)
+
+-- One bucket more is printed.
+pub bucket_more : (cells : List ℕ) (bs : List Bucket) (i : ℕ) (d : Bucket) (before n : ℕ) (printed longer whole : List ℕ) → i < length bs
+    → n ≡ value cells (counter.Waited (get_or bs i d)) → longer ≡ printed ++ bucket_line (get_or bs i d) (before + n)
+    → printed ++ bucket_lines cells before (drop i bs) ≡ whole → longer ++ bucket_lines cells (before + n) (drop (i + 1) bs) ≡ whole
+bucket_more cells bs i d before n printed longer whole inside is line so_far =
+    ap (λ text. text ++ bucket_lines cells (before + n) (drop (i + 1) bs)) line
+    ∙ append_assoc printed (bucket_line (get_or bs i d) (before + n)) (bucket_lines cells (before + n) (drop (i + 1) bs))
+    ∙ ap (λ m. printed ++ (bucket_line (get_or bs i d) (before + m) ++ bucket_lines cells (before + m) (drop (i + 1) bs))) is
+    ∙ sym (at_drop_more (λ left. printed ++ bucket_lines cells before left) bs i d inside)
+    ∙ so_far
+
+-- One bucket more is added.
+pub times_more : (cells : List ℕ) (bs : List Bucket) (i : ℕ) (d : Bucket) (before n all : ℕ) → i < length bs
+    → n ≡ value cells (counter.Waited (get_or bs i d)) → before + times_in cells (drop i bs) ≡ all
+    → before + n + times_in cells (drop (i + 1) bs) ≡ all
+times_more cells bs i d before n all inside is so_far =
+    omega (arith, is, so_far, at_drop_more (times_in cells) bs i d inside)
