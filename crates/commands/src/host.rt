@@ -2,21 +2,21 @@
 ghost use Rattle.std.specs.Prelude.{◌≡◌, ◌⊎◌, IfSome};
 
 use events::Endpoint;
-use server::Ends;
+use server::{Ends, Shown};
 use std::alloc::Global;
-use std::fs;
 use std::io::Read;
 use std::net::{Net, TcpListener, TcpStream};
-use std::rt::Files;
+use std::rt::{Env, Files};
+use std::{env, fs};
 
 /// What the start of a server needs besides memory and files.
 pub trait Host {
     /// Bytes from which identifiers may be drawn; none where they can't be read.
     fn seed(&mut self) -> Option<[u8; 32]>;
 
-    /// Binds the sockets of a server, and where its counters are served if they are: the port at which clients find it, or
+    /// Binds the sockets of a server, and shows what its file asks for: the port at which clients find it, or
     /// none where an address can't be bound.
-    fn open(&mut self, listen: Endpoint, metrics: Option<Endpoint>) -> Option<u16>
+    fn open(&mut self, listen: Endpoint, shown: Shown) -> Option<u16>
         ensures { IfSome result (λ port. (port ≡ listen.port) ⊎ (listen.port ≡ 0)) };
 }
 
@@ -43,9 +43,28 @@ impl<'a, R> Machine<'a, R> {
 /// Where random bytes are read.
 pub const RANDOM: &str = "/dev/urandom";
 
+// How many sockets a service manager hands over, where it does (sd_listen_fds(3)): for datagrams and for streams.
+const HANDED: u32 = 2;
+
+// Whether a service manager has handed two sockets over to this process.
+fn has_handed_sockets<R: Env + AllocGlobal>(rt: &R) -> bool {
+    let process = number_in(rt, "LISTEN_PID");
+    process.is_some()
+        && process == u32::try_from(libc::getpid()).ok()
+        && number_in(rt, "LISTEN_FDS") == Some(HANDED)
+}
+
+// The number in a variable of the environment.
+fn number_in<R: Env + AllocGlobal>(rt: &R, name: &str) -> Option<u32> {
+    match env::var(rt, name) {
+        Ok(word) => word.as_str().parse::<u32>().ok(),
+        Err(_) => None,
+    }
+}
+
 impl<R> Host for Machine<'_, R>
 where
-    R: Net<Listener = TcpListener, Stream = TcpStream> + Files,
+    R: Net<Listener = TcpListener, Stream = TcpStream> + Files + Env + AllocGlobal,
 {
     fn seed(&mut self) -> Option<[u8; 32]> {
         let mut seed = [0u8; 32];
@@ -54,11 +73,17 @@ where
         Some(seed)
     }
 
-    fn open(&mut self, listen: Endpoint, metrics: Option<Endpoint>) -> Option<u16> {
-        let ends = Ends::open(self.runtime, self.alloc, listen).ok()?;
-        let ends = match metrics {
-            Some(at) => ends.with_counters(self.runtime, self.alloc, at).ok()?,
-            None => ends,
+    fn open(&mut self, listen: Endpoint, shown: Shown) -> Option<u16> {
+        let rt = self.runtime;
+        let ends = if has_handed_sockets(rt) {
+            Ends::handed(rt, self.alloc, listen).ok()?
+        } else {
+            Ends::open(rt, self.alloc, listen).ok()?
+        };
+        let ends = ends.showing(rt, self.alloc, shown).ok()?;
+        let ends = match env::var(rt, "NOTIFY_SOCKET") {
+            Ok(path) => ends.telling(path.as_str()),
+            Err(_) => ends,
         };
         let bound = ends.listen().ok()?;
         self.ends = Some(ends);

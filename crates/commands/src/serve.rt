@@ -13,22 +13,22 @@ use crate::outcome::{Outcome, Server};
 use crate::run::{put, report};
 use crate::texts::Texts;
 use crate::zones::read_zone;
-use config::{LocalFile, ServeConfig, read_config};
+use config::{LocalFile, LogLevel, ServeConfig, read_config};
 use dname::{Heap, Starved};
 use engine::CoreError;
 use events::Endpoint;
-use server::{Bounds, Reach};
+use server::{Bounds, Reach, Shown, Verbosity};
 use server_start::resolver_of;
 use std::alloc::Allocator;
 use std::io::Write;
 use zone::Zone;
 
-// A server that is made, where it is to listen, and where its counters are served if they are.
+// A server that is made, where it is to listen, and what is shown of it.
 #[derive(Drop)]
 struct Prepared<A: Allocator> {
     server: Server<A>,
     listen: Endpoint,
-    metrics: Option<Endpoint>,
+    shown: Shown,
 }
 
 /// Reads the file of a server at a path, and the files of its zones, binds its sockets and prints where it listens: the
@@ -115,13 +115,13 @@ fn prepare_with<'t, A: Heap, T: Texts, H: Host>(
     let zones = local_zones(alloc, texts, &config.locals)?;
     let seed = seed_of(&config, host)?;
     let listen = endpoint_of(&config.listen);
-    let metrics = metrics_of(&config);
+    let shown = shown_of(&config);
     let bounds = bounds_of(&config, seed)?;
     match resolver_of(alloc, config, zones, seed) {
         Ok(core) => Ok(Prepared {
             server: Server::new(core, bounds),
             listen,
-            metrics,
+            shown,
         }),
         Err(CoreError::Memory) => Err(Fault::Memory),
         Err(_) => Err(Fault::Settings),
@@ -153,11 +153,22 @@ fn bounds_of<A: Allocator>(
     }
 }
 
-// Where the file says that counters are served.
-fn metrics_of<A: Allocator>(config: &ServeConfig<'_, A>) -> Option<Endpoint> {
-    match &config.metrics {
-        Some(at) => Some(endpoint_of(at)),
-        None => None,
+// What the file asks to be shown.
+fn shown_of<A: Allocator>(config: &ServeConfig<'_, A>) -> Shown {
+    Shown {
+        metrics: match &config.metrics {
+            Some(at) => Some(endpoint_of(at)),
+            None => None,
+        },
+        log: match config.log {
+            Some(LogLevel::Warn) => Some(Verbosity::Warnings),
+            Some(LogLevel::Info) => Some(Verbosity::All),
+            None => None,
+        },
+        zones: config.locals.len(),
+        hints: config.hints.len(),
+        cache: config.cache,
+        delegations: config.delegations,
     }
 }
 
@@ -227,7 +238,7 @@ fn start<A: Heap, H: Host, O: Write, E: Write>(
     ensures run { IsRun (NamesEnd (end_of prepared.listen)) IsUnbound (O.contents out.old) (O.contents out.new) (E.contents err.old) (E.contents err.new) result.status }
     ensures starts { StartsWith prepared.server result.status result.server }
 {
-    match bind(alloc, prepared.listen, prepared.metrics, host) {
+    match bind(alloc, prepared.listen, prepared.shown, host) {
         Ok(line) => go(&line, prepared.server, out, err),
         Err(fault) => {
             drop(prepared);
@@ -266,13 +277,13 @@ fn go<A: Heap, O: Write, E: Write>(
 fn bind<A: Heap, H: Host>(
     alloc: A,
     listen: Endpoint,
-    metrics: Option<Endpoint>,
+    shown: Shown,
     host: &mut H,
 ) -> Result<String<A>, Fault<'static>>
     ensures ok { IfOk result (λ s. NamesEnd (end_of listen) (string_bytes s)) }
     ensures err { IfErr result IsUnbound }
 {
-    match host.open(listen, metrics) {
+    match host.open(listen, shown) {
         Some(port) => Ok(line(alloc, listen, port)?),
         None => Err(Fault::Socket),
     }

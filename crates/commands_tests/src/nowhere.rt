@@ -1,6 +1,7 @@
 //! A machine on which no server can listen.
 use commands::Host;
 use events::Endpoint;
+use server::Shown;
 
 /// No place for a server.
 #[derive(Clone, Copy)]
@@ -11,7 +12,7 @@ impl Host for Nowhere {
         None
     }
 
-    fn open(&mut self, _listen: Endpoint, _metrics: Option<Endpoint>) -> Option<u16> {
+    fn open(&mut self, _listen: Endpoint, _shown: Shown) -> Option<u16> {
         None
     }
 }

@@ -5,6 +5,7 @@ use commands::{Host, Server, Texts};
 use dname::{Heap, Starved};
 use engine_fixture::{Desk, Out};
 use events::Endpoint;
+use server::Shown;
 use std::alloc::{AllocError, Global};
 use std::sync::Wait;
 use std::test::Fail;
@@ -38,7 +39,7 @@ impl Host for Place {
         self.seed
     }
 
-    fn open(&mut self, listen: Endpoint, _metrics: Option<Endpoint>) -> Option<u16> {
+    fn open(&mut self, listen: Endpoint, _shown: Shown) -> Option<u16> {
         if listen.port == 0 { self.port } else { None }
     }
 }

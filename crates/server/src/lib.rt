@@ -7,7 +7,7 @@
 //! a port that the system picks, and only what repeats the ask is put as an event (RFC 5452, section 9.2). One loop
 //! holds all streams of clients, and one all streams to servers, and neither waits for any of them.
 //!
-//! Where its file asks for it (`Ends::with_counters`) it counts, by the crate `counters`, and serves what it counts
+//! Where its file asks for it (`Ends::showing`) it counts, by the crate `counters`, and serves what it counts
 //! over HTTP, in a loop of its own.
 //!
 //! Promised: the loops are safe, and there is a ticket for each (`IsStaffed`). Where replies and asks go, and which
@@ -28,8 +28,10 @@ mod ends;
 mod entrance;
 mod fault;
 mod framed_stream;
+mod log;
 mod metrics;
 mod moments;
+mod notices;
 mod open_asks;
 mod outbox;
 mod places;
@@ -44,4 +46,5 @@ pub use desk::Bounds;
 pub use dispatch::{LOOPS, Reach};
 pub use ends::Ends;
 pub use fault::ServeError;
+pub use log::{Shown, Verbosity};
 pub use serve::serve_until;

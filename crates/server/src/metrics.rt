@@ -35,7 +35,10 @@ pub(crate) struct Scrapes {
 
 impl Scrapes {
     /// At this address.
-    pub fn open<R: Net<Listener = TcpListener, Stream = TcpStream>>(rt: &R, at: Endpoint) -> io::Result<Scrapes> {
+    pub fn open<R: Net<Listener = TcpListener, Stream = TcpStream>>(
+        rt: &R,
+        at: Endpoint,
+    ) -> io::Result<Scrapes> {
         let listener = TcpListener::bind(rt, address_of(at))?;
         listener.set_nonblocking(true)?;
         let poller = Poller::new(rt)?;

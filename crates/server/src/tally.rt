@@ -1,6 +1,6 @@
 //! What a server counts, where its file asks for it.
 
-use counters::{COUNTERS, Cells, Outcome, Reply, Way, count};
+use counters::{COUNTERS, Cells, Counter, Outcome, Reply, Way, count};
 use dispatch::question_end;
 use events::{Action, Event};
 use front::Via;
@@ -105,7 +105,17 @@ impl Tally {
 
     /// What the counters hold, and how many queries wait for other servers.
     pub fn values<R: Wait>(&self, rt: &R) -> ([u64; COUNTERS], u64) {
-        (self.cells.values(), self.open.lock(rt).len() as u64)
+        (self.cells.values(), self.open_queries(rt))
+    }
+
+    /// How many queries wait for other servers.
+    pub fn open_queries<R: Wait>(&self, rt: &R) -> u64 {
+        self.open.lock(rt).len() as u64
+    }
+
+    /// What one counter holds.
+    pub fn value(&self, counter: Counter) -> u64 {
+        self.cells.value(counter)
     }
 
     // Counts an ask. Where its query came with the step, it is open from now on.
