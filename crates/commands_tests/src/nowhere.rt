@@ -1,5 +1,6 @@
 //! A machine on which no server can listen.
 use commands::Host;
+use dname::{Heap, Starved};
 use events::Endpoint;
 
 /// No place for a server.
@@ -13,5 +14,9 @@ impl Host for Nowhere {
 
     fn open(&mut self, _listen: Endpoint) -> Option<u16> {
         None
+    }
+
+    fn reason<A: Heap>(&mut self, alloc: A, _listen: Endpoint) -> Result<String<A>, Starved> {
+        Ok(String::from_str(alloc, "nowhere")?)
     }
 }

@@ -24,6 +24,10 @@ impl Texts for Folder {
             _ => Ok(None),
         }
     }
+
+    fn reason<A: Heap>(&mut self, alloc: A, _path: &str) -> Result<String<A>, Starved> {
+        Ok(String::from_str(alloc, "no such file")?)
+    }
 }
 
 // A place that has this port free, and random bytes, or not.
@@ -40,6 +44,10 @@ impl Host for Place {
 
     fn open(&mut self, listen: Endpoint) -> Option<u16> {
         if listen.port == 0 { self.port } else { None }
+    }
+
+    fn reason<A: Heap>(&mut self, alloc: A, _listen: Endpoint) -> Result<String<A>, Starved> {
+        Ok(String::from_str(alloc, "busy")?)
     }
 }
 

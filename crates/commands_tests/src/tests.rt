@@ -37,6 +37,10 @@ impl Texts for Held<'_> {
             Held::Starved => Err(Starved),
         }
     }
+
+    fn reason<A: Heap>(&mut self, alloc: A, _path: &str) -> Result<String<A>, Starved> {
+        Ok(String::from_str(alloc, "no such file")?)
+    }
 }
 
 // A command: `ask` with an origin, a file, a name and a type, and `check` and `dump` of lab.zone with an origin.
