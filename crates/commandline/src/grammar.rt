@@ -21,7 +21,7 @@ fn ask_line<'a>(alloc: Global) -> Result<clap::Command<'a>, AllocError>
     ensures app { IfOk result (λ c. app_of c ≡ ask_app) }
     ensures local { IfOk result (λ c. (out-Command c).has_globals ≡ false) }
 {
-    file_line(alloc, "ask", Topic::Ask.about())?
+    file_line(alloc, "ask", Topic::Ask.usage())?
         .arg(word(alloc, "name"))?
         .arg(word(alloc, "type"))
 }
@@ -47,7 +47,7 @@ fn play_line<'a>(alloc: Global) -> Result<clap::Command<'a>, AllocError>
     ensures local { IfOk result (λ c. (out-Command c).has_globals ≡ false) }
 {
     clap::Command::new(alloc, "play")
-        .about(Topic::Play.about())
+        .about(Topic::Play.usage())
         .arg(word(alloc, "world"))?
         .arg(word(alloc, "script"))
 }
@@ -77,7 +77,7 @@ fn storm_line<'a>(alloc: Global) -> Result<clap::Command<'a>, AllocError>
     ensures local { IfOk result (λ c. (out-Command c).has_globals ≡ false) }
 {
     clap::Command::new(alloc, "storm")
-        .about(Topic::Storm.about())
+        .about(Topic::Storm.usage())
         .arg(keep_word(alloc))?
         .arg(word(alloc, "world"))?
         .arg(script_words(alloc))
@@ -124,11 +124,11 @@ pub fn line<'a>(alloc: Global) -> Result<clap::Command<'a>, AllocError>
     ensures app { IfOk result (λ c. app_of c ≡ line_app) }
 {
     let line = with_line(bare_line(alloc), ask_line(alloc))?;
-    let line = with_line(line, file_line(alloc, "check", Topic::Check.about()))?;
-    let line = with_line(line, file_line(alloc, "dump", Topic::Dump.about()))?;
+    let line = with_line(line, file_line(alloc, "check", Topic::Check.usage()))?;
+    let line = with_line(line, file_line(alloc, "dump", Topic::Dump.usage()))?;
     let line = with_line(line, play_line(alloc))?;
     let line = with_line(line, storm_line(alloc))?;
-    let line = with_line(line, config_line(alloc, "serve", Topic::Serve.about()))?;
-    let about = Topic::CheckConfig.about();
-    with_line(line, config_line(alloc, "check-config", about))
+    let line = with_line(line, config_line(alloc, "serve", Topic::Serve.usage()))?;
+    let usage = Topic::CheckConfig.usage();
+    with_line(line, config_line(alloc, "check-config", usage))
 }

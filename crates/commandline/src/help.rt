@@ -1,7 +1,7 @@
 //! What is printed of the program, of one command, and of the numbers of faults and statuses.
 ghost use Rattle.std.specs.Prelude.{◌≡◌, [], ◌∷◌, map, string_bytes};
 ghost use Rattle.std.specs.List.{list_any};
-ghost use Rattle.commandline.specs.Helps.{asks_help, asks_version, topic_of as topic_asked, topic_of_word};
+ghost use Rattle.commandline.specs.Helps.{asks_help, asks_version, topic_of as topic_asked, topic_of_first, topic_of_word};
 
 use crate::help_texts::{ASKED, CHECKED, CONFIG_CHECKED, DUMPED, PLAYED, SERVED, STORMED};
 
@@ -51,7 +51,7 @@ impl Topic {
     }
 
     /// The words behind it, and what it does. The lifetime is the caller's, which `clap` wants.
-    pub(crate) fn about<'a>(self) -> &'a str {
+    pub(crate) fn usage<'a>(self) -> &'a str {
         match self {
             Topic::Ask => "ORIGIN FILE NAME TYPE: answers one query from one zone file",
             Topic::Check => "ORIGIN FILE: reads a zone file and says how many records it has",
@@ -101,18 +101,43 @@ fn is_version_word(word: &str) -> bool
 pub(crate) fn topic_of(words: &[String]) -> Option<Topic>
     ensures { result ≡ topic_asked (map string_bytes words.now) }
 {
-    let (first, rest) = words.split_first()?;
-    if first.as_str() == "help" {
-        return Topic::of_word(rest.first()?.as_str());
+    match words {
+        [] => None,
+        [first, rest @ ..] => topic_in(first.as_str(), rest),
+    }
+}
+
+// The same, of a first word and those behind it.
+fn topic_in(first: &str, rest: &[String]) -> Option<Topic>
+    ensures { result ≡ topic_asked (first.now ∷ map string_bytes rest.now) }
+{
+    if first == "help" {
+        return first_topic(rest);
     }
     if has_help(rest) {
-        return Topic::of_word(first.as_str());
+        return Topic::of_word(first);
     }
     None
 }
 
+fn first_topic(words: &[String]) -> Option<Topic>
+    ensures { result ≡ topic_of_first (map string_bytes words.now) }
+{
+    match words {
+        [] => None,
+        [word, ..] => Topic::of_word(word.as_str()),
+    }
+}
+
 // Whether one of the words asks for help.
 fn has_help(words: &[String]) -> bool
+    ensures { result ≡ list_any asks_help (map string_bytes words.now) }
+{
+    some_is_help(words)
+}
+
+// The same, with the bytes of each word taken one by one.
+fn some_is_help(words: &[String]) -> bool
     ensures { result ≡ list_any (λ s. asks_help (string_bytes s)) words.now }
 {
     words.iter().any(|word| is_help(word.as_str()))

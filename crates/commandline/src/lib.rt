@@ -81,7 +81,7 @@ fn topic_text(alloc: Global, topic: Topic) -> Result<String, LineFault>
     let mut text = String::from_str(alloc, "resolverd ")?;
     text.push_str(topic.word())?;
     text.push_str(" ")?;
-    text.push_str(topic.about())?;
+    text.push_str(topic.usage())?;
     text.push_str("\n")?;
     for part in topic.parts() {
         text.push_str(*part)?;
