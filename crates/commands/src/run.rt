@@ -4,7 +4,7 @@ ghost use Rattle.std.specs.Bool.{OnTrue};
 ghost use Rattle.std.specs.Io.KnownBytes.{Appends};
 ghost use Rattle.std.specs.declared.alloc.Global.{Global};
 ghost use Rattle.commands.specs.Faults.{IsReported};
-ghost use Rattle.commands.specs.Runs.{Ended, IsExplained, IsLineDone, IsPrinted, IsRefusedLine, IsRun, StartsFor, faults_of, shown, texts_of};
+ghost use Rattle.commands.specs.Runs.{Ended, IsDone, IsExplained, IsLineDone, IsPrinted, IsRefusedLine, StartsFor, shown};
 
 use crate::ask::ask;
 use crate::check_config::check_config;
@@ -81,7 +81,7 @@ pub fn run_command<
     out: &mut O,
     err: &mut E,
 ) -> Outcome<A>
-    ensures run { IsRun (texts_of A (T.held texts.old) command.now) (faults_of (T.held texts.old) command.now) (O.contents out.old) (O.contents out.new) (E.contents err.old) (E.contents err.new) result.status }
+    ensures run { IsDone A (T.held texts.old) command.now (O.contents out.old) (O.contents out.new) (E.contents err.old) (E.contents err.new) result.status }
     ensures starts { StartsFor (T.held texts.old) command.now result.status result.server }
 {
     match command {

@@ -101,7 +101,6 @@ fn prepare<'t, A: Heap, T: Texts, H: Host>(
 }
 
 // The same, where the text is read.
-#[tactic(auto, using(crate::proofs::Servers::bad_settings, crate::proofs::Servers::wants_memory))]
 fn prepare_with<'t, A: Heap, T: Texts, H: Host>(
     alloc: A,
     config: ServeConfig<'t, A>,
@@ -116,15 +115,14 @@ fn prepare_with<'t, A: Heap, T: Texts, H: Host>(
 }
 
 /// The server that a file describes, where its zones are read.
-#[tactic(auto, using(crate::proofs::Servers::bad_made, crate::proofs::Servers::wants_made))]
+#[tactic(auto, using(crate::proofs::Servers::bad_settings, crate::proofs::Servers::wants_memory))]
 pub(crate) fn prepare_zones<'t, A: Heap, H: Host>(
     alloc: A,
     config: ServeConfig<'t, A>,
     zones: Vec<Zone<A>, A>,
     host: &mut H,
 ) -> Result<Prepared<A>, Fault<'t>>
-    ensures listens { IfOk result (λ p. config.entry.listen ≡ end_of p.listen) }
-    ensures ok { IfOk result (λ p. IsMadeWith config.entry zones.items p.server) }
+    ensures ok { IfOk result (λ p. (config.entry.listen ≡ end_of p.listen) × IsMadeWith config.entry zones.items p.server) }
     ensures err { IfErr result (IsUnmade config.entry) }
 {
     let seed = seed_of(&config, host)?;

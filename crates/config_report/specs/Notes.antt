@@ -1,5 +1,5 @@
 -- What a server's file says that is taken and may not be meant, and what it makes.
-use Rattle.std.specs.Prelude.{ℕ, Bool, false, cond, is_some, length, nat_eq, not, lt, List, [], ◌∷◌, ◌++◌, codes, decimal}
+use Rattle.std.specs.Prelude.{ℕ, Bool, false, cond, is_some, length, nat_eq, not, nat_lt, List, [], ◌∷◌, ◌++◌, codes, decimal}
 use Rattle.limits.specs.Limits.{max_servers, max_sockets}
 use Rattle.rdata.specs.Text.{ipv4_text}
 use Rattle.config.specs.Configs.{Config, End}
@@ -21,10 +21,10 @@ open_text e =
 abbrev pub notes_text : Config → List ℕ
 notes_text c =
     note (nat_eq (length c.hints) 0) (codes "note: no hint: a recursive query for a name outside of the local zones ends as SERVFAIL\n")
-    ++ note (lt max_servers (length c.hints)) (codes "note: more than 16 hints: those behind the sixteenth are not used\n")
+    ++ note (nat_lt max_servers (length c.hints)) (codes "note: more than 16 hints: those behind the sixteenth are not used\n")
     ++ open_text c.listen
     ++ note (nat_eq (c.listen).port 0) (codes "note: port 0: it listens at any port that is free, another one after each start\n")
-    ++ note (lt c.sockets max_sockets) (codes "note: sockets: 16 is usual; with fewer, each ask draws its number and its ID from fewer pairs\n")
+    ++ note (nat_lt c.sockets max_sockets) (codes "note: sockets: 16 is usual; with fewer, each ask draws its number and its ID from fewer pairs\n")
     ++ note (is_some c.seed) (codes "note: seed: for tests alone: whoever knows it foretells each ID\n")
 
 abbrev pub total_text : ℕ → ℕ → ℕ → List ℕ

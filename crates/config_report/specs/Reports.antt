@@ -1,5 +1,5 @@
 -- What is said of a line that is refused.
-use Rattle.std.specs.Prelude.{ℕ, ◌-◌, cond, le, length, Option, Some, None, List, [], ◌∷◌, ◌++◌, codes, decimal}
+use Rattle.std.specs.Prelude.{ℕ, ◌-◌, cond, nat_lt, length, Option, Some, None, List, [], ◌∷◌, ◌++◌, codes, decimal}
 use Rattle.text_lines.specs.Lines.{lines}
 use Rattle.text_lines.specs.Texts.{stated_words}
 use Rattle.text_lines.specs.declared.fault.LineKind.{LineKind}
@@ -10,7 +10,7 @@ use Rattle.config_report.specs.Sentences.{file_sentence, line_sentence}
 -- The line of this number, counted from 1.
 abbrev pub line_at : ℕ → List (List ℕ) → Option (List ℕ)
 line_at n [] = None
-line_at n (l ∷ ls) = cond (le n 1) (Some l) (line_at (n - 1) ls)
+line_at n (l ∷ ls) = cond (nat_lt 1 n) (line_at (n - 1) ls) (Some l)
 
 -- The path, the number of the line, the line, and the sentence.
 abbrev pub report_text : List ℕ → ℕ → List ℕ → List ℕ → List ℕ

@@ -16,11 +16,11 @@
 //! ```
 #![tactic(auto)]
 
+mod findings;
 mod lines;
-mod notes;
 mod rules;
 mod sentences;
 
+pub use findings::{notes, put_total};
 pub use lines::{file_report, line_report};
-pub use notes::{notes, put_total};
 pub use rules::zone_report;

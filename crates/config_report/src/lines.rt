@@ -64,10 +64,11 @@ fn line_at(text: &str, number: usize) -> Option<&str>
 {
     let mut left = number;
     for line in TextLines::new(text) {
-        if left <= 1 {
+        if 1 < left {
+            left -= 1;
+        } else {
             return Some(line);
         }
-        left -= 1;
     }
     None
 }
