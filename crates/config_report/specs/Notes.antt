@@ -13,19 +13,25 @@ is_loopback (first ∷ rest) = nat_eq first 127
 abbrev pub note : Bool → List ℕ → List ℕ
 note holds line = cond holds line []
 
+abbrev pub strangers_line : List ℕ → List ℕ
+strangers_line address = codes "note: listen " ++ ipv4_text address ++ codes ": it answers whoever reaches this address: a packet filter has to say who may\n"
+
 abbrev pub open_text : End → List ℕ
-open_text e =
-    note (not (is_loopback e.address))
-    (codes "note: listen " ++ ipv4_text e.address ++ codes ": it answers whoever reaches this address: a packet filter has to say who may\n")
+open_text e = note (not (is_loopback e.address)) (strangers_line e.address)
+
+abbrev pub hints_text : ℕ → List ℕ
+hints_text n =
+    note (nat_eq n 0) (codes "note: no hint: a recursive query for a name outside of the local zones ends as SERVFAIL\n")
+    ++ note (nat_lt max_servers n) (codes "note: more than 16 hints: those behind the sixteenth are not used\n")
+
+abbrev pub listen_text : End → List ℕ
+listen_text e = open_text e ++ note (nat_eq e.port 0) (codes "note: port 0: it listens at any port that is free, another one after each start\n")
+
+abbrev pub sockets_text : ℕ → List ℕ
+sockets_text n = note (nat_lt n max_sockets) (codes "note: sockets: 16 is usual; with fewer, each ask draws its number and its ID from fewer pairs\n")
 
 abbrev pub notes_text : Config → List ℕ
-notes_text c =
-    note (nat_eq (length c.hints) 0) (codes "note: no hint: a recursive query for a name outside of the local zones ends as SERVFAIL\n")
-    ++ note (nat_lt max_servers (length c.hints)) (codes "note: more than 16 hints: those behind the sixteenth are not used\n")
-    ++ open_text c.listen
-    ++ note (nat_eq (c.listen).port 0) (codes "note: port 0: it listens at any port that is free, another one after each start\n")
-    ++ note (nat_lt c.sockets max_sockets) (codes "note: sockets: 16 is usual; with fewer, each ask draws its number and its ID from fewer pairs\n")
-    ++ note (is_some c.seed) (codes "note: seed: for tests alone: whoever knows it foretells each ID\n")
+notes_text c = hints_text (length c.hints) ++ listen_text c.listen ++ sockets_text c.sockets ++ note (is_some c.seed) (codes "note: seed: for tests alone: whoever knows it foretells each ID\n")
 
 abbrev pub total_text : ℕ → ℕ → ℕ → List ℕ
 total_text zones records hints = codes "ok " ++ decimal zones ++ codes " zones " ++ decimal records ++ codes " records " ++ decimal hints ++ codes " hints\n"

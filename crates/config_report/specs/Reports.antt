@@ -1,11 +1,11 @@
 -- What is said of a line that is refused.
-use Rattle.std.specs.Prelude.{ℕ, ◌-◌, cond, nat_lt, length, Option, Some, None, List, [], ◌∷◌, ◌++◌, codes, decimal}
+use Rattle.std.specs.Prelude.{ℕ, ◌-◌, cond, nat_eq, nat_lt, length, Option, Some, None, List, [], ◌∷◌, ◌++◌, codes, decimal}
 use Rattle.text_lines.specs.Lines.{lines}
 use Rattle.text_lines.specs.Texts.{stated_words}
 use Rattle.text_lines.specs.declared.fault.LineKind.{LineKind}
 use Rattle.text_lines.specs.declared.fault.LineError.{LineError}
 use Rattle.masterfile.specs.declared.faults.FileError.{FileError}
-use Rattle.config_report.specs.Sentences.{file_sentence, line_sentence}
+use Rattle.config_report.specs.Sentences.{file_sentence, line_sentence, word_count}
 
 -- The line of this number, counted from 1.
 abbrev pub line_at : ℕ → List (List ℕ) → Option (List ℕ)
@@ -22,7 +22,8 @@ first_or_none (w ∷ ws) = w
 
 -- What is wrong with a line of a server's file.
 abbrev pub line_sentence_of : List ℕ → LineKind → List ℕ
-line_sentence_of line kind = line_sentence kind (first_or_none (stated_words line)) (length (stated_words line))
+line_sentence_of line kind =
+    let word = first_or_none (stated_words line) in line_sentence kind word (nat_eq (length (stated_words line)) (word_count word))
 
 -- Behind the last line: that none says where to listen.
 abbrev pub said_of_line : List ℕ → LineError → Option (List ℕ) → List ℕ

@@ -1,5 +1,5 @@
 -- What may stand where something was refused.
-use Rattle.std.specs.Prelude.{ℕ, ◌||◌, cond, nat_eq, List, codes}
+use Rattle.std.specs.Prelude.{ℕ, Bool, ◌||◌, cond, List, codes}
 use Rattle.std.specs.Str.{bytes_eq}
 use Rattle.text_lines.specs.declared.fault.LineKind.{LineKind}
 use Rattle.text_lines.specs.declared.fault.LineKind.TheVariants as line
@@ -29,17 +29,18 @@ range_of w =
     (cond (bytes_eq w (codes "streams")) (codes "a number from 1 to 256")
     (cond (bytes_eq w (codes "clients")) (codes "a number from 1 to 1024") (codes "a number from 1 to 1000000")))))
 
--- What is wrong with a line of a server's file that begins with this word and has so many words.
-abbrev pub line_sentence : LineKind → List ℕ → ℕ → List ℕ
-line_sentence line.UnknownWord w n = codes "a line begins with listen, port, hint, local, cache, delegations, penalties, failures, sockets, workers, streams, clients or seed"
-line_sentence line.BadNumber w n = range_of w
-line_sentence line.BadName w n = codes "a name has labels of 1 to 63 bytes, with dots between, and 255 bytes at most"
-line_sentence line.BadType w n = codes "it is refused"
-line_sentence line.WordCount w n = cond (nat_eq n (word_count w)) (codes "an earlier line says this already") (form_of w)
-line_sentence line.BadHex w n = codes "64 hexadecimal digits"
-line_sentence line.OpenBlock w n = codes "it is refused"
-line_sentence line.BadAddress w n = codes "an address is four numbers from 0 to 255 with dots between, as 192.0.2.1"
-line_sentence line.Memory w n = codes "no memory was left"
+-- What is wrong with a line of a server's file that begins with this word, and has as many words as such a line has, or
+-- not.
+abbrev pub line_sentence : LineKind → List ℕ → Bool → List ℕ
+line_sentence line.UnknownWord w full = codes "a line begins with listen, port, hint, local, cache, delegations, penalties, failures, sockets, workers, streams, clients or seed"
+line_sentence line.BadNumber w full = range_of w
+line_sentence line.BadName w full = codes "a name has labels of 1 to 63 bytes, with dots between, and 255 bytes at most"
+line_sentence line.BadType w full = codes "it is refused"
+line_sentence line.WordCount w full = cond full (codes "an earlier line says this already") (form_of w)
+line_sentence line.BadHex w full = codes "64 hexadecimal digits"
+line_sentence line.OpenBlock w full = codes "it is refused"
+line_sentence line.BadAddress w full = codes "an address is four numbers from 0 to 255 with dots between, as 192.0.2.1"
+line_sentence line.Memory w full = codes "no memory was left"
 
 -- What is wrong with an entry of a zone file.
 abbrev pub file_sentence : FileKind → List ℕ

@@ -1,9 +1,10 @@
 //! What is said of a line that is refused.
-ghost use Rattle.std.specs.Prelude.{◌≡◌, IfOk, option_map, string_bytes};
+ghost use Rattle.std.specs.Prelude.{◌≡◌, IfOk, length, nat_eq, option_map, string_bytes};
 ghost use Rattle.text_lines.specs.Lines.{lines};
-ghost use Rattle.config_report.specs.Reports.{file_report_text, line_at, line_report_text, line_sentence_of, report_text};
+ghost use Rattle.text_lines.specs.Texts.{stated_words};
+ghost use Rattle.config_report.specs.Reports.{file_report_text, first_or_none, line_at, line_report_text, line_sentence_of, report_text};
 
-use crate::sentences::{file_sentence, line_sentence};
+use crate::sentences::{file_sentence, line_sentence, word_count};
 use dname::{Heap, Starved};
 use masterfile::FileError;
 use text_lines::{LineError, LineKind, LineWords, TextLines};
@@ -53,9 +54,31 @@ fn report<A: Heap>(
 fn sentence_of(line: &str, kind: LineKind) -> &'static str
     ensures { result.now ≡ line_sentence_of line.now kind }
 {
-    let words = LineWords::stated(line).count();
-    let word = LineWords::stated(line).next().unwrap_or("");
-    line_sentence(kind, word, words)
+    let word = first_word(line);
+    line_sentence(kind, word, has_words(line, word_count(word)))
+}
+
+fn first_word(line: &str) -> &str
+    ensures { result.now ≡ first_or_none (stated_words line.now) }
+{
+    match LineWords::stated(line).next() {
+        Some(word) => word,
+        None => "",
+    }
+}
+
+// Whether a line has so many words.
+fn has_words(line: &str, count: usize) -> bool
+    ensures { result ≡ nat_eq (length (stated_words line.now)) count }
+{
+    let mut left = count;
+    for _ in LineWords::stated(line) {
+        if left == 0 {
+            return false;
+        }
+        left -= 1;
+    }
+    left == 0
 }
 
 // The line of this number, counted from 1.

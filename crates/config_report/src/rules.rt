@@ -1,10 +1,10 @@
 //! What is said of records that are no zone.
-ghost use Rattle.std.specs.Prelude.{◌≡◌, IfOk, string_bytes};
+ghost use Rattle.std.specs.Prelude.{◌≡◌, ◌&&◌, IfOk, string_bytes};
 ghost use Rattle.std.specs.List.{list_any};
 ghost use Rattle.rdata.specs.Types.{type_number};
 ghost use Rattle.zone.specs.Kept.{zone_with};
 ghost use Rattle.zone.specs.Zones.{ns_type};
-ghost use Rattle.zone.specs.Look.{is_beneath_cut, is_cut, owns};
+ghost use Rattle.zone.specs.Look.{is_beneath_cut, is_cut, is_owned, is_type, owns};
 ghost use Rattle.zone.specs.Rules.{clashes, differs, is_out_of_place, is_wildcard_authority};
 ghost use Rattle.config_report.specs.Culprits.{breaks, rule_type, rule_text, zone_report_text};
 
@@ -142,7 +142,17 @@ fn is_cut<A: Allocator>(origin: &Name<A>, records: &[Record<A>], name: &Suffix<'
 fn owns_ns<A: Allocator>(records: &[Record<A>], name: &Suffix<'_>) -> bool
     ensures { result ≡ owns ns_type name.now records.now }
 {
-    records
-        .iter()
-        .any(|record| record.is(RType::Ns) && name.is(&record.owner))
+    records.iter().any(|record| is_ns_of(record, name))
+}
+
+fn is_ns_of<A: Allocator>(record: &Record<A>, name: &Suffix<'_>) -> bool
+    ensures { result ≡ (is_owned name.now record.now && is_type ns_type record.now) }
+{
+    is_at(record, name) && record.is(RType::Ns)
+}
+
+fn is_at<A: Allocator>(record: &Record<A>, name: &Suffix<'_>) -> bool
+    ensures { result ≡ is_owned name.now record.now }
+{
+    name.is(&record.owner)
 }

@@ -6,9 +6,10 @@ use masterfile::FileKind;
 use text_lines::LineKind;
 use zone::ZoneError;
 
-/// What is wrong with a line of a server's file that begins with this word and has so many words.
-pub(crate) fn line_sentence(kind: LineKind, word: &str, words: usize) -> &'static str
-    ensures { result.now ≡ line_sentence kind word.now words }
+/// What is wrong with a line of a server's file that begins with this word, and has as many words as such a line has,
+/// or not.
+pub(crate) fn line_sentence(kind: LineKind, word: &str, is_full: bool) -> &'static str
+    ensures { result.now ≡ line_sentence kind word.now is_full }
 {
     match kind {
         LineKind::UnknownWord =>
@@ -16,7 +17,7 @@ pub(crate) fn line_sentence(kind: LineKind, word: &str, words: usize) -> &'stati
         LineKind::BadNumber => range_of(word),
         LineKind::BadName =>
             "a name has labels of 1 to 63 bytes, with dots between, and 255 bytes at most",
-        LineKind::WordCount if words == word_count(word) => "an earlier line says this already",
+        LineKind::WordCount if is_full => "an earlier line says this already",
         LineKind::WordCount => form_of(word),
         LineKind::BadHex => "64 hexadecimal digits",
         LineKind::BadAddress =>
@@ -26,8 +27,8 @@ pub(crate) fn line_sentence(kind: LineKind, word: &str, words: usize) -> &'stati
     }
 }
 
-// How many words a line has that begins with this word.
-fn word_count(word: &str) -> usize
+/// How many words a line has that begins with this word.
+pub(crate) fn word_count(word: &str) -> usize
     ensures { result ≡ word_count word.now }
 {
     match word {
