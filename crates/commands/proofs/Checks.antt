@@ -1,6 +1,8 @@
 -- What is said of a refused file goes with its fault.
-use Rattle.std.proofs.Common.{◌≡◌, ℕ, List, ◌++◌, refl, sym, subst, Ok, Err, inl, inr, ⊎_elim}
-use Rattle.std.specs.Prelude.{Option, Some, None}
+use Rattle.std.proofs.Common.{◌≡◌, ℕ, zero, suc, true, false, nat_eq, List, refl, sym, subst, Result, Ok, Err, IfOk, inl, inr, ⊎_elim}
+use Rattle.std.specs.Prelude.{◌⊎◌, Option, Some, None}
+use Rattle.std.specs.Io.KnownBytes.{Appends}
+use Rattle.std.proofs.lemmas.Bool.{both_ways, eq-eqb}
 use Rattle.std.specs.Borrow.{Bor}
 use Rattle.dname.specs.Labels.{Name}
 use Rattle.rdata.specs.Records.{Record}
@@ -19,8 +21,9 @@ use Rattle.text_lines.specs.declared.fault.LineKind.{LineKind}
 use Rattle.text_lines.specs.declared.fault.LineKind.TheVariants as line
 use Rattle.config.specs.Configs.{Config, config_of}
 use Rattle.config_report.specs.Reports.{file_report_text, line_report_text}
-use Rattle.commands.specs.Checks.{Explains, HasReason, Tells, TellsRule, TellsUnmade}
-use Rattle.commands.specs.Faults.{file_fault, kind_fault, line_fault, line_kind_fault, zone_fault}
+use Rattle.commands.specs.Checks.{Explains, HasReason, IsTold, Tells, TellsRule, TellsUnmade}
+use Rattle.commands.specs.Faults.{IsReported, fault_line, file_fault, kind_fault, line_fault, line_kind_fault, status_of, zone_fault}
+use Rattle.commands.specs.Runs.{IsPrinted}
 use Rattle.commands.specs.Servers.{IsNoServer, IsUnmade, LacksSeed}
 use Rattle.commands.specs.Texts.{MayHold}
 use Rattle.commands.specs.Zones.{HoldsZone, HoldsNoZone}
@@ -177,3 +180,28 @@ module _ (held : List ℕ → Option (Option (List ℕ))) (c : Config) where
       ⊎_elim
       (λ (t : (f ≡ f0) × TellsUnmade f0 words). (subst (IsUnmade c) (sym t.0) why, subst (λ (g : Fault). Explains held g words) (sym t.0) (says_unmade f0 words why t.1)))
       (λ (is : f ≡ Memory). (inr (inr is), subst (λ (g : Fault). Explains held g words) (sym is) tt))
+
+-- ---- What is told.
+
+-- The words that were made go with the fault.
+pub tell : {S E : Type 0} (bytes : S → List ℕ) (r : Result S E) (P : List ℕ → Type 0) (f fault : Fault) (s : S) → IfOk r (λ x. P (bytes x)) → ((fault ≡ f) × (r ≡ Ok s)) ⊎ (fault ≡ Memory)
+    → Tells f P fault (bytes s)
+tell {S} {E} bytes r P f fault s ok =
+    ⊎_elim (λ (h : (fault ≡ f) × (r ≡ Ok s)). inl (h.0, subst (λ (q : Result S E). IfOk q (λ x. P (bytes x))) h.1 ok)) (λ (is : fault ≡ Memory). inr is)
+
+zero_not_four : (k : ℕ) → nat_eq k 0 ≡ true → k ≡ 4 → ⊥
+zero_not_four k is four = let no : nat_eq k 0 ≡ false = subst (λ (m : ℕ). nat_eq m 0 ≡ false) (sym four) refl in both_ways (nat_eq k 0) no is
+
+-- The words were written, and then the line.
+pub both_written : (f : Fault) (words : List ℕ) (out out2 err err1 err2 : Option (List ℕ)) (k n : ℕ) → IsPrinted words 0 out out2 err err1 k → nat_eq k 0 ≡ true → IsReported f err1 err2 n
+    → IsTold f words out out2 err err2 n
+both_written f words out out2 err err1 err2 k n printed is reported =
+    ⊎_elim
+    (λ (p : (k ≡ 0) × Appends out out2 words × (err1 ≡ err)).
+     ⊎_elim (λ (r : (n ≡ status_of f) × Appends err1 err2 (fault_line f)). inl (r.0, p.1, subst (λ (e : Option (List ℕ)). Appends e err2 (fault_line f)) p.2 r.1)) (λ (four : n ≡ 4). inr four) reported)
+    (λ (four : k ≡ 4). absurd (zero_not_four k is four)) printed
+
+-- The words could not be written.
+pub not_written : (f : Fault) (words : List ℕ) (out out2 err err2 : Option (List ℕ)) (k : ℕ) → IsPrinted words 0 out out2 err err2 k → nat_eq k 0 ≡ false → IsTold f words out out2 err err2 k
+not_written f words out out2 err err2 k printed no =
+    ⊎_elim (λ (p : (k ≡ 0) × Appends out out2 words × (err2 ≡ err)). absurd (both_ways (nat_eq k 0) no (eq-eqb k 0 p.0))) (λ (four : k ≡ 4). inr four) printed
