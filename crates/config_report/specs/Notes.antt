@@ -30,8 +30,11 @@ listen_text e = open_text e ++ note (nat_eq e.port 0) (codes "note: port 0: it l
 abbrev pub sockets_text : ℕ → List ℕ
 sockets_text n = note (nat_lt n max_sockets) (codes "note: sockets: 16 is usual; with fewer, each ask draws its number and its ID from fewer pairs\n")
 
+abbrev pub seed_line : List ℕ
+seed_line = codes "note: seed: for tests alone: whoever knows it foretells each ID\n"
+
 abbrev pub notes_text : Config → List ℕ
-notes_text c = hints_text (length c.hints) ++ listen_text c.listen ++ sockets_text c.sockets ++ note (is_some c.seed) (codes "note: seed: for tests alone: whoever knows it foretells each ID\n")
+notes_text c = hints_text (length c.hints) ++ listen_text c.listen ++ sockets_text c.sockets ++ note (is_some c.seed) seed_line
 
 abbrev pub total_text : ℕ → ℕ → ℕ → List ℕ
 total_text zones records hints = codes "ok " ++ decimal zones ++ codes " zones " ++ decimal records ++ codes " records " ++ decimal hints ++ codes " hints\n"

@@ -1,6 +1,8 @@
 //! What is said of records that are no zone.
-ghost use Rattle.std.specs.Prelude.{◌≡◌, ◌&&◌, IfOk, string_bytes};
+ghost use Rattle.std.specs.Prelude.{◌≡◌, ◌&&◌, IfOk, find, string_bytes};
 ghost use Rattle.std.specs.List.{list_any};
+ghost use Rattle.std.specs.Option.{option_copied};
+ghost use Rattle.rdata.specs.Data.{type_of};
 ghost use Rattle.rdata.specs.Types.{type_number};
 ghost use Rattle.zone.specs.Kept.{zone_with};
 ghost use Rattle.zone.specs.Zones.{ns_type};
@@ -25,13 +27,34 @@ pub fn zone_report<A: Heap>(
 ) -> Result<String<A>, Starved>
     ensures { IfOk result (λ s. string_bytes s ≡ zone_report_text path.now (zone_with origin.now records.now) error) }
 {
-    match records
-        .iter()
-        .find(|record| breaks(error, origin, records, *record))
-    {
-        Some(record) => rule_line(alloc, path, &record.owner, record.value.kind(), error),
+    match culprit(error, origin, records) {
+        Some(record) => record_line(alloc, path, record, error),
         None => rule_line(alloc, path, origin, rule_type(error), error),
     }
+}
+
+// The first record that breaks the rule.
+fn culprit<'a, A: Allocator>(
+    error: ZoneError,
+    origin: &Name<A>,
+    records: &'a [Record<A>],
+) -> Option<&'a Record<A>>
+    ensures { option_copied result ≡ find (breaks (zone_with origin.now records.now) error) records.now }
+{
+    records
+        .iter()
+        .find(|record| breaks(error, origin, records, *record))
+}
+
+fn record_line<A: Heap>(
+    alloc: A,
+    path: &str,
+    record: &Record<A>,
+    error: ZoneError,
+) -> Result<String<A>, Starved>
+    ensures { IfOk result (λ s. string_bytes s ≡ rule_text path.now record.now.owner (type_of record.now.value) error) }
+{
+    rule_line(alloc, path, &record.owner, record.value.kind(), error)
 }
 
 fn rule_line<A: Heap>(
@@ -71,7 +94,7 @@ fn breaks<A: Allocator>(
         ZoneError::NoServers | ZoneError::Memory => false,
         ZoneError::ForeignOwner => !record.owner.is_at_or_under(origin),
         ZoneError::CnameClash => record.is(RType::Cname) && has_company(record, records),
-        ZoneError::MixedTtls => records.iter().any(|other| differs(record, other)),
+        ZoneError::MixedTtls => has_other_ttl(record, records),
         ZoneError::DataAtCut => is_out_of_place(origin, records, record),
         ZoneError::InnerStar => record.owner.has_inner_star(),
         ZoneError::WildcardAuthority => is_wildcard_authority(record),
@@ -83,9 +106,23 @@ fn breaks<A: Allocator>(
 
 // Whether another record than its own repeat stands at the record's name.
 fn has_company<A: Allocator>(record: &Record<A>, records: &[Record<A>]) -> bool
-    ensures { result ≡ list_any (clashes record.now) records.now }
+    ensures { result ≡ list_any (λ s. clashes record.now s) records.now }
 {
-    records.iter().any(|other| other.owner == record.owner && !record.value.is_same(&other.value))
+    records.iter().any(|other| clashes(record, other))
+}
+
+// Whether the other record stands at the record's name, and is not its repeat.
+fn clashes<A: Allocator>(record: &Record<A>, other: &Record<A>) -> bool
+    ensures { result ≡ clashes record.now other.now }
+{
+    other.owner == record.owner && !record.value.is_same(&other.value)
+}
+
+// Whether a record of the same set has another TTL.
+fn has_other_ttl<A: Allocator>(record: &Record<A>, records: &[Record<A>]) -> bool
+    ensures { result ≡ list_any (λ s. differs record.now s) records.now }
+{
+    records.iter().any(|other| differs(record, other))
 }
 
 // Whether both are of one set, with different TTLs. The TTLs are compared first, which is the least work.
