@@ -1,11 +1,12 @@
 //! The machine under a server: where its random bytes and its sockets come from. Tests put another in its place.
 ghost use Rattle.std.specs.Prelude.{◌≡◌, ◌⊎◌, IfSome};
 
+use dname::{Heap, Starved};
 use events::Endpoint;
 use server::{Ends, Shown};
 use std::alloc::Global;
 use std::io::Read;
-use std::net::{Net, TcpListener, TcpStream};
+use std::net::{Ipv4Addr, Net, SocketAddr, SocketAddrV4, TcpListener, TcpStream, UdpSocket};
 use std::rt::{Env, Files};
 use std::{env, fs};
 
@@ -18,6 +19,9 @@ pub trait Host {
     /// none where an address can't be bound.
     fn open(&mut self, listen: Endpoint, shown: Shown) -> Option<u16>
         ensures { IfSome result (λ port. (port ≡ listen.port) ⊎ (listen.port ≡ 0)) };
+
+    /// Why an address can't be bound, over UDP or TCP, in the words of the system.
+    fn reason<A: Heap>(&mut self, alloc: A, listen: Endpoint) -> Result<String<A>, Starved>;
 }
 
 /// The machine on which the program runs.
@@ -91,6 +95,18 @@ where
             Some(bound.port)
         } else {
             Some(listen.port)
+        }
+    }
+
+    fn reason<A: Heap>(&mut self, alloc: A, listen: Endpoint) -> Result<String<A>, Starved> {
+        let address = Ipv4Addr::from_octets(listen.address.0);
+        let address = SocketAddr::V4(SocketAddrV4::new(address, listen.port));
+        if let Err(error) = UdpSocket::bind(self.runtime, address) {
+            return Ok(format!(in alloc; "UDP: {error}")?);
+        }
+        match TcpListener::bind(self.runtime, address) {
+            Ok(_) => Ok(String::from_str(alloc, "it could not be bound, and can be now")?),
+            Err(error) => Ok(format!(in alloc; "TCP: {error}")?),
         }
     }
 }

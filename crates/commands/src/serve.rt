@@ -3,7 +3,7 @@ ghost use Rattle.std.specs.Prelude.{◌≡◌, Some, None, IfOk, IfErr, string_b
 ghost use Rattle.commands.specs.Faults.{IsReported};
 ghost use Rattle.commands.specs.declared.fault.Fault.TheVariants.{Settings};
 ghost use Rattle.commands.specs.Runs.{IsPrinted, IsRun};
-ghost use Rattle.commands.specs.Servers.{PrintsAddress, IsNoServer, Describes, IsStartFault, LacksSeed, LacksZone, NamesEnd, IsUnbound, AreZonesIn, IsMadeOf, IsBounded, IsSeedOf, IsServer, StartsWith, Starts, address_line, end_of};
+ghost use Rattle.commands.specs.Servers.{PrintsAddress, IsNoServer, Describes, IsStartFault, LacksSeed, LacksZone, NamesEnd, IsUnbound, AreZonesIn, IsMadeOf, IsBounded, IsMadeWith, IsSeedOf, IsServer, IsUnmade, StartsWith, Starts, address_line, end_of};
 ghost use Rattle.commands.specs.Texts.{MayHold};
 ghost use Rattle.commands.specs.Zones.{HoldsZone, HoldsNoZone};
 
@@ -25,9 +25,9 @@ use zone::Zone;
 
 // A server that is made, where it is to listen, and what is shown of it.
 #[derive(Drop)]
-struct Prepared<A: Allocator> {
+pub(crate) struct Prepared<A: Allocator> {
     server: Server<A>,
-    listen: Endpoint,
+    pub(crate) listen: Endpoint,
     shown: Shown,
 }
 
@@ -102,7 +102,6 @@ fn prepare<'t, A: Heap, T: Texts, H: Host>(
 }
 
 // The same, where the text is read.
-#[tactic(auto, using(crate::proofs::Servers::bad_settings, crate::proofs::Servers::wants_memory))]
 fn prepare_with<'t, A: Heap, T: Texts, H: Host>(
     alloc: A,
     config: ServeConfig<'t, A>,
@@ -113,6 +112,20 @@ fn prepare_with<'t, A: Heap, T: Texts, H: Host>(
     ensures err { IfErr result (IsStartFault (T.held texts.old) config.entry) }
 {
     let zones = local_zones(alloc, texts, &config.locals)?;
+    prepare_zones(alloc, config, zones, host)
+}
+
+/// The server that a file describes, where its zones are read.
+#[tactic(auto, using(crate::proofs::Servers::bad_settings, crate::proofs::Servers::wants_memory))]
+pub(crate) fn prepare_zones<'t, A: Heap, H: Host>(
+    alloc: A,
+    config: ServeConfig<'t, A>,
+    zones: Vec<Zone<A>, A>,
+    host: &mut H,
+) -> Result<Prepared<A>, Fault<'t>>
+    ensures ok { IfOk result (λ p. (config.entry.listen ≡ end_of p.listen) × IsMadeWith config.entry zones.items p.server) }
+    ensures err { IfErr result (IsUnmade config.entry) }
+{
     let seed = seed_of(&config, host)?;
     let listen = endpoint_of(&config.listen);
     let shown = shown_of(&config);

@@ -1,5 +1,6 @@
 //! A machine on which no server can listen.
 use commands::Host;
+use dname::{Heap, Starved};
 use events::Endpoint;
 use server::Shown;
 
@@ -14,5 +15,9 @@ impl Host for Nowhere {
 
     fn open(&mut self, _listen: Endpoint, _shown: Shown) -> Option<u16> {
         None
+    }
+
+    fn reason<A: Heap>(&mut self, alloc: A, _listen: Endpoint) -> Result<String<A>, Starved> {
+        Ok(String::from_str(alloc, "nowhere")?)
     }
 }
