@@ -44,12 +44,13 @@ bench: built
 	tools/pace
 
 # The gate: every proof, every edit that must fail, every test and every run, and with the proved program the examples
-# and runs of the server (tools/serving, tools/sockets, tools/metrics) and of what an operator asks (tools/operator); of the
-# other edits, that they can still be applied.
+# and runs of the server (tools/serving, tools/sockets, tools/metrics, and tools/fronted where dnsdist is installed) and of
+# what an operator asks (tools/operator); of the other edits, that they can still be applied.
 test: kit
 	tools/layers --check
 	tools/definitions
 	tools/names
+	tools/glossary
 	tools/turned --texts
 	tools/prove
 	tools/examples
@@ -57,6 +58,7 @@ test: kit
 	tools/sockets
 	tools/metrics
 	tools/operator
+	tools/fronted
 
 # Tries the edits of single functions, which the gate leaves out: of all crates, or with SINCE=COMMIT of those that
 # differ from that commit's.

@@ -66,19 +66,28 @@ const REPLIES: [(&str, usize, u8, bool); 13] = [
     ("another class", 21, 3, false),
 ];
 
+// The right reply, but for one byte.
+fn reply_with(at: usize, byte: u8) -> [u8; 22] {
+    let mut reply = ASK;
+    reply[2] = 0x80;
+    if at < reply.len() {
+        reply[at] = byte;
+    }
+    reply
+}
+
+// Whether it does without its last byte.
+fn repeats_cut(alloc: Global, reply: &[u8; 22]) -> Result<bool, Starved> {
+    repeats(alloc, &ASK, &reply[..21])
+}
+
 #[test]
 fn a_reply_repeats_its_ask(rt: HostRuntime) -> Result<(), Fail> {
     let alloc = rt.alloc();
     for (what, at, byte, wanted) in REPLIES {
-        let mut reply = ASK;
-        reply[2] = 0x80;
-        reply[at] = byte;
+        let reply = reply_with(at, byte);
         assert_eq!(rt; repeats(alloc, &ASK, &reply), Ok(wanted), "{what}");
-        assert_eq!(rt;
-            repeats(alloc, &ASK, &reply[..21]),
-            Ok(false),
-            "{what}, cut"
-        );
+        assert_eq!(rt; repeats_cut(alloc, &reply), Ok(false), "{what}, cut");
     }
     assert_eq!(rt;
         repeats(alloc, &ASK, &WITH_ANSWER),
