@@ -158,7 +158,7 @@ impl Places {
             return;
         };
         self.serial = self.serial.wrapping_add(1);
-        let number = stream_number(self.serial, place);
+        let number = stream_number(address, self.serial, place);
         let stream = FramedStream::new(self.alloc, stream);
         let socket = stream.descriptor();
         let client = ClientStream::new(stream, number, address, now);
