@@ -44,8 +44,8 @@ bench: built
 	tools/pace
 
 # The gate: every proof, every edit that must fail, every test and every run, and with the proved program the examples
-# and runs of the server (tools/serving, tools/sockets, and tools/fronted where dnsdist is installed); of the other edits,
-# that they can still be applied.
+# and runs of the server (tools/serving, tools/sockets, tools/metrics, and tools/fronted where dnsdist is installed) and of
+# what an operator asks (tools/operator); of the other edits, that they can still be applied.
 test: kit
 	tools/layers --check
 	tools/definitions
@@ -57,6 +57,8 @@ test: kit
 	tools/examples
 	tools/serving
 	tools/sockets
+	tools/metrics
+	tools/operator
 	tools/fronted
 
 # Tries the edits of single functions, which the gate leaves out: of all crates, or with SINCE=COMMIT of those that
@@ -64,12 +66,14 @@ test: kit
 turned:
 	tools/turned $(if $(SINCE),--since $(SINCE))
 
-# Puts the program that was built to $(PREFIX)/bin, and its manual page beside it. It builds nothing.
+# Puts the program that was built to $(PREFIX)/bin, and its manual pages beside it. It builds nothing.
 install: built
 	install -d $(DESTDIR)$(PREFIX)/bin
 	install -m 755 $(BUILT) $(DESTDIR)$(PREFIX)/bin/resolverd
 	install -d $(DESTDIR)$(PREFIX)/share/man/man8
 	install -m 644 man/resolverd.8 $(DESTDIR)$(PREFIX)/share/man/man8/resolverd.8
+	install -d $(DESTDIR)$(PREFIX)/share/man/man5
+	install -m 644 man/resolverd.conf.5 $(DESTDIR)$(PREFIX)/share/man/man5/resolverd.conf.5
 
 # Makes a Debian package of the program that was built, in crates/resolverd/out. It builds no program, and refuses one that
 # is older than its sources.

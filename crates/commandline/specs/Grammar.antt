@@ -33,19 +33,23 @@ scripts_rule = record (new_rule (codes "script")) { required = true; action = So
 abbrev pub storm_app : App
 storm_app = with_rule (with_rule (with_rule (new_app (codes "storm")) keep_rule) (word_rule (codes "world"))) scripts_rule
 
--- `serve CONFIG`
-abbrev pub serve_app : App
-serve_app = with_rule (new_app (codes "serve")) (word_rule (codes "config"))
+-- `serve CONFIG`, and `check-config CONFIG`
+abbrev pub config_app : Text → App
+config_app name = with_rule (new_app name) (word_rule (codes "config"))
 
 -- The line without its subcommands: one of them has to stand.
 abbrev pub bare_app : App
 bare_app = let a = new_app (codes "resolverd") in record a { top = record a.top { no_binary_name = true; subcommand_required = true } }
 
--- The whole line.
-abbrev pub line_app : App
-line_app =
+-- The line with all subcommands but the last.
+abbrev pub front_app : App
+front_app =
     with_subcommand
     (with_subcommand
     (with_subcommand (with_subcommand (with_subcommand (with_subcommand bare_app ask_app.top) (file_app (codes "check")).top) (file_app (codes "dump")).top) play_app.top)
     storm_app.top)
-    serve_app.top
+    (config_app (codes "serve")).top
+
+-- The whole line.
+abbrev pub line_app : App
+line_app = with_subcommand front_app (config_app (codes "check-config")).top

@@ -2,3 +2,4 @@
 pub mod Says
 pub mod Grammar
 pub mod Faults
+pub mod Helps

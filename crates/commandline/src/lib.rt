@@ -1,8 +1,9 @@
 //! The command line of `resolverd`: which subcommand the words name, with what. It is a library of its own, so that
 //! no other crate's check has to read `clap`.
 //!
-//! `read_words` gives the `Command` of the words after the program's name: `ask`, `check`, `dump`, `play`, `storm`
-//! or `serve`. `help_text` is what is printed where they name none.
+//! `read_words` gives the `Command` of the words after the program's name: `ask`, `check`, `dump`, `play`, `storm`,
+//! `serve` or `check-config`. `help_text` is what is printed where they name none: of the command that they ask help
+//! of, or of all; `is_version` says whether they ask for the version.
 //!
 //! Promised: the command is the one that the words name by the line's grammar (`Names`), and they are refused only
 //! where they name none (`NamesNothing`), or when out of memory.
@@ -17,15 +18,21 @@
 //! ```
 #![tactic(auto)]
 
+ghost use Rattle.std.specs.Bool.{OnTrue};
 ghost use Rattle.std.specs.Prelude.{◌≡◌, IfOk, IfErr, map, string_bytes};
+ghost use Rattle.commandline.specs.Helps.{asks_version, version_line};
 ghost use Rattle.commandline.specs.Says.{Names, NamesNothing};
 ghost use Rattle.commandline.specs.declared.fault.LineFault.TheVariants.{Words, Memory};
 
 mod fault;
 mod grammar;
+mod help;
+mod help_texts;
 mod subcommands;
 
 pub use fault::LineFault;
+pub use help::{VERSION, is_version};
+use help::{Topic, topic_of};
 use std::alloc::Global;
 pub use subcommands::Command;
 
@@ -41,10 +48,43 @@ pub fn read_words(alloc: Global, words: &[String]) -> Result<Command, LineFault>
     subcommands::read_subcommand(alloc, &matches)
 }
 
-/// The text that says what the program can be asked, and what its numbers mean.
-pub fn help_text(alloc: Global) -> Result<String, LineFault>
+/// What is printed for words that name no command: the version, what can be said of the command that they ask help
+/// of, or all that the program can be asked, and what its numbers mean.
+pub fn help_text(alloc: Global, words: &[String]) -> Result<String, LineFault>
+    ensures version { IfOk result (λ s. OnTrue (asks_version (map string_bytes words.now)) (string_bytes s ≡ version_line)) }
+    ensures err { IfErr result (λ e. e ≡ Memory) }
+{
+    if is_version(words) {
+        return Ok(String::from_str(alloc, VERSION)?);
+    }
+    match topic_of(words) {
+        Some(topic) => topic_text(alloc, topic),
+        None => whole_text(alloc),
+    }
+}
+
+// All that the program can be asked, and what its numbers mean.
+fn whole_text(alloc: Global) -> Result<String, LineFault>
     ensures { IfErr result (λ e. e ≡ Memory) }
 {
-    let mut line = grammar::line(alloc)?.after_help(grammar::NUMBERS);
-    Ok(line.render_help()?)
+    let mut text = grammar::line(alloc)?.render_help()?;
+    for part in help_texts::PARTS {
+        text.push_str(*part)?;
+    }
+    Ok(text)
+}
+
+// What can be said of one command.
+fn topic_text(alloc: Global, topic: Topic) -> Result<String, LineFault>
+    ensures { IfErr result (λ e. e ≡ Memory) }
+{
+    let mut text = String::from_str(alloc, "resolverd ")?;
+    text.push_str(topic.word())?;
+    text.push_str(" ")?;
+    text.push_str(topic.usage())?;
+    text.push_str("\n")?;
+    for part in topic.parts() {
+        text.push_str(*part)?;
+    }
+    Ok(text)
 }

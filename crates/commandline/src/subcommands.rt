@@ -59,6 +59,11 @@ pub enum Command {
         /// The path of the server's file.
         config: String,
     },
+    /// `check-config CONFIG`: says why `serve` would refuse a file, or what it makes of it.
+    CheckConfig {
+        /// The path of the server's file.
+        config: String,
+    },
 }
 
 // The word that stands for `id`.
@@ -186,6 +191,14 @@ fn read_serve(alloc: Global, found: &ArgMatches<'_>) -> Result<Command, LineFaul
     Ok(Command::Serve { config })
 }
 
+fn read_check_config(alloc: Global, found: &ArgMatches<'_>) -> Result<Command, LineFault>
+    ensures ok { IfOk result (IsNamed (codes "check-config") (rows_of (found_of found.now))) }
+    ensures refused { IfErr result (λ e. e ≡ Words → (command : Command) → IsNamed (codes "check-config") (rows_of (found_of found.now)) command → ⊥) }
+{
+    let config = text_of(alloc, found, "config")?;
+    Ok(Command::CheckConfig { config })
+}
+
 /// The subcommand that the line names, with its words.
 pub fn read_subcommand(alloc: Global, matches: &ArgMatches<'_>) -> Result<Command, LineFault>
     ensures ok { IfOk result (Says (subcommand_rows_of matches.now)) }
@@ -198,6 +211,7 @@ pub fn read_subcommand(alloc: Global, matches: &ArgMatches<'_>) -> Result<Comman
         Some(("play", found)) => read_play(alloc, found),
         Some(("storm", found)) => read_storm(alloc, found),
         Some(("serve", found)) => read_serve(alloc, found),
+        Some(("check-config", found)) => read_check_config(alloc, found),
         _ => Err(LineFault::Words),
     }
 }

@@ -1,4 +1,5 @@
 pub mod Broken
+pub mod Checks
 pub mod Scripts
 pub mod Servers
 pub mod Storms

@@ -10,7 +10,7 @@ use Rattle.commands.specs.Faults.{IsReported, status_of}
 use Rattle.commands.specs.Texts.{MayHold}
 use Rattle.commands.specs.Zones.{HoldsZone, HoldsNoZone}
 use Rattle.commands.specs.Runs.{IsRun}
-use Rattle.commands.specs.Servers.{Prepared, AreZonesIn, LacksZone, IsStartFault, IsServer, StartsWith, Starts}
+use Rattle.commands.specs.Servers.{Prepared, AreZonesIn, LacksZone, IsServer, IsUnmade, StartsWith, Starts}
 use Rattle.commands.specs.declared.fault.Fault.{Fault}
 use Rattle.commands.specs.declared.fault.Fault.TheVariants.{File, Zone, Script, Block, World, Unreadable, BadName, BadType, Settings, Memory, Pool, Socket, Threads, Output}
 
@@ -95,8 +95,8 @@ module _ (held : List ℕ → Option (Option (List ℕ))) where
   lacks_memory [] f is = is
   lacks_memory (l ∷ ls) f is = inl (subst (HoldsNoZone held l.file l.origin) (sym is) tt)
 
-pub bad_settings : (held : List ℕ → Option (Option (List ℕ))) (c : Config) → IsStartFault held c Settings
-bad_settings held c = inr (inr (inl refl))
+pub bad_settings : (c : Config) → IsUnmade c Settings
+bad_settings c = inr (inl refl)
 
-pub wants_memory : (held : List ℕ → Option (Option (List ℕ))) (c : Config) → IsStartFault held c Memory
-wants_memory held c = inr (inr (inr refl))
+pub wants_memory : (c : Config) → IsUnmade c Memory
+wants_memory c = inr (inr refl)

@@ -9,3 +9,4 @@ pub mod Files
 pub mod Scripts
 pub mod Storms
 pub mod Servers
+pub mod Checks

@@ -1,12 +1,15 @@
 -- What a command leaves behind.
-use Rattle.std.specs.Prelude.{◌≡◌, ℕ, List, ◌⊎◌, Option, None, Result, Ok, Err, string_bytes}
+use Rattle.std.specs.Prelude.{◌≡◌, ℕ, cond, List, ◌⊎◌, Option, None, Result, Ok, Err, string_bytes}
+use Rattle.std.specs.Bool.{OnTrue}
 use Rattle.std.specs.Io.KnownBytes.{Appends}
+use Rattle.commandline.specs.Helps.{asks_version, version_line}
 use Rattle.commandline.specs.Says.{Names, NamesNothing}
 use Rattle.commandline.specs.declared.fault.LineFault.{LineFault}
 use Rattle.commandline.specs.declared.fault.LineFault.TheVariants.{Words, Memory as line_memory}
 use Rattle.commandline.specs.declared.subcommands.Command.{Command}
-use Rattle.commandline.specs.declared.subcommands.Command.TheVariants.{Ask, Check, Dump, Play, Storm, Serve}
+use Rattle.commandline.specs.declared.subcommands.Command.TheVariants.{Ask, Check, Dump, Play, Storm, Serve, CheckConfig}
 use Rattle.commands.specs.Asks.{IsAskFault}
+use Rattle.commands.specs.Checks.{Explains, IsRunInWords, PassesCheck}
 use Rattle.commands.specs.Exchanges.{PrintsAnswer}
 use Rattle.commands.specs.Files.{CountsRecords, PrintsRecords, IsNoZone, IsNoFile}
 use Rattle.commands.specs.Scripts.{PrintsScript, IsNoScript}
@@ -46,6 +49,7 @@ texts_of A held (Dump origin file) text = PrintsRecords (held (string_bytes file
 texts_of A held (Play world script) text = PrintsScript (held (string_bytes world)) (held (string_bytes script)) text
 texts_of A held (Storm keep world scripts) text = PrintsStorm (λ p. held (string_bytes p)) (held (string_bytes world)) scripts.items text
 texts_of A held (Serve config) text = PrintsAddress (held (string_bytes config)) text
+texts_of A held (CheckConfig config) text = PassesCheck held (string_bytes config) text
 
 -- The faults of a command, over the same: those of a file are told under its path, as the command names it.
 abbrev pub faults_of : (List ℕ → Option (Option (List ℕ))) → Command → Fault → Type 0
@@ -55,6 +59,18 @@ faults_of held (Dump origin file) f = IsNoFile held (string_bytes file) (string_
 faults_of held (Play world script) f = IsNoScript held (string_bytes world) (string_bytes script) f
 faults_of held (Storm keep world scripts) f = IsNoStorm held (string_bytes world) string_bytes scripts.items f
 faults_of held (Serve config) f = IsNoServer held (string_bytes config) f
+faults_of held (CheckConfig config) f = IsNoServer held (string_bytes config) f
+
+-- What comes of a command: the refusals of `check-config` alone have words.
+abbrev pub IsDone : (A : Type 0) → (List ℕ → Option (Option (List ℕ))) → Command → Option (List ℕ) → Option (List ℕ) → Option (List ℕ) → Option (List ℕ) → ℕ → Type 0
+IsDone A held (Ask origin file name kind) out out2 err err2 n = IsRun (texts_of A held (Ask origin file name kind)) (faults_of held (Ask origin file name kind)) out out2 err err2 n
+IsDone A held (Check origin file) out out2 err err2 n = IsRun (texts_of A held (Check origin file)) (faults_of held (Check origin file)) out out2 err err2 n
+IsDone A held (Dump origin file) out out2 err err2 n = IsRun (texts_of A held (Dump origin file)) (faults_of held (Dump origin file)) out out2 err err2 n
+IsDone A held (Play world script) out out2 err err2 n = IsRun (texts_of A held (Play world script)) (faults_of held (Play world script)) out out2 err err2 n
+IsDone A held (Storm keep world scripts) out out2 err err2 n = IsRun (texts_of A held (Storm keep world scripts)) (faults_of held (Storm keep world scripts)) out out2 err err2 n
+IsDone A held (Serve config) out out2 err err2 n = IsRun (texts_of A held (Serve config)) (faults_of held (Serve config)) out out2 err err2 n
+IsDone A held (CheckConfig config) out out2 err err2 n =
+    IsRunInWords (texts_of A held (CheckConfig config)) (faults_of held (CheckConfig config)) (Explains held) out out2 err err2 n
 
 -- The server that a command starts: `serve` alone starts one.
 abbrev pub StartsFor : (List ℕ → Option (Option (List ℕ))) → Command → ℕ → Option Prepared → Type 0
@@ -63,20 +79,24 @@ StartsFor held (Check origin file) status server = server ≡ None
 StartsFor held (Dump origin file) status server = server ≡ None
 StartsFor held (Play world script) status server = server ≡ None
 StartsFor held (Storm keep world scripts) status server = server ≡ None
+StartsFor held (CheckConfig config) status server = server ≡ None
 StartsFor held (Serve config) status server = Starts held (string_bytes config) status server
 
--- The help text was printed, or no memory was left for it.
-abbrev pub IsExplained : Option (List ℕ) → Option (List ℕ) → Option (List ℕ) → Option (List ℕ) → ℕ → Type 0
-IsExplained out out2 err err2 n = ((help : List ℕ) × IsPrinted help 2 out out2 err err2 n) ⊎ Ended (Err Memory) out out2 err err2 n
+-- The version was printed, with status 0, where the words ask for that; help, with status 2, where they do not; or no
+-- memory was left for it.
+abbrev pub IsExplained : List (List ℕ) → Option (List ℕ) → Option (List ℕ) → Option (List ℕ) → Option (List ℕ) → ℕ → Type 0
+IsExplained words out out2 err err2 n =
+    ((help : List ℕ) × OnTrue (asks_version words) (help ≡ version_line) × IsPrinted help (cond (asks_version words) 0 2) out out2 err err2 n)
+    ⊎ Ended (Err Memory) out out2 err err2 n
 
 -- Words that name no command were answered.
-abbrev pub IsRefusedLine : LineFault → Option (List ℕ) → Option (List ℕ) → Option (List ℕ) → Option (List ℕ) → ℕ → Type 0
-IsRefusedLine Words out out2 err err2 n = IsExplained out out2 err err2 n
-IsRefusedLine line_memory out out2 err err2 n = Ended (Err Memory) out out2 err err2 n
+abbrev pub IsRefusedLine : List (List ℕ) → LineFault → Option (List ℕ) → Option (List ℕ) → Option (List ℕ) → Option (List ℕ) → ℕ → Type 0
+IsRefusedLine words Words out out2 err err2 n = IsExplained words out out2 err err2 n
+IsRefusedLine words line_memory out out2 err err2 n = Ended (Err Memory) out out2 err err2 n
 
 -- The command that the words name was done, over what is known to stand at a path; where they name none the line was refused,
 -- and no server started. Running out of memory may refuse any line.
 abbrev pub IsLineDone : (A : Type 0) → List (List ℕ) → (List ℕ → Option (Option (List ℕ))) → Option (List ℕ) → Option (List ℕ) → Option (List ℕ) → Option (List ℕ) → ℕ → Option Prepared → Type 0
 IsLineDone A words held out out2 err err2 n server =
-    ((command : Command) × Names words command × IsRun (texts_of A held command) (faults_of held command) out out2 err err2 n × StartsFor held command n server)
-    ⊎ ((fault : LineFault) × (fault ≡ Words → NamesNothing words) × IsRefusedLine fault out out2 err err2 n × (server ≡ None))
+    ((command : Command) × Names words command × IsDone A held command out out2 err err2 n × StartsFor held command n server)
+    ⊎ ((fault : LineFault) × (fault ≡ Words → NamesNothing words) × IsRefusedLine words fault out out2 err err2 n × (server ≡ None))

@@ -99,15 +99,19 @@ pub record IsBounded (config : Config) (b : Bounds) : Type 0 where
   pub hinted : map (λ (a : Addr). a.0) hints ≡ config.hints
   pub reach : IsReach hints b.reach
 
--- Its resolver has the hints, the settings and the zones that the file says, and has done nothing yet; its loops have
--- the bounds that the file says.
-pub record IsMadeOf (held : List ℕ → Option (Option (List ℕ))) (config : Config) (made : Prepared) : Type 0 where
-  pub zones : List ZoneSpec
-  pub local : AreZonesIn held config.locals zones
+-- Its resolver has the hints and the settings that the file says, and these zones, and has done nothing yet; its loops
+-- have the bounds that the file says.
+pub record IsMadeWith (config : Config) (zones : List ZoneSpec) (made : Prepared) : Type 0 where
   pub seed : List ℕ
   pub seeded : IsSeedOf config seed
   pub is : IsDescribed config zones seed made.resolver
   pub bounds : IsBounded config made.bounds
+
+-- The same, with the zones that the file says.
+pub record IsMadeOf (held : List ℕ → Option (Option (List ℕ))) (config : Config) (made : Prepared) : Type 0 where
+  pub zones : List ZoneSpec
+  pub local : AreZonesIn held config.locals zones
+  pub is : IsMadeWith config zones made
 
 -- It is the server that this text describes.
 pub record IsServer (held : List ℕ → Option (Option (List ℕ))) (text : List ℕ) (made : Prepared) : Type 0 where
@@ -139,9 +143,13 @@ pub record LacksSeed (c : Config) (fault : Fault) : Type 0 where
   pub source : path.now ≡ codes "/dev/urandom"
   pub is : fault ≡ Unreadable path
 
--- Why a file that is read gives no resolver: a file of its zones, the source of random bytes, or what it sets.
+-- Why a file whose zones are read gives no resolver: the source of random bytes, or what it sets.
+abbrev pub IsUnmade : Config → Fault → Type 0
+IsUnmade c f = LacksSeed c f ⊎ ((f ≡ Settings) ⊎ (f ≡ Memory))
+
+-- Why a file that is read gives no resolver: a file of its zones, or the same.
 abbrev pub IsStartFault : (List ℕ → Option (Option (List ℕ))) → Config → Fault → Type 0
-IsStartFault held c f = LacksZone held c.locals f ⊎ (LacksSeed c f ⊎ ((f ≡ Settings) ⊎ (f ≡ Memory)))
+IsStartFault held c f = LacksZone held c.locals f ⊎ IsUnmade c f
 
 -- The text at the path is read, and gives no resolver, or the sockets of that are not bound.
 pub record FailsToStart (held : List ℕ → Option (Option (List ℕ))) (path : List ℕ) (fault : Fault) : Type 0 where

@@ -1,22 +1,27 @@
 //! The machine under a server: where its random bytes and its sockets come from. Tests put another in its place.
 ghost use Rattle.std.specs.Prelude.{◌≡◌, ◌⊎◌, IfSome};
 
+use dname::{Heap, Starved};
 use events::Endpoint;
-use server::Ends;
+use server::{Ends, Shown};
 use std::alloc::Global;
-use std::fs;
 use std::io::Read;
-use std::net::{Net, TcpListener, TcpStream};
-use std::rt::Files;
+use std::net::{Ipv4Addr, Net, SocketAddr, SocketAddrV4, TcpListener, TcpStream, UdpSocket};
+use std::rt::{Env, Files};
+use std::{env, fs};
 
 /// What the start of a server needs besides memory and files.
 pub trait Host {
     /// Bytes from which identifiers may be drawn; none where they can't be read.
     fn seed(&mut self) -> Option<[u8; 32]>;
 
-    /// Binds the sockets of a server: the port at which clients find it, or none where an address can't be bound.
-    fn open(&mut self, listen: Endpoint) -> Option<u16>
+    /// Binds the sockets of a server, and shows what its file asks for: the port at which clients find it, or
+    /// none where an address can't be bound.
+    fn open(&mut self, listen: Endpoint, shown: Shown) -> Option<u16>
         ensures { IfSome result (λ port. (port ≡ listen.port) ⊎ (listen.port ≡ 0)) };
+
+    /// Why an address can't be bound, over UDP or TCP, in the words of the system.
+    fn reason<A: Heap>(&mut self, alloc: A, listen: Endpoint) -> Result<String<A>, Starved>;
 }
 
 /// The machine on which the program runs.
@@ -42,9 +47,28 @@ impl<'a, R> Machine<'a, R> {
 /// Where random bytes are read.
 pub const RANDOM: &str = "/dev/urandom";
 
+// How many sockets a service manager hands over, where it does (sd_listen_fds(3)): for datagrams and for streams.
+const HANDED: u32 = 2;
+
+// Whether a service manager has handed two sockets over to this process.
+fn has_handed_sockets<R: Env + AllocGlobal>(rt: &R) -> bool {
+    let process = number_in(rt, "LISTEN_PID");
+    process.is_some()
+        && process == u32::try_from(libc::getpid()).ok()
+        && number_in(rt, "LISTEN_FDS") == Some(HANDED)
+}
+
+// The number in a variable of the environment.
+fn number_in<R: Env + AllocGlobal>(rt: &R, name: &str) -> Option<u32> {
+    match env::var(rt, name) {
+        Ok(word) => word.as_str().parse::<u32>().ok(),
+        Err(_) => None,
+    }
+}
+
 impl<R> Host for Machine<'_, R>
 where
-    R: Net<Listener = TcpListener, Stream = TcpStream> + Files,
+    R: Net<Listener = TcpListener, Stream = TcpStream> + Files + Env + AllocGlobal,
 {
     fn seed(&mut self) -> Option<[u8; 32]> {
         let mut seed = [0u8; 32];
@@ -53,14 +77,36 @@ where
         Some(seed)
     }
 
-    fn open(&mut self, listen: Endpoint) -> Option<u16> {
-        let ends = Ends::open(self.runtime, self.alloc, listen).ok()?;
+    fn open(&mut self, listen: Endpoint, shown: Shown) -> Option<u16> {
+        let rt = self.runtime;
+        let ends = if has_handed_sockets(rt) {
+            Ends::handed(rt, self.alloc, listen).ok()?
+        } else {
+            Ends::open(rt, self.alloc, listen).ok()?
+        };
+        let ends = ends.showing(rt, self.alloc, shown).ok()?;
+        let ends = match env::var(rt, "NOTIFY_SOCKET") {
+            Ok(path) => ends.telling(path.as_str()),
+            Err(_) => ends,
+        };
         let bound = ends.listen().ok()?;
         self.ends = Some(ends);
         if listen.port == 0 {
             Some(bound.port)
         } else {
             Some(listen.port)
+        }
+    }
+
+    fn reason<A: Heap>(&mut self, alloc: A, listen: Endpoint) -> Result<String<A>, Starved> {
+        let address = Ipv4Addr::from_octets(listen.address.0);
+        let address = SocketAddr::V4(SocketAddrV4::new(address, listen.port));
+        if let Err(error) = UdpSocket::bind(self.runtime, address) {
+            return Ok(format!(in alloc; "UDP: {error}")?);
+        }
+        match TcpListener::bind(self.runtime, address) {
+            Ok(_) => Ok(String::from_str(alloc, "it could not be bound, and can be now")?),
+            Err(error) => Ok(format!(in alloc; "TCP: {error}")?),
         }
     }
 }

@@ -1,5 +1,5 @@
-//! What the program is asked to do, done: `ask`, `check`, `dump`, `play`, `storm` and `serve`, over what the caller
-//! gives: a runtime for threads, a source of texts, a place for a server's sockets, and two writers.
+//! What the program is asked to do, done: `ask`, `check`, `dump`, `play`, `storm`, `serve` and `check-config`, over what
+//! the caller gives: a runtime for threads, a source of texts, a place for a server's sockets, and two writers.
 //!
 //! `run_words` does what the words of a command line ask, `run_command` a `Command`; each writes the text or the
 //! line of the fault, and gives the exit status and, of `serve`, the `Server` that was started, which `serve_at`
@@ -20,6 +20,7 @@
 
 mod answering;
 mod ask;
+mod check_config;
 mod fault;
 mod files;
 mod host;

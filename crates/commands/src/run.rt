@@ -4,9 +4,10 @@ ghost use Rattle.std.specs.Bool.{OnTrue};
 ghost use Rattle.std.specs.Io.KnownBytes.{Appends};
 ghost use Rattle.std.specs.declared.alloc.Global.{Global};
 ghost use Rattle.commands.specs.Faults.{IsReported};
-ghost use Rattle.commands.specs.Runs.{Ended, IsExplained, IsLineDone, IsPrinted, IsRefusedLine, IsRun, StartsFor, faults_of, shown, texts_of};
+ghost use Rattle.commands.specs.Runs.{Ended, IsDone, IsExplained, IsLineDone, IsPrinted, IsRefusedLine, StartsFor, shown};
 
 use crate::ask::ask;
+use crate::check_config::check_config;
 use crate::fault::Fault;
 use crate::files::{check, dump};
 use crate::host::Host;
@@ -15,7 +16,7 @@ use crate::play_script::play;
 use crate::serve::start_server;
 use crate::storm_scripts::storm;
 use crate::texts::Texts;
-use commandline::{Command, LineFault, help_text, read_words};
+use commandline::{Command, LineFault, help_text, is_version, read_words};
 use dname::Heap;
 use std::alloc::{Allocator, Global};
 use std::io::Write;
@@ -38,23 +39,24 @@ pub fn run_words<R: Threads + Wait + AllocGlobal + Sync, T: Texts, H: Host, O: W
     match read_words(alloc, words) {
         Ok(command) => run_command(rt, alloc, &command, texts, host, out, err),
         Err(fault) => Outcome {
-            status: refuse_line(alloc, fault, out, err),
+            status: refuse_line(alloc, words, fault, out, err),
             server: None,
         },
     }
 }
 
-/// Answers words that name no command: with the help text and status 2, or as out of memory.
+/// Answers words that name no command: with the version and status 0, with help and status 2, or as out of memory.
 pub fn refuse_line<O: Write, E: Write>(
     alloc: Global,
+    words: &[String],
     fault: LineFault,
     out: &mut O,
     err: &mut E,
 ) -> u8
-    ensures { IsRefusedLine fault (O.contents out.old) (O.contents out.new) (E.contents err.old) (E.contents err.new) result }
+    ensures { IsRefusedLine (map string_bytes words.now) fault (O.contents out.old) (O.contents out.new) (E.contents err.old) (E.contents err.new) result }
 {
     match fault {
-        LineFault::Words => explain(alloc, out, err),
+        LineFault::Words => explain(alloc, words, out, err),
         LineFault::Memory => report(&Fault::Memory, err),
     }
 }
@@ -79,7 +81,7 @@ pub fn run_command<
     out: &mut O,
     err: &mut E,
 ) -> Outcome<A>
-    ensures run { IsRun (texts_of A (T.held texts.old) command.now) (faults_of (T.held texts.old) command.now) (O.contents out.old) (O.contents out.new) (E.contents err.old) (E.contents err.new) result.status }
+    ensures run { IsDone A (T.held texts.old) command.now (O.contents out.old) (O.contents out.new) (E.contents err.old) (E.contents err.new) result.status }
     ensures starts { StartsFor (T.held texts.old) command.now result.status result.server }
 {
     match command {
@@ -114,6 +116,10 @@ pub fn run_command<
             finished(done, out, err)
         }
         Command::Serve { config } => start_server(alloc, config.as_str(), texts, host, out, err),
+        Command::CheckConfig { config } => Outcome {
+            status: check_config(alloc, config.as_str(), texts, host, out, err),
+            server: None,
+        },
     }
 }
 
@@ -146,12 +152,13 @@ fn finish<A: Allocator, O: Write, E: Write>(
     }
 }
 
-// Prints the help text, and gives the status of a line that names no command.
-fn explain<O: Write, E: Write>(alloc: Global, out: &mut O, err: &mut E) -> u8
-    ensures { IsExplained (O.contents out.old) (O.contents out.new) (E.contents err.old) (E.contents err.new) result }
+// Prints what the words ask for: the version or help; the status of a line that names no command is 2.
+fn explain<O: Write, E: Write>(alloc: Global, words: &[String], out: &mut O, err: &mut E) -> u8
+    ensures { IsExplained (map string_bytes words.now) (O.contents out.old) (O.contents out.new) (E.contents err.old) (E.contents err.new) result }
 {
-    match help_text(alloc) {
-        Ok(text) => put(&text, 2, out, err),
+    let status = if is_version(words) { 0 } else { 2 };
+    match help_text(alloc, words) {
+        Ok(text) => put(&text, status, out, err),
         Err(_) => report(&Fault::Memory, err),
     }
 }

@@ -3,7 +3,7 @@ ghost use Rattle.std.specs.Prelude.{◌≡◌, Some, None, IfOk, IfErr, string_b
 ghost use Rattle.commands.specs.Faults.{IsReported};
 ghost use Rattle.commands.specs.declared.fault.Fault.TheVariants.{Settings};
 ghost use Rattle.commands.specs.Runs.{IsPrinted, IsRun};
-ghost use Rattle.commands.specs.Servers.{PrintsAddress, IsNoServer, Describes, IsStartFault, LacksSeed, LacksZone, NamesEnd, IsUnbound, AreZonesIn, IsMadeOf, IsBounded, IsSeedOf, IsServer, StartsWith, Starts, address_line, end_of};
+ghost use Rattle.commands.specs.Servers.{PrintsAddress, IsNoServer, Describes, IsStartFault, LacksSeed, LacksZone, NamesEnd, IsUnbound, AreZonesIn, IsMadeOf, IsBounded, IsMadeWith, IsSeedOf, IsServer, IsUnmade, StartsWith, Starts, address_line, end_of};
 ghost use Rattle.commands.specs.Texts.{MayHold};
 ghost use Rattle.commands.specs.Zones.{HoldsZone, HoldsNoZone};
 
@@ -13,21 +13,23 @@ use crate::outcome::{Outcome, Server};
 use crate::run::{put, report};
 use crate::texts::Texts;
 use crate::zones::read_zone;
-use config::{LocalFile, ServeConfig, read_config};
+use commandline::VERSION;
+use config::{LocalFile, LogLevel, ServeConfig, read_config};
 use dname::{Heap, Starved};
 use engine::CoreError;
 use events::Endpoint;
-use server::{Bounds, Reach};
+use server::{Bounds, Reach, Shown, Verbosity};
 use server_start::resolver_of;
 use std::alloc::Allocator;
 use std::io::Write;
 use zone::Zone;
 
-// A server that is made, and where it is to listen.
+// A server that is made, where it is to listen, and what is shown of it.
 #[derive(Drop)]
-struct Prepared<A: Allocator> {
+pub(crate) struct Prepared<A: Allocator> {
     server: Server<A>,
-    listen: Endpoint,
+    pub(crate) listen: Endpoint,
+    shown: Shown,
 }
 
 /// Reads the file of a server at a path, and the files of its zones, binds its sockets and prints where it listens: the
@@ -101,7 +103,6 @@ fn prepare<'t, A: Heap, T: Texts, H: Host>(
 }
 
 // The same, where the text is read.
-#[tactic(auto, using(crate::proofs::Servers::bad_settings, crate::proofs::Servers::wants_memory))]
 fn prepare_with<'t, A: Heap, T: Texts, H: Host>(
     alloc: A,
     config: ServeConfig<'t, A>,
@@ -112,13 +113,29 @@ fn prepare_with<'t, A: Heap, T: Texts, H: Host>(
     ensures err { IfErr result (IsStartFault (T.held texts.old) config.entry) }
 {
     let zones = local_zones(alloc, texts, &config.locals)?;
+    prepare_zones(alloc, config, zones, host)
+}
+
+/// The server that a file describes, where its zones are read.
+#[tactic(auto, using(crate::proofs::Servers::bad_settings, crate::proofs::Servers::wants_memory))]
+pub(crate) fn prepare_zones<'t, A: Heap, H: Host>(
+    alloc: A,
+    config: ServeConfig<'t, A>,
+    zones: Vec<Zone<A>, A>,
+    host: &mut H,
+) -> Result<Prepared<A>, Fault<'t>>
+    ensures ok { IfOk result (λ p. (config.entry.listen ≡ end_of p.listen) × IsMadeWith config.entry zones.items p.server) }
+    ensures err { IfErr result (IsUnmade config.entry) }
+{
     let seed = seed_of(&config, host)?;
     let listen = endpoint_of(&config.listen);
+    let shown = shown_of(&config);
     let bounds = bounds_of(&config, seed)?;
     match resolver_of(alloc, config, zones, seed) {
         Ok(core) => Ok(Prepared {
             server: Server::new(core, bounds),
             listen,
+            shown,
         }),
         Err(CoreError::Memory) => Err(Fault::Memory),
         Err(_) => Err(Fault::Settings),
@@ -147,6 +164,26 @@ fn bounds_of<A: Allocator>(
             seed,
         }),
         _ => Err(Fault::Settings),
+    }
+}
+
+// What the file asks to be shown.
+fn shown_of<A: Allocator>(config: &ServeConfig<'_, A>) -> Shown {
+    Shown {
+        version: VERSION,
+        metrics: match &config.metrics {
+            Some(at) => Some(endpoint_of(at)),
+            None => None,
+        },
+        log: match config.log {
+            Some(LogLevel::Warn) => Some(Verbosity::Warnings),
+            Some(LogLevel::Info) => Some(Verbosity::All),
+            None => None,
+        },
+        zones: config.locals.len(),
+        hints: config.hints.len(),
+        cache: config.cache,
+        delegations: config.delegations,
     }
 }
 
@@ -216,7 +253,7 @@ fn start<A: Heap, H: Host, O: Write, E: Write>(
     ensures run { IsRun (NamesEnd (end_of prepared.listen)) IsUnbound (O.contents out.old) (O.contents out.new) (E.contents err.old) (E.contents err.new) result.status }
     ensures starts { StartsWith prepared.server result.status result.server }
 {
-    match bind(alloc, prepared.listen, host) {
+    match bind(alloc, prepared.listen, prepared.shown, host) {
         Ok(line) => go(&line, prepared.server, out, err),
         Err(fault) => {
             drop(prepared);
@@ -255,12 +292,13 @@ fn go<A: Heap, O: Write, E: Write>(
 fn bind<A: Heap, H: Host>(
     alloc: A,
     listen: Endpoint,
+    shown: Shown,
     host: &mut H,
 ) -> Result<String<A>, Fault<'static>>
     ensures ok { IfOk result (λ s. NamesEnd (end_of listen) (string_bytes s)) }
     ensures err { IfErr result IsUnbound }
 {
-    match host.open(listen) {
+    match host.open(listen, shown) {
         Some(port) => Ok(line(alloc, listen, port)?),
         None => Err(Fault::Socket),
     }

@@ -17,6 +17,10 @@ pub trait Texts {
     fn text<A: Heap>(&mut self, alloc: A, path: &str) -> Result<Option<String<A>>, Starved>
         ensures is { IfOk result (λ text. MayHold (held self.old path.now) (option_map string_bytes text)) }
         ensures keeps { held self.new ≡ held self.old };
+
+    /// Why nothing is read at a path, in the words of the system.
+    fn reason<A: Heap>(&mut self, alloc: A, path: &str) -> Result<String<A>, Starved>
+        ensures { held self.new ≡ held self.old };
 }
 
 /// The files that the program can reach.
@@ -40,6 +44,13 @@ impl<R: Files> Texts for Disk<'_, R> {
                 ErrorKind::OutOfMemory => Err(Starved),
                 _ => Ok(None),
             },
+        }
+    }
+
+    fn reason<A: Heap>(&mut self, alloc: A, path: &str) -> Result<String<A>, Starved> {
+        match read_file(alloc, self.runtime, path) {
+            Ok(_) => Ok(String::from_str(alloc, "it could not be read, and can be now")?),
+            Err(error) => Ok(format!(in alloc; "{error}")?),
         }
     }
 }

@@ -65,6 +65,7 @@ fn is_of(command: &Command, line: &[&str]) -> bool {
             scripts,
         } => said == Some("storm") && is_storm(line, *keep, world, scripts.as_slice()),
         Command::Serve { config } => said == Some("serve") && has(line, 1, config),
+        Command::CheckConfig { config } => said == Some("check-config") && has(line, 1, config),
     }
 }
 
@@ -88,7 +89,7 @@ fn is_refused(alloc: Global, line: &[&str]) -> Result<bool, Fail> {
 
 #[test]
 fn each_command_takes_its_words(rt: HostRuntime) -> Result<(), Fail> {
-    let lines: [&[&str]; 7] = [
+    let lines: [&[&str]; 8] = [
         &["ask", "lab.example.", "lab.zone", "x.lab.example.", "TXT"],
         &["check", "lab.example.", "lab.zone"],
         &["dump", ".", "root.zone"],
@@ -103,6 +104,7 @@ fn each_command_takes_its_words(rt: HostRuntime) -> Result<(), Fail> {
         ],
         &["storm", "small.world", "a.script"],
         &["serve", "resolverd.conf"],
+        &["check-config", "resolverd.conf"],
     ];
     for line in &lines {
         assert!(rt; is_taken(rt.alloc(), *line)?);
@@ -112,7 +114,7 @@ fn each_command_takes_its_words(rt: HostRuntime) -> Result<(), Fail> {
 
 #[test]
 fn other_lines_are_refused(rt: HostRuntime) -> Result<(), Fail> {
-    let lines: [&[&str]; 18] = [
+    let lines: [&[&str]; 22] = [
         &[],
         &["--help"],
         &[
@@ -151,6 +153,10 @@ fn other_lines_are_refused(rt: HostRuntime) -> Result<(), Fail> {
         &["storm", "--keep", "many", "small.world", "a.script"],
         &["serve"],
         &["serve", "resolverd.conf", "more"],
+        &["serve", "resolverd.conf", "--help"],
+        &["check-config"],
+        &["check-config", "resolverd.conf", "more"],
+        &["--version"],
     ];
     for line in &lines {
         assert!(rt; is_refused(rt.alloc(), *line)?);
@@ -160,7 +166,7 @@ fn other_lines_are_refused(rt: HostRuntime) -> Result<(), Fail> {
 
 #[test]
 fn help_explains_commands_and_numbers(rt: HostRuntime) -> Result<(), Fail> {
-    let help = help_text(rt.alloc()).ok().ok_or("no help")?;
+    let help = help_text(rt.alloc(), &[]).ok().ok_or("no help")?;
     for text in [
         "ORIGIN FILE NAME TYPE",
         "resolverd ask lab.example. ",
@@ -189,6 +195,8 @@ fn help_explains_commands_and_numbers(rt: HostRuntime) -> Result<(), Fail> {
         "error: memory",
         "error: output",
         "2 for the command line",
+        "clients N",
+        "note: SENTENCE",
     ] {
         assert!(rt; help.as_str().contains(text), "{text}");
     }

@@ -1,6 +1,8 @@
 //! A machine on which no server can listen.
 use commands::Host;
+use dname::{Heap, Starved};
 use events::Endpoint;
+use server::Shown;
 
 /// No place for a server.
 #[derive(Clone, Copy)]
@@ -11,7 +13,11 @@ impl Host for Nowhere {
         None
     }
 
-    fn open(&mut self, _listen: Endpoint) -> Option<u16> {
+    fn open(&mut self, _listen: Endpoint, _shown: Shown) -> Option<u16> {
         None
+    }
+
+    fn reason<A: Heap>(&mut self, alloc: A, _listen: Endpoint) -> Result<String<A>, Starved> {
+        Ok(String::from_str(alloc, "nowhere")?)
     }
 }

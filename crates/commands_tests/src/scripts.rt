@@ -22,6 +22,10 @@ impl Texts for Held<'_> {
             _ => Ok(None),
         }
     }
+
+    fn reason<A: Heap>(&mut self, alloc: A, _path: &str) -> Result<String<A>, Starved> {
+        Ok(String::from_str(alloc, "no such file")?)
+    }
 }
 
 /// Does a command over these texts, in this memory.

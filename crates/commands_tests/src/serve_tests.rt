@@ -5,6 +5,7 @@ use commands::{Host, Server, Texts};
 use dname::{Heap, Starved};
 use engine_fixture::{Desk, Out};
 use events::Endpoint;
+use server::Shown;
 use std::alloc::{AllocError, Global};
 use std::sync::Wait;
 use std::test::Fail;
@@ -24,6 +25,10 @@ impl Texts for Folder {
             _ => Ok(None),
         }
     }
+
+    fn reason<A: Heap>(&mut self, alloc: A, _path: &str) -> Result<String<A>, Starved> {
+        Ok(String::from_str(alloc, "no such file")?)
+    }
 }
 
 // A place that has this port free, and random bytes, or not.
@@ -38,9 +43,25 @@ impl Host for Place {
         self.seed
     }
 
-    fn open(&mut self, listen: Endpoint) -> Option<u16> {
+    fn open(&mut self, listen: Endpoint, _shown: Shown) -> Option<u16> {
         if listen.port == 0 { self.port } else { None }
     }
+
+    fn reason<A: Heap>(&mut self, alloc: A, _listen: Endpoint) -> Result<String<A>, Starved> {
+        Ok(String::from_str(alloc, "busy")?)
+    }
+}
+
+// What comes of a command on a server's file there, and the server.
+fn begin<R: Threads + Wait + AllocGlobal + Sync>(
+    rt: &R,
+    command: &Command,
+    text: &'static str,
+    place: Place,
+) -> (Done, Option<Server>) {
+    let mut source = Folder(text);
+    let mut host = place;
+    start(rt, rt.alloc(), command, &mut source, &mut host, ROOMY)
 }
 
 // What comes of `serve conf` there, and the server.
@@ -50,10 +71,7 @@ fn serve<R: Threads + Wait + AllocGlobal + Sync>(
     place: Place,
 ) -> Result<(Done, Option<Server>), AllocError> {
     let config = String::from_str(rt.alloc(), "conf")?;
-    let mut source = Folder(text);
-    let mut host = place;
-    let command = Command::Serve { config };
-    Ok(start(rt, rt.alloc(), &command, &mut source, &mut host, ROOMY))
+    Ok(begin(rt, &Command::Serve { config }, text, place))
 }
 
 // A server's file and a place, and the status of a start there, what it prints, and the line of its fault. There is a
@@ -178,5 +196,79 @@ const STARTS: &[Start] = &[
 #[test]
 fn a_start_says_why_it_fails(rt: HostRuntime) -> Result<(), Fail> {
     assert_eq!(rt; first_wrong(&rt, STARTS)?, None);
+    Ok(())
+}
+
+// What `check-config conf` says of a file in a place: as of a start, with the words before the line of the fault.
+const CHECKS: &[Start] = &[
+    (
+        "listen 127.0.0.1 0\nport 0\n",
+        BUSY,
+        1,
+        "conf:2: port 0: a number from 1 to 65535\n",
+        "error: conf:2: script 2\n",
+    ),
+    (
+        "listen 127.0.0.1 0\nlocal corp.example. other.zone\n",
+        BUSY,
+        4,
+        "other.zone: no such file\n",
+        "error: other.zone: unreadable\n",
+    ),
+    (
+        "listen 127.0.0.1 0\nlocal corp.example. conf\n",
+        BUSY,
+        1,
+        "conf:1: listen 127.0.0.1 0: the types are A, NS, CNAME, SOA, PTR, MX, TXT, AAAA and SRV, behind one TTL and one class at most\n",
+        "error: conf:1: file 1\n",
+    ),
+    (
+        "listen 127.0.0.1 0\nlocal example. corp.zone\nlocal lab. corp.zone\n",
+        BUSY,
+        4,
+        "listen 127.0.0.1 0: busy\n",
+        "error: socket\n",
+    ),
+    (
+        "listen 127.0.0.1 0\n",
+        WITHOUT_SEED,
+        4,
+        "/dev/urandom: no random bytes can be read there, and the file states no seed\n",
+        "error: /dev/urandom: unreadable\n",
+    ),
+    (
+        "listen 127.0.0.1 0\nhint 192.0.2.1\nlocal corp.example. corp.zone\n",
+        FREE,
+        0,
+        "note: port 0: it listens at any port that is free, another one after each start\nok 1 zones 3 records 1 hints\n",
+        "",
+    ),
+];
+
+fn is_checked<R: Threads + Wait + AllocGlobal + Sync>(
+    rt: &R,
+    (text, place, status, printed, fault): Start,
+) -> Result<bool, AllocError> {
+    let config = String::from_str(rt.alloc(), "conf")?;
+    let (done, _server) = begin(rt, &Command::CheckConfig { config }, text, place);
+    Ok(done.is((status, printed, fault)) && !done.serves)
+}
+
+// The place of the first of these that is said otherwise.
+fn first_unlike<R: Threads + Wait + AllocGlobal + Sync>(
+    rt: &R,
+    checks: &[Start],
+) -> Result<Option<usize>, AllocError> {
+    for (place, check) in checks.iter().enumerate() {
+        if !is_checked(rt, *check)? {
+            return Ok(Some(place));
+        }
+    }
+    Ok(None)
+}
+
+#[test]
+fn a_check_says_why_a_start_would_fail(rt: HostRuntime) -> Result<(), Fail> {
+    assert_eq!(rt; first_unlike(&rt, CHECKS)?, None);
     Ok(())
 }

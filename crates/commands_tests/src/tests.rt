@@ -37,6 +37,10 @@ impl Texts for Held<'_> {
             Held::Starved => Err(Starved),
         }
     }
+
+    fn reason<A: Heap>(&mut self, alloc: A, _path: &str) -> Result<String<A>, Starved> {
+        Ok(String::from_str(alloc, "no such file")?)
+    }
 }
 
 // A command: `ask` with an origin, a file, a name and a type, and `check` and `dump` of lab.zone with an origin.
@@ -451,6 +455,8 @@ enum Said {
     Whole(&'static str),
     // They name no command, and the help is printed.
     Help,
+    // They ask help of one command, whose lines alone are printed, and begin so.
+    Of(&'static str),
 }
 
 impl Said {
@@ -458,6 +464,7 @@ impl Said {
         match self {
             Said::Whole(text) => status == 0 && printed == text.as_bytes(),
             Said::Help => status == 2 && printed.starts_with(b"Answers DNS queries"),
+            Said::Of(front) => status == 2 && printed.starts_with(front.as_bytes()),
         }
     }
 }
@@ -467,6 +474,20 @@ const LINES: &[(&[&str], Said)] = &[
         &["check", "lab.example.", "lab.zone"],
         Said::Whole("ok 4 records\n"),
     ),
+    (&["--version"], Said::Whole("resolverd 0.1.0\n")),
+    (&["-V"], Said::Whole("resolverd 0.1.0\n")),
+    (&["--version", "check"], Said::Help),
+    (&["help", "serve"], Said::Of("resolverd serve CONFIG: ")),
+    (
+        &["dump", "lab.example.", "-h"],
+        Said::Of("resolverd dump ORIGIN FILE: "),
+    ),
+    (
+        &["check-config", "--help"],
+        Said::Of("resolverd check-config CONFIG: "),
+    ),
+    (&["help", "serves"], Said::Help),
+    (&["help"], Said::Help),
     (&[], Said::Help),
     (&["--help"], Said::Help),
     (&["answer"], Said::Help),
@@ -516,7 +537,7 @@ fn lines_may_starve(rt: HostRuntime) -> Result<(), Fail> {
     let alloc = rt.alloc();
     let mut out = Page::new(alloc, WIDE);
     let mut err = Page::new(alloc, WIDE);
-    let status = refuse_line(alloc, LineFault::Memory, &mut out, &mut err);
+    let status = refuse_line(alloc, &[], LineFault::Memory, &mut out, &mut err);
     let is_told = out.holds("") && err.holds("error: memory\n");
     assert_eq!(rt; (status, is_told), (3, true));
     Ok(())

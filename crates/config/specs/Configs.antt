@@ -1,5 +1,6 @@
 -- What a server's file says, line by line.
-use Rattle.std.specs.Prelude.{ℕ, Bool, false, ◌||◌, cond, Result, Ok, Err, Option, Some, None, List, [], ◌∷◌, ◌++◌}
+use Rattle.std.specs.Prelude.{ℕ, Bool, false, ◌||◌, cond, codes, Result, Ok, Err, Option, Some, None, List, [], ◌∷◌, ◌++◌}
+use Rattle.std.specs.Str.{bytes_eq}
 use Rattle.limits.specs.Limits.{max_entries, max_sockets, max_workers}
 use Rattle.hex.specs.Hex.{decode_sized}
 use Rattle.hex.specs.declared.error.FromHexError.{FromHexError}
@@ -14,6 +15,8 @@ use Rattle.text_lines.specs.Words.{number_of, address_of, name_of, next, ended}
 use Rattle.config.specs.declared.keyword.Keyword.{Keyword}
 use Rattle.config.specs.declared.keyword.Keyword.TheVariants as the
 use Rattle.config.specs.Keywords.{keyword_of}
+use Rattle.config.specs.declared.config.LogLevel.{LogLevel}
+use Rattle.config.specs.declared.config.LogLevel.TheVariants as level
 
 -- The most streams of clients that are open at once.
 abbrev pub max_streams : ℕ
@@ -23,7 +26,7 @@ max_streams = 256
 abbrev pub max_clients : ℕ
 max_clients = 1024
 
--- Where a server listens.
+-- Where a server listens, or serves its counters.
 pub record End : Type 0 where
   pub address : List ℕ
   pub port : ℕ
@@ -47,6 +50,8 @@ pub record Draft : Type 0 where
   pub workers : Option ℕ
   pub streams : Option ℕ
   pub clients : Option ℕ
+  pub metrics : Option End
+  pub log : Option LogLevel
   pub seed : Option (List ℕ)
 
 abbrev pub blank : Draft
@@ -63,13 +68,16 @@ blank = record {
   workers = None;
   streams = None;
   clients = None;
+  metrics = None;
+  log = None;
   seed = None;
 }
 
 -- ---- What the words behind a keyword say.
 
-abbrev pub end_in : List (List ℕ) → Result End LineKind
-end_in ws = next address_of ws >>= λ a. (next (number_of 0 65535) a.1 >>= λ p. ended (record { address = a.0; port = p.0 }) p.1)
+-- An address and a port, which is this one at least.
+abbrev pub end_in : ℕ → List (List ℕ) → Result End LineKind
+end_in low ws = next address_of ws >>= λ a. (next (number_of low 65535) a.1 >>= λ p. ended (record { address = a.0; port = p.0 }) p.1)
 
 abbrev pub number_in : ℕ → ℕ → List (List ℕ) → Result ℕ LineKind
 number_in low high ws = next (number_of low high) ws >>= λ n. ended n.0 n.1
@@ -91,6 +99,13 @@ seed_of w = seed_read (decode_sized w 32)
 abbrev pub seed_in : List (List ℕ) → Result (List ℕ) LineKind
 seed_in ws = next seed_of ws >>= λ s. ended s.0 s.1
 
+-- How much is logged: what goes wrong while the server runs, or its start too.
+abbrev pub level_of : List ℕ → Result LogLevel LineKind
+level_of w = cond (bytes_eq w (codes "warn")) (Ok level.Warn) (cond (bytes_eq w (codes "info")) (Ok level.Info) (Err UnknownWord))
+
+abbrev pub level_in : List (List ℕ) → Result LogLevel LineKind
+level_in ws = next level_of ws >>= λ l. ended l.0 l.1
+
 -- ---- What a line says.
 
 -- A value that one line alone may state.
@@ -107,7 +122,7 @@ abbrev pub with_zone : Draft → LocalZone → Result Draft LineKind
 with_zone d z = cond (has_origin z.origin d.locals) (Err WordCount) (Ok (record d { locals = d.locals ++ z ∷ [] }))
 
 abbrev pub said_by : Draft → Keyword → List (List ℕ) → Result Draft LineKind
-said_by d the.Listen ws = end_in ws >>= λ e. (once d.listen e >>= λ v. Ok (record d { listen = v }))
+said_by d the.Listen ws = end_in 0 ws >>= λ e. (once d.listen e >>= λ v. Ok (record d { listen = v }))
 said_by d the.Port ws = number_in 1 65535 ws >>= λ n. (once d.port n >>= λ v. Ok (record d { port = v }))
 said_by d the.Hint ws = hint_in ws >>= λ a. Ok (record d { hints = d.hints ++ a ∷ [] })
 said_by d the.Local ws = zone_in ws >>= λ z. with_zone d z
@@ -119,6 +134,8 @@ said_by d the.Sockets ws = number_in 1 max_sockets ws >>= λ n. (once d.sockets 
 said_by d the.Workers ws = number_in 1 max_workers ws >>= λ n. (once d.workers n >>= λ v. Ok (record d { workers = v }))
 said_by d the.Streams ws = number_in 1 max_streams ws >>= λ n. (once d.streams n >>= λ v. Ok (record d { streams = v }))
 said_by d the.Clients ws = number_in 1 max_clients ws >>= λ n. (once d.clients n >>= λ v. Ok (record d { clients = v }))
+said_by d the.Metrics ws = end_in 1 ws >>= λ e. (once d.metrics e >>= λ v. Ok (record d { metrics = v }))
+said_by d the.Log ws = level_in ws >>= λ l. (once d.log l >>= λ v. Ok (record d { log = v }))
 said_by d the.Seed ws = seed_in ws >>= λ s. (once d.seed s >>= λ v. Ok (record d { seed = v }))
 
 abbrev pub said_if : Draft → Option Keyword → List (List ℕ) → Result Draft LineKind
@@ -145,6 +162,8 @@ pub record Config : Type 0 where
   pub workers : ℕ
   pub streams : ℕ
   pub clients : ℕ
+  pub metrics : Option End
+  pub log : Option LogLevel
   pub seed : Option (List ℕ)
 
 abbrev pub stated : Option ℕ → ℕ → ℕ
@@ -167,6 +186,8 @@ finished d (Some e) = Ok (record {
   workers = stated d.workers 4;
   streams = stated d.streams 1;
   clients = stated d.clients 256;
+  metrics = d.metrics;
+  log = d.log;
   seed = d.seed;
 })
 

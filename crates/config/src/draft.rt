@@ -2,9 +2,9 @@
 ghost use Rattle.std.specs.Prelude.{◌≡◌, ◌≤◌, Ok, Err, MatchResult};
 ghost use Rattle.text_lines.specs.Faults.{IsLineFault};
 ghost use Rattle.text_lines.specs.Texts.{stated_words};
-ghost use Rattle.config.specs.Configs.{blank, end_in, number_in, hint_in, zone_in, seed_of, seed_in, once as once_of, has_origin, with_zone, said_by, said, finished, stated};
+ghost use Rattle.config.specs.Configs.{blank, end_in, number_in, hint_in, zone_in, seed_of, seed_in, level_of, level_in, once as once_of, has_origin, with_zone, said_by, said, finished, stated};
 
-use crate::config::{Endpoint, LocalFile, ServeConfig};
+use crate::config::{Endpoint, LocalFile, LogLevel, ServeConfig};
 use crate::keyword::Keyword;
 use dname::{Heap, Name};
 use hex::FromHex;
@@ -41,6 +41,8 @@ pub(crate) struct Draft<'t, A: Allocator> {
     workers: Option<u32>,
     streams: Option<u32>,
     clients: Option<u32>,
+    metrics: Option<Endpoint>,
+    log: Option<LogLevel>,
     seed: Option<[u8; 32]>,
 }
 
@@ -50,7 +52,7 @@ impl<'t, A: Allocator> Model for Draft<'t, A> {
 
     ghost Value = { DraftSpec };
 
-    ghost view = { λ d. record { listen = d.listen; port = d.port; hints = map (λ a. a.0) d.hints.items; locals = d.locals.items; cache = d.cache; delegations = d.delegations; penalties = d.penalties; failures = d.failures; sockets = d.sockets; workers = d.workers; streams = d.streams; clients = d.clients; seed = d.seed } };
+    ghost view = { λ d. record { listen = d.listen; port = d.port; hints = map (λ a. a.0) d.hints.items; locals = d.locals.items; cache = d.cache; delegations = d.delegations; penalties = d.penalties; failures = d.failures; sockets = d.sockets; workers = d.workers; streams = d.streams; clients = d.clients; metrics = d.metrics; log = d.log; seed = d.seed } };
 }
 
 // A value that one line alone may state.
@@ -80,6 +82,8 @@ impl<'t, A: Heap> Draft<'t, A> {
             workers: None,
             streams: None,
             clients: None,
+            metrics: None,
+            log: None,
             seed: None,
         }
     }
@@ -103,7 +107,7 @@ impl<'t, A: Heap> Draft<'t, A> {
         ensures { MatchResult result (λ _. said_by self.old keyword words.entry ≡ Ok self.new) (λ e. IsLineFault e (said_by self.old keyword words.entry)) }
     {
         match keyword {
-            Keyword::Listen => self.listen = once(self.listen.take(), endpoint(words)?)?,
+            Keyword::Listen => self.listen = once(self.listen.take(), endpoint(words, 0)?)?,
             Keyword::Port => self.port = once(self.port, port(words)?)?,
             Keyword::Hint => self.hints.push(hint(words)?)?,
             Keyword::Local => self.add(local(alloc, words)?)?,
@@ -117,6 +121,8 @@ impl<'t, A: Heap> Draft<'t, A> {
             Keyword::Workers => self.workers = once(self.workers, number(words, THREADS)?)?,
             Keyword::Streams => self.streams = once(self.streams, number(words, STREAMS)?)?,
             Keyword::Clients => self.clients = once(self.clients, number(words, CLIENTS)?)?,
+            Keyword::Metrics => self.metrics = once(self.metrics.take(), endpoint(words, 1)?)?,
+            Keyword::Log => self.log = once(self.log, level(words)?)?,
             Keyword::Seed => self.seed = once(self.seed, seed(words)?)?,
         }
         Ok(())
@@ -150,6 +156,8 @@ impl<'t, A: Heap> Draft<'t, A> {
             workers,
             streams,
             clients,
+            metrics,
+            log,
             seed,
         } = self;
         let Some(listen) = listen else {
@@ -168,6 +176,8 @@ impl<'t, A: Heap> Draft<'t, A> {
             workers: or_usual(workers, 4),
             streams: or_usual(streams, 1),
             clients: or_usual(clients, 256),
+            metrics,
+            log,
             seed,
         })
     }
@@ -192,11 +202,12 @@ fn is_taken<'t, A: Heap>(locals: &[LocalFile<'t, A>], origin: &Name<A>) -> bool
     false
 }
 
-fn endpoint(mut words: LineWords<'_>) -> Result<Endpoint, LineKind>
-    ensures { MatchResult result (λ e. end_in words.entry ≡ Ok e) (λ e. end_in words.entry ≡ Err e) }
+// An address and a port, which is this one at least.
+fn endpoint(mut words: LineWords<'_>, low: u64) -> Result<Endpoint, LineKind>
+    ensures { MatchResult result (λ e. end_in low words.entry ≡ Ok e) (λ e. end_in low words.entry ≡ Err e) }
 {
     let address = words.address()?;
-    let port = words.number(0, 65_535)? as u16;
+    let port = words.number(low, 65_535)? as u16;
     words.end()?;
     Ok(Endpoint { address, port })
 }
@@ -251,5 +262,24 @@ fn seed_of_word(word: &str) -> Result<[u8; 32], LineKind>
     match <[u8; 32] as FromHex>::from_hex(word) {
         Ok(bytes) => Ok(bytes),
         Err(_) => Err(LineKind::BadHex),
+    }
+}
+
+fn level(mut words: LineWords<'_>) -> Result<LogLevel, LineKind>
+    ensures { MatchResult result (λ l. level_in words.entry ≡ Ok l) (λ e. level_in words.entry ≡ Err e) }
+{
+    let word = words.word()?;
+    let level = level_of_word(word)?;
+    words.end()?;
+    Ok(level)
+}
+
+fn level_of_word(word: &str) -> Result<LogLevel, LineKind>
+    ensures { result ≡ level_of word.now }
+{
+    match word {
+        "warn" => Ok(LogLevel::Warn),
+        "info" => Ok(LogLevel::Info),
+        _ => Err(LineKind::UnknownWord),
     }
 }

@@ -17,6 +17,8 @@ pub(crate) enum Keyword {
     Workers,
     Streams,
     Clients,
+    Metrics,
+    Log,
     Seed,
 }
 
@@ -38,6 +40,8 @@ impl Keyword {
             "workers" => Some(Keyword::Workers),
             "streams" => Some(Keyword::Streams),
             "clients" => Some(Keyword::Clients),
+            "metrics" => Some(Keyword::Metrics),
+            "log" => Some(Keyword::Log),
             "seed" => Some(Keyword::Seed),
             _ => None,
         }

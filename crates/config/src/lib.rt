@@ -19,5 +19,5 @@ mod config;
 mod draft;
 mod keyword;
 
-pub use config::{Endpoint, LocalFile, ServeConfig, read_config};
+pub use config::{Endpoint, LocalFile, LogLevel, ServeConfig, read_config};
 pub use text_lines::{LineError, LineKind};

@@ -31,7 +31,7 @@ fn main(rt: HostRuntime) -> ExitCode {
                 None => done.status,
             }
         }
-        Err(fault) => refuse_line(alloc, fault, &mut out, &mut err),
+        Err(fault) => refuse_line(alloc, &[], fault, &mut out, &mut err),
     };
     ExitCode::from(status)
 }

@@ -1,6 +1,8 @@
 //! The loop that lets time pass, so that queries which are due are served.
 use crate::desk::Desk;
+use crate::log::{Log, log_start};
 use book::{Machine, Ticket};
+use counters::Outcome;
 use events::{Actions, Event};
 use std::sync::Wait;
 use std::sync::ledger::Ledger;
@@ -10,19 +12,35 @@ use std::time::{Clock, Duration};
 // How long a loop rests that has nothing to do, in milliseconds.
 const REST_MS: u64 = 50;
 
+// How often a service manager is told that steps come back, in milliseconds.
+const WATCHDOG_MS: u64 = 1_000;
+
 /// Lets time pass until the flag is up: every 50 ms, and again at once while another query is due.
 pub(crate) fn pass_time<M: Machine<Event = Event, Out = Actions>, L: Ledger, R: Wait + Clock>(
     rt: &R,
     desk: &Desk<'_, M, L>,
     ticket: &mut Ticket<L>,
 ) {
+    let mut log = Log::new(desk.ends.shown.and_then(|shown| shown.log));
+    let mut told = 0;
+    log_start(desk);
+    desk.ends.tell("READY=1");
     for _ in rt.forever() {
         if desk.is_over() {
             return;
         }
         let moment = desk.moment(rt);
-        desk.entrance.pass_time(rt, moment);
-        if !desk.put(rt, ticket, Event::Tick { moment }).more_due {
+        let late = desk.entrance.pass_time(rt, moment);
+        if late > 0 {
+            desk.ends.count(Outcome::Dropped(late));
+        }
+        let more_due = desk.put(rt, ticket, Event::Tick { moment }).more_due;
+        if moment.saturating_sub(told) >= WATCHDOG_MS {
+            told = moment;
+            desk.ends.tell("WATCHDOG=1");
+        }
+        log.look(rt, desk, moment);
+        if !more_due {
             rest(rt);
         }
     }

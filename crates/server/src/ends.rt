@@ -3,19 +3,25 @@ ghost use Rattle.std.specs.Prelude.{◌≡◌, MatchOption};
 ghost use Rattle.server.specs.Addresses.{IsAt, IsElsewhere};
 ghost use Rattle.server.specs.Waits.{IsShort};
 
+use crate::log::Shown;
+use crate::metrics::Scrapes;
+use crate::notices::Notices;
 use crate::open_asks::OpenAsks;
 use crate::poller::Poller;
+use crate::tally::Tally;
+use counters::{Outcome, SocketFault};
 use events::Endpoint;
 use libc::net as c;
 use mio::Interest;
 use mio::net::TcpListener;
+use os::FromRawFd;
 use rdata::Addr;
 use std::alloc::Global;
-use std::io;
 use std::io::ErrorKind;
 use std::net::{Ipv4Addr, Net, SocketAddr, SocketAddrV4, UdpSocket};
-use std::os::fd::AsRawFd;
+use std::os::fd::{AsRawFd, OwnedFd};
 use std::time::Duration;
+use std::{io, net};
 
 /// How long a loop waits at most, in milliseconds: so often the flag is seen.
 pub(crate) const SLICE_MS: u64 = 250;
@@ -56,6 +62,25 @@ pub(crate) fn endpoint_of(address: SocketAddr) -> Option<Endpoint>
     }
 }
 
+// Linux's numbers of the errors that the process, or the system, has no descriptor left (errno(3)).
+const EMFILE: i32 = 24;
+
+const ENFILE: i32 = 23;
+
+/// Whether an error says that no descriptor is left.
+pub(crate) fn lacks_descriptors(error: &io::Error) -> bool {
+    matches!(error.raw_os_error(), Some(EMFILE | ENFILE))
+}
+
+/// What failed where a stream could not be accepted.
+pub(crate) fn accept_fault(error: &io::Error) -> SocketFault {
+    if lacks_descriptors(error) {
+        SocketFault::Descriptors
+    } else {
+        SocketFault::Accept
+    }
+}
+
 /// Whether an error says that nothing came yet, or that a signal came first.
 pub(crate) fn is_early(error: &io::Error) -> bool {
     matches!(error.kind(), ErrorKind::WouldBlock | ErrorKind::Interrupted)
@@ -74,12 +99,30 @@ pub struct Ends {
     pub(crate) asks: OpenAsks,
     /// The streams to other servers.
     pub(crate) servers: Poller,
+    /// What is counted, where it is.
+    pub(crate) tally: Option<Tally>,
+    /// Where the counters are served, where they are.
+    pub(crate) scrapes: Option<Scrapes>,
+    /// What the file asks to be shown.
+    pub(crate) shown: Option<Shown>,
+    /// Whom to tell that it runs, where a service manager wants to know.
+    pub(crate) notices: Option<Notices>,
 }
 
 impl Ends {
     /// Binds both sockets for clients at `listen`, where port 0 stands for any that is free for both.
     pub fn open<R: Net>(rt: &R, alloc: Global, listen: Endpoint) -> io::Result<Ends> {
         let (clients, listener) = both(rt, listen)?;
+        Ends::of(rt, alloc, clients, listener)
+    }
+
+    // With these sockets for clients.
+    fn of<R: Net>(
+        rt: &R,
+        alloc: Global,
+        clients: UdpSocket,
+        listener: TcpListener,
+    ) -> io::Result<Ends> {
         let streams = Poller::new(rt)?;
         if !streams.watch(listener.as_raw_fd(), LISTENER, Interest::READABLE) {
             return Err(io::Error::from(ErrorKind::Other));
@@ -90,7 +133,72 @@ impl Ends {
             streams,
             asks: OpenAsks::new(rt, alloc)?,
             servers: Poller::new(rt)?,
+            tally: None,
+            scrapes: None,
+            shown: None,
+            notices: None,
         })
+    }
+
+    /// The same at two sockets that the service manager bound and handed over, as descriptors 3 and 4: one for datagrams,
+    /// and one for streams. Refused where they are not bound to `listen`.
+    pub fn handed<R: Net>(rt: &R, alloc: Global, listen: Endpoint) -> io::Result<Ends> {
+        let clients = UdpSocket::from(unsafe { OwnedFd::from_raw_fd(FIRST_HANDED) });
+        let listener = net::TcpListener::from(unsafe { OwnedFd::from_raw_fd(FIRST_HANDED + 1) });
+        if !is_bound_to(clients.local_addr()?, listen)
+            || !is_bound_to(listener.local_addr()?, listen)
+        {
+            return Err(io::Error::from(ErrorKind::AddrNotAvailable));
+        }
+        clients.set_nonblocking(false)?;
+        clients.set_read_timeout(Some(slice()))?;
+        set_receive_room(&clients);
+        listener.set_nonblocking(true)?;
+        Ends::of(rt, alloc, clients, TcpListener::from_std(listener))
+    }
+
+    /// The same, which show what the file asks for: they count where counters are served or logged.
+    pub fn showing<R: Net<Listener = net::TcpListener, Stream = net::TcpStream>>(
+        self,
+        rt: &R,
+        alloc: Global,
+        shown: Shown,
+    ) -> io::Result<Ends> {
+        let mut ends = self;
+        if shown.metrics.is_some() || shown.log.is_some() {
+            let Some(tally) = Tally::new(alloc) else {
+                return Err(io::Error::from(ErrorKind::OutOfMemory));
+            };
+            ends.tally = Some(tally);
+        }
+        if let Some(at) = shown.metrics {
+            ends.scrapes = Some(Scrapes::open(rt, at)?);
+        }
+        ends.shown = Some(shown);
+        Ok(ends)
+    }
+
+    /// The same, which tell the service manager at this socket that they are served, and that steps come back.
+    pub fn telling(self, path: &str) -> Ends {
+        let mut ends = self;
+        ends.notices = Notices::to(path);
+        ends
+    }
+
+    /// Tells the service manager, where one wants to know.
+    pub(crate) fn tell(&self, words: &str) {
+        if let Some(notices) = &self.notices
+            && !notices.tell(words)
+        {
+            self.count(Outcome::SocketFailed(SocketFault::Send));
+        }
+    }
+
+    /// Counts an outcome, where it is counted.
+    pub(crate) fn count(&self, outcome: Outcome) {
+        if let Some(tally) = &self.tally {
+            tally.count(outcome);
+        }
     }
 
     /// Where clients are served.
@@ -102,6 +210,16 @@ impl Ends {
     pub fn strange_datagrams(&self) -> u64 {
         self.asks.strange_datagrams()
     }
+}
+
+// The first descriptor that a service manager hands over (sd_listen_fds(3)).
+const FIRST_HANDED: i32 = 3;
+
+// Whether an address is the one that is to be listened at, where port 0 stands for any.
+fn is_bound_to(address: SocketAddr, listen: Endpoint) -> bool {
+    endpoint_of(address).is_some_and(|end| {
+        end.address == listen.address && (listen.port == 0 || end.port == listen.port)
+    })
 }
 
 // How many ports are tried where any will do.
@@ -129,6 +247,20 @@ fn datagrams<R: Net>(rt: &R, end: Endpoint) -> io::Result<UdpSocket> {
     socket.set_read_timeout(Some(slice()))?;
     set_receive_room(&socket);
     Ok(socket)
+}
+
+/// How many bytes of datagrams that nobody took yet a socket holds, as the system has it. None where it can't be read.
+pub(crate) fn receive_room(socket: &UdpSocket) -> Option<u32> {
+    let mut value = [0u8; 16];
+    let mut length = 4u32;
+    let (level, name) = (c::SOL_SOCKET, c::SO_RCVBUF);
+    let status = unsafe { c::getsockopt(socket.as_raw_fd(), level, name, &mut value, &mut length) };
+    let [a, b, c, d, ..] = value;
+    if status == 0 {
+        Some(u32::from_ne_bytes([a, b, c, d]))
+    } else {
+        None
+    }
 }
 
 // Makes room for many datagrams. Where the system refuses it the socket keeps the room that it has.

@@ -7,6 +7,9 @@
 //! a port that the system picks, and only what repeats the ask is put as an event (RFC 5452, section 9.2). One loop
 //! holds all streams of clients, and one all streams to servers, and neither waits for any of them.
 //!
+//! Where its file asks for it (`Ends::showing`) it counts, by the crate `counters`, and serves what it counts
+//! over HTTP, in a loop of its own.
+//!
 //! Promised: the loops are safe, and there is a ticket for each (`IsStaffed`). Where replies and asks go, and which
 //! messages repeat an ask, is proved in `dispatch`, frames in `sockets`, the machine's one history in `book`.
 //! Not here: what the machine is (`engine`); lists of who may ask, and limits of how often.
@@ -25,18 +28,24 @@ mod ends;
 mod entrance;
 mod fault;
 mod framed_stream;
+mod log;
+mod metrics;
 mod moments;
+mod notices;
 mod open_asks;
 mod outbox;
 mod places;
 mod poller;
+mod query;
 mod serve;
 mod server_streams;
 mod streams;
+mod tally;
 mod upstream;
 
 pub use desk::Bounds;
 pub use dispatch::{LOOPS, Reach};
 pub use ends::Ends;
 pub use fault::ServeError;
+pub use log::{Shown, Verbosity};
 pub use serve::serve_until;

@@ -3,6 +3,7 @@ ghost use Rattle.std.specs.Prelude.{◌≤◌, IfSome, length};
 
 use crate::ends::{address_of, is_early};
 use crate::poller::Poller;
+use counters::AskFault;
 use dispatch::repeats;
 use events::{Bytes, Endpoint};
 use libc::net as c;
@@ -51,6 +52,10 @@ pub(crate) struct OpenAsks {
     open: Mutex<Slab<OpenAsk>>,
     most: usize,
     strange: AtomicU64,
+    // How many were closed for want of room.
+    crowded: AtomicU64,
+    // How often a datagram could not be received, or its socket not be waited for again.
+    unread: AtomicU64,
 }
 
 impl OpenAsks {
@@ -62,6 +67,8 @@ impl OpenAsks {
             open: Mutex::new(Slab::new(alloc)),
             most: most_open(),
             strange: AtomicU64::new(0),
+            crowded: AtomicU64::new(0),
+            unread: AtomicU64::new(0),
         })
     }
 
@@ -71,15 +78,23 @@ impl OpenAsks {
     }
 
     /// Asks a server from a socket of its own. Where too many are open the oldest is closed, so that its reply is lost.
-    /// What can't be sent is lost too; no ask ever leaves from a port that another one had.
-    pub fn send<R: Wait>(&self, rt: &R, moment: u64, number: u16, to: Endpoint, bytes: &Bytes) {
+    /// What can't be sent is lost too, and told; no ask ever leaves from a port that another one had.
+    pub fn send<R: Wait>(
+        &self,
+        rt: &R,
+        moment: u64,
+        number: u16,
+        to: Endpoint,
+        bytes: &Bytes,
+    ) -> Result<(), AskFault> {
         let Some(socket) = self.socket(rt) else {
-            return;
+            return Err(AskFault::Descriptors);
         };
         let Ok(bytes) = bytes.copied() else {
-            return;
+            return Err(AskFault::Refused);
         };
-        if socket.connect(address_of(to)).is_ok() && socket.send(bytes.as_slice()).is_ok() {
+        let sent = socket.connect(address_of(to)).is_ok() && socket.send(bytes.as_slice()).is_ok();
+        if sent {
             let ask = OpenAsk {
                 socket,
                 number,
@@ -87,8 +102,11 @@ impl OpenAsks {
                 moment,
                 bytes,
             };
-            self.put(rt, ask, false);
+            if self.put(rt, ask, false) {
+                return Ok(());
+            }
         }
+        Err(AskFault::Refused)
     }
 
     // A socket, if need be the descriptor of the oldest ask.
@@ -96,20 +114,20 @@ impl OpenAsks {
         if let Some(socket) = datagram_socket() {
             return Some(socket);
         }
-        close_oldest(&mut self.open.lock(rt));
+        self.close_oldest(&mut self.open.lock(rt));
         datagram_socket()
     }
 
-    // Waits for the replies to an ask from now on, or, where it was taken out, again. One that can't be waited for is
-    // lost.
-    fn put<R: Wait>(&self, rt: &R, ask: OpenAsk, again: bool) {
+    // Waits for the replies to an ask from now on, or, where it was taken out, again; whether it can. One that can't be
+    // waited for is lost.
+    fn put<R: Wait>(&self, rt: &R, ask: OpenAsk, again: bool) -> bool {
         let socket = ask.socket.as_raw_fd();
         let mut open = self.open.lock(rt);
         if open.len() >= self.most {
-            close_oldest(&mut open);
+            self.close_oldest(&mut open);
         }
         let Ok(key) = open.insert(ask) else {
-            return;
+            return false;
         };
         let watched = if again {
             self.poller.watch_again(socket, key, Interest::READABLE)
@@ -119,6 +137,7 @@ impl OpenAsks {
         if !watched {
             open.try_remove(key);
         }
+        watched
     }
 
     /// The ask of this key, where what repeats it has come: how many bytes that has, at the front of the buffer. Its
@@ -130,7 +149,9 @@ impl OpenAsks {
         match self.reply_to(&ask, buffer) {
             Some(count) => Some((count, ask)),
             None => {
-                self.put(rt, ask, true);
+                if !self.put(rt, ask, true) {
+                    self.unread.fetch_add(1, Ordering::SeqCst);
+                }
                 None
             }
         }
@@ -151,17 +172,39 @@ impl OpenAsks {
                     Err(_) => {}
                 },
                 Err(error) if is_early(&error) => return None,
-                Err(_) => {}
+                Err(_) => {
+                    self.unread.fetch_add(1, Ordering::SeqCst);
+                }
             }
         }
         None
     }
 
-    /// Closes the sockets of asks whose time is over.
-    pub fn close_old<R: Wait>(&self, rt: &R, now: u64) {
-        self.open
-            .lock(rt)
-            .retain(|_, ask| now.saturating_sub(ask.moment) < OPEN_MS);
+    /// Closes the sockets of asks whose time is over, and says how many.
+    pub fn close_old<R: Wait>(&self, rt: &R, now: u64) -> u64 {
+        let mut open = self.open.lock(rt);
+        let before = open.len();
+        open.retain(|_, ask| now.saturating_sub(ask.moment) < OPEN_MS);
+        before.saturating_sub(open.len()) as u64
+    }
+
+    // Closes the socket of the ask that went out first.
+    fn close_oldest(&self, open: &mut Slab<OpenAsk>) {
+        if let Some(key) = oldest(open)
+            && open.try_remove(key).is_some()
+        {
+            self.crowded.fetch_add(1, Ordering::SeqCst);
+        }
+    }
+
+    /// How often a datagram of a server could not be received.
+    pub fn unread_datagrams(&self) -> u64 {
+        self.unread.load(Ordering::SeqCst)
+    }
+
+    /// How many asks were closed for want of room.
+    pub fn crowded_asks(&self) -> u64 {
+        self.crowded.load(Ordering::SeqCst)
     }
 }
 
@@ -175,8 +218,8 @@ fn datagram_socket() -> Option<UdpSocket> {
     Some(UdpSocket::from(unsafe { OwnedFd::from_raw_fd(socket) }))
 }
 
-// Closes the socket of the ask that went out first.
-fn close_oldest(open: &mut Slab<OpenAsk>) {
+// The ask that went out first.
+fn oldest(open: &Slab<OpenAsk>) -> Option<usize> {
     let mut oldest: Option<(usize, u64)> = None;
     for (key, ask) in open.iter() {
         let older = match oldest {
@@ -187,9 +230,7 @@ fn close_oldest(open: &mut Slab<OpenAsk>) {
             oldest = Some((key, ask.moment));
         }
     }
-    if let Some((key, _)) = oldest {
-        open.try_remove(key);
-    }
+    oldest.map(|(key, _)| key)
 }
 
 // How many asks may be open: as many as leave descriptors for everything else, or half of a few.

@@ -1,6 +1,7 @@
 //! What goes out, by the sockets and the channels of a server.
 use crate::desk::Bounds;
 use crate::ends::{Ends, address_of};
+use counters::{AskFault, Outcome, SocketFault, Way};
 use crossbeam_channel::Sender;
 use dispatch::Carrier;
 use events::{Bytes, Endpoint};
@@ -40,27 +41,44 @@ pub(crate) struct Outbox<'a, R> {
 impl<R: Wait + Clock> Carrier<Global> for Outbox<'_, R> {
     fn to_client(&mut self, to: Endpoint, bytes: &Bytes) {
         let ends = self.ends;
-        let _ = ends.clients.send_to(bytes.as_slice(), address_of(to));
-    }
-
-    fn to_stream(&mut self, client: u64, bytes: &Bytes) {
-        if let Ok(bytes) = bytes.copied() {
-            let _ = self.to_streams.send(self.rt, StreamReply { client, bytes });
-            self.ends.streams.notify();
+        if ends
+            .clients
+            .send_to(bytes.as_slice(), address_of(to))
+            .is_err()
+        {
+            ends.count(Outcome::SocketFailed(SocketFault::Send));
         }
     }
 
+    fn to_stream(&mut self, client: u64, bytes: &Bytes) {
+        let Ok(bytes) = bytes.copied() else {
+            self.ends.count(Outcome::MemoryRefused);
+            return;
+        };
+        let reply = StreamReply { client, bytes };
+        if self.to_streams.send(self.rt, reply).is_err() {
+            self.ends.count(Outcome::MemoryRefused);
+        }
+        self.ends.streams.notify();
+    }
+
     fn to_server(&mut self, socket: u16, to: Endpoint, bytes: &Bytes) {
-        if self.bounds.reach.has(to.address) {
-            self.ends.asks.send(self.rt, self.moment, socket, to, bytes);
+        let ends = self.ends;
+        if !self.bounds.reach.has(to.address) {
+            ends.count(Outcome::AskFailed(Way::Udp, AskFault::Barred));
+        } else if let Err(fault) = ends.asks.send(self.rt, self.moment, socket, to, bytes) {
+            ends.count(Outcome::AskFailed(Way::Udp, fault));
         }
     }
 
     fn to_worker(&mut self, number: u64, to: Endpoint, bytes: &Bytes) -> bool {
         if !self.bounds.reach.has(to.address) {
+            self.ends
+                .count(Outcome::AskFailed(Way::Tcp, AskFault::Barred));
             return false;
         }
         let Ok(bytes) = bytes.copied() else {
+            self.ends.count(Outcome::MemoryRefused);
             return false;
         };
         let ask = StreamAsk {

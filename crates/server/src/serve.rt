@@ -7,6 +7,7 @@ use crate::desk::{Bounds, Desk};
 use crate::ends::Ends;
 use crate::entrance::Entrance;
 use crate::fault::ServeError;
+use crate::metrics::serve_counters;
 use crate::moments::Beginning;
 use crate::server_streams::ask_servers;
 use crate::streams::take_streams;
@@ -91,12 +92,31 @@ fn start_all<
     L: Ledger + Send + Sync,
     R: Net<Listener = TcpListener, Stream = TcpStream> + Wait + Clock + Sync,
 >(rt: &'s R, scope: &Scope<'s, E>, desk: &'s Desk<'d, M, L>, tickets: Vec<Ticket<L>>) -> bool {
-    let mut well = true;
+    let mut well = start_counters(rt, scope, desk);
     for ticket in tickets {
         let started = start(rt, scope, desk, ticket);
         well = well && started;
     }
     well
+}
+
+// Begins to serve the counters, in a thread of its own, where they are served; whether there is one where one is wanted.
+fn start_counters<
+    's,
+    'd,
+    E,
+    M: Machine<Event = Event, Out = Actions> + Send + Sync,
+    L: Ledger + Send + Sync,
+    R: Net<Listener = TcpListener, Stream = TcpStream> + Wait + Clock + Sync,
+>(rt: &'s R, scope: &Scope<'s, E>, desk: &'s Desk<'d, M, L>) -> bool {
+    if desk.ends.scrapes.is_none() {
+        return true;
+    }
+    let started = scope.spawn(move || serve_counters(rt, desk)).is_ok();
+    if !started {
+        desk.stop.store(true, Ordering::SeqCst);
+    }
+    started
 }
 
 // Begins what the ticket is for, in a thread of its own. Where none can be made the flag is put up; whether there is one.

@@ -1,12 +1,13 @@
 //! The loop that asks servers over TCP.
-ghost use Rattle.std.specs.Prelude.{◌<◌, ◌^◌, IfSome, length};
+ghost use Rattle.std.specs.Prelude.{◌<◌, ◌^◌, IfOk, IfSome, length};
 
 use crate::desk::{Bounds, Desk};
-use crate::ends::{SLICE_MS, address_of};
-use crate::framed_stream::{FramedStream, MOST_FRAME_BYTES};
+use crate::ends::{SLICE_MS, address_of, lacks_descriptors};
+use crate::framed_stream::{FramedStream, MOST_FRAME_BYTES, StreamFault};
 use crate::outbox::StreamAsk;
 use crate::poller::Poller;
 use book::{Machine, Ticket};
+use counters::{AskFault, Outcome, Way};
 use dispatch::stream_reply_event;
 use events::{Actions, Event};
 use limits::TCP_WAIT_MS;
@@ -46,16 +47,28 @@ struct Talk {
 
 impl Talk {
     // Writes and reads what can be. None where it waits on; else it has ended, with the frame that came if one did.
-    fn advance(&mut self, alloc: Global, buffer: &mut [u8]) -> Option<Option<Vec<u8>>>
-        ensures { IfSome result (λ end. IfSome end (λ v. length v.items < 2 ^ 16)) }
+    fn advance(&mut self, alloc: Global, buffer: &mut [u8]) -> Option<Result<Vec<u8>, AskFault>>
+        ensures { IfSome result (λ end. IfOk end (λ v. length v.items < 2 ^ 16)) }
     {
         self.due = false;
         self.stream.write();
-        match self.stream.next(alloc, buffer) {
-            Some(frame) => Some(Some(frame)),
-            None if self.stream.is_broken() || self.stream.has_ended() => Some(None),
+        if let Some(frame) = self.stream.next(alloc, buffer) {
+            return Some(Ok(frame));
+        }
+        match self.stream.fault() {
+            Some(fault) => Some(Err(ask_fault(fault))),
+            None if self.stream.has_ended() => Some(Err(AskFault::Reset)),
             None => None,
         }
+    }
+}
+
+// Why an ask has no reply whose stream failed so.
+fn ask_fault(fault: StreamFault) -> AskFault {
+    match fault {
+        StreamFault::Memory | StreamFault::Refused => AskFault::Refused,
+        StreamFault::Silent => AskFault::Silent,
+        StreamFault::Reset => AskFault::Reset,
     }
 }
 
@@ -81,7 +94,7 @@ pub(crate) fn ask_servers<
         servers.expect_notice();
         let begins = talks.len() < most_talks(desk.bounds) && !desk.asks.is_empty();
         let millis = wait_of(&talks, begins);
-        servers.wait(&mut poll, &mut events, millis);
+        desk.wait(servers, &mut poll, &mut events, millis);
         for event in events.iter() {
             stir(&mut talks, event.token().0);
         }
@@ -145,15 +158,16 @@ fn begin_all<M: Machine<Event = Event, Out = Actions>, L: Ledger, R: Net + Wait 
             ask,
             desk.moment(rt),
         );
-        if begun.is_none() {
+        if let Err(fault) = begun {
+            desk.ends.count(Outcome::AskFailed(Way::Tcp, fault));
             let event = stream_reply_event(desk.moment(rt), number, None);
             desk.put(rt, ticket, event);
         }
     }
 }
 
-// Begins to connect, and puts down what is to be written. None where the ask's time is over, where as many as may be
-// are at that server, and where there is no stream.
+// Begins to connect, and puts down what is to be written. Fails where the ask's time is over, where as many as may be are
+// at that server, and where there is no stream.
 fn begin<R: Net>(
     rt: &R,
     alloc: Global,
@@ -161,16 +175,23 @@ fn begin<R: Net>(
     talks: &mut Slab<Talk>,
     ask: StreamAsk,
     now: u64,
-) -> Option<()> {
+) -> Result<(), AskFault> {
     let server = ask.to.address;
     let at_server = talks
         .iter()
         .filter(|(_, talk)| talk.server == server)
         .count();
-    if now.saturating_sub(ask.moment) >= TCP_WAIT_MS || at_server >= ASKS_OF_A_SERVER {
-        return None;
+    if now.saturating_sub(ask.moment) >= TCP_WAIT_MS {
+        return Err(AskFault::Silent);
     }
-    let stream = TcpStream::connect(rt, address_of(ask.to)).ok()?;
+    if at_server >= ASKS_OF_A_SERVER {
+        return Err(AskFault::Crowded);
+    }
+    let stream = match TcpStream::connect(rt, address_of(ask.to)) {
+        Ok(stream) => stream,
+        Err(error) if lacks_descriptors(&error) => return Err(AskFault::Descriptors),
+        Err(_) => return Err(AskFault::Refused),
+    };
     let mut stream = FramedStream::new(alloc, stream);
     stream.put(ask.bytes.as_slice());
     let socket = stream.descriptor();
@@ -181,12 +202,14 @@ fn begin<R: Net>(
         stream,
         due: false,
     };
-    let key = talks.insert(talk).ok()?;
+    let Ok(key) = talks.insert(talk) else {
+        return Err(AskFault::Refused);
+    };
     if servers.watch(socket, key, Interest::READABLE | Interest::WRITABLE) {
-        Some(())
+        Ok(())
     } else {
         talks.try_remove(key);
-        None
+        Err(AskFault::Refused)
     }
 }
 
@@ -208,14 +231,21 @@ fn advance<M: Machine<Event = Event, Out = Actions>, L: Ledger, R: Wait + Clock>
     let end = if talk.due {
         talk.advance(desk.alloc, buffer)
     } else if check && desk.moment(rt).saturating_sub(talk.moment) >= TCP_WAIT_MS {
-        Some(None)
+        Some(Err(AskFault::Silent))
     } else {
         None
     };
-    let Some(frame) = end else {
+    let Some(end) = end else {
         return;
     };
     talks.try_remove(key);
+    let frame = match end {
+        Ok(frame) => Some(frame),
+        Err(fault) => {
+            desk.ends.count(Outcome::AskFailed(Way::Tcp, fault));
+            None
+        }
+    };
     let event = stream_reply_event(desk.moment(rt), number, frame);
     desk.put(rt, ticket, event);
 }

@@ -19,6 +19,7 @@ returns c =
     let with_dump = one_more _ _ c.in_ok-line-3.line _ _ with_check c.file_line-2.ensures.app c.file_line-2.ensures.local c.in_ok-line-3.ensures in
     let with_play = one_more _ _ c.in_ok-line-4.line _ _ with_dump c.play_line.ensures.app c.play_line.ensures.local c.in_ok-line-4.ensures in
     let with_storm = one_more _ _ c.in_ok-line-5.line _ _ with_play c.storm_line.ensures.app c.storm_line.ensures.local c.in_ok-line-5.ensures in
+    let with_serve = one_more _ _ c.in_ok-line-6.line _ _ with_storm c.config_line.ensures.app c.config_line.ensures.local c.in_ok-line-6.ensures in
     record {
-      app = IfOk-weaker c.with_line-6.result _ _ (λ r h. one_more _ _ r _ _ with_storm c.serve_line.ensures.app c.serve_line.ensures.local h) c.with_line-6.ensures;
+      app = IfOk-weaker c.with_line-7.result _ _ (λ r h. one_more _ _ r _ _ with_serve c.config_line-2.ensures.app c.config_line-2.ensures.local h) c.with_line-7.ensures;
     }

@@ -1,0 +1,158 @@
+//! The counters of a server over HTTP: one request at a time, bounded in time and in size.
+ghost use Rattle.std.specs.Prelude.{◌≤◌, IfSome, length};
+
+use crate::desk::Desk;
+use crate::ends::{LISTENER, SLICE_MS, accept_fault, address_of, is_early};
+use crate::poller::Poller;
+use book::Machine;
+use counters::{MOST_REQUEST, Outcome, SocketFault, is_request, put_response};
+use events::{Actions, Endpoint, Event};
+use mio::{Events, Interest};
+use std::alloc::Global;
+use std::io;
+use std::io::{ErrorKind, Read, Write};
+use std::net::{Net, TcpListener, TcpStream};
+use std::os::fd::AsRawFd;
+use std::sync::Wait;
+use std::sync::ledger::Ledger;
+use std::time::{Clock, Duration};
+
+// How many sockets are told of at once.
+const EVENTS: usize = 4;
+
+// How long a request may take to come, and its response to go, in milliseconds.
+const REQUEST_MS: u64 = 2_000;
+
+// How long one read or write waits, in milliseconds.
+const WAIT_MS: u64 = 100;
+
+/// Where the counters are served.
+#[derive(Drop)]
+pub(crate) struct Scrapes {
+    poller: Poller,
+    listener: TcpListener,
+}
+
+impl Scrapes {
+    /// At this address.
+    pub fn open<R: Net<Listener = TcpListener, Stream = TcpStream>>(
+        rt: &R,
+        at: Endpoint,
+    ) -> io::Result<Scrapes> {
+        let listener = TcpListener::bind(rt, address_of(at))?;
+        listener.set_nonblocking(true)?;
+        let poller = Poller::new(rt)?;
+        if !poller.watch(listener.as_raw_fd(), LISTENER, Interest::READABLE) {
+            return Err(io::Error::from(ErrorKind::Other));
+        }
+        Ok(Scrapes { poller, listener })
+    }
+}
+
+/// Serves the counters until the flag is up. Whatever a client does, it holds up nothing but this loop.
+pub(crate) fn serve_counters<M: Machine<Event = Event, Out = Actions>, L: Ledger, R: Wait + Clock>(
+    rt: &R,
+    desk: &Desk<'_, M, L>,
+) {
+    let Some(scrapes) = &desk.ends.scrapes else {
+        return;
+    };
+    let Ok(mut events) = Events::with_capacity(desk.alloc, EVENTS) else {
+        return;
+    };
+    let mut poll = scrapes.poller.poll.lock(rt);
+    for _ in rt.forever() {
+        if desk.is_over() {
+            return;
+        }
+        match scrapes.listener.accept() {
+            Ok((stream, _)) => serve_one(rt, desk, stream),
+            Err(error) => {
+                if !is_early(&error) {
+                    desk.ends.count(Outcome::SocketFailed(accept_fault(&error)));
+                }
+                desk.wait(&scrapes.poller, &mut poll, &mut events, SLICE_MS);
+            }
+        }
+    }
+}
+
+// Serves one client, and closes its stream.
+fn serve_one<M: Machine<Event = Event, Out = Actions>, L: Ledger, R: Wait + Clock>(
+    rt: &R,
+    desk: &Desk<'_, M, L>,
+    mut stream: TcpStream,
+) {
+    let wait = Some(Duration::from_millis(WAIT_MS));
+    if stream.set_read_timeout(wait).is_err() || stream.set_write_timeout(wait).is_err() {
+        return;
+    }
+    let mut request = [0u8; MOST_REQUEST];
+    if let Some(count) = read_request(rt, desk, &mut stream, &mut request)
+        && let Some(response) = response_to(rt, desk, &request[..count])
+    {
+        write_response(rt, desk, &mut stream, response.as_bytes());
+    }
+}
+
+// The response to a request. None where no memory is left for it.
+fn response_to<M: Machine<Event = Event, Out = Actions>, L: Ledger, R: Wait>(
+    rt: &R,
+    desk: &Desk<'_, M, L>,
+    request: &[u8],
+) -> Option<String> {
+    let tally = desk.ends.tally.as_ref()?;
+    let (cells, waiting) = tally.values(rt);
+    let mut response = String::new(desk.alloc);
+    put_response(desk.alloc, &mut response, request, &cells, waiting).ok()?;
+    Some(response)
+}
+
+// How many bytes a request has, which stand at the front of the buffer. None where it is too long, or comes too late.
+fn read_request<M: Machine<Event = Event, Out = Actions>, L: Ledger, R: Wait + Clock>(
+    rt: &R,
+    desk: &Desk<'_, M, L>,
+    stream: &mut TcpStream,
+    buffer: &mut [u8; MOST_REQUEST],
+) -> Option<usize>
+    ensures { IfSome result (λ n. n ≤ MOST_REQUEST) }
+{
+    let began = desk.moment(rt);
+    let mut count = 0usize;
+    for _ in 0..MOST_REQUEST {
+        if count >= MOST_REQUEST || desk.moment(rt).saturating_sub(began) >= REQUEST_MS {
+            return None;
+        }
+        match stream.read(&mut buffer[count..]) {
+            Ok(0) => return None,
+            Ok(read) => count = count.saturating_add(read).min(MOST_REQUEST),
+            Err(error) if is_early(&error) => {}
+            Err(_) => return None,
+        }
+        if is_request(&buffer[..count]) {
+            return Some(count);
+        }
+    }
+    None
+}
+
+// Writes a response, as far as its client takes it in time.
+fn write_response<M: Machine<Event = Event, Out = Actions>, L: Ledger, R: Wait + Clock>(
+    rt: &R,
+    desk: &Desk<'_, M, L>,
+    stream: &mut TcpStream,
+    response: &[u8],
+) {
+    let began = desk.moment(rt);
+    let mut rest = response;
+    for _ in 0..response.len() {
+        if rest.is_empty() || desk.moment(rt).saturating_sub(began) >= REQUEST_MS {
+            return;
+        }
+        match stream.write(rest) {
+            Ok(written) => rest = rest.get(written..).unwrap_or(&[]),
+            Err(error) if is_early(&error) => {}
+            Err(_) => return,
+        }
+    }
+}
