@@ -2,6 +2,7 @@
 use commands::Host;
 use dname::{Heap, Starved};
 use events::Endpoint;
+use front::Via;
 use server::Shown;
 
 /// No place for a server.
@@ -17,7 +18,12 @@ impl Host for Nowhere {
         None
     }
 
-    fn reason<A: Heap>(&mut self, alloc: A, _listen: Endpoint) -> Result<String<A>, Starved> {
-        Ok(String::from_str(alloc, "nowhere")?)
+    fn reason<A: Heap>(
+        &mut self,
+        alloc: A,
+        _way: Via,
+        _at: Endpoint,
+    ) -> Result<Option<String<A>>, Starved> {
+        Ok(Some(String::from_str(alloc, "nowhere")?))
     }
 }

@@ -5,6 +5,7 @@ use commands::{Host, Server, Texts};
 use dname::{Heap, Starved};
 use engine_fixture::{Desk, Out};
 use events::Endpoint;
+use front::Via;
 use server::Shown;
 use std::alloc::{AllocError, Global};
 use std::sync::Wait;
@@ -47,8 +48,13 @@ impl Host for Place {
         if listen.port == 0 { self.port } else { None }
     }
 
-    fn reason<A: Heap>(&mut self, alloc: A, _listen: Endpoint) -> Result<String<A>, Starved> {
-        Ok(String::from_str(alloc, "busy")?)
+    fn reason<A: Heap>(
+        &mut self,
+        alloc: A,
+        _way: Via,
+        _at: Endpoint,
+    ) -> Result<Option<String<A>>, Starved> {
+        Ok(Some(String::from_str(alloc, "busy")?))
     }
 }
 

@@ -9,5 +9,5 @@ pub returns : goal.returns
 returns g c =
     let n_is : c.len.result ≡ length (c.args.config.now).hints = search rules in
     let b_is : c.is_some.result ≡ is_some (c.args.config.now).seed = search rules in
-    all_notes c.args.config.now _ _ _ _ _ _ _ _ _ n_is (ap (λ (s : Config). s.listen) c.config.view_is) (ap (λ (s : Config). s.sockets) c.config.view_is) b_is c.new-out.ensures.bytes
-    c.in_ok-put_hints.ensures c.in_ok-put_listen.ensures c.in_ok-put_sockets.ensures c.in_ok-put_if.ensures
+    all_notes c.args.config.now _ _ _ _ _ _ _ _ _ _ _ n_is (ap (λ (s : Config). s.listen) c.config.view_is) (ap (λ (s : Config). s.metrics) c.config.view_is) (ap (λ (s : Config). s.sockets) c.config.view_is) b_is c.new-out.ensures.bytes
+    c.in_ok-put_hints.ensures c.in_ok-put_listen.ensures c.in_ok-put_metrics.ensures c.in_ok-put_sockets.ensures c.in_ok-put_if.ensures
