@@ -13,7 +13,7 @@ use Rattle.config_report.specs.Reports.{file_report_text, line_report_text}
 use Rattle.config_report.specs.Culprits.{zone_report_text}
 use Rattle.config_report.specs.Notes.{notes_text, total_text}
 use Rattle.commands.specs.Faults.{fault_line, status_of}
-use Rattle.commands.specs.Servers.{AreZonesIn, IsStartFault, IsUnbound}
+use Rattle.commands.specs.Servers.{AreZonesIn, IsStartFault, IsUnbound, IsUnmade}
 use Rattle.commands.specs.Texts.{MayHold}
 use Rattle.commands.specs.Zones.{HoldsRecords}
 use Rattle.commands.specs.declared.fault.Fault.{Fault}
@@ -92,6 +92,10 @@ TellsUnmade f words = words ≡ codes "the resolver refuses what the file sets\n
 -- The file is read and makes no resolver, or its sockets are not bound.
 abbrev pub IsUnstarted : (List ℕ → Option (Option (List ℕ))) → Config → Fault → Type 0
 IsUnstarted held config f = IsStartFault held config f ⊎ IsUnbound f
+
+-- No resolver is made, or its sockets are not bound, and the words say so, whatever is known of paths.
+abbrev pub TellsUnstarted : Config → Fault → List ℕ → Type 0
+TellsUnstarted c f words = (IsUnmade c f ⊎ IsUnbound f) × ((held : List ℕ → Option (Option (List ℕ))) → Explains held f words)
 
 -- The words were written, and the line of the fault, whose status was given; 4 where either could not be.
 abbrev pub IsTold : Fault → List ℕ → Option (List ℕ) → Option (List ℕ) → Option (List ℕ) → Option (List ℕ) → ℕ → Type 0

@@ -9,8 +9,11 @@ use std::time::{Clock, Duration, Instant};
 use std::{io, thread};
 use trace::Peers;
 
-// Bytes of a datagram at most: its length stands in 16 bits (RFC 768).
-const MOST_BYTES: usize = 65_535;
+// Bytes of a datagram that are looked at: without EDNS a reply in one has 512 (RFC 1035, section 2.3.4).
+const DATAGRAM_BYTES: usize = 4_096;
+
+// Bytes of a frame at most: its length stands in 16 bits (RFC 1035, section 4.2.2).
+const FRAME_BYTES: usize = 65_535;
 
 // A stream that is read up to a moment.
 #[derive(Drop)]
@@ -70,15 +73,12 @@ where
             let _ = thread::sleep(self.runtime, wait);
             return Ok(None);
         };
-        let mut bytes = vec![in alloc; 0u8; MOST_BYTES]?;
+        let mut bytes = [0u8; DATAGRAM_BYTES];
         if socket.set_read_timeout(Some(wait)).is_err() {
             return Ok(None);
         }
         match socket.recv(&mut bytes) {
-            Ok(count) => {
-                bytes.truncate(count);
-                Ok(Some(bytes))
-            }
+            Ok(count) => Ok(Some(Vec::from_slice(alloc, &bytes[..count])?)),
             Err(_) => Ok(None),
         }
     }
@@ -95,7 +95,7 @@ where
         let Some(mut stream) = opened(self.runtime, to, wait) else {
             return Ok(None);
         };
-        if MOST_BYTES < bytes.len() || write_framed(&mut stream.stream, bytes).is_err() {
+        if FRAME_BYTES < bytes.len() || write_framed(&mut stream.stream, bytes).is_err() {
             return Ok(None);
         }
         match read_framed(alloc, &mut stream) {

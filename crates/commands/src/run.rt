@@ -33,14 +33,7 @@ pub fn run_words<
     H: Host + Peers,
     O: Write,
     E: Write,
->(
-    rt: &R,
-    words: &[String],
-    texts: &mut T,
-    host: &mut H,
-    out: &mut O,
-    err: &mut E,
-) -> Outcome
+>(rt: &R, words: &[String], texts: &mut T, host: &mut H, out: &mut O, err: &mut E) -> Outcome
     ensures { IsLineDone Global (map string_bytes words.now) (T.held texts.old) (O.contents out.old) (O.contents out.new) (E.contents err.old) (E.contents err.new) result.status result.server }
 {
     let alloc = rt.alloc();

@@ -39,11 +39,7 @@ pub fn trace<A: Heap, T: Texts, H: Host + Peers, O: Write, E: Write>(
 }
 
 // The name and the type that two words are.
-fn words_of<A: Heap>(
-    alloc: A,
-    name: &str,
-    kind: &str,
-) -> Result<(Name<A>, RType), Fault<'static>>
+fn words_of<A: Heap>(alloc: A, name: &str, kind: &str) -> Result<(Name<A>, RType), Fault<'static>>
     ensures ok { IfOk result (λ _. ReadsWords name.now kind.now) }
     ensures err { IfErr result (IsWordFault name.now kind.now) }
 {
@@ -68,7 +64,17 @@ fn trace_at<A: Heap, T: Texts, H: Host + Peers, O: Write, E: Write>(
     ensures { IsRun (λ _. HoldsConfig (T.held texts.old path.now)) (IsNoServer (T.held texts.old) path.now) (O.contents out.old) (O.contents out.new) (E.contents err.old) (E.contents err.new) result }
 {
     match texts.text(alloc, path) {
-        Ok(Some(text)) => trace_in(alloc, path, text.as_str(), name, kind, texts, host, out, err),
+        Ok(Some(text)) => trace_in(
+            alloc,
+            path,
+            text.as_str(),
+            name,
+            kind,
+            texts,
+            host,
+            out,
+            err,
+        ),
         Ok(None) => report(&Fault::Unreadable(path), err),
         Err(Starved) => report(&Fault::Memory, err),
     }

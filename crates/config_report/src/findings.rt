@@ -55,10 +55,7 @@ fn put_listen<A: Allocator>(out: &mut String<A>, listen: &Endpoint) -> Result<()
 }
 
 // Appends the note on where the counters are served.
-fn put_metrics<A: Allocator>(
-    out: &mut String<A>,
-    metrics: &Option<Endpoint>,
-) -> Result<(), Starved>
+fn put_metrics<A: Allocator>(out: &mut String<A>, metrics: &Option<Endpoint>) -> Result<(), Starved>
     ensures { OnOk result (string_bytes out.new ≡ string_bytes out.old ++ metrics_text metrics.now) }
 {
     match metrics {
@@ -79,7 +76,10 @@ fn put_readable<A: Allocator>(out: &mut String<A>, address: Addr) -> Result<(), 
 fn put_readers<A: Allocator>(out: &mut String<A>, address: Addr) -> Result<(), Starved>
     ensures { OnOk result (string_bytes out.new ≡ string_bytes out.old ++ readers_line address.0) }
 {
-    write!(out, "note: metrics {address}: whoever reaches this address reads the counters\n")?;
+    write!(
+        out,
+        "note: metrics {address}: whoever reaches this address reads the counters\n"
+    )?;
     Ok(())
 }
 

@@ -107,7 +107,8 @@ fn loss_words(loss: Loss) -> &'static str
     match loss {
         Loss::Silent => "silent",
         Loss::Broken => "no connection, or no whole reply on it",
-        Loss::Foreign => "a datagram that repeats no ID or question of the ask; it is waited for still",
+        Loss::Foreign =>
+            "a datagram that repeats no ID or question of the ask; it is waited for still",
         Loss::Barred => "not asked: no server stands at such an address",
         Loss::Unsent => "not sent: the system refused it",
     }
@@ -152,10 +153,7 @@ fn put_words<B: Allocator>(out: &mut String<B>, words: &str) -> Result<(), Starv
     Ok(())
 }
 
-fn put_link<A: Allocator, B: Allocator>(
-    out: &mut String<B>,
-    link: &Link<A>,
-) -> Result<(), Starved>
+fn put_link<A: Allocator, B: Allocator>(out: &mut String<B>, link: &Link<A>) -> Result<(), Starved>
     ensures { OnOk result (string_bytes out.new ≡ string_bytes out.old ++ link_text (link_view link.now)) }
 {
     match link {
@@ -215,7 +213,10 @@ fn put_referral<A: Allocator, B: Allocator>(
     let at = &referral.at;
     let servers = referral.servers.len();
     let addresses = referral.addresses.len();
-    write!(out, "referral to {at}, {servers} servers, {addresses} addresses")?;
+    write!(
+        out,
+        "referral to {at}, {servers} servers, {addresses} addresses"
+    )?;
     Ok(())
 }
 
@@ -228,7 +229,10 @@ fn put_failure<B: Allocator>(
 {
     match failure {
         Failure::BadCode => put_code(out, rcode),
-        Failure::NoAuthority => put_words(out, "no use: an answer without AA, of a server that does not hold the zone"),
+        Failure::NoAuthority => put_words(
+            out,
+            "no use: an answer without AA, of a server that does not hold the zone",
+        ),
         Failure::Empty => put_words(out, "no use: no answer, no denial and no referral in it"),
         Failure::Foreign => put_words(out, "no use: a denial or a referral of another zone"),
         Failure::TruncatedOverTcp => put_words(out, "no use: truncated, over TCP"),

@@ -122,7 +122,14 @@ impl<A: Heap> Trace<A> {
         self.asks = self.asks.saturating_add(1);
         self.search_for(bytes)?;
         self.text.push_str(indent(self.searches.depth()))?;
-        put_ask_bytes(self.alloc, &mut self.text, self.asks, way, to.address, bytes)
+        put_ask_bytes(
+            self.alloc,
+            &mut self.text,
+            self.asks,
+            way,
+            to.address,
+            bytes,
+        )
     }
 
     // The search to which an ask of these bytes belongs is the innermost from now on.
@@ -188,11 +195,7 @@ impl<A: Heap> Trace<A> {
     }
 
     // Time passes: the ask is over where the resolver goes on.
-    fn tick(
-        &mut self,
-        moment: u64,
-        ask: Option<OpenAsk<A>>,
-    ) -> Result<Option<Action<A>>, Starved> {
+    fn tick(&mut self, moment: u64, ask: Option<OpenAsk<A>>) -> Result<Option<Action<A>>, Starved> {
         let next = self.step(Event::Tick { moment })?;
         if next.is_none() {
             self.open = ask;
