@@ -11,6 +11,7 @@ use std::alloc::{AllocError, Global};
 use std::sync::Wait;
 use std::test::Fail;
 use std::thread::Threads;
+use trace::Peers;
 
 static CORP: &str = "$TTL 300\n@ SOA ns h 1 2 3 4 60\n@ NS ns\ndb A 10.0.0.5\n";
 
@@ -55,6 +56,33 @@ impl Host for Place {
         _at: Endpoint,
     ) -> Result<Option<String<A>>, Starved> {
         Ok(Some(String::from_str(alloc, "busy")?))
+    }
+}
+
+// Nothing is sent there, and nothing comes.
+impl Peers for Place {
+    fn moment(&mut self) -> u64 {
+        0
+    }
+
+    fn send(&mut self, _to: Endpoint, _bytes: &[u8]) -> bool {
+        false
+    }
+
+    fn close(&mut self) {}
+
+    fn receive<A: Heap>(&mut self, _alloc: A, _wait: u64) -> Result<Option<Vec<u8, A>>, Starved> {
+        Ok(None)
+    }
+
+    fn exchange<A: Heap>(
+        &mut self,
+        _alloc: A,
+        _to: Endpoint,
+        _bytes: &[u8],
+        _wait: u64,
+    ) -> Result<Option<Vec<u8, A>>, Starved> {
+        Ok(None)
     }
 }
 
@@ -232,7 +260,7 @@ const CHECKS: &[Start] = &[
         "listen 127.0.0.1 0\nlocal example. corp.zone\nlocal lab. corp.zone\n",
         BUSY,
         4,
-        "listen 127.0.0.1 0: busy\n",
+        "listen 127.0.0.1 0: UDP: busy\n",
         "error: socket\n",
     ),
     (

@@ -8,13 +8,13 @@ pub two : {T E : Type 0} (r : Result T E) (old mid new a b : List ℕ) → mid �
 two (Ok x) old mid new a b first second = second ∙ (ap (λ (t : List ℕ). t ++ b) first ∙ append_assoc old a b)
 two (Err e) old mid new a b first second = tt
 
-five : (s0 s1 s2 s3 s4 s5 a b c d e : List ℕ) → s0 ≡ [] → s1 ≡ s0 ++ a → s2 ≡ s1 ++ b → s3 ≡ s2 ++ c → s4 ≡ s3 ++ d → s5 ≡ s4 ++ e → s5 ≡ a ++ (b ++ (c ++ (d ++ e)))
+five : (s0 s1 s2 s3 s4 s5 a b c d e : List ℕ) → s0 ≡ [] → s1 ≡ s0 ++ a → s2 ≡ s1 ++ b → s3 ≡ s2 ++ c → s4 ≡ s3 ++ d → s5 ≡ s4 ++ e → s5 ≡ (((a ++ b) ++ c) ++ d) ++ e
 five s0 s1 s2 s3 s4 s5 a b c d e h0 h1 h2 h3 h4 h5 =
     let e1 : s1 ≡ a = h1 ∙ ap (λ (t : List ℕ). t ++ a) h0 in
     let e2 : s2 ≡ a ++ b = h2 ∙ ap (λ (t : List ℕ). t ++ b) e1 in
     let e3 : s3 ≡ (a ++ b) ++ c = h3 ∙ ap (λ (t : List ℕ). t ++ c) e2 in
     let e4 : s4 ≡ ((a ++ b) ++ c) ++ d = h4 ∙ ap (λ (t : List ℕ). t ++ d) e3 in
-    h5 ∙ (ap (λ (t : List ℕ). t ++ e) e4 ∙ (append_assoc ((a ++ b) ++ c) d e ∙ (append_assoc (a ++ b) c (d ++ e) ∙ append_assoc a b (c ++ (d ++ e)))))
+    h5 ∙ ap (λ (t : List ℕ). t ++ e) e4
 
 pub all_notes : (c : Config) (s0 s1 s2 s3 s4 s5 : List ℕ) (n : ℕ) (e : End) (m : Option End) (k : ℕ) (b : Bool) → n ≡ length c.hints → e ≡ c.listen → m ≡ c.metrics → k ≡ c.sockets → b ≡ is_some c.seed
     → s0 ≡ [] → s1 ≡ s0 ++ hints_text n → s2 ≡ s1 ++ listen_text e → s3 ≡ s2 ++ metrics_text m → s4 ≡ s3 ++ sockets_text k → s5 ≡ s4 ++ note b seed_line → s5 ≡ notes_text c

@@ -34,15 +34,23 @@ alias_text (Txt ts) = codes "alias"
 alias_text (Ipv6 a) = codes "alias"
 alias_text (Srv v) = codes "alias"
 
+-- What a zone denies.
+unfoldable pub denial_text : List ℕ → Name → List ℕ
+denial_text word zone = word ++ codes " of the zone " ++ name_text zone
+
 abbrev pub link_text : Link → List ℕ
 link_text (Found set) = codes "answer, " ++ decimal (length set) ++ codes " records"
 link_text (Alias r) = alias_text r.value
-link_text (NoData soa) = codes "NODATA" ++ codes " of the zone " ++ name_text soa.owner
-link_text (NxDomain soa) = codes "NXDOMAIN" ++ codes " of the zone " ++ name_text soa.owner
+link_text (NoData soa) = denial_text (codes "NODATA") soa.owner
+link_text (NxDomain soa) = denial_text (codes "NXDOMAIN") soa.owner
+
+-- A zone, how many servers it has, and how many addresses of them are taken.
+unfoldable pub servers_text : Name → ℕ → ℕ → List ℕ
+servers_text zone servers addresses =
+    codes "referral to " ++ name_text zone ++ codes ", " ++ decimal servers ++ codes " servers, " ++ decimal addresses ++ codes " addresses"
 
 abbrev pub referral_text : Name → List Record → List Record → List ℕ
-referral_text at servers addresses =
-    codes "referral to " ++ name_text at ++ codes ", " ++ decimal (length servers) ++ codes " servers, " ++ decimal (length addresses) ++ codes " addresses"
+referral_text at servers addresses = servers_text at (length servers) (length addresses)
 
 -- An RCODE for which a reply is of no use.
 abbrev pub code_text : ℕ → List ℕ

@@ -4,7 +4,7 @@ ghost use Rattle.dname.specs.Text.{name_text};
 ghost use Rattle.rdata.specs.Kept.{datum};
 ghost use Rattle.authority.specs.Answers.{link_view};
 ghost use Rattle.classify.specs.Views.{class_view};
-ghost use Rattle.trace.specs.Lines.{alias_text, cause_line, cause_words, class_line, class_text, code_text, failure_text, indent, link_text, loss_line, loss_words, referral_text, search_line};
+ghost use Rattle.trace.specs.Lines.{alias_text, cause_line, cause_words, class_line, class_text, code_text, denial_text, failure_text, indent, link_text, loss_line, loss_words, referral_text, search_line, servers_text};
 
 use authority::Link;
 use causes::Cause;
@@ -193,14 +193,16 @@ fn put_target<A: Allocator, B: Allocator>(
     Ok(())
 }
 
+#[tactic(auto, unfolding(crate::specs::Lines::denial_text))]
 fn put_denial<A: Allocator, B: Allocator>(
     out: &mut String<B>,
     word: &str,
     zone: &Name<A>,
 ) -> Result<(), Starved>
-    ensures { OnOk result (string_bytes out.new ≡ string_bytes out.old ++ (word.now ++ codes " of the zone " ++ name_text zone.now)) }
+    ensures { OnOk result (string_bytes out.new ≡ string_bytes out.old ++ denial_text word.now zone.now) }
 {
-    write!(out, "{word} of the zone {zone}")?;
+    out.push_str(word)?;
+    write!(out, " of the zone {zone}")?;
     Ok(())
 }
 
@@ -210,12 +212,23 @@ fn put_referral<A: Allocator, B: Allocator>(
 ) -> Result<(), Starved>
     ensures { OnOk result (string_bytes out.new ≡ string_bytes out.old ++ referral_text (referral.now).at (referral.now).servers (referral.now).addresses) }
 {
-    let at = &referral.at;
     let servers = referral.servers.len();
     let addresses = referral.addresses.len();
+    put_servers(out, &referral.at, servers, addresses)
+}
+
+#[tactic(auto, unfolding(crate::specs::Lines::servers_text))]
+fn put_servers<A: Allocator, B: Allocator>(
+    out: &mut String<B>,
+    zone: &Name<A>,
+    servers: usize,
+    addresses: usize,
+) -> Result<(), Starved>
+    ensures { OnOk result (string_bytes out.new ≡ string_bytes out.old ++ servers_text zone.now servers addresses) }
+{
     write!(
         out,
-        "referral to {at}, {servers} servers, {addresses} addresses"
+        "referral to {zone}, {servers} servers, {addresses} addresses"
     )?;
     Ok(())
 }
