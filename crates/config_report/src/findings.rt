@@ -1,5 +1,5 @@
 //! What a server's file says that is taken and may not be meant, and what it makes.
-ghost use Rattle.std.specs.Prelude.{◌≡◌, ◌++◌, IfOk, OnOk, not, string_bytes};
+ghost use Rattle.std.specs.Prelude.{◌≡◌, ◌++◌, IfOk, OnOk, length, not, string_bytes};
 ghost use Rattle.config_report.specs.Notes.{hints_text, is_loopback, listen_text, metrics_text, note, notes_text, open_text, readers_line, sockets_text, strangers_line, total_text};
 
 use config::{Endpoint, ServeConfig};
@@ -14,7 +14,7 @@ pub fn notes<A: Heap>(alloc: A, config: &ServeConfig<'_, A>) -> Result<String<A>
     ensures { IfOk result (λ s. string_bytes s ≡ notes_text config.now) }
 {
     let mut out = String::new(alloc);
-    put_hints(&mut out, config.hints.len())?;
+    put_hints(&mut out, hint_count(config))?;
     put_listen(&mut out, &config.listen)?;
     put_metrics(&mut out, &config.metrics)?;
     put_sockets(&mut out, config.sockets)?;
@@ -24,6 +24,13 @@ pub fn notes<A: Heap>(alloc: A, config: &ServeConfig<'_, A>) -> Result<String<A>
         "note: seed: for tests alone: whoever knows it foretells each ID\n",
     )?;
     Ok(out)
+}
+
+// How many hints the file has.
+fn hint_count<A: Allocator>(config: &ServeConfig<'_, A>) -> usize
+    ensures { result ≡ length (config.now).hints }
+{
+    config.hints.as_slice().len()
 }
 
 // Appends the notes on so many hints.
