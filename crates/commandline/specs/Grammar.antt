@@ -37,6 +37,10 @@ storm_app = with_rule (with_rule (with_rule (new_app (codes "storm")) keep_rule)
 abbrev pub config_app : Text → App
 config_app name = with_rule (new_app name) (word_rule (codes "config"))
 
+-- `trace CONFIG NAME TYPE`
+abbrev pub trace_app : App
+trace_app = with_rule (with_rule (config_app (codes "trace")) (word_rule (codes "name"))) (word_rule (codes "type"))
+
 -- The line without its subcommands: one of them has to stand.
 abbrev pub bare_app : App
 bare_app = let a = new_app (codes "resolverd") in record a { top = record a.top { no_binary_name = true; subcommand_required = true } }
@@ -46,10 +50,12 @@ abbrev pub front_app : App
 front_app =
     with_subcommand
     (with_subcommand
+    (with_subcommand
     (with_subcommand (with_subcommand (with_subcommand (with_subcommand bare_app ask_app.top) (file_app (codes "check")).top) (file_app (codes "dump")).top) play_app.top)
     storm_app.top)
-    (config_app (codes "serve")).top
+    (config_app (codes "serve")).top)
+    (config_app (codes "check-config")).top
 
 -- The whole line.
 abbrev pub line_app : App
-line_app = with_subcommand front_app (config_app (codes "check-config")).top
+line_app = with_subcommand front_app trace_app.top

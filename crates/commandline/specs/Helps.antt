@@ -4,7 +4,7 @@ use Rattle.std.specs.List.{list_any}
 use Rattle.std.specs.Str.{bytes_eq}
 use Rattle.clap.specs.Words.{Text}
 use Rattle.commandline.specs.declared.help.Topic.{Topic}
-use Rattle.commandline.specs.declared.help.Topic.TheVariants.{Ask, Check, Dump, Play, Storm, Serve, CheckConfig}
+use Rattle.commandline.specs.declared.help.Topic.TheVariants.{Ask, Check, Dump, Play, Storm, Serve, CheckConfig, Trace}
 
 -- `--version`, or `-V`, alone.
 abbrev pub asks_version : List Text → Bool
@@ -25,7 +25,8 @@ topic_of_word w =
     (cond (bytes_eq w (codes "play")) (Some Play)
     (cond (bytes_eq w (codes "storm")) (Some Storm)
     (cond (bytes_eq w (codes "serve")) (Some Serve)
-    (cond (bytes_eq w (codes "check-config")) (Some CheckConfig) None))))))
+    (cond (bytes_eq w (codes "check-config")) (Some CheckConfig)
+    (cond (bytes_eq w (codes "trace")) (Some Trace) None)))))))
 
 abbrev pub asks_help : Text → Bool
 asks_help w = bytes_eq w (codes "--help") || bytes_eq w (codes "-h")

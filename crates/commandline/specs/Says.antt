@@ -4,7 +4,7 @@ use Rattle.std.specs.Str.Parse.{IsNumeral, digits_value, without_leading_plus}
 use Rattle.clap.specs.Words.{Row, Text, all_of, first_of, subcommand_of, takes}
 use Rattle.commandline.specs.Grammar.{line_app}
 use Rattle.commandline.specs.declared.subcommands.Command.{Command}
-use Rattle.commandline.specs.declared.subcommands.Command.TheVariants.{Ask, Check, Dump, Play, Storm, Serve, CheckConfig}
+use Rattle.commandline.specs.declared.subcommands.Command.TheVariants.{Ask, Check, Dump, Play, Storm, Serve, CheckConfig, Trace}
 
 -- The word that names a command.
 abbrev pub word_of : Command → Text
@@ -15,6 +15,7 @@ word_of (Play world script) = codes "play"
 word_of (Storm keep world scripts) = codes "storm"
 word_of (Serve config) = codes "serve"
 word_of (CheckConfig config) = codes "check-config"
+word_of (Trace config name kind) = codes "trace"
 
 -- How many entries are kept: the number behind `--keep`, 1 to 1,000,000, or 65,536 where none stands there.
 abbrev pub IsKeep : Option Text → ℕ → Type 0
@@ -32,6 +33,8 @@ HaveWords rows (Storm keep world scripts) = IsKeep (first_of (codes "keep") rows
     × (all_of (codes "script") rows ≡ Some (map string_bytes scripts.items))
 HaveWords rows (Serve config) = first_of (codes "config") rows ≡ Some (string_bytes config)
 HaveWords rows (CheckConfig config) = first_of (codes "config") rows ≡ Some (string_bytes config)
+HaveWords rows (Trace config name kind) = (first_of (codes "config") rows ≡ Some (string_bytes config)) × (first_of (codes "name") rows ≡ Some (string_bytes name))
+    × (first_of (codes "type") rows ≡ Some (string_bytes kind))
 
 -- The subcommand of this name, with these rows, is the command.
 abbrev pub IsNamed : Text → List Row → Command → Type 0

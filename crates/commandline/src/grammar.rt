@@ -2,7 +2,7 @@
 ghost use Rattle.std.specs.Prelude.{◌≡◌, IfOk, IsOkAnd, true, false};
 ghost use Rattle.clap.specs.Words.{AddsSubcommand, app_of, rule_of};
 ghost use Rattle.clap.specs.declared.builder.command.Command.TheViews.{out-Command};
-ghost use Rattle.commandline.specs.Grammar.{ask_app, bare_app, config_app, file_app, line_app, play_app, storm_app, keep_rule, scripts_rule, word_rule};
+ghost use Rattle.commandline.specs.Grammar.{ask_app, bare_app, config_app, file_app, line_app, play_app, storm_app, trace_app, keep_rule, scripts_rule, word_rule};
 
 use crate::help::Topic;
 use clap::{Arg, ArgAction};
@@ -83,7 +83,7 @@ fn storm_line<'a>(alloc: Global) -> Result<clap::Command<'a>, AllocError>
         .arg(script_words(alloc))
 }
 
-// `serve CONFIG`, or `check-config CONFIG`
+// `serve CONFIG`, `check-config CONFIG`, or how `trace CONFIG NAME TYPE` begins.
 fn config_line<'a>(
     alloc: Global,
     name: &'a str,
@@ -95,6 +95,16 @@ fn config_line<'a>(
     clap::Command::new(alloc, name)
         .about(about)
         .arg(word(alloc, "config"))
+}
+
+// `trace CONFIG NAME TYPE`
+fn trace_line<'a>(alloc: Global) -> Result<clap::Command<'a>, AllocError>
+    ensures app { IfOk result (λ c. app_of c ≡ trace_app) }
+    ensures local { IfOk result (λ c. (out-Command c).has_globals ≡ false) }
+{
+    config_line(alloc, "trace", Topic::Trace.usage())?
+        .arg(word(alloc, "name"))?
+        .arg(word(alloc, "type"))
 }
 
 // The line without its subcommands, of which one has to stand.
@@ -130,5 +140,6 @@ pub fn line<'a>(alloc: Global) -> Result<clap::Command<'a>, AllocError>
     let line = with_line(line, storm_line(alloc))?;
     let line = with_line(line, config_line(alloc, "serve", Topic::Serve.usage()))?;
     let usage = Topic::CheckConfig.usage();
-    with_line(line, config_line(alloc, "check-config", usage))
+    let line = with_line(line, config_line(alloc, "check-config", usage))?;
+    with_line(line, trace_line(alloc))
 }

@@ -3,7 +3,7 @@ ghost use Rattle.std.specs.Prelude.{◌≡◌, [], ◌∷◌, map, string_bytes}
 ghost use Rattle.std.specs.List.{list_any};
 ghost use Rattle.commandline.specs.Helps.{asks_help, asks_version, topic_of as topic_asked, topic_of_first, topic_of_word};
 
-use crate::help_texts::{ASKED, CHECKED, CONFIG_CHECKED, DUMPED, PLAYED, SERVED, STORMED};
+use crate::help_texts::{ASKED, CHECKED, CONFIG_CHECKED, DUMPED, PLAYED, SERVED, STORMED, TRACED};
 
 /// The program's name and version, as a line.
 pub const VERSION: &str = "resolverd 0.1.0\n";
@@ -18,6 +18,7 @@ pub(crate) enum Topic {
     Storm,
     Serve,
     CheckConfig,
+    Trace,
 }
 
 impl Topic {
@@ -33,6 +34,7 @@ impl Topic {
             "storm" => Some(Topic::Storm),
             "serve" => Some(Topic::Serve),
             "check-config" => Some(Topic::CheckConfig),
+            "trace" => Some(Topic::Trace),
             _ => None,
         }
     }
@@ -47,6 +49,7 @@ impl Topic {
             Topic::Storm => "storm",
             Topic::Serve => "serve",
             Topic::CheckConfig => "check-config",
+            Topic::Trace => "trace",
         }
     }
 
@@ -64,6 +67,8 @@ impl Topic {
                 "CONFIG: answers the queries of clients, from the zones of the file and from other servers",
             Topic::CheckConfig =>
                 "CONFIG: says why serve would refuse a file, and what it may not be meant to say",
+            Topic::Trace =>
+                "CONFIG NAME TYPE: asks other servers as serve would, and says which was asked what, and what came of it",
         }
     }
 
@@ -77,6 +82,7 @@ impl Topic {
             Topic::Storm => STORMED,
             Topic::Serve => SERVED,
             Topic::CheckConfig => CONFIG_CHECKED,
+            Topic::Trace => TRACED,
         }
     }
 }

@@ -85,6 +85,24 @@ The file of a server has lines of these words; blank lines and lines that begin 
   seed HEX                   what identifiers are drawn from, 64 digits; random
 ";
 
+// What `trace` prints.
+const STEPS: &str = "
+trace asks for the name as a client of serve would, with the same file, zones and hints, and an empty cache. It binds
+nothing for clients, and ends with the reply, after ten seconds at most. Behind each ask stands what came:
+
+  send K ADDRESS NAME TYPE   ask number K goes out in a datagram; tcp in place of send: over TCP
+    N ms: answer, R records  what came N milliseconds later; a CNAME is: alias to NAME
+    N ms: referral to ZONE, S servers, A addresses
+                             the servers of a zone beneath, A of them with addresses that are taken
+    N ms: NXDOMAIN of the zone ZONE
+                             there is no such name; NODATA: no such type
+    N ms: truncated          it is asked again over TCP
+    N ms: no use: WHY        the next server is asked
+    N ms: silent             no reply came in time
+  look up NAME TYPE          the address of a server is sought; the asks for it are indented
+  cause K: WHY               why the reply is SERVFAIL
+";
+
 // What `check-config` prints.
 const FINDINGS: &str = "
 check-config reads the file and its zones as serve does, and binds its sockets for a moment. It says
@@ -197,6 +215,7 @@ pub(crate) const PARTS: &[&str] = &[
     LISTENS,
     KEYS,
     FINDINGS,
+    STEPS,
     FAULTS,
     FILE_FAULT,
     ZONE_FAULT,
@@ -273,4 +292,10 @@ pub(crate) const SERVED: &[&str] = &[
 pub(crate) const CONFIG_CHECKED: &[&str] = &[
     FINDINGS, KEYS, FAULTS, FILE_FAULT, ZONE_FAULT, LINE_FAULT, UNREADABLE, SETTINGS, SOCKET,
     MEMORY, OUTPUT, STATUSES,
+];
+
+/// What `trace` prints, and what its faults mean.
+pub(crate) const TRACED: &[&str] = &[
+    STEPS, REPLY, KEYS, FAULTS, FILE_FAULT, ZONE_FAULT, LINE_FAULT, UNREADABLE, NAME_FAULT,
+    TYPE_FAULT, SETTINGS, THREADS, MEMORY, OUTPUT, STATUSES,
 ];

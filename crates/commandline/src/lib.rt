@@ -2,7 +2,7 @@
 //! no other crate's check has to read `clap`.
 //!
 //! `read_words` gives the `Command` of the words after the program's name: `ask`, `check`, `dump`, `play`, `storm`,
-//! `serve` or `check-config`. `help_text` is what is printed where they name none: of the command that they ask help
+//! `serve`, `check-config` or `trace`. `help_text` is what is printed where they name none: of the command that they ask help
 //! of, or of all; `is_version` says whether they ask for the version.
 //!
 //! Promised: the command is the one that the words name by the line's grammar (`Names`), and they are refused only

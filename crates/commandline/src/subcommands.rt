@@ -64,6 +64,15 @@ pub enum Command {
         /// The path of the server's file.
         config: String,
     },
+    /// `trace CONFIG NAME TYPE`: asks other servers as `serve` would, and says what came of each ask.
+    Trace {
+        /// The path of the server's file.
+        config: String,
+        /// The name that is asked for.
+        name: String,
+        /// The type that is asked for, as a word.
+        kind: String,
+    },
 }
 
 // The word that stands for `id`.
@@ -199,6 +208,16 @@ fn read_check_config(alloc: Global, found: &ArgMatches<'_>) -> Result<Command, L
     Ok(Command::CheckConfig { config })
 }
 
+fn read_trace(alloc: Global, found: &ArgMatches<'_>) -> Result<Command, LineFault>
+    ensures ok { IfOk result (IsNamed (codes "trace") (rows_of (found_of found.now))) }
+    ensures refused { IfErr result (λ e. e ≡ Words → (command : Command) → IsNamed (codes "trace") (rows_of (found_of found.now)) command → ⊥) }
+{
+    let config = text_of(alloc, found, "config")?;
+    let name = text_of(alloc, found, "name")?;
+    let kind = text_of(alloc, found, "type")?;
+    Ok(Command::Trace { config, name, kind })
+}
+
 /// The subcommand that the line names, with its words.
 pub fn read_subcommand(alloc: Global, matches: &ArgMatches<'_>) -> Result<Command, LineFault>
     ensures ok { IfOk result (Says (subcommand_rows_of matches.now)) }
@@ -212,6 +231,7 @@ pub fn read_subcommand(alloc: Global, matches: &ArgMatches<'_>) -> Result<Comman
         Some(("storm", found)) => read_storm(alloc, found),
         Some(("serve", found)) => read_serve(alloc, found),
         Some(("check-config", found)) => read_check_config(alloc, found),
+        Some(("trace", found)) => read_trace(alloc, found),
         _ => Err(LineFault::Words),
     }
 }

@@ -19,16 +19,17 @@ use Rattle.text_lines.specs.Texts.{IsTextFault}
 use Rattle.text_lines.specs.declared.fault.LineError.{LineError}
 use Rattle.text_lines.specs.declared.fault.LineKind.{LineKind}
 use Rattle.text_lines.specs.declared.fault.LineKind.TheVariants as line
-use Rattle.config.specs.Configs.{Config, config_of}
+use Rattle.config.specs.Configs.{Config, LocalZone, config_of}
 use Rattle.config_report.specs.Reports.{file_report_text, line_report_text}
-use Rattle.commands.specs.Checks.{Explains, HasReason, IsTold, Tells, TellsRule, TellsUnmade}
+use Rattle.commands.specs.Checks.{Explains, HasReason, IsTold, Tells, TellsRule, TellsUnbound, TellsUnmade, TellsUnstarted}
 use Rattle.commands.specs.Faults.{IsReported, fault_line, file_fault, kind_fault, line_fault, line_kind_fault, status_of, zone_fault}
 use Rattle.commands.specs.Runs.{IsPrinted}
-use Rattle.commands.specs.Servers.{IsNoServer, IsUnmade, LacksSeed}
+use Rattle.commands.specs.Servers.{IsNoServer, IsUnbound, IsUnmade, LacksSeed, LacksZone}
 use Rattle.commands.specs.Texts.{MayHold}
 use Rattle.commands.specs.Zones.{HoldsZone, HoldsNoZone}
 use Rattle.commands.specs.declared.fault.Fault.{Fault}
 use Rattle.commands.specs.declared.fault.Fault.TheVariants.{File, Zone, Script, Block, World, Unreadable, BadName, BadType, Settings, Memory, Pool, Socket, Threads, Output}
+use Rattle.commands.proofs.Servers.{lacks_memory}
 use Rattle.commands.proofs.Broken.{zone_refused}
 use Rattle.commands.proofs.Scripts.{bad_line}
 
@@ -66,7 +67,8 @@ module _ (held : List ℕ → Option (Option (List ℕ))) (path : Bor (List ℕ)
       ⊎_elim
       (λ (t : (f ≡ line_fault path e) × (words ≡ line_report_text path.now text e)). (
         subst (IsNoServer held path.now) (sym t.0) (inl (bad_line config_of held path text h e why)),
-        subst (λ (g : Fault). Explains held g words) (sym t.0) (says_line text h e e.kind words t.1)))
+        subst (λ (g : Fault). Explains held g words) (sym t.0) (says_line text h e e.kind words t.1),
+      ))
       (starved_no_server held path.now f words)
 
   pub missing_config : MayHold (held path.now) None → (f : Fault) (words : List ℕ) → Tells (Unreadable path) (HasReason path.now) f words → IsNoServer held path.now f × Explains held f words
@@ -114,7 +116,8 @@ module _ (path : Bor (List ℕ)) (origin : Name) (text : List ℕ) where
       ⊎_elim
       (λ (t : (f ≡ file_fault path e) × (words ≡ file_report_text path.now text e)). (
         subst (HoldsNoZone (λ _. Some (Some text)) path.now origin) (sym t.0) (no_file e e.kind why),
-        subst (λ (g : Fault). Explains (λ _. Some (Some text)) g words) (sym t.0) (says_file e e.kind words t.1)))
+        subst (λ (g : Fault). Explains (λ _. Some (Some text)) g words) (sym t.0) (says_file e e.kind words t.1),
+      ))
       (starved_no_zone (λ _. Some (Some text)) path.now origin f words)
 
   says_rule : (e : ZoneError) (words : List ℕ) → TellsRule path.now origin text e words → Explains (λ _. Some (Some text)) (zone_fault path e) words
@@ -135,7 +138,8 @@ module _ (path : Bor (List ℕ)) (origin : Name) (text : List ℕ) where
       ⊎_elim
       (λ (t : (f ≡ zone_fault path e) × TellsRule path.now origin text e words). (
         subst (HoldsNoZone (λ _. Some (Some text)) path.now origin) (sym t.0) (zone_refused (λ _. Some (Some text)) origin path records (text, refl, reads) e why),
-        subst (λ (g : Fault). Explains (λ _. Some (Some text)) g words) (sym t.0) (says_rule e words t.1)))
+        subst (λ (g : Fault). Explains (λ _. Some (Some text)) g words) (sym t.0) (says_rule e words t.1),
+      ))
       (starved_no_zone (λ _. Some (Some text)) path.now origin f words)
 
 -- ---- What holds of a text holds of the path at which it stands.
@@ -172,14 +176,29 @@ module _ (held : List ℕ → Option (Option (List ℕ))) (c : Config) where
       ⊎_elim
       (λ (l : LacksSeed c f). subst (λ (g : Fault). Explains held g words) (sym l.is) (subst (λ (g : Fault). TellsUnmade g words) l.is says))
       (⊎_elim
-       (λ (is : f ≡ Settings). subst (λ (g : Fault). Explains held g words) (sym is) (subst (λ (g : Fault). TellsUnmade g words) is says))
-       (λ (is : f ≡ Memory). subst (λ (g : Fault). Explains held g words) (sym is) tt)) why
+      (λ (is : f ≡ Settings). subst (λ (g : Fault). Explains held g words) (sym is) (subst (λ (g : Fault). TellsUnmade g words) is says))
+      (λ (is : f ≡ Memory). subst (λ (g : Fault). Explains held g words) (sym is) tt)) why
 
   pub unmade_refused : (f0 : Fault) → IsUnmade c f0 → (f : Fault) (words : List ℕ) → Tells f0 (TellsUnmade f0) f words → IsUnmade c f × Explains held f words
   unmade_refused f0 why f words =
       ⊎_elim
       (λ (t : (f ≡ f0) × TellsUnmade f0 words). (subst (IsUnmade c) (sym t.0) why, subst (λ (g : Fault). Explains held g words) (sym t.0) (says_unmade f0 words why t.1)))
       (λ (is : f ≡ Memory). (inr (inr is), subst (λ (g : Fault). Explains held g words) (sym is) tt))
+
+pub unmade_told : (c : Config) (f0 : Fault) → IsUnmade c f0 → (f : Fault) (words : List ℕ) → Tells f0 (TellsUnmade f0) f words → TellsUnstarted c f words
+unmade_told c f0 why f words told = (inl (unmade_refused (λ _. None) c f0 why f words told).0, λ held. (unmade_refused held c f0 why f words told).1)
+
+pub starved_unstarted : (c : Config) (f : Fault) (words : List ℕ) → f ≡ Memory → TellsUnstarted c f words
+starved_unstarted c f words is = (inl (inr (inr is)), λ held. subst (λ (g : Fault). Explains held g words) (sym is) tt)
+
+pub unbound_told : (c : Config) (f : Fault) (words : List ℕ) → Tells Socket TellsUnbound f words → TellsUnstarted c f words
+unbound_told c f words =
+    ⊎_elim
+    (λ (t : (f ≡ Socket) × TellsUnbound words). (subst (λ (g : Fault). IsUnmade c g ⊎ IsUnbound g) (sym t.0) (inr tt), λ held. subst (λ (g : Fault). Explains held g words) (sym t.0) t.1))
+    (λ (is : f ≡ Memory). starved_unstarted c f words is)
+
+pub starved_zone_less : (held : List ℕ → Option (Option (List ℕ))) (ls : List LocalZone) (f : Fault) (words : List ℕ) → f ≡ Memory → LacksZone held ls f × Explains held f words
+starved_zone_less held ls f words is = (lacks_memory held ls f is, subst (λ (g : Fault). Explains held g words) (sym is) tt)
 
 -- ---- What is told.
 
@@ -198,7 +217,7 @@ pub both_written : (f : Fault) (words : List ℕ) (out out2 err err1 err2 : Opti
 both_written f words out out2 err err1 err2 k n printed is reported =
     ⊎_elim
     (λ (p : (k ≡ 0) × Appends out out2 words × (err1 ≡ err)).
-     ⊎_elim (λ (r : (n ≡ status_of f) × Appends err1 err2 (fault_line f)). inl (r.0, p.1, subst (λ (e : Option (List ℕ)). Appends e err2 (fault_line f)) p.2 r.1)) (λ (four : n ≡ 4). inr four) reported)
+    ⊎_elim (λ (r : (n ≡ status_of f) × Appends err1 err2 (fault_line f)). inl (r.0, p.1, subst (λ (e : Option (List ℕ)). Appends e err2 (fault_line f)) p.2 r.1)) (λ (four : n ≡ 4). inr four) reported)
     (λ (four : k ≡ 4). absurd (zero_not_four k is four)) printed
 
 -- The words could not be written.

@@ -13,7 +13,7 @@ use Rattle.config_report.specs.Reports.{file_report_text, line_report_text}
 use Rattle.config_report.specs.Culprits.{zone_report_text}
 use Rattle.config_report.specs.Notes.{notes_text, total_text}
 use Rattle.commands.specs.Faults.{fault_line, status_of}
-use Rattle.commands.specs.Servers.{AreZonesIn, IsStartFault, IsUnbound}
+use Rattle.commands.specs.Servers.{AreZonesIn, IsStartFault, IsUnbound, IsUnmade}
 use Rattle.commands.specs.Texts.{MayHold}
 use Rattle.commands.specs.Zones.{HoldsRecords}
 use Rattle.commands.specs.declared.fault.Fault.{Fault}
@@ -49,8 +49,13 @@ pub record PassesCheck (held : List ℕ → Option (Option (List ℕ))) (path te
 abbrev pub HasReason : List ℕ → List ℕ → Type 0
 HasReason about words = (reason : List ℕ) × (words ≡ about ++ codes ": " ++ reason ++ codes "\n")
 
-abbrev pub listen_text : End → List ℕ
-listen_text e = codes "listen " ++ ipv4_text e.address ++ codes " " ++ decimal e.port
+-- A line of the file that names an address and a port.
+abbrev pub end_text : List ℕ → End → List ℕ
+end_text word e = word ++ codes " " ++ ipv4_text e.address ++ codes " " ++ decimal e.port
+
+-- The words are of such a line, `listen` or `metrics`.
+abbrev pub TellsUnbound : List ℕ → Type 0
+TellsUnbound words = (word : List ℕ) × ((word ≡ codes "listen") ⊎ (word ≡ codes "metrics")) × ((end : End) × HasReason (end_text word end) words)
 
 -- The words that go with a fault: of a line of a file that stands at the fault's path, of records that stand there, or
 -- of what the system says, in its words. Where memory is wanting nothing is said of them.
@@ -61,7 +66,7 @@ Explains held (Zone path e) words =
     (origin : Name) × (records : List Record) × HoldsRecords (held path.now) origin records × (words ≡ zone_report_text path.now (zone_with origin records) e)
 Explains held (Unreadable path) words = HasReason path.now words
 Explains held Settings words = words ≡ codes "the resolver refuses what the file sets\n"
-Explains held Socket words = (end : End) × HasReason (listen_text end) words
+Explains held Socket words = TellsUnbound words
 Explains held Memory words = Unit {0}
 Explains held (BadName e) words = ⊥
 Explains held BadType words = ⊥
@@ -87,6 +92,10 @@ TellsUnmade f words = words ≡ codes "the resolver refuses what the file sets\n
 -- The file is read and makes no resolver, or its sockets are not bound.
 abbrev pub IsUnstarted : (List ℕ → Option (Option (List ℕ))) → Config → Fault → Type 0
 IsUnstarted held config f = IsStartFault held config f ⊎ IsUnbound f
+
+-- No resolver is made, or its sockets are not bound, and the words say so, whatever is known of paths.
+abbrev pub TellsUnstarted : Config → Fault → List ℕ → Type 0
+TellsUnstarted c f words = (IsUnmade c f ⊎ IsUnbound f) × ((held : List ℕ → Option (Option (List ℕ))) → Explains held f words)
 
 -- The words were written, and the line of the fault, whose status was given; 4 where either could not be.
 abbrev pub IsTold : Fault → List ℕ → Option (List ℕ) → Option (List ℕ) → Option (List ℕ) → Option (List ℕ) → ℕ → Type 0

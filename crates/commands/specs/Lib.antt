@@ -2,6 +2,7 @@
 pub mod Runs
 pub mod Faults
 pub mod Texts
+pub mod Traces
 pub mod Zones
 pub mod Asks
 pub mod Exchanges

@@ -7,13 +7,14 @@ use Rattle.commandline.specs.Says.{Names, NamesNothing}
 use Rattle.commandline.specs.declared.fault.LineFault.{LineFault}
 use Rattle.commandline.specs.declared.fault.LineFault.TheVariants.{Words, Memory as line_memory}
 use Rattle.commandline.specs.declared.subcommands.Command.{Command}
-use Rattle.commandline.specs.declared.subcommands.Command.TheVariants.{Ask, Check, Dump, Play, Storm, Serve, CheckConfig}
+use Rattle.commandline.specs.declared.subcommands.Command.TheVariants.{Ask, Check, Dump, Play, Storm, Serve, CheckConfig, Trace}
 use Rattle.commands.specs.Asks.{IsAskFault}
 use Rattle.commands.specs.Checks.{Explains, IsRunInWords, PassesCheck}
 use Rattle.commands.specs.Exchanges.{PrintsAnswer}
 use Rattle.commands.specs.Files.{CountsRecords, PrintsRecords, IsNoZone, IsNoFile}
 use Rattle.commands.specs.Scripts.{PrintsScript, IsNoScript}
 use Rattle.commands.specs.Storms.{PrintsStorm, IsNoStorm}
+use Rattle.commands.specs.Traces.{IsTrace, IsNoTrace}
 use Rattle.commands.specs.Servers.{Prepared, PrintsAddress, IsNoServer, Starts}
 use Rattle.commands.specs.declared.fault.Fault.{Fault}
 use Rattle.commands.specs.declared.fault.Fault.TheVariants.{Memory}
@@ -50,6 +51,7 @@ texts_of A held (Play world script) text = PrintsScript (held (string_bytes worl
 texts_of A held (Storm keep world scripts) text = PrintsStorm (λ p. held (string_bytes p)) (held (string_bytes world)) scripts.items text
 texts_of A held (Serve config) text = PrintsAddress (held (string_bytes config)) text
 texts_of A held (CheckConfig config) text = PassesCheck held (string_bytes config) text
+texts_of A held (Trace config name kind) text = IsTrace (held (string_bytes config)) (string_bytes name) (string_bytes kind) text
 
 -- The faults of a command, over the same: those of a file are told under its path, as the command names it.
 abbrev pub faults_of : (List ℕ → Option (Option (List ℕ))) → Command → Fault → Type 0
@@ -60,6 +62,7 @@ faults_of held (Play world script) f = IsNoScript held (string_bytes world) (str
 faults_of held (Storm keep world scripts) f = IsNoStorm held (string_bytes world) string_bytes scripts.items f
 faults_of held (Serve config) f = IsNoServer held (string_bytes config) f
 faults_of held (CheckConfig config) f = IsNoServer held (string_bytes config) f
+faults_of held (Trace config name kind) f = IsNoTrace held (string_bytes config) (string_bytes name) (string_bytes kind) f
 
 -- What comes of a command: the refusals of `check-config` alone have words.
 abbrev pub IsDone : (A : Type 0) → (List ℕ → Option (Option (List ℕ))) → Command → Option (List ℕ) → Option (List ℕ) → Option (List ℕ) → Option (List ℕ) → ℕ → Type 0
@@ -69,6 +72,7 @@ IsDone A held (Dump origin file) out out2 err err2 n = IsRun (texts_of A held (D
 IsDone A held (Play world script) out out2 err err2 n = IsRun (texts_of A held (Play world script)) (faults_of held (Play world script)) out out2 err err2 n
 IsDone A held (Storm keep world scripts) out out2 err err2 n = IsRun (texts_of A held (Storm keep world scripts)) (faults_of held (Storm keep world scripts)) out out2 err err2 n
 IsDone A held (Serve config) out out2 err err2 n = IsRun (texts_of A held (Serve config)) (faults_of held (Serve config)) out out2 err err2 n
+IsDone A held (Trace config name kind) out out2 err err2 n = IsRun (texts_of A held (Trace config name kind)) (faults_of held (Trace config name kind)) out out2 err err2 n
 IsDone A held (CheckConfig config) out out2 err err2 n =
     IsRunInWords (texts_of A held (CheckConfig config)) (faults_of held (CheckConfig config)) (Explains held) out out2 err err2 n
 
@@ -80,6 +84,7 @@ StartsFor held (Dump origin file) status server = server ≡ None
 StartsFor held (Play world script) status server = server ≡ None
 StartsFor held (Storm keep world scripts) status server = server ≡ None
 StartsFor held (CheckConfig config) status server = server ≡ None
+StartsFor held (Trace config name kind) status server = server ≡ None
 StartsFor held (Serve config) status server = Starts held (string_bytes config) status server
 
 -- The version was printed, with status 0, where the words ask for that; help, with status 2, where they do not; or no

@@ -1,10 +1,10 @@
 //! `check-config`: the file of a server, read and tried as `serve` does, and what is to be said of it.
-ghost use Rattle.std.specs.Prelude.{◌≡◌, ◌⊎◌, None, Some, Ok, IfOk, IfErr, string_bytes};
+ghost use Rattle.std.specs.Prelude.{◌≡◌, ◌⊎◌, [], ◌∷◌, ◌++◌, None, Some, Ok, IfOk, IfErr, OnOk, codes, string_bytes};
 ghost use Rattle.masterfile.specs.Files.{read_text};
 ghost use Rattle.zone.specs.Faults.{fault_of, IsFault};
 ghost use Rattle.zone.specs.Kept.{zone_with};
 ghost use Rattle.config_report.specs.Reports.{file_report_text, line_report_text};
-ghost use Rattle.commands.specs.Checks.{Explains, HasReason, IsRunInWords, IsSummary, IsTold, IsUnstarted, PassesCheck, Tells, TellsRule, TellsUnmade, listen_text, records_in, summary_text};
+ghost use Rattle.commands.specs.Checks.{Explains, HasReason, IsRunInWords, IsSummary, IsTold, IsUnstarted, PassesCheck, Tells, TellsRule, TellsUnbound, TellsUnmade, TellsUnstarted, end_text, records_in, summary_text};
 ghost use Rattle.commands.specs.Faults.{file_fault, line_fault, zone_fault};
 ghost use Rattle.commands.specs.Servers.{AreZonesIn, IsNoServer, LacksZone, end_of};
 ghost use Rattle.commands.specs.Texts.{MayHold};
@@ -20,8 +20,10 @@ use config::{LocalFile, ServeConfig, read_config};
 use config_report::{file_report, line_report, notes, put_total, zone_report};
 use dname::{Heap, Name, Starved};
 use events::Endpoint;
+use front::Via;
 use masterfile::FileError;
 use rdata::Records;
+use server::Shown;
 use std::alloc::Allocator;
 use std::io::Write;
 use text_lines::LineError;
@@ -118,12 +120,38 @@ fn checked_config<'t, A: Heap, T: Texts, H: Host>(
     ensures err { IfErr result (λ r. IsUnstarted (T.held texts.old) config.entry r.fault × Explains (T.held texts.old) r.fault (string_bytes r.words)) }
 {
     let zones = checked_zones(alloc, texts, &config.locals)?;
-    let summary = match summary(alloc, &config, &zones) {
-        Ok(summary) => summary,
-        Err(Starved) => return Err(starved(alloc)),
-    };
+    checked_server(alloc, config, zones, host)
+}
+
+// The same, where the zones are read.
+fn checked_server<'t, A: Heap, H: Host>(
+    alloc: A,
+    config: ServeConfig<'t, A>,
+    zones: Vec<Zone<A>, A>,
+    host: &mut H,
+) -> Result<String<A>, Refusal<'t, A>>
+    ensures ok { IfOk result (λ s. string_bytes s ≡ summary_text config.entry zones.entry.items) }
+    ensures err { IfErr result (λ r. TellsUnstarted config.entry r.fault (string_bytes r.words)) }
+{
+    match summary(alloc, &config, &zones) {
+        Ok(summary) => made(alloc, config, zones, host, summary),
+        Err(Starved) => Err(starved(alloc)),
+    }
+}
+
+// The summary, where a resolver can be made of the file, and its sockets are bound.
+fn made<'t, A: Heap, H: Host>(
+    alloc: A,
+    config: ServeConfig<'t, A>,
+    zones: Vec<Zone<A>, A>,
+    host: &mut H,
+    summary: String<A>,
+) -> Result<String<A>, Refusal<'t, A>>
+    ensures ok { IfOk result (λ s. s ≡ summary.entry) }
+    ensures err { IfErr result (λ r. TellsUnstarted config.entry r.fault (string_bytes r.words)) }
+{
     match prepare_zones(alloc, config, zones, host) {
-        Ok(prepared) => bound(alloc, prepared.listen, host, summary),
+        Ok(prepared) => bound(alloc, prepared.listen, prepared.shown, host, summary),
         Err(fault) => Err(unmade(alloc, fault)),
     }
 }
@@ -132,15 +160,19 @@ fn checked_config<'t, A: Heap, T: Texts, H: Host>(
 fn bound<'t, A: Heap, H: Host>(
     alloc: A,
     listen: Endpoint,
+    shown: Shown,
     host: &mut H,
     summary: String<A>,
 ) -> Result<String<A>, Refusal<'t, A>>
     ensures ok { IfOk result (λ s. s ≡ summary.entry) }
-    ensures err { IfErr result (λ r. Tells Socket (HasReason (listen_text (end_of listen))) r.fault (string_bytes r.words)) }
+    ensures err { IfErr result (λ r. Tells Socket TellsUnbound r.fault (string_bytes r.words)) }
 {
-    match host.open(listen) {
+    match host.open(listen, shown) {
         Some(_) => Ok(summary),
-        None => Err(told(alloc, Fault::Socket, unbound_words(alloc, listen, host))),
+        None => {
+            let words = unbound_words(alloc, listen, shown.metrics, host);
+            Err(told(alloc, Fault::Socket, words))
+        }
     }
 }
 
@@ -182,12 +214,24 @@ fn checked_zones<'t, A: Heap, T: Texts>(
 {
     let mut zones = Vec::new(alloc);
     for local in locals {
-        let zone = checked_zone(alloc, texts, local)?;
-        if zones.push(zone).is_err() {
-            return Err(starved(alloc));
-        }
+        put_zone(alloc, &mut zones, checked_zone(alloc, texts, local)?)?;
     }
     Ok(zones)
+}
+
+// One zone more.
+fn put_zone<'t, A: Heap>(
+    alloc: A,
+    zones: &mut Vec<Zone<A>, A>,
+    zone: Zone<A>,
+) -> Result<(), Refusal<'t, A>>
+    ensures ok { OnOk result (zones.new.items ≡ zones.old.items ++ zone ∷ []) }
+    ensures err { IfErr result (λ r. r.fault ≡ Memory) }
+{
+    match zones.push(zone) {
+        Ok(()) => Ok(()),
+        Err(_) => Err(starved(alloc)),
+    }
 }
 
 // The zone of a line of the server's file.
@@ -321,17 +365,58 @@ fn unmade_words<A: Heap>(alloc: A, fault: &Fault<'_>) -> Result<String<A>, Starv
     }
 }
 
-// An address that can't be bound, with the system's reason.
+// The first address that can't be bound, with the system's reason.
 fn unbound_words<A: Heap, H: Host>(
     alloc: A,
     listen: Endpoint,
+    metrics: Option<Endpoint>,
     host: &mut H,
 ) -> Result<String<A>, Starved>
-    ensures { IfOk result (λ s. HasReason (listen_text (end_of listen)) (string_bytes s)) }
+    ensures { IfOk result (λ s. TellsUnbound (string_bytes s)) }
 {
-    let (address, port) = (listen.address, listen.port);
-    let reason = host.reason(alloc, listen)?;
-    Ok(format!(in alloc; "listen {address} {port}: {reason}\n")?)
+    if let Some(reason) = host.reason(alloc, Via::Udp, listen)? {
+        return end_words(alloc, "listen", listen, "UDP: ", reason.as_str());
+    }
+    if let Some(reason) = host.reason(alloc, Via::Tcp, listen)? {
+        return end_words(alloc, "listen", listen, "TCP: ", reason.as_str());
+    }
+    unread_words(alloc, listen, metrics, host)
+}
+
+// The same where clients could be served: the address of the counters.
+fn unread_words<A: Heap, H: Host>(
+    alloc: A,
+    listen: Endpoint,
+    metrics: Option<Endpoint>,
+    host: &mut H,
+) -> Result<String<A>, Starved>
+    ensures { IfOk result (λ s. TellsUnbound (string_bytes s)) }
+{
+    if let Some(at) = metrics
+        && let Some(reason) = host.reason(alloc, Via::Tcp, at)?
+    {
+        return end_words(alloc, "metrics", at, "TCP: ", reason.as_str());
+    }
+    end_words(
+        alloc,
+        "listen",
+        listen,
+        "",
+        "it could not be bound, and can be now",
+    )
+}
+
+fn end_words<A: Heap>(
+    alloc: A,
+    word: &str,
+    at: Endpoint,
+    way: &str,
+    reason: &str,
+) -> Result<String<A>, Starved>
+    ensures { IfOk result (λ s. string_bytes s ≡ end_text word.now (end_of at) ++ codes ": " ++ (way.now ++ reason.now) ++ codes "\n") }
+{
+    let (address, port) = (at.address, at.port);
+    Ok(format!(in alloc; "{word} {address} {port}: {way}{reason}\n")?)
 }
 
 // A fault and what says so in words; where these took memory that was not there, that is the fault.

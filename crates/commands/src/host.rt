@@ -3,11 +3,13 @@ ghost use Rattle.std.specs.Prelude.{◌≡◌, ◌⊎◌, IfSome};
 
 use dname::{Heap, Starved};
 use events::Endpoint;
+use front::Via;
 use server::{Ends, Shown};
 use std::alloc::Global;
 use std::io::Read;
 use std::net::{Ipv4Addr, Net, SocketAddr, SocketAddrV4, TcpListener, TcpStream, UdpSocket};
 use std::rt::{Env, Files};
+use std::time::Instant;
 use std::{env, fs};
 
 /// What the start of a server needs besides memory and files.
@@ -20,8 +22,13 @@ pub trait Host {
     fn open(&mut self, listen: Endpoint, shown: Shown) -> Option<u16>
         ensures { IfSome result (λ port. (port ≡ listen.port) ⊎ (listen.port ≡ 0)) };
 
-    /// Why an address can't be bound, over UDP or TCP, in the words of the system.
-    fn reason<A: Heap>(&mut self, alloc: A, listen: Endpoint) -> Result<String<A>, Starved>;
+    /// Why a socket can't be bound there, in the words of the system; none where it can be.
+    fn reason<A: Heap>(
+        &mut self,
+        alloc: A,
+        way: Via,
+        at: Endpoint,
+    ) -> Result<Option<String<A>>, Starved>;
 }
 
 /// The machine on which the program runs.
@@ -31,6 +38,10 @@ pub struct Machine<'a, R> {
     pub(crate) alloc: Global,
     /// The sockets that were bound last.
     pub(crate) ends: Option<Ends>,
+    /// The socket of the last ask of a trace.
+    pub(crate) datagrams: Option<UdpSocket>,
+    /// When a trace began.
+    pub(crate) began: Option<Instant>,
 }
 
 impl<'a, R> Machine<'a, R> {
@@ -40,6 +51,8 @@ impl<'a, R> Machine<'a, R> {
             runtime,
             alloc,
             ends: None,
+            datagrams: None,
+            began: None,
         }
     }
 }
@@ -98,15 +111,21 @@ where
         }
     }
 
-    fn reason<A: Heap>(&mut self, alloc: A, listen: Endpoint) -> Result<String<A>, Starved> {
-        let address = Ipv4Addr::from_octets(listen.address.0);
-        let address = SocketAddr::V4(SocketAddrV4::new(address, listen.port));
-        if let Err(error) = UdpSocket::bind(self.runtime, address) {
-            return Ok(format!(in alloc; "UDP: {error}")?);
-        }
-        match TcpListener::bind(self.runtime, address) {
-            Ok(_) => Ok(String::from_str(alloc, "it could not be bound, and can be now")?),
-            Err(error) => Ok(format!(in alloc; "TCP: {error}")?),
+    fn reason<A: Heap>(
+        &mut self,
+        alloc: A,
+        way: Via,
+        at: Endpoint,
+    ) -> Result<Option<String<A>>, Starved> {
+        let address = Ipv4Addr::from_octets(at.address.0);
+        let address = SocketAddr::V4(SocketAddrV4::new(address, at.port));
+        let fault = match way {
+            Via::Udp => UdpSocket::bind(self.runtime, address).err(),
+            Via::Tcp => TcpListener::bind(self.runtime, address).err(),
+        };
+        match fault {
+            Some(error) => Ok(Some(format!(in alloc; "{error}")?)),
+            None => Ok(None),
         }
     }
 }

@@ -1,5 +1,5 @@
-//! What the program is asked to do, done: `ask`, `check`, `dump`, `play`, `storm`, `serve` and `check-config`, over what
-//! the caller gives: a runtime for threads, a source of texts, a place for a server's sockets, and two writers.
+//! What the program is asked to do, done: `ask`, `check`, `dump`, `play`, `storm`, `serve`, `check-config` and `trace`,
+//! over what the caller gives: a runtime for threads, a source of texts, a place for a server's sockets, and two writers.
 //!
 //! `run_words` does what the words of a command line ask, `run_command` a `Command`; each writes the text or the
 //! line of the fault, and gives the exit status and, of `serve`, the `Server` that was started, which `serve_at`
@@ -25,12 +25,14 @@ mod fault;
 mod files;
 mod host;
 mod outcome;
+mod peers;
 mod play_script;
 mod run;
 mod serve;
 mod serving;
 mod storm_scripts;
 mod texts;
+mod trace_query;
 mod zones;
 
 pub use host::{Host, Machine};

@@ -16,23 +16,24 @@ use crate::play_script::play;
 use crate::serve::start_server;
 use crate::storm_scripts::storm;
 use crate::texts::Texts;
+use crate::trace_query::trace;
 use commandline::{Command, LineFault, help_text, is_version, read_words};
 use dname::Heap;
 use std::alloc::{Allocator, Global};
 use std::io::Write;
 use std::sync::Wait;
 use std::thread::Threads;
+use trace::Peers;
 
 /// Does what the words after the program's name ask, and gives the exit status, and the server that was started. Words
 /// that name no command are answered with the help text and status 2.
-pub fn run_words<R: Threads + Wait + AllocGlobal + Sync, T: Texts, H: Host, O: Write, E: Write>(
-    rt: &R,
-    words: &[String],
-    texts: &mut T,
-    host: &mut H,
-    out: &mut O,
-    err: &mut E,
-) -> Outcome
+pub fn run_words<
+    R: Threads + Wait + AllocGlobal + Sync,
+    T: Texts,
+    H: Host + Peers,
+    O: Write,
+    E: Write,
+>(rt: &R, words: &[String], texts: &mut T, host: &mut H, out: &mut O, err: &mut E) -> Outcome
     ensures { IsLineDone Global (map string_bytes words.now) (T.held texts.old) (O.contents out.old) (O.contents out.new) (E.contents err.old) (E.contents err.new) result.status result.server }
 {
     let alloc = rt.alloc();
@@ -69,7 +70,7 @@ pub fn run_command<
     R: Threads + Wait + AllocGlobal + Sync,
     A: Heap,
     T: Texts,
-    H: Host,
+    H: Host + Peers,
     O: Write,
     E: Write,
 >(
@@ -120,6 +121,13 @@ pub fn run_command<
             status: check_config(alloc, config.as_str(), texts, host, out, err),
             server: None,
         },
+        Command::Trace { config, name, kind } => {
+            let (config, name, kind) = (config.as_str(), name.as_str(), kind.as_str());
+            Outcome {
+                status: trace(alloc, config, name, kind, texts, host, out, err),
+                server: None,
+            }
+        }
     }
 }
 
@@ -138,8 +146,8 @@ fn finished<A: Allocator, S: Allocator, O: Write, E: Write>(
     }
 }
 
-// Prints what came out, and gives the exit status.
-fn finish<A: Allocator, O: Write, E: Write>(
+/// Prints what came out, and gives the exit status.
+pub(crate) fn finish<A: Allocator, O: Write, E: Write>(
     done: &Result<String<A>, Fault<'_>>,
     out: &mut O,
     err: &mut E,

@@ -24,12 +24,12 @@ use std::alloc::Allocator;
 use std::io::Write;
 use zone::Zone;
 
-// A server that is made, where it is to listen, and what is shown of it.
+/// A server that is made, where it is to listen, and what is shown of it.
 #[derive(Drop)]
 pub(crate) struct Prepared<A: Allocator> {
-    server: Server<A>,
+    pub(crate) server: Server<A>,
     pub(crate) listen: Endpoint,
-    shown: Shown,
+    pub(crate) shown: Shown,
 }
 
 /// Reads the file of a server at a path, and the files of its zones, binds its sockets and prints where it listens: the
@@ -84,8 +84,8 @@ fn no_server<A: Heap, E: Write>(fault: &Fault<'_>, err: &mut E) -> Outcome<A>
     }
 }
 
-// The server that the text of its file describes.
-fn prepare<'t, A: Heap, T: Texts, H: Host>(
+/// The server that the text of its file describes.
+pub(crate) fn prepare<'t, A: Heap, T: Texts, H: Host>(
     alloc: A,
     path: &'t str,
     text: &'t str,

@@ -66,6 +66,12 @@ fn is_of(command: &Command, line: &[&str]) -> bool {
         } => said == Some("storm") && is_storm(line, *keep, world, scripts.as_slice()),
         Command::Serve { config } => said == Some("serve") && has(line, 1, config),
         Command::CheckConfig { config } => said == Some("check-config") && has(line, 1, config),
+        Command::Trace { config, name, kind } => {
+            said == Some("trace")
+                && has(line, 1, config)
+                && has(line, 2, name)
+                && has(line, 3, kind)
+        }
     }
 }
 
@@ -89,7 +95,7 @@ fn is_refused(alloc: Global, line: &[&str]) -> Result<bool, Fail> {
 
 #[test]
 fn each_command_takes_its_words(rt: HostRuntime) -> Result<(), Fail> {
-    let lines: [&[&str]; 8] = [
+    let lines: [&[&str]; 9] = [
         &["ask", "lab.example.", "lab.zone", "x.lab.example.", "TXT"],
         &["check", "lab.example.", "lab.zone"],
         &["dump", ".", "root.zone"],
@@ -105,6 +111,7 @@ fn each_command_takes_its_words(rt: HostRuntime) -> Result<(), Fail> {
         &["storm", "small.world", "a.script"],
         &["serve", "resolverd.conf"],
         &["check-config", "resolverd.conf"],
+        &["trace", "resolverd.conf", "www.lab.example.", "A"],
     ];
     for line in &lines {
         assert!(rt; is_taken(rt.alloc(), *line)?);
@@ -114,7 +121,7 @@ fn each_command_takes_its_words(rt: HostRuntime) -> Result<(), Fail> {
 
 #[test]
 fn other_lines_are_refused(rt: HostRuntime) -> Result<(), Fail> {
-    let lines: [&[&str]; 22] = [
+    let lines: [&[&str]; 24] = [
         &[],
         &["--help"],
         &[
@@ -156,6 +163,8 @@ fn other_lines_are_refused(rt: HostRuntime) -> Result<(), Fail> {
         &["serve", "resolverd.conf", "--help"],
         &["check-config"],
         &["check-config", "resolverd.conf", "more"],
+        &["trace", "resolverd.conf", "www.lab.example."],
+        &["trace", "resolverd.conf", "www.lab.example.", "A", "more"],
         &["--version"],
     ];
     for line in &lines {

@@ -5,6 +5,7 @@ use dname::Heap;
 use failing_writer::{Page, WIDE};
 use std::sync::Wait;
 use std::thread::Threads;
+use trace::Peers;
 
 /// What a command ended with and wrote.
 #[derive(Drop)]
@@ -33,7 +34,7 @@ pub type Rooms = (usize, usize);
 pub const ROOMY: Rooms = (WIDE, WIDE);
 
 /// Does a command in this memory, and hands out the server that it started. What it writes takes other memory.
-pub fn start<R: Threads + Wait + AllocGlobal + Sync, A: Heap, T: Texts, H: Host>(
+pub fn start<R: Threads + Wait + AllocGlobal + Sync, A: Heap, T: Texts, H: Host + Peers>(
     rt: &R,
     alloc: A,
     command: &Command,
@@ -57,7 +58,7 @@ pub fn start<R: Threads + Wait + AllocGlobal + Sync, A: Heap, T: Texts, H: Host>
 }
 
 /// The same, where the server is not wanted.
-pub fn perform<R: Threads + Wait + AllocGlobal + Sync, A: Heap, T: Texts, H: Host>(
+pub fn perform<R: Threads + Wait + AllocGlobal + Sync, A: Heap, T: Texts, H: Host + Peers>(
     rt: &R,
     alloc: A,
     command: &Command,

@@ -2,7 +2,9 @@
 use commands::Host;
 use dname::{Heap, Starved};
 use events::Endpoint;
+use front::Via;
 use server::Shown;
+use trace::Peers;
 
 /// No place for a server.
 #[derive(Clone, Copy)]
@@ -17,7 +19,39 @@ impl Host for Nowhere {
         None
     }
 
-    fn reason<A: Heap>(&mut self, alloc: A, _listen: Endpoint) -> Result<String<A>, Starved> {
-        Ok(String::from_str(alloc, "nowhere")?)
+    fn reason<A: Heap>(
+        &mut self,
+        alloc: A,
+        _way: Via,
+        _at: Endpoint,
+    ) -> Result<Option<String<A>>, Starved> {
+        Ok(Some(String::from_str(alloc, "nowhere")?))
+    }
+}
+
+// Nothing is sent there, and nothing comes.
+impl Peers for Nowhere {
+    fn moment(&mut self) -> u64 {
+        0
+    }
+
+    fn send(&mut self, _to: Endpoint, _bytes: &[u8]) -> bool {
+        false
+    }
+
+    fn close(&mut self) {}
+
+    fn receive<A: Heap>(&mut self, _alloc: A, _wait: u64) -> Result<Option<Vec<u8, A>>, Starved> {
+        Ok(None)
+    }
+
+    fn exchange<A: Heap>(
+        &mut self,
+        _alloc: A,
+        _to: Endpoint,
+        _bytes: &[u8],
+        _wait: u64,
+    ) -> Result<Option<Vec<u8, A>>, Starved> {
+        Ok(None)
     }
 }

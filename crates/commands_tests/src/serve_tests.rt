@@ -5,11 +5,13 @@ use commands::{Host, Server, Texts};
 use dname::{Heap, Starved};
 use engine_fixture::{Desk, Out};
 use events::Endpoint;
+use front::Via;
 use server::Shown;
 use std::alloc::{AllocError, Global};
 use std::sync::Wait;
 use std::test::Fail;
 use std::thread::Threads;
+use trace::Peers;
 
 static CORP: &str = "$TTL 300\n@ SOA ns h 1 2 3 4 60\n@ NS ns\ndb A 10.0.0.5\n";
 
@@ -47,8 +49,40 @@ impl Host for Place {
         if listen.port == 0 { self.port } else { None }
     }
 
-    fn reason<A: Heap>(&mut self, alloc: A, _listen: Endpoint) -> Result<String<A>, Starved> {
-        Ok(String::from_str(alloc, "busy")?)
+    fn reason<A: Heap>(
+        &mut self,
+        alloc: A,
+        _way: Via,
+        _at: Endpoint,
+    ) -> Result<Option<String<A>>, Starved> {
+        Ok(Some(String::from_str(alloc, "busy")?))
+    }
+}
+
+// Nothing is sent there, and nothing comes.
+impl Peers for Place {
+    fn moment(&mut self) -> u64 {
+        0
+    }
+
+    fn send(&mut self, _to: Endpoint, _bytes: &[u8]) -> bool {
+        false
+    }
+
+    fn close(&mut self) {}
+
+    fn receive<A: Heap>(&mut self, _alloc: A, _wait: u64) -> Result<Option<Vec<u8, A>>, Starved> {
+        Ok(None)
+    }
+
+    fn exchange<A: Heap>(
+        &mut self,
+        _alloc: A,
+        _to: Endpoint,
+        _bytes: &[u8],
+        _wait: u64,
+    ) -> Result<Option<Vec<u8, A>>, Starved> {
+        Ok(None)
     }
 }
 
@@ -226,7 +260,7 @@ const CHECKS: &[Start] = &[
         "listen 127.0.0.1 0\nlocal example. corp.zone\nlocal lab. corp.zone\n",
         BUSY,
         4,
-        "listen 127.0.0.1 0: busy\n",
+        "listen 127.0.0.1 0: UDP: busy\n",
         "error: socket\n",
     ),
     (

@@ -486,6 +486,10 @@ const LINES: &[(&[&str], Said)] = &[
         &["check-config", "--help"],
         Said::Of("resolverd check-config CONFIG: "),
     ),
+    (
+        &["help", "trace"],
+        Said::Of("resolverd trace CONFIG NAME TYPE: "),
+    ),
     (&["help", "serves"], Said::Help),
     (&["help"], Said::Help),
     (&[], Said::Help),

@@ -10,7 +10,13 @@ use Rattle.zone.specs.declared.fault.ZoneError.TheVariants as rule
 
 -- How many words a line has that begins with this word.
 abbrev pub word_count : List ℕ → ℕ
-word_count w = cond (bytes_eq w (codes "listen") || bytes_eq w (codes "local")) 3 2
+word_count w = cond (bytes_eq w (codes "listen") || (bytes_eq w (codes "local") || bytes_eq w (codes "metrics"))) 3 2
+
+-- Which words may stand where another one does, in a line that begins with this word.
+abbrev pub words_of : List ℕ → List ℕ
+words_of w =
+    cond (bytes_eq w (codes "log")) (codes "a level is warn or info")
+    (codes "a line begins with listen, port, hint, local, cache, delegations, penalties, failures, sockets, workers, streams, clients, metrics, log or seed")
 
 -- The form of a line that begins with this word.
 abbrev pub form_of : List ℕ → List ℕ
@@ -18,21 +24,24 @@ form_of w =
     cond (bytes_eq w (codes "listen")) (codes "the line is listen ADDRESS PORT")
     (cond (bytes_eq w (codes "hint")) (codes "the line is hint ADDRESS")
     (cond (bytes_eq w (codes "local")) (codes "the line is local ORIGIN FILE, and FILE has no spaces")
-    (cond (bytes_eq w (codes "seed")) (codes "the line is seed HEX") (codes "a number stands behind the word, and nothing else"))))
+    (cond (bytes_eq w (codes "metrics")) (codes "the line is metrics ADDRESS PORT")
+    (cond (bytes_eq w (codes "log")) (codes "the line is log LEVEL")
+    (cond (bytes_eq w (codes "seed")) (codes "the line is seed HEX") (codes "a number stands behind the word, and nothing else"))))))
 
 -- Which numbers may stand in a line that begins with this word.
 abbrev pub range_of : List ℕ → List ℕ
 range_of w =
     cond (bytes_eq w (codes "listen")) (codes "a port is a number from 0 to 65535")
+    (cond (bytes_eq w (codes "metrics")) (codes "a port is a number from 1 to 65535")
     (cond (bytes_eq w (codes "port")) (codes "a number from 1 to 65535")
     (cond (bytes_eq w (codes "sockets") || bytes_eq w (codes "workers")) (codes "a number from 1 to 16")
     (cond (bytes_eq w (codes "streams")) (codes "a number from 1 to 256")
-    (cond (bytes_eq w (codes "clients")) (codes "a number from 1 to 1024") (codes "a number from 1 to 1000000")))))
+    (cond (bytes_eq w (codes "clients")) (codes "a number from 1 to 1024") (codes "a number from 1 to 1000000"))))))
 
 -- What is wrong with a line of a server's file that begins with this word, and has as many words as such a line has, or
 -- not.
 abbrev pub line_sentence : LineKind → List ℕ → Bool → List ℕ
-line_sentence line.UnknownWord w full = codes "a line begins with listen, port, hint, local, cache, delegations, penalties, failures, sockets, workers, streams, clients or seed"
+line_sentence line.UnknownWord w full = words_of w
 line_sentence line.BadNumber w full = range_of w
 line_sentence line.BadName w full = codes "a name has labels of 1 to 63 bytes, with dots between, and 255 bytes at most"
 line_sentence line.BadType w full = codes "it is refused"

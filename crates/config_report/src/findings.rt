@@ -1,6 +1,6 @@
 //! What a server's file says that is taken and may not be meant, and what it makes.
-ghost use Rattle.std.specs.Prelude.{◌≡◌, ◌++◌, IfOk, OnOk, string_bytes};
-ghost use Rattle.config_report.specs.Notes.{hints_text, is_loopback, listen_text, note, notes_text, open_text, sockets_text, strangers_line, total_text};
+ghost use Rattle.std.specs.Prelude.{◌≡◌, ◌++◌, IfOk, OnOk, length, not, string_bytes};
+ghost use Rattle.config_report.specs.Notes.{hints_text, is_loopback, listen_text, metrics_text, note, notes_text, open_text, readers_line, sockets_text, strangers_line, total_text};
 
 use config::{Endpoint, ServeConfig};
 use dname::{Heap, Starved};
@@ -9,13 +9,14 @@ use rdata::Addr;
 use std::alloc::Allocator;
 
 /// A line `note: SENTENCE` for each thing that a server's file says and an operator may not mean: no hint or more than
-/// are used, an address that strangers reach, any free port, few sockets, or a seed. None where there is nothing.
+/// are used, addresses that strangers reach, any free port, few sockets, or a seed. None where there is nothing.
 pub fn notes<A: Heap>(alloc: A, config: &ServeConfig<'_, A>) -> Result<String<A>, Starved>
     ensures { IfOk result (λ s. string_bytes s ≡ notes_text config.now) }
 {
     let mut out = String::new(alloc);
-    put_hints(&mut out, config.hints.len())?;
+    put_hints(&mut out, hint_count(config))?;
     put_listen(&mut out, &config.listen)?;
+    put_metrics(&mut out, &config.metrics)?;
     put_sockets(&mut out, config.sockets)?;
     put_if(
         &mut out,
@@ -23,6 +24,13 @@ pub fn notes<A: Heap>(alloc: A, config: &ServeConfig<'_, A>) -> Result<String<A>
         "note: seed: for tests alone: whoever knows it foretells each ID\n",
     )?;
     Ok(out)
+}
+
+// How many hints the file has.
+fn hint_count<A: Allocator>(config: &ServeConfig<'_, A>) -> usize
+    ensures { result ≡ length (config.now).hints }
+{
+    config.hints.as_slice().len()
 }
 
 // Appends the notes on so many hints.
@@ -51,6 +59,35 @@ fn put_listen<A: Allocator>(out: &mut String<A>, listen: &Endpoint) -> Result<()
         listen.port == 0,
         "note: port 0: it listens at any port that is free, another one after each start\n",
     )
+}
+
+// Appends the note on where the counters are served.
+fn put_metrics<A: Allocator>(out: &mut String<A>, metrics: &Option<Endpoint>) -> Result<(), Starved>
+    ensures { OnOk result (string_bytes out.new ≡ string_bytes out.old ++ metrics_text metrics.now) }
+{
+    match metrics {
+        Some(at) => put_readable(out, at.address),
+        None => Ok(()),
+    }
+}
+
+fn put_readable<A: Allocator>(out: &mut String<A>, address: Addr) -> Result<(), Starved>
+    ensures { OnOk result (string_bytes out.new ≡ string_bytes out.old ++ note (not (is_loopback address.0)) (readers_line address.0)) }
+{
+    if is_loopback(address) {
+        return Ok(());
+    }
+    put_readers(out, address)
+}
+
+fn put_readers<A: Allocator>(out: &mut String<A>, address: Addr) -> Result<(), Starved>
+    ensures { OnOk result (string_bytes out.new ≡ string_bytes out.old ++ readers_line address.0) }
+{
+    write!(
+        out,
+        "note: metrics {address}: whoever reaches this address reads the counters\n"
+    )?;
+    Ok(())
 }
 
 // Appends the note on so many socket numbers.

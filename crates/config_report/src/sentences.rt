@@ -1,6 +1,6 @@
 //! What may stand where something was refused.
 ghost use Rattle.std.specs.Prelude.{◌≡◌};
-ghost use Rattle.config_report.specs.Sentences.{file_sentence, form_of, line_sentence, range_of, rule_sentence, word_count};
+ghost use Rattle.config_report.specs.Sentences.{file_sentence, form_of, line_sentence, range_of, rule_sentence, word_count, words_of};
 
 use masterfile::FileKind;
 use text_lines::LineKind;
@@ -12,8 +12,7 @@ pub(crate) fn line_sentence(kind: LineKind, word: &str, is_full: bool) -> &'stat
     ensures { result.now ≡ line_sentence kind word.now is_full }
 {
     match kind {
-        LineKind::UnknownWord =>
-            "a line begins with listen, port, hint, local, cache, delegations, penalties, failures, sockets, workers, streams, clients or seed",
+        LineKind::UnknownWord => words_of(word),
         LineKind::BadNumber => range_of(word),
         LineKind::BadName =>
             "a name has labels of 1 to 63 bytes, with dots between, and 255 bytes at most",
@@ -32,8 +31,19 @@ pub(crate) fn word_count(word: &str) -> usize
     ensures { result ≡ word_count word.now }
 {
     match word {
-        "listen" | "local" => 3,
+        "listen" | "local" | "metrics" => 3,
         _ => 2,
+    }
+}
+
+// Which words may stand where another one does, in a line that begins with this word.
+fn words_of(word: &str) -> &'static str
+    ensures { result.now ≡ words_of word.now }
+{
+    match word {
+        "log" => "a level is warn or info",
+        _ =>
+            "a line begins with listen, port, hint, local, cache, delegations, penalties, failures, sockets, workers, streams, clients, metrics, log or seed",
     }
 }
 
@@ -45,6 +55,8 @@ fn form_of(word: &str) -> &'static str
         "listen" => "the line is listen ADDRESS PORT",
         "hint" => "the line is hint ADDRESS",
         "local" => "the line is local ORIGIN FILE, and FILE has no spaces",
+        "metrics" => "the line is metrics ADDRESS PORT",
+        "log" => "the line is log LEVEL",
         "seed" => "the line is seed HEX",
         _ => "a number stands behind the word, and nothing else",
     }
@@ -56,6 +68,7 @@ fn range_of(word: &str) -> &'static str
 {
     match word {
         "listen" => "a port is a number from 0 to 65535",
+        "metrics" => "a port is a number from 1 to 65535",
         "port" => "a number from 1 to 65535",
         "sockets" | "workers" => "a number from 1 to 16",
         "streams" => "a number from 1 to 256",

@@ -20,6 +20,7 @@ returns c =
     let with_play = one_more _ _ c.in_ok-line-4.line _ _ with_dump c.play_line.ensures.app c.play_line.ensures.local c.in_ok-line-4.ensures in
     let with_storm = one_more _ _ c.in_ok-line-5.line _ _ with_play c.storm_line.ensures.app c.storm_line.ensures.local c.in_ok-line-5.ensures in
     let with_serve = one_more _ _ c.in_ok-line-6.line _ _ with_storm c.config_line.ensures.app c.config_line.ensures.local c.in_ok-line-6.ensures in
+    let with_config = one_more _ _ c.in_ok-line-7.line _ _ with_serve c.config_line-2.ensures.app c.config_line-2.ensures.local c.in_ok-line-7.ensures in
     record {
-      app = IfOk-weaker c.with_line-7.result _ _ (λ r h. one_more _ _ r _ _ with_serve c.config_line-2.ensures.app c.config_line-2.ensures.local h) c.with_line-7.ensures;
+      app = IfOk-weaker c.with_line-8.result _ _ (λ r h. one_more _ _ r _ _ with_config c.trace_line.ensures.app c.trace_line.ensures.local h) c.with_line-8.ensures;
     }

@@ -1,5 +1,5 @@
 -- The notes, one behind the other.
-use Rattle.std.proofs.Common.{rules, ◌≡◌, length, ap, string_bytes}
+use Rattle.std.proofs.Common.{◌≡◌, ◌∙◌, ap}
 use Rattle.std.specs.Prelude.{is_some}
 use Rattle.config.specs.Configs.{Config}
 use Rattle.config_report.proofs.Appends.{all_notes}
@@ -7,7 +7,6 @@ use Rattle.config_report.proofs.findings.notes.Goals as goal
 
 pub returns : goal.returns
 returns g c =
-    let n_is : c.len.result ≡ length (c.args.config.now).hints = search rules in
-    let b_is : c.is_some.result ≡ is_some (c.args.config.now).seed = search rules in
-    all_notes c.args.config.now _ _ _ _ _ _ _ _ _ n_is (ap (λ (s : Config). s.listen) c.config.view_is) (ap (λ (s : Config). s.sockets) c.config.view_is) b_is c.new-out.ensures.bytes
-    c.in_ok-put_hints.ensures c.in_ok-put_listen.ensures c.in_ok-put_sockets.ensures c.in_ok-put_if.ensures
+    let b_is : c.is_some.result ≡ is_some (c.args.config.now).seed = c.is_some.ensures ∙ ap (λ (s : Config). is_some s.seed) c.config.view_is in
+    all_notes c.args.config.now _ _ _ _ _ _ _ _ _ _ _ c.hint_count.ensures (ap (λ (s : Config). s.listen) c.config.view_is) (ap (λ (s : Config). s.metrics) c.config.view_is) (ap (λ (s : Config). s.sockets) c.config.view_is) b_is c.new-out.ensures.bytes
+    c.in_ok-put_hints.ensures c.in_ok-put_listen.ensures c.in_ok-put_metrics.ensures c.in_ok-put_sockets.ensures c.in_ok-put_if.ensures

@@ -1,0 +1,2 @@
+-- To be read: what the words of the contracts mean.
+pub mod Lines

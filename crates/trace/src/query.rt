@@ -1,0 +1,315 @@
+//! One query, from its first ask to its reply.
+ghost use Rattle.std.specs.Prelude.{◌≤◌, IfOk, IfSome, length};
+
+use crate::lines::{Loss, indent, put_cause, put_class, put_loss, put_search};
+use crate::peers::Peers;
+use crate::searches::Searches;
+use causes::Cause;
+use classify::{Class, classify};
+use dispatch::{Reach, repeats};
+use dname::{Heap, Name, Starved};
+use engine::Core;
+use events::{Action, Bytes, Endpoint, Event};
+use limits::{QUERY_LIFETIME_MS, TCP_WAIT_MS};
+use rdata::RType;
+use reply_lines::{put_ask_bytes, put_reply_bytes};
+use score::query_bytes;
+use std::alloc::Allocator;
+use wire::{TCP_LIMIT, Via, View, WireError, decode};
+
+// The number of the client in the printed reply.
+const CLIENT: u64 = 1;
+
+// How long a datagram is waited for before the resolver is told the time, in milliseconds, as a server does.
+const SLICE_MS: u64 = 50;
+
+// How many events there are at most, where no clock can be read: else the resolver ends the query in time.
+const MOST_EVENTS: u32 = 1_000_000;
+
+// An ask that waits.
+#[derive(Drop)]
+struct OpenAsk<A: Allocator> {
+    socket: u16,
+    to: Endpoint,
+    bytes: Bytes<A>,
+    moment: u64,
+    // Whether it is said already that nothing can come.
+    is_lost: bool,
+    // Whether it is said already that a datagram of another came.
+    is_disturbed: bool,
+}
+
+// What was seen of a query.
+#[derive(Drop)]
+struct Trace<A: Allocator> {
+    alloc: A,
+    core: Core<A>,
+    reach: Reach,
+    searches: Searches<A>,
+    asks: u64,
+    open: Option<OpenAsk<A>>,
+    text: String<A>,
+}
+
+/// Asks a resolver for a name and a type, as a client over TCP does, and its servers through `peers`, those alone that
+/// are in reach: the lines of all that happens, the reply among them. The resolver ends it within its ten seconds.
+pub fn trace<A: Heap, P: Peers>(
+    alloc: A,
+    core: Core<A>,
+    reach: Reach,
+    name: Name<A>,
+    kind: RType,
+    peers: &mut P,
+) -> Result<String<A>, Starved> {
+    let bytes = query_bytes(alloc, CLIENT, name, kind, true)?;
+    let mut trace = Trace::new(alloc, core, reach)?;
+    let mut next = trace.step(Event::Client {
+        moment: peers.moment(),
+        client: CLIENT,
+        way: Via::Tcp,
+        bytes,
+    })?;
+    for _ in 0..MOST_EVENTS {
+        next = match next {
+            Some(Action::Reply { bytes, cause, .. }) => {
+                trace.reply(bytes.as_slice(), cause)?;
+                break;
+            }
+            Some(Action::Send { socket, to, bytes }) => {
+                trace.send(peers, socket, to, bytes)?;
+                None
+            }
+            Some(Action::TcpAsk { number, to, bytes }) => {
+                trace.exchange(peers, number, to, bytes.as_slice())?
+            }
+            None => trace.wait(peers)?,
+        };
+    }
+    let Trace { text, .. } = trace;
+    Ok(text)
+}
+
+impl<A: Heap> Trace<A> {
+    fn new(alloc: A, core: Core<A>, reach: Reach) -> Result<Trace<A>, Starved> {
+        Ok(Trace {
+            alloc,
+            core,
+            reach,
+            searches: Searches::new(alloc)?,
+            asks: 0,
+            open: None,
+            text: String::new(alloc),
+        })
+    }
+
+    fn step(&mut self, event: Event<A>) -> Result<Option<Action<A>>, Starved> {
+        let actions = self.core.step(&event)?;
+        drop(event);
+        Ok(actions.first)
+    }
+
+    // The lines of the reply, and its cause in words.
+    fn reply(&mut self, bytes: &[u8], cause: Option<Cause>) -> Result<(), Starved> {
+        put_reply_bytes(self.alloc, &mut self.text, CLIENT, bytes, cause)?;
+        match cause {
+            Some(cause) => put_cause(&mut self.text, cause),
+            None => Ok(()),
+        }
+    }
+
+    // The line of an ask, and before it one where a search for a server's address begins.
+    fn announce(&mut self, way: Via, to: Endpoint, bytes: &[u8]) -> Result<(), Starved> {
+        self.asks = self.asks.saturating_add(1);
+        self.search_for(bytes)?;
+        self.text.push_str(indent(self.searches.depth()))?;
+        put_ask_bytes(
+            self.alloc,
+            &mut self.text,
+            self.asks,
+            way,
+            to.address,
+            bytes,
+        )
+    }
+
+    // The search to which an ask of these bytes belongs is the innermost from now on.
+    fn search_for(&mut self, bytes: &[u8]) -> Result<(), Starved> {
+        let message = match decode(self.alloc, bytes) {
+            Ok(message) => message,
+            Err(WireError::Memory) => return Err(Starved),
+            Err(_) => return Ok(()),
+        };
+        let [question] = message.questions.as_slice() else {
+            return Ok(());
+        };
+        let Some(kind) = RType::from_number(question.qtype) else {
+            return Ok(());
+        };
+        if self.searches.ask(self.alloc, &question.name, kind)? {
+            let outer = self.searches.depth().saturating_sub(1);
+            put_search(&mut self.text, outer, &question.name, kind)?;
+        }
+        Ok(())
+    }
+
+    // Asks a server in a datagram.
+    fn send<P: Peers>(
+        &mut self,
+        peers: &mut P,
+        socket: u16,
+        to: Endpoint,
+        bytes: Bytes<A>,
+    ) -> Result<(), Starved> {
+        self.announce(Via::Udp, to, bytes.as_slice())?;
+        let moment = peers.moment();
+        let loss = if !self.reach.has(to.address) {
+            peers.close();
+            Some(Loss::Barred)
+        } else if !peers.send(to, bytes.as_slice()) {
+            Some(Loss::Unsent)
+        } else {
+            None
+        };
+        if let Some(loss) = loss {
+            put_loss(&mut self.text, self.searches.depth(), 0, loss)?;
+        }
+        self.open = Some(OpenAsk {
+            socket,
+            to,
+            bytes,
+            moment,
+            is_lost: loss.is_some(),
+            is_disturbed: false,
+        });
+        Ok(())
+    }
+
+    // Waits a little for a datagram: what the resolver does next, if anything.
+    fn wait<P: Peers>(&mut self, peers: &mut P) -> Result<Option<Action<A>>, Starved> {
+        let came = peers.receive(self.alloc, SLICE_MS)?;
+        let moment = peers.moment();
+        match (came, self.open.take()) {
+            (Some(bytes), Some(ask)) if bytes.len() <= TCP_LIMIT => self.take(moment, ask, bytes),
+            (_, ask) => self.tick(moment, ask),
+        }
+    }
+
+    // Time passes: the ask is over where the resolver goes on.
+    fn tick(&mut self, moment: u64, ask: Option<OpenAsk<A>>) -> Result<Option<Action<A>>, Starved> {
+        let next = self.step(Event::Tick { moment })?;
+        if next.is_none() {
+            self.open = ask;
+            return Ok(None);
+        }
+        match ask {
+            Some(ask) if !ask.is_lost => {
+                let passed = moment.saturating_sub(ask.moment);
+                put_loss(&mut self.text, self.searches.depth(), passed, Loss::Silent)?;
+            }
+            _ => {}
+        }
+        Ok(next)
+    }
+
+    // A datagram came at the socket of an ask.
+    fn take(
+        &mut self,
+        moment: u64,
+        mut ask: OpenAsk<A>,
+        bytes: Vec<u8, A>,
+    ) -> Result<Option<Action<A>>, Starved> {
+        let passed = moment.saturating_sub(ask.moment);
+        if !repeats(self.alloc, ask.bytes.as_slice(), &bytes)? {
+            if !ask.is_disturbed {
+                put_loss(&mut self.text, self.searches.depth(), passed, Loss::Foreign)?;
+            }
+            ask.is_disturbed = true;
+            return self.tick(moment, Some(ask));
+        }
+        self.tell(Via::Udp, passed, &bytes)?;
+        let (socket, from) = (ask.socket, ask.to);
+        drop(ask);
+        self.step(Event::Datagram {
+            moment,
+            socket,
+            from,
+            bytes: Bytes::new(bytes),
+        })
+    }
+
+    // Asks a server over TCP: what the resolver does next.
+    fn exchange<P: Peers>(
+        &mut self,
+        peers: &mut P,
+        number: u64,
+        to: Endpoint,
+        bytes: &[u8],
+    ) -> Result<Option<Action<A>>, Starved> {
+        self.announce(Via::Tcp, to, bytes)?;
+        let began = peers.moment();
+        let (came, loss) = self.reply_over_tcp(peers, began, to, bytes)?;
+        let moment = peers.moment();
+        let passed = moment.saturating_sub(began);
+        match came {
+            Some(reply) => {
+                self.tell(Via::Tcp, passed, &reply)?;
+                self.step(Event::TcpReply {
+                    moment,
+                    number,
+                    bytes: Bytes::new(reply),
+                })
+            }
+            None => {
+                put_loss(&mut self.text, self.searches.depth(), passed, loss)?;
+                self.step(Event::TcpFailed { moment, number })
+            }
+        }
+    }
+
+    // What a server replies over TCP, or why there is nothing.
+    fn reply_over_tcp<P: Peers>(
+        &mut self,
+        peers: &mut P,
+        began: u64,
+        to: Endpoint,
+        bytes: &[u8],
+    ) -> Result<(Option<Vec<u8, A>>, Loss), Starved>
+        ensures { IfOk result (λ r. IfSome r.0 (λ v. length v.items ≤ 65535)) }
+    {
+        if !self.reach.has(to.address) {
+            return Ok((None, Loss::Barred));
+        }
+        let wait_ms = TCP_WAIT_MS.min(QUERY_LIFETIME_MS.saturating_sub(began));
+        match peers.exchange(self.alloc, to, bytes, wait_ms)? {
+            Some(reply) if reply.len() <= TCP_LIMIT && repeats(self.alloc, bytes, &reply)? => {
+                Ok((Some(reply), Loss::Broken))
+            }
+            _ => Ok((None, Loss::Broken)),
+        }
+    }
+
+    // The line of a reply that repeats its ask, and what it says is known from now on.
+    fn tell(&mut self, way: Via, passed: u64, bytes: &[u8]) -> Result<(), Starved> {
+        let Some((class, rcode)) = self.class_of(way, bytes)? else {
+            return Ok(());
+        };
+        let put = put_class(&mut self.text, self.searches.depth(), passed, &class, rcode);
+        let learnt = self.searches.learn(class);
+        put?;
+        learnt
+    }
+
+    // What a reply is used for, and its RCODE.
+    fn class_of(&self, way: Via, bytes: &[u8]) -> Result<Option<(Class<A>, u8)>, Starved> {
+        let view = match View::new(self.alloc, bytes) {
+            Ok(view) => view,
+            Err(WireError::Memory) => return Err(Starved),
+            Err(_) => return Ok(None),
+        };
+        let (Some(zone), Some(search)) = (self.searches.zone(), self.searches.innermost()) else {
+            return Ok(None);
+        };
+        let class = classify(self.alloc, zone, &search.name, search.kind, way, &view)?;
+        Ok(Some((class, view.header().rcode)))
+    }
+}
