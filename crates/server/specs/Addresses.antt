@@ -1,5 +1,5 @@
 -- Addresses of sockets.
-use Rattle.std.specs.Prelude.{◌≡◌}
+use Rattle.std.specs.Prelude.{◌≡◌, ◌⊎◌}
 use Rattle.std.specs.Net.Addr.{ipv4_octets}
 use Rattle.std.specs.Net.Socket.{v4_ip, v4_port}
 use Rattle.std.specs.declared.net.socket_addr.SocketAddr.{SocketAddr}
@@ -15,3 +15,8 @@ IsAt (V6 a) e = ⊥
 abbrev pub IsElsewhere : SocketAddr → Type 0
 IsElsewhere (V4 a) = ⊥
 IsElsewhere (V6 a) = Unit {0}
+
+-- It is this IPv4 address with this port, or with any where that is 0.
+abbrev pub IsBoundTo : SocketAddr → Endpoint → Type 0
+IsBoundTo address listen =
+    (e : Endpoint) × IsAt address e × (e.address ≡ listen.address) × ((listen.port ≡ 0) ⊎ (e.port ≡ listen.port))

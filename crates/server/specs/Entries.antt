@@ -1,7 +1,7 @@
 -- What becomes of queries at the door.
 use Rattle.std.specs.Prelude.{◌≡◌, ℕ, Option, None, List}
 use Rattle.causes.specs.declared.cause.Cause.{Cause}
-use Rattle.runs.specs.States.{ActionSpec, Reply}
+use Rattle.runs.specs.States.{Action as ActionSpec, Reply}
 use Rattle.events.specs.declared.action.Action.{Action}
 use Rattle.events.specs.declared.action.Action.TheVariants as said
 use Rattle.door.specs.declared.queries.Admission.{Admission}

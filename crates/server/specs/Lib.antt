@@ -6,3 +6,5 @@ pub mod Addresses
 pub mod Waits
 pub mod Askers
 pub mod Entries
+pub mod Tallies
+pub mod Failures

@@ -13,8 +13,8 @@ const MOST_UNDER_WAY: u32 = 16;
 // How long a stream stays open on which no whole frame comes and no reply goes, in milliseconds.
 const IDLE_MS: u64 = 10_000;
 
-// How long a reply is waited for, in milliseconds: longer than a query stays open, so that its reply comes before, but for
-// what was held at the door first.
+// How long a reply is waited for, in milliseconds: longer than a query stays open, so that its reply comes before, but
+// for what was held at the door first.
 const REPLY_MS: u64 = 12_000;
 
 const _: () = prove!(QUERY_LIFETIME_MS < REPLY_MS);

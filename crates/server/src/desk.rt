@@ -7,7 +7,7 @@ use crate::moments::Beginning;
 use crate::outbox::{Outbox, StreamAsk, StreamReply};
 use crate::poller::Poller;
 use crate::query::{Asker, Query};
-use crate::tally::Came;
+use crate::tally::Arrival;
 use book::{Machine, Ticket};
 use counters::{Outcome, SocketFault};
 use crossbeam_channel::{Receiver, Sender};
@@ -209,15 +209,15 @@ impl<M: Machine<Event = Event, Out = Actions>, L: Ledger> Desk<'_, M, L> {
         upshot
     }
 
-    // Puts an event, of a question that was let in or another one, and hands over what goes out; what came of it. An ask
-    // over TCP that can't be made has failed, which is an event again.
+    // Puts an event, of a question that was let in or another one, and hands over what goes out; what came of it. An
+    // ask over TCP that can't be made has failed, which is an event again.
     fn step<R: Wait + Clock>(
         &self,
         rt: &R,
         ticket: &mut Ticket<L>,
         event: Event,
         question: Option<Question>,
-        came: Option<Came>,
+        came: Option<Arrival>,
     ) -> Upshot {
         let mut event = event;
         let mut question = question;
@@ -253,16 +253,16 @@ impl<M: Machine<Event = Event, Out = Actions>, L: Ledger> Desk<'_, M, L> {
     }
 
     // The query of an event, where queries are counted. One that was held came at the moment that is given.
-    fn came(&self, event: &Event, held: Option<u64>) -> Option<Came> {
+    fn came(&self, event: &Event, held: Option<u64>) -> Option<Arrival> {
         if self.ends.tally.is_some() {
-            Came::of(event, held)
+            Arrival::of(event, held)
         } else {
             None
         }
     }
 
     // Counts what came of a step, where it is counted.
-    fn count_step<R: Wait + Clock>(&self, rt: &R, came: Option<Came>, actions: &Actions) {
+    fn count_step<R: Wait + Clock>(&self, rt: &R, came: Option<Arrival>, actions: &Actions) {
         if let Some(tally) = &self.ends.tally
             && let Some(action) = &actions.first
         {

@@ -1,6 +1,6 @@
 //! The sockets of a server.
-ghost use Rattle.std.specs.Prelude.{◌≡◌, MatchOption};
-ghost use Rattle.server.specs.Addresses.{IsAt, IsElsewhere};
+ghost use Rattle.std.specs.Prelude.{◌≡◌, ◌↔◌, IsTrue, MatchOption};
+ghost use Rattle.server.specs.Addresses.{IsAt, IsBoundTo, IsElsewhere};
 ghost use Rattle.server.specs.Waits.{IsShort};
 
 use crate::log::Shown;
@@ -140,8 +140,8 @@ impl Ends {
         })
     }
 
-    /// The same at two sockets that the service manager bound and handed over, as descriptors 3 and 4: one for datagrams,
-    /// and one for streams. Refused where they are not bound to `listen`.
+    /// The same at two sockets that the service manager bound and handed over, as descriptors 3 and 4: one for
+    /// datagrams, and one for streams. Refused where they are not bound to `listen`.
     pub fn handed<R: Net>(rt: &R, alloc: Global, listen: Endpoint) -> io::Result<Ends> {
         let clients = UdpSocket::from(unsafe { OwnedFd::from_raw_fd(FIRST_HANDED) });
         let listener = net::TcpListener::from(unsafe { OwnedFd::from_raw_fd(FIRST_HANDED + 1) });
@@ -216,10 +216,13 @@ impl Ends {
 const FIRST_HANDED: i32 = 3;
 
 // Whether an address is the one that is to be listened at, where port 0 stands for any.
-fn is_bound_to(address: SocketAddr, listen: Endpoint) -> bool {
-    endpoint_of(address).is_some_and(|end| {
-        end.address == listen.address && (listen.port == 0 || end.port == listen.port)
-    })
+fn is_bound_to(address: SocketAddr, listen: Endpoint) -> bool
+    ensures { IsTrue result ↔ IsBoundTo address listen }
+{
+    match endpoint_of(address) {
+        Some(end) => end.address == listen.address && (listen.port == 0 || end.port == listen.port),
+        None => false,
+    }
 }
 
 // How many ports are tried where any will do.

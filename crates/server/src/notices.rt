@@ -17,8 +17,8 @@ pub(crate) struct Notices {
 }
 
 impl Notices {
-    /// To the socket at this path; of this name, where it begins with `@`. None where it is neither, and where there is no
-    /// descriptor.
+    /// To the socket at this path; of this name, where it begins with `@`. None where it is neither, and where there is
+    /// no descriptor.
     pub fn to(path: &str) -> Option<Notices> {
         let name = path.as_bytes();
         let first = *name.first()?;
@@ -43,13 +43,14 @@ impl Notices {
 
     /// Tells it these words; whether they could be sent. What can't be sent is lost.
     pub fn tell(&self, words: &str) -> bool {
+        let length = self.length.min(ADDRESS_BYTES as u32);
         let sent = unsafe {
             c::sendto(
                 self.socket.as_raw_fd(),
                 words.as_bytes(),
                 c::MSG_NOSIGNAL,
                 &self.address,
-                self.length,
+                length,
             )
         };
         sent >= 0

@@ -118,8 +118,8 @@ impl OpenAsks {
         datagram_socket()
     }
 
-    // Waits for the replies to an ask from now on, or, where it was taken out, again; whether it can. One that can't be
-    // waited for is lost.
+    // Waits for the replies to an ask from now on, or, where it was taken out, again; whether it can. One that can't
+    // be waited for is lost.
     fn put<R: Wait>(&self, rt: &R, ask: OpenAsk, again: bool) -> bool {
         let socket = ask.socket.as_raw_fd();
         let mut open = self.open.lock(rt);
@@ -157,8 +157,8 @@ impl OpenAsks {
         }
     }
 
-    // How many bytes the datagram has that repeats an ask, where one has come. One that can't be read for want of memory
-    // is lost. That nobody listens at the server's port is no reply, since anyone can say so.
+    // How many bytes the datagram has that repeats an ask, where one has come. One that can't be read for want of
+    // memory is lost. That nobody listens at the server's port is no reply, since anyone can say so.
     fn reply_to(&self, ask: &OpenAsk, buffer: &mut [u8]) -> Option<usize>
         ensures { IfSome result (λ n. n ≤ length buffer.new) }
     {

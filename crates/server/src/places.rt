@@ -1,5 +1,6 @@
 //! The places of clients' streams.
-ghost use Rattle.std.specs.Prelude.{◌<◌, ◌^◌, length};
+ghost use Rattle.std.specs.Prelude.{◌≡◌, ◌<◌, ◌^◌, length};
+ghost use Rattle.server.specs.Failures.{stream_outcome};
 
 use crate::client_stream::ClientStream;
 use crate::ends::{Ends, accept_fault, endpoint_of};
@@ -187,7 +188,9 @@ impl Places {
 }
 
 // How the fault of a client's stream is counted.
-fn outcome_of(fault: StreamFault) -> Outcome {
+fn outcome_of(fault: StreamFault) -> Outcome
+    ensures { result ≡ stream_outcome fault }
+{
     match fault {
         StreamFault::Memory => Outcome::MemoryRefused,
         StreamFault::Refused | StreamFault::Silent | StreamFault::Reset => {

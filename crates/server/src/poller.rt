@@ -37,8 +37,8 @@ impl Poller {
         })
     }
 
-    /// From now on the wait ends where the socket can be read, or, if that is asked, written. It is told at once of what
-    /// came before, and then of changes alone.
+    /// From now on the wait ends where the socket can be read, or, if that is asked, written. It is told at once of
+    /// what came before, and then of changes alone.
     pub fn watch(&self, socket: RawFd, key: usize, interest: Interest) -> bool {
         self.registry
             .register(&mut SourceFd(&socket), Token(key), interest)

@@ -3,6 +3,7 @@ ghost use Rattle.std.specs.Prelude.{◌≡◌};
 ghost use Rattle.runs.specs.States.{Client};
 ghost use Rattle.events.specs.Views.{event_view};
 ghost use Rattle.server.specs.Askers.{asker_in, client_at_door};
+ghost use Rattle.server.specs.Tallies.{counted_as};
 
 use counters::Way;
 use dispatch::stream_client;
@@ -29,7 +30,9 @@ impl Asker {
     }
 
     /// The way, as it is counted.
-    pub fn counted_way(self) -> Way {
+    pub fn counted_way(self) -> Way
+        ensures { result ≡ counted_as self.way }
+    {
         match self.way {
             Via::Udp => Way::Udp,
             Via::Tcp => Way::Tcp,

@@ -26,7 +26,8 @@ use std::thread::{Scope, Threads};
 use std::time::Clock;
 
 /// Serves at these ends within these bounds until the flag is up: each ticket is for one loop, by its worker's number.
-/// Every loop has ended when this returns. Where a thread can't be made the flag is put up, and the server is refused with `Threads`.
+/// Every loop has ended when this returns. Where a thread can't be made the flag is put up, and the server is refused
+/// with `Threads`.
 pub fn serve_until<
     M: Machine<Event = Event, Out = Actions> + Send + Sync,
     L: Ledger + Send + Sync,
@@ -100,7 +101,8 @@ fn start_all<
     well
 }
 
-// Begins to serve the counters, in a thread of its own, where they are served; whether there is one where one is wanted.
+// Begins to serve the counters, in a thread of its own, where they are served; whether there is one where one is
+// wanted.
 fn start_counters<
     's,
     'd,
@@ -119,7 +121,8 @@ fn start_counters<
     started
 }
 
-// Begins what the ticket is for, in a thread of its own. Where none can be made the flag is put up; whether there is one.
+// Begins what the ticket is for, in a thread of its own; whether there is one. Where none can be made the flag is put
+// up.
 fn start<
     's,
     'd,

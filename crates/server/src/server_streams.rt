@@ -1,5 +1,6 @@
 //! The loop that asks servers over TCP.
-ghost use Rattle.std.specs.Prelude.{◌<◌, ◌^◌, IfOk, IfSome, length};
+ghost use Rattle.std.specs.Prelude.{◌≡◌, ◌<◌, ◌^◌, IfOk, IfSome, length};
+ghost use Rattle.server.specs.Failures.{ask_fault};
 
 use crate::desk::{Bounds, Desk};
 use crate::ends::{SLICE_MS, address_of, lacks_descriptors};
@@ -64,7 +65,9 @@ impl Talk {
 }
 
 // Why an ask has no reply whose stream failed so.
-fn ask_fault(fault: StreamFault) -> AskFault {
+fn ask_fault(fault: StreamFault) -> AskFault
+    ensures { result ≡ ask_fault fault }
+{
     match fault {
         StreamFault::Memory | StreamFault::Refused => AskFault::Refused,
         StreamFault::Silent => AskFault::Silent,
@@ -166,8 +169,24 @@ fn begin_all<M: Machine<Event = Event, Out = Actions>, L: Ledger, R: Net + Wait 
     }
 }
 
-// Begins to connect, and puts down what is to be written. Fails where the ask's time is over, where as many as may be are
-// at that server, and where there is no stream.
+// Whether this ask may begin: its time is not over, and fewer than may be are at that server.
+fn may_begin(talks: &Slab<Talk>, ask: &StreamAsk, now: u64) -> Result<(), AskFault> {
+    if now.saturating_sub(ask.moment) >= TCP_WAIT_MS {
+        return Err(AskFault::Silent);
+    }
+    let server = ask.to.address;
+    let at_server = talks
+        .iter()
+        .filter(|(_, talk)| talk.server == server)
+        .count();
+    if at_server >= ASKS_OF_A_SERVER {
+        return Err(AskFault::Crowded);
+    }
+    Ok(())
+}
+
+// Begins to connect, and puts down what is to be written. Fails where the ask may not begin, and where there is no
+// stream.
 fn begin<R: Net>(
     rt: &R,
     alloc: Global,
@@ -176,17 +195,7 @@ fn begin<R: Net>(
     ask: StreamAsk,
     now: u64,
 ) -> Result<(), AskFault> {
-    let server = ask.to.address;
-    let at_server = talks
-        .iter()
-        .filter(|(_, talk)| talk.server == server)
-        .count();
-    if now.saturating_sub(ask.moment) >= TCP_WAIT_MS {
-        return Err(AskFault::Silent);
-    }
-    if at_server >= ASKS_OF_A_SERVER {
-        return Err(AskFault::Crowded);
-    }
+    may_begin(talks, &ask, now)?;
     let stream = match TcpStream::connect(rt, address_of(ask.to)) {
         Ok(stream) => stream,
         Err(error) if lacks_descriptors(&error) => return Err(AskFault::Descriptors),
@@ -197,7 +206,7 @@ fn begin<R: Net>(
     let socket = stream.descriptor();
     let talk = Talk {
         number: ask.number,
-        server,
+        server: ask.to.address,
         moment: ask.moment,
         stream,
         due: false,

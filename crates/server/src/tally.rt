@@ -1,4 +1,6 @@
 //! What a server counts, where its file asks for it.
+ghost use Rattle.std.specs.Prelude.{◌≡◌};
+ghost use Rattle.server.specs.Tallies.{AsksFor, byte_of, id_in, reply_in};
 
 use crate::query::{Asker, Query};
 use counters::{COUNTERS, Cells, Counter, Outcome, Reply, Way, count};
@@ -15,22 +17,22 @@ const OPEN_MS: u64 = 12_000;
 
 /// A client's query: whose it is, its ID, and when it came.
 #[derive(Clone, Copy)]
-pub(crate) struct Came {
+pub(crate) struct Arrival {
     asker: Asker,
     id: u16,
     moment: u64,
 }
 
-impl Came {
+impl Arrival {
     /// The query of an event that is one. One that was held came at the moment that is given.
-    pub fn of(event: &Event, held: Option<u64>) -> Option<Came> {
+    pub fn of(event: &Event, held: Option<u64>) -> Option<Arrival> {
         match event {
             Event::Client {
                 moment,
                 client,
                 way,
                 bytes,
-            } => Some(Came {
+            } => Some(Arrival {
                 asker: Asker {
                     client: *client,
                     way: *way,
@@ -47,7 +49,7 @@ impl Came {
 #[derive(Drop)]
 pub(crate) struct Tally {
     cells: Cells,
-    open: Mutex<Vec<Came>>,
+    open: Mutex<Vec<Arrival>>,
 }
 
 impl Tally {
@@ -71,7 +73,7 @@ impl Tally {
     }
 
     /// Counts what a step gave: of the query that came with it, or another one.
-    pub fn count_step<R: Wait>(&self, rt: &R, came: Option<Came>, now: u64, action: &Action) {
+    pub fn count_step<R: Wait>(&self, rt: &R, came: Option<Arrival>, now: u64, action: &Action) {
         match action {
             Action::Reply {
                 client,
@@ -125,16 +127,16 @@ impl Tally {
     }
 
     // Counts an ask. Where its query came with the step, it is open from now on.
-    fn count_ask<R: Wait>(&self, rt: &R, way: Way, came: Option<Came>, now: u64) {
+    fn count_ask<R: Wait>(&self, rt: &R, way: Way, came: Option<Arrival>, now: u64) {
         self.count(Outcome::Asked(way));
         if let Some(came) = came {
             self.begin(rt, came, now);
         }
     }
 
-    // Notes a query that is open. Where too many are noted, those leave whose reply can't come any more; where that makes
-    // no room it is not noted, and its time not known.
-    fn begin<R: Wait>(&self, rt: &R, came: Came, now: u64) {
+    // Notes a query that is open. Where too many are noted, those leave whose reply can't come any more; where that
+    // makes no room it is not noted, and its time not known.
+    fn begin<R: Wait>(&self, rt: &R, came: Arrival, now: u64) {
         let mut open = self.open.lock(rt);
         if open.len() >= MOST_OPEN {
             open.retain(|query| now.saturating_sub(query.moment) < OPEN_MS);
@@ -155,19 +157,24 @@ impl Tally {
 }
 
 // What the header of a reply says (RFC 1035, section 4.1.1). Its cause is not in it.
-fn reply_of(bytes: &[u8], asked: bool, millis: Option<u64>) -> Reply {
+fn reply_of(bytes: &[u8], asked: bool, millis: Option<u64>) -> Reply
+    ensures { result ≡ reply_in bytes.now asked millis }
+{
     let flags = byte_at(bytes, 2);
     Reply {
-        rcode: byte_at(bytes, 3) & 0x0F,
-        authoritative: flags & 0x04 != 0,
-        truncated: flags & 0x02 != 0,
+        rcode: byte_at(bytes, 3) % 16,
+        authoritative: flags / 4 % 2 == 1,
+        truncated: flags / 2 % 2 == 1,
         asked,
         cause: None,
         millis,
     }
 }
 
-fn byte_at(bytes: &[u8], place: usize) -> u8 {
+// The byte at a place; 0 where there is none.
+fn byte_at(bytes: &[u8], place: usize) -> u8
+    ensures { result ≡ byte_of bytes.now place }
+{
     match bytes.get(place) {
         Some(byte) => *byte,
         None => 0,
@@ -175,12 +182,16 @@ fn byte_at(bytes: &[u8], place: usize) -> u8 {
 }
 
 // The number under which it was asked.
-fn id_of(bytes: &[u8]) -> u16 {
+fn id_of(bytes: &[u8]) -> u16
+    ensures { result ≡ id_in bytes.now }
+{
     u16::from_be_bytes([byte_at(bytes, 0), byte_at(bytes, 1)])
 }
 
 // The type that a message asks for; 0, which is none, where it has no one question.
-fn type_asked(message: &[u8]) -> u16 {
+fn type_asked(message: &[u8]) -> u16
+    ensures { AsksFor message.now result }
+{
     match question_end(message) {
         Some(end) => u16::from_be_bytes([byte_at(message, end - 4), byte_at(message, end - 3)]),
         None => 0,
