@@ -41,7 +41,7 @@ struct OpenAsk<A: Allocator> {
 
 // What was seen of a query.
 #[derive(Drop)]
-struct Trace<A: Allocator> {
+struct Resolution<A: Allocator> {
     alloc: A,
     core: Core<A>,
     reach: Reach,
@@ -62,8 +62,8 @@ pub fn trace<A: Heap, P: Peers>(
     peers: &mut P,
 ) -> Result<String<A>, Starved> {
     let bytes = query_bytes(alloc, CLIENT, name, kind, true)?;
-    let mut trace = Trace::new(alloc, core, reach)?;
-    let mut next = trace.step(Event::Client {
+    let mut resolution = Resolution::new(alloc, core, reach)?;
+    let mut next = resolution.step(Event::Client {
         moment: peers.moment(),
         client: CLIENT,
         way: Via::Tcp,
@@ -72,26 +72,26 @@ pub fn trace<A: Heap, P: Peers>(
     for _ in 0..MOST_EVENTS {
         next = match next {
             Some(Action::Reply { bytes, cause, .. }) => {
-                trace.reply(bytes.as_slice(), cause)?;
+                resolution.reply(bytes.as_slice(), cause)?;
                 break;
             }
             Some(Action::Send { socket, to, bytes }) => {
-                trace.send(peers, socket, to, bytes)?;
+                resolution.send(peers, socket, to, bytes)?;
                 None
             }
             Some(Action::TcpAsk { number, to, bytes }) => {
-                trace.exchange(peers, number, to, bytes.as_slice())?
+                resolution.exchange(peers, number, to, bytes.as_slice())?
             }
-            None => trace.wait(peers)?,
+            None => resolution.wait(peers)?,
         };
     }
-    let Trace { text, .. } = trace;
+    let Resolution { text, .. } = resolution;
     Ok(text)
 }
 
-impl<A: Heap> Trace<A> {
-    fn new(alloc: A, core: Core<A>, reach: Reach) -> Result<Trace<A>, Starved> {
-        Ok(Trace {
+impl<A: Heap> Resolution<A> {
+    fn new(alloc: A, core: Core<A>, reach: Reach) -> Result<Resolution<A>, Starved> {
+        Ok(Resolution {
             alloc,
             core,
             reach,
