@@ -51,6 +51,7 @@ test: kit
 	tools/definitions
 	tools/names
 	tools/glossary
+	tools/references
 	tools/turned --texts
 	tools/prove
 	tools/examples

@@ -5,8 +5,8 @@ ghost use Rattle.commandline.specs.Helps.{asks_help, asks_version, topic_of as t
 
 use crate::help_texts::{ASKED, CHECKED, CONFIG_CHECKED, DUMPED, PLAYED, SERVED, STORMED, TRACED};
 
-/// The line of the version.
-pub(crate) const VERSION: &str = "resolverd 0.1.0\n";
+/// The program's name and version, as a line.
+pub const VERSION: &str = "resolverd 0.1.0\n";
 
 /// The commands that help can be asked of.
 #[derive(Clone, Copy)]

@@ -31,8 +31,8 @@ mod help_texts;
 mod subcommands;
 
 pub use fault::LineFault;
-pub use help::is_version;
-use help::{Topic, VERSION, topic_of};
+pub use help::{VERSION, is_version};
+use help::{Topic, topic_of};
 use std::alloc::Global;
 pub use subcommands::Command;
 

@@ -13,6 +13,7 @@ use crate::outcome::{Outcome, Server};
 use crate::run::{put, report};
 use crate::texts::Texts;
 use crate::zones::read_zone;
+use commandline::VERSION;
 use config::{LocalFile, LogLevel, ServeConfig, read_config};
 use dname::{Heap, Starved};
 use engine::CoreError;
@@ -169,6 +170,7 @@ fn bounds_of<A: Allocator>(
 // What the file asks to be shown.
 fn shown_of<A: Allocator>(config: &ServeConfig<'_, A>) -> Shown {
     Shown {
+        version: VERSION,
         metrics: match &config.metrics {
             Some(at) => Some(endpoint_of(at)),
             None => None,

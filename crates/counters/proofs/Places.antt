@@ -9,6 +9,7 @@ use Rattle.counters.specs.declared.labels.QueryType.TheVariants as kind
 use Rattle.counters.specs.declared.labels.Rcode.TheVariants as rcode
 use Rattle.counters.specs.declared.labels.Source.TheVariants as source
 use Rattle.counters.specs.declared.labels.AskFault.TheVariants as fault
+use Rattle.counters.specs.declared.labels.SocketFault.TheVariants as socket
 use Rattle.counters.specs.declared.labels.Bucket.TheVariants as bucket
 
 -- All counters, each at its place.
@@ -29,12 +30,25 @@ all =
     counter.Failure cause.NoServerLeft ∷ counter.Failure cause.ReplyTooLarge ∷
     counter.Failure cause.KnownFailure ∷ counter.Failure cause.TooManyLookUps ∷ counter.Answer source.Local ∷
     counter.Answer source.Cache ∷ counter.Answer source.Servers ∷ counter.Ask way.Udp ∷ counter.Ask way.Tcp ∷
-    counter.FailedAsk way.Udp fault.Barred ∷ counter.FailedAsk way.Udp fault.Descriptors ∷
-    counter.FailedAsk way.Udp fault.Refused ∷ counter.FailedAsk way.Udp fault.Crowded ∷
-    counter.FailedAsk way.Udp fault.Silent ∷ counter.FailedAsk way.Tcp fault.Barred ∷
-    counter.FailedAsk way.Tcp fault.Descriptors ∷ counter.FailedAsk way.Tcp fault.Refused ∷
-    counter.FailedAsk way.Tcp fault.Crowded ∷ counter.FailedAsk way.Tcp fault.Silent ∷
+    counter.FailedAsk way.Udp fault.Barred ∷
+    counter.FailedAsk way.Udp fault.Descriptors ∷
+    counter.FailedAsk way.Udp fault.Refused ∷
+    counter.FailedAsk way.Udp fault.Reset ∷
+    counter.FailedAsk way.Udp fault.Crowded ∷
+    counter.FailedAsk way.Udp fault.Silent ∷
+    counter.FailedAsk way.Tcp fault.Barred ∷
+    counter.FailedAsk way.Tcp fault.Descriptors ∷
+    counter.FailedAsk way.Tcp fault.Refused ∷
+    counter.FailedAsk way.Tcp fault.Reset ∷
+    counter.FailedAsk way.Tcp fault.Crowded ∷
+    counter.FailedAsk way.Tcp fault.Silent ∷
     counter.ForeignDatagram ∷ counter.HeldQuery ∷ counter.DroppedQuery ∷ counter.RefusedMemory ∷
+    counter.FailedSocket socket.Send ∷
+    counter.FailedSocket socket.Receive ∷
+    counter.FailedSocket socket.Accept ∷
+    counter.FailedSocket socket.Descriptors ∷
+    counter.FailedSocket socket.Stream ∷
+    counter.FailedSocket socket.Poll ∷
     counter.Waited bucket.Ms1 ∷ counter.Waited bucket.Ms5 ∷ counter.Waited bucket.Ms10 ∷
     counter.Waited bucket.Ms25 ∷ counter.Waited bucket.Ms50 ∷ counter.Waited bucket.Ms100 ∷
     counter.Waited bucket.Ms250 ∷ counter.Waited bucket.Ms500 ∷ counter.Waited bucket.Ms1000 ∷
@@ -92,17 +106,25 @@ at_place (counter.Ask way.Tcp) = refl
 at_place (counter.FailedAsk way.Udp fault.Barred) = refl
 at_place (counter.FailedAsk way.Udp fault.Descriptors) = refl
 at_place (counter.FailedAsk way.Udp fault.Refused) = refl
+at_place (counter.FailedAsk way.Udp fault.Reset) = refl
 at_place (counter.FailedAsk way.Udp fault.Crowded) = refl
 at_place (counter.FailedAsk way.Udp fault.Silent) = refl
 at_place (counter.FailedAsk way.Tcp fault.Barred) = refl
 at_place (counter.FailedAsk way.Tcp fault.Descriptors) = refl
 at_place (counter.FailedAsk way.Tcp fault.Refused) = refl
+at_place (counter.FailedAsk way.Tcp fault.Reset) = refl
 at_place (counter.FailedAsk way.Tcp fault.Crowded) = refl
 at_place (counter.FailedAsk way.Tcp fault.Silent) = refl
 at_place counter.ForeignDatagram = refl
 at_place counter.HeldQuery = refl
 at_place counter.DroppedQuery = refl
 at_place counter.RefusedMemory = refl
+at_place (counter.FailedSocket socket.Send) = refl
+at_place (counter.FailedSocket socket.Receive) = refl
+at_place (counter.FailedSocket socket.Accept) = refl
+at_place (counter.FailedSocket socket.Descriptors) = refl
+at_place (counter.FailedSocket socket.Stream) = refl
+at_place (counter.FailedSocket socket.Poll) = refl
 at_place (counter.Waited bucket.Ms1) = refl
 at_place (counter.Waited bucket.Ms5) = refl
 at_place (counter.Waited bucket.Ms10) = refl

@@ -5,16 +5,28 @@ use Rattle.counters.specs.Exposition.{bucket_line, bucket_lines, times_in, value
 use Rattle.counters.specs.declared.counter.Counter.TheVariants as counter
 use Rattle.counters.specs.declared.labels.Bucket.{Bucket}
 
--- Thirteen texts, each behind those before it.
-pub thirteen_behind : (t0 t1 t2 t3 t4 t5 t6 t7 t8 t9 t10 t11 t12 t13 m1 m2 m3 m4 m5 m6 m7 m8 m9 m10 m11 m12 m13 : List ℕ)
-    → t1 ≡ t0 ++ m1 → t2 ≡ t1 ++ m2 → t3 ≡ t2 ++ m3 → t4 ≡ t3 ++ m4 → t5 ≡ t4 ++ m5 → t6 ≡ t5 ++ m6 → t7 ≡ t6 ++ m7 → t8 ≡ t7 ++ m8 → t9 ≡ t8 ++ m9 → t10 ≡ t9 ++ m10 → t11 ≡ t10 ++ m11 → t12 ≡ t11 ++ m12 → t13 ≡ t12 ++ m13
-    → t13 ≡ t0 ++ (m1 ++ (m2 ++ (m3 ++ (m4 ++ (m5 ++ (m6 ++ (m7 ++ (m8 ++ (m9 ++ (m10 ++ (m11 ++ (m12 ++ (m13)))))))))))))
-thirteen_behind t0 t1 t2 t3 t4 t5 t6 t7 t8 t9 t10 t11 t12 t13 m1 m2 m3 m4 m5 m6 m7 m8 m9 m10 m11 m12 m13 h1 h2 h3 h4 h5 h6 h7 h8 h9 h10 h11 h12 h13 = rw (h13, h12, h11, h10, h9, h8, h7, h6, h5, h4, h3, h2, h1) (simp append_assoc)
+-- Three texts, each behind those before it.
+pub three_behind : (t0 t1 t2 t3 m1 m2 m3 : List ℕ)
+    → t1 ≡ t0 ++ m1 → t2 ≡ t1 ++ m2 → t3 ≡ t2 ++ m3
+    → t3 ≡ t0 ++ (m1 ++ (m2 ++ m3))
+three_behind t0 t1 t2 t3 m1 m2 m3 h1 h2 h3 = rw (h3, h2, h1) (simp append_assoc)
+
+-- Four texts, each behind those before it.
+pub four_behind : (t0 t1 t2 t3 t4 m1 m2 m3 m4 : List ℕ)
+    → t1 ≡ t0 ++ m1 → t2 ≡ t1 ++ m2 → t3 ≡ t2 ++ m3 → t4 ≡ t3 ++ m4
+    → t4 ≡ t0 ++ (m1 ++ (m2 ++ (m3 ++ m4)))
+four_behind t0 t1 t2 t3 t4 m1 m2 m3 m4 h1 h2 h3 h4 = rw (h4, h3, h2, h1) (simp append_assoc)
+
+-- Five texts, each behind those before it.
+pub five_behind : (t0 t1 t2 t3 t4 t5 m1 m2 m3 m4 m5 : List ℕ)
+    → t1 ≡ t0 ++ m1 → t2 ≡ t1 ++ m2 → t3 ≡ t2 ++ m3 → t4 ≡ t3 ++ m4 → t5 ≡ t4 ++ m5
+    → t5 ≡ t0 ++ (m1 ++ (m2 ++ (m3 ++ (m4 ++ m5))))
+five_behind t0 t1 t2 t3 t4 t5 m1 m2 m3 m4 m5 h1 h2 h3 h4 h5 = rw (h5, h4, h3, h2, h1) (simp append_assoc)
 
 -- Three, of which the last is told of another number.
-pub three_behind : (f : ℕ → List ℕ) (m n : ℕ) (t0 t1 t2 t3 m1 m2 : List ℕ)
+pub three_behind_with : (f : ℕ → List ℕ) (m n : ℕ) (t0 t1 t2 t3 m1 m2 : List ℕ)
     → m ≡ n → t1 ≡ t0 ++ m1 → t2 ≡ t1 ++ m2 → t3 ≡ t2 ++ f m → t3 ≡ t0 ++ (m1 ++ (m2 ++ f n))
-three_behind f m n t0 t1 t2 t3 m1 m2 same h1 h2 h3 = rw (h3, h2, h1, same) (simp append_assoc)
+three_behind_with f m n t0 t1 t2 t3 m1 m2 same h1 h2 h3 = rw (h3, h2, h1, same) (simp append_assoc)
 
 -- One bucket more is printed.
 pub bucket_more : (cells : List ℕ) (bs : List Bucket) (i : ℕ) (d : Bucket) (before n : ℕ) (printed longer whole : List ℕ) → i < length bs

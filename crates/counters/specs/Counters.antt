@@ -2,8 +2,8 @@
 use Rattle.std.specs.Prelude.{ℕ, ◌+◌, ◌*◌, List, ◌++◌, codes}
 use Rattle.causes.specs.Causes.{cause_number}
 use Rattle.counters.specs.declared.counter.Counter.{Counter}
-use Rattle.counters.specs.declared.counter.Counter.TheVariants.{Query, Reply, Truncated, Failure, Answer, Ask, FailedAsk, ForeignDatagram, HeldQuery, DroppedQuery, RefusedMemory, Waited, WaitedMillis}
-use Rattle.counters.specs.Labels.{way_word, type_word, rcode_word, cause_word, source_word, fault_word, bound_word}
+use Rattle.counters.specs.declared.counter.Counter.TheVariants.{Query, Reply, Truncated, Failure, Answer, Ask, FailedAsk, ForeignDatagram, HeldQuery, DroppedQuery, RefusedMemory, FailedSocket, Waited, WaitedMillis}
+use Rattle.counters.specs.Labels.{way_word, type_word, rcode_word, cause_word, source_word, fault_word, socket_fault_word, bound_word}
 use Rattle.counters.specs.declared.labels.Way.{Way}
 use Rattle.counters.specs.declared.labels.Way.TheVariants as way
 use Rattle.counters.specs.declared.labels.QueryType.{QueryType}
@@ -14,6 +14,8 @@ use Rattle.counters.specs.declared.labels.Source.{Source}
 use Rattle.counters.specs.declared.labels.Source.TheVariants as source
 use Rattle.counters.specs.declared.labels.AskFault.{AskFault}
 use Rattle.counters.specs.declared.labels.AskFault.TheVariants as fault
+use Rattle.counters.specs.declared.labels.SocketFault.{SocketFault}
+use Rattle.counters.specs.declared.labels.SocketFault.TheVariants as socket
 use Rattle.counters.specs.declared.labels.Bucket.{Bucket}
 use Rattle.counters.specs.declared.labels.Bucket.TheVariants as bucket
 
@@ -54,8 +56,17 @@ abbrev pub fault_place : AskFault → ℕ
 fault_place fault.Barred = 0
 fault_place fault.Descriptors = 1
 fault_place fault.Refused = 2
-fault_place fault.Crowded = 3
-fault_place fault.Silent = 4
+fault_place fault.Reset = 3
+fault_place fault.Crowded = 4
+fault_place fault.Silent = 5
+
+abbrev pub socket_fault_place : SocketFault → ℕ
+socket_fault_place socket.Send = 0
+socket_fault_place socket.Receive = 1
+socket_fault_place socket.Accept = 2
+socket_fault_place socket.Descriptors = 3
+socket_fault_place socket.Stream = 4
+socket_fault_place socket.Poll = 5
 
 abbrev pub bucket_place : Bucket → ℕ
 bucket_place bucket.Ms1 = 0
@@ -74,7 +85,7 @@ bucket_place bucket.Longer = 12
 
 -- How many counters there are.
 abbrev pub counters : ℕ
-counters = 71
+counters = 79
 
 -- The place of a counter: no two have the same (`places_law`).
 abbrev pub place : Counter → ℕ
@@ -84,13 +95,14 @@ place Truncated = 29
 place (Failure c) = 29 + cause_number c
 place (Answer s) = 38 + source_place s
 place (Ask w) = 41 + way_place w
-place (FailedAsk w f) = 43 + (5 * way_place w + fault_place f)
-place ForeignDatagram = 53
-place HeldQuery = 54
-place DroppedQuery = 55
-place RefusedMemory = 56
-place (Waited b) = 57 + bucket_place b
-place WaitedMillis = 70
+place (FailedAsk w f) = 43 + (6 * way_place w + fault_place f)
+place ForeignDatagram = 55
+place HeldQuery = 56
+place DroppedQuery = 57
+place RefusedMemory = 58
+place (FailedSocket f) = 59 + socket_fault_place f
+place (Waited b) = 65 + bucket_place b
+place WaitedMillis = 78
 
 -- ---- Names and labels.
 
@@ -106,5 +118,6 @@ series ForeignDatagram = codes "resolverd_foreign_datagrams_total"
 series HeldQuery = codes "resolverd_held_queries_total"
 series DroppedQuery = codes "resolverd_dropped_queries_total"
 series RefusedMemory = codes "resolverd_refused_memory_total"
+series (FailedSocket f) = codes "resolverd_socket_faults_total{kind=\"" ++ socket_fault_word f ++ codes "\"}"
 series (Waited b) = codes "resolverd_reply_seconds_bucket{le=\"" ++ bound_word b ++ codes "\"}"
 series WaitedMillis = codes "resolverd_reply_seconds_sum"

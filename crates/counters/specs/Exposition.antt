@@ -10,6 +10,7 @@ use Rattle.counters.specs.declared.labels.QueryType.TheVariants as kind
 use Rattle.counters.specs.declared.labels.Rcode.TheVariants as rcode
 use Rattle.counters.specs.declared.labels.Source.TheVariants as source
 use Rattle.counters.specs.declared.labels.AskFault.TheVariants as fault
+use Rattle.counters.specs.declared.labels.SocketFault.TheVariants as socket
 use Rattle.counters.specs.declared.labels.Bucket.{Bucket}
 use Rattle.counters.specs.declared.labels.Bucket.TheVariants as bucket
 
@@ -103,9 +104,9 @@ asks =
 abbrev pub failed : List Counter
 failed =
     counter.FailedAsk way.Udp fault.Barred ∷ counter.FailedAsk way.Udp fault.Descriptors ∷ counter.FailedAsk way.Udp fault.Refused ∷
-    counter.FailedAsk way.Udp fault.Crowded ∷ counter.FailedAsk way.Udp fault.Silent ∷ counter.FailedAsk way.Tcp fault.Barred ∷
-    counter.FailedAsk way.Tcp fault.Descriptors ∷ counter.FailedAsk way.Tcp fault.Refused ∷ counter.FailedAsk way.Tcp fault.Crowded ∷
-    counter.FailedAsk way.Tcp fault.Silent ∷ []
+    counter.FailedAsk way.Udp fault.Reset ∷ counter.FailedAsk way.Udp fault.Crowded ∷ counter.FailedAsk way.Udp fault.Silent ∷
+    counter.FailedAsk way.Tcp fault.Barred ∷ counter.FailedAsk way.Tcp fault.Descriptors ∷ counter.FailedAsk way.Tcp fault.Refused ∷
+    counter.FailedAsk way.Tcp fault.Reset ∷ counter.FailedAsk way.Tcp fault.Crowded ∷ counter.FailedAsk way.Tcp fault.Silent ∷ []
 
 abbrev pub foreign : List Counter
 foreign =
@@ -123,22 +124,41 @@ abbrev pub refused : List Counter
 refused =
     counter.RefusedMemory ∷ []
 
+abbrev pub socket_faults : List Counter
+socket_faults =
+    counter.FailedSocket socket.Send ∷ counter.FailedSocket socket.Receive ∷ counter.FailedSocket socket.Accept ∷
+    counter.FailedSocket socket.Descriptors ∷ counter.FailedSocket socket.Stream ∷ counter.FailedSocket socket.Poll ∷ []
+
 -- A number that goes up and down.
 unfoldable pub gauge : List ℕ → List ℕ → ℕ → List ℕ
 gauge name help n = head name help (codes "gauge") ++ (name ++ codes " " ++ decimal n ++ codes "\n")
 
--- The counters' cells, and how many queries wait for other servers.
-unfoldable pub exposition : List ℕ → ℕ → List ℕ
-exposition cells waiting =
+-- Queries, and their replies.
+unfoldable pub client_metrics : List ℕ → List ℕ
+client_metrics cells =
     metric cells (codes "resolverd_queries_total") (codes "Queries that came, by the way and the type.") queries
     ++ (metric cells (codes "resolverd_replies_total") (codes "Replies that went to clients, by the RCODE.") replies
     ++ (metric cells (codes "resolverd_truncated_replies_total") (codes "Replies that were cut to fit into a datagram.") truncated
     ++ (metric cells (codes "resolverd_failures_total") (codes "Replies of SERVFAIL, by the cause.") causes
-    ++ (metric cells (codes "resolverd_answers_total") (codes "Replies of NOERROR and NXDOMAIN, by what they were made of.") sources
-    ++ (metric cells (codes "resolverd_asks_total") (codes "Asks to other servers, by the way.") asks
+    ++ metric cells (codes "resolverd_answers_total") (codes "Replies of NOERROR and NXDOMAIN, by what they were made of.") sources)))
+
+-- Asks to other servers.
+unfoldable pub ask_metrics : List ℕ → List ℕ
+ask_metrics cells =
+    metric cells (codes "resolverd_asks_total") (codes "Asks to other servers, by the way.") asks
     ++ (metric cells (codes "resolverd_failed_asks_total") (codes "Asks without a reply, by the way and the reason.") failed
-    ++ (metric cells (codes "resolverd_foreign_datagrams_total") (codes "Datagrams to an open ask that did not repeat it.") foreign
-    ++ (metric cells (codes "resolverd_held_queries_total") (codes "Queries that waited for an equal one.") held
+    ++ metric cells (codes "resolverd_foreign_datagrams_total") (codes "Datagrams to an open ask that did not repeat it.") foreign)
+
+-- What was held or dropped, and what failed.
+unfoldable pub loss_metrics : List ℕ → List ℕ
+loss_metrics cells =
+    metric cells (codes "resolverd_held_queries_total") (codes "Queries that waited for an equal one.") held
     ++ (metric cells (codes "resolverd_dropped_queries_total") (codes "Queries that were dropped before the resolver.") dropped
     ++ (metric cells (codes "resolverd_refused_memory_total") (codes "Growths that were refused for want of memory.") refused
-    ++ (times cells ++ gauge (codes "resolverd_open_queries") (codes "Queries that wait for other servers.") waiting)))))))))))
+    ++ metric cells (codes "resolverd_socket_faults_total") (codes "Sockets that failed, by what failed.") socket_faults))
+
+-- The counters' cells, and how many queries wait for other servers.
+unfoldable pub exposition : List ℕ → ℕ → List ℕ
+exposition cells waiting =
+    client_metrics cells ++ (ask_metrics cells ++ (loss_metrics cells
+    ++ (times cells ++ gauge (codes "resolverd_open_queries") (codes "Queries that wait for other servers.") waiting)))

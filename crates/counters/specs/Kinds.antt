@@ -33,6 +33,7 @@ kind_number counter.ForeignDatagram = 0
 kind_number counter.HeldQuery = 0
 kind_number counter.DroppedQuery = 0
 kind_number counter.RefusedMemory = 0
+kind_number (counter.FailedSocket f) = 0
 kind_number (counter.Waited b) = 5
 kind_number counter.WaitedMillis = 6
 

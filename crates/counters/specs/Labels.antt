@@ -12,6 +12,8 @@ use Rattle.counters.specs.declared.labels.Source.{Source}
 use Rattle.counters.specs.declared.labels.Source.TheVariants as source
 use Rattle.counters.specs.declared.labels.AskFault.{AskFault}
 use Rattle.counters.specs.declared.labels.AskFault.TheVariants as fault
+use Rattle.counters.specs.declared.labels.SocketFault.{SocketFault}
+use Rattle.counters.specs.declared.labels.SocketFault.TheVariants as socket
 use Rattle.counters.specs.declared.labels.Bucket.{Bucket}
 use Rattle.counters.specs.declared.labels.Bucket.TheVariants as bucket
 
@@ -73,8 +75,17 @@ abbrev pub fault_word : AskFault → List ℕ
 fault_word fault.Barred = codes "barred"
 fault_word fault.Descriptors = codes "descriptors"
 fault_word fault.Refused = codes "refused"
+fault_word fault.Reset = codes "reset"
 fault_word fault.Crowded = codes "crowded"
 fault_word fault.Silent = codes "silent"
+
+abbrev pub socket_fault_word : SocketFault → List ℕ
+socket_fault_word socket.Send = codes "send"
+socket_fault_word socket.Receive = codes "receive"
+socket_fault_word socket.Accept = codes "accept"
+socket_fault_word socket.Descriptors = codes "descriptors"
+socket_fault_word socket.Stream = codes "stream"
+socket_fault_word socket.Poll = codes "poll"
 
 -- The first bucket that milliseconds are within.
 abbrev pub bucket_of : ℕ → Bucket

@@ -10,7 +10,7 @@ use Rattle.counters.specs.declared.labels.Source.TheVariants as source
 use Rattle.causes.specs.declared.cause.Cause.{Cause}
 use Rattle.counters.specs.declared.outcome.Reply.{Reply}
 use Rattle.counters.specs.declared.outcome.Outcome.{Outcome}
-use Rattle.counters.specs.declared.outcome.Outcome.TheVariants.{Query, Replied, Asked, AskFailed, Foreign, Held, Dropped, MemoryRefused}
+use Rattle.counters.specs.declared.outcome.Outcome.TheVariants.{Query, Replied, Asked, AskFailed, Foreign, Held, Dropped, MemoryRefused, SocketFailed}
 
 -- So much for that counter.
 pub record Addition : Type 0 where
@@ -60,6 +60,7 @@ counted Foreign = one counter.ForeignDatagram ∷ []
 counted Held = one counter.HeldQuery ∷ []
 counted (Dropped n) = record { counter = counter.DroppedQuery; amount = n } ∷ []
 counted MemoryRefused = one counter.RefusedMemory ∷ []
+counted (SocketFailed f) = one (counter.FailedSocket f) ∷ []
 
 -- Of what was added before, where it is known, these come behind.
 abbrev pub Adds : Option (List Addition) → List Addition → Option (List Addition) → Type 0

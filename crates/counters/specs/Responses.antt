@@ -1,5 +1,5 @@
 -- What is answered over HTTP (RFC 9110, RFC 9112).
-use Rattle.std.specs.Prelude.{ℕ, Bool, cond, nat_eq, List, ◌++◌, codes, decimal, length}
+use Rattle.std.specs.Prelude.{ℕ, cond, nat_eq, List, ◌++◌, codes, decimal, length}
 use Rattle.std.specs.List.{starts_with}
 use Rattle.counters.specs.Exposition.{exposition}
 use Rattle.counters.specs.declared.http.Answer.{Answer}

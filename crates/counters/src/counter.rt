@@ -2,12 +2,12 @@
 ghost use Rattle.std.specs.Prelude.{◌≡◌, ◌<◌, Some};
 ghost use Rattle.counters.specs.Counters.{counters, place, series};
 
-use crate::labels::{AskFault, Bucket, QueryType, Rcode, Source, Way, cause_word};
+use crate::labels::{AskFault, Bucket, QueryType, Rcode, SocketFault, Source, Way, cause_word};
 use causes::Cause;
 use std::fmt;
 
 /// How many counters there are.
-pub const COUNTERS: usize = 71;
+pub const COUNTERS: usize = 79;
 
 /// What is counted. Each has a cell of its own.
 #[derive(Clone, Copy, Debug, PartialEq, Eq)]
@@ -34,6 +34,8 @@ pub enum Counter {
     DroppedQuery,
     /// Growths that were refused: for want of memory something was dropped.
     RefusedMemory,
+    /// Sockets that failed, by what failed.
+    FailedSocket(SocketFault),
     /// Replies by the time from their query.
     Waited(Bucket),
     /// The times of all those replies together, in milliseconds.
@@ -53,13 +55,14 @@ impl Counter {
             Counter::Failure(cause) => 29 + usize::from(cause.number()),
             Counter::Answer(source) => 38 + source.place(),
             Counter::Ask(way) => 41 + way.place(),
-            Counter::FailedAsk(way, fault) => 43 + 5 * way.place() + fault.place(),
-            Counter::ForeignDatagram => 53,
-            Counter::HeldQuery => 54,
-            Counter::DroppedQuery => 55,
-            Counter::RefusedMemory => 56,
-            Counter::Waited(bucket) => 57 + bucket.place(),
-            Counter::WaitedMillis => 70,
+            Counter::FailedAsk(way, fault) => 43 + 6 * way.place() + fault.place(),
+            Counter::ForeignDatagram => 55,
+            Counter::HeldQuery => 56,
+            Counter::DroppedQuery => 57,
+            Counter::RefusedMemory => 58,
+            Counter::FailedSocket(fault) => 59 + fault.place(),
+            Counter::Waited(bucket) => 65 + bucket.place(),
+            Counter::WaitedMillis => 78,
         }
     }
 }
@@ -105,6 +108,10 @@ impl fmt::Display for Counter {
             Counter::HeldQuery => write!(f, "resolverd_held_queries_total"),
             Counter::DroppedQuery => write!(f, "resolverd_dropped_queries_total"),
             Counter::RefusedMemory => write!(f, "resolverd_refused_memory_total"),
+            Counter::FailedSocket(fault) => {
+                let fault = fault.word();
+                write!(f, "resolverd_socket_faults_total{{kind=\"{fault}\"}}")
+            }
             Counter::Waited(bucket) => {
                 let bound = bucket.bound();
                 write!(f, "resolverd_reply_seconds_bucket{{le=\"{bound}\"}}")

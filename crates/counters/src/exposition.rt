@@ -2,10 +2,10 @@
 ghost use Rattle.std.specs.Prelude.{◌≡◌, ◌≤◌, ◌++◌, codes, length, IfOk, OnOk, string_bytes};
 ghost use Rattle.std.specs.List.{flat_map};
 ghost use Rattle.counters.specs.Counters.{counters};
-ghost use Rattle.counters.specs.Exposition.{bucket_line, bucket_lines, buckets, count_line, counter_line, exposition, gauge, head, metric, sum_line, times, times_in, totals, value};
+ghost use Rattle.counters.specs.Exposition.{ask_metrics, bucket_line, bucket_lines, buckets, client_metrics, count_line, counter_line, exposition, gauge, head, loss_metrics, metric, sum_line, times, times_in, totals, value};
 
 use crate::counter::{COUNTERS, Counter};
-use crate::labels::{AskFault, Bucket, QueryType, Rcode, Source, Way};
+use crate::labels::{AskFault, Bucket, QueryType, Rcode, SocketFault, Source, Way};
 use causes::Cause;
 use memory::Starved;
 use std::alloc::Allocator;
@@ -64,17 +64,28 @@ const SOURCES: [Counter; 3] = [
 
 const ASKS: [Counter; 2] = [Counter::Ask(Way::Udp), Counter::Ask(Way::Tcp)];
 
-const FAILED: [Counter; 10] = [
+const FAILED: [Counter; 12] = [
     Counter::FailedAsk(Way::Udp, AskFault::Barred),
     Counter::FailedAsk(Way::Udp, AskFault::Descriptors),
     Counter::FailedAsk(Way::Udp, AskFault::Refused),
+    Counter::FailedAsk(Way::Udp, AskFault::Reset),
     Counter::FailedAsk(Way::Udp, AskFault::Crowded),
     Counter::FailedAsk(Way::Udp, AskFault::Silent),
     Counter::FailedAsk(Way::Tcp, AskFault::Barred),
     Counter::FailedAsk(Way::Tcp, AskFault::Descriptors),
     Counter::FailedAsk(Way::Tcp, AskFault::Refused),
+    Counter::FailedAsk(Way::Tcp, AskFault::Reset),
     Counter::FailedAsk(Way::Tcp, AskFault::Crowded),
     Counter::FailedAsk(Way::Tcp, AskFault::Silent),
+];
+
+const SOCKET_FAULTS: [Counter; 6] = [
+    Counter::FailedSocket(SocketFault::Send),
+    Counter::FailedSocket(SocketFault::Receive),
+    Counter::FailedSocket(SocketFault::Accept),
+    Counter::FailedSocket(SocketFault::Descriptors),
+    Counter::FailedSocket(SocketFault::Stream),
+    Counter::FailedSocket(SocketFault::Poll),
 ];
 
 const BUCKETS: [Bucket; 13] = [
@@ -101,6 +112,26 @@ pub fn put_metrics<A: Allocator>(
     waiting: u64,
 ) -> Result<(), Starved>
     ensures { OnOk result (string_bytes out.new ≡ string_bytes out.old ++ exposition cells.now waiting) }
+{
+    put_client_metrics(out, cells)?;
+    put_ask_metrics(out, cells)?;
+    put_loss_metrics(out, cells)?;
+    put_times(out, cells)?;
+    put_gauge(
+        out,
+        "resolverd_open_queries",
+        "Queries that wait for other servers.",
+        waiting,
+    )
+}
+
+// The lines of queries and of their replies.
+#[tactic(auto, unfolding(crate::specs::Exposition::client_metrics))]
+fn put_client_metrics<A: Allocator>(
+    out: &mut String<A>,
+    cells: &[u64; COUNTERS],
+) -> Result<(), Starved>
+    ensures { OnOk result (string_bytes out.new ≡ string_bytes out.old ++ client_metrics cells.now) }
 {
     put_metric(
         out,
@@ -136,7 +167,17 @@ pub fn put_metrics<A: Allocator>(
         "Replies of NOERROR and NXDOMAIN, by what they were made of.",
         &SOURCES,
         cells,
-    )?;
+    )
+}
+
+// The lines of asks to other servers.
+#[tactic(auto, unfolding(crate::specs::Exposition::ask_metrics))]
+fn put_ask_metrics<A: Allocator>(
+    out: &mut String<A>,
+    cells: &[u64; COUNTERS],
+) -> Result<(), Starved>
+    ensures { OnOk result (string_bytes out.new ≡ string_bytes out.old ++ ask_metrics cells.now) }
+{
     put_metric(
         out,
         "resolverd_asks_total",
@@ -157,7 +198,17 @@ pub fn put_metrics<A: Allocator>(
         "Datagrams to an open ask that did not repeat it.",
         &[Counter::ForeignDatagram],
         cells,
-    )?;
+    )
+}
+
+// The lines of what was held or dropped, and of what failed.
+#[tactic(auto, unfolding(crate::specs::Exposition::loss_metrics))]
+fn put_loss_metrics<A: Allocator>(
+    out: &mut String<A>,
+    cells: &[u64; COUNTERS],
+) -> Result<(), Starved>
+    ensures { OnOk result (string_bytes out.new ≡ string_bytes out.old ++ loss_metrics cells.now) }
+{
     put_metric(
         out,
         "resolverd_held_queries_total",
@@ -179,12 +230,12 @@ pub fn put_metrics<A: Allocator>(
         &[Counter::RefusedMemory],
         cells,
     )?;
-    put_times(out, cells)?;
-    put_gauge(
+    put_metric(
         out,
-        "resolverd_open_queries",
-        "Queries that wait for other servers.",
-        waiting,
+        "resolverd_socket_faults_total",
+        "Sockets that failed, by what failed.",
+        &SOCKET_FAULTS,
+        cells,
     )
 }
 

@@ -1,7 +1,7 @@
 //! What counters are labelled with.
 ghost use Rattle.std.specs.Prelude.{◌≡◌, ◌<◌};
-ghost use Rattle.counters.specs.Counters.{way_place, type_place, rcode_place, source_place, fault_place, bucket_place};
-ghost use Rattle.counters.specs.Labels.{way_word, type_of, type_word, rcode_of, rcode_word, cause_word, source_word, fault_word, bucket_of, bound_word};
+ghost use Rattle.counters.specs.Counters.{way_place, type_place, rcode_place, source_place, fault_place, socket_fault_place, bucket_place};
+ghost use Rattle.counters.specs.Labels.{way_word, type_of, type_word, rcode_of, rcode_word, cause_word, source_word, fault_word, socket_fault_word, bucket_of, bound_word};
 
 use causes::Cause;
 
@@ -234,8 +234,10 @@ pub enum AskFault {
     Barred,
     /// No descriptor was left for its socket.
     Descriptors,
-    /// The system or the server refused it, or its stream ended before a whole reply.
+    /// The system or the server refused it.
     Refused,
+    /// Its stream was reset, or ended before a whole reply.
+    Reset,
     /// Too many are open: the oldest was closed, or it was not begun.
     Crowded,
     /// Nothing that repeats it came in time.
@@ -251,6 +253,7 @@ impl AskFault {
             AskFault::Barred => "barred",
             AskFault::Descriptors => "descriptors",
             AskFault::Refused => "refused",
+            AskFault::Reset => "reset",
             AskFault::Crowded => "crowded",
             AskFault::Silent => "silent",
         }
@@ -259,14 +262,63 @@ impl AskFault {
     // Its place among them.
     pub(crate) fn place(self) -> usize
         ensures is { result ≡ fault_place self }
-        ensures within { result < 5 }
+        ensures within { result < 6 }
     {
         match self {
             AskFault::Barred => 0,
             AskFault::Descriptors => 1,
             AskFault::Refused => 2,
-            AskFault::Crowded => 3,
-            AskFault::Silent => 4,
+            AskFault::Reset => 3,
+            AskFault::Crowded => 4,
+            AskFault::Silent => 5,
+        }
+    }
+}
+
+/// What failed at the sockets to clients, or at the wait for any socket.
+#[derive(Clone, Copy, Debug, PartialEq, Eq)]
+pub enum SocketFault {
+    /// A datagram could not be sent.
+    Send,
+    /// A datagram could not be received.
+    Receive,
+    /// A stream could not be accepted, though a descriptor is left.
+    Accept,
+    /// A stream could not be accepted, since no descriptor is left.
+    Descriptors,
+    /// A stream failed while it was read or written.
+    Stream,
+    /// A socket could not be waited for.
+    Poll,
+}
+
+impl SocketFault {
+    /// Its word.
+    pub fn word(self) -> &'static str
+        ensures { result.now ≡ socket_fault_word self }
+    {
+        match self {
+            SocketFault::Send => "send",
+            SocketFault::Receive => "receive",
+            SocketFault::Accept => "accept",
+            SocketFault::Descriptors => "descriptors",
+            SocketFault::Stream => "stream",
+            SocketFault::Poll => "poll",
+        }
+    }
+
+    // Its place among them.
+    pub(crate) fn place(self) -> usize
+        ensures is { result ≡ socket_fault_place self }
+        ensures within { result < 6 }
+    {
+        match self {
+            SocketFault::Send => 0,
+            SocketFault::Receive => 1,
+            SocketFault::Accept => 2,
+            SocketFault::Descriptors => 3,
+            SocketFault::Stream => 4,
+            SocketFault::Poll => 5,
         }
     }
 }

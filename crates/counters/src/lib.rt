@@ -29,6 +29,6 @@ pub use cells::{Adder, Cells};
 pub use counter::{COUNTERS, Counter};
 pub use exposition::put_metrics;
 pub use http::{Answer, MOST_REQUEST, is_request, put_response};
-pub use labels::{AskFault, Bucket, QueryType, Rcode, Source, Way};
+pub use labels::{AskFault, Bucket, QueryType, Rcode, SocketFault, Source, Way};
 pub use laws::{places_law, reply_law};
 pub use outcome::{Counting, Outcome, Reply, count};

@@ -4,7 +4,7 @@ ghost use Rattle.std.specs.Prelude.{◌≡◌, [], ◌∷◌, cond};
 ghost use Rattle.counters.specs.declared.counter.Counter.TheVariants as counter;
 
 use crate::counter::Counter;
-use crate::labels::{AskFault, Bucket, QueryType, Rcode, Source, Way};
+use crate::labels::{AskFault, Bucket, QueryType, Rcode, SocketFault, Source, Way};
 use causes::Cause;
 
 /// A reply to a client.
@@ -43,6 +43,8 @@ pub enum Outcome {
     Dropped(u64),
     /// A growth was refused.
     MemoryRefused,
+    /// A socket failed.
+    SocketFailed(SocketFault),
 }
 
 /// What counts: cells of a server, or a list in a test.
@@ -73,6 +75,7 @@ pub fn count<C: Counting>(counts: &mut C, outcome: Outcome)
         Outcome::Held => counts.add(Counter::HeldQuery, 1),
         Outcome::Dropped(queries) => counts.add(Counter::DroppedQuery, queries),
         Outcome::MemoryRefused => counts.add(Counter::RefusedMemory, 1),
+        Outcome::SocketFailed(fault) => counts.add(Counter::FailedSocket(fault), 1),
     }
 }
 

@@ -1,6 +1,8 @@
-use Outcome::{AskFailed, Asked, Dropped, Foreign, Held, MemoryRefused, Query, Replied};
+use Outcome::{
+    AskFailed, Asked, Dropped, Foreign, Held, MemoryRefused, Query, Replied, SocketFailed,
+};
 use causes::Cause;
-use counters::{AskFault, Counter, Counting, Outcome, Reply, Way, count};
+use counters::{AskFault, Counter, Counting, Outcome, Reply, SocketFault, Way, count};
 use std::alloc::Global;
 use std::test;
 
@@ -45,7 +47,7 @@ const CUT: Outcome = Replied(Reply {
 
 type Row = (Outcome, &'static str);
 
-fn rows() -> [Row; 22] {
+fn rows() -> [Row; 24] {
     [
         (
             Query(Way::Udp, 1),
@@ -116,10 +118,18 @@ fn rows() -> [Row; 22] {
             AskFailed(Way::Udp, AskFault::Silent),
             "resolverd_failed_asks_total{way=\"udp\",reason=\"silent\"} 1\n",
         ),
+        (
+            AskFailed(Way::Tcp, AskFault::Reset),
+            "resolverd_failed_asks_total{way=\"tcp\",reason=\"reset\"} 1\n",
+        ),
         (Foreign, "resolverd_foreign_datagrams_total 1\n"),
         (Held, "resolverd_held_queries_total 1\n"),
         (Dropped(7), "resolverd_dropped_queries_total 7\n"),
         (MemoryRefused, "resolverd_refused_memory_total 1\n"),
+        (
+            SocketFailed(SocketFault::Descriptors),
+            "resolverd_socket_faults_total{kind=\"descriptors\"} 1\n",
+        ),
     ]
 }
 

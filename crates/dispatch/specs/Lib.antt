@@ -6,3 +6,4 @@ pub mod Roles
 pub mod Repeats
 pub mod Blocks
 pub mod Places
+pub mod Questions

@@ -2,8 +2,8 @@
 //!
 //! `query_event`, `stream_query_event`, `datagram_event` and `stream_reply_event` make an `events::Event` of what came. `hand_over`
 //! gives an action to a `Carrier`, sockets and channels or a list in a test, by its `destination_of`. A client's number
-//! is its address and port (`client_of`, `sender_of`), so that nothing is kept of it; that of a stream holds its place
-//! (`stream_number`, `place_of`). `repeats` says which datagrams are for an ask, `Reach` which servers are asked, and
+//! is its address and port (`client_of`, `sender_of`), so that nothing is kept of it; that of a stream holds its address
+//! and its place (`stream_number`, `stream_client`, `place_of`). `repeats` says which datagrams are for an ask, `Reach` which servers are asked, and
 //! `role_of` what each loop does.
 //!
 //! Promised: each event and each target exactly (`target`, `Adds`); a reply goes back to the address and the port
@@ -36,7 +36,9 @@ pub use incoming::{
     datagram_event, held_query_event, query_event, stream_query_event, stream_reply_event,
 };
 pub use matching::repeats;
-pub use places::{place_of, places_are_kept, silence_before_yielding, stream_number};
-pub use questions::{failure_for, is_failure, is_plain_query, question_end};
+pub use places::{
+    place_of, places_are_kept, silence_before_yielding, stream_client, stream_number,
+};
+pub use questions::{failure_for, flags_law, is_failure, is_plain_query, question_end};
 pub use roles::{LOOPS, Role, role_of};
 pub use senders::{client_of, replies_go_back, sender_of};

@@ -1,5 +1,6 @@
 //! Questions of clients, by their bytes: which are equal, and the failure of one as the reply to another.
-ghost use Rattle.std.specs.Prelude.{◌≡◌, ◌++◌, ◌-◌, ◌≤◌, IfOk, IfSome, length, take, drop};
+ghost use Rattle.std.specs.Prelude.{◌≡◌, ◌↔◌, ◌++◌, ◌-◌, ℕ, ◌≤◌, IfOk, IfSome, IsTrue, MatchOption, length, take, drop};
+ghost use Rattle.dispatch.specs.Questions.{HasQuestion, EndsName, IsPlainQuery, IsFailure, PlainIsQuery, FailureIsServfail};
 
 use dname::{Heap, Starved};
 use events::Bytes;
@@ -7,48 +8,63 @@ use events::Bytes;
 // Bytes of a message's header (RFC 1035, section 4.1.1).
 const HEADER: usize = 12;
 
-// Labels of a name at most, the closing zero among them (RFC 1035, section 3.1).
-const MOST_LABELS: u32 = 128;
+// Bytes of a name on the wire at most (RFC 1035, section 2.3.4).
+const MOST_NAME: usize = 255;
 
-// Bytes of a question's type and class, with the zero that closes its name.
-const ZERO_TYPE_AND_CLASS: usize = 5;
+// Bytes of a question's type and class.
+const TYPE_AND_CLASS: usize = 4;
 
 /// Where the one question of a message ends, whose name is not compressed: its last four bytes are the type and the
 /// class. None where there is no such question.
 pub fn question_end(message: &[u8]) -> Option<usize>
-    ensures { IfSome result (λ end. (17 ≤ end) × (end ≤ length message.now)) }
+    ensures is { MatchOption result ((end : ℕ) → HasQuestion message.now end → ⊥) (HasQuestion message.now) }
+    ensures room { IfSome result (λ end. (17 ≤ end) × (end ≤ length message.now)) }
 {
     if message.get(4..6)? != [0, 1].as_slice() {
         return None;
     }
+    let end = name_end(message)? + TYPE_AND_CLASS;
+    if end > message.len() { None } else { Some(end) }
+}
+
+// Where the name ends that stands in full behind the header.
+fn name_end(message: &[u8]) -> Option<usize>
+    ensures is { MatchOption result ((end : ℕ) → EndsName message.now end → ⊥) (EndsName message.now) }
+    ensures within { IfSome result (λ end. (13 ≤ end) × (end ≤ 267)) }
+{
     let mut at = HEADER;
-    for _ in 0..MOST_LABELS {
-        let size = *message.get(at)?;
+    while at < HEADER + MOST_NAME && at < message.len() {
+        let size = message[at];
         if size == 0 {
-            let end = at.saturating_add(ZERO_TYPE_AND_CLASS);
-            return if end >= HEADER + ZERO_TYPE_AND_CLASS && end <= message.len() {
-                Some(end)
-            } else {
-                None
-            };
+            return Some(at + 1);
         }
         if size > 63 {
             return None;
         }
-        at = at.saturating_add(usize::from(size)).saturating_add(1);
+        at += 1 + usize::from(size);
     }
     None
 }
 
 /// Whether it is a query of operation 0.
-pub fn is_plain_query(message: &[u8]) -> bool {
-    message.get(2).is_some_and(|byte| byte & 0xF8 == 0)
+pub fn is_plain_query(message: &[u8]) -> bool
+    ensures { IsTrue result ↔ IsPlainQuery message.now }
+{
+    message.get(2).is_some_and(|flags| *flags < 8)
 }
 
 /// Whether it is a reply that says SERVFAIL (RFC 1035, section 4.1.1).
-pub fn is_failure(message: &[u8]) -> bool {
-    message.get(3).is_some_and(|byte| byte & 0x0F == 2)
+pub fn is_failure(message: &[u8]) -> bool
+    ensures { IsTrue result ↔ IsFailure message.now }
+{
+    message.get(3).is_some_and(|flags| *flags % 16 == 2)
 }
+
+/// What the two read is what a header's fields are.
+pub fn flags_law()
+    ensures query { PlainIsQuery }
+    ensures failure { FailureIsServfail }
+{}
 
 /// The failure of a query as the reply to an equal one, whose question ends there: under that one's ID, and with its
 /// question as it is spelt there.

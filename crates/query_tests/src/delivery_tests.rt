@@ -1,7 +1,7 @@
 //! Clients by their numbers, the loops of a small server, and what is handed over of each action.
 use dispatch::{
     Carrier, LOOPS, Reach, Role, client_of, hand_over, place_of, repeats, role_of, sender_of,
-    silence_before_yielding, stream_number,
+    silence_before_yielding, stream_client, stream_number,
 };
 use dname::Starved;
 use events::{Action, Bytes, Endpoint};
@@ -105,9 +105,20 @@ fn a_reply_repeats_its_ask(rt: HostRuntime) -> Result<(), Fail> {
 #[test]
 fn streams_have_places(rt: HostRuntime) -> Result<(), Fail> {
     for (serial, place) in [(0, 0), (1, 255), (u64::MAX, 7)] {
-        assert_eq!(rt; place_of(stream_number(serial, place)), place);
+        assert_eq!(rt;
+            place_of(stream_number(Addr([192, 0, 2, 9]), serial, place)),
+            place
+        );
     }
-    assert_eq!(rt; stream_number(3, 4), 0x304);
+    let number = stream_number(Addr([192, 0, 2, 9]), 3, 4);
+    assert_eq!(rt; number, 0xC000_0209_0000_0304);
+    assert_eq!(rt;
+        sender_of(stream_client(number)),
+        Endpoint {
+            address: Addr([192, 0, 2, 9]),
+            port: 4
+        }
+    );
     for (places, awaits, wanted) in [
         (1, false, 3_000),
         (1, true, 10_000),

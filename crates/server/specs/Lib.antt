@@ -4,3 +4,5 @@ pub mod Faults
 -- Kept: what the code's own values keep.
 pub mod Addresses
 pub mod Waits
+pub mod Askers
+pub mod Entries

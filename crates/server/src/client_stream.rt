@@ -1,7 +1,7 @@
 //! One stream of a client: its questions that are under way, and how long it may be silent.
 ghost use Rattle.std.specs.Prelude.{◌<◌, ◌≤◌, ◌^◌, IfSome, length};
 
-use crate::framed_stream::FramedStream;
+use crate::framed_stream::{FramedStream, StreamFault};
 use dispatch::silence_before_yielding;
 use limits::QUERY_LIFETIME_MS;
 use rdata::Addr;
@@ -13,7 +13,8 @@ const MOST_UNDER_WAY: u32 = 16;
 // How long a stream stays open on which no whole frame comes and no reply goes, in milliseconds.
 const IDLE_MS: u64 = 10_000;
 
-// How long a reply is waited for, in milliseconds: longer than a query stays open, so that its reply comes before.
+// How long a reply is waited for, in milliseconds: longer than a query stays open, so that its reply comes before, but for
+// what was held at the door first.
 const REPLY_MS: u64 = 12_000;
 
 const _: () = prove!(QUERY_LIFETIME_MS < REPLY_MS);
@@ -132,7 +133,12 @@ impl ClientStream {
         } else {
             silence >= IDLE_MS || self.closing || self.left.is_some()
         };
-        over || self.stream.is_broken()
+        over || self.stream.fault().is_some()
+    }
+
+    /// Why it has failed, if it has.
+    pub fn fault(&self) -> Option<StreamFault> {
+        self.stream.fault()
     }
 
     /// For how long it has been silent, in milliseconds: a byte that ends no frame counts for nothing.

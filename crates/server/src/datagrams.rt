@@ -3,10 +3,10 @@ ghost use Rattle.std.specs.Prelude.{◌≤◌, IfSome, length};
 
 use crate::clock::rest;
 use crate::desk::Desk;
-use crate::ends::{MOST_BYTES, endpoint_of, is_early};
+use crate::ends::{Ends, MOST_BYTES, endpoint_of, is_early};
 use book::{Machine, Ticket};
+use counters::{Outcome, SocketFault};
 use events::{Actions, Endpoint, Event};
-use std::net::UdpSocket;
 use std::sync::Wait;
 use std::sync::ledger::Ledger;
 use std::time::Clock;
@@ -17,31 +17,27 @@ pub(crate) fn take_datagrams<M: Machine<Event = Event, Out = Actions>, L: Ledger
     desk: &Desk<'_, M, L>,
     ticket: &mut Ticket<L>,
 ) {
-    let ends = desk.ends;
     let mut buffer = [0u8; MOST_BYTES];
     for _ in rt.forever() {
         if desk.is_over() {
             return;
         }
-        if let Some((count, from)) = next_datagram(rt, &ends.clients, &mut buffer) {
+        if let Some((count, from)) = next_datagram(rt, desk.ends, &mut buffer) {
             desk.put_datagram(rt, ticket, from, &buffer[..count]);
         }
     }
 }
 
-// The next datagram at a socket: how many bytes it has, which stand at the front of the buffer, and who sent it. None
-// where none came in time, and at a fault, which is a loss: since it may last, the loop rests for a while.
-fn next_datagram<R: Clock>(
-    rt: &R,
-    socket: &UdpSocket,
-    buffer: &mut [u8],
-) -> Option<(usize, Endpoint)>
+// The next datagram of a client: how many bytes it has, which stand at the front of the buffer, and who sent it. None
+// where none came in time, and at a fault: since it may last, the loop rests for a while.
+fn next_datagram<R: Clock>(rt: &R, ends: &Ends, buffer: &mut [u8]) -> Option<(usize, Endpoint)>
     ensures { IfSome result (λ d. d.0 ≤ length buffer.new) }
 {
-    match socket.recv_from(buffer) {
+    match ends.clients.recv_from(buffer) {
         Ok((count, from)) => Some((count, endpoint_of(from)?)),
         Err(error) if is_early(&error) => None,
         Err(_) => {
+            ends.count(Outcome::SocketFailed(SocketFault::Receive));
             rest(rt);
             None
         }

@@ -5,14 +5,16 @@ use crate::ends::{Ends, address_of};
 use crate::entrance::{Entrance, Entry, Question};
 use crate::moments::Beginning;
 use crate::outbox::{Outbox, StreamAsk, StreamReply};
+use crate::poller::Poller;
+use crate::query::{Asker, Query};
 use crate::tally::Came;
 use book::{Machine, Ticket};
-use counters::{Outcome, Way};
+use counters::{Outcome, SocketFault};
 use crossbeam_channel::{Receiver, Sender};
-use dispatch::{
-    Reach, client_of, hand_over, held_query_event, query_event, sender_of, stream_reply_event,
-};
+use dispatch::{Reach, client_of, hand_over, stream_reply_event};
 use events::{Action, Actions, Bytes, Endpoint, Event};
+use front::Via;
+use mio::{Events, Poll};
 use pool::{Shared, submit};
 use std::alloc::Global;
 use std::sync::Wait;
@@ -53,7 +55,7 @@ pub struct Bounds {
     pub workers: u16,
     /// At which addresses servers are asked.
     pub reach: Reach,
-    /// How many questions one address may have under way in datagrams, 1 to 1,024.
+    /// How many questions one address may have under way, 1 to 1,024.
     pub clients: u16,
     /// Behind this the questions of clients are hashed.
     pub seed: [u8; 32],
@@ -86,7 +88,14 @@ impl<M: Machine<Event = Event, Out = Actions>, L: Ledger> Desk<'_, M, L> {
         self.beginning.moment(rt)
     }
 
-    /// Puts a client's datagram: a question that equals others which are under way waits for them at the door.
+    /// Waits for a socket or a notice, for so many milliseconds at most, and counts a fault.
+    pub fn wait(&self, poller: &Poller, poll: &mut Poll, events: &mut Events, millis: u64) {
+        if !poller.wait(poll, events, millis) {
+            self.ends.count(Outcome::SocketFailed(SocketFault::Poll));
+        }
+    }
+
+    /// Puts a client's datagram.
     pub fn put_datagram<R: Wait + Clock>(
         &self,
         rt: &R,
@@ -96,29 +105,72 @@ impl<M: Machine<Event = Event, Out = Actions>, L: Ledger> Desk<'_, M, L> {
     )
         requires { length bytes.now ≤ 65535 }
     {
-        let moment = self.moment(rt);
-        if let Some(tally) = &self.ends.tally {
-            tally.count_query(Way::Udp, bytes);
-        }
-        let Some(question) = self.entrance.question(client_of(from), bytes) else {
-            match query_event(self.alloc, moment, from, bytes) {
-                Ok(event) => {
-                    self.put(rt, ticket, event);
-                }
-                Err(_) => self.ends.count(Outcome::MemoryRefused),
+        let asker = Asker {
+            client: client_of(from),
+            way: Via::Udp,
+        };
+        match Vec::from_slice(self.alloc, bytes) {
+            Ok(bytes) => {
+                self.put_query(rt, ticket, asker, bytes);
             }
-            return;
-        };
-        let Ok(bytes) = Vec::from_slice(self.alloc, bytes) else {
-            self.ends.count(Outcome::MemoryRefused);
-            return;
-        };
-        match self.entrance.admit(rt, question, moment, Bytes::new(bytes)) {
-            Entry::In(bytes) => self.put_question(rt, ticket, question, moment, bytes),
-            Entry::Held => self.ends.count(Outcome::Held),
-            Entry::Dropped => self.ends.count(Outcome::Dropped(1)),
+            Err(_) => self.ends.count(Outcome::MemoryRefused),
         }
+    }
+
+    /// Puts a frame of the stream of this number; whether it will have a reply, or may have one.
+    pub fn put_frame<R: Wait + Clock>(
+        &self,
+        rt: &R,
+        ticket: &mut Ticket<L>,
+        number: u64,
+        bytes: Vec<u8>,
+    ) -> bool
+        requires { length bytes.items ≤ 65535 }
+    {
+        let asker = Asker {
+            client: number,
+            way: Via::Tcp,
+        };
+        self.put_query(rt, ticket, asker, bytes)
+    }
+
+    // Puts what a client sent: a question that equals others which are under way waits for them at the door, whether
+    // they came in datagrams or on streams. Whether it will have a reply, or may have one.
+    fn put_query<R: Wait + Clock>(
+        &self,
+        rt: &R,
+        ticket: &mut Ticket<L>,
+        asker: Asker,
+        bytes: Vec<u8>,
+    ) -> bool
+        requires { length bytes.items ≤ 65535 }
+    {
+        let query = Query {
+            asker,
+            bytes: Bytes::new(bytes),
+        };
+        if let Some(tally) = &self.ends.tally {
+            tally.count_query(&query);
+        }
+        let moment = self.moment(rt);
+        let Some(question) = self.entrance.question(&query) else {
+            return self.put(rt, ticket, query.into_event(moment)).speaks;
+        };
+        let answers = match self.entrance.admit(rt, question, moment, query) {
+            Entry::In(query) => self
+                .put_question(rt, ticket, question, moment, query)
+                .speaks,
+            Entry::Held => {
+                self.ends.count(Outcome::Held);
+                true
+            }
+            Entry::Dropped => {
+                self.ends.count(Outcome::Dropped(1));
+                false
+            }
+        };
         self.let_in(rt, ticket);
+        answers
     }
 
     // Puts a question that was let in, and came at that moment.
@@ -128,11 +180,11 @@ impl<M: Machine<Event = Event, Out = Actions>, L: Ledger> Desk<'_, M, L> {
         ticket: &mut Ticket<L>,
         question: Question,
         came: u64,
-        bytes: Bytes,
-    ) {
-        let event = held_query_event(self.moment(rt), question.client, bytes);
+        query: Query,
+    ) -> Upshot {
+        let event = query.into_event(self.moment(rt));
         let came = self.came(&event, Some(came));
-        self.step(rt, ticket, event, Some(question), came);
+        self.step(rt, ticket, event, Some(question), came)
     }
 
     /// Puts the questions that are called in, some of them.
@@ -183,7 +235,11 @@ impl<M: Machine<Event = Event, Out = Actions>, L: Ledger> Desk<'_, M, L> {
             };
             self.count_step(rt, came.take(), actions);
             self.tell_door(rt, question.take(), Some(actions));
-            match self.send_out(rt, actions) {
+            let refused = actions
+                .first
+                .as_ref()
+                .and_then(|action| self.send_out(rt, action));
+            match refused {
                 Some(number) => event = stream_reply_event(self.moment(rt), number, None),
                 None => {
                     return Upshot {
@@ -238,24 +294,20 @@ impl<M: Machine<Event = Event, Out = Actions>, L: Ledger> Desk<'_, M, L> {
     }
 
     // Where a query failed, those held for the same question get that failure.
-    fn fail_others<R: Wait + Clock>(&self, rt: &R, action: &Action) {
+    fn fail_others<R: Wait + Clock>(&self, rt: &R, failed: &Action) {
         for _ in 0..MOST_FAILED {
-            let Some((client, since, reply)) = self.entrance.next_failed(rt, action) else {
+            let Some((since, reply)) = self.entrance.next_failed(rt, failed) else {
                 return;
             };
-            let ends = self.ends;
-            if let Some(tally) = &ends.tally {
-                tally.count_copy(action, reply.as_slice(), since, self.moment(rt));
+            if let Some(tally) = &self.ends.tally {
+                tally.count_copy(&reply, since, self.moment(rt));
             }
-            let _ = ends
-                .clients
-                .send_to(reply.as_slice(), address_of(sender_of(client)));
+            self.send_out(rt, &reply);
         }
     }
 
-    // Hands over what goes out of a step; the number of an ask over TCP that can't be made.
-    fn send_out<R: Wait + Clock>(&self, rt: &R, actions: &Actions) -> Option<u64> {
-        let action = actions.first.as_ref()?;
+    // Hands an action over, to where it goes; the number of an ask over TCP that can't be made.
+    fn send_out<R: Wait + Clock>(&self, rt: &R, action: &Action) -> Option<u64> {
         let mut outbox = Outbox {
             rt,
             ends: self.ends,

@@ -9,7 +9,7 @@ use crate::notices::Notices;
 use crate::open_asks::OpenAsks;
 use crate::poller::Poller;
 use crate::tally::Tally;
-use counters::Outcome;
+use counters::{Outcome, SocketFault};
 use events::Endpoint;
 use libc::net as c;
 use mio::Interest;
@@ -59,6 +59,25 @@ pub(crate) fn endpoint_of(address: SocketAddr) -> Option<Endpoint>
             port: address.port(),
         }),
         SocketAddr::V6(_) => None,
+    }
+}
+
+// Linux's numbers of the errors that the process, or the system, has no descriptor left (errno(3)).
+const EMFILE: i32 = 24;
+
+const ENFILE: i32 = 23;
+
+/// Whether an error says that no descriptor is left.
+pub(crate) fn lacks_descriptors(error: &io::Error) -> bool {
+    matches!(error.raw_os_error(), Some(EMFILE | ENFILE))
+}
+
+/// What failed where a stream could not be accepted.
+pub(crate) fn accept_fault(error: &io::Error) -> SocketFault {
+    if lacks_descriptors(error) {
+        SocketFault::Descriptors
+    } else {
+        SocketFault::Accept
     }
 }
 
@@ -168,8 +187,10 @@ impl Ends {
 
     /// Tells the service manager, where one wants to know.
     pub(crate) fn tell(&self, words: &str) {
-        if let Some(notices) = &self.notices {
-            notices.tell(words);
+        if let Some(notices) = &self.notices
+            && !notices.tell(words)
+        {
+            self.count(Outcome::SocketFailed(SocketFault::Send));
         }
     }
 
@@ -226,6 +247,20 @@ fn datagrams<R: Net>(rt: &R, end: Endpoint) -> io::Result<UdpSocket> {
     socket.set_read_timeout(Some(slice()))?;
     set_receive_room(&socket);
     Ok(socket)
+}
+
+/// How many bytes of datagrams that nobody took yet a socket holds, as the system has it. None where it can't be read.
+pub(crate) fn receive_room(socket: &UdpSocket) -> Option<u32> {
+    let mut value = [0u8; 16];
+    let mut length = 4u32;
+    let (level, name) = (c::SOL_SOCKET, c::SO_RCVBUF);
+    let status = unsafe { c::getsockopt(socket.as_raw_fd(), level, name, &mut value, &mut length) };
+    let [a, b, c, d, ..] = value;
+    if status == 0 {
+        Some(u32::from_ne_bytes([a, b, c, d]))
+    } else {
+        None
+    }
 }
 
 // Makes room for many datagrams. Where the system refuses it the socket keeps the room that it has.

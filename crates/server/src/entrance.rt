@@ -1,13 +1,15 @@
-//! The door between clients' datagrams and the resolver: of equal questions few are under way at a time, the others wait.
-ghost use Rattle.std.specs.Prelude.{◌≤◌, IfSome, length};
+//! The door between clients and the resolver: of equal questions few are under way at a time, the others wait.
+ghost use Rattle.std.specs.Prelude.{◌≡◌, ◌≤◌, IfSome, length};
+ghost use Rattle.events.specs.Views.{action_view};
+ghost use Rattle.server.specs.Entries.{IsEntry, failure_copy};
 
-use dispatch::{failure_for, is_failure, is_plain_query, question_end};
+use crate::query::{Asker, Query, asker_of};
+use dispatch::{bytes_of, failure_for, is_failure, is_plain_query, question_end};
 use door::{Admission, Door, Held, Limits};
 use events::{Action, Actions, Bytes};
-use front::Via;
 use std::alloc::Global;
 use std::hash::{DefaultHasher, Hasher};
-use std::sync::atomic::{AtomicBool, AtomicU64, Ordering};
+use std::sync::atomic::{AtomicBool, Ordering};
 use std::sync::{Mutex, Wait};
 
 // Equal questions that are under way at a time.
@@ -29,34 +31,60 @@ const TYPE_AND_CLASS: usize = 4;
 // Bytes of a name on the wire at most (RFC 1035, section 2.3.4).
 const MOST_NAME: usize = 255;
 
-/// A question of a client's datagram: a hash of what is asked, and who asks.
+/// A question at the door: a hash of what is asked, and the number under which its client is counted there.
 #[derive(Clone, Copy)]
 pub(crate) struct Question {
     pub key: u64,
     pub client: u64,
 }
 
-/// What a client's datagram comes to at the door.
+/// What becomes of a query at the door.
 #[derive(Drop)]
 pub(crate) enum Entry {
     /// Its step is to be taken now.
-    In(Bytes),
+    In(Query),
     /// It waits.
     Held,
     /// It is dropped.
     Dropped,
 }
 
-/// The door, and what is counted there.
+// What becomes of a query by what the door says.
+fn entry_of(admission: Admission<Query>) -> Entry
+    ensures { IsEntry admission result }
+{
+    match admission {
+        Admission::In(query) => Entry::In(query),
+        Admission::Waits => Entry::Held,
+        Admission::Refused(_) => Entry::Dropped,
+    }
+}
+
+// The failure of a query, with these bytes, as the reply to an equal one.
+fn copied_failure(failed: &Action, asker: Asker, bytes: Bytes) -> Action
+    ensures { action_view result ≡ failure_copy failed.now asker bytes }
+{
+    let cause = match failed {
+        Action::Reply { cause, .. } => *cause,
+        Action::Send { .. } | Action::TcpAsk { .. } => None,
+    };
+    Action::Reply {
+        client: asker.client,
+        way: asker.way,
+        bytes,
+        cause,
+    }
+}
+
+/// The door, and the hash of what is asked.
 #[derive(Drop)]
 pub(crate) struct Entrance {
     alloc: Global,
-    door: Mutex<Door<Bytes>>,
+    door: Mutex<Door<Query>>,
     // Hashes begin as this one, behind a seed.
     start: DefaultHasher,
     // Whether someone may have been called in.
     called: AtomicBool,
-    dropped: AtomicU64,
 }
 
 impl Entrance {
@@ -77,13 +105,7 @@ impl Entrance {
             door: Mutex::new(door),
             start,
             called: AtomicBool::new(false),
-            dropped: AtomicU64::new(0),
         })
-    }
-
-    /// How many datagrams were dropped.
-    pub fn dropped_datagrams(&self) -> u64 {
-        self.dropped.load(Ordering::SeqCst)
     }
 
     // A hash of the question in lower case, of its type and class, and of RD. None where there is no plain question.
@@ -104,27 +126,23 @@ impl Entrance {
         Some(hasher.finish())
     }
 
-    /// What this datagram asks. None where it passes by: it is no plain query.
-    pub fn question(&self, client: u64, bytes: &[u8]) -> Option<Question> {
+    /// What a query asks. None where it passes by the door: it is no plain query.
+    pub fn question(&self, query: &Query) -> Option<Question> {
+        let bytes = query.bytes.as_slice();
         if !is_plain_query(bytes) {
             return None;
         }
         let key = self.key_in(bytes)?;
-        Some(Question { key, client })
+        Some(Question {
+            key,
+            client: query.asker.at_door(),
+        })
     }
 
     /// A question comes to the door.
-    pub fn admit<R: Wait>(&self, rt: &R, question: Question, moment: u64, bytes: Bytes) -> Entry {
+    pub fn admit<R: Wait>(&self, rt: &R, question: Question, moment: u64, query: Query) -> Entry {
         let Question { key, client } = question;
-        match self.door.lock(rt).admit(key, client, moment, bytes) {
-            Admission::In(bytes) => Entry::In(bytes),
-            Admission::Waits => Entry::Held,
-            Admission::Refused(bytes) => {
-                drop(bytes);
-                self.dropped.fetch_add(1, Ordering::SeqCst);
-                Entry::Dropped
-            }
-        }
+        entry_of(self.door.lock(rt).admit(key, client, moment, query))
     }
 
     /// The step of a question gave this.
@@ -147,42 +165,35 @@ impl Entrance {
         }
     }
 
-    /// Another step gave this. Where it is a reply to a client's datagram, its question is no longer open.
+    /// Another step gave this. Where it is a reply to a client, its question is no longer open.
     pub fn other_stepped<R: Wait>(&self, rt: &R, actions: &Actions) {
-        if let Some(
-            Action::Reply {
-                client,
-                way: Via::Udp,
-                bytes,
-                ..
-            },
-        ) = &actions.first
-            && let Some(key) = self.key_in(bytes.as_slice())
+        if let Some(action) = &actions.first
+            && let Some(asker) = asker_of(action)
+            && let Some(key) = self.key_in(bytes_of(action).as_slice())
         {
-            self.door.lock(rt).closed(key, *client);
+            self.door.lock(rt).closed(key, asker.at_door());
             self.called.store(true, Ordering::SeqCst);
         }
     }
 
-    /// A question that waits for what failed now: who asks and since when, with the failure as its reply.
-    pub fn next_failed<R: Wait>(&self, rt: &R, action: &Action) -> Option<(u64, u64, Bytes)> {
-        let Action::Reply { bytes, .. } = action else {
-            return None;
-        };
-        let failure = bytes.as_slice();
+    /// The reply to a question that waits for what failed now, and since when that waited.
+    pub fn next_failed<R: Wait>(&self, rt: &R, failed: &Action) -> Option<(u64, Action)> {
+        asker_of(failed)?;
+        let failure = bytes_of(failed).as_slice();
         if !is_failure(failure) {
             return None;
         }
         let key = self.key_in(failure)?;
         let held = self.door.lock(rt).fail(key)?;
-        let query = held.payload.as_slice();
+        let Query { asker, bytes } = held.payload;
+        let query = bytes.as_slice();
         let end = question_end(query)?;
         let reply = failure_for(self.alloc, failure, query, end).ok()?;
-        Some((held.client, held.since, reply))
+        Some((held.since, copied_failure(failed, asker, reply)))
     }
 
     /// A question that is called in.
-    pub fn next<R: Wait>(&self, rt: &R) -> Option<Held<Bytes>> {
+    pub fn next<R: Wait>(&self, rt: &R) -> Option<Held<Query>> {
         if !self.called.load(Ordering::SeqCst) {
             return None;
         }
@@ -202,7 +213,6 @@ impl Entrance {
             }
         }
         let late = door.drop_late(now) as u64;
-        self.dropped.fetch_add(late, Ordering::SeqCst);
         self.called.store(true, Ordering::SeqCst);
         late
     }

@@ -5,11 +5,37 @@ use crate::ends::is_early;
 use mio::net::TcpStream;
 use sockets::{framed, write_framed};
 use std::alloc::{AllocError, Global};
+use std::io;
 use std::io::{ErrorKind, Read, Write};
 use std::os::fd::{AsRawFd, RawFd};
 
 /// Bytes of a frame at most, with the two of its length: so much is held of what came and is no whole frame yet.
 pub(crate) const MOST_FRAME_BYTES: usize = 65_537;
+
+/// Why a stream has failed.
+#[derive(Clone, Copy, PartialEq, Eq)]
+pub(crate) enum StreamFault {
+    /// A growth was refused.
+    Memory,
+    /// The other side refused it, or can't be reached.
+    Refused,
+    /// The other side said nothing for as long as the system waits.
+    Silent,
+    /// It was reset, or takes nothing more.
+    Reset,
+}
+
+/// Why a stream has failed that gave this error (connect(2), tcp(7)).
+fn fault_of(error: &io::Error) -> StreamFault {
+    match error.kind() {
+        ErrorKind::ConnectionRefused
+        | ErrorKind::HostUnreachable
+        | ErrorKind::NetworkUnreachable
+        | ErrorKind::NetworkDown => StreamFault::Refused,
+        ErrorKind::TimedOut => StreamFault::Silent,
+        _ => StreamFault::Reset,
+    }
+}
 
 /// A stream of frames that is not waited for: what came of the next frames, and what is still to be written.
 #[derive(Drop)]
@@ -24,8 +50,7 @@ pub(crate) struct FramedStream {
     writable: bool,
     // Whether the other side has ended what it sends.
     ended: bool,
-    // Whether the stream has failed.
-    broken: bool,
+    fault: Option<StreamFault>,
 }
 
 impl FramedStream {
@@ -40,7 +65,7 @@ impl FramedStream {
             readable: true,
             writable: true,
             ended: false,
-            broken: false,
+            fault: None,
         }
     }
 
@@ -65,9 +90,9 @@ impl FramedStream {
         self.ended
     }
 
-    /// Whether it has failed.
-    pub fn is_broken(&self) -> bool {
-        self.broken
+    /// Why it has failed, if it has.
+    pub fn fault(&self) -> Option<StreamFault> {
+        self.fault
     }
 
     /// Puts a frame behind what is to be written.
@@ -75,7 +100,7 @@ impl FramedStream {
         requires { length bytes.now < 2 ^ 16 }
     {
         if write_framed(&mut self.out, bytes).is_err() {
-            self.broken = true;
+            self.fault = Some(StreamFault::Memory);
         }
     }
 
@@ -83,11 +108,11 @@ impl FramedStream {
     pub fn write(&mut self) -> bool {
         let mut took = false;
         for _ in 0..u64::MAX {
-            if !self.writable || self.broken || self.written >= self.out.len() {
+            if !self.writable || self.fault.is_some() || self.written >= self.out.len() {
                 break;
             }
             match self.stream.write(&self.out[self.written..]) {
-                Ok(0) => self.broken = true,
+                Ok(0) => self.fault = Some(StreamFault::Reset),
                 Ok(count) => {
                     self.written = self.written.saturating_add(count);
                     took = true;
@@ -96,7 +121,7 @@ impl FramedStream {
                     self.writable = error.kind() != ErrorKind::WouldBlock;
                     break;
                 }
-                Err(_) => self.broken = true,
+                Err(error) => self.fault = Some(fault_of(&error)),
             }
         }
         if self.written >= self.out.len() {
@@ -130,7 +155,7 @@ impl FramedStream {
         ensures { IfSome result (λ v. length v.items < 2 ^ 16) }
     {
         if frame.is_err() {
-            self.broken = true;
+            self.fault = Some(StreamFault::Memory);
         }
         frame.ok()
     }
@@ -139,7 +164,7 @@ impl FramedStream {
     pub fn read(&mut self, buffer: &mut [u8]) -> bool {
         let mut came = false;
         for _ in 0..u64::MAX {
-            if !self.readable || self.ended || self.broken {
+            if !self.readable || self.ended || self.fault.is_some() {
                 break;
             }
             let room = MOST_FRAME_BYTES
@@ -152,13 +177,15 @@ impl FramedStream {
                 Ok(0) => self.ended = true,
                 Ok(count) => {
                     came = true;
-                    self.broken = self.got.extend_from_slice(&buffer[..count]).is_err();
+                    if self.got.extend_from_slice(&buffer[..count]).is_err() {
+                        self.fault = Some(StreamFault::Memory);
+                    }
                 }
                 Err(error) if is_early(&error) => {
                     self.readable = error.kind() != ErrorKind::WouldBlock;
                     break;
                 }
-                Err(_) => self.broken = true,
+                Err(error) => self.fault = Some(fault_of(&error)),
             }
         }
         came

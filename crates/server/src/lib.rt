@@ -36,6 +36,7 @@ mod open_asks;
 mod outbox;
 mod places;
 mod poller;
+mod query;
 mod serve;
 mod server_streams;
 mod streams;

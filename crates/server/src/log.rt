@@ -1,7 +1,9 @@
 //! What a server logs, where its file asks for it: lines to the standard error, one write each.
 use crate::desk::Desk;
+use crate::ends::receive_room;
+use crate::tally::Tally;
 use book::Machine;
-use counters::{AskFault, Counter, Way};
+use counters::{AskFault, Counter, SocketFault, Way};
 use events::{Actions, Endpoint, Event};
 use std::alloc::Global;
 use std::sync::Wait;
@@ -25,9 +27,11 @@ pub enum Verbosity {
     All,
 }
 
-/// What a server's file says, as far as a line at the start has it.
+/// What is shown of a server, by its file: at the start, by its counters, and by its log.
 #[derive(Clone, Copy, Debug, PartialEq, Eq)]
 pub struct Shown {
+    /// The program's name and version, as a line.
+    pub version: &'static str,
     /// Where the counters are served.
     pub metrics: Option<Endpoint>,
     /// How much is logged.
@@ -42,28 +46,75 @@ pub struct Shown {
     pub delegations: u32,
 }
 
-/// What was told of up to here.
+// How much of what goes wrong there was.
+#[derive(Clone, Copy)]
+struct Troubles {
+    foreign: u64,
+    descriptors: u64,
+    sockets: u64,
+}
+
+// Nothing went wrong.
+const NONE: Troubles = Troubles {
+    foreign: 0,
+    descriptors: 0,
+    sockets: 0,
+};
+
+impl Troubles {
+    // As it is counted now.
+    fn counted(tally: &Tally) -> Troubles {
+        Troubles {
+            foreign: tally.value(Counter::ForeignDatagram),
+            descriptors: sum_of(tally, &WITHOUT_DESCRIPTOR),
+            sockets: sum_of(tally, &FAILED_SOCKETS),
+        }
+    }
+}
+
+// What these counters hold together.
+fn sum_of(tally: &Tally, counters: &[Counter]) -> u64 {
+    let mut sum = 0u64;
+    for counter in counters {
+        sum = sum.saturating_add(tally.value(*counter));
+    }
+    sum
+}
+
+// What has no descriptor.
+const WITHOUT_DESCRIPTOR: [Counter; 3] = [
+    Counter::FailedAsk(Way::Udp, AskFault::Descriptors),
+    Counter::FailedAsk(Way::Tcp, AskFault::Descriptors),
+    Counter::FailedSocket(SocketFault::Descriptors),
+];
+
+// Sockets that fail without a stream's other side.
+const FAILED_SOCKETS: [Counter; 5] = [
+    Counter::FailedAsk(Way::Udp, AskFault::Refused),
+    Counter::FailedSocket(SocketFault::Send),
+    Counter::FailedSocket(SocketFault::Receive),
+    Counter::FailedSocket(SocketFault::Accept),
+    Counter::FailedSocket(SocketFault::Poll),
+];
+
+/// What was logged up to here.
 #[derive(Clone, Copy)]
 pub(crate) struct Log {
     verbosity: Option<Verbosity>,
     // When it was looked last, and the most queries that were open since.
     looked: u64,
     most_open: u64,
-    foreign: u64,
-    refused: u64,
-    descriptors: u64,
+    logged: Troubles,
 }
 
 impl Log {
-    /// Nothing is told yet.
+    /// Nothing is logged yet.
     pub fn new(verbosity: Option<Verbosity>) -> Log {
         Log {
             verbosity,
             looked: 0,
             most_open: 0,
-            foreign: 0,
-            refused: 0,
-            descriptors: 0,
+            logged: NONE,
         }
     }
 
@@ -85,34 +136,37 @@ impl Log {
             return;
         }
         self.looked = now;
-        let alloc = desk.alloc;
+        self.warn(desk.alloc, Troubles::counted(tally));
+    }
+
+    // Logs what went wrong since it was logged last, a line a kind.
+    fn warn(&mut self, alloc: Global, now: Troubles) {
         if self.most_open >= MANY_OPEN {
-            say(
-                alloc,
-                "queries wait for other servers, of 1,024 that may",
-                self.most_open,
-            );
+            let most = self.most_open;
+            put(format!(in alloc;
+                "resolverd: warning: within a minute {most} queries were open at once; 1,024 may be\n"
+            ));
         }
-        self.most_open = 0;
-        let foreign = tally.value(Counter::ForeignDatagram);
-        tell(
-            alloc,
-            "datagrams repeated no ask, as a forger's",
-            self.foreign,
+        let Troubles {
             foreign,
-        );
-        self.foreign = foreign;
-        let refused = tally.value(Counter::FailedAsk(Way::Udp, AskFault::Refused));
-        tell(alloc, "asks could not be sent", self.refused, refused);
-        self.refused = refused;
-        let descriptors = tally.value(Counter::FailedAsk(Way::Udp, AskFault::Descriptors));
+            descriptors,
+            sockets,
+        } = self.logged;
         tell(
             alloc,
-            "asks found no descriptor",
-            self.descriptors,
-            descriptors,
+            "datagrams repeated no open ask, as a forger's do",
+            foreign,
+            now.foreign,
         );
-        self.descriptors = descriptors;
+        tell(
+            alloc,
+            "sockets had no descriptor",
+            descriptors,
+            now.descriptors,
+        );
+        tell(alloc, "calls at sockets failed", sockets, now.sockets);
+        self.most_open = 0;
+        self.logged = now;
     }
 }
 
@@ -127,6 +181,8 @@ pub(crate) fn log_start<M: Machine<Event = Event, Out = Actions>, L: Ledger>(
         return;
     }
     let alloc = desk.alloc;
+    let version = shown.version;
+    put(format!(in alloc; "resolverd: info: {version}"));
     if let Ok(end) = desk.ends.listen() {
         let (address, port) = (end.address, end.port);
         put(format!(in alloc; "resolverd: info: serves clients at {address} port {port}\n"));
@@ -135,6 +191,15 @@ pub(crate) fn log_start<M: Machine<Event = Event, Out = Actions>, L: Ledger>(
         let (address, port) = (end.address, end.port);
         put(format!(in alloc; "resolverd: info: serves counters at {address} port {port}\n"));
     }
+    log_sizes(desk, shown);
+}
+
+// Logs how much is held and kept at most.
+fn log_sizes<M: Machine<Event = Event, Out = Actions>, L: Ledger>(
+    desk: &Desk<'_, M, L>,
+    shown: Shown,
+) {
+    let alloc = desk.alloc;
     let Shown {
         zones,
         hints,
@@ -149,6 +214,11 @@ pub(crate) fn log_start<M: Machine<Event = Event, Out = Actions>, L: Ledger>(
     put(format!(in alloc;
         "resolverd: info: keeps {cache} answers and {delegations} delegations, and {streams} streams of clients\n"
     ));
+    if let Some(bytes) = receive_room(&desk.ends.clients) {
+        put(format!(in alloc;
+            "resolverd: info: the system holds {bytes} bytes of clients' datagrams that wait to be read\n"
+        ));
+    }
 }
 
 // Writes a line, where there was memory for it.
@@ -162,11 +232,6 @@ fn put<E: Drop>(line: Result<String, E>) {
 fn tell(alloc: Global, what: &str, before: u64, now: u64) {
     let more = now.saturating_sub(before);
     if more > 0 {
-        say(alloc, what, more);
+        put(format!(in alloc; "resolverd: warning: within a minute {more} {what}\n"));
     }
-}
-
-// Logs a number of what went wrong within a minute.
-fn say(alloc: Global, what: &str, number: u64) {
-    put(format!(in alloc; "resolverd: warning: within a minute {number} {what}\n"));
 }

@@ -2,10 +2,10 @@
 ghost use Rattle.std.specs.Prelude.{◌≤◌, IfSome, length};
 
 use crate::desk::Desk;
-use crate::ends::{LISTENER, SLICE_MS, address_of, is_early};
+use crate::ends::{LISTENER, SLICE_MS, accept_fault, address_of, is_early};
 use crate::poller::Poller;
 use book::Machine;
-use counters::{MOST_REQUEST, is_request, put_response};
+use counters::{MOST_REQUEST, Outcome, SocketFault, is_request, put_response};
 use events::{Actions, Endpoint, Event};
 use mio::{Events, Interest};
 use std::alloc::Global;
@@ -67,7 +67,12 @@ pub(crate) fn serve_counters<M: Machine<Event = Event, Out = Actions>, L: Ledger
         }
         match scrapes.listener.accept() {
             Ok((stream, _)) => serve_one(rt, desk, stream),
-            Err(_) => scrapes.poller.wait(&mut poll, &mut events, SLICE_MS),
+            Err(error) => {
+                if !is_early(&error) {
+                    desk.ends.count(Outcome::SocketFailed(accept_fault(&error)));
+                }
+                desk.wait(&scrapes.poller, &mut poll, &mut events, SLICE_MS);
+            }
         }
     }
 }

@@ -41,9 +41,9 @@ impl Notices {
         })
     }
 
-    /// Tells it these words. What can't be sent is lost.
-    pub fn tell(&self, words: &str) {
-        let _ = unsafe {
+    /// Tells it these words; whether they could be sent. What can't be sent is lost.
+    pub fn tell(&self, words: &str) -> bool {
+        let sent = unsafe {
             c::sendto(
                 self.socket.as_raw_fd(),
                 words.as_bytes(),
@@ -52,6 +52,7 @@ impl Notices {
                 self.length,
             )
         };
+        sent >= 0
     }
 }
 

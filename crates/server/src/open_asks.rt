@@ -54,6 +54,8 @@ pub(crate) struct OpenAsks {
     strange: AtomicU64,
     // How many were closed for want of room.
     crowded: AtomicU64,
+    // How often a datagram could not be received, or its socket not be waited for again.
+    unread: AtomicU64,
 }
 
 impl OpenAsks {
@@ -66,6 +68,7 @@ impl OpenAsks {
             most: most_open(),
             strange: AtomicU64::new(0),
             crowded: AtomicU64::new(0),
+            unread: AtomicU64::new(0),
         })
     }
 
@@ -99,11 +102,11 @@ impl OpenAsks {
                 moment,
                 bytes,
             };
-            self.put(rt, ask, false);
-            Ok(())
-        } else {
-            Err(AskFault::Refused)
+            if self.put(rt, ask, false) {
+                return Ok(());
+            }
         }
+        Err(AskFault::Refused)
     }
 
     // A socket, if need be the descriptor of the oldest ask.
@@ -115,16 +118,16 @@ impl OpenAsks {
         datagram_socket()
     }
 
-    // Waits for the replies to an ask from now on, or, where it was taken out, again. One that can't be waited for is
-    // lost.
-    fn put<R: Wait>(&self, rt: &R, ask: OpenAsk, again: bool) {
+    // Waits for the replies to an ask from now on, or, where it was taken out, again; whether it can. One that can't be
+    // waited for is lost.
+    fn put<R: Wait>(&self, rt: &R, ask: OpenAsk, again: bool) -> bool {
         let socket = ask.socket.as_raw_fd();
         let mut open = self.open.lock(rt);
         if open.len() >= self.most {
             self.close_oldest(&mut open);
         }
         let Ok(key) = open.insert(ask) else {
-            return;
+            return false;
         };
         let watched = if again {
             self.poller.watch_again(socket, key, Interest::READABLE)
@@ -134,6 +137,7 @@ impl OpenAsks {
         if !watched {
             open.try_remove(key);
         }
+        watched
     }
 
     /// The ask of this key, where what repeats it has come: how many bytes that has, at the front of the buffer. Its
@@ -145,7 +149,9 @@ impl OpenAsks {
         match self.reply_to(&ask, buffer) {
             Some(count) => Some((count, ask)),
             None => {
-                self.put(rt, ask, true);
+                if !self.put(rt, ask, true) {
+                    self.unread.fetch_add(1, Ordering::SeqCst);
+                }
                 None
             }
         }
@@ -166,7 +172,9 @@ impl OpenAsks {
                     Err(_) => {}
                 },
                 Err(error) if is_early(&error) => return None,
-                Err(_) => {}
+                Err(_) => {
+                    self.unread.fetch_add(1, Ordering::SeqCst);
+                }
             }
         }
         None
@@ -187,6 +195,11 @@ impl OpenAsks {
         {
             self.crowded.fetch_add(1, Ordering::SeqCst);
         }
+    }
+
+    /// How often a datagram of a server could not be received.
+    pub fn unread_datagrams(&self) -> u64 {
+        self.unread.load(Ordering::SeqCst)
     }
 
     /// How many asks were closed for want of room.

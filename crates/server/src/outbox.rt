@@ -1,7 +1,7 @@
 //! What goes out, by the sockets and the channels of a server.
 use crate::desk::Bounds;
 use crate::ends::{Ends, address_of};
-use counters::{AskFault, Outcome, Way};
+use counters::{AskFault, Outcome, SocketFault, Way};
 use crossbeam_channel::Sender;
 use dispatch::Carrier;
 use events::{Bytes, Endpoint};
@@ -41,14 +41,25 @@ pub(crate) struct Outbox<'a, R> {
 impl<R: Wait + Clock> Carrier<Global> for Outbox<'_, R> {
     fn to_client(&mut self, to: Endpoint, bytes: &Bytes) {
         let ends = self.ends;
-        let _ = ends.clients.send_to(bytes.as_slice(), address_of(to));
+        if ends
+            .clients
+            .send_to(bytes.as_slice(), address_of(to))
+            .is_err()
+        {
+            ends.count(Outcome::SocketFailed(SocketFault::Send));
+        }
     }
 
     fn to_stream(&mut self, client: u64, bytes: &Bytes) {
-        if let Ok(bytes) = bytes.copied() {
-            let _ = self.to_streams.send(self.rt, StreamReply { client, bytes });
-            self.ends.streams.notify();
+        let Ok(bytes) = bytes.copied() else {
+            self.ends.count(Outcome::MemoryRefused);
+            return;
+        };
+        let reply = StreamReply { client, bytes };
+        if self.to_streams.send(self.rt, reply).is_err() {
+            self.ends.count(Outcome::MemoryRefused);
         }
+        self.ends.streams.notify();
     }
 
     fn to_server(&mut self, socket: u16, to: Endpoint, bytes: &Bytes) {

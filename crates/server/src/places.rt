@@ -2,8 +2,9 @@
 ghost use Rattle.std.specs.Prelude.{◌<◌, ◌^◌, length};
 
 use crate::client_stream::ClientStream;
-use crate::ends::{Ends, endpoint_of};
-use crate::framed_stream::FramedStream;
+use crate::ends::{Ends, accept_fault, endpoint_of};
+use crate::framed_stream::{FramedStream, StreamFault};
+use counters::{Outcome, SocketFault};
 use dispatch::{place_of, stream_number};
 use events::Endpoint;
 use mio::Interest;
@@ -77,8 +78,13 @@ impl Places {
         }
     }
 
-    /// Ends what is over.
-    pub fn end_over(&mut self, now: u64) {
+    /// Ends what is over, and counts what failed.
+    pub fn end_over(&mut self, ends: &Ends, now: u64) {
+        for (_, client) in self.open.iter() {
+            if let Some(fault) = client.fault() {
+                ends.count(outcome_of(fault));
+            }
+        }
         self.open.retain(|_, client| !client.is_over(now));
     }
 
@@ -92,7 +98,11 @@ impl Places {
                         Some(from) => (stream, from),
                         None => continue,
                     },
-                    Err(error) => return error.kind() != ErrorKind::WouldBlock,
+                    Err(error) if error.kind() == ErrorKind::WouldBlock => return false,
+                    Err(error) => {
+                        ends.count(Outcome::SocketFailed(accept_fault(&error)));
+                        return true;
+                    }
                 },
             };
             match self.room_for(from.address, now) {
@@ -158,18 +168,30 @@ impl Places {
             return;
         };
         self.serial = self.serial.wrapping_add(1);
-        let number = stream_number(self.serial, place);
+        let number = stream_number(address, self.serial, place);
         let stream = FramedStream::new(self.alloc, stream);
         let socket = stream.descriptor();
         let client = ClientStream::new(stream, number, address, now);
         if self.open.insert(client).is_err() {
+            ends.count(Outcome::MemoryRefused);
             return;
         }
         if !ends
             .streams
             .watch(socket, key, Interest::READABLE | Interest::WRITABLE)
         {
+            ends.count(Outcome::SocketFailed(SocketFault::Poll));
             self.open.try_remove(key);
+        }
+    }
+}
+
+// How the fault of a client's stream is counted.
+fn outcome_of(fault: StreamFault) -> Outcome {
+    match fault {
+        StreamFault::Memory => Outcome::MemoryRefused,
+        StreamFault::Refused | StreamFault::Silent | StreamFault::Reset => {
+            Outcome::SocketFailed(SocketFault::Stream)
         }
     }
 }

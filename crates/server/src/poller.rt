@@ -1,5 +1,5 @@
 //! Sockets that one loop waits for, and how others end its wait.
-use crate::ends::slice;
+use crate::ends::is_early;
 use mio::unix::SourceFd;
 use mio::{Events, Interest, Poll, Registry, Token, Waker};
 use std::io;
@@ -64,9 +64,13 @@ impl Poller {
         self.asleep.store(true, Ordering::SeqCst);
     }
 
-    /// Waits for a socket or a notice, for so many milliseconds at most.
-    pub fn wait(&self, poll: &mut Poll, events: &mut Events, millis: u64) {
-        let _ = poll.poll(events, Some(Duration::from_millis(millis)));
+    /// Waits for a socket or a notice, for so many milliseconds at most; whether it could. A signal may end the wait.
+    pub fn wait(&self, poll: &mut Poll, events: &mut Events, millis: u64) -> bool {
+        let polled = poll.poll(events, Some(Duration::from_millis(millis)));
         self.asleep.store(false, Ordering::SeqCst);
+        match polled {
+            Ok(()) => true,
+            Err(error) => is_early(&error),
+        }
     }
 }

@@ -1,9 +1,9 @@
 //! The loop that asks servers over TCP.
-ghost use Rattle.std.specs.Prelude.{◌<◌, ◌^◌, IfSome, length};
+ghost use Rattle.std.specs.Prelude.{◌<◌, ◌^◌, IfOk, IfSome, length};
 
 use crate::desk::{Bounds, Desk};
-use crate::ends::{SLICE_MS, address_of};
-use crate::framed_stream::{FramedStream, MOST_FRAME_BYTES};
+use crate::ends::{SLICE_MS, address_of, lacks_descriptors};
+use crate::framed_stream::{FramedStream, MOST_FRAME_BYTES, StreamFault};
 use crate::outbox::StreamAsk;
 use crate::poller::Poller;
 use book::{Machine, Ticket};
@@ -47,16 +47,28 @@ struct Talk {
 
 impl Talk {
     // Writes and reads what can be. None where it waits on; else it has ended, with the frame that came if one did.
-    fn advance(&mut self, alloc: Global, buffer: &mut [u8]) -> Option<Option<Vec<u8>>>
-        ensures { IfSome result (λ end. IfSome end (λ v. length v.items < 2 ^ 16)) }
+    fn advance(&mut self, alloc: Global, buffer: &mut [u8]) -> Option<Result<Vec<u8>, AskFault>>
+        ensures { IfSome result (λ end. IfOk end (λ v. length v.items < 2 ^ 16)) }
     {
         self.due = false;
         self.stream.write();
-        match self.stream.next(alloc, buffer) {
-            Some(frame) => Some(Some(frame)),
-            None if self.stream.is_broken() || self.stream.has_ended() => Some(None),
+        if let Some(frame) = self.stream.next(alloc, buffer) {
+            return Some(Ok(frame));
+        }
+        match self.stream.fault() {
+            Some(fault) => Some(Err(ask_fault(fault))),
+            None if self.stream.has_ended() => Some(Err(AskFault::Reset)),
             None => None,
         }
+    }
+}
+
+// Why an ask has no reply whose stream failed so.
+fn ask_fault(fault: StreamFault) -> AskFault {
+    match fault {
+        StreamFault::Memory | StreamFault::Refused => AskFault::Refused,
+        StreamFault::Silent => AskFault::Silent,
+        StreamFault::Reset => AskFault::Reset,
     }
 }
 
@@ -82,7 +94,7 @@ pub(crate) fn ask_servers<
         servers.expect_notice();
         let begins = talks.len() < most_talks(desk.bounds) && !desk.asks.is_empty();
         let millis = wait_of(&talks, begins);
-        servers.wait(&mut poll, &mut events, millis);
+        desk.wait(servers, &mut poll, &mut events, millis);
         for event in events.iter() {
             stir(&mut talks, event.token().0);
         }
@@ -175,8 +187,10 @@ fn begin<R: Net>(
     if at_server >= ASKS_OF_A_SERVER {
         return Err(AskFault::Crowded);
     }
-    let Ok(stream) = TcpStream::connect(rt, address_of(ask.to)) else {
-        return Err(AskFault::Refused);
+    let stream = match TcpStream::connect(rt, address_of(ask.to)) {
+        Ok(stream) => stream,
+        Err(error) if lacks_descriptors(&error) => return Err(AskFault::Descriptors),
+        Err(_) => return Err(AskFault::Refused),
     };
     let mut stream = FramedStream::new(alloc, stream);
     stream.put(ask.bytes.as_slice());
@@ -214,25 +228,24 @@ fn advance<M: Machine<Event = Event, Out = Actions>, L: Ledger, R: Wait + Clock>
         return;
     };
     let number = talk.number;
-    let fault = if talk.due {
-        AskFault::Refused
-    } else {
-        AskFault::Silent
-    };
     let end = if talk.due {
         talk.advance(desk.alloc, buffer)
     } else if check && desk.moment(rt).saturating_sub(talk.moment) >= TCP_WAIT_MS {
-        Some(None)
+        Some(Err(AskFault::Silent))
     } else {
         None
     };
-    let Some(frame) = end else {
+    let Some(end) = end else {
         return;
     };
     talks.try_remove(key);
-    if frame.is_none() {
-        desk.ends.count(Outcome::AskFailed(Way::Tcp, fault));
-    }
+    let frame = match end {
+        Ok(frame) => Some(frame),
+        Err(fault) => {
+            desk.ends.count(Outcome::AskFailed(Way::Tcp, fault));
+            None
+        }
+    };
     let event = stream_reply_event(desk.moment(rt), number, frame);
     desk.put(rt, ticket, event);
 }

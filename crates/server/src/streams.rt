@@ -4,8 +4,6 @@ use crate::ends::{LISTENER, SLICE_MS};
 use crate::framed_stream::MOST_FRAME_BYTES;
 use crate::places::Places;
 use book::{Machine, Ticket};
-use counters::Way;
-use dispatch::stream_query_event;
 use events::{Actions, Event};
 use mio::Events;
 use std::sync::Wait;
@@ -48,7 +46,7 @@ pub(crate) fn take_streams<M: Machine<Event = Event, Out = Actions>, L: Ledger, 
         } else {
             0
         };
-        streams.wait(&mut poll, &mut events, millis);
+        desk.wait(streams, &mut poll, &mut events, millis);
         for event in events.iter() {
             match event.token().0 {
                 LISTENER => waits = true,
@@ -60,7 +58,7 @@ pub(crate) fn take_streams<M: Machine<Event = Event, Out = Actions>, L: Ledger, 
             take_questions(rt, desk, ticket, &mut places, key, &mut buffer);
         }
         let now = desk.moment(rt);
-        places.end_over(now);
+        places.end_over(desk.ends, now);
         waits = waits && places.welcome(desk.ends, now);
     }
 }
@@ -98,8 +96,8 @@ fn hand_out<M: Machine<Event = Event, Out = Actions>, L: Ledger, R: Wait + Clock
     }
 }
 
-// Writes and reads the stream at this key where there is something to do, and puts the questions that came. Where one
-// is no query nothing goes out for it, which is known at once: the stream is to end.
+// Writes and reads the stream at this key where there is something to do, and puts the questions that came. Where it is
+// known at once that nothing goes out for one, since it is no query or was dropped at the door, the stream is to end.
 fn take_questions<M: Machine<Event = Event, Out = Actions>, L: Ledger, R: Wait + Clock>(
     rt: &R,
     desk: &Desk<'_, M, L>,
@@ -120,11 +118,7 @@ fn take_questions<M: Machine<Event = Event, Out = Actions>, L: Ledger, R: Wait +
         let Some(bytes) = client.next_question(desk.alloc, now, buffer) else {
             return;
         };
-        if let Some(tally) = &desk.ends.tally {
-            tally.count_query(Way::Tcp, bytes.as_slice());
-        }
-        let event = stream_query_event(now, client.number, bytes);
-        if !desk.put(rt, ticket, event).speaks {
+        if !desk.put_frame(rt, ticket, client.number, bytes) {
             client.close();
         }
     }

@@ -1,9 +1,9 @@
 //! What a server counts, where its file asks for it.
 
+use crate::query::{Asker, Query};
 use counters::{COUNTERS, Cells, Counter, Outcome, Reply, Way, count};
 use dispatch::question_end;
 use events::{Action, Event};
-use front::Via;
 use std::alloc::Global;
 use std::sync::{Mutex, Wait};
 
@@ -16,8 +16,7 @@ const OPEN_MS: u64 = 12_000;
 /// A client's query: whose it is, its ID, and when it came.
 #[derive(Clone, Copy)]
 pub(crate) struct Came {
-    client: u64,
-    way: Way,
+    asker: Asker,
     id: u16,
     moment: u64,
 }
@@ -32,8 +31,10 @@ impl Came {
                 way,
                 bytes,
             } => Some(Came {
-                client: *client,
-                way: way_of(*way),
+                asker: Asker {
+                    client: *client,
+                    way: *way,
+                },
                 id: id_of(bytes.as_slice()),
                 moment: held.unwrap_or(*moment),
             }),
@@ -63,9 +64,10 @@ impl Tally {
         count(&mut self.cells.adder(), outcome);
     }
 
-    /// Counts a query, which is a client's datagram or frame.
-    pub fn count_query(&self, way: Way, bytes: &[u8]) {
-        self.count(Outcome::Query(way, type_asked(bytes)));
+    /// Counts a query.
+    pub fn count_query(&self, query: &Query) {
+        let kind = type_asked(query.bytes.as_slice());
+        self.count(Outcome::Query(query.asker.counted_way(), kind));
     }
 
     /// Counts what a step gave: of the query that came with it, or another one.
@@ -78,9 +80,13 @@ impl Tally {
                 cause,
             } => {
                 let bytes = bytes.as_slice();
+                let asker = Asker {
+                    client: *client,
+                    way: *way,
+                };
                 let moment = match came {
                     Some(came) => Some(came.moment),
-                    None => self.end(rt, *client, way_of(*way), id_of(bytes)),
+                    None => self.end(rt, asker, id_of(bytes)),
                 };
                 let millis = moment.map(|moment| now.saturating_sub(moment));
                 self.count(Outcome::Replied(Reply {
@@ -94,11 +100,11 @@ impl Tally {
     }
 
     /// Counts the failure that a query got which was held since then: a copy of another's.
-    pub fn count_copy(&self, failed: &Action, copy: &[u8], since: u64, now: u64) {
-        if let Action::Reply { cause, .. } = failed {
+    pub fn count_copy(&self, copy: &Action, since: u64, now: u64) {
+        if let Action::Reply { bytes, cause, .. } = copy {
             self.count(Outcome::Replied(Reply {
                 cause: *cause,
-                ..reply_of(copy, true, Some(now.saturating_sub(since)))
+                ..reply_of(bytes.as_slice(), true, Some(now.saturating_sub(since)))
             }));
         }
     }
@@ -139,11 +145,11 @@ impl Tally {
     }
 
     // When the query came to which this is the reply.
-    fn end<R: Wait>(&self, rt: &R, client: u64, way: Way, id: u16) -> Option<u64> {
+    fn end<R: Wait>(&self, rt: &R, asker: Asker, id: u16) -> Option<u64> {
         let mut open = self.open.lock(rt);
-        let place = open.iter().position(|query| query.client == client
-            && query.way == way
-            && query.id == id)?;
+        let place = open
+            .iter()
+            .position(|query| query.asker == asker && query.id == id)?;
         Some(open.swap_remove(place).moment)
     }
 }
@@ -171,13 +177,6 @@ fn byte_at(bytes: &[u8], place: usize) -> u8 {
 // The number under which it was asked.
 fn id_of(bytes: &[u8]) -> u16 {
     u16::from_be_bytes([byte_at(bytes, 0), byte_at(bytes, 1)])
-}
-
-fn way_of(way: Via) -> Way {
-    match way {
-        Via::Udp => Way::Udp,
-        Via::Tcp => Way::Tcp,
-    }
 }
 
 // The type that a message asks for; 0, which is none, where it has no one question.

@@ -2,7 +2,7 @@
 use crate::desk::Desk;
 use crate::ends::{Ends, MOST_BYTES, SLICE_MS};
 use book::{Machine, Ticket};
-use counters::{AskFault, Outcome, Way};
+use counters::{AskFault, Outcome, SocketFault, Way};
 use dispatch::datagram_event;
 use events::{Actions, Event};
 use mio::Events;
@@ -13,27 +13,42 @@ use std::time::Clock;
 // How many sockets are told of at once.
 const EVENTS: usize = 256;
 
-// How many datagrams of no ask, and asks that were closed for want of room, are counted.
+// How much is counted of what the asks in datagrams note themselves.
 #[derive(Clone, Copy)]
-struct Told {
-    foreign: u64,
+struct Counted {
+    strange: u64,
     crowded: u64,
+    unread: u64,
 }
 
 // Counts what came of asks since it was counted last, and those that had no reply in time.
-fn count_asks(ends: &Ends, told: &mut Told, silent: u64) {
-    let foreign = ends.asks.strange_datagrams();
-    for _ in told.foreign..foreign {
-        ends.count(Outcome::Foreign);
+fn count_asks(ends: &Ends, counted: &mut Counted, silent: u64) {
+    let asks = &ends.asks;
+    let now = Counted {
+        strange: asks.strange_datagrams(),
+        crowded: asks.crowded_asks(),
+        unread: asks.unread_datagrams(),
+    };
+    for (outcome, times) in [
+        (
+            Outcome::Foreign,
+            now.strange.saturating_sub(counted.strange),
+        ),
+        (
+            Outcome::AskFailed(Way::Udp, AskFault::Crowded),
+            now.crowded.saturating_sub(counted.crowded),
+        ),
+        (
+            Outcome::SocketFailed(SocketFault::Receive),
+            now.unread.saturating_sub(counted.unread),
+        ),
+        (Outcome::AskFailed(Way::Udp, AskFault::Silent), silent),
+    ] {
+        for _ in 0..times {
+            ends.count(outcome);
+        }
     }
-    let crowded = ends.asks.crowded_asks();
-    for _ in told.crowded..crowded {
-        ends.count(Outcome::AskFailed(Way::Udp, AskFault::Crowded));
-    }
-    for _ in 0..silent {
-        ends.count(Outcome::AskFailed(Way::Udp, AskFault::Silent));
-    }
-    *told = Told { foreign, crowded };
+    *counted = now;
 }
 
 /// Takes what repeats the asks that are open, each at its own socket, until the flag is up.
@@ -49,22 +64,23 @@ pub(crate) fn take_answers<M: Machine<Event = Event, Out = Actions>, L: Ledger, 
     let mut poll = asks.poller.poll.lock(rt);
     let mut buffer = [0u8; MOST_BYTES];
     let mut swept = 0;
-    let mut told = Told {
-        foreign: 0,
+    let mut counted = Counted {
+        strange: 0,
         crowded: 0,
+        unread: 0,
     };
     for _ in rt.forever() {
         if desk.is_over() {
             return;
         }
-        asks.poller.wait(&mut poll, &mut events, SLICE_MS);
+        desk.wait(&asks.poller, &mut poll, &mut events, SLICE_MS);
         for event in events.iter() {
             take_answer(rt, desk, ticket, event.token().0, &mut buffer);
         }
         let now = desk.moment(rt);
         if now.saturating_sub(swept) >= SLICE_MS {
             let silent = asks.close_old(rt, now);
-            count_asks(desk.ends, &mut told, silent);
+            count_asks(desk.ends, &mut counted, silent);
             swept = now;
         }
     }
@@ -82,8 +98,11 @@ fn take_answer<M: Machine<Event = Event, Out = Actions>, L: Ledger, R: Wait + Cl
         let (number, to) = (ask.number, ask.to);
         drop(ask);
         let event = datagram_event(desk.alloc, desk.moment(rt), number, to, &buffer[..count]);
-        if let Ok(event) = event {
-            desk.put(rt, ticket, event);
+        match event {
+            Ok(event) => {
+                desk.put(rt, ticket, event);
+            }
+            Err(_) => desk.ends.count(Outcome::MemoryRefused),
         }
     }
 }

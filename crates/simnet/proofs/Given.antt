@@ -38,7 +38,8 @@ module _ (A : Type 0) where
   followed_plainly look from aliases e h = record {
     to = h.to;
     leads = h.leads;
-    ends = ⊎_elim (λ p. inl (p.0, end_at (look h.to) e p.1)) (λ p. inr (p.0, ap plain_end p.1)) h.ends;
+    few = h.few;
+    ends = ⊎_elim (λ p. inl (end_at (look h.to) e p)) (λ p. inr (p.0, p.1, ap plain_end p.2)) h.ends;
   }
 
   answer_plainly : (q : Query A) (aliases : List Record) (e : End A) → answer_to q aliases e ≡ answer_to (plain q) aliases (plain_end e)

@@ -160,8 +160,8 @@ module _ {A : Type 0} (W : World) (a : Address) (t : ℕ) (q : Query A) (w : IsW
       ⊎_elim
       (λ n. let c = in_chain (says W a t) q.name k.to (r ∷ rs) s k.leads n in alias_again r s c.0 first c.1 owner)
       (λ n. ⊎_elim
-      (λ ends. let c = end_found (says W a t k.to) e s ends.1 n in none_found r s k.to c.0 first c.1 c.2 owner)
-      (λ ends. absurd (none_in s (subst (λ x. Contains (found_in x) s) ends.1 n)))
+      (λ ends. let c = end_found (says W a t k.to) e s ends n in none_found r s k.to c.0 first c.1 c.2 owner)
+      (λ ends. absurd (none_in s (subst (λ x. Contains (found_in x) s) ends.2 n)))
       k.ends)
       (in_append (r ∷ rs) (found_in e) s m)
 
@@ -174,7 +174,7 @@ module _ {A : Type 0} (W : World) (a : Address) (t : ℕ) (q : Query A) (w : IsW
         inr (
           l,
           ⊎_elim
-              (λ ends. ended m.0 t q l e m.2 (subst (λ x. IsEndAt x e) (ap (says W a t) k.leads ∙ is) ends.1))
+              (λ ends. ended m.0 t q l e m.2 (subst (λ x. IsEndAt x e) (ap (says W a t) k.leads ∙ is) ends))
               (λ ends. absurd (let long = ends.0 in omega (arith, long)))
               k.ends,
         ),

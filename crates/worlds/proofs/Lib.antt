@@ -1,5 +1,6 @@
 pub mod Decided
 pub mod Held
+pub mod Followed
 pub mod Hosted
 pub mod Judged
 pub mod Members

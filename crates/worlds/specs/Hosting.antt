@@ -6,6 +6,7 @@ use Rattle.rdata.specs.Records.{Record}
 use Rattle.rdata.specs.Types.{type_number}
 use Rattle.message_grammar.specs.Messages.{Header, Message, IsMessage, encoding, folded_message}
 use Rattle.zone.specs.Zones.{Zone}
+use Rattle.zone.specs.Links.{Alias}
 use Rattle.zone.specs.Look.{Local, Linked, Cut, NotHere}
 use Rattle.authority.specs.Catalogs.{looked}
 use Rattle.world_truth.specs.Worlds.{Address, World}
@@ -30,12 +31,17 @@ served W a = filter (λ (z : Zone). serves a z.origin W.hosts) W.zones
 abbrev pub says : World → Address → ℕ → Name → Local
 says W a t name = looked (served W a) name t
 
--- The aliases that it follows from a name, and what it says behind them: at most eight, and nothing behind
--- the eighth.
+-- One alias more stands there.
+abbrev pub IsAlias : Local → Type 0
+IsAlias l = (r : Record) × (l ≡ Linked (Alias r))
+
+-- The aliases that it follows from a name, at most eight, and what stands behind them: nothing is said where that is a
+-- ninth.
 pub record IsFollowed {A : Type 0} (look : Name → Local) (from : Name) (aliases : List Record) (end : End A) : Type 0 where
   pub to : Name
   pub leads : AliasesLead look from aliases to
-  pub ends : ((length aliases < max_aliases) × IsEndAt (look to) end) ⊎ ((length aliases ≡ max_aliases) × (end ≡ Outside))
+  pub few : length aliases ≤ max_aliases
+  pub ends : IsEndAt (look to) end ⊎ ((length aliases ≡ max_aliases) × IsAlias (look to) × (end ≡ Outside))
 
 -- QR is set and RA is clear; ID, Opcode and RD are the query's (RFC 1035, section 4.1.1).
 abbrev pub host_header : Opening → Bool → ℕ → Header

@@ -58,8 +58,8 @@ fn served_origins<A: Heap>(
     Ok(origins)
 }
 
-// The aliases from a name with that link on, through the zones of those origins, and where they end: nothing
-// is said behind the last that is followed.
+// The aliases from a name with that link on, through the zones of those origins, and where they end: of a ninth nothing
+// is said.
 fn follow<A: Heap>(
     alloc: A,
     catalog: &Catalog<A>,
@@ -72,16 +72,18 @@ fn follow<A: Heap>(
 {
     let mut aliases = Records::new(alloc);
     let mut found = Local::Link(first);
-    'aliases: while aliases.len() < MAX_ALIASES {
+    'aliases: loop {
         match Step::of(alloc, found)? {
             Step::Ended(end) => return Ok((aliases, end)),
             Step::Onward(alias) => {
+                if aliases.len() == MAX_ALIASES {
+                    return Ok((aliases, End::Outside));
+                }
                 found = catalog.look_among(alloc, origins, alias_target(&alias), kind)?;
                 aliases.push(alias)?;
             }
         }
     }
-    Ok((aliases, End::Outside))
 }
 
 fn header(start: Start, aa: bool, rcode: u8) -> Header
@@ -163,7 +165,7 @@ fn reply_to<A: Heap>(
 /// What the server at an address of the world replies to a client's bytes (RFC 1034, section 4.3.2): nothing
 /// to bytes that are no query of one question, class IN and a served type, where no zone that it serves is over
 /// the name, and where the reply had over 65,535 bytes. At a zone cut a referral; else, with AA, the CNAME chain
-/// through the zones that it serves, at most eight long, and what they say behind it: nothing behind the eighth.
+/// through the zones that it serves, at most eight long, and what they say behind it: nothing of a ninth alias.
 /// What is given is a reply to that question, and a message that the server may serve to it.
 pub fn host_reply<A: Heap>(
     alloc: A,

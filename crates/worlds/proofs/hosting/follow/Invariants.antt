@@ -11,4 +11,4 @@ abbrev pub invariant-aliases : goal.invariant-aliases
 invariant-aliases g l = Going (λ name. looked (among l.origins l.catalog) name (type_number l.kind)) (Linked (link_view l.fn.first)) l.aliases (local_view l.found)
 
 abbrev pub decreases-aliases : goal.decreases-aliases
-decreases-aliases g l = 8 - length l.aliases
+decreases-aliases g l = 9 - length l.aliases

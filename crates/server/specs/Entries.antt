@@ -1,0 +1,28 @@
+-- What becomes of queries at the door.
+use Rattle.std.specs.Prelude.{◌≡◌, ℕ, Option, None, List}
+use Rattle.causes.specs.declared.cause.Cause.{Cause}
+use Rattle.runs.specs.States.{ActionSpec, Reply}
+use Rattle.events.specs.declared.action.Action.{Action}
+use Rattle.events.specs.declared.action.Action.TheVariants as said
+use Rattle.door.specs.declared.queries.Admission.{Admission}
+use Rattle.door.specs.declared.queries.Admission.TheVariants as door
+use Rattle.server.specs.declared.query.Asker.{Asker}
+use Rattle.server.specs.declared.query.Query.{Query}
+use Rattle.server.specs.declared.entrance.Entry.{Entry}
+use Rattle.server.specs.declared.entrance.Entry.TheVariants.{In, Held, Dropped}
+
+-- What is let in is stepped, what waits is held, and what is refused is dropped.
+abbrev pub IsEntry : Admission Query → Entry → Type 0
+IsEntry (door.In query) entry = entry ≡ In query
+IsEntry door.Waits entry = entry ≡ Held
+IsEntry (door.Refused query) entry = entry ≡ Dropped
+
+-- Why a reply is a SERVFAIL, where it is one.
+abbrev pub cause_in : {A : Type 0} → Action A → Option Cause
+cause_in (said.Reply client way bytes cause) = cause
+cause_in (said.Send sock to bytes) = None
+cause_in (said.TcpAsk number to bytes) = None
+
+-- The failure goes to who asked, by the way by which he asked, with the cause of the one that failed.
+abbrev pub failure_copy : {A : Type 0} → Action A → Asker → List ℕ → ActionSpec
+failure_copy failed asker bytes = Reply asker.client asker.way bytes (cause_in failed)
