@@ -16,7 +16,7 @@ use crate::play_script::play;
 use crate::serve::start_server;
 use crate::storm_scripts::storm;
 use crate::texts::Texts;
-use crate::trace_query::trace;
+use crate::trace_query::trace_query;
 use commandline::{Command, LineFault, help_text, is_version, read_words};
 use dname::Heap;
 use std::alloc::{Allocator, Global};
@@ -124,7 +124,7 @@ pub fn run_command<
         Command::Trace { config, name, kind } => {
             let (config, name, kind) = (config.as_str(), name.as_str(), kind.as_str());
             Outcome {
-                status: trace(alloc, config, name, kind, texts, host, out, err),
+                status: trace_query(alloc, config, name, kind, texts, host, out, err),
                 server: None,
             }
         }

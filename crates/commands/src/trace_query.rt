@@ -16,11 +16,11 @@ use crate::texts::Texts;
 use dname::{Heap, Name, Starved};
 use rdata::RType;
 use std::io::Write;
-use trace::{Peers, trace as traced};
+use trace::Peers;
 
 /// Asks the resolver of a server's file for a name and a type, and prints what is asked and what comes of it, and the
 /// reply: the exit status. The words are read before the file, and no socket is bound for clients.
-pub fn trace<A: Heap, T: Texts, H: Host + Peers, O: Write, E: Write>(
+pub fn trace_query<A: Heap, T: Texts, H: Host + Peers, O: Write, E: Write>(
     alloc: A,
     path: &str,
     name: &str,
@@ -113,5 +113,5 @@ fn lines_of<A: Heap, H: Peers>(
 {
     let reach = prepared.server.bounds.reach;
     let core = prepared.server.into_core();
-    Ok(traced(alloc, core, reach, name, kind, host)?)
+    Ok(trace::trace(alloc, core, reach, name, kind, host)?)
 }

@@ -41,7 +41,7 @@ struct OpenAsk<A: Allocator> {
 
 // What was seen of a query.
 #[derive(Drop)]
-struct Trace<A: Allocator> {
+struct Resolution<A: Allocator> {
     alloc: A,
     core: Core<A>,
     reach: Reach,
@@ -49,6 +49,8 @@ struct Trace<A: Allocator> {
     asks: u64,
     open: Option<OpenAsk<A>>,
     text: String<A>,
+    // Whether the reply came.
+    is_over: bool,
 }
 
 /// Asks a resolver for a name and a type, as a client over TCP does, and its servers through `peers`, those alone that
@@ -62,36 +64,29 @@ pub fn trace<A: Heap, P: Peers>(
     peers: &mut P,
 ) -> Result<String<A>, Starved> {
     let bytes = query_bytes(alloc, CLIENT, name, kind, true)?;
-    let mut trace = Trace::new(alloc, core, reach)?;
-    let mut next = trace.step(Event::Client {
+    let mut resolution = Resolution::new(alloc, core, reach)?;
+    let mut next = resolution.step(Event::Client {
         moment: peers.moment(),
         client: CLIENT,
         way: Via::Tcp,
         bytes,
     })?;
     for _ in 0..MOST_EVENTS {
+        if resolution.is_over {
+            break;
+        }
         next = match next {
-            Some(Action::Reply { bytes, cause, .. }) => {
-                trace.reply(bytes.as_slice(), cause)?;
-                break;
-            }
-            Some(Action::Send { socket, to, bytes }) => {
-                trace.send(peers, socket, to, bytes)?;
-                None
-            }
-            Some(Action::TcpAsk { number, to, bytes }) => {
-                trace.exchange(peers, number, to, bytes.as_slice())?
-            }
-            None => trace.wait(peers)?,
+            Some(action) => resolution.act(peers, action)?,
+            None => resolution.wait(peers)?,
         };
     }
-    let Trace { text, .. } = trace;
-    Ok(text)
+    drop(next);
+    Ok(resolution.into_text())
 }
 
-impl<A: Heap> Trace<A> {
-    fn new(alloc: A, core: Core<A>, reach: Reach) -> Result<Trace<A>, Starved> {
-        Ok(Trace {
+impl<A: Heap> Resolution<A> {
+    fn new(alloc: A, core: Core<A>, reach: Reach) -> Result<Resolution<A>, Starved> {
+        Ok(Resolution {
             alloc,
             core,
             reach,
@@ -99,6 +94,7 @@ impl<A: Heap> Trace<A> {
             asks: 0,
             open: None,
             text: String::new(alloc),
+            is_over: false,
         })
     }
 
@@ -108,8 +104,53 @@ impl<A: Heap> Trace<A> {
         Ok(actions.first)
     }
 
+    // The lines alone.
+    fn into_text(self) -> String<A> {
+        let Resolution {
+            alloc: _,
+            core,
+            reach: _,
+            searches,
+            asks: _,
+            open,
+            text,
+            is_over: _,
+        } = self;
+        drop(core);
+        drop(searches);
+        drop(open);
+        text
+    }
+
+    // What the resolver does is done: what it does next, if that is known at once.
+    fn act<P: Peers>(
+        &mut self,
+        peers: &mut P,
+        action: Action<A>,
+    ) -> Result<Option<Action<A>>, Starved> {
+        match action {
+            Action::Reply {
+                client: _client,
+                way: _way,
+                bytes,
+                cause,
+            } => {
+                self.reply(bytes.as_slice(), cause)?;
+                Ok(None)
+            }
+            Action::Send { socket, to, bytes } => {
+                self.send(peers, socket, to, bytes)?;
+                Ok(None)
+            }
+            Action::TcpAsk { number, to, bytes } => {
+                self.exchange(peers, number, to, bytes.as_slice())
+            }
+        }
+    }
+
     // The lines of the reply, and its cause in words.
     fn reply(&mut self, bytes: &[u8], cause: Option<Cause>) -> Result<(), Starved> {
+        self.is_over = true;
         put_reply_bytes(self.alloc, &mut self.text, CLIENT, bytes, cause)?;
         match cause {
             Some(cause) => put_cause(&mut self.text, cause),
@@ -188,53 +229,98 @@ impl<A: Heap> Trace<A> {
     fn wait<P: Peers>(&mut self, peers: &mut P) -> Result<Option<Action<A>>, Starved> {
         let came = peers.receive(self.alloc, SLICE_MS)?;
         let moment = peers.moment();
-        match (came, self.open.take()) {
-            (Some(bytes), Some(ask)) if bytes.len() <= TCP_LIMIT => self.take(moment, ask, bytes),
-            (_, ask) => self.tick(moment, ask),
+        match came {
+            Some(bytes) => self.take(moment, bytes),
+            None => self.tick(moment),
         }
     }
 
     // Time passes: the ask is over where the resolver goes on.
-    fn tick(&mut self, moment: u64, ask: Option<OpenAsk<A>>) -> Result<Option<Action<A>>, Starved> {
+    fn tick(&mut self, moment: u64) -> Result<Option<Action<A>>, Starved> {
         let next = self.step(Event::Tick { moment })?;
-        if next.is_none() {
-            self.open = ask;
-            return Ok(None);
-        }
-        match ask {
-            Some(ask) if !ask.is_lost => {
-                let passed = moment.saturating_sub(ask.moment);
-                put_loss(&mut self.text, self.searches.depth(), passed, Loss::Silent)?;
+        let told = if next.is_some() {
+            self.tell_silence(moment)
+        } else {
+            Ok(())
+        };
+        match told {
+            Ok(()) => Ok(next),
+            Err(starved) => {
+                drop(next);
+                Err(starved)
             }
-            _ => {}
         }
-        Ok(next)
     }
 
-    // A datagram came at the socket of an ask.
-    fn take(
-        &mut self,
-        moment: u64,
-        mut ask: OpenAsk<A>,
-        bytes: Vec<u8, A>,
-    ) -> Result<Option<Action<A>>, Starved> {
-        let passed = moment.saturating_sub(ask.moment);
-        if !repeats(self.alloc, ask.bytes.as_slice(), &bytes)? {
-            if !ask.is_disturbed {
-                put_loss(&mut self.text, self.searches.depth(), passed, Loss::Foreign)?;
-            }
-            ask.is_disturbed = true;
-            return self.tick(moment, Some(ask));
+    // The line of an ask that is waited for no more.
+    fn tell_silence(&mut self, moment: u64) -> Result<(), Starved> {
+        let Some(began) = self.waiting_since() else {
+            return Ok(());
+        };
+        let passed = moment.saturating_sub(began);
+        put_loss(&mut self.text, self.searches.depth(), passed, Loss::Silent)
+    }
+
+    // When the ask went out that a reply may come to.
+    fn waiting_since(&self) -> Option<u64> {
+        match &self.open {
+            Some(ask) if !ask.is_lost => Some(ask.moment),
+            _ => None,
         }
-        self.tell(Via::Udp, passed, &bytes)?;
+    }
+
+    // A datagram came at the socket of the open ask.
+    fn take(&mut self, moment: u64, bytes: Vec<u8, A>) -> Result<Option<Action<A>>, Starved> {
+        let is_reply = bytes.len() <= TCP_LIMIT && self.is_repeated_by(&bytes)?;
+        if is_reply {
+            self.accept(moment, bytes)
+        } else {
+            drop(bytes);
+            self.tell_stranger(moment)?;
+            self.tick(moment)
+        }
+    }
+
+    // Whether the bytes repeat the open ask.
+    fn is_repeated_by(&self, bytes: &[u8]) -> Result<bool, Starved> {
+        match &self.open {
+            Some(ask) => Ok(repeats(self.alloc, ask.bytes.as_slice(), bytes)?),
+            None => Ok(false),
+        }
+    }
+
+    // The line of a datagram that repeats no ask, once of each ask.
+    fn tell_stranger(&mut self, moment: u64) -> Result<(), Starved> {
+        let Some(ask) = &mut self.open else {
+            return Ok(());
+        };
+        if ask.is_disturbed {
+            return Ok(());
+        }
+        ask.is_disturbed = true;
+        let passed = moment.saturating_sub(ask.moment);
+        put_loss(&mut self.text, self.searches.depth(), passed, Loss::Foreign)
+    }
+
+    // The reply to the open ask came.
+    fn accept(&mut self, moment: u64, bytes: Vec<u8, A>) -> Result<Option<Action<A>>, Starved>
+        requires { length bytes.items ≤ 65535 }
+    {
+        let Some(ask) = self.open.take() else {
+            return Ok(None);
+        };
+        let passed = moment.saturating_sub(ask.moment);
         let (socket, from) = (ask.socket, ask.to);
         drop(ask);
-        self.step(Event::Datagram {
+        let told = self.tell(Via::Udp, passed, &bytes);
+        let event = Event::Datagram {
             moment,
             socket,
             from,
             bytes: Bytes::new(bytes),
-        })
+        };
+        told?;
+        self.step(event)
     }
 
     // Asks a server over TCP: what the resolver does next.
