@@ -130,7 +130,7 @@ fn checked_server<'t, A: Heap, H: Host>(
     zones: Vec<Zone<A>, A>,
     host: &mut H,
 ) -> Result<String<A>, Refusal<'t, A>>
-    ensures ok { IfOk result (λ s. string_bytes s ≡ summary_text config.entry zones.entry.items) }
+    ensures ok { IfOk result (λ s. string_bytes s ≡ summary_text config.entry zones.items) }
     ensures err { IfErr result (λ r. TellsUnstarted config.entry r.fault (string_bytes r.words)) }
 {
     match summary(alloc, &config, &zones) {
@@ -147,7 +147,7 @@ fn made<'t, A: Heap, H: Host>(
     host: &mut H,
     summary: String<A>,
 ) -> Result<String<A>, Refusal<'t, A>>
-    ensures ok { IfOk result (λ s. s ≡ summary.entry) }
+    ensures ok { IfOk result (λ s. s ≡ summary) }
     ensures err { IfErr result (λ r. TellsUnstarted config.entry r.fault (string_bytes r.words)) }
 {
     match prepare_zones(alloc, config, zones, host) {
@@ -164,7 +164,7 @@ fn bound<'t, A: Heap, H: Host>(
     host: &mut H,
     summary: String<A>,
 ) -> Result<String<A>, Refusal<'t, A>>
-    ensures ok { IfOk result (λ s. s ≡ summary.entry) }
+    ensures ok { IfOk result (λ s. s ≡ summary) }
     ensures err { IfErr result (λ r. Tells Socket TellsUnbound r.fault (string_bytes r.words)) }
 {
     match host.open(listen, shown) {
@@ -425,7 +425,7 @@ fn told<'t, A: Heap>(
     fault: Fault<'t>,
     words: Result<String<A>, Starved>,
 ) -> Refusal<'t, A>
-    ensures { ((result.fault ≡ fault.entry) × (words.entry ≡ Ok result.words)) ⊎ (result.fault ≡ Memory) }
+    ensures { ((result.fault ≡ fault.entry) × (words ≡ Ok result.words)) ⊎ (result.fault ≡ Memory) }
 {
     match words {
         Ok(words) => Refusal { fault, words },
