@@ -1,8 +1,8 @@
 -- What is said of a refused file goes with its fault.
-use Rattle.std.proofs.Common.{◌≡◌, ℕ, zero, suc, true, false, nat_eq, List, refl, sym, subst, Result, Ok, Err, IfOk, inl, inr, ⊎_elim}
-use Rattle.std.specs.Prelude.{◌⊎◌, Option, Some, None}
+use Rattle.std.proofs.Common.{arith, ◌≡◌, ◌≢◌, ℕ, zero, suc, true, false, nat_eq, List, refl, sym, subst, Result, Ok, Err, IfOk, inl, inr, ⊎_elim}
+use Rattle.std.specs.Prelude.{◌⊎◌, ◌++◌, Option, Some, None, codes}
+use Rattle.std.proofs.lemmas.Result.{IfOk-weaker}
 use Rattle.std.specs.Io.KnownBytes.{Appends}
-use Rattle.std.proofs.lemmas.Bool.{both_ways, eq-eqb}
 use Rattle.std.specs.Borrow.{Bor}
 use Rattle.dname.specs.Labels.{Name}
 use Rattle.rdata.specs.Records.{Record}
@@ -19,9 +19,9 @@ use Rattle.text_lines.specs.Texts.{IsTextFault}
 use Rattle.text_lines.specs.declared.fault.LineError.{LineError}
 use Rattle.text_lines.specs.declared.fault.LineKind.{LineKind}
 use Rattle.text_lines.specs.declared.fault.LineKind.TheVariants as line
-use Rattle.config.specs.Configs.{Config, LocalZone, config_of}
+use Rattle.config.specs.Configs.{Config, End, LocalZone, config_of}
 use Rattle.config_report.specs.Reports.{file_report_text, line_report_text}
-use Rattle.commands.specs.Checks.{Explains, HasReason, IsTold, Tells, TellsRule, TellsUnbound, TellsUnmade, TellsUnstarted}
+use Rattle.commands.specs.Checks.{end_text, Explains, HasReason, IsTold, Tells, TellsRule, TellsUnbound, TellsUnmade, TellsUnstarted}
 use Rattle.commands.specs.Faults.{IsReported, fault_line, file_fault, kind_fault, line_fault, line_kind_fault, status_of, zone_fault}
 use Rattle.commands.specs.Runs.{IsPrinted}
 use Rattle.commands.specs.Servers.{IsNoServer, IsUnbound, IsUnmade, LacksSeed, LacksZone}
@@ -145,7 +145,7 @@ module _ (path : Bor (List ℕ)) (origin : Name) (text : List ℕ) where
 -- ---- What holds of a text holds of the path at which it stands.
 
 pub zone_there : (known : Option (Option (List ℕ))) (text : List ℕ) (origin : Name) (z : ZoneSpec) → MayHold known (Some text) → HoldsZone (Some (Some text)) origin z → HoldsZone known origin z
-zone_there known text origin z h (records, (t, there, reads), rest) = (records, (t, more known text t h there, reads), rest)
+zone_there known text origin z h (records, (t, there, reads), whole, is) = (records, (t, more known text t h there, reads), whole, is)
 
 module _ (held : List ℕ → Option (Option (List ℕ))) (path : List ℕ) (origin : Name) (text : List ℕ) (h : MayHold (held path) (Some text)) where
   at_path : (at : List ℕ) → at ≡ path → (t : List ℕ) → Some text ≡ Some t → MayHold (held at) (Some t)
@@ -156,17 +156,17 @@ module _ (held : List ℕ → Option (Option (List ℕ))) (path : List ℕ) (ori
   refused_there (Zone at e) words (named, (records, (t, there, reads), breaks)) (o, rs, (t2, there2, reads2), is) =
       ((named, (records, (t, more (held path) text t h there, reads), breaks)), (o, rs, (t2, at_path at.now named t2 there2, reads2), is))
   refused_there (Unreadable at) words (named, none) is = absurd (nothing text none)
-  refused_there Memory words no is = (tt, tt)
-  refused_there (Script at e) words no is = absurd no
-  refused_there (Block at n e) words no is = absurd no
-  refused_there (World at e) words no is = absurd no
-  refused_there (BadName e) words no is = absurd no
-  refused_there BadType words no is = absurd no
-  refused_there Settings words no is = absurd no
-  refused_there (Pool e) words no is = absurd no
-  refused_there Socket words no is = absurd no
-  refused_there Threads words no is = absurd no
-  refused_there Output words no is = absurd no
+  refused_there Memory words left is = (tt, tt)
+  refused_there (Script at e) words never is = absurd never
+  refused_there (Block at n e) words never is = absurd never
+  refused_there (World at e) words never is = absurd never
+  refused_there (BadName e) words never is = absurd never
+  refused_there BadType words never is = absurd never
+  refused_there Settings words never is = absurd never
+  refused_there (Pool e) words never is = absurd never
+  refused_there Socket words never is = absurd never
+  refused_there Threads words never is = absurd never
+  refused_there Output words never is = absurd never
 
 -- ---- A file whose zones are read.
 
@@ -208,19 +208,28 @@ pub tell : {S E : Type 0} (bytes : S → List ℕ) (r : Result S E) (P : List �
 tell {S} {E} bytes r P f fault s ok =
     ⊎_elim (λ (h : (fault ≡ f) × (r ≡ Ok s)). inl (h.0, subst (λ (q : Result S E). IfOk q (λ x. P (bytes x))) h.1 ok)) (λ (is : fault ≡ Memory). inr is)
 
-zero_not_four : (k : ℕ) → nat_eq k 0 ≡ true → k ≡ 4 → ⊥
-zero_not_four k is four = let no : nat_eq k 0 ≡ false = subst (λ (m : ℕ). nat_eq m 0 ≡ false) (sym four) refl in both_ways (nat_eq k 0) no is
-
 -- The words were written, and then the line.
-pub both_written : (f : Fault) (words : List ℕ) (out out2 err err1 err2 : Option (List ℕ)) (k n : ℕ) → IsPrinted words 0 out out2 err err1 k → nat_eq k 0 ≡ true → IsReported f err1 err2 n
+pub both_written : (f : Fault) (words : List ℕ) (out out2 err err1 err2 : Option (List ℕ)) (k n : ℕ) → IsPrinted words 0 out out2 err err1 k → k ≡ 0 → IsReported f err1 err2 n
     → IsTold f words out out2 err err2 n
 both_written f words out out2 err err1 err2 k n printed is reported =
     ⊎_elim
     (λ (p : (k ≡ 0) × Appends out out2 words × (err1 ≡ err)).
     ⊎_elim (λ (r : (n ≡ status_of f) × Appends err1 err2 (fault_line f)). inl (r.0, p.1, subst (λ (e : Option (List ℕ)). Appends e err2 (fault_line f)) p.2 r.1)) (λ (four : n ≡ 4). inr four) reported)
-    (λ (four : k ≡ 4). absurd (zero_not_four k is four)) printed
+    (λ (four : k ≡ 4). absurd (omega (arith, is, four))) printed
 
 -- The words could not be written.
-pub not_written : (f : Fault) (words : List ℕ) (out out2 err err2 : Option (List ℕ)) (k : ℕ) → IsPrinted words 0 out out2 err err2 k → nat_eq k 0 ≡ false → IsTold f words out out2 err err2 k
-not_written f words out out2 err err2 k printed no =
-    ⊎_elim (λ (p : (k ≡ 0) × Appends out out2 words × (err2 ≡ err)). absurd (both_ways (nat_eq k 0) no (eq-eqb k 0 p.0))) (λ (four : k ≡ 4). inr four) printed
+pub not_written : (f : Fault) (words : List ℕ) (out out2 err err2 : Option (List ℕ)) (k : ℕ) → IsPrinted words 0 out out2 err err2 k → k ≢ 0 → IsTold f words out out2 err err2 k
+not_written f words out out2 err err2 k printed other =
+    ⊎_elim (λ (p : (k ≡ 0) × Appends out out2 words × (err2 ≡ err)). absurd (other p.0)) (λ (four : k ≡ 4). inr four) printed
+
+-- ---- Why an address is not bound, and a path not read.
+
+module _ {S E : Type 0} (bytes : S → List ℕ) (r : Result S E) where
+  pub listen_told : (e : End) (reason : List ℕ) → IfOk r (λ s. bytes s ≡ end_text (codes "listen") e ++ codes ": " ++ reason ++ codes "\n") → IfOk r (λ s. TellsUnbound (bytes s))
+  listen_told e reason h = IfOk-weaker r _ _ (λ s is. (codes "listen", inl refl, (e, (reason, is)))) h
+
+  pub metrics_told : (e : End) (reason : List ℕ) → IfOk r (λ s. bytes s ≡ end_text (codes "metrics") e ++ codes ": " ++ reason ++ codes "\n") → IfOk r (λ s. TellsUnbound (bytes s))
+  metrics_told e reason h = IfOk-weaker r _ _ (λ s is. (codes "metrics", inr refl, (e, (reason, is)))) h
+
+  pub reason_told : (about reason : List ℕ) → IfOk r (λ s. bytes s ≡ about ++ codes ": " ++ reason ++ codes "\n") → IfOk r (λ s. HasReason about (bytes s))
+  reason_told about reason h = IfOk-weaker r _ _ (λ s is. (reason, is)) h

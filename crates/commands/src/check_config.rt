@@ -244,9 +244,23 @@ fn checked_zone<'t, A: Heap, T: Texts>(
     ensures err { IfErr result (λ r. HoldsNoZone (T.held texts.old) local.now.file local.now.origin r.fault × Explains (T.held texts.old) r.fault (string_bytes r.words)) }
     ensures keeps { T.held texts.new ≡ T.held texts.old }
 {
-    match texts.text(alloc, local.file) {
-        Ok(Some(text)) => zone_in(alloc, &local.origin, local.file, text.as_str()),
-        Ok(None) => Err(unreadable(alloc, texts, local.file)),
+    zone_at(alloc, texts, &local.origin, local.file)
+}
+
+// The zone of this origin at a path.
+fn zone_at<'t, A: Heap, T: Texts>(
+    alloc: A,
+    texts: &mut T,
+    origin: &Name<A>,
+    path: &'t str,
+) -> Result<Zone<A>, Refusal<'t, A>>
+    ensures ok { IfOk result (HoldsZone (T.held texts.old path.entry.now) origin.now) }
+    ensures err { IfErr result (λ r. HoldsNoZone (T.held texts.old) path.entry.now origin.now r.fault × Explains (T.held texts.old) r.fault (string_bytes r.words)) }
+    ensures keeps { T.held texts.new ≡ T.held texts.old }
+{
+    match texts.text(alloc, path) {
+        Ok(Some(text)) => zone_in(alloc, origin, path, text.as_str()),
+        Ok(None) => Err(unreadable(alloc, texts, path)),
         Err(Starved) => Err(starved(alloc)),
     }
 }
@@ -343,7 +357,7 @@ fn unreadable_words<A: Heap, T: Texts>(
     ensures keeps { T.held texts.new ≡ T.held texts.old }
 {
     let reason = texts.reason(alloc, path)?;
-    Ok(format!(in alloc; "{path}: {reason}\n")?)
+    reasoned(alloc, path, reason.as_str())
 }
 
 // A file that is read and makes no resolver.
@@ -358,9 +372,11 @@ fn unmade_words<A: Heap>(alloc: A, fault: &Fault<'_>) -> Result<String<A>, Starv
     ensures { IfOk result (λ s. TellsUnmade fault.now (string_bytes s)) }
 {
     match fault {
-        Fault::Unreadable(path) => Ok(format!(in alloc;
-            "{path}: no random bytes can be read there, and the file states no seed\n"
-        )?),
+        Fault::Unreadable(path) => reasoned(
+            alloc,
+            path,
+            "no random bytes can be read there, and the file states no seed",
+        ),
         _ => Ok(format!(in alloc; "the resolver refuses what the file sets\n")?),
     }
 }
@@ -406,6 +422,7 @@ fn unread_words<A: Heap, H: Host>(
     )
 }
 
+#[tactic(auto, unfolding(crate::specs::Checks::end_text))]
 fn end_words<A: Heap>(
     alloc: A,
     word: &str,
@@ -416,7 +433,18 @@ fn end_words<A: Heap>(
     ensures { IfOk result (λ s. string_bytes s ≡ end_text word.now (end_of at) ++ codes ": " ++ (way.now ++ reason.now) ++ codes "\n") }
 {
     let (address, port) = (at.address, at.port);
-    Ok(format!(in alloc; "{word} {address} {port}: {way}{reason}\n")?)
+    let mut words = String::new(alloc);
+    write!(words, "{word} {address} {port}: {way}{reason}\n")?;
+    Ok(words)
+}
+
+// What something is about, and a reason.
+fn reasoned<A: Heap>(alloc: A, about: &str, reason: &str) -> Result<String<A>, Starved>
+    ensures { IfOk result (λ s. string_bytes s ≡ about.now ++ codes ": " ++ reason.now ++ codes "\n") }
+{
+    let mut words = String::new(alloc);
+    write!(words, "{about}: {reason}\n")?;
+    Ok(words)
 }
 
 // A fault and what says so in words; where these took memory that was not there, that is the fault.

@@ -1,21 +1,12 @@
--- The zone is in the text at its path, or why there is none.
-use Rattle.std.proofs.lemmas.Result.{IfOk-weaker, IfErr-weaker}
-use Rattle.commands.proofs.Checks.{missing_zone, refused_there, starved_no_zone, zone_there}
+-- The line says which zone, and where.
+use Rattle.std.proofs.Common.{string_bytes, subst, IfErr}
+use Rattle.config.specs.Configs.{LocalZone}
+use Rattle.commands.specs.Checks.{Explains}
+use Rattle.commands.specs.Zones.{HoldsNoZone}
 use Rattle.commands.proofs.check_config.checked_zone.Goals as goal
 
-pub returns-in-Ok-Some-clause-ok : goal.returns-in-Ok-Some-clause-ok
-returns-in-Ok-Some-clause-ok g c =
-    let there = rw c.in-Ok-Some.field-0-is at c.in-Ok-Some.ensures.is in
-    IfOk-weaker c.zone_in.result _ _ (λ z h. zone_there _ _ _ z there h) c.zone_in.ensures.ok
-
-pub returns-in-Ok-Some-clause-err : goal.returns-in-Ok-Some-clause-err
-returns-in-Ok-Some-clause-err g c =
-    let there = rw c.in-Ok-Some.field-0-is at c.in-Ok-Some.ensures.is in
-    IfErr-weaker c.zone_in.result _ _ (λ r h. refused_there (g.T.Texts.held c.args.texts.now) _ _ _ there r.fault _ h.0 h.1) c.zone_in.ensures.err
-
-pub returns-in-Ok-None-clause-err : goal.returns-in-Ok-None-clause-err
-returns-in-Ok-None-clause-err g c =
-    missing_zone (g.T.Texts.held c.args.texts.now) _ _ (rw c.in-Ok-None.field-0-is at c.in-Ok-None.ensures.is) _ _ c.unreadable.ensures.tells
-
-pub returns-in-Err-clause-err : goal.returns-in-Err-clause-err
-returns-in-Err-clause-err g c = starved_no_zone (g.T.Texts.held c.args.texts.now) _ _ _ _ c.starved.ensures
+pub returns-clause-err : goal.returns-clause-err
+returns-clause-err g c =
+    subst
+    (λ (l : LocalZone). IfErr c.zone_at.result (λ r. HoldsNoZone (g.T.Texts.held c.args.texts.now) l.file l.origin r.fault × Explains (g.T.Texts.held c.args.texts.now) r.fault (string_bytes r.words)))
+    c.local.view_is c.zone_at.ensures.err

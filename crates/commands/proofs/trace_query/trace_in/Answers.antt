@@ -12,8 +12,7 @@ allowed bytes (Err f) P Q p q is = subst Q (sym is) q
 
 pub returns-in-Ok : goal.returns-in-Ok
 returns-in-Ok g c =
-    let there = record { text = c.args.text.now; held = c.requires; at = _; describes = c.in-Ok.ensures.ok.0 } in
-    (
+    let there : HoldsConfig (g.T.Texts.held c.args.texts.now c.args.path.now) = record { text = c.args.text.now; held = c.requires; at = _; describes = c.in-Ok.ensures.ok.0 } in (
       shown string_bytes c.lines_of.result,
       allowed string_bytes c.lines_of.result (HoldsConfig (g.T.Texts.held c.args.texts.now c.args.path.now)) (IsNoServer (g.T.Texts.held c.args.texts.now) c.args.path.now) there (inl tt) c.lines_of.ensures,
       c.finish.ensures,
