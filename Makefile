@@ -44,8 +44,8 @@ bench: built
 	tools/pace
 
 # The gate: every proof, every edit that must fail, every test and every run, and with the proved program the examples
-# and runs of the server (tools/serving, tools/sockets, tools/metrics, and tools/fronted where dnsdist is installed) and of
-# what an operator asks (tools/operator); of the other edits, that they can still be applied.
+# and runs of the server (tools/serving, tools/sockets, tools/metrics, tools/managed, and tools/fronted where dnsdist is
+# installed) and of what an operator asks (tools/operator); of the other edits, that they can still be applied.
 test: kit
 	tools/layers --check
 	tools/definitions
@@ -58,6 +58,7 @@ test: kit
 	tools/serving
 	tools/sockets
 	tools/metrics
+	tools/managed
 	tools/operator
 	tools/fronted
 
