@@ -12,9 +12,13 @@
 
 use commandline::LineFault;
 use commands::{Disk, Machine, refuse_line, run_words, serve_at};
-use std::io::ErrorKind;
+use std::io::{ErrorKind, Write};
+use std::net::{Net, TcpListener, TcpStream};
 use std::process::ExitCode;
-use std::rt::Env;
+use std::rt::{Env, Files};
+use std::sync::Wait;
+use std::thread::Threads;
+use std::time::Clock;
 use std::{env, io};
 
 fn main(rt: HostRuntime) -> ExitCode {
@@ -22,18 +26,32 @@ fn main(rt: HostRuntime) -> ExitCode {
     let mut out = rt.stdout();
     let mut err = rt.stderr();
     let status = match words_of(&rt) {
-        Ok(words) => {
-            let mut machine = Machine::new(&rt, alloc);
-            let mut disk = Disk::new(&rt);
-            let done = run_words(&rt, &words, &mut disk, &mut machine, &mut out, &mut err);
-            match done.server {
-                Some(server) => serve_at(&machine, server, &mut err),
-                None => done.status,
-            }
-        }
+        Ok(words) => run(&rt, &words, &mut out, &mut err),
         Err(fault) => refuse_line(alloc, &[], fault, &mut out, &mut err),
     };
     ExitCode::from(status)
+}
+
+// Does what these words ask, and runs the server that was started, if one was.
+fn run<
+    R: Net<Listener = TcpListener, Stream = TcpStream>
+        + Threads
+        + Wait
+        + Clock
+        + Files
+        + Env
+        + AllocGlobal
+        + Sync,
+    O: Write,
+    E: Write,
+>(rt: &R, words: &[String], out: &mut O, err: &mut E) -> u8 {
+    let mut machine = Machine::new(rt, rt.alloc());
+    let mut disk = Disk::new(rt);
+    let done = run_words(rt, words, &mut disk, &mut machine, out, err);
+    match done.server {
+        Some(server) => serve_at(&machine, server, err),
+        None => done.status,
+    }
 }
 
 // The words after the program's name. One that is not UTF-8 names no command.
