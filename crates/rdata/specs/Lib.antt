@@ -13,3 +13,4 @@ pub mod Kept
 pub mod Gathering
 pub mod Rows
 pub mod Later
+pub mod Strings

@@ -42,4 +42,4 @@ pub use sets::{Later, lowest_ttl, put_once, same_set, set_at};
 pub use soa::Soa;
 pub use srv::Srv;
 pub use text::{put_data, put_ipv4};
-pub use texts::{CharacterString, Texts};
+pub use texts::{CharacterString, Texts, next_string};
