@@ -7,5 +7,5 @@ pub mod Selected
 pub mod SetMembers
 pub mod SetRows
 pub mod StringsWire
-pub mod Values
+pub mod Gathering
 pub mod Words

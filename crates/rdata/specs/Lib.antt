@@ -14,3 +14,4 @@ pub mod Gathering
 pub mod Rows
 pub mod Later
 pub mod Strings
+pub mod Shared
