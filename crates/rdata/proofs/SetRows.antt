@@ -1,6 +1,6 @@
 -- Data of one owner and with one TTL, as records.
 use Rattle.std.proofs.Common.{◌≡◌, ℕ, ◌+◌, ◌<◌, ◌≤◌, min, List, [], ◌∷◌, ◌++◌, length, take, take_all, get_or, map, refl, sym, ◌∙◌, ap, arith}
-use Rattle.std.proofs.lemmas.List.{map-append, length-map, take_more, get_or-map}
+use Rattle.std.proofs.lemmas.List.{map-append, length-map, get_or-map}
 use Rattle.rdata.specs.Caps.{capped}
 use Rattle.rdata.specs.Data.{Datum}
 use Rattle.rdata.specs.Kept.{datum}

@@ -74,8 +74,6 @@ fn values_at<A: Heap>(
             put_once(&mut values, &mut later, &rr.value)?;
         }
     }
-    // Repeats leave room, which would be kept as long as the set.
-    values.shrink_to_fit();
     Ok(values)
 }
 

@@ -114,12 +114,15 @@ impl<A: Heap> Values<A> {
         requires { 0 < length items.items }
         ensures { IfOk result (λ v. v ≡ map datum items.items) }
     {
-        let place = match items.as_slice() {
-            [RData::A(address)] => Place::Alone(RData::A(*address)),
-            [RData::Aaaa(address)] => Place::Alone(RData::Aaaa(*address)),
-            _ => Place::Shared(Shared::new(alloc, items)?),
-        };
-        Ok(Values { place })
+        match items.as_slice() {
+            [RData::A(address)] => Ok(Values {
+                place: Place::Alone(RData::A(*address)),
+            }),
+            [RData::Aaaa(address)] => Ok(Values {
+                place: Place::Alone(RData::Aaaa(*address)),
+            }),
+            _ => Ok(Values::of(Shared::new(alloc, items)?)),
+        }
     }
 
     /// One alone. An address takes no memory.

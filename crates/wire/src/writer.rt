@@ -230,7 +230,7 @@ impl<A: Heap> Writer<A> {
         ensures written { OnOk result (self.new ≡ put_flat self.old (plain_bytes (strings_bytes texts.now))) }
         ensures fits { OnOk result (FitsRdata (plain.Txt texts.now)) }
     {
-        self.put_bytes(texts.wire())
+        Ok(self.put_bytes(texts.wire())?)
     }
 
     // RDATA behind its length.

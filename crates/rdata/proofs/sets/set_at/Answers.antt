@@ -1,4 +1,4 @@
-use Rattle.std.proofs.Common.{◌∙◌, sym, ap, eqb-true}
+use Rattle.std.proofs.Common.{◌∙◌, sym, eqb-true}
 use Rattle.rdata.specs.Rows.{plain_rows}
 use Rattle.rdata.specs.Types.{type_number}
 use Rattle.rdata.proofs.Gathering.{set_whole, none_there}

@@ -1,7 +1,6 @@
 use Rattle.std.proofs.Common.{◌∙◌, true, false, map, sym, ap}
 use Rattle.rdata.specs.Kept.{datum}
 use Rattle.rdata.specs.Records.{Record}
-use Rattle.rdata.specs.Rows.{rows}
 use Rattle.rdata.specs.Types.{type_number}
 use Rattle.rdata.proofs.Found.{none_found}
 use Rattle.rdata.proofs.Gathering.{values_more, values_none, values_whole}
@@ -32,5 +31,4 @@ loop-rr-preserved g c = elim c.if-is_at.branch [
 
 pub returns : goal.returns
 returns g c t =
-    ap (rows c.args.owner.now t) c.shrink_to_fit.ensures.items
-    ∙ values_whole c.args.owner.now (type_number c.args.kind) t c.loop-rr.rr-index c.args.records.now c.loop-rr.values.items c.loop-rr-test.false (c.loop-rr.invariant.made t)
+    values_whole c.args.owner.now (type_number c.args.kind) t c.loop-rr.rr-index c.args.records.now c.loop-rr.values.items c.loop-rr-test.false (c.loop-rr.invariant.made t)

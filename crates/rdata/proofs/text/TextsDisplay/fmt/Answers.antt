@@ -1,7 +1,7 @@
 use Rattle.std.proofs.Common.{◌++◌, rules}
-use Rattle.std.proofs.Output.{has_written_append, has_written_of_eq}
+use Rattle.std.proofs.Output.{has_written_append}
 use Rattle.rdata.specs.Text.{spaced_string}
-use Rattle.rdata.proofs.StringsWire.{written_more, written_all}
+use Rattle.rdata.proofs.StringsWire.{written_more}
 use Rattle.rdata.proofs.text.TextsDisplay.fmt.Goals as goal
 
 pub loop-string-preserved : goal.loop-string-preserved

@@ -1,4 +1,4 @@
-use Rattle.std.proofs.Common.{◌≡◌, ◌≤◌, ◌∙◌, ap, length, [], ◌∷◌, subst, sym, arith}
+use Rattle.std.proofs.Common.{◌∙◌, ap, length, [], ◌∷◌, arith}
 use Rattle.rdata.proofs.StringsWire.{one_held, texts_held}
 use Rattle.rdata.proofs.texts.Texts.new.Goals as goal
 

@@ -1,4 +1,4 @@
-use Rattle.std.proofs.Common.{◌∙◌, ap, length, [], ◌∷◌, ◌++◌, arith, List, ℕ}
+use Rattle.std.proofs.Common.{◌∙◌, ap, length, [], ◌∷◌, ◌++◌, arith}
 use Rattle.rdata.specs.Strings.{strings_of}
 use Rattle.rdata.proofs.StringsWire.{more_held, texts_held, some_more}
 use Rattle.rdata.proofs.texts.Texts.push.Goals as goal

@@ -6,7 +6,7 @@ use Rattle.wire.proofs.TextsRead.{in_wire_form, all_fit}
 use Rattle.wire.proofs.writer.Writer.put_texts.Goals as goal
 
 pub returns-clause-written : goal.returns-clause-written
-returns-clause-written g c = λ ok. c.put_bytes.ensures ok ∙ ap (λ b. put_flat c.args.self.now (plain_bytes b)) (c.wire.ensures.is ∙ sym (in_wire_form c.args.texts.now))
+returns-clause-written g c = c.in_ok-put_bytes.ensures ∙ ap (λ b. put_flat c.args.self.now (plain_bytes b)) (c.wire.ensures.is ∙ sym (in_wire_form c.args.texts.now))
 
 pub returns-clause-fits : goal.returns-clause-fits
-returns-clause-fits g c = λ ok. (omega (arith, ap length c.wire.ensures.strings, c.wire.ensures.form.some), all_fit c.args.texts.now (subst (AllByRecursion IsShort) c.wire.ensures.strings c.wire.ensures.form.strings.short))
+returns-clause-fits g c = (omega (arith, ap length c.wire.ensures.strings, c.wire.ensures.form.some), all_fit c.args.texts.now (subst (AllByRecursion IsShort) c.wire.ensures.strings c.wire.ensures.form.strings.short))
