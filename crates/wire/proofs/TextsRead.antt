@@ -55,11 +55,11 @@ texts_taken bytes at end past small fits h =
     let last = there.0.last in
     let size : end - at ≡ length (strings_bytes ss) = omega arith in
     let text : slice_range bytes at end ≡ wire ss = ap (λ n. take n (drop at bytes)) size ∙ (there.0.is ∙ in_wire_form ss) in
-    let kept : Held (slice_range bytes at end) ss = held (slice_range bytes at end) ss text (all_short ss there.1.1) in
+    let kept : Held (slice_range bytes at end) ss = held (slice_range bytes at end) ss text (all_short ss there.2) in
     record {
       within = omega arith;
       strings = ss;
       read = is;
-      form = texts_held (slice_range bytes at end) ss kept there.1.0;
+      form = texts_held (slice_range bytes at end) ss kept there.1;
       same = kept.same;
     }
