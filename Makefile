@@ -44,16 +44,19 @@ bench: built
 	tools/pace
 
 # The gate: every proof, every edit that must fail, every test and every run, and with the proved program the examples
-# and runs of the server (tools/serving, tools/sockets); of the other edits, that they can still be applied.
+# and runs of the server (tools/serving, tools/sockets, and tools/fronted where dnsdist is installed); of the other edits,
+# that they can still be applied.
 test: kit
 	tools/layers --check
 	tools/definitions
 	tools/names
+	tools/glossary
 	tools/turned --texts
 	tools/prove
 	tools/examples
 	tools/serving
 	tools/sockets
+	tools/fronted
 
 # Tries the edits of single functions, which the gate leaves out: of all crates, or with SINCE=COMMIT of those that
 # differ from that commit's.

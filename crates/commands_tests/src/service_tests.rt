@@ -24,7 +24,7 @@ fn resolver(alloc: Global, world: &World, port: u16) -> Result<Core, Starved>
     ensures { IfOk result IsBegun }
 {
     let text = format!(in alloc;
-        "listen 127.0.0.1 0\nport {port}\nhint 127.0.0.2\nlocal corp.example. corp\nsockets 2\nworkers 2\nstreams 4\n"
+        "listen 127.0.0.1 0\nport {port}\nhint 127.0.0.2\nlocal corp.example. corp\nsockets 2\nworkers 2\nstreams 16\n"
     )?;
     let Ok(config) = read_config(alloc, text.as_str()) else {
         return Err(Starved);
@@ -38,7 +38,7 @@ fn resolver(alloc: Global, world: &World, port: u16) -> Result<Core, Starved>
 // What the text says of its loops.
 fn bounds() -> Bounds {
     Bounds {
-        streams: 4,
+        streams: 16,
         workers: 2,
         reach: Reach::of_hints(&[Addr([127, 0, 0, 2])]),
         clients: 256,

@@ -1,25 +1,28 @@
--- Which messages repeat an ask, by their bytes (RFC 1035, section 4.1; RFC 5452, section 9.1). An ask is a header of
--- twelve bytes and one question, whose last four bytes are its type and its class.
-use Rattle.std.specs.Prelude.{◌≡◌, ℕ, ◌+◌, ◌-◌, ◌<◌, ◌≤◌, List, [], ◌∷◌, length, map, take, drop, slice_index}
-use Rattle.std.specs.Char.{to_ascii_lowercase}
+-- Which datagrams repeat an ask (RFC 1035, section 7.3; RFC 5452, section 9.1).
+use Rattle.std.specs.Prelude.{◌≡◌, ℕ, true, List, length}
+use Rattle.message_grammar.specs.Messages.{Message, IsMessage}
+use Rattle.runs.specs.States.{Endpoint, Datagram, Ask}
+use Rattle.runs.specs.Messages.{AreWritten, asking_message, Brings}
 
--- QR is set and the operation is 0: these are the five higher bits of the third byte.
-abbrev pub IsReplyByte : ℕ → Type 0
-IsReplyByte b = (128 ≤ b) × (b < 136)
+-- A reply of operation 0 under the ask's ID, with its one question.
+pub record RepeatsAsk (asked reply : Message) : Type 0 where
+  pub qr : (reply.header).qr ≡ true
+  pub opcode : (reply.header).opcode ≡ 0
+  pub id : (reply.header).id ≡ (asked.header).id
+  pub one : length asked.questions ≡ 1
+  pub question : reply.questions ≡ asked.questions
 
--- The ask's ID, and the header of a reply of operation 0 with one question.
-pub record RepeatsHead (ask reply : List ℕ) : Type 0 where
-  pub id : take 2 reply ≡ take 2 ask
-  pub kind : IsReplyByte (slice_index reply 2)
-  pub one : take 2 (drop 4 reply) ≡ 0 ∷ 1 ∷ []
+-- The bytes of both are messages, and one repeats the other.
+abbrev pub Repeats : List ℕ → List ℕ → Type 0
+Repeats ask reply = (asked : Message) × (m : Message) × IsMessage ask asked × IsMessage reply m × RepeatsAsk asked m
 
--- The same name but for the case of its letters, and the same type and class.
-pub record RepeatsQuestion (asked question : List ℕ) : Type 0 where
-  pub name : map to_ascii_lowercase (take (length asked - 4) asked) ≡ map to_ascii_lowercase (take (length asked - 4) question)
-  pub kind : drop (length asked - 4) asked ≡ drop (length asked - 4) question
-
-pub record Repeats (ask reply : List ℕ) : Type 0 where
-  pub whole : 16 ≤ length ask
-  pub long : length ask ≤ length reply
-  pub head : RepeatsHead ask reply
-  pub question : RepeatsQuestion (drop 12 ask) (take (length ask - 12) (drop 12 reply))
+-- The first bytes went out for an ask of the resolver, which accepts a datagram of the second for it.
+pub record IsAcceptedFor (ask reply : List ℕ) : Type 0 where
+  pub open_ask : Ask
+  pub sent : AreWritten ask (asking_message open_ask)
+  pub port : ℕ
+  pub now : ℕ
+  pub socket : ℕ
+  pub from : Endpoint
+  pub message : Message
+  pub brings : Brings port open_ask (Datagram now socket from reply) message

@@ -1,38 +1,43 @@
 //! Whether a datagram repeats the ask for which it came.
-ghost use Rattle.std.specs.Prelude.{◌≡◌, ◌↔◌, ◌≤◌, IsTrue, length};
-ghost use Rattle.dispatch.specs.Repeats.{Repeats, RepeatsHead, RepeatsQuestion};
+ghost use Rattle.std.specs.Prelude.{◌≡◌, ◌↔◌, IfOk, IsTrue, length};
+ghost use Rattle.dispatch.specs.Repeats.{Repeats, RepeatsAsk, IsAcceptedFor};
 
-// The bytes of a header, and those of a question's type and class (RFC 1035, section 4.1).
-const HEADER_BYTES: usize = 12;
+use dname::{Heap, Starved};
+use wire::{Message, Question, View, WireError, decode};
 
-const TYPE_AND_CLASS_BYTES: usize = 4;
-
-/// Whether a message repeats an ask, which is a header and one question: a reply of operation 0 under the same ID, with
-/// that question alone, letters in either case (RFC 5452, section 9.1).
-pub fn repeats(ask: &[u8], reply: &[u8]) -> bool
-    ensures { IsTrue result ↔ Repeats ask.now reply.now }
+/// Whether a message repeats an ask: a reply of operation 0 under its ID, with its one question (RFC 5452, section 9.1).
+/// Whatever the resolver accepts for the ask that went out in these bytes repeats it.
+pub fn repeats<A: Heap>(alloc: A, ask: &[u8], reply: &[u8]) -> Result<bool, Starved>
+    ensures exact { IfOk result (λ b. IsTrue b ↔ Repeats ask.now reply.now) }
+    ensures kept { IfOk result (λ b. IsAcceptedFor ask.now reply.now → IsTrue b) }
 {
-    ask.len() >= HEADER_BYTES + TYPE_AND_CLASS_BYTES
-        && ask.len() <= reply.len()
-        && repeats_head(ask, reply)
-        && repeats_question(&ask[HEADER_BYTES..], &reply[HEADER_BYTES..ask.len()])
+    let asked = match decode(alloc, ask) {
+        Ok(asked) => asked,
+        Err(WireError::Memory) => return Err(Starved),
+        Err(_) => return Ok(false),
+    };
+    match View::new(alloc, reply) {
+        Ok(reply) => Ok(repeats_message(&asked, &reply)),
+        Err(WireError::Memory) => Err(Starved),
+        Err(_) => Ok(false),
+    }
 }
 
-// Whether a header has the ID of the ask, QR, operation 0 and one question.
-fn repeats_head(ask: &[u8], reply: &[u8]) -> bool
-    requires ask { 16 ≤ length ask.now }
-    requires reply { 16 ≤ length reply.now }
-    ensures { IsTrue result ↔ RepeatsHead ask.now reply.now }
+fn repeats_message<A: Heap>(asked: &Message<A>, reply: &View<'_, A>) -> bool
+    ensures { IsTrue result ↔ RepeatsAsk asked.now reply.now }
 {
-    reply[..2] == ask[..2] && reply[2] & 0xf8 == 0x80 && reply[4..6] == [0, 1]
+    let header = reply.header();
+    header.qr
+        && header.opcode == 0
+        && header.id == asked.header.id
+        && repeats_question(asked.questions.as_slice(), reply)
 }
 
-// Whether a question is the asked one: its name in any case, its type and its class.
-fn repeats_question(asked: &[u8], question: &[u8]) -> bool
-    requires asked { 4 ≤ length asked.now }
-    requires same { length question.now ≡ length asked.now }
-    ensures { IsTrue result ↔ RepeatsQuestion asked.now question.now }
+fn repeats_question<A: Heap>(asked: &[Question<A>], reply: &View<'_, A>) -> bool
+    ensures { IsTrue result ↔ ((length asked.now ≡ 1) × (reply.now.questions ≡ asked.now)) }
 {
-    let name = asked.len() - TYPE_AND_CLASS_BYTES;
-    asked[..name].eq_ignore_ascii_case(&question[..name]) && asked[name..] == question[name..]
+    match asked {
+        [question] => reply.asks_for(&question.name, question.qtype, question.qclass),
+        _ => false,
+    }
 }

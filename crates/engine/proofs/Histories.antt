@@ -1,5 +1,5 @@
 -- A history of the resolver is a run.
-use Rattle.std.proofs.Common.{◌≡◌, ℕ, Result, Ok, Err, List, [], ◌∷◌, refl, ap, subst}
+use Rattle.std.proofs.Common.{◌≡◌, ℕ, Result, Ok, Err, List, [], ◌∷◌, refl, sym, ap, subst}
 use Rattle.memory.specs.declared.Starved.{Starved}
 use Rattle.book.specs.Histories.{Line, LeadsMachine}
 use Rattle.events.specs.declared.event.Event.{Event}
@@ -35,11 +35,12 @@ module _ (A : Type 0) where
   one_more e older start mid s before steps = record {
     run = turn_of (event_view e.event) steps.served (out_of e.out) ∷ before.run;
     legal = (mid, before.legal, steps.step);
+    first = before.first;
     shows = (refl, refl, before.shows);
   }
 
   pub history_is_run : (workers : ℕ) (start : State) (lines : List (Line (Event A) (List Action))) (s : State)
       → IsBegun start → LeadsMachine (Moves {A = A}) workers start lines s → IsRunOf A lines start s
-  history_is_run workers start [] s begun same = record { run = []; legal = subst (λ (z : State). IsNew start.site z) same (begun_is_new start begun); shows = tt }
+  history_is_run workers start [] s begun same = record { run = []; legal = subst (λ (z : State). IsNew start.site z) same (begun_is_new start begun); first = sym same; shows = tt }
   history_is_run workers start (e ∷ older) s begun h =
       one_more e older start h.0 s (history_is_run workers start older h.0 begun h.1) (step_by e.event e.out h.0 s h.2)

@@ -12,7 +12,7 @@ use Rattle.runs.specs.Messages.{outcome_of, IsReply}
 use Rattle.runs.specs.Steps.{Step}
 use Rattle.runs.specs.Runs.{Run}
 use Rattle.runs.proofs.Heard.{accepted_is_heard, tcp_is_heard}
-use Rattle.laws.proofs.Every.{every_reply_is_right}
+use Rattle.laws.proofs.Every.{every_reply_is_right, held_is_true}
 use Rattle.laws.proofs.Runs.{run_explained}
 use Rattle.laws.proofs.Failing.{every_failure}
 use Rattle.laws.proofs.Twice.{two_asks}
@@ -25,6 +25,7 @@ use Rattle.laws.proofs.Short.{steps_are_short}
 use Rattle.laws.proofs.Discipline.{one_action, one_coming, one_reply, never_again, open_by_run, few_asks, one_line, others_stay, more_at_ticks}
 use Rattle.laws.proofs.Due.{due_in_order}
 use Rattle.laws.proofs.Times.{nothing_is_late}
+use Rattle.laws.proofs.Room.{room_stays}
 use Rattle.laws.proofs.Words.{words_in_order}
 use Rattle.laws.proofs.FollowedSearches.{ask_is_of_search}
 use Rattle.laws.proofs.Steps.{lost_is_asked_on, truncated_is_asked_again, referral_is_asked, answer_is_replied, alias_is_kept}
@@ -32,6 +33,7 @@ use Rattle.laws.proofs.Opens.{frames_open_in_steps}
 use Rattle.laws.specs.Held.{IsHeldChain}
 use Rattle.laws.proofs.Held.{held_is_replied}
 use Rattle.laws.proofs.Found.{kept_is_found}
+use Rattle.laws.proofs.Looked.{accepted_is_looked}
 use Rattle.engine.specs.Promises.{Keeps, turn_of, Steps}
 
 module _ (site : Site) (past : List Turn) (old : State) (t : Turn) (new : State) (legal : Run site past old) (step : Step old t.event t.served t.out new) where
@@ -61,6 +63,7 @@ module _ (site : Site) (past : List Turn) (old : State) (t : Turn) (new : State)
   pub keeps : Keeps site past old t new legal step
   keeps = record {
     right = λ W is ours honest. (every_reply_is_right W site (t ∷ past) new is ours (old, legal, step)).0 honest;
+    truth = λ W is ours honest. held_is_true W site (t ∷ past) new is ours (old, legal, step) honest;
     timely = ((run_explained site (t ∷ past) new (old, legal, step)).1).0;
     spent = (every_failure site (t ∷ past) new (old, legal, step)).0;
     twice = λ k z n kind a. two_asks site.port k z n kind a (t ∷ past);
@@ -75,6 +78,7 @@ module _ (site : Site) (past : List Turn) (old : State) (t : Turn) (new : State)
     waits = open_by_run site (t ∷ past) new (old, legal, step);
     line = one_line site (t ∷ past) new (old, legal, step);
     words = words_in_order site (t ∷ past) new (old, legal, step);
+    room = room_stays site (t ∷ past) new (old, legal, step);
     clock = clock_of_run site (t ∷ past) new (old, legal, step);
     served = served_is_meant site past old t new legal step;
     at_hand = at_hand_here;
@@ -94,6 +98,7 @@ module _ (site : Site) (past : List Turn) (old : State) (t : Turn) (new : State)
     alias = λ out. alias_is_kept site past old t out new;
     opens = frames_open_in_steps site past old t new legal step;
     held = held_here;
+    looked = accepted_is_looked site past old t new legal step;
     kept = kept_is_found site (t ∷ past) new (old, legal, step);
   }
 

@@ -6,6 +6,7 @@ use Rattle.events.specs.declared.event.Event.{Event}
 use Rattle.events.specs.Views.{event_view}
 use Rattle.runs.specs.States.{Action, Turn, State}
 use Rattle.runs.specs.Runs.{Run}
+use Rattle.laws.specs.FirstStates.{first_of}
 use Rattle.engine.specs.Beginnings.{IsBegun}
 use Rattle.engine.specs.Promises.{Steps}
 
@@ -24,9 +25,11 @@ Shows [] (e ∷ older) = ⊥
 Shows (t ∷ past) [] = ⊥
 Shows (t ∷ past) (e ∷ older) = (t.event ≡ event_view e.event) × (t.out ≡ out_of e.out) × Shows past older
 
+-- A run from that first state on, whose steps the history shows.
 pub record IsRunOf (A : Type 0) (lines : List (Line (Event A) (List Action))) (start s : State) : Type 0 where
   pub run : List Turn
   pub legal : Run start.site run s
+  pub first : first_of start.site run s legal ≡ start
   pub shows : Shows run lines
 
 -- Every history of the machine, from a resolver that has done nothing yet, is a run.

@@ -1,5 +1,5 @@
 -- What a step of the resolver promises: the laws of every run, said of its newest step.
-use Rattle.std.specs.Prelude.{◌≡◌, ◌≢◌, ℕ, ◌<◌, ◌≤◌, ◌⊎◌, true, false, Option, Some, List, [], ◌∷◌, length, Contains}
+use Rattle.std.specs.Prelude.{◌≡◌, ◌≢◌, ℕ, ◌<◌, ◌≤◌, ◌⊎◌, true, false, Option, Some, None, List, [], ◌∷◌, length, Contains}
 use Rattle.limits.specs.Limits.{max_asks, max_look_ups}
 use Rattle.dname.specs.Labels.{Name}
 use Rattle.rdata.specs.Records.{Record}
@@ -35,6 +35,7 @@ use Rattle.laws.specs.Failures.{IsSpentFor}
 use Rattle.laws.specs.Spent.{IsUdpPath, HasFailed, SendsTo, Twice}
 use Rattle.laws.specs.Laws.{GivesOne, IsTick, IsOver, RepliesTo, AreOpenByRun, IsLine, TicksInOrder}
 use Rattle.laws.specs.Times.{CameLately}
+use Rattle.laws.specs.FirstStates.{first_of, room_of}
 use Rattle.laws.specs.Words.{AreDrawn}
 use Rattle.laws.specs.Searches.{IsOfSearch}
 use Rattle.laws.specs.Steps as followed
@@ -42,16 +43,19 @@ use Rattle.laws.specs.Steps.{Attends, at_moment, AcceptsAs, EndsInVain, Replies}
 use Rattle.laws.specs.Held.{IsHeldChain}
 use Rattle.laws.specs.Calls.{Opening}
 use Rattle.laws.specs.Opens.{Call, step_call, Opens, IsOpenedRightly}
-use Rattle.laws.specs.Looks.{IsKeptSince, IsOnlyLiveEntry}
+use Rattle.laws.specs.Looks.{step_looks, AcceptsLink, kept_of, IsKeptSince, IsOnlyLiveEntry}
 use Rattle.laws.specs.LookUps.{look_ups_of, look_ups_by}
-use Rattle.laws.specs.Meant.{IsFor, IsOverAtOnce, IsOfRun}
+use Rattle.laws.specs.Meant.{IsForOpenQuery, IsOverAtOnce, IsOfRun}
+use Rattle.laws.specs.Truthful.{HoldsTruth}
 use Rattle.laws.specs.Uses.{KeptAnswer}
 
 -- What every run keeps: the steps in `past` led from a new resolver to the state `old`, the step `turn` led on to
 -- `new`, and each law of runs holds of it. A field is a law; its words stand in the crate of that law.
 pub record Keeps (site : Site) (past : List Turn) (old : State) (turn : Turn) (new : State) (legal : Run site past old) (step : Step old turn.event turn.served turn.out new) : Type 0 where
-  -- Replies are right up to which servers were honest; they are in time, and each failure has its cause.
+  -- Replies are right up to which servers were honest, and what is held is true; replies are in time, and each failure
+  -- has its cause.
   pub right : (W : World) → IsWorld W → IsHomeIn W site.home → IsHonest W site.port (turn ∷ past) → RepliesAreRight W turn past
+  pub truth : (W : World) → IsWorld W → IsHomeIn W site.home → IsHonest W site.port (turn ∷ past) → HoldsTruth W site.port (turn ∷ past) new
   pub timely : RepliesAre site.home (IsExplained site.port site.home) turn past
   pub spent : RepliesAre site.home (IsSpentFor site.port site.home) turn past
   pub twice : (k : ℕ) (z n : Name) (t : ℕ) (a : Addr) → HasFailed site.port (turn ∷ past) k z n t a → Twice (SendsTo site.port k a n t) (turn ∷ past)
@@ -67,12 +71,13 @@ pub record Keeps (site : Site) (past : List Turn) (old : State) (turn : Turn) (n
   pub short : (call : Call (moved old turn.event)) → step_call old turn new step ≡ Some call → (call.advances).count ≤ 488
   pub waits : AreOpenByRun site.port (turn ∷ past) new.queries
   pub line : (p q : Open) (sock : ℕ) (server : Addr) (id : ℕ) → Contains new.queries p → Contains new.queries q → IsLine p sock server id → IsLine q sock server id → p ≡ q
-  pub words : (seed : List ℕ) × (n : ℕ) × AreDrawn (of_seed seed) site (turn ∷ past) new (old, legal, step) n
+  pub words : (seed : List ℕ) × ((first_of site (turn ∷ past) new (old, legal, step)).generator ≡ of_seed seed) × (n : ℕ) × AreDrawn (of_seed seed) site (turn ∷ past) new (old, legal, step) n
+  pub room : room_of new.stores ≡ room_of (first_of site (turn ∷ past) new (old, legal, step)).stores
   -- The clock is the run's. A query is served by what is for it; what is answered at hand is so in its own step; nobody
   -- is asked who failed lately; and what an open query shows is the run's.
   pub clock : (new.clock ≡ clock_of (turn ∷ past)) × (new.site ≡ site)
   pub served : (k : ℕ) → turn.served ≡ OpenQuery k
-      → ((who : ClientQuery) × Came (OpenQuery k) who turn past) ⊎ ((q : Open) × Contains old.queries q × (q.number ≡ k) × IsFor site (moved old turn.event) turn q)
+      → ((who : ClientQuery) × Came (OpenQuery k) who turn past) ⊎ ((q : Open) × Contains old.queries q × (q.number ≡ k) × IsForOpenQuery site (moved old turn.event) turn q)
   pub at_hand : (now client : ℕ) (way : Via) (bytes : List ℕ) (out : List Action) (asked : Request Plain)
       → turn.event ≡ Client now client way bytes → turn.out ≡ Some out → IsRequest bytes asked → IsOverAtOnce client way asked turn.served out
   pub free : (q : Open) → Contains new.queries q → turn.served ≡ OpenQuery q.number → IsUdpPath (q.ask).path
@@ -108,11 +113,15 @@ pub record Keeps (site : Site) (past : List Turn) (old : State) (turn : Turn) (n
   -- lately is asked.
   pub opens : (out : List Action) (call : Call (at_moment old turn)) (frame : Opening)
       → turn.out ≡ Some out → step_call old turn new step ≡ Some call → Opens (at_moment old turn) call frame → IsOpenedRightly site (at_moment old turn) turn.served out new call frame
-  -- What is held is answered at once, and what was kept is found.
+  -- What is held is answered at once; what is accepted as an answer is kept, and what was kept is found.
   pub held : (now client : ℕ) (way : Via) (bytes : List ℕ) (out : List Action) (q : Query Plain) (chain : List Taken) (last : Taken)
       → turn.event ≡ Client now client way bytes → turn.out ≡ Some out → IsRequest bytes (request.Query q) → recursive q ≡ true → length chain ≤ 8
       → IsHeldChain site.home (at_moment old turn).clock (type_number q.kind) (old.stores).cache q.name chain last
       → (turn.served ≡ Own) × ((action : Action) × IsReply (client_query client way q) (outcome_of (at_moment old turn).clock chain last) action × (out ≡ action ∷ []))
+  pub looked : turn.out ≢ None
+      → ((q : Open) (sought : Search) (others : List Search) (l : Link) → AcceptsLink site.port old turn q sought others l → (step_looks old turn new step).accepted ≡ Some (kept_of sought l (moved old turn.event).clock))
+      × ((a : KeptAnswer) → (step_looks old turn new step).accepted ≡ Some a
+      → (q : Open) × (sought : Search) × (others : List Search) × (l : Link) × AcceptsLink site.port old turn q sought others l × (a ≡ kept_of sought l (moved old turn.event).clock))
   pub kept : (a : KeptAnswer) (n now : ℕ)
       → IsKeptSince site a (turn ∷ past) new (old, legal, step) n → n < (new.stores).cache_cap → (a.hit).ttl ≢ 0 → is_live now a.hit ≡ true → IsOnlyLiveEntry now a (new.stores).cache
       → hit_of (lent (asked_of site.home a.name a.kind) now (new.stores).cache) ≡ Some a.hit

@@ -8,10 +8,11 @@ use Rattle.classify.specs.Classes as class
 use Rattle.classify.specs.Classes.{class_of}
 use Rattle.classify.specs.declared.class.Failure.{Failure}
 use Rattle.retry.specs.Plans.{upcoming, advanced}
-use Rattle.resolution.specs.Jobs.{Home, Stores, with_timeout, with_told, Search, fails_now, left_of, first_without, next_server, Job, Input, Told, TimedOut, TcpFailed, Next, AskUdp, AskTcp, Go, Again, Point, point}
+use Rattle.resolution.specs.Jobs.{Home, Stores, with_timeout, with_told, Search, given, fails_now, left_of, first_without, next_server, Job, Input, Told, TimedOut, TcpFailed, Next, AskUdp, AskTcp, Go, Again, Point, point}
 use Rattle.resolution.specs.Rules.{IsFree, Rule, takes, asks, follows, restarts, skips, hears, descends, gives_up, Rules, Enters, ByClass, IsDue, IsDueAgain, Leaves, sends, sends_again, refuses, spent, looked_out, nowhere, too_long, done}
-use Rattle.resolution.proofs.Passing.{passes_first, passes_name, passes_next, left_first, none_left, first_free}
-use Rattle.laws.specs.Calls.{AcceptsReply, IsLost, GoesOut, NextIsAsked, TruncatedIsRepeated, AskedDidNotFail}
+use Rattle.resolution.proofs.Passing.{passes_first, passes_keep, passes_name, passes_next, left_first, none_left, first_free}
+use Rattle.runs.specs.Steps.{IsAsk}
+use Rattle.laws.specs.Calls.{AcceptsReply, IsLost, GoesOut, with_given, IsGivenOf, NextIsAsked, TruncatedIsRepeated, AskedDidNotFail}
 use Rattle.laws.proofs.Skipped.{rules_front, next_at}
 
 module _ (home : Home) (now : ℕ) where
@@ -186,6 +187,94 @@ module _ (home : Home) (now : ℕ) where
       by (Some a) e = by_test (fails_now now (p.stores).failures s a)
           (λ fails. failed_asks p s rest searches a d task e is fails count last next new after rules leaves)
           (λ free. subst (λ (x : Addr). GoesOut now p.job (AskUdp x s.name s.kind) next) (free_next now (p.stores).failures s a d e free is) (asks_next home now p s rest searches a task e free count last next new after rules leaves))
+
+-- ---- what the job shows of a search that asks
+
+given_of_itself : (s : Search) → IsGivenOf s s
+given_of_itself s = (((s.frame).plan).given, refl)
+
+given_step : (s x : Search) → IsGivenOf s x → IsGivenOf s (given x)
+given_step s x (n, e) = (((given x).frame.plan).given, ap given e ∙ λ i. with_given (((given (sym e i)).frame.plan).given) s)
+
+module _ (home : Home) (now : ℕ) where
+  -- Who asks over UDP is shown with one address more given out.
+  sends_shown : (p : Point) (s : Search) (rest : List Search) → (p.job).searches ≡ s ∷ rest → p.task ≡ Go → (next : Next) (new : Job) (after : Stores) → Leaves home now p next new after
+      → IsAsk next → new.searches ≡ given s ∷ rest
+  sends_shown p s rest searches task next new after (sends server x others is may n j e) goes =
+      let a = is.searches in
+      let same : x ≡ s = cc in
+      let more : others ≡ rest = cc in
+      ap (λ (k : Job). k.searches) j ∙ λ i. given (same i) ∷ more i
+  sends_shown p s rest searches task next new after (sends_again server x others is may n j e) goes = let a = is.task in absurd (cc)
+  sends_shown p s rest searches task next new after (refuses c server x others is refused n e) goes = absurd (subst IsAsk n goes)
+  sends_shown p s rest searches task next new after (spent x t up n e) goes = absurd (subst IsAsk n goes)
+  sends_shown p s rest searches task next new after (looked_out x others m t out n e) goes = absurd (subst IsAsk n goes)
+  sends_shown p s rest searches task next new after (nowhere t none n e) goes = absurd (subst IsAsk n goes)
+  sends_shown p s rest searches task next new after (too_long l r t is long n e) goes = absurd (subst IsAsk n goes)
+  sends_shown p s rest searches task next new after (done l t is fresh n e) goes = absurd (subst IsAsk n goes)
+
+  free_shown : (p : Point) (s : Search) (rest : List Search) (d : Addr) → (p.job).searches ≡ s ∷ rest → p.task ≡ Go → IsFree now s (p.stores).failures → next_server now (p.stores).failures s ≡ Some d
+      → (count : ℕ) (last : Point) (next : Next) (new : Job) (after : Stores) → Rules home now count p last → Leaves home now last next new after → IsAsk next → new.searches ≡ given s ∷ rest
+  free_shown p s rest d searches task free is count last next new after rules leaves goes = by (upcoming (s.frame).plan) refl
+    where
+      by : (o : Option Addr) → upcoming (s.frame).plan ≡ o → new.searches ≡ given s ∷ rest
+      by None e = absurd (nobody_next now (p.stores).failures s d e is)
+      by (Some a) e =
+          sends_shown p s rest searches task next new after
+          (subst (λ (q : Point). Leaves home now q next new after) (no_rule home now count p last (due_stops home now p s rest searches a task e (free a e)) rules) leaves) goes
+
+  abbrev IsShown : Search → List Search → Job → Type 0
+  IsShown s rest new = (u : Search) × IsGivenOf s u × (new.searches ≡ u ∷ rest)
+
+  module _ (p : Point) (s : Search) (rest : List Search) (searches : (p.job).searches ≡ s ∷ rest) (a d : Addr) (task : p.task ≡ Go) (due : upcoming (s.frame).plan ≡ Some a)
+      (is : next_server now (p.stores).failures s ≡ Some d) where
+    skipped_shown : (count : ℕ) (mid last : Point) (next : Next) (new : Job) (after : Stores) → Rule home now p mid → Rules home now count mid last → Leaves home now last next new after
+        → IsAsk next → IsShown s rest new
+    skipped_shown count mid last next new after (takes l t f u j) rules leaves goes = absurd (cc)
+    skipped_shown count mid last next new after (asks c t m u j) rules leaves goes = absurd (cc)
+    skipped_shown count mid last next new after (follows l r t x few u j e) rules leaves goes = absurd (cc)
+    skipped_shown count mid last next new after (restarts l x front back t ends whole fresh dead u j e) rules leaves goes = absurd (cc)
+    skipped_shown count mid last next new after (skips n x v others failures t e passes well u j st) rules leaves goes =
+        let same : x ≡ s = cc in
+        let more : others ≡ rest = cc in
+        let held : (mid.stores).failures ≡ failures = ap (λ (z : Stores). z.failures) st in
+        let stays : next_server now (mid.stores).failures v ≡ Some d
+        = ap (λ fs. next_server now fs v) held ∙ (passes_next now (suc n) x (p.stores).failures v failures passes ∙ (ap (next_server now (p.stores).failures) same ∙ is)) in
+        let free : IsFree now v (mid.stores).failures = subst (IsFree now v) (sym held) well in
+        let shown = free_shown mid v others d (ap (λ (i : Job). i.searches) j) u free stays count last next new after rules leaves goes in
+        let passed : IsGivenOf s v = passes_keep (IsGivenOf s) now (suc n) x (p.stores).failures v failures (given_step s) passes (subst (IsGivenOf s) (sym same) (given_of_itself s)) in
+        (given v, given_step s v passed, shown ∙ λ i. given v ∷ more i)
+    skipped_shown count mid last next new after (hears before around others n l marks t turn f h u j) rules leaves goes = let x = turn.searches in let y = turn.asked_all in absurd (cc)
+    skipped_shown count mid last next new after (descends x others n c t turn m u j) rules leaves goes = let y = turn.searches in let z = turn.asked_all in absurd (cc)
+    skipped_shown count mid last next new after (gives_up x around others t up u j e) rules leaves goes = let y = up.searches in let z = up.asked_all in absurd (cc)
+
+    failed_shown : fails_now now (p.stores).failures s a ≡ true → (count : ℕ) (last : Point) (next : Next) (new : Job) (after : Stores) → Rules home now count p last → Leaves home now last next new after
+        → IsAsk next → IsShown s rest new
+    failed_shown fails zero last next new after e leaves goes =
+        absurd (failed_leaves home now p s rest searches a task due fails next new after (subst (λ (q : Point). Leaves home now q next new after) e leaves))
+    failed_shown fails (suc n) last next new after rules leaves goes =
+        let (mid, rule, more) = rules_front home now n p last rules in
+        skipped_shown n mid last next new after rule more leaves goes
+
+  -- Where a search asks whom it asks next, it is the innermost that the job shows.
+  pub first_shown : (p : Point) (s : Search) (rest : List Search) (d : Addr) → (p.job).searches ≡ s ∷ rest → p.task ≡ Go
+      → (count : ℕ) (last : Point) (next : Next) (new : Job) (after : Stores) → Rules home now count p last → Leaves home now last next new after
+      → next_server now after.failures s ≡ Some d → IsAsk next → IsShown s rest new
+  first_shown p s rest d searches task count last next new after rules leaves after_is goes = by (upcoming (s.frame).plan) refl
+    where
+      is : next_server now (p.stores).failures s ≡ Some d
+      is = sym (next_at home now p last count next new after rules leaves s) ∙ after_is
+
+      by : (o : Option Addr) → upcoming (s.frame).plan ≡ o → IsShown s rest new
+      by None e = absurd (nobody_next now (p.stores).failures s d e is)
+      by (Some a) e = by_test (fails_now now (p.stores).failures s a)
+          (λ fails. failed_shown p s rest searches a d task e is fails count last next new after rules leaves goes)
+          (λ free. (
+            given s,
+            given_step s s (given_of_itself s),
+            sends_shown p s rest searches task next new after
+                (subst (λ (q : Point). Leaves home now q next new after) (no_rule home now count p last (due_stops home now p s rest searches a task e free) rules) leaves) goes,
+          ))
 
 -- Over UDP no server is asked that failed lately.
 pub asked_did_not_fail : AskedDidNotFail

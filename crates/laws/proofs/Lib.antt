@@ -21,6 +21,7 @@ pub mod Later
 pub mod Learnt
 pub mod Leaving
 pub mod LookUps
+pub mod Looked
 pub mod Meant
 pub mod Near
 pub mod Opened
@@ -31,7 +32,7 @@ pub mod Orders
 pub mod Replies
 pub mod RightEntries
 pub mod RightLists
-pub mod RightOpens
+pub mod Room
 pub mod RightPoints
 pub mod Runs
 pub mod Servers

@@ -1,15 +1,14 @@
 -- Turns of servers' names are counted, and no query has more than 64.
-use Rattle.std.proofs.Common.{◌≡◌, ℕ, zero, suc, ◌+◌, ◌≤◌, ◌<◌, ◌⊎◌, inl, inr, Bool, true, false, cond, Option, Some, None, List, [], ◌∷◌, Contains, refl, sym, ap, ◌∙◌, subst, arith}
+use Rattle.std.proofs.Common.{◌≡◌, ℕ, zero, suc, ◌+◌, ◌≤◌, ◌<◌, inl, inr, Bool, true, false, cond, Option, Some, None, List, [], ◌∷◌, Contains, refl, sym, ap, ◌∙◌, subst, arith}
 use Rattle.lru.proofs.Splits.{Contains-nil}
 use Rattle.lru_laws.proofs.Kept.{by_test}
 use Rattle.rdata.specs.declared.addr.Addr.{Addr}
 use Rattle.zone.specs.Links.{Link}
-use Rattle.causes.specs.declared.cause.Cause.{Cause}
 use Rattle.causes.specs.declared.cause.Cause.TheVariants as cause
 use Rattle.classify.specs.Classes as class
 use Rattle.classify.specs.Classes.{class_of}
 use Rattle.resolution.specs.Jobs.{Home, Stores, with_told, Search, Job, Input, Start, Told, TimedOut, TcpFailed, Next, Fail, Point}
-use Rattle.resolution.specs.Rules.{Rule, takes, asks, follows, restarts, skips, hears, descends, gives_up, Rules, IsAnswered, ByClass, Enters, MayNotSend, spent_cause, Leaves, sends, sends_again, refuses, spent, looked_out, nowhere, too_long, done, Advances}
+use Rattle.resolution.specs.Rules.{Rule, takes, asks, follows, restarts, skips, hears, descends, gives_up, Rules, IsAnswered, ByClass, Enters, MayNotSend, spent_cause, Leaves, sends, sends_again, refuses, spent, looked_out, nowhere, too_long, done}
 use Rattle.runs.specs.States.{Served, Nobody, Own, OpenQuery, Turn, Open, Site, State, moved}
 use Rattle.runs.specs.Steps.{IsAsk, Step}
 use Rattle.runs.specs.Runs.{Run, is_for}

@@ -10,26 +10,26 @@ use Rattle.front.specs.declared.queries.Request.{Request}
 use Rattle.front.specs.declared.queries.Request.TheVariants as request
 use Rattle.retry.specs.Plans.{Plan, wait_of}
 use Rattle.cache.specs.Failures.{failed_ask, is_failed}
-use Rattle.resolution.specs.Jobs.{Stores, Search, Job, wait_in, wait_of_job, Next, AskUdp, AskTcp, Done, Fail}
-use Rattle.runs.specs.States.{Event, Client, Datagram, TcpReply, Tick, Action, Served, Own, OpenQuery, Turn, Plain, ClientQuery, client_query, Path, ByUdp, Ask, Open, Site, State, moved}
+use Rattle.resolution.specs.Jobs.{Search, Job, wait_in, wait_of_job, Next, AskUdp, AskTcp, Done, Fail}
+use Rattle.runs.specs.States.{Event, Client, Datagram, TcpReply, Tick, Action, Served, Own, OpenQuery, Turn, Plain, ClientQuery, client_query, Path, ByUdp, ByTcp, Open, Site, State, moved}
 use Rattle.runs.specs.States as event
 use Rattle.runs.specs.Messages.{Brings}
-use Rattle.runs.specs.Steps.{IsOpened, at_once, crowded, admitted, IsHandled, IsIgnored, ServesOpen, IsTicked, IsStarved, IsTurn, Step}
-use Rattle.runs.specs.Runs.{Run, Earlier, Came, clock_of}
+use Rattle.runs.specs.Steps.{IsOpened, at_once, crowded, admitted, IsHandled, IsIgnored, ServesOpen, IsTicked, IsTurn}
+use Rattle.runs.specs.Runs.{Run, Came, clock_of}
 use Rattle.runs.proofs.Clocks.{clock_of_run}
 use Rattle.laws.specs.Spent.{IsUdpPath}
 use Rattle.laws.specs.Opens.{Call, step_call}
-use Rattle.laws.specs.Meant.{IsFor, ServedIsMeant, IsOverAtOnce, AtHandIsReplied, NobodyFailingIsAsked, AsksUntil, IsOfRun, OpenIsOfRun}
+use Rattle.laws.specs.Meant.{IsForOpenQuery, ServedIsMeant, IsOverAtOnce, AtHandIsReplied, NobodyFailingIsAsked, IsWait, IsAwaited, OpenIsOfRun}
 use Rattle.laws.proofs.Calls.{asked_did_not_fail}
 use Rattle.laws.proofs.Chains.{led}
 use Rattle.laws.proofs.LookUps.{run_counted}
 use Rattle.laws.proofs.OrderlyLists.{same_number}
-use Rattle.laws.proofs.Orders.{IsStep, one_step, run_orderly}
+use Rattle.laws.proofs.Orders.{IsStep, one_step, run_orderly, ask_given}
 use Rattle.laws.proofs.Runs.{run_explained}
 use Rattle.laws.proofs.Served.{AsksAs, IsCallOf, step_calls}
 use Rattle.laws.proofs.Short.{run_short, four_at_most}
 use Rattle.laws.proofs.States.{turn_of, IsOpenSound}
-use Rattle.laws.proofs.Times.{along, clock_then}
+use Rattle.laws.proofs.Times.{clock_then}
 use Rattle.laws.proofs.TimelyOpens.{not_own, not_nobody}
 
 -- ---- whom a step serves
@@ -37,7 +37,7 @@ use Rattle.laws.proofs.TimelyOpens.{not_own, not_nobody}
 module _ (site : Site) (past : List Turn) (s : State) (here : (s.site).port ≡ site.port) (k : ℕ) where
   abbrev Means : Event → Served → Option (List Action) → Type 0
   Means e served out =
-      ((who : ClientQuery) × Came (OpenQuery k) who (turn_of e served out) past) ⊎ ((q : Open) × Contains s.queries q × (q.number ≡ k) × IsFor site s (turn_of e served out) q)
+      ((who : ClientQuery) × Came (OpenQuery k) who (turn_of e served out) past) ⊎ ((q : Open) × Contains s.queries q × (q.number ≡ k) × IsForOpenQuery site s (turn_of e served out) q)
 
   handled_means : (now client : ℕ) (way : Via) (bytes : List ℕ) (served : Served) (out : List Action) (new : State) (asked : Request Plain) → IsRequest bytes asked
       → IsHandled s client way asked served out new → served ≡ OpenQuery k → Means (Client now client way bytes) served (Some out)
@@ -138,37 +138,35 @@ waits_in : (ss : List Search) → (wait_in ss ≡ 1000) ⊎ (wait_in ss ≡ 2000
 waits_in [] = inl refl
 waits_in (s ∷ rest) = wait_is (s.frame).plan
 
-abbrev AreDue : List Turn → State → Type 0
-AreDue run s = (q : Open) → Contains s.queries q → Earlier (AsksUntil q.number q.due) run
+abbrev AreAwaited : ℕ → List Turn → State → Type 0
+AreAwaited port run s = (q : Open) → Contains s.queries q → IsAwaited port q run
 
-asks_until : (past : List Turn) (t : Turn) (s : State) (clock : s.clock ≡ clock_of (t ∷ past)) (q : Open) (job : Job) (next : Next) → t.served ≡ OpenQuery q.number → AsksAs s.clock job next q
-    → AsksUntil q.number q.due t past
-asks_until past t s clock q job (AskUdp server n u) is (for, path, due) = (
-  is,
-  elim (waits_in job.searches) [
-    | inl e ↦ inl (due ∙ (λ i. clock i + e i))
-    | inr e ↦ inr (inl (due ∙ (λ i. clock i + e i)))
-  ],
-)
-asks_until past t s clock q job (AskTcp server n u) is (for, path, due) = (is, inr (inr (due ∙ ap (λ (n : ℕ). n + tcp_wait) clock)))
-asks_until past t s clock q job (Done chain last) is h = absurd h
-asks_until past t s clock q job (Fail c) is h = absurd h
+abbrev WaitsUntil : ℕ → Open → Type 0
+WaitsUntil now q = (wait : ℕ) × IsWait (q.ask).path wait × (q.due ≡ now + wait)
 
-run_due : (site : Site) (run : List Turn) (s : State) → Run site run s → AreDue run s
-run_due site [] s new = λ q c. absurd (Contains-nil q (subst (λ (l : List Open). Contains l q) new.queries c))
-run_due site (t ∷ past) s (old, legal, step) = on (run_due site past old legal)
+waits_until : (s : State) (now : ℕ) → s.clock ≡ now → (q : Open) (job : Job) (next : Next) → AsksAs s.clock job next q → WaitsUntil now q
+waits_until s now clock q job (AskUdp server n u) (for, (sock, path), due) =
+    (wait_of_job job, subst (λ (p : Path). IsWait p (wait_of_job job)) (sym path) (waits_in job.searches), due ∙ ap (λ (m : ℕ). m + wait_of_job job) clock)
+waits_until s now clock q job (AskTcp server n u) (for, (number, path), due) =
+    (tcp_wait, subst (λ (p : Path). IsWait p tcp_wait) (sym path) refl, due ∙ ap (λ (m : ℕ). m + tcp_wait) clock)
+waits_until s now clock q job (Done chain last) h = absurd h
+waits_until s now clock q job (Fail c) h = absurd h
+
+run_awaited : (site : Site) (run : List Turn) (s : State) → Run site run s → AreAwaited site.port run s
+run_awaited site [] s new = λ q c. absurd (Contains-nil q (subst (λ (l : List Open). Contains l q) new.queries c))
+run_awaited site (t ∷ past) s (old, legal, step) = on (run_awaited site past old legal)
   where
     is : IsStep site.port t old s
     is = one_step site past t old s legal step (run_orderly site past old legal).below
 
-    by : (q : Open) → Contains s.queries q → t.served ≡ OpenQuery q.number → (o : Option (Call (moved old t.event))) → IsCallOf (moved old t.event) t.served s o → AsksUntil q.number q.due t past
+    by : (q : Open) → Contains s.queries q → t.served ≡ OpenQuery q.number → (o : Option (Call (moved old t.event))) → IsCallOf (moved old t.event) t.served s o → WaitsUntil (clock_of (t ∷ past)) q
     by q c e None h = absurd (h q c e)
-    by q c e (Some call) h = asks_until past t (moved old t.event) (clock_then site past t old legal) q call.new call.next e (h.1 q c e).asks
+    by q c e (Some call) h = waits_until (moved old t.event) (clock_of (t ∷ past)) (clock_then site past t old legal) q call.new call.next (h.1 q c e).asks
 
-    on : AreDue past old → AreDue (t ∷ past) s
+    on : AreAwaited site.port past old → AreAwaited site.port (t ∷ past) s
     on before q c = elim (is.from_old q c) [
-      | inl d ↦ inr (before q d.0)
-      | inr d ↦ inl (by q c d.0 (step_call old t s step) (step_calls old t s step))
+      | inl d ↦ inr (d.1, before q d.0)
+      | inr d ↦ inl (d.0, ((d.1).action, ask_given site.port q.ask t.out d.1, (d.1).sent), by q c d.0 (step_call old t s step) (step_calls old t s step))
     ]
 
 pub open_is_of_run : OpenIsOfRun
@@ -179,13 +177,10 @@ open_is_of_run site run s legal q there = record {
   few = sound.work.few;
   chain = led site.port site.home run (type_number ((q.client_query).query).kind) ((q.client_query).query).name (q.job).chain (q.job).name sound.work.leads;
   searches = four_at_most (q.job).searches (run_short site run s legal q there).nested;
-  due = due q there;
+  due = run_awaited site run s legal q there;
   asks = sound.asks;
   look_ups = (run_counted site run s legal).each q there;
 }
   where
     sound : IsOpenSound site.port site.home run q
     sound = (run_explained site run s legal).0.queries q there
-
-    due : AreDue run s
-    due = run_due site run s legal

@@ -15,8 +15,9 @@ use Rattle.cache.specs.Cached.{Hit}
 use Rattle.frames.specs.Frames.{opened}
 use Rattle.resolution.specs.Jobs.{Home, Stores, level_of, Taken, local_link, Search, search_at, next_server, Job, Next, AskUdp, Go, Point}
 use Rattle.resolution.specs.Rules.{Says, turned, Hits, Finds, Misses, Rule, takes, asks, follows, restarts, skips, hears, descends, gives_up, Rules, Leaves}
-use Rattle.laws.specs.Calls.{GoesOut, Opening, StartsSearch, FramesOpenRightly}
-use Rattle.laws.proofs.Calls.{goes_alike, asks_first}
+use Rattle.runs.specs.Steps.{IsAsk}
+use Rattle.laws.specs.Calls.{GoesOut, IsGivenOf, Opening, StartsSearch, FramesOpenRightly}
+use Rattle.laws.proofs.Calls.{goes_alike, asks_first, first_shown}
 use Rattle.laws.proofs.Skipped.{same_after}
 
 abbrev Cuts : Type 0
@@ -101,11 +102,17 @@ module _ (home : Home) (now : ℕ) where
     pub frame_stands : (more : List Search) × ((b.job).searches ≡ search_at n t (opened (level_of after) d c) ∷ more)
     frame_stands = (rest, job ∙ ap (λ (f : Addr → ℕ). search_at n t (opened f d c) ∷ rest) level)
 
-    pub first_is_asked : (x : Addr) → next_server now after.failures (search_at n t (opened (level_of after) d c)) ≡ Some x → GoesOut now a.job (AskUdp x n t) next
+    pub first_is_asked : (x : Addr) → next_server now after.failures (search_at n t (opened (level_of after) d c)) ≡ Some x
+        → GoesOut now a.job (AskUdp x n t) next
+        × (IsAsk next → (sought : Search) × (more : List Search) × IsGivenOf (search_at n t (opened (level_of after) d c)) sought × (new.searches ≡ sought ∷ more))
     first_is_asked x due =
         let due_then : next_server now after.failures (search_at n t (opened (level_of b.stores) d c)) ≡ Some x = ap (λ (f : Addr → ℕ). next_server now after.failures (search_at n t (opened f d c))) level ∙ due in
-        goes_alike now b.job a.job (AskUdp x n t) next deadline number
-        (asks_first home now b (search_at n t (opened (level_of b.stores) d c)) rest x job task count last next new after rules leaves due_then)
+        let s : Search = search_at n t (opened (level_of b.stores) d c) in (
+          goes_alike now b.job a.job (AskUdp x n t) next deadline number (asks_first home now b s rest x job task count last next new after rules leaves due_then),
+          λ goes.
+              let (sought, of, is) = first_shown home now b s rest x job task count last next new after rules leaves due_then goes in
+              (sought, rest, subst (λ (f : Addr → ℕ). IsGivenOf (search_at n t (opened f d c)) sought) level of, is),
+        )
 
 pub frames_open_rightly : FramesOpenRightly
 frames_open_rightly home now a b last count next new after (takes l t f u j) o rules leaves is = absurd (cc)
@@ -117,7 +124,8 @@ frames_open_rightly home now a b last count next new after (gives_up s around re
 frames_open_rightly home now a b last count next new after (asks c t m u j) o rules leaves is =
     let same : record { name = (a.job).name; kind = (a.job).kind; nesting = 0; cut = c } ≡ o = cc in
     let P : Opening → Type 0 = λ p. StartsSearch home now p.name p.kind after p.cut × ((rest : List Search) × ((b.job).searches ≡ search_at p.name p.kind (opened (level_of after) p.nesting p.cut) ∷ rest))
-    × ((d : Addr) → next_server now after.failures (search_at p.name p.kind (opened (level_of after) p.nesting p.cut)) ≡ Some d → GoesOut now a.job (AskUdp d p.name p.kind) next) in
+    × ((d : Addr) → next_server now after.failures (search_at p.name p.kind (opened (level_of after) p.nesting p.cut)) ≡ Some d → GoesOut now a.job (AskUdp d p.name p.kind) next
+    × (IsAsk next → (sought : Search) × (rest : List Search) × IsGivenOf (search_at p.name p.kind (opened (level_of after) p.nesting p.cut)) sought × (new.searches ≡ sought ∷ rest))) in
     let searches : (b.job).searches ≡ search_at (a.job).name (a.job).kind (opened (level_of b.stores) 0 c) ∷ [] = ap (λ (k : Job). k.searches) j in
     let deadline : (b.job).deadline ≡ (a.job).deadline = ap (λ (k : Job). k.deadline) j in
     let number : (b.job).asks ≡ (a.job).asks = ap (λ (k : Job). k.asks) j in
@@ -129,7 +137,8 @@ frames_open_rightly home now a b last count next new after (asks c t m u j) o ru
 frames_open_rightly home now a b last count next new after (descends s rest n c t turn m u j) o rules leaves is =
     let same : record { name = n; kind = a_type; nesting = (s.frame).nesting + 1; cut = c } ≡ o = cc in
     let P : Opening → Type 0 = λ p. StartsSearch home now p.name p.kind after p.cut × ((rest : List Search) × ((b.job).searches ≡ search_at p.name p.kind (opened (level_of after) p.nesting p.cut) ∷ rest))
-    × ((d : Addr) → next_server now after.failures (search_at p.name p.kind (opened (level_of after) p.nesting p.cut)) ≡ Some d → GoesOut now a.job (AskUdp d p.name p.kind) next) in
+    × ((d : Addr) → next_server now after.failures (search_at p.name p.kind (opened (level_of after) p.nesting p.cut)) ≡ Some d → GoesOut now a.job (AskUdp d p.name p.kind) next
+    × (IsAsk next → (sought : Search) × (rest : List Search) × IsGivenOf (search_at p.name p.kind (opened (level_of after) p.nesting p.cut)) sought × (new.searches ≡ sought ∷ rest))) in
     let more : List Search = turned (a.job).failed s ∷ rest in
     let searches : (b.job).searches ≡ search_at n a_type (opened (level_of b.stores) ((s.frame).nesting + 1) c) ∷ more = ap (λ (k : Job). k.searches) j in
     let deadline : (b.job).deadline ≡ (a.job).deadline = ap (λ (k : Job). k.deadline) j in

@@ -1,5 +1,5 @@
 -- From frames that open in one call to those that open in the step which makes it.
-use Rattle.std.proofs.Common.{◌≡◌, ℕ, zero, suc, ◌⊎◌, inl, inr, Option, Some, None, List, [], ◌∷◌, ◌++◌, refl, sym, ap, ◌∙◌, subst}
+use Rattle.std.proofs.Common.{◌≡◌, ℕ, zero, suc, ◌⊎◌, inl, inr, Option, Some, None, List, [], ◌∷◌, ◌++◌, Contains, refl, sym, ap, ◌∙◌, subst}
 use Rattle.dname.specs.Labels.{Name}
 use Rattle.rdata.specs.declared.addr.Addr.{Addr}
 use Rattle.causes.specs.declared.cause.Cause.{Cause}
@@ -8,20 +8,21 @@ use Rattle.wire.specs.declared.via.Via.{Via}
 use Rattle.front.specs.declared.queries.Request.{Request}
 use Rattle.front.specs.declared.queries.Request.TheVariants as request
 use Rattle.frames.specs.Frames.{opened}
-use Rattle.resolution.specs.Jobs.{Home, Stores, level_of, search_at, next_server, Job, Start, Next, AskUdp, Fail, Point}
+use Rattle.resolution.specs.Jobs.{Home, Stores, level_of, Search, search_at, next_server, Job, Start, Next, AskUdp, Fail, Point}
 use Rattle.resolution.specs.Rules.{Rule, Rules, MayNotSend}
-use Rattle.runs.specs.States.{Event, Client, Datagram, TcpReply, Tick, Action, MoreDue, Served, OpenQuery, Plain, ClientQuery, client_query, Site, State, moved}
+use Rattle.runs.specs.States.{Event, Client, Datagram, TcpReply, Tick, Action, MoreDue, Served, OpenQuery, Plain, ClientQuery, client_query, Open, Site, State, moved}
 use Rattle.runs.specs.States as event
 use Rattle.runs.specs.Messages.{IsSent}
 use Rattle.runs.specs.Steps.{Comes, Serves, IsAsk, IsOpened, at_once, crowded, admitted, IsHandled, IsIgnored, ServesOpen, IsFollowed, IsTicked, IsTurn}
 use Rattle.runs.proofs.Clocks.{clock_of_run}
 use Rattle.laws.specs.Laws.{IsOnlyAction}
-use Rattle.laws.specs.Calls.{GoesOut, Opening, opening_of, StartsSearch}
+use Rattle.laws.specs.Calls.{GoesOut, IsGivenOf, Opening, opening_of, StartsSearch}
 use Rattle.laws.specs.Opens.{Call, handled_call, hears_call, either_call, ticked_call, turn_call, RulesOpen, Opens, Goes, MayNot, IsOpenedRightly, FramesOpenInSteps}
 use Rattle.laws.proofs.Ask.{SameTime, both, rules_keep, enters_keep}
 use Rattle.laws.proofs.Calls.{goes_alike}
 use Rattle.laws.proofs.FollowedStores.{comes_stores}
 use Rattle.laws.proofs.Opened.{frames_open_rightly}
+use Rattle.laws.proofs.Served.{IsLeftBy, is_ask, handled_calls, hears_calls}
 
 -- ---- of one call
 
@@ -48,7 +49,9 @@ on_way home now (suc n) a b (mid, more, rule) frame (inr is) =
 abbrev IsRightIn : (s : State) → Call s → Opening → Type 0
 IsRightIn s call frame =
     StartsSearch (s.site).home s.clock frame.name frame.kind call.after frame.cut
-    × ((d : Addr) → next_server s.clock (call.after).failures (search_at frame.name frame.kind (opened (level_of call.after) frame.nesting frame.cut)) ≡ Some d → GoesOut s.clock call.old (AskUdp d frame.name frame.kind) call.next)
+    × ((d : Addr) → next_server s.clock (call.after).failures (search_at frame.name frame.kind (opened (level_of call.after) frame.nesting frame.cut)) ≡ Some d
+    → GoesOut s.clock call.old (AskUdp d frame.name frame.kind) call.next
+    × (IsAsk call.next → (sought : Search) × (rest : List Search) × IsGivenOf (search_at frame.name frame.kind (opened (level_of call.after) frame.nesting frame.cut)) sought × ((call.new).searches ≡ sought ∷ rest)))
 
 right_in : (s : State) (call : Call s) (frame : Opening) → Opens s call frame → IsRightIn s call frame
 right_in s call frame h =
@@ -57,7 +60,7 @@ right_in s call frame h =
     let same : SameTime call.old (w.x).job
     = both call.old (c.first).job (w.x).job (enters_keep s.clock call.input call.old s.stores c.first c.enters) (rules_keep (s.site).home s.clock w.before c.first w.x w.to) in
     let (start, stands, asks) = frames_open_rightly (s.site).home s.clock w.x w.y c.last w.behind call.next call.new call.after w.rule frame w.on c.leaves w.opens in
-    (start, λ d due. goes_alike s.clock (w.x).job call.old (AskUdp d frame.name frame.kind) call.next same.deadline same.asks (asks d due))
+    (start, λ d due. let (goes, shown) = asks d due in (goes_alike s.clock (w.x).job call.old (AskUdp d frame.name frame.kind) call.next same.deadline same.asks goes, shown))
 
 -- ---- of what comes of it
 
@@ -71,8 +74,12 @@ module _ (site : Site) (s : State) (here : s.site ≡ site) (served : Served) (o
   none_right : AreRight None
   none_right call e frame h = absurd (cc)
 
-  call_right : (call : Call s) → new.stores ≡ call.after → Sends call → AreRight (Some call)
-  call_right call stores sends other e = subst (λ (c : Call s). (frame : Opening) → Opens s c frame → IsOpenedRightly site s served out new c frame) same right
+  -- What the call leaves is shown by the query that is served.
+  abbrev Leaves : Call s → Type 0
+  Leaves call = (q : Open) → Contains new.queries q → served ≡ OpenQuery q.number → IsLeftBy s call.next call.new call.after new q
+
+  call_right : (call : Call s) → new.stores ≡ call.after → Sends call → Leaves call → AreRight (Some call)
+  call_right call stores sends left other e = subst (λ (c : Call s). (frame : Opening) → Opens s c frame → IsOpenedRightly site s served out new c frame) same right
     where
       same : call ≡ other
       same = cc
@@ -83,8 +90,20 @@ module _ (site : Site) (s : State) (here : s.site ≡ site) (served : Served) (o
           record {
             start = subst (λ (x : Site). StartsSearch x.home s.clock frame.name frame.kind new.stores frame.cut) here
                 (subst (λ (x : Stores). StartsSearch (s.site).home s.clock frame.name frame.kind x frame.cut) (sym stores) start);
-            first = λ d due. sends d frame.name frame.kind (asks d (subst (λ (x : Stores). next_server s.clock x.failures (search_at frame.name frame.kind (opened (level_of x) frame.nesting frame.cut)) ≡ Some d) stores due));
+            first = λ d due. sends d frame.name frame.kind (asks d (due_after d due)).0;
+            stands = λ d q due there is.
+                let after = left q there is in
+                let (sought, rest, of, shown) = (asks d (due_after d due)).1 (is_ask s.clock call.new call.next q after.asks) in (
+                  sought,
+                  rest,
+                  subst (λ (x : Stores). IsGivenOf (search_at frame.name frame.kind (opened (level_of x) frame.nesting frame.cut)) sought) (sym stores) of,
+                  ap (λ (j : Job). j.searches) after.job_is ∙ shown,
+                );
           }
+        where
+          due_after : (d : Addr) → next_server s.clock (new.stores).failures (search_at frame.name frame.kind (opened (level_of new.stores) frame.nesting frame.cut)) ≡ Some d
+              → next_server s.clock (call.after).failures (search_at frame.name frame.kind (opened (level_of call.after) frame.nesting frame.cut)) ≡ Some d
+          due_after d = subst (λ (x : Stores). next_server s.clock x.failures (search_at frame.name frame.kind (opened (level_of x) frame.nesting frame.cut)) ≡ Some d) stores
 
   -- The query's ask goes out, under its number.
   goes : (who : ClientQuery) (k opened : ℕ) (next : Next) (job : Job) (stores : Stores) (first : List Action) (d : Addr) (n : Name) (t : ℕ)
@@ -104,7 +123,7 @@ module _ (site : Site) (s : State) (here : s.site ≡ site) (served : Served) (o
       }
 
   hears_right : (e : Event) (first : List Action) → ((action : Action) → first ≡ action ∷ [] → IsOnlyAction action out) → (h : ServesOpen s e served first new) → AreRight (hears_call s e served first new h)
-  hears_right e first behind h = call_right _ (comes_stores s _ _ _ v.next v.job v.stores first new v.comes) sends
+  hears_right e first behind h = call_right _ (comes_stores s _ _ _ v.next v.job v.stores first new v.comes) sends (hears_calls s e served first new h).1
     where
       v : Serves s h.query h.input first new
       v = h.serves
@@ -132,7 +151,8 @@ module _ (site : Site) (s : State) (here : s.site ≡ site) (served : Served) (o
   handled_right client way request.Drop h = none_right
   handled_right client way (request.Refuse refusal start echo) h = none_right
   handled_right client way (request.Query q) (inl h) = none_right
-  handled_right client way (request.Query q) (inr (rd, h)) = call_right call (stores h.opened) (sends h.opened)
+  handled_right client way (request.Query q) (inr (rd, h)) =
+      call_right call (stores h.opened) (sends h.opened) (handled_calls s client way (request.Query q) served out new (inr (rd, h))).1
     where
       who : ClientQuery
       who = client_query client way q

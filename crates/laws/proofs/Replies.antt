@@ -26,8 +26,9 @@ use Rattle.resolution.specs.Jobs.{Source, Local, Cached, Accepted, Taken, IsEndi
 use Rattle.runs.specs.States.{Plain}
 use Rattle.runs.specs.Messages.{AreWritten, alias_in, aliases_of, end_in, outcome_of}
 use Rattle.laws.specs.Headline.{IsServfail, IsRightWhole, IsRightReply}
-use Rattle.laws.proofs.RightEntries.{IsOnce, IsGood, sent_good}
-use Rattle.laws.proofs.RightPoints.{TrueAliasesLead, EndsTruly}
+use Rattle.laws.specs.Truthful.{IsOnce, IsTrueOnce, TrueAliasesLead}
+use Rattle.laws.proofs.RightEntries.{sent_good}
+use Rattle.laws.proofs.RightPoints.{EndsTruly}
 
 -- ---- chains
 
@@ -52,7 +53,7 @@ true_leads : (W : World) (t now : ℕ) (from to : Name) (ls : List Taken) → Tr
 true_leads W t now from to [] leads = (leads, refl)
 true_leads W t now from to (l ∷ ls) (name, (r, alias, good, more)) =
     let (s, is, same) = sent_alias now l.source r in
-    let here : IsGood W from t (Alias s) = subst (IsGood W from t) is (sent_good W from t now l.source (Alias r) good) in
+    let here : IsTrueOnce W from t (Alias s) = subst (IsTrueOnce W from t) is (sent_good W from t now l.source (Alias r) good) in
     let shown : IsShown from t s = alias_is here.is.0 from t s here.is.2 in
     let (n, value) = cname_of s.value shown.kind in
     let target : alias_target r ≡ n = ap (target_in r.owner) (sym same.1 ∙ value) in

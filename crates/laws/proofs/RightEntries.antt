@@ -18,7 +18,7 @@ use Rattle.classify.proofs.Uses.{found_once}
 use Rattle.limits.specs.Limits.{max_ttl}
 use Rattle.classify.specs.Lifetimes.{received}
 use Rattle.classify.proofs.Shortened.{received_same}
-use Rattle.cache.specs.Keys.{Kind, NameError, Key, key_for}
+use Rattle.cache.specs.Keys.{Kind, NameError, Key}
 use Rattle.cache.specs.Cached.{Hit, Question, after_keep, IsKept, EntryAnswers, IsHeld}
 use Rattle.cache.proofs.Members.{kept_members}
 use Rattle.world_truth.specs.Worlds.{World, IsWorld}
@@ -34,12 +34,7 @@ use Rattle.world_truth.proofs.Stays.{same_is_true, held_once}
 use Rattle.cache.specs.Cached.{retimed}
 use Rattle.resolution.specs.Jobs.{Source, Cached, Accepted, sent_from}
 use Rattle.resolution.specs.Jobs as taken
-
-abbrev pub IsOnce : Link → Type 0
-IsOnce (Found set) = Once set
-IsOnce (Alias r) = Unit {0}
-IsOnce (NoData soa) = Unit {0}
-IsOnce (NxDomain soa) = Unit {0}
+use Rattle.laws.specs.Truthful.{IsOnce, IsTrueOnce, IsTrueEntry, AreTrueEntries}
 
 -- A set that is read from a message has each record once.
 pub class_once : (f q : Name) (t : ℕ) (via : Via) (m : Message) (l : Link) → class_of f q t via m ≡ Answer l → IsOnce l
@@ -47,11 +42,6 @@ class_once f q t via m (Found set) e = found_once f q t m via set e
 class_once f q t via m (Alias r) e = tt
 class_once f q t via m (NoData r) e = tt
 class_once f q t via m (NxDomain r) e = tt
-
--- The world's link of a question, each record once.
-pub record IsGood (W : World) (n : Name) (t : ℕ) (l : Link) : Type 0 where
-  pub is : IsTrueLink W n t l
-  pub once : IsOnce l
 
 -- ---- other TTLs
 
@@ -98,20 +88,20 @@ received_once (Alias r) h = tt
 received_once (NoData r) h = tt
 received_once (NxDomain r) h = tt
 
-pub received_good : (W : World) (n : Name) (t : ℕ) (l : Link) → IsGood W n t l → IsGood W n t (received l)
+pub received_good : (W : World) (n : Name) (t : ℕ) (l : Link) → IsTrueOnce W n t l → IsTrueOnce W n t (received l)
 received_good W n t l h = record { is = same_is_true W n t (received l) l (received_same l) h.is; once = received_once l h.once }
 
-retimed_good : (W : World) (n : Name) (t ttl : ℕ) (l : Link) → IsGood W n t l → IsGood W n t (retimed ttl l)
+retimed_good : (W : World) (n : Name) (t ttl : ℕ) (l : Link) → IsTrueOnce W n t l → IsTrueOnce W n t (retimed ttl l)
 retimed_good W n t ttl l h = record { is = same_is_true W n t (retimed ttl l) l (retimed_same ttl l) h.is; once = retimed_once ttl l h.once }
 
-pub sent_good : (W : World) (n : Name) (t now : ℕ) (o : Source) (l : Link) → IsGood W n t l → IsGood W n t (sent_from now o l)
+pub sent_good : (W : World) (n : Name) (t now : ℕ) (o : Source) (l : Link) → IsTrueOnce W n t l → IsTrueOnce W n t (sent_from now o l)
 sent_good W n t now taken.Local l h = h
 sent_good W n t now (Cached ttl since) l h = retimed_good W n t _ l h
 sent_good W n t now (Accepted ttl since) l h = retimed_good W n t _ l h
 
 -- ---- local links
 
-pub local_good : (W : World) (zs : List Zone) (n : Name) (t : ℕ) (l : Link) → IsWorld W → AreHeld W zs → IsLooked zs n t (Linked l) → IsGood W n t l
+pub local_good : (W : World) (zs : List Zone) (n : Name) (t : ℕ) (l : Link) → IsWorld W → AreHeld W zs → IsLooked zs n t (Linked l) → IsTrueOnce W n t l
 local_good W zs n t l w held looked = record { is = local_is_true W zs n t l w held looked; once = once l looked }
   where
     once : (l : Link) → IsLooked zs n t (Linked l) → IsOnce l
@@ -122,18 +112,11 @@ local_good W zs n t l w held looked = record { is = local_is_true W zs n t l w h
 
 -- ---- entries of the cache
 
--- A true link under its key.
-abbrev pub IsTrueEntry : World → Key → Link → Type 0
-IsTrueEntry W k l = (n : Name) × (t : ℕ) × (k ≡ key_for n t l) × IsGood W n t l
-
-abbrev pub AreTrueEntries : World → List (Key × Hit) → Type 0
-AreTrueEntries W es = (k : Key) (h : Hit) → Contains es (k, h) → IsTrueEntry W k h.link
-
-pub new_true : (W : World) (q : Name) (t : ℕ) (h : Hit) (k : Key) (e : Hit) → IsGood W q t h.link → IsKept q t h (k, e) → IsTrueEntry W k e.link
+pub new_true : (W : World) (q : Name) (t : ℕ) (h : Hit) (k : Key) (e : Hit) → IsTrueOnce W q t h.link → IsKept q t h (k, e) → IsTrueEntry W k e.link
 new_true W q t h k e good (is, some) =
     subst (λ (x : Key × Hit). IsTrueEntry W x.0 (x.1).link) (sym is) (q, t, refl, good)
 
-pub kept_true : (W : World) (cap : ℕ) (q : Name) (t : ℕ) (h : Hit) (es : List (Key × Hit)) → AreTrueEntries W es → IsGood W q t h.link → AreTrueEntries W (after_keep cap q t h es)
+pub kept_true : (W : World) (cap : ℕ) (q : Name) (t : ℕ) (h : Hit) (es : List (Key × Hit)) → AreTrueEntries W es → IsTrueOnce W q t h.link → AreTrueEntries W (after_keep cap q t h es)
 kept_true W cap q t h es all good k e m = elim (kept_members cap q t h es (k, e) m) as (λ x. IsTrueEntry W k e.link) [
   | inl old ↦ all k e old
   | inr new ↦ new_true W q t h k e good new
@@ -161,48 +144,48 @@ none_not_some x e = cc
 some_is : {X : Type 0} {x y : X} → Some x ≡ Some y → x ≡ y
 some_is e = cc
 
-at_question : (W : World) (n q : Name) (u t : ℕ) (l : Link) → n ≡ q → u ≡ t → IsGood W n u l → IsGood W q t l
-at_question W n q u t l same kind h = subst (λ (x : Name). IsGood W x t l) same (subst (λ (v : ℕ). IsGood W n v l) kind h)
+at_question : (W : World) (n q : Name) (u t : ℕ) (l : Link) → n ≡ q → u ≡ t → IsTrueOnce W n u l → IsTrueOnce W q t l
+at_question W n q u t l same kind h = subst (λ (x : Name). IsTrueOnce W x t l) same (subst (λ (v : ℕ). IsTrueOnce W n v l) kind h)
 
 -- Each of these names above the question's may deny it.
 abbrev pub Count : Question → Local → Type 0
 Count a said = (p : Name) → Contains a.above p → MayDeny said p × IsAtOrUnder a.name p
 
 module _ (W : World) (w : IsWorld W) (zs : List Zone) (held : AreHeld W zs) (a : Question) (said : Local) (looked : IsLooked zs a.name a.kind said) (count : Count a said) (k : Key) (given : Link) where
-  answers_true : (e : Link) → IsTrueEntry W k e → EntryAnswers a k e given → IsGood W a.name a.kind given
+  answers_true : (e : Link) → IsTrueEntry W k e → EntryAnswers a k e given → IsTrueOnce W a.name a.kind given
   answers_true (Found rs) (n, u, key, good) (inl (at, is)) = kind_not_error u (slot_of (sym key ∙ at))
   answers_true (Found rs) (n, u, key, good) (inr (inl (at, is))) =
-      subst (IsGood W a.name a.kind) (sym is) (at_question W n a.name u a.kind (Found rs) (name_of (sym key ∙ at)) (one_kind u a.kind (slot_of (sym key ∙ at))) good)
+      subst (IsTrueOnce W a.name a.kind) (sym is) (at_question W n a.name u a.kind (Found rs) (name_of (sym key ∙ at)) (one_kind u a.kind (slot_of (sym key ∙ at))) good)
   answers_true (Found []) (n, u, key, good) (inr (inr (inl (at, other, is)))) = none_not_some given is
   answers_true (Found (r ∷ rs)) (n, u, key, good) (inr (inr (inl (at, other, is)))) =
-      let here : IsGood W a.name cname_type (Found (r ∷ rs)) = at_question W n a.name u cname_type (Found (r ∷ rs)) (name_of (sym key ∙ at)) (one_kind u cname_type (slot_of (sym key ∙ at))) good in
-      subst (IsGood W a.name a.kind) (some_is is) (record { is = found_as_alias W a.name a.kind (r ∷ rs) r w here.is (first_in r rs) other; once = tt })
+      let here : IsTrueOnce W a.name cname_type (Found (r ∷ rs)) = at_question W n a.name u cname_type (Found (r ∷ rs)) (name_of (sym key ∙ at)) (one_kind u cname_type (slot_of (sym key ∙ at))) good in
+      subst (IsTrueOnce W a.name a.kind) (some_is is) (record { is = found_as_alias W a.name a.kind (r ∷ rs) r w here.is (first_in r rs) other; once = tt })
   answers_true (Alias r) (n, u, key, good) (inl (at, is)) = kind_not_error cname_type (slot_of (sym key ∙ at))
   answers_true (Alias r) (n, u, key, good) (inr (inl (at, is))) =
       let asked : cname_type ≡ a.kind = one_kind cname_type a.kind (slot_of (sym key ∙ at)) in
-      let here : IsGood W a.name u (Alias r) = at_question W n a.name u u (Alias r) (name_of (sym key ∙ at)) refl good in
+      let here : IsTrueOnce W a.name u (Alias r) = at_question W n a.name u u (Alias r) (name_of (sym key ∙ at)) refl good in
       let set : IsTrueLink W a.name a.kind (Found (r ∷ [])) = subst (λ (v : ℕ). IsTrueLink W a.name v (Found (r ∷ []))) asked (alias_as_found W a.name u r w here.is) in
-      subst (IsGood W a.name a.kind) (sym is) (record { is = set; once = ((λ h. none_in h.0 h.1), tt) })
+      subst (IsTrueOnce W a.name a.kind) (sym is) (record { is = set; once = ((λ h. none_in h.0 h.1), tt) })
   answers_true (Alias r) (n, u, key, good) (inr (inr (inl (at, other, is)))) =
-      let here : IsGood W a.name u (Alias r) = at_question W n a.name u u (Alias r) (name_of (sym key ∙ at)) refl good in
-      subst (IsGood W a.name a.kind) (some_is is) (record { is = alias_for_all W a.name u a.kind r w here.is other; once = tt })
+      let here : IsTrueOnce W a.name u (Alias r) = at_question W n a.name u u (Alias r) (name_of (sym key ∙ at)) refl good in
+      subst (IsTrueOnce W a.name a.kind) (some_is is) (record { is = alias_for_all W a.name u a.kind r w here.is other; once = tt })
   answers_true (NoData r) (n, u, key, good) (inl (at, is)) = kind_not_error u (slot_of (sym key ∙ at))
   answers_true (NoData r) (n, u, key, good) (inr (inl (at, is))) =
-      subst (IsGood W a.name a.kind) (sym is) (at_question W n a.name u a.kind (NoData r) (name_of (sym key ∙ at)) (one_kind u a.kind (slot_of (sym key ∙ at))) good)
+      subst (IsTrueOnce W a.name a.kind) (sym is) (at_question W n a.name u a.kind (NoData r) (name_of (sym key ∙ at)) (one_kind u a.kind (slot_of (sym key ∙ at))) good)
   answers_true (NoData r) (n, u, key, good) (inr (inr (inl (at, other, is)))) = none_not_some given is
   answers_true (NxDomain r) (n, u, key, good) (inl (at, is)) =
-      let here : IsGood W a.name u (NxDomain r) = at_question W n a.name u u (NxDomain r) (name_of (sym key ∙ at)) refl good in
-      subst (IsGood W a.name a.kind) (sym is) (record { is = error_for_all W a.name u a.kind r here.is; once = tt })
+      let here : IsTrueOnce W a.name u (NxDomain r) = at_question W n a.name u u (NxDomain r) (name_of (sym key ∙ at)) refl good in
+      subst (IsTrueOnce W a.name a.kind) (sym is) (record { is = error_for_all W a.name u a.kind r here.is; once = tt })
   answers_true (NxDomain r) (n, u, key, good) (inr (inl (at, is))) = error_not_kind a.kind (slot_of (sym key ∙ at))
   answers_true (NxDomain r) (n, u, key, good) (inr (inr (inl (at, other, is)))) = error_not_kind cname_type (slot_of (sym key ∙ at))
   answers_true (Found rs) (n, u, key, good) (inr (inr (inr (p, there, at, is)))) = kind_not_error u (slot_of (sym key ∙ at))
   answers_true (Alias r) (n, u, key, good) (inr (inr (inr (p, there, at, is)))) = kind_not_error cname_type (slot_of (sym key ∙ at))
   answers_true (NoData r) (n, u, key, good) (inr (inr (inr (p, there, at, is)))) = kind_not_error u (slot_of (sym key ∙ at))
   answers_true (NxDomain r) (n, u, key, good) (inr (inr (inr (p, there, at, is)))) =
-      let above : IsGood W p u (NxDomain r) = at_question W n p u u (NxDomain r) (name_of (sym key ∙ at)) refl good in
+      let above : IsTrueOnce W p u (NxDomain r) = at_question W n p u u (NxDomain r) (name_of (sym key ∙ at)) refl good in
       let (denies, under) = count p there in
-      subst (IsGood W a.name a.kind) (sym is) (record { is = error_beneath W zs p a.name u a.kind r said w held looked denies under above.is; once = tt })
+      subst (IsTrueOnce W a.name a.kind) (sym is) (record { is = error_beneath W zs p a.name u a.kind r said w held looked denies under above.is; once = tt })
 
 pub hit_good : (W : World) (zs : List Zone) (a : Question) (said : Local) (now : ℕ) (es : List (Key × Hit)) (h : Hit) → IsWorld W → AreHeld W zs → IsLooked zs a.name a.kind said → Count a said
-    → AreTrueEntries W es → IsHeld a now es h → IsGood W a.name a.kind h.link
+    → AreTrueEntries W es → IsHeld a now es h → IsTrueOnce W a.name a.kind h.link
 hit_good W zs a said now es h w held looked count all (k, e, there, lives, answers, ttl, since) = answers_true W w zs held a said looked count k h.link e.link (all k e there) answers

@@ -30,35 +30,12 @@ use Rattle.resolution.specs.Jobs.{Home, Stores, level_of, with_told, Taken, IsEn
 use Rattle.resolution.specs.Rules.{Says, IsRemote, asked_by, asked_of, Hits, Finds, Misses, UsesServerAddress, turned, Rule, takes, asks, follows, restarts, skips, hears, descends, gives_up, Rules, ByClass, Enters, Leaves, sends, sends_again, refuses, spent, looked_out, nowhere, too_long, done, Advances, IsTakenEntry, IsTakenCut, Stops}
 use Rattle.resolution.proofs.Passing.{passes_keep}
 use Rattle.laws.specs.Headline.{IsHomeIn}
+use Rattle.laws.specs.Truthful.{IsTrueOnce, IsTrueEntry, IsTrueCut, IsTrueFrame, AreTrueStores, TrueAliasesLead, IsWanted, AreTrueSearches, IsTrueJob, AsksTruly}
 use Rattle.laws.proofs.RightLists.{longer}
-use Rattle.laws.proofs.RightEntries.{class_once, IsGood, received_good, local_good, IsTrueEntry, AreTrueEntries, Count, kept_true, new_true, hit_good}
-use Rattle.laws.proofs.Servers.{AreTrueCuts, IsTrueCut, IsTrueFrame, opened_true, misses_true, referral_cut, referral_begins, cut_kept_true, new_cut, cuts_used_true, added_true, asks_true}
+use Rattle.laws.proofs.RightEntries.{class_once, received_good, local_good, Count, kept_true, new_true, hit_good}
+use Rattle.laws.proofs.Servers.{opened_true, misses_true, referral_cut, referral_begins, cut_kept_true, new_cut, cuts_used_true, added_true, asks_true}
 
 -- ---- what is true
-
--- True aliases that lead from a name to another.
-abbrev pub TrueAliasesLead : World → ℕ → Name → List Taken → Name → Type 0
-TrueAliasesLead W t from [] to = to ≡ from
-TrueAliasesLead W t from (l ∷ ls) to = (l.name ≡ from) × ((r : Record) × (l.link ≡ Alias r) × IsGood W from t (Alias r) × TrueAliasesLead W t (alias_target r) ls to)
-
--- A search for the query's own name, or for a name of the servers of the search around it.
-abbrev pub IsWanted : Name → ℕ → Search → List Search → Type 0
-IsWanted n t s [] = (s.name ≡ n) × (s.kind ≡ t)
-IsWanted n t s (around ∷ rest) = Contains (around.frame).names s.name × (s.kind ≡ a_type)
-
-abbrev pub AreTrueSearches : World → Name → ℕ → List Search → Type 0
-AreTrueSearches W n t [] = Unit {0}
-AreTrueSearches W n t (s ∷ rest) = IsTrueFrame W s.name s.frame × IsWanted n t s rest × AreTrueSearches W n t rest
-
-pub record IsTrueJob (W : World) (q : Name) (t : ℕ) (j : Job) : Type 0 where
-  pub kind : j.kind ≡ t
-  pub leads : TrueAliasesLead W t q j.chain j.name
-  pub few : length j.chain ≤ 8
-  pub searches : AreTrueSearches W j.name t j.searches
-
-pub record AreTrue (W : World) (stores : Stores) : Type 0 where
-  pub cache : AreTrueEntries W stores.cache
-  pub cuts : AreTrueCuts W stores.delegations
 
 -- The innermost search's server may be asked.
 abbrev pub MayAskNext : World → Addr → List Search → Type 0
@@ -67,13 +44,13 @@ MayAskNext W server (s ∷ rest) = MayAsk W (bytes_of server) (s.frame).zone s.n
 
 abbrev pub IsTrueTask : World → ℕ → Job → Task → Type 0
 IsTrueTask W t j Seek = j.searches ≡ []
-IsTrueTask W t j (Take l) = (j.searches ≡ []) × (l.name ≡ j.name) × IsGood W j.name t l.link
+IsTrueTask W t j (Take l) = (j.searches ≡ []) × (l.name ≡ j.name) × IsTrueOnce W j.name t l.link
 IsTrueTask W t j Go = Unit {0}
 IsTrueTask W t j (Again server) = MayAskNext W server j.searches
 
 pub record IsTruePoint (W : World) (q : Name) (t : ℕ) (p : Point) : Type 0 where
   pub job : IsTrueJob W q t p.job
-  pub stores : AreTrue W p.stores
+  pub stores : AreTrueStores W p.stores
   pub task : IsTrueTask W t p.job p.task
 
 -- What comes in is honest.
@@ -87,21 +64,12 @@ IsTrueInput W j (Told via server m) = IsTold W server m j.searches
 IsTrueInput W j (TimedOut server) = Unit {0}
 IsTrueInput W j (TcpFailed server) = Unit {0}
 
--- What goes out is true: a server that may be asked, or a chain and its end.
-pub record AsksTruly (W : World) (server : Addr) (n : Name) (k : ℕ) (job : Job) : Type 0 where
-  pub search : Search
-  pub rest : List Search
-  pub searches : job.searches ≡ search ∷ rest
-  pub name : n ≡ search.name
-  pub kind : k ≡ search.kind
-  pub may : MayAsk W (bytes_of server) (search.frame).zone search.name
-
 pub record EndsTruly (W : World) (q : Name) (t : ℕ) (chain : List Taken) (l : Taken) : Type 0 where
   pub to : Name
   pub leads : TrueAliasesLead W t q chain to
   pub few : length chain ≤ 8
   pub ending : IsEnding l.link
-  pub good : IsGood W to t l.link
+  pub good : IsTrueOnce W to t l.link
 
 abbrev pub IsTrueNext : World → Name → ℕ → Next → Job → Type 0
 IsTrueNext W q t (AskUdp server n k) job = AsksTruly W server n k job × IsTrueJob W q t job
@@ -111,9 +79,9 @@ IsTrueNext W q t (Fail c) job = Unit {0}
 
 -- ---- chains
 
-lead_more : (W : World) (t : ℕ) (from to : Name) (ls : List Taken) (l : Taken) (r : Record) → TrueAliasesLead W t from ls to → l.name ≡ to → l.link ≡ Alias r → IsGood W to t (Alias r)
+lead_more : (W : World) (t : ℕ) (from to : Name) (ls : List Taken) (l : Taken) (r : Record) → TrueAliasesLead W t from ls to → l.name ≡ to → l.link ≡ Alias r → IsTrueOnce W to t (Alias r)
     → TrueAliasesLead W t from (ls ++ l ∷ []) (alias_target r)
-lead_more W t from to [] l r leads name link good = (name ∙ leads, (r, link, subst (λ (n : Name). IsGood W n t (Alias r)) leads good, refl))
+lead_more W t from to [] l r leads name link good = (name ∙ leads, (r, link, subst (λ (n : Name). IsTrueOnce W n t (Alias r)) leads good, refl))
 lead_more W t from to (x ∷ ls) l r (first, (s, alias, is, more)) name link good = (first, (s, alias, is, lead_more W t (alias_target s) to ls l r more name link good))
 
 heads : {X : Type 0} {x y : X} {xs ys : List X} → x ∷ xs ≡ y ∷ ys → x ≡ y
@@ -149,7 +117,7 @@ front_few chain front back l d split few =
 -- ---- points
 
 -- A point by its parts.
-point_true : (W : World) (q : Name) (t : ℕ) (p : Point) (task : Task) (job : Job) → p.task ≡ task → p.job ≡ job → IsTrueJob W q t job → AreTrue W p.stores → IsTrueTask W t job task
+point_true : (W : World) (q : Name) (t : ℕ) (p : Point) (task : Task) (job : Job) → p.task ≡ task → p.job ≡ job → IsTrueJob W q t job → AreTrueStores W p.stores → IsTrueTask W t job task
     → IsTruePoint W q t p
 point_true W q t p task job at is j stores h = record {
   job = subst (IsTrueJob W q t) (sym is) j;
@@ -169,37 +137,37 @@ given_true W n t s [] x = x
 given_true W n t s (around ∷ rest) x = x
 
 module _ (W : World) (w : IsWorld W) (home : Home) (ours : IsHomeIn W home) (now : ℕ) where
-  finds_true : (n : Name) (t : ℕ) (old : Stores) (l : Taken) (new : Stores) → AreTrue W old → Finds home now n t old l new → (l.name ≡ n) × IsGood W n t l.link × AreTrue W new
-  finds_true n t old l new all h = elim h.is as (λ x. (l.name ≡ n) × IsGood W n t l.link × AreTrue W new) [
-    | inl x ↦ (ap (λ (y : Taken). y.name) x.2, subst (λ (y : Taken). IsGood W n t y.link) (sym x.2) (local_good W home.zones n t x.0 w ours.held x.1.1), subst (AreTrue W) (sym x.3) all)
+  finds_true : (n : Name) (t : ℕ) (old : Stores) (l : Taken) (new : Stores) → AreTrueStores W old → Finds home now n t old l new → (l.name ≡ n) × IsTrueOnce W n t l.link × AreTrueStores W new
+  finds_true n t old l new all h = elim h.is as (λ x. (l.name ≡ n) × IsTrueOnce W n t l.link × AreTrueStores W new) [
+    | inl x ↦ (ap (λ (y : Taken). y.name) x.2, subst (λ (y : Taken). IsTrueOnce W n t y.link) (sym x.2) (local_good W home.zones n t x.0 w ours.held x.1.1), subst (AreTrueStores W) (sym x.3) all)
     | inr x ↦ hit x.0 x.1
   ]
     where
-      by_said : (e : Hit) (what : local.Local) → Says home n t what → IsHeld (asked_of home n t) now old.cache e → IsGood W n t e.link
+      by_said : (e : Hit) (what : local.Local) → Says home n t what → IsHeld (asked_of home n t) now old.cache e → IsTrueOnce W n t e.link
       by_said e what says held =
           hit_good W home.zones (asked_of home n t) what now old.cache e w ours.held says.1 (subst (λ (x : local.Local). Count (asked_by x n t) what) (sym says.0) (may_count n t what)) all.cache held
 
-      good : (e : Hit) → IsHeld (asked_of home n t) now old.cache e → IsRemote home n t → IsGood W n t e.link
+      good : (e : Hit) → IsHeld (asked_of home n t) now old.cache e → IsRemote home n t → IsTrueOnce W n t e.link
       good e held (inl (c, ns, glue, says)) = by_said e (local.Cut c ns glue) says held
       good e held (inr says) = by_said e local.NotHere says held
 
-      hit : (e : Hit) → Hits home now n t old l e new → (l.name ≡ n) × IsGood W n t l.link × AreTrue W new
+      hit : (e : Hit) → Hits home now n t old l e new → (l.name ≡ n) × IsTrueOnce W n t l.link × AreTrueStores W new
       hit e h = (
         ap (λ (y : Taken). y.name) h.link,
-        subst (λ (y : Taken). IsGood W n t y.link) (sym h.link) (good e h.held h.remote),
-        subst (AreTrue W) (sym h.stores) (record { cache = λ k x m. all.cache k x ((looked_members (asked_of home n t) now old.cache).0 (k, x) m); cuts = all.cuts }),
+        subst (λ (y : Taken). IsTrueOnce W n t y.link) (sym h.link) (good e h.held h.remote),
+        subst (AreTrueStores W) (sym h.stores) (record { cache = λ k x m. all.cache k x ((looked_members (asked_of home n t) now old.cache).0 (k, x) m); cuts = all.cuts }),
       )
 
-  missed_true : (n : Name) (t : ℕ) (old : Stores) (c : Cut) (new : Stores) → AreTrue W old → Misses home now n t old c new → AreTrue W new
-  missed_true n t old c new all h = subst (AreTrue W) (sym h.stores) (record { cache = all.cache; cuts = cuts_used_true W n now old.delegations all.cuts })
+  missed_true : (n : Name) (t : ℕ) (old : Stores) (c : Cut) (new : Stores) → AreTrueStores W old → Misses home now n t old c new → AreTrueStores W new
+  missed_true n t old c new all h = subst (AreTrueStores W) (sym h.stores) (record { cache = all.cache; cuts = cuts_used_true W n now old.delegations all.cuts })
 
   -- A search that hears of one of its servers' names.
   heard_true : (stores : Stores) (n p : Name) (t : ℕ) (l : Link) (before : Search) (rest : List Search) (failed : Failed) (after : Search) (marks : Failed)
-      → UsesServerAddress stores n l before failed after marks → Contains (before.frame).names n → IsGood W n a_type l
+      → UsesServerAddress stores n l before failed after marks → Contains (before.frame).names n → IsTrueOnce W n a_type l
       → AreTrueSearches W p t (before ∷ rest) → AreTrueSearches W p t (after ∷ rest)
   heard_true stores n p t l before rest failed after marks h member good (frame, wanted, more) = elim h.is as (λ x. AreTrueSearches W p t (after ∷ rest)) [
     | inl x ↦ subst (λ (s : Search). AreTrueSearches W p t (s ∷ rest)) (sym x.4)
-        (added_true W w before.name n before.frame frame member x.0 (subst (IsGood W n a_type) x.2 good) x.1 x.3 (level_of stores), still rest (after_add (level_of stores) before.frame (fresh_addresses before.frame x.1)) wanted, more)
+        (added_true W w before.name n before.frame frame member x.0 (subst (IsTrueOnce W n a_type) x.2 good) x.1 x.3 (level_of stores), still rest (after_add (level_of stores) before.frame (fresh_addresses before.frame x.1)) wanted, more)
     | inr x ↦ subst (λ (s : Search). AreTrueSearches W p t (s ∷ rest)) (sym x.1) (frame, wanted, more)
   ]
     where
@@ -213,8 +181,8 @@ module _ (W : World) (w : IsWorld W) (home : Home) (ours : IsHomeIn W home) (now
   turned_true p t failed s [] h = h
   turned_true p t failed s (around ∷ rest) h = h
 
-  at_kind : (n : Name) (k t : ℕ) (l : Link) → k ≡ t → IsGood W n k l → IsGood W n t l
-  at_kind n k t l e h = subst (λ (u : ℕ). IsGood W n u l) e h
+  at_kind : (n : Name) (k t : ℕ) (l : Link) → k ≡ t → IsTrueOnce W n k l → IsTrueOnce W n t l
+  at_kind n k t l e h = subst (λ (u : ℕ). IsTrueOnce W n u l) e h
 
   pub rule_true : (q : Name) (t : ℕ) (a b : Point) → IsTruePoint W q t a → Rule home now a b → IsTruePoint W q t b
   rule_true q t a b h (takes l at finds to job) =
@@ -234,7 +202,7 @@ module _ (W : World) (w : IsWorld W) (home : Home) (ours : IsHomeIn W home) (now
       stores tt
   rule_true q t a b h (follows l r at alias few to job stores) =
       let (free, name, good) = subst (IsTrueTask W t a.job) at h.task in
-      let is : IsGood W (a.job).name t (Alias r) = subst (IsGood W (a.job).name t) alias good in
+      let is : IsTrueOnce W (a.job).name t (Alias r) = subst (IsTrueOnce W (a.job).name t) alias good in
       let long = longer (a.job).chain l in
       point_true W q t b Seek _ to job
       (record {
@@ -243,7 +211,7 @@ module _ (W : World) (w : IsWorld W) (home : Home) (ours : IsHomeIn W home) (now
         few = omega (arith, long, few);
         searches = subst (AreTrueSearches W (alias_target r) t) (sym free) tt;
       })
-      (subst (AreTrue W) (sym stores) h.stores) free
+      (subst (AreTrueStores W) (sym stores) h.stores) free
   rule_true q t a b h (restarts l d front back at ending split alive dead to job stores) =
       let (free, name, good) = subst (IsTrueTask W t a.job) at h.task in
       point_true W q t b Seek _ to job
@@ -253,12 +221,12 @@ module _ (W : World) (w : IsWorld W) (home : Home) (ours : IsHomeIn W home) (now
         few = front_few (a.job).chain front back l d split (h.job).few;
         searches = tt;
       })
-      (subst (AreTrue W) (sym stores) h.stores) refl
+      (subst (AreTrueStores W) (sym stores) h.stores) refl
   rule_true q t a b h (skips n s u rest failures at searches passes free to job stores) =
       let here : AreTrueSearches W (a.job).name t (s ∷ rest) = subst (AreTrueSearches W (a.job).name t) searches (h.job).searches in
       let there = passes_keep (λ x. AreTrueSearches W (a.job).name t (x ∷ rest)) now (suc n) s (a.stores).failures u failures (λ x e. given_true W (a.job).name t x rest e) passes here in
       point_true W q t b Go _ to job (record { kind = (h.job).kind; leads = (h.job).leads; few = (h.job).few; searches = there })
-      (subst (AreTrue W) (sym stores) (record { cache = (h.stores).cache; cuts = (h.stores).cuts })) tt
+      (subst (AreTrueStores W) (sym stores) (record { cache = (h.stores).cache; cuts = (h.stores).cuts })) tt
   rule_true q t a b h (hears before after rest n l marks at turn finds heard to job) =
       let (name, good, stores) = finds_true n a_type a.stores l b.stores h.stores finds in
       let around : AreTrueSearches W (a.job).name t (before ∷ rest) = subst (AreTrueSearches W (a.job).name t) turn.searches (h.job).searches in
@@ -285,7 +253,7 @@ module _ (W : World) (w : IsWorld W) (home : Home) (ours : IsHomeIn W home) (now
       stores tt
   rule_true q t a b h (gives_up s around rest at up to job stores) =
       let outer : AreTrueSearches W (a.job).name t (s ∷ around ∷ rest) = subst (AreTrueSearches W (a.job).name t) up.searches (h.job).searches in
-      point_true W q t b Go _ to job (record { kind = (h.job).kind; leads = (h.job).leads; few = (h.job).few; searches = outer.2 }) (subst (AreTrue W) (sym stores) h.stores) tt
+      point_true W q t b Go _ to job (record { kind = (h.job).kind; leads = (h.job).leads; few = (h.job).few; searches = outer.2 }) (subst (AreTrueStores W) (sym stores) h.stores) tt
 
   pub rules_true : (q : Name) (t n : ℕ) (a b : Point) → IsTruePoint W q t a → Rules home now n a b → IsTruePoint W q t b
   rules_true q t zero a b h is = subst (IsTruePoint W q t) (sym is) h
@@ -295,7 +263,7 @@ module _ (W : World) (w : IsWorld W) (home : Home) (ours : IsHomeIn W home) (now
 
   -- The link of an honest answer.
   honest_good : (server : Addr) (via : Via) (m : Message) (s : Search) (l : Link) → MayAsk W (bytes_of server) (s.frame).zone s.name → MayServe W (bytes_of server) s.name s.kind m
-      → class_of (s.frame).zone s.name s.kind via m ≡ class.Answer l → IsGood W s.name s.kind (received l)
+      → class_of (s.frame).zone s.name s.kind via m ≡ class.Answer l → IsTrueOnce W s.name s.kind (received l)
   honest_good server via m s l may serve is =
       received_good W s.name s.kind l (record {
         is = honest_answer W (bytes_of server) (s.frame).zone s.name s.kind m l w may serve (answer_read (s.frame).zone s.name s.kind m via l is);
@@ -303,15 +271,15 @@ module _ (W : World) (w : IsWorld W) (home : Home) (ours : IsHomeIn W home) (now
       })
 
   class_true : (q : Name) (t : ℕ) (server : Addr) (via : Via) (m : Message) (s : Search) (rest : List Search) (c : class.Class) (j : Job) (stores : Stores) (p : Point)
-      → class_of (s.frame).zone s.name s.kind via m ≡ c → j.searches ≡ s ∷ rest → IsTrueJob W q t j → AreTrue W stores → IsTold W server m (s ∷ rest)
+      → class_of (s.frame).zone s.name s.kind via m ≡ c → j.searches ≡ s ∷ rest → IsTrueJob W q t j → AreTrueStores W stores → IsTold W server m (s ∷ rest)
       → ByClass now server s rest c j stores p → IsTruePoint W q t p
   class_true q t server via m s [] (class.Answer l) j stores p is searches h all (may, serve) (task, job, learnt) =
       let here : AreTrueSearches W j.name t (s ∷ []) = subst (AreTrueSearches W j.name t) searches h.searches in
       let (frame, (name, kind), more) = here in
       let good = honest_good server via m s l may serve is in
       point_true W q t p _ _ task job (record { kind = h.kind; leads = h.leads; few = h.few; searches = tt })
-      (subst (AreTrue W) (sym learnt.stores) (record { cache = kept_true W stores.cache_cap s.name s.kind (hit_from l now) stores.cache all.cache good; cuts = all.cuts }))
-      (refl, name, subst (λ (x : Name × ℕ). IsGood W x.0 x.1 (received l)) (λ i. (name i, kind i)) good)
+      (subst (AreTrueStores W) (sym learnt.stores) (record { cache = kept_true W stores.cache_cap s.name s.kind (hit_from l now) stores.cache all.cache good; cuts = all.cuts }))
+      (refl, name, subst (λ (x : Name × ℕ). IsTrueOnce W x.0 x.1 (received l)) (λ i. (name i, kind i)) good)
   class_true q t server via m s (around ∷ rest) (class.Answer l) j stores p is searches h all (may, serve) (after, marks, task, learnt, heard, job) =
       let here : AreTrueSearches W j.name t (s ∷ around ∷ rest) = subst (AreTrueSearches W j.name t) searches h.searches in
       let (frame, (member, kind), more) = here in
@@ -323,7 +291,7 @@ module _ (W : World) (w : IsWorld W) (home : Home) (ours : IsHomeIn W home) (now
         few = h.few;
         searches = heard_true p.stores s.name j.name t (received l) around rest j.failed after marks heard member (at_kind s.name s.kind a_type (received l) kind good) more;
       })
-      (subst (AreTrue W) (sym learnt.stores) (record { cache = kept_true W stores.cache_cap s.name s.kind (hit_from l now) stores.cache all.cache good; cuts = all.cuts })) tt
+      (subst (AreTrueStores W) (sym learnt.stores) (record { cache = kept_true W stores.cache_cap s.name s.kind (hit_from l now) stores.cache all.cache good; cuts = all.cuts })) tt
   class_true q t server via m s rest (class.Referral at ns glue ttl) j stores p is searches h all (may, serve) refers =
       let here : AreTrueSearches W j.name t (s ∷ rest) = subst (AreTrueSearches W j.name t) searches h.searches in
       let cut = referral_cut W w (s.frame).zone s.name s.kind via m at ns glue ttl (bytes_of server) may serve is refers.cut refers.is_cut in
@@ -335,21 +303,21 @@ module _ (W : World) (w : IsWorld W) (home : Home) (ours : IsHomeIn W home) (now
         few = h.few;
         searches = anew s rest (opened (level_of stores) (s.frame).nesting refers.cut) (opened_true W s.name (level_of stores) (s.frame).nesting refers.cut begins) here;
       })
-      (subst (AreTrue W) (sym refers.stored) (record { cache = all.cache; cuts = cut_kept_true W stores.delegations_cap ttl now refers.cut stores.delegations all.cuts cut })) tt
+      (subst (AreTrueStores W) (sym refers.stored) (record { cache = all.cache; cuts = cut_kept_true W stores.delegations_cap ttl now refers.cut stores.delegations all.cuts cut })) tt
     where
       anew : (s : Search) (rest : List Search) (f : Frame) → IsTrueFrame W s.name f → AreTrueSearches W j.name t (s ∷ rest) → AreTrueSearches W j.name t (with_frame s f ∷ rest)
       anew s [] f new (frame, wanted, more) = (new, wanted, more)
       anew s (around ∷ rest) f new (frame, wanted, more) = (new, wanted, more)
   class_true q t server via m s rest class.Truncated j stores p is searches h all (may, serve) same =
-      point_true W q t p _ _ (ap (λ (x : Point). x.task) same) (ap (λ (x : Point). x.job) same) h (subst (AreTrue W) (sym (ap (λ (x : Point). x.stores) same)) all)
+      point_true W q t p _ _ (ap (λ (x : Point). x.task) same) (ap (λ (x : Point). x.job) same) h (subst (AreTrueStores W) (sym (ap (λ (x : Point). x.stores) same)) all)
       (subst (MayAskNext W server) (sym searches) may)
   class_true q t server via m s rest (class.Failed f) j stores p is searches h all (may, serve) same =
-      point_true W q t p _ _ (ap (λ (x : Point). x.task) same) (ap (λ (x : Point). x.job) same) h (subst (AreTrue W) (sym (ap (λ (x : Point). x.stores) same)) all) tt
+      point_true W q t p _ _ (ap (λ (x : Point). x.task) same) (ap (λ (x : Point). x.job) same) h (subst (AreTrueStores W) (sym (ap (λ (x : Point). x.stores) same)) all) tt
 
-  at_once : (q : Name) (t : ℕ) (p : Point) (task : Task) (j : Job) (stores : Stores) → p ≡ record { task = task; job = j; stores = stores } → IsTrueJob W q t j → AreTrue W stores → IsTrueTask W t j task → IsTruePoint W q t p
+  at_once : (q : Name) (t : ℕ) (p : Point) (task : Task) (j : Job) (stores : Stores) → p ≡ record { task = task; job = j; stores = stores } → IsTrueJob W q t j → AreTrueStores W stores → IsTrueTask W t j task → IsTruePoint W q t p
   at_once q t p task j stores is h all fact = subst (IsTruePoint W q t) (sym is) (record { job = h; stores = all; task = fact })
 
-  pub enters_true : (q : Name) (t : ℕ) (input : Input) (j : Job) (stores : Stores) (p : Point) → IsTrueInput W j input → IsTrueJob W q t j → AreTrue W stores → Enters now input j stores p → IsTruePoint W q t p
+  pub enters_true : (q : Name) (t : ℕ) (input : Input) (j : Job) (stores : Stores) (p : Point) → IsTrueInput W j input → IsTrueJob W q t j → AreTrueStores W stores → Enters now input j stores p → IsTruePoint W q t p
   enters_true q t Start j stores p input h all is = at_once q t p Seek j stores is h all input
   enters_true q t (Told via server m) j stores p input h all (inl (free, is)) = at_once q t p Go j _ is h (record { cache = all.cache; cuts = all.cuts }) tt
   enters_true q t (Told via server m) j stores p input h all (inr (s, rest, searches, by)) =
@@ -359,14 +327,14 @@ module _ (W : World) (w : IsWorld W) (home : Home) (ours : IsHomeIn W home) (now
 
   -- ---- what goes out
 
-  pub leaves_true : (q : Name) (t : ℕ) (p : Point) (next : Next) (job : Job) (stores : Stores) → IsTruePoint W q t p → Leaves home now p next job stores → IsTrueNext W q t next job × AreTrue W stores
+  pub leaves_true : (q : Name) (t : ℕ) (p : Point) (next : Next) (job : Job) (stores : Stores) → IsTruePoint W q t p → Leaves home now p next job stores → IsTrueNext W q t next job × AreTrueStores W stores
   leaves_true q t p next job stores h (sends server s rest due may is job_is stores_is) =
       let here : AreTrueSearches W (p.job).name t (s ∷ rest) = subst (AreTrueSearches W (p.job).name t) due.searches (h.job).searches in (
         subst (λ (x : Next × Job). IsTrueNext W q t x.0 x.1) (λ i. (sym is i, sym job_is i)) (
           record { search = _; rest = rest; searches = refl; name = refl; kind = refl; may = asks_true W s.name s.frame server here.0 due.known },
           record { kind = (h.job).kind; leads = (h.job).leads; few = (h.job).few; searches = given_true W (p.job).name t s rest here },
         ),
-        subst (AreTrue W) (sym stores_is) h.stores,
+        subst (AreTrueStores W) (sym stores_is) h.stores,
       )
   leaves_true q t p next job stores h (sends_again server s rest due may is job_is stores_is) =
       let may_ask : MayAskNext W server (p.job).searches = subst (IsTrueTask W t p.job) due.task h.task in (
@@ -374,26 +342,26 @@ module _ (W : World) (w : IsWorld W) (home : Home) (ours : IsHomeIn W home) (now
           record { search = s; rest = rest; searches = due.searches; name = refl; kind = refl; may = subst (MayAskNext W server) due.searches may_ask },
           record { kind = (h.job).kind; leads = (h.job).leads; few = (h.job).few; searches = (h.job).searches },
         ),
-        subst (AreTrue W) (sym stores_is) h.stores,
+        subst (AreTrueStores W) (sym stores_is) h.stores,
       )
-  leaves_true q t p next job stores h (refuses c server s rest due refused is stores_is) = (subst (λ (x : Next). IsTrueNext W q t x job) (sym is) tt, subst (AreTrue W) (sym stores_is) h.stores)
-  leaves_true q t p next job stores h (spent s at up is stores_is) = (subst (λ (x : Next). IsTrueNext W q t x job) (sym is) tt, subst (AreTrue W) (sym stores_is) h.stores)
-  leaves_true q t p next job stores h (looked_out s rest n at out is stores_is) = (subst (λ (x : Next). IsTrueNext W q t x job) (sym is) tt, subst (AreTrue W) (sym stores_is) h.stores)
-  leaves_true q t p next job stores h (nowhere at free is stores_is) = (subst (λ (x : Next). IsTrueNext W q t x job) (sym is) tt, subst (AreTrue W) (sym stores_is) h.stores)
-  leaves_true q t p next job stores h (too_long l r at alias many is stores_is) = (subst (λ (x : Next). IsTrueNext W q t x job) (sym is) tt, subst (AreTrue W) (sym stores_is) h.stores)
+  leaves_true q t p next job stores h (refuses c server s rest due refused is stores_is) = (subst (λ (x : Next). IsTrueNext W q t x job) (sym is) tt, subst (AreTrueStores W) (sym stores_is) h.stores)
+  leaves_true q t p next job stores h (spent s at up is stores_is) = (subst (λ (x : Next). IsTrueNext W q t x job) (sym is) tt, subst (AreTrueStores W) (sym stores_is) h.stores)
+  leaves_true q t p next job stores h (looked_out s rest n at out is stores_is) = (subst (λ (x : Next). IsTrueNext W q t x job) (sym is) tt, subst (AreTrueStores W) (sym stores_is) h.stores)
+  leaves_true q t p next job stores h (nowhere at free is stores_is) = (subst (λ (x : Next). IsTrueNext W q t x job) (sym is) tt, subst (AreTrueStores W) (sym stores_is) h.stores)
+  leaves_true q t p next job stores h (too_long l r at alias many is stores_is) = (subst (λ (x : Next). IsTrueNext W q t x job) (sym is) tt, subst (AreTrueStores W) (sym stores_is) h.stores)
   leaves_true q t p next job stores h (done l at ending fresh is stores_is) =
       let (free, name, good) = subst (IsTrueTask W t p.job) at h.task in (
         subst (λ (x : Next). IsTrueNext W q t x job) (sym is) (record { to = (p.job).name; leads = (h.job).leads; few = (h.job).few; ending = ending; good = good }),
-        subst (AreTrue W) (sym stores_is) h.stores,
+        subst (AreTrueStores W) (sym stores_is) h.stores,
       )
 
-  pub advances_true : (q : Name) (t : ℕ) (input : Input) (old : Job) (stores : Stores) (next : Next) (new : Job) (after : Stores) → IsTrueInput W old input → IsTrueJob W q t old → AreTrue W stores
-      → Advances home now input old stores next new after → IsTrueNext W q t next new × AreTrue W after
+  pub advances_true : (q : Name) (t : ℕ) (input : Input) (old : Job) (stores : Stores) (next : Next) (new : Job) (after : Stores) → IsTrueInput W old input → IsTrueJob W q t old → AreTrueStores W stores
+      → Advances home now input old stores next new after → IsTrueNext W q t next new × AreTrueStores W after
   advances_true q t input old stores next new after told h all adv =
       leaves_true q t adv.last next new after (rules_true q t adv.count adv.first adv.last (enters_true q t input old stores adv.first told h all adv.enters) adv.rules) adv.leaves
 
   -- Where memory was wanting on the way.
-  pub stops_true : (input : Input) (old : Job) (stores after : Stores) → IsTrueInput W old input → AreTrue W stores → Stops input now old stores after → AreTrue W after
+  pub stops_true : (input : Input) (old : Job) (stores after : Stores) → IsTrueInput W old input → AreTrueStores W stores → Stops input now old stores after → AreTrueStores W after
   stops_true input old stores after told all stops = record {
     cache = λ k e m. elim (stops.cache (k, e) m) as (λ x. IsTrueEntry W k e.link) [ inl there ↦ all.cache k e there | inr new ↦ entry input told k e new ];
     cuts = λ n k m. elim (stops.delegations (n, k) m) as (λ x. ((k.cut).owner ≡ n) × IsTrueCut W k.cut) [ inl there ↦ all.cuts n k there | inr new ↦ cut input told n k new ];

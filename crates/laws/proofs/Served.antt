@@ -9,7 +9,7 @@ use Rattle.limits.specs.Limits.{tcp_wait}
 use Rattle.resolution.specs.Jobs.{Stores, Job, job_at, wait_of_job, Next, AskUdp, AskTcp, Done, Fail}
 use Rattle.runs.specs.States.{Event, Client, Datagram, TcpReply, Tick, Action, Served, Nobody, Own, OpenQuery, Turn, Plain, ClientQuery, client_query, job_for, ByUdp, ByTcp, IsFor, Open, State, moved}
 use Rattle.runs.specs.States as event
-use Rattle.runs.specs.Steps.{AreOthers, AreWith, Comes, IsAsk, IsOpened, at_once, crowded, admitted, Resolves, IsHandled, IsIgnored, ServesOpen, IsLate, IsTicked, IsStarved, IsTurn, Step}
+use Rattle.runs.specs.Steps.{AreOthers, AreWith, Comes, IsAsk, IsOpened, at_once, crowded, admitted, IsHandled, IsIgnored, ServesOpen, IsTicked, IsTurn, Step}
 use Rattle.laws.specs.Opens.{Call, handled_call, hears_call, either_call, ticked_call, turn_call, step_call}
 use Rattle.laws.proofs.OrderlyLists.{same_number}
 use Rattle.laws.proofs.TimelyOpens.{not_own, not_nobody}
@@ -80,7 +80,7 @@ none_after k old new are q c same = (are.only q c).1 (sym same)
 
 -- ---- each step
 
-handled_calls : (s : State) (client : ℕ) (way : Via) (asked : Request Plain) (served : Served) (out : List Action) (new : State) → (h : IsHandled s client way asked served out new)
+pub handled_calls : (s : State) (client : ℕ) (way : Via) (asked : Request Plain) (served : Served) (out : List Action) (new : State) → (h : IsHandled s client way asked served out new)
     → IsCallOf s served new (handled_call s client way asked served out new h)
 handled_calls s client way request.Drop served out new (is, none, same) = λ q c e. not_own q.number (sym is ∙ e)
 handled_calls s client way (request.Refuse refusal start echo) served out new (is, refuses, same) = λ q c e. not_own q.number (sym is ∙ e)
@@ -98,7 +98,7 @@ handled_calls s client way (request.Query q) served out new (inr (rd, h)) = by h
       λ p c e. comes_after s (client_query client way q) s.opened (s.opened + 1) h.next h.job h.stores out new comes p c (same_number (sym e ∙ is)),
     )
 
-hears_calls : (s : State) (event : Event) (served : Served) (out : List Action) (new : State) → (h : ServesOpen s event served out new) → IsCallOf s served new (hears_call s event served out new h)
+pub hears_calls : (s : State) (event : Event) (served : Served) (out : List Action) (new : State) → (h : ServesOpen s event served out new) → IsCallOf s served new (hears_call s event served out new h)
 hears_calls s event served out new h = (
   subst (λ (v : Served). BeginsWith s v ((h.query).job)) (sym h.served_is) (inl (h.query, (h.serves).stands, refl, refl)),
   λ p c e. comes_after s (h.query).client_query (h.query).number s.opened (h.serves).next (h.serves).job (h.serves).stores out new (h.serves).comes p c (same_number (sym e ∙ h.served_is)),

@@ -15,7 +15,7 @@ use Rattle.wire.specs.declared.via.Via.{Via}
 use Rattle.classify.specs.Classes.{Referral, class_of}
 use Rattle.classify.specs.Laws.{AreServers, AreAddresses}
 use Rattle.classify.proofs.Readings.{referral_read}
-use Rattle.referral.specs.Cuts.{ServerAddress, Cut, Known, IsBest, IsKept, after_best, after_keep}
+use Rattle.referral.specs.Cuts.{Cut, Known, IsBest, IsKept, after_best, after_keep}
 use Rattle.referral.proofs.Members.{looked_members, kept_members}
 use Rattle.std.specs.List.{flat_map}
 use Rattle.lru.proofs.CallerLemmas.{Contains-take}
@@ -33,27 +33,8 @@ use Rattle.classify.specs.Targets.{ns_target as target_names}
 use Rattle.resolution.specs.Jobs.{Home, Stores, ipv4_of, row_of, IsCutOf, hinted, root_cut, bytes_of, AreAddressesOf, cut_from}
 use Rattle.resolution.specs.Rules.{Begins, Misses}
 use Rattle.laws.specs.Headline.{IsHomeIn}
+use Rattle.laws.specs.Truthful.{IsTrueOnce, address_bytes, cut_bytes, IsTrueCut, AreTrueCuts, frame_of, IsTrueFrame}
 use Rattle.laws.proofs.RightLists.{flat_from, only_one}
-use Rattle.laws.proofs.RightEntries.{IsGood}
-
-abbrev pub address_bytes : ServerAddress → Address
-address_bytes s = (s.address).0
-
-abbrev pub cut_bytes : Cut → List Address
-cut_bytes c = map address_bytes c.addresses
-
--- What is so of a cut that may be kept, and of a frame.
-abbrev pub IsTrueCut : World → Cut → Type 0
-IsTrueCut W c = IsDelegation W c.owner c.names (cut_bytes c)
-
-abbrev pub AreTrueCuts : World → List (Name × Known) → Type 0
-AreTrueCuts W es = (n : Name) (k : Known) → Contains es (n, k) → ((k.cut).owner ≡ n) × IsTrueCut W k.cut
-
-abbrev pub frame_of : Frame → truth.Frame
-frame_of f = frame_at f.zone f.names (map bytes_of f.addresses)
-
-abbrev pub IsTrueFrame : World → Name → Frame → Type 0
-IsTrueFrame W q f = IsFrame W q (frame_of f)
 
 abbrev pub BeginsTrue : World → Name → Cut → Type 0
 BeginsTrue W q c = IsFrame W q (frame_at c.owner c.names (cut_bytes c))
@@ -200,7 +181,7 @@ cuts_used_true W q now es all n k m = all n k ((looked_members q now es).0 (n, k
 
 -- ---- addresses that were looked up
 
-module _ (W : World) (w : IsWorld W) (q n : Name) (f : Frame) (frame : IsTrueFrame W q f) (member : Contains f.names n) (set : List Record) (good : IsGood W n a_type (Found set)) (found : List Addr)
+module _ (W : World) (w : IsWorld W) (q n : Name) (f : Frame) (frame : IsTrueFrame W q f) (member : Contains f.names n) (set : List Record) (good : IsTrueOnce W n a_type (Found set)) (found : List Addr)
     (are : AreAddressesOf set found) where
   found_serves : (a : Addr) → Contains found a → Serves W (bytes_of a) f.zone
   found_serves a m =

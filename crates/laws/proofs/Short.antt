@@ -1,5 +1,5 @@
 -- No step takes more than 488 rules: an open query has eight aliases at most, and four searches, one within another.
-use Rattle.std.proofs.Common.{◌≡◌, ℕ, zero, suc, ◌+◌, ◌≤◌, ◌<◌, inl, inr, Option, Some, None, List, [], ◌∷◌, ◌++◌, length, Contains, refl, sym, ap, ◌∙◌, subst, arith, length-append}
+use Rattle.std.proofs.Common.{◌≡◌, ℕ, zero, suc, ◌+◌, ◌≤◌, ◌<◌, inl, inr, Option, Some, None, List, [], ◌∷◌, ◌++◌, length, Contains, refl, sym, ap, ◌∙◌, subst, arith}
 use Rattle.lru.proofs.Splits.{Contains-nil}
 use Rattle.dname.specs.Labels.{Name}
 use Rattle.rdata.specs.declared.addr.Addr.{Addr}
@@ -13,12 +13,12 @@ use Rattle.resolution.specs.Rules.{UsesServerAddress, turned, Rule, takes, asks,
 use Rattle.resolution.proofs.Falls.{rules_end}
 use Rattle.resolution.proofs.Passing.{passes_keep}
 use Rattle.runs.specs.States.{Served, Nobody, Own, OpenQuery, Turn, Open, Site, State, moved}
-use Rattle.runs.specs.Steps.{IsAsk, Step}
+use Rattle.runs.specs.Steps.{IsAsk}
 use Rattle.runs.specs.Runs.{Run}
 use Rattle.laws.specs.Opens.{Call, step_call}
 use Rattle.laws.specs.LookUps.{StepsAreShort}
 use Rattle.laws.proofs.Orders.{IsStep, one_step, run_orderly}
-use Rattle.laws.proofs.Served.{IsNewJob, IsJobOf, BeginsWith, is_ask, IsCallOf, step_calls}
+use Rattle.laws.proofs.Served.{IsNewJob, BeginsWith, is_ask, IsCallOf, step_calls}
 
 -- ---- searches, one within another
 

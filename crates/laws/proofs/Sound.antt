@@ -32,13 +32,13 @@ use Rattle.runs.specs.Steps.{AreOthers, Ends, Waits, Comes, IsAsk, IsOpened, at_
 use Rattle.runs.specs.Runs.{Earlier, GivesOut, Accepts, Came}
 use Rattle.runs.specs.Replies.{IsServedFor}
 use Rattle.laws.specs.Headline.{IsHomeIn, IsRightReply, IsRightAnswer, RepliesAreRight}
+use Rattle.laws.specs.Truthful.{AreTrueStores, IsTrueJob, AsksTruly, IsTrueOpen, HoldsTruth}
 use Rattle.laws.proofs.Actions.{IsNoClient, IsNoQuery, false_not_true, more_is_no_reply, no_action, no_reply_sent, nobody_not_query, one_query, only_action, own_not_query, reply_parts, there}
 use Rattle.laws.proofs.RightLists.{front_in, both_cases, only_one}
-use Rattle.laws.proofs.RightPoints.{IsTrueJob, AreTrue, IsTrueInput, IsTold, AsksTruly, IsTrueNext, advances_true, stops_true}
+use Rattle.laws.proofs.RightPoints.{IsTrueInput, IsTold, IsTrueNext, advances_true, stops_true}
 use Rattle.laws.proofs.Replies.{fail_right, chain_right}
-use Rattle.laws.proofs.RightOpens.{IsTrueOpen, IsSound}
 
-module _ (W : World) (w : IsWorld W) (site : Site) (ours : IsHomeIn W site.home) (t : Turn) (past : List Turn) (s : State) (at : s.site ≡ site) (sound : IsSound W site.port past s)
+module _ (W : World) (w : IsWorld W) (site : Site) (ours : IsHomeIn W site.home) (t : Turn) (past : List Turn) (s : State) (at : s.site ≡ site) (sound : HoldsTruth W site.port past s)
     (honest : (k : ℕ) (a : Ask) (m : Message) → Accepts site.port k a m t past → MayServe W (a.server).0 a.name a.kind m) where
   -- No query but k is served.
   abbrev Only : ℕ → Type 0
@@ -74,8 +74,8 @@ module _ (W : World) (w : IsWorld W) (site : Site) (ours : IsHomeIn W site.home)
   nobody_none is k who now = nobody_not_query k (sym is ∙ now.is_served)
 
   -- Where nothing changed.
-  same_sound : (new : State) → new ≡ s → ((n : ℕ) → t.served ≢ OpenQuery n) → IsSound W site.port (t ∷ past) new
-  same_sound new is none = subst (IsSound W site.port (t ∷ past)) (sym is) (record {
+  same_sound : (new : State) → new ≡ s → ((n : ℕ) → t.served ≢ OpenQuery n) → HoldsTruth W site.port (t ∷ past) new
+  same_sound new is none = subst (HoldsTruth W site.port (t ∷ past)) (sym is) (record {
     stores = sound.stores;
     queries = λ q m. goes_on q m (none q.number);
     numbers = numbers_stay s refl (λ k who now. none k now.is_served);
@@ -84,10 +84,10 @@ module _ (W : World) (w : IsWorld W) (site : Site) (ours : IsHomeIn W site.home)
   others_sound : (k : ℕ) (new : State) → Only k → AreOthers k s.queries new.queries → (q : Open) → Contains new.queries q → IsTrueOpen W site.port (t ∷ past) q
   others_sound k new only others q m = let (old, other) = others.only q m in goes_on q old (only q.number other)
 
-  ends_sound : (who : ClientQuery) (k : ℕ) (o : Outcome Plain) (stores : Stores) (out : List Action) (new : State) → Only k → NoneCame → AreTrue W stores → Ends s who k o stores out new
-      → IsSound W site.port (t ∷ past) new
+  ends_sound : (who : ClientQuery) (k : ℕ) (o : Outcome Plain) (stores : Stores) (out : List Action) (new : State) → Only k → NoneCame → AreTrueStores W stores → Ends s who k o stores out new
+      → HoldsTruth W site.port (t ∷ past) new
   ends_sound who k o stores out new only none all ends = record {
-    stores = subst (AreTrue W) (sym (ap (λ (x : State). x.stores) ends.state)) all;
+    stores = subst (AreTrueStores W) (sym (ap (λ (x : State). x.stores) ends.state)) all;
     queries = others_sound k new only ends.queries;
     numbers = numbers_stay new (ap (λ (x : State). x.opened) ends.state) none;
   }
@@ -102,10 +102,10 @@ module _ (W : World) (w : IsWorld W) (site : Site) (ours : IsHomeIn W site.home)
   waits_sound : (who : ClientQuery) (k opened asked due : ℕ) (job : Job) (ask : Ask) (server : Addr) (n : Name) (u : ℕ) (stores : Stores) (out : List Action) (new : State)
       → IsNumbered who k opened → ((a : Action) → Contains out a → GivesOut t.out a)
       → folded_question (who.query).echo ≡ question_of who.query → AsksTruly W server n u job
-      → IsTrueJob W (who.query).name (type_number (who.query).kind) job → AreTrue W stores → IsFor server n u ask
-      → Waits s (open_query k who job ask due) opened asked stores out new → IsSound W site.port (t ∷ past) new
+      → IsTrueJob W (who.query).name (type_number (who.query).kind) job → AreTrueStores W stores → IsFor server n u ask
+      → Waits s (open_query k who job ask due) opened asked stores out new → HoldsTruth W site.port (t ∷ past) new
   waits_sound who k opened asked due job ask server n u stores out new number out_in echo asks true_job all for waits = record {
-    stores = subst (AreTrue W) (sym (ap (λ (x : State). x.stores) waits.state)) all;
+    stores = subst (AreTrueStores W) (sym (ap (λ (x : State). x.stores) waits.state)) all;
     queries = λ q m. elim ((waits.queries).only q m) as (λ x. IsTrueOpen W site.port (t ∷ past) q) [
       | inl same ↦ subst (IsTrueOpen W site.port (t ∷ past)) (sym same) here
       | inr other ↦ goes_on q other.0 (only_query k number.served q.number other.1)
@@ -132,7 +132,7 @@ module _ (W : World) (w : IsWorld W) (site : Site) (ours : IsHomeIn W site.home)
 
   comes_sound : (who : ClientQuery) (k opened : ℕ) (next : Next) (job : Job) (stores : Stores) (out : List Action) (new : State) → Only k → (IsAsk next → IsNumbered who k opened)
       → ((IsAsk next → ⊥) → NoneCame) → ((a : Action) → Contains out a → GivesOut t.out a) → folded_question (who.query).echo ≡ question_of who.query
-      → IsTrueNext W (who.query).name (type_number (who.query).kind) next job → AreTrue W stores → Comes s who k opened next job stores out new → IsSound W site.port (t ∷ past) new
+      → IsTrueNext W (who.query).name (type_number (who.query).kind) next job → AreTrueStores W stores → Comes s who k opened next job stores out new → HoldsTruth W site.port (t ∷ past) new
   comes_sound who k opened (AskUdp server n u) job stores out new only number none out_in echo (asks, true_job) all h =
       waits_sound who k opened s.tcp_asks (s.clock + wait_of_job job) job h.ask server n u stores out new (number tt) out_in echo asks true_job all h.for h.waits
   comes_sound who k opened (AskTcp server n u) job stores out new only number none out_in echo (asks, true_job) all h =
@@ -196,7 +196,7 @@ module _ (W : World) (w : IsWorld W) (site : Site) (ours : IsHomeIn W site.home)
 
   -- What a step makes: a sound state, and right replies.
   abbrev IsFine : List Action → State → Type 0
-  IsFine out new = IsSound W site.port (t ∷ past) new
+  IsFine out new = HoldsTruth W site.port (t ∷ past) new
       × ((client : ℕ) (way : Via) (bytes : List ℕ) (c : Option Cause) → Contains out (Reply client way bytes c) → IsRightAnswer W t past client way bytes c)
 
   -- A reply that is right for the one query that the step serves.
@@ -308,7 +308,7 @@ module _ (W : World) (w : IsWorld W) (site : Site) (ours : IsHomeIn W site.home)
         start : IsTrueJob W q.name (type_number q.kind) (job_for s.clock q)
         start = record { kind = refl; leads = refl; few = omega arith; searches = tt }
 
-        both : IsTrueNext W q.name (type_number q.kind) h.next h.job × AreTrue W h.stores
+        both : IsTrueNext W q.name (type_number q.kind) h.next h.job × AreTrueStores W h.stores
         both = advances_true W w (s.site).home home_here s.clock q.name (type_number q.kind) Start (job_for s.clock q) s.stores h.next h.job h.stores refl start sound.stores h.advances
 
         fresh : t.served ≡ OpenQuery s.opened → (other : ClientQuery) → Earlier (Came (OpenQuery s.opened) other) (t ∷ past) → other ≡ client_query client way q
@@ -339,27 +339,27 @@ module _ (W : World) (w : IsWorld W) (site : Site) (ours : IsHomeIn W site.home)
         )
 
   -- Out of memory.
-  left_sound : (k : ℕ) (IsOnTheWay : Stores → Type 0) (new : State) → Only k → NoneCame → ((stores : Stores) → IsOnTheWay stores → AreTrue W stores) → IsLeft s k IsOnTheWay new → IsSound W site.port (t ∷ past) new
+  left_sound : (k : ℕ) (IsOnTheWay : Stores → Type 0) (new : State) → Only k → NoneCame → ((stores : Stores) → IsOnTheWay stores → AreTrueStores W stores) → IsLeft s k IsOnTheWay new → HoldsTruth W site.port (t ∷ past) new
   left_sound k IsOnTheWay new only none way h = record {
-    stores = elim h.stores as (λ x. AreTrue W new.stores) [ inl same ↦ subst (AreTrue W) (sym same) sound.stores | inr on ↦ way new.stores on ];
+    stores = elim h.stores as (λ x. AreTrueStores W new.stores) [ inl same ↦ subst (AreTrueStores W) (sym same) sound.stores | inr on ↦ way new.stores on ];
     queries = others_sound k new only h.queries;
     numbers = numbers_stay new (ap (λ (x : State). x.opened) h.state) none;
   }
 
   meant_sound : (event : Event) (q : Open) (new : State) → t.event ≡ event → IsNoClient event → Contains s.queries q → t.served ≡ OpenQuery q.number
-      → IsLeft s q.number (λ stores. (input : Input) × IsInput s event q input × Stops input s.clock q.job s.stores stores) new → IsSound W site.port (t ∷ past) new
+      → IsLeft s q.number (λ stores. (input : Input) × IsInput s event q input × Stops input s.clock q.job s.stores stores) new → HoldsTruth W site.port (t ∷ past) new
   meant_sound event q new is other stands served left = left_sound q.number _ new (only_query q.number served) (no_client event other is)
       (λ stores on. stops_true W w (s.site).home home_here s.clock on.0 q.job s.stores stores (told_true q event on.0 is stands served on.1) sound.stores on.2) left
 
   -- What the start of any work leaves: `Stops` reads nothing of the job then.
-  start_stops : (j : Job) (stores : Stores) → Stops Start s.clock j s.stores stores → AreTrue W stores
+  start_stops : (j : Job) (stores : Stores) → Stops Start s.clock j s.stores stores → AreTrueStores W stores
   start_stops j stores stops = stops_true W w (s.site).home home_here s.clock Start (record j { searches = [] }) s.stores stores refl sound.stores
       (record { cache = stops.cache; cache_lost = stops.cache_lost; delegations = stops.delegations; delegations_lost = stops.delegations_lost; penalties = stops.penalties; cache_cap = stops.cache_cap; delegations_cap = stops.delegations_cap; penalties_cap = stops.penalties_cap; failures = stops.failures; failures_lost = stops.failures_lost; failures_cap = stops.failures_cap })
 
   -- ---- the step
 
   abbrev IsDone : State → Type 0
-  IsDone new = IsSound W site.port (t ∷ past) new × RepliesAreRight W t past
+  IsDone new = HoldsTruth W site.port (t ∷ past) new × RepliesAreRight W t past
 
   fine_done : (out : List Action) (new : State) → t.out ≡ Some out → IsFine out new → IsDone new
   fine_done out new is fine = (fine.0, λ client way bytes c gives. fine.1 client way bytes c (subst (λ (o : Option (List Action)). GivesOut o (Reply client way bytes c)) is gives))
@@ -367,7 +367,7 @@ module _ (W : World) (w : IsWorld W) (site : Site) (ours : IsHomeIn W site.home)
   in_out : (out : List Action) → t.out ≡ Some out → (a : Action) → Contains out a → GivesOut t.out a
   in_out out is a m = subst (λ (o : Option (List Action)). GivesOut o a) (sym is) m
 
-  starved_done : (new : State) → t.out ≡ None → IsSound W site.port (t ∷ past) new → IsDone new
+  starved_done : (new : State) → t.out ≡ None → HoldsTruth W site.port (t ∷ past) new → IsDone new
   starved_done new is h = (h, λ client way bytes c gives. absurd (subst (λ (o : Option (List Action)). GivesOut o (Reply client way bytes c)) is gives))
 
   handled_done : (now client : ℕ) (way : Via) (bytes : List ℕ) (asked : Request Plain) (out : List Action) (new : State) → t.event ≡ Client now client way bytes → t.out ≡ Some out

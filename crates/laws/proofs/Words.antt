@@ -6,6 +6,7 @@ use Rattle.runs.specs.Messages.{IsSent}
 use Rattle.runs.specs.Runs.{Run, asks_in}
 use Rattle.runs.proofs.Clocks.{clock_of_run}
 use Rattle.laws.specs.Words.{drawn, IsByWord, Draws, AreDrawn, WordsInOrder}
+use Rattle.laws.specs.FirstStates.{first_of}
 use Rattle.laws.proofs.Fates.{KeepsWords, Fate, passes, ends, waits, turn_fate}
 use Rattle.laws.proofs.Orders.{reply_counts, own_counts, ask_given, run_orderly}
 
@@ -55,6 +56,11 @@ take_in_order site (t ∷ past) s (old, legal, step) =
     let d = step_draw (of_seed (first_seed site past old legal)) site old t s m here was (turn_fate (moved old t.event) t.event t.served t.out s (run_orderly site past old legal).below step.turn) in
     (d.n, (m, before, d.draws, d.generator), d.generator)
 
+first_is_seeded : (site : Site) (run : List Turn) (s : State) (legal : Run site run s) → (first_of site run s legal).generator ≡ of_seed (first_seed site run s legal)
+unfolding first_seed
+first_is_seeded site [] s new = (new.seeded).1
+first_is_seeded site (t ∷ past) s (old, legal, step) = first_is_seeded site past old legal
+
 pub words_in_order : WordsInOrder
 unfolding drawn_run
-words_in_order site run s legal = let (n, taken, is) = take_in_order site run s legal in (first_seed site run s legal, n, taken)
+words_in_order site run s legal = let (n, taken, is) = take_in_order site run s legal in (first_seed site run s legal, first_is_seeded site run s legal, n, taken)

@@ -19,6 +19,7 @@ use Rattle.cache.specs.Failures.{failed_ask, is_failed}
 use Rattle.frames.specs.Frames.{opened, taken_addresses}
 use Rattle.resolution.specs.Jobs.{Home, Stores, level_of, with_answer, Taken, received_link, AreFresh, IsEnding, IsCutOf, Search, search_at, with_frame, fails_now, next_server, is_server_failure, Job, Input, Told, TimedOut, TcpFailed, Next, AskUdp, AskTcp, Done, Fail, MaySend, Point}
 use Rattle.resolution.specs.Rules.{Says, Begins, Rule, takes, asks, follows, restarts, skips, hears, descends, gives_up, Rules, Leaves, Advances, MayNotSend}
+use Rattle.runs.specs.Steps.{IsAsk}
 
 -- ---- what comes in
 
@@ -134,12 +135,22 @@ pub record StartsSearch (home : Home) (now : ℕ) (n : Name) (t : ℕ) (stores :
   pub is_best : IsBest n now stores.delegations best
   pub begins : Begins home n what best c
 
+-- The search as it was, but for how many addresses of its plan were given out.
+abbrev pub with_given : ℕ → Search → Search
+with_given n s = with_frame s (record s.frame { plan = record { order = ((s.frame).plan).order; given = n } })
+
+abbrev pub IsGivenOf : Search → Search → Type 0
+IsGivenOf s u = (n : ℕ) × (u ≡ with_given n s)
+
 -- A frame opens at the start that the zones at hand and the delegations name, with a plan by the penalties,
--- both as the call leaves them; the plan's first address that did not fail lately is asked, where it has one.
+-- both as the call leaves them; the plan's first address that did not fail lately is asked, where it has one, and then
+-- that frame is the innermost of the job.
 abbrev pub FramesOpenRightly : Type 0
 FramesOpenRightly =
     (home : Home) (now : ℕ) (a b last : Point) (count : ℕ) (next : Next) (new : Job) (after : Stores) (rule : Rule home now a b) (o : Opening)
     → Rules home now count b last → Leaves home now last next new after → opening_of home now a b rule ≡ Some o
     → StartsSearch home now o.name o.kind after o.cut
     × ((rest : List Search) × ((b.job).searches ≡ search_at o.name o.kind (opened (level_of after) o.nesting o.cut) ∷ rest))
-    × ((d : Addr) → next_server now after.failures (search_at o.name o.kind (opened (level_of after) o.nesting o.cut)) ≡ Some d → GoesOut now a.job (AskUdp d o.name o.kind) next)
+    × ((d : Addr) → next_server now after.failures (search_at o.name o.kind (opened (level_of after) o.nesting o.cut)) ≡ Some d
+    → GoesOut now a.job (AskUdp d o.name o.kind) next
+    × (IsAsk next → (sought : Search) × (rest : List Search) × IsGivenOf (search_at o.name o.kind (opened (level_of after) o.nesting o.cut)) sought × (new.searches ≡ sought ∷ rest)))

@@ -1,13 +1,16 @@
 -- To be read: what the words of the contracts mean.
 pub mod Headline
+pub mod Truthful
 pub mod Timely
 pub mod Caused
+pub mod RightAndTimely
 pub mod Spent
 pub mod Failures
 pub mod Laws
 pub mod Replies
 pub mod Searches
 pub mod Times
+pub mod FirstStates
 pub mod Words
 pub mod Calls
 pub mod Steps

@@ -3,7 +3,9 @@
 use Rattle.std.specs.Prelude.{◌≡◌, ◌≢◌, ℕ, zero, suc, ◌+◌, ◌<◌, ◌⊎◌, true, false, Option, Some, None, List, [], ◌∷◌, ◌++◌, length, Contains}
 use Rattle.std.proofs.Common.{inl, inr}
 use Rattle.dname.specs.Labels.{Name}
+use Rattle.message_grammar.specs.Messages.{Message}
 use Rattle.zone.specs.Zones.{a_type}
+use Rattle.zone.specs.Links.{Link}
 use Rattle.wire.specs.declared.via.Via.{Via}
 use Rattle.front.specs.declared.queries.Request.{Request}
 use Rattle.front.specs.declared.queries.Request.TheVariants as request
@@ -14,8 +16,9 @@ use Rattle.cache.specs.Cached.{Hit, is_live, lent, hit_of}
 use Rattle.cache.specs.Cached as cache
 use Rattle.resolution.specs.Jobs.{Home, Stores, Search, Job, Input, Start, Told, TimedOut, TcpFailed, Next, Point, hit_from}
 use Rattle.resolution.specs.Rules.{asked_of, Rule, takes, asks, follows, restarts, skips, hears, descends, gives_up, Rules, Enters, Advances}
-use Rattle.runs.specs.States.{Event, Client, Datagram, TcpReply, Tick, Action, Served, Turn, Plain, Site, State, moved}
+use Rattle.runs.specs.States.{Event, Client, Datagram, TcpReply, Tick, Action, Served, OpenQuery, Turn, Plain, via_of, Open, Site, State, moved}
 use Rattle.runs.specs.States as event
+use Rattle.runs.specs.Messages.{Brings}
 use Rattle.runs.specs.Steps.{IsIgnored, ServesOpen, IsHandled, IsTicked, IsTurn, Step}
 use Rattle.runs.specs.Runs.{Run}
 use Rattle.laws.specs.Uses.{KeptAnswer, is_kept}
@@ -103,6 +106,29 @@ turn_looks s (Tick now) served (Some out) new h = ticked_looks s now served out 
 
 abbrev pub step_looks : (old : State) (t : Turn) (new : State) → Step old t.event t.served t.out new → Looks
 step_looks old t new step = turn_looks (moved old t.event) t.event t.served t.out new step.turn
+
+-- ---- what is accepted is what is kept
+
+-- The step serves this query, whose innermost search is `sought`, and accepts for it a message that answers with this
+-- link.
+pub record AcceptsLink (port : ℕ) (old : State) (t : Turn) (q : Open) (sought : Search) (others : List Search) (l : Link) : Type 0 where
+  pub there : Contains old.queries q
+  pub served : t.served ≡ OpenQuery q.number
+  pub searches : (q.job).searches ≡ sought ∷ others
+  pub message : Message
+  pub brings : Brings port q.ask t.event message
+  pub is_class : class_of (sought.frame).zone sought.name sought.kind (via_of (q.ask).path) message ≡ class.Answer l
+
+abbrev pub kept_of : Search → Link → ℕ → KeptAnswer
+kept_of sought l now = record { name = sought.name; kind = sought.kind; hit = hit_from l now }
+
+-- Where memory was there, a step keeps the answer that it accepts, and no other.
+abbrev pub AcceptedIsLooked : Type 0
+AcceptedIsLooked =
+    (site : Site) (past : List Turn) (old : State) (t : Turn) (new : State) → Run site past old → (step : Step old t.event t.served t.out new) → t.out ≢ None
+    → ((q : Open) (sought : Search) (others : List Search) (l : Link) → AcceptsLink site.port old t q sought others l → (step_looks old t new step).accepted ≡ Some (kept_of sought l (moved old t.event).clock))
+    × ((a : KeptAnswer) → (step_looks old t new step).accepted ≡ Some a
+    → (q : Open) × (sought : Search) × (others : List Search) × (l : Link) × AcceptsLink site.port old t q sought others l × (a ≡ kept_of sought l (moved old t.event).clock))
 
 -- ---- over a run
 

@@ -1,6 +1,6 @@
 -- Whom a step serves and whom it asks, and what an open query shows of the run.
-use Rattle.std.specs.Prelude.{◌≡◌, ℕ, ◌+◌, ◌≤◌, ◌⊎◌, true, false, Option, Some, None, List, [], ◌∷◌, length, Contains}
-use Rattle.limits.specs.Limits.{max_aliases, max_look_ups, query_lifetime, tcp_wait}
+use Rattle.std.specs.Prelude.{◌≡◌, ◌≢◌, ℕ, ◌+◌, ◌≤◌, ◌⊎◌, true, false, Some, None, List, [], ◌∷◌, length, Contains}
+use Rattle.limits.specs.Limits.{max_aliases, query_lifetime, tcp_wait}
 use Rattle.rdata.specs.Records.{Record}
 use Rattle.rdata.specs.Types.{type_number}
 use Rattle.message_grammar.specs.Messages.{Message}
@@ -10,10 +10,10 @@ use Rattle.front.specs.declared.queries.Request.{Request}
 use Rattle.front.specs.declared.queries.Request.TheVariants as request
 use Rattle.front.specs.declared.queries.Outcome.{Outcome}
 use Rattle.cache.specs.Failures.{failed_ask, is_failed}
-use Rattle.runs.specs.States.{Client, Tick, Action, Served, Own, OpenQuery, Turn, Plain, ClientQuery, client_query, recursive, Open, due_moment, Site, State, moved}
-use Rattle.runs.specs.Messages.{Brings, IsReply, IsRefusal}
+use Rattle.runs.specs.States.{Client, Tick, Action, Served, Own, OpenQuery, Turn, Plain, ClientQuery, client_query, recursive, Path, ByUdp, ByTcp, Open, due_moment, Site, State, moved}
+use Rattle.runs.specs.Messages.{Brings, IsSent, IsReply, IsRefusal}
 use Rattle.runs.specs.Steps.{IsMeant, IsOfNumber, Step}
-use Rattle.runs.specs.Runs.{Run, Earlier, Came, clock_of, asks_of}
+use Rattle.runs.specs.Runs.{Run, Earlier, GivesOut, Came, clock_of, asks_of}
 use Rattle.runs.specs.Laws.{IsForTcp}
 use Rattle.laws.specs.Spent.{IsUdpPath, AcceptedAliasesLead}
 use Rattle.laws.specs.LookUps.{look_ups_of}
@@ -22,8 +22,8 @@ use Rattle.laws.specs.LookUps.{look_ups_of}
 
 -- Why an event is for an open query: it brings a message that its ask accepts; it is the end of its ask over TCP; it is a
 -- tick, and the query is due. Where memory was wanting: it names the query's ask.
-abbrev pub IsFor : Site → State → Turn → Open → Type 0
-IsFor site s t q =
+abbrev pub IsForOpenQuery : Site → State → Turn → Open → Type 0
+IsForOpenQuery site s t q =
     ((m : Message) × Brings site.port q.ask t.event m)
     ⊎ (((number : ℕ) × IsOfNumber number q × IsForTcp number t.event)
     ⊎ (((now : ℕ) × (t.event ≡ Tick now) × (due_moment q ≤ s.clock)) ⊎ ((t.out ≡ None) × IsMeant s t.event q)))
@@ -32,7 +32,7 @@ IsFor site s t q =
 abbrev pub ServedIsMeant : Type 0
 ServedIsMeant =
     (site : Site) (past : List Turn) (old : State) (t : Turn) (new : State) → Run site past old → Step old t.event t.served t.out new → (k : ℕ) → t.served ≡ OpenQuery k
-    → ((who : ClientQuery) × Came (OpenQuery k) who t past) ⊎ ((q : Open) × Contains old.queries q × (q.number ≡ k) × IsFor site (moved old t.event) t q)
+    → ((who : ClientQuery) × Came (OpenQuery k) who t past) ⊎ ((q : Open) × Contains old.queries q × (q.number ≡ k) × IsForOpenQuery site (moved old t.event) t q)
 
 -- What is dropped, refused, or asked without RD is over in its own step, with its one reply.
 abbrev pub IsOverAtOnce : ℕ → Via → Request Plain → Served → List Action → Type 0
@@ -57,11 +57,17 @@ NobodyFailingIsAsked =
 
 -- ---- what an open query shows
 
--- In this step the query's ask went out, and it is waited for until `due`: 1,000 or 2,000 milliseconds over UDP, 3,000
--- over TCP.
-abbrev pub AsksUntil : ℕ → ℕ → Turn → List Turn → Type 0
-AsksUntil k due u before =
-    (u.served ≡ OpenQuery k) × ((due ≡ clock_of (u ∷ before) + 1000) ⊎ ((due ≡ clock_of (u ∷ before) + 2000) ⊎ (due ≡ clock_of (u ∷ before) + tcp_wait)))
+-- How long is waited for an ask: 1,000 or 2,000 milliseconds in a datagram, 3,000 on a stream.
+abbrev pub IsWait : Path → ℕ → Type 0
+IsWait (ByUdp sock) wait = (wait ≡ 1000) ⊎ (wait ≡ 2000)
+IsWait (ByTcp number) wait = wait ≡ tcp_wait
+
+-- The query's last step sent the ask that it shows, and this is waited for from there until it is due.
+abbrev pub IsAwaited : ℕ → Open → List Turn → Type 0
+IsAwaited port q [] = ⊥
+IsAwaited port q (t ∷ past) =
+    ((t.served ≡ OpenQuery q.number) × ((action : Action) × GivesOut t.out action × IsSent port q.ask action) × ((wait : ℕ) × IsWait (q.ask).path wait × (q.due ≡ clock_of (t ∷ past) + wait)))
+    ⊎ ((t.served ≢ OpenQuery q.number) × IsAwaited port q past)
 
 -- It came so, ten seconds before its deadline, with RD, and its type is sought; its aliases lead from the asked name to
 -- the one that is sought; its asks and its look-ups are those of the run.
@@ -73,7 +79,7 @@ pub record IsOfRun (site : Site) (run : List Turn) (s : State) (legal : Run site
   pub chain : (aliases : List Record) × (length aliases ≡ length (q.job).chain)
       × AcceptedAliasesLead site.port site.home run (type_number ((q.client_query).query).kind) ((q.client_query).query).name aliases (q.job).name
   pub searches : length (q.job).searches ≤ 4
-  pub due : Earlier (AsksUntil q.number q.due) run
+  pub due : IsAwaited site.port q run
   pub asks : (q.job).asks ≡ asks_of q.number run
   pub look_ups : (q.job).look_ups ≡ look_ups_of q.number site run s legal
 

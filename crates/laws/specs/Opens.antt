@@ -1,6 +1,6 @@
 -- Which frames open in a step, read off its rules; and that each opens at the start of its question, and the first
 -- address of its plan is asked.
-use Rattle.std.specs.Prelude.{◌≡◌, ℕ, zero, suc, ◌≤◌, ◌⊎◌, Option, Some, None, List, length, Contains}
+use Rattle.std.specs.Prelude.{◌≡◌, ℕ, zero, suc, ◌≤◌, ◌⊎◌, Option, Some, None, List, ◌∷◌, length, Contains}
 use Rattle.std.proofs.Common.{inl, inr}
 use Rattle.dname.specs.Labels.{Name}
 use Rattle.rdata.specs.declared.addr.Addr.{Addr}
@@ -11,7 +11,7 @@ use Rattle.front.specs.declared.queries.Request.{Request}
 use Rattle.front.specs.declared.queries.Request.TheVariants as request
 use Rattle.front.specs.declared.queries.Outcome.TheVariants as outcome
 use Rattle.frames.specs.Frames.{opened}
-use Rattle.resolution.specs.Jobs.{Home, Stores, level_of, search_at, next_server, Job, Input, Start, Next, Point}
+use Rattle.resolution.specs.Jobs.{Home, Stores, level_of, Search, search_at, next_server, Job, Input, Start, Next, Point}
 use Rattle.resolution.specs.Rules.{Rules, MayNotSend, Advances}
 use Rattle.runs.specs.States.{Event, Client, Datagram, TcpReply, Tick, Action, Served, OpenQuery, Turn, Plain, ClientQuery, client_query, job_for, IsFor, Open, Site, State, moved}
 use Rattle.runs.specs.States as event
@@ -19,7 +19,7 @@ use Rattle.runs.specs.Messages.{IsSent, IsReply}
 use Rattle.runs.specs.Steps.{most_open, IsHandled, IsIgnored, ServesOpen, IsTicked, IsTurn, Step}
 use Rattle.runs.specs.Runs.{Run}
 use Rattle.laws.specs.Laws.{IsOnlyAction}
-use Rattle.laws.specs.Calls.{Opening, opening_of, StartsSearch}
+use Rattle.laws.specs.Calls.{Opening, opening_of, StartsSearch, IsGivenOf}
 use Rattle.laws.specs.Steps.{IsSentByUdp}
 
 -- The call of a query's work that a step makes: who asked, what came in, and the work before and after.
@@ -100,11 +100,15 @@ pub record MayNot (s : State) (call : Call s) (out : List Action) : Type 0 where
   pub alone : IsOnlyAction action out
 
 -- The frame's cut is where servers of its question are sought first, and its plan's first address that did not fail
--- lately is asked, both by the stores as the step leaves them.
+-- lately is asked, both by the stores as the step leaves them. Where the query waits for that ask, the frame stands with
+-- that plan in its innermost search.
 pub record IsOpenedRightly (site : Site) (s : State) (served : Served) (out : List Action) (new : State) (call : Call s) (frame : Opening) : Type 0 where
   pub start : StartsSearch site.home s.clock frame.name frame.kind new.stores frame.cut
   pub first : (d : Addr) → next_server s.clock (new.stores).failures (search_at frame.name frame.kind (opened (level_of new.stores) frame.nesting frame.cut)) ≡ Some d
       → Goes site served d frame.name frame.kind out new ⊎ MayNot s call out
+  pub stands : (d : Addr) (q : Open) → next_server s.clock (new.stores).failures (search_at frame.name frame.kind (opened (level_of new.stores) frame.nesting frame.cut)) ≡ Some d
+      → Contains new.queries q → served ≡ OpenQuery q.number
+      → (sought : Search) × (rest : List Search) × IsGivenOf (search_at frame.name frame.kind (opened (level_of new.stores) frame.nesting frame.cut)) sought × ((q.job).searches ≡ sought ∷ rest)
 
 -- Each frame that opens in a step of a run.
 abbrev pub FramesOpenInSteps : Type 0

@@ -5,6 +5,7 @@ use Rattle.runs.specs.States.{Action, OpenQuery, Turn, ByUdp, ByTcp, Ask, Site, 
 use Rattle.runs.specs.Messages.{IsSent}
 use Rattle.runs.specs.Steps.{IsInUse, IsRaised}
 use Rattle.runs.specs.Runs.{Run, GivesOut, asks_in}
+use Rattle.laws.specs.FirstStates.{first_of}
 
 -- The generator once so many of its words were taken.
 abbrev pub drawn : ℕ → ChaCha → ChaCha
@@ -30,6 +31,8 @@ abbrev pub AreDrawn : (start : ChaCha) (site : Site) (run : List Turn) (s : Stat
 AreDrawn start site [] s new n = (n ≡ zero) × (s.generator ≡ start)
 AreDrawn start site (t ∷ past) s (old, legal, step) n = (m : ℕ) × AreDrawn start site past old legal m × Draws start site old t m n × (s.generator ≡ drawn n start)
 
--- The words of the seed's stream are taken in order, from its first.
+-- The words of the first state's stream, which is a seed's, are taken in order, from its first.
 abbrev pub WordsInOrder : Type 0
-WordsInOrder = (site : Site) (run : List Turn) (s : State) (legal : Run site run s) → (seed : List ℕ) × (n : ℕ) × AreDrawn (of_seed seed) site run s legal n
+WordsInOrder =
+    (site : Site) (run : List Turn) (s : State) (legal : Run site run s)
+    → (seed : List ℕ) × ((first_of site run s legal).generator ≡ of_seed seed) × (n : ℕ) × AreDrawn (of_seed seed) site run s legal n

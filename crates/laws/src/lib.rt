@@ -2,10 +2,12 @@
 //!
 //! `headline_law`: in a well formed world, as long as each accepted message is one that its server may send, each
 //! reply to a recursive query is a SERVFAIL, or exactly what RFC 1034, section 4.3.2, finds in the zones, or
-//! truncated over UDP. The others have no premise on anyone. `timely_law`: no link is sent beyond its TTL, and
+//! truncated over UDP. `truth_law`: all that is held in such a run is true. `headline_and_timely_law`: right and in time,
+//! in one sentence. The others have no premise on anyone. `timely_law`: no link is sent beyond its TTL, and
 //! every failure has its cause; `every_failure_is_spent`, `failed_is_asked_twice`: no server is left only where all
-//! were asked twice. `discipline_law`, `isolation_law`, `due_law`, `words_law`: one reply and one open ask a query,
-//! in due order, with identifiers of the seed. `meant_law`: whom a step serves, and what an open query shows. `calls_law`, `runs_law`: what is heard is used in its own step.
+//! were asked twice. `discipline_law`, `isolation_law`, `due_law`, `words_law`, `room_law`: one reply and one
+//! open ask a query, in due order, with identifiers of the first state's seed and stores of its room. `meant_law`: whom a
+//! step serves, and what an open query shows. `calls_law`, `runs_law`: what is heard is used in its own step.
 //! `held_law`, `kept_law`: what is held is answered, what is kept is found.
 //!
 //! `engine::Core::step` keeps each of them. docs/DEFINITIONS.md says which definitions a reader has to believe.
@@ -28,6 +30,6 @@ mod timely;
 
 pub use followed::{calls_law, runs_law};
 pub use kept::{held_law, kept_law};
-pub use orderly::{discipline_law, due_law, isolation_law, meant_law, words_law};
-pub use right::headline_law;
+pub use orderly::{discipline_law, due_law, isolation_law, meant_law, room_law, words_law};
+pub use right::{headline_and_timely_law, headline_law, truth_law};
 pub use timely::{every_failure_is_spent, failed_is_asked_twice, timely_law};

@@ -1,6 +1,7 @@
 //! One reply and one open ask: functions that do nothing, whose clauses are proved.
 
 ghost use Rattle.laws.specs.Laws.{OneAction, MoreDueAtTicks, NeverAgain, OneReply, OneComing, OpenByRun, FewAsks, OneLine, OthersStay, DueInOrder};
+ghost use Rattle.laws.specs.FirstStates.{RoomStays};
 ghost use Rattle.laws.specs.LookUps.{FewLookUps, LookUpsAreSpent, StepsAreShort};
 ghost use Rattle.laws.specs.Meant.{ServedIsMeant, AtHandIsReplied, NobodyFailingIsAsked, OpenIsOfRun};
 ghost use Rattle.laws.specs.Times.{NothingIsLate};
@@ -50,8 +51,13 @@ pub fn due_law()
     ensures ticks { MoreDueAtTicks }
 {}
 
-/// The socket and the ID of each ask are those of the first word of the seed's stream that no ask before it
-/// had, words aside that were taken where memory was wanting.
+/// The socket and the ID of each ask are those of the first word of the first state's stream, which is a seed's, that no
+/// ask before it had, words aside that were taken where memory was wanting.
 pub fn words_law()
     ensures { WordsInOrder }
+{}
+
+/// How many entries each store may have is what it was in the first state.
+pub fn room_law()
+    ensures { RoomStays }
 {}

@@ -1,6 +1,8 @@
-//! The theorem as a function that does nothing, whose clause is proved.
+//! The theorem as functions that do nothing, whose clauses are proved.
 
 ghost use Rattle.laws.specs.Headline.{Headline};
+ghost use Rattle.laws.specs.RightAndTimely.{RightAndTimely};
+ghost use Rattle.laws.specs.Truthful.{HeldIsTrue};
 
 /// Every reply is right: in a well formed world whose local zones and hints are the resolver's, and in every run
 /// up to a reply in which each accepted message is one that the asked server may send, that reply, to a recursive
@@ -9,4 +11,17 @@ ghost use Rattle.laws.specs.Headline.{Headline};
 /// than 512 bytes.
 pub fn headline_law()
     ensures { Headline }
+{}
+
+/// The promise in one sentence: such a reply is right, and it is made of links within their time, or fails for a cause
+/// that stands in the run (`timely_law`).
+pub fn headline_and_timely_law()
+    ensures { RightAndTimely }
+{}
+
+/// What the theorem rests on: in such a run all that is held is true. Each entry of the cache is a link of the world,
+/// the servers of each cut that is kept are those of its delegation, those of each open search serve its zone, and the
+/// aliases of each open query are those of its name.
+pub fn truth_law()
+    ensures { HeldIsTrue }
 {}

@@ -44,6 +44,12 @@ const ASK: [u8; 22] = [
     1, 2, 0, 0, 0, 1, 0, 0, 0, 0, 0, 0, 2, b'A', b'b', 1, b'c', 0, 0, 1, 0, 1,
 ];
 
+// The right reply with an A record.
+const WITH_ANSWER: [u8; 38] = [
+    1, 2, 0x84, 0, 0, 1, 0, 1, 0, 0, 0, 0, 2, b'a', b'b', 1, b'c', 0, 0, 1, 0, 1, 0xc0, 12, 0, 1,
+    0, 1, 0, 0, 0, 60, 0, 4, 192, 0, 2, 1,
+];
+
 const REPLIES: [(&str, usize, u8, bool); 13] = [
     ("as it was asked", 2, 0x80, true),
     ("authoritative, truncated, RD", 2, 0x87, true),
@@ -53,22 +59,46 @@ const REPLIES: [(&str, usize, u8, bool); 13] = [
     ("operation 1", 2, 0x88, false),
     ("no question", 5, 0, false),
     ("257 questions", 4, 1, false),
-    ("an answer behind", 7, 1, true),
+    ("an answer that is not there", 7, 1, false),
     ("a small letter", 13, b'a', true),
     ("another letter", 13, b'x', false),
     ("another type", 19, 65, false),
     ("another class", 21, 3, false),
 ];
 
+// The right reply, but for one byte.
+fn reply_with(at: usize, byte: u8) -> [u8; 22] {
+    let mut reply = ASK;
+    reply[2] = 0x80;
+    if at < reply.len() {
+        reply[at] = byte;
+    }
+    reply
+}
+
+// Whether it does without its last byte.
+fn repeats_cut(alloc: Global, reply: &[u8; 22]) -> Result<bool, Starved> {
+    repeats(alloc, &ASK, &reply[..21])
+}
+
 #[test]
 fn a_reply_repeats_its_ask(rt: HostRuntime) -> Result<(), Fail> {
+    let alloc = rt.alloc();
     for (what, at, byte, wanted) in REPLIES {
-        let mut reply = ASK;
-        reply[2] = 0x80;
-        reply[at] = byte;
-        assert_eq!(rt; repeats(&ASK, &reply), wanted, "{what}");
-        assert!(rt; !repeats(&ASK, &reply[..21]), "{what}, cut");
+        let reply = reply_with(at, byte);
+        assert_eq!(rt; repeats(alloc, &ASK, &reply), Ok(wanted), "{what}");
+        assert_eq!(rt; repeats_cut(alloc, &reply), Ok(false), "{what}, cut");
     }
+    assert_eq!(rt;
+        repeats(alloc, &ASK, &WITH_ANSWER),
+        Ok(true),
+        "with an answer"
+    );
+    assert_eq!(rt;
+        repeats(alloc, &ASK[..21], &ASK),
+        Ok(false),
+        "an ask that is no message"
+    );
     Ok(())
 }
 

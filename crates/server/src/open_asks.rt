@@ -47,6 +47,7 @@ pub(crate) struct OpenAsk {
 pub(crate) struct OpenAsks {
     /// The wait for their sockets.
     pub poller: Poller,
+    alloc: Global,
     open: Mutex<Slab<OpenAsk>>,
     most: usize,
     strange: AtomicU64,
@@ -57,6 +58,7 @@ impl OpenAsks {
     pub fn new<R: Net>(rt: &R, alloc: Global) -> io::Result<OpenAsks> {
         Ok(OpenAsks {
             poller: Poller::new(rt)?,
+            alloc,
             open: Mutex::new(Slab::new(alloc)),
             most: most_open(),
             strange: AtomicU64::new(0),
@@ -134,19 +136,20 @@ impl OpenAsks {
         }
     }
 
-    // How many bytes the datagram has that repeats an ask, where one has come. That nobody listens at the server's port
-    // is no reply, since anyone can say so.
+    // How many bytes the datagram has that repeats an ask, where one has come. One that can't be read for want of memory
+    // is lost. That nobody listens at the server's port is no reply, since anyone can say so.
     fn reply_to(&self, ask: &OpenAsk, buffer: &mut [u8]) -> Option<usize>
         ensures { IfSome result (λ n. n ≤ length buffer.new) }
     {
         for _ in 0..DATAGRAMS_IN_A_ROW {
             match ask.socket.recv(buffer) {
-                Ok(count) => {
-                    if repeats(ask.bytes.as_slice(), &buffer[..count]) {
-                        return Some(count);
+                Ok(count) => match repeats(self.alloc, ask.bytes.as_slice(), &buffer[..count]) {
+                    Ok(true) => return Some(count),
+                    Ok(false) => {
+                        self.strange.fetch_add(1, Ordering::SeqCst);
                     }
-                    self.strange.fetch_add(1, Ordering::SeqCst);
-                }
+                    Err(_) => {}
+                },
                 Err(error) if is_early(&error) => return None,
                 Err(_) => {}
             }

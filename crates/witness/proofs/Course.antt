@@ -24,29 +24,29 @@ use Rattle.witness.proofs.Place.{world, world_stands, root_address, may_refer, m
 use Rattle.witness.proofs.Steps.{root_server, lower_server, home, site, query, who, is_asked, stores0, job1, work1, stores2, job2, work2, stores3, job3, work3, last, is_reply}
 
 -- The socket and the ID of an ask by the generator's next word.
-abbrev sock_by : ChaCha → ℕ
+abbrev pub sock_by : ChaCha → ℕ
 sock_by g = socket_of 4 (word_of g)
 
-abbrev id_by : ChaCha → ℕ
+abbrev pub id_by : ChaCha → ℕ
 id_by g = (low_half (word_of g) + 0) % 65536
 
-id_fits : (g : ChaCha) → id_by g < 65536
+pub id_fits : (g : ChaCha) → id_by g < 65536
 id_fits g = omega arith
 
-abbrev ask_by : ChaCha → Addr → Ask
+abbrev pub ask_by : ChaCha → Addr → Ask
 ask_by g server = record { path = ByUdp (sock_by g); server = server; id = id_by g; name = host_name; kind = 1 }
 
-abbrev sending_by : ChaCha → Addr → Action
+abbrev pub sending_by : ChaCha → Addr → Action
 sending_by g server = Send (sock_by g) (endpoint server 53) (encoding (ask_message (id_by g)))
 
-is_sent : (g : ChaCha) (server : Addr) → IsSent 53 (ask_by g server) (sending_by g server)
+pub is_sent : (g : ChaCha) (server : Addr) → IsSent 53 (ask_by g server) (sending_by g server)
 is_sent g server = (encoding (ask_message (id_by g)), (refl, ask_is (id_by g) (id_fits g)), refl)
 
-abbrev state_with : ℕ → Stores → List Open → ℕ → ChaCha → State
+abbrev pub state_with : ℕ → Stores → List Open → ℕ → ChaCha → State
 state_with clock stores queries opened g = record { site = site; clock = clock; stores = stores; queries = queries; opened = opened; tcp_asks = 0; generator = g }
 
 -- An ask by the generator, where no other query than number 0 is open.
-goes : (g : ChaCha) (clock : ℕ) (stores : Stores) (queries : List Open) (opened : ℕ) (server : Addr) → ((q : Open) → Contains queries q → q.number ≡ 0)
+pub goes : (g : ChaCha) (clock : ℕ) (stores : Stores) (queries : List Open) (opened : ℕ) (server : Addr) → ((q : Open) → Contains queries q → q.number ≡ 0)
     → IsUdpAsk (state_with clock stores queries opened g) 0 (ask_by g server)
 goes g clock stores queries opened server all = record {
   sock = sock_by g;
@@ -55,10 +55,10 @@ goes g clock stores queries opened server all = record {
   id = record { steps = 0; is = refl; free = λ used. let (q, m, other, path, to, id) = used in other (all q m); first = λ k less. absurd (omega (arith, less)) };
 }
 
-only_one : {X : Type 0} (a q : X) → Contains (a ∷ []) q → a ≡ q
+pub only_one : {X : Type 0} (a q : X) → Contains (a ∷ []) q → a ≡ q
 only_one a q m = elim (in_cases a q [] m) as (λ x. a ≡ q) [ inl same ↦ same | inr n ↦ absurd (none_in q n) ]
 
-numbered : (a : Open) → a.number ≡ 0 → (q : Open) → Contains (a ∷ []) q → q.number ≡ 0
+pub numbered : (a : Open) → a.number ≡ 0 → (q : Open) → Contains (a ∷ []) q → q.number ≡ 0
 numbered a zero_first q m = subst (λ (x : Open). x.number ≡ 0) (only_one a q m) zero_first
 
 -- What is accepted is what the server said, and to the question that was asked.
@@ -66,7 +66,7 @@ abbrev first_of : List Question → Question
 first_of [] = question
 first_of (q ∷ qs) = q
 
-brought : (sock : ℕ) (server : Addr) (now : ℕ) (bytes : List ℕ) (said : Message) → IsMessage bytes said → said.questions ≡ question ∷ []
+pub brought : (sock : ℕ) (server : Addr) (now : ℕ) (bytes : List ℕ) (said : Message) → IsMessage bytes said → said.questions ≡ question ∷ []
     → MayServe world server.0 host_name 1 said → (a : Ask) (m : Message) → Brings 53 a (Datagram now sock (endpoint server 53) bytes) m
     → MayServe world (a.server).0 a.name a.kind m
 brought sock server now bytes said is asked may a m (path, from, reads, fits) =
@@ -80,55 +80,55 @@ brought sock server now bytes said is asked may a m (path, from, reads, fits) =
     (subst (λ (n : Name). MayServe world (a.server).0 n 1 said) name
     (subst (λ (x : Addr). MayServe world x.0 host_name 1 said) to may)))
 
-at_home : IsHomeIn world home
+pub at_home : IsHomeIn world home
 at_home = record {
   held = λ z. (λ m. absurd (none_in z m), λ h. absurd (none_in z.origin h.1));
   hints = λ a m. subst (λ (x : Addr). Contains world.hints x.0) (only_one root_server a m) (first_in root_address []);
 }
 
 module _ (g : ChaCha) where
-  abbrev next_g : ChaCha
+  abbrev pub next_g : ChaCha
   next_g = word_taken g
 
-  abbrev last_g : ChaCha
+  abbrev pub last_g : ChaCha
   last_g = word_taken next_g
 
-  abbrev open1 : Open
+  abbrev pub open1 : Open
   open1 = open_query 0 who job1 (ask_by g root_server) (wait_of_job job1)
 
-  abbrev open2 : Open
+  abbrev pub open2 : Open
   open2 = open_query 0 who job2 (ask_by next_g lower_server) (20 + wait_of_job job2)
 
-  abbrev state0 : State
+  abbrev pub state0 : State
   state0 = state_with 0 stores0 [] 0 g
 
-  abbrev state1 : State
+  abbrev pub state1 : State
   state1 = state_with 0 stores0 (open1 ∷ []) 1 next_g
 
-  abbrev state2 : State
+  abbrev pub state2 : State
   state2 = state_with 20 stores2 (open2 ∷ []) 1 last_g
 
-  abbrev state3 : State
+  abbrev pub state3 : State
   state3 = state_with 40 stores3 [] 1 last_g
 
-  abbrev turn1 : Turn
+  abbrev pub turn1 : Turn
   turn1 = record { event = Client 0 1 Udp client_bytes; served = OpenQuery 0; out = Some (sending_by g root_server ∷ []) }
 
-  abbrev turn2 : Turn
+  abbrev pub turn2 : Turn
   turn2 = record {
     event = Datagram 20 (sock_by g) (endpoint root_server 53) (encoding (referral_message (id_by g)));
     served = OpenQuery 0;
     out = Some (sending_by next_g lower_server ∷ []);
   }
 
-  abbrev turn3 : Turn
+  abbrev pub turn3 : Turn
   turn3 = record {
     event = Datagram 40 (sock_by next_g) (endpoint lower_server 53) (encoding (answer_message (id_by next_g)));
     served = OpenQuery 0;
     out = Some (Reply 1 Udp (encoding reply_message) None ∷ []);
   }
 
-  step1 : Step state0 turn1.event turn1.served turn1.out state1
+  pub step1 : Step state0 turn1.event turn1.served turn1.out state1
   step1 = record {
     turn = (
       request.Query query,
@@ -158,7 +158,7 @@ module _ (g : ChaCha) where
     apart = (λ p m. absurd (none_in p m), tt);
   }
 
-  step2 : Step state1 turn2.event turn2.served turn2.out state2
+  pub step2 : Step state1 turn2.event turn2.served turn2.out state2
   step2 = record {
     turn = inr (record {
       query = open1;
@@ -192,7 +192,7 @@ module _ (g : ChaCha) where
     apart = (λ p m. absurd (none_in p m), tt);
   }
 
-  step3 : Step state2 turn3.event turn3.served turn3.out state3
+  unfoldable pub step3 : Step state2 turn3.event turn3.served turn3.out state3
   step3 = record {
     turn = inr (record {
       query = open2;
@@ -217,13 +217,13 @@ module _ (g : ChaCha) where
     apart = tt;
   }
 
-  abbrev run : List Turn
+  abbrev pub run : List Turn
   run = turn3 ∷ turn2 ∷ turn1 ∷ []
 
-  asks1 : IsOpenAskOf 53 0 (ask_by g root_server) (turn1 ∷ [])
+  pub asks1 : IsOpenAskOf 53 0 (ask_by g root_server) (turn1 ∷ [])
   asks1 = inl (refl, (sending_by g root_server, first_in (sending_by g root_server) [], is_sent g root_server))
 
-  came : Came (OpenQuery 0) who turn1 []
+  pub came : Came (OpenQuery 0) who turn1 []
   came = record { is_served = refl; moment = 0; bytes = client_bytes; event = refl; reads = is_asked }
 
   accepted : Accepts 53 0 (ask_by g root_server) (referral_message (id_by g)) turn2 (turn1 ∷ [])
@@ -266,7 +266,7 @@ module _ (g : ChaCha) where
     answer = first_in (entry host_name (Ipv4 server_address)) [];
   }
 
-  honest : IsHonest world 53 run
+  pub honest : IsHonest world 53 run
   honest = (
     λ k a m accepts. brought (sock_by next_g) lower_server 40 (encoding (answer_message (id_by next_g))) (answer_message (id_by next_g))
         (answer_is (id_by next_g) (id_fits next_g)) refl (may_answer (id_by next_g)) a m accepts.brings,
@@ -277,7 +277,7 @@ module _ (g : ChaCha) where
     ),
   )
 
-  is_new : (seed : List ℕ) → g ≡ of_seed seed → IsNew site state0
+  pub is_new : (seed : List ℕ) → g ≡ of_seed seed → IsNew site state0
   is_new seed by_seed = record {
     site = refl;
     clock = refl;

@@ -13,10 +13,10 @@ use Rattle.zone.proofs.LawLists.{none_in, first_in, later_in, in_cases}
 use Rattle.zone.proofs.LawReferral.{local_law}
 use Rattle.zone.proofs.LawZones.{soa_at_origin}
 use Rattle.world_truth.specs.Worlds.{Address, Host, World, Serves, IsOrigin, IsParent, IsWorld}
-use Rattle.world_truth.specs.Serving.{AnswersFrom, MayServe}
+use Rattle.world_truth.specs.Serving.{AnswersFrom, Tells, MayServe}
 use Rattle.world_truth.specs.Sample.{lower_name, host_name, server_address, soa_data, entry, root_zone, lower_zone, sample_host, sample}
 use Rattle.world_truth.proofs.Samples.{sample_stands}
-use Rattle.witness.proofs.Talk.{servers, glue, found, referral_message, answer_message}
+use Rattle.witness.proofs.Talk.{servers, glue, found, referral_message, answer_message, cut_message}
 
 abbrev pub root_address : Address
 root_address = 10 ∷ 0 ∷ 0 ∷ 2 ∷ []
@@ -183,5 +183,12 @@ same_found = record { kinds = refl; records = (λ r m. (r, m, (refl, refl)), λ 
 found_owner : (r : Record) → Contains found r → r.owner ≡ host_name
 found_owner r m = each_of (λ (x : Record). x.owner ≡ host_name) found (refl, tt) r m
 
+tells_answer : (id : ℕ) → Tells world server_address host_name 1 (answer_message id)
+tells_answer id = (lower_zone, by_lower, inr (Found found, (refl, refl, (λ r m e. m, λ r m. (m, found_owner r m)), (Found found, finds, same_found))))
+
 pub may_answer : (id : ℕ) → MayServe world server_address host_name 1 (answer_message id)
-may_answer id = inl (lower_zone, by_lower, inr (Found found, (refl, refl, (λ r m e. m, λ r m. (m, found_owner r m)), (Found found, finds, same_found))))
+may_answer id = inl (tells_answer id)
+
+pub may_cut : (id : ℕ) → MayServe world server_address host_name 1 (cut_message id)
+may_cut id =
+    inr (answer_message id, tells_answer id, record { header = refl; answer = λ r m. absurd (none_in r m); authority = λ r m. absurd (none_in r m); additional = λ r m. absurd (none_in r m) })

@@ -117,7 +117,7 @@ stores3 = record stores2 { cache = cache.after_keep 16 host_name 1 (hit_from (Fo
 abbrev pub job3 : Job
 job3 = record job2 { searches = [] }
 
-pub work3 : (id : ℕ) → Advances home 40 (Told Udp lower_server (answer_message id)) job2 stores2 (Done [] last) job3 stores3
+unfoldable pub work3 : (id : ℕ) → Advances home 40 (Told Udp lower_server (answer_message id)) job2 stores2 (Done [] last) job3 stores3
 work3 id = record {
   first = point (Take last) job3 stores3;
   count = 0;

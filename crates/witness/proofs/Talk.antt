@@ -41,6 +41,26 @@ answer_message id = record { header = header id true true false false; questions
 abbrev pub reply_message : Message
 reply_message = record { header = header 7 true false true true; questions = question ∷ []; answer = found; authority = []; additional = [] }
 
+-- A reply of SERVFAIL, what a server says that fails, and a reply from the cache a second later.
+abbrev pub failing : Header → Header
+failing h = record h { rcode = 2 }
+
+abbrev pub failed_reply : Message
+failed_reply = record { header = failing (header 7 true false true true); questions = question ∷ []; answer = []; authority = []; additional = [] }
+
+abbrev pub failure_message : ℕ → Message
+failure_message id = record { header = failing (header id true false false false); questions = question ∷ []; answer = []; authority = []; additional = [] }
+
+-- The answer, cut for want of room in a datagram.
+abbrev pub cut_message : ℕ → Message
+cut_message id = record { header = record (header id true true false false) { tc = true }; questions = question ∷ []; answer = []; authority = []; additional = [] }
+
+abbrev pub younger : List Record
+younger = record (entry host_name (Ipv4 server_address)) { ttl = 299 } ∷ []
+
+abbrev pub later_reply : Message
+later_reply = record { header = header 7 true false true true; questions = question ∷ []; answer = younger; authority = []; additional = [] }
+
 -- ---- their lengths
 
 abbrev pub client_bytes : List ℕ
@@ -65,6 +85,22 @@ answer_long id = refl
 reply_long : length (encoding reply_message) ≡ 37
 unfolding encoding put put_flat
 reply_long = refl
+
+failed_long : length (encoding failed_reply) ≡ 21
+unfolding encoding put put_flat
+failed_long = refl
+
+failure_long : (id : ℕ) → length (encoding (failure_message id)) ≡ 21
+unfolding encoding put put_flat
+failure_long id = refl
+
+cut_long : (id : ℕ) → length (encoding (cut_message id)) ≡ 21
+unfolding encoding put put_flat
+cut_long id = refl
+
+later_long : length (encoding later_reply) ≡ 37
+unfolding encoding put put_flat
+later_long = refl
 
 -- ---- they can be written
 
@@ -120,6 +156,25 @@ answer_writable id fits = record { header = is_header id true true false false f
 reply_writable : IsWritable reply_message
 reply_writable = record { header = is_header 7 true false true true (omega arith); questions = (is_question, tt); answer = (found_record, tt); authority = tt; additional = tt }
 
+is_failing : (id : ℕ) (qr aa rd ra : Bool) → id < 65536 → IsHeader (failing (header id qr aa rd ra))
+is_failing id qr aa rd ra fits = record { id = fits; opcode = omega arith; z = omega arith; rcode = omega arith }
+
+failed_writable : IsWritable failed_reply
+failed_writable = record { header = is_failing 7 true false true true (omega arith); questions = (is_question, tt); answer = tt; authority = tt; additional = tt }
+
+failure_writable : (id : ℕ) → id < 65536 → IsWritable (failure_message id)
+failure_writable id fits = record { header = is_failing id true false false false fits; questions = (is_question, tt); answer = tt; authority = tt; additional = tt }
+
+cut_writable : (id : ℕ) → id < 65536 → IsWritable (cut_message id)
+cut_writable id fits =
+    record { header = record { id = fits; opcode = omega arith; z = omega arith; rcode = omega arith }; questions = (is_question, tt); answer = tt; authority = tt; additional = tt }
+
+younger_record : IsRecord (record (entry host_name (Ipv4 server_address)) { ttl = 299 })
+younger_record = record { owner = host_is_name; ttl = omega arith; fits = refl; names = tt }
+
+later_writable : IsWritable later_reply
+later_writable = record { header = is_header 7 true false true true (omega arith); questions = (is_question, tt); answer = (younger_record, tt); authority = tt; additional = tt }
+
 -- ---- the bytes are the messages
 
 pub client_is : IsMessage client_bytes client_message
@@ -145,3 +200,15 @@ answer_is id fits = encoding_holds (answer_message id) (answer_writable id fits)
 
 pub reply_is : IsMessage (encoding reply_message) reply_message
 reply_is = encoding_holds reply_message reply_writable (let e = reply_long in omega (arith, e))
+
+pub failed_is : IsMessage (encoding failed_reply) failed_reply
+failed_is = encoding_holds failed_reply failed_writable (let e = failed_long in omega (arith, e))
+
+pub failure_is : (id : ℕ) → id < 65536 → IsMessage (encoding (failure_message id)) (failure_message id)
+failure_is id fits = encoding_holds (failure_message id) (failure_writable id fits) (let e = failure_long id in omega (arith, e))
+
+pub cut_is : (id : ℕ) → id < 65536 → IsMessage (encoding (cut_message id)) (cut_message id)
+cut_is id fits = encoding_holds (cut_message id) (cut_writable id fits) (let e = cut_long id in omega (arith, e))
+
+pub later_is : IsMessage (encoding later_reply) later_reply
+later_is = encoding_holds later_reply later_writable (let e = later_long in omega (arith, e))

@@ -1,15 +1,29 @@
--- The premises of the laws over runs can be met, by a run in which a referral is followed and a query answered.
-use Rattle.std.specs.Prelude.{◌≡◌, ℕ, true, None, List, [], ◌∷◌, Contains}
+-- The premises of the laws over runs can be met: by a run in which a referral is followed and a query answered, by one
+-- in which servers are silent, one in which a server fails, one in which memory is refused, one in which the cache
+-- answers, and one that goes on over TCP.
+use Rattle.std.specs.Prelude.{◌≡◌, ◌≢◌, ℕ, ◌<◌, true, Some, None, List, [], ◌∷◌, ◌++◌, Contains}
 use Rattle.dname.specs.Labels.{Name, root}
 use Rattle.rdata.specs.Data.{Ipv4}
 use Rattle.rdata.specs.Records.{Record}
+use Rattle.rdata.specs.Types.{type_number}
 use Rattle.message_grammar.specs.Messages.{Message, IsMessage}
+use Rattle.wire.specs.declared.via.Via.{Via}
+use Rattle.causes.specs.declared.cause.Cause.{Cause}
+use Rattle.causes.specs.declared.cause.Cause.TheVariants.{NoServerLeft, KnownFailure}
+use Rattle.front.specs.Queries.{IsRequest}
+use Rattle.front.specs.declared.queries.Request.TheVariants as request
+use Rattle.front.specs.declared.queries.Query.{Query}
+use Rattle.cache.specs.Cached.{is_live}
+use Rattle.resolution.specs.Jobs.{Taken}
 use Rattle.classify.specs.Classes.{Referral, class_of}
 use Rattle.world_truth.specs.Worlds.{World, IsWorld}
-use Rattle.runs.specs.States.{Action, Reply, OpenQuery, Turn, ClientQuery, recursive, Ask, Site, State, via_of}
+use Rattle.runs.specs.States.{Client, TcpReply, Tick, Action, Reply, Own, OpenQuery, Turn, Plain, ClientQuery, recursive, ByTcp, Ask, Site, State, via_of}
 use Rattle.runs.specs.Messages.{IsSent}
 use Rattle.runs.specs.Runs.{Run, GivesOut, Accepts, Came}
 use Rattle.laws.specs.Headline.{IsHonest, IsHomeIn}
+use Rattle.laws.specs.Held.{IsHeldChain}
+use Rattle.laws.specs.Uses.{KeptAnswer}
+use Rattle.laws.specs.Looks.{IsKeptSince, IsOnlyLiveEntry}
 
 -- A step accepts a referral for the open ask of query k, and asks a server whose address the referral gives
 -- the same question (RFC 1034, sections 4.3.2, step 3b, and 5.3.3, step 4b).
@@ -61,3 +75,120 @@ pub record AreMet (W : World) (site : Site) (run : List Turn) (s : State) : Type
 -- It is met by a run in which a referral is followed and an answer given: the laws are not empty.
 abbrev pub LawsStand : Type 0
 LawsStand = (W : World) × (site : Site) × (run : List Turn) × (s : State) × AreMet W site run s × IsAnsweredByReferral site.port run
+
+-- ---- failures
+
+-- A step replies to query k with SERVFAIL, for this cause.
+pub record FailsFor (c : Cause) (k : ℕ) (who : ClientQuery) (t : Turn) : Type 0 where
+  pub served : t.served ≡ OpenQuery k
+  pub bytes : List ℕ
+  pub gives : GivesOut t.out (Reply who.client who.way bytes (Some c))
+
+-- The steps are a query and ticks of the clock: no server says anything. The last tick says that no server is left.
+abbrev pub AreTicks : List Turn → Type 0
+AreTicks [] = Unit {0}
+AreTicks (t ∷ ts) = ((now : ℕ) × (t.event ≡ Tick now)) × AreTicks ts
+
+pub record IsSilence (run : List Turn) : Type 0 where
+  pub k : ℕ
+  pub who : ClientQuery
+  pub last : Turn
+  pub between : List Turn
+  pub first : Turn
+  pub run_is : run ≡ (last ∷ between) ++ first ∷ []
+  pub came : Came (OpenQuery k) who first []
+  pub ticks : AreTicks (last ∷ between)
+  pub fails : FailsFor NoServerLeft k who last
+
+-- Nobody lies in such a run.
+abbrev pub SilenceStands : Type 0
+SilenceStands = (W : World) × (site : Site) × (run : List Turn) × (s : State) × AreMet W site run s × IsSilence run
+
+-- A server says SERVFAIL, and the query fails in that step, since that server is not asked again and there is no other.
+pub record IsKnownFailure (port : ℕ) (run : List Turn) : Type 0 where
+  pub k : ℕ
+  pub who : ClientQuery
+  pub second : Turn
+  pub first : Turn
+  pub run_is : run ≡ second ∷ first ∷ []
+  pub came : Came (OpenQuery k) who first []
+  pub ask : Ask
+  pub message : Message
+  pub accepts : Accepts port k ask message second (first ∷ [])
+  pub rcode : (message.header).rcode ≡ 2
+  pub fails : FailsFor KnownFailure k who second
+
+abbrev pub KnownFailureStands : Type 0
+KnownFailureStands = (site : Site) × (run : List Turn) × (s : State) × Run site run s × IsKnownFailure site.port run
+
+-- ---- memory
+
+-- The last step of the run is refused its memory.
+abbrev pub EndsStarved : List Turn → Type 0
+EndsStarved [] = ⊥
+EndsStarved (t ∷ past) = (t.out ≡ None) × (past ≢ [])
+
+abbrev pub StarvedStands : Type 0
+StarvedStands = (W : World) × (site : Site) × (run : List Turn) × (s : State) × AreMet W site run s × EndsStarved run
+
+-- ---- the cache
+
+-- After an answer was accepted the same question comes again, and is answered in its own step, from the cache: what
+-- `HeldIsReplied` and `KeptIsFound` ask for is met.
+pub record IsHeldLater (site : Site) (run : List Turn) (s : State) (legal : Run site run s) : Type 0 where
+  pub last : Turn
+  pub past : List Turn
+  pub run_is : run ≡ last ∷ past
+  pub now : ℕ
+  pub client : ℕ
+  pub way : Via
+  pub bytes : List ℕ
+  pub event : last.event ≡ Client now client way bytes
+  pub query : Query Plain
+  pub reads : IsRequest bytes (request.Query query)
+  pub recursive_is : recursive query ≡ true
+  pub served : last.served ≡ Own
+  pub replied : List ℕ
+  pub gives : GivesOut last.out (Reply client way replied None)
+  pub end : Taken
+  pub held : IsHeldChain site.home now (type_number query.kind) (s.stores).cache query.name [] end
+  pub kept : KeptAnswer
+  pub count : ℕ
+  pub since : IsKeptSince site kept run s legal count
+  pub room : count < (s.stores).cache_cap
+  pub lasting : (kept.hit).ttl ≢ 0
+  pub lives : is_live now kept.hit ≡ true
+  pub only : IsOnlyLiveEntry now kept (s.stores).cache
+
+abbrev pub CacheStands : Type 0
+CacheStands = (W : World) × (site : Site) × (run : List Turn) × (s : State) × (met : AreMet W site run s) × IsHeldLater site run s met.leads
+
+-- ---- streams
+
+-- A reply that is accepted for the ask is truncated, so the same is asked over TCP, and the reply that comes there is
+-- answered with (RFC 1035, section 4.2.1).
+pub record IsAnsweredOverTcp (port : ℕ) (run : List Turn) : Type 0 where
+  pub k : ℕ
+  pub who : ClientQuery
+  pub last : Turn
+  pub cut : Turn
+  pub past : List Turn
+  pub run_is : run ≡ last ∷ cut ∷ past
+  pub ask : Ask
+  pub message : Message
+  pub accepts : Accepts port k ask message cut past
+  pub truncated : (message.header).tc ≡ true
+  pub again : Ask
+  pub number : ℕ
+  pub path : again.path ≡ ByTcp number
+  pub same : (again.server ≡ ask.server) × (again.name ≡ ask.name) × (again.kind ≡ ask.kind)
+  pub action : Action
+  pub gives : GivesOut cut.out action
+  pub sent : IsSent port again action
+  pub moment : ℕ
+  pub bytes : List ℕ
+  pub event : last.event ≡ TcpReply moment number bytes
+  pub replies : RepliesWithRecord k who last (cut ∷ past)
+
+abbrev pub StreamStands : Type 0
+StreamStands = (W : World) × (site : Site) × (run : List Turn) × (s : State) × AreMet W site run s × IsAnsweredOverTcp site.port run

@@ -2,9 +2,10 @@
 //! runs.
 //!
 //! `LawsStand` has a well formed world, a site, and an honest run from a new resolver: a client asks, the server of
-//! the root refers the resolver to another, and that one's answer goes to the client.
+//! the root refers the resolver to another, and that one's answer goes to the client. In others servers are silent, a
+//! server fails, memory is refused, the cache answers, and an answer comes over TCP.
 //!
-//! Promised: there is such a run (`laws_stand`), so that no law of `laws` is of nothing.
+//! Promised: there are such runs (`laws_stand`), so that no law of `laws` is of nothing.
 //! Not here: the laws themselves (`laws`).
 //!
 //! ```text

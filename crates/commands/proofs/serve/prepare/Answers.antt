@@ -8,7 +8,7 @@ use Rattle.commands.proofs.serve.prepare.Goals as goal
 
 pub returns-in-Ok-clause-ok : goal.returns-in-Ok-clause-ok
 returns-in-Ok-clause-ok g c =
-    IfOk-weaker c.prepare_with.result _ _ (λ p h. (record { config = c.in-Ok.config; is = c.in-Ok.ensures; listens = h.0 }, record { config = c.in-Ok.config; reads = c.in-Ok.ensures; is = h.2 })) c.prepare_with.ensures.ok
+    IfOk-weaker c.prepare_with.result _ _ (λ p h. (record { config = c.in-Ok.config; is = c.in-Ok.ensures; listens = h.0 }, record { config = c.in-Ok.config; reads = c.in-Ok.ensures; is = h.1 })) c.prepare_with.ensures.ok
 
 pub returns-in-Ok-clause-err : goal.returns-in-Ok-clause-err
 returns-in-Ok-clause-err g c =

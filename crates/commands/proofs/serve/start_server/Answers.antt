@@ -11,3 +11,6 @@ returns-in-Ok-None-clause-run g c = (Err (Unreadable c.args.path), inl (refl, rw
 
 pub returns-in-Err-clause-run : goal.returns-in-Err-clause-run
 returns-in-Err-clause-run g c = (Err Memory, inl tt, (c.no_server-in-Err.ensures.reported, refl))
+
+pub returns-in-Ok-Some-clause-starts : goal.returns-in-Ok-Some-clause-starts
+returns-in-Ok-Some-clause-starts g c = rw c.text.ensures.keeps at c.serve_text.ensures.starts
