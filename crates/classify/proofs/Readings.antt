@@ -1,6 +1,6 @@
 -- Each line of the table uses a message as the RFCs read it: the class of each is followed once, from the
 -- last line to the first.
-use Rattle.std.proofs.Common.{◌≡◌, ◌≢◌, ℕ, ◌<◌, ◌≤◌, Bool, true, false, ◌&&◌, ◌||◌, not, cond, nat_eq, ◌⊎◌, inl, inr, Option, Some, None, List, [], ◌∷◌, length, take, refl, sym, ◌∙◌, ap, subst, eqb-true, eq-eqb}
+use Rattle.std.proofs.Common.{◌≡◌, ◌≢◌, ℕ, Bool, true, false, ◌&&◌, ◌||◌, not, cond, nat_eq, ◌⊎◌, inl, inr, Option, Some, None, List, [], ◌∷◌, take, refl, sym, ◌∙◌, ap, subst, eqb-true, eq-eqb}
 use Rattle.std.specs.Prelude.{Contains, filter}
 use Rattle.std.specs.List.{list_any}
 use Rattle.std.proofs.lemmas.Bool.{and_parts, and_from, both_ways, not-true}
@@ -18,7 +18,7 @@ use Rattle.wire.specs.declared.via.Via.{Via}
 use Rattle.wire.specs.declared.via.Via.TheVariants.{Udp, Tcp}
 use Rattle.zone.specs.Zones.{a_type, ns_type, cname_type, soa_type}
 use Rattle.zone.specs.Links.{Link, Found, Alias, NoData, NxDomain}
-use Rattle.zone.specs.Same.{Same, Has}
+use Rattle.zone.specs.Same.{Same}
 use Rattle.zone.proofs.LawLists.{any_from, any_of, filter_of, filter_in}
 use Rattle.world_truth.specs.Worlds.{Address}
 use Rattle.world_truth.specs.Reading.{IsIn, HasNo, IsFirst, IsDenied, Reads, IsAnswer, IsReferralTo, NamesServer, GivesAddress}

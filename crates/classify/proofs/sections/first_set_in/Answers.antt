@@ -1,4 +1,4 @@
-use Rattle.std.proofs.Common.{◌∙◌, List, take, ap}
+use Rattle.std.proofs.Common.{◌∙◌, List, ap}
 use Rattle.rdata.specs.Records.{Record}
 use Rattle.rdata.specs.Selected.{is_at, records_at}
 use Rattle.rdata.specs.Sets.{one_set}
