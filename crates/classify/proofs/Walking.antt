@@ -54,13 +54,13 @@ module _ {X : Type 0} (p : X → Bool) where
       let all = chosen_all whole front xs so_far none in
       sym (take_all n front few) ∙ ap (take n) all
 
+  one_few : (x : X) (ys xs : List X) (b : Bool) → length ys ≤ length xs → length (cond b (x ∷ ys) ys) ≤ length (x ∷ xs)
+  one_few x ys xs true few = omega (arith, few)
+  one_few x ys xs false few = omega (arith, few)
+
   pub filter_few : (xs : List X) → length (filter p xs) ≤ length xs
   filter_few [] = omega arith
-  filter_few (x ∷ xs) = by (p x)
-    where
-      by : (b : Bool) → length (cond b (x ∷ filter p xs) (filter p xs)) ≤ length (x ∷ xs)
-      by true = let few = filter_few xs in omega (arith, few)
-      by false = let few = filter_few xs in omega (arith, few)
+  filter_few (x ∷ xs) = one_few x (filter p xs) xs (p x) (filter_few xs)
 
   first_one : (n : ℕ) (x : X) (ys : List X) (b : Bool) → p x ≡ b → filter p (take n ys) ≡ take n ys → filter p (take (suc n) ys) ≡ take (suc n) ys
       → filter p (take (suc n) (cond b (x ∷ ys) ys)) ≡ take (suc n) (cond b (x ∷ ys) ys)
