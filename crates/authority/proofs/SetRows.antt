@@ -3,16 +3,15 @@ use Rattle.std.proofs.Common.{◌≡◌, ℕ, ◌+◌, ◌<◌, Bool, true, fals
 use Rattle.std.specs.Prelude.{Contains}
 use Rattle.std.specs.List.{list_any}
 use Rattle.std.proofs.lemmas.Bool.{and_parts}
-use Rattle.std.proofs.lemmas.List.{map-append}
+use Rattle.std.proofs.lemmas.List.{map-append, length-map}
 use Rattle.dname.specs.Labels.{star}
 use Rattle.dname.specs.Laws.{same_name-exact}
 use Rattle.rdata.specs.Data.{Datum, type_of, same_data}
 use Rattle.rdata.specs.Gathering.{has_datum, add_datum}
 use Rattle.rdata.specs.Kept.{datum}
 use Rattle.rdata.specs.Records.{Record}
-use Rattle.rdata.specs.Rows.{rows}
+use Rattle.rdata.specs.Rows.{plain_row, plain_rows}
 use Rattle.rdata.specs.declared.data.RData.{RData}
-use Rattle.rdata.proofs.SetRows.{plain_row, of_data}
 use Rattle.zone.specs.Tree.{has_under}
 use Rattle.zone.specs.Zones.{Zone}
 use Rattle.zone.specs.declared.tree.Stand.{Stand}
@@ -74,21 +73,24 @@ module _ (p : Record → Bool) where
   no_set q rs e = ap (λ (xs : List Record). firsts (map (with_owner q) xs)) (sym (none_pass rs (sym e)))
 
   -- The set.
-  pub set_is : {H : Type 0} (q : List (List ℕ)) (rs : List Record) (f : Record) (vs : List (RData H)) → HaveTtl f.ttl (filter p rs) → map datum vs ≡ values_of (filter p rs)
-      → rows q f.ttl vs ≡ firsts (map (with_owner q) (filter p rs))
-  set_is q rs f vs h e = of_data q f.ttl vs ∙ (ap (map (plain_row q f.ttl)) e ∙ all_rows q f.ttl [] (filter p rs) h)
+  pub set_is : (q : List (List ℕ)) (rs : List Record) (f : Record) (ds : List Datum) → HaveTtl f.ttl (filter p rs) → ds ≡ values_of (filter p rs)
+      → plain_rows q f.ttl ds ≡ firsts (map (with_owner q) (filter p rs))
+  set_is q rs f ds h e = ap (map (plain_row q f.ttl)) e ∙ all_rows q f.ttl [] (filter p rs) h
 
-  filled : {H : Type 0} (q : List (List ℕ)) (t : ℕ) (xs : List Record) (vs : List (RData H)) → (xs ≡ [] → ⊥) → rows q t vs ≡ firsts (map (with_owner q) xs) → 0 < length vs
+  filled : (q : List (List ℕ)) (t : ℕ) (xs : List Record) (ds : List Datum) → (xs ≡ [] → ⊥) → plain_rows q t ds ≡ firsts (map (with_owner q) xs) → 0 < length ds
   filled q t xs [] h e = absurd (h (none_picked q xs (sym e)))
-  filled q t xs (v ∷ vs) h e = omega arith
+  filled q t xs (d ∷ ds) h e = omega arith
 
   pub is_filled : {H : Type 0} (q : List (List ℕ)) (rs : List Record) (f : Record) (vs : List (RData H)) → HaveTtl f.ttl (filter p rs) → Some f ≡ find p rs → map datum vs ≡ values_of (filter p rs) → 0 < length vs
-  is_filled q rs f vs h ef e = filled q f.ttl (filter p rs) vs (some_pass rs f (sym ef)) (set_is q rs f vs h e)
+  is_filled q rs f vs h ef e =
+      let many : length (map datum vs) ≡ length vs = length-map vs datum in
+      let some : 0 < length (map datum vs) = filled q f.ttl (filter p rs) (map datum vs) (some_pass rs f (sym ef)) (set_is q rs f (map datum vs) h e) in
+      omega (arith, many, some)
 
   -- The same of a set whose owner and TTL are copies.
-  pub named_set : {H : Type 0} (q : List (List ℕ)) (rs : List Record) (f : Record) (o : List (List ℕ)) (t : ℕ) (vs : List (RData H)) → o ≡ q → t ≡ f.ttl → HaveTtl f.ttl (filter p rs)
-      → map datum vs ≡ values_of (filter p rs) → rows o t vs ≡ firsts (map (with_owner q) (filter p rs))
-  named_set q rs f o t vs eo et h e = (λ i. rows (eo i) (et i) vs) ∙ set_is q rs f vs h e
+  pub named_set : (q : List (List ℕ)) (rs : List Record) (f : Record) (o : List (List ℕ)) (t : ℕ) (ds : List Datum) → o ≡ q → t ≡ f.ttl → HaveTtl f.ttl (filter p rs)
+      → ds ≡ values_of (filter p rs) → plain_rows o t ds ≡ firsts (map (with_owner q) (filter p rs))
+  named_set q rs f o t ds eo et h e = (λ i. plain_rows (eo i) (et i) ds) ∙ set_is q rs f ds h e
 
   -- A step of the walk over the records.
   pub value_more : (rs : List Record) (old new : List Datum) (i : ℕ) (r : Record) (d : Datum) (b : Bool) → i < length rs → r ≡ get_or rs i r → b ≡ p r → d ≡ r.value → old ≡ values_of (filter p (take i rs))
@@ -96,9 +98,10 @@ module _ (p : Record → Bool) where
   value_more rs old new i r d b lt at_i eb ed eo en =
       fold_more add_value p [] rs old new i r b lt at_i eo eb (en ∙ ap (λ (e : Datum). cond b (add_datum old e) old) ed)
 
-pub some_rows : {H : Type 0} (q : List (List ℕ)) (t : ℕ) (vs : List (RData H)) → 0 < length vs → rows q t vs ≡ [] → ⊥
-some_rows q t [] h e = omega (arith, h)
-some_rows q t (v ∷ vs) h e = cc
+pub some_rows : {H : Type 0} (q : List (List ℕ)) (t : ℕ) (vs : List (RData H)) (ds : List Datum) → 0 < length vs → ds ≡ map datum vs → plain_rows q t ds ≡ [] → ⊥
+some_rows q t [] ds h e none = omega (arith, h)
+some_rows q t (v ∷ vs) [] h e none = cc
+some_rows q t (v ∷ vs) (d ∷ ds) h e none = cc
 
 -- All of a type at a name have the TTL of the first.
 pub timed_picked : (n : List (List ℕ)) (t : ℕ) (z : Zone) (f : Record) → HasOneTtl z → Some f ≡ find (is_picked n t) z.records → HaveTtl f.ttl (filter (is_picked n t) z.records)

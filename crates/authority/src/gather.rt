@@ -9,7 +9,7 @@ ghost use Rattle.authority.specs.Values.{values_of, HaveOneTtl};
 
 use crate::plain::{Whose, answers, first_of};
 use dname::{Heap, Name, Starved};
-use rdata::{RData, RType, Record, RecordSet, Records, put_once};
+use rdata::{RData, RType, Record, RecordSet, Records, Values, put_once};
 use std::collections::BTreeSet;
 
 pub(crate) fn owned_by<A: Heap>(owner: &Name<A>, rr: &Record<A>) -> Result<Record<A>, Starved>
@@ -58,7 +58,8 @@ pub(crate) fn gathered<A: Heap>(
     match first_of(records, name, whose, kind) {
         None => Ok(None),
         Some(first) => {
-            let values = values_of(alloc, records, kind, name, whose)?;
+            let items = values_of(alloc, records, kind, name, whose)?;
+            let values = Values::new(alloc, items)?;
             Ok(Some(RecordSet {
                 owner: owner.clone()?,
                 ttl: first.ttl,

@@ -14,7 +14,7 @@ use crate::answer::Link;
 use crate::gather::owned_by;
 use crate::plain::is_kind;
 use dname::{Heap, Name, Starved};
-use rdata::{RData, RType, Record, RecordSet, put_once};
+use rdata::{RData, RType, Record, RecordSet, Values, put_once};
 use std::alloc::Allocator;
 use std::collections::BTreeSet;
 use zone::Held;
@@ -52,7 +52,8 @@ pub(crate) fn set_of<A: Heap>(
     match first_of(held, kind) {
         None => Ok(None),
         Some(first) => {
-            let values = values_of(alloc, held, kind)?;
+            let items = values_of(alloc, held, kind)?;
+            let values = Values::new(alloc, items)?;
             Ok(Some(RecordSet {
                 owner: owner.clone()?,
                 ttl: first.ttl,

@@ -1,5 +1,5 @@
 -- What the steps on links as they lie in memory are on the links that they stand for.
-use Rattle.std.proofs.Common.{◌≡◌, ℕ, ◌<◌, Bool, true, false, List, [], ◌∷◌, map, length, get_or, Some, None, refl, sym, ap, ◌∙◌, arith}
+use Rattle.std.proofs.Common.{◌≡◌, ℕ, ◌<◌, Bool, true, false, List, [], ◌∷◌, map, length, get_or, Some, None, sym, ap, ◌∙◌, arith}
 use Rattle.std.specs.Prelude.{option_map}
 use Rattle.std.specs.Map.{lookup, remove_entry}
 use Rattle.lru.specs.LruCache.{LruCache, lru_cache, IsValid, promoted}
@@ -8,7 +8,7 @@ use Rattle.dname.specs.Laws.{same_name-exact}
 use Rattle.rdata.specs.Data.{Datum}
 use Rattle.rdata.specs.Kept.{datum}
 use Rattle.rdata.specs.Records.{Record}
-use Rattle.rdata.specs.Rows.{row, rows, first_in}
+use Rattle.rdata.specs.Rows.{plain_rows, first_in}
 use Rattle.rdata.specs.declared.data.RData.{RData}
 use Rattle.zone.specs.Links.{Found, Alias}
 use Rattle.lru_laws.specs.Stores as stores
@@ -24,26 +24,8 @@ pub alias_is : (q : List (List ℕ)) (r : Record) (d : Datum) → same_name r.ow
 alias_is q r d e v = λ i. record { owner = sym (same_name-exact r.owner q e) i; ttl = r.ttl; value = v i }
 
 -- A set of the key's name is known without its owner.
-pub owned_rows : {H : Type 0} (q : List (List ℕ)) (t : ℕ) (vs : List (RData H)) → map (owned q t) (map datum vs) ≡ rows q t vs
-owned_rows q t [] = refl
-owned_rows q t (v ∷ vs) = ap (λ (l : List Record). row q t v ∷ l) (owned_rows q t vs)
-
-pub set_without : {H : Type 0} (q o : List (List ℕ)) (t : ℕ) (vs ws : List (RData H)) (set : List Record) → same_name o q ≡ true → rows o t vs ≡ set → map datum ws ≡ map datum vs
-    → map (owned q t) (map datum ws) ≡ set
-set_without q o t vs ws set e is same =
-    ap (map (owned q t)) same ∙ (owned_rows q t vs ∙ (ap (λ (n : List (List ℕ)). rows n t vs) (sym (same_name-exact o q e)) ∙ is))
-
-pub set_with : {H : Type 0} (q o : List (List ℕ)) (t : ℕ) (vs ws : List (RData H)) (ds : List Datum) → o ≡ q → map datum vs ≡ ds → map datum ws ≡ map datum vs → rows o t ws ≡ map (owned q t) ds
-set_with q o t vs ws ds e is same =
-    ap (λ (n : List (List ℕ)). rows n t ws) e ∙ (sym (owned_rows q t ws) ∙ (ap (map (owned q t)) (same ∙ is)))
-
--- A set of one.
-pub only_is : {H : Type 0} (q o : List (List ℕ)) (t : ℕ) (vs : List (RData H)) (v w : RData H) (set : List Record) → same_name o q ≡ true → rows o t vs ≡ set → length vs ≡ 1 → v ≡ get_or vs 0 v → datum w ≡ datum v
-    → owned q t (datum w) ∷ [] ≡ set
-only_is q o t [] v w set e is one at_0 same = absurd (omega (arith, one))
-only_is q o t (x ∷ []) v w set e is one at_0 same =
-    (λ i. record { owner = sym (same_name-exact o q e) i; ttl = t; value = (same ∙ ap datum at_0) i } ∷ []) ∙ is
-only_is q o t (x ∷ y ∷ vs) v w set e is one at_0 same = absurd (omega (arith, one))
+pub set_without : (q o : List (List ℕ)) (t : ℕ) (ds es : List Datum) (set : List Record) → same_name o q ≡ true → plain_rows o t ds ≡ set → es ≡ ds → map (owned q t) es ≡ set
+set_without q o t ds es set e is same = ap (map (owned q t)) same ∙ (ap (λ (n : List (List ℕ)). plain_rows n t ds) (sym (same_name-exact o q e)) ∙ is)
 
 -- The first of a set.
 pub first_with : {H : Type 0} (q : List (List ℕ)) (t : ℕ) (vs : List (RData H)) (v : RData H) (r : Record) (ds : List Datum) → map datum vs ≡ ds → 0 < length vs → v ≡ get_or vs 0 v → r ≡ owned q t (datum v)

@@ -43,4 +43,4 @@ pub use denial::Denial;
 pub use failures::FailedAsk;
 #[doc(hidden)]
 pub use key::{Key, Slot};
-pub use packed::{Form, Packed, Values};
+pub use packed::{Form, Packed};

@@ -14,27 +14,9 @@ use crate::hit::{Hit, alias_of, set_of, set_of_one};
 use authority::Link;
 use dname::{Heap, Name, Starved};
 use lru_laws::is_young;
-use rdata::{RData, Record, RecordSet, copy_values};
+use rdata::{Place, RData, Record, RecordSet, Shared, Values};
 use std::alloc::{Allocator, Global};
 use std::marker::Model;
-
-/// The data of a record set, one or more, whose owner and TTL stand elsewhere.
-#[derive(Drop)]
-pub struct Values<A: Allocator = Global> {
-    items: Vec<RData<A>, A>,
-}
-
-impl<A: Allocator> Model for Values<A> {
-    ghost use Rattle.std.specs.Prelude.{◌<◌, List, length, map};
-    ghost use Rattle.rdata.specs.Data.{Datum};
-    ghost use Rattle.rdata.specs.Kept.{datum};
-
-    ghost Value = { List Datum };
-
-    ghost view = { λ s. map datum s.items.items };
-
-    ghost invariant = { λ s. 0 < length s.items.items };
-}
 
 // The record with these data and this TTL, in seconds, that the name owns.
 fn owned<A: Heap>(name: &Name<A>, ttl: u32, value: &RData<A>) -> Result<Record<A>, Starved>
@@ -48,27 +30,32 @@ fn owned<A: Heap>(name: &Name<A>, ttl: u32, value: &RData<A>) -> Result<Record<A
     })
 }
 
-impl<A: Heap> Values<A> {
-    // The set of this owner with this TTL, in seconds.
-    fn owned(&self, alloc: A, name: &Name<A>, ttl: u32) -> Result<RecordSet<A>, Starved>
-        requires { ttl ≤ greatest_ttl }
-        ensures { IfOk result (λ rs. rs ≡ map (owned name.now ttl) self.now) }
-    {
-        let values = copy_values(alloc, &self.items)?;
-        Ok(RecordSet {
-            owner: name.clone()?,
-            ttl,
-            values,
-        })
-    }
+// The set of these data that the name owns, with this TTL in seconds. The data are not copied.
+fn set_of_shared<A: Heap>(
+    name: &Name<A>,
+    ttl: u32,
+    items: &Shared<A>,
+) -> Result<RecordSet<A>, Starved>
+    requires { ttl ≤ greatest_ttl }
+    ensures { IfOk result (λ rs. rs ≡ map (owned name.now ttl) items.now) }
+{
+    Ok(RecordSet {
+        owner: name.clone()?,
+        ttl,
+        values: Values::of(items.clone()?),
+    })
+}
 
-    // The first record of that set.
-    fn first(&self, name: &Name<A>, ttl: u32) -> Result<Record<A>, Starved>
-        requires { ttl ≤ greatest_ttl }
-        ensures { IfOk result (λ r. Some r ≡ first_in (map (owned name.now ttl) self.now)) }
-    {
-        Ok(owned(name, ttl, &self.items[0])?)
-    }
+// The first record of that set.
+fn first_of_shared<A: Heap>(
+    name: &Name<A>,
+    ttl: u32,
+    items: &Shared<A>,
+) -> Result<Record<A>, Starved>
+    requires { ttl ≤ greatest_ttl }
+    ensures { IfOk result (λ r. Some r ≡ first_in (map (owned name.now ttl) items.now)) }
+{
+    Ok(owned(name, ttl, &items.as_slice()[0])?)
 }
 
 /// What a link says, as it lies in memory beside the TTL of its records.
@@ -76,8 +63,8 @@ impl<A: Heap> Values<A> {
 pub enum Form<A: Allocator = Global> {
     /// A set of one record, which the key's name owns: its data.
     One(RData<A>),
-    /// Any set that the key's name owns: the data of its records.
-    Many(Values<A>),
+    /// Any set that the key's name owns: the data of its records, which the set's other holders share.
+    Many(Shared<A>),
     /// An alias of the key's name: the data of its record.
     Alias(RData<A>),
     /// A negative answer of the type (NODATA), by an SOA record.
@@ -90,7 +77,6 @@ pub enum Form<A: Allocator = Global> {
 
 // A set that the name owns, and its TTL in seconds.
 fn set_of_name<A: Heap>(
-    alloc: A,
     name: &Name<A>,
     set: &RecordSet<A>,
 ) -> Result<Option<(Form<A>, u32)>, Starved>
@@ -100,11 +86,10 @@ fn set_of_name<A: Heap>(
     if set.owner != *name {
         return Ok(None);
     }
-    if set.values.len() == 1 {
-        return Ok(Some((Form::One(set.values[0].clone()?), set.ttl)));
+    match set.values.place() {
+        Place::Alone(value) => Ok(Some((Form::One(value.clone()?), set.ttl))),
+        Place::Shared(shared) => Ok(Some((Form::Many(shared.clone()?), set.ttl))),
     }
-    let items = copy_values(alloc, &set.values)?;
-    Ok(Some((Form::Many(Values { items }), set.ttl)))
 }
 
 impl<A: Heap> Form<A> {
@@ -116,7 +101,7 @@ impl<A: Heap> Form<A> {
     {
         match link {
             Link::Found(set) => {
-                if let Some(packed) = set_of_name(alloc, name, set)? {
+                if let Some(packed) = set_of_name(name, set)? {
                     return Ok(packed);
                 }
             }
@@ -149,7 +134,7 @@ impl<A: Heap> Form<A> {
                 alloc,
                 owned(name, ttl, value)?,
             )?),
-            Form::Many(values) => Ok(Link::Found(values.owned(alloc, name, ttl)?)),
+            Form::Many(items) => Ok(Link::Found(set_of_shared(name, ttl, items)?)),
             Form::NoData(denial) => Ok(Link::NoData(denial.record(alloc, ttl)?)),
             Form::NxDomain(denial) => Ok(Link::NxDomain(denial.record(alloc, ttl)?)),
             Form::Whole(link) => Ok(set_of(alloc, link)?),
@@ -165,7 +150,7 @@ impl<A: Heap> Form<A> {
             Form::One(value) | Form::Alias(value) => Ok(Some(Link::Alias(owned(
                 name, ttl, value,
             )?))),
-            Form::Many(values) => Ok(Some(Link::Alias(values.first(name, ttl)?))),
+            Form::Many(items) => Ok(Some(Link::Alias(first_of_shared(name, ttl, items)?))),
             Form::NoData(_) | Form::NxDomain(_) => Ok(None),
             Form::Whole(link) => Ok(alias_of(link)?),
         }

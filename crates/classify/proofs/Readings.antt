@@ -1,7 +1,7 @@
 -- Each line of the table uses a message as the RFCs read it: the class of each is followed once, from the
 -- last line to the first.
-use Rattle.std.proofs.Common.{◌≡◌, ◌≢◌, ℕ, Bool, true, false, ◌&&◌, ◌||◌, not, cond, nat_eq, ◌⊎◌, inl, inr, Option, Some, None, List, [], ◌∷◌, refl, sym, ◌∙◌, ap, subst, eqb-true, eq-eqb}
-use Rattle.std.specs.Prelude.{Contains}
+use Rattle.std.proofs.Common.{◌≡◌, ◌≢◌, ℕ, Bool, true, false, ◌&&◌, ◌||◌, not, cond, nat_eq, ◌⊎◌, inl, inr, Option, Some, None, List, [], ◌∷◌, take, refl, sym, ◌∙◌, ap, subst, eqb-true, eq-eqb}
+use Rattle.std.specs.Prelude.{Contains, filter}
 use Rattle.std.specs.List.{list_any}
 use Rattle.std.proofs.lemmas.Bool.{and_parts, and_from, both_ways, not-true}
 use Rattle.dname.specs.Labels.{Name, same_name, is_under, IsAtOrUnder}
@@ -12,26 +12,27 @@ use Rattle.rdata.specs.Records.{Record}
 use Rattle.rdata.specs.Selected.{records_at}
 use Rattle.rdata.specs.Sets.{lowest_ttl, with_ttl, one_set}
 use Rattle.rdata.proofs.SetMembers.{set_of, set_in}
+use Rattle.limits.specs.Limits.{max_referral_servers, max_glue}
 use Rattle.message_grammar.specs.Messages.{Message}
 use Rattle.wire.specs.declared.via.Via.{Via}
 use Rattle.wire.specs.declared.via.Via.TheVariants.{Udp, Tcp}
 use Rattle.zone.specs.Zones.{a_type, ns_type, cname_type, soa_type}
 use Rattle.zone.specs.Links.{Link, Found, Alias, NoData, NxDomain}
-use Rattle.zone.specs.Same.{Same, Has}
+use Rattle.zone.specs.Same.{Same}
 use Rattle.zone.proofs.LawLists.{any_from, any_of, filter_of, filter_in}
 use Rattle.world_truth.specs.Worlds.{Address}
 use Rattle.world_truth.specs.Reading.{IsIn, HasNo, IsFirst, IsDenied, Reads, IsAnswer, IsReferralTo, NamesServer, GivesAddress}
 use Rattle.classify.specs.Classes.{Class, Answer, Referral, Truncated, Failed, first_of, answer_by, names_server, is_taken, addresses_of, refer_by, servers_of, leads_down, by_servers, denial_by, denies, by_denial, by_alias, by_set, by_code, truncated_over, class_of}
 use Rattle.classify.specs.declared.class.Failure.TheVariants.{BadCode, NoAuthority, Empty, Foreign}
-use Rattle.classify.specs.Laws.{AreServers, AreAddresses}
+use Rattle.classify.specs.Laws.{AreServers, IsServer, AreAddresses}
+use Rattle.classify.proofs.Walking.{taken_in, few_taken, all_taken, set_few}
 use Rattle.classify.proofs.Firsts.{selected_in, in_selected, none_selected, first_selected, first_of_type, none_of_type, ns_of, ipv4_of}
 
 -- Servers of a referral.
 ns_in : (m : Message) (c : Name) (r : Record) → Contains (servers_of c m) r → (s : Record) × IsIn m.authority c ns_type s × Same r s
-ns_in m c r h = let (s, n, e) = set_of (records_at c ns_type m.authority) r h in (s, selected_in m.authority c ns_type s n, e)
-
-has_server : (m : Message) (c : Name) (r : Record) → IsIn m.authority c ns_type r → Has (servers_of c m) r
-has_server m c r h = set_in (records_at c ns_type m.authority) r (in_selected m.authority c ns_type r h)
+ns_in m c r h =
+    let (s, n, e) = set_of (take max_referral_servers (records_at c ns_type m.authority)) r h in
+    (s, selected_in m.authority c ns_type s (taken_in max_referral_servers (records_at c ns_type m.authority) s n), e)
 
 named_server : (m : Message) (c : Name) (r : Record) → Contains (servers_of c m) r → (n : Name) × (r.value ≡ Ns n) × NamesServer m c n
 named_server m c r h =
@@ -43,7 +44,8 @@ servers_are : (m : Message) (c : Name) → AreServers m c (servers_of c m)
 servers_are m c = record {
   owner = λ r h. let (s, i, e) = ns_in m c r h in e.0 ∙ i.1;
   named = named_server m c;
-  all = has_server m c;
+  all = set_in (take max_referral_servers (records_at c ns_type m.authority));
+  few = set_few max_referral_servers (records_at c ns_type m.authority);
 }
 
 -- Addresses of its servers.
@@ -67,35 +69,39 @@ taken_server m c n h =
     let (s, i, e) = ns_in m c r k in
     (s, i, sym e.1 ∙ names_is n r.value t)
 
-server_taken : (m : Message) (c n : Name) → NamesServer m c n → list_any (λ (s : Record). names_server n s.value) (servers_of c m) ≡ true
-server_taken m c n (s, i, v) =
-    let (r, k, e) = has_server m c s i in
-    any_from (λ (x : Record). names_server n x.value) (servers_of c m) r k (names_holds n r.value (sym e.1 ∙ v))
+server_taken : (n : Name) (servers : List Record) → IsServer servers n → list_any (λ (s : Record). names_server n s.value) servers ≡ true
+server_taken n servers (s, i, v) = any_from (λ (x : Record). names_server n x.value) servers s i (names_holds n s.value v)
 
 given_address : (f : Name) (m : Message) (c : Name) (r : Record) → Contains (addresses_of f (servers_of c m) m.additional) r → (a : Address) × (r.value ≡ Ipv4 a) × GivesAddress f m c a
 given_address f m c r h =
-    let (stands, taken) = filter_of (is_taken f (servers_of c m)) m.additional r h in
+    let (stands, taken) = filter_of (is_taken f (servers_of c m)) m.additional r (taken_in max_glue (filter (is_taken f (servers_of c m)) m.additional) r h) in
     let p = and_parts (nat_eq (type_of r.value) a_type && is_under r.owner f) (list_any (λ (s : Record). names_server r.owner s.value) (servers_of c m)) taken in
     let k = and_parts (nat_eq (type_of r.value) a_type) (is_under r.owner f) p.0 in
     let (a, v) = ipv4_of r.value (eqb-true (type_of r.value) a_type k.0) in
     (a, v, (r.owner, r, taken_server m c r.owner p.1, under_is r.owner f k.1, stands, refl, v))
 
-address_given : (f : Name) (m : Message) (c : Name) (r : Record) (a : Address) → Contains m.additional r → r.value ≡ Ipv4 a → NamesServer m c r.owner → IsAtOrUnder r.owner f
-    → Contains (addresses_of f (servers_of c m) m.additional) r
-address_given f m c r a stands v named inside =
-    filter_in (is_taken f (servers_of c m)) m.additional r stands
-    (and_from (nat_eq (type_of r.value) a_type && is_under r.owner f) (list_any (λ (s : Record). names_server r.owner s.value) (servers_of c m))
+address_given : (f : Name) (servers additional : List Record) (r : Record) (a : Address) → Contains additional r → r.value ≡ Ipv4 a → IsServer servers r.owner → IsAtOrUnder r.owner f
+    → Contains (filter (is_taken f servers) additional) r
+address_given f servers additional r a stands v named inside =
+    filter_in (is_taken f servers) additional r stands
+    (and_from (nat_eq (type_of r.value) a_type && is_under r.owner f) (list_any (λ (s : Record). names_server r.owner s.value) servers)
     (and_from (nat_eq (type_of r.value) a_type) (is_under r.owner f) (eq-eqb (type_of r.value) a_type (ap type_of v)) (is_under_holds r.owner f inside))
-    (server_taken m c r.owner named))
+    (server_taken r.owner servers named))
 
-addresses_are : (f : Name) (m : Message) (c : Name) → AreAddresses f m c (addresses_of f (servers_of c m) m.additional)
-addresses_are f m c = record { given = given_address f m c; all = address_given f m c }
+addresses_are : (f : Name) (m : Message) (c : Name) → AreAddresses f m c (servers_of c m) (addresses_of f (servers_of c m) m.additional)
+addresses_are f m c = record {
+  given = given_address f m c;
+  all = λ less r a stands v named inside.
+      subst (λ (rs : List Record). Contains rs r) (sym (all_taken max_glue (filter (is_taken f (servers_of c m)) m.additional) less))
+      (address_given f (servers_of c m) m.additional r a stands v named inside);
+  few = few_taken max_glue (filter (is_taken f (servers_of c m)) m.additional);
+}
 
 module _ (f q : Name) (t : ℕ) (m : Message) where
   -- What a class says of the message that has it.
   abbrev pub Says : Class → Type 0
   Says (Answer l) = IsAnswer f q t m l
-  Says (Referral c servers addresses ttl) = IsReferralTo f q t m c × AreServers m c servers × AreAddresses f m c addresses
+  Says (Referral c servers addresses ttl) = IsReferralTo f q t m c × AreServers m c servers × AreAddresses f m c servers addresses
   Says Truncated = m.header.tc ≡ true
   Says (Failed e) = Unit {0}
 
@@ -210,7 +216,7 @@ module _ (f q : Name) (t : ℕ) (m : Message) where
   answer_read via l e = subst (λ (c : Class). Says c) e (says via)
 
   pub referral_read : (via : Via) (c : Name) (servers addresses : List Record) (ttl : ℕ) → class_of f q t via m ≡ Referral c servers addresses ttl
-      → IsReferralTo f q t m c × AreServers m c servers × AreAddresses f m c addresses
+      → IsReferralTo f q t m c × AreServers m c servers × AreAddresses f m c servers addresses
   referral_read via c servers addresses ttl e = subst (λ (x : Class). Says x) e (says via)
 
   pub truncated_read : (via : Via) → class_of f q t via m ≡ Truncated → m.header.tc ≡ true

@@ -1,8 +1,9 @@
 -- What a message that was accepted as a reply is used for (RFC 1034, section 5.3.3; RFC 2308, sections 2 and
 -- 5; RFC 2181, section 5.4.1). It was asked for the name q and the type t of a server of the zone f, by way
 -- of UDP or TCP.
-use Rattle.std.specs.Prelude.{ℕ, Bool, false, ◌&&◌, ◌||◌, not, cond, nat_eq, min, Option, Some, None, List, [], ◌∷◌, filter, find}
+use Rattle.std.specs.Prelude.{ℕ, Bool, false, ◌&&◌, ◌||◌, not, cond, nat_eq, min, Option, Some, None, List, [], ◌∷◌, take, filter, find}
 use Rattle.std.specs.List.{list_any}
+use Rattle.limits.specs.Limits.{max_referral_servers, max_glue}
 use Rattle.dname.specs.Labels.{Name, same_name, is_under}
 use Rattle.rdata.specs.Data.{Datum, Ipv4, Ns, Cname, Soa, Ptr, Mx, Txt, Ipv6, Srv}
 use Rattle.rdata.specs.Records.{Record}
@@ -33,7 +34,7 @@ first_of t rs = find (is_type t) rs
 abbrev pub answer_by : Message → Link → Class
 answer_by m l = cond m.header.aa (Answer l) (Failed NoAuthority)
 
--- Of a referral's servers the A records that stand at or under the zone that was asked.
+-- Of a referral's servers the A records that stand at or under the zone that was asked, the first of them.
 abbrev pub names_server : Name → Datum → Bool
 names_server n (Ipv4 a) = false
 names_server n (Ns target) = same_name target n
@@ -49,7 +50,7 @@ abbrev pub is_taken : Name → List Record → Record → Bool
 is_taken f servers r = is_type a_type r && is_under r.owner f && list_any (λ (s : Record). names_server r.owner s.value) servers
 
 abbrev pub addresses_of : Name → List Record → List Record → List Record
-addresses_of f servers additional = filter (is_taken f servers) additional
+addresses_of f servers additional = take max_glue (filter (is_taken f servers) additional)
 
 abbrev pub refer : Name → List Record → List Record → Class
 refer c servers addresses = Referral c servers addresses (min (lowest_ttl servers) (lowest_ttl addresses))
@@ -57,8 +58,9 @@ refer c servers addresses = Referral c servers addresses (min (lowest_ttl server
 abbrev pub refer_by : Name → Name → List Record → Message → Class
 refer_by f c servers m = refer c servers (addresses_of f servers m.additional)
 
+-- The set of the cut's first NS records: what stands behind them is not read, whether or not they repeat each other.
 abbrev pub servers_of : Name → Message → List Record
-servers_of c m = one_set (records_at c ns_type m.authority)
+servers_of c m = one_set (take max_referral_servers (records_at c ns_type m.authority))
 
 -- The lines of the table, the last one first. A referral leads strictly beneath the zone and over the name.
 abbrev pub leads_down : Name → Name → Name → Bool

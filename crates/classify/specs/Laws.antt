@@ -1,9 +1,11 @@
 -- The laws that the functions of this crate state.
-use Rattle.std.specs.Prelude.{◌≡◌, ◌↔◌, ℕ, min, true, List, Contains}
+use Rattle.std.specs.Prelude.{◌≡◌, ◌↔◌, ℕ, ◌<◌, ◌≤◌, min, true, List, length, take, Contains}
 use Rattle.dname.specs.Labels.{Name, root, IsAtOrUnder}
 use Rattle.rdata.specs.Data.{Ipv4, Ns}
 use Rattle.rdata.specs.Records.{Record}
+use Rattle.rdata.specs.Selected.{records_at}
 use Rattle.rdata.specs.Sets.{lowest_ttl}
+use Rattle.limits.specs.Limits.{max_referral_servers, max_glue}
 use Rattle.message_grammar.specs.Messages.{Message}
 use Rattle.zone.specs.Zones.{ns_type, cname_type}
 use Rattle.zone.specs.Links.{Link, Found, Alias}
@@ -11,20 +13,27 @@ use Rattle.zone.specs.Same.{Has, SameLink}
 use Rattle.wire.specs.declared.via.Via.{Via}
 use Rattle.wire.specs.declared.via.Via.TheVariants.{Udp}
 use Rattle.world_truth.specs.Worlds.{Address}
-use Rattle.world_truth.specs.Reading.{IsIn, IsAnswer, IsReferralTo, NamesServer, GivesAddress}
+use Rattle.world_truth.specs.Reading.{IsAnswer, IsReferralTo, NamesServer, GivesAddress}
 use Rattle.world_truth.specs.Replies.{Once}
 use Rattle.classify.specs.Classes.{Answer, Referral, Truncated, class_of}
 
--- The servers of a referral: its message names each of them, and none is left out, TTLs aside.
+-- The servers of a referral: its message names each of them, and of its first NS records none is left out, TTLs aside.
 pub record AreServers (m : Message) (c : Name) (servers : List Record) : Type 0 where
   pub owner : (r : Record) → Contains servers r → r.owner ≡ c
   pub named : (r : Record) → Contains servers r → (n : Name) × (r.value ≡ Ns n) × NamesServer m c n
-  pub all : (r : Record) → IsIn m.authority c ns_type r → Has servers r
+  pub all : (r : Record) → Contains (take max_referral_servers (records_at c ns_type m.authority)) r → Has servers r
+  pub few : length servers ≤ max_referral_servers
 
--- The addresses of a referral: its message gives each of them, and none is left out.
-pub record AreAddresses (f : Name) (m : Message) (c : Name) (addresses : List Record) : Type 0 where
+-- One of these servers has this name.
+abbrev pub IsServer : List Record → Name → Type 0
+IsServer servers n = (s : Record) × Contains servers s × (s.value ≡ Ns n)
+
+-- The addresses of a referral: its message gives each of them, and none of these servers is left out before there are
+-- as many as are taken.
+pub record AreAddresses (f : Name) (m : Message) (c : Name) (servers addresses : List Record) : Type 0 where
   pub given : (r : Record) → Contains addresses r → (a : Address) × (r.value ≡ Ipv4 a) × GivesAddress f m c a
-  pub all : (r : Record) (a : Address) → Contains m.additional r → r.value ≡ Ipv4 a → NamesServer m c r.owner → IsAtOrUnder r.owner f → Contains addresses r
+  pub all : length addresses < max_glue → (r : Record) (a : Address) → Contains m.additional r → r.value ≡ Ipv4 a → IsServer servers r.owner → IsAtOrUnder r.owner f → Contains addresses r
+  pub few : length addresses ≤ max_glue
 
 -- What is used as an answer is one.
 abbrev pub AnswerIsRead : Type 0
@@ -33,7 +42,7 @@ AnswerIsRead = (f q : Name) (t : ℕ) (via : Via) (m : Message) (l : Link) → c
 -- What is followed as a referral is one, and what is taken from it is what it says.
 abbrev pub ReferralIsRead : Type 0
 ReferralIsRead = (f q : Name) (t : ℕ) (via : Via) (m : Message) (c : Name) (servers addresses : List Record) (ttl : ℕ) → class_of f q t via m ≡ Referral c servers addresses ttl
-    → IsReferralTo f q t m c × AreServers m c servers × AreAddresses f m c addresses
+    → IsReferralTo f q t m c × AreServers m c servers × AreAddresses f m c servers addresses
 
 -- A referral that is followed leads over the name that was asked for.
 abbrev pub ReferralIsOver : Type 0

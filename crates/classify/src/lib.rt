@@ -2,9 +2,9 @@
 //! 5.4.1): an answer, a referral, a truncated reply, or nothing.
 //!
 //! `classify` takes the zone whose server was asked, the question, the way and the message, and gives the `Class`:
-//! the first line that fits of a short table. Of a referral only glue in bailiwick is taken, the A records at or
-//! under the zone that was asked. `received` bounds the TTLs of an answer (a week; a negative answer three hours),
-//! `lifetime` and `Referral::lifetime` say for how long it is kept.
+//! the first line that fits of a short table. Of a referral the first 64 NS records are read, and only glue in
+//! bailiwick is taken, the first 256 A records at or under the zone that was asked. `received` bounds the TTLs of an
+//! answer (a week; a negative answer three hours), `lifetime` and `Referral::lifetime` say for how long it is kept.
 //!
 //! Promised: the class exactly (`class_of`); what is used is an answer or a referral in the RFC's words
 //! (`answer_law`, `referral_law`, `root_law`), and what is one is used (`use_law`, `found_law`); asked for again

@@ -1,5 +1,5 @@
 //! What the sections of a reply hold. A record is made only where it is chosen.
-ghost use Rattle.std.specs.Prelude.{◌≡◌, [], ◌∷◌, ◌++◌, filter, IfOk, OnOk};
+ghost use Rattle.std.specs.Prelude.{◌≡◌, [], ◌∷◌, ◌++◌, filter, take, IfOk, OnOk};
 ghost use Rattle.std.specs.List.Sorted.{IsSorted};
 ghost use Rattle.dname.specs.Order.{name_cmp};
 ghost use Rattle.rdata.specs.Rows.{in_set};
@@ -12,6 +12,7 @@ ghost use Rattle.classify.specs.Targets.{is_given};
 
 use crate::targets::{is_one_of, targets_of};
 use dname::{Heap, Name, Starved};
+use limits::MAX_GLUE;
 use rdata::{RType, Record, RecordSet, Records, set_at};
 use std::alloc::Allocator;
 use wire::{Lent, Walk};
@@ -75,6 +76,41 @@ pub(crate) fn set_in<A: Heap>(
     Ok(set_at(alloc, records.as_slice(), owner, kind)?)
 }
 
+// The first records of that owner and type in a section, so many at most. What stands behind them is not read.
+fn first_records_in<A: Heap>(
+    alloc: A,
+    mut section: Walk<'_>,
+    owner: &Name<A>,
+    kind: RType,
+    most: usize,
+) -> Result<Records<A>, Starved>
+    ensures { IfOk result (λ rs. rs ≡ take most (records_at owner.now (type_number kind) section.entry)) }
+{
+    let mut records = Records::new(alloc);
+    while let Some(found) = section.next() {
+        if records.len() >= most {
+            return Ok(records);
+        }
+        put_at(alloc, &mut records, &found, owner, kind)?;
+    }
+    Ok(records)
+}
+
+/// The RRset that the first records of that owner and type in a section make, so many at most; none where there are
+/// none.
+pub(crate) fn first_set_in<A: Heap>(
+    alloc: A,
+    section: Walk<'_>,
+    owner: &Name<A>,
+    kind: RType,
+    most: usize,
+) -> Result<Option<RecordSet<A>>, Starved>
+    ensures { IfOk result (λ set. in_set set ≡ one_set (take most (records_at owner.now (type_number kind) section.entry))) }
+{
+    let first = first_records_in(alloc, section, owner, kind, most)?;
+    Ok(set_at(alloc, first.as_slice(), owner, kind)?)
+}
+
 /// The first record of the type in a section.
 pub(crate) fn first_in<'a>(mut section: Walk<'a>, kind: RType) -> Option<Lent<'a>>
     ensures { result ≡ first_of (type_number kind) section.entry }
@@ -113,8 +149,8 @@ fn put_given<A: Heap>(
     Ok(())
 }
 
-/// The A records of the servers that stand at or under the zone. A message can hold thousands of both, so the servers'
-/// names are sorted once.
+/// The A records of the servers that stand at or under the zone, the first `MAX_GLUE` of them. A message can hold
+/// thousands, so the servers' names are sorted once.
 pub(crate) fn addresses_in<A: Heap>(
     alloc: A,
     mut section: Walk<'_>,
@@ -126,6 +162,9 @@ pub(crate) fn addresses_in<A: Heap>(
     let targets = targets_of(alloc, servers)?;
     let mut addresses = Records::new(alloc);
     while let Some(found) = section.next() {
+        if addresses.len() >= MAX_GLUE {
+            return Ok(addresses);
+        }
         put_given(alloc, &mut addresses, &found, zone, &targets)?;
     }
     Ok(addresses)

@@ -1,5 +1,6 @@
 //! The table by which a reply is used: its first line that fits.
-ghost use Rattle.std.specs.Prelude.{◌≡◌, ℕ, Some, List, ◌||◌, nat_eq, IfOk};
+ghost use Rattle.std.specs.Prelude.{◌≡◌, ℕ, Some, List, ◌||◌, nat_eq, take, IfOk};
+ghost use Rattle.limits.specs.Limits.{max_referral_servers};
 ghost use Rattle.rdata.specs.Rows.{in_set};
 ghost use Rattle.rdata.specs.Selected.{records_at};
 ghost use Rattle.rdata.specs.Sets.{one_set};
@@ -10,9 +11,10 @@ ghost use Rattle.classify.specs.Classes.{first_of, answer_by, refer_by, leads_do
 ghost use Rattle.classify.specs.Views.{class_view};
 
 use crate::class::{Class, Failure, Referral};
-use crate::sections::{addresses_in, first_in, set_in};
+use crate::sections::{addresses_in, first_in, first_set_in, set_in};
 use authority::Link;
 use dname::{Heap, Name, Starved};
+use limits::MAX_REFERRAL_SERVERS;
 use rdata::{RType, Record, RecordSet, Records, lowest_ttl};
 use std::alloc::Allocator;
 use wire::rcode::{NO_ERROR, NX_DOMAIN};
@@ -25,7 +27,8 @@ use wire::{Via, View, Walk};
 /// - records of the name and the type: the RRset, each record once and all with the lowest TTL;
 /// - a CNAME of the name: the alias, the first of several with the lowest TTL, with RCODE 0 and 3 alike;
 /// - RCODE 3 or an SOA: NXDOMAIN or NODATA by the first SOA, which is over the name and at or under the zone;
-/// - an NS record: the referral to its owner, strictly under the zone and over the name;
+/// - an NS record: the referral to its owner, strictly under the zone and over the name; the first
+///   `MAX_REFERRAL_SERVERS` NS records of that owner count, and of their glue the first `MAX_GLUE`;
 /// - nothing of these: of no use.
 /// Answers, negative ones too, are used with the bit AA alone.
 pub fn classify<A: Heap>(
@@ -235,11 +238,11 @@ fn denial_by<A: Allocator>(rcode: u8, soa: Record<A>) -> Link<A>
     }
 }
 
-// The NS set of a cut; no records where there is none.
+// The NS set of a cut, of its first `MAX_REFERRAL_SERVERS` records; no records where there is none.
 fn servers_in<A: Heap>(alloc: A, authority: Walk<'_>, cut: &Name<A>) -> Result<Records<A>, Starved>
-    ensures { IfOk result (λ rs. rs ≡ one_set (records_at cut.now ns_type authority.entry)) }
+    ensures { IfOk result (λ rs. rs ≡ one_set (take max_referral_servers (records_at cut.now ns_type authority.entry))) }
 {
-    match set_in(alloc, authority, cut, RType::Ns)? {
+    match first_set_in(alloc, authority, cut, RType::Ns, MAX_REFERRAL_SERVERS)? {
         Some(set) => Ok(set.to_records(alloc)?),
         None => Ok(Records::new(alloc)),
     }

@@ -132,7 +132,7 @@ misses_true W home now n t old c new w ours all h = begins_true W w home ours n 
 
 module _ (W : World) (w : IsWorld W) (z n : Name) (t : ℕ) (via : Via) (m : Message) (at : Name) (ns glue : List Record) (ttl : ℕ) (a : Address) (may : MayAsk W a z n) (serve : MayServe W a n t m)
     (class : class_of z n t via m ≡ Referral at ns glue ttl) (c : Cut) (is : IsCutOf at ns glue c) where
-  is_read : IsReferralTo z n t m at × AreServers m at ns × AreAddresses z m at glue
+  is_read : IsReferralTo z n t m at × AreServers m at ns × AreAddresses z m at ns glue
   is_read = referral_read z n t m via at ns glue ttl class
 
   one_ns : (p q : Name) → Ns p ≡ Ns q → p ≡ q

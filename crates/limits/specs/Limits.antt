@@ -25,6 +25,13 @@ max_nesting = 3
 abbrev pub max_servers : ℕ
 max_servers = 16
 
+-- The most NS records that are read of a referral, and the most addresses that are taken of its glue.
+abbrev pub max_referral_servers : ℕ
+max_referral_servers = 64
+
+abbrev pub max_glue : ℕ
+max_glue = 256
+
 -- The most entries of a store.
 abbrev pub max_entries : ℕ
 max_entries = 1000000

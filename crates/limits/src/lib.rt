@@ -25,6 +25,12 @@ pub const MAX_NESTING: u8 = 3;
 /// The most names of servers, and the most addresses of servers, that are taken from one delegation.
 pub const MAX_SERVERS: usize = 16;
 
+/// The most NS records that are read of a referral.
+pub const MAX_REFERRAL_SERVERS: usize = 64;
+
+/// The most addresses that are taken of a referral's glue.
+pub const MAX_GLUE: usize = 256;
+
 /// The most entries that a store may have room for.
 pub const MAX_ENTRIES: usize = 1_000_000;
 

@@ -7,11 +7,9 @@ use Rattle.std.proofs.lemmas.List.{take_more, take_all, take-append-le, length-t
 use Rattle.std.proofs.lemmas.Grind.{flat_map-append}
 use Rattle.dname.specs.Labels.{Name}
 use Rattle.rdata.specs.Data.{Datum, Ipv4, Ns, Cname, Soa, Ptr, Mx, Txt, Ipv6, Srv}
-use Rattle.rdata.specs.Kept.{datum}
 use Rattle.rdata.specs.Records.{Record}
-use Rattle.rdata.specs.Rows.{row, rows}
+use Rattle.rdata.specs.Rows.{plain_row, plain_rows}
 use Rattle.rdata.specs.declared.addr.Addr.{Addr}
-use Rattle.rdata.specs.declared.data.RData.{RData}
 use Rattle.rdata.proofs.SetRows.{rows_long, row_at, rows_whole}
 use Rattle.zone.specs.Zones.{Zone}
 use Rattle.classify.specs.Targets as classify
@@ -123,12 +121,12 @@ found_more set i r old new lt is walked put =
     ∙ ap (take most_taken) (sym (flat_more (λ (x : Record). ipv4_of x.value) set i r lt is))
 
 -- A walk over a set's data is one over its records.
-pub found_later : {H : Type 0} (q : Name) (t : ℕ) (xs : List (RData H)) (set : List Record) (i : ℕ) (x : RData H) (old new : List Addr) → rows q t xs ≡ set → i < length xs → x ≡ get_or xs i x
-    → AreAddressesOf (take i set) old → map bytes_of new ≡ map bytes_of old ++ cond (nat_lt (length old) most_taken) (ipv4_of (datum x)) [] → AreAddressesOf (take (i + 1) set) new
-found_later q t xs set i x old new is lt at_i walked put =
+pub found_later : (q : Name) (t : ℕ) (ds : List Datum) (set : List Record) (i : ℕ) (d : Datum) (old new : List Addr) → plain_rows q t ds ≡ set → i < length ds → d ≡ get_or ds i d
+    → AreAddressesOf (take i set) old → map bytes_of new ≡ map bytes_of old ++ cond (nat_lt (length old) most_taken) (ipv4_of d) [] → AreAddressesOf (take (i + 1) set) new
+found_later q t ds set i d old new is lt at_i walked put =
     subst (λ (rs : List Record). AreAddressesOf (take (i + 1) rs) new) is
-    (found_more (rows q t xs) i (row q t x) old new (rows_long q t xs i lt) (row_at q t xs i x lt at_i) (subst (λ (rs : List Record). AreAddressesOf (take i rs) old) (sym is) walked) put)
+    (found_more (plain_rows q t ds) i (plain_row q t d) old new (rows_long q t ds i lt) (row_at q t ds i d lt at_i) (subst (λ (rs : List Record). AreAddressesOf (take i rs) old) (sym is) walked) put)
 
-pub found_whole : {H : Type 0} (q : Name) (t : ℕ) (xs : List (RData H)) (set : List Record) (i : ℕ) (found : List Addr) → rows q t xs ≡ set → length xs ≤ i → AreAddressesOf (take i set) found → AreAddressesOf set found
-found_whole q t xs set i found is le walked =
-    subst (λ (rs : List Record). AreAddressesOf rs found) (rows_whole q t xs set (take i set) i is le refl) walked
+pub found_whole : (q : Name) (t : ℕ) (ds : List Datum) (set : List Record) (i : ℕ) (found : List Addr) → plain_rows q t ds ≡ set → length ds ≤ i → AreAddressesOf (take i set) found → AreAddressesOf set found
+found_whole q t ds set i found is le walked =
+    subst (λ (rs : List Record). AreAddressesOf rs found) (rows_whole q t ds set (take i set) i is le refl) walked

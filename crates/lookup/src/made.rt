@@ -41,8 +41,8 @@ pub fn found_addresses<A: Heap>(alloc: A, set: &RecordSet<A>) -> Result<Vec<Addr
     ensures { IfOk result (λ found. AreAddressesOf set.now found.items) }
 {
     let mut found = Vec::new(alloc);
-    for given in &set.values {
-        put_found(&mut found, given)?;
+    for index in 0..set.values.len() {
+        put_found(&mut found, set.values.get(index))?;
     }
     Ok(found)
 }

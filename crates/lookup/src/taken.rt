@@ -89,7 +89,10 @@ fn owner<A: Allocator>(link: &Link<A>) -> &Name<A>
     ensures { result.now ≡ owner_in (link_view link.now) }
 {
     match link {
-        Link::Found(set) => &set.owner,
+        Link::Found(set) => {
+            let _ = set.values.len();
+            &set.owner
+        }
         Link::Alias(record) | Link::NoData(record) | Link::NxDomain(record) => &record.owner,
     }
 }
@@ -98,7 +101,10 @@ fn into_owner<A: Allocator>(link: Link<A>) -> Name<A>
     ensures { result ≡ owner_in (link_view link) }
 {
     match link {
-        Link::Found(set) => set.owner,
+        Link::Found(set) => {
+            let _ = set.values.len();
+            set.owner
+        }
         Link::Alias(record) | Link::NoData(record) | Link::NxDomain(record) => record.owner,
     }
 }

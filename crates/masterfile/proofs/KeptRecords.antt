@@ -1,7 +1,10 @@
 -- Records that are kept are within the bounds of a zone text.
-use Rattle.std.proofs.Common.{◌≡◌, ℕ, suc, ◌+◌, ◌<◌, ◌≤◌, List, [], ◌∷◌, length, get_or, drop, drop-cons, add-one, sym, ap, subst, ◌∙◌, arith}
+use Rattle.std.proofs.Common.{◌≡◌, ℕ, suc, ◌+◌, ◌<◌, List, [], ◌∷◌, ◌++◌, length, get_or, drop, drop-cons, add-one, sym, ap, subst, ◌∙◌, arith}
+use Rattle.std.specs.List.{AllByRecursion}
+use Rattle.dname.specs.Labels.{wire}
 use Rattle.dname.specs.Spelling.{AreBytes}
 use Rattle.rdata.specs.Records.{Record}
+use Rattle.rdata.specs.Strings.{IsShort}
 use Rattle.masterfile.specs.ReadBack.{AreCharacterStrings, FitsMessage, FitMessages, IsSound, AreSound}
 
 pub bytes_by : (bs : List ℕ) → ((i : ℕ) → get_or bs i 0 < 256) → AreBytes bs
@@ -20,13 +23,14 @@ pub kept_more : (rs : List Record) (i : ℕ) (x : Record) → i < length rs → 
     → AreKept (drop (i + 1) rs) → AreKept rs
 kept_more rs i x h e sound all later = all (subst (λ (ys : List Record). AreKept ys) (sym (here rs i x h e)) (sound, later))
 
-pub strings_more : (ts : List (List ℕ)) (i : ℕ) (x : List ℕ) → i < length ts → x ≡ get_or ts i x → AreBytes x → length x ≤ 255 → (AreCharacterStrings (drop i ts) → AreCharacterStrings ts)
-    → AreCharacterStrings (drop (i + 1) ts) → AreCharacterStrings ts
-strings_more ts i x h e bytes short all later = all (subst (λ (ys : List (List ℕ)). AreCharacterStrings ys) (sym (here ts i x h e)) (bytes, short, later))
+-- Bytes in wire form are those of the strings.
+bytes_apart : (a b : List ℕ) → AreBytes (a ++ b) → AreBytes a × AreBytes b
+bytes_apart [] b h = (tt, h)
+bytes_apart (x ∷ a) b h = let rest = bytes_apart a b h.1 in ((h.0, rest.0), rest.1)
 
-pub no_strings : (ts : List (List ℕ)) → length ts ≡ 0 → AreCharacterStrings ts
-no_strings [] h = tt
-no_strings (t ∷ ts) h = absurd (omega arith)
+pub strings_sound : (ts : List (List ℕ)) → AreBytes (wire ts) → AllByRecursion IsShort ts → AreCharacterStrings ts
+strings_sound [] bytes short = tt
+strings_sound (t ∷ ts) bytes short = let both = bytes_apart t (wire ts) bytes.1 in (both.0, short.0, strings_sound ts both.1 short.1)
 
 pub none_kept : (rs : List Record) → length rs ≡ 0 → AreKept rs
 none_kept [] h = tt

@@ -1,5 +1,5 @@
 //! Records as they are kept are within the bounds of a zone text: laws on values, for `print`.
-ghost use Rattle.std.specs.Prelude.{◌≤◌};
+ghost use Rattle.std.specs.Prelude.{◌<◌, ◌≤◌, length};
 ghost use Rattle.dname.specs.Labels.{IsName};
 ghost use Rattle.dname.specs.Spelling.{AreBytes};
 ghost use Rattle.rdata.specs.Kept.{datum};
@@ -7,7 +7,7 @@ ghost use Rattle.masterfile.specs.Fields.{greatest_16, greatest_32};
 ghost use Rattle.masterfile.specs.ReadBack.{AreCharacterStrings, IsAuthority, IsService, FitsMessage, IsSoundData, IsSound};
 
 use dname::Name;
-use rdata::{CharacterString, RData, Record, Soa, Srv};
+use rdata::{RData, Record, Soa, Srv, Texts};
 use std::alloc::Allocator;
 
 /// A record's parts are within their bounds, where its TXT, if it is one, fits a message.
@@ -28,7 +28,7 @@ fn data_is_sound<A: Allocator>(value: &RData<A>)
         RData::Soa(soa) => authority_is_sound(soa),
         RData::Ptr(name) => name.well_formed_law(),
         RData::Mx(preference, name) => exchange_is_sound(*preference, name),
-        RData::Txt(texts) => strings_law(texts.strings()),
+        RData::Txt(texts) => texts_are_sound(texts),
         RData::Aaaa(address) => bytes_law(address),
         RData::Srv(srv) => service_is_sound(srv),
     }
@@ -69,12 +69,11 @@ fn number_is_sound(number: u32)
     ensures { number ≤ greatest_32 }
 {}
 
-fn strings_law<A: Allocator>(strings: &[CharacterString<A>])
-    ensures { AreCharacterStrings strings.now }
+fn texts_are_sound<A: Allocator>(texts: &Texts<A>)
+    ensures some { 0 < length texts.now }
+    ensures strings { AreCharacterStrings texts.now }
 {
-    for string in strings {
-        bytes_law(string.bytes());
-    }
+    bytes_law(texts.wire());
 }
 
 #[tactic(auto, using(crate::proofs::KeptRecords::bytes_by))]

@@ -98,8 +98,11 @@ fn is_start<A: Heap>(found: &Found<A>, at: &Name<A>) -> bool {
 }
 
 fn one_address<A: Heap>(set: &RecordSet<A>) -> Option<(Addr, u32)> {
-    match set.values.as_slice() {
-        [RData::A(address)] => Some((*address, set.ttl)),
+    if set.values.len() != 1 {
+        return None;
+    }
+    match set.values.get(0) {
+        RData::A(address) => Some((*address, set.ttl)),
         _ => None,
     }
 }

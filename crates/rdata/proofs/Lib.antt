@@ -6,5 +6,6 @@ pub mod Gathered
 pub mod Selected
 pub mod SetMembers
 pub mod SetRows
-pub mod Values
+pub mod StringsWire
+pub mod Gathering
 pub mod Words

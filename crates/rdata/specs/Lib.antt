@@ -13,3 +13,5 @@ pub mod Kept
 pub mod Gathering
 pub mod Rows
 pub mod Later
+pub mod Strings
+pub mod Shared

@@ -6,17 +6,16 @@ use Rattle.std.specs.declared.cmp.Ordering.{Ordering}
 use Rattle.std.specs.declared.cmp.Ordering.TheVariants.{Less, Equal, Greater}
 use Rattle.std.specs.Ordering.{nat_cmp, ordering_then, eq_by_cmp, as_partial_cmp}
 use Rattle.std.specs.Cmp.{IsPartialEquivalence, IsEquivalence, IsTotalOrder, IsPartialOrder, on_total, on_equiv, partial_equiv_from_equiv, unsigned_ties, partial_order_from_agreeing_total}
-use Rattle.std.specs.Cmp.Lexicographic.{pointwise, slice_cmp, nat_list_cmp_total, nat_list_eq_equiv, lists_total, lists_ties, lists_equiv}
+use Rattle.std.specs.Cmp.Lexicographic.{pointwise, pointwise_decides, bytes_decides, slice_cmp, nat_list_cmp_total, nat_list_eq_equiv, lists_total, lists_ties, lists_equiv}
+use Rattle.std.specs.Bool.{Decides}
 use Rattle.dname.specs.Labels.{wire, same_name}
+use Rattle.dname.specs.Laws.{same_name-exact, same_name-equal}
 use Rattle.rdata.specs.Data.{Authority, Service, Datum, Ipv4, Ns, Cname, Soa, Ptr, Mx, Txt, Ipv6, Srv, type_of, same_data}
 use Rattle.rdata.specs.Kept.{datum}
 use Rattle.rdata.specs.declared.data.RData.{RData}
 
 abbrev pub bytes_cmp : List ℕ → List ℕ → Ordering
 bytes_cmp a b = slice_cmp nat_cmp a b
-
-pub bytes_cmp_partial : IsPartialOrder (pointwise nat_eq) (as_partial_cmp bytes_cmp)
-bytes_cmp_partial = partial_order_from_agreeing_total bytes_cmp nat_list_cmp_total (λ _ _. refl) (lists_ties nat_cmp unsigned_ties)
 
 -- What an SOA record says in numbers.
 abbrev pub numbers_of : Authority → List ℕ
@@ -41,7 +40,7 @@ alike_cmp (Cname m) (Cname n) = bytes_cmp (wire m) (wire n)
 alike_cmp (Soa a) (Soa b) = authority_cmp a b
 alike_cmp (Ptr m) (Ptr n) = bytes_cmp (wire m) (wire n)
 alike_cmp (Mx p m) (Mx q n) = ordering_then (nat_cmp p q) (bytes_cmp (wire m) (wire n))
-alike_cmp (Txt a) (Txt b) = slice_cmp bytes_cmp a b
+alike_cmp (Txt a) (Txt b) = bytes_cmp (wire a) (wire b)
 alike_cmp (Ipv6 a) (Ipv6 b) = bytes_cmp a b
 alike_cmp (Srv a) (Srv b) = service_cmp a b
 alike_cmp _ _ = Equal
@@ -58,7 +57,7 @@ parts (Cname n) = (5 ∷ []) ∷ wire n ∷ []
 parts (Soa s) = (6 ∷ []) ∷ wire s.primary ∷ wire s.mailbox ∷ numbers_of s ∷ []
 parts (Ptr n) = (12 ∷ []) ∷ wire n ∷ []
 parts (Mx p n) = (15 ∷ p ∷ []) ∷ wire n ∷ []
-parts (Txt ts) = (16 ∷ []) ∷ ts
+parts (Txt ts) = (16 ∷ []) ∷ wire ts ∷ []
 parts (Ipv6 a) = (28 ∷ []) ∷ a ∷ []
 parts (Srv s) = (33 ∷ []) ∷ service_numbers s ∷ wire s.target ∷ []
 
@@ -89,7 +88,7 @@ by_parts (Cname m) (Cname n) = alone (bytes_cmp (wire m) (wire n))
 by_parts (Soa a) (Soa b) = in_turn (bytes_cmp (wire a.primary) (wire b.primary)) (bytes_cmp (wire a.mailbox) (wire b.mailbox)) (bytes_cmp (numbers_of a) (numbers_of b))
 by_parts (Ptr m) (Ptr n) = alone (bytes_cmp (wire m) (wire n))
 by_parts (Mx p m) (Mx q n) = two (nat_cmp p q) (bytes_cmp (wire m) (wire n))
-by_parts (Txt a) (Txt b) = refl
+by_parts (Txt a) (Txt b) = alone (bytes_cmp (wire a) (wire b))
 by_parts (Ipv6 a) (Ipv6 b) = alone (bytes_cmp a b)
 by_parts (Srv a) (Srv b) = ap (ordering_then (bytes_cmp (service_numbers a) (service_numbers b))) (alone (bytes_cmp (wire a.target) (wire b.target)))
 by_parts _ _ = refl
@@ -122,6 +121,18 @@ four true true false n = refl
 four true true true false = refl
 four true true true true = refl
 
+-- Strings are the same where their wire forms are.
+alike : (b c : Bool) → (b ≡ true → c ≡ true) → (c ≡ true → b ≡ true) → b ≡ c
+alike true c f g = sym (f refl)
+alike false true f g = g refl
+alike false false f g = refl
+
+same_strings : (a b : List (List ℕ)) → Decides (pointwise (pointwise nat_eq) a b) (a ≡ b)
+same_strings = pointwise_decides {E = pointwise nat_eq} bytes_decides
+
+pub same_wires : (a b : List (List ℕ)) → same_name a b ≡ pointwise (pointwise nat_eq) a b
+same_wires a b = alike (same_name a b) (pointwise (pointwise nat_eq) a b) (λ h. (same_strings a b).1 (same_name-exact a b h)) (λ h. same_name-equal a b ((same_strings a b).0 h))
+
 same_parts : (d e : Datum) → same_data d e ≡ pointwise (pointwise nat_eq) (parts d) (parts e)
 same_parts (Ipv4 a) (Ipv4 b) = lone (pointwise nat_eq a b)
 same_parts (Ns m) (Ns n) = lone (same_name m n)
@@ -131,7 +142,7 @@ same_parts (Soa a) (Soa b) =
     (nat_eq a.minimum b.minimum)
 same_parts (Ptr m) (Ptr n) = lone (same_name m n)
 same_parts (Mx p m) (Mx q n) = pair (nat_eq p q) (same_name m n)
-same_parts (Txt a) (Txt b) = refl
+same_parts (Txt a) (Txt b) = sym (same_wires a b) ∙ lone (same_name a b)
 same_parts (Ipv6 a) (Ipv6 b) = lone (pointwise nat_eq a b)
 same_parts (Srv a) (Srv b) = four (nat_eq a.priority b.priority) (nat_eq a.weight b.weight) (nat_eq a.port b.port) (same_name a.target b.target)
 same_parts _ _ = refl

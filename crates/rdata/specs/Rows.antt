@@ -1,9 +1,18 @@
 -- A record set as the list of its records.
 use Rattle.std.specs.Prelude.{ℕ, Option, Some, None, List, [], ◌∷◌, map}
+use Rattle.rdata.specs.Data.{Datum}
 use Rattle.rdata.specs.Kept.{datum}
 use Rattle.rdata.specs.Records.{Record}
 use Rattle.rdata.specs.declared.data.RData.{RData}
 
+-- A record with these data.
+abbrev pub plain_row : List (List ℕ) → ℕ → Datum → Record
+plain_row owner ttl d = record { owner = owner; ttl = ttl; value = d }
+
+abbrev pub plain_rows : List (List ℕ) → ℕ → List Datum → List Record
+plain_rows owner ttl ds = map (plain_row owner ttl) ds
+
+-- The same of data as they are kept.
 abbrev pub row : {H : Type 0} → List (List ℕ) → ℕ → RData H → Record
 row owner ttl d = record { owner = owner; ttl = ttl; value = datum d }
 

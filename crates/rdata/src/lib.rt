@@ -2,7 +2,7 @@
 //! TXT, AAAA (RFC 3596) and SRV (RFC 2782); and RRsets (RFC 2181, section 5).
 //!
 //! `Record` is an owner, a TTL and `RData`; `Records` lists them, and a `RecordSet` is those of one owner and one
-//! TTL. `RType` is a served type, by number (`from_number`, `number`) or by word (`from_word`, `word`). `set_at` picks
+//! TTL. Its data lie once for all clones of it (`Values`): a clone counts up, and copies its owner alone. `RType` is a served type, by number (`from_number`, `number`) or by word (`from_word`, `word`). `set_at` picks
 //! the RRset of an owner and a type: repeats dropped, all TTLs the lowest. `Display` writes a record, and its RDATA, as
 //! a master file has them; `put_data` does so into a string.
 //!
@@ -27,6 +27,7 @@ mod record_set;
 mod records;
 mod rtype;
 mod sets;
+mod shared;
 mod soa;
 mod srv;
 mod text;
@@ -35,11 +36,12 @@ mod texts;
 pub use addr::Addr;
 pub use data::RData;
 pub use laws::{number_names_type_law, same_data_law, word_names_type_law};
-pub use record_set::{RecordSet, copy_values};
+pub use record_set::RecordSet;
 pub use records::{GREATEST_TTL, Record, Records};
 pub use rtype::{INTERNET, RType, is_same_word};
 pub use sets::{Later, lowest_ttl, put_once, same_set, set_at};
+pub use shared::{Place, Shared, Values};
 pub use soa::Soa;
 pub use srv::Srv;
 pub use text::{put_data, put_ipv4};
-pub use texts::{CharacterString, Texts};
+pub use texts::{CharacterString, Texts, next_string};

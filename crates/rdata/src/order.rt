@@ -3,46 +3,15 @@
 
 ghost use Rattle.std.specs.Prelude.{◌≡◌};
 ghost use Rattle.std.proofs.Common.{refl};
-ghost use Rattle.std.specs.Ordering.{nat_cmp, as_partial_cmp};
-ghost use Rattle.std.specs.Cmp.{unsigned_ties};
-ghost use Rattle.std.specs.Cmp.Lexicographic.{nat_list_cmp_total, nat_list_eq_equiv, lists_ties};
+ghost use Rattle.std.specs.Ordering.{as_partial_cmp};
 ghost use Rattle.rdata.specs.Kept.{datum};
-ghost use Rattle.rdata.specs.Order.{bytes_cmp, bytes_cmp_partial, numbers_of, authority_cmp, service_cmp, alike_cmp, same_kept, same_kept_equiv, same_kept_per, kept_cmp, kept_cmp_total, kept_cmp_ties, kept_cmp_partial};
+ghost use Rattle.rdata.specs.Order.{numbers_of, authority_cmp, service_cmp, alike_cmp, same_kept, same_kept_equiv, same_kept_per, kept_cmp, kept_cmp_total, kept_cmp_ties, kept_cmp_partial};
 
 use crate::data::RData;
 use crate::soa::Soa;
 use crate::srv::Srv;
-use crate::texts::CharacterString;
 use std::alloc::Allocator;
 use std::cmp::{Eq, Ordering};
-
-impl<A: Allocator> Eq for CharacterString<A> {
-    ghost laws = { nat_list_eq_equiv };
-}
-
-impl<A: Allocator> PartialOrd for CharacterString<A> {
-    ghost partial_cmp = { as_partial_cmp bytes_cmp };
-
-    ghost laws = { bytes_cmp_partial };
-
-    fn partial_cmp(&self, other: &CharacterString<A>) -> Option<Ordering> {
-        Some(self.cmp(other))
-    }
-}
-
-impl<A: Allocator> Ord for CharacterString<A> {
-    ghost cmp = { bytes_cmp };
-
-    ghost total = { nat_list_cmp_total };
-
-    ghost matches_partial_cmp = { λ _ _. refl };
-
-    ghost matches_eq = { lists_ties nat_cmp unsigned_ties };
-
-    fn cmp(&self, other: &CharacterString<A>) -> Ordering {
-        self.bytes().cmp(other.bytes())
-    }
-}
 
 fn numbers<A: Allocator>(soa: &Soa<A>) -> [u32; 5]
     ensures { result ≡ numbers_of soa.now }
@@ -76,7 +45,7 @@ fn cmp_alike<A: Allocator>(a: &RData<A>, b: &RData<A>) -> Ordering
         (RData::Soa(a), RData::Soa(b)) => cmp_soa(a, b),
         (RData::Ptr(a), RData::Ptr(b)) => a.wire().cmp(b.wire()),
         (RData::Mx(p, a), RData::Mx(q, b)) => p.cmp(q).then(a.wire().cmp(b.wire())),
-        (RData::Txt(a), RData::Txt(b)) => a.strings().cmp(b.strings()),
+        (RData::Txt(a), RData::Txt(b)) => a.wire().cmp(b.wire()),
         (RData::Aaaa(a), RData::Aaaa(b)) => a.cmp(b),
         (RData::Srv(a), RData::Srv(b)) => cmp_srv(a, b),
         _ => Ordering::Equal,

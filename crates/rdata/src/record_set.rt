@@ -1,19 +1,19 @@
 //! RRsets as values (RFC 2181, section 5).
 ghost use Rattle.std.specs.Prelude.{◌≡◌, ◌≤◌, ◌<◌, [], ◌∷◌, Some, length, map, IfOk};
 ghost use Rattle.rdata.specs.Caps.{capped};
-ghost use Rattle.rdata.specs.Kept.{datum};
 ghost use Rattle.rdata.specs.Records.{greatest_ttl};
 ghost use Rattle.rdata.specs.Rows.{row, first_in};
 ghost use Rattle.rdata.specs.Sets.{lowest_ttl, with_ttl};
 
 use crate::data::RData;
 use crate::records::{Record, Records};
+use crate::shared::Values;
 use dname::{Heap, Name, Starved};
 use std::alloc::{AllocError, Allocator, Global};
 use std::marker::Model;
 
-/// An RRset: data of one owner, under one TTL, in order, one or more (RFC 2181, section 5). Contracts see the
-/// list of its records.
+/// An RRset: data of one owner, under one TTL, in order, one or more (RFC 2181, section 5). Its clones share the data.
+/// Contracts see the list of its records.
 #[derive(Drop)]
 pub struct RecordSet<A: Allocator = Global> {
     /// The owner of every record of the set.
@@ -21,35 +21,19 @@ pub struct RecordSet<A: Allocator = Global> {
     /// Time to live in seconds, at most `GREATEST_TTL` (RFC 2181, sections 5.2 and 8).
     pub ttl: u32,
     /// The data of its records in order, one or more.
-    pub values: Vec<RData<A>, A>,
+    pub values: Values<A>,
 }
 
 impl<A: Allocator> Model for RecordSet<A> {
-    ghost use Rattle.std.specs.Prelude.{◌≤◌, ◌<◌, List, length};
+    ghost use Rattle.std.specs.Prelude.{◌≤◌, List};
     ghost use Rattle.rdata.specs.Records.{Record, greatest_ttl};
-    ghost use Rattle.rdata.specs.Rows.{rows};
+    ghost use Rattle.rdata.specs.Rows.{plain_rows};
 
     ghost Value = { List Record };
 
-    ghost view = { λ s. rows s.owner s.ttl s.values.items };
+    ghost view = { λ s. plain_rows s.owner s.ttl s.values };
 
-    ghost invariant = { λ s. (s.ttl ≤ greatest_ttl) × (0 < length s.values.items) };
-}
-
-/// Copies of data.
-pub fn copy_values<A: Heap>(alloc: A, values: &[RData<A>]) -> Result<Vec<RData<A>, A>, AllocError>
-    ensures { IfOk result (λ v. map datum v.items ≡ map datum values.now) }
-{
-    let mut items = Vec::with_capacity(alloc, values.len())?;
-    for value in values {
-        // Most sets are of addresses, which take no memory of their own.
-        match value {
-            RData::A(addr) => items.push_reserved(RData::A(*addr)),
-            RData::Aaaa(bytes) => items.push_reserved(RData::Aaaa(*bytes)),
-            _ => items.push_reserved(value.clone()?),
-        }
-    }
-    Ok(items)
+    ghost invariant = { λ s. s.ttl ≤ greatest_ttl };
 }
 
 fn row<A: Heap>(owner: &Name<A>, ttl: u32, value: &RData<A>) -> Result<Record<A>, Starved>
@@ -67,7 +51,7 @@ impl<A: Heap> Clone for RecordSet<A> {
     ghost is_clone = { λ x y. y ≡ x };
 
     fn clone(&self) -> Result<RecordSet<A>, AllocError> {
-        let values = copy_values(*self.values.allocator(), &self.values)?;
+        let values = self.values.clone()?;
         Ok(RecordSet {
             owner: self.owner.clone()?,
             ttl: self.ttl,
@@ -81,8 +65,7 @@ impl<A: Heap> RecordSet<A> {
     pub fn alone(alloc: A, only: Record<A>) -> Result<RecordSet<A>, Starved>
         ensures { IfOk result (λ set. set ≡ only ∷ []) }
     {
-        let mut values = Vec::with_capacity(alloc, 1)?;
-        values.push(only.value)?;
+        let values = Values::alone(alloc, only.value)?;
         Ok(RecordSet {
             owner: only.owner,
             ttl: only.ttl,
@@ -94,7 +77,8 @@ impl<A: Heap> RecordSet<A> {
     pub fn first(&self) -> Result<Record<A>, Starved>
         ensures { IfOk result (λ r. Some r ≡ first_in self.now) }
     {
-        Ok(row(&self.owner, self.ttl, &self.values[0])?)
+        let _ = self.values.len();
+        Ok(row(&self.owner, self.ttl, self.values.get(0))?)
     }
 
     /// Its records.
@@ -102,8 +86,8 @@ impl<A: Heap> RecordSet<A> {
         ensures { IfOk result (λ rs. rs ≡ self.now) }
     {
         let mut records = Records::with_capacity(alloc, self.values.len())?;
-        for value in &self.values {
-            records.push(row(&self.owner, self.ttl, value)?)?;
+        for index in 0..self.values.len() {
+            records.push(row(&self.owner, self.ttl, self.values.get(index))?)?;
         }
         Ok(records)
     }
@@ -123,6 +107,7 @@ impl<A: Allocator> RecordSet<A> {
         ensures lowest { result ≡ lowest_ttl self.now }
         ensures most { result ≤ greatest_ttl }
     {
+        let _ = self.values.len();
         self.ttl
     }
 

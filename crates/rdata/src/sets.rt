@@ -15,6 +15,7 @@ use crate::data::RData;
 use crate::record_set::RecordSet;
 use crate::records::{GREATEST_TTL, Record};
 use crate::rtype::RType;
+use crate::shared::Values;
 use dname::{Heap, Name, Starved};
 use std::alloc::Allocator;
 use std::collections::BTreeSet;
@@ -44,10 +45,11 @@ pub fn set_at<A: Heap>(
     ensures { IfOk result (λ set. in_set set ≡ one_set (records_at owner.now (type_number kind) records.now)) }
 {
     let ttl = lowest_ttl_at(records, owner, kind);
-    let values = values_at(alloc, records, owner, kind)?;
-    if values.is_empty() {
+    let items = values_at(alloc, records, owner, kind)?;
+    if items.is_empty() {
         return Ok(None);
     }
+    let values = Values::new(alloc, items)?;
     Ok(Some(RecordSet {
         owner: owner.clone()?,
         ttl,

@@ -9,7 +9,7 @@ use crate::data::RData;
 use crate::records::Record;
 use crate::soa::Soa;
 use crate::srv::Srv;
-use crate::texts::{CharacterString, Texts};
+use crate::texts::{CharacterString, Texts, next_string};
 use dname::{Starved, write_number};
 use std::alloc::Allocator;
 use std::fmt;
@@ -94,8 +94,11 @@ impl<A: Allocator> fmt::Display for Texts<A> {
     ghost output = { λ strings. Some (flat_map spaced_string strings) };
 
     fn fmt<W: fmt::Write>(&self, f: &mut fmt::Formatter<W>) -> fmt::Result {
-        for string in self.strings() {
-            write!(f, " {string}")?;
+        let mut rest = self.wire();
+        while let Some((string, after)) = next_string(rest) {
+            f.write_str(" ")?;
+            write_quoted(f, string)?;
+            rest = after;
         }
         Ok(())
     }
@@ -106,12 +109,19 @@ impl<A: Allocator> fmt::Display for CharacterString<A> {
     ghost output = { λ s. Some (quoted s) };
 
     fn fmt<W: fmt::Write>(&self, f: &mut fmt::Formatter<W>) -> fmt::Result {
-        f.write_str("\"")?;
-        for byte in self.bytes() {
-            write_byte(f, *byte)?;
-        }
-        f.write_str("\"")
+        write_quoted(f, self.bytes())
     }
+}
+
+// A string in quotes.
+fn write_quoted<W: fmt::Write>(f: &mut fmt::Formatter<W>, string: &[u8]) -> fmt::Result
+    ensures { WritesOnOk W.write_str_gives f.old result (quoted string.now) f.new }
+{
+    f.write_str("\"")?;
+    for byte in string {
+        write_byte(f, *byte)?;
+    }
+    f.write_str("\"")
 }
 
 fn write_byte<W: fmt::Write>(f: &mut fmt::Formatter<W>, byte: u8) -> fmt::Result

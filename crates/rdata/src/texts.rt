@@ -1,7 +1,9 @@
 //! Character-strings, and the data of a TXT record.
-ghost use Rattle.std.specs.Prelude.{◌≡◌, ◌≤◌, ◌<◌, [], ◌∷◌, ◌++◌, length, nat_eq, IfOk, OnOk, OnErr};
+ghost use Rattle.std.specs.Prelude.{◌≡◌, ◌≤◌, [], ◌∷◌, ◌++◌, length, nat_eq, IfOk, OnOk, OnErr, MatchOption};
 ghost use Rattle.std.specs.Cmp.{partial_equiv_from_equiv};
 ghost use Rattle.std.specs.Cmp.Lexicographic.{pointwise, nat_list_eq_equiv};
+ghost use Rattle.dname.specs.Labels.{wire};
+ghost use Rattle.rdata.specs.Strings.{strings_of, IsStringsWire, IsTextsWire, IsCut};
 
 use dname::{Heap, Starved};
 use std::alloc::{AllocError, Allocator, Global};
@@ -62,20 +64,48 @@ impl<A: Heap> Clone for CharacterString<A> {
     }
 }
 
-/// The strings of a TXT record: one or more (RFC 1035, section 3.3.14). Contracts see their list.
+/// The first string of a TXT record's wire form and the wire form behind it; none where no bytes are left (RFC 1035,
+/// section 3.3). A walk over the strings is a loop of these calls.
+pub fn next_string(bytes: &[u8]) -> Option<(&[u8], &[u8])>
+    requires { IsStringsWire bytes.now }
+    ensures { MatchOption result (bytes.now ≡ []) (λ p. IsCut bytes.now p.0.now p.1.now) }
+{
+    if bytes.is_empty() {
+        return None;
+    }
+    let size = usize::from(bytes[0]);
+    let (_, rest) = bytes.split_at(1);
+    Some(rest.split_at(size))
+}
+
+// One string more behind the others; none of it where memory is refused.
+fn append<A: Heap>(bytes: &mut Vec<u8, A>, string: &[u8]) -> Result<(), Starved>
+    requires { length string.now ≤ 255 }
+    ensures ok { OnOk result (bytes.new.items ≡ bytes.old.items ++ length string.now ∷ string.now) }
+    ensures err { OnErr result (bytes.new.items ≡ bytes.old.items) }
+{
+    bytes.reserve(1 + string.len())?;
+    bytes.push_reserved(string.len() as u8);
+    bytes.extend_from_slice(string).unwrap();
+    Ok(())
+}
+
+/// The strings of a TXT record: one or more (RFC 1035, section 3.3.14), in one piece. Contracts see their list.
 #[derive(Drop)]
 pub struct Texts<A: Allocator = Global> {
-    strings: Vec<CharacterString<A>, A>,
+    // Each behind its length.
+    wire: Vec<u8, A>,
 }
 
 impl<A: Allocator> Model for Texts<A> {
-    ghost use Rattle.std.specs.Prelude.{◌<◌, List, ℕ, length};
+    ghost use Rattle.std.specs.Prelude.{List, ℕ};
+    ghost use Rattle.rdata.specs.Strings.{strings_of, IsTextsWire};
 
     ghost Value = { List (List ℕ) };
 
-    ghost view = { λ t. t.strings.items };
+    ghost view = { λ t. strings_of t.wire.items };
 
-    ghost invariant = { λ t. 0 < length t.strings.items };
+    ghost invariant = { λ t. IsTextsWire t.wire.items };
 }
 
 impl<A: Heap> Texts<A> {
@@ -83,9 +113,17 @@ impl<A: Heap> Texts<A> {
     pub fn new(alloc: A, first: CharacterString<A>) -> Result<Texts<A>, Starved>
         ensures { IfOk result (λ t. t ≡ first ∷ []) }
     {
-        let mut strings = Vec::new(alloc);
-        strings.push(first)?;
-        Ok(Texts { strings })
+        let mut wire = Vec::new(alloc);
+        append(&mut wire, first.bytes())?;
+        Ok(Texts { wire })
+    }
+
+    /// The strings that these bytes hold in wire form.
+    pub fn of_wire(wire: Vec<u8, A>) -> Texts<A>
+        requires { IsTextsWire wire.items }
+        ensures { result ≡ strings_of wire.items }
+    {
+        Texts { wire }
     }
 
     /// One string more, at the end.
@@ -93,18 +131,18 @@ impl<A: Heap> Texts<A> {
         ensures ok { OnOk result (self.new ≡ self.old ++ string ∷ []) }
         ensures err { OnErr result (self.new ≡ self.old) }
     {
-        self.strings.push(string)?;
-        Ok(())
+        Ok(append(&mut self.wire, string.bytes())?)
     }
 }
 
 impl<A: Allocator> Texts<A> {
-    /// The strings in order.
-    pub fn strings(&self) -> &[CharacterString<A>]
-        ensures is { result.now ≡ self.now }
-        ensures some { 0 < length self.now }
+    /// The strings in wire form, each behind its length (`next_string`).
+    pub fn wire(&self) -> &[u8]
+        ensures is { result.now ≡ wire self.now }
+        ensures strings { strings_of result.now ≡ self.now }
+        ensures form { IsTextsWire result.now }
     {
-        &self.strings
+        &self.wire
     }
 }
 
@@ -112,12 +150,8 @@ impl<A: Heap> Clone for Texts<A> {
     ghost is_clone = { λ x y. y ≡ x };
 
     fn clone(&self) -> Result<Texts<A>, AllocError> {
-        let alloc = *self.strings.allocator();
-        let mut strings = Vec::with_capacity(alloc, self.strings.len())?;
-        for string in &self.strings {
-            strings.push(string.clone()?)?;
-        }
-        Ok(Texts { strings })
+        let wire = Vec::from_slice(*self.wire.allocator(), &self.wire)?;
+        Ok(Texts { wire })
     }
 }
 
@@ -126,6 +160,6 @@ impl<A: Allocator> Texts<A> {
     pub fn is_same(&self, other: &Texts<A>) -> bool
         ensures { result ≡ pointwise (pointwise nat_eq) self.now other.now }
     {
-        self.strings.as_slice() == other.strings.as_slice()
+        self.wire() == other.wire()
     }
 }

@@ -135,10 +135,10 @@ strings_read (s ∷ strings) (suc fuel) bytes at end h enough =
     test_yes (nat_lt at end) _ (Ok []) a ∙ (ap (λ x. and_then x (λ t. and_then (strings_from fuel bytes t.1 end) (with_string t.0))) one
     ∙ ap (λ x. and_then x (with_string s)) more)
 
-abbrev AreTexts : List ℕ → ℕ → ℕ → List (List ℕ) → Type 0
+abbrev pub AreTexts : List ℕ → ℕ → ℕ → List (List ℕ) → Type 0
 AreTexts bytes at end strings = IsAt bytes at (strings_bytes strings) end × (0 < length strings) × AllByRecursion (λ s. length s < 256) strings
 
-texts_stand : (bytes : List ℕ) (at end : ℕ) → AreSmall bytes → end ≤ length bytes → IfOk (texts_at bytes at end) (AreTexts bytes at end)
+pub texts_stand : (bytes : List ℕ) (at end : ℕ) → AreSmall bytes → end ≤ length bytes → IfOk (texts_at bytes at end) (AreTexts bytes at end)
 texts_stand bytes at end small fits =
     then_read (IsString bytes at end) (AreTexts bytes at end) (string_at bytes at end) (txt_behind bytes end) (string_stands bytes at end small fits)
     (λ s h. then_read (AreStrings bytes s.1 end) (AreTexts bytes at end) (strings_from (end - s.1) bytes s.1 end) (with_string s.0)

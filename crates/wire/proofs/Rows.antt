@@ -8,7 +8,7 @@ use Rattle.rdata.specs.Records.{Record}
 use Rattle.message_grammar.specs.Messages.{Question}
 use Rattle.wire.specs.declared.error.WireError.{WireError}
 use Rattle.wire.specs.Results.{Fails, and_then}
-use Rattle.wire.specs.Values.{string_at, with_string, strings_from, txt_behind, texts_at}
+use Rattle.wire.specs.Values.{string_at, with_string, strings_from}
 use Rattle.wire.specs.Entries.{entry_at, with_kept, section_from, question_at, with_question, questions_from}
 use Rattle.wire.proofs.Walks.{fails_with}
 
@@ -16,30 +16,6 @@ use Rattle.wire.proofs.Walks.{fails_with}
 
 abbrev pub Strings : Type 0
 Strings = Result (List (List ℕ)) WireError
-
-abbrev pub behind_strings : List (List ℕ) → List (List ℕ) → Strings
-behind_strings front rest = Ok (front ++ rest)
-
-pub record StringRow (bytes : List ℕ) (at end place : ℕ) (front : List (List ℕ)) : Type 0 where
-  pub fuel : ℕ
-  pub enough : end - place ≤ fuel
-  pub so_far : texts_at bytes at end ≡ and_then (strings_from fuel bytes place end) (behind_strings front)
-
-behind_first : (string : List ℕ) (front : List (List ℕ)) (r : Strings) → and_then (and_then r (with_string string)) (behind_strings front) ≡ and_then r (behind_strings (front ++ string ∷ []))
-behind_first string front (Ok rest) = λ i. Ok (sym (append_assoc front (string ∷ []) rest) i)
-behind_first string front (Err e) = refl
-
-with_first : (string : List ℕ) (r : Strings) → and_then r (with_string string) ≡ and_then r (behind_strings (string ∷ []))
-with_first string (Ok rest) = refl
-with_first string (Err e) = refl
-
-pub strings_begin : (bytes : List ℕ) (at end : ℕ) (string : List ℕ) (next : ℕ) (front : List (List ℕ)) → string_at bytes at end ≡ Ok (string, next) → front ≡ string ∷ []
-    → StringRow bytes at end next front
-strings_begin bytes at end string next front h e = record {
-  fuel = end - next;
-  enough = omega arith;
-  so_far = ap (λ x. and_then x (txt_behind bytes end)) h ∙ (with_first string (strings_from (end - next) bytes next end) ∙ ap (λ x. and_then (strings_from (end - next) bytes next end) (behind_strings x)) (sym e));
-}
 
 -- The strings from a place before the end on.
 pub strings_more : (fuel : ℕ) (bytes : List ℕ) (place end : ℕ) → end - place ≤ fuel → place < end
@@ -56,31 +32,6 @@ strings_none zero bytes place end h = refl
 strings_none (suc fuel) bytes place end h =
     let b : nat_lt place end ≡ false = grind (arith, nat_tests) in
     ap (λ c. if c then and_then (string_at bytes place end) (λ s. and_then (strings_from fuel bytes s.1 end) (with_string s.0)) else Ok []) b
-
-pub strings_on : (bytes : List ℕ) (at end place : ℕ) (front new : List (List ℕ)) (string : List ℕ) (next : ℕ) → StringRow bytes at end place front → place < end
-    → string_at bytes place end ≡ Ok (string, next) → place < next → new ≡ front ++ string ∷ [] → StringRow bytes at end next new
-strings_on bytes at end place front new string next row less h later e =
-    let enough = row.enough in
-    let step = strings_more row.fuel bytes place end enough less in
-    let found : strings_from row.fuel bytes place end ≡ and_then (strings_from (row.fuel - 1) bytes next end) (with_string string) =
-    step ∙ ap (λ x. and_then x (λ s. and_then (strings_from (row.fuel - 1) bytes s.1 end) (with_string s.0))) h in
-    record {
-      fuel = row.fuel - 1;
-      enough = omega arith;
-      so_far = row.so_far ∙ (ap (λ x. and_then x (behind_strings front)) found ∙ (behind_first string front (strings_from (row.fuel - 1) bytes next end)
-          ∙ ap (λ x. and_then (strings_from (row.fuel - 1) bytes next end) (behind_strings x)) (sym e)));
-    }
-
-pub strings_fail : (bytes : List ℕ) (at end place : ℕ) (front : List (List ℕ)) (e : WireError) → StringRow bytes at end place front → place < end
-    → Fails e (string_at bytes place end) → Fails e (texts_at bytes at end)
-strings_fail bytes at end place front e row less h =
-    fails_with e (string_at bytes place end) (texts_at bytes at end)
-    (λ k. row.so_far ∙ ap (λ x. and_then x (behind_strings front))
-    (strings_more row.fuel bytes place end row.enough less ∙ ap (λ x. and_then x (λ s. and_then (strings_from (row.fuel - 1) bytes s.1 end) (with_string s.0))) k)) h
-
-pub strings_end : (bytes : List ℕ) (at end place : ℕ) (front : List (List ℕ)) → StringRow bytes at end place front → end ≤ place → texts_at bytes at end ≡ Ok front
-strings_end bytes at end place front row past =
-    row.so_far ∙ (ap (λ x. and_then x (behind_strings front)) (strings_none row.fuel bytes place end past) ∙ (λ i. Ok (append-nil front i)))
 
 -- ---- records
 

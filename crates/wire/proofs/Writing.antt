@@ -6,7 +6,6 @@ use Rattle.std.specs.Int.{bytes_high_first}
 use Rattle.std.specs.Option.{ok_or}
 use Rattle.std.specs.Prelude.{OnOk, IfOk, IfErr, IfSome, MatchOption, flat_map}
 use Rattle.std.proofs.lemmas.Grind.{flat_map-append}
-use Rattle.message_grammar.specs.Messages.{strings_bytes, string_bytes_of}
 use Rattle.message_grammar.proofs.Letters.{after-append, flats_both, headed, questioned, encoding_parts}
 use Rattle.rdata.specs.Records.{Record}
 use Rattle.wire.specs.Drafts.{asked_alone, drafted}
@@ -162,9 +161,6 @@ header_put t h questions answer authority additional high low i q a n x e1 e2 e3
     ∙ (λ j. put_flat (put_flat (put_flat (put_flat (put_flat (put_flat t (plain_bytes (two_of (e1 j)))) (plain_bytes (e2 j ∷ e3 j ∷ []))) (plain_bytes (two_of (e4 j))))
     (plain_bytes (two_of (e5 j)))) (plain_bytes (two_of (e6 j)))) (plain_bytes (two_of (e7 j))))
 
-pub nothing_put : (t : Text) → t ≡ put_flat t (plain_bytes [])
-nothing_put t = (λ i. record { start = t.start; bytes = sym (append-nil t.bytes) i; notes = t.notes }) ∙ sym (plain_put t [])
-
 -- Pieces of one thing after another.
 pub row_on : {X : Type 0} (pieces : X → List Piece) (before now next : Text) (xs : List X) (i : ℕ) (x : X) → now ≡ after before (flat_map pieces (take i xs)) → i < length xs
     → x ≡ get_or xs i x → next ≡ after now (pieces x) → next ≡ after before (flat_map pieces (take (i + 1) xs))
@@ -174,17 +170,6 @@ row_on pieces before now next xs i x h less e k =
     k ∙ (ap (λ t. after t (pieces x)) h
     ∙ (sym (after-append (flat_map pieces (take i xs)) (pieces x) before)
     ∙ ap (after before) (ap (λ y. flat_map pieces (take i xs) ++ y) (sym last) ∙ (sym (flat_map-append pieces (take i xs) (x ∷ [])) ∙ ap (flat_map pieces) (sym more)))))
-
-pub strings_row_on : (before now mid next : Text) (xs : List (List ℕ)) (i : ℕ) (x : List ℕ) → now ≡ put_flat before (plain_bytes (strings_bytes (take i xs))) → i < length xs
-    → x ≡ get_or xs i x → mid ≡ put_flat now (plain_bytes (length x ∷ [])) → next ≡ put_flat mid (plain_bytes x)
-    → next ≡ put_flat before (plain_bytes (strings_bytes (take (i + 1) xs)))
-strings_row_on before now mid next xs i x h less e k l =
-    let more : take (i + 1) xs ≡ take i xs ++ x ∷ [] = take_more xs i x less ∙ ap (λ y. take i xs ++ y ∷ []) (sym e) in
-    let last : strings_bytes (x ∷ []) ≡ length x ∷ x = append-nil (length x ∷ x) in
-    let whole : strings_bytes (take i xs) ++ (length x ∷ x) ≡ strings_bytes (take (i + 1) xs) =
-    ap (λ y. strings_bytes (take i xs) ++ y) (sym last) ∙ (sym (flat_map-append string_bytes_of (take i xs) (x ∷ [])) ∙ ap strings_bytes (sym more)) in
-    l ∙ (ap (λ t. put_flat t (plain_bytes x)) k ∙ (plain_both now (length x ∷ []) x ∙ (ap (λ t. put_flat t (plain_bytes (length x ∷ x))) h
-    ∙ (plain_both before (strings_bytes (take i xs)) (length x ∷ x) ∙ ap (λ y. put_flat before (plain_bytes y)) whole))))
 
 -- ---- a name put by what was found among the notes
 

@@ -2,30 +2,30 @@
 ghost use Rattle.std.specs.Prelude.{◌≤◌, OnOk, flat_map};
 ghost use Rattle.std.specs.List.{AllByRecursion};
 ghost use Rattle.rdata.specs.Records.{greatest_ttl};
-ghost use Rattle.rdata.specs.Rows.{rows};
+ghost use Rattle.rdata.specs.Rows.{plain_rows};
 ghost use Rattle.message_grammar.specs.Messages.{record_pieces, IsRecord};
 ghost use Rattle.wire.specs.Puts.{Puts};
 
 use crate::writer::Writer;
 use dname::{Heap, Name, Starved};
-use rdata::{RData, RecordSet};
+use rdata::{RecordSet, Values};
 
 impl<A: Heap> Writer<A> {
     fn put_rows(
         &mut self,
         owner: &Name<A>,
         ttl: u32,
-        values: &[RData<A>],
+        values: &Values<A>,
         limit: usize,
     ) -> Result<(), Starved>
         requires { ttl ≤ greatest_ttl }
-        ensures { OnOk result (Puts limit (AllByRecursion IsRecord (rows owner.now ttl values.now)) (flat_map record_pieces (rows owner.now ttl values.now)) self.old self.new) }
+        ensures { OnOk result (Puts limit (AllByRecursion IsRecord (plain_rows owner.now ttl values.now)) (flat_map record_pieces (plain_rows owner.now ttl values.now)) self.old self.new) }
     {
-        for value in values {
+        for index in 0..values.len() {
             if self.is_over(limit) {
                 return Ok(());
             }
-            self.put_row(owner, ttl, value)?;
+            self.put_row(owner, ttl, values.get(index))?;
         }
         Ok(())
     }

@@ -39,7 +39,7 @@ fn string_end(bytes: &[u8], at: usize, end: usize) -> Result<usize, WireError>
 }
 
 // The end of one or more character-strings up to the end.
-fn texts_end(bytes: &[u8], at: usize, end: usize) -> Result<usize, WireError>
+pub(crate) fn texts_end(bytes: &[u8], at: usize, end: usize) -> Result<usize, WireError>
     requires { end ≤ length bytes.now }
     ensures { result ≡ end_of (form_at RType.Txt bytes.now at end) }
 {

@@ -1,8 +1,8 @@
 //! RDATA read, within the length that RDLENGTH gives.
-ghost use Rattle.std.specs.Prelude.{ℕ, ◌≤◌, ◌<◌, ◌+◌, List, length, IfOk};
+ghost use Rattle.std.specs.Prelude.{ℕ, ◌≤◌, List, length, IfOk};
 ghost use Rattle.rdata.specs.Data.{Datum};
 ghost use Rattle.rdata.specs.Kept.{datum};
-ghost use Rattle.wire.specs.Values.{string_at, texts_at, form_at, value_at, name_within};
+ghost use Rattle.wire.specs.Values.{texts_at, form_at, value_at, name_within};
 ghost use Rattle.wire.specs.Chains.{AreChainEnds};
 ghost use Rattle.wire.specs.Results.{Gives};
 
@@ -10,8 +10,9 @@ use crate::error::WireError;
 use crate::fields::{four_at, two_at};
 use crate::names::{full_name_at, name_at};
 use crate::parts::Faults;
+use crate::skips::texts_end;
 use dname::{Heap, Name};
-use rdata::{Addr, CharacterString, RData, RType, Soa, Srv, Texts};
+use rdata::{Addr, RData, RType, Soa, Srv, Texts};
 
 // A name in RDATA that end at `end`.
 fn name_within<A: Heap>(
@@ -29,41 +30,14 @@ fn name_within<A: Heap>(
     name_at(alloc, bytes, ends, Faults::in_rdata(), end, at)
 }
 
-// One character-string, and its end.
-fn string_at<A: Heap>(
-    alloc: A,
-    bytes: &[u8],
-    at: usize,
-    end: usize,
-) -> Result<(CharacterString<A>, usize), WireError>
-    requires { end ≤ length bytes.now }
-    ensures is { Gives {Y = List ℕ × ℕ} (λ x. (x.0, x.1)) result (string_at bytes.now at end) }
-    ensures within { IfOk result (λ x. (at < x.1) × (x.1 ≤ end)) }
-{
-    if end <= at {
-        return Err(WireError::BadRdataLength);
-    }
-    let size = usize::from(bytes[at]);
-    if end - at - 1 < size {
-        return Err(WireError::BadRdataLength);
-    }
-    let string = Vec::from_slice(alloc, &bytes[at + 1..at + 1 + size])?;
-    Ok((CharacterString::new(string), at + 1 + size))
-}
-
-// One or more strings up to the end.
+// One or more strings up to the end: their bytes as they stand, once it is known that they end there.
 fn texts_at<A: Heap>(alloc: A, bytes: &[u8], at: usize, end: usize) -> Result<Texts<A>, WireError>
     requires { end ≤ length bytes.now }
     ensures { Gives {Y = List (List ℕ)} (λ x. x) result (texts_at bytes.now at end) }
 {
-    let (first, mut place) = string_at(alloc, bytes, at, end)?;
-    let mut texts = Texts::new(alloc, first)?;
-    while place < end {
-        let (string, next) = string_at(alloc, bytes, place, end)?;
-        texts.push(string)?;
-        place = next;
-    }
-    Ok(texts)
+    texts_end(bytes, at, end)?;
+    let wire = Vec::from_slice(alloc, &bytes[at..end])?;
+    Ok(Texts::of_wire(wire))
 }
 
 fn soa_at<A: Heap>(

@@ -230,12 +230,7 @@ impl<A: Heap> Writer<A> {
         ensures written { OnOk result (self.new ≡ put_flat self.old (plain_bytes (strings_bytes texts.now))) }
         ensures fits { OnOk result (FitsRdata (plain.Txt texts.now)) }
     {
-        for string in texts.strings() {
-            let bytes = string.bytes();
-            self.put_bytes(&[bytes.len() as u8])?;
-            self.put_bytes(bytes)?;
-        }
-        Ok(())
+        Ok(self.put_bytes(texts.wire())?)
     }
 
     // RDATA behind its length.

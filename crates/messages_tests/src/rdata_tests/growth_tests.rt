@@ -132,8 +132,8 @@ fn each_growth_of_a_long_set_is_refused(rt: HostRuntime) -> Result<(), Fail> {
     let before = heap.growths();
     assert!(rt; set_size(&heap, &lent, &root)? == Some(20));
     let growths = heap.growths().saturating_sub(before);
-    // The data, their order behind the first sixteen, and the owner.
-    assert_eq!(rt; growths, 3);
+    // The data, their order behind the first sixteen, what counts their holders, and the owner.
+    assert_eq!(rt; growths, 4);
     for n in 0..growths {
         heap.refuse_after(n);
         assert!(rt; set_size(&heap, &lent, &root).is_err(), "growth {n}");

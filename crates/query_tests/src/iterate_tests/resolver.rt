@@ -173,8 +173,8 @@ fn last_byte_of<A: Heap>(value: &RData<A>) -> u8 {
 }
 
 fn found<A: Heap>(aliases: usize, set: &RecordSet<A>) -> Out {
-    match set.values.as_slice() {
-        [only] => Out::Address(aliases, last_byte_of(only)),
+    match set.values.len() {
+        1 => Out::Address(aliases, last_byte_of(set.values.get(0))),
         _ => Out::Other,
     }
 }

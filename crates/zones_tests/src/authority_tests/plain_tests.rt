@@ -3,7 +3,7 @@
 use crate::authority_tests::made::{Maker, known};
 use authority::{Catalog, Link, Local, look_in};
 use dname::{Heap, Name, Starved};
-use rdata::{RType, Record};
+use rdata::{RType, Record, Values};
 use std::alloc::Allocator;
 use std::test::Fail;
 use zone::{Zone, zone_keeps_rules};
@@ -22,12 +22,25 @@ fn are_same<A: Allocator>(these: &[Record<A>], those: &[Record<A>]) -> bool {
     these.len() == those.len()
 }
 
+// The same data in the same order.
+fn are_same_data<A: Allocator>(these: &Values<A>, those: &Values<A>) -> bool {
+    if these.len() != those.len() {
+        return false;
+    }
+    for index in 0..these.len() {
+        if !these.get(index).is_same(those.get(index)) {
+            return false;
+        }
+    }
+    true
+}
+
 fn is_same_link<A: Allocator>(one: &Link<A>, other: &Link<A>) -> bool {
     match (one, other) {
         (Link::Found(these), Link::Found(those)) => {
             these.owner == those.owner
                 && these.ttl == those.ttl
-                && these.values.as_slice() == those.values.as_slice()
+                && are_same_data(&these.values, &those.values)
         }
         (Link::Alias(one), Link::Alias(other)) => is_same(one, other),
         (Link::NoData(one), Link::NoData(other)) => is_same(one, other),

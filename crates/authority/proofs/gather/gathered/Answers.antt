@@ -1,5 +1,5 @@
 -- No record of the type, or all of it with the first one's TTL.
-use Rattle.std.proofs.Common.{rules, [], ap}
+use Rattle.std.proofs.Common.{◌∙◌, [], ap}
 use Rattle.rdata.specs.Records.{Record}
 use Rattle.rdata.specs.Types.{type_number}
 use Rattle.zone.specs.Zones.{Zone}
@@ -10,24 +10,24 @@ use Rattle.authority.proofs.gather.gathered.Goals as goal
 pub returns-in-None-clause-value : goal.returns-in-None-clause-value
 returns-in-None-clause-value g c = no_set (is_picked (target c.args.whose c.args.name.now) (type_number c.args.kind)) c.args.owner.now c.args.records.now c.in-None.ensures
 
-pub invariant_of-result : goal.invariant_of-result
-invariant_of-result g c =
+pub new-requires-in-Some : goal.new-requires-in-Some
+new-requires-in-Some g c =
     let z : Zone = record { origin = []; records = c.args.records.now } in
     let p = is_picked (target c.args.whose c.args.name.now) (type_number c.args.kind) in
     let same = timed_picked (target c.args.whose c.args.name.now) (type_number c.args.kind) z c.in-Some.first.now c.requires c.in-Some.ensures in
-    (search rules, is_filled p c.args.owner.now c.args.records.now c.in-Some.first.now c.in_ok-values-in-Some.values.items same c.in-Some.ensures c.in_ok-values-in-Some.ensures)
+    is_filled p c.args.owner.now c.args.records.now c.in-Some.first.now c.in_ok-items-in-Some.items.items same c.in-Some.ensures c.in_ok-items-in-Some.ensures
 
 pub returns-in_ok-clone-in-Some-clause-value : goal.returns-in_ok-clone-in-Some-clause-value
 returns-in_ok-clone-in-Some-clause-value g c =
     let z : Zone = record { origin = []; records = c.args.records.now } in
     let p = is_picked (target c.args.whose c.args.name.now) (type_number c.args.kind) in
     let same = timed_picked (target c.args.whose c.args.name.now) (type_number c.args.kind) z c.in-Some.first.now c.requires c.in-Some.ensures in
-    named_set p c.args.owner.now c.args.records.now c.in-Some.first.now c.in_ok-clone-in-Some.field-0 c.first.inside.ttl c.in_ok-values-in-Some.values.items
-    c.in_ok-clone-in-Some.ensures.cases (ap (λ (r : Record). r.ttl) c.first.view_is) same c.in_ok-values-in-Some.ensures
+    named_set p c.args.owner.now c.args.records.now c.in-Some.first.now c.in_ok-clone-in-Some.field-0 c.first.inside.ttl c.in_ok-values-in-Some.values
+    c.in_ok-clone-in-Some.ensures.cases (ap (λ (r : Record). r.ttl) c.first.view_is) same (c.in_ok-values-in-Some.ensures ∙ c.in_ok-items-in-Some.ensures)
 
 pub returns-in_ok-clone-in-Some-clause-some : goal.returns-in_ok-clone-in-Some-clause-some
 returns-in_ok-clone-in-Some-clause-some g c =
     let z : Zone = record { origin = []; records = c.args.records.now } in
     let p = is_picked (target c.args.whose c.args.name.now) (type_number c.args.kind) in
     let same = timed_picked (target c.args.whose c.args.name.now) (type_number c.args.kind) z c.in-Some.first.now c.requires c.in-Some.ensures in
-    some_rows c.in_ok-clone-in-Some.field-0 c.first.inside.ttl c.in_ok-values-in-Some.values.items (is_filled p c.args.owner.now c.args.records.now c.in-Some.first.now c.in_ok-values-in-Some.values.items same c.in-Some.ensures c.in_ok-values-in-Some.ensures)
+    some_rows c.in_ok-clone-in-Some.field-0 c.first.inside.ttl c.in_ok-items-in-Some.items.items c.in_ok-values-in-Some.values (is_filled p c.args.owner.now c.args.records.now c.in-Some.first.now c.in_ok-items-in-Some.items.items same c.in-Some.ensures c.in_ok-items-in-Some.ensures) c.in_ok-values-in-Some.ensures

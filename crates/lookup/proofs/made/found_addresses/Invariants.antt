@@ -2,5 +2,5 @@ use Rattle.std.proofs.Common.{take}
 use Rattle.resolution.specs.Jobs.{AreAddressesOf}
 use Rattle.lookup.proofs.made.found_addresses.Given as goal
 
-abbrev pub invariant-loop-given : goal.invariant-loop-given
-invariant-loop-given g l = AreAddressesOf (take l.given-index l.set) l.found.items
+abbrev pub invariant-loop-index : goal.invariant-loop-index
+invariant-loop-index g l = AreAddressesOf (take l.index l.set) l.found.items

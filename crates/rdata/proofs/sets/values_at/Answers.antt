@@ -3,7 +3,7 @@ use Rattle.rdata.specs.Kept.{datum}
 use Rattle.rdata.specs.Records.{Record}
 use Rattle.rdata.specs.Types.{type_number}
 use Rattle.rdata.proofs.Found.{none_found}
-use Rattle.rdata.proofs.Values.{values_more, values_none, values_whole}
+use Rattle.rdata.proofs.Gathering.{values_more, values_none, values_whole}
 use Rattle.rdata.proofs.sets.values_at.Goals as goal
 use Rattle.rdata.proofs.sets.values_at.Goals.{then-is_at+in_ok-put_once, else-is_at}
 

@@ -1,14 +1,14 @@
-use Rattle.std.proofs.Common.{◌∙◌, ap}
-use Rattle.rdata.specs.Rows.{rows}
+use Rattle.std.proofs.Common.{arith}
+use Rattle.rdata.specs.Kept.{datum}
 use Rattle.rdata.proofs.SetRows.{rows_more, rows_whole}
 use Rattle.rdata.proofs.record_set.RecordSet.to_records.Goals as goal
 
-pub loop-value-preserved : goal.loop-value-preserved
-loop-value-preserved g c =
-    rows_more c.self.inside.owner c.self.inside.ttl c.deref-value-items.result.now c.args.self.now c.loop-value.records c.push.new.self c.loop-value.value-index c.value-item.result c.in_ok-row.field-0
-    (ap (rows c.self.inside.owner c.self.inside.ttl) c.deref-value-items.ensures.value ∙ c.self.view_is) c.loop-value-test.true c.loop-value.invariant c.in_ok-push.ensures.ok c.in_ok-row.ensures c.value-item.is
+pub loop-index-preserved : goal.loop-index-preserved
+loop-index-preserved g c =
+    rows_more c.self.inside.owner c.self.inside.ttl c.self.inside.values c.args.self.now c.loop-index.records c.push.new.self c.loop-index.index (datum c.get.result.now) c.in_ok-row.field-0
+    c.self.view_is (omega (arith, c.loop-index-test.true, c.len-index-end.ensures.len)) c.loop-index.invariant c.in_ok-push.ensures.ok c.in_ok-row.ensures c.get.ensures
 
 pub returns : goal.returns
 returns g c =
-    rows_whole c.self.inside.owner c.self.inside.ttl c.deref-value-items.result.now c.args.self.now c.loop-value.records c.loop-value.value-index
-    (ap (rows c.self.inside.owner c.self.inside.ttl) c.deref-value-items.ensures.value ∙ c.self.view_is) c.loop-value-test.false c.loop-value.invariant
+    rows_whole c.self.inside.owner c.self.inside.ttl c.self.inside.values c.args.self.now c.loop-index.records c.loop-index.index
+    c.self.view_is (omega (arith, c.loop-index-test.false, c.len-index-end.ensures.len)) c.loop-index.invariant

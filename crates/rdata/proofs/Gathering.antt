@@ -8,13 +8,13 @@ use Rattle.rdata.specs.Data.{Datum, type_of, same_data}
 use Rattle.rdata.specs.Gathering.{has, add_once, gathered, has_datum, add_datum}
 use Rattle.rdata.specs.Kept.{datum}
 use Rattle.rdata.specs.Records.{Record}
-use Rattle.rdata.specs.Rows.{rows}
+use Rattle.rdata.specs.Rows.{plain_row, rows}
 use Rattle.rdata.specs.Selected.{is_at, records_at}
 use Rattle.rdata.specs.Sets.{once, lowest_ttl, with_ttl, one_set}
 use Rattle.rdata.specs.declared.data.RData.{RData}
 use Rattle.rdata.proofs.Gathered.{gathered_once, gathered_none}
 use Rattle.rdata.proofs.Selected.{chosen_more}
-use Rattle.rdata.proofs.SetRows.{plain_row, of_data}
+use Rattle.rdata.proofs.SetRows.{of_data}
 
 module _ (q : List (List ℕ)) (t : ℕ) where
   row_has : (ds : List Datum) (r : Record) → r.owner ≡ q → has (map (plain_row q t) ds) r ≡ has_datum ds r.value
