@@ -8,7 +8,7 @@ use std::marker::Model;
 pub struct Soa<A: Allocator = Global> {
     /// MNAME: the primary name server.
     pub primary: Name<A>,
-    /// RNAME: the mailbox of who is responsible, its first dot for the at sign.
+    /// RNAME: the mailbox of the person in charge of the zone, its first dot for the at sign.
     pub mailbox: Name<A>,
     /// SERIAL: the version of the zone, which wraps.
     pub serial: u32,
@@ -52,7 +52,7 @@ impl<A: Allocator> Soa<A> {
     ghost use Rattle.std.specs.Prelude.{◌≡◌};
     ghost use Rattle.rdata.specs.Data.{same_authority};
 
-    /// Whether both say the same.
+    /// Whether all seven fields are the same: with the serials 1 and 2, they are not.
     pub fn is_same(&self, other: &Soa<A>) -> bool
         ensures { result ≡ same_authority self.now other.now }
     {
