@@ -11,7 +11,7 @@ use Rattle.zone.specs.Look.{Local, Linked, Cut, NotHere}
 abbrev pub IsGlue : Zone → List (List ℕ) → Record → Type 0
 IsGlue z c r = Contains z.records r × ((type_of r.value ≡ a_type) ⊎ (type_of r.value ≡ aaaa_type)) × ((s : Record) × At z c ns_type s × (s.value ≡ Ns r.owner))
 
--- The cut, its NS records and the addresses of its servers, each once.
+-- A referral: the cut, its NS records and the addresses of its servers, each once.
 pub record IsReferral (z : Zone) (q c : List (List ℕ)) (servers addresses : List Record) : Type 0 where
   pub over : IsCutOver z q c
   pub named : (r : Record) → Contains servers r → At z c ns_type r
