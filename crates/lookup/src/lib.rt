@@ -1,5 +1,5 @@
-//! What the resolver knows of a name without asking anybody (RFC 1034, section 5.3.3, steps 1 and 2): the zones at
-//! hand, what was learnt, and where servers are sought if neither says anything.
+//! What the resolver knows of a name without asking anybody (RFC 1034, section 5.3.3, steps 1 and 2): the local zones,
+//! what was learnt, and where servers are sought if neither says anything.
 //!
 //! `Home` holds the local zones and the root's cut, made of the hints (SBELT). `Stores` holds the cache, the
 //! delegations, the penalties of servers, and which of them failed lately. `find` asks the zones first and the cache

@@ -11,7 +11,7 @@
 //!
 //! ```text
 //! Run site run s          -- these steps lead from a new resolver of this site to the state s
-//! Step old event None new -- on this event memory was wanting, and this is what stands
+//! Step old event None new -- on this event memory ran out, and this is what stands
 //! ```
 #![tactic(auto)]
 
