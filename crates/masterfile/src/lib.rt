@@ -4,9 +4,9 @@
 //! relative name is under the origin in force, an entry without owner or TTL takes the ones before it. `print`
 //! writes records as a zone text of absolute names, `put_record` one line of it.
 //!
-//! Promised: a text is read as records exactly where it stands for them by the RFC's rules (`reads_both_ways`,
-//! `IsMasterText`), else refused with the line and the kind of its first fault (`FileError`); what `print` writes
-//! is read back as the same records, whatever the reader's origin (`printed_is_read_back`).
+//! Promised: a text is read as records exactly where it has them by the RFC's rules (`reads_both_ways`,
+//! `IsMasterText`), else refused with the line and the kind of its first fault (`FileError`). A text of `print` is read
+//! back as the same records, whatever the reader's origin (`printed_is_read_back`).
 //! Not here: the rules of a zone (`zone`); `$INCLUDE`, TTL units (`1h`), classes other than IN, types other than
 //! those of `rdata`: each is refused.
 //!
