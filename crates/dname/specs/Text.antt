@@ -72,8 +72,9 @@ abbrev pub after_push : (Draft → Result Draft NameError) → Result Draft Over
 after_push go (Ok d) = go d
 after_push go (Err e) = Err (fault_of e)
 
--- The labels that tokens write behind a draft, or the fault that stands first among them: an empty label at the dot that
--- closes it, a long one at its 64th byte, a long name at the byte with which it must have more than 255.
+-- The labels that tokens write behind a draft, or the fault that stands first among them. An empty label is at fault at
+-- the dot that closes it, a long one at its 64th byte, and a long name at the byte with which it must have more than
+-- 255.
 abbrev pub spelled : Draft → List Token → Result Draft NameError
 spelled d [] = Ok d
 spelled d (Dot ∷ ts) = cond (nat_eq (length d.opened) 0) (Err EmptyLabel) (spelled (shut d) ts)

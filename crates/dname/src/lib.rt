@@ -7,9 +7,9 @@
 //! `is_at_or_under`, `parent` and `ascend`, wildcards (RFC 4592) `is_wildcard` and `is_wildcard_of`. A `Suffix` is a
 //! name that borrows its bytes from one at or under it. `Ord` is the order of RFC 4034, section 6.1.
 //!
-//! Promised: a name has labels of 1 to 63 bytes, at most 255 bytes on the wire (`well_formed_law`, `IsName`); a text is
-//! read exactly where it writes a name (`text_writes_name`), else refused by its first fault (`first_fault_counts`);
-//! the text of a name is read back as that name (`text_is_read_back`).
+//! Promised: a name has labels of 1 to 63 bytes, at most 255 bytes on the wire (`well_formed_law`, `IsName`). A text is
+//! read exactly where it writes a name (`text_writes_name`), else refused by its first fault (`first_fault_counts`).
+//! The text of a name is read back as that name (`text_is_read_back`).
 //! Not here: compression pointers (`wire`, `suffixes`), the case of a question's letters (`wire::Spelling`).
 //!
 //! ```text

@@ -4,8 +4,8 @@
 //! takes one `events::Event` and gives one action at most, a reply or an ask, and whether another query is due. `Core`
 //! is a `book::Machine`, so that many workers can share one.
 //!
-//! Promised: a step is one of `runs`, and each law of `laws` is kept by it, whatever run led there (`Steps`); the
-//! history of a shared resolver is a run (`history_is_run`); a new resolver is the one of its `Config` (`IsMade`), or
+//! Promised: a step is one of `runs`, and each law of `laws` is kept by it, whatever run led there (`Steps`). The
+//! history of a shared resolver is a run (`history_is_run`). A new resolver is the one of its `Config` (`IsMade`), or
 //! is refused for one of three reasons (`CoreError`). Events that are for no query take no memory (clause `quiet`).
 //! Not here: sockets and clocks (`server`); the file of a server (`config`, `server_start`).
 //!

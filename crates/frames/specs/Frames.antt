@@ -1,6 +1,6 @@
--- The servers of a zone that a query asks for one name: where they come from, in which order they are asked,
--- and which of their names are looked up when all known addresses were asked (RFC 1034, section 5.3.3, steps
--- 2 and 3; RFC 1035, section 7.2).
+-- The servers of a zone that a query asks for one name (RFC 1034, section 5.3.3, steps 2 and 3; RFC 1035, section 7.2).
+-- Here stands where they come from, in which order they are asked, and which of their names are looked up when all
+-- known addresses were asked.
 use Rattle.std.specs.Prelude.{◌≡◌, ℕ, ◌+◌, ◌≤◌, ◌⊎◌, Contains, Bool, ◌&&◌, ◌||◌, false, not, cond, min, nat_le, Option, Some, None, List, [], ◌∷◌, ◌++◌, map, filter, take, drop, length, slice_get}
 use Rattle.std.specs.List.{list_any}
 use Rattle.std.specs.Map.{lookup}

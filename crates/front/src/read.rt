@@ -9,9 +9,9 @@ use dname::{Heap, Name, Starved};
 use rdata::{INTERNET, RType};
 use wire::{Echo, WireError, decode_question};
 
-/// The meaning of a client's bytes, by the first of these that fits: under 12 bytes or QR set, dropped; no message, or
-/// other than one question, a format error; another operation than a query, a class other than IN or a type that is not
-/// served, not implemented; else a query. Under 12 bytes and a reply take no memory.
+/// The meaning of a client's bytes, by the first of these that fits. Under 12 bytes, or with QR set, they are dropped.
+/// No message, or other than one question, is a format error. Another operation than a query, a class other than IN or
+/// a type that is not served is not implemented. All others are a query. Under 12 bytes and a reply take no memory.
 pub fn read_query<A: Heap>(alloc: A, bytes: &[u8]) -> Result<Request<A>, Starved>
     ensures asked { IfOk result (IsRequest bytes.now) }
     ensures dropped { length bytes.now < 12 → IsOk result }

@@ -1,6 +1,6 @@
--- The theorem: every reply is right. In a well formed world whose local zones and hints are the resolver's, and
--- in every run in which servers say only what they may, each reply to a recursive query is a SERVFAIL, or is truncated
--- as it should be, or says the whole truth of the question and nothing else.
+-- The theorem: every reply is right. Take a well formed world whose local zones and hints are the resolver's, and a run
+-- in which servers send only what they may. Then each reply to a recursive query is a SERVFAIL, or is truncated as it
+-- should be, or says the whole truth of the question and nothing else.
 use Rattle.std.specs.Prelude.{◌≡◌, ◌∷◌, ℕ, ◌<◌, ◌⊎◌, true, Option, List, [], length, Contains}
 use Rattle.dname.specs.Labels.{Name}
 use Rattle.rdata.specs.Types.{type_number}

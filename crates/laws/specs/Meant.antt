@@ -69,8 +69,8 @@ IsAwaited port q (t ∷ past) =
     ((t.served ≡ OpenQuery q.number) × ((action : Action) × GivesOut t.out action × IsSent port q.ask action) × ((wait : ℕ) × IsWait (q.ask).path wait × (q.due ≡ clock_of (t ∷ past) + wait)))
     ⊎ ((t.served ≢ OpenQuery q.number) × IsAwaited port q past)
 
--- The query came so, ten seconds before its deadline, with RD, and its type is sought; its aliases lead from the name
--- in its question to the one that is sought; its asks and its look-ups are those of the run.
+-- The query came so, ten seconds before its deadline, with RD, and its type is sought. Its aliases lead from the name
+-- in its question to the one that is sought. Its asks and its look-ups are those of the run.
 pub record IsOfRun (site : Site) (run : List Turn) (s : State) (legal : Run site run s) (q : Open) : Type 0 where
   pub came : Earlier (λ u before. Came (OpenQuery q.number) q.client_query u before × ((q.job).deadline ≡ clock_of (u ∷ before) + query_lifetime)) run
   pub wanted : recursive (q.client_query).query ≡ true

@@ -1,4 +1,4 @@
--- The promise in one sentence: in a well formed world, as long as servers send only what they may, each reply is right,
+-- The promise in one sentence. In a well formed world, as long as servers send only what they may, each reply is right,
 -- and it is made of links within their TTL or of a failure whose cause stands in the run.
 use Rattle.std.specs.Prelude.{◌∷◌, List}
 use Rattle.world_truth.specs.Worlds.{World, IsWorld}

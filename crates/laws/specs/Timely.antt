@@ -32,9 +32,9 @@ pub record AcceptsAnswer (port by : ℕ) (n : Name) (u : ℕ) (said : Link) (sin
   pub is : class_of root n u (via_of ask.path) message ≡ class.Answer said
   pub moment : since ≡ clock_of (turn ∷ past)
 
--- How a link that was accepted for the name m and the type u serves a question. It is the question's own; or of the
--- same name, an NXDOMAIN for any type, an alias for any type, a CNAME that was asked for as an alias; or it is the
--- NXDOMAIN of a name above, up to the cut that the local zones name (RFC 8020, section 2).
+-- How a link that was accepted for the name m and the type u serves a question. It may be the question's own link. It
+-- may be of the same name: an NXDOMAIN for any type, an alias for any type, a CNAME that was asked for as an alias. Or
+-- it is the NXDOMAIN of a name above, up to the cut that the local zones name (RFC 8020, section 2).
 abbrev pub Fits : Home → Name → ℕ → Name → ℕ → Link → Link → Type 0
 Fits home n t m u l given = ((m ≡ n) × (u ≡ t) × (given ≡ l)) ⊎ cache.EntryAnswers (asked_of home n t) (key_for m u l) l given
 

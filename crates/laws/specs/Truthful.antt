@@ -1,6 +1,6 @@
--- The resolver's data are true, as long as servers send only what they may: each entry of the cache is a link of the
--- world, the servers of each cached cut serve it, the servers of each search serve its zone, and the aliases of each
--- open query are those of its name.
+-- The resolver's data are true, as long as servers send only what they may. Each entry of the cache is a link of the
+-- world, and the servers of each cached cut serve it. The servers of each search serve its zone, and the aliases of
+-- each open query are those of its name.
 use Rattle.std.specs.Prelude.{◌≡◌, ℕ, ◌<◌, ◌≤◌, List, [], ◌∷◌, length, map, Contains}
 use Rattle.limits.specs.Limits.{max_aliases}
 use Rattle.dname.specs.Labels.{Name}

@@ -1,7 +1,7 @@
 //! The laws of every run of the resolver: definitions, in `specs`, and laws, a module each. Nothing here runs.
 //!
-//! `headline_law`: in a well formed world, as long as each accepted message is one that its server may send, each reply
-//! to a recursive query is a SERVFAIL, or exactly the answer that RFC 1034, section 4.3.2, finds in the zones, or
+//! `headline_law`: take a well formed world in which each accepted message is one that its server may send. Then each
+//! reply to a recursive query is a SERVFAIL, or exactly the answer that RFC 1034, section 4.3.2, finds in the zones, or
 //! truncated over UDP. `truth_law`: all data of the resolver in such a run are true. `headline_and_timely_law`: right
 //! and in time, in one sentence. The others have no premise on anyone. `timely_law`: no link is sent beyond its TTL,
 //! and every failure has its cause; `every_failure_is_spent`, `failed_is_asked_twice`: no server is left only where all

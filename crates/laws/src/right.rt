@@ -6,8 +6,8 @@ ghost use Rattle.laws.specs.Truthful.{HeldIsTrue};
 
 /// Every reply is right. In a well formed world whose local zones and hints are the resolver's, take any run up to a
 /// reply to a recursive query, in which each accepted message is one that the asked server may send. That reply is a
-/// SERVFAIL, or carries exactly the CNAME chain and the RRset, NXDOMAIN or NODATA that the look-up of RFC 1034, section
-/// 4.3.2, finds in the world's zones, or is truncated over UDP where that is longer than 512 bytes.
+/// SERVFAIL, or is truncated over UDP where the right reply is longer than 512 bytes. Or it carries exactly the CNAME
+/// chain and the RRset, NXDOMAIN or NODATA that the look-up of RFC 1034, section 4.3.2, finds in the world's zones.
 pub fn headline_law()
     ensures { Headline }
 {}
@@ -19,8 +19,8 @@ pub fn headline_and_timely_law()
 {}
 
 /// The ground of the theorem: in such a run all data of the resolver are true. Each entry of the cache is a link of the
-/// world, the servers of each cached cut are those of its delegation, those of each open search serve its zone, and the
-/// aliases of each open query are those of its name.
+/// world, and the servers of each cached cut are those of its delegation. Those of each open search serve its zone, and
+/// the aliases of each open query are those of its name.
 pub fn truth_law()
     ensures { HeldIsTrue }
 {}

@@ -12,9 +12,9 @@ pub fn timely_law()
     ensures { RepliesAreTimely }
 {}
 
-/// Where a query fails since no server is left, all servers of a start over its name are used up: each of their
-/// addresses was asked twice in vain, and each of their names is of no use, with look-ups of servers' addresses three
-/// deep (RFC 1034, section 5.3.3; RFC 1035, section 7.2). No premise on clients, servers or messages.
+/// Where a query fails since no server is left, all servers of a start over its name are used up (RFC 1034, section
+/// 5.3.3; RFC 1035, section 7.2). Each of their addresses was asked twice in vain, and each of their names is of no
+/// use, with look-ups of servers' addresses three deep. No premise on clients, servers or messages.
 pub fn every_failure_is_spent()
     ensures { EveryFailureIsSpent }
 {}

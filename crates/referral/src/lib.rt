@@ -5,8 +5,8 @@
 //! caches one under its own name; `Delegations::best` gives the deepest live one that a name is at or under, where the
 //! search for its servers starts.
 //!
-//! Promised: the result of each call, and the entries afterwards, exactly and in words (`IsBest`, `members_law`); the
-//! cut of a result is over the name, and cached under its own (`named_law`); a cut has the targets of its NS records,
+//! Promised: the result of each call, and the entries afterwards, exactly and in words (`IsBest`, `members_law`). The
+//! cut of a result is over the name, and cached under its own (`named_law`). A cut has the targets of its NS records,
 //! the addresses of its A records, and no others (`made_law`).
 //! Not here: which glue is in bailiwick (`classify`); the order of asking (`frames`, `retry`).
 //!

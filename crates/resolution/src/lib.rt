@@ -6,8 +6,8 @@
 //! applied until an ask goes out or the query is over. `iterate` is the code of these definitions, `runs` and `laws`
 //! build on them.
 //!
-//! Promised: the rules end (`end_law`); a link that was accepted for a query serves that query, whatever its TTL
-//! (`received_law`); where memory ran out nothing is new in the stores beside what was accepted, and nothing is gone
+//! Promised: the rules end (`end_law`). A link that was accepted for a query serves that query, whatever its TTL
+//! (`received_law`). Where memory ran out nothing is new in the stores beside what was accepted, and nothing is gone
 //! from them beside what one `keep` of that pushes out (`stores_law`). Not here: clients, sockets and identifiers
 //! (`runs`).
 //!

@@ -34,8 +34,8 @@ pub record IsRaised (taken : ℕ → Type 0) (from id : ℕ) : Type 0 where
   pub free : taken id → ⊥
   pub first : (k : ℕ) → k < steps → taken ((from + k) % 65536)
 
--- How query k asks a server: the socket and the ID by a word of the generator, the ID raised until no open
--- ask of another query is like it; an ask over TCP has a number in place of a socket, and its ID stays.
+-- How query k asks a server. The socket and the ID are those of a word of the generator, the ID raised until no open
+-- ask of another query is like it. An ask over TCP has a number in place of a socket, and its ID stays.
 pub record IsUdpAsk (s : State) (k : ℕ) (a : Ask) : Type 0 where
   pub sock : ℕ
   pub sock_is : sock ≡ socket_of (s.site).sockets (word_of s.generator)
