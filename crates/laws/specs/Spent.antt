@@ -61,8 +61,8 @@ IsOpenAsk port k ask run = AsksBy port k ask ask.path run
 
 -- ---- asks that end in vain
 
--- The end of an ask is of no use to the servers of the zone z. No reply came in time, a TCP ask failed or brought no
--- reply to it, or the reply is neither an answer nor a referral from that zone.
+-- The end of an ask is of no use to the servers of a zone. No reply came in time, a TCP ask failed or brought no reply
+-- to it, or the reply is neither an answer nor a referral from that zone.
 abbrev pub IsBad : ℕ → Name → Ask → Event → Type 0
 IsBad port z ask event =
     ((now : ℕ) × (event ≡ Tick now))

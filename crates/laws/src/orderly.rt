@@ -51,8 +51,8 @@ pub fn due_law()
     ensures ticks { MoreDueAtTicks }
 {}
 
-/// The socket and the ID of each ask are those of a word of the first state's stream, which is a seed's. It is the
-/// first word that no ask before it had, words aside that were taken in a step that ran out of memory.
+/// The socket and the ID of each ask are those of a word of the first state's stream, which comes from a seed. It is
+/// the first word that no ask before it had, words aside that were taken in a step that ran out of memory.
 pub fn words_law()
     ensures { WordsInOrder }
 {}
