@@ -43,7 +43,7 @@ abbrev pub parts : List Token → List (List ℕ)
 parts ts = folded_labels (first_part ts ∷ later_parts ts)
 
 -- A text writes the root by a dot alone, an absolute name by all its labels, and any other name by those before the
--- origin's. Whether such a name fits is said apart: labels have 1 to 63 bytes, and a name 255 in all.
+-- labels of the origin. Whether such a name fits is said apart: labels have 1 to 63 bytes, and a name 255 in all.
 pub data Writes (origin : List (List ℕ)) (text : List ℕ) (n : List (List ℕ)) : Type 0 where
   root_alone : text ≡ 46 ∷ [] → n ≡ root → Writes origin text n
   absolute : (ts : List Token) → Spells text ts → 0 < length text → n ≡ parts ts → Writes origin text n

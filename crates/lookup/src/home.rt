@@ -33,7 +33,7 @@ impl<A: Allocator> Model for Home<A> {
 }
 
 impl<A: Heap> Home<A> {
-    /// These zones, and these addresses of servers of the root.
+    /// A home with these zones, and with these addresses of servers of the root.
     pub fn new(alloc: A, catalog: Catalog<A>, hints: &[Addr]) -> Result<Home<A>, Starved>
         ensures { IfOk result (λ h. h ≡ home_at catalog hints.now) }
     {

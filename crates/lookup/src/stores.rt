@@ -1,4 +1,4 @@
-//! What the resolver learnt, in four stores of a fixed capacity: links and failures of servers (`cache`), delegations
+//! The four stores of the resolver, each of a fixed capacity: links and failures of servers (`cache`), delegations
 //! (`referral`) and the penalties of servers (`retry`). `Stores` has one call for each use that the work on a query
 //! makes of them. It decides how long a link or a cut is cached, and how much of a cut.
 ghost use Rattle.std.specs.Prelude.{◌≡◌, IfOk, IfSome, OnOk, OnErr};
@@ -38,7 +38,7 @@ pub struct Capacities {
     pub failures: NonZeroUsize,
 }
 
-/// What hashes the keys of each store.
+/// The hasher for the keys of each store.
 #[derive(Drop)]
 pub struct Hashers<S: BuildHasher + Drop> {
     /// For the cache, whose keys are a name and a type.
@@ -51,8 +51,8 @@ pub struct Hashers<S: BuildHasher + Drop> {
     pub failures: S,
 }
 
-/// What the resolver learnt: links, delegations, penalties of servers that did not answer, and which servers failed to
-/// answer which questions.
+/// The stores: links, delegations, penalties of servers that did not answer, and which servers failed to answer which
+/// questions.
 pub struct Stores<S: BuildHasher + Drop, A: Allocator = Global> {
     cache: Cache<S, A>,
     delegations: Delegations<S, A>,

@@ -15,7 +15,7 @@ pub struct Spelling<A: Allocator = Global> {
     // In wire form: each label behind its length, the root's zero last; nothing where these are the name's own
     // letters, as most clients ask in lower case.
     letters: Vec<u8, A>,
-    // The same in lower case.
+    // The name in lower case.
     name: Name<A>,
 }
 

@@ -1,4 +1,4 @@
--- What a zone says of a name and a type (RFC 1034, sections 3.6.2, 4.3.2 and 4.3.3; RFC 2308).
+-- The link of a zone for a name and a type (RFC 1034, sections 3.6.2, 4.3.2 and 4.3.3; RFC 2308).
 use Rattle.std.specs.Prelude.{◌≡◌, ◌≢◌, ℕ, min, cond, nat_lt, ◌⊎◌, List, [], ◌∷◌, Contains}
 use Rattle.dname.specs.Labels.{IsAtOrUnder, star}
 use Rattle.rdata.specs.Data.{Datum, Soa}

@@ -111,7 +111,7 @@ add_glue kept r = cond (list_any (λ (s : Record). is_repeat s r) kept) kept (ke
 abbrev pub glue_of : List Record → List Record → List Record
 glue_of rs ns = fold add_glue [] (flat_map (λ (r : Record). addresses_of rs r.value) ns)
 
--- What a zone gives for a name: a link, or the cut that the name is referred to.
+-- The result of a zone for a name: a link, or the cut that the name is referred to.
 pub data Local : Type 0 where
   Linked : Link → Local
   Cut : List (List ℕ) → List Record → List Record → Local
