@@ -15,7 +15,7 @@
 //! let mut zones = Vec::new(alloc);
 //! zones.push(zone)?;
 //! let catalog = Catalog::new(zones)?;
-//! match catalog.look(alloc, &name, RType::A)? {
+//! match catalog.look(alloc, name, RType::A)? {
 //!     Local::Link(Link::Found(set)) => { /* the RRset */ }
 //!     Local::Link(_) => { /* a CNAME, NODATA or NXDOMAIN */ }
 //!     Local::Cut(at, servers, glue) => { /* a referral to `at` */ }

@@ -16,9 +16,9 @@
 //!
 //! ```text
 //! let mut cache = Cache::new(alloc, room, hasher)?;
-//! cache.keep(&name, RType::A, &link, 300, 0)?;
-//! if let Some(hit) = cache.look(&name, RType::A, &root, 10_000)? {
-//!     assert_eq!(hit.left(10_000), 290);
+//! cache.keep(name, RType::A, link, 300, 0)?;
+//! if let Some(hit) = cache.look(name, RType::A, root, 10_000)? {
+//!     assert_eq!(rt; hit.left(10_000), 290);
 //!     let link = hit.into_link(10_000);
 //! }
 //! ```

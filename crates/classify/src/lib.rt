@@ -14,9 +14,9 @@
 //!
 //! ```text
 //! let message = View::new(alloc, bytes)?;
-//! match classify(alloc, &zone, &name, RType::A, Via::Udp, &message)? {
+//! match classify(alloc, zone, name, RType::A, Via::Udp, &message)? {
 //!     Class::Answer(link) => { let link = received(link); let seconds = lifetime(&link); }
-//!     Class::Referral(referral) => { /* ask referral.servers; kept for referral.lifetime() seconds */ }
+//!     Class::Referral(referral) => { let seconds = referral.lifetime(); /* ask referral.servers */ }
 //!     Class::Truncated => { /* ask the same server over TCP */ }
 //!     Class::Failed(failure) => { /* ask the next server */ }
 //! }

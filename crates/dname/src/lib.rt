@@ -15,8 +15,8 @@
 //! ```text
 //! let origin = Name::from_text(alloc, "Example.")?;
 //! let name = Name::under(alloc, b"www", &origin)?;
-//! assert!(name.is_at_or_under(&origin) && name.labels() == 2);
-//! assert_eq!(name.to_text()?.as_str(), "www.example.");
+//! assert!(rt; name.is_at_or_under(&origin) && name.labels() == 2);
+//! assert_eq!(rt; name.to_text()?.as_str(), "www.example.");
 //! ```
 #![tactic(auto)]
 

@@ -13,9 +13,9 @@
 //! let hints = Vec::from_slice(alloc, &[Addr([198, 41, 0, 4])])?;
 //! let mut core = Core::new(alloc, Config { local: Vec::new(alloc), hints, settings })?;
 //! let actions = core.step(&Event::Client { moment: 0, client: 3, way: Via::Udp, bytes })?;
-//! match actions.first {
-//!     Some(Action::Reply { client, bytes, .. }) => { /* to the client */ }
-//!     Some(Action::Send { socket, to, bytes }) => { /* to a server */ }
+//! match &actions.first {
+//!     Some(Action::Reply { .. }) => { /* bytes to a client */ }
+//!     Some(Action::Send { .. }) => { /* bytes to a server */ }
 //!     _ => {}
 //! }
 //! ```

@@ -13,9 +13,9 @@
 //! Not here: time and messages (`iterate`).
 //!
 //! ```text
-//! let mut frame = Frame::start(alloc, &cut, 0, &penalties)?;
-//! while let Some(server) = frame.next_address() { /* ask it, and wait for frame.wait_ms() milliseconds */ }
-//! if let Some(name) = frame.next_name(&failed)? { /* look its address up, then frame.add(&found, &penalties)? */ }
+//! let mut frame = Frame::start(alloc, cut, 0, penalties)?;
+//! if let Some(server) = frame.next_address() { let milliseconds = frame.wait_ms(); /* ask it, and wait so long */ }
+//! if let Some(name) = frame.next_name(failed)? { let more = frame.add(found, penalties)?; /* its addresses */ }
 //! ```
 #![tactic(auto)]
 

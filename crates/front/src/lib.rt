@@ -14,7 +14,7 @@
 //! ```text
 //! let mut writer = Writer::new(alloc)?;
 //! if let Request::Query(query) = read_query(alloc, bytes)? {
-//!     let outcome = answer_local(alloc, &query, &catalog)?;
+//!     let outcome = answer_local(alloc, &query, catalog)?;
 //!     let (reply, cause) = reply_bytes(&mut writer, &query, &outcome, Via::Udp)?;
 //! }
 //! ```

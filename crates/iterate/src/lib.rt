@@ -12,11 +12,13 @@
 //! (`events`), identifiers, sockets and many queries at once (`engine`).
 //!
 //! ```text
-//! match begin_query(alloc, &name, RType::A, &home, &mut stores, now)? {
+//! match begin_query(alloc, name, RType::A, home, stores, 0)? {
 //!     Started::Answered(last) => { /* the answer */ }
-//!     Started::Working(job, Next::AskUdp(server, name, kind)) => { /* later: advance with Input::Told(Via::Udp, ..), or Input::TimedOut(server) */ }
-//!     Started::Working(job, Next::AskTcp(server, name, kind)) => { /* later: Input::Told(Via::Tcp, ..), or Input::TcpFailed(server) */ }
-//!     Started::Working(_, Next::Done(chain, last)) => { /* the aliases, and what ends them */ }
+//!     // Later: `advance` with Input::Told(Via::Udp, ..) or Input::TimedOut(server).
+//!     Started::Working(job, Next::AskUdp(server, name, kind)) => {}
+//!     // Later: Input::Told(Via::Tcp, ..) or Input::TcpFailed(server).
+//!     Started::Working(job, Next::AskTcp(server, name, kind)) => {}
+//!     Started::Working(_, Next::Done(chain, last)) => { /* the aliases, and the link that ends them */ }
 //!     Started::Working(_, Next::Fail(cause)) => { /* SERVFAIL */ }
 //! }
 //! ```

@@ -12,7 +12,7 @@
 //! Not here: asking servers (`iterate`).
 //!
 //! ```text
-//! match find(alloc, &home, &name, RType::A, &mut stores, now)? {
+//! match find(alloc, home, name, RType::A, stores, now)? {
 //!     Found::Known(taken) => { let link = taken.into_sent(now); }
 //!     Found::Start(cut) => { let frame = stores.open(alloc, &cut, 0)?; }
 //! }

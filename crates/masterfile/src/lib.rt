@@ -13,8 +13,8 @@
 //! ```text
 //! let origin = Name::from_text(alloc, "example.")?;
 //! let records = read(alloc, &origin, "$TTL 300\nwww IN A 192.0.2.1\n")?;
-//! assert_eq!(records.as_slice()[0].owner.to_text()?.as_str(), "www.example.");
 //! let text = print(alloc, &origin, records.as_slice())?;
+//! assert_eq!(rt; text.as_str(), "$ORIGIN example.\nwww.example. 300 IN A 192.0.2.1\n");
 //! ```
 #![tactic(auto)]
 

@@ -14,8 +14,8 @@
 //! ```text
 //! let mut records = Records::new(alloc);
 //! records.push(Record { owner: name.clone()?, ttl: 300, value: RData::A(Addr([192, 0, 2, 1])) })?;
-//! let set = set_at(alloc, records.as_slice(), &name, RType::A)?;
-//! assert!(set.is_some_and(|set| set.len() == 1 && set.ttl() == 300));
+//! let set = set_at(alloc, records.as_slice(), name, RType::A)?;
+//! assert!(rt; set.is_some_and(|set| set.len() == 1 && set.ttl() == 300));
 //! ```
 #![tactic(auto)]
 

@@ -14,8 +14,8 @@
 //!
 //! ```text
 //! let zone = Zone::build(origin, records)?;
-//! if let Some(stand) = zone.stand(&name) {
-//!     for index in 0..stand.own.len() { let record = stand.own.get(index); }
+//! if let Some(stand) = zone.stand(name) {
+//!     if stand.own.len() > 0 { let record = stand.own.get(0); }
 //! }
 //! ```
 #![tactic(auto)]
