@@ -16,7 +16,7 @@ pub fn members_law()
     ensures held { GivenIsHeld }
 {}
 
-/// What a look-up answers. The names above that are tried are those over the name up to `top`. The answer lives. There
+/// The answer of a look-up. The names above that are tried are those over the name up to `top`. An answer lives. There
 /// is none exactly where no entry answers. The link that lives and answers first is the answer, and so is one that was
 /// just cached. Each call leaves entries of different keys, and no more than the capacity.
 pub fn given_law()
@@ -39,8 +39,8 @@ pub fn aging_law()
     ensures new { NewIsWhole }
 {}
 
-/// What a store of failures says. One that lives was put in less than 30 seconds ago. One that is put in lives for 30
-/// seconds, while lack of room does not remove it. A look-up of one changes no other's time.
+/// The entries of a store of failures. One that lives was put in less than 30 seconds ago. One that is put in lives for
+/// 30 seconds, while lack of room does not remove it. A look-up of one changes no other's time.
 pub fn failures_law()
     ensures kept { FailedWasKept }
     ensures lives { KeptIsFailed }

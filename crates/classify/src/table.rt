@@ -18,8 +18,8 @@ use std::alloc::Allocator;
 use wire::rcode::{NO_ERROR, NX_DOMAIN};
 use wire::{Via, View, Walk};
 
-/// What a reply to the question for this name and type is used for, which came this way from a server of the
-/// zone: the first line that fits of
+/// The class of a reply to the question for this name and type, which came this way from a server of the zone: the
+/// first line that fits of
 /// - TC set: to be asked for again over TCP; of no use where it came over TCP;
 /// - an RCODE other than 0 and 3: of no use;
 /// - records of the name and the type: the RRset, each record once and all with the lowest TTL;

@@ -12,10 +12,10 @@ ghost use Rattle.frames.specs.Frames.{Frame, Failed, opened, is_known, has_faile
 ghost use Rattle.frames.specs.Members.{AreAmong, times};
 ghost use Rattle.frames.specs.Trimmed.{trimmed};
 
-/// What a frame of a cut has: addresses and names of the cut, at most 16 of each, no address twice, and no name of
-/// which an address is known. None is left out. Each address of the cut is used while there are fewer than 16. Of the
-/// first 16 names each one is there, or is known by an address of its own that is used. In the two rounds of its plan
-/// each address whose penalty is at most 8 stands twice.
+/// The addresses and names of a cut's frame: at most 16 of each, no address twice, and no name of which an address is
+/// known. None is left out. Each address of the cut is used while there are fewer than 16. Of the first 16 names each
+/// one is there, or is known by an address of its own that is used. In the two rounds of its plan each address whose
+/// penalty is at most 8 stands twice.
 pub fn opened_law()
     ensures addresses { (level : Addr → ℕ) (nesting : ℕ) (c : Cut) (a : Addr) → Contains (opened level nesting c).addresses a → (s : ServerAddress) × Contains c.addresses s × (s.address ≡ a) }
     ensures names { (level : Addr → ℕ) (nesting : ℕ) (c : Cut) (n : Name) → Contains (opened level nesting c).names n → Contains c.names n × (is_known c n ≡ false) }

@@ -21,7 +21,7 @@ use Rattle.resolution.specs.Jobs.{Home, Stores, level_of, with_answer, Taken, re
 use Rattle.resolution.specs.Rules.{Says, Begins, Rule, takes, asks, follows, restarts, skips, hears, descends, gives_up, Rules, Leaves, Advances, MayNotSend}
 use Rattle.runs.specs.Steps.{IsAsk}
 
--- ---- what comes in
+-- ---- inputs
 
 -- A message that was accepted for the innermost search, and its class under that search's zone.
 pub record AcceptsReply (old : Job) (input : Input) (s : Search) (rest : List Search) (server : Addr) (c : Class) : Type 0 where
@@ -37,7 +37,7 @@ pub record IsLost (old : Job) (input : Input) (s : Search) (rest : List Search) 
   pub server : Addr
   pub lost : (input ≡ TimedOut server) ⊎ ((input ≡ TcpFailed server) ⊎ ((f : Failure) × AcceptsReply old input s rest server (class.Failed f)))
 
--- ---- what goes out
+-- ---- results
 
 -- This ask goes out, where the deadline and the number of asks allow one.
 abbrev pub GoesOut : ℕ → Job → Next → Next → Type 0

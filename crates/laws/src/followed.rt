@@ -5,11 +5,11 @@ ghost use Rattle.laws.specs.Opens.{FramesOpenInSteps};
 ghost use Rattle.laws.specs.Searches.{AskIsOfSearch};
 ghost use Rattle.laws.specs.Steps.{LostIsAskedOn, TruncatedIsAskedAgain, ReferralIsAsked, AnswerIsReplied, AliasIsKept};
 
-/// What one call of the work on a query does at once (RFC 1034, section 5.3.3). Where an ask ended in vain, the plan's
-/// next address is asked, of those that did not fail lately to answer the same. A truncated reply is asked for again
-/// over TCP, and a referral is followed. A frame opens where the local zones and the delegations say, with a plan by
-/// the penalties. An answer for the query's own name is used, and an alias stays in its chain. A server's failure to
-/// answer is cached, and over UDP no server is asked that lately failed to answer the same (RFC 2308, section 7.1).
+/// The effect of one call of the work on a query (RFC 1034, section 5.3.3). Where an ask ended in vain, the plan's next
+/// address is asked, of those that did not fail lately to answer the same. A truncated reply is asked for again over
+/// TCP, and a referral is followed. A frame opens where the local zones and the delegations say, with a plan by the
+/// penalties. An answer for the query's own name is used, and an alias stays in its chain. A server's failure to answer
+/// is cached, and over UDP no server is asked that lately failed to answer the same (RFC 2308, section 7.1).
 pub fn calls_law()
     ensures next { NextIsAsked }
     ensures truncated { TruncatedIsRepeated }

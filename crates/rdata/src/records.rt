@@ -22,7 +22,7 @@ pub struct Record<A: Allocator = Global> {
     pub owner: Name<A>,
     /// Time to live in seconds, at most `GREATEST_TTL` (RFC 2181, section 8).
     pub ttl: u32,
-    /// TYPE and RDATA: its type, and what it says.
+    /// TYPE and RDATA: its type and its data.
     pub value: RData<A>,
 }
 

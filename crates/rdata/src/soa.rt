@@ -3,7 +3,7 @@ use dname::{Heap, Name};
 use std::alloc::{AllocError, Allocator, Global};
 use std::marker::Model;
 
-/// What an SOA record says (RFC 1035, section 3.3.13). Times are in seconds.
+/// The data of an SOA record (RFC 1035, section 3.3.13). Times are in seconds.
 #[derive(Drop)]
 pub struct Soa<A: Allocator = Global> {
     /// MNAME: the primary name server.

@@ -1,4 +1,4 @@
--- What an encoder answers, and a reply's message as the parts that it is written from.
+-- The refusals of an encoder, and a reply's message as the parts that it is written from.
 use Rattle.std.specs.Prelude.{ℕ, ◌<◌, Option, Some, None, List, [], ◌∷◌, ◌++◌, length}
 use Rattle.rdata.specs.Records.{Record}
 use Rattle.message_grammar.specs.Messages.{Header, Question, Message, Counts}

@@ -25,7 +25,7 @@ abbrev pub and_then : {X Y : Type 0} → Result X WireError → (X → Result Y 
 and_then (Ok x) next = next x
 and_then (Err e) next = Err e
 
--- The end alone of what a reader gives.
+-- The end in a reader's result, without the value.
 abbrev pub end_of : {X : Type 0} → Result (X × ℕ) WireError → Result ℕ WireError
 end_of (Ok (x, end)) = Ok end
 end_of (Err e) = Err e

@@ -1,4 +1,4 @@
--- The look-up as a function: what it gives is the link, or the cut, of the definitions.
+-- The look-up as a function: its result is the link, or the cut, of the definitions.
 use Rattle.std.specs.Prelude.{ℕ, Bool, false, ◌&&◌, ◌||◌, not, cond, nat_eq, is_some, Option, Some, None, List, [], ◌∷◌, ◌++◌, map, filter, find, fold}
 use Rattle.std.specs.List.{list_any, flat_map}
 use Rattle.dname.specs.Labels.{star, same_name, is_under}
