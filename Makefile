@@ -6,7 +6,7 @@ PROGRAM = crates/resolverd
 BUILT = $(PROGRAM)/out/resolverd
 
 # The words of the example: which zone, its file, and what is asked.
-QUESTION = ask lab.example. $(CURDIR)/examples/lab.zone x.lab.example. TXT
+QUESTION = ask lab.example. $(CURDIR)/examples/zones/lab.zone x.lab.example. TXT
 
 .PHONY: ask prove-program serve hints bench test turned install deb kit built
 

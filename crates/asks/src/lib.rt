@@ -12,8 +12,8 @@
 //! let mut asks = AskIndex::new(alloc);
 //! let server = Addr([192, 0, 2, 1]);
 //! asks.set(1, Some(AskKey { socket: 7, server, id: 4660 }), 1_000)?;
-//! assert_eq!(asks.find(7, server, 4660), Some(1));
-//! assert_eq!(asks.earliest(), Some((1_000, 1)));
+//! assert_eq!(rt; asks.find(7, server, 4660), Some(1));
+//! assert_eq!(rt; asks.earliest(), Some((1_000, 1)));
 //! ```
 #![tactic(auto)]
 

@@ -11,7 +11,7 @@ abbrev pub catalog_fault_text : CatalogError → List ℕ
 catalog_fault_text Twins = codes "two zones have one origin"
 catalog_fault_text Memory = codes "out of memory"
 
--- Two zones of one origin are refused as such; memory can be wanting at any time.
+-- When a catalog may be refused so: where two zones have one origin; out of memory at any time.
 abbrev pub CatalogRefuses : CatalogError → Bool → Type 0
 CatalogRefuses Twins twins = twins ≡ true
 CatalogRefuses Memory twins = Unit {0}

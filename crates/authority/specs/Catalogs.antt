@@ -1,4 +1,4 @@
--- Which of several zones answers for a name, and what it gives.
+-- Which of several zones answers for a name, and its result.
 use Rattle.std.specs.Prelude.{◌≡◌, ◌≢◌, ℕ, ◌≤◌, Bool, true, false, ◌||◌, Option, Some, None, ◌⊎◌, List, [], ◌∷◌, length, find, filter, Contains}
 use Rattle.std.specs.List.{list_any}
 use Rattle.dname.specs.Labels.{same_name, IsAtOrUnder, IsName}
@@ -15,12 +15,12 @@ pub record IsInCharge (zs : List Zone) (q : List (List ℕ)) (z : Zone) : Type 0
   pub over : IsAtOrUnder q z.origin
   pub longest : (y : Zone) → Contains zs y → IsAtOrUnder q y.origin → length y.origin ≤ length z.origin
 
--- What the zones at hand give for a question: what the zone in charge of the name says of it, and
--- nothing where no zone is over the name.
+-- The result of the local zones for a question: that of the zone in charge of the name, and nothing where no zone is
+-- over the name.
 abbrev pub IsLooked : List Zone → List (List ℕ) → ℕ → Local → Type 0
 IsLooked zs q t l = ((z : Zone) × IsInCharge zs q z × IsLocal z q t l) ⊎ (((z : Zone) → Contains zs z → IsAtOrUnder q z.origin → ⊥) × (l ≡ NotHere))
 
--- The same as functions.
+-- The zone in charge, and the result, as functions.
 abbrev pub first_zone : Option Zone → Option Zone → Option Zone
 first_zone (Some z) d = Some z
 first_zone None d = d
@@ -43,7 +43,7 @@ looked_in q t (Some z) = said_by_zone q t z (denial_of z)
 abbrev pub looked : List Zone → List (List ℕ) → ℕ → Local
 looked zs q t = looked_in q t (zone_over zs q)
 
--- Those zones whose origins are listed: the ones that a server answers from, of all that there are.
+-- The zones whose origins are listed: those of all zones from which one server answers.
 abbrev pub has_origin_in : List (List (List ℕ)) → Zone → Bool
 has_origin_in origins z = list_any (λ (n : List (List ℕ)). same_name z.origin n) origins
 
@@ -68,11 +68,11 @@ has_twins (z ∷ zs) = list_any (λ (y : Zone). same_name y.origin z.origin) zs 
 abbrev pub AreNamed : List Zone → Type 0
 AreNamed zs = (z : Zone) → Contains zs z → z.origin ≢ []
 
--- Each zone keeps the rules of a zone, and its origin is a name: every zone that is built does.
+-- Each zone meets the rules of a zone, and its origin is a name: every zone that is built does.
 abbrev pub AreZones : List Zone → Type 0
 AreZones zs = (z : Zone) → Contains zs z → IsZone z × IsName z.origin
 
--- How a catalog's zones are kept.
+-- How the zones of a catalog are stored.
 pub record IsCatalog (zs : List Zone) : Type 0 where
   pub apart : has_twins zs ≡ false
   pub sound : AreZones zs

@@ -1,4 +1,4 @@
--- What a look-up over a list of records picks.
+-- The records that a look-up over a list of records picks.
 use Rattle.std.specs.Prelude.{ℕ, Bool, ◌&&◌, List, [], ◌∷◌, filter}
 use Rattle.std.specs.List.{list_any}
 use Rattle.dname.specs.Labels.{star, is_under}
@@ -27,7 +27,7 @@ has_glue r rs = list_any (λ (s : Record). is_repeat s r) rs
 abbrev pub has_under : List (List ℕ) → List Record → Bool
 has_under n rs = list_any (λ (r : Record). is_under r.owner n) rs
 
--- The labels behind the first.
+-- The labels behind the first one.
 abbrev pub above : List (List ℕ) → List (List ℕ)
 above [] = []
 above (l ∷ ls) = ls

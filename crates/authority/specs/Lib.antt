@@ -5,7 +5,7 @@ pub mod Walk
 pub mod CatalogFaults
 -- Computed: functions that the code is compared with.
 pub mod Climb
--- Kept: what the code's own values keep.
+-- Kept: invariants of the code's values, and how contracts see them.
 pub mod Answers
 pub mod Origins
 pub mod Values

@@ -1,4 +1,4 @@
--- Answers of the zones at hand that are the same but for TTLs, order and repeats.
+-- Results of the local zones that are the same but for TTLs, order and repeats.
 use Rattle.std.specs.Prelude.{◌≡◌, List, Contains}
 use Rattle.rdata.specs.Records.{Record}
 use Rattle.zone.specs.Same.{SameLink}
@@ -8,7 +8,7 @@ use Rattle.zone.specs.Look.{Local, Linked, Cut, NotHere}
 abbrev pub AreSame : List Record → List Record → Type 0
 AreSame rs ss = ((r : Record) → Contains rs r → Contains ss r) × ((r : Record) → Contains ss r → Contains rs r)
 
--- One link but for TTLs, order and repeats; one referral but for the order of its records.
+-- Two links are one but for TTLs, order and repeats; two referrals are one but for the order of their records.
 abbrev pub SameLocal : Local → Local → Type 0
 SameLocal (Linked k) (Linked l) = SameLink k l
 SameLocal (Linked k) (Cut d more others) = ⊥

@@ -1,4 +1,4 @@
--- The data of a set in the making, and the TTLs that its records have.
+-- The data of a set while it is made, and the TTLs of its records.
 use Rattle.std.specs.Prelude.{◌≡◌, Option, Some, None, List, [], fold, Contains}
 use Rattle.rdata.specs.Data.{Datum, type_of}
 use Rattle.rdata.specs.Gathering.{add_datum}
@@ -17,16 +17,16 @@ values_of rs = fold add_value [] rs
 abbrev pub HaveOneTtl : List Record → Type 0
 HaveOneTtl rs = HasOneTtl record { origin = []; records = rs }
 
--- The same of records that stand at one name.
+-- Of the records of one name, those of one type have one TTL.
 abbrev pub AreTimed : List Record → Type 0
 AreTimed rs = (r s : Record) → Contains rs r → Contains rs s → type_of r.value ≡ type_of s.value → r.ttl ≡ s.ttl
 
--- Of records that are there or not.
+-- Of the records of one name, if there are any, those of one type have one TTL.
 abbrev pub AreTimedIn : Option (List Record) → Type 0
 AreTimedIn None = Unit {0}
 AreTimedIn (Some rs) = AreTimed rs
 
--- Of what stands at a name.
+-- Of the records of a name, and of its wildcard, those of one type have one TTL.
 abbrev pub IsTimed : {H : Type 0} → Option (Stand H) → Type 0
 IsTimed None = Unit {0}
 IsTimed (Some s) = AreTimed s.own

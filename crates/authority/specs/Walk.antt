@@ -1,4 +1,4 @@
--- What one walk up from a name finds in a zone.
+-- The result of one walk up from a name in a zone.
 use Rattle.std.specs.Prelude.{◌≡◌, ℕ, cond, is_some, Option, Some, None, List, [], ◌∷◌, length}
 use Rattle.dname.specs.Labels.{star}
 use Rattle.rdata.specs.Records.{Record}
@@ -19,7 +19,7 @@ abbrev pub wild_of : {H : Type 0} → Option (Stand H) → Option (List Record)
 wild_of None = None
 wild_of (Some s) = Some s.wild
 
--- What stands at a name.
+-- The records of a name and of its wildcard.
 pub record Stands {H : Type 0} (n : List (List ℕ)) (rs : List Record) (o : Option (Stand H)) : Type 0 where
   pub under : is_some o ≡ has_under n rs
   pub own : own_of o ≡ at n rs
@@ -29,17 +29,17 @@ abbrev pub near_or : Option (List Record) → Option (List Record) → Option (L
 near_or (Some ws) d = Some ws
 near_or None d = d
 
--- What the wildcard that was met says; where none was, what is said further up.
+-- The link of the wildcard that was met; where none was, the link that is found further up.
 abbrev pub met : Record → List (List ℕ) → ℕ → Option (List Record) → Link → Link
 met soa q t (Some ws) l = said_wild soa q t ws
 met soa q t None l = l
 
--- What the records at a name say, and where it has no node, the wildcard at its closest encloser.
+-- The link of the records of a name, and where the name has no node, of the wildcard at its closest encloser.
 abbrev pub told : {H : Type 0} → Record → List (List ℕ) → ℕ → Option (Stand H) → Option (List Record) → Link
 told soa q t (Some s) near = said soa q t s.own
 told soa q t None near = met soa q t near (NxDomain soa)
 
--- A whole walk: the cut, what stands at the name and above it, and a look-up for each of its labels and
+-- A whole walk: the cut, the records of the name and of the names above it, and a look-up for each of its labels and
 -- the root.
 pub record IsWalk {H : Type 0} (z : Zone) (q : List (List ℕ)) (w : Walk H) : Type 0 where
   pub cut : w.cut ≡ cut_of z q

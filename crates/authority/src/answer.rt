@@ -1,11 +1,11 @@
-//! What a look-up answers: the link of a name, or the zone cut over it.
+//! The result of a look-up: the link of a name, or the zone cut over it.
 ghost use Rattle.std.specs.Prelude.{◌≡◌};
 
 use dname::{Heap, Name};
 use rdata::{Record, RecordSet, Records};
 use std::alloc::{AllocError, Allocator, Global};
 
-/// What a zone says of a name and a type (RFC 1034, section 4.3.2; RFC 2308).
+/// The link of a name and a type (RFC 1034, section 4.3.2; RFC 2308).
 #[derive(Drop)]
 pub enum Link<A: Allocator = Global> {
     /// The RRset (RFC 2181, section 5).
@@ -31,10 +31,10 @@ impl<A: Heap> Clone for Link<A> {
     }
 }
 
-/// What the local zones say.
+/// The result of a look-up in the local zones.
 #[derive(Drop)]
 pub enum Local<A: Allocator = Global> {
-    /// A local zone has authority over the name, and this is what it says.
+    /// A local zone has authority over the name, and this is its link.
     Link(Link<A>),
     /// The name is delegated: the zone cut, its NS RRset, and the glue that the zone has.
     Cut(Name<A>, Records<A>, Records<A>),

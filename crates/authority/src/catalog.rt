@@ -124,7 +124,7 @@ impl<A: Heap> Catalog<A> {
         &self.zones
     }
 
-    /// What the zone with the longest origin over the name says of it (RFC 1034, section 4.3.2).
+    /// The result of the look-up in the zone with the longest origin over the name (RFC 1034, section 4.3.2).
     pub fn look(&self, alloc: A, name: &Name<A>, kind: RType) -> Result<Local<A>, Starved>
         ensures value { IfOk result (λ l. local_view l ≡ looked self.now name.now (type_number kind)) }
         ensures relation { IfOk result (λ l. IsLooked self.now name.now (type_number kind) (local_view l)) }
@@ -133,7 +133,7 @@ impl<A: Heap> Catalog<A> {
         Ok(local)
     }
 
-    /// The same, and how many names were looked up in the tree of the zone that answers, glue aside: at
+    /// The result of `look`, and how many names were looked up in the tree of the zone that answers, glue aside: at
     /// most two more than the name has labels. A name without a node counts too.
     pub fn look_counted(
         &self,
@@ -148,8 +148,8 @@ impl<A: Heap> Catalog<A> {
         self.counted_through(alloc, None, name, kind)
     }
 
-    /// The same of those zones alone whose origins are listed: what a server of these zones says. Origins
-    /// without a zone mean nothing.
+    /// The result of the look-up in those zones alone whose origins are listed, as a server of these zones answers.
+    /// Origins without a zone mean nothing.
     pub fn look_among(
         &self,
         alloc: A,
@@ -164,7 +164,7 @@ impl<A: Heap> Catalog<A> {
         Ok(local)
     }
 
-    // Without a list, of all zones.
+    // The look-up in the listed zones; without a list, in all zones.
     fn counted_through<'a>(
         &'a self,
         alloc: A,

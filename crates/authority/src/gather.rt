@@ -22,7 +22,7 @@ pub(crate) fn owned_by<A: Heap>(owner: &Name<A>, rr: &Record<A>) -> Result<Recor
     })
 }
 
-// The data of a type there, each once.
+// The data of a type at this name, each once.
 fn values_of<A: Heap>(
     alloc: A,
     records: &[Record<A>],
@@ -42,7 +42,7 @@ fn values_of<A: Heap>(
     Ok(values)
 }
 
-// The set of a type there, each record once, with `owner` as owner.
+// The set of a type at this name, each record once, with `owner` as owner.
 pub(crate) fn gathered<A: Heap>(
     alloc: A,
     records: &[Record<A>],
@@ -69,7 +69,7 @@ pub(crate) fn gathered<A: Heap>(
     }
 }
 
-// The records of a set that may be there.
+// The records of a set, and none where there is no set.
 pub(crate) fn records_in<A: Heap>(
     alloc: A,
     set: Option<RecordSet<A>>,

@@ -1,4 +1,4 @@
-//! What the records that stand at a name say.
+//! The answer of the records of one name.
 ghost use Rattle.std.specs.Prelude.{◌≡◌, ◌≢◌, [], find, map, IfOk, IfSome};
 ghost use Rattle.std.specs.List.{list_any};
 ghost use Rattle.std.specs.Option.{option_copied};
@@ -19,7 +19,7 @@ use std::alloc::Allocator;
 use std::collections::BTreeSet;
 use zone::Held;
 
-// Their data of a type, each once.
+// The data of a type among these records, each once.
 fn values_of<A: Heap>(
     alloc: A,
     held: &Held<'_, A>,
@@ -38,7 +38,7 @@ fn values_of<A: Heap>(
     Ok(values)
 }
 
-// Their set of a type, each record once, with `owner` as owner.
+// The set of a type of these records, each record once, with `owner` as owner.
 pub(crate) fn set_of<A: Heap>(
     alloc: A,
     held: &Held<'_, A>,
@@ -63,7 +63,7 @@ pub(crate) fn set_of<A: Heap>(
     }
 }
 
-// The first of the held records that has the type.
+// The first of these records that has the type.
 fn first_of<'a, A: Allocator>(held: &Held<'a, A>, kind: RType) -> Option<&'a Record<A>>
     ensures { option_copied result ≡ find (is_type (type_number kind)) held.now }
 {
@@ -76,7 +76,7 @@ fn first_of<'a, A: Allocator>(held: &Held<'a, A>, kind: RType) -> Option<&'a Rec
     None
 }
 
-// Whether one of them is of that type.
+// Whether one of these records is of that type.
 pub(crate) fn has_type<A: Allocator>(held: &Held<'_, A>, kind: RType) -> bool
     ensures { result ≡ list_any (is_type (type_number kind)) held.now }
 {
@@ -86,7 +86,7 @@ pub(crate) fn has_type<A: Allocator>(held: &Held<'_, A>, kind: RType) -> bool
     }
 }
 
-// Their CNAME, with `owner` as owner, or NODATA.
+// The CNAME of these records, with `owner` as owner, or NODATA.
 fn alias_or_none<A: Heap>(
     held: &Held<'_, A>,
     soa: &Record<A>,
@@ -100,7 +100,7 @@ fn alias_or_none<A: Heap>(
     }
 }
 
-// What the held records answer for a type: their set of it, their CNAME, or NODATA.
+// The link of these records for a type: their set of it, their CNAME, or NODATA.
 pub(crate) fn say<A: Heap>(
     alloc: A,
     held: &Held<'_, A>,
@@ -117,7 +117,7 @@ pub(crate) fn say<A: Heap>(
     }
 }
 
-// What those of a wildcard say, and NXDOMAIN where there are none.
+// The link of a wildcard's records, and NXDOMAIN where there are none.
 pub(crate) fn say_wild<A: Heap>(
     alloc: A,
     held: &Held<'_, A>,

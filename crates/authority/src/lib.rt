@@ -1,13 +1,13 @@
-//! Authoritative look-up: what local zones say of a name and a type (RFC 1034, section 4.3.2; RFC 4592).
+//! Authoritative look-up: the result of local zones for a name and a type (RFC 1034, section 4.3.2; RFC 4592).
 //!
 //! A `Catalog` holds zones of different origins. `look` takes the zone with the longest origin over the name and
-//! answers by one walk up from it: a `Link` (the RRset, a CNAME, NODATA or NXDOMAIN, wildcards included), a zone
-//! cut with its NS records and glue, or that no zone is over the name. `look_among` looks in some of the zones
+//! answers by one walk up from it. The answer is a `Link` (the RRset, a CNAME, NODATA or NXDOMAIN, wildcards included),
+//! a zone cut with its NS records and glue, or that no zone is over the name. `look_among` looks in some of the zones
 //! alone, as one server of a world does; `look_in` is the same by a walk over all records, to compare with.
 //!
-//! Promised: the answer of that zone, by the RFC's relations (clause `relation`, `IsLooked`) and by the function
-//! that computes it (clause `value`, `looked`); one answer (`one_answer_law`), and one for every name that a zone
-//! is over (`some_answer_law`). At most two names more than the name has labels are looked up in the tree
+//! Promised: the result is that of this zone, by the RFC's relations (clause `relation`, `IsLooked`) and by the
+//! function that computes it (clause `value`, `looked`). It is one (`one_answer_law`), and there is one for every name
+//! that a zone is over (`some_answer_law`). At most two names more than the name has labels are looked up in the tree
 //! (`look_counted`).
 //! Not here: following a CNAME chain (`front`, `iterate`).
 //!
@@ -15,7 +15,7 @@
 //! let mut zones = Vec::new(alloc);
 //! zones.push(zone)?;
 //! let catalog = Catalog::new(zones)?;
-//! match catalog.look(alloc, &name, RType::A)? {
+//! match catalog.look(alloc, name, RType::A)? {
 //!     Local::Link(Link::Found(set)) => { /* the RRset */ }
 //!     Local::Link(_) => { /* a CNAME, NODATA or NXDOMAIN */ }
 //!     Local::Cut(at, servers, glue) => { /* a referral to `at` */ }

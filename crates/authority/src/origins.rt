@@ -1,4 +1,4 @@
-//! Zones by their origins: where each stands among its like.
+//! Zones by their origins: the place of each in the list of zones.
 ghost use Rattle.std.specs.Prelude.{◌≡◌, ℕ, List, Some, cond, is_none, IfOk, OnOk, MatchResult};
 ghost use Rattle.std.specs.Option.{option_copied};
 ghost use Rattle.dname.specs.Keys.{at_name};
@@ -17,7 +17,7 @@ use zone::{Zone, zone_keeps_rules};
 /// The place of each zone in a list of them, by the wire form of its origin.
 pub(crate) type Places<A> = HashMap<Vec<u8, A>, usize, BuildHasherDefault<FoldHasher>, A>;
 
-// Notes where the zone stands; false where one of its origin was noted before.
+// Notes the place of the zone; false where a zone of its origin was noted before.
 fn note_place<A: Heap>(
     places: &mut Places<A>,
     zone: &Zone<A>,
@@ -54,7 +54,7 @@ fn has_origin_in<A: Allocator>(zone: &Zone<A>, origins: &[Name<A>]) -> bool
     origins.iter().any(|origin| *zone.origin() == *origin)
 }
 
-// Whether the zone's origin is listed. Without a list, each is.
+// Whether the zone's origin is listed; without a list, always.
 fn is_chosen<A: Allocator>(zone: &Zone<A>, listed: Option<&[Name<A>]>) -> bool
     ensures { result ≡ is_chosen (option_copied listed.entry) zone.now }
 {

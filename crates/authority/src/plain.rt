@@ -40,7 +40,7 @@ pub(crate) fn is_kind<A: Allocator>(rr: &Record<A>, kind: RType) -> bool
     rr.is(kind)
 }
 
-// Whether it stands there and has the type.
+// Whether a record stands at the name, or at the wildcard, and has the type.
 pub(crate) fn answers<A: Allocator>(
     rr: &Record<A>,
     name: &Name<A>,
@@ -52,14 +52,14 @@ pub(crate) fn answers<A: Allocator>(
     stands(rr, name, whose) && is_kind(rr, kind)
 }
 
-// Whether some record of the type stands there.
+// Whether some record of the type stands at the name, or at the wildcard.
 fn has_any<A: Allocator>(records: &[Record<A>], name: &Name<A>, whose: Whose, kind: RType) -> bool
     ensures { result ≡ list_any (is_picked (target whose name.now) (type_number kind)) records.now }
 {
     records.iter().any(|rr| answers(rr, name, whose, kind))
 }
 
-// Whether any record stands there.
+// Whether any record stands at the name, or at the wildcard.
 fn is_held<A: Allocator>(records: &[Record<A>], name: &Name<A>, whose: Whose) -> bool
     ensures { result ≡ list_any (is_owned (target whose name.now)) records.now }
 {
@@ -79,7 +79,7 @@ fn has_owner_under<A: Allocator>(records: &[Record<A>], name: &Name<A>) -> bool
     records.iter().any(|rr| is_owner_under(rr, name))
 }
 
-// The first record of the type there.
+// The first record of the type at the name, or at the wildcard.
 pub(crate) fn first_of<'a, A: Allocator>(
     records: &'a [Record<A>],
     name: &Name<A>,
@@ -91,7 +91,7 @@ pub(crate) fn first_of<'a, A: Allocator>(
     records.iter().find(|rr| answers(rr, name, whose, kind))
 }
 
-// A CNAME there, with `owner` as owner, or NODATA.
+// The CNAME at the name, or at the wildcard, with `owner` as owner, or NODATA.
 fn alias_or_none<A: Heap>(
     records: &[Record<A>],
     soa: &Record<A>,
@@ -107,7 +107,7 @@ fn alias_or_none<A: Heap>(
     }
 }
 
-// What the records there answer for a type: their set of it, their CNAME, or NODATA.
+// The link of the name's or the wildcard's records for a type: their set of it, their CNAME, or NODATA.
 fn say<A: Heap>(
     alloc: A,
     records: &[Record<A>],
@@ -126,7 +126,7 @@ fn say<A: Heap>(
     }
 }
 
-// The cut that stands right there.
+// The name, if it is a cut.
 fn cut_at<A: Heap>(
     origin: &Name<A>,
     records: &[Record<A>],
@@ -187,7 +187,7 @@ fn climb<A: Heap>(
     Ok(Link::NxDomain(soa.clone()?))
 }
 
-// What the wildcard right under a name says.
+// The link that the wildcard right under a name gives.
 fn wildcard<A: Heap>(
     alloc: A,
     records: &[Record<A>],
@@ -217,7 +217,7 @@ fn has_repeat<A: Allocator>(set: &[Record<A>], rr: &Record<A>) -> bool
     set.iter().any(|kept| kept.repeats(rr))
 }
 
-// One address more, where it is new.
+// Adds an address, where it is new.
 pub(crate) fn put_glue<A: Heap>(set: &mut Records<A>, rr: &Record<A>) -> Result<(), Starved>
     ensures { OnOk result (set.new ≡ add_glue set.old rr.now) }
 {
@@ -228,7 +228,7 @@ pub(crate) fn put_glue<A: Heap>(set: &mut Records<A>, rr: &Record<A>) -> Result<
     Ok(())
 }
 
-// The addresses of a server's name.
+// Adds the addresses of a server's name.
 fn put_addresses<A: Heap>(
     set: &mut Records<A>,
     records: &[Record<A>],
@@ -272,9 +272,9 @@ fn glue<A: Heap>(
     Ok(set)
 }
 
-/// What a zone's records give for a name and a type, by a walk over all of them: what look-up by the tree is compared
-/// with. `soa` is the SOA of the zone's negative answers. That records of one owner and type have one TTL is one of a
-/// zone's rules.
+/// The result for a name and a type of a zone's records, by a walk over all of them, with which the look-up by the tree
+/// is compared. `soa` is the SOA of the zone's negative answers. That records of one owner and type have one TTL is one
+/// of a zone's rules.
 pub fn look_in<A: Heap>(
     alloc: A,
     origin: &Name<A>,

@@ -1,4 +1,4 @@
-//! What a zone says of a name at or under a cut.
+//! The result for a name at or under a cut.
 ghost use Rattle.std.specs.Prelude.{◌≡◌, filter, fold, IfOk, OnOk};
 ghost use Rattle.zone.specs.Look.{ns_of, glue_of, add_glue, is_address, addresses_of, Cut};
 ghost use Rattle.authority.specs.Answers.{local_view};
@@ -18,7 +18,7 @@ fn is_address<A: Allocator>(rr: &Record<A>) -> bool
     is_kind(rr, RType::A) || is_kind(rr, RType::Aaaa)
 }
 
-// The addresses among the records that stand at a name.
+// Adds the addresses among the records of a name.
 fn put_addresses<A: Heap>(set: &mut Records<A>, held: &Held<'_, A>) -> Result<(), Starved>
     ensures { OnOk result (set.new ≡ fold add_glue set.old (filter is_address held.now)) }
 {
@@ -31,7 +31,7 @@ fn put_addresses<A: Heap>(set: &mut Records<A>, held: &Held<'_, A>) -> Result<()
     Ok(())
 }
 
-// The addresses that the zone has of a server.
+// Adds the addresses that the zone has of a server.
 fn put_server<A: Heap>(
     set: &mut Records<A>,
     zone: &Zone<A>,

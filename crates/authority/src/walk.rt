@@ -1,4 +1,4 @@
-//! Look-up by one walk up from the name: what it costs is what the name's labels cost.
+//! Look-up by one walk up from the name: its cost grows with the number of the name's labels alone.
 ghost use Rattle.std.specs.Prelude.{◌≡◌, ◌≤◌, ◌+◌, ◌&&◌, not, cond, length, Some, None, IfOk};
 ghost use Rattle.std.specs.List.{list_any};
 ghost use Rattle.dname.specs.Labels.{same_name};
@@ -19,12 +19,12 @@ use rdata::{RType, Record};
 use std::alloc::Allocator;
 use zone::{Held, Stand, Zone, zone_keeps_rules};
 
-// What a walk up from a name finds.
+// The result of a walk up from a name.
 #[derive(Drop)]
 pub(crate) struct Walk<'a, A: Allocator> {
     // The cut over the name that is nearest to the origin.
     cut: Option<Name<A>>,
-    // What stands at the name.
+    // The records of the name and of its wildcard.
     here: Option<Stand<'a, A>>,
     // The records of the wildcard at the nearest existing name above it.
     near: Option<Held<'a, A>>,
@@ -32,7 +32,7 @@ pub(crate) struct Walk<'a, A: Allocator> {
     count: usize,
 }
 
-// Whether NS records stand there.
+// Whether a name has NS records.
 fn has_servers<A: Allocator>(stand: &Option<Stand<'_, A>>) -> bool
     ensures { result ≡ list_any (is_type ns_type) (own_of stand.now) }
 {
@@ -42,7 +42,7 @@ fn has_servers<A: Allocator>(stand: &Option<Stand<'_, A>>) -> bool
     }
 }
 
-// The name where it is a cut: NS records stand there, and it is not the origin.
+// The name, if it is a cut: it has NS records, and is not the origin.
 fn cut_at<A: Heap>(
     zone: &Zone<A>,
     stand: &Option<Stand<'_, A>>,
@@ -133,8 +133,8 @@ fn link<A: Heap>(
     }
 }
 
-// What a zone gives for a name and a type, and how many names of its tree were looked up, glue aside:
-// at most two more than the name has labels. A name that has no node counts too.
+// The result for a name and a type, and how many names of the zone's tree were looked up, glue aside: at most two more
+// than the name has labels. A name that has no node counts too.
 pub(crate) fn look_counted<A: Heap>(
     alloc: A,
     zone: &Zone<A>,

@@ -1,10 +1,10 @@
--- What a negative answer says, and how it lies in memory: its three names in wire form, one behind the other.
+-- The SOA of a negative answer as it is stored: its three names in wire form, one behind the other.
 use Rattle.std.specs.Prelude.{ℕ, ◌≤◌, List, take, drop, length}
 use Rattle.dname.specs.Wire.{IsNameWire}
 use Rattle.rdata.specs.Data.{Authority, Soa}
 use Rattle.rdata.specs.Records.{Record}
 
--- The SOA record of a zone without its time to live.
+-- The SOA record of a zone without its TTL.
 pub record Denied : Type 0 where
   pub owner : List (List ℕ)
   pub soa : Authority
@@ -12,7 +12,7 @@ pub record Denied : Type 0 where
 abbrev pub denied : ℕ → Denied → Record
 denied ttl d = record { owner = d.owner; ttl = ttl; value = Soa d.soa }
 
--- The names in the order in which they lie, where the first has the size n and the second m.
+-- The names in the order in which they are stored, where the first has the size n and the second m.
 abbrev pub first_wire : ℕ → List ℕ → List ℕ
 first_wire n bs = take n bs
 

@@ -1,4 +1,4 @@
--- Laws of the equality and the hash of failures that are kept.
+-- Laws of the equality and the hash of cached failures.
 use Rattle.std.specs.Prelude.{◌≡◌, true, ◌&&◌, nat_eq, [], ◌∷◌, ◌++◌}
 use Rattle.std.proofs.Common.{refl, ap, subst, eqb-true, eq-eqb}
 use Rattle.std.specs.Cmp.{IsPartialEquivalence, IsEquivalence, partial_equiv_from_equiv, decided, first_so, second_so}

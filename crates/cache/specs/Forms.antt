@@ -1,4 +1,4 @@
--- Links as they lie in memory, seen as plain values.
+-- Links as they are stored, seen as plain values.
 use Rattle.std.specs.Prelude.{[], ◌∷◌}
 use Rattle.rdata.specs.Kept.{datum}
 use Rattle.authority.specs.Answers.{link_view}

@@ -1,4 +1,4 @@
--- The laws of look-ups that the functions of this crate state: what is given, and when nothing is.
+-- The laws of look-ups that the functions of this crate state: what the answer is, and when there is none.
 use Rattle.std.specs.Prelude.{◌≡◌, ◌≢◌, ◌↔◌, ℕ, true, Some, None, List, Contains}
 use Rattle.dname.specs.Labels.{IsAtOrUnder}
 use Rattle.lru.specs.LruCache.{lru_cache, IsValid}
@@ -12,23 +12,23 @@ use Rattle.cache.specs.Cached.{Hit, is_live, hit_of, Question, above_to, lent, a
 abbrev pub AboveIsBetween : Type 0
 AboveIsBetween = (top q p : List (List ℕ)) → Contains (above_to top q) p ↔ (IsBeneath q p × IsAtOrUnder p top)
 
--- Nothing is given exactly where nothing that is kept answers.
+-- There is no answer exactly where no entry answers.
 abbrev pub NothingIsMissed : Type 0
 NothingIsMissed = (a : Question) (now : ℕ) (es : List (Key × Hit)) → hit_of (lent a now es) ≡ None → IsMiss a now es
 
 abbrev pub MissGivesNothing : Type 0
 MissGivesNothing = (a : Question) (now : ℕ) (es : List (Key × Hit)) → IsMiss a now es → hit_of (lent a now es) ≡ None
 
--- What is given lives.
+-- The answer lives.
 abbrev pub GivenLives : Type 0
 GivenLives = (a : Question) (now : ℕ) (es : List (Key × Hit)) (h : Hit) → hit_of (lent a now es) ≡ Some h → is_live now h ≡ true
 
--- The link that lives and answers first is given.
+-- The link that lives and answers first is the answer.
 abbrev pub FirstIsGiven : Type 0
 FirstIsGiven = (a : Question) (now : ℕ) (es : List (Key × Hit)) (h : Hit) → ComesFirst a.name a.kind now es h → lent a now es ≡ Some (key_for a.name a.kind h.link, h)
 
--- A link that was just kept is given while it lives; an alias where another type than CNAME is asked for and
--- nothing else was kept under that type.
+-- A link that was just cached is the answer while it lives. An alias is so where another type than CNAME is asked for
+-- and no other link of that type is cached.
 abbrev pub KeptIsGiven : Type 0
 KeptIsGiven = (cap : ℕ) (a : Question) (now : ℕ) (h : Hit) (es : List (Key × Hit)) → IsValid same_key (lru_cache es cap) → h.ttl ≢ 0 → is_live now h ≡ true
     → ((r : Record) → h.link ≡ Alias r → (a.kind ≢ cname_type) × ((e : Hit) → Lives now es (kind_key a.name a.kind) e → ⊥)) → hit_of (lent a now (after_keep cap a.name a.kind h es)) ≡ Some h

@@ -1,10 +1,10 @@
--- Under which keys links are kept: a name, and a record type or the name's absence.
+-- The keys of a cache: a name, and a record type or the name's absence.
 use Rattle.std.specs.Prelude.{ℕ, Bool, true, false, ◌&&◌, nat_eq, List}
 use Rattle.dname.specs.Labels.{same_name}
 use Rattle.zone.specs.Links.{Link, Found, Alias, NoData, NxDomain}
 use Rattle.zone.specs.Zones.{cname_type}
 
--- What a link speaks of: the type with this number, or the name itself (RFC 2308, section 5).
+-- What an entry is about: the type with this number, or the whole name (RFC 2308, section 5).
 pub data Slot : Type 0 where
   Kind : ℕ → Slot
   NameError : Slot
@@ -28,8 +28,8 @@ kind_key q t = record { name = q; slot = Kind t }
 abbrev pub error_key : List (List ℕ) → Key
 error_key q = record { name = q; slot = NameError }
 
--- Where the link for a question goes: an alias under CNAME, whatever was asked; an NXDOMAIN under the name
--- alone; a set and the want of one under the type.
+-- The slot of a link that answers a question: an alias under CNAME, whatever was asked; an NXDOMAIN under the name
+-- alone; a set and NODATA under the type.
 abbrev pub slot_for : ℕ → Link → Slot
 slot_for t (Found rs) = Kind t
 slot_for t (Alias r) = Kind cname_type

@@ -1,4 +1,4 @@
--- Slots as they are kept, seen as plain values.
+-- The code's slots, seen as plain values.
 use Rattle.rdata.specs.Types.{type_number}
 use Rattle.cache.specs.declared.key.Slot.{Slot}
 use Rattle.cache.specs.declared.key.Slot.TheVariants as kept

@@ -36,7 +36,7 @@ same_key_equiv = decided same_key (λ a b. (same_key-exact a b, λ e. subst (λ 
 pub same_key_per : IsPartialEquivalence same_key
 same_key_per = partial_equiv_from_equiv same_key_equiv
 
--- What is kept of one name has one hash, so that a look-up finds it all in one place.
+-- All entries of one name have one hash, so that a look-up finds them in one place.
 abbrev pub fed_key : Key → HashWrites
 fed_key k = fed_name k.name
 

@@ -5,7 +5,7 @@ pub mod Given
 pub mod Members
 pub mod Aging
 pub mod Failures
--- Kept: what the code's own values keep.
+-- Kept: invariants of the code's values, and how contracts see them.
 pub mod Forms
 pub mod Kinds
 pub mod Laws

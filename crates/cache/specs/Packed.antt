@@ -1,4 +1,4 @@
--- Links as they lie in memory: an owner that is the name of the key is not written again.
+-- Links as they are stored: an owner that is the key's name is not stored again.
 use Rattle.std.specs.Prelude.{ℕ, List, map}
 use Rattle.rdata.specs.Data.{Datum}
 use Rattle.rdata.specs.Records.{Record}
@@ -16,7 +16,7 @@ pub data Form : Type 0 where
   NxDomain : Denied → Form
   Whole : said.Link → Form
 
--- The form, the TTL of the records whose data it has, and how long and since when the link is kept.
+-- The form, the TTL of the records whose data it has, and for how long and since when the link is cached.
 pub record Packed : Type 0 where
   pub form : Form
   pub records_ttl : ℕ
@@ -33,7 +33,7 @@ link_of q ttl (NoData d) = said.NoData (denied ttl d)
 link_of q ttl (NxDomain d) = said.NxDomain (denied ttl d)
 link_of q ttl (Whole l) = l
 
--- What is kept under a key.
+-- The link under a key of this name.
 abbrev pub hit_of_packed : List (List ℕ) → Packed → Hit
 hit_of_packed q p = record { link = link_of q p.records_ttl p.form; ttl = p.ttl; since = p.since }
 

@@ -1,4 +1,4 @@
-//! The cache itself: links kept, and looked up.
+//! The cache: links are put in, and looked up.
 ghost use Rattle.std.specs.Prelude.{◌≡◌, ◌≢◌, ◌≤◌, [], ◌∷◌, IfOk, OnOk, OnErr, IfSome, IfNone, Contains, option_map, option_copied};
 ghost use Rattle.std.specs.Bool.{OnTrue, OnFalse};
 ghost use Rattle.std.specs.NonZero.{non_zero_usize_get};
@@ -24,12 +24,12 @@ use std::hash::BuildHasher;
 use std::marker::Model;
 use std::num::NonZeroUsize;
 
-/// Links that are kept. Contracts see the entries, the most recently used first, and the capacity. An entry
-/// whose time is over stays until it is replaced or pushed out.
+/// The cached links. Contracts see the entries, the most recently used first, and the capacity. An expired entry stays
+/// until it is replaced or pushed out.
 #[derive(Drop)]
 pub struct Cache<S: BuildHasher + Drop, A: Allocator = Global> {
     entries: LruCache<Key<A>, Packed<A>, S, A>,
-    // The key of the last look-up, or of the error that the last keep swept: the next one takes its memory.
+    // The key of the last look-up, or of the NXDOMAIN that the last `keep` removed: the next key takes its memory.
     scratch_key: Option<Key<A>>,
 }
 
@@ -47,7 +47,7 @@ impl<S: BuildHasher + Drop, A: Allocator> Model for Cache<S, A> {
     ghost view = { λ c. lru_cache (unpacked c.entries.entries) c.entries.cap };
 }
 
-// No entries, and room for so many, which is taken as they come.
+// No entries, with this capacity. Memory is taken as entries come.
 fn no_entries<S: BuildHasher + Drop, A: Heap>(
     alloc: A,
     cap: NonZeroUsize,
@@ -76,7 +76,7 @@ fn climb<A: Allocator>(name: &mut Name<A>, top: &Name<A>) -> bool
 }
 
 impl<S: BuildHasher + Drop, A: Heap> Cache<S, A> {
-    /// An empty cache, with room for `cap` links, which is taken as they come.
+    /// An empty cache with room for `cap` links: a look-up finds nothing in it. Memory is taken as links come.
     pub fn new(alloc: A, cap: NonZeroUsize, hasher: S) -> Result<Cache<S, A>, Starved>
         ensures { IfOk result (λ c. c ≡ lru_cache [] (non_zero_usize_get cap)) }
     {
@@ -93,9 +93,9 @@ impl<S: BuildHasher + Drop, A: Heap> Cache<S, A> {
         let _ = self.entries.len();
     }
 
-    /// Keeps the link for this name and type from the moment `now`, in milliseconds, for `ttl` seconds, at
-    /// most 2,147,483,647 (RFC 2181, section 8). A link with TTL 0 is not kept, and replaces what was kept.
-    /// Running out of memory changes nothing.
+    /// Caches the link for this name and type from the moment `now`, in milliseconds, for `ttl` seconds, at most
+    /// 2,147,483,647 (RFC 2181, section 8). With `ttl` 300 and `now` 0, `look` finds it up to 299,999. A link with TTL
+    /// 0 is not cached, and the entry under its key goes. Running out of memory changes nothing.
     pub fn keep(
         &mut self,
         name: &Name<A>,
@@ -141,10 +141,11 @@ impl<S: BuildHasher + Drop, A: Heap> Cache<S, A> {
         }
     }
 
-    /// What is kept for this name and type at the moment `now`, in milliseconds: the name's error, the link
-    /// of that type, for a type other than CNAME the alias, or the error of a name above up to `top`, the
-    /// nearest first (RFC 8020, section 2). The first that lives answers and becomes the most recently used.
-    /// An alias answers a question for CNAME as a set.
+    /// The cached answer for this name and type at the moment `now`, in milliseconds. It is the name's NXDOMAIN, the
+    /// link of that type, for a type other than CNAME the alias, or the NXDOMAIN of a name above up to `top`, the
+    /// nearest first (RFC 8020, section 2). The first of these that lives answers and becomes the most recently used.
+    /// With an NXDOMAIN of `b.example` cached, that is the answer for `a.b.example`, where `top` is the root. For type
+    /// CNAME an alias is an RRset.
     pub fn look(
         &mut self,
         name: &Name<A>,
@@ -165,7 +166,7 @@ impl<S: BuildHasher + Drop, A: Heap> Cache<S, A> {
         Ok(hit)
     }
 
-    // A key of this name, in the memory of the last one.
+    // A key of this name, in the memory of the last key.
     fn key_of(&mut self, name: &Name<A>) -> Result<Key<A>, Starved>
         ensures key { IfOk result (λ k. k.name ≡ name.now) }
         ensures same { self.new ≡ self.old }
@@ -188,7 +189,8 @@ impl<S: BuildHasher + Drop, A: Heap> Cache<S, A> {
         self.scratch_key = Some(key);
     }
 
-    // What is kept for the key's name and this type; the key becomes the one that answered.
+    // The answer for the key's name and this type, whose entry becomes the most recently used; the key becomes that of
+    // the entry.
     fn look_at(
         &mut self,
         key: &mut Key<A>,
@@ -210,7 +212,7 @@ impl<S: BuildHasher + Drop, A: Heap> Cache<S, A> {
         Ok(hit)
     }
 
-    // What is given for the key's name and this type; the key becomes the one that answered.
+    // The answer for the key's name and this type; the key becomes that of its entry.
     fn find(
         &self,
         key: &mut Key<A>,
@@ -226,7 +228,7 @@ impl<S: BuildHasher + Drop, A: Heap> Cache<S, A> {
         }
     }
 
-    // The error of the nearest name above up to `top` of which one lives; the key becomes the one that answered.
+    // The NXDOMAIN of the nearest name above, up to `top`, that has a live one; the key becomes that of its entry.
     fn error_above(
         &self,
         key: &mut Key<A>,
@@ -244,15 +246,17 @@ impl<S: BuildHasher + Drop, A: Heap> Cache<S, A> {
         Ok(None)
     }
 
-    // What stands at the key's own name for this type; the key becomes the one that answered.
+    // The answer of the key's own name for this type; the key becomes that of its entry.
     fn find_own(&self, key: &mut Key<A>, kind: RType, now: u64) -> Result<Option<Hit<A>>, Starved>
         ensures value { IfOk result (λ h. under key.new h ≡ answer key.old.name (type_number kind) now self.now.entries) }
         ensures name { key.new.name ≡ key.old.name }
     {
+        // 1. The name's NXDOMAIN.
         key.slot = Slot::NameError;
         if let Some(hit) = self.set_at(key, now)? {
             return Ok(Some(hit));
         }
+        // 2. The link of the type. For type CNAME nothing else answers.
         key.slot = Slot::Of(kind);
         if let Some(hit) = self.set_at(key, now)? {
             return Ok(Some(hit));
@@ -260,6 +264,7 @@ impl<S: BuildHasher + Drop, A: Heap> Cache<S, A> {
         if kind.number() == RType::Cname.number() {
             return Ok(None);
         }
+        // 3. The alias, for another type.
         key.slot = Slot::Of(RType::Cname);
         Ok(self.alias_at(key, now)?)
     }
@@ -282,7 +287,7 @@ impl<S: BuildHasher + Drop, A: Heap> Cache<S, A> {
         }
     }
 
-    // What is kept under the key and lives.
+    // The entry under the key, if it lives.
     fn live_at(&self, key: &Key<A>, now: u64) -> Option<&Packed<A>>
         ensures { option_map (hit_of_packed key.now.name) (option_copied result) ≡ live_at now key.now self.now.entries }
     {

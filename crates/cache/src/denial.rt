@@ -1,4 +1,4 @@
-//! The SOA record of a negative answer as it lies in memory: two pieces in place of five.
+//! The SOA record of a negative answer as it is stored: two pieces in place of five.
 ghost use Rattle.std.specs.Prelude.{◌≡◌, ◌≤◌, IfOk, IfSome};
 ghost use Rattle.rdata.specs.Records.{greatest_ttl};
 ghost use Rattle.cache.specs.Denials.{denied};

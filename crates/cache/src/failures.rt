@@ -64,9 +64,9 @@ impl<A: Allocator> Hash for FailedAsk<A> {
     }
 }
 
-/// Which servers failed to answer which questions. Contracts see the entries, the most recently used first, each with
-/// the moment at which it came, in milliseconds, and the capacity. An entry whose time is over stays until it is
-/// replaced or pushed out.
+/// The cached failures: which servers failed to answer which questions. Contracts see the entries, the most recently
+/// used first, each with the moment at which it came, in milliseconds, and the capacity. An expired entry stays until
+/// it is replaced or pushed out.
 #[derive(Drop)]
 pub struct Failures<S: BuildHasher + Drop, A: Allocator = Global> {
     entries: LruCache<FailedAsk<A>, u64, S, A>,
@@ -83,7 +83,7 @@ impl<S: BuildHasher + Drop, A: Allocator> Model for Failures<S, A> {
 }
 
 impl<S: BuildHasher + Drop, A: Heap> Failures<S, A> {
-    /// No failures, with room for `cap` of them, which is taken as they come.
+    /// No failures, with room for `cap` of them: `is_failed` is false of each. Memory is taken as they come.
     pub fn new(alloc: A, cap: NonZeroUsize, hasher: S) -> Result<Failures<S, A>, Starved>
         ensures { IfOk result (λ f. f ≡ lru_cache [] (non_zero_usize_get cap)) }
     {
@@ -99,8 +99,9 @@ impl<S: BuildHasher + Drop, A: Heap> Failures<S, A> {
         let _ = self.entries.len();
     }
 
-    /// The server failed to answer this question at the moment `now`, in milliseconds. Its entry goes first; a new
-    /// one can push the last out, and can want memory: then nothing changes.
+    /// Caches that the server failed to answer this question at the moment `now`, in milliseconds. Its entry becomes
+    /// the most recently used; a new one can push out the least recently used. With `now` 0, `is_failed` is true up to
+    /// 29,999. Running out of memory changes nothing.
     pub fn failed(
         &mut self,
         name: &Name<A>,
@@ -123,7 +124,8 @@ impl<S: BuildHasher + Drop, A: Heap> Failures<S, A> {
     }
 
     /// Whether the server failed to answer this question less than 30 seconds before the moment `now`, which is in
-    /// milliseconds. If so, the entry becomes the most recently used. Where nothing is kept no memory is taken.
+    /// milliseconds: for a failure at 0, true at 29,999 and false at 30,000. If so, the entry becomes the most recently
+    /// used. Where there are no entries no memory is taken.
     pub fn is_failed(
         &mut self,
         name: &Name<A>,
@@ -147,7 +149,7 @@ impl<S: BuildHasher + Drop, A: Heap> Failures<S, A> {
         Ok(self.recall(&key, now))
     }
 
-    // Whether the failure lives. Then it goes first.
+    // Whether the failure lives. If so, it becomes the most recently used.
     fn recall(&mut self, key: &FailedAsk<A>, now: u64) -> bool
         ensures value { result ≡ is_failed now key.now self.old.entries }
         ensures entries { self.new ≡ lru_cache (after_is_failed now key.now self.old.entries) self.old.cap }

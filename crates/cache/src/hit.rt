@@ -1,4 +1,4 @@
-//! A link that is kept, and what age leaves of its TTL.
+//! A cached link, and what is left of its TTL.
 ghost use Rattle.std.specs.Prelude.{◌≡◌, ◌≤◌, [], ◌∷◌, IfOk, option_map};
 ghost use Rattle.rdata.specs.Records.{greatest_ttl};
 ghost use Rattle.rdata.specs.Sets.{with_ttl};
@@ -13,14 +13,14 @@ use rdata::{Record, RecordSet};
 use std::alloc::{AllocError, Allocator, Global};
 use std::marker::Model;
 
-/// A link that is kept.
+/// A cached link.
 #[derive(Drop)]
 pub struct Hit<A: Allocator = Global> {
-    /// What was answered: an RRset, an alias, or that there is none.
+    /// The cached answer: an RRset, an alias, or a negative answer.
     pub link: Link<A>,
-    /// Its time to live in seconds, as it was kept, at most 2,147,483,647 (RFC 2181, section 8).
+    /// Its TTL in seconds when it was cached, at most 2,147,483,647 (RFC 2181, section 8).
     pub ttl: u32,
-    /// The moment since which it is kept, in milliseconds.
+    /// The moment at which it was cached, in milliseconds.
     pub since: u64,
 }
 
@@ -51,14 +51,15 @@ impl<A: Heap> Clone for Hit<A> {
 }
 
 impl<A: Allocator> Hit<A> {
-    /// Whether it is younger than its time to live at this moment.
+    /// Whether it is younger than its TTL at this moment: one of 0 with TTL 300 is at 299,999, and is not at 300,000.
     pub fn is_live(&self, now: u64) -> bool
         ensures { result ≡ is_live now self.now }
     {
         is_young(self.ttl, self.since, now)
     }
 
-    /// How many seconds are left of its time to live at this moment; 0 where that is over.
+    /// How many seconds are left of its TTL at this moment, 290 at 10,000 for one of 0 with TTL 300; 0 where that is
+    /// over.
     pub fn left(&self, now: u64) -> u32
         ensures value { result ≡ left_of now self.now }
         ensures most { result ≤ greatest_ttl }
@@ -66,8 +67,8 @@ impl<A: Allocator> Hit<A> {
         seconds_left(self.ttl, self.since, now)
     }
 
-    /// The link as it is sent at this moment: each record has as many seconds as are left (RFC 1035,
-    /// section 6.1.3). Takes no memory.
+    /// The link as it is sent at this moment: each record has as many seconds as are left (RFC 1035, section 6.1.3),
+    /// 290 at 10,000 for a link of 0 with TTL 300. Takes no memory.
     pub fn into_link(self, now: u64) -> Link<A>
         ensures { link_view result ≡ aged now self }
     {
@@ -76,8 +77,8 @@ impl<A: Allocator> Hit<A> {
     }
 }
 
-/// How many seconds are left at the moment `now` of a time to live that began at the moment `since`; 0 where it is
-/// over. Moments are milliseconds.
+/// How many seconds are left at the moment `now` of a TTL that began at the moment `since`, both in milliseconds: 290
+/// for 300, 0 and 10,000; 0 where it is over.
 pub fn seconds_left(ttl: u32, since: u64, now: u64) -> u32
     ensures value { result ≡ seconds_left now ttl since }
     ensures most { result ≤ ttl }
@@ -86,7 +87,7 @@ pub fn seconds_left(ttl: u32, since: u64, now: u64) -> u32
     u64::from(ttl).saturating_sub(age) as u32
 }
 
-/// The link with this TTL, in seconds, on each record; takes no memory.
+/// The link with this TTL, in seconds, on each record: with 60, its record has TTL 60. Takes no memory.
 pub fn retimed<A: Allocator>(link: Link<A>, ttl: u32) -> Link<A>
     requires { ttl ≤ greatest_ttl }
     ensures { link_view result ≡ retimed ttl (link_view link) }
@@ -116,7 +117,7 @@ pub(crate) fn set_of_one<A: Heap>(alloc: A, only: Record<A>) -> Result<Link<A>, 
     Ok(Link::Found(RecordSet::alone(alloc, only)?))
 }
 
-// The link as the answer for the type under which it stands.
+// The link as the answer for the type under which it is cached.
 pub(crate) fn set_of<A: Heap>(alloc: A, link: &Link<A>) -> Result<Link<A>, Starved>
     ensures { IfOk result (λ l. link_view l ≡ as_set (link_view link.now)) }
 {

@@ -1,4 +1,4 @@
-//! Under which key a link is kept (RFC 2308, section 5).
+//! The key under which a link is cached (RFC 2308, section 5).
 ghost use Rattle.std.specs.Prelude.{◌≡◌, true};
 ghost use Rattle.cache.specs.Keys.{same_slot, same_key, slot_for};
 ghost use Rattle.rdata.specs.Types.{type_number};
@@ -14,17 +14,17 @@ use std::cmp::Eq;
 use std::hash::{Hash, Hasher};
 use std::marker::Model;
 
-/// What a link speaks of: a type, or the name itself.
+/// What an entry is about: one type of a name, or the whole name.
 #[derive(Clone, Copy)]
 pub enum Slot {
-    /// What the name has of this type: an RRset, its lack, or under CNAME an alias.
+    /// One type: an RRset, NODATA, or under CNAME an alias.
     Of(RType),
-    /// That the name does not exist, whatever the type (RFC 2308, section 5).
+    /// NXDOMAIN: the name does not exist, whatever the type (RFC 2308, section 5).
     NameError,
 }
 
 impl Slot {
-    // Where the link for a question of this type goes.
+    // The slot of a link that answers a question of this type.
     pub(crate) fn for_link<A: Allocator>(kind: RType, link: &Link<A>) -> Slot
         ensures { slot_view result ≡ slot_for (type_number kind) (link_view link.now) }
     {
@@ -46,10 +46,10 @@ impl Slot {
     }
 }
 
-/// A name and what is kept of it.
+/// A name, and which of its links.
 #[derive(Drop)]
 pub struct Key<A: Allocator = Global> {
-    /// The name that was asked for, to which the link is an answer.
+    /// The name in the question, to which the link is an answer.
     pub name: Name<A>,
     /// Which link of that name.
     pub slot: Slot,

@@ -5,9 +5,9 @@ ghost use Rattle.cache.specs.Failures.{FailedWasKept, KeptIsFailed, AskingChange
 ghost use Rattle.cache.specs.Given.{AboveIsBetween, NothingIsMissed, MissGivesNothing, GivenLives, FirstIsGiven, KeptIsGiven, LookStaysValid, KeepStaysValid};
 ghost use Rattle.cache.specs.Members.{LookKeepsMembers, KeepBringsOne, KeptIsThere, KeepLosesFew, GivenIsHeld};
 
-/// Which entries a look-up and a keep leave. A look-up changes their order alone, and what it gives is one of
-/// them. A keep brings the link's entry alone, unless its TTL is 0, and loses the old entry of its key, the
-/// name's error where another link is kept, and what stood past the capacity.
+/// Which entries a look-up and a `keep` leave. A look-up changes their order alone, and its answer is one of them. A
+/// `keep` adds the link's entry alone, unless its TTL is 0. It removes the old entry of its key, the name's NXDOMAIN
+/// where another link is cached, and the entry past the capacity.
 pub fn members_law()
     ensures looked { LookKeepsMembers }
     ensures only { KeepBringsOne }
@@ -16,10 +16,9 @@ pub fn members_law()
     ensures held { GivenIsHeld }
 {}
 
-/// What a look-up gives. The names above that are tried are those over the name up to `top`. What is given
-/// lives; nothing is given exactly where nothing that is kept answers; the link that lives and answers first is
-/// given, and so is what was just kept. Each call leaves entries of different keys, and no more than there is
-/// room for.
+/// The answer of a look-up. The names above that are tried are those over the name up to `top`. An answer lives. There
+/// is none exactly where no entry answers. The link that lives and answers first is the answer, and so is one that was
+/// just cached. Each call leaves entries of different keys, and no more than the capacity.
 pub fn given_law()
     ensures above { AboveIsBetween }
     ensures missed { NothingIsMissed }
@@ -31,8 +30,8 @@ pub fn given_law()
     ensures kept_valid { KeepStaysValid }
 {}
 
-/// What age changes: TTLs alone, so that what is true stays true; a link that lives has a second left at
-/// least, and never more than it was kept with.
+/// Age changes TTLs alone, so that what is true stays true. A link that lives has a second left at least, and never
+/// more than when it was cached.
 pub fn aging_law()
     ensures same { AgedIsSame }
     ensures live { LiveIsLeft }
@@ -40,8 +39,8 @@ pub fn aging_law()
     ensures new { NewIsWhole }
 {}
 
-/// What a store of failures says. One that lives was kept less than 30 seconds ago; one that is kept lives for 30
-/// seconds, while want of room does not remove it; and to ask for one changes what lives of none.
+/// The entries of a store of failures. One that lives was put in less than 30 seconds ago. One that is put in lives for
+/// 30 seconds, while lack of room does not remove it. A look-up of one changes no other's time.
 pub fn failures_law()
     ensures kept { FailedWasKept }
     ensures lives { KeptIsFailed }

@@ -1,4 +1,4 @@
-//! Links as they lie in memory: an owner that is the key's name is not kept once more, and the TTL of records once.
+//! Links as they are stored: an owner that is the key's name is not stored again, and the TTL of the records once.
 ghost use Rattle.std.specs.Prelude.{◌≡◌, ◌≤◌, ℕ, List, map, IfOk, IfSome, Some, option_map};
 ghost use Rattle.rdata.specs.Kept.{datum};
 ghost use Rattle.rdata.specs.Records.{greatest_ttl};
@@ -58,7 +58,7 @@ fn first_of_shared<A: Heap>(
     Ok(owned(name, ttl, &items.as_slice()[0])?)
 }
 
-/// What a link says, as it lies in memory beside the TTL of its records.
+/// A link as it is stored, beside the TTL of its records.
 #[derive(Drop)]
 pub enum Form<A: Allocator = Global> {
     /// A set of one record, which the key's name owns: its data.
@@ -71,7 +71,7 @@ pub enum Form<A: Allocator = Global> {
     NoData(Denial<A>),
     /// A negative answer of the name (NXDOMAIN), by an SOA record.
     NxDomain(Denial<A>),
-    /// Any link.
+    /// Any other link.
     Whole(Box<Link<A>, A>),
 }
 
@@ -93,8 +93,8 @@ fn set_of_name<A: Heap>(
 }
 
 impl<A: Heap> Form<A> {
-    // The form of a link to be kept under a key of this name, and the TTL of its records in seconds; 0 beside a link
-    // that is kept whole.
+    // The form in which a link is stored under a key of this name, and the TTL of its records in seconds; 0 beside a
+    // link that is stored whole.
     fn of(alloc: A, name: &Name<A>, link: &Link<A>) -> Result<(Form<A>, u32), Starved>
         ensures said { IfOk result (λ p. link_of name.now p.1 (form_view p.0) ≡ link_view link.now) }
         ensures most { IfOk result (λ p. p.1 ≤ greatest_ttl) }
@@ -124,7 +124,7 @@ impl<A: Heap> Form<A> {
         Ok((Form::Whole(Box::new(alloc, link.clone()?)?), 0))
     }
 
-    // The link as the answer for the type under which it stands.
+    // The link as the answer for the type under which it is cached.
     fn as_set(&self, alloc: A, name: &Name<A>, ttl: u32) -> Result<Link<A>, Starved>
         requires { ttl ≤ greatest_ttl }
         ensures { IfOk result (λ l. link_view l ≡ as_set (link_of name.now ttl (form_view self.now))) }
@@ -157,13 +157,13 @@ impl<A: Heap> Form<A> {
     }
 }
 
-/// A link that is kept, as it lies in memory.
+/// A cached link as it is stored.
 #[derive(Drop)]
 pub struct Packed<A: Allocator = Global> {
     form: Form<A>,
     since: u64,
     ttl: u32,
-    // That of the link's records, in seconds, where the form leaves it out.
+    // The TTL of the link's records, in seconds, where the form leaves it out.
     records_ttl: u32,
 }
 
@@ -183,7 +183,7 @@ impl<A: Allocator> Model for Packed<A> {
 }
 
 impl<A: Heap> Packed<A> {
-    // The link to be kept under a key of this name.
+    // The link to be stored under a key of this name.
     pub(crate) fn of(
         alloc: A,
         name: &Name<A>,
@@ -203,7 +203,7 @@ impl<A: Heap> Packed<A> {
         })
     }
 
-    // The hit as the answer for the type under which it stands.
+    // The hit as the answer for the type under which it is cached.
     pub(crate) fn as_set(&self, alloc: A, name: &Name<A>) -> Result<Hit<A>, Starved>
         ensures { IfOk result (λ h. Some h ≡ with_link (hit_of_packed name.now self.now) (Some (as_set (link_of name.now self.now.records_ttl self.now.form)))) }
     {
@@ -230,14 +230,14 @@ impl<A: Heap> Packed<A> {
 }
 
 impl<A: Allocator> Packed<A> {
-    // Its time to live in seconds.
+    // Its TTL in seconds, for which it is cached.
     pub(crate) fn ttl(&self) -> u32
         ensures { result ≡ self.now.ttl }
     {
         self.ttl
     }
 
-    // Whether it is younger than its time to live at this moment, under any name.
+    // Whether it is younger than its TTL at this moment, under any name.
     pub(crate) fn is_live(&self, now: u64) -> bool
         ensures { (q : List (List ℕ)) → result ≡ is_live now (hit_of_packed q self.now) }
     {

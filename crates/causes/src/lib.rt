@@ -12,7 +12,7 @@
 //!
 //! ```text
 //! let cause = Cause::DeadlineOver;
-//! assert_eq!(cause.number(), 2);              // printed: reply 1 SERVFAIL cause 2
+//! assert_eq!(rt; cause.number(), 2);          // printed: reply 1 SERVFAIL cause 2
 //! ```
 #![tactic(auto)]
 

@@ -1,6 +1,5 @@
--- What a message that was accepted as a reply is used for (RFC 1034, section 5.3.3; RFC 2308, sections 2 and
--- 5; RFC 2181, section 5.4.1). It was asked for the name q and the type t of a server of the zone f, by way
--- of UDP or TCP.
+-- The class of a message that was accepted as a reply (RFC 1034, section 5.3.3; RFC 2308, sections 2 and 5; RFC 2181,
+-- section 5.4.1). The ask was for the name q and the type t, to a server of the zone f, over UDP or TCP.
 use Rattle.std.specs.Prelude.{ℕ, Bool, false, ◌&&◌, ◌||◌, not, cond, nat_eq, min, Option, Some, None, List, [], ◌∷◌, take, filter, find}
 use Rattle.std.specs.List.{list_any}
 use Rattle.limits.specs.Limits.{max_referral_servers, max_glue}
@@ -18,8 +17,8 @@ use Rattle.wire.specs.declared.via.Via.TheVariants.{Udp, Tcp}
 use Rattle.classify.specs.declared.class.Failure.{Failure}
 use Rattle.classify.specs.declared.class.Failure.TheVariants.{BadCode, NoAuthority, Empty, Foreign, TruncatedOverTcp}
 
--- A link; a cut, its NS set, the addresses that are taken of its servers and the lowest TTL of all these; a
--- reply that was truncated over UDP; what is of no use.
+-- A link; a cut, its NS set, the addresses of its servers that are used, and the lowest TTL of all these; a reply that
+-- was truncated over UDP; a reply of no use.
 pub data Class : Type 0 where
   Answer : Link → Class
   Referral : Name → List Record → List Record → ℕ → Class
@@ -30,11 +29,11 @@ pub data Class : Type 0 where
 abbrev pub first_of : ℕ → List Record → Option Record
 first_of t rs = find (is_type t) rs
 
--- Only what a server says with authority is an answer.
+-- A link is an answer only with the bit AA.
 abbrev pub answer_by : Message → Link → Class
 answer_by m l = cond m.header.aa (Answer l) (Failed NoAuthority)
 
--- Of a referral's servers the A records that stand at or under the zone that was asked, the first of them.
+-- Of a referral's servers, the first A records that stand at or under the zone of the server that was asked.
 abbrev pub names_server : Name → Datum → Bool
 names_server n (Ipv4 a) = false
 names_server n (Ns target) = same_name target n
@@ -98,7 +97,7 @@ abbrev pub by_code : Name → Name → ℕ → Message → Class
 by_code f q t m =
     cond (nat_eq m.header.rcode 0 || nat_eq m.header.rcode 3) (by_set f q m (one_set (records_at q t m.answer))) (Failed BadCode)
 
--- A truncated reply is asked for again over TCP (RFC 2181, section 9).
+-- A reply that was truncated over UDP: the ask is sent again over TCP (RFC 2181, section 9).
 abbrev pub truncated_over : Via → Class
 truncated_over Udp = Truncated
 truncated_over Tcp = Failed TruncatedOverTcp

@@ -35,11 +35,11 @@ pub record AreAddresses (f : Name) (m : Message) (c : Name) (servers addresses :
   pub all : length addresses < max_glue → (r : Record) (a : Address) → Contains m.additional r → r.value ≡ Ipv4 a → IsServer servers r.owner → IsAtOrUnder r.owner f → Contains addresses r
   pub few : length addresses ≤ max_glue
 
--- What is used as an answer is one.
+-- A message that is used as an answer is one.
 abbrev pub AnswerIsRead : Type 0
 AnswerIsRead = (f q : Name) (t : ℕ) (via : Via) (m : Message) (l : Link) → class_of f q t via m ≡ Answer l → IsAnswer f q t m l
 
--- What is followed as a referral is one, and what is taken from it is what it says.
+-- A message that is followed as a referral is one, with these servers and addresses.
 abbrev pub ReferralIsRead : Type 0
 ReferralIsRead = (f q : Name) (t : ℕ) (via : Via) (m : Message) (c : Name) (servers addresses : List Record) (ttl : ℕ) → class_of f q t via m ≡ Referral c servers addresses ttl
     → IsReferralTo f q t m c × AreServers m c servers × AreAddresses f m c servers addresses
@@ -48,13 +48,13 @@ ReferralIsRead = (f q : Name) (t : ℕ) (via : Via) (m : Message) (c : Name) (se
 abbrev pub ReferralIsOver : Type 0
 ReferralIsOver = (f q : Name) (t : ℕ) (via : Via) (m : Message) (c : Name) (servers addresses : List Record) (ttl : ℕ) → class_of f q t via m ≡ Referral c servers addresses ttl → IsAtOrUnder q c
 
--- Its TTL is the lowest of its servers' and its addresses' (RFC 2181, section 5.2).
+-- The TTL of a referral is the lowest of its servers' and its addresses' (RFC 2181, section 5.2).
 abbrev pub ReferralIsLowest : Type 0
 ReferralIsLowest = (f q : Name) (t : ℕ) (via : Via) (m : Message) (c : Name) (servers addresses : List Record) (ttl : ℕ) → class_of f q t via m ≡ Referral c servers addresses ttl
     → ttl ≡ min (lowest_ttl servers) (lowest_ttl addresses)
 
--- What is an answer is used as one, with the same link but for TTLs, order and repeats; what is a referral is
--- followed.
+-- A message that is an answer is used as one, with the same link but for TTLs, order and repeats; one that is a
+-- referral is followed.
 abbrev pub AnswerIsUsed : Type 0
 AnswerIsUsed = (f q : Name) (t : ℕ) (via : Via) (m : Message) (l : Link) → IsAnswer f q t m l → (k : Link) × (class_of f q t via m ≡ Answer k) × SameLink k l
 
@@ -70,7 +70,7 @@ FoundIsOnce = (f q : Name) (t : ℕ) (via : Via) (m : Message) (set : List Recor
 abbrev pub CnameIsFound : Type 0
 CnameIsFound = (f q : Name) (via : Via) (m : Message) (r : Record) → class_of f q cname_type via m ≡ Answer (Alias r) → ⊥
 
--- What was truncated over UDP is asked for again over TCP, and nothing else is.
+-- An ask is sent again over TCP just where its reply over UDP was truncated.
 abbrev pub TruncatedIsOverUdp : Type 0
 TruncatedIsOverUdp = (f q : Name) (t : ℕ) (via : Via) (m : Message) → (class_of f q t via m ≡ Truncated) ↔ ((via ≡ Udp) × (m.header.tc ≡ true))
 
@@ -78,7 +78,7 @@ TruncatedIsOverUdp = (f q : Name) (t : ℕ) (via : Via) (m : Message) → (class
 abbrev pub EndInRoot : Message → Type 0
 EndInRoot m = (r : Record) → Contains m.authority r → IsAtOrUnder r.owner root
 
--- An answer of a zone's server is the same answer of a root server. A referral is not: which addresses are
--- taken depends on the zone.
+-- An answer of a zone's server would be the same answer of a root server. A referral would not: the zone decides which
+-- addresses are used.
 abbrev pub AnswerIsOfRoot : Type 0
 AnswerIsOfRoot = (f q : Name) (t : ℕ) (via : Via) (m : Message) (l : Link) → EndInRoot m → class_of f q t via m ≡ Answer l → class_of root q t via m ≡ Answer l

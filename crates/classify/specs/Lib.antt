@@ -3,5 +3,5 @@ pub mod Classes
 pub mod Targets
 pub mod Lifetimes
 pub mod Laws
--- Kept: what the code's own values keep.
+-- Kept: invariants of the code's values, and how contracts see them.
 pub mod Views

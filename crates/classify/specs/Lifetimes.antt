@@ -1,4 +1,4 @@
--- How long what a server says of a name and a type is kept (RFC 2181, section 8; RFC 2308, sections 3 and 5).
+-- How long the records of a reply are cached (RFC 2181, section 8; RFC 2308, sections 3 and 5).
 use Rattle.std.specs.Prelude.{ℕ, min, ◌≤◌, List, [], ◌∷◌, map}
 use Rattle.limits.specs.Limits.{max_ttl, max_negative_ttl}
 use Rattle.rdata.specs.Records.{Record}
@@ -10,7 +10,7 @@ use Rattle.zone.specs.Same.{SameLink}
 abbrev pub received_denial : Record → Record
 received_denial soa = capped max_negative_ttl (lessened soa)
 
--- A link as it is kept and sent.
+-- A link as it is cached and sent.
 abbrev pub received : Link → Link
 received (Found rs) = Found (map (capped max_ttl) rs)
 received (Alias r) = Alias (capped max_ttl r)
@@ -28,11 +28,11 @@ lifetime_of (Alias r) = r.ttl
 lifetime_of (NoData soa) = soa.ttl
 lifetime_of (NxDomain soa) = soa.ttl
 
--- A referral whose lowest TTL is this is kept for as long, and for a week at most.
+-- For how long a referral with this lowest TTL is cached: a week at most.
 abbrev pub referral_lifetime : ℕ → ℕ
 referral_lifetime ttl = min ttl max_ttl
 
--- What is received differs from what was said in TTLs alone, and is kept for a week at most.
+-- A link that is received differs from that of the reply in TTLs alone, and is cached for a week at most.
 abbrev pub ReceivedIsSame : Type 0
 ReceivedIsSame = (l : Link) → SameLink (received l) l
 

@@ -1,4 +1,4 @@
--- Classes, seen as the plain values of their definition.
+-- The code's classes, seen as the plain values of their definition.
 use Rattle.std.specs.Prelude.{ℕ}
 use Rattle.authority.specs.Answers.{link_view}
 use Rattle.classify.specs.Classes as plain

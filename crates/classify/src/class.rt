@@ -1,4 +1,4 @@
-//! What a reply may be used for, and why it may be of no use.
+//! The classes of a reply, by what it is used for, and why a reply is of no use.
 ghost use Rattle.std.specs.Prelude.{◌≡◌};
 ghost use Rattle.classify.specs.Lifetimes.{referral_lifetime};
 ghost use Rattle.classify.specs.Views.{failure_number};
@@ -14,9 +14,9 @@ use std::alloc::{Allocator, Global};
 pub enum Failure {
     /// An RCODE other than 0 and 3, or 3 beside records of the name and the type (RFC 1035, section 4.1.1).
     BadCode,
-    /// An answer without the bit AA: of a server that does not hold the zone.
+    /// An answer without the bit AA: its server does not hold the zone.
     NoAuthority,
-    /// Nothing of use in it.
+    /// A reply without an answer, a negative answer or a referral.
     Empty,
     /// A negative answer or a referral of another zone: out of bailiwick.
     Foreign,
@@ -46,14 +46,14 @@ pub struct Referral<A: Allocator = Global> {
     pub at: Name<A>,
     /// Its NS set.
     pub servers: Records<A>,
-    /// The glue that is taken, A records of its servers in bailiwick, in the order of the message.
+    /// Its glue that is used, A records of its servers in bailiwick, in the order of the message.
     pub addresses: Records<A>,
     /// The lowest TTL of all these, in seconds.
     pub ttl: u32,
 }
 
 impl<A: Allocator> Referral<A> {
-    /// For how many seconds it is kept: its TTL, and a week at most (RFC 2181, sections 5.2 and 8).
+    /// For how many seconds it is cached: its TTL, and a week at most (RFC 2181, sections 5.2 and 8).
     pub fn lifetime(&self) -> u32
         ensures { result ≡ referral_lifetime self.now.ttl }
     {
@@ -61,14 +61,14 @@ impl<A: Allocator> Referral<A> {
     }
 }
 
-/// What a reply is used for.
+/// The class of a reply, by what it is used for.
 #[derive(Drop)]
 pub enum Class<A: Allocator = Global> {
-    /// What it says of the name and the type: an RRset, a CNAME, or a negative answer.
+    /// The link of the name and the type: an RRset, a CNAME, or a negative answer.
     Answer(Link<A>),
     /// The servers of a zone beneath.
     Referral(Referral<A>),
-    /// Truncated over UDP: to be asked for again over TCP.
+    /// Truncated over UDP: the ask is sent again over TCP.
     Truncated,
     /// Of no use.
     Failed(Failure),

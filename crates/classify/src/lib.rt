@@ -1,22 +1,22 @@
-//! What a reply from a server is used for (RFC 1034, section 5.3.3, step 4; RFC 2308, section 2; RFC 2181, section
-//! 5.4.1): an answer, a referral, a truncated reply, or nothing.
+//! The class of a reply from a server, by what it is used for (RFC 1034, section 5.3.3, step 4; RFC 2308, section 2;
+//! RFC 2181, section 5.4.1): an answer, a referral, a truncated reply, or one of no use.
 //!
-//! `classify` takes the zone whose server was asked, the question, the way and the message, and gives the `Class`:
-//! the first line that fits of a short table. Of a referral the first 64 NS records are read, and only glue in
-//! bailiwick is taken, the first 256 A records at or under the zone that was asked. `received` bounds the TTLs of an
-//! answer (a week; a negative answer three hours), `lifetime` and `Referral::lifetime` say for how long it is kept.
+//! `classify` takes the zone whose server was asked, the question, the way and the message, and gives the `Class`: the
+//! first line that fits of a short table. Of a referral the first 64 NS records are read, and only glue in bailiwick is
+//! used, the first 256 A records at or under the zone that was asked. `received` bounds the TTLs of an answer (a week; a
+//! negative answer three hours), `lifetime` and `Referral::lifetime` say for how long it is cached.
 //!
-//! Promised: the class exactly (`class_of`); what is used is an answer or a referral in the RFC's words
-//! (`answer_law`, `referral_law`, `root_law`), and what is one is used (`use_law`, `found_law`); asked for again
-//! over TCP is what came truncated over UDP, and nothing else (`truncated_law`); bounds change TTLs alone
+//! Promised: the class, exactly (`class_of`). A reply that is used is an answer or a referral in the RFC's words
+//! (`answer_law`, `referral_law`, `root_law`), and one that is so is used (`use_law`, `found_law`). An ask is sent
+//! again over TCP just where its reply over UDP is truncated (`truncated_law`). Bounds change TTLs alone
 //! (`received_law`).
 //! Not here: whether the message is the reply to an ask at all (`events::accepted_reply`).
 //!
 //! ```text
 //! let message = View::new(alloc, bytes)?;
-//! match classify(alloc, &zone, &name, RType::A, Via::Udp, &message)? {
+//! match classify(alloc, zone, name, RType::A, Via::Udp, &message)? {
 //!     Class::Answer(link) => { let link = received(link); let seconds = lifetime(&link); }
-//!     Class::Referral(referral) => { /* ask referral.servers; kept for referral.lifetime() seconds */ }
+//!     Class::Referral(referral) => { let seconds = referral.lifetime(); /* ask referral.servers */ }
 //!     Class::Truncated => { /* ask the same server over TCP */ }
 //!     Class::Failed(failure) => { /* ask the next server */ }
 //! }

@@ -1,4 +1,4 @@
-//! How long what a server says is kept (RFC 2181, section 8; RFC 2308, sections 3 and 5).
+//! How long the records of a reply are cached (RFC 2181, section 8; RFC 2308, sections 3 and 5).
 ghost use Rattle.std.specs.Prelude.{◌≡◌, ◌≤◌};
 ghost use Rattle.rdata.specs.Caps.{capped};
 ghost use Rattle.rdata.specs.Records.{greatest_ttl};
@@ -12,8 +12,8 @@ use rdata::{Record, RecordSet};
 use std::alloc::Allocator;
 use zone::denial_ttl;
 
-/// What a server said as it is kept and sent; takes no memory. The TTL of a record is a week at most; that
-/// of a negative answer's SOA the lesser of it and its MINIMUM, and three hours at most (RFC 2308, sections 3 and 5).
+/// The link of a reply as it is cached and sent; takes no memory. The TTL of a record is a week at most; that of a
+/// negative answer's SOA the lesser of it and its MINIMUM, and three hours at most (RFC 2308, sections 3 and 5).
 pub fn received<A: Heap>(link: Link<A>) -> Link<A>
     ensures { link_view result ≡ received (link_view link) }
 {
@@ -42,14 +42,14 @@ fn received_denial<A: Allocator>(mut soa: Record<A>) -> Record<A>
     soa
 }
 
-/// For how many seconds a delegation is kept whose lowest TTL this is: a week at most (RFC 2181, sections 5.2 and 8).
+/// For how many seconds a delegation with this lowest TTL is cached: a week at most (RFC 2181, sections 5.2 and 8).
 pub fn referral_lifetime(ttl: u32) -> u32
     ensures { result ≡ referral_lifetime ttl }
 {
     ttl.min(MAX_TTL)
 }
 
-/// For how many seconds a link is kept: the TTL of its records (RFC 2181, section 5.2).
+/// For how many seconds a link is cached: the TTL of its records (RFC 2181, section 5.2).
 pub fn lifetime<A: Allocator>(link: &Link<A>) -> u32
     ensures value { result ≡ lifetime_of (link_view link.now) }
     ensures most { result ≤ greatest_ttl }
@@ -68,7 +68,7 @@ fn shortest<A: Allocator>(set: &RecordSet<A>) -> u32
     set.ttl()
 }
 
-/// What is received differs from what was said in TTLs alone, and is kept for a week at most.
+/// A link that is received differs from that of the reply in TTLs alone, and is cached for a week at most.
 pub fn received_law()
     ensures same { ReceivedIsSame }
     ensures short { ReceivedIsShort }

@@ -1,4 +1,4 @@
-//! What the sections of a reply hold. A record is made only where it is chosen.
+//! Records of a reply's sections. A record is made only where it is chosen.
 ghost use Rattle.std.specs.Prelude.{◌≡◌, [], ◌∷◌, ◌++◌, filter, take, IfOk, OnOk};
 ghost use Rattle.std.specs.List.Sorted.{IsSorted};
 ghost use Rattle.dname.specs.Order.{name_cmp};
@@ -31,7 +31,7 @@ fn is_at<A: Allocator>(found: &Lent<'_>, owner: &Name<A>, kind: RType) -> bool
     is_of(found, kind) && found.owner_is(owner)
 }
 
-// One more of the records of an owner and a type, where it is one.
+// Adds a record, where it has this owner and type.
 fn put_at<A: Heap>(
     alloc: A,
     records: &mut Records<A>,
@@ -123,7 +123,7 @@ pub(crate) fn first_in<'a>(mut section: Walk<'a>, kind: RType) -> Option<Lent<'a
     None
 }
 
-// One address more, where the record is one of these names at or under the zone.
+// Adds an address, where it is one of these names at or under the zone.
 fn put_given<A: Heap>(
     alloc: A,
     addresses: &mut Records<A>,

@@ -20,8 +20,8 @@ use std::alloc::Allocator;
 use wire::rcode::{NO_ERROR, NX_DOMAIN};
 use wire::{Via, View, Walk};
 
-/// What a reply to the question for this name and type is used for, which came this way from a server of the
-/// zone: the first line that fits of
+/// The class of a reply to the question for this name and type, which came this way from a server of the zone: the
+/// first line that fits of
 /// - TC set: to be asked for again over TCP; of no use where it came over TCP;
 /// - an RCODE other than 0 and 3: of no use;
 /// - records of the name and the type: the RRset, each record once and all with the lowest TTL;
@@ -74,7 +74,7 @@ fn by_code<A: Heap>(
     Ok(by_set(alloc, zone, name, message, set)?)
 }
 
-// Whether the RCODE tells something of the name: that it is there, or not.
+// Whether the RCODE says that the name is there, or that it is not.
 fn is_told<A: Allocator>(message: &View<'_, A>) -> bool
     ensures { result ≡ (nat_eq message.now.header.rcode 0 || nat_eq message.now.header.rcode 3) }
 {
@@ -149,7 +149,7 @@ fn by_denial<A: Heap>(
     }
 }
 
-// A negative answer is of a zone that may deny the name.
+// A negative answer, if its SOA is of a zone that may deny the name.
 fn by_soa<A: Allocator>(
     zone: &Name<A>,
     name: &Name<A>,
@@ -180,7 +180,7 @@ fn by_servers<A: Heap>(
     }
 }
 
-// Line 6: a cut is followed where it is strictly under the zone and over the name.
+// Line 6: a cut is followed if it is strictly under the zone and over the name.
 fn by_cut<A: Heap>(
     alloc: A,
     zone: &Name<A>,
@@ -217,7 +217,7 @@ fn refer<A: Heap>(
     }))
 }
 
-// Only what a server says with authority is an answer.
+// A link is an answer only with the bit AA.
 fn answer_by<A: Allocator>(message: &View<'_, A>, link: Link<A>) -> Class<A>
     ensures { class_view result ≡ answer_by message.now (link_view link) }
 {
@@ -248,7 +248,7 @@ fn servers_in<A: Heap>(alloc: A, authority: Walk<'_>, cut: &Name<A>) -> Result<R
     }
 }
 
-// Whether a zone of that origin may deny the name to one that asked a server of `zone`.
+// Whether a zone of that origin may deny the name in the reply of a server of `zone`.
 fn denies<A: Allocator>(zone: &Name<A>, name: &Name<A>, origin: &Name<A>) -> bool
     ensures { result ≡ denies zone.now name.now origin.now }
 {

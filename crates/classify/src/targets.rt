@@ -29,7 +29,7 @@ pub(crate) fn targets_of<A: Heap>(
     Ok(targets)
 }
 
-// One name more, where the data has one.
+// Adds a name, where the data has one.
 fn put_target<A: Heap>(targets: &mut Vec<Name<A>, A>, value: &RData<A>) -> Result<(), Starved>
     ensures { OnOk result (targets.new.items ≡ targets.old.items ++ ns_target (datum value.now)) }
 {

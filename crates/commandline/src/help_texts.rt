@@ -4,11 +4,11 @@
 const EXAMPLES: &str = "
 For example, with the files of the folder examples:
 
-  resolverd ask lab.example. examples/lab.zone x.lab.example. TXT
-  resolverd check lab.example. examples/lab.zone
-  resolverd dump lab.example. examples/lab.zone
-  resolverd play examples/small.world examples/first.script
-  resolverd storm examples/small.world examples/asks.script examples/asks.script
+  resolverd ask lab.example. examples/zones/lab.zone x.lab.example. TXT
+  resolverd check lab.example. examples/zones/lab.zone
+  resolverd dump lab.example. examples/zones/lab.zone
+  resolverd play examples/plays/small.world examples/plays/first.script
+  resolverd storm examples/plays/small.world examples/plays/asks.script examples/plays/asks.script
   cd examples/serve && resolverd serve resolverd.conf
 ";
 

@@ -10,8 +10,9 @@
 //! Not here: reading files and binding sockets (`commands`); making the resolver (`server_start`).
 //!
 //! ```text
-//! let config = read_config(alloc, "listen 127.0.0.1 5300\nhint 198.41.0.4\nlocal example. example.zone\n")?;
-//! assert_eq!((config.listen.port, config.port, config.locals.len()), (5300, 53, 1));
+//! let text = "listen 127.0.0.1 5300\nhint 198.41.0.4\nlocal example. example.zone\n";
+//! let config = read_config(rt.alloc(), text)?;
+//! assert_eq!(rt; (config.listen.port, config.port, config.locals.len()), (5300, 53, 1));
 //! ```
 #![tactic(auto)]
 

@@ -11,23 +11,24 @@ pub record Draft : Type 0 where
 abbrev pub empty_draft : Draft
 empty_draft = record { closed = []; opened = [] }
 
--- With one more byte in the open label. A label has at most 63 bytes, and a name at most 255 with its
--- length bytes and closing zero (RFC 1035, section 2.3.4); at one byte the label's bound goes first.
+-- A draft with one more byte in its open label, or its refusal. A label has at most 63 bytes, and a name at most 255
+-- with its length bytes and closing zero (RFC 1035, section 2.3.4). Where both are too long at one byte, the label's
+-- refusal counts.
 abbrev pub pushed : Draft → ℕ → Result Draft Overflow
 pushed d b = cond (nat_le 63 (length d.opened)) (Err LongLabel) (cond (nat_le 254 (length (wire d.closed) + 1 + length d.opened)) (Err LongName)
     (Ok (record { closed = d.closed; opened = d.opened ++ folded b ∷ [] })))
 
--- The open label closed.
+-- A draft with its open label closed.
 abbrev pub shut : Draft → Draft
 shut d = record { closed = d.closed ++ d.opened ∷ []; opened = [] }
 
--- A refusal is the one that stands there; running out of memory can come at any time.
+-- When a draft may refuse so: for this very refusal; out of memory at any time.
 abbrev pub Refuses : Overflow → Result Draft Overflow → Type 0
 Refuses Memory r = Unit {0}
 Refuses LongLabel r = r ≡ Err LongLabel
 Refuses LongName r = r ≡ Err LongName
 
--- Labels of 1 to 63 bytes.
+-- Each label has 1 to 63 bytes.
 abbrev pub AllLabels : List (List ℕ) → Type 0
 AllLabels [] = Unit {0}
 AllLabels (l ∷ ls) = IsLabel l × AllLabels ls

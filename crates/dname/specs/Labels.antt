@@ -24,7 +24,7 @@ before_root [] = []
 before_root (l ∷ []) = []
 before_root (l ∷ m ∷ ls) = l ∷ before_root (m ∷ ls)
 
--- A letter from A to Z as the letter from a to z (RFC 1035, section 2.3.3).
+-- The byte in lower case where it is a letter from A to Z, else the byte itself (RFC 1035, section 2.3.3).
 abbrev pub folded : ℕ → ℕ
 folded b = cond (nat_le 65 b && nat_le b 90) (b + 32) b
 
@@ -40,7 +40,7 @@ abbrev pub wire : List (List ℕ) → List ℕ
 wire [] = []
 wire (l ∷ ls) = length l ∷ (l ++ wire ls)
 
--- Bytes that stand in a folded label.
+-- Bytes without a letter from A to Z.
 abbrev pub AreFolded : List ℕ → Type 0
 AreFolded [] = Unit {0}
 AreFolded (b ∷ bs) = (b < 256) × (folded b ≡ b) × AreFolded bs
@@ -51,13 +51,13 @@ pub record IsLabel (l : List ℕ) : Type 0 where
   pub short : length l < 64
   pub bytes : AreFolded l
 
--- Labels that end in the root's, and no other is empty.
+-- Labels of which the last is the root's and no other is empty.
 abbrev pub AreLabels : List (List ℕ) → Type 0
 AreLabels [] = ⊥
 AreLabels (l ∷ []) = l ≡ []
 AreLabels (l ∷ m ∷ ls) = IsLabel l × AreLabels (m ∷ ls)
 
--- Labels in any letters that end in the root's, and each other has 1 to 63 bytes.
+-- Labels in any letters, of which the last is the root's and each other has 1 to 63 bytes.
 abbrev pub AreSpelled : List (List ℕ) → Type 0
 AreSpelled [] = ⊥
 AreSpelled (l ∷ []) = l ≡ []

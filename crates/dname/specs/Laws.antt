@@ -12,7 +12,7 @@ labels_after-skip : (l r : List ℕ) → labels_after (length l) (l ++ r) ≡ la
 labels_after-skip [] r = refl
 labels_after-skip (b ∷ l) r = labels_after-skip l r
 
--- What is written in wire form is read back: no two lists of labels have one wire form.
+-- The labels of a wire form are those that were written: no two lists of labels have one wire form.
 pub labels_of-wire : (ls : List (List ℕ)) → labels_of (wire ls) ≡ ls
 labels_of-wire [] = refl
 labels_of-wire (l ∷ ls) = λ i. take-append_seam l (wire ls) i ∷ (labels_after-skip l (wire ls) ∙ labels_of-wire ls) i
@@ -35,7 +35,7 @@ same_name_equiv = on_equiv wire nat_list_eq_equiv
 pub same_name_per : IsPartialEquivalence same_name
 same_name_per = partial_equiv_from_equiv same_name_equiv
 
--- What a name feeds a hasher: its wire form, as a whole.
+-- A name goes to a hasher as its wire form, in one piece.
 abbrev pub fed_name : List (List ℕ) → HashWrites
 fed_name n = wire n ∷ []
 

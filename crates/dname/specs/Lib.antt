@@ -8,7 +8,7 @@ pub mod Stars
 pub mod Draft
 pub mod Overflows
 pub mod Keys
--- Kept: what the code's own values keep.
+-- Kept: invariants of the code's values, and how contracts see them.
 pub mod Laws
 pub mod Tokens
 pub mod Written

@@ -26,7 +26,7 @@ reversed_alike a b =
     let d = pointwise_decides {E = pointwise nat_eq} bytes_decides (reverse a) (reverse b) in
     (λ t. sym (reverse-reverse a) ∙ (ap reverse (d.0 t) ∙ reverse-reverse b), λ e. d.1 (ap reverse e))
 
--- Names that are neither before nor behind one another are one name.
+-- Two names of which none comes before the other are one name.
 pub name_cmp_ties : (a b : List (List ℕ)) → same_name a b ≡ eq_by_cmp name_cmp a b
 name_cmp_ties a b =
     same_from_decides (same_name a b) (pointwise (pointwise nat_eq) (reverse a) (reverse b)) (same_name-exact a b, same_name-equal a b) (reversed_alike a b)

@@ -1,4 +1,4 @@
--- Why a byte or a label has no place in a name: the refusals' numbers and words.
+-- Why a byte or a label does not fit a name: the refusals' numbers and words.
 use Rattle.std.specs.Prelude.{ℕ, List, codes}
 use Rattle.dname.specs.declared.builder.Overflow.{Overflow}
 use Rattle.dname.specs.declared.builder.Overflow.TheVariants.{LongLabel, LongName, Memory}

@@ -6,7 +6,7 @@ use Rattle.dname.specs.Labels.{star}
 abbrev pub is_star : List ℕ → Bool
 is_star l = pointwise nat_eq l star
 
--- Some of the labels is `*`.
+-- One of the labels is `*`.
 abbrev pub has_star : List (List ℕ) → Bool
 has_star [] = false
 has_star (l ∷ ls) = is_star l || has_star ls

@@ -22,7 +22,7 @@ fault_text LongName = codes "name over 255 bytes"
 fault_text BadByte = codes "bad escape or byte"
 fault_text Memory = codes "out of memory"
 
--- What stands at a place of a text: a dot that parts labels, a byte of a label, or neither of them.
+-- A token of a text: a dot that parts labels, a byte of a label, or a bad byte.
 pub data Token : Type 0 where
   Dot : Token
   Byte : ℕ → Token
@@ -35,17 +35,17 @@ is_digit b = nat_le 48 b && nat_le b 57
 abbrev pub from_digits : ℕ → ℕ → ℕ → ℕ
 from_digits d e f = 100 * (d - 48) + 10 * (e - 48) + (f - 48)
 
--- A byte that no backslash precedes. Only printed bytes may stand so.
+-- The token of a byte that no backslash precedes: only printed bytes may stand so.
 abbrev pub plain_token : ℕ → Token
 plain_token b = cond (nat_eq b 46) Dot (cond (nat_le 33 b && nat_le b 126) (Byte b) Bad)
 
--- A backslash and the digit `d`: three digits are the byte of that number.
+-- The token of a backslash and the digit `d`: with two more digits it is the byte of that number.
 abbrev pub number_token : ℕ → List ℕ → Token × ℕ
 number_token d (e ∷ f ∷ cs) =
     cond (is_digit e && is_digit f && nat_le (from_digits d e f) 255) (Byte (from_digits d e f), 3) (Bad, 0)
 number_token d _ = (Bad, 0)
 
--- What stands behind a backslash: any byte but a digit is itself.
+-- The token of a backslash and the text behind it: any byte but a digit stands for itself.
 abbrev pub escaped_token : List ℕ → Token × ℕ
 escaped_token [] = (Bad, 0)
 escaped_token (d ∷ cs) = cond (is_digit d) (number_token d cs) (Byte d, 1)
@@ -72,15 +72,16 @@ abbrev pub after_push : (Draft → Result Draft NameError) → Result Draft Over
 after_push go (Ok d) = go d
 after_push go (Err e) = Err (fault_of e)
 
--- The labels that tokens write behind a draft, or the fault that stands first among them: an empty label at the dot that
--- closes it, a long one at its 64th byte, a long name at the byte with which it must have more than 255.
+-- The labels that tokens write behind a draft, or the fault that stands first among them. An empty label is at fault at
+-- the dot that closes it, a long one at its 64th byte, and a long name at the byte with which it must have more than
+-- 255.
 abbrev pub spelled : Draft → List Token → Result Draft NameError
 spelled d [] = Ok d
 spelled d (Dot ∷ ts) = cond (nat_eq (length d.opened) 0) (Err EmptyLabel) (spelled (shut d) ts)
 spelled d (Bad ∷ ts) = Err BadByte
 spelled d (Byte b ∷ ts) = after_push (λ next. spelled next ts) (pushed d b)
 
--- The origin behind labels, where that is a name.
+-- The name of these labels with the origin behind them, where that is not too long.
 abbrev pub with_origin : List (List ℕ) → List (List ℕ) → Result (List (List ℕ)) NameError
 with_origin origin labels = cond (nat_le (length (wire (labels ++ origin))) 255) (Ok (labels ++ origin)) (Err LongName)
 
@@ -102,7 +103,7 @@ name_under origin text = cond (nat_eq (length text) 0) (Err EmptyLabel)
 abbrev pub name_of_text : List ℕ → Result (List (List ℕ)) NameError
 name_of_text text = name_under root text
 
--- A reader's refusal: running out of memory leaves all open, any other is the fault that stands first.
+-- When a reader may refuse so: for the fault that stands first; out of memory at any time.
 abbrev pub IsFault : {X : Type 0} → NameError → Result X NameError → Type 0
 IsFault Memory read = Unit {0}
 IsFault EmptyLabel read = read ≡ Err EmptyLabel

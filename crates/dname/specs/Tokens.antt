@@ -1,4 +1,4 @@
--- What the code reads at the head of a text, as a token.
+-- The code's first dot or byte of a text, seen as a token.
 use Rattle.dname.specs.Text.{Token, Dot, Byte, Bad}
 use Rattle.dname.specs.declared.text.Spelt.{Spelt}
 use Rattle.dname.specs.declared.text.Spelt.TheVariants as spelt

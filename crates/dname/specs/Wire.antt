@@ -1,18 +1,18 @@
--- Names as they are kept: in wire form, and read back from it.
+-- Names in wire form, as they are stored, and the labels that this form has.
 use Rattle.std.specs.Prelude.{◌≡◌, ℕ, zero, suc, ◌+◌, ◌<◌, ◌≤◌, List, [], ◌∷◌, ◌++◌, length, take}
 use Rattle.dname.specs.Labels.{wire, AreLabels, AreSpelled}
 
--- The labels from a length byte on, after the given number of bytes that are passed over.
+-- The labels of wire bytes, from the length byte on that comes after this number of bytes.
 abbrev pub labels_after : ℕ → List ℕ → List (List ℕ)
 labels_after _ [] = []
 labels_after zero (b ∷ bs) = take b bs ∷ labels_after b bs
 labels_after (suc k) (b ∷ bs) = labels_after k bs
 
--- The labels that wire bytes hold.
+-- The labels of wire bytes.
 abbrev pub labels_of : List ℕ → List (List ℕ)
 labels_of bs = labels_after 0 bs
 
--- Bytes that are the wire form of labels that end in the root's.
+-- Bytes that are the wire form of labels of which the last is the root's.
 pub record IsWire (bs : List ℕ) : Type 0 where
   pub labels : AreLabels (labels_of bs)
   pub bytes : wire (labels_of bs) ≡ bs

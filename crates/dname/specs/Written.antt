@@ -1,5 +1,5 @@
--- How a draft is kept: its closed labels in wire form, a zero where the open label's length will stand,
--- and the open label.
+-- How a draft is stored: its closed labels in wire form, a zero where the open label's length will stand, and the open
+-- label.
 use Rattle.std.specs.Prelude.{◌≡◌, ℕ, ◌+◌, List, ◌∷◌, ◌++◌, length, take, drop}
 use Rattle.dname.specs.Labels.{wire}
 use Rattle.dname.specs.Wire.{labels_of}

@@ -10,7 +10,7 @@ use std::alloc::{AllocError, AllocFailed, Allocator, Global};
 use std::fmt;
 use std::marker::Model;
 
-/// Why a byte or a label has no place in a name (RFC 1035, section 2.3.4).
+/// Why a byte or a label does not fit a name (RFC 1035, section 2.3.4).
 #[derive(Clone, Copy, Debug, PartialEq, Eq)]
 pub enum Overflow {
     /// The label would have over 63 bytes.
@@ -22,7 +22,7 @@ pub enum Overflow {
 }
 
 impl Overflow {
-    /// The refusal's number, 1 to 3 in the order of the variants.
+    /// The refusal's number, 1 to 3 in the order of the variants: `LongName` is 2.
     pub fn number(self) -> u8
         ensures { result ≡ overflow_number self }
     {
@@ -97,7 +97,7 @@ impl<A: Allocator> Model for Builder<A> {
     ghost invariant = { λ b. IsWritten b.bytes.items b.start };
 }
 
-// A letter from A to Z as the letter from a to z.
+// The byte in lower case where it is a letter from A to Z, else the byte itself.
 fn fold(byte: u8) -> u8
     ensures { result ≡ folded byte }
 {
@@ -108,7 +108,7 @@ fn fold(byte: u8) -> u8
 }
 
 impl<A: Heap> Builder<A> {
-    /// Nothing written yet.
+    /// A draft without labels, and without a byte in its open label: `finish` makes the root of it.
     pub fn new(alloc: A) -> Result<Builder<A>, Starved>
         ensures { IfOk result (λ b. b ≡ empty_draft) }
     {
@@ -117,15 +117,15 @@ impl<A: Heap> Builder<A> {
         Ok(Builder { bytes, start: 0 })
     }
 
-    /// The bytes of the open label.
+    /// The number of bytes of the open label: 3 after `www`, and 0 once that is closed.
     pub fn open_len(&self) -> usize
         ensures { result ≡ length self.now.opened }
     {
         self.bytes.len() - self.start - 1
     }
 
-    /// Writes one byte of the open label, in lower case. Refused, and nothing changed, where the label
-    /// or the name would be too long or a growth is refused.
+    /// Writes one byte of the open label, in lower case: `W` as `w`. Refused, and nothing changed, where the label or
+    /// the name would be too long or a growth is refused: a 64th byte is `LongLabel`.
     pub fn push(&mut self, byte: u8) -> Result<(), Overflow>
         ensures { MatchResult result (λ _. pushed self.old byte ≡ Ok self.new) (λ e. Refuses e (pushed self.old byte) × (self.new ≡ self.old)) }
     {
@@ -139,7 +139,8 @@ impl<A: Heap> Builder<A> {
         Ok(())
     }
 
-    /// Closes the open label.
+    /// Closes the open label, so that the next byte begins another one: `www`, `close`, `a` is the label `www` and an
+    /// open `a`.
     pub fn close(&mut self) -> Result<(), Starved>
         requires { 0 < length self.old.opened }
         ensures ok { OnOk result (self.new ≡ shut self.old) }
@@ -152,7 +153,7 @@ impl<A: Heap> Builder<A> {
         Ok(())
     }
 
-    /// The name that was written, with the root's label at its end.
+    /// The name that was written, with the root's label at its end: `www`, `close` is the name `www`.
     pub fn finish(self) -> Name<A>
         requires { self.opened ≡ [] }
         ensures { result ≡ self.closed ++ [] ∷ [] }

@@ -6,11 +6,11 @@ use crate::walk::next_label;
 use std::alloc::Allocator;
 use std::marker::Model;
 
-/// The labels of a name that are left, the first one first and without the root's. Contracts see the name that they
-/// make with the root's behind them.
+/// An iteration over the labels of a name, from the first one on and without the root's. Contracts see the name that is
+/// left: the labels that are still to come, and the root's.
 #[derive(Drop)]
 pub struct Labels<'a> {
-    // That name in wire form.
+    // The name that is left, in wire form.
     rest: &'a [u8],
 }
 
@@ -26,7 +26,7 @@ impl<'a> Model for Labels<'a> {
 }
 
 impl<A: Allocator> Name<A> {
-    /// The labels in order, without the root's.
+    /// The labels in order, without the root's: of `www.example`, `www` and then `example`.
     pub fn iter(&self) -> Labels<'_>
         ensures { result ≡ self.now }
     {

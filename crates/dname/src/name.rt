@@ -1,4 +1,4 @@
-//! A name, and how it lies to others: equal, at or under, above.
+//! A name, and its relation to others: equal, at or under, above.
 ghost use Rattle.std.specs.Prelude.{◌≡◌, ℕ, ◌+◌, ◌≤◌, ◌<◌, ◌↔◌, List, ◌∷◌, length, true, false, None, Some, IsTrue, IfOk, OnOk, OnErr, IfSome, MatchOption};
 ghost use Rattle.std.specs.Bool.{OnTrue, OnFalse};
 ghost use Rattle.dname.specs.Labels.{wire, root, star, folded_labels, same_name, is_under, parent_of, IsAtOrUnder, IsName};
@@ -54,7 +54,7 @@ impl<A: Allocator> Hash for Name<A> {
     ghost respects_eq = { same_name_fed };
 
     fn hash<H: Hasher>(&self, state: &mut H) {
-        // All at once: a hasher takes whole words of it, and of a slice it would be given each byte alone.
+        // In one call: a hasher takes whole words of the bytes, and a slice would be given to it byte by byte.
         state.write(&self.bytes);
     }
 }
@@ -79,7 +79,7 @@ impl<A: Allocator> Name<A> {
 }
 
 impl<A: Heap> Name<A> {
-    /// The root.
+    /// The root: its text is `.`, and its wire form one zero.
     pub fn root(alloc: A) -> Result<Name<A>, Starved>
         ensures { IfOk result (λ n. n ≡ root) }
     {
@@ -87,7 +87,7 @@ impl<A: Heap> Name<A> {
         Ok(Name { bytes })
     }
 
-    /// The name in lower case that these bytes are in any letters and in wire form.
+    /// The name of these bytes, which are in wire form with letters of either case: 3 `WWW` 0 is `www`.
     pub fn of_letters(alloc: A, letters: &[u8]) -> Result<Name<A>, Starved>
         requires { IsSpellingWire letters.now }
         ensures { IfOk result (λ n. n ≡ folded_labels (labels_of letters.now)) }
@@ -95,7 +95,7 @@ impl<A: Heap> Name<A> {
         Ok(Name::from_wire(letters.to_ascii_lowercase(alloc)?))
     }
 
-    /// The same name on another allocator.
+    /// The same name with memory of another allocator: a copy of `www.example` is equal to it.
     pub fn copied<B: Heap>(&self, alloc: B) -> Result<Name<B>, Starved>
         ensures { IfOk result (λ n. n ≡ self.now) }
     {
@@ -103,7 +103,7 @@ impl<A: Heap> Name<A> {
         Ok(Name { bytes })
     }
 
-    /// The name without its first label; the root has none above it.
+    /// The name without its first label, `example` of `www.example`; the root has none above it.
     pub fn parent(&self) -> Result<Option<Name<A>>, Starved>
         ensures { IfOk result (λ p. p ≡ parent_of self.now) }
     {
@@ -118,8 +118,8 @@ impl<A: Heap> Name<A> {
 }
 
 impl<A: Heap> Name<A> {
-    /// Makes it the other name, in its own memory, which grows where that is too small. Running out of memory changes
-    /// nothing.
+    /// Makes this name the other one, in its own memory, which grows where that is too small: `a` becomes
+    /// `www.example`. Running out of memory changes nothing.
     pub fn copy_from<B: Allocator>(&mut self, other: &Name<B>) -> Result<(), Starved>
         ensures ok { OnOk result (self.new ≡ other.now) }
         ensures err { OnErr result (self.new ≡ self.old) }
@@ -131,7 +131,7 @@ impl<A: Heap> Name<A> {
 }
 
 impl<A: Allocator> Name<A> {
-    /// The number of labels; the root's is not counted.
+    /// The number of labels, 2 of `www.example`; the root's is not counted.
     pub fn labels(&self) -> usize
         ensures { result + 1 ≡ length self.now }
     {
@@ -144,7 +144,7 @@ impl<A: Allocator> Name<A> {
         count
     }
 
-    /// Bytes of the name in a message, with the length bytes and the closing zero: 1 to 255.
+    /// Bytes of the name in a message, with the length bytes and the closing zero, 1 to 255: 13 of `www.example`.
     pub fn size(&self) -> usize
         ensures is { result ≡ length (wire self.now) }
         ensures short { result ≤ 255 }
@@ -152,21 +152,21 @@ impl<A: Allocator> Name<A> {
         self.bytes.len()
     }
 
-    /// The name in wire form.
+    /// The name in wire form: of `www.a`, 3 `www` 1 `a` 0.
     pub fn wire(&self) -> &[u8]
         ensures { result.now ≡ wire self.now }
     {
         &self.bytes
     }
 
-    /// Whether this is the root.
+    /// Whether this is the root: true of `.`, false of `example`.
     pub fn is_root(&self) -> bool
         ensures { IsTrue result ↔ (self.now ≡ root) }
     {
         self.bytes[0] == 0
     }
 
-    /// The first label, in lower case; none at the root.
+    /// The first label, in lower case: `www` of `www.example`; none at the root.
     pub fn first(&self) -> Option<&[u8]>
         ensures label { MatchOption result (self.now ≡ root) (λ l. (ls : List (List ℕ)) × (self.now ≡ l.now ∷ ls)) }
         ensures some { IfSome result (λ l. 0 < length l.now) }
@@ -177,7 +177,7 @@ impl<A: Allocator> Name<A> {
         }
     }
 
-    /// Whether this is `other` or a name beneath it.
+    /// Whether this is `other` or a name beneath it: `www.example` is at or under `example`, and not under `ample`.
     pub fn is_at_or_under<B: Allocator>(&self, other: &Name<B>) -> bool
         ensures relation { IsTrue result ↔ IsAtOrUnder self.now other.now }
         ensures test { result ≡ is_under self.now other.now }
@@ -185,7 +185,8 @@ impl<A: Allocator> Name<A> {
         has_end(&self.bytes, &other.bytes)
     }
 
-    /// Makes the name its parent, in place and without memory; false, and no change, at the root.
+    /// Makes the name its parent, in place and without memory: `www.example` becomes `example`. False, and no change,
+    /// at the root.
     pub fn ascend(&mut self) -> bool
         ensures above { OnTrue result (parent_of self.old ≡ Some self.new) }
         ensures root { OnFalse result ((self.old ≡ root) × (self.new ≡ self.old)) }
@@ -200,8 +201,8 @@ impl<A: Allocator> Name<A> {
         true
     }
 
-    /// Whether this is `*` right under `encloser` (RFC 1034, section 4.3.3): `*.encloser` itself may be
-    /// too long for a name and is never built.
+    /// Whether this is `*` right under `encloser` (RFC 1034, section 4.3.3), as `*.example` is of `example`:
+    /// `*.encloser` itself may be too long for a name and is never built.
     pub fn is_wildcard_of<B: Allocator>(&self, encloser: &Name<B>) -> bool
         ensures { result ≡ same_name self.now (star ∷ encloser.now) }
     {
@@ -211,14 +212,14 @@ impl<A: Allocator> Name<A> {
         }
     }
 
-    /// Every name is labels of 1 to 63 bytes and the root's, at most 255 bytes in all.
+    /// Each name has labels of 1 to 63 bytes and then the root's, at most 255 bytes in all.
     pub fn well_formed_law(&self)
         ensures { IsName self.now }
     {
         let _ = self.bytes.len();
     }
 
-    /// The wire form of every name can be lent as a name, which is this name.
+    /// The wire form of every name can be borrowed as a name, which is this name.
     pub fn wire_law(&self)
         ensures form { IsNameWire (wire self.now) }
         ensures labels { labels_of (wire self.now) ≡ self.now }

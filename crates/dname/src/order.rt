@@ -11,7 +11,7 @@ use crate::walk::next_label;
 use std::alloc::Allocator;
 use std::cmp::Ordering;
 
-// What stands behind the first `count` labels.
+// The wire form without its first `count` labels.
 fn behind(bytes: &[u8], count: usize) -> &[u8]
     requires wire { IsWire bytes.now }
     requires fewer { count < length (labels_of bytes.now) }
@@ -51,7 +51,8 @@ impl<A: Allocator> Ord for Name<A> {
         let mut rest = behind(&self.bytes, mine.saturating_sub(theirs));
         let mut others = behind(&other.bytes, theirs.saturating_sub(mine));
         let mut order = mine.cmp(&theirs);
-        // From the first label on, so that the one nearest to the root decides.
+        // The labels are compared from the first one on, and the last difference counts: that of the label nearest to
+        // the root.
         while let (Some((label, after)), Some((its, after_its))) = (
             next_label(rest),
             next_label(others),

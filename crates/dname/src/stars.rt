@@ -7,7 +7,7 @@ use crate::walk::next_label;
 use std::alloc::Allocator;
 
 impl<A: Allocator> Name<A> {
-    /// Whether the first label is `*` (RFC 4592, section 2.1.1).
+    /// Whether the first label is `*` (RFC 4592, section 2.1.1): true of `*.example`, false of `a.*.example`.
     pub fn is_wildcard(&self) -> bool
         ensures { result ≡ is_wildcard self.now }
     {
@@ -17,7 +17,7 @@ impl<A: Allocator> Name<A> {
         }
     }
 
-    /// Whether a label other than the first is `*`.
+    /// Whether a label other than the first is `*`: true of `a.*.example`, false of `*.example`.
     pub fn has_inner_star(&self) -> bool
         ensures { result ≡ has_inner_star self.now }
     {

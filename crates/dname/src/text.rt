@@ -31,7 +31,7 @@ pub enum NameError {
 }
 
 impl NameError {
-    /// The refusal's number, from 1 on in the order of the variants.
+    /// The refusal's number, from 1 on in the order of the variants: `LongLabel` is 2.
     pub fn number(self) -> u8
         ensures { result ≡ fault_number self }
     {
@@ -132,7 +132,7 @@ fn write_label<W: fmt::Write>(f: &mut fmt::Formatter<W>, label: &[u8]) -> fmt::R
     Ok(())
 }
 
-// Whether a byte means something in a master file, where it stands in a name.
+// Whether this byte of a label has a meaning in a master file, so that a backslash is written before it.
 fn is_special(byte: u8) -> bool
     ensures { result ≡ is_special byte }
 {
@@ -152,7 +152,7 @@ fn write_byte<W: fmt::Write>(f: &mut fmt::Formatter<W>, byte: u8) -> fmt::Result
     }
 }
 
-/// Writes a byte as three decimal digits behind a backslash (RFC 1035, section 5.1).
+/// Writes a byte as three decimal digits behind a backslash (RFC 1035, section 5.1): 7 as `\007`.
 pub fn write_number<W: fmt::Write>(f: &mut fmt::Formatter<W>, byte: u8) -> fmt::Result
     ensures { WritesOnOk W.write_str_gives f.old result (number_text byte) f.new }
 {
@@ -162,7 +162,8 @@ pub fn write_number<W: fmt::Write>(f: &mut fmt::Formatter<W>, byte: u8) -> fmt::
     f.write_char(char::from(b'0' + byte % 10))
 }
 
-/// Appends the name as text, as it is displayed. Where memory is refused, nothing is appended.
+/// Appends the name as text, as it is displayed: of `www.example`, `www.example.`. Where memory is refused, nothing is
+/// appended.
 pub fn put_name<A: Allocator, B: Allocator>(
     out: &mut String<B>,
     name: &Name<A>,
@@ -173,7 +174,7 @@ pub fn put_name<A: Allocator, B: Allocator>(
 }
 
 impl<A: Heap> Name<A> {
-    /// The name as text, as it is displayed, on the name's allocator.
+    /// The name as text, as it is displayed, on the name's allocator: of `www.example`, `www.example.`.
     pub fn to_text(&self) -> Result<String<A>, Starved>
         ensures { IfOk result (λ s. string_bytes s ≡ name_text self.now) }
     {
@@ -183,7 +184,7 @@ impl<A: Heap> Name<A> {
 
 // ---- read
 
-// What stands at the head of a text.
+// The first dot or byte that a text writes.
 #[derive(Clone, Copy)]
 enum Spelt {
     Dot,
@@ -191,7 +192,7 @@ enum Spelt {
     Bad,
 }
 
-// The head of a text and what stands behind it, which counts for nothing where the head is bad.
+// The first dot or byte that a text writes, and the text behind it. Where the first is bad, that text has no meaning.
 fn first(text: &[u8]) -> Option<(Spelt, &[u8])>
     ensures value { MatchOption result (text.now ≡ []) (λ p. tokens text.now ≡ token_of p.0 ∷ tokens p.1.now) }
     ensures shorter { MatchOption result (text.now ≡ []) (λ p. length p.1.now < length text.now) }
@@ -208,8 +209,8 @@ fn first(text: &[u8]) -> Option<(Spelt, &[u8])>
     }
 }
 
-/// The byte that an escape writes, whose backslash stands before this text, and the text behind the escape; `None`
-/// where it is bad (RFC 1035, section 5.1).
+/// The byte that an escape writes, whose backslash stands before this text, and the text behind the escape: of `046x`
+/// the byte 46, a dot, and `x`. `None` where the escape is bad (RFC 1035, section 5.1).
 pub fn escape(text: &[u8]) -> Option<(u8, &[u8])>
     ensures byte { MatchOption result ((escaped_token text.now).0 ≡ Bad) (λ p. (escaped_token text.now).0 ≡ Byte p.0) }
     ensures rest { MatchOption result ((escaped_token text.now).1 ≡ 0) (λ p. p.1.now ≡ drop (escaped_token text.now).1 text.now) }
@@ -226,7 +227,7 @@ pub fn escape(text: &[u8]) -> Option<(u8, &[u8])>
     }
 }
 
-// The labels that a text writes, the one behind its last dot left open.
+// The labels that a text writes. The label behind its last dot is left open.
 fn spell<A: Heap>(alloc: A, text: &[u8]) -> Result<Builder<A>, NameError>
     ensures { MatchResult result (λ b. spelled empty_draft (tokens text.now) ≡ Ok b) (λ e. IsFault e (spelled empty_draft (tokens text.now))) }
 {
@@ -249,7 +250,7 @@ fn spell<A: Heap>(alloc: A, text: &[u8]) -> Result<Builder<A>, NameError>
 }
 
 impl<A: Heap> Builder<A> {
-    // The labels with `origin`, a name in wire form, behind them.
+    // The name of these labels with `origin`, a name in wire form, behind them.
     fn finish_under(self, origin: &[u8]) -> Result<Name<A>, NameError>
         requires shut { self.opened ≡ [] }
         requires origin { IsNameWire origin.now }
@@ -265,7 +266,7 @@ impl<A: Heap> Builder<A> {
     }
 }
 
-// `origin` is a name in wire form.
+// The name that a text writes under `origin`, a name in wire form.
 fn read<A: Heap>(alloc: A, text: &[u8], origin: &[u8]) -> Result<Name<A>, NameError>
     requires { IsNameWire origin.now }
     ensures { MatchResult result (λ n. name_under (labels_of origin.now) text.now ≡ Ok n) (λ e. IsFault e (name_under (labels_of origin.now) text.now)) }
@@ -285,17 +286,18 @@ fn read<A: Heap>(alloc: A, text: &[u8], origin: &[u8]) -> Result<Name<A>, NameEr
 }
 
 impl<A: Heap> Name<A> {
-    /// The name that a text writes: labels parted by dots, a closing dot or none, `.` alone the root. `\X` is the byte X,
-    /// and `\DDD` the byte of that decimal number (RFC 1035, section 5.1). Letters are folded. Refused by the fault that
-    /// stands first in the text, or where memory is refused.
+    /// The name that a text writes: labels parted by dots, a closing dot or none, `.` alone the root. `\X` is the byte
+    /// X, and `\DDD` the byte of that decimal number (RFC 1035, section 5.1). Letters are folded: `Www.Example.` is
+    /// `www.example`. Refused by the fault that stands first in the text, or where memory is refused.
     pub fn from_text(alloc: A, text: &str) -> Result<Name<A>, NameError>
         ensures { MatchResult result (λ n. name_of_text text.now ≡ Ok n) (λ e. IsFault e (name_of_text text.now)) }
     {
         read(alloc, text.as_bytes(), &[0])
     }
 
-    /// The same where a name that no dot ends is relative to `origin`, as in master files (RFC 1035, section 5.1). Such
-    /// a name that is too long with the origin is refused as a long name.
+    /// The name that a text of a master file writes: one that no dot ends is relative to `origin` (RFC 1035, section
+    /// 5.1). With the origin `example`, `www` is `www.example`, and `www.` is `www`. A name that is too long with the
+    /// origin is refused as a long name.
     pub fn under<B: Allocator>(
         alloc: A,
         text: &[u8],

@@ -3,8 +3,8 @@ ghost use Rattle.std.specs.Prelude.{◌≡◌, ℕ, ◌≤◌, ◌<◌, ◌++◌
 ghost use Rattle.dname.specs.Labels.{root, wire, is_under};
 ghost use Rattle.dname.specs.Wire.{labels_of, IsWire, IsSplit};
 
-/// The first label of a name in wire form and the wire form behind it; none at the root (RFC 1035,
-/// section 3.1). A walk over a name's labels is a loop of these calls.
+/// The first label of a name in wire form and the wire form behind it; none at the root (RFC 1035, section 3.1). Of 3
+/// `www` 1 `a` 0 it is `www` and 1 `a` 0. A walk over a name's labels is a loop of these calls.
 pub fn next_label(bytes: &[u8]) -> Option<(&[u8], &[u8])>
     requires { IsWire bytes.now }
     ensures { MatchOption result (labels_of bytes.now ≡ root) (λ p. IsSplit bytes.now p.0.now p.1.now) }
@@ -17,7 +17,7 @@ pub fn next_label(bytes: &[u8]) -> Option<(&[u8], &[u8])>
     Some(rest.split_at(size))
 }
 
-// The longest end of a name that has at most `size` bytes: the one end that can equal a name of that size.
+// The longest end of a name that has at most `size` bytes. No other end can equal a name of that size.
 fn tail(bytes: &[u8], size: usize) -> &[u8]
     requires wire { IsWire bytes.now }
     requires some { 0 < size }
@@ -36,8 +36,8 @@ fn tail(bytes: &[u8], size: usize) -> &[u8]
     rest
 }
 
-// Whether the labels of `other` are the end of those of `bytes`. Its bytes are compared first: where they differ,
-// as they mostly do, no label is passed.
+// Whether the labels of `other` are the last ones of `bytes`. Its bytes are compared first: where they differ, as they
+// mostly do, no label is passed.
 pub fn has_end(bytes: &[u8], other: &[u8]) -> bool
     requires wire { IsWire bytes.now }
     requires other { IsWire other.now }

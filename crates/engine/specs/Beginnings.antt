@@ -1,4 +1,4 @@
--- What a resolver may be set to, and its first state.
+-- The settings that a resolver may have, and its first state.
 use Rattle.std.specs.Prelude.{◌≡◌, ℕ, ◌≤◌, true, false, List, [], codes}
 use Rattle.limits.specs.Limits.{max_sockets}
 use Rattle.rdata.specs.declared.addr.Addr.{Addr}
@@ -37,7 +37,7 @@ first_state zones hints s = record {
   generator = of_seed s.seed;
 }
 
--- The first that holds counts: a setting, two zones of one origin, out of memory.
+-- When a resolver may be refused so: for a setting, then for two zones of one origin; out of memory at any time.
 abbrev pub CoreRefuses : CoreError → Settings → List Zone → Type 0
 CoreRefuses Setting s zones = IsAllowed s → ⊥
 CoreRefuses Twins s zones = IsAllowed s × (has_twins zones ≡ true)

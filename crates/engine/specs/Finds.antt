@@ -1,4 +1,4 @@
--- What a look-up for an event finds, and what becomes of an ask that is not answered.
+-- The query that is found for an event, and the end of an ask that is not answered.
 use Rattle.std.specs.Prelude.{◌≡◌, ℕ, ◌<◌, ◌≤◌, ◌⊎◌, List, length, Contains}
 use Rattle.rdata.specs.declared.addr.Addr.{Addr}
 use Rattle.causes.specs.declared.cause.Cause.TheVariants as cause
@@ -10,13 +10,13 @@ use Rattle.runs.specs.Steps.{Ends, Serves, IsLeft, IsOfLine}
 use Rattle.open_queries.specs.Lookups.{IsTheOne}
 use Rattle.engine.specs.Moves.{Forgets}
 
--- The one open query of a number is so.
+-- The one open query of this number has that property.
 pub record Finds (IsSo : Open → Type 0) (qs : List Open) (k : ℕ) : Type 0 where
   pub query : Open
   pub one : IsTheOne qs k query
   pub is : IsSo query
 
--- The same, said of whichever query has the number.
+-- Whichever open query has this number has that property.
 abbrev pub OfTheOne : List Open → ℕ → (Open → Type 0) → Type 0
 OfTheOne qs k IsSo = (q : Open) → IsTheOne qs k q → IsSo q
 
@@ -30,7 +30,7 @@ pub record Reaches (s : State) (sock : ℕ) (from : Endpoint) (bytes : List ℕ)
 abbrev pub NoneDue : State → Type 0
 NoneDue s = (q : Open) → Contains s.queries q → s.clock < due_moment q
 
--- The open query of a number is served by word of the server that it asks; memory was wanting for that.
+-- The open query of a number is served by word of the server that it asks; out of memory, it is dropped.
 pub record Tells (s : State) (k : ℕ) (word : Addr → Input) (out : List Action) (new : State) : Type 0 where
   pub query : Open
   pub one : IsTheOne s.queries k query
@@ -41,20 +41,20 @@ pub record Untold (s : State) (k : ℕ) (word : Addr → Input) (new : State) : 
   pub one : IsTheOne s.queries k query
   pub left : IsLeft s k (Stops (word (query.ask).server) s.clock query.job s.stores) new
 
--- The time of the open query of a number is up, or is not.
+-- The time of the open query of a number is up, or it is not.
 abbrev pub IsLateOne : State → ℕ → Type 0
 IsLateOne s k = OfTheOne s.queries k (λ q. (q.job).deadline ≤ s.clock)
 
 abbrev pub IsEarlyOne : State → ℕ → Type 0
 IsEarlyOne s k = OfTheOne s.queries k (λ q. s.clock < (q.job).deadline)
 
--- It is over without an answer in time.
+-- The query is over without an answer in time.
 pub record Expires (s : State) (k : ℕ) (out : List Action) (new : State) : Type 0 where
   pub query : Open
   pub one : IsTheOne s.queries k query
   pub ends : Ends s query.client_query query.number (outcome.Fail cause.DeadlineOver) s.stores out new
 
--- A query that is due: its time is up, or its ask waited too long; memory was wanting for that.
+-- A query that is due: its time is up, or its ask waited too long; out of memory, it is dropped.
 abbrev pub Rings : State → ℕ → List Action → State → Type 0
 Rings s k out new = (IsLateOne s k × Expires s k out new) ⊎ (IsEarlyOne s k × Tells s k TimedOut out new)
 

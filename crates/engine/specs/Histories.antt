@@ -10,7 +10,7 @@ use Rattle.laws.specs.FirstStates.{first_of}
 use Rattle.engine.specs.Beginnings.{IsBegun}
 use Rattle.engine.specs.Promises.{Steps}
 
--- What the machine may do: a step, also where memory was wanting.
+-- The machine takes a step, also where memory runs out.
 abbrev pub Moves : {A : Type 0} → State → Event A → Result (List Action) Starved → State → Type 0
 Moves s event result new = MatchResult result (λ out. Steps s (event_view event) (Some out) new) (λ _. Steps s (event_view event) None new)
 
@@ -18,7 +18,7 @@ abbrev pub out_of : Result (List Action) Starved → Option (List Action)
 out_of (Ok out) = Some out
 out_of (Err refused) = None
 
--- The steps of a run are those that the lines of a history show.
+-- The steps of a run are those in the lines of a history.
 abbrev pub Shows : {A : Type 0} → List Turn → List (Line (Event A) (List Action)) → Type 0
 Shows [] [] = Unit {0}
 Shows [] (e ∷ older) = ⊥

@@ -7,6 +7,6 @@ pub mod Histories
 pub mod Moves
 pub mod Calls
 pub mod Finds
--- Kept: what the code's own values keep.
+-- Kept: invariants of the code's values, and how contracts see them.
 pub mod ResolverStates
 pub mod Replies

@@ -1,4 +1,4 @@
--- What becomes of one query, said of a state that is without it.
+-- Treatment of one query, in a state that is without it.
 use Rattle.std.specs.Prelude.{◌≡◌, ℕ, ◌⊎◌, Option, Some, None, List}
 use Rattle.message_grammar.specs.Messages.{Message}
 use Rattle.resolution.specs.Jobs.{Stores, Job, Input as InputSpec, Told, Next}
@@ -18,12 +18,12 @@ pub record Puts (s : State) (after : Open) (action : ActionSpec) (new : State) :
   pub queries : AreWith after s.queries new.queries
   pub state : new ≡ record s { queries = new.queries }
 
--- Memory was wanting after a word of the generator was taken, or before.
+-- Memory ran out after a word of the generator was taken, or before.
 pub record Halts (s new : State) : Type 0 where
   pub generator : (new.generator ≡ s.generator) ⊎ (new.generator ≡ word_taken s.generator)
   pub state : new ≡ record s { generator = new.generator }
 
--- A query's work goes on by one input, and what comes of it goes out.
+-- A query's work goes on by one input, and its result goes out.
 pub record Goes (s : State) (who : ClientQuery) (k : ℕ) (job : Job) (input : InputSpec) (out : List ActionSpec) (new : State) : Type 0 where
   pub next : Next
   pub after : Job
@@ -31,13 +31,13 @@ pub record Goes (s : State) (who : ClientQuery) (k : ℕ) (job : Job) (input : I
   pub advances : Advances (s.site).home s.clock input job s.stores next after stores
   pub comes : Comes s who k s.opened next after stores out new
 
--- Memory was wanting in the work, or after it.
+-- Memory ran out in the work, or after it.
 pub record Falls (s : State) (job : Job) (input : InputSpec) (new : State) : Type 0 where
   pub stores : (new.stores ≡ s.stores) ⊎ Stops input s.clock job s.stores new.stores
   pub generator : (new.generator ≡ s.generator) ⊎ (new.generator ≡ word_taken s.generator)
   pub state : new ≡ record s { stores = new.stores; generator = new.generator }
 
--- The open query of a number is served by an input; its time is up; it is gone.
+-- The open query of a number is served by an input; its time is up; it is dropped.
 pub record ServesOne (s : State) (k : ℕ) (input : InputSpec) (out : List ActionSpec) (new : State) : Type 0 where
   pub query : Open
   pub one : IsTheOne s.queries k query
@@ -48,7 +48,7 @@ pub record DropsOne (s : State) (k : ℕ) (input : InputSpec) (new : State) : Ty
   pub one : IsTheOne s.queries k query
   pub left : IsLeft s k (Stops input s.clock query.job s.stores) new
 
--- What an event brings for an ask: a message that is accepted, as an input; or none.
+-- The message that an event brings for an ask and that is accepted, as an input; or none.
 abbrev pub IsToldBy : ℕ → Ask → Event → InputSpec → Type 0
 IsToldBy port a event input = (m : Message) × Brings port a event m × (input ≡ Told (via_of a.path) a.server m)
 
@@ -56,7 +56,7 @@ abbrev pub Reads : {A : Type 0} → ℕ → Ask → Event → Option (Input A) �
 Reads port a event None = (m : Message) → Brings port a event m → ⊥
 Reads port a event (Some input) = IsToldBy port a event (input_view input)
 
--- The same for the open query of a number.
+-- The input that an event brings for the open query of a number; or none.
 pub record IsRead {A : Type 0} (s : State) (k : ℕ) (event : Event) (o : Option (Input A)) : Type 0 where
   pub query : Open
   pub one : IsTheOne s.queries k query
@@ -68,7 +68,7 @@ pub record Forgets (s : State) (k : ℕ) (new : State) : Type 0 where
   pub taken : IsTaken s.queries k query new.queries
   pub state : new ≡ record s { queries = new.queries }
 
--- An event of which a message may be accepted for the open query of a number: what comes of it.
+-- The result of an event that may bring a message for the open query of a number.
 pub record IsPassed (s : State) (k : ℕ) (event : Event) (new : State) : Type 0 where
   pub query : Open
   pub one : IsTheOne s.queries k query
@@ -91,7 +91,7 @@ pub record IsLost (s : State) (k : ℕ) (event : Event) (new : State) : Type 0 w
   pub one : IsTheOne s.queries k query
   pub left : IsLeft s k (λ stores. (input : InputSpec) × IsToldBy (s.site).port query.ask event input × Stops input s.clock query.job s.stores stores) new
 
--- A query that comes, by what its work gave, is opened or over.
+-- A new query is opened or over, by the result of its work.
 pub record Opens (s : State) (who : ClientQuery) (next : Next) (job : Job) (out : List ActionSpec) (new : State) : Type 0 where
   pub served : Served
   pub opened : IsOpened s who next job s.stores served out new

@@ -1,4 +1,4 @@
--- What a step of the resolver promises: the laws of every run, said of its newest step.
+-- The promises of a step of the resolver: the laws of every run, for its newest step.
 use Rattle.std.specs.Prelude.{◌≡◌, ◌≢◌, ℕ, ◌<◌, ◌≤◌, ◌⊎◌, true, false, Option, Some, None, List, [], ◌∷◌, length, Contains}
 use Rattle.limits.specs.Limits.{max_asks, max_look_ups}
 use Rattle.dname.specs.Labels.{Name}
@@ -49,17 +49,17 @@ use Rattle.laws.specs.Meant.{IsForOpenQuery, IsOverAtOnce, IsOfRun}
 use Rattle.laws.specs.Truthful.{HoldsTruth}
 use Rattle.laws.specs.Uses.{KeptAnswer}
 
--- What every run keeps: the steps in `past` led from a new resolver to the state `old`, the step `turn` led on to
--- `new`, and each law of runs holds of it. A field is a law; its words stand in the crate of that law.
+-- The laws of runs, for one step. The steps in `past` led from a new resolver to the state `old`, the step `turn` led
+-- on to `new`, and each law of runs holds of it. A field is a law; its words stand in the crate of that law.
 pub record Keeps (site : Site) (past : List Turn) (old : State) (turn : Turn) (new : State) (legal : Run site past old) (step : Step old turn.event turn.served turn.out new) : Type 0 where
-  -- Replies are right up to which servers were honest, and what is held is true; replies are in time, and each failure
-  -- has its cause.
+  -- Replies are right up to which servers were honest, and the resolver's data are true; replies are in time, and each
+  -- failure has its cause.
   pub right : (W : World) → IsWorld W → IsHomeIn W site.home → IsHonest W site.port (turn ∷ past) → RepliesAreRight W turn past
   pub truth : (W : World) → IsWorld W → IsHomeIn W site.home → IsHonest W site.port (turn ∷ past) → HoldsTruth W site.port (turn ∷ past) new
   pub timely : RepliesAre site.home (IsExplained site.port site.home) turn past
   pub spent : RepliesAre site.home (IsSpentFor site.port site.home) turn past
   pub twice : (k : ℕ) (z n : Name) (t : ℕ) (a : Addr) → HasFailed site.port (turn ∷ past) k z n t a → Twice (SendsTo site.port k a n t) (turn ∷ past)
-  -- One action a step; one coming, one reply and 40 asks at most a query; one open ask, on a line of its own.
+  -- One action a step; one coming, one reply and 40 asks at most a query; one open ask, which is like no other.
   pub action : (out : List Action) → turn.out ≡ Some out → GivesOne turn.event turn.served out
   pub coming : (k : ℕ) (who : ClientQuery) → Came (OpenQuery k) who turn past → Earlier (λ u before. (other : ClientQuery) × Came (OpenQuery k) other u before) past → ⊥
   pub reply : (k : ℕ) → RepliesTo k turn past → Earlier (RepliesTo k) past → ⊥
@@ -73,8 +73,8 @@ pub record Keeps (site : Site) (past : List Turn) (old : State) (turn : Turn) (n
   pub line : (p q : Open) (sock : ℕ) (server : Addr) (id : ℕ) → Contains new.queries p → Contains new.queries q → IsLine p sock server id → IsLine q sock server id → p ≡ q
   pub words : (seed : List ℕ) × ((first_of site (turn ∷ past) new (old, legal, step)).generator ≡ of_seed seed) × (n : ℕ) × AreDrawn (of_seed seed) site (turn ∷ past) new (old, legal, step) n
   pub room : room_of new.stores ≡ room_of (first_of site (turn ∷ past) new (old, legal, step)).stores
-  -- The clock is the run's. A query is served by what is for it; what is answered at hand is so in its own step; nobody
-  -- is asked who failed lately; and what an open query shows is the run's.
+  -- The clock is the run's. A query is served by an event for it. A query that local zones answer is over in its own
+  -- step. No server is asked that failed lately. The fields of an open query are the run's.
   pub clock : (new.clock ≡ clock_of (turn ∷ past)) × (new.site ≡ site)
   pub served : (k : ℕ) → turn.served ≡ OpenQuery k
       → ((who : ClientQuery) × Came (OpenQuery k) who turn past) ⊎ ((q : Open) × Contains old.queries q × (q.number ≡ k) × IsForOpenQuery site (moved old turn.event) turn q)
@@ -83,14 +83,15 @@ pub record Keeps (site : Site) (past : List Turn) (old : State) (turn : Turn) (n
   pub free : (q : Open) → Contains new.queries q → turn.served ≡ OpenQuery q.number → IsUdpPath (q.ask).path
       → is_failed (moved old turn.event).clock (failed_ask (q.ask).name (q.ask).kind (q.ask).server) (new.stores).failures ≡ false
   pub shown : (q : Open) → Contains new.queries q → IsOfRun site (turn ∷ past) new (old, legal, step) q
-  -- What is accepted is heard, and changes no other query; what is due is served in order, and nothing is late.
+  -- A message that is accepted is used, and changes no other query; queries that are due are served in order, and
+  -- nothing is late.
   pub accepted : (q : Open) (m : Message) → Contains old.queries q → Brings site.port q.ask turn.event m → turn.served ≡ OpenQuery q.number
   pub tcp : (q : Open) (number : ℕ) → Contains old.queries q → IsOfNumber number q → IsForTcp number turn.event → turn.served ≡ OpenQuery q.number
   pub others : (q : Open) → turn.served ≢ OpenQuery q.number → (Contains old.queries q → Contains new.queries q) × (Contains new.queries q → Contains old.queries q)
   pub order : (now : ℕ) (out : List Action) → turn.event ≡ Tick now → turn.out ≡ Some out → TicksInOrder (moved old turn.event) turn.served out new
   pub more_due : GivesOut turn.out MoreDue → IsTick turn.event
   pub late : (k : ℕ) → turn.served ≡ OpenQuery k → (action : Action) → GivesOut turn.out action → is_ask action ≡ true → Earlier (CameLately k (clock_of (turn ∷ past))) (turn ∷ past)
-  -- What a search hears is followed in that very step.
+  -- A message that is used for a search is followed in that very step.
   pub ask : (q : Open) → Contains new.queries q → IsOfSearch q
   pub lost : (out : List Action) (q : Open) (sought : Search) (around : List Search) (server : Addr)
       → Attends site past old turn out new q sought around → EndsInVain site (at_moment old turn) turn q sought → next_server (at_moment old turn).clock (new.stores).failures sought ≡ Some server
@@ -113,7 +114,7 @@ pub record Keeps (site : Site) (past : List Turn) (old : State) (turn : Turn) (n
   -- lately is asked.
   pub opens : (out : List Action) (call : Call (at_moment old turn)) (frame : Opening)
       → turn.out ≡ Some out → step_call old turn new step ≡ Some call → Opens (at_moment old turn) call frame → IsOpenedRightly site (at_moment old turn) turn.served out new call frame
-  -- What is held is answered at once; what is accepted as an answer is kept, and what was kept is found.
+  -- A chain of local zones and cache is answered at once; an accepted answer is cached, and a cached link is found.
   pub held : (now client : ℕ) (way : Via) (bytes : List ℕ) (out : List Action) (q : Query Plain) (chain : List Taken) (last : Taken)
       → turn.event ≡ Client now client way bytes → turn.out ≡ Some out → IsRequest bytes (request.Query q) → recursive q ≡ true → length chain ≤ 8
       → IsHeldChain site.home (at_moment old turn).clock (type_number q.kind) (old.stores).cache q.name chain last
@@ -129,8 +130,8 @@ pub record Keeps (site : Site) (past : List Turn) (old : State) (turn : Turn) (n
 abbrev pub turn_of : Event → Served → Option (List Action) → Turn
 turn_of event served out = record { event = event; served = served; out = out }
 
--- A step: some query is served, by the rules of steps; and whichever steps led from a new resolver to the state that
--- it was lent, with this one added they keep the laws.
+-- A step: some query is served, by the rules of steps. Whichever steps led from a new resolver to the state that it was
+-- lent, with this one added they keep the laws.
 pub record Steps (old : State) (event : Event) (out : Option (List Action)) (new : State) : Type 0 where
   pub served : Served
   pub step : Step old event served out new

@@ -1,4 +1,4 @@
--- What a step's one action is among all that goes out.
+-- The one action of a step, among all that goes out.
 use Rattle.std.specs.Prelude.{Option, Some, None, List, [], ◌∷◌}
 use Rattle.events.specs.declared.action.Action.{Action}
 use Rattle.events.specs.Views.{action_view}

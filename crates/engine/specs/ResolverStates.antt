@@ -1,4 +1,4 @@
--- The state of a resolver at work, and what holds of it at all times.
+-- The state of a resolver at work, and its invariant.
 use Rattle.std.specs.Prelude.{◌≡◌, ℕ, ◌<◌, ◌≤◌, length, Contains}
 use Rattle.runs.specs.States.{ByTcp, Open, State, latest}
 use Rattle.runs.specs.Steps.{most_open}

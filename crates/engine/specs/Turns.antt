@@ -1,4 +1,4 @@
--- What becomes of an event, whichever query is served.
+-- Treatment of an event, whichever query is served.
 use Rattle.std.specs.Prelude.{◌≢◌, ◌<◌, ◌⊎◌, Option, List, length, Contains}
 use Rattle.runs.specs.States.{Event, Client, Datagram, TcpReply, TcpFailed, Tick, Action, Served, Open, due_moment, State}
 use Rattle.runs.specs.Steps.{IsOfLine, IsOfNumber, IsTurn}
@@ -7,8 +7,8 @@ pub record Turns (s : State) (event : Event) (out : Option (List Action)) (new :
   pub served : Served
   pub turn : IsTurn s event served out new
 
--- Events that take no memory: bytes without room for a header, what comes for no open ask, time at which nothing
--- is due.
+-- Events that take no memory: bytes without room for a header, a datagram or a reply for no open ask, a tick with
+-- nothing due.
 abbrev pub IsQuiet : State → Event → Type 0
 IsQuiet s (Client now client way bytes) = length bytes < 12
 IsQuiet s (Datagram now sock from bytes) =

@@ -1,5 +1,5 @@
-//! Events for open queries: what an event brings for the open ask of a query is read, and the query is served by
-//! it.
+//! Events for open queries: the message that an event brings for the open ask of a query is read, and the query is
+//! served by it.
 ghost use Rattle.std.specs.Prelude.{IfOk, OnErr};
 ghost use Rattle.events.specs.Views.{event_view};
 ghost use Rattle.runs.specs.States.{Open};
@@ -12,7 +12,7 @@ use dname::{Heap, Starved};
 use events::{Action, Ask, Event, accepted_reply};
 use iterate::Input;
 
-// What an event brings for an ask: a message that is accepted, as an input.
+// The message that an event brings for an ask and that is accepted, as an input.
 fn read<'e, A: Heap>(
     alloc: A,
     port: u16,
@@ -28,7 +28,7 @@ fn read<'e, A: Heap>(
 }
 
 impl<A: Heap> ResolverState<A> {
-    // What an event brings for the open query of that number.
+    // The input that an event brings for the open query of that number.
     fn read_for<'e>(
         &self,
         number: u64,
@@ -43,7 +43,7 @@ impl<A: Heap> ResolverState<A> {
         }
     }
 
-    // The open query of that number is gone.
+    // Drops the open query of that number.
     fn forget(&mut self, number: u64)
         requires { (q : Open) × IsTheOne self.old.queries number q }
         ensures { Forgets (state_of self.old) number (state_of self.new) }
@@ -54,7 +54,7 @@ impl<A: Heap> ResolverState<A> {
         }
     }
 
-    // The open query of that number is served by what an event brings for it.
+    // Serves the open query of that number by the message that an event brings for it.
     pub fn accept_event(
         &mut self,
         number: u64,

@@ -1,4 +1,4 @@
-//! Recursive queries whose work has begun: what it gave goes out, and one that has to wait is opened under the next
+//! Recursive queries whose work has begun. The result goes out. A query that has to wait is opened under the next
 //! number, or answered with a failure where 1,024 are open.
 ghost use Rattle.std.specs.Prelude.{◌+◌, IfOk, OnErr};
 ghost use Rattle.std.specs.Bool.{MatchBool};
@@ -22,7 +22,7 @@ fn is_ask<A: Heap>(next: &Next<A>) -> bool
     matches!(next, Next::AskUdp(..) | Next::AskTcp(..))
 }
 
-// A query for which no number is left goes.
+// Drops a query for which no number is left.
 fn turn_away<A: Heap>(client_query: ClientQuery<A>, job: Job<A>, next: Next<A>) {
     drop(client_query);
     drop(job);
@@ -30,7 +30,7 @@ fn turn_away<A: Heap>(client_query: ClientQuery<A>, job: Job<A>, next: Next<A>) 
 }
 
 impl<A: Heap> ResolverState<A> {
-    // A query that has to wait is opened under the next number.
+    // Opens a query that has to wait, under the next number.
     fn let_in(
         &mut self,
         client_query: ClientQuery<A>,
@@ -52,7 +52,7 @@ impl<A: Heap> ResolverState<A> {
         Ok(action)
     }
 
-    // What the work on a query that comes gave goes out: the reply, or an ask where not too many queries wait.
+    // Sends the result of the work on a new query: the reply, or an ask where not too many queries wait.
     pub fn admit(
         &mut self,
         client_query: ClientQuery<A>,

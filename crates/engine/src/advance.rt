@@ -1,5 +1,5 @@
-//! One query's work, and what comes of it: `go_on` takes a query out, gives its work one input, and sends what that
-//! gives, an ask for which it waits again, or the reply.
+//! The work on one query, and its result. `go_on` takes a query out, gives its work one input, and sends the result: an
+//! ask for which it waits again, or the reply.
 ghost use Rattle.std.specs.Prelude.{◌≡◌, IfOk, OnErr};
 ghost use Rattle.causes.specs.declared.cause.Cause.TheVariants as cause;
 ghost use Rattle.front.specs.declared.queries.Outcome.TheVariants as outcome;
@@ -22,7 +22,7 @@ use iterate::{Chain, Input, Job, Next, advance};
 use lookup::Taken;
 
 impl<A: Heap> ResolverState<A> {
-    // The answer of a chain and its end goes out, and the query of that number is over.
+    // Sends the answer of a chain and its end; the query of that number is over.
     pub fn answer(
         &mut self,
         number: u64,
@@ -38,7 +38,7 @@ impl<A: Heap> ResolverState<A> {
         reply_to(&mut self.writer, client_query, &outcome)
     }
 
-    // The failure goes out, and the query of that number is over.
+    // Sends the failure; the query of that number is over.
     pub fn fail(
         &mut self,
         number: u64,
@@ -53,7 +53,7 @@ impl<A: Heap> ResolverState<A> {
         reply_to(&mut self.writer, client_query, &outcome)
     }
 
-    // What the work gave goes out: an ask, or the reply.
+    // Sends the result of the work: an ask, or the reply.
     pub fn follow(
         &mut self,
         number: u64,
@@ -93,7 +93,7 @@ impl<A: Heap> ResolverState<A> {
         }
     }
 
-    // The work of the query of that number goes on by one input, and what comes of it goes out.
+    // Goes on with the work on the query of that number by one input, and sends its result.
     fn advance_query(
         &mut self,
         number: u64,
@@ -124,7 +124,7 @@ impl<A: Heap> ResolverState<A> {
         }
     }
 
-    // The open query of that number is served.
+    // Serves the open query of that number.
     pub fn go_on(&mut self, number: u64, input: Input<'_, A>) -> Result<Action<A>, Starved>
         requires sound { IsSound (state_of self.old) }
         requires there { (q : Open) × IsTheOne self.old.queries number q }

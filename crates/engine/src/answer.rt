@@ -1,5 +1,5 @@
-//! The outcome of a chain and its end: each link with the TTL that is left of it, and AA where the link of the name
-//! that was asked is of the zones at hand.
+//! The outcome of a chain and its end: each link with the TTL that is left of it, and AA where the link of the name in
+//! the question is that of a local zone.
 ghost use Rattle.std.specs.Prelude.{◌≡◌, [], ◌∷◌, IfOk, MatchOption};
 ghost use Rattle.authority.specs.Answers.{link_view};
 ghost use Rattle.events.specs.Plain.{plain_end, plain_outcome};
@@ -37,7 +37,7 @@ pub fn outcome_of<A: Heap>(
     }
 }
 
-// Whether the asked name's own link is of the zones at hand.
+// Whether the link of the name in the question is that of a local zone.
 fn is_local_first<A: Heap>(links: &[Taken<A>], last: &Taken<A>) -> bool
     ensures { result ≡ is_local_first links.now last.now }
 {
@@ -60,7 +60,7 @@ fn alias_in<A: Heap>(link: Link<A>) -> Option<Record<A>>
     }
 }
 
-// The records of the aliases, as they go out.
+// The records of the aliases, as they are sent.
 fn aliases_of<A: Heap>(alloc: A, chain: Chain<A>, now: u64) -> Result<Records<A>, Starved>
     ensures { IfOk result (λ r. r ≡ aliases_of now chain) }
 {

@@ -1,4 +1,4 @@
-//! Asks that go out, and the queries that wait for them: socket and ID are of the generator's next word, and no two
+//! Asks that go out, and the queries that wait for them. Socket and ID are of the generator's next word, and no two
 //! open asks over UDP have socket, server and ID in common (RFC 5452, section 4).
 ghost use Rattle.std.specs.Prelude.{◌≡◌, ◌+◌, ◌<◌, ◌/◌, ◌%◌, IfOk, OnErr};
 ghost use Rattle.rdata.specs.Types.{type_number};
@@ -28,7 +28,7 @@ impl<A: Heap> ResolverState<A> {
         self.generator.next_word()
     }
 
-    // A query's ask, which is like no other one, goes out, and the query waits for it.
+    // Sends a query's ask, which is like no other one; the query waits for it.
     fn put(
         &mut self,
         number: u64,
@@ -64,8 +64,8 @@ impl<A: Heap> ResolverState<A> {
         }
     }
 
-    // A server is asked in a datagram: the ID and the socket by a word of the generator, the ID raised until no
-    // other open ask is like it.
+    // Asks a server in a datagram. The ID and the socket are of a word of the generator, the ID raised until no other
+    // open ask is like it.
     pub fn ask_udp(
         &mut self,
         number: u64,
@@ -94,7 +94,7 @@ impl<A: Heap> ResolverState<A> {
         self.put(number, client_query, job, ask, due)
     }
 
-    // A server is asked over TCP, under the next number: the ID by a word of the generator.
+    // Asks a server over TCP, under the next number. The ID is of a word of the generator.
     pub fn ask_tcp(
         &mut self,
         number: u64,

@@ -1,4 +1,4 @@
-//! What clients send: what the bytes ask is dropped, refused, answered by the zones at hand (without RD), or resolved.
+//! Requests of clients: they are dropped, refused, answered by local zones (without RD), or resolved.
 ghost use Rattle.std.specs.Prelude.{◌≡◌, ℕ, ◌<◌, ◌≤◌, Some, None, IfOk, IsOk, OnErr, length};
 ghost use Rattle.resolution.specs.Jobs.{Start as StartSpec};
 ghost use Rattle.resolution.specs.Rules.{Stops};
@@ -46,15 +46,15 @@ fn begun<A: Heap>(
     )
 }
 
-// Whether the answer is to be found for the client (RFC 1035, section 4.1.1). For the proof: it names the bit RD as the
-// steps of a run do.
+// Whether the query has RD, so that the answer is to be found for the client (RFC 1035, section 4.1.1). For the proof:
+// it names the bit RD as the steps of a run do.
 fn is_recursive<A: Heap>(client_query: &ClientQuery<A>) -> bool
     ensures { result ≡ recursive client_query.now.query }
 {
     client_query.query.start.wants_recursion()
 }
 
-// What is refused goes out with the question that it repeats. For the proof: it says of `refuse` what a run speaks of.
+// Sends a refusal, with the question that it repeats. For the proof: it says of `refuse` what a run speaks of.
 fn refused<A: Heap>(
     writer: &mut Writer<A>,
     client: u64,
@@ -69,7 +69,7 @@ fn refused<A: Heap>(
 }
 
 impl<A: Heap> ResolverState<A> {
-    // Bytes from a client: what they ask is dropped, refused, answered or opened.
+    // Treats a client's bytes: they are dropped, refused, answered or opened.
     pub fn client(
         &mut self,
         client: u64,
@@ -106,7 +106,7 @@ impl<A: Heap> ResolverState<A> {
         }
     }
 
-    // A query: without RD it is answered at hand (RFC 1034, section 4.3.1).
+    // Treats a query: without RD it is answered by the local zones alone (RFC 1034, section 4.3.1).
     fn resolve(&mut self, client_query: ClientQuery<A>) -> Result<Action<A>, Starved>
         requires sound { IsSound (state_of self.old) }
         ensures ok { IfOk result (λ a. IsResolved (state_of self.old) client_query (alone a) (state_of self.new)) }
@@ -119,7 +119,7 @@ impl<A: Heap> ResolverState<A> {
         }
     }
 
-    // The zones at hand alone answer.
+    // Answers from the local zones alone.
     fn at_hand(&mut self, client_query: &ClientQuery<A>) -> Result<Action<A>, Starved>
         ensures ok { IfOk result (λ a. AnswersAtHand (state_of self.old) client_query.now Own (alone a) (state_of self.new)) }
         ensures same { state_of self.new ≡ state_of self.old }
@@ -129,7 +129,7 @@ impl<A: Heap> ResolverState<A> {
         reply_to(&mut self.writer, client_query, &outcome)
     }
 
-    // A recursive query: what is known answers it, or its work begins.
+    // Begins a recursive query: it is answered by a link that is found, or its work begins.
     fn begin_query(&mut self, client_query: ClientQuery<A>) -> Result<Action<A>, Starved>
         requires sound { IsSound (state_of self.old) }
         ensures ok { IfOk result (λ a. Begins (state_of self.old) client_query (alone a) (state_of self.new)) }

@@ -1,5 +1,5 @@
-//! Datagrams that come from servers: whose ask one may answer is found by its socket, its sender and its ID, and
-//! only a message that is accepted for that ask is heard.
+//! Datagrams from servers. The ask that one may answer is found by its socket, its sender and its ID, and only a
+//! message that is accepted for that ask is used.
 ghost use Rattle.std.specs.Prelude.{◌≡◌, ℕ, Some, None, IfOk, IsOk, OnErr, MatchOption};
 ghost use Rattle.events.specs.Paths.{endpoint_view};
 ghost use Rattle.events.specs.Views.{event_view};
@@ -28,7 +28,7 @@ impl<A: Heap> ResolverState<A> {
         self.queries.find(socket, from.address, id_in(bytes))
     }
 
-    // A datagram: the query that it is for is served, where it is accepted.
+    // Serves the query that a datagram is for, if it is accepted.
     pub fn datagram(
         &mut self,
         socket: u16,

@@ -1,5 +1,5 @@
-//! What becomes of an event: the clock goes on to its moment, never back, and the event goes to the part that is for
-//! its kind.
+//! Treatment of an event: the clock goes on to its moment, never back, and then the part for the event's kind is
+//! called.
 ghost use Rattle.std.specs.Prelude.{◌≡◌, Some, None, IfOk, IsOk, OnErr};
 ghost use Rattle.events.specs.Views.{event_view};
 ghost use Rattle.runs.specs.States.{moved};
@@ -11,7 +11,7 @@ use crate::state::ResolverState;
 use dname::{Heap, Starved};
 use events::{Action, Actions, Event};
 
-// One action at most, after which no other query is known to be due.
+// One action at most, without word that another query is due.
 fn alone<A: Heap>(first: Option<Action<A>>) -> Actions<A>
     ensures { result ≡ if_any first }
 {
@@ -22,14 +22,14 @@ fn alone<A: Heap>(first: Option<Action<A>>) -> Actions<A>
 }
 
 impl<A: Heap> ResolverState<A> {
-    // The clock is at the event's moment, or was past it already.
+    // Sets the clock to the event's moment, unless it is past that already.
     pub fn advance_clock(&mut self, event: &Event<A>)
         ensures { state_of self.new ≡ moved (state_of self.old) (event_view event.now) }
     {
         self.clock = self.clock.max(event.moment());
     }
 
-    // The query that an event is for is served.
+    // Serves the query that an event is for.
     pub fn handle_event(&mut self, event: &Event<A>) -> Result<Actions<A>, Starved>
         requires sound { IsSound (state_of self.old) }
         ensures ok { IfOk result (λ a. Turns (state_of self.old) (event_view event.now) (Some a) (state_of self.new)) }

@@ -1,13 +1,13 @@
-//! What hashes the keys of the stores.
+//! The hashers for the keys of the stores.
 ghost use Rattle.std.specs.Prelude.{◌≡◌};
 
 use std::hash::{BuildHasher, DefaultHasher, Hasher};
 
-// What hashes the keys of the stores: SipHash behind the resolver's seed.
+// The hasher for the keys of the stores: SipHash behind the resolver's seed.
 pub type StoreHasher = Seeded<DefaultHasher>;
 
-// Begins each hash behind a seed: who chooses the names that are asked for, and does not know the seed, can't choose
-// them so that they collide.
+// Begins each hash behind a seed: a stranger who chooses names, and does not know the seed, can't choose names that
+// collide.
 #[derive(Clone, Copy)]
 pub struct Seeded<H> {
     start: H,

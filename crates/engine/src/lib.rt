@@ -1,21 +1,21 @@
 //! The resolver as a machine of one thread: events in, actions out.
 //!
 //! `Core::new` makes a resolver of a `Config`: local zones, hints, and the `Settings` of an operator. `Core::step`
-//! takes one `events::Event` and gives what goes out: one action at most, a reply or an ask, and whether another
-//! query is due. `Core` is a `book::Machine`, so that many workers can share one.
+//! takes one `events::Event` and gives one action at most, a reply or an ask, and whether another query is due. `Core`
+//! is a `book::Machine`, so that many workers can share one.
 //!
-//! Promised: a step is one of `runs`, and each law of `laws` is kept by it, whatever run led there (`Steps`); the
-//! history of a shared resolver is a run (`history_is_run`); of a new one, that it is what the config says
-//! (`IsMade`) or why there is none (`CoreError`). Events that concern nobody take no memory (clause `quiet`).
+//! Promised: a step is one of `runs`, and each law of `laws` is kept by it, whatever run led there (`Steps`). The
+//! history of a shared resolver is a run (`history_is_run`). A new resolver is the one of its `Config` (`IsMade`), or
+//! is refused for one of three reasons (`CoreError`). Events that are for no query take no memory (clause `quiet`).
 //! Not here: sockets and clocks (`server`); the file of a server (`config`, `server_start`).
 //!
 //! ```text
 //! let hints = Vec::from_slice(alloc, &[Addr([198, 41, 0, 4])])?;
 //! let mut core = Core::new(alloc, Config { local: Vec::new(alloc), hints, settings })?;
 //! let actions = core.step(&Event::Client { moment: 0, client: 3, way: Via::Udp, bytes })?;
-//! match actions.first {
-//!     Some(Action::Reply { client, bytes, .. }) => { /* to the client */ }
-//!     Some(Action::Send { socket, to, bytes }) => { /* to a server */ }
+//! match &actions.first {
+//!     Some(Action::Reply { .. }) => { /* bytes to a client */ }
+//!     Some(Action::Send { .. }) => { /* bytes to a server */ }
 //!     _ => {}
 //! }
 //! ```

@@ -28,12 +28,12 @@ use std::marker::Model;
 use wire::Writer;
 use zone::Zone;
 
-/// A resolver: the zones and hints that it holds, what it learnt, and the open queries.
+/// A resolver: its local zones and hints, the stores, and the open queries.
 pub struct Core<A: Allocator = Global> {
     state: ResolverState<A>,
 }
 
-// By hand, so that whatever drops a resolver calls this, and does not spell out all that it holds.
+// By hand, so that each drop of a resolver calls this, and does not write out all that it holds.
 impl<A: Allocator> Drop for Core<A> {
     fn drop(self) {
         let Core { state } = self;
@@ -52,7 +52,7 @@ impl<A: Allocator> Model for Core<A> {
     ghost invariant = { λ c. IsSound (state_of c.state) };
 }
 
-// Stores in which nothing stands yet, hashed behind the seed.
+// Empty stores, hashed behind the seed.
 fn stores<A: Heap>(
     alloc: A,
     room: Capacities,
@@ -70,7 +70,7 @@ fn stores<A: Heap>(
     Ok(Stores::new(alloc, room, hashers)?)
 }
 
-// Stores in which nothing stands yet, and what messages are written with.
+// Empty stores, and the writer of messages.
 fn tools<A: Heap>(
     alloc: A,
     room: Capacities,
@@ -83,7 +83,7 @@ fn tools<A: Heap>(
     Ok((stores, writer))
 }
 
-// The zones at hand, and the root with its hints.
+// The local zones, and the root's cut with its hints.
 fn home<A: Heap>(
     alloc: A,
     local: Vec<Zone<A>, A>,
@@ -96,8 +96,8 @@ fn home<A: Heap>(
 }
 
 impl<A: Heap> Core<A> {
-    /// A resolver that has done nothing yet. The first that holds is refused: a setting out of its limits (1),
-    /// two zones of one origin (2), out of memory (3).
+    /// A resolver that has done nothing yet. Refused for the first of these that holds: a setting out of its limits
+    /// (1), two zones of one origin (2), out of memory (3).
     pub fn new(alloc: A, config: Config<A>) -> Result<Core<A>, CoreError>
         ensures { MatchResult result (IsMade config.local.items config.hints.items config.settings) (λ e. CoreRefuses e config.settings config.local.items) }
     {
@@ -124,8 +124,8 @@ impl<A: Heap> Core<A> {
         })
     }
 
-    /// One step: an event comes, and at most one query is served. When out of memory nothing goes out, and the
-    /// query that the event was for is gone. With it every run keeps what the laws of runs promise.
+    /// One step: an event comes, and at most one query is served. Out of memory, nothing goes out, and the query that
+    /// the event was for is dropped. Every run that this step continues keeps what the laws of runs promise.
     pub fn step(&mut self, event: &Event<A>) -> Result<Actions<A>, Starved>
         ensures ok { IfOk result (λ a. Steps self.old (event_view event.now) (Some a) self.new) }
         ensures err { OnErr result (Steps self.old (event_view event.now) None self.new) }

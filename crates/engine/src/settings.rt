@@ -1,4 +1,4 @@
-//! What a resolver is made of, and the limits of what an operator may set.
+//! Zones, hints and settings of a resolver, and the limits of the settings.
 ghost use Rattle.std.specs.Prelude.{◌≡◌, Some, MatchOption};
 ghost use Rattle.std.specs.NonZero.{non_zero_usize_get};
 ghost use Rattle.engine.specs.Beginnings.{IsRoom, IsAllowed, core_fault_number, core_fault_text};
@@ -13,27 +13,27 @@ use std::fmt;
 use std::num::NonZeroUsize;
 use zone::Zone;
 
-/// What an operator may set.
+/// The settings of an operator.
 #[derive(Clone, Copy)]
 pub struct Settings {
-    /// How many links are kept: 1 to 1,000,000.
+    /// The capacity of the cache: 1 to 1,000,000 links.
     pub cache: usize,
-    /// How many delegations are kept: 1 to 1,000,000.
+    /// The capacity of the delegations: 1 to 1,000,000.
     pub delegations: usize,
-    /// Of how many servers that did not answer it is kept: 1 to 1,000,000.
+    /// The capacity of the penalties: 1 to 1,000,000 servers that did not answer.
     pub penalties: usize,
-    /// Of how many questions that a server failed to answer it is kept: 1 to 1,000,000.
+    /// The capacity of the failures: 1 to 1,000,000 questions that a server failed to answer.
     pub failures: usize,
-    /// How many sockets servers are asked from: 1 to 16.
+    /// The number of sockets that servers are asked from: 1 to 16.
     pub sockets: u16,
     /// The port at which servers are asked.
     pub port: u16,
-    /// What IDs and sockets are drawn from.
+    /// The seed of the generator that gives IDs and sockets.
     pub seed: [u8; 32],
 }
 
 impl Settings {
-    /// The room of the stores, where every setting is within its limits.
+    /// The capacities of the stores, where every setting is within its limits.
     pub fn room(&self) -> Option<Capacities>
         ensures { MatchOption result (IsAllowed self.now → ⊥) (λ c. IsAllowed self.now × (non_zero_usize_get c.links ≡ self.now.cache) × (non_zero_usize_get c.cuts ≡ self.now.delegations) × (non_zero_usize_get c.servers ≡ self.now.penalties) × (non_zero_usize_get c.failures ≡ self.now.failures)) }
     {
@@ -49,7 +49,7 @@ impl Settings {
     }
 }
 
-// Room for this many entries, where that is allowed.
+// This capacity, if it is allowed.
 fn entries(count: usize) -> Option<NonZeroUsize>
     ensures { MatchOption result (IsRoom count → ⊥) (λ n. IsRoom count × (non_zero_usize_get n ≡ count)) }
 {
@@ -59,23 +59,23 @@ fn entries(count: usize) -> Option<NonZeroUsize>
     NonZeroUsize::new(count)
 }
 
-/// The zones at hand, addresses of servers of the root, and what an operator set.
+/// The local zones, addresses of servers of the root, and the settings.
 #[derive(Drop)]
 pub struct Config<A: Allocator = Global> {
-    /// The zones that the resolver holds itself.
+    /// The local zones.
     pub local: Vec<Zone<A>, A>,
     /// Addresses of servers of the root (RFC 1034, section 5.3.2, SBELT).
     pub hints: Vec<Addr, A>,
-    /// What an operator set.
+    /// The settings.
     pub settings: Settings,
 }
 
-/// Why there is no such resolver.
+/// Why a resolver is refused.
 #[derive(Clone, Copy, Debug, PartialEq, Eq)]
 pub enum CoreError {
     /// A setting is out of its limits.
     Setting,
-    /// Two zones at hand have one origin.
+    /// Two local zones have one origin.
     Twins,
     /// A growth was refused.
     Memory,

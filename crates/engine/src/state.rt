@@ -1,4 +1,4 @@
-//! What the resolver works with: zones and hints, what it learnt, open queries, and its source of identifiers.
+//! The state of the resolver: zones and hints, the stores, open queries, and its source of identifiers.
 use crate::hashing::StoreHasher;
 use lookup::{Home, Stores};
 use open_queries::Queries;
@@ -6,13 +6,13 @@ use rand_chacha::ChaCha20Rng;
 use std::alloc::{Allocator, Global};
 use wire::Writer;
 
-// The state between two steps: what stays, the clock in milliseconds, what was learnt, the open queries, and
-// the numbers of the next query and of the next ask over TCP.
+// The state between two steps: the parts that no step changes, the clock in milliseconds, the stores, the open queries,
+// and the numbers of the next query and of the next ask over TCP.
 #[derive(Drop)]
 pub struct ResolverState<A: Allocator = Global> {
-    // Where all memory of a step comes from.
+    // The allocator of all memory of a step.
     pub alloc: A,
-    // The zones at hand and the hints; no step changes them.
+    // The local zones and the hints; no step changes them.
     pub home: Home<A>,
     // The port at which servers are asked, that of the settings.
     pub port: u16,
@@ -30,6 +30,6 @@ pub struct ResolverState<A: Allocator = Global> {
     pub tcp_asks: u64,
     // Gives a word for the socket and the ID of each ask (RFC 5452, section 4).
     pub generator: ChaCha20Rng,
-    // What replies are written with.
+    // The writer of all replies.
     pub writer: Writer<A>,
 }

@@ -36,7 +36,7 @@ impl<A: Heap> ResolverState<A> {
         self.queries.find_tcp(ask)
     }
 
-    // The open ask of the query of that number failed.
+    // Treats the open ask of the query of that number as failed.
     fn fail_ask(&mut self, number: u64) -> Result<Action<A>, Starved>
         requires sound { IsSound (state_of self.old) }
         requires there { (q : Open) × IsTheOne self.old.queries number q }
@@ -47,7 +47,7 @@ impl<A: Heap> ResolverState<A> {
         self.go_on(number, Input::TcpFailed(server))
     }
 
-    // A reply over TCP: the query of its ask is served by it, or by the failure of that ask where it is not
+    // Treats a reply over TCP: the query of its ask is served by it, or by the failure of that ask where it is not
     // accepted.
     pub fn tcp_reply(&mut self, ask: u64, event: &Event<A>) -> Result<Option<Action<A>>, Starved>
         requires sound { IsSound (state_of self.old) }
@@ -65,7 +65,7 @@ impl<A: Heap> ResolverState<A> {
         }
     }
 
-    // The ask over TCP of this number failed.
+    // Treats the failure of the ask over TCP of this number.
     pub fn tcp_failed(&mut self, ask: u64, event: &Event<A>) -> Result<Option<Action<A>>, Starved>
         requires sound { IsSound (state_of self.old) }
         requires is { (now : ℕ) × (event_view event.now ≡ TcpFailed now ask) }

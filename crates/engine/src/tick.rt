@@ -39,7 +39,7 @@ impl<A: Heap> ResolverState<A> {
         }
     }
 
-    // The time of the open query of that number is up.
+    // Ends the open query of that number, whose time is up.
     fn end(&mut self, number: u64) -> Result<Action<A>, Starved>
         requires { (q : Open) × IsTheOne self.old.queries number q }
         ensures ok { IfOk result (λ a. Expires (state_of self.old) number (alone a) (state_of self.new)) }
@@ -55,7 +55,7 @@ impl<A: Heap> ResolverState<A> {
         }
     }
 
-    // The query of that number, which is due, is served.
+    // Serves the query of that number, which is due.
     fn ring(&mut self, number: u64) -> Result<Action<A>, Starved>
         requires sound { IsSound (state_of self.old) }
         requires there { (q : Open) × IsTheOne self.old.queries number q }
@@ -70,7 +70,7 @@ impl<A: Heap> ResolverState<A> {
         }
     }
 
-    // Time has passed: the query that is due first is served, and it is told whether another one is due.
+    // Serves the query that is due first, and says whether another one is due.
     pub fn tick(&mut self) -> Result<Actions<A>, Starved>
         requires sound { IsSound (state_of self.old) }
         ensures ok { IfOk result (λ a. (now : ℕ) → Turns (state_of self.old) (Tick now) (Some a) (state_of self.new)) }

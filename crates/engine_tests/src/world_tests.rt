@@ -1,4 +1,4 @@
-//! The replies of the servers of examples/small.world: each change of one byte.
+//! The replies of the servers of examples/plays/small.world: each change of one byte.
 use crate::bytes::{Change, Places, told};
 use crate::fixtures::end;
 use crate::talks::{Talk, goes_on, renew, waiting};

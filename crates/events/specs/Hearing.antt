@@ -1,4 +1,4 @@
--- What may be the reply to an ask, before it is read.
+-- Which bytes may be the reply to an ask, before they are read.
 use Rattle.std.specs.Prelude.{◌≡◌, ℕ, ◌≤◌, true, List, length}
 use Rattle.wire.specs.Heads.{header_of}
 use Rattle.runs.specs.States.{endpoint, Event, Client, Datagram, TcpReply, TcpFailed, Tick, ByUdp, ByTcp, Ask}

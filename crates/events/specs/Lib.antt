@@ -1,7 +1,7 @@
 -- To be read: what the words of the contracts mean.
 pub mod Hearing
 pub mod Laws
--- Kept: what the code's own values keep.
+-- Kept: invariants of the code's values, and how contracts see them.
 pub mod Paths
 pub mod Plain
 pub mod Views

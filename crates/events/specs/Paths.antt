@@ -1,4 +1,4 @@
--- Where asks go, and how, as plain values.
+-- The destinations of asks, and their ways, as plain values.
 use Rattle.std.specs.Prelude.{ℕ, List}
 use Rattle.runs.specs.States.{Endpoint as EndpointSpec, Action, Send, TcpAsk, Path as PathSpec, ByUdp, ByTcp}
 use Rattle.events.specs.declared.path.Endpoint.{Endpoint}

@@ -1,4 +1,4 @@
--- Queries and outcomes, whatever their memory comes from.
+-- Queries and outcomes without their allocators.
 use Rattle.front.specs.declared.queries.Query.{Query}
 use Rattle.front.specs.declared.queries.Request.{Request}
 use Rattle.front.specs.declared.queries.Request.TheVariants as request

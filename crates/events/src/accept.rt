@@ -1,4 +1,4 @@
-//! What is accepted as the reply to an ask.
+//! Which message is accepted as the reply to an ask.
 ghost use Rattle.std.specs.Prelude.{◌≡◌, ℕ, ◌≤◌, ◌↔◌, List, [], ◌∷◌, IfOk, IsOk, IsTrue, MatchOption, length};
 ghost use Rattle.message_grammar.specs.Messages as layouts;
 ghost use Rattle.message_grammar.specs.Messages.{IsMessage};
@@ -16,10 +16,10 @@ use rdata::INTERNET;
 use std::alloc::Allocator;
 use wire::{View, WireError};
 
-/// The reply to an ask that an event brings, and none where it brings none: a message of operation 0 with QR
-/// set, the ask's ID and its one question in class IN, over UDP at the ask's socket from `port` of the server
-/// that was asked, over TCP under the ask's number (RFC 1035, section 7.3). Only bytes that come so and have
-/// such a header are looked into: others take no memory.
+/// The reply to an ask that an event brings, and none where it brings none. It is a message of operation 0 with QR set,
+/// the ask's ID and its one question in class IN. It came over UDP at the ask's socket from `port` of the server that
+/// was asked, or over TCP under the ask's number (RFC 1035, section 7.3). Only bytes that come so and have such a
+/// header are read further: others take no memory.
 pub fn accepted_reply<'a, A: Heap>(
     alloc: A,
     port: u16,

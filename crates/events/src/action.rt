@@ -1,4 +1,4 @@
-//! What the resolver says.
+//! The actions of the resolver.
 ghost use Rattle.std.specs.Prelude.{◌≡◌, ◌↔◌, IfOk, IsTrue};
 ghost use Rattle.events.specs.declared.action.Action.TheVariants.{Reply};
 
@@ -10,7 +10,7 @@ use front::Via;
 use std::alloc::{Allocator, Global};
 use std::marker::Model;
 
-/// What goes out.
+/// An action: a reply or an ask that goes out.
 #[derive(Drop)]
 pub enum Action<A: Allocator = Global> {
     /// A reply to a client by its way, with the cause of a SERVFAIL.
@@ -96,7 +96,7 @@ impl<A: Allocator> Action<A> {
 }
 
 impl<A: Heap> Action<A> {
-    /// The same action once more.
+    /// The same action, copied.
     pub fn copied(&self) -> Result<Action<A>, Starved>
         ensures { IfOk result (λ a. a ≡ self.now) }
     {
@@ -126,12 +126,12 @@ impl<A: Heap> Action<A> {
     }
 }
 
-/// All that comes out of a step: one action at most, and whether another query is due.
+/// The result of a step: one action at most, and whether another query is due.
 #[derive(Drop)]
 pub struct Actions<A: Allocator = Global> {
     /// The reply or the ask, if the step gives one.
     pub first: Option<Action<A>>,
-    /// After a tick: another query is due too, so that a further tick is wanted at once.
+    /// After a tick: another query is due too, so that a further tick has to follow at once.
     pub more_due: bool,
 }
 
@@ -146,7 +146,7 @@ impl<A: Allocator> Model for Actions<A> {
 }
 
 impl<A: Allocator> Actions<A> {
-    /// Whether the same comes out.
+    /// Whether both results are equal.
     pub fn same(&self, other: &Actions<A>) -> bool
         ensures { IsTrue result ↔ (self.now ≡ other.now) }
     {
@@ -155,7 +155,7 @@ impl<A: Allocator> Actions<A> {
 }
 
 impl<A: Heap> Actions<A> {
-    /// The same once more.
+    /// The same result, copied.
     pub fn copied(&self) -> Result<Actions<A>, Starved>
         ensures { IfOk result (λ a. a ≡ self.now) }
     {

@@ -50,7 +50,7 @@ impl<A: Allocator> Bytes<A> {
 }
 
 impl<A: Heap> Bytes<A> {
-    /// The same bytes once more.
+    /// The same bytes, copied.
     pub fn copied(&self) -> Result<Bytes<A>, Starved>
         ensures { IfOk result (λ b. b ≡ self.now) }
     {

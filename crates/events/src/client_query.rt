@@ -1,4 +1,4 @@
-//! Who asks what.
+//! A query with its client.
 use front::{Query, Via};
 use std::alloc::{Allocator, Global};
 use std::marker::Model;
@@ -10,7 +10,7 @@ pub struct ClientQuery<A: Allocator = Global> {
     pub client: u64,
     /// UDP or TCP; over UDP a reply of more than 512 bytes is truncated.
     pub way: Via,
-    /// What it asks, and what the reply repeats of it: ID, RD, and the question in its own letters.
+    /// The query, with the fields that the reply repeats: ID, RD, and the question in its own letters.
     pub query: Query<A>,
 }
 

@@ -1,4 +1,4 @@
-//! What the resolver is told.
+//! The events of the resolver.
 ghost use Rattle.std.specs.Prelude.{◌≡◌, ◌≤◌, ◌↔◌, IfOk, IsTrue};
 ghost use Rattle.runs.specs.States.{latest, moment};
 ghost use Rattle.events.specs.Views.{event_view};
@@ -11,7 +11,7 @@ use front::Via;
 use limits::LATEST_MOMENT;
 use std::alloc::{Allocator, Global};
 
-/// What comes, and the moment at which it came, in milliseconds.
+/// An event, with the moment at which it came, in milliseconds.
 #[derive(Drop)]
 pub enum Event<A: Allocator = Global> {
     /// Bytes from a client.
@@ -22,7 +22,7 @@ pub enum Event<A: Allocator = Global> {
         client: u64,
         /// The way by which it came, and by which the reply goes.
         way: Via,
-        /// What may be a query, with no length before it.
+        /// Bytes that may be a query, without a length before them.
         bytes: Bytes<A>,
     },
     /// A datagram at a socket.
@@ -33,7 +33,7 @@ pub enum Event<A: Allocator = Global> {
         socket: u16,
         /// The address and the port that it was sent from, which may be forged.
         from: Endpoint,
-        /// What may be a server's reply.
+        /// Bytes that may be a server's reply.
         bytes: Bytes<A>,
     },
     /// The reply to the ask over TCP of this number.
@@ -52,9 +52,9 @@ pub enum Event<A: Allocator = Global> {
         /// The number of the ask, as `Action::TcpAsk` gave it.
         number: u64,
     },
-    /// Time passes.
+    /// The clock's moment.
     Tick {
-        /// The time that it is, in milliseconds.
+        /// The moment, in milliseconds.
         moment: u64,
     },
 }
@@ -151,7 +151,7 @@ impl<A: Allocator> Event<A> {
 }
 
 impl<A: Heap> Event<A> {
-    /// The same event once more, on its own bytes' memory.
+    /// The same event, copied; its bytes are on the memory of the old ones.
     pub fn copied(&self) -> Result<Event<A>, Starved>
         ensures { IfOk result (λ e. e ≡ self.now) }
     {

@@ -1,14 +1,14 @@
-//! What the resolver is told and what it says, as plain values, and the bytes of both; and the one place that says
-//! which reply is accepted (RFC 1035, section 7.3; RFC 5452, section 9.1).
+//! Events and actions of the resolver as plain values, and the bytes of both; and the one place that decides which
+//! reply is accepted (RFC 1035, section 7.3; RFC 5452, section 9.1).
 //!
-//! `Event` comes and `Actions` go out. `read_asked` says what a client's bytes ask, `reply_to` and `refuse` write
-//! what the client gets; `send` writes an ask of a server, one question with RD clear. `accepted_reply` gives the message
-//! that an event brings for an ask, if it does: by the ask's path, from the server's address and port, with QR, the
-//! ask's ID and its question.
+//! An `Event` comes in and `Actions` go out. `read_asked` reads a client's bytes, `reply_to` and `refuse` write the
+//! reply to the client; `send` writes an ask of a server, one question with RD clear. `accepted_reply` gives the
+//! message that an event brings for an ask, if it does: by the ask's path, from the server's address and port, with QR,
+//! the ask's ID and its question.
 //!
-//! Promised: what is accepted is what the definition says, and nothing else (`Brings`); what goes out is that ask
-//! (`IsSent`), that reply (`IsReply`), within its way's limit. What can't be a reply is not looked into, and takes no
-//! memory (clause `quiet`).
+//! Promised: a message is accepted exactly where the definition says so (`Brings`); the bytes that go out are those of
+//! the ask (`IsSent`) or the reply (`IsReply`), within its way's limit. Bytes that can't be a reply are not read
+//! further, and take no memory (clause `quiet`).
 //! Not here: which ask is open (`asks`, `open_queries`); what an accepted message is used for (`classify`).
 //!
 //! ```text

@@ -1,4 +1,4 @@
-//! Where asks go, and how.
+//! The destinations of asks, and their ways.
 ghost use Rattle.std.specs.Prelude.{◌≡◌};
 ghost use Rattle.runs.specs.States.{via_of};
 ghost use Rattle.events.specs.Paths.{path_view};
@@ -15,7 +15,7 @@ pub struct Endpoint {
     pub port: u16,
 }
 
-/// How an ask goes.
+/// The way of an ask.
 #[derive(Clone, Copy, Debug, PartialEq, Eq)]
 pub enum Path {
     /// In a datagram, from the socket of this number.
@@ -25,7 +25,7 @@ pub enum Path {
 }
 
 impl Path {
-    /// How its messages travel.
+    /// UDP or TCP, of this path.
     pub fn via(self) -> Via
         ensures { result ≡ via_of (path_view self) }
     {

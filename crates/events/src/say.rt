@@ -1,4 +1,4 @@
-//! Asks and replies, as they go out.
+//! Writing asks and replies.
 ghost use Rattle.std.specs.Prelude.{◌≡◌, ◌≤◌, IfOk, length, option_copied};
 ghost use Rattle.runs.specs.Messages.{AreWritten, asking_header, asking_message, IsSent, IsReply, IsRefusal};
 ghost use Rattle.dname.specs.Labels.{wire};
@@ -106,8 +106,8 @@ pub fn reply_to<A: Heap>(
     })
 }
 
-/// The refusal of bytes that are no query to be answered, to the client who sent them, by its way; with the
-/// question, where there is one to repeat.
+/// The refusal of bytes that are no query to be answered, to the client who sent them, by its way; with its question,
+/// if there is one.
 pub fn refuse<A: Heap>(
     writer: &mut Writer<A>,
     client: u64,

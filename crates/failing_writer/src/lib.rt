@@ -10,9 +10,9 @@
 //!
 //! ```text
 //! let mut page = Page::new(rt.alloc(), 4);
-//! assert!(page.write_all(b"ok\n").is_ok());      // in one piece: three bytes
-//! assert!(page.write_all(b"no\n").is_err());     // takes one byte more
-//! assert!(page.holds("ok\nn"));
+//! assert!(rt; page.write_all(b"ok\n").is_ok());      // in one piece: three bytes
+//! assert!(rt; page.write_all(b"no\n").is_err());     // takes one byte more
+//! assert!(rt; page.holds("ok\nn"));
 //! ```
 #![tactic(auto)]
 

@@ -1,6 +1,6 @@
--- The servers of a zone that a query asks for one name: where they come from, in which order they are asked,
--- and which of their names are looked up when all known addresses were asked (RFC 1034, section 5.3.3, steps
--- 2 and 3; RFC 1035, section 7.2).
+-- The servers of a zone that a query asks for one name (RFC 1034, section 5.3.3, steps 2 and 3; RFC 1035, section 7.2).
+-- Here stands where they come from, in which order they are asked, and which of their names are looked up when all
+-- known addresses were asked.
 use Rattle.std.specs.Prelude.{◌≡◌, ℕ, ◌+◌, ◌≤◌, ◌⊎◌, Contains, Bool, ◌&&◌, ◌||◌, false, not, cond, min, nat_le, Option, Some, None, List, [], ◌∷◌, ◌++◌, map, filter, take, drop, length, slice_get}
 use Rattle.std.specs.List.{list_any}
 use Rattle.std.specs.Map.{lookup}
@@ -13,7 +13,7 @@ use Rattle.retry.specs.Penalties.{same_addr}
 use Rattle.retry.specs.Plans.{Plan, planned}
 use Rattle.referral.specs.Cuts.{Cut, ServerAddress}
 
--- The most names, and the most addresses, that are taken of a cut; the deepest look-up of a server's name.
+-- The most names, and the most addresses, that are used of a cut; the deepest look-up of a server's name.
 abbrev pub most_taken : ℕ
 most_taken = max_servers
 
@@ -39,8 +39,8 @@ abbrev pub each_once : List Addr → List Addr
 each_once [] = []
 each_once (a ∷ xs) = a ∷ filter (λ (b : Addr). not (same_addr a b)) (each_once xs)
 
--- What is taken of a cut: the first addresses, the first names; of these the ones of which no address is
--- taken are looked up later.
+-- The part of a cut that is used: the first addresses and the first names. Those of the names that none of these
+-- addresses belongs to are looked up later.
 abbrev pub taken_addresses : Cut → List Addr
 taken_addresses c = take most_taken (each_once (map (λ (s : ServerAddress). s.address) c.addresses))
 
@@ -50,7 +50,7 @@ is_known c n = list_any (λ (s : ServerAddress). same_name s.name n && has_addre
 abbrev pub unknown_names : Cut → List Name
 unknown_names c = filter (λ (n : Name). not (is_known c n)) (take most_taken c.names)
 
--- A frame at a cut, by the penalties of addresses.
+-- The frame of a cut, by the penalties of addresses.
 abbrev pub opened : (Addr → ℕ) → ℕ → Cut → Frame
 opened level nesting c = record {
   nesting = nesting;
@@ -69,7 +69,7 @@ Failed = List (Name × ℕ)
 abbrev pub least_failed : Failed → Name → Option ℕ
 least_failed fs n = lookup (is_at (name_cmp n)) fs
 
--- The look-up of a name failed at this nesting too.
+-- The failed names with one more look-up that failed, at this nesting.
 abbrev pub least_of : ℕ → Option ℕ → ℕ
 least_of nesting None = nesting
 least_of nesting (Some least) = min nesting least
@@ -77,7 +77,7 @@ least_of nesting (Some least) = min nesting least
 abbrev pub marked : Failed → Name → ℕ → Failed
 marked fs n nesting = insert_entry name_cmp fs n (least_of nesting (least_failed fs n))
 
--- Whether it failed at this nesting or a lesser one.
+-- Whether the least nesting is this one or a lesser one.
 abbrev pub is_within : ℕ → Option ℕ → Bool
 is_within nesting None = false
 is_within nesting (Some least) = nat_le least nesting
@@ -85,12 +85,12 @@ is_within nesting (Some least) = nat_le least nesting
 abbrev pub has_failed : Failed → Name → ℕ → Bool
 has_failed fs n nesting = is_within nesting (least_failed fs n)
 
--- A name is not looked up: beneath the zone whose servers are sought, too deep, or where it failed at the
--- nesting that its look-up would have, or at a lesser one.
+-- A name is not looked up: it is beneath the zone whose servers are sought, too deep, or failed at the nesting that its
+-- look-up would have, or at a lesser one.
 abbrev pub is_skipped : Failed → Frame → Name → Bool
 is_skipped fs f n = is_under n f.zone || nat_le deepest f.nesting || has_failed fs n (f.nesting + 1)
 
--- The same in words: why a name is passed over (RFC 1034, section 5.3.3, step 2).
+-- Why a name is passed over, in words (RFC 1034, section 5.3.3, step 2).
 abbrev pub HasFailed : Failed → Name → ℕ → Type 0
 HasFailed fs n nesting = (least : ℕ) × Contains fs (n, least) × (least ≤ nesting)
 
@@ -105,14 +105,14 @@ place_from skips at (n ∷ ns) = cond (skips n) (place_from skips (at + 1) ns) a
 abbrev pub next_place : Failed → Frame → ℕ
 next_place fs f = place_from (is_skipped fs f) f.tried (drop f.tried f.names)
 
--- The name whose turn it is; each has its turn once.
+-- The name that is next; each has its turn once.
 abbrev pub next_name : Failed → Frame → Option Name
 next_name fs f = slice_get f.names (next_place fs f)
 
 abbrev pub after_name : Failed → Frame → Frame
 after_name fs f = record f { tried = min (next_place fs f + 1) (length f.names) }
 
--- Addresses that were found for a name: those not known yet make a new plan.
+-- The frame with addresses that were found for a name: those not known yet make a new plan.
 abbrev pub fresh_addresses : Frame → List Addr → List Addr
 fresh_addresses f found = filter (λ (a : Addr). not (has_address f.addresses a)) (each_once found)
 

@@ -2,5 +2,5 @@
 pub mod Frames
 pub mod Trimmed
 pub mod Members
--- Kept: what the code's own values keep.
+-- Kept: invariants of the code's values, and how contracts see them.
 pub mod Seen

@@ -1,4 +1,4 @@
--- Addresses that are found in a set by the order of their bytes.
+-- Addresses in a set that is ordered by their bytes.
 use Rattle.std.specs.Prelude.{◌≡◌, ℕ, List}
 use Rattle.std.specs.Ordering.{nat_cmp}
 use Rattle.std.specs.Cmp.Lexicographic.{slice_cmp}

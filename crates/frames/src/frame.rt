@@ -1,4 +1,4 @@
-//! A frame: whose turn it is, and what is found of the servers' addresses.
+//! A frame: the servers of a zone, which of them is next, and their addresses that were found.
 ghost use Rattle.std.specs.Prelude.{◌≡◌, ◌<◌, true, nat_lt, length, Contains, IfOk, IfSome, OnOk, OnErr};
 ghost use Rattle.retry.specs.Penalties.{penalty};
 ghost use Rattle.retry.specs.Plans.{IsByPenalty, upcoming, advanced, wait_of};
@@ -15,8 +15,8 @@ use std::alloc::{Allocator, Global};
 use std::hash::BuildHasher;
 use std::marker::Model;
 
-/// The servers of a zone as they are asked for one name. It keeps every address that it took, and the names
-/// of which it took none, and counts the names that had their turn.
+/// The servers of a zone as they are asked for one name. It stores every address that it uses, and the names of which
+/// it has none, and counts the names that had their turn.
 #[derive(Drop)]
 pub struct Frame<A: Allocator = Global> {
     nesting: u8,
@@ -40,9 +40,9 @@ impl<A: Allocator> Model for Frame<A> {
 }
 
 impl<A: Heap> Frame<A> {
-    /// A frame at this cut: up to 16 addresses, each once, in the order of their penalties, and up to 16
-    /// names, without those of which an address was taken. `nesting` is 0 for the name that a client asked
-    /// for, and one more for each look-up of a server's address.
+    /// The frame of this cut: up to 16 addresses, each once, in the order of their penalties, and up to 16 names,
+    /// without those that one of these addresses belongs to. `nesting` is 0 for the name in a client's question, and
+    /// one more for each look-up of a server's address.
     pub fn start<S: BuildHasher + Drop, B: Heap>(
         alloc: A,
         cut: &Cut<A>,
@@ -91,8 +91,8 @@ impl<A: Heap> Frame<A> {
         }
     }
 
-    /// Addresses that were found for a name. Those that are not known yet, each once, are put at the end
-    /// and make a new plan; true where there are such. Running out of memory changes nothing.
+    /// Adds addresses that were found for a name. Those that are not known yet, each once, are put at the end and make
+    /// a new plan; true where there are such. Running out of memory changes nothing.
     pub fn add<S: BuildHasher + Drop, B: Heap>(
         &mut self,
         found: &[Addr],
@@ -116,7 +116,7 @@ impl<A: Heap> Frame<A> {
 }
 
 impl<A: Allocator> Frame<A> {
-    /// How deep the look-up stands: 0 for the name that a client asked for.
+    /// How deep the look-up is nested: 0 for the name in a client's question.
     pub fn nesting(&self) -> u8
         ensures { result ≡ (self.now).nesting }
     {
@@ -151,7 +151,7 @@ impl<A: Allocator> Frame<A> {
         self.plan.upcoming()
     }
 
-    /// The address to ask next; none after the second round.
+    /// The address to ask next, after which another one is next; none after the second round.
     pub fn next_address(&mut self) -> Option<Addr>
         ensures value { result ≡ upcoming (self.old).plan }
         ensures frame { self.new ≡ record self.old { plan = advanced (self.old).plan } }
@@ -160,8 +160,8 @@ impl<A: Allocator> Frame<A> {
         self.plan.next()
     }
 
-    /// How long the address that was given last is waited for, in milliseconds: 1,000 in the first round,
-    /// 2,000 in the second.
+    /// How long a reply from the last address is waited for, in milliseconds: 1,000 in the first round, 2,000 in the
+    /// second.
     pub fn wait_ms(&self) -> u32
         ensures { result ≡ wait_of (self.now).plan }
     {

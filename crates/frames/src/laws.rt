@@ -12,10 +12,10 @@ ghost use Rattle.frames.specs.Frames.{Frame, Failed, opened, is_known, has_faile
 ghost use Rattle.frames.specs.Members.{AreAmong, times};
 ghost use Rattle.frames.specs.Trimmed.{trimmed};
 
-/// What a frame is opened with: addresses and names of the cut, at most 16 of each, no address twice, and
-/// no name of which an address is known. None is left out: each address of the cut is taken while there are
-/// fewer than 16, and of the first 16 names each is taken or known, by an address of its own that is taken.
-/// In the two rounds of its plan each address whose penalty is at most 8 stands twice.
+/// The addresses and names of a cut's frame: at most 16 of each, no address twice, and no name of which an address is
+/// known. None is left out. Each address of the cut is used while there are fewer than 16. Of the first 16 names each
+/// one is there, or is known by an address of its own that is used. In the two rounds of its plan each address whose
+/// penalty is at most 8 stands twice.
 pub fn opened_law()
     ensures addresses { (level : Addr → ℕ) (nesting : ℕ) (c : Cut) (a : Addr) → Contains (opened level nesting c).addresses a → (s : ServerAddress) × Contains c.addresses s × (s.address ≡ a) }
     ensures names { (level : Addr → ℕ) (nesting : ℕ) (c : Cut) (n : Name) → Contains (opened level nesting c).names n → Contains c.names n × (is_known c n ≡ false) }
@@ -28,9 +28,9 @@ pub fn opened_law()
     ensures known { (level : Addr → ℕ) (nesting : ℕ) (c : Cut) (n : Name) → is_known c n ≡ true → (s : ServerAddress) × Contains c.addresses s × (s.name ≡ n) × Contains (opened level nesting c).addresses s.address }
 {}
 
-/// A plan asks only the addresses that it was made of, and by penalties no address is left out. One whose
-/// penalty is at most 8 is in it, and in its two rounds twice as often as it was given; where all penalties
-/// are at most 8, the plan is the order by penalties.
+/// A plan has only the addresses that it was made of, and no address is left out for its penalty. One whose penalty is
+/// at most 8 stands in its two rounds twice as often as it was given. Where all penalties are at most 8, the plan is
+/// the order by penalties.
 pub fn order_law()
     ensures planned { (level : Addr → ℕ) (given : List Addr) → AreAmong (planned level given).order given }
     ensures members { (level : Addr → ℕ) (given order : List Addr) → IsByPenalty level given order → HasSame given order }
@@ -39,9 +39,9 @@ pub fn order_law()
     ensures whole { (level : Addr → ℕ) (given : List Addr) → ((a : Addr) → Contains given a → level a ≤ 8) → IsByPenalty level given (planned level given).order }
 {}
 
-/// A name that is looked up is one of the frame's, is not at or under the zone, did not fail at its nesting
-/// or a lesser one, and is no deeper than 3; its turn is over afterwards. A name before it that had no turn,
-/// and each that is left where none is looked up, is passed over for one of these reasons.
+/// A name that is looked up is one of the frame's, is not at or under the zone, did not fail at its nesting or a lesser
+/// one, and is no deeper than 3; its turn is over afterwards. A name before it that had no turn was passed over for one
+/// of these reasons. So was each name that is left, where none is looked up.
 pub fn next_name_law()
     ensures member { (fs : Failed) (f : Frame) (n : Name) → next_name fs f ≡ Some n → Contains f.names n }
     ensures outside { (fs : Failed) (f : Frame) (n : Name) → next_name fs f ≡ Some n → IsAtOrUnder n f.zone → ⊥ }
@@ -52,8 +52,8 @@ pub fn next_name_law()
     ensures turn { (fs : Failed) (f : Frame) (n : Name) → next_name fs f ≡ Some n → (f.tried ≤ next_place fs f) × ((after_name fs f).tried ≡ next_place fs f + 1) }
 {}
 
-/// After addresses were added each one was there or is one of those found, none is lost, all found are
-/// there, and where no address stood twice none does.
+/// After addresses were added, each one was there or is one of those found. None is lost, all found ones are there, and
+/// where no address stood twice none does.
 pub fn added_law()
     ensures only { (level : Addr → ℕ) (f : Frame) (found : List Addr) (a : Addr) → Contains (after_add level f (fresh_addresses f found)).addresses a → Contains f.addresses a ⊎ Contains found a }
     ensures kept { (level : Addr → ℕ) (f : Frame) (found : List Addr) → AreAmong f.addresses (after_add level f (fresh_addresses f found)).addresses }
@@ -61,8 +61,8 @@ pub fn added_law()
     ensures once { (level : Addr → ℕ) (f : Frame) (found : List Addr) → IsDistinct same_addr f.addresses → IsDistinct same_addr (after_add level f (fresh_addresses f found)).addresses }
 {}
 
-/// A cut that is trimmed opens the same frame, has 16 names and 32 addresses at most, and nothing that the
-/// cut does not have.
+/// A trimmed cut gives the same frame, and has 16 names and 32 addresses at most. It has nothing that the cut does not
+/// have.
 pub fn trimmed_law()
     ensures same { (level : Addr → ℕ) (nesting : ℕ) (c : Cut) → opened level nesting (trimmed c) ≡ opened level nesting c }
     ensures few_names { (c : Cut) → length (trimmed c).names ≤ 16 }

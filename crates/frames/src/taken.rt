@@ -1,4 +1,4 @@
-//! What is taken of a cut, and what of addresses that were found is new.
+//! Which names and addresses of a cut are used, and which found addresses are new.
 ghost use Rattle.std.specs.Prelude.{◌≡◌, ◌&&◌, not, filter, map, take, IfOk};
 ghost use Rattle.std.specs.List.{list_any};
 ghost use Rattle.dname.specs.Labels.{Name as NameSpec, same_name};
@@ -14,10 +14,10 @@ use referral::{Names, ServerAddress};
 use std::alloc::Allocator;
 use std::collections::BTreeSet;
 
-// So many found addresses are compared one by one; of more, each is sought by the order of addresses.
+// The number of found addresses that are compared one by one; of more, each is sought by the order of addresses.
 const SCANNED: usize = 16;
 
-// The addresses that were taken, by their bytes: whether one is a repeat is found in log n.
+// The addresses in use, by their bytes: a repeat is found in log n.
 type Seen<A> = BTreeSet<[u8; 4], A>;
 
 pub(crate) fn has_address(addresses: &[Addr], sought: Addr) -> bool
@@ -42,21 +42,21 @@ pub(crate) fn taken_addresses<A: Heap>(
     Ok(taken)
 }
 
-/// The first names, as many as are taken.
+/// The first names, as many as are used.
 pub(crate) fn first_names<A: Allocator>(names: &[Name<A>]) -> &[Name<A>]
     ensures { result.now ≡ take most_taken names.now }
 {
     &names[..names.len().min(MAX_SERVERS)]
 }
 
-// Whether an address of this server was taken.
+// Whether an address of this server is in use.
 fn is_known<A: Allocator>(servers: &[ServerAddress<A>], taken: &[Addr], name: &Name<A>) -> bool
     ensures { result ≡ list_any (λ (s : ServerAddressSpec). same_name s.name name.now && has_address taken.now s.address) servers.now }
 {
     servers.iter().any(|server| server.name == *name && has_address(taken, server.address))
 }
 
-/// The names without those of which an address was taken.
+/// The names without those that an address in use belongs to.
 pub(crate) fn unknown_names<A: Heap>(
     alloc: A,
     names: &[Name<A>],
@@ -74,8 +74,8 @@ pub(crate) fn unknown_names<A: Heap>(
     Ok(unknown)
 }
 
-/// Those found that are not known, each once. Of n addresses, known and found, it makes some n log n
-/// comparisons; where up to 16 are found it takes no memory but that of the fresh ones.
+/// The found addresses that are not known, each once. Of n addresses, known and found, it makes some n log n
+/// comparisons; where up to 16 are found it takes no memory but that of the result.
 pub(crate) fn fresh_addresses<A: Heap>(
     alloc: A,
     known: &[Addr],

@@ -1,4 +1,4 @@
-//! What a frame can use of a cut.
+//! The part of a cut that a frame can use.
 
 ghost use Rattle.std.specs.Prelude.{◌≡◌, ◌++◌, IfOk, OnOk};
 ghost use Rattle.std.specs.List.{flat_map};
@@ -18,7 +18,7 @@ fn entry_at<A: Allocator>(servers: &[ServerAddress<A>], sought: Addr) -> Option<
     servers.iter().find(|server| server.address == sought)
 }
 
-// The first server of this name whose address is taken.
+// The first server of this name whose address is in use.
 fn entry_of<'a, A: Allocator>(
     servers: &'a [ServerAddress<A>],
     taken: &[Addr],
@@ -38,7 +38,7 @@ fn put<A: Heap>(kept: &mut Addresses<A>, found: Option<&ServerAddress<A>>) -> Re
     Ok(())
 }
 
-// One server for each address that is taken, and then one for each name that is known by such an address.
+// One server for each address in use, and then one for each name that is known by such an address.
 fn entries<A: Heap>(
     alloc: A,
     servers: &[ServerAddress<A>],
@@ -67,9 +67,9 @@ fn copies<A: Heap>(alloc: A, names: &[Name<A>]) -> Result<Names<A>, Starved>
     Ok(kept)
 }
 
-/// What a frame can use of this cut: its first 16 names, the first server of each address that a frame
-/// takes, and the first server by which each of the names is known. It has 16 names and 32 addresses at
-/// most, and a frame opens at it as at the whole cut, so that it can be kept in its place.
+/// The part of this cut that a frame can use: its first 16 names, the first server of each address that a frame uses,
+/// and the first server by which each of the names is known. It has 16 names and 32 addresses at most, and gives the
+/// same frame as the whole cut, so that it can be cached in its place.
 pub fn trimmed<A: Heap>(alloc: A, cut: &Cut<A>) -> Result<Cut<A>, Starved>
     ensures { IfOk result (λ c. c ≡ trimmed cut.now) }
 {

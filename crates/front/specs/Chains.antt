@@ -1,5 +1,5 @@
--- Local answers: the chain of aliases that local zones lead through, and what stands at its end (RFC 1034,
--- sections 3.6.2 and 4.3.2). `look` is what the local zones say of a name, for the type that is asked for.
+-- Local answers: the chain of aliases through local zones, and its end (RFC 1034, sections 3.6.2 and 4.3.2). `look` is
+-- the result of the local zones for a name, and the type that is asked for.
 use Rattle.std.specs.Prelude.{◌≡◌, ℕ, ◌≤◌, ◌⊎◌, true, List, [], ◌∷◌, length}
 use Rattle.limits.specs.Limits.{max_aliases}
 use Rattle.rdata.specs.Data.{Datum, Cname}
@@ -26,8 +26,7 @@ abbrev pub AliasesLead : (List (List ℕ) → Local) → List (List ℕ) → Lis
 AliasesLead look from [] to = to ≡ from
 AliasesLead look from (r ∷ rs) to = (look from ≡ looked.Linked (said.Alias r)) × AliasesLead look (alias_target r) rs to
 
--- What ends a chain: anything but a further alias. At a cut, and where no local zone is over the name,
--- nothing is said here.
+-- The end of a chain: any link but an alias. At a cut, and where no local zone is over the name, nothing is known here.
 abbrev pub IsEndOf : {A : Type 0} → said.Link → End A → Type 0
 IsEndOf (said.Found set) end = end ≡ Found set
 IsEndOf (said.Alias r) end = ⊥
@@ -39,27 +38,27 @@ IsEndAt (looked.Linked link) end = IsEndOf link end
 IsEndAt (looked.Cut c ns glue) end = end ≡ Outside
 IsEndAt looked.NotHere end = end ≡ Outside
 
--- At most eight aliases, and what stands behind them.
+-- A chain: at most eight aliases, and the end behind them.
 pub record IsChain {A : Type 0} (look : List (List ℕ) → Local) (from : List (List ℕ)) (aliases : List Record) (end : End A) : Type 0 where
   pub to : List (List ℕ)
   pub leads : AliasesLead look from aliases to
   pub few : length aliases ≤ max_aliases
   pub ends : IsEndAt (look to) end
 
--- Nine aliases, one behind the other.
+-- A chain of nine aliases.
 pub record IsLong (look : List (List ℕ) → Local) (from : List (List ℕ)) : Type 0 where
   pub aliases : List Record
   pub to : List (List ℕ)
   pub leads : AliasesLead look from aliases to
   pub nine : length aliases ≡ 9
 
--- The answer for a name that has a link here.
+-- The answer for a name that has a local link.
 abbrev pub FollowsOn : {A : Type 0} → (List (List ℕ) → Local) → List (List ℕ) → Outcome A → Type 0
 FollowsOn {A} look name o =
     ((aliases : List Record) × (end : End A) × IsChain look name aliases end × (o ≡ Answer true aliases end))
     ⊎ (IsLong look name × (o ≡ Fail ChainTooLong))
 
--- The answer by what is said of the asked name itself.
+-- The answer, by the result for the name in the question.
 abbrev pub AnswersFrom : {A : Type 0} → (List (List ℕ) → Local) → List (List ℕ) → Local → Outcome A → Type 0
 AnswersFrom look name looked.NotHere o = o ≡ Refused
 AnswersFrom look name (looked.Cut c ns glue) o = o ≡ Referral ns glue

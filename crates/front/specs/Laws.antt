@@ -10,11 +10,11 @@ use Rattle.front.specs.declared.queries.Request.{Request}
 use Rattle.front.specs.declared.queries.Request.TheVariants as request
 use Rattle.front.specs.declared.queries.Outcome.{Outcome}
 
--- Bytes ask one thing at most.
+-- The bytes of a client have one meaning at most.
 abbrev pub OneReading : Type 0 → Type 0
 OneReading A = (bytes : List ℕ) (a b : Request A) → IsRequest bytes a → IsRequest bytes b → a ≡ b
 
--- What local zones say gives one answer at most.
+-- Local zones have one answer at most.
 abbrev pub OneLocalAnswer : Type 0 → Type 0
 OneLocalAnswer A = (look : List (List ℕ) → Local) (name : List (List ℕ)) (a b : Outcome A) → AnswersLocally look name a → AnswersLocally look name b → a ≡ b
 
@@ -29,6 +29,6 @@ pub record IsEchoed {A : Type 0} (bytes : List ℕ) (q : Query A) : Type 0 where
   pub only : message.questions ≡ question_of q ∷ []
   pub echo : folded_question q.echo ≡ question_of q
 
--- What a query repeats is the question that its bytes ask.
+-- A reply repeats the question of the query's bytes.
 abbrev pub EchoIsQuestion : Type 0 → Type 0
 EchoIsQuestion A = (bytes : List ℕ) (q : Query A) → IsRequest bytes (request.Query q) → IsEchoed bytes q

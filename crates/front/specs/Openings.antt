@@ -1,4 +1,4 @@
--- What a reply repeats of a query's header (RFC 1035, section 4.1.1).
+-- The fields of a query's header that its reply repeats (RFC 1035, section 4.1.1).
 use Rattle.std.specs.Prelude.{ℕ, ◌+◌, ◌*◌, ◌/◌, ◌%◌, Bool, nat_eq, List, slice_index}
 
 -- The fields of a query's header that its reply repeats.
@@ -7,7 +7,7 @@ pub record Opening : Type 0 where
   pub opcode : ℕ
   pub rd : Bool
 
--- They stand in the first three bytes.
+-- These fields stand in the first three bytes.
 abbrev pub opening_of : List ℕ → Opening
 opening_of bytes = record {
   id = 256 * slice_index bytes 0 + slice_index bytes 1;

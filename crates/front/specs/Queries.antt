@@ -1,4 +1,4 @@
--- What the bytes from a client ask (RFC 1035, sections 4.1.1 and 7.3).
+-- The meaning of a client's bytes (RFC 1035, sections 4.1.1 and 7.3).
 use Rattle.std.specs.Prelude.{◌≡◌, ℕ, ◌<◌, ◌≤◌, ◌⊎◌, cond, nat_eq, Option, Some, None, List, [], ◌∷◌, length, slice_index}
 use Rattle.rdata.specs.declared.rtype.RType.{RType}
 use Rattle.message_grammar.specs.Messages.{Message, Question, served_type, IsMessage}
@@ -10,8 +10,7 @@ use Rattle.front.specs.declared.queries.Request.{Request}
 use Rattle.front.specs.declared.queries.Request.TheVariants.{Drop, Refuse}
 use Rattle.front.specs.declared.queries.Request.TheVariants as request
 
--- What bytes mean: no message, a message of no question or several, or a message of one question, in the
--- letters in which it was asked.
+-- Bytes are no message, a message of no question or several, or a message of one question, in its own letters.
 pub data Heard : Type 0 where
   nothing_heard : Heard
   other_heard : Message → Heard
@@ -26,7 +25,7 @@ IsHeard bytes (one_heard m q letters) = IsMessage bytes m × (m.questions ≡ q 
 abbrev pub answerable_type : Opening → Question → Option RType
 answerable_type s q = cond (nat_eq s.opcode 0) (served_type q.qtype q.qclass) None
 
--- The question in these letters.
+-- The question with its name in these letters.
 abbrev pub in_letters : Question → List (List ℕ) → Question
 in_letters q letters = record { name = letters; qtype = q.qtype; qclass = q.qclass }
 
@@ -45,7 +44,7 @@ by_heard s nothing_heard = Refuse FormErr s None
 by_heard s (other_heard m) = Refuse FormErr s None
 by_heard s (one_heard m q letters) = by_question s q letters
 
--- Twelve bytes or more that are no reply are answered by what they mean.
+-- Twelve bytes or more that are no reply are treated by their meaning.
 pub record IsRead {A : Type 0} (bytes : List ℕ) (asked : Request A) : Type 0 where
   pub whole : 12 ≤ length bytes
   pub query : slice_index bytes 2 < 128
@@ -53,7 +52,7 @@ pub record IsRead {A : Type 0} (bytes : List ℕ) (asked : Request A) : Type 0 w
   pub hears : IsHeard bytes heard
   pub is : asked ≡ by_heard (opening_of bytes) heard
 
--- Others are dropped.
+-- Other bytes are dropped.
 abbrev pub IsDropped : {A : Type 0} → List ℕ → Request A → Type 0
 IsDropped bytes asked = ((length bytes < 12) ⊎ (128 ≤ slice_index bytes 2)) × (asked ≡ Drop)
 

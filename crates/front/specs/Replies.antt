@@ -21,7 +21,7 @@ abbrev pub refusal_rcode : Refusal → ℕ
 refusal_rcode FormErr = 1
 refusal_rcode NotImp = 4
 
--- QR and RA are set; ID, Opcode and RD are the query's.
+-- The header of a reply: QR and RA are set; ID, Opcode and RD are the query's.
 abbrev pub reply_header : Opening → Bool → Bool → ℕ → Header
 reply_header s aa tc rcode = record {
   id = s.id;
@@ -58,7 +58,7 @@ denied_by (NoData soa) = soa
 denied_by (NxDomain soa) = soa
 denied_by _ = []
 
--- The whole reply: the aliases and then what was found in the answer, the SOA of a negative answer in authority; a
+-- The whole reply: the aliases and then the RRset in the answer, the SOA of a negative answer in authority; a
 -- referral's NS set in authority and its addresses in additional.
 abbrev pub whole_reply : {A : Type 0} → Query A → Outcome A → Message
 whole_reply q (Answer aa aliases end) = record {
@@ -92,7 +92,7 @@ abbrev pub failure_of : {A : Type 0} → Outcome A → Option Cause
 failure_of (Fail cause) = Some cause
 failure_of _ = None
 
--- The reply that goes out, and the cause of a SERVFAIL: one that is too long is truncated on UDP, and on TCP a
+-- The reply that goes out, and the cause of a SERVFAIL. A reply that is too long is truncated on UDP, and on TCP a
 -- SERVFAIL goes in its place.
 abbrev pub reply_of : {A : Type 0} → Via → Query A → Outcome A → Message × Option Cause
 reply_of Udp q o = if nat_lt (limit_of Udp) (length (encoding (whole_reply q o))) then (truncated_reply (whole_reply q o), failure_of o)
@@ -100,6 +100,6 @@ reply_of Udp q o = if nat_lt (limit_of Udp) (length (encoding (whole_reply q o))
 reply_of Tcp q o = if nat_lt (limit_of Tcp) (length (encoding (whole_reply q o))) then (bare q.start (q.echo ∷ []) false 2, Some ReplyTooLarge)
     else (whole_reply q o, failure_of o)
 
--- The reply to a query that is refused before it is looked at.
+-- The reply to a query that is refused without a look-up.
 abbrev pub refusal_reply : Refusal → Opening → Option Question → Message
 refusal_reply refusal s echo = bare s (asked_alone echo) false (refusal_rcode refusal)

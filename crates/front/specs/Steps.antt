@@ -1,4 +1,4 @@
--- What a look-up means for a chain of aliases.
+-- The next step of a chain of aliases, by a look-up.
 use Rattle.std.specs.Prelude.{◌≡◌}
 use Rattle.zone.specs.Links.{Alias}
 use Rattle.zone.specs.Look.{Local, Linked}

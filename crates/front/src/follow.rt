@@ -15,9 +15,8 @@ use limits::MAX_ALIASES;
 use rdata::{RData, RType, Record, Records};
 use std::alloc::{Allocator, Global};
 
-/// What local zones alone answer a query, one whose RD is clear: nothing where none is over the name, a
-/// referral at a zone cut, else the CNAME chain through local zones and what stands at its end. A ninth alias
-/// is a failure.
+/// The answer of the local zones alone to a query without RD: nothing where none is over the name, a referral at a zone
+/// cut, else the CNAME chain through local zones and its end. A ninth alias is a failure.
 pub fn answer_local<A: Heap>(
     alloc: A,
     query: &Query<A>,
@@ -32,7 +31,7 @@ pub fn answer_local<A: Heap>(
     }
 }
 
-// The chain that begins with the link of the asked name.
+// The chain that begins with the link of the name in the question.
 fn follow<A: Heap>(
     alloc: A,
     catalog: &Catalog<A>,
@@ -59,18 +58,18 @@ fn follow<A: Heap>(
     }
 }
 
-/// What a look-up means for a chain.
+/// The next step of a chain, by a look-up.
 #[derive(Drop)]
 pub enum Step<A: Allocator = Global> {
-    /// One alias more.
+    /// A further alias.
     Onward(Record<A>),
-    /// Its end.
+    /// The end of the chain.
     Ended(End<A>),
 }
 
 impl<A: Heap> Step<A> {
-    /// The step that this look-up is: a link other than an alias ends a chain, and so does a cut or a name of
-    /// which nothing is said.
+    /// The step by this result: a link other than an alias ends a chain, and so does a cut, or a name that no local
+    /// zone is over.
     pub fn of(alloc: A, found: Local<A>) -> Result<Step<A>, Starved>
         ensures { IfOk result (IsStep (local_view found)) }
     {
@@ -94,7 +93,7 @@ pub fn alias_target<A: Allocator>(alias: &Record<A>) -> &Name<A>
     }
 }
 
-// The records of one.
+// A list of this record alone.
 fn alone<A: Heap>(alloc: A, only: Record<A>) -> Result<Records<A>, Starved>
     ensures { IfOk result (λ records. records ≡ only ∷ []) }
 {

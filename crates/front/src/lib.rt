@@ -1,20 +1,20 @@
 //! The client side (RFC 1035, section 4.1): queries read from bytes, answers from local zones alone, replies
 //! written.
 //!
-//! `read_query` says what a client's bytes ask: nothing, a refusal (FORMERR or NOTIMP), or a `Query`.
-//! `answer_local` answers a query with RD clear from a catalog: the CNAME chain through local zones, at most eight
-//! long, and its end; a referral at a zone cut; or REFUSED. `reply_bytes` writes the reply of an `Outcome`,
-//! truncated over UDP where it is longer than 512 bytes; `refusal_bytes` that of a refusal.
+//! `read_query` reads a client's bytes: they are dropped, refused (FORMERR or NOTIMP), or a `Query`. `answer_local`
+//! answers a query with RD clear from a catalog: the CNAME chain through local zones, at most eight long, and its end;
+//! a referral at a zone cut; or REFUSED. `reply_bytes` writes the reply of an `Outcome`, truncated over UDP where it is
+//! longer than 512 bytes; `refusal_bytes` that of a refusal.
 //!
-//! Promised: what bytes ask (`IsRequest`, one thing at most: `reading_is_one`), what local zones answer
+//! Promised: the meaning of bytes (`IsRequest`, one at most: `reading_is_one`), the answer of local zones
 //! (`AnswersLocally`, `local_answer_is_one`), and the reply to the byte (`reply_of`), which repeats the client's
-//! question in its own letters (`echo_is_question`). A reply, or fewer than 12 bytes, takes no memory.
+//! question in its own letters (`echo_is_question`). Reading a reply, or fewer than 12 bytes, takes no memory.
 //! Not here: recursion (`iterate`, `engine`); sockets (`server`).
 //!
 //! ```text
 //! let mut writer = Writer::new(alloc)?;
 //! if let Request::Query(query) = read_query(alloc, bytes)? {
-//!     let outcome = answer_local(alloc, &query, &catalog)?;
+//!     let outcome = answer_local(alloc, &query, catalog)?;
 //!     let (reply, cause) = reply_bytes(&mut writer, &query, &outcome, Via::Udp)?;
 //! }
 //! ```

@@ -1,4 +1,4 @@
-//! What a client asks, and what it is to be answered.
+//! Requests of clients, and their answers.
 ghost use Rattle.std.specs.Prelude.{◌≡◌, ◌<◌};
 ghost use Rattle.std.specs.Option.{option_copied};
 ghost use Rattle.rdata.specs.Rows.{in_set};
@@ -11,12 +11,12 @@ use rdata::{RType, Record, RecordSet, Records};
 use std::alloc::{Allocator, Global};
 use wire::{Echo, rcode};
 
-/// Why a query is refused before it is looked at.
+/// Why a query is refused without a look-up.
 #[derive(Clone, Copy, Debug, PartialEq, Eq)]
 pub enum Refusal {
-    /// The bytes are no message of one question.
+    /// The bytes are no message of one question (FORMERR).
     FormErr,
-    /// Another operation than a query, another class than IN, or a type that is not served.
+    /// Another operation than a query, another class than IN, or a type that is not served (NOTIMP).
     NotImp,
 }
 
@@ -35,7 +35,7 @@ impl Refusal {
 /// A query that can be answered: of class IN and a served type.
 #[derive(Drop)]
 pub struct Query<A: Allocator = Global> {
-    /// What the reply repeats of the query's header.
+    /// The fields of the query's header that the reply repeats.
     pub start: Start,
     /// The name that is asked for, in lower case.
     pub name: Name<A>,
@@ -45,10 +45,10 @@ pub struct Query<A: Allocator = Global> {
     pub echo: Echo<A>,
 }
 
-/// What the bytes from a client ask.
+/// The meaning of a client's bytes.
 #[derive(Drop)]
 pub enum Request<A: Allocator = Global> {
-    /// Nothing: under 12 bytes, or a reply.
+    /// Dropped: under 12 bytes, or a reply.
     Drop,
     /// A refusal, with the question to repeat, if there is one.
     Refuse(Refusal, Start, Option<Echo<A>>),
@@ -56,7 +56,7 @@ pub enum Request<A: Allocator = Global> {
     Query(Query<A>),
 }
 
-/// Where a CNAME chain ends.
+/// The end of a CNAME chain.
 #[derive(Drop)]
 pub enum End<A: Allocator = Global> {
     /// The RRset that was asked for.
@@ -65,7 +65,7 @@ pub enum End<A: Allocator = Global> {
     NoData(Records<A>),
     /// NXDOMAIN: the name does not exist; with the zone's SOA alone.
     NxDomain(Records<A>),
-    /// Nothing is said here of the name at its end, as where that is delegated or no zone here is over it.
+    /// Nothing is known of the name at the chain's end: it is delegated, or no local zone is over it.
     Outside,
 }
 
@@ -102,15 +102,15 @@ impl<A: Allocator> End<A> {
     }
 }
 
-/// What a query is to be answered.
+/// The answer to a query.
 #[derive(Drop)]
 pub enum Outcome<A: Allocator = Global> {
-    /// Whether the asked name's own link is local, the CNAME chain in order, and its end.
+    /// Whether the link of the name in the question is local, the CNAME chain in order, and its end.
     Answer(bool, Records<A>, End<A>),
     /// The NS RRset of a zone cut, and its glue.
     Referral(Records<A>, Records<A>),
     /// REFUSED: no local zone is over the name.
     Refused,
-    /// SERVFAIL, and why.
+    /// SERVFAIL, and its cause.
     Fail(Cause),
 }

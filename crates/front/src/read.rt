@@ -1,4 +1,4 @@
-//! A client's bytes, read.
+//! Reading a client's bytes.
 ghost use Rattle.std.specs.Prelude.{◌≡◌, ◌≤◌, ◌<◌, IfOk, IsOk, length, slice_index};
 ghost use Rattle.front.specs.Openings.{opening_of};
 ghost use Rattle.front.specs.Queries.{IsRequest, by_question};
@@ -9,9 +9,9 @@ use dname::{Heap, Name, Starved};
 use rdata::{INTERNET, RType};
 use wire::{Echo, WireError, decode_question};
 
-/// What the bytes from a client ask, in this order: under 12 bytes or QR set, nothing; no message, or other
-/// than one question, a format error; another operation than a query, a class other than IN or a type that
-/// is not served, not implemented; else a query. Under 12 bytes and a reply take no memory.
+/// The meaning of a client's bytes, by the first of these that fits. Under 12 bytes, or with QR set, they are dropped.
+/// No message, or other than one question, is a format error. Another operation than a query, a class other than IN or
+/// a type that is not served is not implemented. All others are a query. Under 12 bytes and a reply take no memory.
 pub fn read_query<A: Heap>(alloc: A, bytes: &[u8]) -> Result<Request<A>, Starved>
     ensures asked { IfOk result (IsRequest bytes.now) }
     ensures dropped { length bytes.now < 12 → IsOk result }
@@ -37,7 +37,7 @@ fn start_at(bytes: &[u8]) -> Start
     Start::new(id, bytes[2] / 8 % 16, bytes[2] % 2 == 1)
 }
 
-// A message of one question: a query, or nothing that is served.
+// A message of one question: a query, or one that is not served.
 fn sort_question<A: Heap>(start: Start, name: Name<A>, echo: Echo<A>) -> Request<A>
     ensures { result ≡ by_question start (record { name = name; qtype = echo.qtype; qclass = echo.qclass }) echo.name }
 {

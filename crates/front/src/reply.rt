@@ -1,4 +1,4 @@
-//! Replies, written.
+//! Writing replies.
 ghost use Rattle.std.specs.Prelude.{◌≡◌, false, ◌≤◌, ◌<◌, [], IfOk, IfSome, length, option_copied};
 ghost use Rattle.dname.specs.Labels.{wire};
 ghost use Rattle.wire.specs.Drafts.{asked_alone};
@@ -51,8 +51,8 @@ pub fn reply_bytes<A: Heap>(
     }
 }
 
-/// The bytes of the reply to a query that is refused before it is looked at: header, and the question if it
-/// was read. They are read back as that reply, its question in lower case.
+/// The bytes of the reply to a query that is refused without a look-up: header, and the question if it was read. They
+/// are read back as that reply, its question in lower case.
 pub fn refusal_bytes<A: Heap>(
     writer: &mut Writer<A>,
     refusal: Refusal,

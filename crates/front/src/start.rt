@@ -1,4 +1,4 @@
-//! What a reply repeats of a query's header.
+//! The fields of a query's header that its reply repeats.
 ghost use Rattle.std.specs.Prelude.{◌≡◌, ◌<◌};
 
 use std::marker::Model;
@@ -25,7 +25,7 @@ impl Model for Start {
 }
 
 impl Start {
-    /// Of a query with this ID, operation and wish for recursion.
+    /// The fields of a query with this ID, operation and RD.
     pub fn new(id: u16, opcode: u8, rd: bool) -> Start
         requires { opcode < 16 }
         ensures { result ≡ record { id = id; opcode = opcode; rd = rd } }
@@ -48,7 +48,7 @@ impl Start {
         self.opcode
     }
 
-    /// Whether recursion is desired.
+    /// Whether recursion is desired (RD).
     pub fn wants_recursion(self) -> bool
         ensures { result ≡ self.rd }
     {

@@ -1,4 +1,4 @@
--- What comes of a query at once.
+-- The result of starting a query.
 use Rattle.std.specs.Prelude.{ℕ, []}
 use Rattle.resolution.specs.Jobs.{Home, Stores, Job, Start, Done}
 use Rattle.resolution.specs.Rules.{Advances}
@@ -6,8 +6,8 @@ use Rattle.iterate.specs.declared.beginning.Started.{Started}
 use Rattle.iterate.specs.declared.beginning.Started.TheVariants as started
 use Rattle.iterate.specs.Views.{next_view}
 
--- An answer, or a job at work and what goes out: each as the rules give it for the query itself. Of the job of a
--- query that is over nothing is said.
+-- The result is an answer, or a job at work and what goes out: each as the rules give it for the query itself. The job
+-- of a query that is over may have any state.
 abbrev pub StartsWith : {A : Type 0} → Home → ℕ → Job → Stores → Started A → Stores → Type 0
 StartsWith home now query old (started.Answered last) new = (over : Job) × Advances home now Start query old (Done [] last) over new
 StartsWith home now query old (started.Working job next) new = Advances home now Start query old (next_view next) job new

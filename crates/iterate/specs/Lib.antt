@@ -2,5 +2,5 @@
 pub mod Beginnings
 -- Computed: functions that the code is compared with.
 pub mod Moves
--- Kept: what the code's own values keep.
+-- Kept: invariants of the code's values, and how contracts see them.
 pub mod Views

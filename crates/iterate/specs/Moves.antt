@@ -1,4 +1,4 @@
--- One move of a job at work: a rule, or what goes out where none applies.
+-- One move of a job at work: a rule, or the result that goes out where no rule applies.
 use Rattle.std.specs.Prelude.{◌≡◌, ℕ, zero, suc, Bool, true, false, Some, List, [], ◌∷◌, ◌++◌}
 use Rattle.dname.specs.Labels.{Name}
 use Rattle.rdata.specs.Records.{Record}
@@ -19,11 +19,11 @@ abbrev pub IsMove : Home → ℕ → Point → Move → Job → Stores → Type 
 IsMove home now p (Onward task) job stores = Rule home now p (point task job stores)
 IsMove home now p (Out next) job stores = Leaves home now p next job stores
 
--- A job with one search more, and with that one alone.
+-- A job with one search more, and with one as its only search.
 abbrev pub with_search : Job → Search → Job
 with_search j s = record j { searches = s ∷ j.searches }
 
--- The same, where servers were passed over.
+-- A job with one search more, in which servers were passed over.
 abbrev pub skipping : Job → Search → Job
 skipping j s = record j { searches = s ∷ j.searches; skipped = true }
 
@@ -39,19 +39,19 @@ IsAdded stores set before after =
 abbrev pub followed : Job → Taken → Name → Job
 followed j l n = record j { chain = j.chain ++ l ∷ []; name = n }
 
--- A chain up to the first link of it that has run out, and that link.
+-- A chain up to its first link that has expired, and that link.
 pub record IsTakenFrom (now : ℕ) (old : List Taken) (d : Taken) (new : List Taken) : Type 0 where
   pub back : List Taken
   pub parts : old ≡ new ++ d ∷ back
   pub fresh : AreFresh now new
   pub dead : IsDead now d
 
--- The first link of the chain that has run out is sought again; true where there was one.
+-- The first link of the chain that has expired is sought again; true where there was one.
 abbrev pub IsRestart : ℕ → Job → Job → Bool → Type 0
 IsRestart now old new true = (d : Taken) × (front : List Taken) × IsTakenFrom now old.chain d front × (new ≡ record old { chain = front; name = d.name; searches = [] })
 IsRestart now old new false = AreFresh now old.chain × (new ≡ old)
 
--- The address that comes next failed lately, and its failure is the most recently used; or it did not, and nothing
+-- The address that comes next lately failed, and its failure is the most recently used; or it did not, and nothing
 -- changed.
 abbrev pub IsNextFailed : ℕ → Search → Stores → Stores → Bool → Type 0
 IsNextFailed now s old new true =
@@ -59,7 +59,7 @@ IsNextFailed now s old new true =
     × (new ≡ record old { failures = used same_failed (ask_of s server) old.failures })
 IsNextFailed now s old new false = IsFree now s old.failures × (new ≡ old)
 
--- The addresses that come next and failed lately were passed over; true where there was one.
+-- The addresses that come next and lately failed were passed over; true where there was one.
 abbrev pub has_some : ℕ → Bool
 has_some zero = false
 has_some (suc n) = true

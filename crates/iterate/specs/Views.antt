@@ -1,4 +1,4 @@
--- What comes in, what goes out, and what is due, seen as the plain values of the rules.
+-- The code's inputs, results and tasks, seen as the plain values of the rules.
 use Rattle.rdata.specs.Types.{type_number}
 use Rattle.resolution.specs.Jobs as plain
 use Rattle.iterate.specs.Moves as moves

@@ -1,4 +1,4 @@
-//! One call for one input: all that is due, until an ask goes out or the query is over.
+//! One call for one input: task after task, until an ask goes out or the query is over.
 ghost use Rattle.std.specs.Prelude.{ℕ, IfOk, OnErr};
 ghost use Rattle.resolution.specs.Jobs.{Point, point, IsFreshTask};
 ghost use Rattle.resolution.specs.Rules.{Rules, Leaves, Advances, Stops};
@@ -14,7 +14,7 @@ use dname::{Heap, Starved};
 use lookup::{Home, Stores};
 use std::hash::BuildHasher;
 
-/// Does what is due, task by task, until something goes out.
+/// Does task after task, until something goes out.
 pub(crate) fn run<S: BuildHasher + Drop, A: Heap>(
     alloc: A,
     job: &mut Job<A>,
@@ -36,10 +36,10 @@ pub(crate) fn run<S: BuildHasher + Drop, A: Heap>(
     }
 }
 
-/// What one input makes of a query's job, and what goes out: the input is taken up, and the rules of RFC 1034,
-/// section 5.3.3, are applied until a server is to be asked or the query is over. `now` is the moment of the
-/// call, in milliseconds. Where memory is wanting the stores may have kept what was accepted, and lost what that
-/// keep pushes out; nothing else is new in them or gone. The job is to be dropped.
+/// The work on one input of a query, and what goes out. The input is used, and the rules of RFC 1034, section 5.3.3,
+/// are applied until a server is to be asked or the query is over. `now` is the moment of the call, in milliseconds.
+/// Where memory runs out the stores may have cached what was accepted, and lost what that pushes out; nothing else is
+/// new in them or gone. The job is to be dropped then.
 pub fn advance<S: BuildHasher + Drop, A: Heap>(
     alloc: A,
     job: &mut Job<A>,

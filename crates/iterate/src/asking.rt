@@ -15,7 +15,7 @@ use dname::{Heap, Name, Starved};
 use rdata::Addr;
 use std::alloc::AllocError;
 
-/// Asks the server that the search's plan gave, unless nothing more may be sent.
+/// Asks this server, the next one of the search's plan, unless nothing more may be sent.
 pub(crate) fn ask<A: Heap>(
     job: &mut Job<A>,
     search: Search<A>,
@@ -56,7 +56,7 @@ fn ask_again<A: Heap>(
     Ok(Move::Out(Next::AskTcp(server, name?, kind)))
 }
 
-/// The reply of this server was truncated: it is asked again over TCP (RFC 2181, section 9).
+/// Asks this server, whose reply was truncated, again over TCP (RFC 2181, section 9).
 pub(crate) fn again<A: Heap>(job: &mut Job<A>, server: Addr, now: u64) -> Result<Move<A>, Starved>
     ensures { IfOk result (λ t. (home : Home) (stores : Stores) → IsMove home now (point (Again server) job.old stores) (move_view t) job.new stores) }
 {

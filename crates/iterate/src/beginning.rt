@@ -1,4 +1,4 @@
-//! A query that comes: its answer where that is known, or else the work on it.
+//! The beginning of a query: its answer where that is known, or else the work on it.
 ghost use Rattle.std.specs.Prelude.{◌+◌, ◌^◌, ◌<◌, ◌↔◌, IsTrue, IfOk, OnErr};
 ghost use Rattle.rdata.specs.Types.{type_number};
 ghost use Rattle.resolution.specs.Jobs.{Stores as StoresSpec, Start, job_at, IsEnding};
@@ -20,9 +20,9 @@ use std::hash::BuildHasher;
 /// The result of starting a query: its answer, or a job that waits.
 #[derive(Drop)]
 pub enum Started<A: Allocator = Global> {
-    /// Its answer, without an alias before it: no work is left.
+    /// The answer, without an alias before it: no work is left.
     Answered(Taken<A>),
-    /// The work on it, and what goes out for it.
+    /// The work on the query, and what goes out for it.
     Working(Job<A>, Next<A>),
 }
 
@@ -36,7 +36,7 @@ fn is_end<A: Allocator>(link: &Taken<A>) -> bool
     }
 }
 
-// The work goes on from what was found for its name.
+// Starts the work with what was found for the query's name.
 fn set_out<S: BuildHasher + Drop, A: Heap>(
     alloc: A,
     mut job: Job<A>,
@@ -88,9 +88,9 @@ fn work<S: BuildHasher + Drop, A: Heap>(
     }
 }
 
-/// What comes of a query for a name and a type at the moment `now`, in milliseconds. Where what is known of the
-/// name is no alias it is the answer, and neither a job is made nor the name copied for it; else the work begins,
-/// as by `advance` with `Input::Start`. Running out of memory leaves the stores with the same entries.
+/// The result of a query for a name and a type at the moment `now`, in milliseconds. A link that is found for the name
+/// and is no alias is the answer: neither is a job made, nor the name copied for it. Else the work begins, as by
+/// `advance` with `Input::Start`. Running out of memory leaves the stores with the same entries.
 pub fn begin_query<S: BuildHasher + Drop, A: Heap>(
     alloc: A,
     name: &Name<A>,

@@ -1,5 +1,5 @@
-//! What a call of the work on a query takes and gives: an `Input`, a thing that came for it, and `Next`, what goes
-//! out.
+//! The input and the result of a call of the work on a query: an `Input`, which came for the query, and `Next`, which
+//! goes out.
 
 use crate::chain::Chain;
 use causes::Cause;
@@ -9,28 +9,28 @@ use rdata::{Addr, RType};
 use std::alloc::{Allocator, Global};
 use wire::{Via, View};
 
-/// What comes in for a query.
+/// An input for a query.
 #[derive(Drop)]
 pub enum Input<'m, A: Allocator = Global> {
     /// The query itself.
     Start,
-    /// The message that was accepted for its ask: the way it came, and the server.
+    /// A message that was accepted for its ask: the way it came, the server, and the message.
     Told(Via, Addr, View<'m, A>),
-    /// The wait for this server is over.
+    /// No reply of this server came in time.
     TimedOut(Addr),
     /// The ask of this server over TCP failed.
     TcpFailed(Addr),
 }
 
-/// What goes out for a query.
+/// The result of a call: what goes out for a query.
 #[derive(Drop)]
 pub enum Next<A: Allocator = Global> {
     /// An ask in a datagram: of this server, for this name and type.
     AskUdp(Addr, Name<A>, RType),
-    /// The same over TCP.
+    /// An ask over TCP: of this server, for this name and type.
     AskTcp(Addr, Name<A>, RType),
     /// The answer: the CNAME chain in order, and the link that ends it.
     Done(Chain<A>, Taken<A>),
-    /// No answer, and why.
+    /// No answer, and the cause.
     Fail(Cause),
 }

@@ -1,5 +1,5 @@
-//! The CNAME chain of a query at work (RFC 1034, section 3.6.2): aliases join at its end, and it is cut off where one
-//! that came from the cache has run out.
+//! The CNAME chain of a query at work (RFC 1034, section 3.6.2): aliases join at its end, and it is cut off at one from
+//! the cache that has expired.
 ghost use Rattle.std.specs.Prelude.{◌≡◌, [], ◌∷◌, ◌++◌, length, take, Some, None, OnOk, MatchOption, slice_get};
 ghost use Rattle.resolution.specs.Jobs.{Taken as TakenSpec, AreFresh, IsDead};
 ghost use Rattle.iterate.specs.Moves.{IsTakenFrom};
@@ -34,7 +34,7 @@ impl<A: Heap> Chain<A> {
         }
     }
 
-    // One alias more, at the end.
+    // Adds an alias at the end.
     pub(crate) fn push(&mut self, link: Taken<A>) -> Result<(), Starved>
         ensures { OnOk result (self.new ≡ self.old ++ link ∷ []) }
     {
@@ -44,7 +44,7 @@ impl<A: Heap> Chain<A> {
 }
 
 impl<A: Allocator> Chain<A> {
-    /// How many there are.
+    /// How many aliases there are.
     pub fn len(&self) -> usize
         ensures { result ≡ length self.now }
     {
@@ -65,7 +65,7 @@ impl<A: Allocator> Chain<A> {
         self.links
     }
 
-    // Takes off the first link that has run out at this moment, and all that follow it.
+    // Removes the first link that has expired at this moment, and all that follow it.
     pub(crate) fn take_from_dead(&mut self, now: u64) -> Option<Taken<A>>
         ensures { MatchOption result (AreFresh now self.old × (self.new ≡ self.old)) (λ d. IsTakenFrom now self.old d self.new) }
     {
@@ -76,7 +76,7 @@ impl<A: Allocator> Chain<A> {
     }
 }
 
-// The place of the first link that has run out at this moment.
+// The place of the first link that has expired at this moment.
 fn first_dead<A: Allocator>(links: &[Taken<A>], now: u64) -> Option<usize>
     ensures { MatchOption result (AreFresh now links.now) (λ k. AreFresh now (take k links.now) × (d : TakenSpec) × (slice_get links.now k ≡ Some d) × IsDead now d) }
 {

@@ -1,4 +1,4 @@
-//! Links that are used for the query's name: aliases are followed, and what ends them is the answer (RFC 1034,
+//! Use of links for the query's name: aliases are followed, and the link that ends them is the answer (RFC 1034,
 //! sections 3.6.2 and 5.3.3, step 4).
 ghost use Rattle.std.specs.Prelude.{◌≡◌, ℕ, false, IfOk, MatchOption};
 ghost use Rattle.rdata.specs.Records.{Record};
@@ -16,7 +16,7 @@ use dname::{Heap, Name, Starved};
 use limits::MAX_ALIASES;
 use lookup::Taken;
 
-// Where an alias leads; nothing where the link ends a chain.
+// The name that an alias leads to; nothing where the link ends a chain.
 fn target<A: Heap>(link: &Taken<A>) -> Result<Option<Name<A>>, Starved>
     ensures { IfOk result (λ t. MatchOption t (IsEnding link.now.link) (λ n. (r : Record) × (link.now.link ≡ Alias r) × (n ≡ alias_target r))) }
 {
@@ -26,7 +26,7 @@ fn target<A: Heap>(link: &Taken<A>) -> Result<Option<Name<A>>, Starved>
     }
 }
 
-// An alias joins the chain, unless it is a ninth one.
+// Adds an alias to the chain, unless it is a ninth one.
 fn follow<A: Heap>(job: &mut Job<A>, link: Taken<A>, target: Name<A>) -> Result<Move<A>, Starved>
     requires { (r : Record) × (link.link ≡ Alias r) × (target ≡ alias_target r) }
     ensures { IfOk result (λ t. (home : Home) (now : ℕ) (stores : Stores) → IsMove home now (point (Take link) job.old stores) (move_view t) job.new stores) }
@@ -40,7 +40,7 @@ fn follow<A: Heap>(job: &mut Job<A>, link: Taken<A>, target: Name<A>) -> Result<
     Ok(Move::Onward(Task::Seek))
 }
 
-// The end of the chain: the answer, unless an alias ran out meanwhile.
+// Ends the chain: the answer goes out, unless an alias of the chain has expired meanwhile.
 fn end<A: Heap>(job: &mut Job<A>, link: Taken<A>, now: u64) -> Move<A>
     requires ending { IsEnding link.link }
     requires fresh { is_dead now link ≡ false }
@@ -53,7 +53,7 @@ fn end<A: Heap>(job: &mut Job<A>, link: Taken<A>, now: u64) -> Move<A>
     Move::Out(Next::Done(job.take_chain(), link))
 }
 
-/// What is known of the query's name is used.
+/// Uses a link of the query's name.
 pub(crate) fn use_link<A: Heap>(
     job: &mut Job<A>,
     link: Taken<A>,

@@ -1,5 +1,5 @@
-//! How an input is taken up: first the penalty of its server changes, down for a reply whatever it says, up for none;
-//! then a message is heard, or the search goes on.
+//! The use of an input: first the penalty of its server changes, down for a reply whatever that says, up for none. Then
+//! the message is used, or the search goes on.
 ghost use Rattle.std.specs.Prelude.{IfOk, OnErr};
 ghost use Rattle.resolution.specs.Jobs.{point};
 ghost use Rattle.resolution.specs.Rules.{Enters, Stops};
@@ -13,7 +13,7 @@ use dname::{Heap, Starved};
 use lookup::Stores;
 use std::hash::BuildHasher;
 
-/// What is due after an input. A server that answered loses half its penalty, one that did not gains some.
+/// The next task after an input. The penalty of a server that answered is halved, that of one that did not is raised.
 pub(crate) fn enter<S: BuildHasher + Drop, A: Heap>(
     alloc: A,
     job: &mut Job<A>,

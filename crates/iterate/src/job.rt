@@ -1,4 +1,4 @@
-//! The work on one query, and its bounds: asks, look-ups of servers' names, time, the length of its chain.
+//! The work on one query, and its limits: asks, look-ups of servers' names, time, the length of its chain.
 ghost use Rattle.std.specs.Prelude.{◌≡◌, ◌+◌, ◌^◌, ◌<◌, ◌≤◌, [], length, IfOk, OnOk, MatchOption};
 ghost use Rattle.std.specs.Bool.{MatchBool};
 ghost use Rattle.limits.specs.Limits.{max_look_ups};
@@ -20,7 +20,7 @@ use std::alloc::{Allocator, Global};
 use std::marker::Model;
 use std::mem;
 
-/// The work on one query: what is sought now, the aliases that led there, and the searches for it and for
+/// The work on one query: the name that is sought now, the aliases that led to it, and the searches for it and for
 /// addresses of servers.
 pub struct Job<A: Allocator = Global> {
     name: Name<A>,
@@ -32,11 +32,11 @@ pub struct Job<A: Allocator = Global> {
     // How often a server's name had its turn.
     look_ups: u32,
     deadline: u64,
-    // Whether a server was passed over, since it had failed lately.
+    // Whether a server was passed over, since it had lately failed to answer.
     skipped: bool,
 }
 
-// By hand, so that whatever drops a job calls this, and does not spell out all that it holds.
+// By hand, so that each drop of a job calls this, and does not write out all that it holds.
 impl<A: Allocator> Drop for Job<A> {
     fn drop(self) {
         let Job {
@@ -86,7 +86,7 @@ impl<A: Heap> Job<A> {
         }
     }
 
-    // A search within the others.
+    // Adds a search within the others.
     pub(crate) fn push(&mut self, search: Search<A>) -> Result<(), Starved>
         ensures { OnOk result (self.new ≡ with_search self.old search) }
     {
@@ -94,7 +94,7 @@ impl<A: Heap> Job<A> {
         Ok(())
     }
 
-    // A search within the others, in which servers were passed over.
+    // Adds a search within the others, in which servers were passed over.
     pub(crate) fn skip(&mut self, search: Search<A>) -> Result<(), Starved>
         ensures { OnOk result (self.new ≡ skipping self.old search) }
     {
@@ -103,7 +103,7 @@ impl<A: Heap> Job<A> {
         Ok(())
     }
 
-    // A search that is the only one.
+    // Puts in a search as the only one.
     pub(crate) fn begin_search(&mut self, search: Search<A>) -> Result<(), Starved>
         ensures { OnOk result (self.new ≡ begun self.old search) }
     {
@@ -112,7 +112,7 @@ impl<A: Heap> Job<A> {
         Ok(())
     }
 
-    // The look-up of this server's name failed.
+    // Notes that the look-up of this server's name failed.
     pub(crate) fn mark(&mut self, name: &Name<A>, nesting: u8) -> Result<(), Starved>
         ensures { OnOk result (self.new ≡ record self.old { failed = marked (self.old).failed name.now nesting }) }
     {
@@ -120,7 +120,7 @@ impl<A: Heap> Job<A> {
         Ok(())
     }
 
-    // One alias more, and where it leads.
+    // Adds an alias, whose target is sought from now on.
     pub(crate) fn follow(&mut self, link: Taken<A>, target: Name<A>) -> Result<(), Starved>
         ensures { OnOk result (self.new ≡ followed self.old link target) }
     {
@@ -129,7 +129,7 @@ impl<A: Heap> Job<A> {
         Ok(())
     }
 
-    // The server's name of this search whose turn it is.
+    // The name of a server of this search that is next.
     pub(crate) fn next_name(&self, search: &mut Search<A>) -> Result<Option<Name<A>>, Starved>
         ensures value { IfOk result (λ n. n ≡ next_name (self.now).failed (search.old).frame) }
         ensures ok { OnOk result (search.new ≡ turned (self.now).failed search.old) }
@@ -137,7 +137,7 @@ impl<A: Heap> Job<A> {
         Ok(search.next_name(&self.failed)?)
     }
 
-    // The aliases, which are taken out.
+    // Takes out the aliases.
     pub(crate) fn take_chain(&mut self) -> Chain<A>
         ensures { result ≡ (self.old).chain }
     {
@@ -175,7 +175,7 @@ impl<A: Allocator> Job<A> {
         self.deadline
     }
 
-    /// How long the server that was asked last is waited for, in milliseconds.
+    /// How long a reply of the server that was asked last is waited for, in milliseconds.
     pub fn wait_ms(&self) -> u32
         ensures { result ≡ wait_of_job self.now }
     {
@@ -189,7 +189,7 @@ impl<A: Allocator> Job<A> {
         self.chain.len()
     }
 
-    // The innermost search.
+    // Takes out the innermost search.
     pub(crate) fn pop(&mut self) -> Option<Search<A>>
         ensures { MatchOption result (((self.old).searches ≡ []) × (self.new ≡ self.old)) (λ s. self.old ≡ with_search self.new s) }
     {
@@ -216,7 +216,7 @@ impl<A: Allocator> Job<A> {
         self.look_ups < MAX_LOOK_UPS
     }
 
-    // A server's name had its turn.
+    // Counts the turn of a server's name.
     pub(crate) fn count_look_up(&mut self)
         requires { MayLookUp self.old }
         ensures { self.new ≡ looked_up self.old }
@@ -224,7 +224,7 @@ impl<A: Allocator> Job<A> {
         self.look_ups += 1;
     }
 
-    // Why the query fails where no server is left.
+    // The cause with which the query fails where no server is left.
     pub(crate) fn spent(&self) -> Cause
         ensures { result ≡ spent_cause (self.now).skipped }
     {
@@ -235,7 +235,7 @@ impl<A: Allocator> Job<A> {
         }
     }
 
-    // One ask more.
+    // Counts an ask.
     pub(crate) fn count(&mut self)
         requires { (self.old).asks < 40 }
         ensures { self.new ≡ asked_again self.old }
@@ -243,7 +243,7 @@ impl<A: Allocator> Job<A> {
         self.asks += 1;
     }
 
-    // Goes back to the first alias that has run out at this moment: its name is sought again.
+    // Goes back to the first alias that has expired at this moment: its name is sought again.
     pub(crate) fn restart(&mut self, now: u64) -> bool
         ensures { IsRestart now self.old self.new result }
     {

@@ -1,23 +1,24 @@
-//! The work on one query (RFC 1034, section 5.3.3): what is due for it, which servers are asked, and what comes of
-//! what they say.
+//! The work on one query (RFC 1034, section 5.3.3): its tasks, the servers that are asked, and the use of their
+//! replies.
 //!
-//! `begin` takes a query that comes: where what is known of its name is no alias that is the answer, without a job;
-//! else a `Job` is made, with ten seconds for it. `advance` takes what came in for a job, an `Input`: the query
-//! itself, the message that was accepted for its ask, a time-out, an ask over TCP that failed. Both answer with the
-//! `Next` thing that goes out: an ask of a server in a datagram or over TCP, the CNAME chain and its end, or the
-//! cause of a failure.
+//! `begin_query` starts a query: a link that is found for its name and is no alias is the answer, without a job; else a
+//! `Job` is made, with ten seconds for it. `advance` takes an `Input` for a job: the query itself, the message that was
+//! accepted for its ask, a time-out, an ask over TCP that failed. Both answer with the `Next` thing that goes out: an
+//! ask of a server in a datagram or over TCP, the CNAME chain and its end, or the cause of a failure.
 //!
-//! Promised: each call is one by the rules of `resolution` (`Advances`); where memory is wanting the stores have
-//! nothing new but what was accepted, and have lost nothing but what one keep of that pushes out (`Stops`). At most
-//! 40 asks, 64 look-ups of servers' names, which are three deep, and eight aliases.
-//! Not here: which message is a reply (`events`), identifiers, sockets and many queries at once (`engine`).
+//! Promised: each call is one by the rules of `resolution` (`Advances`); where memory runs out the stores have nothing
+//! new but what was accepted, and have lost nothing but what one `keep` of that pushes out (`Stops`). At most 40 asks,
+//! 64 look-ups of servers' names, which are three deep, and eight aliases. Not here: which message is a reply
+//! (`events`), identifiers, sockets and many queries at once (`engine`).
 //!
 //! ```text
-//! match begin_query(alloc, &name, RType::A, &home, &mut stores, now)? {
+//! match begin_query(alloc, name, RType::A, home, stores, 0)? {
 //!     Started::Answered(last) => { /* the answer */ }
-//!     Started::Working(job, Next::AskUdp(server, name, kind)) => { /* later: advance with Input::Told(Via::Udp, ..), or Input::TimedOut(server) */ }
-//!     Started::Working(job, Next::AskTcp(server, name, kind)) => { /* later: Input::Told(Via::Tcp, ..), or Input::TcpFailed(server) */ }
-//!     Started::Working(_, Next::Done(chain, last)) => { /* the aliases, and what ends them */ }
+//!     // Later: `advance` with Input::Told(Via::Udp, ..) or Input::TimedOut(server).
+//!     Started::Working(job, Next::AskUdp(server, name, kind)) => {}
+//!     // Later: Input::Told(Via::Tcp, ..) or Input::TcpFailed(server).
+//!     Started::Working(job, Next::AskTcp(server, name, kind)) => {}
+//!     Started::Working(_, Next::Done(chain, last)) => { /* the aliases, and the link that ends them */ }
 //!     Started::Working(_, Next::Fail(cause)) => { /* SERVFAIL */ }
 //! }
 //! ```

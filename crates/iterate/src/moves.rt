@@ -1,5 +1,5 @@
-//! One move of a query at work: `turn` does one task by the rule that fits it (RFC 1034, section 5.3.3), and
-//! `due_after` says what a look-up leads to, for a query at work and for one that comes.
+//! One move of a query at work. `make_move` does one task by the rule that fits it (RFC 1034, section 5.3.3).
+//! `due_after` is the task after a look-up, for a query at work and for a new one.
 ghost use Rattle.std.specs.Prelude.{◌≡◌, ℕ, IfOk, OnOk};
 ghost use Rattle.frames.specs.Frames.{opened};
 ghost use Rattle.resolution.specs.Jobs.{Home as HomeSpec, Stores as StoresSpec, Seek, point, search_at, level_of, IsFreshTask};
@@ -21,7 +21,7 @@ use referral::Cut;
 use std::alloc::AllocError;
 use std::hash::BuildHasher;
 
-// Servers are sought for the query's own name.
+// Opens the search for the query's own name at this cut.
 fn open_search<S: BuildHasher + Drop, A: Heap>(
     alloc: A,
     job: &mut Job<A>,
@@ -36,7 +36,7 @@ fn open_search<S: BuildHasher + Drop, A: Heap>(
     Ok(())
 }
 
-/// What is due after what was found for the query's name: the link is used, or servers are sought for it.
+/// The task after the look-up of the query's name: to use the link, or to ask servers.
 pub(crate) fn due_after<S: BuildHasher + Drop, A: Heap>(
     alloc: A,
     job: &mut Job<A>,
@@ -56,7 +56,7 @@ pub(crate) fn due_after<S: BuildHasher + Drop, A: Heap>(
     }
 }
 
-// What is known of the query's name is used, or servers are sought for it.
+// Looks for the query's name in local zones and cache, and else opens a search for it.
 fn seek<S: BuildHasher + Drop, A: Heap>(
     alloc: A,
     job: &mut Job<A>,
@@ -71,8 +71,8 @@ fn seek<S: BuildHasher + Drop, A: Heap>(
     Ok(Move::Onward(due_after(alloc, job, found, stores)?))
 }
 
-/// One move: the task is done, by one rule, or something goes out. Of the job nothing is said where memory was
-/// wanting: it is to be dropped.
+/// One move: the task is done by one rule, or something goes out. Where memory runs out, the state of the job is
+/// undefined, and it is to be dropped.
 pub(crate) fn make_move<S: BuildHasher + Drop, A: Heap>(
     alloc: A,
     job: &mut Job<A>,

@@ -1,4 +1,4 @@
-//! What is made of the messages that are accepted for a query (RFC 1034, section 5.3.3, step 4).
+//! Use of the messages that are accepted for a query (RFC 1034, section 5.3.3, step 4).
 ghost use Rattle.std.specs.Prelude.{◌≡◌, ◌⊎◌, ℕ, IfOk, OnOk, OnErr};
 ghost use Rattle.zone.specs.Links.{Link as LinkSpec};
 ghost use Rattle.authority.specs.Answers.{link_view};
@@ -25,8 +25,8 @@ use std::hash::BuildHasher;
 use wire::rcode::SERV_FAIL;
 use wire::{Via, View};
 
-// A link was accepted for the innermost search, which is over. The query's own name has its link; what a
-// server's name has is heard by the search around.
+// A link was accepted for the innermost search, which is over. One of the query's own name is used for it; one of a
+// server's name is used by the search around.
 fn answer_search<S: BuildHasher + Drop, A: Heap>(
     job: &mut Job<A>,
     link: Taken<A>,
@@ -45,7 +45,7 @@ fn answer_search<S: BuildHasher + Drop, A: Heap>(
     }
 }
 
-// A server's answer is kept, and is what the search is told.
+// Caches a server's answer, and uses it for the search.
 fn answer<S: BuildHasher + Drop, A: Heap>(
     job: &mut Job<A>,
     search: Search<A>,
@@ -86,7 +86,7 @@ fn cut_from<A: Heap>(alloc: A, referral: Referral<A>) -> Result<Cut<A>, Starved>
     Ok(cut?)
 }
 
-// The search begins anew at a cut, which is kept.
+// Starts the search anew at this cut, which is cached.
 fn reopen<S: BuildHasher + Drop, A: Heap>(
     alloc: A,
     job: &mut Job<A>,
@@ -114,7 +114,7 @@ fn reopen<S: BuildHasher + Drop, A: Heap>(
     }
 }
 
-// A referral is followed, and kept.
+// Follows a referral, and caches it.
 fn refer<S: BuildHasher + Drop, A: Heap>(
     alloc: A,
     job: &mut Job<A>,
@@ -147,7 +147,8 @@ fn is_server_failure<A: Allocator>(message: &View<'_, A>) -> bool
     message.header().rcode == SERV_FAIL && !message.header().tc
 }
 
-// That the server failed to answer what is sought is kept, where the message says so (RFC 2308, section 7.1).
+// Caches that the server failed to answer the question of the search, where the message says so (RFC 2308, section
+// 7.1).
 fn note_failure<S: BuildHasher + Drop, A: Heap>(
     search: &Search<A>,
     server: Addr,
@@ -164,7 +165,7 @@ fn note_failure<S: BuildHasher + Drop, A: Heap>(
     Ok(())
 }
 
-// A message was accepted for this search, the innermost one, which the job no longer has.
+// The task after a message for this search, the innermost one, which was taken out of the job.
 fn use_reply_for<S: BuildHasher + Drop, A: Heap>(
     alloc: A,
     job: &mut Job<A>,
@@ -207,9 +208,9 @@ fn use_reply_for<S: BuildHasher + Drop, A: Heap>(
     }
 }
 
-/// What is due after a message was accepted for the innermost search: an answer is kept and taken up, a
-/// referral is kept and followed, what was truncated is asked for again over TCP; the rest is of no use, but that a
-/// server failed to answer is kept. A job without a search has nothing that a message could be for.
+/// The task after a message was accepted for the innermost search. An answer is cached and used, a referral is cached
+/// and followed, and after truncation the ask is sent again over TCP. Any other message is of no use, but that a server
+/// failed to answer is cached. Without a search a message changes nothing.
 pub(crate) fn use_reply<S: BuildHasher + Drop, A: Heap>(
     alloc: A,
     job: &mut Job<A>,

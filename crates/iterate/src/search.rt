@@ -14,14 +14,14 @@ use std::alloc::{Allocator, Global};
 use std::hash::BuildHasher;
 use std::marker::Model;
 
-/// What is sought of the servers of a frame.
+/// A question, and the frame whose servers are asked for it.
 pub struct Search<A: Allocator = Global> {
     name: Name<A>,
     kind: RType,
     frame: Frame<A>,
 }
 
-// By hand, so that whatever drops a search calls this, and does not spell out all that it holds.
+// By hand, so that each drop of a search calls this, and does not write out all that it holds.
 impl<A: Allocator> Drop for Search<A> {
     fn drop(self) {
         let Search {
@@ -79,7 +79,7 @@ impl<A: Allocator> Search<A> {
         &self.frame
     }
 
-    // The name alone: the search is over.
+    // The name, when the search is over.
     pub(crate) fn into_name(self) -> Name<A>
         ensures { result ≡ self.name }
     {
@@ -92,7 +92,7 @@ impl<A: Allocator> Search<A> {
         name
     }
 
-    // The search goes on at these servers.
+    // Goes on at these servers.
     pub(crate) fn reopen(&mut self, frame: Frame<A>)
         ensures { self.new ≡ with_frame self.old frame }
     {
@@ -111,7 +111,7 @@ impl<A: Allocator> Search<A> {
 }
 
 impl<A: Heap> Search<A> {
-    // The server's name whose turn it is.
+    // The name of a server that is next.
     pub(crate) fn next_name(&mut self, failed: &Failed<A>) -> Result<Option<Name<A>>, Starved>
         ensures value { IfOk result (λ n. n ≡ next_name failed.now (self.old).frame) }
         ensures ok { OnOk result (self.new ≡ turned failed.now self.old) }
@@ -119,7 +119,7 @@ impl<A: Heap> Search<A> {
         Ok(self.frame.next_name(failed)?)
     }
 
-    // Addresses that were found for a server's name: those that are not known yet are asked next.
+    // Adds addresses that were found for a server's name: those that are not known yet are asked next.
     pub(crate) fn add<S: BuildHasher + Drop>(
         &mut self,
         found: &[Addr],
@@ -157,7 +157,7 @@ impl<A: Heap> Searches<A> {
         }
     }
 
-    // One within the others.
+    // Adds a search within the others.
     pub(crate) fn push(&mut self, search: Search<A>) -> Result<(), Starved>
         ensures { OnOk result (self.new ≡ search ∷ self.old) }
     {
@@ -167,7 +167,7 @@ impl<A: Heap> Searches<A> {
 }
 
 impl<A: Allocator> Searches<A> {
-    // The innermost.
+    // Takes out the innermost search.
     pub(crate) fn pop(&mut self) -> Option<Search<A>>
         ensures { MatchOption result ((self.old ≡ []) × (self.new ≡ self.old)) (λ s. self.old ≡ s ∷ self.new) }
     {
@@ -177,14 +177,14 @@ impl<A: Allocator> Searches<A> {
         Some(self.searches.remove(0))
     }
 
-    // They are given up.
+    // Drops all searches.
     pub(crate) fn clear(&mut self)
         ensures { self.new ≡ [] }
     {
         self.searches.clear();
     }
 
-    // How long the server of the innermost is waited for, in milliseconds.
+    // How long a reply of the innermost search's server is waited for, in milliseconds.
     pub(crate) fn wait_ms(&self) -> u32
         ensures { result ≡ wait_in self.now }
     {

@@ -1,5 +1,5 @@
-//! Servers of the innermost search: the next of its plan, and where all were asked, addresses of those that
-//! are known by name alone (RFC 1034, section 5.3.3, steps 2 and 3).
+//! Servers of the innermost search: the next of its plan, and where all were asked, addresses of those of which only
+//! the name is known (RFC 1034, section 5.3.3, steps 2 and 3).
 ghost use Rattle.std.specs.Prelude.{◌≡◌, ◌+◌, ◌<◌, ℕ, Some, None, ◌∷◌, IfOk, OnOk};
 ghost use Rattle.retry.specs.Plans.{upcoming};
 ghost use Rattle.zone.specs.Zones.{a_type};
@@ -23,7 +23,7 @@ use rdata::{RType, RecordSet};
 use referral::Cut;
 use std::hash::BuildHasher;
 
-// The addresses that were found for a server's name; those that are not known yet are asked next.
+// Adds the addresses of a set, found for a server's name, to the search; those that are not known yet are asked next.
 fn add_set<S: BuildHasher + Drop, A: Heap>(
     search: &mut Search<A>,
     set: &RecordSet<A>,
@@ -36,7 +36,7 @@ fn add_set<S: BuildHasher + Drop, A: Heap>(
     Ok(())
 }
 
-// A search goes on with the addresses of a set.
+// Goes on with a search that has the addresses of a set.
 fn go_on_with<S: BuildHasher + Drop, A: Heap>(
     job: &mut Job<A>,
     mut search: Search<A>,
@@ -57,7 +57,7 @@ fn go_on_with<S: BuildHasher + Drop, A: Heap>(
     }
 }
 
-/// What is found for a server's name: addresses, or that it has none, which is noted for this query.
+/// Uses the result for a server's name: its addresses, or that it has none, which is noted for this query.
 pub(crate) fn use_server_address<S: BuildHasher + Drop, A: Heap>(
     job: &mut Job<A>,
     search: Search<A>,
@@ -80,7 +80,7 @@ pub(crate) fn use_server_address<S: BuildHasher + Drop, A: Heap>(
     }
 }
 
-// The address of a server's name is sought, one nesting deeper.
+// Opens the search for the address of a server's name, one nesting deeper.
 fn descend<S: BuildHasher + Drop, A: Heap>(
     alloc: A,
     job: &mut Job<A>,
@@ -98,7 +98,7 @@ fn descend<S: BuildHasher + Drop, A: Heap>(
     Ok(())
 }
 
-// The address of a server's name: what is known of it, or else a search. Its turn is counted.
+// Looks up the address of a server's name: in local zones and cache, and else by a search. Its turn is counted.
 fn look_for<S: BuildHasher + Drop, A: Heap>(
     alloc: A,
     job: &mut Job<A>,
@@ -138,7 +138,7 @@ fn look_for<S: BuildHasher + Drop, A: Heap>(
     }
 }
 
-// No server is left for the innermost search: the one around it goes on, or none is left for the query.
+// Ends the innermost search, which has no server left: the one around it goes on, or the query has no server left.
 fn give_up<A: Heap>(job: &mut Job<A>, search: Search<A>) -> Result<Move<A>, Starved>
     ensures { (home : HomeSpec) (now : ℕ) (stores : StoresSpec) (before : SearchSpec) → upcoming (before.frame).plan ≡ None → next_name (job.old).failed before.frame ≡ None → search ≡ turned (job.old).failed before
         → IfOk result (λ t. IsMove home now (point Go (with_search job.old before) stores) (move_view t) job.new stores) }
@@ -158,7 +158,7 @@ fn give_up<A: Heap>(job: &mut Job<A>, search: Search<A>) -> Result<Move<A>, Star
     }
 }
 
-// All known addresses were asked.
+// Goes on with a search of which all known addresses were asked.
 fn go_further<S: BuildHasher + Drop, A: Heap>(
     alloc: A,
     job: &mut Job<A>,
@@ -189,7 +189,7 @@ fn go_further<S: BuildHasher + Drop, A: Heap>(
     }
 }
 
-// Whether the address that comes next failed lately to answer what the search seeks.
+// Whether the address that comes next lately failed to answer the question of the search.
 fn is_next_failed<S: BuildHasher + Drop, A: Heap>(
     search: &Search<A>,
     stores: &mut Stores<S, A>,
@@ -204,8 +204,8 @@ fn is_next_failed<S: BuildHasher + Drop, A: Heap>(
     }
 }
 
-// Passes over the addresses that come next and failed lately to answer what the search seeks (RFC 2308, section
-// 7.1); whether there was one.
+// Passes over the addresses that come next and lately failed to answer the question of the search (RFC 2308, section
+// 7.1); true where there was one.
 fn pass_over<S: BuildHasher + Drop, A: Heap>(
     search: &mut Search<A>,
     stores: &mut Stores<S, A>,
@@ -222,7 +222,7 @@ fn pass_over<S: BuildHasher + Drop, A: Heap>(
     Ok(passed)
 }
 
-// The next server is asked, or where all known addresses were asked the search goes further.
+// Asks the next server, or goes further where all known addresses were asked.
 fn ask_on<S: BuildHasher + Drop, A: Heap>(
     alloc: A,
     job: &mut Job<A>,
@@ -241,7 +241,7 @@ fn ask_on<S: BuildHasher + Drop, A: Heap>(
     }
 }
 
-// The innermost search goes on.
+// Goes on with the innermost search.
 fn go_on<S: BuildHasher + Drop, A: Heap>(
     alloc: A,
     job: &mut Job<A>,
@@ -266,7 +266,7 @@ fn go_on<S: BuildHasher + Drop, A: Heap>(
     }
 }
 
-/// Servers are asked: the next one of the innermost search.
+/// Asks servers: the next one of the innermost search.
 pub(crate) fn go<S: BuildHasher + Drop, A: Heap>(
     alloc: A,
     job: &mut Job<A>,

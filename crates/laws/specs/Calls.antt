@@ -1,5 +1,5 @@
--- What one input makes of a query's work (RFC 1034, section 5.3.3, steps 3 and 4): servers are asked in
--- turn, a referral is followed, a truncated reply is asked for again, an answer is used.
+-- The effect of one input on a query's work (RFC 1034, section 5.3.3, steps 3 and 4): servers are asked in turn, a
+-- referral is followed, a truncated reply is asked for again, an answer is used.
 use Rattle.std.specs.Prelude.{◌≡◌, ℕ, ◌⊎◌, ◌+◌, ◌-◌, ◌<◌, true, false, Option, Some, None, List, [], ◌∷◌, Contains}
 use Rattle.dname.specs.Labels.{Name}
 use Rattle.rdata.specs.Records.{Record}
@@ -21,7 +21,7 @@ use Rattle.resolution.specs.Jobs.{Home, Stores, level_of, with_answer, Taken, re
 use Rattle.resolution.specs.Rules.{Says, Begins, Rule, takes, asks, follows, restarts, skips, hears, descends, gives_up, Rules, Leaves, Advances, MayNotSend}
 use Rattle.runs.specs.Steps.{IsAsk}
 
--- ---- what comes in
+-- ---- inputs
 
 -- A message that was accepted for the innermost search, and its class under that search's zone.
 pub record AcceptsReply (old : Job) (input : Input) (s : Search) (rest : List Search) (server : Addr) (c : Class) : Type 0 where
@@ -31,22 +31,22 @@ pub record AcceptsReply (old : Job) (input : Input) (s : Search) (rest : List Se
   pub told : input ≡ Told via server message
   pub is_class : class_of (s.frame).zone s.name s.kind via message ≡ c
 
--- The innermost search's ask came to nothing: its wait is over, or it failed over TCP, or what came is of no use.
+-- The innermost search's ask ended in vain: its wait is over, or it failed over TCP, or its reply is of no use.
 pub record IsLost (old : Job) (input : Input) (s : Search) (rest : List Search) : Type 0 where
   pub searches : old.searches ≡ s ∷ rest
   pub server : Addr
   pub lost : (input ≡ TimedOut server) ⊎ ((input ≡ TcpFailed server) ⊎ ((f : Failure) × AcceptsReply old input s rest server (class.Failed f)))
 
--- ---- what goes out
+-- ---- results
 
--- This ask, where the deadline and the number of asks allow one.
+-- This ask goes out, where the deadline and the number of asks allow one.
 abbrev pub GoesOut : ℕ → Job → Next → Next → Type 0
 GoesOut now j ask next = (MaySend now j × (next ≡ ask)) ⊎ ((c : Cause) × MayNotSend now j c × (next ≡ Fail c))
 
 -- ---- laws
 
--- Where an ask came to nothing, the plan's next address that did not fail lately is asked the same question, while
--- there is one (RFC 2308, section 7.1). What failed lately is said by the stores as the call leaves them.
+-- Where an ask ended in vain, the plan's next address that did not fail lately is asked the same question, while there
+-- is one (RFC 2308, section 7.1). The stores as the call leaves them say which addresses failed lately.
 abbrev pub NextIsAsked : Type 0
 NextIsAsked =
     (home : Home) (now : ℕ) (input : Input) (old : Job) (stores : Stores) (next : Next) (new : Job) (after : Stores) (s : Search) (rest : List Search) (server : Addr)
@@ -72,8 +72,8 @@ ReferralIsFollowed =
     × (AreAtMost 8 stores.penalties → (b : Addr) → Contains (taken_addresses c) b → fails_now now after.failures s b ≡ false
     → (d : Addr) × Contains (taken_addresses c) d × GoesOut now old (AskUdp d s.name s.kind) next)
 
--- An answer for the query's own name that ends the chain is used at once, where no link from the cache ran
--- out meanwhile.
+-- An answer for the query's own name that ends the chain is used at once, where no link from the cache has expired
+-- meanwhile.
 abbrev pub AnswerIsUsed : Type 0
 AnswerIsUsed =
     (home : Home) (now : ℕ) (input : Input) (old : Job) (stores : Stores) (next : Next) (new : Job) (after : Stores) (s : Search) (server : Addr) (l : Link)
@@ -86,21 +86,22 @@ AskedDidNotFail =
     (home : Home) (now : ℕ) (input : Input) (old : Job) (stores : Stores) (next : Next) (new : Job) (after : Stores) (server : Addr) (n : Name) (t : ℕ)
     → Advances home now input old stores next new after → next ≡ AskUdp server n t → is_failed now (failed_ask n t server) after.failures ≡ false
 
--- Where a message says that its server failed to answer, that counts for 30 seconds, while no want of room removes it.
+-- Where a message says that its server failed to answer, that is cached and counts for 30 seconds, while lack of room
+-- does not remove it.
 abbrev pub FailureIsKept : Type 0
 FailureIsKept =
     (home : Home) (now : ℕ) (input : Input) (old : Job) (stores : Stores) (next : Next) (new : Job) (after : Stores) (s : Search) (rest : List Search) (server : Addr) (c : Class) (later : ℕ)
     → Advances home now input old stores next new after → (h : AcceptsReply old input s rest server c) → is_server_failure h.message ≡ true → later - now < 30000
     → fails_now later after.failures s server ≡ true
 
--- The chain of what goes out, whole or under way; a failure has none.
+-- A link of the chain that goes out or is under way; a failure has none.
 abbrev pub HasLink : Next → Job → Taken → Type 0
 HasLink (AskUdp server n t) new l = Contains new.chain l
 HasLink (AskTcp server n t) new l = Contains new.chain l
 HasLink (Done chain end) new l = Contains chain l
 HasLink (Fail c) new l = ⊥
 
--- An alias for the query's own name stays in the chain, where no link from the cache ran out meanwhile.
+-- An alias for the query's own name stays in the chain, where no link from the cache has expired meanwhile.
 abbrev pub AliasStays : Type 0
 AliasStays =
     (home : Home) (now : ℕ) (input : Input) (old : Job) (stores : Stores) (next : Next) (new : Job) (after : Stores) (s : Search) (server : Addr) (r : Record)
@@ -109,14 +110,14 @@ AliasStays =
 
 -- ---- frames that open
 
--- A frame opens: for this name and type, at this nesting, at this cut.
+-- A frame that opens: for this name and type, at this nesting, at this cut.
 pub record Opening : Type 0 where
   pub name : Name
   pub kind : ℕ
   pub nesting : ℕ
   pub cut : Cut
 
--- Which frame a rule opens, if it opens one.
+-- The frame that a rule opens, if it opens one.
 abbrev pub opening_of : (home : Home) (now : ℕ) (a b : Point) → Rule home now a b → Option Opening
 opening_of home now a b (takes l t f u j) = None
 opening_of home now a b (asks c t m u j) = Some (record { name = (a.job).name; kind = (a.job).kind; nesting = 0; cut = c })
@@ -127,7 +128,7 @@ opening_of home now a b (hears before around rest n l marks t turn f h u j) = No
 opening_of home now a b (descends s rest n c t turn m u j) = Some (record { name = n; kind = a_type; nesting = (s.frame).nesting + 1; cut = c })
 opening_of home now a b (gives_up s around rest t up u j e) = None
 
--- The cut where a question's servers are sought first, by what the resolver holds and has learnt.
+-- The cut where a question's servers are sought first, by local zones and delegations.
 pub record StartsSearch (home : Home) (now : ℕ) (n : Name) (t : ℕ) (stores : Stores) (c : Cut) : Type 0 where
   pub what : Local
   pub says : Says home n t what
@@ -142,9 +143,9 @@ with_given n s = with_frame s (record s.frame { plan = record { order = ((s.fram
 abbrev pub IsGivenOf : Search → Search → Type 0
 IsGivenOf s u = (n : ℕ) × (u ≡ with_given n s)
 
--- A frame opens at the start that the zones at hand and the delegations name, with a plan by the penalties,
--- both as the call leaves them; the plan's first address that did not fail lately is asked, where it has one, and then
--- that frame is the innermost of the job.
+-- A frame opens at the start that the local zones and the delegations name, with a plan by the penalties, both as the
+-- call leaves them. The plan's first address that did not fail lately is asked, if there is one, and then that frame is
+-- the innermost of the job.
 abbrev pub FramesOpenRightly : Type 0
 FramesOpenRightly =
     (home : Home) (now : ℕ) (a b last : Point) (count : ℕ) (next : Next) (new : Job) (after : Stores) (rule : Rule home now a b) (o : Opening)

@@ -39,8 +39,8 @@ IsTooLong port home who turn past =
 abbrev pub HasAskedEnough : Turn → List Turn → Type 0
 HasAskedEnough turn past = (k : ℕ) × (turn.served ≡ OpenQuery k) × (asks_of k past ≡ max_asks)
 
--- What a cause says. Over TCP a reply of more than 65,535 bytes becomes a SERVFAIL of the cause `ReplyTooLarge`; a
--- resolution never fails for it.
+-- The meaning of each cause. Over TCP a reply of more than 65,535 bytes becomes a SERVFAIL of the cause
+-- `ReplyTooLarge`; a resolution never fails for it.
 abbrev pub IsCaused : ℕ → Home → ClientQuery → Cause → Turn → List Turn → Type 0
 IsCaused port home who TooManyOpen turn past = (turn.served ≡ Own) × AreCrowded port past
 IsCaused port home who DeadlineOver turn past = IsPastDeadline who turn past
@@ -51,13 +51,13 @@ IsCaused port home who ReplyTooLarge turn past = ⊥
 IsCaused port home who KnownFailure turn past = HasKnownFailure port home who turn past
 IsCaused port home who TooManyLookUps turn past = HasLookedUp port home turn past
 
--- What a recursive query comes to: an answer within its time, or a failure whose cause stands in the run.
+-- The outcome of a recursive query: an answer within its TTL, or a failure whose cause stands in the run.
 abbrev pub IsExplained : ℕ → Home → ClientQuery → Outcome Plain → Turn → List Turn → Type 0
 IsExplained port home who (Answer aa aliases end) turn past = IsTimely port home turn past (who.query).name (type_number (who.query).kind) aa aliases end
 IsExplained port home who (Referral servers addresses) turn past = ⊥
 IsExplained port home who Refused turn past = ⊥
 IsExplained port home who (Fail c) turn past = IsCaused port home who c turn past
 
--- In every run, whatever comes.
+-- Each reply is explained so, in every run and whatever comes.
 abbrev pub RepliesAreTimely : Type 0
 RepliesAreTimely = (site : Site) (run : List Turn) (s : State) → Run site run s → Always (RepliesAre site.home (IsExplained site.port site.home)) run

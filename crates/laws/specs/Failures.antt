@@ -1,4 +1,4 @@
--- Failures for want of servers, and for want of servers that did not fail lately (RFC 2308, section 7.1).
+-- Failures since no server is left, or none that did not fail lately (RFC 2308, section 7.1).
 use Rattle.std.specs.Prelude.{◌≡◌, ℕ, ◌-◌, ◌≤◌, ◌<◌, ◌⊎◌, true, List, ◌∷◌, length}
 use Rattle.limits.specs.Limits.{max_aliases}
 use Rattle.dname.specs.Labels.{Name}
@@ -15,7 +15,7 @@ use Rattle.runs.specs.Runs.{Run, Earlier, Always, Accepts, clock_of, asks_of}
 use Rattle.laws.specs.Spent.{HasFailed, AcceptedAliasesLead, IsSpent}
 use Rattle.laws.specs.Replies.{RepliesAre}
 
--- The number of the query that is served. One that is over in its own step has none: any under which nothing
+-- The number of the query that is served. A query that is over in its own step has none: any number under which nothing
 -- was asked stands for it.
 abbrev pub IsNumber : ℕ → Turn → List Turn → Type 0
 IsNumber k turn past = (turn.served ≡ OpenQuery k) ⊎ ((turn.served ≡ Own) × (asks_of k past ≡ 0))
@@ -41,16 +41,16 @@ pub record SaysFailure (port : ℕ) (n : Name) (t : ℕ) (a : Addr) (since : ℕ
   pub failure : is_server_failure message ≡ true
   pub moment : since ≡ clock_of (turn ∷ past)
 
--- That was in this step or before it, and less than 30 seconds ago.
+-- Such an answer was accepted in this step or before it, and less than 30 seconds ago.
 abbrev pub FailedLately : ℕ → Name → ℕ → Addr → Turn → List Turn → Type 0
 FailedLately port n t a turn past =
     (since : ℕ) × Earlier (SaysFailure port n t a since) (turn ∷ past) × (clock_of (turn ∷ past) - since < 30000)
 
--- It was so in a step that served the query: in this one, or in one before it.
+-- The server had failed lately in a step that served the query: in this one, or in one before it.
 abbrev pub WasKnown : ℕ → ℕ → Turn → List Turn → Name → ℕ → Addr → Type 0
 WasKnown port k turn past n t a = FailedLately port n t a turn past ⊎ Earlier (λ u before. (u.served ≡ OpenQuery k) × FailedLately port n t a u before) past
 
--- All servers are used up, where one of which that was known counts too; and it was known of some server.
+-- All servers are used up, where a server that was known to have failed counts too; and one at least was.
 abbrev pub HasKnownFailure : ℕ → Home → ClientQuery → Turn → List Turn → Type 0
 HasKnownFailure port home who turn past =
     (k : ℕ) × IsNumber k turn past × ((n : Name) × (t : ℕ) × (a : Addr) × WasKnown port k turn past n t a)
@@ -59,6 +59,6 @@ HasKnownFailure port home who turn past =
 abbrev pub IsSpentFor : ℕ → Home → ClientQuery → Outcome Plain → Turn → List Turn → Type 0
 IsSpentFor port home who result turn past = result ≡ Fail NoServerLeft → HasNoServer port home who turn past
 
--- In every run each failure for want of a server has that cause: no premise on clients, servers or messages.
+-- In every run each failure since no server is left has that cause: no premise on clients, servers or messages.
 abbrev pub EveryFailureIsSpent : Type 0
 EveryFailureIsSpent = (site : Site) (run : List Turn) (s : State) → Run site run s → Always (RepliesAre site.home (IsSpentFor site.port site.home)) run

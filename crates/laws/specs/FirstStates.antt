@@ -1,4 +1,4 @@
--- The new resolver from which a run's steps lead, and what stays of it: how many entries each store may have.
+-- The new resolver from which a run's steps lead, and what stays of it: the capacity of each store.
 use Rattle.std.specs.Prelude.{◌≡◌, ℕ, List, [], ◌∷◌}
 use Rattle.resolution.specs.Jobs.{Stores}
 use Rattle.runs.specs.States.{Turn, Site, State}

@@ -1,6 +1,6 @@
--- The theorem: every reply is right. In a well formed world whose local zones and hints are the resolver's, and
--- in every run in which servers say only what they may, each reply to a recursive query is a SERVFAIL, or is truncated
--- as it should be, or says the whole truth of the question and nothing else.
+-- The theorem: every reply is right. Take a well formed world whose local zones and hints are the resolver's, and a run
+-- in which servers send only what they may. Then each reply to a recursive query is a SERVFAIL, or is truncated as it
+-- should be, or says the whole truth of the question and nothing else.
 use Rattle.std.specs.Prelude.{◌≡◌, ◌∷◌, ℕ, ◌<◌, ◌⊎◌, true, Option, List, [], length, Contains}
 use Rattle.dname.specs.Labels.{Name}
 use Rattle.rdata.specs.Types.{type_number}
@@ -61,8 +61,8 @@ pub record IsTruncated (W : World) (way : Via) (q : Name) (t : ℕ) (bytes : Lis
 abbrev pub IsRightReply : World → Via → Name → ℕ → List ℕ → Type 0
 IsRightReply W way q t bytes = IsServfail q t bytes ⊎ IsTruncated W way q t bytes ⊎ IsRightWhole W q t bytes
 
--- A reply of a step goes to the client whose query the step serves, or refuses bytes that are none; and to
--- every recursive query that the step serves it is right.
+-- A reply of a step goes to the client whose query the step serves, or refuses bytes that are no query; and to every
+-- recursive query that the step serves it is right.
 pub record IsRightAnswer (W : World) (t : Turn) (past : List Turn) (client : ℕ) (way : Via) (bytes : List ℕ) (c : Option Cause) : Type 0 where
   pub to : Refuses (Reply client way bytes c) t ⊎ ((who : ClientQuery) × (who.client ≡ client) × (who.way ≡ way) × IsServedFor who t past)
   pub right : (who : ClientQuery) → IsServedFor who t past → recursive who.query ≡ true → IsRightReply W who.way (who.query).name (type_number (who.query).kind) bytes
@@ -70,7 +70,7 @@ pub record IsRightAnswer (W : World) (t : Turn) (past : List Turn) (client : ℕ
 abbrev pub RepliesAreRight : World → Turn → List Turn → Type 0
 RepliesAreRight W t past = (client : ℕ) (way : Via) (bytes : List ℕ) (c : Option Cause) → GivesOut t.out (Reply client way bytes c) → IsRightAnswer W t past client way bytes c
 
--- Every reply is right up to which servers were honest, whatever they say later.
+-- Every reply is right up to which servers were honest, whatever they send later.
 abbrev pub Headline : Type 0
 Headline = (W : World) (site : Site) (run : List Turn) (s : State) → IsWorld W → IsHomeIn W site.home → Run site run s
     → Always (λ t past. IsHonest W site.port (t ∷ past) → RepliesAreRight W t past) run

@@ -1,4 +1,4 @@
--- What is held is answered: a chain of links that stand in the zones at hand and in the cache (RFC 1034,
+-- Local and cached chains are answered: chains of links that stand in the local zones and in the cache (RFC 1034,
 -- section 5.3.3, step 1).
 use Rattle.std.specs.Prelude.{◌≡◌, ℕ, ◌≤◌, ◌⊎◌, true, Some, List, [], ◌∷◌, length}
 use Rattle.dname.specs.Labels.{Name}
@@ -20,19 +20,19 @@ use Rattle.runs.specs.Messages.{outcome_of, IsReply}
 use Rattle.runs.specs.Steps.{Step}
 use Rattle.runs.specs.Runs.{Run}
 
--- The link of a name that is held: that of the zones at hand; where they have none, what the cache answers.
+-- The link of a name without a query to a server: that of the local zones; where they have none, the cache's answer.
 abbrev pub Holds : Home → ℕ → ℕ → List (Key × Hit) → Name → Taken → Type 0
 Holds home now t es n l =
     ((link : Link) × Says home n t (Linked link) × (l ≡ local_link n link))
     ⊎ (IsRemote home n t × ((h : Hit) × (hit_of (lent (asked_of home n t) now es) ≡ Some h) × (l ≡ kept_link n h)))
 
--- The aliases that are held from a name on, each the target of the one before, and the end behind them.
+-- The aliases from a name on, each the target of the one before, and the end behind them, all of local zones and cache.
 abbrev pub IsHeldChain : Home → ℕ → ℕ → List (Key × Hit) → Name → List Taken → Taken → Type 0
 IsHeldChain home now t es n [] last = Holds home now t es n last × IsEnding last.link
 IsHeldChain home now t es n (l ∷ ls) last = Holds home now t es n l × ((r : Record) × (l.link ≡ Alias r) × IsHeldChain home now t es (alias_target r) ls last)
 
--- A recursive query of which such a chain stands, of at most eight aliases, is answered with it in the very
--- step in which it comes, and nothing is sent.
+-- A recursive query with such a chain, of at most eight aliases, is answered with it in the very step in which it
+-- comes, and nothing is sent.
 abbrev pub HeldIsReplied : Type 0
 HeldIsReplied =
     (site : Site) (past : List Turn) (old : State) (now client : ℕ) (way : Via) (bytes : List ℕ) (served : Served) (out : List Action) (new : State) (q : Query Plain) (chain : List Taken) (last : Taken)

@@ -19,7 +19,7 @@ is_reply MoreDue = false
 
 -- ---- one action a step
 
--- Behind it word may stand that another query is due.
+-- This is the step's only action; behind it word may stand that another query is due.
 abbrev pub IsOnlyAction : Action → List Action → Type 0
 IsOnlyAction action out = (out ≡ action ∷ []) ⊎ (out ≡ action ∷ MoreDue ∷ [])
 
@@ -31,8 +31,8 @@ IsNoQuery (TcpReply now number bytes) = ⊥
 IsNoQuery (TcpFailed now number) = ⊥
 IsNoQuery (Tick now) = ⊥
 
--- A step that serves an open query gives one reply or one ask, one whose query is over at once one reply,
--- and one that serves none nothing. Bytes that are no query are dropped.
+-- The actions of a step. One that serves an open query gives one reply or one ask. One whose query is over at once
+-- gives one reply, and one that serves none nothing. Bytes that are no query are dropped.
 abbrev pub GivesOne : Event → Served → List Action → Type 0
 GivesOne event Nobody out = out ≡ []
 GivesOne event Own out = (IsNoQuery event × (out ≡ [])) ⊎ ((action : Action) × (is_reply action ≡ true) × (out ≡ action ∷ []))
@@ -50,7 +50,7 @@ MoreDueAtTicks = (site : Site) (run : List Turn) (s : State) → Run site run s 
 
 -- ---- one end
 
--- Query k is over in a step that serves it and sends no ask: it is answered, or memory was wanting.
+-- Query k is over in a step that serves it and sends no ask: it is answered, or memory ran out.
 pub record IsOver (k : ℕ) (t : Turn) (past : List Turn) : Type 0 where
   pub served : t.served ≡ OpenQuery k
   pub no_ask : (action : Action) → GivesOut t.out action → is_ask action ≡ true → ⊥
@@ -65,7 +65,7 @@ RepliesTo k t past = (t.served ≡ OpenQuery k) × ((action : Action) × GivesOu
 abbrev pub OneReply : Type 0
 OneReply = (site : Site) (run : List Turn) (s : State) → Run site run s → (k : ℕ) → Always (λ t past. RepliesTo k t past → Earlier (RepliesTo k) past → ⊥) run
 
--- One client's query comes under a number.
+-- Only one client's query comes under a number.
 abbrev pub OneComing : Type 0
 OneComing =
     (site : Site) (run : List Turn) (s : State) → Run site run s → (k : ℕ)

@@ -1,5 +1,5 @@
--- How often servers' names had their turn for a query, read off the rules of its steps; that it is 64 times at most; and
--- that no step takes more than 488 rules.
+-- How often servers' names had their turn for a query, counted by the rules of its steps; that it is 64 times at most;
+-- and that no step takes more than 488 rules.
 use Rattle.std.specs.Prelude.{◌≡◌, ℕ, zero, suc, ◌+◌, ◌≤◌, cond, Option, Some, None, List, [], ◌∷◌}
 use Rattle.limits.specs.Limits.{max_look_ups}
 use Rattle.causes.specs.declared.cause.Cause.TheVariants.{TooManyLookUps}
@@ -12,7 +12,7 @@ use Rattle.laws.specs.Opens.{Call, step_call}
 
 -- ---- of one call
 
--- A server's name has its turn: something is known of it, or its address is sought.
+-- A server's name has its turn: a link is found for it, or its address is sought.
 abbrev pub rule_look_ups : (home : Home) (now : ℕ) (a b : Point) → Rule home now a b → ℕ
 rule_look_ups home now a b (takes l t f u j) = 0
 rule_look_ups home now a b (asks c t m u j) = 0
@@ -40,8 +40,8 @@ abbrev pub look_ups_of : (k : ℕ) (site : Site) (run : List Turn) (s : State) �
 look_ups_of k site [] s new = 0
 look_ups_of k site (t ∷ past) s (old, legal, step) = cond (is_for k t.served) (step_look_ups old t s step) 0 + look_ups_of k site past old legal
 
--- Those of the query that a step serves, with this step. One that is over in its own step, where it has no number, has
--- no other step.
+-- The turns for the query that a step serves, this step's among them. A query that is over in its own step, where it
+-- has no number, has no other step.
 abbrev pub look_ups_by : (served : Served) (site : Site) (past : List Turn) (old : State) (t : Turn) (new : State) → Run site past old → Step old t.event t.served t.out new → ℕ
 look_ups_by Nobody site past old t new legal step = 0
 look_ups_by Own site past old t new legal step = step_look_ups old t new step
@@ -49,11 +49,11 @@ look_ups_by (OpenQuery k) site past old t new legal step = step_look_ups old t n
 
 -- ---- laws
 
--- At most 64 of them for a query.
+-- A query has at most 64 turns of servers' names.
 abbrev pub FewLookUps : Type 0
 FewLookUps = (site : Site) (run : List Turn) (s : State) (legal : Run site run s) (k : ℕ) → look_ups_of k site run s legal ≤ max_look_ups
 
--- A call that fails since they are used up is one of a query that had 64.
+-- A call that fails since its look-ups are used up is one of a query that had 64.
 abbrev pub LookUpsAreSpent : Type 0
 LookUpsAreSpent =
     (site : Site) (past : List Turn) (old : State) (t : Turn) (new : State) (legal : Run site past old) (step : Step old t.event t.served t.out new) (call : Call (moved old t.event))
@@ -65,9 +65,9 @@ StepsAreShort =
     (site : Site) (past : List Turn) (old : State) (t : Turn) (new : State) (legal : Run site past old) (step : Step old t.event t.served t.out new) (call : Call (moved old t.event))
     → step_call old t new step ≡ Some call → (call.advances).count ≤ 488
 
--- What stands in a run where a query fails since its look-ups are used up. A run shows events and actions alone, and 64
--- look-ups may send nothing: so there are states through which these steps lead, by rules that take 64 turns of
--- servers' names for the query that is served. Of whichever states are given the law above says the same.
+-- Why a query fails since its look-ups are used up. A run shows events and actions alone, and 64 look-ups may send
+-- nothing. So there are states through which these steps lead, by rules that take 64 turns of servers' names for the
+-- query that is served. The law above says the same of whichever states are given.
 pub record HasLookedUp (port : ℕ) (home : Home) (turn : Turn) (past : List Turn) : Type 0 where
   pub site : Site
   pub same_port : site.port ≡ port

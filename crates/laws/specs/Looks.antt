@@ -1,5 +1,5 @@
--- Which link a step keeps and which look-ups of the cache find something in it, read off its rules; and that a
--- link which was kept is found while it lives.
+-- Which link a step caches and which of its look-ups find something in the cache, by its rules; and that a cached link
+-- is found while it lives.
 use Rattle.std.specs.Prelude.{◌≡◌, ◌≢◌, ℕ, zero, suc, ◌+◌, ◌<◌, ◌⊎◌, true, false, Option, Some, None, List, [], ◌∷◌, ◌++◌, length, Contains}
 use Rattle.std.proofs.Common.{inl, inr}
 use Rattle.dname.specs.Labels.{Name}
@@ -23,7 +23,7 @@ use Rattle.runs.specs.Steps.{IsIgnored, ServesOpen, IsHandled, IsTicked, IsTurn,
 use Rattle.runs.specs.Runs.{Run}
 use Rattle.laws.specs.Uses.{KeptAnswer, is_kept}
 
--- The link that is kept, if one is, and the look-ups that find something, in order.
+-- The link that a step caches, if it does, and the look-ups that find something, in order.
 pub record Looks : Type 0 where
   pub accepted : Option KeptAnswer
   pub hits : List cache.Question
@@ -33,7 +33,7 @@ none = record { accepted = None; hits = [] }
 
 -- ---- of one call
 
--- What is found is the zones' own, or the cache's.
+-- The question of a look-up that the cache answers; none where a local zone does.
 abbrev pub hits_by : {A B : Type 0} → Home → Name → ℕ → A ⊎ B → List cache.Question
 hits_by home n t (inl zones) = []
 hits_by home n t (inr kept) = asked_of home n t ∷ []
@@ -52,7 +52,7 @@ abbrev pub rules_hits : (home : Home) (now count : ℕ) (a b : Point) → Rules 
 rules_hits home now zero a b same = []
 rules_hits home now (suc n) a b (mid, before, rule) = rules_hits home now n a mid before ++ rule_hits home now mid b rule
 
--- An answer is kept for the search that it is for.
+-- The answer is cached for the search that it is for.
 abbrev pub accepted_by : ℕ → Search → class.Class → Option KeptAnswer
 accepted_by now s (class.Answer l) = Some (record { name = s.name; kind = s.kind; hit = hit_from l now })
 accepted_by now s (class.Referral at ns glue ttl) = None
@@ -107,10 +107,10 @@ turn_looks s (Tick now) served (Some out) new h = ticked_looks s now served out 
 abbrev pub step_looks : (old : State) (t : Turn) (new : State) → Step old t.event t.served t.out new → Looks
 step_looks old t new step = turn_looks (moved old t.event) t.event t.served t.out new step.turn
 
--- ---- what is accepted is what is kept
+-- ---- the accepted answer is the cached one
 
--- The step serves this query, whose innermost search is `sought`, and accepts for it a message that answers with this
--- link.
+-- The step serves this query, whose innermost search is `sought`, and accepts for it a message with this link as its
+-- answer.
 pub record AcceptsLink (port : ℕ) (old : State) (t : Turn) (q : Open) (sought : Search) (others : List Search) (l : Link) : Type 0 where
   pub there : Contains old.queries q
   pub served : t.served ≡ OpenQuery q.number
@@ -122,7 +122,7 @@ pub record AcceptsLink (port : ℕ) (old : State) (t : Turn) (q : Open) (sought 
 abbrev pub kept_of : Search → Link → ℕ → KeptAnswer
 kept_of sought l now = record { name = sought.name; kind = sought.kind; hit = hit_from l now }
 
--- Where memory was there, a step keeps the answer that it accepts, and no other.
+-- A step that does not run out of memory caches the answer that it accepts, and no other.
 abbrev pub AcceptedIsLooked : Type 0
 AcceptedIsLooked =
     (site : Site) (past : List Turn) (old : State) (t : Turn) (new : State) → Run site past old → (step : Step old t.event t.served t.out new) → t.out ≢ None
@@ -132,8 +132,8 @@ AcceptedIsLooked =
 
 -- ---- over a run
 
--- This link was accepted in a step of the run, since then none of its name was, memory was wanting in no
--- step, and n links were kept and found in the cache.
+-- This link was accepted in a step of the run. Since then no link of its name was, memory ran out in no step, and n
+-- links were cached and found in the cache.
 abbrev pub IsKeptSince : (site : Site) (a : KeptAnswer) (run : List Turn) (s : State) → Run site run s → ℕ → Type 0
 IsKeptSince site a [] s new n = ⊥
 IsKeptSince site a (t ∷ past) s (old, legal, step) n =
@@ -146,9 +146,9 @@ IsKeptSince site a (t ∷ past) s (old, legal, step) n =
 abbrev pub IsOnlyLiveEntry : ℕ → KeptAnswer → List (Key × Hit) → Type 0
 IsOnlyLiveEntry now a es = (k : Key) (h : Hit) → Contains es (k, h) → k.name ≡ a.name → k ≢ key_for a.name a.kind (a.hit).link → is_live now h ≡ false
 
--- A link that was accepted with a time to live is what the cache gives for its question while it lives, where
--- since then no link of its name was accepted, no other entry of its name lives, fewer links were kept and
--- found than the cache has room for, and memory was wanting in no step.
+-- A link that was accepted with a TTL above 0 is the cache's answer to its question while it lives. That holds where
+-- since then no link of its name was accepted, no other entry of its name lives, fewer links were cached and found than
+-- the cache has room for, and memory ran out in no step.
 abbrev pub KeptIsFound : Type 0
 KeptIsFound =
     (site : Site) (run : List Turn) (s : State) (legal : Run site run s) (a : KeptAnswer) (n now : ℕ)

@@ -1,4 +1,4 @@
--- Whom a step serves and whom it asks, and what an open query shows of the run.
+-- Which query a step serves and which server it asks, and the fields of an open query by the run.
 use Rattle.std.specs.Prelude.{◌≡◌, ◌≢◌, ℕ, ◌+◌, ◌≤◌, ◌⊎◌, true, false, Some, None, List, [], ◌∷◌, length, Contains}
 use Rattle.limits.specs.Limits.{max_aliases, query_lifetime, tcp_wait}
 use Rattle.rdata.specs.Records.{Record}
@@ -18,10 +18,10 @@ use Rattle.runs.specs.Laws.{IsForTcp}
 use Rattle.laws.specs.Spent.{IsUdpPath, AcceptedAliasesLead}
 use Rattle.laws.specs.LookUps.{look_ups_of}
 
--- ---- whom a step serves
+-- ---- which query a step serves
 
--- Why an event is for an open query: it brings a message that its ask accepts; it is the end of its ask over TCP; it is a
--- tick, and the query is due. Where memory was wanting: it names the query's ask.
+-- Why an event is for an open query. It brings a message that its ask accepts; it is the end of its ask over TCP; or it
+-- is a tick, and the query is due. In a step that ran out of memory it names the query's ask.
 abbrev pub IsForOpenQuery : Site → State → Turn → Open → Type 0
 IsForOpenQuery site s t q =
     ((m : Message) × Brings site.port q.ask t.event m)
@@ -34,7 +34,7 @@ ServedIsMeant =
     (site : Site) (past : List Turn) (old : State) (t : Turn) (new : State) → Run site past old → Step old t.event t.served t.out new → (k : ℕ) → t.served ≡ OpenQuery k
     → ((who : ClientQuery) × Came (OpenQuery k) who t past) ⊎ ((q : Open) × Contains old.queries q × (q.number ≡ k) × IsForOpenQuery site (moved old t.event) t q)
 
--- What is dropped, refused, or asked without RD is over in its own step, with its one reply.
+-- A request that is dropped, refused, or without RD is over in its own step, with its one reply.
 abbrev pub IsOverAtOnce : ℕ → Via → Request Plain → Served → List Action → Type 0
 IsOverAtOnce client way request.Drop served out = (served ≡ Own) × (out ≡ [])
 IsOverAtOnce client way (request.Refuse refusal start echo) served out = (served ≡ Own) × ((action : Action) × IsRefusal client way refusal start echo action × (out ≡ action ∷ []))
@@ -46,31 +46,31 @@ AtHandIsReplied =
     (site : Site) (past : List Turn) (old : State) (now client : ℕ) (way : Via) (bytes : List ℕ) (served : Served) (out : List Action) (new : State) (asked : Request Plain)
     → Run site past old → Step old (Client now client way bytes) served (Some out) new → IsRequest bytes asked → IsOverAtOnce client way asked served out
 
--- ---- whom a step asks
+-- ---- which server a step asks
 
--- Over UDP nobody is asked who failed less than 30 seconds ago to answer the same question (RFC 2308, section 7.1).
+-- Over UDP no server is asked that failed less than 30 seconds ago to answer the same question (RFC 2308, section 7.1).
 abbrev pub NobodyFailingIsAsked : Type 0
 NobodyFailingIsAsked =
     (site : Site) (past : List Turn) (old : State) (t : Turn) (new : State) → Run site past old → Step old t.event t.served t.out new
     → (q : Open) → Contains new.queries q → t.served ≡ OpenQuery q.number → IsUdpPath (q.ask).path
     → is_failed (moved old t.event).clock (failed_ask (q.ask).name (q.ask).kind (q.ask).server) (new.stores).failures ≡ false
 
--- ---- what an open query shows
+-- ---- the fields of an open query
 
--- How long is waited for an ask: 1,000 or 2,000 milliseconds in a datagram, 3,000 on a stream.
+-- The wait for the reply to an ask: 1,000 or 2,000 milliseconds in a datagram, 3,000 on a stream.
 abbrev pub IsWait : Path → ℕ → Type 0
 IsWait (ByUdp sock) wait = (wait ≡ 1000) ⊎ (wait ≡ 2000)
 IsWait (ByTcp number) wait = wait ≡ tcp_wait
 
--- The query's last step sent the ask that it shows, and this is waited for from there until it is due.
+-- The query's last step sent its open ask, whose reply is waited for from there until it is due.
 abbrev pub IsAwaited : ℕ → Open → List Turn → Type 0
 IsAwaited port q [] = ⊥
 IsAwaited port q (t ∷ past) =
     ((t.served ≡ OpenQuery q.number) × ((action : Action) × GivesOut t.out action × IsSent port q.ask action) × ((wait : ℕ) × IsWait (q.ask).path wait × (q.due ≡ clock_of (t ∷ past) + wait)))
     ⊎ ((t.served ≢ OpenQuery q.number) × IsAwaited port q past)
 
--- It came so, ten seconds before its deadline, with RD, and its type is sought; its aliases lead from the asked name to
--- the one that is sought; its asks and its look-ups are those of the run.
+-- The query came so, ten seconds before its deadline, with RD, and its type is sought. Its aliases lead from the name
+-- in its question to the one that is sought. Its asks and its look-ups are those of the run.
 pub record IsOfRun (site : Site) (run : List Turn) (s : State) (legal : Run site run s) (q : Open) : Type 0 where
   pub came : Earlier (λ u before. Came (OpenQuery q.number) q.client_query u before × ((q.job).deadline ≡ clock_of (u ∷ before) + query_lifetime)) run
   pub wanted : recursive (q.client_query).query ≡ true

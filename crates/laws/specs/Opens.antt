@@ -1,5 +1,5 @@
--- Which frames open in a step, read off its rules; and that each opens at the start of its question, and the first
--- address of its plan is asked.
+-- Which frames open in a step, by its rules; and that each opens at the start of its question, and the first address of
+-- its plan is asked.
 use Rattle.std.specs.Prelude.{◌≡◌, ℕ, zero, suc, ◌≤◌, ◌⊎◌, Option, Some, None, List, ◌∷◌, length, Contains}
 use Rattle.std.proofs.Common.{inl, inr}
 use Rattle.dname.specs.Labels.{Name}
@@ -22,7 +22,7 @@ use Rattle.laws.specs.Laws.{IsOnlyAction}
 use Rattle.laws.specs.Calls.{Opening, opening_of, StartsSearch, IsGivenOf}
 use Rattle.laws.specs.Steps.{IsSentByUdp}
 
--- The call of a query's work that a step makes: who asked, what came in, and the work before and after.
+-- The call of a query's work that a step makes: the client's query, the input, and the work before and after.
 pub record Call (s : State) : Type 0 where
   pub client_query : ClientQuery
   pub input : Input
@@ -65,7 +65,7 @@ turn_call s (TcpReply now number bytes) served (Some out) new h = either_call s 
 turn_call s (event.TcpFailed now number) served (Some out) new h = either_call s (event.TcpFailed now number) served out new h
 turn_call s (Tick now) served (Some out) new h = ticked_call s now served out new h
 
--- None, where it is for nobody, is answered without such work, or memory is wanting.
+-- The call of a step. There is none where it serves no query, answers without such work, or runs out of memory.
 abbrev pub step_call : (old : State) (t : Turn) (new : State) → Step old t.event t.served t.out new → Option (Call (moved old t.event))
 step_call old t new step = turn_call (moved old t.event) t.event t.served t.out new step.turn
 
@@ -91,7 +91,8 @@ pub record Goes (site : Site) (served : Served) (server : Addr) (n : Name) (t : 
   pub sent : IsSent site.port query.ask action
   pub alone : IsOnlyAction action out
 
--- Or its time is up, or 40 asks went out for it, or it has only come and 1,024 others are open; it is answered so.
+-- Or the query's time is up, or 40 asks went out for it, or it has only come and 1,024 others are open; then it is
+-- answered so.
 pub record MayNot (s : State) (call : Call s) (out : List Action) : Type 0 where
   pub c : Cause
   pub may_not : MayNotSend s.clock (call.old) c ⊎ ((call.input ≡ Start) × (c ≡ cause.TooManyOpen) × (most_open ≤ length s.queries))

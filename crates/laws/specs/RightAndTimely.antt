@@ -1,5 +1,5 @@
--- The promise in one sentence: in a well formed world, as long as servers say only what they may, each reply is right,
--- and it is made of links within their time or of a failure whose cause stands in the run.
+-- The promise in one sentence. In a well formed world, as long as servers send only what they may, each reply is right,
+-- and it is made of links within their TTL or of a failure whose cause stands in the run.
 use Rattle.std.specs.Prelude.{◌∷◌, List}
 use Rattle.world_truth.specs.Worlds.{World, IsWorld}
 use Rattle.runs.specs.States.{Turn, Site, State}

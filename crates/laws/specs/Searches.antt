@@ -1,11 +1,11 @@
--- What the open ask of a query is for, over every run.
+-- The question of a query's open ask, over every run.
 use Rattle.std.specs.Prelude.{◌≡◌, List, [], ◌∷◌, Contains}
 use Rattle.resolution.specs.Jobs.{Search}
 use Rattle.runs.specs.States.{Turn, Open, Site, State}
 use Rattle.runs.specs.Runs.{Run}
 
--- The open ask of a query is for the name and the type that its innermost search seeks; with no search around
--- it these are the name that the query's chain leads to and the query's type.
+-- The open ask of a query is for the name and the type of its innermost search. With no search around it these are the
+-- name that the query's chain leads to and the query's type.
 pub record IsOfSearch (q : Open) : Type 0 where
   pub sought : Search
   pub others : List Search

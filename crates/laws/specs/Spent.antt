@@ -1,6 +1,6 @@
--- When all servers of a name are used up (RFC 1034, section 5.3.3, step 3; RFC 1035, section 7.2): which
--- servers there are to begin with, which of them were asked twice in vain, and which of their names have no
--- address. All of it stands in the run: nothing is said of what the resolver remembers.
+-- When all servers of a name are used up (RFC 1034, section 5.3.3, step 3; RFC 1035, section 7.2): which servers there
+-- are to begin with, which of them were asked twice in vain, and which of their names have no address. All of it is
+-- read from the run, and nothing from the resolver's state.
 use Rattle.std.specs.Prelude.{◌≡◌, ◌≢◌, ℕ, zero, suc, ◌-◌, ◌⊎◌, true, List, [], ◌∷◌, Contains}
 use Rattle.dname.specs.Labels.{Name, root, IsAtOrUnder}
 use Rattle.rdata.specs.Records.{Record}
@@ -43,8 +43,8 @@ pub record BringsTruncated (port k : ℕ) (a : Addr) (n : Name) (t : ℕ) (turn 
   pub brings : Brings port ask turn.event message
   pub tc : message.header.tc ≡ true
 
--- The query's open ask over TCP: it went out in the step that brought a truncated reply to the same ask over
--- UDP (RFC 1035, section 4.2.1). With it that ask goes on.
+-- The query's open ask over TCP went out in the step that brought a truncated reply to the same ask over UDP (RFC 1035,
+-- section 4.2.1). With it that ask goes on.
 abbrev pub Repeats : ℕ → ℕ → Ask → List Turn → Type 0
 Repeats port k ask [] = ⊥
 Repeats port k ask (turn ∷ past) =
@@ -59,10 +59,10 @@ AsksBy port k ask (ByTcp number) run = Repeats port k ask run
 abbrev pub IsOpenAsk : ℕ → ℕ → Ask → List Turn → Type 0
 IsOpenAsk port k ask run = AsksBy port k ask ask.path run
 
--- ---- asks that end for nothing
+-- ---- asks that end in vain
 
--- What is heard of an ask is of no use to the servers of the zone z: nothing in time, a TCP ask that fails or
--- brings no reply to it, or a reply that is neither an answer nor a referral from that zone.
+-- The end of an ask is of no use to the servers of a zone. No reply came in time, a TCP ask failed or brought no reply
+-- to it, or the reply is neither an answer nor a referral from that zone.
 abbrev pub IsBad : ℕ → Name → Ask → Event → Type 0
 IsBad port z ask event =
     ((now : ℕ) × (event ≡ Tick now))
@@ -70,11 +70,11 @@ IsBad port z ask event =
     × ((event ≡ TcpFailed now number) ⊎ ((bytes : List ℕ) × (event ≡ TcpReply now number bytes) × ((m : Message) → Brings port ask event m → ⊥))))
     ⊎ ((m : Message) × (f : Failure) × Brings port ask event m × (class_of z ask.name ask.kind (via_of ask.path) m ≡ class.Failed f)))
 
--- In this step an ask of the address for the name and type ends so.
+-- In this step an ask of the address for the name and type ends in vain.
 abbrev pub EndsBadly : ℕ → ℕ → Name → Name → ℕ → Addr → Turn → List Turn → Type 0
 EndsBadly port k z n t a turn past = (ask : Ask) × (turn.served ≡ OpenQuery k) × IsOpenAsk port k ask past × IsFor a n t ask × IsBad port z ask turn.event
 
--- The address was asked twice, and each time for nothing.
+-- The address was asked twice, and each time in vain.
 abbrev pub HasFailed : ℕ → List Turn → ℕ → Name → Name → ℕ → Addr → Type 0
 HasFailed port run k z n t a = Twice (EndsBadly port k z n t a) run
 
@@ -83,22 +83,22 @@ abbrev pub SendsTo : ℕ → ℕ → Addr → Name → ℕ → Turn → List Tur
 SendsTo port k a n t turn past =
     (ask : Ask) × IsUdpPath ask.path × IsFor a n t ask × (turn.served ≡ OpenQuery k) × ((action : Action) × GivesOut turn.out action × IsSent port ask action)
 
--- So two such ends are those of two asks over UDP: one that goes on over TCP ends once.
+-- Two such ends are those of two asks over UDP: an ask that goes on over TCP ends once.
 abbrev pub FailedIsAskedTwice : Type 0
 FailedIsAskedTwice = (port k : ℕ) (z n : Name) (t : ℕ) (a : Addr) (run : List Turn) → HasFailed port run k z n t a → Twice (SendsTo port k a n t) run
 
--- ---- what servers' names have
+-- ---- links and addresses of servers' names
 
--- In this step an answer was accepted for the name and type that gives this link.
+-- In this step an answer with this link was accepted for the name and type.
 abbrev pub LearnsLink : ℕ → Name → ℕ → Link → Turn → List Turn → Type 0
 LearnsLink port n t l turn past = (by : ℕ) × (said : Link) × (since : ℕ) × AcceptsAnswer port by n t said since turn past × (l ≡ received said)
 
--- The name has this set of A records: by the zones at hand, or by an answer.
+-- The name has this set of A records: by the local zones, or by an answer.
 abbrev pub IsFound : ℕ → Home → List Turn → Name → List Record → Type 0
 IsFound port home run n set = Says home n a_type (local.Linked (Found set)) ⊎ Earlier (LearnsLink port n a_type (Found set)) run
 
--- A link for the type t says that the name has no A record: an alias and an NXDOMAIN for any type, a want of
--- data for A alone; and a CNAME that was asked for.
+-- A link for the type t says that the name has no A record: an alias and an NXDOMAIN for any type, NODATA for A alone;
+-- and a CNAME that was asked for.
 abbrev pub TellsOfNone : ℕ → Link → Type 0
 TellsOfNone t (Found set) = t ≡ cname_type
 TellsOfNone t (Alias r) = Unit {0}
@@ -108,16 +108,16 @@ TellsOfNone t (NxDomain soa) = Unit {0}
 abbrev pub IsNotFound : Link → Type 0
 IsNotFound l = (set : List Record) → l ≢ Found set
 
--- The name has no address: by the zones at hand; by an answer; or by the error of a name above that counts for it
--- (RFC 8020, section 2).
+-- The name has no address: by the local zones; by an answer; or by the NXDOMAIN of a name above that counts for it (RFC
+-- 8020, section 2).
 abbrev pub HasNoAddress : ℕ → Home → List Turn → Name → Type 0
 HasNoAddress port home run n =
     ((l : Link) × Says home n a_type (local.Linked l) × IsNotFound l)
     ⊎ (((t : ℕ) × (l : Link) × Earlier (LearnsLink port n t l) run × TellsOfNone t l)
     ⊎ ((p : Name) × (t : ℕ) × (soa : Record) × Contains (asked_of home n a_type).above p × Earlier (LearnsLink port p t (NxDomain soa)) run))
 
--- The name is an alias for the type t by this record: by the zones at hand, or by an answer; a CNAME that was
--- asked for is an alias for every other type.
+-- The name is an alias for the type t by this record: by the local zones, or by an answer; a CNAME that was asked for
+-- is an alias for every other type.
 abbrev pub IsAliasOf : ℕ → Home → List Turn → Name → ℕ → Record → Type 0
 IsAliasOf port home run n t r =
     Says home n t (local.Linked (Alias r))
@@ -136,8 +136,8 @@ Refers port z c turn past =
     (k : ℕ) × (ask : Ask) × (m : Message) × (at : Name) × (ns : List Record) × (glue : List Record) × (ttl : ℕ)
     × Accepts port k ask m turn past × (class_of z ask.name ask.kind (via_of ask.path) m ≡ class.Referral at ns glue ttl) × IsCutOf at ns glue c
 
--- The hints; a cut of a zone at hand; a cut that a server of such a start referred to. The zone whose server
--- was asked decides which addresses of a referral are taken.
+-- The cuts where a search may start: the hints; a cut of a local zone; a cut that a server of such a start referred to.
+-- The zone whose server was asked decides which addresses of a referral are used.
 abbrev pub MayStart : ℕ → Home → List Turn → Cut → Type 0
 MayStart port home [] c =
     IsRootCut home c ⊎ ((n : Name) × (t : ℕ) × (at : Name) × (ns : List Record) × (glue : List Record) × Says home n t (local.Cut at ns glue) × IsCutOf at ns glue c)
@@ -149,16 +149,16 @@ IsOver c n = (c.owner ≡ root) ⊎ IsAtOrUnder n c.owner
 
 -- ---- servers that are used up
 
--- Why the name x of a server of the zone z is of no use: it lies in that zone itself; its addresses are all
--- among those that failed; it has none; or its own servers are used up.
+-- Why the name x of a server of the zone z is of no use: it lies in that zone itself; its addresses are all among those
+-- that failed; it has none; or its own servers are used up.
 abbrev pub IsOfNoUse : ℕ → Home → List Turn → Name → (Addr → Type 0) → (Name → Type 0) → Name → Type 0
 IsOfNoUse port home run z Has Beneath x =
     IsAtOrUnder x z
     ⊎ (((set : List Record) × (found : List Addr) × IsFound port home run x set × AreAddressesOf set found × ((a : Addr) → Contains found a → Has a))
     ⊎ (HasNoAddress port home run x ⊎ Beneath x))
 
--- All that is taken of the start c, the first sixteen addresses and the first sixteen names without one of
--- these, is of no use for the name n and the type t. `Fails`: why a server of a zone is of none for a name and a type.
+-- All that is used of the start c is of no use for the name n and the type t: the first sixteen addresses and the first
+-- sixteen names without one of these. `Fails`: why a server of a zone is of no use for a name and a type.
 pub record AreUsedUp (port : ℕ) (home : Home) (run : List Turn) (Fails : Name → Name → ℕ → Addr → Type 0) (n : Name) (t : ℕ) (Beneath : Name → Type 0) (c : Cut) : Type 0 where
   pub start : MayStart port home run c
   pub over : IsOver c n

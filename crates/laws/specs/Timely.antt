@@ -1,5 +1,5 @@
--- Replies within their time: which links a reply may be made of, and until when (RFC 1034, section 3.6;
--- RFC 1035, section 3.2.1; RFC 2308, section 5).
+-- Replies within their TTL: which links a reply may be made of, and until when (RFC 1034, section 3.6; RFC 1035,
+-- section 3.2.1; RFC 2308, section 5).
 use Rattle.std.specs.Prelude.{◌≡◌, ℕ, ◌-◌, ◌*◌, ◌/◌, ◌<◌, ◌≤◌, ◌⊎◌, Bool, true, false, List, [], ◌∷◌, length}
 use Rattle.limits.specs.Limits.{max_aliases}
 use Rattle.dname.specs.Labels.{Name, root}
@@ -21,8 +21,8 @@ use Rattle.resolution.specs.Rules.{Says, IsRemote, asked_of}
 use Rattle.runs.specs.States.{OpenQuery, Turn, Plain, Ask, via_of}
 use Rattle.runs.specs.Runs.{Earlier, clock_of, Accepts}
 
--- In this step a message is accepted for the query with this number that answers the name and type with this
--- link, as it would be read from a server of the root.
+-- In this step a message is accepted for the query with this number, with this link as its answer for the name and
+-- type, as it would be read from a server of the root.
 pub record AcceptsAnswer (port by : ℕ) (n : Name) (u : ℕ) (said : Link) (since : ℕ) (turn : Turn) (past : List Turn) : Type 0 where
   pub ask : Ask
   pub message : Message
@@ -32,14 +32,14 @@ pub record AcceptsAnswer (port by : ℕ) (n : Name) (u : ℕ) (said : Link) (sin
   pub is : class_of root n u (via_of ask.path) message ≡ class.Answer said
   pub moment : since ≡ clock_of (turn ∷ past)
 
--- How a link that was accepted for the name m and the type u serves a question. It is the question's own; or of
--- the same name, an NXDOMAIN for any type, an alias for any type, a CNAME that was asked for as an alias; or it
--- is the error of a name above, up to the cut that the zones at hand name (RFC 8020, section 2).
+-- How a link that was accepted for the name m and the type u serves a question. It may be the question's own link. It
+-- may be of the same name: an NXDOMAIN for any type, an alias for any type, a CNAME that was asked for as an alias. Or
+-- it is the NXDOMAIN of a name above, up to the cut that the local zones name (RFC 8020, section 2).
 abbrev pub Fits : Home → Name → ℕ → Name → ℕ → Link → Link → Type 0
 Fits home n t m u l given = ((m ≡ n) × (u ≡ t) × (given ≡ l)) ⊎ cache.EntryAnswers (asked_of home n t) (key_for m u l) l given
 
--- The link was accepted for that very name, or is the error of one above, goes out with its time to live less its
--- age, and is younger than that; or it was accepted for the very query that is served.
+-- The link was accepted for that very name, or is the NXDOMAIN of one above, goes out with its TTL less its age, and is
+-- younger than that; or it was accepted for the very query that is served.
 pub record IsInTime (port : ℕ) (home : Home) (turn : Turn) (past : List Turn) (n : Name) (t : ℕ) (out : Link) : Type 0 where
   pub by : ℕ
   pub at : Name
@@ -52,7 +52,7 @@ pub record IsInTime (port : ℕ) (home : Home) (turn : Turn) (past : List Turn) 
   pub is : out ≡ retimed (lifetime_of (received said) - (clock_of (turn ∷ past) - since) / 1000) given
   pub in_time : (clock_of (turn ∷ past) - since < 1000 * lifetime_of (received said)) ⊎ (turn.served ≡ OpenQuery by)
 
--- The zones at hand come first: where they have a link for the name, that one goes out.
+-- The local zones come first: where they have a link for the name, that one goes out.
 abbrev pub IsTimelyLink : ℕ → Home → Turn → List Turn → Name → ℕ → Link → Type 0
 IsTimelyLink port home turn past n t out = Says home n t (local.Linked out) ⊎ (IsRemote home n t × IsInTime port home turn past n t out)
 
@@ -61,8 +61,8 @@ abbrev pub IsTimelyChain : ℕ → Home → Turn → List Turn → ℕ → Name 
 IsTimelyChain port home turn past t from [] end = (l : Link) × IsTimelyLink port home turn past from t l × IsEndOf l end
 IsTimelyChain port home turn past t from (r ∷ rs) end = IsTimelyLink port home turn past from t (Alias r) × IsTimelyChain port home turn past t (alias_target r) rs end
 
--- An answer: at most eight aliases, none where CNAME is asked for, and an end; AA exactly where the zones at
--- hand have the first link.
+-- An answer: at most eight aliases, none where CNAME is asked for, and an end; AA exactly where the local zones have
+-- the first link.
 pub record IsTimely (port : ℕ) (home : Home) (turn : Turn) (past : List Turn) (n : Name) (t : ℕ) (aa : Bool) (aliases : List Record) (end : End Plain) : Type 0 where
   pub few : length aliases ≤ max_aliases
   pub plain : t ≡ cname_type → aliases ≡ []

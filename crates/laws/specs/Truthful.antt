@@ -1,5 +1,5 @@
--- What the resolver holds is true, as long as servers say only what they may: each entry of the cache is a link of the
--- world, the servers of each cut that is kept serve it, the servers of each search serve its zone, and the aliases of
+-- The resolver's data are true, as long as servers send only what they may. Each entry of the cache is a link of the
+-- world, and the servers of each cached cut serve it. The servers of each search serve its zone, and the aliases of
 -- each open query are those of its name.
 use Rattle.std.specs.Prelude.{◌≡◌, ℕ, ◌<◌, ◌≤◌, List, [], ◌∷◌, length, map, Contains}
 use Rattle.limits.specs.Limits.{max_aliases}
@@ -54,7 +54,7 @@ address_bytes s = (s.address).0
 abbrev pub cut_bytes : Cut → List Address
 cut_bytes c = map address_bytes c.addresses
 
--- The servers that are kept of a cut are those of the world's delegation.
+-- The servers of a cached cut are those of the world's delegation.
 abbrev pub IsTrueCut : World → Cut → Type 0
 IsTrueCut W c = IsDelegation W c.owner c.names (cut_bytes c)
 
@@ -79,7 +79,7 @@ abbrev pub TrueAliasesLead : World → ℕ → Name → List Taken → Name → 
 TrueAliasesLead W t from [] to = to ≡ from
 TrueAliasesLead W t from (l ∷ ls) to = (l.name ≡ from) × ((r : Record) × (l.link ≡ Alias r) × IsTrueOnce W from t (Alias r) × TrueAliasesLead W t (alias_target r) ls to)
 
--- A search for the query's own name, or for a name of the servers of the search around it.
+-- A search for the query's own name, or for the name of a server of the search around it.
 abbrev pub IsWanted : Name → ℕ → Search → List Search → Type 0
 IsWanted n t s [] = (s.name ≡ n) × (s.kind ≡ t)
 IsWanted n t s (around ∷ rest) = Contains (around.frame).names s.name × (s.kind ≡ a_type)
@@ -112,13 +112,13 @@ pub record IsTrueOpen (W : World) (port : ℕ) (run : List Turn) (q : Open) : Ty
   pub ask : IsOpenAskOf port q.number q.ask run
   pub asks : AsksTruly W (q.ask).server (q.ask).name (q.ask).kind q.job
 
--- ---- all of it
+-- ---- all data together
 
 pub record HoldsTruth (W : World) (port : ℕ) (run : List Turn) (s : State) : Type 0 where
   pub stores : AreTrueStores W s.stores
   pub queries : (q : Open) → Contains s.queries q → IsTrueOpen W port run q
   pub numbers : (k : ℕ) (who : ClientQuery) → Earlier (Came (OpenQuery k) who) run → k < s.opened
 
--- In an honest run all that is held is true.
+-- In an honest run all data of the resolver are true.
 abbrev pub HeldIsTrue : Type 0
 HeldIsTrue = (W : World) (site : Site) (run : List Turn) (s : State) → IsWorld W → IsHomeIn W site.home → Run site run s → IsHonest W site.port run → HoldsTruth W site.port run s

@@ -19,14 +19,14 @@ IsByWord s k a w =
     ((sock : ℕ) × (sock ≡ socket_of (s.site).sockets w) × (a.path ≡ ByUdp sock) × IsRaised (IsInUse s.queries k sock a.server) (low_half w) a.id)
     ⊎ ((number : ℕ) × (a.path ≡ ByTcp number) × (a.id ≡ low_half w))
 
--- What a step takes of the words: none where no ask goes out, and the next one for an ask; where memory was
--- wanting none or one.
+-- The words that a step takes: none where no ask goes out, and the next one for an ask; in a step that runs out of
+-- memory none or one.
 abbrev pub Draws : ChaCha → Site → State → Turn → ℕ → ℕ → Type 0
 Draws start site old t m n =
     ((asks_in t.out ≡ 0) × ((n ≡ m) ⊎ ((t.out ≡ None) × (n ≡ suc m))))
     ⊎ ((n ≡ suc m) × ((k : ℕ) × (a : Ask) × (action : Action) × (t.served ≡ OpenQuery k) × GivesOut t.out action × IsSent site.port a action × IsByWord old k a (word_of (drawn m start))))
 
--- n words were taken in a run, and each ask has the first that none before it has.
+-- n words were taken in a run, and each ask has the first one that none before it has.
 abbrev pub AreDrawn : (start : ChaCha) (site : Site) (run : List Turn) (s : State) → Run site run s → ℕ → Type 0
 AreDrawn start site [] s new n = (n ≡ zero) × (s.generator ≡ start)
 AreDrawn start site (t ∷ past) s (old, legal, step) n = (m : ℕ) × AreDrawn start site past old legal m × Draws start site old t m n × (s.generator ≡ drawn n start)

@@ -7,11 +7,11 @@ ghost use Rattle.laws.specs.Meant.{ServedIsMeant, AtHandIsReplied, NobodyFailing
 ghost use Rattle.laws.specs.Times.{NothingIsLate};
 ghost use Rattle.laws.specs.Words.{WordsInOrder};
 
-/// Over every run, whatever comes: a step that serves a query gives one reply or one ask of it, and bytes
-/// that are no query are dropped; a query has one Client step, one reply at most and 40 asks at most, and is
-/// never served again when it is over; servers' names have 64 turns for it at most, and where it fails for that they
-/// had 64; no step takes more than 488 rules; the open queries are those whose last step sent an ask, which is
-/// their one open ask; no two open asks over UDP agree in socket, server and ID (RFC 5452, section 4).
+/// Over every run, whatever comes. A step that serves a query gives one reply or one ask of it, and bytes that are no
+/// query are dropped. A query has one Client step, one reply at most and 40 asks at most, and is never served again
+/// when it is over. Servers' names have 64 turns for it at most, and where it fails for that they had 64; no step takes
+/// more than 488 rules. The open queries are those whose last step sent an ask, which is their one open ask. No two
+/// open asks over UDP agree in socket, server and ID (RFC 5452, section 4).
 pub fn discipline_law()
     ensures action { OneAction }
     ensures coming { OneComing }
@@ -25,11 +25,11 @@ pub fn discipline_law()
     ensures line { OneLine }
 {}
 
-/// Over every run: a query is served by its own coming, by a message that is accepted for its open ask, by the end of its
-/// ask over TCP, or by a tick when it is due, and in no other step; what is dropped, refused, or asked without RD is over
-/// in its own step; over UDP nobody is asked who failed lately to answer the same (RFC 2308, section 7.1); and what an
-/// open query shows is the run's: its client, its deadline and the end of its ask's wait, its type, its chain, and how
-/// many asks and look-ups there were.
+/// Over every run. A query is served by its own coming, by a message that is accepted for its open ask, by the end of
+/// its ask over TCP, or by a tick when it is due, and in no other step. A request that is dropped, refused, or without
+/// RD is over in its own step. Over UDP no server is asked that lately failed to answer the same (RFC 2308, section
+/// 7.1). The fields of an open query are the run's: its client, its deadline and the end of its ask's wait, its type,
+/// its chain, and how many asks and look-ups there were.
 pub fn meant_law()
     ensures served { ServedIsMeant }
     ensures at_hand { AtHandIsReplied }
@@ -42,22 +42,22 @@ pub fn isolation_law()
     ensures { OthersStay }
 {}
 
-/// A tick serves the query that is due first, the older one among equals, and answers it where its time is
-/// up; word that another query is due is given at ticks alone, and exactly where one is. Nothing is sent for a
-/// query once ten seconds have passed since it came, whatever comes.
+/// A tick serves the query that is due first, the older one among equals, and answers it where its time is up. Word
+/// that another query is due is given at ticks alone, and exactly where one is. Nothing is sent for a query once ten
+/// seconds have passed since it came, whatever comes.
 pub fn due_law()
     ensures order { DueInOrder }
     ensures late { NothingIsLate }
     ensures ticks { MoreDueAtTicks }
 {}
 
-/// The socket and the ID of each ask are those of the first word of the first state's stream, which is a seed's, that no
-/// ask before it had, words aside that were taken where memory was wanting.
+/// The socket and the ID of each ask are those of a word of the first state's stream, which comes from a seed. It is
+/// the first word that no ask before it had, words aside that were taken in a step that ran out of memory.
 pub fn words_law()
     ensures { WordsInOrder }
 {}
 
-/// How many entries each store may have is what it was in the first state.
+/// The capacity of each store is that of the first state.
 pub fn room_law()
     ensures { RoomStays }
 {}

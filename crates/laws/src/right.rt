@@ -4,24 +4,23 @@ ghost use Rattle.laws.specs.Headline.{Headline};
 ghost use Rattle.laws.specs.RightAndTimely.{RightAndTimely};
 ghost use Rattle.laws.specs.Truthful.{HeldIsTrue};
 
-/// Every reply is right: in a well formed world whose local zones and hints are the resolver's, and in every run
-/// up to a reply in which each accepted message is one that the asked server may send, that reply, to a recursive
-/// query, is a SERVFAIL, or carries exactly the CNAME chain and the RRset, NXDOMAIN or NODATA that
-/// the look-up of RFC 1034, section 4.3.2, finds in the world's zones, or is truncated over UDP where that is longer
-/// than 512 bytes.
+/// Every reply is right. In a well formed world whose local zones and hints are the resolver's, take any run up to a
+/// reply to a recursive query, in which each accepted message is one that the asked server may send. That reply is a
+/// SERVFAIL, or is truncated over UDP where the right reply is longer than 512 bytes. Or it carries exactly the CNAME
+/// chain and the RRset, NXDOMAIN or NODATA that the look-up of RFC 1034, section 4.3.2, finds in the world's zones.
 pub fn headline_law()
     ensures { Headline }
 {}
 
-/// The promise in one sentence: such a reply is right, and it is made of links within their time, or fails for a cause
+/// The promise in one sentence: such a reply is right, and it is made of links within their TTL, or fails for a cause
 /// that stands in the run (`timely_law`).
 pub fn headline_and_timely_law()
     ensures { RightAndTimely }
 {}
 
-/// What the theorem rests on: in such a run all that is held is true. Each entry of the cache is a link of the world,
-/// the servers of each cut that is kept are those of its delegation, those of each open search serve its zone, and the
-/// aliases of each open query are those of its name.
+/// The ground of the theorem: in such a run all data of the resolver are true. Each entry of the cache is a link of the
+/// world, and the servers of each cached cut are those of its delegation. Those of each open search serve its zone, and
+/// the aliases of each open query are those of its name.
 pub fn truth_law()
     ensures { HeldIsTrue }
 {}

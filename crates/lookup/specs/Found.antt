@@ -1,4 +1,4 @@
--- What is found for a name and a type without asking anybody.
+-- The result of a look-up without a query to a server.
 use Rattle.std.specs.Prelude.{◌≡◌, ℕ, Option, Some, None}
 use Rattle.dname.specs.Labels.{Name, IsName}
 use Rattle.zone.specs.Zones.{IsBeneath}
@@ -13,13 +13,13 @@ use Rattle.lookup.specs.declared.lookup.Found.TheVariants as found
 use Rattle.lookup.specs.declared.lookup.Kept.{Kept}
 use Rattle.lookup.specs.declared.lookup.Kept.TheVariants as kept
 
--- A link, or the cut where servers are sought.
+-- The result: a link, or the cut where servers are sought.
 abbrev pub IsFound : {A : Type 0} → Home → ℕ → Name → ℕ → Stores → Found A → Stores → Type 0
 IsFound home now n t old (found.Known l) new = Finds home now n t old l new
 IsFound home now n t old (found.Start c) new = Misses home now n t old c new
 
--- What is kept of the name and the type, where errors of names above count up to `top`: a link of the cache, or
--- else the best cut.
+-- The result of the cache and the delegations, where an NXDOMAIN of a name above counts up to `top`: a link of the
+-- cache, or else the deepest cut.
 pub record IsHit (top : Name) (now : ℕ) (n : Name) (t : ℕ) (old : Stores) (l : Taken) (new : Stores) : Type 0 where
   pub hit : Hit
   pub found : hit_of (lent (asked_to top n t) now old.cache) ≡ Some hit
@@ -37,13 +37,13 @@ abbrev pub IsKept : {A : Type 0} → Name → ℕ → Name → ℕ → Stores �
 IsKept top now n t old (kept.Hit l) new = IsHit top now n t old l new
 IsKept top now n t old (kept.Best best) new = IsMiss top now n t old best new
 
--- What is left of the best cut: nothing where it is not beneath the one that the zones at hand name.
+-- The deepest cached cut, and nothing where it is not beneath the one that the local zones name.
 abbrev pub IsDeeper : Name → Option Cut → Option Cut → Type 0
 IsDeeper at None deeper = deeper ≡ None
 IsDeeper at (Some k) None = IsBeneath k.owner at → ⊥
 IsDeeper at (Some k) (Some c) = IsBeneath k.owner at × (c ≡ k)
 
--- The same where what is kept decides: the link, or where servers are sought first.
+-- The result where no local zone answers: the link of the cache, or the cut where servers are sought first.
 abbrev pub IsBegun : {A : Type 0} → Home → Name → local.Local → Kept A → Found A → Type 0
 IsBegun home n what (kept.Hit l) (found.Known k) = k ≡ l
 IsBegun home n what (kept.Hit l) (found.Start c) = ⊥

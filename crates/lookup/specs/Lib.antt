@@ -1,5 +1,5 @@
 -- To be read: what the words of the contracts mean.
 pub mod Found
 pub mod Uses
--- Kept: what the code's own values keep.
+-- Kept: invariants of the code's values, and how contracts see them.
 pub mod Views

@@ -3,7 +3,7 @@ use Rattle.std.specs.Prelude.{◌≡◌}
 use Rattle.lru_laws.specs.Orders.{HasSame}
 use Rattle.resolution.specs.Jobs.{Stores}
 
--- The same links, delegations and failures are kept, at most in another order, and nothing else changed.
+-- The same links, delegations and failures are there, at most in another order, and nothing else changed.
 pub record OnlyUses (old new : Stores) : Type 0 where
   pub cache : HasSame old.cache new.cache
   pub delegations : HasSame old.delegations new.delegations

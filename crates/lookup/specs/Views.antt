@@ -1,4 +1,4 @@
--- What the resolver holds and takes, seen as the plain values of the rules.
+-- The code's home, stores and links, seen as the plain values of the rules.
 use Rattle.std.specs.Prelude.{ℕ, ◌≤◌, Bool, true, false, Option, Some, None, List, [], ◌∷◌, map}
 use Rattle.dname.specs.Labels.{Name, root}
 use Rattle.rdata.specs.Records.{Record, greatest_ttl}
@@ -15,7 +15,7 @@ use Rattle.resolution.specs.Jobs as rules
 use Rattle.lookup.specs.declared.taken.Source.{Source}
 use Rattle.lookup.specs.declared.taken.Source.TheVariants as origin
 
--- The zones at hand and the root's cut: the hints are the addresses of that cut.
+-- The local zones and the root's cut: the hints are the addresses of that cut.
 abbrev pub home_at : List Zone → List Addr → Home
 home_at zones hints = record { zones = zones; hints = hints }
 
@@ -25,7 +25,7 @@ hints_of c = map (λ (s : ServerAddress). s.address) c.addresses
 abbrev pub home_of : List Zone → Cut → Home
 home_of zones root = home_at zones (hints_of root)
 
--- The owner of a link's own records, and the name that a link is of: another one where that is given.
+-- The owner of a link's own records; the name of a link, which is another one where that is given.
 abbrev pub owner_of_all : List Record → Name
 owner_of_all [] = root
 owner_of_all (r ∷ rs) = r.owner
@@ -40,7 +40,7 @@ abbrev pub name_of : Option Name → Link → Name
 name_of None l = owner_in l
 name_of (Some n) l = n
 
--- Where a link comes from.
+-- The source of a link.
 abbrev pub source_view : Source → SourceSpec
 source_view origin.Local = rules.Local
 source_view (origin.Cached ttl since) = rules.Cached ttl since
@@ -51,7 +51,7 @@ is_at_hand rules.Local = true
 is_at_hand (rules.Cached ttl since) = false
 is_at_hand (rules.Accepted ttl since) = false
 
--- Its time to live is one that a record may have.
+-- The TTL of a source is one that a record may have.
 abbrev pub IsBounded : SourceSpec → Type 0
 IsBounded rules.Local = Unit {0}
 IsBounded (rules.Cached ttl since) = ttl ≤ greatest_ttl
@@ -60,11 +60,11 @@ IsBounded (rules.Accepted ttl since) = ttl ≤ greatest_ttl
 abbrev pub taken_at : Name → Link → SourceSpec → Taken
 taken_at n l source = record { name = n; link = l; source = source }
 
--- A link within the limits on times to live that was accepted at this moment.
+-- A link within the limits on TTLs that was accepted at this moment.
 abbrev pub accepted_link : Name → Link → ℕ → Taken
 accepted_link n l now = taken_at n l (rules.Accepted (lifetime_of l) now)
 
--- Nothing learnt yet.
+-- Empty stores.
 abbrev pub no_stores : ℕ → ℕ → ℕ → ℕ → Stores
 no_stores links cuts servers failures = record {
   cache = [];
@@ -77,21 +77,21 @@ no_stores links cuts servers failures = record {
   failures_cap = failures;
 }
 
--- After a link that is within the limits on times to live is kept for a name and a type; after a cut is.
+-- The stores after a link that is within the limits on TTLs is cached for a name and a type; after a cut is.
 abbrev pub with_link : Stores → Name → ℕ → Link → ℕ → Stores
 with_link stores n t l now = record stores { cache = cache.after_keep stores.cache_cap n t (cache.as_kept l (lifetime_of l) now) stores.cache }
 
 abbrev pub with_cut : Stores → Cut → ℕ → ℕ → Stores
 with_cut stores c ttl now = record stores { delegations = referral.after_keep stores.delegations_cap (rules.cut_from c ttl now) stores.delegations }
 
--- After the cache, or the kept delegations, were looked up.
+-- The stores after a look-up in the cache, or in the delegations.
 abbrev pub after_look : Stores → cache.Question → ℕ → Stores
 after_look stores a now = record stores { cache = cache.moved (cache.lent a now stores.cache) stores.cache }
 
 abbrev pub after_best : Stores → Name → ℕ → Stores
 after_best stores n now = record stores { delegations = referral.after_best n now stores.delegations }
 
--- After a server failed to answer a question, and after it was asked whether one did.
+-- The stores after a server failed to answer a question, and after a look-up whether one did.
 abbrev pub with_failed : Stores → FailedAsk → ℕ → Stores
 with_failed stores k now = record stores { failures = after_failed stores.failures_cap k now stores.failures }
 

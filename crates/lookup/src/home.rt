@@ -1,5 +1,5 @@
-//! What the resolver holds from the start and never changes: `Home`, the local zones as one catalog, and the cut
-//! of the root, which is made of the hints once.
+//! What the resolver has from its start and never changes: `Home`, the local zones as one catalog, and the cut of the
+//! root, which is made of the hints once.
 ghost use Rattle.std.specs.Prelude.{◌≡◌, IfOk};
 ghost use Rattle.dname.specs.Labels.{root};
 ghost use Rattle.resolution.specs.Jobs.{root_cut};
@@ -12,8 +12,8 @@ use referral::Cut;
 use std::alloc::{Allocator, Global};
 use std::marker::Model;
 
-/// The zones that the resolver holds itself, and the root's cut, made of its hints (RFC 1034, section 5.3.2,
-/// SBELT). It is made once and lent ever after.
+/// The local zones, and the root's cut, made of its hints (RFC 1034, section 5.3.2, SBELT). The cut is made once and
+/// then lent to each query.
 #[derive(Drop)]
 pub struct Home<A: Allocator = Global> {
     catalog: Catalog<A>,
@@ -33,7 +33,7 @@ impl<A: Allocator> Model for Home<A> {
 }
 
 impl<A: Heap> Home<A> {
-    /// These zones, and these addresses of servers of the root.
+    /// A home with these zones, and with these addresses of servers of the root.
     pub fn new(alloc: A, catalog: Catalog<A>, hints: &[Addr]) -> Result<Home<A>, Starved>
         ensures { IfOk result (λ h. h ≡ home_at catalog hints.now) }
     {
@@ -43,7 +43,7 @@ impl<A: Heap> Home<A> {
 }
 
 impl<A: Allocator> Home<A> {
-    /// The zones at hand.
+    /// The local zones.
     pub fn catalog(&self) -> &Catalog<A>
         ensures { result.now ≡ self.now.zones }
     {
@@ -57,7 +57,7 @@ impl<A: Allocator> Home<A> {
         &self.root.at
     }
 
-    /// The root with the hints, where servers are sought if nothing better is known.
+    /// The root's cut with the hints, which a query starts from where nothing better is known.
     pub fn root(&self) -> &Cut<A>
         ensures { result.now ≡ root_cut self.now }
     {

@@ -1,18 +1,18 @@
-//! What the resolver knows of a name without asking anybody (RFC 1034, section 5.3.3, steps 1 and 2): the zones at
-//! hand, what was learnt, and where servers are sought if neither says anything.
+//! The look-up without a query to a server (RFC 1034, section 5.3.3, steps 1 and 2): in the local zones, in the cache,
+//! and else the cut where servers are sought.
 //!
 //! `Home` holds the local zones and the root's cut, made of the hints (SBELT). `Stores` holds the cache, the
-//! delegations, the penalties of servers, and which of them failed lately. `find` asks the zones first and the cache
-//! next; where neither knows, it gives the cut at which servers are sought: the one that the zones name, or a deeper
-//! one that is kept. `Taken` is a link with where it comes from, and `into_sent` the link as it goes out.
+//! delegations, the penalties of servers, and which of them failed lately. `find` looks in the zones first and in the
+//! cache next; where neither has a link, it gives the cut at which servers are sought: the one that the zones name, or
+//! a deeper one that is cached. `Taken` is a link with its source, and `into_sent` the link as it is sent.
 //!
-//! Promised: what is found, or that nothing is and where the search starts (`IsFound`); a look-up leaves the same
-//! entries, in another order at most (`OnlyUses`); each call of the stores is one equation over `resolution`'s
-//! words.
+//! Promised: the link that is found, or that there is none and where the search starts (`IsFound`); a look-up leaves
+//! the same entries, in another order at most (`OnlyUses`); each call of the stores is one equation over `resolution`'s
+//! definitions.
 //! Not here: asking servers (`iterate`).
 //!
 //! ```text
-//! match find(alloc, &home, &name, RType::A, &mut stores, now)? {
+//! match find(alloc, home, name, RType::A, stores, now)? {
 //!     Found::Known(taken) => { let link = taken.into_sent(now); }
 //!     Found::Start(cut) => { let frame = stores.open(alloc, &cut, 0)?; }
 //! }

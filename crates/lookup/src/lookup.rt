@@ -1,4 +1,4 @@
-//! The look-up without asking anybody: local zones, cache, and else where the search starts.
+//! The look-up without a query to a server: local zones, cache, and else the cut where the search starts.
 ghost use Rattle.std.specs.Prelude.{◌↔◌, IsTrue, IfOk};
 ghost use Rattle.rdata.specs.Types.{type_number};
 ghost use Rattle.zone.specs.Zones.{IsBeneath};
@@ -20,31 +20,31 @@ use referral::Cut;
 use std::alloc::{Allocator, Global};
 use std::hash::BuildHasher;
 
-/// What is found for a name and a type without asking anybody.
+/// The result of a look-up without a query to a server.
 #[derive(Drop)]
 pub enum Found<A: Allocator = Global> {
-    /// What is known.
+    /// A link.
     Known(Taken<A>),
-    /// Nothing; its servers are sought at this cut.
+    /// No link: servers are sought at this cut.
     Start(Cut<A>),
 }
 
-// What is kept of a name and a type.
+// The result of a look-up in the cache and the delegations.
 #[derive(Drop)]
 enum Kept<A: Allocator = Global> {
     Hit(Taken<A>),
-    // No link. The deepest cut that is kept.
+    // No link; the deepest cached cut.
     Best(Option<Cut<A>>),
 }
 
-// Whether the name is another one, under that name.
+// Whether the name is strictly under that other one.
 fn is_beneath<A: Allocator>(name: &Name<A>, other: &Name<A>) -> bool
     ensures { IsTrue result ↔ IsBeneath name.now other.now }
 {
     name.is_at_or_under(other) && *name != *other
 }
 
-// A link of the cache, in which errors of names above count up to `top`, or else the best cut.
+// A link of the cache, in which an NXDOMAIN of a name above counts up to `top`, or else the deepest cut.
 fn find_kept<S: BuildHasher + Drop, A: Heap>(
     name: &Name<A>,
     kind: RType,
@@ -62,7 +62,7 @@ fn find_kept<S: BuildHasher + Drop, A: Heap>(
     }
 }
 
-// The kept cut, if it is beneath the one that the zones at hand name.
+// The cached cut, if it is beneath the one that the local zones name.
 fn deeper<A: Allocator>(best: Option<Cut<A>>, at: &Name<A>) -> Option<Cut<A>>
     ensures { IsDeeper at.now best result }
 {
@@ -79,7 +79,7 @@ fn deeper<A: Allocator>(best: Option<Cut<A>>, at: &Name<A>) -> Option<Cut<A>>
     }
 }
 
-// Where servers are sought under the cut that the zones at hand name.
+// The cut where servers are sought, under the one that the local zones name.
 fn start_under<A: Heap>(
     alloc: A,
     at: Name<A>,
@@ -116,7 +116,7 @@ fn found_under<A: Heap>(
     }
 }
 
-// Where the zones at hand say nothing.
+// The result where no local zone is over the name.
 fn found_beyond<A: Heap>(home: &Home<A>, kept: Kept<A>) -> Result<Found<A>, Starved>
     ensures { (n : NameSpec) → IfOk result (IsBegun home.now n NotHere kept) }
 {
@@ -127,11 +127,11 @@ fn found_beyond<A: Heap>(home: &Home<A>, kept: Kept<A>) -> Result<Found<A>, Star
     }
 }
 
-/// What is known of a name and a type at the moment `now`, in milliseconds: what the zones at hand say, else
-/// what the cache has (RFC 1034, section 5.3.3, step 1), the NXDOMAIN of a name above among it, as far up as
-/// the cut that the zones at hand name (RFC 8020, section 2). Where neither says anything, the cut where
-/// servers are sought (step 2): the one that the zones at hand name, or a deeper one that is kept; where they
-/// name none, the deepest that is kept, or the root's. Running out of memory leaves the stores with the same entries.
+/// The result for a name and a type at the moment `now`, in milliseconds: the link of the local zones, else that of the
+/// cache (RFC 1034, section 5.3.3, step 1). In the cache an NXDOMAIN of a name above counts, as far up as the cut that
+/// the local zones name (RFC 8020, section 2). Without a link it is the cut where servers are sought (step 2): the one
+/// that the local zones name, or a deeper one that is cached. Where they name none, it is the deepest cached one, or
+/// the root's. Running out of memory leaves the stores with the same entries.
 pub fn find<S: BuildHasher + Drop, A: Heap>(
     alloc: A,
     home: &Home<A>,

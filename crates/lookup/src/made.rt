@@ -24,7 +24,7 @@ pub fn cut_of<A: Heap>(
     Ok(Cut::of_records(alloc, at, servers, glue)?)
 }
 
-// One address more, where the data are of type A and fewer than sixteen were found.
+// Adds an address, where the data are of type A and fewer than sixteen were found.
 fn put_found<A: Heap>(found: &mut Vec<Addr, A>, given: &RData<A>) -> Result<(), Starved>
     ensures { OnOk result (map bytes_of found.new.items ≡ map bytes_of found.old.items ++ cond (nat_lt (length found.old.items) most_taken) (ipv4_of (datum given.now)) []) }
 {

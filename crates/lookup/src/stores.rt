@@ -1,6 +1,6 @@
-//! What the resolver learnt, in four stores of a fixed room: links and failures of servers (`cache`), delegations
+//! The four stores of the resolver, each of a fixed capacity: links and failures of servers (`cache`), delegations
 //! (`referral`) and the penalties of servers (`retry`). `Stores` has one call for each use that the work on a query
-//! makes of them, and sets how long a link or a cut is kept, and how much of a cut.
+//! makes of them. It decides how long a link or a cut is cached, and how much of a cut.
 ghost use Rattle.std.specs.Prelude.{◌≡◌, IfOk, IfSome, OnOk, OnErr};
 ghost use Rattle.std.specs.NonZero.{non_zero_usize_get};
 ghost use Rattle.rdata.specs.Types.{type_number};
@@ -32,13 +32,13 @@ pub struct Capacities {
     pub links: NonZeroUsize,
     /// Delegations.
     pub cuts: NonZeroUsize,
-    /// Servers of which a penalty is kept.
+    /// Servers that have a penalty.
     pub servers: NonZeroUsize,
     /// Questions that a server failed to answer.
     pub failures: NonZeroUsize,
 }
 
-/// What hashes the keys of each store.
+/// The hasher for the keys of each store.
 #[derive(Drop)]
 pub struct Hashers<S: BuildHasher + Drop> {
     /// For the cache, whose keys are a name and a type.
@@ -51,8 +51,8 @@ pub struct Hashers<S: BuildHasher + Drop> {
     pub failures: S,
 }
 
-/// What the resolver learnt: links, delegations, penalties of servers that did not answer, and which servers failed to
-/// answer which questions.
+/// The stores: links, delegations, penalties of servers that did not answer, and which servers failed to answer which
+/// questions.
 pub struct Stores<S: BuildHasher + Drop, A: Allocator = Global> {
     cache: Cache<S, A>,
     delegations: Delegations<S, A>,
@@ -60,7 +60,7 @@ pub struct Stores<S: BuildHasher + Drop, A: Allocator = Global> {
     failures: Failures<S, A>,
 }
 
-// By hand, so that whatever drops stores calls this, and does not spell out all that it holds.
+// By hand, so that each drop of stores calls this, and does not write out all that it holds.
 impl<S: BuildHasher + Drop, A: Allocator> Drop for Stores<S, A> {
     fn drop(self) {
         let Stores {
@@ -85,7 +85,7 @@ impl<S: BuildHasher + Drop, A: Allocator> Model for Stores<S, A> {
 }
 
 impl<S: BuildHasher + Drop, A: Heap> Stores<S, A> {
-    /// Nothing learnt, with room for so many entries, which is taken as they come.
+    /// Empty stores with these capacities. Memory is taken as entries come.
     pub fn new(
         alloc: A,
         capacities: Capacities,
@@ -101,8 +101,8 @@ impl<S: BuildHasher + Drop, A: Heap> Stores<S, A> {
         })
     }
 
-    /// What the cache gives for this name and type at the moment `now`, in milliseconds, where errors of names
-    /// above count up to `top`. The entry becomes the most recently used.
+    /// The cache's answer for this name and type at the moment `now`, in milliseconds, where an NXDOMAIN of a name
+    /// above counts up to `top`. Its entry becomes the most recently used.
     pub fn look(
         &mut self,
         name: &Name<A>,
@@ -118,8 +118,8 @@ impl<S: BuildHasher + Drop, A: Heap> Stores<S, A> {
         Ok(self.cache.look(name, kind, top, now)?)
     }
 
-    /// The deepest delegation that is kept, lives at the moment `now`, in milliseconds, and that the name is at
-    /// or under. It becomes the most recently used.
+    /// The deepest cached delegation that lives at the moment `now`, in milliseconds, and that the name is at or under.
+    /// It becomes the most recently used.
     pub fn best(&mut self, name: &Name<A>, now: u64) -> Result<Option<Cut<A>>, Starved>
         ensures relation { IfOk result (IsBest name.now now self.old.delegations) }
         ensures ok { OnOk result (self.new ≡ after_best self.old name.now now) }
@@ -128,16 +128,16 @@ impl<S: BuildHasher + Drop, A: Heap> Stores<S, A> {
         Ok(self.delegations.best(name, now)?)
     }
 
-    /// A frame at this cut, its addresses in the order of their penalties. `nesting` is 0 for the name that a
-    /// client asked for, and one more for each look-up of a server's address.
+    /// The frame of this cut, its addresses in the order of their penalties. `nesting` is 0 for the name in a client's
+    /// question, and one more for each look-up of a server's address.
     pub fn open(&self, alloc: A, cut: &Cut<A>, nesting: u8) -> Result<Frame<A>, Starved>
         ensures { IfOk result (λ f. f ≡ opened (level_of self.now) nesting cut.now) }
     {
         Ok(Frame::start(alloc, cut, nesting, &self.penalties)?)
     }
 
-    /// Addresses that were found for a server's name: those that the frame does not know yet make its new
-    /// plan. Running out of memory changes nothing.
+    /// Adds addresses that were found for a server's name: those that the frame does not know yet make its new plan.
+    /// Running out of memory changes nothing.
     pub fn add(&self, frame: &mut Frame<A>, found: &[Addr]) -> Result<(), Starved>
         ensures ok { OnOk result (frame.new ≡ after_add (level_of self.now) frame.old (fresh_addresses frame.old found.now)) }
         ensures err { OnErr result (frame.new ≡ frame.old) }
@@ -146,8 +146,8 @@ impl<S: BuildHasher + Drop, A: Heap> Stores<S, A> {
         Ok(())
     }
 
-    /// Keeps a link that is within the limits on times to live (`classify::received`) for this name and type
-    /// from the moment `now`, in milliseconds, for as long as it lives. Running out of memory changes nothing.
+    /// Caches a link that is within the limits on TTLs (`classify::received`) for this name and type from the moment
+    /// `now`, in milliseconds, for as long as it lives. Running out of memory changes nothing.
     pub fn keep_link(
         &mut self,
         name: &Name<A>,
@@ -162,8 +162,8 @@ impl<S: BuildHasher + Drop, A: Heap> Stores<S, A> {
         Ok(())
     }
 
-    /// Keeps what a frame can use of a delegation whose lowest TTL is this, in seconds, from the moment `now`,
-    /// in milliseconds: a week at most (RFC 2181, section 8). Running out of memory changes nothing.
+    /// Caches what a frame can use of a delegation whose lowest TTL is this, in seconds, from the moment `now`, in
+    /// milliseconds: a week at most (RFC 2181, section 8). Running out of memory changes nothing.
     pub fn keep_cut(&mut self, alloc: A, cut: &Cut<A>, ttl: u32, now: u64) -> Result<(), Starved>
         ensures ok { OnOk result (self.new ≡ with_cut self.old cut.now ttl now) }
         ensures err { OnErr result (self.new ≡ self.old) }
@@ -173,14 +173,14 @@ impl<S: BuildHasher + Drop, A: Heap> Stores<S, A> {
         Ok(())
     }
 
-    /// This server answered, whatever it said.
+    /// Halves the penalty of a server that answered, whatever its answer.
     pub fn answered(&mut self, server: Addr)
         ensures { self.new ≡ with_answer self.old server }
     {
         self.penalties.answered(server);
     }
 
-    /// This server did not answer in time. Running out of memory changes nothing.
+    /// Raises the penalty of a server that did not answer in time. Running out of memory changes nothing.
     pub fn timed_out(&mut self, server: Addr) -> Result<(), Starved>
         ensures ok { OnOk result (self.new ≡ with_timeout self.old server) }
         ensures err { OnErr result (self.new ≡ self.old) }
@@ -189,8 +189,8 @@ impl<S: BuildHasher + Drop, A: Heap> Stores<S, A> {
         Ok(())
     }
 
-    /// This server failed to answer the question at the moment `now`, in milliseconds (RFC 2308, section 7.1). Want of
-    /// memory changes nothing.
+    /// Caches that this server failed to answer the question at the moment `now`, in milliseconds (RFC 2308, section
+    /// 7.1). Running out of memory changes nothing.
     pub fn failed(
         &mut self,
         name: &Name<A>,

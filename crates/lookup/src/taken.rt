@@ -1,5 +1,6 @@
-//! `Taken`, a link that is used for a query, and its `Source`, by which it goes out: zones at hand send their own
-//! TTL, the cache and servers what is left of theirs, and only a link of the cache can run out meanwhile.
+//! `Taken`, a link that is used for a query, and its `Source`, which decides its TTL when it is sent. A link of a local
+//! zone is sent with its own TTL, one of the cache or a server with what is left of it; only a link of the cache can
+//! expire meanwhile.
 ghost use Rattle.std.specs.Prelude.{◌≡◌, IfOk, MatchOption};
 ghost use Rattle.rdata.specs.Records.{Record};
 ghost use Rattle.zone.specs.Links.{Alias};
@@ -16,22 +17,21 @@ use front::alias_target;
 use std::alloc::{AllocError, Allocator, Global};
 use std::marker::Model;
 
-/// Where a link comes from. Times to live are in seconds, as the link had them at the moment `since`, which is
-/// in milliseconds.
+/// The source of a link. TTLs are in seconds, as the link had them at the moment `since`, which is in milliseconds.
 #[derive(Clone, Copy)]
 pub enum Source {
-    /// The zones at hand.
+    /// A local zone.
     Local,
     /// The cache.
     Cached {
-        /// How long it lives, in seconds.
+        /// Its TTL, in seconds.
         ttl: u32,
-        /// The moment at which it was kept, in milliseconds.
+        /// The moment at which it was cached, in milliseconds.
         since: u64,
     },
     /// A message that was accepted for the query itself.
     Accepted {
-        /// How long it lives, in seconds.
+        /// Its TTL, in seconds.
         ttl: u32,
         /// The moment at which it was accepted, in milliseconds.
         since: u64,
@@ -39,7 +39,7 @@ pub enum Source {
 }
 
 impl Source {
-    // Whether a link from here has reached its time to live.
+    // Whether a link of this source has expired.
     fn has_ended(self, now: u64) -> bool
         ensures { result ≡ has_ended now (source_view self) }
     {
@@ -50,7 +50,7 @@ impl Source {
     }
 }
 
-/// What is known of a name: the name, a link, and where it comes from.
+/// A link that is used for a name: the name, the link, and its source.
 pub struct Taken<A: Allocator = Global> {
     // The name, where the link's own records have another owner. An RRset and a CNAME record nearly always have
     // the name as their owner, so that no copy of it is made for them.
@@ -59,7 +59,7 @@ pub struct Taken<A: Allocator = Global> {
     source: Source,
 }
 
-// By hand, so that whatever drops it calls this, and does not spell out all that it holds.
+// By hand, so that each drop of it calls this, and does not write out all that it holds.
 impl<A: Allocator> Drop for Taken<A> {
     fn drop(self) {
         let Taken {
@@ -136,14 +136,14 @@ fn named<A: Heap>(name: &Name<A>, link: Link<A>, source: Source) -> Result<Taken
 }
 
 impl<A: Heap> Taken<A> {
-    /// A link of the zones at hand.
+    /// A link of a local zone.
     pub fn local(name: &Name<A>, link: Link<A>) -> Result<Taken<A>, Starved>
         ensures { IfOk result (λ t. t ≡ local_link name.now (link_view link)) }
     {
         Ok(named(name, link, Source::Local)?)
     }
 
-    /// A link that the cache gave.
+    /// A hit of the cache.
     pub fn cached(name: &Name<A>, hit: Hit<A>) -> Result<Taken<A>, Starved>
         ensures { IfOk result (λ t. t ≡ kept_link name.now hit) }
     {
@@ -153,8 +153,8 @@ impl<A: Heap> Taken<A> {
 }
 
 impl<A: Allocator> Taken<A> {
-    /// A link that a server gave for the query itself at the moment `now`, in milliseconds, within the limits
-    /// on times to live (`classify::received`).
+    /// A link that a server gave for the query itself at the moment `now`, in milliseconds, within the limits on TTLs
+    /// (`classify::received`).
     pub fn accepted(name: Name<A>, link: Link<A>, now: u64) -> Taken<A>
         ensures { result ≡ accepted_link name (link_view link) now }
     {
@@ -184,7 +184,7 @@ impl<A: Allocator> Taken<A> {
         }
     }
 
-    /// The name alone.
+    /// The name, without the link.
     pub fn into_name(self) -> Name<A>
         ensures { result ≡ self.name }
     {
@@ -199,7 +199,7 @@ impl<A: Allocator> Taken<A> {
         }
     }
 
-    /// Whether it comes from the zones at hand.
+    /// Whether it is a link of a local zone.
     pub fn is_local(&self) -> bool
         ensures { result ≡ is_at_hand self.now.source }
     {
@@ -209,14 +209,14 @@ impl<A: Allocator> Taken<A> {
         }
     }
 
-    /// The link as it was taken.
+    /// The link with the TTLs that it had when it was taken.
     pub fn link(&self) -> &Link<A>
         ensures { link_view result.now ≡ self.now.link }
     {
         &self.link
     }
 
-    /// Where an alias leads; nothing where the link ends a chain.
+    /// The name that an alias leads to; nothing where the link ends a chain.
     pub fn alias_target(&self) -> Option<&Name<A>>
         ensures { MatchOption result (IsEnding self.now.link) (λ n. (r : Record) × (self.now.link ≡ Alias r) × (n.now ≡ alias_target r)) }
     {
@@ -226,15 +226,15 @@ impl<A: Allocator> Taken<A> {
         }
     }
 
-    /// Whether it came from the cache and has reached its time to live at this moment, in milliseconds.
+    /// Whether it came from the cache and has expired at this moment, in milliseconds.
     pub fn is_dead(&self, now: u64) -> bool
         ensures { result ≡ is_dead now self.now }
     {
         self.source.has_ended(now)
     }
 
-    /// The link as it goes out at this moment: one of the zones at hand as it is, others with the seconds that
-    /// are left of their time to live (RFC 1035, section 6.1.3). Takes no memory.
+    /// The link as it is sent at this moment: one of a local zone as it is, others with the seconds that are left of
+    /// their TTL (RFC 1035, section 6.1.3). Takes no memory.
     pub fn into_sent(self, now: u64) -> Link<A>
         ensures { link_view result ≡ sent now self }
     {

@@ -4,6 +4,6 @@ pub mod Entries
 pub mod Lines
 -- Computed: functions that the code is compared with.
 pub mod Lexemes
--- Kept: what the code's own values keep.
+-- Kept: invariants of the code's values, and how contracts see them.
 pub mod Views
 pub mod Steps

@@ -12,7 +12,7 @@ abbrev pub onto_first : ℕ → List (List ℕ) → List (List ℕ)
 onto_first c [] = (c ∷ []) ∷ []
 onto_first c (f ∷ fs) = (c ∷ f) ∷ fs
 
--- What stands between dots.
+-- The fields between dots.
 abbrev pub fields : List ℕ → List (List ℕ)
 fields [] = [] ∷ []
 fields (c ∷ cs) = cond (c == 46) ([] ∷ fields cs) (onto_first c (fields cs))
@@ -33,7 +33,7 @@ abbrev pub octets : List (List ℕ) → Result (List ℕ) FileKind
 octets [] = Ok []
 octets (f ∷ fs) = octet f >>= λ (n : ℕ). after_octet n (octets fs)
 
--- What stands behind a field's dot, if one stands there.
+-- The numbers behind a field's dot, if there is one.
 abbrev pub octets_after : Option (Bor (List ℕ)) → Result (List ℕ) FileKind
 octets_after None = Ok []
 octets_after (Some rest) = octets (fields rest.now)
@@ -42,7 +42,7 @@ abbrev pub IsFirstField : List ℕ → List ℕ → Option (Bor (List ℕ)) → 
 IsFirstField w f None = fields w ≡ f ∷ []
 IsFirstField w f (Some rest) = fields w ≡ f ∷ fields rest.now
 
--- The fault of fields behind the fourth: their own comes first.
+-- The fault of fields behind the fourth one: a fault of their own comes first.
 abbrev pub surplus_kind : Result (List ℕ) FileKind → FileKind
 surplus_kind (Ok ns) = BadData
 surplus_kind (Err e) = e

@@ -1,4 +1,4 @@
--- What an entry of a master file says (RFC 1035, section 5.1; `$TTL`: RFC 2308, section 4).
+-- The meaning of an entry of a master file (RFC 1035, section 5.1; `$TTL`: RFC 2308, section 4).
 use Rattle.std.specs.Prelude.{◌≤◌, ℕ, Bool, true, false, ◌||◌, cond, nat_eq, Option, Some, None, is_some, Result, Ok, Err, List, [], ◌∷◌, codes}
 use Rattle.rdata.specs.Data.{Datum}
 use Rattle.rdata.specs.Records.{Record, greatest_ttl}
@@ -11,7 +11,7 @@ use Rattle.masterfile.specs.Faults.{◌>>=◌}
 use Rattle.masterfile.specs.Numbers.{is_number, number_of}
 use Rattle.masterfile.specs.Fields.{same_word, name_of, take_name, take_number, take_end, take_data, type_named}
 
--- What earlier entries leave to the later ones.
+-- The origin, owner and TTLs that entries leave to the later ones.
 pub record Context : Type 0 where
   pub origin : List (List ℕ)
   -- the last owner
@@ -21,7 +21,7 @@ pub record Context : Type 0 where
   -- the last TTL that a record stated
   pub stated : Option ℕ
 
--- What stands before a record's data: its TTL, if one is stated, and its type; and the words behind.
+-- The fields before a record's data: its TTL, if one is stated, and its type; and the words behind them.
 pub record Head : Type 0 where
   pub ttl : Option ℕ
   pub kind : RType
@@ -64,7 +64,7 @@ abbrev pub or_no_owner : Option (List (List ℕ)) → Result (List (List ℕ)) F
 or_no_owner None = Err NoOwner
 or_no_owner (Some n) = Ok n
 
--- A record of this owner, and what it leaves to the later entries.
+-- A record of this owner, and the state that it leaves to the later entries.
 abbrev pub record_of : Context → List (List ℕ) → List Word → Result (Option Record × Context) FileKind
 record_of c owner ws =
     take_head None false ws >>= λ (h : Head).
@@ -76,7 +76,7 @@ abbrev pub begins_directive : List ℕ → Bool
 begins_directive [] = false
 begins_directive (c ∷ cs) = nat_eq c 36
 
--- `$ORIGIN NAME` and `$TTL NUMBER`.
+-- The state after `$ORIGIN NAME` and `$TTL NUMBER`.
 abbrev pub directive_in : Context → List ℕ → List Word → Result Context FileKind
 directive_in c w ws =
     cond (same_word w (codes "$ORIGIN")) (take_name c.origin ws >>= λ (n : List (List ℕ) × List Word). take_end (record c { origin = n.0 }) n.1)
@@ -89,7 +89,7 @@ no_record c = Ok (None, c)
 abbrev pub record_of_named : Context → List ℕ → List Word → Result (Option Record × Context) FileKind
 record_of_named c w ws = name_of c.origin w >>= λ (owner : List (List ℕ)). record_of c owner ws
 
--- What an entry says, and what it leaves to the later ones. An entry without words says nothing.
+-- The record of an entry, and the state that it leaves to the later ones. An entry without words has no record.
 abbrev pub entry_in : Context → Lead → List Word → Result (Option Record × Context) FileKind
 entry_in c lead [] = no_record c
 entry_in c lead (quoted w ∷ ws) = Err BadData

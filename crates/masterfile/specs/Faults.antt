@@ -1,4 +1,4 @@
--- Faults of a master file, and how one reading follows another.
+-- The faults of a master file, and readings one after the other.
 use Rattle.std.specs.Prelude.{◌≡◌, ℕ, Result, Ok, Err, List, ◌∷◌, ◌++◌, codes, decimal}
 use Rattle.masterfile.specs.declared.faults.FileError.{FileError}
 use Rattle.masterfile.specs.declared.faults.FileKind.{FileKind}
@@ -31,18 +31,18 @@ kind_text Memory = codes "out of memory"
 abbrev pub error_text : FileError → List ℕ
 error_text e = codes "line " ++ decimal e.line ++ codes ": " ++ kind_text e.kind
 
--- What is read first decides: after a fault nothing is read.
+-- The first reading decides: after a fault nothing is read.
 infixl 10 ◌>>=◌
 abbrev pub ◌>>=◌ : {A B : Type 0} → Result A FileKind → (A → Result B FileKind) → Result B FileKind
 (Ok x) >>= f = f x
 (Err e) >>= f = Err e
 
--- A thing read before the others, where they are read too.
+-- The first reading's result before those of the others, where they are read too.
 abbrev pub onto : {X E : Type 0} → X → Result (List X) E → Result (List X) E
 onto x (Ok xs) = Ok (x ∷ xs)
 onto x (Err e) = Err e
 
--- A refusal: running out of memory leaves all open, any other is the fault that was read first.
+-- When a reader may refuse so: for the fault that was read first; out of memory at any time.
 abbrev pub FaultIn : {X : Type 0} → FileKind → Result X FileKind → Type 0
 FaultIn Memory read = Unit {0}
 FaultIn kind read = read ≡ Err kind

@@ -23,7 +23,7 @@ plain_word (plain w ∷ ws) = Ok (w, ws)
 plain_word (quoted w ∷ ws) = Err BadData
 plain_word (broken ∷ ws) = Err OpenText
 
--- A field is one word without quotes.
+-- A field of one word without quotes.
 abbrev pub take_by : {X : Type 0} → (List ℕ → Result X FileKind) → List Word → Result (X × List Word) FileKind
 take_by {X} read ws = plain_word ws >>= λ (w : List ℕ × List Word). read w.0 >>= λ (x : X). Ok (x, w.1)
 
@@ -31,7 +31,7 @@ abbrev pub or_bad_name : Result (List (List ℕ)) NameError → Result (List (Li
 or_bad_name (Ok n) = Ok n
 or_bad_name (Err e) = Err BadName
 
--- `@` is the origin, and a name that no dot ends is relative to it.
+-- The name of a word: `@` is the origin, and a name that no dot ends is relative to it.
 abbrev pub name_of : List (List ℕ) → List ℕ → Result (List (List ℕ)) FileKind
 name_of origin w = cond (pointwise nat_eq w (64 ∷ [])) (Ok origin) (or_bad_name (name_under origin w))
 
@@ -52,7 +52,7 @@ abbrev pub unless : {X : Type 0} → Option FileKind → X → Result X FileKind
 unless None x = Ok x
 unless (Some kind) x = Err kind
 
--- Nothing may be left.
+-- The end of the entry: a word that is left over is a fault.
 abbrev pub take_end : {X : Type 0} → X → List Word → Result X FileKind
 take_end x ws = unless (left_over ws) x
 
@@ -63,7 +63,7 @@ greatest_16 = 65535
 abbrev pub greatest_32 : ℕ
 greatest_32 = 4294967295
 
--- Two names and five numbers (RFC 1035, section 3.3.13).
+-- The fields of an SOA record: two names and five numbers (RFC 1035, section 3.3.13).
 abbrev pub take_authority : List (List ℕ) → List Word → Result (Authority × List Word) FileKind
 take_authority origin ws =
     take_name origin ws >>= λ (primary : List (List ℕ) × List Word).
@@ -75,13 +75,13 @@ take_authority origin ws =
     take_number greatest_32 expire.1 >>= λ (minimum : ℕ × List Word).
     Ok (record { primary = primary.0; mailbox = mailbox.0; serial = serial.0; refresh = refresh.0; retry = retry.0; expire = expire.0; minimum = minimum.0 }, minimum.1)
 
--- Preference and exchange (RFC 1035, section 3.3.9).
+-- The fields of an MX record: preference and exchange (RFC 1035, section 3.3.9).
 abbrev pub take_exchange : List (List ℕ) → List Word → Result (Datum × List Word) FileKind
 take_exchange origin ws =
     take_number greatest_16 ws >>= λ (preference : ℕ × List Word).
     take_name origin preference.1 >>= λ (exchange : List (List ℕ) × List Word). Ok (Mx preference.0 exchange.0, exchange.1)
 
--- Priority, weight, port and target (RFC 2782).
+-- The fields of an SRV record: priority, weight, port and target (RFC 2782).
 abbrev pub take_service : List (List ℕ) → List Word → Result (Service × List Word) FileKind
 take_service origin ws =
     take_number greatest_16 ws >>= λ (priority : ℕ × List Word).
@@ -90,7 +90,7 @@ take_service origin ws =
     take_name origin port.1 >>= λ (target : List (List ℕ) × List Word).
     Ok (record { priority = priority.0; weight = weight.0; port = port.0; target = target.0 }, target.1)
 
--- The data of a type.
+-- The data of a record of this type.
 abbrev pub take_data : List (List ℕ) → RType → List Word → Result (Datum × List Word) FileKind
 take_data origin rtype.A ws = take_by ipv4_of ws >>= λ (a : List ℕ × List Word). Ok (Ipv4 a.0, a.1)
 take_data origin rtype.Ns ws = take_name origin ws >>= λ (n : List (List ℕ) × List Word). Ok (Ns n.0, n.1)

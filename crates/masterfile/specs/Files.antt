@@ -36,7 +36,7 @@ read_lines origin line text = read_from (start origin) (entries_from line text)
 abbrev pub read_text : List (List ℕ) → List ℕ → Result (List Record) FileError
 read_text origin text = read_lines origin 1 text
 
--- A refusal: running out of memory leaves all open, any other is the first fault and its line.
+-- When `read` may refuse so: for the first fault, at its line; out of memory at any time.
 abbrev pub IsFirstFault : FileKind → FileError → Result (List Record) FileError → Type 0
 IsFirstFault Memory e read = Unit {0}
 IsFirstFault kind e read = read ≡ Err e

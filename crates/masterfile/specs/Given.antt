@@ -1,4 +1,4 @@
--- What a reader of fields gives back, and the words that it leaves.
+-- The result of a reader of fields, and the words that it leaves.
 use Rattle.std.specs.Prelude.{◌≡◌, Result, Ok, Err, Option, List}
 use Rattle.master_lexer.specs.Lexemes.{Word}
 use Rattle.masterfile.specs.declared.faults.FileKind.{FileKind}
@@ -11,7 +11,7 @@ abbrev pub GivesRest : {X Y : Type 0} → (X → Y) → Result X FileKind → Li
 GivesRest view (Ok x) rest read = read ≡ Ok (view x, rest)
 GivesRest view (Err e) rest read = FaultIn e read
 
--- The same where no memory is taken: each refusal is the fault that was read.
+-- A reader that takes no memory: each refusal is the fault that was read.
 abbrev pub ReadsRest : {X Y : Type 0} → (X → Y) → Result X FileKind → List Word → Result (Y × List Word) FileKind → Type 0
 ReadsRest view (Ok x) rest read = read ≡ Ok (view x, rest)
 ReadsRest view (Err e) rest read = read ≡ Err e
@@ -24,7 +24,7 @@ abbrev pub GivesHead : Result Head FileKind → List Word → Result HeadSpec Fi
 GivesHead (Ok h) rest read = read ≡ Ok (record { ttl = h.ttl; kind = h.kind; rest = rest })
 GivesHead (Err e) rest read = read ≡ Err e
 
--- What an entry says, and what it leaves to the later ones.
+-- The result of an entry, and the state that it leaves to the later ones.
 abbrev pub GivesEntry : Result (Option Record) FileKind → Context → Result (Option Record × Context) FileKind → Type 0
 GivesEntry (Ok r) after read = read ≡ Ok (r, after)
 GivesEntry (Err e) after read = FaultIn e read

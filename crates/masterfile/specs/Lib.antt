@@ -10,5 +10,5 @@ pub mod Fields
 pub mod Numbers
 pub mod Addresses
 pub mod Strings
--- Kept: what the code's own values keep.
+-- Kept: invariants of the code's values, and how contracts see them.
 pub mod Given

@@ -1,4 +1,4 @@
--- What a master file says, by cases (RFC 1035, section 5.1; `$TTL`: RFC 2308, section 4).
+-- The meaning of a master file, by cases (RFC 1035, section 5.1; `$TTL`: RFC 2308, section 4).
 use Rattle.std.specs.Prelude.{◌≡◌, ℕ, ◌+◌, ◌<◌, ◌≤◌, true, false, Option, Some, None, ◌↔◌, Ok, List, [], ◌∷◌, length, codes}
 use Rattle.rdata.specs.Data.{Datum, Ipv4, Ns, Cname, Soa, Ptr, Mx, Txt, Ipv6, Srv, Authority, Service}
 use Rattle.rdata.specs.Records.{Record, greatest_ttl}
@@ -21,16 +21,16 @@ AreStrings [] (t ∷ ts) = ⊥
 AreStrings (w ∷ ws) [] = ⊥
 AreStrings (w ∷ ws) (t ∷ ts) = (string_word w ≡ Ok t) × AreStrings ws ts
 
--- Their size in a message: a length byte and the bytes of each.
+-- The size of strings in a message: a length byte and the bytes of each.
 abbrev pub strings_size : List (List ℕ) → ℕ
 strings_size [] = 0
 strings_size (t ∷ ts) = (1 + length t) + strings_size ts
 
--- One word that writes a name.
+-- The words of a name: one.
 abbrev pub IsNameData : List (List ℕ) → List Word → List (List ℕ) → Type 0
 IsNameData origin ws n = (w : List ℕ) × (ws ≡ plain w ∷ []) × (name_of origin w ≡ Ok n)
 
--- Two names and five numbers (RFC 1035, section 3.3.13).
+-- The words of an SOA record's data: two names and five numbers (RFC 1035, section 3.3.13).
 pub record IsAuthorityData (origin : List (List ℕ)) (ws : List Word) (s : Authority) : Type 0 where
   pub primary : List ℕ
   pub mailbox : List ℕ
@@ -44,7 +44,7 @@ pub record IsAuthorityData (origin : List (List ℕ)) (ws : List Word) (s : Auth
   pub numbers : (number_of greatest_32 serial ≡ Ok s.serial) × (number_of greatest_32 refresh ≡ Ok s.refresh) × (number_of greatest_32 retry ≡ Ok s.retry)
       × (number_of greatest_32 expire ≡ Ok s.expire) × (number_of greatest_32 minimum ≡ Ok s.minimum)
 
--- Three numbers and a name (RFC 2782).
+-- The words of an SRV record's data: three numbers and a name (RFC 2782).
 pub record IsServiceData (origin : List (List ℕ)) (ws : List Word) (s : Service) : Type 0 where
   pub priority : List ℕ
   pub weight : List ℕ
@@ -54,7 +54,7 @@ pub record IsServiceData (origin : List (List ℕ)) (ws : List Word) (s : Servic
   pub numbers : (number_of greatest_16 priority ≡ Ok s.priority) × (number_of greatest_16 weight ≡ Ok s.weight) × (number_of greatest_16 port ≡ Ok s.port)
   pub host : name_of origin target ≡ Ok s.target
 
--- The words of data of a type.
+-- The words of the data of a type.
 abbrev pub IsData : List (List ℕ) → RType → List Word → Datum → Type 0
 IsData origin rtype.A ws d = (w : List ℕ) × (a : List ℕ) × (ws ≡ plain w ∷ []) × (ipv4_of w ≡ Ok a) × (d ≡ Ipv4 a)
 IsData origin rtype.Ns ws d = (n : List (List ℕ)) × IsNameData origin ws n × (d ≡ Ns n)
@@ -76,7 +76,7 @@ IsClassWord w = is_internet w ≡ true
 abbrev pub IsTypeWord : List ℕ → RType → Type 0
 IsTypeWord w t = type_named w ≡ Some t
 
--- `[TTL] [CLASS] TYPE` or `[CLASS] [TTL] TYPE`, and the words of the data behind.
+-- The words before the data: `[TTL] [CLASS] TYPE` or `[CLASS] [TTL] TYPE`; and the words of the data.
 pub data HasHead : List Word → Option ℕ → RType → List Word → Type 0 where
   type_alone : (ws : List Word) (ttl : Option ℕ) (kind : RType) (rest : List Word) (t : List ℕ)
       → ws ≡ plain t ∷ rest → ttl ≡ None → IsTypeWord t kind → HasHead ws ttl kind rest
@@ -89,13 +89,14 @@ pub data HasHead : List Word → Option ℕ → RType → List Word → Type 0 w
   class_and_ttl : (ws : List Word) (ttl : Option ℕ) (kind : RType) (rest : List Word) (c v t : List ℕ) (n : ℕ)
       → ws ≡ plain c ∷ plain v ∷ plain t ∷ rest → ttl ≡ Some n → IsClassWord c → IsTtlWord v n → IsTypeWord t kind → HasHead ws ttl kind rest
 
--- The owner, and the words behind it: the last owner where the line begins with a space or tab.
+-- The owner of an entry, and the words behind it: the owner of the entry before where the line begins with a space or
+-- tab.
 abbrev pub IsOwner : Context → Lead → List Word → List (List ℕ) → List Word → Type 0
 IsOwner c blank ws owner behind = (c.owner ≡ Some owner) × (behind ≡ ws)
 IsOwner c shifted ws owner behind = (w : List ℕ) × (ws ≡ plain w ∷ behind) × (name_of c.origin w ≡ Ok owner)
 IsOwner c margin ws owner behind = (w : List ℕ) × (ws ≡ plain w ∷ behind) × (begins_directive w ≡ false) × (name_of c.origin w ≡ Ok owner)
 
--- A record, and what it leaves to the later entries.
+-- An entry with a record, and the state that it leaves to the later entries.
 pub record IsRecordEntry (c : Context) (lead : Lead) (ws : List Word) (r : Record) (next : Context) : Type 0 where
   pub behind : List Word
   pub stated : Option ℕ
@@ -108,7 +109,7 @@ pub record IsRecordEntry (c : Context) (lead : Lead) (ws : List Word) (r : Recor
   pub value : IsData c.origin kind rest r.value
   pub after : next ≡ record c { owner = Some r.owner; stated = first_some stated c.stated }
 
--- What an entry says, and what it leaves to the later ones.
+-- An entry with its record, or with none, and the state that it leaves to the later ones.
 pub data Says : Context → Lead → List Word → Option Record → Context → Type 0 where
   says_nothing : (c : Context) (lead : Lead) (ws : List Word) (r : Option Record) (next : Context) → ws ≡ [] → r ≡ None → next ≡ c → Says c lead ws r next
   sets_origin : (c : Context) (lead : Lead) (ws : List Word) (r : Option Record) (next : Context) (d w : List ℕ) (n : List (List ℕ)) → lead ≡ margin
@@ -120,7 +121,7 @@ pub data Says : Context → Lead → List Word → Option Record → Context →
   states_record : (c : Context) (lead : Lead) (ws : List Word) (r : Option Record) (next : Context) (stated : Record) → r ≡ Some stated
       → IsRecordEntry c lead ws stated next → Says c lead ws r next
 
--- What entries say, in order.
+-- The records of entries, in order.
 pub data Say : Context → List Entry → List Record → Type 0 where
   nothing_left : (c : Context) (es : List Entry) (rs : List Record) → es ≡ [] → rs ≡ [] → Say c es rs
   says_none : (c : Context) (es : List Entry) (rs : List Record) (e : Entry) (later : List Entry) (next : Context) → es ≡ e ∷ later
@@ -128,10 +129,10 @@ pub data Say : Context → List Entry → List Record → Type 0 where
   says_one : (c : Context) (es : List Entry) (rs : List Record) (e : Entry) (later : List Entry) (next : Context) (r : Record) (found : List Record) → es ≡ e ∷ later
       → rs ≡ r ∷ found → Says c e.lead e.words (Some r) next → Say next later found → Say c es rs
 
--- The text stands for these records.
+-- The text has these records.
 abbrev pub IsMasterText : List (List ℕ) → List ℕ → List Record → Type 0
 IsMasterText origin text records = (es : List Entry) × IsPartedFrom 1 text es × Say (start origin) es records
 
--- What the text stands for is what is read, and the other way round.
+-- A text has the records that are read of it, and the other way round.
 abbrev pub ReadsBothWays : Type 0
 ReadsBothWays = (origin : List (List ℕ)) (text : List ℕ) (records : List Record) → IsMasterText origin text records ↔ (read_text origin text ≡ Ok records)

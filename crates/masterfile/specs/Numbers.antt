@@ -15,7 +15,7 @@ abbrev pub is_number : List ℕ → Bool
 is_number [] = false
 is_number (c ∷ cs) = are_digits (c ∷ cs)
 
--- The value of the digits behind a number that was read.
+-- The value of digits behind those of this number.
 abbrev pub value_from : ℕ → List ℕ → ℕ
 value_from n [] = n
 value_from n (c ∷ cs) = value_from (n * 10 + (c - 48)) cs
@@ -23,6 +23,6 @@ value_from n (c ∷ cs) = value_from (n * 10 + (c - 48)) cs
 abbrev pub within : ℕ → ℕ → Result ℕ FileKind
 within limit n = cond (nat_le n limit) (Ok n) (Err BadNumber)
 
--- The number that a word writes: form goes before range.
+-- The number that a word writes: the fault of its form goes before that of its range.
 abbrev pub number_of : ℕ → List ℕ → Result ℕ FileKind
 number_of limit w = cond (is_number w) (within limit (value_from 0 w)) (Err BadData)

@@ -4,7 +4,7 @@ use Rattle.dname.specs.Text.{name_text}
 use Rattle.rdata.specs.Text.{record_text}
 use Rattle.rdata.specs.Records.{Record}
 
--- A record and the end of its line.
+-- A record's line, with its end.
 abbrev pub line_text : Record → List ℕ
 line_text r = record_text r ++ codes "\n"
 

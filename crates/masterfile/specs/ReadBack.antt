@@ -1,4 +1,4 @@
--- Records that a zone text can hold, and the law that their text is read as them.
+-- Records that a zone text can hold, and the law that their text is read back.
 use Rattle.std.specs.Prelude.{◌≡◌, ℕ, ◌<◌, ◌≤◌, Ok, List, [], ◌∷◌, length}
 use Rattle.dname.specs.Labels.{IsName}
 use Rattle.dname.specs.Spelling.{AreBytes}
@@ -9,7 +9,7 @@ use Rattle.masterfile.specs.Files.{read_text}
 use Rattle.masterfile.specs.MasterText.{strings_size}
 use Rattle.masterfile.specs.Printed.{file_text}
 
--- Two names and five numbers of 32 bits (RFC 1035, section 3.3.13).
+-- An SOA record's data are within their bounds: two names and five numbers of 32 bits (RFC 1035, section 3.3.13).
 pub record IsAuthority (s : Authority) : Type 0 where
   pub primary : IsName s.primary
   pub mailbox : IsName s.mailbox
@@ -19,14 +19,14 @@ pub record IsAuthority (s : Authority) : Type 0 where
   pub expire : s.expire ≤ greatest_32
   pub minimum : s.minimum ≤ greatest_32
 
--- Three numbers of 16 bits and a name (RFC 2782).
+-- An SRV record's data are within their bounds: three numbers of 16 bits and a name (RFC 2782).
 pub record IsService (s : Service) : Type 0 where
   pub priority : s.priority ≤ greatest_16
   pub weight : s.weight ≤ greatest_16
   pub port : s.port ≤ greatest_16
   pub target : IsName s.target
 
--- Character-strings have at most 255 bytes (RFC 1035, section 3.3).
+-- Strings of at most 255 bytes (RFC 1035, section 3.3).
 abbrev pub AreCharacterStrings : List (List ℕ) → Type 0
 AreCharacterStrings [] = Unit {0}
 AreCharacterStrings (t ∷ ts) = AreBytes t × (length t ≤ 255) × AreCharacterStrings ts

@@ -6,7 +6,7 @@ use crate::faults::FileKind;
 use crate::numbers::{is_number, value};
 use std::net::Ipv6Addr;
 
-/// What stands before the first dot, and what stands behind it.
+/// The bytes before the first dot, and those behind it.
 #[tactic(auto, using(crate::proofs::FieldLemmas::behind_nothing))]
 fn first_field(word: &[u8]) -> (&[u8], Option<&[u8]>)
     ensures value { IsFirstField word.now result.0.now result.1 }
@@ -44,7 +44,7 @@ fn octet(field: &[u8]) -> Result<u8, FileKind>
     }
 }
 
-/// The number of the first field, and what stands behind it.
+/// The number of the first field, and the bytes behind it.
 fn next_octet(word: &[u8]) -> Result<(u8, Option<&[u8]>), FileKind>
     ensures value { MatchResult result (λ r. octets (fields word.now) ≡ after_octet r.0 (octets_after r.1)) (λ e. octets (fields word.now) ≡ Err e) }
     ensures shorter { MatchResult result (λ r. MatchOption r.1 (Unit {0}) (λ rest. length rest.now < length word.now)) (λ e. Unit {0}) }

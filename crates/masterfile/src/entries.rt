@@ -15,13 +15,13 @@ use rdata::{GREATEST_TTL, RType, Record, is_same_word};
 use std::alloc::{Allocator, Global};
 use std::marker::Model;
 
-/// What earlier entries leave to the later ones.
+/// The origin, owner and TTLs that entries leave to the later ones.
 #[derive(Drop)]
 pub(crate) struct Context<A: Allocator = Global> {
     pub(crate) origin: Name<A>,
     /// The last owner.
     owner: Option<Name<A>>,
-    /// The TTL of `$TTL`.
+    /// The TTL that `$TTL` set.
     standing: Option<u32>,
     /// The last TTL that a record stated.
     stated: Option<u32>,
@@ -39,7 +39,7 @@ impl<A: Allocator> Model for Context<A> {
     ghost invariant = { λ c. IsTtl c.standing × IsTtl c.stated };
 }
 
-/// What stands before a record's data: its TTL, if one is stated, and its type.
+/// The fields before a record's data: its TTL, if one is stated, and its type.
 #[derive(Clone, Copy)]
 struct Head {
     ttl: Option<u32>,
@@ -94,7 +94,7 @@ fn read_head(first: &[u8], words: &mut Words<'_>) -> Result<Head, FileKind>
 }
 
 impl<A: Heap> Context<A> {
-    /// Nothing read yet.
+    /// The state before the first entry.
     pub(crate) fn new(origin: Name<A>) -> Context<A>
         ensures { result ≡ start origin }
     {
@@ -106,7 +106,7 @@ impl<A: Heap> Context<A> {
         }
     }
 
-    /// A record of this owner.
+    /// Reads a record of this owner.
     fn record(
         &mut self,
         alloc: A,
@@ -132,7 +132,7 @@ impl<A: Heap> Context<A> {
         Ok(Some(Record { owner, ttl, value }))
     }
 
-    /// A directive: `$ORIGIN` or `$TTL`.
+    /// Reads a directive: `$ORIGIN` or `$TTL`.
     fn directive(&mut self, alloc: A, word: &[u8], words: &mut Words<'_>) -> Result<(), FileKind>
         ensures value { GivesContext result self.new (directive_in self.old word.now words.old.words) }
         ensures all { OnOk result (words.new.words ≡ []) }
@@ -152,7 +152,7 @@ impl<A: Heap> Context<A> {
         Ok(())
     }
 
-    /// What an entry says whose line begins so: a record, or none where it is empty or a directive.
+    /// Reads an entry by the beginning of its line: a record, or none where it is empty or a directive.
     pub(crate) fn entry(
         &mut self,
         alloc: A,
@@ -186,7 +186,7 @@ impl<A: Heap> Context<A> {
         }
     }
 
-    /// A record whose owner the word `name` writes.
+    /// Reads a record whose owner the word `name` writes.
     fn named_record(
         &mut self,
         alloc: A,

@@ -5,7 +5,7 @@ ghost use Rattle.masterfile.specs.Faults.{kind_number, kind_text, error_text};
 use std::alloc::{AllocError, AllocFailed};
 use std::fmt;
 
-/// What is wrong with an entry.
+/// The fault of an entry.
 #[derive(Clone, Copy, Debug, PartialEq, Eq)]
 pub enum FileKind {
     /// A type that is not served, a second TTL or a second class.
@@ -16,7 +16,7 @@ pub enum FileKind {
     BadNumber,
     /// No TTL: none stands here, no `$TTL` before, and no record stated one.
     NoTtl,
-    /// A record without an owner where none stood before.
+    /// A record without an owner, where no entry before it had one.
     NoOwner,
     /// A parenthesis or a quote that is not closed, or a parenthesis that closes none or stands within another.
     OpenText,
@@ -101,12 +101,12 @@ impl From<dname::Starved> for FileKind {
     }
 }
 
-/// The first fault of a text: the line on which its entry starts, counted from 1, and what is wrong with it.
+/// The first fault of a text: the line on which its entry starts, counted from 1, and the kind of the fault.
 #[derive(Clone, Copy, Debug, PartialEq, Eq)]
 pub struct FileError {
     /// The number of the line on which the entry starts, from 1 on.
     pub line: usize,
-    /// What is wrong with it.
+    /// The kind of the fault.
     pub kind: FileKind,
 }
 

@@ -15,7 +15,7 @@ use dname::{Heap, Name, NameError};
 use master_lexer::{Word, Words};
 use rdata::{Addr, CharacterString, RData, RType, Soa, Srv, Texts};
 
-/// The next word, which may have no quotes.
+/// The next word, where it has no quotes.
 pub(crate) fn plain<'a>(words: &mut Words<'a>) -> Result<&'a [u8], FileKind>
     ensures value { ReadsRest (λ w. w.now) result words.new.words (plain_word words.old.words) }
     ensures later { words.new.later ≡ words.old.later }
@@ -67,7 +67,7 @@ pub(crate) fn number_field(words: &mut Words<'_>, limit: u32) -> Result<u32, Fil
     number(word, limit)
 }
 
-/// Nothing may be left of the entry.
+/// The end of the entry: a word that is left over is a fault.
 pub(crate) fn end(words: &mut Words<'_>) -> Result<(), FileKind>
     ensures left { MatchResult result (λ _. left_over words.old.words ≡ None) (λ e. left_over words.old.words ≡ Some e) }
     ensures done { OnOk result ((words.old.words ≡ []) × (words.new ≡ words.old)) }
@@ -91,7 +91,7 @@ fn string_of_word<A: Heap>(alloc: A, word: Word<'_>) -> Result<CharacterString<A
     }
 }
 
-/// The strings of a TXT record: one or more, all that the entry still has.
+/// The strings of a TXT record: one or more, from all words that are left of the entry.
 #[tactic(auto, using(crate::proofs::Fronts::onto_front))]
 fn texts<A: Heap>(alloc: A, words: &mut Words<'_>) -> Result<Texts<A>, FileKind>
     ensures value { MatchResult result (λ t. take_strings words.old.words ≡ Ok t) (λ e. FaultIn e (take_strings words.old.words)) }
@@ -166,7 +166,7 @@ fn srv<A: Heap>(alloc: A, words: &mut Words<'_>, origin: &Name<A>) -> Result<Srv
     })
 }
 
-/// The data of a type.
+/// The data of a record of this type.
 pub(crate) fn rdata<A: Heap>(
     alloc: A,
     words: &mut Words<'_>,

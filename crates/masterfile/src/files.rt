@@ -19,7 +19,7 @@ pub fn read<A: Heap>(alloc: A, origin: &Name<A>, text: &str) -> Result<Records<A
     read_block(alloc, origin, text.as_bytes(), 1)
 }
 
-/// The same of a text that stands in a larger one, where its first line has the number `line`.
+/// The records of a zone text that stands in a larger text, where its first line has the number `line`.
 pub fn read_block<A: Heap>(
     alloc: A,
     origin: &Name<A>,
@@ -60,7 +60,7 @@ pub fn read_block<A: Heap>(
     }
 }
 
-/// The record of an entry, if it has one, behind those before.
+/// Adds the record of an entry, if it has one, to those before.
 fn keep<A: Heap>(records: &mut Records<A>, found: Option<Record<A>>) -> Result<(), Starved>
     ensures { OnOk result (records.new ≡ records.old ++ listed found) }
 {

@@ -4,17 +4,17 @@
 //! relative name is under the origin in force, an entry without owner or TTL takes the ones before it. `print`
 //! writes records as a zone text of absolute names, `put_record` one line of it.
 //!
-//! Promised: a text is read as records exactly where it stands for them by the RFC's rules (`reads_both_ways`,
-//! `IsMasterText`), else refused with the line and the kind of its first fault (`FileError`); what `print` writes
-//! is read back as the same records, whatever the reader's origin (`printed_is_read_back`).
+//! Promised: a text is read as records exactly where it has them by the RFC's rules (`reads_both_ways`,
+//! `IsMasterText`), else refused with the line and the kind of its first fault (`FileError`). A text of `print` is read
+//! back as the same records, whatever the reader's origin (`printed_is_read_back`).
 //! Not here: the rules of a zone (`zone`); `$INCLUDE`, TTL units (`1h`), classes other than IN, types other than
 //! those of `rdata`: each is refused.
 //!
 //! ```text
 //! let origin = Name::from_text(alloc, "example.")?;
 //! let records = read(alloc, &origin, "$TTL 300\nwww IN A 192.0.2.1\n")?;
-//! assert_eq!(records.as_slice()[0].owner.to_text()?.as_str(), "www.example.");
 //! let text = print(alloc, &origin, records.as_slice())?;
+//! assert_eq!(rt; text.as_str(), "$ORIGIN example.\nwww.example. 300 IN A 192.0.2.1\n");
 //! ```
 #![tactic(auto)]
 

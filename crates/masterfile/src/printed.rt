@@ -9,9 +9,9 @@ use dname::{Heap, Name, Starved, put_name};
 use rdata::Record;
 use std::alloc::Allocator;
 
-/// The records as a zone text: a line `$ORIGIN NAME`, then a line `OWNER TTL IN TYPE DATA` a record, with one space
-/// between words and every name absolute. It is read back as these records, where no TXT is over 65,535
-/// bytes in a message.
+/// The records as a zone text: a line `$ORIGIN NAME`, then a line `OWNER TTL IN TYPE DATA` for each record, with one
+/// space between words and every name absolute. It is read back as these records, where no TXT is over 65,535 bytes in
+/// a message.
 pub fn print<A: Heap, B: Allocator>(
     alloc: A,
     origin: &Name<B>,

@@ -1,4 +1,4 @@
-//! Records as they are kept are within the bounds of a zone text: laws on values, for `print`.
+//! The parts of a record are within the bounds of a zone text: laws on values, for `print`.
 ghost use Rattle.std.specs.Prelude.{◌<◌, ◌≤◌, length};
 ghost use Rattle.dname.specs.Labels.{IsName};
 ghost use Rattle.dname.specs.Spelling.{AreBytes};

@@ -3,5 +3,5 @@ pub mod Played
 pub mod Plays
 pub mod Shown
 pub mod Counts
--- Kept: what the code's own values keep.
+-- Kept: invariants of the code's values, and how contracts see them.
 pub mod Seen

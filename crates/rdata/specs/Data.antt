@@ -7,7 +7,7 @@ use Rattle.rdata.specs.Types.{type_number}
 use Rattle.rdata.specs.declared.rtype.RType.{RType}
 use Rattle.rdata.specs.declared.rtype.RType.TheVariants as kind
 
--- What an SOA record says (RFC 1035, section 3.3.13): times in seconds.
+-- The data of an SOA record (RFC 1035, section 3.3.13): times in seconds.
 pub record Authority : Type 0 where
   pub primary : List (List ℕ)
   pub mailbox : List (List ℕ)
@@ -17,8 +17,8 @@ pub record Authority : Type 0 where
   pub expire : ℕ
   pub minimum : ℕ
 
--- What an SRV record says (RFC 2782): at which host and port a service is offered, the hosts of the lowest priority
--- first, and among those of one priority each to a share of the clients by its weight.
+-- The data of an SRV record (RFC 2782): at which host and port a service is offered. Hosts of the lowest priority are
+-- tried first, and those of one priority each by a share of the clients, by their weights.
 pub record Service : Type 0 where
   pub priority : ℕ
   pub weight : ℕ
@@ -52,7 +52,7 @@ kind_of (Srv s) = kind.Srv
 abbrev pub type_of : Datum → ℕ
 type_of d = type_number (kind_of d)
 
--- The same data, as a test.
+-- Whether data are the same.
 abbrev pub same_authority : Authority → Authority → Bool
 same_authority a b = same_name a.primary b.primary && same_name a.mailbox b.mailbox && nat_eq a.serial b.serial && nat_eq a.refresh b.refresh
     && nat_eq a.retry b.retry && nat_eq a.expire b.expire && nat_eq a.minimum b.minimum

@@ -1,4 +1,4 @@
--- RDATA as it is kept, seen as a plain value.
+-- The code's RDATA, seen as a plain value.
 use Rattle.rdata.specs.Data.{Datum, Ipv4, Ns, Cname, Soa, Ptr, Mx, Txt, Ipv6, Srv}
 use Rattle.rdata.specs.declared.data.RData.{RData}
 use Rattle.rdata.specs.declared.data.RData.TheVariants as kept

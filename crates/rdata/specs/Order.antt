@@ -1,5 +1,4 @@
--- An order of data: by type number, then by what the data say. It is no order of the RFCs: by it repeats are found in
--- long lists.
+-- An order of data: by type number, then by the data. No RFC has it: it finds repeats in long lists.
 use Rattle.std.specs.Prelude.{◌≡◌, ℕ, Bool, true, false, ◌&&◌, nat_eq, List, [], ◌∷◌}
 use Rattle.std.proofs.Common.{refl, sym, ◌∙◌, ap, subst}
 use Rattle.std.specs.declared.cmp.Ordering.{Ordering}
@@ -17,7 +16,7 @@ use Rattle.rdata.specs.declared.data.RData.{RData}
 abbrev pub bytes_cmp : List ℕ → List ℕ → Ordering
 bytes_cmp a b = slice_cmp nat_cmp a b
 
--- What an SOA record says in numbers.
+-- The numbers of an SOA record, in order.
 abbrev pub numbers_of : Authority → List ℕ
 numbers_of a = a.serial ∷ a.refresh ∷ a.retry ∷ a.expire ∷ a.minimum ∷ []
 
@@ -25,14 +24,14 @@ abbrev pub authority_cmp : Authority → Authority → Ordering
 authority_cmp a b =
     ordering_then (ordering_then (bytes_cmp (wire a.primary) (wire b.primary)) (bytes_cmp (wire a.mailbox) (wire b.mailbox))) (bytes_cmp (numbers_of a) (numbers_of b))
 
--- What an SRV record says in numbers.
+-- The numbers of an SRV record, in order.
 abbrev pub service_numbers : Service → List ℕ
 service_numbers s = s.priority ∷ s.weight ∷ s.port ∷ []
 
 abbrev pub service_cmp : Service → Service → Ordering
 service_cmp a b = ordering_then (bytes_cmp (service_numbers a) (service_numbers b)) (bytes_cmp (wire a.target) (wire b.target))
 
--- Data of one type.
+-- The order of data of one type.
 abbrev pub alike_cmp : Datum → Datum → Ordering
 alike_cmp (Ipv4 a) (Ipv4 b) = bytes_cmp a b
 alike_cmp (Ns m) (Ns n) = bytes_cmp (wire m) (wire n)
@@ -147,7 +146,7 @@ same_parts (Ipv6 a) (Ipv6 b) = lone (pointwise nat_eq a b)
 same_parts (Srv a) (Srv b) = four (nat_eq a.priority b.priority) (nat_eq a.weight b.weight) (nat_eq a.port b.port) (same_name a.target b.target)
 same_parts _ _ = refl
 
--- Data that are neither before nor behind one another are the same.
+-- Two data of which none comes before the other are the same.
 pub data_cmp_ties : (d e : Datum) → same_data d e ≡ eq_by_cmp data_cmp d e
 data_cmp_ties d e =
     same_parts d e ∙ (lists_ties bytes_cmp (lists_ties nat_cmp unsigned_ties) (parts d) (parts e) ∙ ap (λ (o : Ordering). eq_by_cmp (λ (x y : Datum). o) d e) (sym (by_parts d e)))
@@ -155,7 +154,7 @@ data_cmp_ties d e =
 pub same_data_equiv : IsEquivalence same_data
 same_data_equiv = subst (λ (r : Datum → Datum → Bool). IsEquivalence r) (λ i. λ d. λ e. sym (same_parts d e) i) (on_equiv parts (lists_equiv nat_list_eq_equiv))
 
--- ---- at data as they are kept
+-- ---- the same for the code's data
 
 abbrev pub same_kept : {H : Type 0} → RData H → RData H → Bool
 same_kept x y = same_data (datum x) (datum y)

@@ -20,7 +20,7 @@ row owner ttl d = record { owner = owner; ttl = ttl; value = datum d }
 abbrev pub rows : {H : Type 0} → List (List ℕ) → ℕ → List (RData H) → List Record
 rows owner ttl ds = map (row owner ttl) ds
 
--- The records of a set that may be there.
+-- The records of a set, and none where there is no set.
 abbrev pub in_set : Option (List Record) → List Record
 in_set None = []
 in_set (Some rs) = rs

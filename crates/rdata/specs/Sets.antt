@@ -4,11 +4,11 @@ use Rattle.dname.specs.Labels.{same_name}
 use Rattle.rdata.specs.Data.{same_data}
 use Rattle.rdata.specs.Records.{Record, greatest_ttl}
 
--- A record that another repeats, TTLs aside: same owner and same data (and so same type).
+-- A record that repeats another, TTLs aside: same owner and same data (and so same type).
 abbrev pub is_repeat : Record → Record → Bool
 is_repeat r s = same_name r.owner s.owner && same_data r.value s.value
 
--- The records without their repeats: of equal ones the first stands, in its place.
+-- The records without repeats: of equal ones the first stays, in its place.
 abbrev pub once : List Record → List Record
 once [] = []
 once (r ∷ rs) = r ∷ filter (λ (s : Record). not (is_repeat r s)) (once rs)
@@ -20,6 +20,6 @@ lowest_ttl (r ∷ rs) = min r.ttl (lowest_ttl rs)
 abbrev pub with_ttl : ℕ → Record → Record
 with_ttl ttl r = record { owner = r.owner; ttl = ttl; value = r.value }
 
--- The set that records make.
+-- The RRset that these records make.
 abbrev pub one_set : List Record → List Record
 one_set rs = map (with_ttl (lowest_ttl rs)) (once rs)

@@ -39,11 +39,11 @@ glyph b =
     cond (nat_eq b 34 || nat_eq b 92) (92 ∷ b ∷ [])
     (cond (nat_le 32 b && nat_le b 126) (b ∷ []) (number_text b))
 
--- A character-string in quotes.
+-- A character-string as text, in quotes.
 abbrev pub quoted : List ℕ → List ℕ
 quoted string = codes "\"" ++ flat_map glyph string ++ codes "\""
 
--- A number, or a name, behind a space.
+-- A number, or a name, as text behind a space.
 abbrev pub spaced_number : ℕ → List ℕ
 spaced_number n = codes " " ++ decimal n
 

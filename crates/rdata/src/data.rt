@@ -34,8 +34,8 @@ pub enum RData<A: Allocator = Global> {
     Srv(Box<Srv<A>, A>),
 }
 
-// By hand, so that whatever drops a record calls this: what is derived is spelt out, nine ways, at each exit of each
-// function that holds one, which makes their proofs many times as long.
+// By hand, so that each drop of a record calls this. A derived drop is written out, nine ways, at each exit of each
+// function that holds a record, which makes their proofs many times as long.
 impl<A: Allocator> Drop for RData<A> {
     fn drop(self) {
         match self {
@@ -51,7 +51,7 @@ impl<A: Allocator> Drop for RData<A> {
 }
 
 impl<A: Allocator> RData<A> {
-    /// Its type.
+    /// Its type: of `RData::A` it is `RType::A`.
     pub fn kind(&self) -> RType
         ensures { type_number result ≡ type_of (datum self.now) }
     {
@@ -91,7 +91,7 @@ impl<A: Heap> Clone for RData<A> {
 }
 
 impl<A: Allocator> RData<A> {
-    /// Whether these are the same data.
+    /// Whether these are the same data: two NS of `a.example` are, an NS and a PTR of it are not.
     pub fn is_same(&self, other: &RData<A>) -> bool
         ensures { result ≡ same_data (datum self.now) (datum other.now) }
     {

@@ -6,16 +6,16 @@
 //! the RRset of an owner and a type: repeats dropped, all TTLs the lowest. `Display` writes a record, and its RDATA, as
 //! a master file has them; `put_data` does so into a string.
 //!
-//! Promised: each result exactly, by the functions of `specs` (`one_set`, `type_by`, `data_text`); the test for
-//! equal data finds equal data alone (`same_data_law`); each type is named by its number and its word
+//! Promised: each result, exactly, by the functions of `specs` (`one_set`, `type_by`, `data_text`); the test for equal
+//! data holds for equal data alone (`same_data_law`); each type is named by its number and its word
 //! (`number_names_type_law`, `word_names_type_law`).
 //! Not here: other types and classes, which the readers of messages and of master files leave out or refuse.
 //!
 //! ```text
 //! let mut records = Records::new(alloc);
 //! records.push(Record { owner: name.clone()?, ttl: 300, value: RData::A(Addr([192, 0, 2, 1])) })?;
-//! let set = set_at(alloc, records.as_slice(), &name, RType::A)?;
-//! assert!(set.is_some_and(|set| set.len() == 1 && set.ttl() == 300));
+//! let set = set_at(alloc, records.as_slice(), name, RType::A)?;
+//! assert!(rt; set.is_some_and(|set| set.len() == 1 && set.ttl() == 300));
 //! ```
 #![tactic(auto)]
 

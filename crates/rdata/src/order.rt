@@ -1,5 +1,4 @@
-//! An order of data, by type and then by what they say, so that repeats are found in long lists. It is no order
-//! of the RFCs.
+//! An order of data, by type and then by the data, so that repeats are found in long lists. No RFC has it.
 
 ghost use Rattle.std.specs.Prelude.{◌≡◌};
 ghost use Rattle.std.proofs.Common.{refl};

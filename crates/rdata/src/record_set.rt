@@ -61,7 +61,7 @@ impl<A: Heap> Clone for RecordSet<A> {
 }
 
 impl<A: Heap> RecordSet<A> {
-    /// The set of this record alone.
+    /// The RRset of this record alone: of `a.example. 300 A 192.0.2.1`, one with TTL 300 and that address.
     pub fn alone(alloc: A, only: Record<A>) -> Result<RecordSet<A>, Starved>
         ensures { IfOk result (λ set. set ≡ only ∷ []) }
     {
@@ -73,7 +73,7 @@ impl<A: Heap> RecordSet<A> {
         })
     }
 
-    /// Its first record.
+    /// Its first record: of a set of 192.0.2.1 and 192.0.2.2, the one with 192.0.2.1.
     pub fn first(&self) -> Result<Record<A>, Starved>
         ensures { IfOk result (λ r. Some r ≡ first_in self.now) }
     {
@@ -81,7 +81,7 @@ impl<A: Heap> RecordSet<A> {
         Ok(row(&self.owner, self.ttl, self.values.get(0))?)
     }
 
-    /// Its records.
+    /// Its records, one for each of its data, in order: two of a set of two addresses.
     pub fn to_records(&self, alloc: A) -> Result<Records<A>, Starved>
         ensures { IfOk result (λ rs. rs ≡ self.now) }
     {
@@ -94,7 +94,7 @@ impl<A: Heap> RecordSet<A> {
 }
 
 impl<A: Allocator> RecordSet<A> {
-    /// How many records there are.
+    /// How many records there are: 2 in a set of two addresses.
     pub fn len(&self) -> usize
         ensures len { result ≡ length self.now }
         ensures some { 0 < length self.now }
@@ -102,7 +102,7 @@ impl<A: Allocator> RecordSet<A> {
         self.values.len()
     }
 
-    /// The TTL of its records, in seconds.
+    /// The TTL of its records, in seconds: 300 of the set of `a.example. 300 A 192.0.2.1`.
     pub fn ttl(&self) -> u32
         ensures lowest { result ≡ lowest_ttl self.now }
         ensures most { result ≤ greatest_ttl }
@@ -111,15 +111,15 @@ impl<A: Allocator> RecordSet<A> {
         self.ttl
     }
 
-    /// Gives its records a TTL of at most so many seconds: their own one, or that where their own is longer
-    /// (RFC 2181, section 8).
+    /// Gives its records a TTL of at most so many seconds: their own one, or that where their own is longer (RFC 2181,
+    /// section 8). With `most` 300, a TTL of 900 becomes 300, and one of 60 stays.
     pub fn cap_ttl(&mut self, most: u32)
         ensures { self.new ≡ map (capped most) self.old }
     {
         self.ttl = self.ttl.min(most);
     }
 
-    /// Gives its records this TTL, in seconds.
+    /// Gives its records this TTL, in seconds: with 60, all have 60, whatever they had.
     pub fn set_ttl(&mut self, ttl: u32)
         requires { ttl ≤ greatest_ttl }
         ensures { self.new ≡ map (with_ttl ttl) self.old }

@@ -22,7 +22,7 @@ pub struct Record<A: Allocator = Global> {
     pub owner: Name<A>,
     /// Time to live in seconds, at most `GREATEST_TTL` (RFC 2181, section 8).
     pub ttl: u32,
-    /// TYPE and RDATA: its type, and what it says.
+    /// TYPE and RDATA: its type and its data.
     pub value: RData<A>,
 }
 
@@ -39,14 +39,15 @@ impl<A: Allocator> Model for Record<A> {
 }
 
 impl<A: Allocator> Record<A> {
-    /// Whether it is of that type.
+    /// Whether it is of that type: `a.example. 300 A 192.0.2.1` is of type A.
     pub fn is(&self, kind: RType) -> bool
         ensures { result ≡ nat_eq (type_of self.now.value) (type_number kind) }
     {
         self.value.kind() == kind
     }
 
-    /// Whether both are one record, TTLs aside: of one owner, with the same data (and so of one type).
+    /// Whether both are one record, TTLs aside: of one owner, with the same data (and so of one type). The records of
+    /// `a.example. A 192.0.2.1` with the TTLs 60 and 300 are.
     pub fn repeats(&self, other: &Record<A>) -> bool
         ensures { result ≡ is_repeat self.now other.now }
     {
@@ -109,7 +110,7 @@ impl<A: Allocator> Model for Records<A> {
 }
 
 impl<A: Heap> Records<A> {
-    /// No records; takes no memory.
+    /// No records: a list of length 0. Takes no memory.
     pub fn new(alloc: A) -> Records<A>
         ensures { result ≡ [] }
     {
@@ -118,7 +119,7 @@ impl<A: Heap> Records<A> {
         }
     }
 
-    /// No records, with room for so many.
+    /// No records, with room for so many: a list of length 0 with memory for `expected` records.
     pub fn with_capacity(alloc: A, expected: usize) -> Result<Records<A>, Starved>
         ensures { IfOk result (λ r. r ≡ []) }
     {
@@ -127,7 +128,7 @@ impl<A: Heap> Records<A> {
         })
     }
 
-    /// One record more, at the end.
+    /// Adds a record at the end: behind two records it is the third.
     pub fn push(&mut self, rr: Record<A>) -> Result<(), Starved>
         ensures ok { OnOk result (self.new ≡ self.old ++ rr ∷ []) }
         ensures err { OnErr result (self.new ≡ self.old) }
@@ -138,29 +139,29 @@ impl<A: Heap> Records<A> {
 }
 
 impl<A: Allocator> Records<A> {
-    /// How many there are.
+    /// How many records there are: 2 after two of `push`.
     pub fn len(&self) -> usize
         ensures { result ≡ length self.now }
     {
         self.items.len()
     }
 
-    /// Whether there are none.
+    /// Whether there are no records: true of a new list, false after a `push`.
     pub fn is_empty(&self) -> bool
         ensures { IsTrue result ↔ (self.now ≡ []) }
     {
         self.items.is_empty()
     }
 
-    /// Gives each record a TTL of at most so many seconds: its own one, or that where its own is longer
-    /// (RFC 2181, section 8).
+    /// Gives each record a TTL of at most so many seconds: its own one, or that where its own is longer (RFC 2181,
+    /// section 8). With `most` 300, the TTLs 900 and 60 become 300 and 60.
     pub fn cap_ttl(&mut self, most: u32)
         ensures { self.new ≡ map (capped most) self.old }
     {
         cap_all(&mut self.items, most);
     }
 
-    /// Gives each record this TTL, in seconds.
+    /// Gives each record this TTL, in seconds: with 60, all have 60, whatever they had.
     pub fn set_ttl(&mut self, ttl: u32)
         requires { ttl ≤ greatest_ttl }
         ensures { self.new ≡ map (with_ttl ttl) self.old }
@@ -168,7 +169,7 @@ impl<A: Allocator> Records<A> {
         set_all(&mut self.items, ttl);
     }
 
-    /// The records in order.
+    /// The records in order: after `push` of a first and a second one, these two.
     pub fn as_slice(&self) -> &[Record<A>]
         ensures { result.now ≡ self.now }
     {

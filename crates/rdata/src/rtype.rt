@@ -31,7 +31,7 @@ pub enum RType {
 }
 
 impl RType {
-    /// Its number in messages.
+    /// Its number in messages: 1 of A, 28 of AAAA.
     pub fn number(self) -> u16
         ensures { result ≡ type_number self }
     {
@@ -48,7 +48,7 @@ impl RType {
         }
     }
 
-    /// The type of a number; none where it is not served.
+    /// The type of a number: AAAA of 28; none of 65, as HTTPS is not served.
     pub fn from_number(number: u16) -> Option<RType>
         ensures exact { result ≡ type_by number }
         ensures served { IsSome result ↔ IsTrue (is_served number) }
@@ -68,7 +68,7 @@ impl RType {
         }
     }
 
-    /// The type that a word of a master file names, in letters of either case (RFC 1035, section 5.1).
+    /// The type that a word of a master file names, in letters of either case (RFC 1035, section 5.1): `Aaaa` is AAAA.
     #[tactic(auto, unfolding(crate::specs::Types::type_named))]
     pub fn from_word(word: &[u8]) -> Option<RType>
         ensures { result ≡ type_named word.now }
@@ -91,7 +91,7 @@ impl RType {
         None
     }
 
-    /// Its word in master files, in capitals.
+    /// Its word in master files, in capitals: `AAAA`.
     pub fn word(self) -> &'static str
         ensures { result.now ≡ type_word self }
     {
@@ -109,7 +109,7 @@ impl RType {
     }
 }
 
-/// Whether two words are the same without regard to case (RFC 1035, section 5.1).
+/// Whether two words are the same without regard to case (RFC 1035, section 5.1): `In` and `IN` are.
 pub fn is_same_word(word: &[u8], other: &[u8]) -> bool
     ensures { result ≡ same_word word.now other.now }
 {

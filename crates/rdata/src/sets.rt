@@ -20,22 +20,23 @@ use dname::{Heap, Name, Starved};
 use std::alloc::Allocator;
 use std::collections::BTreeSet;
 
-// So many data of a set are compared one by one; those behind them are found by their order.
+// The number of a set's first data that are compared one by one. Those behind them are found by their order.
 const FEW: usize = 16;
 
-/// The data of a set in the making behind the first few, lent.
+/// While a set is made: the data behind its first sixteen, borrowed, by their order.
 pub type Later<'a, A> = BTreeSet<&'a RData<A>, A>;
 
-/// Whether both are of one RRset: same owner, same type (RFC 2181, section 5).
+/// Whether both are of one RRset, with the same owner and type (RFC 2181, section 5): `a.example. A 192.0.2.1` and
+/// `a.example. A 192.0.2.2` are.
 pub fn same_set<A: Allocator>(a: &Record<A>, b: &Record<A>) -> bool
     ensures { result ≡ same_set a.now b.now }
 {
     a.owner == b.owner && a.is(b.value.kind())
 }
 
-/// The records of that owner and type as one RRset, where there are any: the first of equal ones, in order, all
-/// with the lowest TTL of theirs (RFC 2181, sections 5 and 5.2). Of n records it makes some n log n comparisons; up
-/// to 16 in the set take no memory but the set's.
+/// The records of that owner and type as one RRset, where there are any: of equal ones the first, in order, all with
+/// the lowest TTL of theirs (RFC 2181, sections 5 and 5.2). Of 192.0.2.1 with TTL 300 and 192.0.2.2 with TTL 60 it is
+/// both with TTL 60. Of n records it makes some n log n comparisons; up to 16 in the set take no memory but the set's.
 pub fn set_at<A: Heap>(
     alloc: A,
     records: &[Record<A>],
@@ -97,8 +98,8 @@ fn lowest_ttl_at<A: Allocator>(records: &[Record<A>], owner: &Name<A>, kind: RTy
     lowest
 }
 
-/// One more of the data of a set in the making, where it is no repeat (RFC 2181, section 5). `later` finds what stands
-/// behind the first sixteen again.
+/// Adds data to a set that is being made, unless it has them already (RFC 2181, section 5): of 192.0.2.1, 192.0.2.2 and
+/// 192.0.2.1 the first two stay. `later` finds those that stand behind the first sixteen.
 pub fn put_once<'a, A: Heap>(
     values: &mut Vec<RData<A>, A>,
     later: &mut Later<'a, A>,
@@ -114,7 +115,8 @@ pub fn put_once<'a, A: Heap>(
     Ok(())
 }
 
-// Whether data are no repeat of those of a set; from then on they are found there too.
+// Whether these data repeat none of a set. Where they will stand behind its first sixteen, `later` has them from then
+// on.
 fn is_new<'a, A: Heap>(
     values: &[RData<A>],
     later: &mut Later<'a, A>,
@@ -134,7 +136,8 @@ fn is_new<'a, A: Heap>(
     Ok(later.insert(added)?)
 }
 
-/// The lowest TTL in seconds; of no records the greatest that there is (RFC 2181, sections 5.2 and 8).
+/// The lowest TTL in seconds (RFC 2181, sections 5.2 and 8): 60 of 300 and 60; of no records the greatest that there
+/// is.
 pub fn lowest_ttl<A: Allocator>(records: &[Record<A>]) -> u32
     ensures value { result ≡ lowest_ttl records.now }
     ensures most { result ≤ greatest_ttl }

@@ -3,12 +3,12 @@ use dname::{Heap, Name};
 use std::alloc::{AllocError, Allocator, Global};
 use std::marker::Model;
 
-/// What an SOA record says (RFC 1035, section 3.3.13). Times are in seconds.
+/// The data of an SOA record (RFC 1035, section 3.3.13). Times are in seconds.
 #[derive(Drop)]
 pub struct Soa<A: Allocator = Global> {
     /// MNAME: the primary name server.
     pub primary: Name<A>,
-    /// RNAME: the mailbox of who is responsible, its first dot for the at sign.
+    /// RNAME: the mailbox of the person in charge of the zone, its first dot for the at sign.
     pub mailbox: Name<A>,
     /// SERIAL: the version of the zone, which wraps.
     pub serial: u32,
@@ -52,7 +52,7 @@ impl<A: Allocator> Soa<A> {
     ghost use Rattle.std.specs.Prelude.{◌≡◌};
     ghost use Rattle.rdata.specs.Data.{same_authority};
 
-    /// Whether both say the same.
+    /// Whether all seven fields are the same: with the serials 1 and 2, they are not.
     pub fn is_same(&self, other: &Soa<A>) -> bool
         ensures { result ≡ same_authority self.now other.now }
     {

@@ -43,7 +43,7 @@ impl<A: Allocator> Srv<A> {
     ghost use Rattle.std.specs.Prelude.{◌≡◌};
     ghost use Rattle.rdata.specs.Data.{same_service};
 
-    /// Whether both say the same.
+    /// Whether all four fields are the same: with the ports 5060 and 5061, they are not.
     pub fn is_same(&self, other: &Srv<A>) -> bool
         ensures { result ≡ same_service self.now other.now }
     {

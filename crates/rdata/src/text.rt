@@ -183,7 +183,7 @@ impl fmt::Display for Groups {
     }
 }
 
-/// Appends type and data as they are displayed. Where memory is refused, nothing is appended.
+/// Appends type and data as they are displayed: `MX 10 mail.example.`. Where memory is refused, nothing is appended.
 pub fn put_data<A: Allocator, B: Allocator>(
     out: &mut String<B>,
     value: &RData<A>,
@@ -193,7 +193,7 @@ pub fn put_data<A: Allocator, B: Allocator>(
     Ok(out.write(value)?)
 }
 
-/// Appends an IPv4 address: four numbers parted by dots.
+/// Appends an IPv4 address, four numbers parted by dots: of the bytes 192, 0, 2, 1 it is `192.0.2.1`.
 pub fn put_ipv4<A: Allocator>(out: &mut String<A>, address: &[u8; 4]) -> Result<(), Starved>
     ensures { OnOk result (string_bytes out.new ≡ string_bytes out.old ++ ipv4_text address.now) }
 {

@@ -26,7 +26,7 @@ impl<A: Allocator> Model for CharacterString<A> {
 }
 
 impl<A: Heap> CharacterString<A> {
-    /// The string of these bytes.
+    /// The string of these bytes: of `v=1`, one of length 3.
     pub fn new(bytes: Vec<u8, A>) -> CharacterString<A>
         requires { length bytes.items ≤ 255 }
         ensures { result ≡ bytes.items }
@@ -36,7 +36,7 @@ impl<A: Heap> CharacterString<A> {
 }
 
 impl<A: Allocator> CharacterString<A> {
-    /// Its bytes, 0 to 255 of them.
+    /// Its bytes, 0 to 255 of them: of the string `v=1`, these three.
     pub fn bytes(&self) -> &[u8]
         ensures is { result.now ≡ self.now }
         ensures short { length self.now ≤ 255 }
@@ -109,7 +109,7 @@ impl<A: Allocator> Model for Texts<A> {
 }
 
 impl<A: Heap> Texts<A> {
-    /// One string.
+    /// The strings of a TXT record that has this one alone: of `v=1`, a list of length 1.
     pub fn new(alloc: A, first: CharacterString<A>) -> Result<Texts<A>, Starved>
         ensures { IfOk result (λ t. t ≡ first ∷ []) }
     {
@@ -126,7 +126,7 @@ impl<A: Heap> Texts<A> {
         Texts { wire }
     }
 
-    /// One string more, at the end.
+    /// Adds a string at the end: behind `v=1` it is the second.
     pub fn push(&mut self, string: CharacterString<A>) -> Result<(), Starved>
         ensures ok { OnOk result (self.new ≡ self.old ++ string ∷ []) }
         ensures err { OnErr result (self.new ≡ self.old) }
@@ -156,7 +156,7 @@ impl<A: Heap> Clone for Texts<A> {
 }
 
 impl<A: Allocator> Texts<A> {
-    /// Whether both have the same strings.
+    /// Whether both have the same strings in the same order: `a` `b` and `ab` are not the same.
     pub fn is_same(&self, other: &Texts<A>) -> bool
         ensures { result ≡ pointwise (pointwise nat_eq) self.now other.now }
     {

@@ -7,7 +7,7 @@ use Rattle.rdata.specs.Data.{Datum, Ns, Ipv4}
 use Rattle.rdata.specs.Records.{Record}
 use Rattle.referral.specs.Cuts.{Cut, ServerAddress}
 
--- The server that data names, if it is of type NS.
+-- The server in these data, if they are of type NS.
 abbrev pub target_names : Datum → List Name
 target_names (Ns n) = n ∷ []
 target_names _ = []
@@ -15,7 +15,7 @@ target_names _ = []
 abbrev pub targets_of : List Record → List Name
 targets_of ns = flat_map (λ (r : Record). target_names r.value) ns
 
--- The address that data gives for a name, if it is of type A.
+-- The address of this name in these data, if they are of type A.
 abbrev pub addresses_at : Name → Datum → List ServerAddress
 addresses_at n (Ipv4 bytes) = record { name = n; address = record { 0 = bytes } } ∷ []
 addresses_at n _ = []
@@ -27,14 +27,14 @@ addresses_in glue = flat_map (λ (r : Record). addresses_at r.owner r.value) glu
 abbrev pub record_cut : Name → List Record → List Record → Cut
 record_cut at ns glue = record { owner = at; names = targets_of ns; addresses = addresses_in glue }
 
--- The root with the hints: addresses of which no name is known.
+-- The address of a hint, of which no name is known.
 abbrev pub hinted : Addr → ServerAddress
 hinted a = record { name = root; address = a }
 
 abbrev pub hint_cut : List Addr → Cut
 hint_cut hints = record { owner = root; names = []; addresses = map hinted hints }
 
--- One record more.
+-- The names with that of one more record.
 abbrev pub with_target : List Name → Datum → List Name
 with_target names (Ns n) = names ++ n ∷ []
 with_target names _ = names
@@ -45,14 +45,14 @@ with_address addresses n _ = addresses
 
 -- ---- the laws that the functions of this crate state
 
--- The names are the targets of the NS records, and all of them.
+-- The names are exactly the targets of the NS records.
 abbrev pub NamesAreTargets : Type 0
 NamesAreTargets = (ns : List Record) (n : Name) → Contains (targets_of ns) n → (r : Record) × Contains ns r × (r.value ≡ Ns n)
 
 abbrev pub TargetsAreNames : Type 0
 TargetsAreNames = (ns : List Record) (r : Record) (n : Name) → Contains ns r → r.value ≡ Ns n → Contains (targets_of ns) n
 
--- The addresses are those of the A records, each with its owner, and all of them.
+-- The addresses are exactly those of the A records, each with its owner.
 abbrev pub AddressesAreGlue : Type 0
 AddressesAreGlue = (glue : List Record) (s : ServerAddress) → Contains (addresses_in glue) s → (r : Record) × Contains glue r × (r.owner ≡ s.name) × (r.value ≡ Ipv4 (s.address).0)
 

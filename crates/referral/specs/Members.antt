@@ -1,15 +1,15 @@
--- The laws of members that the functions of this crate state: which entries a look-up and a keep leave.
+-- The laws of members that the functions of this crate state: which entries a look-up and a `keep` leave.
 use Rattle.std.specs.Prelude.{◌≡◌, ◌≢◌, ℕ, List, Some, Contains}
 use Rattle.lru.specs.LruCache.{lru_cache, IsValid}
 use Rattle.dname.specs.Labels.{same_name, IsAtOrUnder}
 use Rattle.lru_laws.specs.Orders.{KeepsOnly, LosesOnly, HasSame}
 use Rattle.referral.specs.Cuts.{Cut, Known, AreNamed, nearest, cut_of, after_best, after_keep, IsBest, IsKept, IsGone}
 
--- A look-up brings nothing and takes nothing.
+-- A look-up adds no entry and removes none.
 abbrev pub BestKeepsMembers : Type 0
 BestKeepsMembers = (q : List (List ℕ)) (now : ℕ) (es : List (List (List ℕ) × Known)) → HasSame es (after_best q now es)
 
--- What is new after a keep is the entry of the cut that is kept.
+-- The entry that is new after a `keep` is that of its cut.
 abbrev pub KeepBringsOne : Type 0
 KeepBringsOne = (cap : ℕ) (k : Known) (es : List (List (List ℕ) × Known)) → KeepsOnly es (IsKept k) (after_keep cap k es)
 
@@ -17,11 +17,11 @@ KeepBringsOne = (cap : ℕ) (k : Known) (es : List (List (List ℕ) × Known)) �
 abbrev pub KeptIsThere : Type 0
 KeptIsThere = (cap : ℕ) (k : Known) (es : List (List (List ℕ) × Known)) → k.ttl ≢ 0 → Contains (after_keep cap k es) ((k.cut).owner, k)
 
--- What goes with a keep: the old entry of the name, and what stood past the capacity.
+-- The entries that a `keep` removes: the old one of the name, and the one past the capacity.
 abbrev pub KeepLosesFew : Type 0
 KeepLosesFew = (cap : ℕ) (k : Known) (es : List (List (List ℕ) × Known)) → LosesOnly es (IsGone cap k es) (after_keep cap k es)
 
--- What is found is the deepest cut that lives over the name.
+-- The cut that is found is the deepest live one over the name.
 abbrev pub FoundIsBest : Type 0
 FoundIsBest = (q : List (List ℕ)) (now : ℕ) (es : List (List (List ℕ) × Known)) → IsBest q now es (cut_of (nearest q now es))
 
@@ -32,7 +32,7 @@ BestStaysNamed = (q : List (List ℕ)) (now : ℕ) (es : List (List (List ℕ) �
 abbrev pub KeepStaysNamed : Type 0
 KeepStaysNamed = (cap : ℕ) (k : Known) (es : List (List (List ℕ) × Known)) → AreNamed es → AreNamed (after_keep cap k es)
 
--- So the cut that is found is over the name.
+-- So the cut that is found is over the name of the question.
 abbrev pub FoundIsOver : Type 0
 FoundIsOver = (q : List (List ℕ)) (now : ℕ) (es : List (List (List ℕ) × Known)) (c : Cut) → AreNamed es → cut_of (nearest q now es) ≡ Some c → IsAtOrUnder q c.owner
 

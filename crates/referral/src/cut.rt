@@ -15,7 +15,7 @@ pub struct Cut<A: Allocator = Global> {
     pub at: Name<A>,
     /// Its servers, as the NS records name them, in their order.
     pub names: Names<A>,
-    /// Addresses of those servers: glue (RFC 1034, section 4.2.1), or what hints say.
+    /// Addresses of those servers: glue (RFC 1034, section 4.2.1), or addresses of hints.
     pub addresses: Addresses<A>,
 }
 
@@ -39,7 +39,7 @@ impl<A: Heap> Clone for Cut<A> {
     }
 }
 
-/// The servers of a cut that is kept; its name is the key under which they are kept.
+/// The servers of a cached cut; its name is their key.
 #[derive(Drop)]
 pub struct Servers<A: Allocator = Global> {
     names: Names<A>,
@@ -70,7 +70,7 @@ impl<A: Heap> Clone for Servers<A> {
 }
 
 impl<A: Allocator> Servers<A> {
-    // The cut to be kept for so many seconds from the moment `since`, in milliseconds: its name, and its servers.
+    // The cut to be cached for so many seconds from the moment `since`, in milliseconds: its name, and its servers.
     pub(crate) fn of(cut: Cut<A>, ttl: u32, since: u64) -> (Name<A>, Servers<A>)
         ensures { known_of result.0 result.1 ≡ as_kept cut ttl since }
     {
@@ -90,14 +90,14 @@ impl<A: Allocator> Servers<A> {
         )
     }
 
-    // Their time to live in seconds.
+    // The TTL of these servers, in seconds.
     pub(crate) fn ttl(&self) -> u32
         ensures { result ≡ (self.now).ttl }
     {
         self.ttl
     }
 
-    // Whether they are younger than their time to live at this moment, under any name.
+    // Whether these servers are younger than their TTL at this moment, under any name.
     pub(crate) fn is_live(&self, now: u64) -> bool
         ensures { (n : List (List ℕ)) → result ≡ is_live now (known_of n self.now) }
     {

@@ -1,4 +1,4 @@
-//! Delegations kept, and the deepest one over a name.
+//! Cached delegations, and the deepest one over a name.
 ghost use Rattle.std.specs.Prelude.{◌≡◌, ◌≢◌, [], IfOk, OnOk, OnErr, IfSome, Contains, option_map};
 ghost use Rattle.std.specs.NonZero.{non_zero_usize_get};
 ghost use Rattle.lru.specs.LruCache.{lru_cache, IsValid};
@@ -15,8 +15,8 @@ use std::hash::BuildHasher;
 use std::marker::Model;
 use std::num::NonZeroUsize;
 
-/// Cuts that are kept. Contracts see the entries, the most recently used first, and the capacity. An entry
-/// whose time is over stays until it is replaced or pushed out.
+/// The cached cuts. Contracts see the entries, the most recently used first, and the capacity. An expired entry stays
+/// until it is replaced or pushed out.
 #[derive(Drop)]
 pub struct Delegations<S: BuildHasher + Drop, A: Allocator = Global> {
     entries: LruCache<Name<A>, Servers<A>, S, A>,
@@ -36,7 +36,7 @@ impl<S: BuildHasher + Drop, A: Allocator> Model for Delegations<S, A> {
 }
 
 impl<S: BuildHasher + Drop, A: Heap> Delegations<S, A> {
-    /// No cuts, with room for `cap` of them, which is taken as they come.
+    /// No cuts, with room for `cap` of them. Memory is taken as they come.
     pub fn new(alloc: A, cap: NonZeroUsize, hasher: S) -> Result<Delegations<S, A>, Starved>
         ensures { IfOk result (λ d. d ≡ lru_cache [] (non_zero_usize_get cap)) }
     {
@@ -54,8 +54,8 @@ impl<S: BuildHasher + Drop, A: Heap> Delegations<S, A> {
         let _ = self.entries.len();
     }
 
-    /// Keeps the cut from the moment `now`, in milliseconds, for `ttl` seconds. A cut with TTL 0 is not
-    /// kept, and what was kept of its name goes. Running out of memory changes nothing, and the cut is gone.
+    /// Caches the cut from the moment `now`, in milliseconds, for `ttl` seconds. A cut with TTL 0 is not cached, and
+    /// the entry of its name goes. Running out of memory changes nothing, and the cut is dropped.
     pub fn keep(&mut self, cut: Cut<A>, ttl: u32, now: u64) -> Result<(), Starved>
         ensures ok { OnOk result (self.new ≡ lru_cache (after_keep self.old.cap (as_kept cut ttl now) self.old.entries) self.old.cap) }
         ensures err { OnErr result (self.new ≡ self.old) }
@@ -96,7 +96,7 @@ impl<S: BuildHasher + Drop, A: Heap> Delegations<S, A> {
         }
     }
 
-    // The servers of the nearest cut that lives; the name becomes the cut's.
+    // The servers of the nearest live cut; the name becomes that of the cut.
     fn find(&self, at: &mut Name<A>, now: u64) -> Result<Option<Servers<A>>, Starved>
         ensures { IfOk result (λ s. under at.new (option_map (known_of at.new) s) ≡ nearest at.old now self.now.entries) }
     {

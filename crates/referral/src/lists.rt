@@ -49,7 +49,7 @@ impl<A: Heap> Names<A> {
         }
     }
 
-    /// One name more, at the end.
+    /// Adds a name at the end.
     pub fn push(&mut self, added: Name<A>) -> Result<(), Starved>
         ensures ok { OnOk result (self.new ≡ self.old ++ added ∷ []) }
         ensures err { OnErr result (self.new ≡ self.old) }
@@ -68,7 +68,7 @@ impl<A: Allocator> Names<A> {
     }
 }
 
-/// An address of a server, and the server's name: the root's where the name is not known, as of hints.
+/// An address of a server, and the server's name: the root's where the name is not known, as for hints.
 #[derive(Drop)]
 pub struct ServerAddress<A: Allocator = Global> {
     /// The server that has the address.
@@ -143,7 +143,7 @@ impl<A: Heap> Addresses<A> {
         }
     }
 
-    /// One address more, at the end.
+    /// Adds an address at the end.
     pub fn push(&mut self, added: ServerAddress<A>) -> Result<(), Starved>
         ensures ok { OnOk result (self.new ≡ self.old ++ added ∷ []) }
         ensures err { OnErr result (self.new ≡ self.old) }

@@ -7,7 +7,7 @@ use crate::lists::{Addresses, Names, ServerAddress};
 use dname::{Heap, Name, Starved};
 use rdata::{Addr, RData, Record};
 
-// One name more, where the record is of type NS.
+// Adds the target of the record, if it is of type NS.
 fn put_target<A: Heap>(names: &mut Names<A>, server: &Record<A>) -> Result<(), Starved>
     ensures { OnOk result (names.new ≡ with_target names.old (server.now).value) }
 {
@@ -27,7 +27,7 @@ fn targets<A: Heap>(alloc: A, servers: &[Record<A>]) -> Result<Names<A>, Starved
     Ok(names)
 }
 
-// One address more, where the record is of type A.
+// Adds the address of the record, if it is of type A.
 fn put_address<A: Heap>(addresses: &mut Addresses<A>, given: &Record<A>) -> Result<(), Starved>
     ensures { OnOk result (addresses.new ≡ with_address addresses.old (given.now).owner (given.now).value) }
 {
@@ -64,8 +64,8 @@ fn hinted_addresses<A: Heap>(alloc: A, hints: &[Addr]) -> Result<Addresses<A>, S
 }
 
 impl<A: Heap> Cut<A> {
-    /// The cut of this name, of a zone's records or a referral's: the targets of its NS records in order,
-    /// and of the others the A records in order, each address with its owner (RFC 1034, section 4.2.1).
+    /// The cut of this name, made of a zone's records or a referral's: the targets of its NS records in order, and of
+    /// the others the A records in order, each address with its owner (RFC 1034, section 4.2.1).
     pub fn of_records(
         alloc: A,
         at: Name<A>,

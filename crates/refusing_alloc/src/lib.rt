@@ -6,10 +6,10 @@
 //!
 //! ```text
 //! let heap = Refusing::new(rt.alloc());
-//! assert!(call(&heap).is_ok());
+//! assert!(rt; Vec::from_slice(&heap, b"www").is_ok());
 //! for n in 0..heap.growths() {
 //!     heap.refuse_after(n);
-//!     assert!(call(&heap).is_err());
+//!     assert!(rt; Vec::from_slice(&heap, b"www").is_err());
 //! }
 //! ```
 #![tactic(auto)]

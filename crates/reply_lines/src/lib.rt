@@ -10,7 +10,7 @@
 //!
 //! ```text
 //! let mut out = String::new(alloc);
-//! put_reply_bytes(alloc, &mut out, 1, &reply, None)?;
+//! put_reply_bytes(alloc, &mut out, 1, reply, None)?;
 //! // reply 1 NOERROR aa
 //! //   an www.example. 300 A 192.0.2.1
 //! ```

@@ -1,6 +1,5 @@
--- What the work on one query is made of (RFC 1034, section 5.3.3): what the resolver holds, the links that
--- were taken so far, the searches for servers that are under way, what comes in and what goes out. Moments
--- are milliseconds, times to live seconds.
+-- The work on one query (RFC 1034, section 5.3.3): the resolver's zones and stores, the links that are used, the
+-- searches for servers, inputs, and results. Moments are milliseconds, TTLs seconds.
 use Rattle.std.specs.Prelude.{◌≡◌, ℕ, ◌+◌, ◌-◌, ◌*◌, ◌<◌, Bool, true, false, not, ◌&&◌, cond, nat_eq, nat_le, Option, Some, None, List, [], ◌∷◌, ◌++◌, take, drop, map}
 use Rattle.std.specs.List.{flat_map}
 use Rattle.limits.specs.Limits.{max_asks, max_look_ups, query_lifetime}
@@ -26,15 +25,15 @@ use Rattle.cache.specs.Failures.{FailedAsk, failed_ask, is_failed, after_failed}
 use Rattle.frames.specs.Frames.{Frame, Failed, most_taken}
 use Rattle.frames.specs.Trimmed.{trimmed}
 
--- ---- what the resolver holds
+-- ---- zones and stores
 
--- The zones that it holds itself, and addresses of servers of the root (RFC 1034, section 5.3.2, SBELT).
+-- The local zones, and addresses of servers of the root (RFC 1034, section 5.3.2, SBELT).
 pub record Home : Type 0 where
   pub zones : List Zone
   pub hints : List Addr
 
--- What it learnt: links, delegations, penalties of servers that did not answer, and which servers failed to answer
--- which questions; each with how many entries it may have. The most recently used entry stands first.
+-- The stores: links, delegations, penalties of servers that did not answer, and which servers failed to answer which
+-- questions; each with its capacity. The most recently used entry stands first.
 pub record Stores : Type 0 where
   pub cache : List (Key × Hit)
   pub cache_cap : ℕ
@@ -48,23 +47,23 @@ pub record Stores : Type 0 where
 abbrev pub level_of : Stores → Addr → ℕ
 level_of stores a = penalty a stores.penalties
 
--- A server answered, whatever it said; a server did not.
+-- The stores after a server answered, whatever its answer; after one did not.
 abbrev pub with_answer : Stores → Addr → Stores
 with_answer stores server = record stores { penalties = answered server stores.penalties }
 
 abbrev pub with_timeout : Stores → Addr → Stores
 with_timeout stores server = record stores { penalties = timed_out server stores.penalties_cap stores.penalties }
 
--- ---- links that were taken
+-- ---- links that are used
 
--- Where a link comes from: the zones at hand, the cache, or a message that was accepted for this very query.
--- The latter two with the time to live that the link had, and the moment since which it is known.
+-- The source of a link: a local zone, the cache, or a message that was accepted for this very query. The latter two
+-- have the TTL of the link, and the moment at which it was cached or accepted.
 pub data Source : Type 0 where
   Local : Source
   Cached : ℕ → ℕ → Source
   Accepted : ℕ → ℕ → Source
 
--- A link and the name that it is of.
+-- A link and its name.
 pub record Taken : Type 0 where
   pub name : Name
   pub link : Link
@@ -76,12 +75,12 @@ local_link n l = record { name = n; link = l; source = Local }
 abbrev pub kept_link : Name → Hit → Taken
 kept_link n h = record { name = n; link = h.link; source = Cached h.ttl h.since }
 
--- What a message says is kept and sent within the limits on times to live.
+-- The link of a message, within the limits on TTLs.
 abbrev pub received_link : Name → Link → ℕ → Taken
 received_link n l now = record { name = n; link = received l; source = Accepted (lifetime_of (received l)) now }
 
--- A link from the cache that has reached its time to live by now. Others never are so: what was accepted for
--- this query may be used once, whatever its time to live (RFC 1034, section 3.6).
+-- A link from the cache that has expired by now. Links of other sources never have: one that was accepted for this
+-- query may be used once, whatever its TTL (RFC 1034, section 3.6).
 abbrev pub has_ended : ℕ → Source → Bool
 has_ended now Local = false
 has_ended now (Cached ttl since) = nat_le (1000 * ttl) (now - since)
@@ -104,7 +103,7 @@ IsEnding (Alias r) = ⊥
 IsEnding (NoData soa) = Unit {0}
 IsEnding (NxDomain soa) = Unit {0}
 
--- A link as it goes out: a local one as it is, others with what is left of their time to live.
+-- A link as it is sent: a local one as it is, others with what is left of their TTL.
 abbrev pub sent_from : ℕ → Source → Link → Link
 sent_from now Local l = l
 sent_from now (Cached ttl since) l = retimed (seconds_left now ttl since) l
@@ -113,7 +112,7 @@ sent_from now (Accepted ttl since) l = retimed (seconds_left now ttl since) l
 abbrev pub sent : ℕ → Taken → Link
 sent now l = sent_from now l.source l.link
 
--- ---- cuts: where servers are named
+-- ---- cuts
 
 -- The IPv4 addresses in records, each with its owner.
 abbrev pub ipv4_of : Datum → List (List ℕ)
@@ -132,7 +131,7 @@ pub record IsCutOf (at : Name) (ns glue : List Record) (c : Cut) : Type 0 where
   pub names : c.names ≡ targets_of ns
   pub addresses : map row_of c.addresses ≡ rows_of glue
 
--- The root, with the hints: addresses of which no name is known.
+-- The root's cut with the hints: addresses of which no name is known.
 abbrev pub hinted : Addr → ServerAddress
 hinted a = record { name = root; address = a }
 
@@ -142,7 +141,7 @@ root_cut home = record { owner = root; names = []; addresses = map hinted home.h
 abbrev pub IsRootCut : Home → Cut → Type 0
 IsRootCut home c = c ≡ root_cut home
 
--- The addresses that a set of A records gives: of these the first sixteen are of use.
+-- The addresses that a set of A records gives: the first sixteen are used.
 abbrev pub bytes_of : Addr → List ℕ
 bytes_of a = a.0
 
@@ -151,7 +150,7 @@ AreAddressesOf set found = map bytes_of found ≡ take most_taken (flat_map (λ 
 
 -- ---- one query's work
 
--- What is sought of the servers of a frame: this name and type.
+-- A search: its servers are asked for this name and type.
 pub record Search : Type 0 where
   pub name : Name
   pub kind : ℕ
@@ -160,10 +159,10 @@ pub record Search : Type 0 where
 abbrev pub search_at : Name → ℕ → Frame → Search
 search_at n t f = record { name = n; kind = t; frame = f }
 
--- `name` and `kind`: what is sought now. `chain`: the aliases that led there. `searches`: for that name, and
--- for addresses of servers, the innermost first. `failed`: servers' names that were looked up in vain.
--- `asks`: how many were sent. `look_ups`: how often a server's name had its turn. `deadline`: the moment past which
--- nothing more is sent. `skipped`: whether a server was passed over, since it had failed lately to answer what was sought.
+-- `name` and `kind`: the question that is sought now. `chain`: the aliases that led to it. `searches`: for that name,
+-- and for addresses of servers, the innermost first. `failed`: servers' names that were looked up in vain. `asks`: how
+-- many were sent. `look_ups`: how often a server's name had its turn. `deadline`: the moment past which nothing more is
+-- sent. `skipped`: whether a server was passed over, since it had lately failed to answer the question.
 pub record Job : Type 0 where
   pub name : Name
   pub kind : ℕ
@@ -179,16 +178,16 @@ pub record Job : Type 0 where
 abbrev pub job_at : Name → ℕ → ℕ → Job
 job_at n t now = record { name = n; kind = t; chain = []; searches = []; failed = []; asks = 0; look_ups = 0; deadline = now + query_lifetime; skipped = false }
 
--- What comes in: the query itself; the message that was accepted for its ask of a server; the end of the wait
--- for one; the failure of an ask over TCP.
+-- An input: the query itself; the message that was accepted for its ask of a server; the end of the wait for one; the
+-- failure of an ask over TCP.
 pub data Input : Type 0 where
   Start : Input
   Told : Via → Addr → Message → Input
   TimedOut : Addr → Input
   TcpFailed : Addr → Input
 
--- What goes out: an ask of a server for a name and a type, by UDP or by TCP; the aliases and the end of a
--- whole chain; a failure.
+-- A result: an ask of a server for a name and a type, by UDP or by TCP; the aliases and the end of a whole chain; a
+-- failure.
 pub data Next : Type 0 where
   AskUdp : Addr → Name → ℕ → Next
   AskTcp : Addr → Name → ℕ → Next
@@ -200,7 +199,7 @@ pub record MaySend (now : ℕ) (j : Job) : Type 0 where
   pub early : now < j.deadline
   pub few : j.asks < max_asks
 
--- How long the answer of the innermost search's server is waited for.
+-- The wait for the reply of the innermost search's server.
 abbrev pub wait_in : List Search → ℕ
 wait_in [] = 1000
 wait_in (s ∷ rest) = wait_of (s.frame).plan
@@ -237,7 +236,7 @@ ask_of s server = failed_ask s.name s.kind server
 abbrev pub fails_now : ℕ → List (FailedAsk × ℕ) → Search → Addr → Bool
 fails_now now failures s server = is_failed now (ask_of s server) failures
 
--- The addresses that are left of a plan's two rounds, and the first of some that does not fail.
+-- The addresses that are left of a plan's two rounds, and the first of some that did not fail.
 abbrev pub left_of : Plan → List Addr
 left_of p = drop p.given (p.order ++ p.order)
 
@@ -245,7 +244,7 @@ abbrev pub first_without : (Addr → Bool) → List Addr → Option Addr
 first_without fails [] = None
 first_without fails (a ∷ more) = cond (fails a) (first_without fails more) (Some a)
 
--- Whom a search asks next: the first address that is left of its plan and did not fail lately.
+-- The address that a search asks next: the first one that is left of its plan and did not fail lately.
 abbrev pub next_server : ℕ → List (FailedAsk × ℕ) → Search → Option Addr
 next_server now failures s = first_without (fails_now now failures s) (left_of (s.frame).plan)
 
@@ -253,8 +252,8 @@ next_server now failures s = first_without (fails_now now failures s) (left_of (
 abbrev pub is_server_failure : Message → Bool
 is_server_failure m = nat_eq (m.header).rcode 2 && not (m.header).tc
 
--- What a message for a search says of its server, whatever its class: it answered; and where it says that it failed,
--- that is kept.
+-- The stores after a message for a search, whatever its class: its server answered; and where the message says that it
+-- failed, that is cached.
 abbrev pub with_failure : ℕ → Search → Addr → Message → Stores → Stores
 with_failure now s server m stores =
     record stores { failures = cond (is_server_failure m) (after_failed stores.failures_cap (ask_of s server) now stores.failures) stores.failures }
@@ -264,15 +263,15 @@ with_told now s server m stores = with_failure now s server m (with_answer store
 
 -- ---- a job at work
 
--- What is due: to find what is known of the name; to use a link for the name; to ask servers; to ask a server
--- again over TCP.
+-- The next task: to look for the name in local zones and cache; to use a link for the name; to ask servers; to ask a
+-- server again over TCP.
 pub data Task : Type 0 where
   Seek : Task
   Take : Taken → Task
   Go : Task
   Again : Addr → Task
 
--- A link that is to be used is not dead.
+-- A link that is to be used has not expired.
 abbrev pub IsFreshTask : ℕ → Task → Type 0
 IsFreshTask now Seek = Unit {0}
 IsFreshTask now (Take l) = is_dead now l ≡ false
@@ -287,10 +286,10 @@ pub record Point : Type 0 where
 abbrev pub point : Task → Job → Stores → Point
 point task job stores = record { task = task; job = job; stores = stores }
 
--- What is kept of a message: a link; a delegation.
+-- The cached entry of a message: a link; a delegation.
 abbrev pub hit_from : Link → ℕ → Hit
 hit_from l now = cache.as_kept (received l) (lifetime_of (received l)) now
 
--- Of a delegation what a frame can use is kept, however much a referral lists.
+-- Of a delegation the part that a frame can use is cached, however much a referral lists.
 abbrev pub cut_from : Cut → ℕ → ℕ → Known
 cut_from c ttl now = referral.as_kept (trimmed c) (referral_lifetime ttl) now

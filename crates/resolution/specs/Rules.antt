@@ -1,6 +1,5 @@
--- The rules by which a query is resolved (RFC 1034, section 5.3.3), each as one small step over exact values:
--- how what comes in is taken up (`Enters`), the eight rules (`Rule`), and what goes out where none of them
--- applies (`Leaves`).
+-- The rules by which a query is resolved (RFC 1034, section 5.3.3), each as one small step over exact values: how an
+-- input is used (`Enters`), the eight rules (`Rule`), and the result where none of them applies (`Leaves`).
 use Rattle.std.specs.Prelude.{◌≡◌, ◌≢◌, ℕ, zero, suc, ◌+◌, ◌<◌, ◌≤◌, ◌⊎◌, Bool, true, false, Option, Some, None, List, [], ◌∷◌, ◌++◌, length, Contains}
 use Rattle.limits.specs.Limits.{max_aliases, max_asks, max_look_ups}
 use Rattle.dname.specs.Labels.{Name, root, IsName}
@@ -28,17 +27,17 @@ use Rattle.cache.specs.Failures.{FailedAsk, same_failed}
 use Rattle.frames.specs.Frames.{Failed, marked, opened, next_name, after_name, after_add, fresh_addresses}
 use Rattle.resolution.specs.Jobs.{Home, Stores, level_of, with_answer, with_timeout, with_told, Taken, local_link, kept_link, received_link, IsDead, AreFresh, IsEnding, IsCutOf, IsRootCut, AreAddressesOf, Search, search_at, with_frame, given, ask_of, fails_now, is_server_failure, Job, MayLookUp, Input, Start, Told, TimedOut, TcpFailed, Next, AskUdp, AskTcp, Done, Fail, MaySend, asked, asked_again, Seek, Take, Go, Again, Point, point, hit_from, cut_from}
 
--- ---- what is known without asking
+-- ---- look-ups without a query to a server
 
--- What the zones at hand say of a question. Where they say a cut, or nothing, it is remote.
+-- The local zones' result for a question. Where it is a cut, or nothing, the question is remote.
 abbrev pub Says : Home → Name → ℕ → local.Local → Type 0
 Says home n t what = (looked home.zones n t ≡ what) × IsLooked home.zones n t what
 
 abbrev pub IsRemote : Home → Name → ℕ → Type 0
 IsRemote home n t = ((c : Name) × (ns : List Record) × (glue : List Record) × Says home n t (local.Cut c ns glue)) ⊎ Says home n t local.NotHere
 
--- What the cache may answer a question with: what stands at the name, and errors of names above it, up to the cut
--- that the zones at hand name, or to the root where they say nothing (RFC 8020, section 2).
+-- The names above a name whose NXDOMAIN the cache may answer with: up to the cut that the local zones name, or to the
+-- root where none is over the name (RFC 8020, section 2).
 abbrev pub above_by : local.Local → Name → List Name
 above_by (local.Linked l) n = []
 above_by (local.Cut at ns glue) n = above_to at n
@@ -58,14 +57,14 @@ pub record Hits (home : Home) (now : ℕ) (n : Name) (t : ℕ) (old : Stores) (l
   pub link : l ≡ kept_link n hit
   pub stores : new ≡ record old { cache = moved (lent (asked_of home n t) now old.cache) old.cache }
 
--- The zones at hand come first, then the cache.
+-- The local zones come first, then the cache.
 pub record Finds (home : Home) (now : ℕ) (n : Name) (t : ℕ) (old : Stores) (l : Taken) (new : Stores) : Type 0 where
   pub is :
       ((k : Link) × Says home n t (local.Linked k) × (l ≡ local_link n k) × (new ≡ old))
       ⊎ ((hit : Hit) × Hits home now n t old l hit new)
 
--- Where servers are sought first: at the cut that the zones at hand name, or at a deeper one that is kept;
--- where they say nothing, at the best one that is kept, or at the root.
+-- The cut where servers are sought first: the one that the local zones name, or a deeper one that is cached; where they
+-- name none, the deepest cached one, or the root's.
 abbrev pub Begins : Home → Name → local.Local → Option Cut → Cut → Type 0
 Begins home n (local.Linked l) best c = ⊥
 Begins home n (local.Cut at ns glue) None c = IsCutOf at ns glue c
@@ -73,7 +72,7 @@ Begins home n (local.Cut at ns glue) (Some k) c = (IsBeneath k.owner at × (c �
 Begins home n local.NotHere None c = IsRootCut home c
 Begins home n local.NotHere (Some k) c = c ≡ k
 
--- A question that neither zones at hand nor the cache answer, and the cut where its servers are sought.
+-- A question that neither local zones nor the cache answer, and the cut where its servers are sought.
 pub record Misses (home : Home) (now : ℕ) (n : Name) (t : ℕ) (old : Stores) (c : Cut) (new : Stores) : Type 0 where
   pub name : IsName n
   pub what : local.Local
@@ -86,8 +85,8 @@ pub record Misses (home : Home) (now : ℕ) (n : Name) (t : ℕ) (old : Stores) 
 
 -- ---- a server's name
 
--- What is found for a server's name: the addresses of a set, those not yet known to be asked next; any other
--- link says that the name has none, in this query for good. `before` is the search that wanted them.
+-- The use of the result for a server's name. Of a set, the addresses that are not known yet are asked next; any other
+-- link says that the name has no address, for the rest of this query. `before` is the search that wanted them.
 pub record UsesServerAddress (stores : Stores) (n : Name) (l : Link) (before : Search) (failed : Failed) (after : Search) (marks : Failed) : Type 0 where
   pub is :
       ((set : List Record) × (found : List Addr) × (l ≡ said.Found set) × AreAddressesOf set found
@@ -105,7 +104,7 @@ pub record IsTurnOf (j : Job) (s : Search) (rest : List Search) (n : Name) : Typ
   pub turn : next_name j.failed s.frame ≡ Some n
   pub few : MayLookUp j
 
--- It would have its turn, and 64 had.
+-- This server's name would have its turn, but 64 had.
 pub record IsLookedOut (j : Job) (s : Search) (rest : List Search) (n : Name) : Type 0 where
   pub searches : j.searches ≡ s ∷ rest
   pub asked_all : upcoming (s.frame).plan ≡ None
@@ -128,22 +127,22 @@ PassesOver now (suc n) s fs t gs =
     (mid : Search) × (held : List (FailedAsk × ℕ)) × (server : Addr) × PassesOver now n s fs mid held
     × (upcoming (mid.frame).plan ≡ Some server) × (fails_now now held mid server ≡ true) × (t ≡ given mid) × (gs ≡ used same_failed (ask_of mid server) held)
 
--- The address that comes next did not.
+-- The address that comes next did not fail lately.
 abbrev pub IsFree : ℕ → Search → List (FailedAsk × ℕ) → Type 0
 IsFree now s fs = (server : Addr) → upcoming (s.frame).plan ≡ Some server → fails_now now fs s server ≡ false
 
 -- ---- the rules
 
 pub data Rule (home : Home) (now : ℕ) (a b : Point) : Type 0 where
-  -- What is known of the name is used.
+  -- The link that is found for the name is used.
   takes : (l : Taken) → a.task ≡ Seek → Finds home now (a.job).name (a.job).kind a.stores l b.stores → b.task ≡ Take l → b.job ≡ a.job → Rule home now a b
-  -- Where nothing is, servers are asked for it.
+  -- Where none is found, servers are asked for it.
   asks : (c : Cut) → a.task ≡ Seek → Misses home now (a.job).name (a.job).kind a.stores c b.stores → b.task ≡ Go
       → b.job ≡ record a.job { searches = search_at (a.job).name (a.job).kind (opened (level_of b.stores) 0 c) ∷ [] } → Rule home now a b
   -- An alias joins the chain, and its target is sought: up to eight of them.
   follows : (l : Taken) (r : Record) → a.task ≡ Take l → l.link ≡ said.Alias r → length (a.job).chain < max_aliases → b.task ≡ Seek
       → b.job ≡ record a.job { chain = (a.job).chain ++ l ∷ []; name = alias_target r } → b.stores ≡ a.stores → Rule home now a b
-  -- The chain has its end, and a link from the cache ran out meanwhile: its name is sought again.
+  -- The chain has its end, and a link of it from the cache has expired meanwhile: its name is sought again.
   restarts : (l d : Taken) (front back : List Taken) → a.task ≡ Take l → IsEnding l.link → (a.job).chain ++ l ∷ [] ≡ front ++ d ∷ back → AreFresh now front → IsDead now d
       → b.task ≡ Seek → b.job ≡ record a.job { chain = front; name = d.name; searches = [] } → b.stores ≡ a.stores → Rule home now a b
   -- Addresses that come next failed lately to answer this very question: they are passed over, up to one that did
@@ -151,26 +150,26 @@ pub data Rule (home : Home) (now : ℕ) (a b : Point) : Type 0 where
   skips : (n : ℕ) (s t : Search) (rest : List Search) (failures : List (FailedAsk × ℕ)) → a.task ≡ Go → (a.job).searches ≡ s ∷ rest
       → PassesOver now (suc n) s (a.stores).failures t failures → IsFree now t failures → b.task ≡ Go
       → b.job ≡ record a.job { searches = t ∷ rest; skipped = true } → b.stores ≡ record a.stores { failures = failures } → Rule home now a b
-  -- A server's name of which something is known.
+  -- A server's name for which a link is found: it is used.
   hears : (before after : Search) (rest : List Search) (n : Name) (l : Taken) (marks : Failed) → a.task ≡ Go → IsTurnOf a.job before rest n
       → Finds home now n a_type a.stores l b.stores → UsesServerAddress b.stores n l.link (turned (a.job).failed before) (a.job).failed after marks → b.task ≡ Go
       → b.job ≡ record a.job { searches = after ∷ rest; failed = marks; look_ups = (a.job).look_ups + 1 } → Rule home now a b
-  -- A server's name of which nothing is known: its address is sought, one nesting deeper.
+  -- A server's name for which none is found: its address is sought, one nesting deeper.
   descends : (s : Search) (rest : List Search) (n : Name) (c : Cut) → a.task ≡ Go → IsTurnOf a.job s rest n → Misses home now n a_type a.stores c b.stores → b.task ≡ Go
       → b.job ≡ record a.job { searches = search_at n a_type (opened (level_of b.stores) ((s.frame).nesting + 1) c) ∷ turned (a.job).failed s ∷ rest; look_ups = (a.job).look_ups + 1 } → Rule home now a b
   -- The search for a server's address has no server left: back to the search around it.
   gives_up : (s around : Search) (rest : List Search) → a.task ≡ Go → IsUsedUp a.job s (around ∷ rest) → b.task ≡ Go
       → b.job ≡ record a.job { searches = around ∷ rest; failed = marked (a.job).failed s.name (s.frame).nesting } → b.stores ≡ a.stores → Rule home now a b
 
--- So many rules, one after another.
+-- This many rules, one after another.
 abbrev pub Rules : Home → ℕ → ℕ → Point → Point → Type 0
 Rules home now zero a b = b ≡ a
 Rules home now (suc n) a b = (mid : Point) × Rules home now n a mid × Rule home now mid b
 
--- ---- what comes in
+-- ---- inputs
 
--- A link that was accepted for the innermost search is kept. For the query's own name it is taken; for a
--- server's name it is what the search around hears.
+-- A link that was accepted for the innermost search is cached. One of the query's own name is the next task; one of a
+-- server's name is used by the search around.
 pub record KeepsAnswer (now : ℕ) (s : Search) (l : Link) (old new : Stores) : Type 0 where
   pub stores : new ≡ record old { cache = cache.after_keep old.cache_cap s.name s.kind (hit_from l now) old.cache }
 
@@ -182,7 +181,7 @@ IsAnswered now s (around ∷ rest) l j stores p =
     × UsesServerAddress p.stores s.name (received_link s.name l now).link around j.failed after marks
     × (p.job ≡ record j { searches = after ∷ rest; failed = marks })
 
--- A referral is kept, and the search begins anew at its cut.
+-- A referral is cached, and the search begins anew at its cut.
 pub record IsReferred (now : ℕ) (s : Search) (rest : List Search) (at : Name) (ns glue : List Record) (ttl : ℕ) (j : Job) (stores : Stores) (p : Point) : Type 0 where
   pub cut : Cut
   pub is_cut : IsCutOf at ns glue cut
@@ -190,15 +189,15 @@ pub record IsReferred (now : ℕ) (s : Search) (rest : List Search) (at : Name) 
   pub job : p.job ≡ record j { searches = with_frame s (opened (level_of stores) (s.frame).nesting cut) ∷ rest }
   pub stored : p.stores ≡ record stores { delegations = referral.after_keep stores.delegations_cap (cut_from cut ttl now) stores.delegations }
 
--- What is done with an accepted message, by its class under the zone whose server was asked.
+-- The use of an accepted message, by its class under the zone whose server was asked.
 abbrev pub ByClass : ℕ → Addr → Search → List Search → class.Class → Job → Stores → Point → Type 0
 ByClass now server s rest (class.Answer l) j stores p = IsAnswered now s rest l j stores p
 ByClass now server s rest (class.Referral at ns glue ttl) j stores p = IsReferred now s rest at ns glue ttl j stores p
 ByClass now server s rest class.Truncated j stores p = p ≡ point (Again server) j stores
 ByClass now server s rest (class.Failed f) j stores p = p ≡ point Go j stores
 
--- How what comes in is taken up. A server that answered loses half its penalty, one that did not gains some; that
--- it failed to answer is kept. A job without a search has nothing that an answer could be for.
+-- The use of an input. The penalty of a server that answered is halved, that of one that did not is raised; that it
+-- failed to answer is cached. A job without a search has nothing that an answer could be for.
 abbrev pub Enters : ℕ → Input → Job → Stores → Point → Type 0
 Enters now Start j stores p = p ≡ point Seek j stores
 Enters now (Told via server m) j stores p =
@@ -208,7 +207,7 @@ Enters now (Told via server m) j stores p =
 Enters now (TimedOut server) j stores p = p ≡ point Go j (with_timeout stores server)
 Enters now (TcpFailed server) j stores p = p ≡ point Go j (with_timeout stores server)
 
--- ---- what goes out
+-- ---- results
 
 -- The next server of the innermost search's plan, one of the addresses that are known, which did not fail lately.
 pub record IsDue (now : ℕ) (p : Point) (server : Addr) (s : Search) (rest : List Search) : Type 0 where
@@ -245,18 +244,18 @@ pub data Leaves (home : Home) (now : ℕ) (p : Point) (next : Next) (job : Job) 
   spent : (s : Search) → p.task ≡ Go → IsUsedUp p.job s [] → next ≡ Fail (spent_cause (p.job).skipped) → stores ≡ p.stores → Leaves home now p next job stores
   -- A server's name would have to be looked up, and 64 were.
   looked_out : (s : Search) (rest : List Search) (n : Name) → p.task ≡ Go → IsLookedOut p.job s rest n → next ≡ Fail cause.TooManyLookUps → stores ≡ p.stores → Leaves home now p next job stores
-  -- Servers are to be asked, and nothing is sought of them: this does not come about.
+  -- Servers are to be asked, and there is no search: this does not come about.
   nowhere : (p.task ≡ Go) ⊎ ((server : Addr) × (p.task ≡ Again server)) → (p.job).searches ≡ [] → next ≡ Fail cause.NoServerLeft → stores ≡ p.stores → Leaves home now p next job stores
   -- A ninth alias.
   too_long : (l : Taken) (r : Record) → p.task ≡ Take l → l.link ≡ said.Alias r → max_aliases ≤ length (p.job).chain → next ≡ Fail cause.ChainTooLong → stores ≡ p.stores
       → Leaves home now p next job stores
-  -- The whole chain, of which nothing has run out.
+  -- The whole chain, of which nothing has expired.
   done : (l : Taken) → p.task ≡ Take l → IsEnding l.link → AreFresh now ((p.job).chain ++ l ∷ []) → next ≡ Done (p.job).chain l → stores ≡ p.stores
       → Leaves home now p next job stores
 
 -- ---- one call
 
--- What one input makes of a job, and of the stores, and what goes out.
+-- The effect of one input on a job and on the stores, and the result.
 pub record Advances (home : Home) (now : ℕ) (input : Input) (old : Job) (stores : Stores) (next : Next) (new : Job) (after : Stores) : Type 0 where
   pub first : Point
   pub count : ℕ
@@ -272,14 +271,14 @@ IsClass j (Told via server m) s c = ((rest : List Search) × (j.searches ≡ s �
 IsClass j (TimedOut server) s c = ⊥
 IsClass j (TcpFailed server) s c = ⊥
 
--- The server whose answer, or want of one, is the input.
+-- The server whose answer, or failure to answer, is the input.
 abbrev pub server_of : Input → Option Addr
 server_of Start = None
 server_of (Told via server m) = Some server
 server_of (TimedOut server) = Some server
 server_of (TcpFailed server) = Some server
 
--- What such a message may add to the stores.
+-- An entry that such a message may add to the stores.
 abbrev pub IsTakenEntry : Job → Input → ℕ → Key × Hit → Type 0
 IsTakenEntry j input now e = (s : Search) × (l : Link) × IsClass j input s (class.Answer l) × cache.IsKept s.name s.kind (hit_from l now) e
 
@@ -298,8 +297,8 @@ IsFailureOf j (TcpFailed server) s a = ⊥
 abbrev pub IsTakenFailure : Job → Input → ℕ → FailedAsk × ℕ → Type 0
 IsTakenFailure j input now e = (s : Search) × (a : Addr) × IsFailureOf j input s a × (e ≡ (ask_of s a, now))
 
--- What may be gone of the stores for such a message: what one keep of the accepted link or cut pushes out of
--- them as they stood before the call (`IsGone`).
+-- An entry that may be gone from the stores for such a message: one that one `keep` of the accepted link or cut pushes
+-- out of them as they stood before the call (`IsGone`).
 abbrev pub IsLostEntry : Job → Input → ℕ → Stores → Key × Hit → Type 0
 IsLostEntry j input now stores e = (s : Search) × (l : Link) × IsClass j input s (class.Answer l) × cache.IsGone stores.cache_cap s.name s.kind (hit_from l now) stores.cache e
 
@@ -311,9 +310,9 @@ IsLostCut j input now stores e =
 abbrev pub IsLostFailure : Job → Input → Stores → FailedAsk × ℕ → Type 0
 IsLostFailure j input stores e = (s : Search) × (a : Addr) × IsFailureOf j input s a × MayGo same_failed stores.failures_cap (ask_of s a) stores.failures e
 
--- What stands where memory was wanting on the way. What was accepted may be kept or not, and what one keep of
--- it pushes out may be gone; every other entry that was there stays, maybe in another order, and nothing else
--- is new. The penalty may be written or not.
+-- The stores where memory ran out on the way. What was accepted may be cached or not, and what one `keep` of it pushes
+-- out may be gone; every other entry that was there stays, maybe in another order, and nothing else is new. The penalty
+-- may be written or not.
 pub record Stops (input : Input) (now : ℕ) (old : Job) (stores after : Stores) : Type 0 where
   pub cache : KeepsOnly stores.cache (IsTakenEntry old input now) after.cache
   pub cache_lost : LosesOnly stores.cache (IsLostEntry old input now stores) after.cache

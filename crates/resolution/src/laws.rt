@@ -2,19 +2,19 @@
 
 ghost use Rattle.resolution.specs.Laws.{RulesEnd, ReceivedServes, AdvancesStop};
 
-/// The rules end: whatever comes in, only so many of them can follow one another before an ask goes out or the
-/// query is over (RFC 1034, section 5.3.3).
+/// The rules end: whatever the input, only so many of them can follow one another before an ask goes out or the query
+/// is over (RFC 1034, section 5.3.3).
 pub fn end_law()
     ensures { RulesEnd }
 {}
 
-/// What was accepted for a query serves that query, whatever its time to live.
+/// A link that was accepted for a query serves that query, whatever its TTL.
 pub fn received_law()
     ensures { ReceivedServes }
 {}
 
-/// What a whole call leaves in the stores is among what may stand where memory was wanting on the way: beside
-/// what was accepted nothing is new, and beside what one keep of that pushes out nothing is gone.
+/// The stores after a whole call are among those that may stand where memory ran out on the way: beside what was
+/// accepted nothing is new, and beside what one `keep` of that pushes out nothing is gone.
 pub fn stores_law()
     ensures { AdvancesStop }
 {}

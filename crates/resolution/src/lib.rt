@@ -1,15 +1,15 @@
 //! How one query is resolved (RFC 1034, section 5.3.3): definitions, in `specs`, and laws. Nothing here runs.
 //!
-//! `Home` is the zones at hand and the hints, `Stores` what was learnt, `Job` the work on one query: its CNAME
-//! chain, and the searches for servers that are under way. `Rule` has the eight small steps of that work, from the
-//! look at what is known to the look-up of a server's address; `Advances` is one call: what came in is taken up,
-//! and rules are applied until an ask goes out or the query is over. `iterate` is the code of these words, `runs`
-//! and `laws` build on them.
+//! `Home` is the local zones and the hints, `Stores` the cache and its like, `Job` the work on one query: its CNAME
+//! chain, and the searches for servers that are under way. `Rule` has the eight small steps of that work, from the look
+//! in zones and cache to the look-up of a server's address; `Advances` is one call: an input is used, and rules are
+//! applied until an ask goes out or the query is over. `iterate` is the code of these definitions, `runs` and `laws`
+//! build on them.
 //!
-//! Promised: the rules end (`end_law`); what was accepted for a query serves that query, whatever its TTL
-//! (`received_law`); where memory was wanting nothing is new in the stores beside what was accepted, and nothing is
-//! gone from them beside what one keep of that pushes out (`stores_law`).
-//! Not here: clients, sockets and identifiers (`runs`).
+//! Promised: the rules end (`end_law`). A link that was accepted for a query serves that query, whatever its TTL
+//! (`received_law`). Where memory ran out nothing is new in the stores beside what was accepted, and nothing is gone
+//! from them beside what one `keep` of that pushes out (`stores_law`). Not here: clients, sockets and identifiers
+//! (`runs`).
 //!
 //! ```text
 //! ghost use Rattle.resolution.specs.Rules.{Advances};

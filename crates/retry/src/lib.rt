@@ -13,7 +13,7 @@
 //! let mut penalties = Penalties::new(alloc, room, hasher)?;
 //! penalties.timed_out(Addr([192, 0, 2, 1]))?;
 //! let mut plan = Plan::new(alloc, &[Addr([192, 0, 2, 1]), Addr([192, 0, 2, 2])], &penalties)?;
-//! assert_eq!((plan.next(), plan.wait_ms()), (Some(Addr([192, 0, 2, 2])), 1_000));
+//! assert_eq!(rt; (plan.next(), plan.wait_ms()), (Some(Addr([192, 0, 2, 2])), 1_000));
 //! ```
 #![tactic(auto)]
 

@@ -10,7 +10,7 @@ use Rattle.runs.specs.Runs.{Run, clock_of}
 abbrev pub ClockOfRun : Type 0
 ClockOfRun = (site : Site) (run : List Turn) (s : State) → Run site run s → (s.clock ≡ clock_of run) × (s.site ≡ site)
 
--- No message that fits an open ask goes unheard: its query is served, and no other.
+-- No message that fits an open ask is ignored: its query is served, and no other.
 abbrev pub AcceptedIsHeard : Type 0
 AcceptedIsHeard =
     (site : Site) (past : List Turn) (old : State) (t : Turn) (new : State) → Run site past old → Step old t.event t.served t.out new
@@ -24,7 +24,7 @@ IsForTcp number (TcpReply now other bytes) = other ≡ number
 IsForTcp number (TcpFailed now other) = other ≡ number
 IsForTcp number (Tick now) = ⊥
 
--- So is whatever comes of an open ask over TCP.
+-- Any end of an open ask over TCP serves its query, and no other.
 abbrev pub TcpIsHeard : Type 0
 TcpIsHeard =
     (site : Site) (past : List Turn) (old : State) (t : Turn) (new : State) → Run site past old → Step old t.event t.served t.out new

@@ -1,4 +1,4 @@
--- Which bytes go out, and which come in for an ask.
+-- The bytes of asks and replies, and which message an event brings for an ask.
 use Rattle.std.specs.Prelude.{◌≡◌, ℕ, ◌+◌, ◌*◌, true, false, Bool, Option, None, List, [], ◌∷◌, ◌++◌, slice_index}
 use Rattle.dname.specs.Labels.{Name}
 use Rattle.rdata.specs.Records.{Record}
@@ -52,8 +52,8 @@ pub record AnswersAsk (a : Ask) (m : Message) : Type 0 where
   pub id : (m.header).id ≡ a.id
   pub question : m.questions ≡ question_for a.name a.kind ∷ []
 
--- What is accepted for an ask: an event that brings such a message, over UDP at the ask's socket from the port
--- of the server that was asked, over TCP under the ask's number.
+-- The message that is accepted for an ask: an event brings it, over UDP at the ask's socket from the port of the server
+-- that was asked, over TCP under the ask's number.
 abbrev pub Brings : ℕ → Ask → Event → Message → Type 0
 Brings port a (Client now client way bytes) m = ⊥
 Brings port a (Datagram now sock from bytes) m = (a.path ≡ ByUdp sock) × (from ≡ endpoint a.server port) × IsMessage bytes m × AnswersAsk a m
@@ -61,13 +61,13 @@ Brings port a (TcpReply now number bytes) m = (a.path ≡ ByTcp number) × IsMes
 Brings port a (TcpFailed now number) m = ⊥
 Brings port a (Tick now) m = ⊥
 
--- The ID that bytes begin with.
+-- The ID in the first bytes of a message.
 abbrev pub id_in : List ℕ → ℕ
 id_in bytes = 256 * slice_index bytes 0 + slice_index bytes 1
 
 -- ---- replies
 
--- AA is set where the asked name's own link is local.
+-- AA is set where the link of the name in the question is local.
 abbrev pub is_from_here : Source → Bool
 is_from_here Local = true
 is_from_here (Cached ttl since) = false
@@ -88,14 +88,14 @@ abbrev pub aliases_of : ℕ → List Taken → List Record
 aliases_of now [] = []
 aliases_of now (l ∷ ls) = alias_in (sent now l) ++ aliases_of now ls
 
--- An alias is no end.
+-- The end of a chain by its last link; an alias is none.
 abbrev pub end_in : Link → End Plain
 end_in (Found rs) = end.Found rs
 end_in (Alias r) = end.Outside
 end_in (NoData soa) = end.NoData (soa ∷ [])
 end_in (NxDomain soa) = end.NxDomain (soa ∷ [])
 
--- What a chain and its end come to at a moment.
+-- The outcome of a chain and its end at a moment.
 abbrev pub outcome_of : ℕ → List Taken → Taken → Outcome Plain
 outcome_of now chain last = Answer (is_local_first chain last) (aliases_of now chain) (end_in (sent now last))
 
@@ -105,7 +105,7 @@ IsReply who o action =
     (bytes : List ℕ) × AreWritten bytes (reply_of who.way who.query o).0
     × (action ≡ Reply who.client who.way bytes (reply_of who.way who.query o).1)
 
--- So does a refusal, for bytes that are no query to be answered.
+-- The refusal of bytes that are no query to be answered goes to the client who sent them, by its way.
 abbrev pub IsRefusal : ℕ → Via → Refusal → Opening → Option Question → Action → Type 0
 IsRefusal client way refusal start echo action =
     (bytes : List ℕ) × AreWritten bytes (refusal_reply refusal start echo) × (action ≡ Reply client way bytes None)

@@ -1,4 +1,4 @@
--- Whom the replies of a step go to.
+-- The clients to whom the replies of a step go.
 use Rattle.std.specs.Prelude.{◌≡◌, ℕ, ◌⊎◌, Option, List}
 use Rattle.message_grammar.specs.Messages.{Question}
 use Rattle.wire.specs.declared.via.Via.{Via}

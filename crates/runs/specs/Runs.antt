@@ -1,4 +1,4 @@
--- Runs: the steps of a resolver from its start on, the newest first, and what is said of them.
+-- Runs: the steps of a resolver from its start on, the newest first, and terms for their properties.
 use Rattle.std.specs.Prelude.{◌≡◌, ◌≢◌, ℕ, ◌+◌, max, ◌⊎◌, Bool, true, false, cond, nat_eq, Option, Some, None, List, [], ◌∷◌, Contains}
 use Rattle.message_grammar.specs.Messages.{Message}
 use Rattle.front.specs.Queries.{IsRequest}
@@ -12,7 +12,7 @@ abbrev pub Run : Site → List Turn → State → Type 0
 Run site [] s = IsNew site s
 Run site (t ∷ past) s = (old : State) × Run site past old × Step old t.event t.served t.out s
 
--- Some step of the run is so, and each is: a step and the run before it.
+-- Some step of the run has a property, and each step has it: a step and the run before it.
 abbrev pub Earlier : (Turn → List Turn → Type 0) → List Turn → Type 0
 Earlier P [] = ⊥
 Earlier P (t ∷ past) = P t past ⊎ Earlier P past
@@ -26,7 +26,7 @@ abbrev pub clock_of : List Turn → ℕ
 clock_of [] = 0
 clock_of (t ∷ past) = max (clock_of past) (moment t.event)
 
--- What goes out in a step.
+-- An action that goes out in a step.
 abbrev pub GivesOut : Option (List Action) → Action → Type 0
 GivesOut None action = ⊥
 GivesOut (Some out) action = Contains out action

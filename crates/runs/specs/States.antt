@@ -1,4 +1,4 @@
--- What the resolver is told and does, and its state between two steps. Moments are milliseconds.
+-- Events and actions of the resolver, and its state between two steps. Moments are milliseconds.
 use Rattle.std.specs.Prelude.{◌≡◌, ◌≢◌, ℕ, ◌/◌, ◌%◌, min, max, Bool, Option, List, [], ◌∷◌, Contains}
 use Rattle.limits.specs.Limits.{latest_moment}
 use Rattle.dname.specs.Labels.{Name}
@@ -11,7 +11,7 @@ use Rattle.front.specs.declared.queries.Query.{Query}
 use Rattle.rand_chacha.specs.ChaCha.{ChaCha, next_word, of_seed}
 use Rattle.resolution.specs.Jobs.{Home, Stores, Job, job_at}
 
--- ---- what comes and goes
+-- ---- events and actions
 
 -- A server's address and port.
 pub record Endpoint : Type 0 where
@@ -21,8 +21,8 @@ pub record Endpoint : Type 0 where
 abbrev pub endpoint : Addr → ℕ → Endpoint
 endpoint address port = record { address = address; port = port }
 
--- Each event has the moment at which it came. A client's bytes, with its number and its way; a datagram at a
--- socket; the reply to an ask over TCP, and the failure of one, by its number; the passing of time.
+-- An event, with the moment at which it came. These are a client's bytes, with its number and its way; a datagram at a
+-- socket; the reply to an ask over TCP, and the failure of one, by its number; a tick.
 pub data Event : Type 0 where
   Client : ℕ → ℕ → Via → List ℕ → Event
   Datagram : ℕ → ℕ → Endpoint → List ℕ → Event
@@ -30,8 +30,8 @@ pub data Event : Type 0 where
   TcpFailed : ℕ → ℕ → Event
   Tick : ℕ → Event
 
--- A reply to a client, with the cause of a SERVFAIL; a datagram from a socket; an ask over TCP with its number;
--- word that another query is due.
+-- An action. These are a reply to a client, with the cause of a SERVFAIL; a datagram from a socket; an ask over TCP
+-- with its number; word that another query is due.
 pub data Action : Type 0 where
   Reply : ℕ → Via → List ℕ → Option Cause → Action
   Send : ℕ → Endpoint → List ℕ → Action
@@ -52,14 +52,13 @@ told_moment (Tick now) = now
 abbrev pub moment : Event → ℕ
 moment e = min (told_moment e) latest
 
--- Which query a step serves: none; the one of its own client, which is over in this step; an open one, by its
--- number.
+-- Which query a step serves: none; the one of its own client, which is over in this step; an open one, by its number.
 pub data Served : Type 0 where
   Nobody : Served
   Own : Served
   OpenQuery : ℕ → Served
 
--- A step of a run: what came, which query was served, and what went out; `None`: memory was wanting.
+-- A step of a run: its event, which query was served, and what went out; `None`: memory ran out.
 pub record Turn : Type 0 where
   pub event : Event
   pub served : Served
@@ -67,11 +66,11 @@ pub record Turn : Type 0 where
 
 -- ---- open queries
 
--- Queries and outcomes, whatever their memory comes from.
+-- Queries and outcomes without an allocator.
 abbrev pub Plain : Type 0
 Plain = Unit {0}
 
--- Who asks what: the client and its way, and the query as it was read.
+-- A query with its client: the client's number, its way, and the query as it was read.
 pub record ClientQuery : Type 0 where
   pub client : ℕ
   pub way : Via
@@ -84,11 +83,11 @@ client_query client way q = record { client = client; way = way; query = q }
 abbrev pub recursive : Query Plain → Bool
 recursive q = (q.start).rd
 
--- The work on a query that comes now.
+-- The work on a new query.
 abbrev pub job_for : ℕ → Query Plain → Job
 job_for now q = job_at q.name (type_number q.kind) now
 
--- How an ask goes: from a socket, or over TCP under a number.
+-- The way of an ask: from a socket, or over TCP under a number.
 pub data Path : Type 0 where
   ByUdp : ℕ → Path
   ByTcp : ℕ → Path
@@ -97,7 +96,7 @@ abbrev pub via_of : Path → Via
 via_of (ByUdp sock) = via.Udp
 via_of (ByTcp number) = via.Tcp
 
--- An ask: whom, under which ID, for which name and type.
+-- An ask: the server, the ID, the name and the type.
 pub record Ask : Type 0 where
   pub path : Path
   pub server : Addr
@@ -122,18 +121,19 @@ pub record Open : Type 0 where
 abbrev pub open_query : ℕ → ClientQuery → Job → Ask → ℕ → Open
 open_query number who job ask due = record { number = number; client_query = who; job = job; ask = ask; due = due }
 
--- It is due when the wait is over, or its time is up.
+-- A query is due when the wait for its ask is over, or its time is up.
 abbrev pub due_moment : Open → ℕ
 due_moment q = min q.due (q.job).deadline
 
--- No two have one number.
+-- No two queries have one number.
 abbrev pub AreApart : List Open → Type 0
 AreApart [] = Unit {0}
 AreApart (q ∷ qs) = ((p : Open) → Contains qs p → p.number ≢ q.number) × AreApart qs
 
 -- ---- states
 
--- What stays: what the resolver holds, the port at which servers are asked, and the number of its sockets.
+-- The parts of a resolver that no step changes: local zones and hints, the port at which servers are asked, and the
+-- number of its sockets.
 pub record Site : Type 0 where
   pub home : Home
   pub port : ℕ
@@ -150,7 +150,7 @@ pub record State : Type 0 where
   pub tcp_asks : ℕ
   pub generator : ChaCha
 
--- The clock never goes back.
+-- The state with its clock at the event's moment; the clock never goes back.
 abbrev pub moved : State → Event → State
 moved s e = record s { clock = max s.clock (moment e) }
 

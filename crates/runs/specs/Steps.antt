@@ -1,5 +1,5 @@
--- One step of the resolver: which query an event is for, and what becomes of it. `s` is the state before, its
--- clock at the event's moment.
+-- One step of the resolver: which query an event is for, and its treatment. `s` is the state before, its clock at the
+-- event's moment.
 use Rattle.std.specs.Prelude.{◌≡◌, ◌≢◌, ℕ, ◌+◌, ◌<◌, ◌≤◌, ◌%◌, ◌⊎◌, true, false, Option, Some, None, List, [], ◌∷◌, ◌++◌, length, Contains}
 use Rattle.limits.specs.Limits.{max_open, tcp_wait}
 use Rattle.dname.specs.Labels.{Name}
@@ -34,8 +34,8 @@ pub record IsRaised (taken : ℕ → Type 0) (from id : ℕ) : Type 0 where
   pub free : taken id → ⊥
   pub first : (k : ℕ) → k < steps → taken ((from + k) % 65536)
 
--- How query k asks a server: the socket and the ID by a word of the generator, the ID raised until no open
--- ask of another query is like it; an ask over TCP has a number in place of a socket, and its ID stays.
+-- How query k asks a server. The socket and the ID are those of a word of the generator, the ID raised until no open
+-- ask of another query is like it. An ask over TCP has a number in place of a socket, and its ID stays.
 pub record IsUdpAsk (s : State) (k : ℕ) (a : Ask) : Type 0 where
   pub sock : ℕ
   pub sock_is : sock ≡ socket_of (s.site).sockets (word_of s.generator)
@@ -46,9 +46,9 @@ pub record IsTcpAsk (s : State) (a : Ask) : Type 0 where
   pub path : a.path ≡ ByTcp s.tcp_asks
   pub id : a.id ≡ low_half (word_of s.generator)
 
--- ---- what becomes of a query
+-- ---- treatment of a query
 
--- The open queries without number k; and with this one in its place, if there was one.
+-- The open queries without number k; and with this query in its place, if there was one.
 pub record AreOthers (k : ℕ) (old new : List Open) : Type 0 where
   pub stay : (q : Open) → Contains old q → q.number ≢ k → Contains new q
   pub only : (q : Open) → Contains new q → Contains old q × (q.number ≢ k)
@@ -66,7 +66,7 @@ pub record Ends (s : State) (who : ClientQuery) (k : ℕ) (o : Outcome Plain) (s
   pub queries : AreOthers k s.queries new.queries
   pub state : new ≡ record s { stores = stores; queries = new.queries }
 
--- Its ask goes out, and it is open with this ask. A word of the generator is taken.
+-- The query's ask goes out, and it is open with this ask. A word of the generator is taken.
 pub record Waits (s : State) (after : Open) (opened tcp_asks : ℕ) (stores : Stores) (out : List Action) (new : State) : Type 0 where
   pub action : Action
   pub sent : IsSent (s.site).port after.ask action
@@ -74,7 +74,7 @@ pub record Waits (s : State) (after : Open) (opened tcp_asks : ℕ) (stores : St
   pub queries : AreWith after s.queries new.queries
   pub state : new ≡ record s { stores = stores; queries = new.queries; opened = opened; tcp_asks = tcp_asks; generator = word_taken s.generator }
 
--- An ask by UDP is waited for as long as its search's plan says, one over TCP for three seconds.
+-- The reply to an ask over UDP is waited for as long as its search's plan says, one over TCP for three seconds.
 pub record WaitsByUdp (s : State) (who : ClientQuery) (k opened : ℕ) (server : Addr) (n : Name) (t : ℕ) (job : Job) (stores : Stores) (out : List Action) (new : State) : Type 0 where
   pub ask : Ask
   pub for : IsFor server n t ask
@@ -87,14 +87,14 @@ pub record WaitsByTcp (s : State) (who : ClientQuery) (k opened : ℕ) (server :
   pub goes : IsTcpAsk s ask
   pub waits : Waits s (open_query k who job ask (s.clock + tcp_wait)) opened (s.tcp_asks + 1) stores out new
 
--- What comes of query k by what its work gave: an ask, or the end. `opened`: how many queries were opened then.
+-- The step of query k by the result of its work: an ask, or the end. `opened`: how many queries were opened then.
 abbrev pub Comes : State → ClientQuery → ℕ → ℕ → Next → Job → Stores → List Action → State → Type 0
 Comes s who k opened (AskUdp server n t) job stores out new = WaitsByUdp s who k opened server n t job stores out new
 Comes s who k opened (AskTcp server n t) job stores out new = WaitsByTcp s who k opened server n t job stores out new
 Comes s who k opened (Done chain last) job stores out new = Ends s who k (outcome_of s.clock chain last) stores out new
 Comes s who k opened (Fail c) job stores out new = Ends s who k (outcome.Fail c) stores out new
 
--- An open query is served: one input, one call of its work.
+-- An open query is served: by one input, and one call of its work.
 pub record Serves (s : State) (q : Open) (input : Input) (out : List Action) (new : State) : Type 0 where
   pub stands : Contains s.queries q
   pub next : Next
@@ -105,7 +105,7 @@ pub record Serves (s : State) (q : Open) (input : Input) (out : List Action) (ne
 
 -- ---- a client's query
 
--- It is over at once; or it would have to wait, and 1,024 others do; or it is opened, under a new number.
+-- A new query is over at once; or it would have to wait, and 1,024 others do; or it is opened, under a new number.
 abbrev pub IsAsk : Next → Type 0
 IsAsk (AskUdp server n t) = Unit {0}
 IsAsk (AskTcp server n t) = Unit {0}
@@ -130,7 +130,7 @@ pub record Resolves (s : State) (who : ClientQuery) (served : Served) (out : Lis
   pub advances : Advances (s.site).home s.clock Start (job_for s.clock who.query) s.stores next job stores
   pub opened : IsOpened s who next job stores served out new
 
--- A query that is not is answered by the zones at hand alone.
+-- A query without RD is answered by the local zones alone.
 pub record AnswersAtHand (s : State) (who : ClientQuery) (served : Served) (out : List Action) (new : State) : Type 0 where
   pub served_is : served ≡ Own
   pub result : Outcome Plain
@@ -140,7 +140,7 @@ pub record AnswersAtHand (s : State) (who : ClientQuery) (served : Served) (out 
   pub out_is : out ≡ action ∷ []
   pub state : new ≡ s
 
--- What a client's bytes ask is dropped, refused, or answered.
+-- A client's request is dropped, refused, or answered.
 abbrev pub IsHandled : State → ℕ → Via → Request Plain → Served → List Action → State → Type 0
 IsHandled s client way request.Drop served out new = (served ≡ Own) × (out ≡ []) × (new ≡ s)
 IsHandled s client way (request.Refuse refusal start echo) served out new =
@@ -165,8 +165,8 @@ pub record IsFirstDue (s : State) (q : Open) : Type 0 where
   pub due : due_moment q ≤ s.clock
   pub first : (p : Open) → Contains s.queries p → (due_moment q < due_moment p) ⊎ ((due_moment q ≡ due_moment p) × (q.number ≤ p.number))
 
--- What an event is for an open query that it serves: a message that is accepted; over TCP a reply of which
--- there is none such is a failure; time that its ask waited too long, before its deadline.
+-- The input that an event is for an open query: a message that is accepted; a failure, where no reply over TCP is
+-- accepted; a time-out, where its ask waited too long before its deadline.
 abbrev pub IsInput : State → Event → Open → Input → Type 0
 IsInput s (Client now client way bytes) q input = ⊥
 IsInput s (Datagram now sock from bytes) q input =
@@ -177,7 +177,7 @@ IsInput s (TcpReply now number bytes) q input =
 IsInput s (TcpFailed now number) q input = IsOfNumber number q × (input ≡ jobs.TcpFailed (q.ask).server)
 IsInput s (Tick now) q input = IsFirstDue s q × (s.clock < (q.job).deadline) × (input ≡ TimedOut (q.ask).server)
 
--- An event that is for nobody. A datagram is also where what it brings is not accepted.
+-- An event that is for no query. A datagram is so too where its message is not accepted.
 abbrev pub IsUnfit : State → Event → Open → Type 0
 IsUnfit s event q = (m : Message) → Brings (s.site).port q.ask event m → ⊥
 
@@ -196,7 +196,7 @@ pub record IsIgnored (s : State) (event : Event) (served : Served) (out : List A
   pub out_is : out ≡ []
   pub state : new ≡ s
 
--- An open query is served by what the event is for it.
+-- An open query is served by the input that the event is for it.
 pub record ServesOpen (s : State) (event : Event) (served : Served) (out : List Action) (new : State) : Type 0 where
   pub query : Open
   pub input : Input
@@ -212,7 +212,7 @@ pub record IsLate (s : State) (served : Served) (out : List Action) (new : State
   pub late : (query.job).deadline ≤ s.clock
   pub ends : Ends s query.client_query query.number (outcome.Fail cause.DeadlineOver) s.stores out new
 
--- A tick handles one query that is due, and says where another is.
+-- A tick serves one query that is due, and says whether another one is.
 abbrev pub SomeDue : State → Type 0
 SomeDue s = (q : Open) × Contains s.queries q × (due_moment q ≤ s.clock)
 
@@ -226,7 +226,7 @@ IsTicked s now served out new =
 
 -- ---- out of memory
 
--- Whose query an event is.
+-- The query that an event is for.
 abbrev pub IsMeant : State → Event → Open → Type 0
 IsMeant s (Client now client way bytes) q = ⊥
 IsMeant s (Datagram now sock from bytes) q = (from.port ≡ (s.site).port) × IsOfLine sock from bytes q
@@ -234,8 +234,8 @@ IsMeant s (TcpReply now number bytes) q = IsOfNumber number q
 IsMeant s (TcpFailed now number) q = IsOfNumber number q
 IsMeant s (Tick now) q = IsFirstDue s q
 
--- The query is gone without a reply; the stores stand as they did, or as its work left them on the way; a word
--- of the generator may have been taken.
+-- The query is dropped without a reply. The stores stand as they did, or as its work left them on the way; a word of
+-- the generator may have been taken.
 pub record IsLeft (s : State) (k : ℕ) (IsOnTheWay : Stores → Type 0) (new : State) : Type 0 where
   pub queries : AreOthers k s.queries new.queries
   pub stores : (new.stores ≡ s.stores) ⊎ IsOnTheWay new.stores

@@ -13,7 +13,7 @@
 //! let mut sends = Sends::new(alloc);
 //! sends.push(Via::Udp)?;
 //! sends.push(Via::Tcp)?;
-//! assert_eq!((sends.way(2), sends.take_lowest()), (Some(Via::Tcp), Some(1)));
+//! assert_eq!(rt; (sends.way(2), sends.take_lowest()), (Some(Via::Tcp), Some(1)));
 //! ```
 #![tactic(auto)]
 

@@ -10,7 +10,7 @@
 //!
 //! ```text
 //! let orders = read_script(alloc, "at 0\nask www.lab.example. A\ncut 1\nrun\n")?;
-//! assert!(matches!(orders.as_slice()[2], Order::Truncate(1)));
+//! assert!(rt; matches!(orders.as_slice(), [_, _, Order::Truncate(1), _]));
 //! ```
 #![tactic(auto)]
 

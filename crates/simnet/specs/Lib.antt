@@ -1,6 +1,6 @@
 -- To be read: what the words of the contracts mean.
 pub mod Beginnings
 pub mod Promises
--- Kept: what the code's own values keep.
+-- Kept: invariants of the code's values, and how contracts see them.
 pub mod Replies
 pub mod Views

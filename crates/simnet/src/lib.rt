@@ -12,9 +12,10 @@
 //!
 //! ```text
 //! let mut sim = Sim::new(alloc, world, settings)?;
-//! sim.step(SimEvent::Client { moment: 0, client: 1, way: Via::Udp, bytes })?;     // SimAction::Sent { number: 1 }
-//! sim.step(SimEvent::CarryTruncated { moment: 10, number: 1 })?;                  // SimAction::Asked { number: 2 }
-//! sim.step(SimEvent::CarryTcp { moment: 20, number: 2 })?;
+//! // This step gives SimAction::Sent { number: 1 }, and the next one SimAction::Asked { number: 2 }.
+//! let asked = sim.step(SimEvent::Client { moment: 0, client: 1, way: Via::Udp, bytes })?;
+//! let again = sim.step(SimEvent::CarryTruncated { moment: 10, number: 1 })?;
+//! let reply = sim.step(SimEvent::CarryTcp { moment: 20, number: 2 })?;
 //! ```
 #![tactic(auto)]
 

@@ -10,9 +10,8 @@
 //! Not here: connections, time-outs and threads (`server`).
 //!
 //! ```text
-//! while let Some(bytes) = read_framed(alloc, &mut stream)? {
-//!     write_framed(&mut stream, &answer(&bytes)?)?;
-//! }
+//! write_framed(writer, b"www")?;                  // 0, 3, then these three bytes
+//! let bytes = read_framed(alloc, reader)?;        // none where the stream ends before a frame
 //! ```
 #![tactic(auto)]
 

@@ -1,4 +1,4 @@
 -- To be read: what the words of the contracts mean.
 pub mod Longest
--- Kept: what the code's own values keep.
+-- Kept: invariants of the code's values, and how contracts see them.
 pub mod Kept

@@ -11,9 +11,11 @@
 //!
 //! ```text
 //! let mut seen = Suffixes::new(alloc)?;
-//! seen.note(&www_example, 2, 12)?;            // www.example. stands at 12, example. at 16
-//! let found = seen.longest(&ftp_example);     // ftp.example.: one label, then the pointer
-//! assert!(matches!(found, Some(Found { labels: 1, place: 16, .. })));
+//! let www = Name::from_text(alloc, "www.example.")?;
+//! seen.note(&www, 2, 12)?;                        // www.example. stands at 12, example. at 16
+//! let ftp = Name::from_text(alloc, "ftp.example.")?;
+//! let found = seen.longest(&ftp);                 // one label, then the pointer
+//! assert!(rt; matches!(found, Some(Found { labels: 1, place: 16, .. })));
 //! ```
 #![tactic(auto)]
 

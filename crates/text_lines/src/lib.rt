@@ -11,8 +11,9 @@
 //!
 //! ```text
 //! let mut words = LineWords::stated("listen 127.0.0.1 5300");
-//! assert_eq!(words.word()?, "listen");
-//! let (address, port) = (words.address()?, words.number(0, 65_535)?);
+//! assert_eq!(rt; words.word()?, "listen");
+//! assert_eq!(rt; words.address()?, Addr([127, 0, 0, 1]));
+//! assert_eq!(rt; words.number(0, 65_535)?, 5300);
 //! words.end()?;
 //! ```
 #![tactic(auto)]

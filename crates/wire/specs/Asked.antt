@@ -4,11 +4,11 @@ use Rattle.message_grammar.specs.Names.{SpeltAt}
 use Rattle.message_grammar.specs.Messages.{Question, Message, IsMessage}
 use Rattle.wire.specs.Entries.{message_first, message_of}
 
--- From a place on stand the sections of a message, whatever its questions before that place are.
+-- The bytes from this place on are the sections of records of a message, whatever its questions are.
 abbrev pub AreBehind : List ℕ → ℕ → Type 0
 AreBehind bytes at = (questions : List Question) → message_of bytes ≡ message_first bytes (questions, at) → (m : Message) × (message_of bytes ≡ Ok m) × (m.questions ≡ questions)
 
--- The bytes are a message of one question, of this name; the echo is that question in the letters that stand there.
+-- The bytes are a message of one question, which is for this name; the echo is that question in its own letters.
 pub record IsOnlyQuestion (bytes : List ℕ) (name : List (List ℕ)) (echo : Question) : Type 0 where
   pub message : Message
   pub is : IsMessage bytes message

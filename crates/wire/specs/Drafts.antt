@@ -1,4 +1,4 @@
--- What an encoder answers, and a reply's message as the parts that it is written from.
+-- The refusals of an encoder, and a reply's message as the parts that it is written from.
 use Rattle.std.specs.Prelude.{ℕ, ◌<◌, Option, Some, None, List, [], ◌∷◌, ◌++◌, length}
 use Rattle.rdata.specs.Records.{Record}
 use Rattle.message_grammar.specs.Messages.{Header, Question, Message, Counts}
@@ -6,7 +6,7 @@ use Rattle.wire.specs.declared.error.WireError.{WireError}
 use Rattle.wire.specs.declared.error.WireError.TheVariants.{OverLimit, Memory}
 use Rattle.wire.specs.declared.writer.Tally.{Tally}
 
--- A refusal of an encoder: the text is longer than the limit; running out of memory can come at any time.
+-- When an encoder may refuse so: where the text is longer than the limit; out of memory at any time.
 abbrev pub RefusesText : WireError → List ℕ → ℕ → Type 0
 RefusesText OverLimit text limit = limit < length text
 RefusesText Memory text limit = Unit {0}
@@ -19,7 +19,8 @@ abbrev pub asked_alone : Option Question → List Question
 asked_alone None = []
 asked_alone (Some q) = q ∷ []
 
--- The message of a header, questions and perhaps one in its own letters, an answer in two parts, and two sections.
+-- The message of a header, of questions and perhaps one in its own letters, of an answer in two parts, and of two
+-- sections.
 abbrev pub drafted : Header → List Question → Option Question → List Record → List Record → List Record → List Record → Message
 drafted header questions echo first second authority additional = record {
   header = header;

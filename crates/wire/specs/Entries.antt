@@ -17,7 +17,7 @@ use Rattle.wire.specs.Results.{and_then}
 abbrev pub kept_value : List (List ℕ) → ℕ → ℕ → Datum → Result (Option Record × ℕ) WireError
 kept_value owner ttl end value = Ok (Some (record { owner = owner; ttl = ttl_of ttl; value = value }), end)
 
--- A record's RDATA by its type: none kept of other types and classes.
+-- The record of these RDATA, by its type; none where type or class is not served.
 abbrev pub entry_kept : Option RType → List ℕ → List (List ℕ) → ℕ → ℕ → ℕ → Result (Option Record × ℕ) WireError
 entry_kept None bytes owner ttl at end = Ok (None, end)
 entry_kept (Some kind) bytes owner ttl at end = and_then (value_at kind bytes at end) (kept_value owner ttl end)
@@ -38,7 +38,7 @@ abbrev pub with_kept : Option Record → List Record × ℕ → Result (List Rec
 with_kept None (rest, end) = Ok (rest, end)
 with_kept (Some r) (rest, end) = Ok (r ∷ rest, end)
 
--- So many records.
+-- A section of this many records: those that are not skipped, and its end.
 abbrev pub section_from : ℕ → List ℕ → ℕ → Result (List Record × ℕ) WireError
 section_from zero bytes at = Ok ([], at)
 section_from (suc count) bytes at = and_then (entry_at bytes at) (λ r. and_then (section_from count bytes r.1) (with_kept r.0))

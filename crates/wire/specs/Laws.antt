@@ -4,11 +4,11 @@ use Rattle.dname.specs.Spelling.{AreBytes}
 use Rattle.message_grammar.specs.Messages.{Message, IsWritable, IsMessage, encoding, folded_message}
 use Rattle.wire.specs.Entries.{message_of}
 
--- A message that is read is what the bytes are.
+-- A message that is read is the one that the bytes are.
 abbrev pub ReadIsMessage : Type 0
 ReadIsMessage = (bytes : List ℕ) (m : Message) → AreBytes bytes → message_of bytes ≡ Ok m → IsMessage bytes m
 
--- The message that the bytes are is read.
+-- A message that bytes are is read.
 abbrev pub MessageIsRead : Type 0
 MessageIsRead = (bytes : List ℕ) (m : Message) → IsMessage bytes m → message_of bytes ≡ Ok m
 

@@ -13,7 +13,7 @@ pub mod Parts
 pub mod Numbers
 pub mod Values
 pub mod Skips
--- Kept: what the code's own values keep.
+-- Kept: invariants of the code's values, and how contracts see them.
 pub mod Puts
 pub mod Chains
 pub mod Shapes

@@ -16,7 +16,7 @@ message_faults = record { border = Short; bad_label = BadLabel; not_earlier = Po
 abbrev pub rdata_faults : Faults
 rdata_faults = record { border = BadRdataLength; bad_label = BadRdataName; not_earlier = BadRdataName; too_long = BadRdataName }
 
--- What a byte of a name means: the end, a label's length, or half a pointer.
+-- The meaning of a byte of a name: the end, a label's length, or half a pointer.
 abbrev pub part_by : List ℕ → ℕ → WireError → WireError → ℕ → ℕ → Result Part WireError
 part_by bytes limit border bad_label at byte =
     if nat_eq byte 0 then Ok End
@@ -27,7 +27,7 @@ part_by bytes limit border bad_label at byte =
 abbrev pub part_at : List ℕ → ℕ → WireError → WireError → ℕ → Result Part WireError
 part_at bytes limit border bad_label at = if nat_le limit at then Err border else part_by bytes limit border bad_label at (slice_index bytes at)
 
--- What stands behind a label is its name's rest; behind a pointer the name goes on at its target.
+-- A name goes on behind a label, and behind a pointer at its target.
 abbrev pub behind_label : List ℕ → List (List ℕ) × ℕ → Result (List (List ℕ) × ℕ) WireError
 behind_label label (rest, end) = Ok (label ∷ rest, end)
 
@@ -45,25 +45,25 @@ followed go bytes faults limit border start at room (Label size) =
 followed go bytes faults limit border start at room (Pointer target) =
     if nat_lt target start then and_then (go (length bytes) Short target target room) (ends_at (at + 2)) else Err faults.not_earlier
 
--- The labels from a place on, in their own letters, and the end of what lies there.
+-- The labels from a place on, in their own letters, and the end of the name's own part.
 abbrev pub spelt_from : ℕ → List ℕ → Faults → ℕ → WireError → ℕ → ℕ → ℕ → Result (List (List ℕ) × ℕ) WireError
 spelt_from zero bytes faults limit border start at room = Err border
 spelt_from (suc fuel) bytes faults limit border start at room =
     and_then (part_at bytes limit border faults.bad_label at) (followed (spelt_from fuel bytes faults) bytes faults limit border start at room)
 
--- The same where the pointers of the name's own part lead strictly before `start`. Each step takes a byte of the name
+-- The labels of a name whose pointers in its own part lead strictly before `start`. Each step takes a byte of the name
 -- or leads to an earlier part, so this many steps are enough.
 unfoldable pub spelt_before : List ℕ → Faults → ℕ → ℕ → ℕ → Result (List (List ℕ) × ℕ) WireError
 spelt_before bytes faults limit start at = spelt_from (start + 256) bytes faults limit faults.border start at 255
 
--- A name's own part starts at its place.
+-- The labels of a name whose own part starts at its place.
 abbrev pub spelt_at : List ℕ → Faults → ℕ → ℕ → Result (List (List ℕ) × ℕ) WireError
 spelt_at bytes faults limit at = spelt_before bytes faults limit at at
 
 abbrev pub in_lower_case : List (List ℕ) × ℕ → Result (List (List ℕ) × ℕ) WireError
 in_lower_case (labels, end) = Ok (folded_labels labels, end)
 
--- The name at a place, and the end of what lies there.
+-- The name at a place, and the end of its own part.
 unfoldable pub name_at : List ℕ → Faults → ℕ → ℕ → Result (List (List ℕ) × ℕ) WireError
 name_at bytes faults limit at = and_then (spelt_at bytes faults limit at) in_lower_case
 

@@ -1,8 +1,8 @@
--- Pieces put behind a text until it is longer than a limit.
+-- Pieces that are added to a text until it is longer than a limit.
 use Rattle.std.specs.Prelude.{◌≡◌, ◌⊎◌, ℕ, ◌<◌, List, length}
 use Rattle.message_grammar.specs.Pieces.{Piece, Text, after}
 
--- The text is longer than the limit, and with all of these pieces behind the old one it would be so too.
+-- The text is longer than the limit, and would be so with all of these pieces behind the old one.
 pub record IsOver (limit : ℕ) (pieces : List Piece) (old new : Text) : Type 0 where
   pub now : limit < length new.bytes
   pub whole : limit < length (after old pieces).bytes

@@ -1,9 +1,9 @@
--- Words for the results of readers. A reader is exact as far as memory is there.
+-- Terms for the results of readers. A reader is exact, but for running out of memory.
 use Rattle.std.specs.Prelude.{◌≡◌, ℕ, Result, Ok, Err}
 use Rattle.wire.specs.declared.error.WireError.{WireError}
 use Rattle.wire.specs.declared.error.WireError.TheVariants.{Short, BadLabel, PointerNotEarlier, NameTooLong, BadRdataLength, BadRdataName, TrailingBytes, OverLimit, Memory}
 
--- The refusal stands there; running out of memory can come at any time.
+-- When a reader may refuse so: for this very refusal; out of memory at any time.
 abbrev pub Fails : {X : Type 0} → WireError → Result X WireError → Type 0
 Fails Memory read = Unit {0}
 Fails Short read = read ≡ Err Short
@@ -15,17 +15,17 @@ Fails BadRdataName read = read ≡ Err BadRdataName
 Fails TrailingBytes read = read ≡ Err TrailingBytes
 Fails OverLimit read = read ≡ Err OverLimit
 
--- What a reader answers is what these bytes give, seen by `view`.
+-- A reader's result is that of these bytes, seen by `view`.
 abbrev pub Gives : {X Y : Type 0} → (X → Y) → Result X WireError → Result Y WireError → Type 0
 Gives view (Ok x) read = read ≡ Ok (view x)
 Gives view (Err e) read = Fails e read
 
--- One reader behind another.
+-- One reader, and then another one on its result.
 abbrev pub and_then : {X Y : Type 0} → Result X WireError → (X → Result Y WireError) → Result Y WireError
 and_then (Ok x) next = next x
 and_then (Err e) next = Err e
 
--- The end alone of what a reader gives.
+-- The end in a reader's result, without the value.
 abbrev pub end_of : {X : Type 0} → Result (X × ℕ) WireError → Result ℕ WireError
 end_of (Ok (x, end)) = Ok end
 end_of (Err e) = Err e

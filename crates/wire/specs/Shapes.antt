@@ -1,4 +1,4 @@
--- What a part of a name that was read tells.
+-- The meaning of a part of a name that was read.
 use Rattle.std.specs.Prelude.{ℕ, ◌+◌, ◌<◌}
 use Rattle.wire.specs.declared.parts.Part.{Part}
 use Rattle.wire.specs.declared.parts.Part.TheVariants.{End, Label, Pointer}

@@ -3,7 +3,8 @@ use Rattle.std.specs.Prelude.{◌≡◌, ℕ, Option, Some, None, Result, Ok, Er
 use Rattle.rdata.specs.Records.{Record}
 use Rattle.wire.specs.declared.error.WireError.{WireError}
 
--- A refusal is the record's, an end is that of a record that is skipped, and with none the record is not skipped.
+-- A refusal is that of the record; an end is that of a record that is skipped; without an end the record is not
+-- skipped.
 abbrev pub IsSkipping : Result (Option ℕ) WireError → Result (Option Record × ℕ) WireError → Type 0
 IsSkipping (Err e) read = read ≡ Err e
 IsSkipping (Ok (Some end)) read = read ≡ Ok (None, end)

@@ -1,4 +1,4 @@
--- A name in its own letters, as it is kept: in lower case, and beside it the wire form if that differs.
+-- A name in its own letters, as it is stored: in lower case, and beside it the wire form if that differs.
 use Rattle.std.specs.Prelude.{◌≡◌, ℕ, ◌≤◌, Result, Ok, Err, List, [], ◌∷◌, length}
 use Rattle.dname.specs.Labels.{wire, folded_labels, AreSpelled}
 use Rattle.dname.specs.Wire.{labels_of}
@@ -15,7 +15,7 @@ abbrev pub letters_of : List ℕ → List (List ℕ) → List ℕ
 letters_of [] name = wire name
 letters_of (b ∷ bs) name = b ∷ bs
 
--- What a walk over a name gives that gathered these letters: their labels, and the end of what lies there.
+-- The result of a walk over a name that gathered these letters: their labels, and the end of the name's own part.
 abbrev pub spelt_by : List ℕ → Result ℕ WireError → Result (List (List ℕ) × ℕ) WireError
 spelt_by letters (Ok end) = Ok (labels_of letters, end)
 spelt_by letters (Err e) = Err e

@@ -10,18 +10,18 @@ use Rattle.wire.specs.Numbers.{two_at, four_at}
 use Rattle.wire.specs.Parts.{rdata_faults, name_at, full_name_at}
 use Rattle.wire.specs.Results.{and_then}
 
--- So many bytes.
+-- This many bytes of RDATA, and their end.
 abbrev pub bytes_within : ℕ → List ℕ → ℕ → ℕ → Result (List ℕ × ℕ) WireError
 bytes_within n bytes at end = if nat_lt end (at + n) then Err BadRdataLength else Ok (slice_range bytes at (at + n), at + n)
 
 abbrev pub two_within : List ℕ → ℕ → ℕ → Result (ℕ × ℕ) WireError
 two_within bytes at end = if nat_lt end (at + 2) then Err BadRdataLength else Ok (two_at bytes at, at + 2)
 
--- The name there.
+-- The name at a place of RDATA, and its end.
 abbrev pub name_within : List ℕ → ℕ → ℕ → Result (List (List ℕ) × ℕ) WireError
 name_within bytes at end = name_at bytes rdata_faults end at
 
--- The value of RDATA that end where they are to end.
+-- The data, if they end where RDATA end.
 abbrev pub whole : ℕ → Datum × ℕ → Result Datum WireError
 whole end (value, past) = if nat_eq past end then Ok value else Err BadRdataLength
 
@@ -101,7 +101,7 @@ txt_behind bytes end (first, at) = and_then (strings_from (end - at) bytes at en
 abbrev pub texts_at : List ℕ → ℕ → ℕ → Result (List (List ℕ)) WireError
 texts_at bytes at end = and_then (string_at bytes at end) (txt_behind bytes end)
 
--- The form of a type at a place.
+-- The data of a type at a place, and their end.
 abbrev pub form_at : RType → List ℕ → ℕ → ℕ → Result (Datum × ℕ) WireError
 form_at served.A bytes at end = and_then (bytes_within 4 bytes at end) as_ipv4
 form_at served.Ns bytes at end = and_then (name_within bytes at end) as_ns
@@ -113,6 +113,6 @@ form_at served.Txt bytes at end = and_then (texts_at bytes at end) (as_txt end)
 form_at served.Aaaa bytes at end = and_then (bytes_within 16 bytes at end) as_ipv6
 form_at served.Srv bytes at end = srv_within bytes at end
 
--- The value of RDATA.
+-- The data of a type that RDATA have.
 unfoldable pub value_at : RType → List ℕ → ℕ → ℕ → Result Datum WireError
 value_at kind bytes at end = and_then (form_at kind bytes at end) (whole end)

@@ -1,4 +1,4 @@
--- A message seen in its bytes: where its sections begin, and what stands there.
+-- A message that is read in its bytes: where its sections begin, and what each has.
 use Rattle.std.specs.Prelude.{◌≡◌, ℕ, ◌≤◌, Result, Ok, Err, IsOk, List, [], length}
 use Rattle.rdata.specs.Data.{Datum, Ipv4, type_of}
 use Rattle.rdata.specs.Records.{Record, greatest_ttl}
@@ -14,7 +14,7 @@ use Rattle.wire.specs.Values.{value_at}
 use Rattle.wire.specs.Entries.{section_from, questions_from}
 use Rattle.wire.specs.Results.{end_of}
 
--- What a reader of several gives; of what is refused none.
+-- The members that a reader gives, and none where it refuses.
 abbrev pub listed : {X : Type 0} → Result (List X × ℕ) WireError → List X
 listed (Ok (xs, end)) = xs
 listed (Err e) = []
@@ -38,11 +38,11 @@ pub record IsViewed (bytes ends : List ℕ) (answer authority additional : ℕ) 
   pub leads : end_of (section_from (two_at bytes 8) bytes authority) ≡ Ok additional
   pub adds : end_of (section_from (two_at bytes 10) bytes additional) ≡ Ok (length bytes)
 
--- So many records stand there.
+-- The bytes from this place on are a section of this many records.
 abbrev pub IsSection : List ℕ → List ℕ → ℕ → ℕ → Type 0
 IsSection bytes ends count at = AreChainEnds bytes ends × IsOk (section_from count bytes at)
 
--- A name and data that stand there.
+-- The name, and the data, that a reader gives; where it refuses, others that nobody reads.
 abbrev pub labels_in : Result (List (List ℕ) × ℕ) WireError → List (List ℕ)
 labels_in (Ok (name, end)) = name
 labels_in (Err e) = []
@@ -51,7 +51,7 @@ abbrev pub value_in : Result Datum WireError → Datum
 value_in (Ok value) = value
 value_in (Err e) = Ipv4 []
 
--- A record of this type whose owner begins at a place, and whose RDATA lie between two.
+-- The record of this type whose owner begins at a place, and whose RDATA lie between two others.
 abbrev pub lent_record : List ℕ → ℕ → RType → ℕ → ℕ → ℕ → Record
 lent_record bytes at kind ttl start end = record {
   owner = labels_in (name_at bytes message_faults (length bytes) at);

@@ -8,7 +8,7 @@ use crate::via::UDP_LIMIT;
 use dname::{Heap, Starved};
 use suffixes::POINTER_LIMIT;
 
-// Where the chain of pointers from a place ends, by the ends of those from the places before it.
+// The end of the chain of pointers from a place, by the ends of the chains from the places before it.
 fn chain_end(bytes: &[u8], ends: &[u16], at: usize) -> u16
     requires known { AreChainEnds bytes.now ends.now }
     requires next { length ends.now ≡ at }
@@ -29,8 +29,9 @@ fn chain_end(bytes: &[u8], ends: &[u16], at: usize) -> u16
     }
 }
 
-// Where the chain of pointers from each place ends to which a pointer can lead, so that a name is walked past
-// a chain in one step. The chains of a message that a datagram can hold are short, and are walked.
+// For each place that a pointer can lead to, the end of the chain of pointers from there, so that a name passes a chain
+// in one step. Where 40 has a pointer to 20, and 20 none, the end for 40 is 20. A message that a datagram can hold has
+// no table, since its chains are short.
 pub fn chain_ends<A: Heap>(alloc: A, bytes: &[u8]) -> Result<Vec<u16, A>, Starved>
     ensures known { IfOk result (λ ends. AreChainEnds bytes.now ends.items) }
     ensures quiet { length bytes.now ≤ UDP_LIMIT → IsOk result }
@@ -47,7 +48,7 @@ pub fn chain_ends<A: Heap>(alloc: A, bytes: &[u8]) -> Result<Vec<u16, A>, Starve
     Ok(ends)
 }
 
-// The end of the chain of pointers from a place, where it is known, else that place.
+// The end of the chain of pointers from a place, where the table has it, else that place: without a table, 40 of 40.
 pub fn chain_behind(ends: &[u16], at: usize) -> usize
     ensures { result ≡ chain_behind ends.now at }
 {

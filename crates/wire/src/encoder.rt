@@ -1,4 +1,4 @@
-//! A message written, from itself or from parts that are lent.
+//! Messages written, whole or from parts that are borrowed.
 ghost use Rattle.std.specs.Prelude.{◌≡◌, ◌≤◌, ◌<◌, ◌+◌, ◌%◌, length, flat_map, OnOk, IfOk, IfErr, IfSome, MatchOption};
 ghost use Rattle.std.specs.List.{AllByRecursion};
 ghost use Rattle.std.specs.Option.{option_copied};
@@ -19,7 +19,7 @@ use rdata::{Record, RecordSet};
 use std::alloc::{Allocator, Global};
 use std::marker::Model;
 
-/// A message that is lent part by part: no record is cloned for it. Contracts see the message.
+/// A message whose parts are borrowed: no record is cloned for it. Contracts see the message.
 #[derive(Drop)]
 pub struct Draft<'a, A: Allocator = Global> {
     /// The header but for the counts, which are those of the parts.
@@ -49,8 +49,9 @@ impl<'a, A: Allocator> Model for Draft<'a, A> {
     ghost view = { λ d. drafted d.header d.questions.now (option_copied d.echo) d.first.now (in_set (option_copied d.second)) d.authority.now d.additional.now };
 }
 
-/// The encoding of a message (RFC 1035, section 4), names compressed: bytes that are this message, its
-/// questions' names in lower case. Refused where it is longer than `limit`, or where a growth is refused.
+/// The encoding of a message (RFC 1035, section 4), names compressed: bytes that are this message, its questions' names
+/// in lower case. The query `www.example. A` has 29 bytes. Refused where it is longer than `limit`, or where a growth
+/// is refused.
 pub fn encode<A: Heap>(alloc: A, m: &Message<A>, limit: usize) -> Result<Vec<u8, A>, WireError>
     requires { limit ≤ TCP_LIMIT }
     ensures ok { IfOk result (λ v. (v.items ≡ encoding m.now) × (length (encoding m.now) ≤ limit)) }
@@ -90,7 +91,7 @@ fn len_of<A: Heap>(set: Option<&RecordSet<A>>) -> usize
     }
 }
 
-// The lowest 16 bits of the sum of two counts, and perhaps one bit more.
+// A number with the lowest 16 bits of the sum of two counts; it has 17 bits at most.
 fn low_count(first: usize, second: usize) -> usize
     ensures { result ≡ first % 65536 + second % 65536 }
 {
@@ -108,7 +109,7 @@ fn put_repeated<A: Heap>(writer: &mut Writer<A>, echo: Option<&Echo<A>>) -> Resu
     }
 }
 
-// The records of a set, where there is one, as far as `Writer::put_records` goes.
+// Writes the records of a set, where there is one, until the message is over the limit, as `Writer::put_records` does.
 fn put_lent<A: Heap>(
     writer: &mut Writer<A>,
     set: Option<&RecordSet<A>>,
@@ -123,9 +124,10 @@ fn put_lent<A: Heap>(
 }
 
 impl<A: Heap> Draft<'_, A> {
-    /// The bytes of the message, in its one encoding; none where they are more than `limit`, which is at most
-    /// 65,535 (RFC 1035, sections 4.1 and 4.2). They are read back as the message, its question in lower case.
-    /// Past the limit no record more is written. The writer may have written other messages before.
+    /// The bytes of the message, in its one encoding; none where they are more than `limit`, which is at most 65,535
+    /// (RFC 1035, sections 4.1 and 4.2). The reply to `a. A` with one address has 35 bytes, and none with `limit` 34.
+    /// They are read back as the message, its question in lower case. Past the limit no further record is written. The
+    /// writer may have written other messages before.
     pub fn encode(
         &self,
         writer: &mut Writer<A>,

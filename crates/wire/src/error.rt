@@ -30,7 +30,7 @@ pub enum WireError {
 }
 
 impl WireError {
-    /// Its number, 1 to 9.
+    /// Its number, 1 to 9: 2 of `BadLabel`.
     pub fn number(self) -> u8
         ensures { result ≡ number_of self }
     {

@@ -10,7 +10,7 @@ use std::marker::Model;
 /// most 7.
 #[derive(Clone, Copy, Debug, PartialEq, Eq)]
 pub struct Header {
-    /// ID: chosen by who asks, and repeated in the reply.
+    /// ID: chosen by the sender of the query, and repeated in the reply.
     pub id: u16,
     /// QR: whether this is a reply.
     pub qr: bool,
@@ -44,7 +44,8 @@ impl Model for Header {
 }
 
 impl Header {
-    /// The header of a standard query under this ID, with RD or without: no other flag is set.
+    /// The header of a standard query under this ID, with RD or without: `query(7, true)` has ID 7 and RD, and no other
+    /// flag.
     pub fn query(id: u16, rd: bool) -> Header
         ensures { result ≡ blank_query id rd }
     {
@@ -61,7 +62,8 @@ impl Header {
         }
     }
 
-    /// The header of a reply to a message of this ID, opcode (at most 15) and RD: QR is set, and no other flag.
+    /// The header of a reply to a message of this ID, opcode (at most 15) and RD: `reply(7, 0, true)` has ID 7, QR and
+    /// RD, and no other flag.
     pub fn reply(id: u16, opcode: u8, rd: bool) -> Header
         requires { opcode < 16 }
         ensures { result ≡ blank_reply id opcode rd }
@@ -73,7 +75,7 @@ impl Header {
         }
     }
 
-    // The header that the first bytes of a message hold.
+    // The header in the first bytes of a message.
     pub(crate) fn read(bytes: &[u8]) -> Header
         requires { 12 ≤ length bytes.now }
         ensures { result ≡ header_of bytes.now }

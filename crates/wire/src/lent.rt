@@ -1,4 +1,4 @@
-//! The records of a section, lent one after the other from a message's bytes.
+//! The records of a section, read one after the other in a message's bytes.
 ghost use Rattle.std.specs.Prelude.{◌≡◌, ◌≤◌, [], ◌∷◌, IfOk, IsOk, Ok, MatchOption};
 ghost use Rattle.dname.specs.Labels.{same_name};
 ghost use Rattle.rdata.specs.Data.{type_of};
@@ -19,7 +19,7 @@ use rdata::{RData, RType, Record};
 use std::alloc::Allocator;
 use std::marker::Model;
 
-/// A record where it stands in a message. Contracts see the record.
+/// A record that is read where it stands in a message, and not built. Contracts see the record.
 #[derive(Drop)]
 pub struct Lent<'a> {
     bytes: &'a [u8],
@@ -42,12 +42,12 @@ impl<'a> Model for Lent<'a> {
     ghost invariant = { λ r. IsLent r.bytes.now r.ends.now r.at r.kind r.ttl r.start r.end };
 }
 
-/// The records of a section that are left. Contracts see their list.
+/// The records of a section that are still to be walked. Contracts see their list.
 #[derive(Drop)]
 pub struct Walk<'a> {
     pub(crate) bytes: &'a [u8],
     pub(crate) ends: &'a [u16],
-    // How many the header counts from the place on, also those that are skipped.
+    // How many records the header counts from this place on, skipped ones among them.
     pub(crate) left: u16,
     pub(crate) place: usize,
 }
@@ -65,7 +65,7 @@ impl<'a> Model for Walk<'a> {
     ghost invariant = { λ w. IsSection w.bytes.now w.ends.now w.left w.place };
 }
 
-// The record that stands at a place of a message, where it is one that is kept, and its end. Its RDATA are not read.
+// The record at a place of a message, unless it is skipped, and its end. Its RDATA are not read.
 fn lent_at<'a>(bytes: &'a [u8], ends: &'a [u16], at: usize) -> (Option<Lent<'a>>, usize)
     requires known { AreChainEnds bytes.now ends.now }
     requires there { IsOk (entry_at bytes.now at) }
@@ -96,7 +96,7 @@ fn lent_at<'a>(bytes: &'a [u8], ends: &'a [u16], at: usize) -> (Option<Lent<'a>>
 
 impl<'a> Walk<'a> {
     /// The next record, and none behind the last one. Records of types that are not served and of classes other than IN
-    /// are passed over.
+    /// are skipped: of an A, an HTTPS and a TXT record it gives the A, then the TXT, then none.
     pub fn next(&mut self) -> Option<Lent<'a>>
         ensures { MatchOption result (self.old ≡ []) (λ r. self.old ≡ r ∷ self.new) }
     {
@@ -113,14 +113,14 @@ impl<'a> Walk<'a> {
 }
 
 impl<'a> Lent<'a> {
-    /// Its type.
+    /// Its type: A of `a.example. 300 A 192.0.2.1`.
     pub fn kind(&self) -> RType
         ensures { type_number result ≡ type_of self.now.value }
     {
         self.kind
     }
 
-    /// Its TTL in seconds; one with its top bit set is 0 (RFC 2181, section 8).
+    /// Its TTL in seconds, 300 of `a.example. 300 A 192.0.2.1`; one with its top bit set is 0 (RFC 2181, section 8).
     pub fn ttl(&self) -> u32
         ensures value { result ≡ self.now.ttl }
         ensures most { result ≤ greatest_ttl }
@@ -128,19 +128,19 @@ impl<'a> Lent<'a> {
         self.ttl
     }
 
-    /// Whether this is its owner; takes no memory.
+    /// Whether this is its owner: `a.example` is that of `a.example. 300 A 192.0.2.1`. Takes no memory.
     pub fn owner_is<A: Allocator>(&self, name: &Name<A>) -> bool
         ensures { result ≡ same_name self.now.owner name.now }
     {
         is_named(self.bytes, self.ends, self.at, name)
     }
 
-    /// Its owner.
+    /// Its owner: `a.example` of `a.example. 300 A 192.0.2.1`.
     pub fn owner<A: Heap>(&self, alloc: A) -> Result<Name<A>, Starved>
         ensures { IfOk result (λ n. n ≡ self.now.owner) }
     {
         let faults = Faults::in_message();
-        // It was read before: memory alone can be wanting.
+        // The name was read before, so only memory can run out.
         match name_at(
             alloc,
             self.bytes,
@@ -154,11 +154,11 @@ impl<'a> Lent<'a> {
         }
     }
 
-    /// Its data.
+    /// Its data: the address of `a.example. 300 A 192.0.2.1`.
     pub fn value<A: Heap>(&self, alloc: A) -> Result<RData<A>, Starved>
         ensures { IfOk result (λ v. datum v ≡ self.now.value) }
     {
-        // It was read before, as its owner was.
+        // The data were read before, so only memory can run out.
         match value_at(
             alloc, self.kind, self.bytes, self.ends, self.start, self.end,
         ) {
@@ -167,7 +167,7 @@ impl<'a> Lent<'a> {
         }
     }
 
-    /// The record, with memory of its own.
+    /// The record, with memory of its own: `a.example. 300 A 192.0.2.1` with owner, TTL and address.
     pub fn record<A: Heap>(&self, alloc: A) -> Result<Record<A>, Starved>
         ensures { IfOk result (λ r. r ≡ self.now) }
     {

@@ -1,16 +1,16 @@
 //! Messages read from bytes and written as bytes (RFC 1035, section 4).
 //!
-//! `decode` reads a `Message`: its `Header`, its questions, and the records of its three sections; names are
-//! unfolded from their pointers, and records of types and classes that are not served are left out.
-//! A `View` is a message seen in its bytes, whose records are lent one after the other without memory.
-//! `decode_question` reads the one question of a query alone, with the letters that it came in. `encode` writes a
-//! message with compression, `Draft::encode` one of borrowed parts and with its question in its own letters;
-//! `Via::limit` is what a datagram or a stream allows.
+//! `decode` reads a `Message`: its `Header`, its questions, and the records of its three sections; names are unfolded
+//! from their pointers, and records of types and classes that are not served are left out. A `View` is a message that
+//! is read in its bytes, record after record, without memory. `decode_question` reads the one question of a query
+//! alone, with its own letters. `encode` writes a message with compression, `Draft::encode` one of borrowed parts and
+//! with its question in its own letters; `Via::limit` is what a datagram or a stream allows.
 //!
-//! Promised: what is read is the message that the bytes are, and every message is read (`decoding_is_message`, over
-//! `message_grammar`'s `IsMessage`), else the first fault from the left is answered (`WireError`); what is written is
-//! `encoding`, and read back (`encoding_is_read_back`). A `View` is the message that `decode` reads.
-//! Not here: what a message means (`front`, `events`, `classify`); EDNS (RFC 6891).
+//! Promised: a message that is read is the one that the bytes are, and every message is read (`decoding_is_message`,
+//! over `message_grammar`'s `IsMessage`); other bytes are refused by the first fault from the left (`WireError`). The
+//! bytes that are written are `encoding`, and are read back (`encoding_is_read_back`). A `View` is the message that
+//! `decode` reads.
+//! Not here: the meaning of a message (`front`, `events`, `classify`); EDNS (RFC 6891).
 //!
 //! ```text
 //! let message = decode(alloc, bytes)?;

@@ -42,7 +42,7 @@ impl<A: Allocator> Model for Questions<A> {
 }
 
 impl<A: Heap> Questions<A> {
-    /// No questions; takes no memory.
+    /// No questions: a list of length 0. Takes no memory.
     pub fn new(alloc: A) -> Questions<A>
         ensures { result ≡ [] }
     {
@@ -51,7 +51,7 @@ impl<A: Heap> Questions<A> {
         }
     }
 
-    /// One question more, at the end.
+    /// Adds a question at the end: behind one it is the second.
     pub fn push(&mut self, added: Question<A>) -> Result<(), Starved>
         ensures ok { OnOk result (self.new ≡ self.old ++ added ∷ []) }
         ensures err { OnErr result (self.new ≡ self.old) }
@@ -62,21 +62,21 @@ impl<A: Heap> Questions<A> {
 }
 
 impl<A: Allocator> Questions<A> {
-    /// How many there are.
+    /// How many questions there are: 1 after one `push`.
     pub fn len(&self) -> usize
         ensures { result ≡ length self.now }
     {
         self.items.len()
     }
 
-    /// Whether there are none.
+    /// Whether there are no questions: true of a new list, false after a `push`.
     pub fn is_empty(&self) -> bool
         ensures { IsTrue result ↔ (self.now ≡ []) }
     {
         self.items.is_empty()
     }
 
-    /// The questions in order.
+    /// The questions in order: after `push` of a first and a second one, these two.
     pub fn as_slice(&self) -> &[Question<A>]
         ensures { result.now ≡ self.now }
     {

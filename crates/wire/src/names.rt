@@ -17,7 +17,7 @@ use arrayvec::ArrayVec;
 use dname::{Heap, Name};
 use std::alloc::Allocator;
 
-// A label more of a spelling that has room for it, behind its length.
+// Adds a label, behind its length, to a spelling that has room for it.
 fn put_letters(letters: &mut ArrayVec<u8, 255>, label: &[u8])
     requires short { length label.now < 64 }
     requires room { array_vec_len letters.old + length label.now < 255 }
@@ -86,7 +86,8 @@ fn letters_at(
     }
 }
 
-// The name at a place, whose own part ends at the limit at the latest, and the end of what lies there.
+// The name at a place, whose own part ends at the limit at the latest, and the end of that part. At 12, the bytes 1 `A`
+// 0 are the name `a`, and the end is 15.
 pub fn name_at<A: Heap>(
     alloc: A,
     bytes: &[u8],
@@ -105,8 +106,8 @@ pub fn name_at<A: Heap>(
     Ok((Name::of_letters(alloc, &letters)?, end))
 }
 
-// The name at a place that is to stand there in full, up to the limit, and its end: each pointer is refused, as one that
-// leads to no earlier place.
+// The name at a place that is to stand there in full, up to the limit, and its end: 15 of 1 `a` 0 at 12. Each pointer
+// is refused, as one that leads to no earlier place.
 pub fn full_name_at<A: Heap>(
     alloc: A,
     bytes: &[u8],
@@ -123,7 +124,8 @@ pub fn full_name_at<A: Heap>(
     Ok((Name::of_letters(alloc, &letters)?, end))
 }
 
-// The end of the name at a place of a message: whether one stands there, as `name_at` decides it. None is built.
+// The end of the name at a place of a message, where one stands there as `name_at` decides it: 15 of 1 `a` 0 at 12. No
+// name is built.
 pub fn name_end(bytes: &[u8], ends: &[u16], at: usize) -> Result<usize, WireError>
     requires { AreChainEnds bytes.now ends.now }
     ensures is { result ≡ end_of (name_at bytes.now message_faults (length bytes.now) at) }
@@ -141,7 +143,7 @@ pub fn name_end(bytes: &[u8], ends: &[u16], at: usize) -> Result<usize, WireErro
     )
 }
 
-// The same of a name in RDATA that end at `end`.
+// The end of a name in RDATA that end at `end`, as `name_end` gives it: 15 of 1 `a` 0 at 12.
 pub fn name_end_within(
     bytes: &[u8],
     ends: &[u16],
@@ -157,7 +159,7 @@ pub fn name_end_within(
     letters_at(&mut letters, bytes, ends, Faults::in_rdata(), end, at, at)
 }
 
-// The same of a name in RDATA that is to stand there in full.
+// The end of a name in RDATA that is to stand there in full: 15 of 1 `a` 0 at 12; a pointer is refused.
 pub fn full_name_end(bytes: &[u8], at: usize, end: usize) -> Result<usize, WireError>
     requires { end ≤ length bytes.now }
     ensures is { result ≡ end_of (full_name_at bytes.now rdata_faults end at) }
@@ -176,7 +178,7 @@ fn is_spelt<A: Allocator>(name: &Name<A>, letters: &[u8]) -> bool
     name.wire().eq_ignore_ascii_case(letters)
 }
 
-// Whether the name that stands at a place of a message is this one; none is built.
+// Whether the name at a place of a message is this one: 1 `A` 0 is `a`. No name is built.
 pub fn is_named<A: Allocator>(bytes: &[u8], ends: &[u16], at: usize, name: &Name<A>) -> bool
     requires known { AreChainEnds bytes.now ends.now }
     requires there { IsOk (name_at bytes.now message_faults (length bytes.now) at) }
@@ -198,7 +200,8 @@ pub fn is_named<A: Allocator>(bytes: &[u8], ends: &[u16], at: usize, name: &Name
     }
 }
 
-// The name at a place of a message as `name_at` reads it, with its own letters, and the end of what lies there.
+// The name at a place of a message as `name_at` reads it, with its own letters, and the end of its own part: of 1 `A` 0
+// at 12 it is `a` with the letter `A`, and 15.
 pub fn spelling_at<A: Heap>(
     alloc: A,
     bytes: &[u8],

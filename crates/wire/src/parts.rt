@@ -5,7 +5,7 @@ ghost use Rattle.wire.specs.Shapes.{IsPart};
 
 use crate::error::WireError;
 
-// What stands at a place of a name (RFC 1035, section 4.1.4): the root's zero, a label's length, a pointer.
+// A part of a name in a message (RFC 1035, section 4.1.4): the root's zero, a label's length, a pointer.
 #[derive(Clone, Copy)]
 pub enum Part {
     /// The root's zero.
@@ -16,7 +16,7 @@ pub enum Part {
     Pointer(usize),
 }
 
-// The refusals of a name, by where it stands.
+// The refusals of a name, which differ by where it stands.
 #[derive(Clone, Copy)]
 pub struct Faults {
     /// The name's own part runs over its border.
@@ -30,7 +30,7 @@ pub struct Faults {
 }
 
 impl Faults {
-    // In a question or an owner.
+    // The refusals of a name in a question or an owner: its `bad_label` is `BadLabel`.
     pub fn in_message() -> Faults
         ensures { result ≡ message_faults }
     {
@@ -42,7 +42,7 @@ impl Faults {
         }
     }
 
-    // In RDATA, whose end is the border.
+    // The refusals of a name in RDATA, whose end is the border: its `bad_label` is `BadRdataName`.
     pub fn in_rdata() -> Faults
         ensures { result ≡ rdata_faults }
     {
@@ -55,7 +55,7 @@ impl Faults {
     }
 }
 
-// The part of a name at a place before the limit.
+// The part of a name at a place before the limit: 3 is a label of three bytes, 0 the end, and 192, 12 a pointer to 12.
 pub fn part_at(
     bytes: &[u8],
     limit: usize,

@@ -20,7 +20,7 @@ use crate::records::{questions_at, section_at};
 use crate::skips::section_end;
 use dname::{Heap, Name};
 
-// The message that these bytes are, where it is known how the chains of pointers end in its first bytes.
+// The message that these bytes are, by the table of its chains of pointers.
 #[tactic(auto, using(crate::proofs::Walks::fails_with), unfolding(crate::specs::Entries::message_of))]
 fn message_of<A: Heap>(alloc: A, bytes: &[u8], ends: &[u16]) -> Result<Message<A>, WireError>
     requires { AreChainEnds bytes.now ends.now }
@@ -48,8 +48,9 @@ fn message_of<A: Heap>(alloc: A, bytes: &[u8], ends: &[u16]) -> Result<Message<A
     })
 }
 
-/// The message that these bytes are (RFC 1035, section 4). Records of types that are not served and of
-/// classes other than IN are left out. Refused by the first fault from the left.
+/// The message that these bytes are (RFC 1035, section 4): of the 29 bytes of the query `www.example. A`, that query.
+/// Records of types that are not served and of classes other than IN are left out. Refused by the first fault from the
+/// left.
 pub fn decode<A: Heap>(alloc: A, bytes: &[u8]) -> Result<Message<A>, WireError>
     ensures exact { Gives {Y = layouts.Message} (λ m. m) result (message_of bytes.now) }
     ensures read { IfOk result (λ m. IsMessage bytes.now m) }
@@ -77,8 +78,9 @@ fn check_sections<A: Heap>(alloc: A, bytes: &[u8], at: usize) -> Result<(), Wire
 }
 
 /// The question of a message that has one: its name in lower case, and the question in its own letters, read in one
-/// walk; nothing where the header announces none or several, of which the rest is not looked at. Refused where there is
-/// no header, or one question and bytes that are no message.
+/// walk. Of a query for `WWW.example.` these are `www.example` and `WWW.example`. None where the header announces none
+/// or several: the rest is not looked at then. Refused where there is no header, or one question and bytes that are no
+/// message.
 pub fn decode_question<A: Heap>(
     alloc: A,
     bytes: &[u8],

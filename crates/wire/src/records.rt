@@ -1,4 +1,4 @@
-//! Records and questions read; those that are not served are stepped over.
+//! Records and questions, read; records that are not served are skipped.
 ghost use Rattle.std.specs.Prelude.{◌≡◌, ℕ, ◌≤◌, ◌+◌, List, Option, option_to_list, ◌++◌, OnOk, IsOk, IsTrue, Ok, None};
 ghost use Rattle.rdata.specs.Records as plain;
 ghost use Rattle.message_grammar.specs.Messages as layouts;
@@ -18,7 +18,7 @@ use crate::values::value_at;
 use dname::{Heap, Starved};
 use rdata::{GREATEST_TTL, Record, Records};
 
-// A TTL as it is read: one with its top bit set is 0 (RFC 2181, section 8).
+// The TTL of a record: one with its top bit set is 0 (RFC 2181, section 8). So 300 is 300, and 2,147,483,648 is 0.
 pub fn ttl_of(ttl: u32) -> u32
     ensures is { result ≡ ttl_of ttl }
     ensures within { result ≤ GREATEST_TTL }
@@ -26,8 +26,8 @@ pub fn ttl_of(ttl: u32) -> u32
     if ttl > GREATEST_TTL { 0 } else { ttl }
 }
 
-// Whether a pointer stands there, and behind it a served type and class IN: so begins the usual record. It is
-// kept if it is one at all.
+// Whether bytes begin as most records do: a pointer, and behind it a served type and class IN. What begins so is not
+// skipped, if it is a record.
 fn begins_usual(bytes: &[u8], at: usize) -> bool
     ensures { IsTrue result → (end : ℕ) → entry_at bytes.now at ≡ Ok (None, end) → ⊥ }
 {
@@ -37,7 +37,7 @@ fn begins_usual(bytes: &[u8], at: usize) -> bool
     served_type(two_at(bytes, at + 2), two_at(bytes, at + 4)).is_some()
 }
 
-// The end of the record at a place, where it is one that is skipped: its owner is walked, and takes no memory.
+// The end of the record at a place, if that is skipped: its owner is walked, and takes no memory.
 fn skipped_end(bytes: &[u8], ends: &[u16], at: usize) -> Result<Option<usize>, WireError>
     requires { AreChainEnds bytes.now ends.now }
     ensures { IsSkipping result (entry_at bytes.now at) }
@@ -60,7 +60,7 @@ fn skipped_end(bytes: &[u8], ends: &[u16], at: usize) -> Result<Option<usize>, W
     }
 }
 
-// The record at a place, where it is one that is kept, and its end. One that is skipped takes no memory.
+// The record at a place, unless it is skipped, and its end. A skipped one takes no memory.
 #[tactic(auto, using(crate::proofs::Walks::fails_with), unfolding(crate::specs::Entries::entry_at))]
 fn entry_at<A: Heap>(
     alloc: A,
@@ -104,7 +104,8 @@ fn keep<A: Heap>(records: &mut Records<A>, found: Option<Record<A>>) -> Result<(
     }
 }
 
-// So many records from a place on, those that are kept, and their end.
+// The records among this many from a place on, without skipped ones, and the end of all: of an A and an HTTPS record,
+// the A, and the end of the HTTPS.
 pub fn section_at<A: Heap>(
     alloc: A,
     bytes: &[u8],
@@ -152,7 +153,7 @@ fn question_at<A: Heap>(
     ))
 }
 
-// So many questions from a place on, and their end.
+// This many questions from a place on, and their end: of one for `a.` at 12, it and 19.
 pub fn questions_at<A: Heap>(
     alloc: A,
     bytes: &[u8],

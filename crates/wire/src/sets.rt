@@ -30,7 +30,7 @@ impl<A: Heap> Writer<A> {
         Ok(())
     }
 
-    // The records of a set in order, as far as `put_records` goes.
+    // Writes the records of a set in order, until the message is over the limit, as `put_records` does.
     pub(crate) fn put_set(&mut self, set: &RecordSet<A>, limit: usize) -> Result<(), Starved>
         ensures { OnOk result (Puts limit (AllByRecursion IsRecord set.now) (flat_map record_pieces set.now) self.old self.new) }
     {

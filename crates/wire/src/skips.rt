@@ -11,7 +11,7 @@ use crate::names::{full_name_end, name_end, name_end_within};
 use crate::served::served_type;
 use rdata::RType;
 
-// The end of so many bytes.
+// The end of this many bytes.
 fn bytes_end(count: usize, at: usize, end: usize) -> Result<usize, WireError>
     requires { at ≤ end }
     ensures { (bytes : List ℕ) → result ≡ end_of (bytes_within count bytes at end) }
@@ -114,7 +114,7 @@ fn form_end(
     }
 }
 
-// The end of the record at a place, kept or not.
+// The end of the record at a place, skipped or not.
 #[tactic(auto, using(crate::proofs::Skipping::handed), unfolding(crate::specs::Entries::entry_at, crate::specs::Values::value_at))]
 fn entry_end(bytes: &[u8], ends: &[u16], at: usize) -> Result<usize, WireError>
     requires { AreChainEnds bytes.now ends.now }
@@ -137,7 +137,7 @@ fn entry_end(bytes: &[u8], ends: &[u16], at: usize) -> Result<usize, WireError>
     Ok(start + size)
 }
 
-// The end of so many records from a place on.
+// The end of this many records from a place on: of two of 16 bytes at 19, 51.
 pub fn section_end(bytes: &[u8], ends: &[u16], count: u16, at: usize) -> Result<usize, WireError>
     requires { AreChainEnds bytes.now ends.now }
     ensures { result ≡ end_of (section_from count bytes.now at) }
@@ -162,7 +162,7 @@ fn question_end(bytes: &[u8], ends: &[u16], at: usize) -> Result<usize, WireErro
     Ok(past + 4)
 }
 
-// The end of so many questions from a place on.
+// The end of this many questions from a place on: of one for `a.` at 12, 19.
 pub fn questions_end(bytes: &[u8], ends: &[u16], count: u16, at: usize) -> Result<usize, WireError>
     requires { AreChainEnds bytes.now ends.now }
     ensures { result ≡ end_of (questions_from count bytes.now at) }

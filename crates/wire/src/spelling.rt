@@ -1,4 +1,4 @@
-//! A name with the letters in which it was asked for.
+//! A name with the letters of the query that asks for it.
 ghost use Rattle.std.specs.Prelude.{◌≡◌, ◌≤◌, IfOk, length};
 ghost use Rattle.dname.specs.Labels.{wire, folded_labels};
 ghost use Rattle.dname.specs.Wire.{labels_of, IsSpellingWire};
@@ -15,7 +15,7 @@ pub struct Spelling<A: Allocator = Global> {
     // In wire form: each label behind its length, the root's zero last; nothing where these are the name's own
     // letters, as most clients ask in lower case.
     letters: Vec<u8, A>,
-    // The same in lower case.
+    // The name in lower case.
     name: Name<A>,
 }
 
@@ -50,7 +50,7 @@ impl<A: Heap> Spelling<A> {
 }
 
 impl<A: Allocator> Spelling<A> {
-    /// The spelling in wire form.
+    /// The spelling in wire form: of `Www`, 3 `Www` 0.
     pub fn wire(&self) -> &[u8]
         ensures is { result.now ≡ wire self.now }
         ensures short { length result.now ≤ 255 }
@@ -68,7 +68,7 @@ impl<A: Allocator> Spelling<A> {
         let _ = self.name.size();
     }
 
-    /// The name in lower case.
+    /// The name in lower case: of `Www`, `www`.
     pub fn name(&self) -> &Name<A>
         ensures { result.now ≡ folded_labels self.now }
     {

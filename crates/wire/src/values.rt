@@ -137,7 +137,7 @@ fn ipv6_at<A: Heap>(bytes: &[u8], at: usize, end: usize) -> Result<(RData<A>, us
     Ok((RData::Aaaa(address), at + 16))
 }
 
-// RDATA of a type at a place, and the end of its form.
+// RDATA of a type at a place, and where they end.
 fn form_at<A: Heap>(
     alloc: A,
     kind: RType,
@@ -176,7 +176,7 @@ fn form_at<A: Heap>(
     }
 }
 
-// RDATA of a type that fill the bytes from `at` to `end`.
+// RDATA of a type that fill the bytes from `at` to `end`: of type A, the four bytes 192, 0, 2, 1 are that address.
 #[tactic(auto, using(crate::proofs::Walks::fails_with), unfolding(crate::specs::Values::value_at))]
 pub fn value_at<A: Heap>(
     alloc: A,

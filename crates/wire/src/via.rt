@@ -18,7 +18,7 @@ pub enum Via {
 }
 
 impl Via {
-    /// The bytes that a message may have.
+    /// The bytes that a message may have: 512 in a datagram, 65,535 on a stream.
     pub fn limit(self) -> usize
         ensures is { result ≡ limit_of self }
         ensures within { result ≤ TCP_LIMIT }

@@ -1,4 +1,4 @@
-//! A message seen in its bytes.
+//! A message that is read in its bytes.
 ghost use Rattle.std.specs.Prelude.{◌≡◌, ◌≢◌, ◌≤◌, ◌⊎◌, [], ◌∷◌, ◌↔◌, length, IfOk, IfErr, IsTrue};
 ghost use Rattle.message_grammar.specs.Messages as layouts;
 ghost use Rattle.message_grammar.specs.Messages.{IsMessage};
@@ -18,11 +18,11 @@ use dname::{Heap, Name};
 use std::alloc::{Allocator, Global};
 use std::marker::Model;
 
-/// A message that is read in its bytes, as far as it is asked for. Contracts see the message, as `decode` reads it.
+/// A message that is read in its bytes, no further than it is used. Contracts see the message, as `decode` reads it.
 #[derive(Drop)]
 pub struct View<'a, A: Allocator = Global> {
     bytes: &'a [u8],
-    // How the chains of pointers end in its first bytes, where that is known.
+    // The table of the chains of pointers in its first bytes, if it has one.
     ends: Vec<u16, A>,
     // Where the sections of records begin.
     answer: usize,
@@ -42,9 +42,10 @@ impl<'a, A: Allocator> Model for View<'a, A> {
 }
 
 impl<'a, A: Heap> View<'a, A> {
-    /// The message that these bytes are (RFC 1035, section 4). Records of types that are not served and of classes other
-    /// than IN are left out. Refused by the first fault from the left. Up to 512 bytes take no memory; of more it is kept
-    /// how their chains of pointers end.
+    /// The message that these bytes are (RFC 1035, section 4): of the 29 bytes of the query `www.example. A`, one whose
+    /// sections have no records. Records of types that are not served and of classes other than IN are left out.
+    /// Refused by the first fault from the left. Up to 512 bytes take no memory; for more a table of their chains of
+    /// pointers is made.
     pub fn new(alloc: A, bytes: &'a [u8]) -> Result<View<'a, A>, WireError>
         ensures exact { Gives {Y = layouts.Message} (λ m. m) result (message_of bytes.now) }
         ensures read { IfOk result (λ m. IsMessage bytes.now m) }
@@ -73,14 +74,15 @@ impl<'a, A: Heap> View<'a, A> {
 }
 
 impl<A: Allocator> View<'_, A> {
-    /// Its header.
+    /// Its header: that of a query under ID 7 has `id` 7.
     pub fn header(&self) -> Header
         ensures { result ≡ self.now.header }
     {
         Header::read(self.bytes)
     }
 
-    /// Whether its one question is for this name, type and class.
+    /// Whether its one question is for this name, type and class: true of the query `www.example. A` for `www.example`,
+    /// 1 and 1.
     pub fn asks_for<B: Allocator>(&self, name: &Name<B>, qtype: u16, qclass: u16) -> bool
         ensures { IsTrue result ↔ (self.now.questions ≡ record { name = name.now; qtype = qtype; qclass = qclass } ∷ []) }
     {
@@ -96,7 +98,7 @@ impl<A: Allocator> View<'_, A> {
         is_named(self.bytes, &self.ends, 12, name)
     }
 
-    /// The records of its answer section, one after the other.
+    /// The records of its answer section, one after the other: in a reply with two addresses, these two.
     pub fn answer(&self) -> Walk<'_>
         ensures { result ≡ self.now.answer }
     {
@@ -108,7 +110,7 @@ impl<A: Allocator> View<'_, A> {
         }
     }
 
-    /// Those of its authority section.
+    /// The records of its authority section, one after the other: in a referral, the NS records.
     pub fn authority(&self) -> Walk<'_>
         ensures { result ≡ self.now.authority }
     {
@@ -120,7 +122,7 @@ impl<A: Allocator> View<'_, A> {
         }
     }
 
-    /// Those of its additional section.
+    /// The records of its additional section, one after the other: in a referral, the glue.
     pub fn additional(&self) -> Walk<'_>
         ensures { result ≡ self.now.additional }
     {

@@ -1,4 +1,4 @@
-//! Bytes of a message as they are written, names compressed.
+//! The bytes of a message as it is written, names compressed.
 ghost use Rattle.std.specs.Prelude.{◌≡◌, ◌+◌, ◌<◌, ◌≤◌, length, OnOk, IfOk, IsTrue, ◌↔◌, MatchOption, flat_map};
 ghost use Rattle.std.specs.Int.{bytes_high_first};
 ghost use Rattle.std.specs.List.{AllByRecursion};
@@ -39,9 +39,10 @@ pub struct Tally {
     pub additional: usize,
 }
 
-/// What messages are written with, one after the other: lent to each, so that it takes memory for its bytes alone.
+/// Writes messages, one after the other: it is lent to each, so that a message takes memory for its bytes alone.
 /// Contracts see the bytes of the message that is being written, and the notes of its names.
-// What is put fits its bits by its type's own bounds (the clauses `fits`), so the bytes are read back as the message.
+// What is written fits its bits by the bounds of its type (the clauses `fits`), so the bytes are read back as the
+// message.
 #[derive(Drop)]
 pub struct Writer<A: Allocator = Global> {
     bytes: Vec<u8, A>,
@@ -72,7 +73,8 @@ fn low_bytes(count: usize) -> [u8; 2]
 }
 
 impl<A: Heap> Writer<A> {
-    /// Nothing written yet: one growth serves a message that fits a datagram, two the names of most.
+    /// A writer of no bytes yet. One growth serves a message that fits a datagram, and two the names of most: with it
+    /// `Draft::encode` writes a first reply, and then others.
     pub fn new(alloc: A) -> Result<Writer<A>, Starved>
         ensures { IfOk result (λ w. w ≡ empty) }
     {
@@ -148,7 +150,7 @@ impl<A: Heap> Writer<A> {
         }
     }
 
-    // A name in full, into which no pointer leads (RFC 2782).
+    // A name in full, into which no later pointer leads (RFC 2782).
     #[tactic(auto, using(crate::proofs::Writing::full_put))]
     fn put_full(&mut self, name: &Name<A>) -> Result<(), Starved>
         ensures written { OnOk result (self.new ≡ put_flat self.old (full_name name.now)) }
@@ -278,8 +280,8 @@ impl<A: Heap> Writer<A> {
         self.bytes.len() > limit
     }
 
-    // The records in order, until the message is longer than the limit. The walk over them finds that each fits its bits
-    // and that its names are names.
+    // Writes the records in order, until the message is longer than the limit. The walk over them finds that each fits
+    // its bits and that its names are names.
     pub(crate) fn put_records(&mut self, records: &[Record<A>], limit: usize) -> Result<(), Starved>
         ensures { OnOk result (Puts limit (AllByRecursion IsRecord records.now) (flat_map record_pieces records.now) self.old self.new) }
     {
@@ -301,7 +303,7 @@ impl<A: Heap> Writer<A> {
         self.put_type_and_class(question.qtype, question.qclass)
     }
 
-    // The questions in order. The walk over them finds that each fits its bits.
+    // Writes the questions in order. The walk over them finds that each fits its bits.
     pub(crate) fn put_questions(&mut self, questions: &[Question<A>]) -> Result<(), Starved>
         ensures written { OnOk result (self.new ≡ after self.old (flat_map question_pieces questions.now)) }
         ensures fits { OnOk result (AllByRecursion IsQuestion questions.now) }
@@ -352,7 +354,7 @@ impl<A: Heap> Writer<A> {
         Ok(())
     }
 
-    // What was written, where it is within the limit.
+    // The bytes of the message, where it is within the limit.
     pub(crate) fn finish(&mut self, limit: usize) -> Option<Vec<u8, A>>
         ensures { MatchOption result (limit < length (self.old).bytes) (λ v. (v.items ≡ (self.old).bytes) × (length (self.old).bytes ≤ limit)) }
     {

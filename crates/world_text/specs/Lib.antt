@@ -6,5 +6,5 @@ pub mod Readings
 pub mod WorldFaults
 pub mod Keywords
 pub mod Places
--- Kept: what the code's own values keep.
+-- Kept: invariants of the code's values, and how contracts see them.
 pub mod Seen

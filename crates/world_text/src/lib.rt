@@ -12,7 +12,7 @@
 //! ```text
 //! let text = "zone .\n. 60 IN SOA r. h. 1 2 3 4 60\n. 60 IN NS ns.\nend\nhost 192.0.2.1 .\nhint 192.0.2.1\n";
 //! let world = world_in(alloc, text)?;
-//! assert_eq!(world.hints().len(), 1);
+//! assert_eq!(rt; world.hints().len(), 1);
 //! ```
 #![tactic(auto)]
 

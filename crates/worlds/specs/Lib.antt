@@ -4,5 +4,5 @@ pub mod Hosting
 pub mod Judging
 -- Computed: functions that the code is compared with.
 pub mod Rules
--- Kept: what the code's own values keep.
+-- Kept: invariants of the code's values, and how contracts see them.
 pub mod Kept

@@ -14,7 +14,7 @@
 //! ```text
 //! let world = World::check(zones, hosts, hints, locals)?;
 //! if let Some(reply) = host_reply(alloc, &world, Addr([198, 51, 100, 1]), query)? {
-//!     let is_right = judge(&world, &name, RType::A, &reply)?;     // a referral is not, an answer is
+//!     let is_right = judge(&world, name, RType::A, &reply)?;      // a referral is not, an answer is
 //! }
 //! ```
 #![tactic(auto)]

@@ -29,14 +29,14 @@ fault_text WildcardAuthority = codes "NS or SOA at a wildcard"
 fault_text WildcardBeneathCut = codes "a wildcard beneath a cut"
 fault_text Memory = codes "out of memory"
 
--- The refusal of the lowest number that holds.
+-- The rule of the lowest number that is broken.
 abbrev pub fault_of : Zone → Option ZoneError
 fault_of z =
     cond (lacks_soa z) (Some Soa) (cond (lacks_servers z) (Some NoServers) (cond (has_foreign_owner z) (Some ForeignOwner)
     (cond (has_cname_clash z) (Some CnameClash) (cond (has_mixed_ttls z) (Some MixedTtls) (cond (has_data_at_cut z) (Some DataAtCut)
     (cond (has_inner_star z) (Some InnerStar) (cond (has_wildcard_authority z) (Some WildcardAuthority) (cond (has_wildcard_beneath_cut z) (Some WildcardBeneathCut) None))))))))
 
--- A refusal is the one that holds; running out of memory can come at any time.
+-- When records may be refused so: for that very rule; out of memory at any time.
 abbrev pub IsFault : ZoneError → Option ZoneError → Type 0
 IsFault Memory f = Unit {0}
 IsFault e f = f ≡ Some e

@@ -1,4 +1,4 @@
--- How a zone is kept: its records meet the rules, and its negative answer stands beside them.
+-- How a zone is stored: its records meet the rules, and the SOA of its negative answers stands beside them.
 use Rattle.std.specs.Prelude.{◌≡◌, ℕ, Some, None, List}
 use Rattle.rdata.specs.Records.{Record}
 use Rattle.zone.specs.Zones.{Zone}

@@ -1,10 +1,10 @@
--- The rules that compare records with one another, told by one record a key: the last one that counts.
+-- The rules that compare records with one another, computed with one record for each key: the last one that was seen.
 use Rattle.std.specs.Prelude.{ℕ, Bool, false, ◌&&◌, not, cond, nat_eq, Option, Some, None, List, fold}
 use Rattle.dname.specs.Labels.{same_name}
 use Rattle.rdata.specs.Data.{Datum, Cname, type_of, same_data}
 use Rattle.rdata.specs.Records.{Record}
 
--- What is kept of a key after one more record: that record's value where it has one and its key is the same.
+-- The value of a key after one more record: that record's value where it has one and its key is the same.
 abbrev pub kept_after : {V : Type 0} → Bool → Option V → Option V → Option V
 kept_after same None kept = kept
 kept_after same (Some v) kept = cond same (Some v) kept

@@ -10,5 +10,5 @@ pub mod Tree
 pub mod Look
 pub mod Rules
 pub mod Last
--- Kept: what the code's own values keep.
+-- Kept: invariants of the code's values, and how contracts see them.
 pub mod Kept

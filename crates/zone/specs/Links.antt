@@ -1,4 +1,4 @@
--- What a zone says of a name and a type (RFC 1034, sections 3.6.2, 4.3.2 and 4.3.3; RFC 2308).
+-- The link of a zone for a name and a type (RFC 1034, sections 3.6.2, 4.3.2 and 4.3.3; RFC 2308).
 use Rattle.std.specs.Prelude.{◌≡◌, ◌≢◌, ℕ, min, cond, nat_lt, ◌⊎◌, List, [], ◌∷◌, Contains}
 use Rattle.dname.specs.Labels.{IsAtOrUnder, star}
 use Rattle.rdata.specs.Data.{Datum, Soa}
@@ -17,11 +17,11 @@ pub data Link : Type 0 where
 abbrev pub IsSource : Zone → List (List ℕ) → List (List ℕ) → Type 0
 IsSource z q s = (Exists z q × (s ≡ q)) ⊎ ((Exists z q → ⊥) × ((e : List (List ℕ)) × IsEncloser z q e × (s ≡ star ∷ e)))
 
--- The record of type t that answers for q, found at s: it goes out with q as owner.
+-- A record of type t that stands at s and answers for q: it goes out with q as owner.
 abbrev pub IsFrom : Zone → List (List ℕ) → List (List ℕ) → ℕ → Record → Type 0
 IsFrom z s q t r = (r.owner ≡ q) × At z s t (record r { owner = s })
 
--- No record of that type at that name, and none at all.
+-- The name has no record of that type; it has no record at all.
 abbrev pub HasNone : Zone → List (List ℕ) → ℕ → Type 0
 HasNone z s t = (r : Record) → At z s t r → ⊥
 
@@ -43,12 +43,12 @@ lessened r = record { owner = r.owner; ttl = denial_ttl r.ttl r.value; value = r
 abbrev pub IsDenial : Zone → Record → Type 0
 IsDenial z soa = (r : Record) × At z z.origin soa_type r × (soa ≡ lessened r)
 
--- Each record stands once.
+-- A list in which each record stands once.
 abbrev pub Distinct : List Record → Type 0
 Distinct [] = Unit {0}
 Distinct (r ∷ rs) = (Contains rs r → ⊥) × Distinct rs
 
--- What the records at s say of q (RFC 1034, section 4.3.2, steps 3a and 3c; RFC 2308, section 2).
+-- The link that the records at s give for q (RFC 1034, section 4.3.2, steps 3a and 3c; RFC 2308, section 2).
 abbrev pub Says : Zone → List (List ℕ) → List (List ℕ) → ℕ → Link → Type 0
 Says z s q t (Found set) = ((r : Record) → Contains set r → IsFrom z s q t r) × ((r : Record) → IsFrom z s q t r → Contains set r) × Distinct set × (set ≢ [])
 Says z s q t (Alias r) = HasNone z s t × IsFrom z s q cname_type r

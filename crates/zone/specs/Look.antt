@@ -1,4 +1,4 @@
--- The look-up as a function: what it gives is the link, or the cut, of the definitions.
+-- The look-up as a function: its result is the link, or the cut, of the definitions.
 use Rattle.std.specs.Prelude.{ℕ, Bool, false, ◌&&◌, ◌||◌, not, cond, nat_eq, is_some, Option, Some, None, List, [], ◌∷◌, ◌++◌, map, filter, find, fold}
 use Rattle.std.specs.List.{list_any, flat_map}
 use Rattle.dname.specs.Labels.{star, same_name, is_under}
@@ -37,7 +37,7 @@ abbrev pub cut_of : Zone → List (List ℕ) → Option (List (List ℕ))
 cut_of z [] = None
 cut_of z (l ∷ ls) = or_else (cut_of z ls) (cond (is_cut z (l ∷ ls)) (Some (l ∷ ls)) None)
 
--- Strictly under a cut.
+-- Whether the name is strictly under a cut.
 abbrev pub is_beneath_cut : Zone → List (List ℕ) → Bool
 is_beneath_cut z [] = false
 is_beneath_cut z (l ∷ ls) = is_some (cut_of z ls)
@@ -50,7 +50,7 @@ abbrev pub closest : Zone → List (List ℕ) → Option (List (List ℕ))
 closest z [] = None
 closest z (l ∷ ls) = cond (exists z (l ∷ ls)) (Some (l ∷ ls)) (closest z ls)
 
--- Without repeats: the first of each datum, in order.
+-- The records without repeats: the first of each datum, in order.
 abbrev pub add_new : List Record → Record → List Record
 add_new kept r = cond (list_any (λ (s : Record). same_data s.value r.value) kept) kept (kept ++ r ∷ [])
 
@@ -60,7 +60,7 @@ firsts rs = fold add_new [] rs
 abbrev pub with_owner : List (List ℕ) → Record → Record
 with_owner q r = record { owner = q; ttl = r.ttl; value = r.value }
 
--- What the records of a source say.
+-- The link that the records of a source give.
 abbrev pub said_alias : Record → List (List ℕ) → List Record → Link
 said_alias soa q [] = NoData soa
 said_alias soa q (r ∷ rs) = Alias (with_owner q r)
@@ -87,14 +87,14 @@ wild z q = wild_at z (closest z q)
 abbrev pub link_by : Record → Zone → List (List ℕ) → ℕ → Link
 link_by soa z q t = cond (exists z q) (said soa q t (at q z.records)) (said_wild soa q t (wild z q))
 
--- The way up to the closest encloser where no cut stands: the first name above with an owner at or under
+-- The link by the way up to the closest encloser where no cut stands: the first name above with an owner at or under
 -- it, whose wildcard answers.
 abbrev pub climbed : Record → List (List ℕ) → ℕ → List Record → List (List ℕ) → Link
 climbed soa q t rs [] = said_wild soa q t []
 climbed soa q t rs (l ∷ []) = said_wild soa q t []
 climbed soa q t rs (l ∷ m ∷ ms) = cond (list_any (λ (r : Record). is_under r.owner (m ∷ ms)) rs) (said_wild soa q t (at (star ∷ m ∷ ms) rs)) (climbed soa q t rs (m ∷ ms))
 
--- A referral's records: the NS set of the cut, and the addresses of its targets, target by target.
+-- The records of a referral: the NS set of the cut, and the addresses of its targets, target by target.
 abbrev pub ns_of : Zone → List (List ℕ) → List Record
 ns_of z c = firsts (of_type ns_type (at c z.records))
 
@@ -111,7 +111,7 @@ add_glue kept r = cond (list_any (λ (s : Record). is_repeat s r) kept) kept (ke
 abbrev pub glue_of : List Record → List Record → List Record
 glue_of rs ns = fold add_glue [] (flat_map (λ (r : Record). addresses_of rs r.value) ns)
 
--- What a zone gives for a name: a link, or the cut that the name is referred to.
+-- The result of a zone for a name: a link, or the cut that the name is referred to.
 pub data Local : Type 0 where
   Linked : Link → Local
   Cut : List (List ℕ) → List Record → List Record → Local
@@ -124,7 +124,7 @@ local_of soa z q t (Some c) = Cut c (ns_of z c) (glue_of z.records (ns_of z c))
 abbrev pub local_by : Record → Zone → List (List ℕ) → ℕ → Local
 local_by soa z q t = local_of soa z q t (cut_of z q)
 
--- The zone's negative answer: its SOA with the lesser TTL.
+-- The SOA of the zone's negative answers, with the lesser TTL.
 abbrev pub denial_by : Option Record → Option Record
 denial_by None = None
 denial_by (Some r) = Some (lessened r)

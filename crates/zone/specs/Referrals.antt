@@ -1,4 +1,4 @@
--- What a zone gives for a name that is beneath or at a cut (RFC 1034, section 4.3.2, step 3b).
+-- The result of a zone for a name that is beneath or at a cut (RFC 1034, section 4.3.2, step 3b).
 use Rattle.std.specs.Prelude.{◌≡◌, ℕ, ◌⊎◌, List, Contains}
 use Rattle.dname.specs.Labels.{IsAtOrUnder}
 use Rattle.rdata.specs.Data.{Ns, type_of}
@@ -11,7 +11,7 @@ use Rattle.zone.specs.Look.{Local, Linked, Cut, NotHere}
 abbrev pub IsGlue : Zone → List (List ℕ) → Record → Type 0
 IsGlue z c r = Contains z.records r × ((type_of r.value ≡ a_type) ⊎ (type_of r.value ≡ aaaa_type)) × ((s : Record) × At z c ns_type s × (s.value ≡ Ns r.owner))
 
--- The cut, its NS records and the addresses of its servers, each once.
+-- A referral: the cut, its NS records and the addresses of its servers, each once.
 pub record IsReferral (z : Zone) (q c : List (List ℕ)) (servers addresses : List Record) : Type 0 where
   pub over : IsCutOver z q c
   pub named : (r : Record) → Contains servers r → At z c ns_type r
@@ -21,7 +21,7 @@ pub record IsReferral (z : Zone) (q c : List (List ℕ)) (servers addresses : Li
   pub all_glue : (r : Record) → IsGlue z c r → Contains addresses r
   pub glue_once : Distinct addresses
 
--- What the zone gives for a name at or under its origin.
+-- The result of a zone for a name at or under its origin.
 abbrev pub IsLocal : Zone → List (List ℕ) → ℕ → Local → Type 0
 IsLocal z q t (Linked l) = IsLink z q t l
 IsLocal z q t (Cut c servers addresses) = IsReferral z q c servers addresses

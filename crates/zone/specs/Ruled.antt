@@ -1,4 +1,4 @@
--- Rules of a zone's records, in words; laws of look-up take them as premises.
+-- The rules of a zone's records, in words; laws of look-up take them as premises.
 use Rattle.std.specs.Prelude.{◌≡◌, ◌≢◌, ℕ, ◌⊎◌, List, [], ◌∷◌, ◌++◌, Contains}
 use Rattle.dname.specs.Labels.{IsAtOrUnder, star}
 use Rattle.rdata.specs.Data.{type_of}

@@ -28,7 +28,7 @@ clashes r s = is_owned r.owner s && not (same_data r.value s.value)
 abbrev pub has_cname_clash : Zone → Bool
 has_cname_clash z = list_any (λ (r : Record). is_type cname_type r && list_any (clashes r) z.records) z.records
 
--- TTLs differ in a set.
+-- The TTLs of two records of one set differ.
 abbrev pub differs : Record → Record → Bool
 differs r s = same_set r s && not (nat_eq r.ttl s.ttl)
 

@@ -21,7 +21,7 @@ places_from p k (r ∷ rs) = cond (p r) (k ∷ places_from p (suc k) rs) (places
 abbrev pub places : (Record → Bool) → List Record → List ℕ
 places p rs = places_from p 0 rs
 
--- What a node says: the places of its own records, and those of `*` right under it.
+-- A node: the places of its own records, and those of `*` right under it.
 pub record Spot : Type 0 where
   pub own : List ℕ
   pub wild : List ℕ
@@ -36,7 +36,7 @@ abbrev pub spot : {H : Type 0} → Option (Node H) → Option Spot
 spot None = None
 spot (Some n) = Some (seen n)
 
--- One place more.
+-- The places with one more, where the test holds.
 abbrev pub more : Bool → List ℕ → ℕ → List ℕ
 more b is i = cond b (is ++ i ∷ []) is
 
@@ -47,11 +47,11 @@ abbrev pub or_empty : Option Spot → Spot
 or_empty None = record { own = []; wild = [] }
 or_empty (Some s) = s
 
--- What a node says after one more record, where it is at the record's owner or above it.
+-- A node after one more record, where it is at the record's owner or above it.
 abbrev pub spot_after : Bool → List (List ℕ) → List (List ℕ) → ℕ → Option Spot → Option Spot
 spot_after b n owner i o = cond b (Some (put_place n owner i (or_empty o))) o
 
--- The records at places.
+-- The records at these places.
 abbrev pub picks : List Record → List ℕ → List Record
 picks rs is = flat_map (λ (i : ℕ). take 1 (drop i rs)) is
 
@@ -59,11 +59,11 @@ abbrev pub AreWithin : ℕ → List ℕ → Type 0
 AreWithin n [] = Unit {0}
 AreWithin n (i ∷ is) = (i < n) × AreWithin n is
 
--- A map that gives for each name what the record list says of it. Its keys are names in wire form.
+-- A map that gives for each name the node that the record list makes. Its keys are names in wire form.
 pub record IsTree {H S : Type 0} (m : HashMap (Vec ℕ H) (Node H) S) (rs : List Record) : Type 0 where
   pub at : (l : List ℕ) (ls : List (List ℕ)) → spot (at_name m (l ∷ ls)) ≡ spot_of (l ∷ ls) rs
 
--- What stands at a name that some owner is at or under.
+-- The records of a name that some owner is at or under, and of the wildcard right under it.
 pub record IsStand (n : List (List ℕ)) (rs os ws : List Record) : Type 0 where
   pub under : has_under n rs ≡ true
   pub own : os ≡ at n rs

@@ -25,7 +25,7 @@ soa_type = type_number kind.Soa
 abbrev pub aaaa_type : ℕ
 aaaa_type = type_number kind.Aaaa
 
--- Strictly under a name.
+-- One name is strictly under another one.
 abbrev pub IsBeneath : List (List ℕ) → List (List ℕ) → Type 0
 IsBeneath a b = IsAtOrUnder a b × (a ≢ b)
 
@@ -39,7 +39,7 @@ pub record At (z : Zone) (n : List (List ℕ)) (t : ℕ) (r : Record) : Type 0 w
 abbrev pub IsCut : Zone → List (List ℕ) → Type 0
 IsCut z c = (c ≢ z.origin) × ((r : Record) × At z c ns_type r)
 
--- No cut stands over the name.
+-- No cut is at the name or above it.
 abbrev pub IsUncut : Zone → List (List ℕ) → Type 0
 IsUncut z q = (c : List (List ℕ)) → IsCut z c → IsAtOrUnder q c → ⊥
 
@@ -54,7 +54,7 @@ pub record IsCutOver (z : Zone) (q c : List (List ℕ)) : Type 0 where
 abbrev pub Exists : Zone → List (List ℕ) → Type 0
 Exists z n = (r : Record) × Contains z.records r × IsAtOrUnder r.owner n × ((c : List (List ℕ)) → IsCut z c → IsBeneath r.owner c → ⊥)
 
--- The longest existing name over q: the closest encloser (RFC 4592, section 3.3.1).
+-- The closest encloser: the longest existing name over q (RFC 4592, section 3.3.1).
 pub record IsEncloser (z : Zone) (q e : List (List ℕ)) : Type 0 where
   pub exists : Exists z e
   pub over : IsAtOrUnder q e

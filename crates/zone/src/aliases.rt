@@ -18,7 +18,7 @@ use std::hash::{BuildHasherDefault, FoldHasher};
 // Owners of CNAME records, each with the target of its last one.
 type Targets<A> = HashMap<Name<A>, Name<A>, BuildHasherDefault<FoldHasher>, A>;
 
-// Keeps the target where the record is a CNAME.
+// Notes the target of the record, if it is a CNAME.
 fn note_alias<A: Heap>(targets: &mut Targets<A>, rr: &Record<A>) -> Result<(), Starved>
     ensures { OnOk result ((q : List (List ℕ)) → hash.get same_name targets.new q ≡ kept_after (same_name rr.now.owner q) (alias_of rr.now) (hash.get same_name targets.old q)) }
 {
@@ -64,7 +64,8 @@ fn some_is_beside<A: Allocator>(records: &[Record<A>], targets: &Targets<A>) -> 
     records.iter().any(|record| is_beside(record, targets))
 }
 
-// A CNAME stands beside any other record than its own repeat (RFC 1034, section 3.6.2).
+// Whether a CNAME stands beside any other record than its own repeat (RFC 1034, section 3.6.2): `a CNAME b` beside `a A
+// 192.0.2.1` does, beside a second `a CNAME b` not.
 pub fn has_cname_clash<A: Heap>(origin: &Name<A>, records: &[Record<A>]) -> Result<bool, Starved>
     ensures { IfOk result (λ b. b ≡ has_cname_clash (zone_with origin.now records.now)) }
 {

@@ -40,7 +40,7 @@ impl<'a, A: Allocator> Model for Cuts<'a, A> {
     ghost invariant = { λ c. (q : List (List ℕ)) → bag.contains same_name c.owners q ≡ owns ns_type q c.records.now };
 }
 
-// Keeps the owner where the record is of type NS.
+// Notes the owner of the record, if it is of type NS.
 fn note_owner<A: Heap>(owners: &mut Owners<A>, rr: &Record<A>) -> Result<(), Starved>
     ensures { OnOk result ((q : List (List ℕ)) → bag.contains same_name owners.new q ≡ (bag.contains same_name owners.old q || (is_owned q rr.now && is_type ns_type rr.now))) }
 {
@@ -62,7 +62,7 @@ fn owners_of_servers<A: Heap>(alloc: A, records: &[Record<A>]) -> Result<Owners<
 }
 
 impl<'a, A: Heap> Cuts<'a, A> {
-    // The cuts of these records.
+    // The cuts of these records: `sub.example`, where that has NS records in the zone `example`.
     pub fn new(origin: &'a Name<A>, records: &'a [Record<A>]) -> Result<Cuts<'a, A>, Starved>
         ensures { IfOk result (λ c. c ≡ zone_with origin.now records.now) }
     {
@@ -74,14 +74,16 @@ impl<'a, A: Heap> Cuts<'a, A> {
         })
     }
 
-    // Whether the name is a cut: an owner of NS records other than the origin.
+    // Whether the name is a cut, an owner of NS records other than the origin: in the zone `example`, `sub.example` may
+    // be one, and `example` not.
     pub fn is_cut(&self, name: &Name<A>) -> bool
         ensures { result ≡ is_cut self.now name.now }
     {
         self.owners.contains(name) && *name != *self.origin
     }
 
-    // Whether the name is strictly under a cut.
+    // Whether the name is strictly under a cut: `www.sub.example` is under the cut `sub.example`, and `sub.example`
+    // not.
     pub fn is_beneath_cut(&self, name: &Name<A>) -> Result<bool, Starved>
         ensures { IfOk result (λ b. b ≡ is_beneath_cut self.now name.now) }
     {

@@ -17,8 +17,8 @@ fn counted(minimum: u32) -> u32
     if minimum > GREATEST_TTL { 0 } else { minimum }
 }
 
-/// The TTL of a negative answer by its SOA's TTL and data: the lesser of the TTL and MINIMUM, in seconds (RFC 2308,
-/// section 3). Data of another type change nothing.
+/// The TTL of a negative answer by its SOA's TTL and data, the lesser of the TTL and MINIMUM, in seconds (RFC 2308,
+/// section 3): 300 of TTL 3,600 and MINIMUM 300. With data of another type it is the TTL.
 pub fn denial_ttl<A: Allocator>(ttl: u32, value: &RData<A>) -> u32
     ensures { result ≡ denial_ttl ttl (datum value.now) }
 {
@@ -39,7 +39,8 @@ fn lessened<A: Heap>(soa: &Record<A>) -> Result<Record<A>, Starved>
     })
 }
 
-// The SOA of negative answers that the first SOA record makes; none without such a record.
+// The SOA of negative answers, made of the first SOA record: with TTL 3,600 and MINIMUM 300 it has TTL 300. None
+// without such a record.
 pub fn denial_in<A: Heap>(records: &[Record<A>]) -> Result<Option<Record<A>>, Starved>
     ensures { IfOk result (λ d. d ≡ denial_by (find (is_type soa_type) records.now)) }
 {

@@ -33,7 +33,7 @@ pub enum ZoneError {
 }
 
 impl ZoneError {
-    /// Its number, 1 to 10: where several refusals hold, the one with the lowest number is answered.
+    /// Its number, 1 to 10: 2 of `NoServers`. Where several refusals hold, the one with the lowest number is answered.
     pub fn number(self) -> u8
         ensures { result ≡ fault_number self }
     {

@@ -22,7 +22,7 @@ pub fn cut_law()
     ensures uncut { (z : ZoneSpec) (q : List (List ℕ)) → IsNamed z → (cut_of z q ≡ None) ↔ IsUncut z q }
 {}
 
-/// The test finds the names that exist: those that an owner, not beneath a cut, is at or under (RFC 4592,
+/// The test for the names that exist is exact: those that an owner, not beneath a cut, is at or under (RFC 4592,
 /// section 2.2.2). Where no cut stands over the name all owners count.
 pub fn existence_law()
     ensures test { (z : ZoneSpec) (n : List (List ℕ)) → IsNamed z → (exists z n ≡ true) ↔ Exists z n }
@@ -44,9 +44,9 @@ pub fn link_law()
     ensures referral { (z : ZoneSpec) (q c : List (List ℕ)) → IsNamed z → cut_of z q ≡ Some c → IsCutOver z q c }
 {}
 
-/// All that the look-up gives for a name at or under the origin: the zone's link where no cut stands
-/// over the name, and otherwise the referral: the cut, its NS records and the addresses that the zone
-/// has of its servers, each once (RFC 1034, section 4.3.2, step 3b).
+/// All that the look-up gives for a name at or under the origin. Where no cut stands over the name, it is the zone's
+/// link; otherwise it is the referral: the cut, its NS records and the addresses that the zone has of its servers, each
+/// once (RFC 1034, section 4.3.2, step 3b).
 pub fn local_law()
     ensures { (z : ZoneSpec) (q : List (List ℕ)) (t : ℕ) (soa : Record) → IsNamed z → HasSoaAtOrigin z → HasOneTtl z → denial_of z ≡ Some soa
         → IsAtOrUnder q z.origin → IsLocal z q t (local_by soa z q t) }
@@ -59,8 +59,8 @@ pub fn own_records_law()
     ensures alias { (z : ZoneSpec) (q : List (List ℕ)) (t : ℕ) (r : Record) → Exists z q → IsLink z q t (Alias r) → At z q cname_type r }
 {}
 
-/// NXDOMAIN stands only where nothing at or under the name exists, and no wildcard has records right
-/// under its closest encloser (RFC 1034, section 4.3.2, step 3c).
+/// NXDOMAIN is given only where nothing at or under the name exists, and no wildcard has records right under its
+/// closest encloser (RFC 1034, section 4.3.2, step 3c).
 pub fn name_error_law()
     ensures nothing { (z : ZoneSpec) (q n : List (List ℕ)) (t : ℕ) (soa : Record) → IsLink z q t (NxDomain soa) → IsAtOrUnder n q → Exists z n → ⊥ }
     ensures wildcard { (z : ZoneSpec) (q e : List (List ℕ)) (t : ℕ) (soa : Record) → IsLink z q t (NxDomain soa) → IsEncloser z q e → IsEmpty z (star ∷ e) }
@@ -79,16 +79,15 @@ pub fn one_link_law()
         → denial_of z ≡ Some soa → IsLink z q t l → SameLink l (link_by soa z q t) }
 {}
 
-/// The refusals of a zone are breaches of its rules: none stands where the records keep all of them, and
-/// only there (RFC 1034, sections 3.6.2 and 4.2.1; RFC 2181, sections 5.2 and 10.1; RFC 4592, section 4).
-/// A zone that keeps them meets the premises of the laws above.
+/// A zone is refused exactly where its records break a rule (RFC 1034, sections 3.6.2 and 4.2.1; RFC 2181, sections 5.2
+/// and 10.1; RFC 4592, section 4). A zone that is not refused meets the premises of the laws above.
 pub fn zone_law()
     ensures rules { (z : ZoneSpec) → IsNamed z → (fault_of z ≡ None) ↔ IsZone z }
     ensures premises { (z : ZoneSpec) → IsZone z → HasSoaAtOrigin z × HasOneSoa z × HasOneTtl z × HasOneAlias z × ((soa : Record) × (denial_of z ≡ Some soa)) }
 {}
 
-/// Each zone keeps all rules, and each of its owners has a label: the origin has one, and all owners are
-/// at or under it. Costs nothing.
+/// Each zone meets all rules, and each of its owners has a label: the origin has one, and all owners are at or under
+/// it. The call does nothing.
 pub fn zone_keeps_rules<A: Allocator>(zone: &Zone<A>)
     ensures named { IsNamed zone.now }
     ensures rules { IsZone zone.now }

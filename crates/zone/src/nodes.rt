@@ -23,7 +23,7 @@ pub struct Node<A: Allocator> {
 /// The nodes of a zone by the wire forms of their names, so that a name that is lent finds one.
 pub type Nodes<A> = HashMap<Vec<u8, A>, Node<A>, BuildHasherDefault<FoldHasher>, A>;
 
-// The record's place at the node of a name, where the record is the name's own or its wildcard's.
+// Adds the record's place to the node of a name, if the record is the name's own or its wildcard's.
 fn put_place<A: Heap>(
     node: &mut Node<A>,
     name: &Name<A>,
@@ -41,7 +41,7 @@ fn put_place<A: Heap>(
     Ok(())
 }
 
-// The same, where the name may have no node as yet.
+// Adds the record's place at a name, which may have no node as yet.
 fn put_node<A: Heap>(
     nodes: &mut Nodes<A>,
     name: &Name<A>,
@@ -64,7 +64,7 @@ fn put_node<A: Heap>(
     Ok(())
 }
 
-// The same at a name and at each name above it.
+// Adds the record's place at a name and at each name above it.
 fn put_up<A: Heap>(
     nodes: &mut Nodes<A>,
     up: &mut Name<A>,
@@ -80,7 +80,7 @@ fn put_up<A: Heap>(
     Ok(())
 }
 
-/// The nodes of these records.
+/// The nodes of these records: of one record at `a.b`, those of `a.b`, `b` and the root.
 pub fn nodes_of<A: Heap>(alloc: A, records: &[Record<A>]) -> Result<Nodes<A>, Starved>
     ensures { IfOk result (λ m. IsTree m records.now) }
 {

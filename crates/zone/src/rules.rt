@@ -15,7 +15,7 @@ use dname::{Heap, Name, Starved};
 use rdata::{RType, Record};
 use std::alloc::Allocator;
 
-// SOA records are other than exactly one, owned by the origin.
+// Whether SOA records are other than exactly one, owned by the origin.
 fn lacks_soa<A: Allocator>(origin: &Name<A>, records: &[Record<A>]) -> bool
     ensures { result ≡ lacks_soa (zone_with origin.now records.now) }
 {
@@ -25,14 +25,14 @@ fn lacks_soa<A: Allocator>(origin: &Name<A>, records: &[Record<A>]) -> bool
     !owns(records, origin, RType::Soa)
 }
 
-// No NS record at the origin.
+// Whether the origin has no NS record.
 fn lacks_servers<A: Allocator>(origin: &Name<A>, records: &[Record<A>]) -> bool
     ensures { result ≡ lacks_servers (zone_with origin.now records.now) }
 {
     !owns(records, origin, RType::Ns)
 }
 
-// An owner is not at or under the origin.
+// Whether an owner is not at or under the origin.
 fn has_foreign_owner<A: Allocator>(origin: &Name<A>, records: &[Record<A>]) -> bool
     ensures { result ≡ has_foreign_owner (zone_with origin.now records.now) }
 {
@@ -41,7 +41,7 @@ fn has_foreign_owner<A: Allocator>(origin: &Name<A>, records: &[Record<A>]) -> b
         .any(|record| !record.owner.is_at_or_under(origin))
 }
 
-// Beneath a cut anything but an address, or at a cut anything but NS and addresses.
+// Whether the record stands beneath a cut and is no address, or at a cut and is neither NS nor an address.
 fn is_out_of_place<A: Heap>(cuts: &Cuts<A>, rr: &Record<A>) -> Result<bool, Starved>
     ensures { IfOk result (λ b. b ≡ is_out_of_place cuts.now rr.now) }
 {
@@ -65,7 +65,7 @@ fn some_is_out_of_place<A: Heap>(cuts: &Cuts<A>, records: &[Record<A>]) -> Resul
     Ok(false)
 }
 
-// A label `*` stands in an owner other than as its first.
+// Whether a label `*` stands in an owner other than as its first.
 fn some_has_inner_star<A: Allocator>(records: &[Record<A>]) -> bool
     ensures { result ≡ list_any (λ r. has_inner_star r.owner) records.now }
 {
@@ -78,14 +78,14 @@ fn is_wildcard_authority<A: Allocator>(rr: &Record<A>) -> bool
     rr.owner.is_wildcard() && (is_type(rr, RType::Ns) || is_type(rr, RType::Soa))
 }
 
-// NS or SOA at a wildcard.
+// Whether NS or SOA stands at a wildcard.
 fn some_is_wildcard_authority<A: Allocator>(records: &[Record<A>]) -> bool
     ensures { result ≡ list_any is_wildcard_authority records.now }
 {
     records.iter().any(|record| is_wildcard_authority(record))
 }
 
-// A wildcard beneath a cut.
+// Whether a wildcard stands beneath a cut.
 fn some_wildcard_is_beneath<A: Heap>(cuts: &Cuts<A>, records: &[Record<A>]) -> Result<bool, Starved>
     ensures { IfOk result (λ b. b ≡ list_any (is_wildcard_beneath cuts.now) records.now) }
 {
@@ -97,7 +97,8 @@ fn some_wildcard_is_beneath<A: Heap>(cuts: &Cuts<A>, records: &[Record<A>]) -> R
     Ok(false)
 }
 
-/// Whether the records are a zone: the rule of the lowest number that is broken.
+/// Whether the records are a zone, or the rule of the lowest number that they break: without a record it is
+/// `ZoneError::Soa`.
 pub fn check<A: Heap>(origin: &Name<A>, records: &[Record<A>]) -> Result<(), ZoneError>
     ensures { MatchResult result (λ _. fault_of (zone_with origin.now records.now) ≡ None) (λ e. IsFault e (fault_of (zone_with origin.now records.now))) }
 {

@@ -1,4 +1,4 @@
-//! A zone's records, and what stands at a name.
+//! A zone's records by name.
 ghost use Rattle.std.specs.Prelude.{◌≡◌, ◌<◌, false, length, get_or, IfOk, MatchOption};
 ghost use Rattle.zone.specs.Tree.{has_under, IsTree, IsStand};
 
@@ -8,7 +8,7 @@ use rdata::{Record, Records};
 use std::alloc::{AllocError, Allocator};
 use std::marker::Model;
 
-/// Some records of a zone's list, lent by their places in it. Contracts see the records in order.
+/// Some records of a zone's list, borrowed by their places in it. Contracts see the records in order.
 #[derive(Drop)]
 pub struct Held<'a, A: Allocator> {
     records: &'a [Record<A>],
@@ -28,14 +28,14 @@ impl<'a, A: Allocator> Model for Held<'a, A> {
 }
 
 impl<'a, A: Allocator> Held<'a, A> {
-    /// How many there are.
+    /// How many records there are: 2 at a name that owns two.
     pub fn len(&self) -> usize
         ensures { result ≡ length self.now }
     {
         self.places.len()
     }
 
-    /// The record of that index.
+    /// The record at this index: at 0, the first one of the name.
     pub fn get(&self, index: usize) -> &'a Record<A>
         requires { index < length self.now }
         ensures { result.now ≡ get_or self.now index result.now }
@@ -47,7 +47,7 @@ impl<'a, A: Allocator> Held<'a, A> {
     }
 }
 
-/// What stands at an existing name: its own records, and those of the wildcard right under it.
+/// The records of a name that exists, and those of the wildcard right under it.
 #[derive(Drop)]
 pub struct Stand<'a, A: Allocator> {
     /// The records that the name owns.
@@ -56,7 +56,7 @@ pub struct Stand<'a, A: Allocator> {
     pub wild: Held<'a, A>,
 }
 
-// What the nodes of these records have at a name.
+// The records of a name and of the wildcard right under it, by these nodes.
 fn stand_at<'a, A: Allocator>(
     nodes: &'a Nodes<A>,
     records: &'a [Record<A>],
@@ -103,7 +103,7 @@ impl<A: Allocator> Model for Tree<A> {
 }
 
 impl<A: Heap> Tree<A> {
-    /// The tree of these records.
+    /// The tree of these records: of one at `a.b`, it has the names `a.b`, `b` and the root.
     pub fn build(alloc: A, records: Records<A>) -> Result<Tree<A>, Starved>
         ensures { IfOk result (λ t. t ≡ records) }
     {
@@ -111,7 +111,7 @@ impl<A: Heap> Tree<A> {
         Ok(Tree { records, nodes })
     }
 
-    /// The same tree, made anew.
+    /// The same tree with memory of its own: it has the same records.
     pub fn copied(&self, alloc: A) -> Result<Tree<A>, AllocError>
         ensures { IfOk result (λ t. t ≡ self.now) }
     {
@@ -124,14 +124,15 @@ impl<A: Heap> Tree<A> {
 }
 
 impl<A: Allocator> Tree<A> {
-    /// Its records in the order in which they were given.
+    /// Its records in the order in which they were given: of `build` of two, these two.
     pub fn records(&self) -> &[Record<A>]
         ensures { result.now ≡ self.now }
     {
         self.records.as_slice()
     }
 
-    /// What stands at a name.
+    /// The records of a name and of its wildcard: with one record at `a.b`, that one at `a.b`, none at `b`, and nothing
+    /// at `c`.
     pub fn stand(&self, name: &Suffix<'_>) -> Option<Stand<'_, A>>
         ensures { MatchOption result (has_under name.now self.now ≡ false) (λ s. IsStand name.now self.now s.own s.wild) }
     {

@@ -10,17 +10,17 @@ use rdata::Record;
 use std::collections::HashMap;
 use std::hash::{BuildHasherDefault, FoldHasher};
 
-// RRsets by owner and type number, each with the TTL of its last record.
+// RRsets by owner and type number, each with the TTL of the last record that was seen.
 type Ttls<A> = HashMap<(Name<A>, u16), u32, BuildHasherDefault<FoldHasher>, A>;
 
-// The RRset of a record (RFC 2181, section 5).
+// The owner and the type number of a record, by which its RRset is found (RFC 2181, section 5).
 fn set_of<A: Heap>(rr: &Record<A>) -> Result<(Name<A>, u16), Starved>
     ensures { IfOk result (λ k. k ≡ set_of rr.now) }
 {
     Ok((rr.owner.clone()?, rr.value.kind().number()))
 }
 
-// Keeps the record's TTL for its set. Gives that of the last record of the same set before it.
+// Notes the record's TTL for its set, and gives that of the last record of the same set before it.
 fn note_ttl<A: Heap>(ttls: &mut Ttls<A>, rr: &Record<A>) -> Result<Option<u32>, Starved>
     ensures noted { OnOk result ((q : SetKey) → hash.get same_key ttls.new q ≡ kept_after (same_key (set_of rr.now) q) (ttl_of rr.now) (hash.get same_key ttls.old q)) }
     ensures last { IfOk result (λ last. last ≡ hash.get same_key ttls.old (set_of rr.now)) }
@@ -38,7 +38,8 @@ fn is_other_ttl(ttl: u32, last: Option<u32>) -> bool
     }
 }
 
-// TTLs differ in a set (RFC 2181, section 5.2).
+// Whether TTLs differ in a set (RFC 2181, section 5.2): of `a.example. 300 A 192.0.2.1` and `a.example. 60 A 192.0.2.2`
+// they do.
 pub fn has_mixed_ttls<A: Heap>(origin: &Name<A>, records: &[Record<A>]) -> Result<bool, Starved>
     ensures { IfOk result (λ b. b ≡ has_mixed_ttls (zone_with origin.now records.now)) }
 {

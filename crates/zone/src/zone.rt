@@ -1,4 +1,4 @@
-//! A zone: an origin, and records that keep the rules.
+//! A zone: an origin, and records that meet the rules.
 ghost use Rattle.std.specs.Prelude.{◌≡◌, None, Some, false, IfOk, MatchOption, MatchResult};
 ghost use Rattle.zone.specs.Look.{denial_of};
 ghost use Rattle.zone.specs.Faults.{fault_of, IsFault};
@@ -23,7 +23,7 @@ pub struct Zone<A: Allocator = Global> {
     denial: Record<A>,
 }
 
-// By hand, so that whatever drops a zone calls this, and does not spell out all that it holds.
+// By hand, so that each drop of a zone calls this, and does not write out all that it holds.
 impl<A: Allocator> Drop for Zone<A> {
     fn drop(self) {
         let Zone {
@@ -67,8 +67,8 @@ impl<A: Heap> Clone for Zone<A> {
 }
 
 impl<A: Heap> Zone<A> {
-    /// The zone of these records. Refused where they break a rule, by the lowest number, or where a
-    /// growth is refused.
+    /// The zone of these records: without a record it is refused as `ZoneError::Soa`. Refused where they break a rule,
+    /// by the lowest number, or where a growth is refused.
     pub fn build(origin: Name<A>, records: Records<A>) -> Result<Zone<A>, ZoneError>
         ensures { MatchResult result (λ z. (z ≡ zone_with origin records) × (fault_of (zone_with origin records) ≡ None)) (λ e. IsFault e (fault_of (zone_with origin records))) }
     {
@@ -89,29 +89,29 @@ impl<A: Heap> Zone<A> {
 }
 
 impl<A: Allocator> Zone<A> {
-    /// Its origin: the name at its top.
+    /// Its origin, the name at its top: `example` of the zone `example`.
     pub fn origin(&self) -> &Name<A>
         ensures { result.now ≡ self.now.origin }
     {
         &self.origin
     }
 
-    /// Its records in the order in which they were given.
+    /// Its records in the order in which they were given: of `build` of an SOA and an NS record, these two.
     pub fn records(&self) -> &[Record<A>]
         ensures { result.now ≡ self.now.records }
     {
         self.tree.records()
     }
 
-    /// What stands at a name that an owner is at or under, and nothing where none is. It is found by the
-    /// name alone, whatever the zone's size.
+    /// The records of a name and of its wildcard: at the origin, the SOA and the NS records. Nothing where no owner is
+    /// at or under the name. They are found by the name alone, whatever the zone's size.
     pub fn stand(&self, name: &Name<A>) -> Option<Stand<'_, A>>
         ensures { MatchOption result (has_under name.now self.now.records ≡ false) (λ s. IsStand name.now self.now.records s.own s.wild) }
     {
         self.tree.stand(&name.suffix())
     }
 
-    /// The same at a name that is lent.
+    /// The records of a borrowed name, as `stand` gives them: at the origin, the SOA and the NS records.
     pub fn stand_at(&self, name: &Suffix<'_>) -> Option<Stand<'_, A>>
         ensures { MatchOption result (has_under name.now self.now.records ≡ false) (λ s. IsStand name.now self.now.records s.own s.wild) }
     {
@@ -119,7 +119,7 @@ impl<A: Allocator> Zone<A> {
     }
 
     /// The SOA that its negative answers carry: its TTL is the lesser of the record's own and MINIMUM (RFC 2308,
-    /// section 3).
+    /// section 3), 300 of TTL 3,600 and MINIMUM 300.
     pub fn denial(&self) -> &Record<A>
         ensures { denial_of self.now ≡ Some result.now }
     {
