@@ -26,5 +26,5 @@ mod ticket;
 
 pub use book::Book;
 pub use entry::Entry;
-pub use machine::Machine;
+pub use machine::{Machine, Measured};
 pub use ticket::Ticket;

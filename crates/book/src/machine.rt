@@ -44,3 +44,16 @@ pub trait Machine {
     fn same_out(a: &Self::Out, b: &Self::Out) -> bool
         ensures { IsTrue result ↔ (a.now ≡ b.now) };
 }
+
+/// A machine of whose state sizes can be told, beside its steps.
+pub trait Measured: Machine {
+    /// What is told.
+    type Sizes;
+
+    /// The sizes of a state.
+    ghost sizes_of: { Self.State → Self.Sizes };
+
+    /// The sizes of this state.
+    fn sizes(state: &Self::State) -> Self::Sizes
+        ensures { result ≡ sizes_of state.now };
+}

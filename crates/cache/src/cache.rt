@@ -1,5 +1,5 @@
 //! The cache: links are put in, and looked up.
-ghost use Rattle.std.specs.Prelude.{◌≡◌, ◌≢◌, ◌≤◌, [], ◌∷◌, IfOk, OnOk, OnErr, IfSome, IfNone, Contains, option_map, option_copied};
+ghost use Rattle.std.specs.Prelude.{◌≡◌, ◌≢◌, ◌≤◌, [], ◌∷◌, IfOk, OnOk, OnErr, IfSome, IfNone, Contains, length, option_map, option_copied};
 ghost use Rattle.std.specs.Bool.{OnTrue, OnFalse};
 ghost use Rattle.std.specs.NonZero.{non_zero_usize_get};
 ghost use Rattle.lru.specs.LruCache.{lru_cache, IsValid};
@@ -91,6 +91,13 @@ impl<S: BuildHasher + Drop, A: Heap> Cache<S, A> {
         ensures { IsValid same_key self.now }
     {
         let _ = self.entries.len();
+    }
+
+    /// How many entries there are, expired ones among them.
+    pub fn len(&self) -> usize
+        ensures { result ≡ length self.now.entries }
+    {
+        self.entries.len()
     }
 
     /// Caches the link for this name and type from the moment `now`, in milliseconds, for `ttl` seconds, at most

@@ -1,5 +1,5 @@
 //! Servers that failed to answer a question, which are not asked it again at once (RFC 2308, section 7.1).
-ghost use Rattle.std.specs.Prelude.{◌≡◌, [], IfOk, OnOk, OnErr};
+ghost use Rattle.std.specs.Prelude.{◌≡◌, [], IfOk, OnOk, OnErr, length};
 ghost use Rattle.std.specs.NonZero.{non_zero_usize_get};
 ghost use Rattle.lru.specs.LruCache.{lru_cache, IsValid};
 ghost use Rattle.rdata.specs.Types.{type_number};
@@ -97,6 +97,13 @@ impl<S: BuildHasher + Drop, A: Heap> Failures<S, A> {
         ensures { IsValid same_failed self.now }
     {
         let _ = self.entries.len();
+    }
+
+    /// How many entries there are, expired ones among them.
+    pub fn len(&self) -> usize
+        ensures { result ≡ length self.now.entries }
+    {
+        self.entries.len()
     }
 
     /// Caches that the server failed to answer this question at the moment `now`, in milliseconds. Its entry becomes

@@ -23,6 +23,12 @@ pub five_behind : (t0 t1 t2 t3 t4 t5 m1 m2 m3 m4 m5 : List ℕ)
     → t5 ≡ t0 ++ (m1 ++ (m2 ++ (m3 ++ (m4 ++ m5))))
 five_behind t0 t1 t2 t3 t4 t5 m1 m2 m3 m4 m5 h1 h2 h3 h4 h5 = rw (h5, h4, h3, h2, h1) (simp append_assoc)
 
+-- Six texts, each behind those before it.
+pub six_behind : (t0 t1 t2 t3 t4 t5 t6 m1 m2 m3 m4 m5 m6 : List ℕ)
+    → t1 ≡ t0 ++ m1 → t2 ≡ t1 ++ m2 → t3 ≡ t2 ++ m3 → t4 ≡ t3 ++ m4 → t5 ≡ t4 ++ m5 → t6 ≡ t5 ++ m6
+    → t6 ≡ t0 ++ (m1 ++ (m2 ++ (m3 ++ (m4 ++ (m5 ++ m6)))))
+six_behind t0 t1 t2 t3 t4 t5 t6 m1 m2 m3 m4 m5 m6 h1 h2 h3 h4 h5 h6 = rw (h6, h5, h4, h3, h2, h1) (simp append_assoc)
+
 -- Three, of which the last is told of another number.
 pub three_behind_with : (f : ℕ → List ℕ) (m n : ℕ) (t0 t1 t2 t3 m1 m2 : List ℕ)
     → m ≡ n → t1 ≡ t0 ++ m1 → t2 ≡ t1 ++ m2 → t3 ≡ t2 ++ f m → t3 ≡ t0 ++ (m1 ++ (m2 ++ f n))

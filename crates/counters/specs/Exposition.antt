@@ -13,6 +13,7 @@ use Rattle.counters.specs.declared.labels.AskFault.TheVariants as fault
 use Rattle.counters.specs.declared.labels.SocketFault.TheVariants as socket
 use Rattle.counters.specs.declared.labels.Bucket.{Bucket}
 use Rattle.counters.specs.declared.labels.Bucket.TheVariants as bucket
+use Rattle.counters.specs.declared.stores.StoreSizes.{StoreSizes}
 
 -- What the cell of a counter holds.
 abbrev pub value : List ℕ → Counter → ℕ
@@ -157,8 +158,19 @@ loss_metrics cells =
     ++ (metric cells (codes "resolverd_refused_memory_total") (codes "Growths that were refused for want of memory.") refused
     ++ metric cells (codes "resolverd_socket_faults_total") (codes "Sockets that failed, by what failed.") socket_faults))
 
--- The counters' cells, and how many queries wait for other servers.
-unfoldable pub exposition : List ℕ → ℕ → List ℕ
-exposition cells waiting =
+-- The entries of each store.
+abbrev pub store_line : List ℕ → ℕ → List ℕ
+store_line store n = codes "resolverd_store_entries{store=\"" ++ store ++ codes "\"} " ++ decimal n ++ codes "\n"
+
+unfoldable pub store_sizes : StoreSizes → List ℕ
+store_sizes s =
+    head (codes "resolverd_store_entries") (codes "Entries of each store, expired ones among them.") (codes "gauge")
+    ++ (store_line (codes "cache") s.cache ++ (store_line (codes "delegations") s.delegations
+    ++ (store_line (codes "penalties") s.penalties ++ store_line (codes "failures") s.failures)))
+
+-- The counters' cells, how many queries wait for other servers, and the entries of each store.
+unfoldable pub exposition : List ℕ → ℕ → StoreSizes → List ℕ
+exposition cells waiting stores =
     client_metrics cells ++ (ask_metrics cells ++ (loss_metrics cells
-    ++ (times cells ++ gauge (codes "resolverd_open_queries") (codes "Queries that wait for other servers.") waiting)))
+    ++ (times cells ++ (gauge (codes "resolverd_open_queries") (codes "Queries that wait for other servers.") waiting
+    ++ store_sizes stores))))

@@ -3,6 +3,7 @@ use Rattle.std.specs.Prelude.{ℕ, cond, nat_eq, List, ◌++◌, codes, decimal,
 use Rattle.std.specs.List.{starts_with}
 use Rattle.counters.specs.Exposition.{exposition}
 use Rattle.counters.specs.declared.http.Answer.{Answer}
+use Rattle.counters.specs.declared.stores.StoreSizes.{StoreSizes}
 use Rattle.counters.specs.declared.http.Answer.TheVariants.{Metrics, NotFound, NotAllowed}
 
 -- The counters for `GET /metrics`, nothing for another path, and for another method.
@@ -20,10 +21,10 @@ text_head n =
 abbrev pub text_response : List ℕ → List ℕ
 text_response text = text_head (length text) ++ text
 
-abbrev pub response_by : Answer → List ℕ → ℕ → List ℕ
-response_by Metrics cells waiting = text_response (exposition cells waiting)
-response_by NotFound cells waiting = codes "HTTP/1.1 404 Not Found\r\nContent-Length: 0\r\nConnection: close\r\n\r\n"
-response_by NotAllowed cells waiting = codes "HTTP/1.1 405 Method Not Allowed\r\nAllow: GET\r\nContent-Length: 0\r\nConnection: close\r\n\r\n"
+abbrev pub response_by : Answer → List ℕ → ℕ → StoreSizes → List ℕ
+response_by Metrics cells waiting stores = text_response (exposition cells waiting stores)
+response_by NotFound cells waiting stores = codes "HTTP/1.1 404 Not Found\r\nContent-Length: 0\r\nConnection: close\r\n\r\n"
+response_by NotAllowed cells waiting stores = codes "HTTP/1.1 405 Method Not Allowed\r\nAllow: GET\r\nContent-Length: 0\r\nConnection: close\r\n\r\n"
 
-abbrev pub response : List ℕ → List ℕ → ℕ → List ℕ
-response request cells waiting = response_by (answer_for request) cells waiting
+abbrev pub response : List ℕ → List ℕ → ℕ → StoreSizes → List ℕ
+response request cells waiting stores = response_by (answer_for request) cells waiting stores

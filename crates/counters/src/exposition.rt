@@ -2,10 +2,11 @@
 ghost use Rattle.std.specs.Prelude.{◌≡◌, ◌≤◌, ◌++◌, codes, length, IfOk, OnOk, string_bytes};
 ghost use Rattle.std.specs.List.{flat_map};
 ghost use Rattle.counters.specs.Counters.{counters};
-ghost use Rattle.counters.specs.Exposition.{ask_metrics, bucket_line, bucket_lines, buckets, client_metrics, count_line, counter_line, exposition, gauge, head, loss_metrics, metric, sum_line, times, times_in, totals, value};
+ghost use Rattle.counters.specs.Exposition.{ask_metrics, bucket_line, bucket_lines, buckets, client_metrics, count_line, counter_line, exposition, gauge, head, loss_metrics, metric, store_line, store_sizes, sum_line, times, times_in, totals, value};
 
 use crate::counter::{COUNTERS, Counter};
 use crate::labels::{AskFault, Bucket, QueryType, Rcode, SocketFault, Source, Way};
+use crate::stores::StoreSizes;
 use causes::Cause;
 use memory::Starved;
 use std::alloc::Allocator;
@@ -104,14 +105,15 @@ const BUCKETS: [Bucket; 13] = [
     Bucket::Longer,
 ];
 
-/// Appends the text of all counters, whose cells hold these values, and of how many queries wait for other servers.
-/// Where memory is refused, a part of it stands.
+/// Appends the text of all counters, whose cells hold these values, of how many queries wait for other servers, and of
+/// how many entries each store has. Where memory is refused, a part of it stands.
 pub fn put_metrics<A: Allocator>(
     out: &mut String<A>,
     cells: &[u64; COUNTERS],
     waiting: u64,
+    stores: StoreSizes,
 ) -> Result<(), Starved>
-    ensures { OnOk result (string_bytes out.new ≡ string_bytes out.old ++ exposition cells.now waiting) }
+    ensures { OnOk result (string_bytes out.new ≡ string_bytes out.old ++ exposition cells.now waiting stores) }
 {
     put_client_metrics(out, cells)?;
     put_ask_metrics(out, cells)?;
@@ -122,7 +124,36 @@ pub fn put_metrics<A: Allocator>(
         "resolverd_open_queries",
         "Queries that wait for other servers.",
         waiting,
-    )
+    )?;
+    put_store_sizes(out, stores)
+}
+
+// The lines of the stores.
+#[tactic(auto, unfolding(crate::specs::Exposition::store_sizes))]
+fn put_store_sizes<A: Allocator>(out: &mut String<A>, stores: StoreSizes) -> Result<(), Starved>
+    ensures { OnOk result (string_bytes out.new ≡ string_bytes out.old ++ store_sizes stores) }
+{
+    put_head(
+        out,
+        "resolverd_store_entries",
+        "Entries of each store, expired ones among them.",
+        "gauge",
+    )?;
+    put_store_size(out, "cache", stores.cache)?;
+    put_store_size(out, "delegations", stores.delegations)?;
+    put_store_size(out, "penalties", stores.penalties)?;
+    put_store_size(out, "failures", stores.failures)
+}
+
+fn put_store_size<A: Allocator>(
+    out: &mut String<A>,
+    store: &str,
+    size: usize,
+) -> Result<(), Starved>
+    ensures { OnOk result (string_bytes out.new ≡ string_bytes out.old ++ store_line store.now size) }
+{
+    write!(out, "resolverd_store_entries{{store=\"{store}\"}} {size}\n")?;
+    Ok(())
 }
 
 // The lines of queries and of their replies.

@@ -5,6 +5,7 @@ ghost use Rattle.counters.specs.Responses.{answer_for, response, response_by, te
 
 use crate::counter::COUNTERS;
 use crate::exposition::put_metrics;
+use crate::stores::StoreSizes;
 use memory::{Heap, Starved};
 use std::alloc::Allocator;
 
@@ -49,13 +50,14 @@ pub fn put_response<A: Heap>(
     request: &[u8],
     cells: &[u64; COUNTERS],
     waiting: u64,
+    stores: StoreSizes,
 ) -> Result<(), Starved>
-    ensures { OnOk result (string_bytes out.new ≡ string_bytes out.old ++ response request.now cells.now waiting) }
+    ensures { OnOk result (string_bytes out.new ≡ string_bytes out.old ++ response request.now cells.now waiting stores) }
 {
     match Answer::to(request) {
         Answer::Metrics => {
             let mut text = String::new(alloc);
-            put_metrics(&mut text, cells, waiting)?;
+            put_metrics(&mut text, cells, waiting, stores)?;
             put_text(out, text.as_str())
         }
         Answer::NotFound => {

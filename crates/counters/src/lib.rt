@@ -13,7 +13,7 @@
 //! ```text
 //! let cells = Cells::new(alloc)?;
 //! count(&mut cells.adder(), Outcome::Asked(Way::Udp));
-//! put_metrics(&mut text, &cells.values(), 0)?;
+//! put_metrics(&mut text, &cells.values(), 0, stores)?;
 //! ```
 #![tactic(auto)]
 
@@ -24,6 +24,7 @@ mod http;
 mod labels;
 mod laws;
 mod outcome;
+mod stores;
 
 pub use cells::{Adder, Cells};
 pub use counter::{COUNTERS, Counter};
@@ -32,3 +33,4 @@ pub use http::{Answer, MOST_REQUEST, is_request, put_response};
 pub use labels::{AskFault, Bucket, QueryType, Rcode, SocketFault, Source, Way};
 pub use laws::{places_law, reply_law};
 pub use outcome::{Counting, Outcome, Reply, count};
+pub use stores::StoreSizes;

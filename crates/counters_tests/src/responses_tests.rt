@@ -1,10 +1,11 @@
-use counters::{COUNTERS, Cells, Outcome, Reply, count, is_request, put_response};
+use counters::{COUNTERS, Cells, Outcome, Reply, StoreSizes, count, is_request, put_response};
 use std::alloc::Global;
 use std::test;
 
-// The last lines of the text, where two replies came: after 3 ms and after 2 s. Seven queries wait.
+// The last lines of the text, where two replies came: after 3 ms and after 2 s. Seven queries wait, and the stores have
+// 5, 4, 3 and 2 entries.
 const LAST: &str =
-    "# HELP resolverd_reply_seconds Seconds from query to reply.\n# TYPE resolverd_reply_seconds histogram\nresolverd_reply_seconds_bucket{le=\"0.001\"} 0\nresolverd_reply_seconds_bucket{le=\"0.005\"} 1\nresolverd_reply_seconds_bucket{le=\"0.01\"} 1\nresolverd_reply_seconds_bucket{le=\"0.025\"} 1\nresolverd_reply_seconds_bucket{le=\"0.05\"} 1\nresolverd_reply_seconds_bucket{le=\"0.1\"} 1\nresolverd_reply_seconds_bucket{le=\"0.25\"} 1\nresolverd_reply_seconds_bucket{le=\"0.5\"} 1\nresolverd_reply_seconds_bucket{le=\"1\"} 1\nresolverd_reply_seconds_bucket{le=\"2.5\"} 2\nresolverd_reply_seconds_bucket{le=\"5\"} 2\nresolverd_reply_seconds_bucket{le=\"10\"} 2\nresolverd_reply_seconds_bucket{le=\"+Inf\"} 2\nresolverd_reply_seconds_sum 2003e-3\nresolverd_reply_seconds_count 2\n# HELP resolverd_open_queries Queries that wait for other servers.\n# TYPE resolverd_open_queries gauge\nresolverd_open_queries 7\n";
+    "# HELP resolverd_reply_seconds Seconds from query to reply.\n# TYPE resolverd_reply_seconds histogram\nresolverd_reply_seconds_bucket{le=\"0.001\"} 0\nresolverd_reply_seconds_bucket{le=\"0.005\"} 1\nresolverd_reply_seconds_bucket{le=\"0.01\"} 1\nresolverd_reply_seconds_bucket{le=\"0.025\"} 1\nresolverd_reply_seconds_bucket{le=\"0.05\"} 1\nresolverd_reply_seconds_bucket{le=\"0.1\"} 1\nresolverd_reply_seconds_bucket{le=\"0.25\"} 1\nresolverd_reply_seconds_bucket{le=\"0.5\"} 1\nresolverd_reply_seconds_bucket{le=\"1\"} 1\nresolverd_reply_seconds_bucket{le=\"2.5\"} 2\nresolverd_reply_seconds_bucket{le=\"5\"} 2\nresolverd_reply_seconds_bucket{le=\"10\"} 2\nresolverd_reply_seconds_bucket{le=\"+Inf\"} 2\nresolverd_reply_seconds_sum 2003e-3\nresolverd_reply_seconds_count 2\n# HELP resolverd_open_queries Queries that wait for other servers.\n# TYPE resolverd_open_queries gauge\nresolverd_open_queries 7\n# HELP resolverd_store_entries Entries of each store, expired ones among them.\n# TYPE resolverd_store_entries gauge\nresolverd_store_entries{store=\"cache\"} 5\nresolverd_store_entries{store=\"delegations\"} 4\nresolverd_store_entries{store=\"penalties\"} 3\nresolverd_store_entries{store=\"failures\"} 2\n";
 
 // What begins the response, and some of its lines.
 const FIRST: &str =
@@ -40,7 +41,13 @@ fn values(alloc: Global) -> Option<[u64; COUNTERS]> {
 // The response to a request.
 fn response(alloc: Global, request: &[u8], cells: &[u64; COUNTERS]) -> Option<String> {
     let mut out = String::new(alloc);
-    put_response(alloc, &mut out, request, cells, 7).ok()?;
+    let stores = StoreSizes {
+        cache: 5,
+        delegations: 4,
+        penalties: 3,
+        failures: 2,
+    };
+    put_response(alloc, &mut out, request, cells, 7, stores).ok()?;
     Some(out)
 }
 

@@ -3,7 +3,8 @@
 ghost use Rattle.engine.specs.Histories.{HistoryIsRun};
 
 use crate::machine::Core;
-use book::Machine;
+use book::{Machine, Measured};
+use counters::StoreSizes;
 use dname::Starved;
 use events::{Actions, Event};
 use std::alloc::Allocator;
@@ -40,6 +41,18 @@ impl Machine for Core {
 
     fn same_out(a: &Actions, b: &Actions) -> bool {
         a.same(b)
+    }
+}
+
+impl Measured for Core {
+    type Sizes = StoreSizes;
+
+    ghost use Rattle.lookup.specs.Views.{sizes_of};
+
+    ghost sizes_of = { λ s. sizes_of s.stores };
+
+    fn sizes(state: &Core) -> StoreSizes {
+        state.sizes()
     }
 }
 

@@ -3,7 +3,7 @@ ghost use Rattle.std.specs.Prelude.{◌≡◌, false, Some, None, IfOk, IsOk, On
 ghost use Rattle.std.specs.NonZero.{non_zero_usize_get};
 ghost use Rattle.authority.specs.Catalogs.{has_twins};
 ghost use Rattle.authority.specs.CatalogFaults.{CatalogRefuses};
-ghost use Rattle.lookup.specs.Views.{home_at, no_stores};
+ghost use Rattle.lookup.specs.Views.{home_at, no_stores, sizes_of};
 ghost use Rattle.engine.specs.Beginnings.{CoreRefuses, IsMade};
 ghost use Rattle.engine.specs.ResolverStates.{state_of};
 ghost use Rattle.engine.specs.Turns.{IsQuiet};
@@ -15,6 +15,7 @@ use crate::hashing::{Seeded, StoreHasher};
 use crate::settings::{Config, CoreError};
 use crate::state::ResolverState;
 use authority::{Catalog, CatalogError};
+use counters::StoreSizes;
 use dname::{Heap, Starved};
 use events::{Actions, Event};
 use lookup::{Capacities, Hashers, Home, Stores};
@@ -135,5 +136,12 @@ impl<A: Heap> Core<A> {
         let out = self.state.handle_event(event);
         self.state.queries.apart_law();
         out
+    }
+
+    /// How many entries each store has, expired ones among them.
+    pub fn sizes(&self) -> StoreSizes
+        ensures { result ≡ sizes_of (self.now).stores }
+    {
+        self.state.stores.sizes()
     }
 }

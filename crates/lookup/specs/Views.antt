@@ -1,5 +1,5 @@
 -- The code's home, stores and links, seen as the plain values of the rules.
-use Rattle.std.specs.Prelude.{ℕ, ◌≤◌, Bool, true, false, Option, Some, None, List, [], ◌∷◌, map}
+use Rattle.std.specs.Prelude.{ℕ, ◌≤◌, Bool, true, false, Option, Some, None, List, [], ◌∷◌, length, map}
 use Rattle.dname.specs.Labels.{Name, root}
 use Rattle.rdata.specs.Records.{Record, greatest_ttl}
 use Rattle.rdata.specs.declared.addr.Addr.{Addr}
@@ -12,6 +12,7 @@ use Rattle.cache.specs.Cached as cache
 use Rattle.cache.specs.Failures.{FailedAsk, after_failed, after_is_failed}
 use Rattle.resolution.specs.Jobs.{Home, Stores, Source as SourceSpec, Taken}
 use Rattle.resolution.specs.Jobs as rules
+use Rattle.counters.specs.declared.stores.StoreSizes.{StoreSizes}
 use Rattle.lookup.specs.declared.taken.Source.{Source}
 use Rattle.lookup.specs.declared.taken.Source.TheVariants as origin
 
@@ -63,6 +64,10 @@ taken_at n l source = record { name = n; link = l; source = source }
 -- A link within the limits on TTLs that was accepted at this moment.
 abbrev pub accepted_link : Name → Link → ℕ → Taken
 accepted_link n l now = taken_at n l (rules.Accepted (lifetime_of l) now)
+
+-- How many entries each store has.
+abbrev pub sizes_of : Stores → StoreSizes
+sizes_of s = record { cache = length s.cache; delegations = length s.delegations; penalties = length s.penalties; failures = length s.failures }
 
 -- Empty stores.
 abbrev pub no_stores : ℕ → ℕ → ℕ → ℕ → Stores

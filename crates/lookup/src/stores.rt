@@ -10,11 +10,12 @@ ghost use Rattle.cache.specs.Cached.{asked_to, lent, hit_of, IsHeld};
 ghost use Rattle.cache.specs.Failures.{failed_ask, is_failed};
 ghost use Rattle.frames.specs.Frames.{opened, fresh_addresses, after_add};
 ghost use Rattle.resolution.specs.Jobs.{level_of, with_answer, with_timeout};
-ghost use Rattle.lookup.specs.Views.{no_stores, with_link, with_cut, with_failed, after_look, after_best, after_failure_look};
+ghost use Rattle.lookup.specs.Views.{no_stores, sizes_of, with_link, with_cut, with_failed, after_look, after_best, after_failure_look};
 
 use authority::Link;
 use cache::{Cache, Failures, Hit};
 use classify::{lifetime, referral_lifetime};
+use counters::StoreSizes;
 use dname::{Heap, Name, Starved};
 use frames::{Frame, trimmed};
 use rdata::{Addr, RType};
@@ -99,6 +100,18 @@ impl<S: BuildHasher + Drop, A: Heap> Stores<S, A> {
             penalties: Penalties::new(alloc, capacities.servers, hashers.servers)?,
             failures: Failures::new(alloc, capacities.failures, hashers.failures)?,
         })
+    }
+
+    /// How many entries each store has, expired ones among them.
+    pub fn sizes(&self) -> StoreSizes
+        ensures { result ≡ sizes_of self.now }
+    {
+        StoreSizes {
+            cache: self.cache.len(),
+            delegations: self.delegations.len(),
+            penalties: self.penalties.len(),
+            failures: self.failures.len(),
+        }
     }
 
     /// The cache's answer for this name and type at the moment `now`, in milliseconds, where an NXDOMAIN of a name

@@ -3,7 +3,7 @@
 use Rattle.std.specs.Prelude.{◌≡◌, ℕ, ◌+◌, ◌<◌, ◌≤◌, ◌⊎◌, Result, List, reverse, length, slice_index_or, All, Any}
 use Rattle.memory.specs.declared.Starved.{Starved}
 use Rattle.book.specs.Histories.{Line, lines_of}
-use Rattle.book.specs.Books.{Page, Seat, seat, IsHistory}
+use Rattle.book.specs.Books.{Page, Seat, seat, IsHistory, Reached}
 use Rattle.pool.specs.declared.fault.PoolError.{PoolError}
 use Rattle.pool.specs.declared.fault.PoolError.TheVariants.{Differs, Forgot, Memory, Stranger}
 
@@ -50,6 +50,12 @@ module _ {S E O : Type 0} (moves : S → E → Result O Starved → S → Type 0
     pub history : IsHistory moves begins p h
     pub tickets : OneEach p.counts parts
     pub shuffle : IsShuffle h parts
+
+-- These are the sizes of the state in some book, to which one history of the machine led.
+pub record AreSizes {S E O Z : Type 0} (moves : S → E → Result O Starved → S → Type 0) (begins : S → Type 0) (sizes_of : S → Z) (z : Z) : Type 0 where
+  pub page : Page S E O
+  pub reached : Reached moves begins page
+  pub sizes : z ≡ sizes_of page.state
 
 -- Why the parts do not close the book: it no longer keeps all of its lines; or it does, and the tickets are not one
 -- for each worker, or its history is no shuffle of the parts.

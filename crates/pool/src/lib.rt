@@ -2,7 +2,7 @@
 //! its own and keeps the entries, and in the end what they kept is held against the book's history.
 //!
 //! `Shared::new` puts a book behind a lock, `submit` takes one step of its machine as the worker of a ticket, on
-//! any thread. When all are done, `gather` takes the book (`into_book`) and what each worker `Kept`.
+//! any thread, and `sizes` tells the sizes of its state. When all are done, `gather` takes the book (`into_book`) and what each worker `Kept`.
 //!
 //! Promised: an entry is of that worker, that event and its next number (`Enters`), and a refusal leaves the ticket
 //! as `IsRefused` says; a history that closes is legal, and a shuffle of the lists that the workers kept
@@ -22,4 +22,4 @@ mod shared;
 
 pub use closing::{Closed, Kept, gather};
 pub use fault::PoolError;
-pub use shared::{Shared, submit};
+pub use shared::{Shared, sizes, submit};

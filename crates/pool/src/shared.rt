@@ -1,9 +1,9 @@
 //! A book behind a lock.
 ghost use Rattle.std.specs.Prelude.{IfOk, IfErr};
-ghost use Rattle.pool.specs.Closings.{Enters, IsEventRefused};
+ghost use Rattle.pool.specs.Closings.{Enters, IsEventRefused, AreSizes};
 
 use crate::fault::PoolError;
-use book::{Book, Entry, Machine, Ticket};
+use book::{Book, Entry, Machine, Measured, Ticket};
 use memory::Heap;
 use std::alloc::{Allocator, Global};
 use std::sync::ledger::Ledger;
@@ -50,4 +50,16 @@ pub fn submit<M: Machine, L: Ledger, A: Heap, R: Wait>(
         Ok(entry) => Ok(entry),
         Err(_starved) => Err(PoolError::Memory),
     }
+}
+
+/// The sizes of the machine's state, as one history led to it. The lock is held for this alone.
+pub fn sizes<M: Measured, L: Ledger, A: Allocator, R: Wait>(
+    rt: &R,
+    shared: &Shared<M, L, A>,
+) -> M::Sizes
+    ensures { AreSizes M.moves M.begins M.sizes_of result }
+{
+    let book = shared.book.lock(rt);
+    book.reached_law();
+    M::sizes(book.state())
 }

@@ -1,5 +1,5 @@
 //! Cached delegations, and the deepest one over a name.
-ghost use Rattle.std.specs.Prelude.{◌≡◌, ◌≢◌, [], IfOk, OnOk, OnErr, IfSome, Contains, option_map};
+ghost use Rattle.std.specs.Prelude.{◌≡◌, ◌≢◌, [], IfOk, OnOk, OnErr, IfSome, Contains, length, option_map};
 ghost use Rattle.std.specs.NonZero.{non_zero_usize_get};
 ghost use Rattle.lru.specs.LruCache.{lru_cache, IsValid};
 ghost use Rattle.dname.specs.Labels.{same_name, IsAtOrUnder};
@@ -52,6 +52,13 @@ impl<S: BuildHasher + Drop, A: Heap> Delegations<S, A> {
         ensures valid { IsValid same_name self.now }
     {
         let _ = self.entries.len();
+    }
+
+    /// How many entries there are, expired ones among them.
+    pub fn len(&self) -> usize
+        ensures { result ≡ length self.now.entries }
+    {
+        self.entries.len()
     }
 
     /// Caches the cut from the moment `now`, in milliseconds, for `ttl` seconds. A cut with TTL 0 is not cached, and

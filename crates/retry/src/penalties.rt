@@ -1,5 +1,5 @@
 //! Penalties of addresses that did not answer.
-ghost use Rattle.std.specs.Prelude.{◌≡◌, ◌≤◌, [], IfOk, OnOk, OnErr, IsOk, IsSome};
+ghost use Rattle.std.specs.Prelude.{◌≡◌, ◌≤◌, [], IfOk, OnOk, OnErr, IsOk, IsSome, length};
 ghost use Rattle.std.specs.Map.{lookup};
 ghost use Rattle.std.specs.NonZero.{non_zero_usize_get};
 ghost use Rattle.lru.specs.LruCache.{lru_cache, IsValid};
@@ -66,6 +66,13 @@ impl<S: BuildHasher + Drop, A: Allocator> Penalties<S, A> {
         ensures most { result ≤ 8 }
     {
         self.levels.peek(&addr).copied().unwrap_or(0)
+    }
+
+    /// How many addresses have a penalty that is kept, one of 0 among them.
+    pub fn len(&self) -> usize
+        ensures { result ≡ length self.now.entries }
+    {
+        self.levels.len()
     }
 
     /// Every penalty that is kept is at most 8; no two are of one address, and there are no more of them than

@@ -4,8 +4,8 @@ ghost use Rattle.std.specs.Prelude.{◌≤◌, IfSome, length};
 use crate::desk::Desk;
 use crate::ends::{LISTENER, SLICE_MS, accept_fault, address_of, is_early};
 use crate::poller::Poller;
-use book::Machine;
-use counters::{MOST_REQUEST, Outcome, SocketFault, is_request, put_response};
+use book::{Machine, Measured};
+use counters::{MOST_REQUEST, Outcome, SocketFault, StoreSizes, is_request, put_response};
 use events::{Actions, Endpoint, Event};
 use mio::{Events, Interest};
 use std::alloc::Global;
@@ -50,10 +50,11 @@ impl Scrapes {
 }
 
 /// Serves the counters until the flag is up. Whatever a client does, it holds up nothing but this loop.
-pub(crate) fn serve_counters<M: Machine<Event = Event, Out = Actions>, L: Ledger, R: Wait + Clock>(
-    rt: &R,
-    desk: &Desk<'_, M, L>,
-) {
+pub(crate) fn serve_counters<
+    M: Measured<Event = Event, Out = Actions, Sizes = StoreSizes>,
+    L: Ledger,
+    R: Wait + Clock,
+>(rt: &R, desk: &Desk<'_, M, L>) {
     let Some(scrapes) = &desk.ends.scrapes else {
         return;
     };
@@ -78,11 +79,11 @@ pub(crate) fn serve_counters<M: Machine<Event = Event, Out = Actions>, L: Ledger
 }
 
 // Serves one client, and closes its stream.
-fn serve_one<M: Machine<Event = Event, Out = Actions>, L: Ledger, R: Wait + Clock>(
-    rt: &R,
-    desk: &Desk<'_, M, L>,
-    mut stream: TcpStream,
-) {
+fn serve_one<
+    M: Measured<Event = Event, Out = Actions, Sizes = StoreSizes>,
+    L: Ledger,
+    R: Wait + Clock,
+>(rt: &R, desk: &Desk<'_, M, L>, mut stream: TcpStream) {
     let wait = Some(Duration::from_millis(WAIT_MS));
     if stream.set_read_timeout(wait).is_err() || stream.set_write_timeout(wait).is_err() {
         return;
@@ -96,7 +97,7 @@ fn serve_one<M: Machine<Event = Event, Out = Actions>, L: Ledger, R: Wait + Cloc
 }
 
 // The response to a request. None where no memory is left for it.
-fn response_to<M: Machine<Event = Event, Out = Actions>, L: Ledger, R: Wait>(
+fn response_to<M: Measured<Event = Event, Out = Actions, Sizes = StoreSizes>, L: Ledger, R: Wait>(
     rt: &R,
     desk: &Desk<'_, M, L>,
     request: &[u8],
@@ -104,7 +105,8 @@ fn response_to<M: Machine<Event = Event, Out = Actions>, L: Ledger, R: Wait>(
     let tally = desk.ends.tally.as_ref()?;
     let (cells, waiting) = tally.values(rt);
     let mut response = String::new(desk.alloc);
-    put_response(desk.alloc, &mut response, request, &cells, waiting).ok()?;
+    let stores = pool::sizes(rt, desk.shared);
+    put_response(desk.alloc, &mut response, request, &cells, waiting, stores).ok()?;
     Some(response)
 }
 

@@ -12,7 +12,8 @@ use crate::moments::Beginning;
 use crate::server_streams::ask_servers;
 use crate::streams::take_streams;
 use crate::upstream::take_answers;
-use book::{Machine, Ticket};
+use book::{Machine, Measured, Ticket};
+use counters::StoreSizes;
 use dispatch::{Role, role_of};
 use events::{Actions, Event};
 use pool::Shared;
@@ -29,7 +30,7 @@ use std::time::Clock;
 /// Every loop has ended when this returns. Where a thread can't be made the flag is put up, and the server is refused
 /// with `Threads`.
 pub fn serve_until<
-    M: Machine<Event = Event, Out = Actions> + Send + Sync,
+    M: Measured<Event = Event, Out = Actions, Sizes = StoreSizes> + Send + Sync,
     L: Ledger + Send + Sync,
     R: Net<Listener = TcpListener, Stream = TcpStream> + Threads + Wait + Clock + Sync,
 >(
@@ -73,7 +74,7 @@ pub fn serve_until<
 
 // Runs a loop for each ticket, until all have ended; whether each had its thread.
 fn run<
-    M: Machine<Event = Event, Out = Actions> + Send + Sync,
+    M: Measured<Event = Event, Out = Actions, Sizes = StoreSizes> + Send + Sync,
     L: Ledger + Send + Sync,
     R: Net<Listener = TcpListener, Stream = TcpStream> + Threads + Wait + Clock + Sync,
 >(rt: &R, desk: &Desk<'_, M, L>, tickets: Vec<Ticket<L>>) -> bool {
@@ -89,7 +90,7 @@ fn start_all<
     's,
     'd,
     E,
-    M: Machine<Event = Event, Out = Actions> + Send + Sync,
+    M: Measured<Event = Event, Out = Actions, Sizes = StoreSizes> + Send + Sync,
     L: Ledger + Send + Sync,
     R: Net<Listener = TcpListener, Stream = TcpStream> + Wait + Clock + Sync,
 >(rt: &'s R, scope: &Scope<'s, E>, desk: &'s Desk<'d, M, L>, tickets: Vec<Ticket<L>>) -> bool {
@@ -107,7 +108,7 @@ fn start_counters<
     's,
     'd,
     E,
-    M: Machine<Event = Event, Out = Actions> + Send + Sync,
+    M: Measured<Event = Event, Out = Actions, Sizes = StoreSizes> + Send + Sync,
     L: Ledger + Send + Sync,
     R: Net<Listener = TcpListener, Stream = TcpStream> + Wait + Clock + Sync,
 >(rt: &'s R, scope: &Scope<'s, E>, desk: &'s Desk<'d, M, L>) -> bool {
