@@ -23,7 +23,7 @@ mod scripts;
 #[cfg(test)]
 mod serve_tests;
 #[cfg(test)]
-mod service_tests;
+mod server_start_tests;
 #[cfg(test)]
 mod storms;
 #[cfg(test)]

@@ -5,7 +5,7 @@
 //! whether a text is all that was written, and `bytes` are what was. Tests of the program lend two of them for its
 //! output and its faults, and see that a full page is a fault and no loss.
 //!
-//! Promised: nothing; the module `pages_tests` shows what a page takes.
+//! Promised: nothing; the module `failing_writer_tests` shows what a page takes.
 //! Not here: memory that is refused (`refusing_alloc`).
 //!
 //! ```text

@@ -5,15 +5,15 @@
 #[cfg(test)]
 mod asks_tests;
 #[cfg(test)]
+mod failing_writer_tests;
+#[cfg(test)]
 mod front_tests;
 #[cfg(test)]
 mod memory_tests;
 #[cfg(test)]
-mod pages_tests;
-#[cfg(test)]
 mod rdata_tests;
 #[cfg(test)]
-mod refusing_tests;
+mod refusing_alloc_tests;
 #[cfg(test)]
 mod suffixes_tests;
 #[cfg(test)]

@@ -8,9 +8,9 @@ mod cache_tests;
 #[cfg(test)]
 mod classify_tests;
 #[cfg(test)]
-mod delivery_tests;
+mod dispatch_tests;
 #[cfg(test)]
-mod exchange_tests;
+mod events_tests;
 #[cfg(test)]
 mod failures_tests;
 #[cfg(test)]
@@ -18,9 +18,9 @@ mod frames_tests;
 #[cfg(test)]
 mod iterate_tests;
 #[cfg(test)]
-mod known_tests;
+mod lookup_tests;
 #[cfg(test)]
-mod queries_tests;
+mod open_queries_tests;
 #[cfg(test)]
 mod referral_tests;
 #[cfg(test)]

@@ -11,7 +11,7 @@ mod fixtures;
 #[cfg(test)]
 mod made;
 #[cfg(test)]
-mod player_tests;
+mod play_tests;
 #[cfg(test)]
 mod question;
 #[cfg(test)]

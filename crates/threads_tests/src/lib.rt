@@ -4,8 +4,8 @@
 #[cfg(test)]
 mod book_tests;
 #[cfg(test)]
-mod crew_tests;
-#[cfg(test)]
-mod crowd_tests;
-#[cfg(test)]
 mod pool_tests;
+#[cfg(test)]
+mod storm_tests;
+#[cfg(test)]
+mod workers_tests;

@@ -1,5 +1,5 @@
 //! Look-ups that go through all queries.
-use crate::queries_tests::shared::{FIRST, SECOND, TCP};
+use crate::open_queries_tests::shared::{FIRST, SECOND, TCP};
 use dname::Heap;
 use events::{Ask, Path};
 use open_queries::Queries;

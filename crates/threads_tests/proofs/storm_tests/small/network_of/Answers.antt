@@ -1,4 +1,4 @@
-use Rattle.threads_tests.proofs.crowd_tests.small.network_of.Goals as goal
+use Rattle.threads_tests.proofs.storm_tests.small.network_of.Goals as goal
 
 pub returns-in-Ok-clause-fresh : goal.returns-in-Ok-clause-fresh
 returns-in-Ok-clause-fresh c = record {

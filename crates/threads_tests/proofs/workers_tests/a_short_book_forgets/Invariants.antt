@@ -1,4 +1,4 @@
-use Rattle.threads_tests.proofs.crew_tests.errands_come_before_the_next_query.Given as goal
+use Rattle.threads_tests.proofs.workers_tests.a_short_book_forgets.Given as goal
 
 abbrev pub ghosts-run_of_one : goal.ghosts-run_of_one
 ghosts-run_of_one g a = record { name = a.blank.name; parts = a.blank.parts }

@@ -1,8 +1,8 @@
 //! Scripts in worlds: whatever is asked, lost, repeated, truncated or late, each reply that counts is right.
 
 use crate::made::Dice;
-use crate::player_tests::made::Tree;
-use crate::player_tests::texts::{all_right, script, world};
+use crate::play_tests::made::Tree;
+use crate::play_tests::texts::{all_right, script, world};
 use play::play;
 use std::alloc::Global;
 use std::test::Fail;

@@ -1,5 +1,5 @@
-use crate::queries_tests::scans::{NUMBERS, agree};
-use crate::queries_tests::shared::{FIRST, SECOND, TCP, turn_tcp, turn_udp};
+use crate::open_queries_tests::scans::{NUMBERS, agree};
+use crate::open_queries_tests::shared::{FIRST, SECOND, TCP, turn_tcp, turn_udp};
 use dname::{Heap, Starved};
 use open_queries::Queries;
 use rdata::Addr;

@@ -1,5 +1,5 @@
 use Rattle.std.proofs.Common.{◌≡◌}
-use Rattle.threads_tests.proofs.crowd_tests.step_tests.workers_meet_before_each_query.Given as goal
+use Rattle.threads_tests.proofs.storm_tests.step_tests.workers_meet_before_each_query.Given as goal
 
 abbrev pub ghosts-met-P-Beginning : goal.ghosts-met-P-Beginning
 ghosts-met-P-Beginning g a = record { begins = λ s. s ≡ a.start }

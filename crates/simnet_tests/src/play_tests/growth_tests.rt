@@ -1,6 +1,6 @@
 //! Scripts while memory is refused somewhere: the play ends, or each reply that counts is right all the same.
 
-use crate::player_tests::texts::{all_right, script, world};
+use crate::play_tests::texts::{all_right, script, world};
 use dname::Starved;
 use play::play;
 use refusing_alloc::Refusing;

@@ -1,6 +1,6 @@
 //! Zones beneath one another, each a label further down: a query may have to walk through all of them.
 
-use crate::player_tests::texts::{script, world};
+use crate::play_tests::texts::{script, world};
 use play::play;
 use std::alloc::{AllocError, Global};
 use std::test::Fail;

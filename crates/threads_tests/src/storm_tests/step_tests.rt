@@ -3,7 +3,7 @@ ghost use Rattle.std.specs.Prelude.{◌≡◌};
 ghost use Rattle.network.specs.Networks.{Network};
 ghost use Rattle.simnet.specs.Beginnings.{Begins};
 
-use crate::crowd_tests::small::{network, orders_of};
+use crate::storm_tests::small::{network, orders_of};
 use book::Entry;
 use dname::Starved;
 use pool::PoolError;
