@@ -8,7 +8,7 @@ use crate::config::{Endpoint, LocalFile, LogLevel, ServeConfig};
 use crate::keyword::Keyword;
 use dname::{Heap, Name};
 use hex::FromHex;
-use limits::{MAX_ENTRIES, MAX_SOCKETS};
+use limits::{MAX_ENTRIES, MAX_SOCKETS, MAX_WORKERS};
 use rdata::Addr;
 use std::alloc::Allocator;
 use std::marker::Model;
@@ -17,8 +17,11 @@ use text_lines::{LineKind, LineWords};
 // How many entries of one kind are kept at most.
 const ENTRIES: u64 = MAX_ENTRIES as u64;
 
-// How many socket numbers, and how many workers, there are at most.
-const THREADS: u64 = MAX_SOCKETS as u64;
+// How many socket numbers there are at most.
+const SOCKETS: u64 = MAX_SOCKETS as u64;
+
+// How many times sixteen asks over TCP are under way, at most.
+const WORKERS: u64 = MAX_WORKERS as u64;
 
 // How many streams of clients are open at once, at most.
 const STREAMS: u64 = 256;
@@ -117,8 +120,8 @@ impl<'t, A: Heap> Draft<'t, A> {
             }
             Keyword::Penalties => self.penalties = once(self.penalties, number(words, ENTRIES)?)?,
             Keyword::Failures => self.failures = once(self.failures, number(words, ENTRIES)?)?,
-            Keyword::Sockets => self.sockets = once(self.sockets, number(words, THREADS)?)?,
-            Keyword::Workers => self.workers = once(self.workers, number(words, THREADS)?)?,
+            Keyword::Sockets => self.sockets = once(self.sockets, number(words, SOCKETS)?)?,
+            Keyword::Workers => self.workers = once(self.workers, number(words, WORKERS)?)?,
             Keyword::Streams => self.streams = once(self.streams, number(words, STREAMS)?)?,
             Keyword::Clients => self.clients = once(self.clients, number(words, CLIENTS)?)?,
             Keyword::Metrics => self.metrics = once(self.metrics.take(), endpoint(words, 1)?)?,
