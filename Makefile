@@ -52,6 +52,7 @@ test: kit
 	tools/names
 	tools/glossary
 	tools/references
+	tools/proved --check
 	tools/turned --texts
 	tools/prove
 	tools/examples

@@ -1,14 +1,10 @@
 //! One machine that many workers share: its book stands behind a lock, each worker puts its events by a ticket of
 //! its own and keeps the entries, and in the end what they kept is held against the book's history.
 //!
-//! `Shared::new` puts a book behind a lock, `submit` takes one step of its machine as the worker of a ticket, on
-//! any thread, and `sizes` tells the sizes of its state. When all are done, `gather` takes the book (`into_book`) and what each worker `Kept`.
-//!
-//! Promised: an entry is of that worker, that event and its next number (`Enters`), and a refusal leaves the ticket
-//! as `IsRefused` says; a history that closes is legal, and a shuffle of the lists that the workers kept
-//! (`Closes`); why it does not close (`IsOpen`).
-//! Not here: making threads (`workers`, `server`); what the machine does (`engine`, `simnet`).
-//!
+//! `Shared::new` puts a book behind a lock, `submit` takes one step of its machine as the worker of a ticket, on any
+//! thread, and `sizes` tells the sizes of its state. When all are done, `gather` takes the book (`into_book`) and what
+//! each worker `Kept`.
+
 //! ```text
 //! let shared = Shared::new(book);
 //! let entry = submit(&rt, &shared, &mut ticket, event)?;          // on any thread
