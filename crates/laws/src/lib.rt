@@ -12,7 +12,7 @@
 //! answered, and a cached link is found until its TTL expires. `engine::Core::step` keeps each of them.
 //! Not here: which definitions a reader has to believe (docs/DEFINITIONS.md); that the premises can be met
 //! (`witness`); the same without a premise on servers, in a network in memory (`network`).
-
+//!
 //! ```text
 //! pub fn headline_law()
 //!     ensures { Headline }

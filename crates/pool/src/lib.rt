@@ -4,7 +4,13 @@
 //! `Shared::new` puts a book behind a lock, `submit` takes one step of its machine as the worker of a ticket, on any
 //! thread, and `sizes` tells the sizes of its state. When all are done, `gather` takes the book (`into_book`) and what
 //! each worker `Kept`.
-
+//!
+//! Promised: an entry is of that worker, that event and its next number (`Enters`), and a refusal leaves the ticket
+//! as `IsEventRefused` says; the sizes that are told are those of a state to which one history led (`AreSizes`); a
+//! history that closes is legal, and a shuffle of the lists that the workers kept (`Closes`); why it does not close
+//! (`IsOpen`).
+//! Not here: making threads (`workers`, `server`); what the machine does (`engine`, `simnet`).
+//!
 //! ```text
 //! let shared = Shared::new(book);
 //! let entry = submit(&rt, &shared, &mut ticket, event)?;          // on any thread
