@@ -4,6 +4,7 @@ ghost use Rattle.std.specs.List.{AllByRecursion};
 ghost use Rattle.std.specs.Option.{option_copied};
 ghost use Rattle.rdata.specs.Rows.{in_set};
 ghost use Rattle.message_grammar.specs.Pieces.{after};
+ghost use Rattle.message_grammar.specs.Compression.{IsCompressed};
 ghost use Rattle.message_grammar.specs.Messages.{encoding, question_pieces, record_pieces, IsQuestion, IsRecord, IsMessage, folded_message};
 ghost use Rattle.wire.specs.Drafts.{RefusesText, asked_alone};
 ghost use Rattle.wire.specs.Puts.{Puts};
@@ -56,6 +57,7 @@ pub fn encode<A: Heap>(alloc: A, m: &Message<A>, limit: usize) -> Result<Vec<u8,
     requires { limit ≤ TCP_LIMIT }
     ensures ok { IfOk result (λ v. (v.items ≡ encoding m.now) × (length (encoding m.now) ≤ limit)) }
     ensures message { IfOk result (λ v. IsMessage v.items (folded_message m.now)) }
+    ensures compressed { IfOk result (λ v. IsCompressed v.items m.now) }
     ensures err { IfErr result (λ e. RefusesText e (encoding m.now) limit) }
 {
     let lent = Draft {
@@ -136,6 +138,7 @@ impl<A: Heap> Draft<'_, A> {
         requires { limit ≤ TCP_LIMIT }
         ensures bytes { IfOk result (λ o. MatchOption o (limit < length (encoding self.now)) (λ v. (v.items ≡ encoding self.now) × (length v.items ≤ limit))) }
         ensures message { IfOk result (λ o. IfSome o (λ v. IsMessage v.items (folded_message self.now))) }
+        ensures compressed { IfOk result (λ o. IfSome o (λ v. IsCompressed v.items self.now)) }
     {
         writer.begin_message()?;
         writer.put_header(

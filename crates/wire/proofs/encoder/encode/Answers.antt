@@ -1,9 +1,10 @@
 -- A message is written as the draft that lends all of it.
 use Rattle.std.proofs.Common.{◌∙◌, ◌≡◌, []}
 use Rattle.std.specs.Prelude.{None}
-use Rattle.message_grammar.specs.Messages.{Message}
+use Rattle.message_grammar.specs.Messages.{Message, IsMessage, folded_message}
+use Rattle.message_grammar.specs.Compression.{IsCompressed}
 use Rattle.wire.specs.Drafts.{drafted}
-use Rattle.wire.proofs.Writing.{lent_is, lent_ok, lent_err, lent_message}
+use Rattle.wire.proofs.Writing.{lent_is, lent_ok, lent_err, lent_some}
 use Rattle.wire.proofs.encoder.encode.Given.{Over}
 use Rattle.wire.proofs.encoder.encode.Goals as goal
 
@@ -26,4 +27,10 @@ returns-clause-err g c = lent_err (λ v. v.items) c.in_ok-encode.field-0 c.ok_or
 
 pub returns-clause-message : goal.returns-clause-message
 unfolding lent
-returns-clause-message g c = lent_message (λ v. v.items) c.in_ok-encode.field-0 c.ok_or.result (lent g c) c.args.m.now (same g c) c.in_ok-encode.ensures.message c.ok_or.ensures.value
+returns-clause-message g c =
+    lent_some (λ b m. IsMessage b (folded_message m)) (λ v. v.items) c.in_ok-encode.field-0 c.ok_or.result (lent g c) c.args.m.now (same g c) c.in_ok-encode.ensures.message c.ok_or.ensures.value
+
+pub returns-clause-compressed : goal.returns-clause-compressed
+unfolding lent
+returns-clause-compressed g c =
+    lent_some (λ b m. IsCompressed b m) (λ v. v.items) c.in_ok-encode.field-0 c.ok_or.result (lent g c) c.args.m.now (same g c) c.in_ok-encode.ensures.compressed c.ok_or.ensures.value
