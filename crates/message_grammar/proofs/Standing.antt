@@ -51,7 +51,7 @@ stands-along f bytes text start at place end last labels h b a e =
     let R : ℕ → Type 0 = λ x. Stands f bytes start at labels x in
     subst P b (subst Q a (subst R e h))
 
-folds_same : (l : List ℕ) → AreFolded l → folded_label l ≡ l
+pub folds_same : (l : List ℕ) → AreFolded l → folded_label l ≡ l
 folds_same [] h = refl
 folds_same (b ∷ l) h =
     let first = h.1 in
