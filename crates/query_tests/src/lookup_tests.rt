@@ -228,6 +228,6 @@ fn growths_of_find<B: Allocator>(heap: &Refusing<B>) -> Result<Option<u64>, Star
 #[test]
 fn growths_of_a_cached_answer(rt: HostRuntime) -> Result<(), Fail> {
     let heap = Refusing::new(rt.alloc());
-    assert_eq!(rt; growths_of_find(&heap)?, Some(2));
+    assert_eq!(rt; growths_of_find(&heap)?, Some(1));
     Ok(())
 }

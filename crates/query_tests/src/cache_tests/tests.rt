@@ -273,7 +273,7 @@ fn is_kept_whole<B: Allocator>(
 }
 
 // Links, and how many growths a `keep` of each takes.
-const REFUSED: &[(Shape, u64)] = &[(ADDRESS, 5), (Shape::TwoAddresses, 10), (Shape::NoData, 9)];
+const REFUSED: &[(Shape, u64)] = &[(ADDRESS, 4), (Shape::TwoAddresses, 10), (Shape::NoData, 9)];
 
 fn first_spoilt<B: Allocator>(
     heap: &Refusing<B>,
