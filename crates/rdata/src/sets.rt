@@ -1,5 +1,5 @@
 //! Records made one RRset (RFC 2181, sections 5 and 5.2).
-ghost use Rattle.std.specs.Prelude.{◌≡◌, ℕ, ◌≤◌, ◌∷◌, ◌++◌, [], not, cond, map, min, IfOk, OnOk};
+ghost use Rattle.std.specs.Prelude.{◌≡◌, ℕ, ◌≤◌, ◌∷◌, ◌++◌, [], not, cond, map, min, IfOk, OnOk, OnErr};
 ghost use Rattle.std.specs.List.{list_any};
 ghost use Rattle.rdata.specs.Gathering.{gathered, has_datum, add_datum};
 ghost use Rattle.rdata.specs.Kept.{datum};
@@ -99,7 +99,8 @@ fn lowest_ttl_at<A: Allocator>(records: &[Record<A>], owner: &Name<A>, kind: RTy
 }
 
 /// Adds data to a set that is being made, unless it has them already (RFC 2181, section 5): of 192.0.2.1, 192.0.2.2 and
-/// 192.0.2.1 the first two stay. `later` finds those that stand behind the first sixteen.
+/// 192.0.2.1 the first two stay. `later` finds those that stand behind the first sixteen. Where memory is refused, the
+/// set is as before, and `later` is of no use any more.
 pub fn put_once<'a, A: Heap>(
     values: &mut Vec<RData<A>, A>,
     later: &mut Later<'a, A>,
@@ -108,6 +109,7 @@ pub fn put_once<'a, A: Heap>(
     requires { AreFound later.old (map datum values.old.items) }
     ensures values { OnOk result (map datum values.new.items ≡ add_datum (map datum values.old.items) (datum added.now)) }
     ensures found { OnOk result (AreFound later.new (map datum values.new.items)) }
+    ensures err { OnErr result (map datum values.new.items ≡ map datum values.old.items) }
 {
     if is_new(values, later, added)? {
         values.push(added.clone()?)?;
