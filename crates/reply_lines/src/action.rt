@@ -42,7 +42,7 @@ pub fn put_action<A: Heap, B: Heap>(
     out: &mut String<B>,
     action: Action<'_>,
 ) -> Result<(), Starved>
-    ensures ok { OnOk result (IsPrinted action (string_bytes out.old) (string_bytes out.new)) }
+    ensures ok { OnOk result (IsPrinted action.entry (string_bytes out.old) (string_bytes out.new)) }
     ensures err { OnErr result (string_bytes out.new ≡ string_bytes out.old) }
 {
     match action {
