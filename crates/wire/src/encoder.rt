@@ -131,7 +131,7 @@ impl<A: Heap> Draft<'_, A> {
     /// The bytes of the message, in its one encoding; none where they are more than `limit`, which is at most 65,535
     /// (RFC 1035, sections 4.1 and 4.2). The reply to `a. A` with one address has 35 bytes, and none with `limit` 34.
     /// They are read back as the message, its question in lower case. Past the limit no further record is written. The
-    /// writer may have written other messages before.
+    /// writer may have written other messages before, or a part of one where memory was refused.
     pub fn encode(
         &self,
         writer: &mut Writer<A>,
