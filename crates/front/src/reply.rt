@@ -16,8 +16,8 @@ use wire::{Draft, Echo, Header, TCP_LIMIT, UDP_LIMIT, Via, Writer, rcode};
 
 /// The bytes of the reply, and the cause of a SERVFAIL. A reply over 512 bytes on UDP keeps header and
 /// question, with TC set; one over 65,535 bytes on TCP is a SERVFAIL. The bytes are read back as the reply, its
-/// question in lower case, and its names are compressed (RFC 1035, section 4.1.4). After a refusal the writer may hold a
-/// part of the reply: the next message begins it anew.
+/// question in lower case, and its names are compressed (RFC 1035, section 4.1.4). After a refusal the writer may
+/// hold a part of the reply: the next message begins it anew.
 pub fn reply_bytes<A: Heap>(
     writer: &mut Writer<A>,
     query: &Query<A>,
@@ -55,7 +55,7 @@ pub fn reply_bytes<A: Heap>(
 }
 
 /// The bytes of the reply to a query that is refused without a look-up: header, and the question if it was read. They
-/// are read back as that reply, its question in lower case. Of the writer the same holds as for `reply_bytes`.
+/// are read back as that reply, its question in lower case. Of the writer holds what holds for `reply_bytes`.
 pub fn refusal_bytes<A: Heap>(
     writer: &mut Writer<A>,
     refusal: Refusal,

@@ -40,8 +40,8 @@ fn put_line<A: Allocator, B: Heap>(out: &mut String<B>, record: &Record<A>) -> R
     Ok(())
 }
 
-/// Appends a record as it is displayed, `OWNER TTL IN TYPE DATA`. Where memory is refused, nothing is appended: the text
-/// is written apart first.
+/// Appends a record as it is displayed, `OWNER TTL IN TYPE DATA`. Where memory is refused, nothing is appended: the
+/// text is written apart first.
 pub fn put_record<A: Allocator, B: Heap>(
     out: &mut String<B>,
     record: &Record<A>,

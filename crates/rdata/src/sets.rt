@@ -58,9 +58,10 @@ pub fn set_at<A: Heap>(
     }))
 }
 
-/// Any records as one set (RFC 2181, sections 5 and 5.2): of those that repeat each other, TTLs aside, the first, in order,
-/// all with the lowest TTL. Of `a.example. 300 A 192.0.2.1`, `b.example. 60 A 192.0.2.1` and the first again with TTL 90
-/// it is the first two with TTL 60. Each record is compared with each that is kept: `set_at` serves long lists.
+/// Any records as one set (RFC 2181, sections 5 and 5.2): of those that repeat each other, TTLs aside, the first, in
+/// order, all with the lowest TTL. Of `a.example. 300 A 192.0.2.1`, `b.example. 60 A 192.0.2.1` and the first again
+/// with TTL 90 it is the first two with TTL 60. Each record is compared with each that is kept: `set_at` serves long
+/// lists.
 pub fn dedup_set<A: Heap>(alloc: A, records: &[Record<A>]) -> Result<Records<A>, Starved>
     ensures { IfOk result (λ rs. rs ≡ one_set records.now) }
 {

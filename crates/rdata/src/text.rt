@@ -183,8 +183,8 @@ impl fmt::Display for Groups {
     }
 }
 
-/// Appends type and data as they are displayed: `MX 10 mail.example.`. Where memory is refused, nothing is appended: the
-/// text is written apart first.
+/// Appends type and data as they are displayed: `MX 10 mail.example.`. Where memory is refused, nothing is appended:
+/// the text is written apart first.
 pub fn put_data<A: Allocator, B: Heap>(out: &mut String<B>, value: &RData<A>) -> Result<(), Starved>
     ensures ok { OnOk result (string_bytes out.new ≡ string_bytes out.old ++ data_text (datum value.now)) }
     ensures err { OnErr result (string_bytes out.new ≡ string_bytes out.old) }

@@ -5,8 +5,8 @@
 //! reply's bytes; `put_ask_bytes` writes the line of an ask. `put_action` writes any of them, and `drop CLIENT`, `due`
 //! and `starved`.
 //!
-//! Promised: the text, byte by byte (`reply_text`, `ArePrinted`, `IsAskPrinted`, `IsPrinted`); bytes that are no message
-//! print nothing (`AreNone`). Where memory is refused, the text is as before.
+//! Promised: the text, byte by byte (`reply_text`, `ArePrinted`, `IsAskPrinted`, `IsPrinted`); bytes that are no
+//! message print nothing (`AreNone`). Where memory is refused, the text is as before.
 //! Not here: what a resolver answers (`front`, `engine`); the lines of a script's other events (`play`).
 //!
 //! ```text
