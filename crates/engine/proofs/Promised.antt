@@ -25,6 +25,10 @@ use Rattle.laws.proofs.Short.{steps_are_short}
 use Rattle.laws.proofs.Discipline.{one_action, one_coming, one_reply, never_again, open_by_run, few_asks, one_line, others_stay, more_at_ticks}
 use Rattle.laws.proofs.Due.{due_in_order}
 use Rattle.laws.proofs.Times.{nothing_is_late}
+use Rattle.laws.proofs.KeptFailures.{failure_is_found, failure_is_looked}
+use Rattle.laws.specs.Determined.{IsOneOutcome}
+use Rattle.laws.proofs.NewSearches.{new_is_opened}
+use Rattle.laws.proofs.OneStep.{one_step}
 use Rattle.laws.proofs.Room.{room_stays}
 use Rattle.laws.proofs.Words.{words_in_order}
 use Rattle.laws.proofs.FollowedSearches.{ask_is_of_search}
@@ -60,6 +64,9 @@ module _ (site : Site) (past : List Turn) (old : State) (t : Turn) (new : State)
       at_hand_is_replied site past old now client way bytes t.served out new asked legal
       (subst (λ (o : Option (List Action)). Step old (Client now client way bytes) t.served o new) gives (subst (λ (e : Event). Step old e t.served t.out new) comes step)) reads
 
+  one_here : (out : List Action) → t.out ≡ Some out → IsOneOutcome old t.event t.served out new
+  one_here out gives = one_step site past old t.event t.served out new legal (subst (λ (o : Option (List Action)). Step old t.event t.served o new) gives step)
+
   pub keeps : Keeps site past old t new legal step
   keeps = record {
     right = λ W is ours honest. (every_reply_is_right W site (t ∷ past) new is ours (old, legal, step)).0 honest;
@@ -84,6 +91,7 @@ module _ (site : Site) (past : List Turn) (old : State) (t : Turn) (new : State)
     at_hand = at_hand_here;
     free = nobody_failing_is_asked site past old t new legal step;
     shown = open_is_of_run site (t ∷ past) new (old, legal, step);
+    one = one_here;
     accepted = accepted_is_heard site past old t new legal step;
     tcp = tcp_is_heard site past old t new legal step;
     others = others_stay site past old t new legal step;
@@ -97,9 +105,12 @@ module _ (site : Site) (past : List Turn) (old : State) (t : Turn) (new : State)
     answered = λ out. answer_is_replied site past old t out new;
     alias = λ out. alias_is_kept site past old t out new;
     opens = frames_open_in_steps site past old t new legal step;
+    searches = new_is_opened site past old t new legal step;
     held = held_here;
     looked = accepted_is_looked site past old t new legal step;
     kept = kept_is_found site (t ∷ past) new (old, legal, step);
+    fails = failure_is_looked site past old t new legal step;
+    failing = failure_is_found site (t ∷ past) new (old, legal, step);
   }
 
 pub steps : (old : State) (event : Event) (served : Served) (out : Option (List Action)) (new : State) → Step old event served out new → Steps old event out new

@@ -42,6 +42,9 @@ use Rattle.laws.specs.Steps as followed
 use Rattle.laws.specs.Steps.{Attends, at_moment, AcceptsAs, EndsInVain, Replies}
 use Rattle.laws.specs.Held.{IsHeldChain}
 use Rattle.laws.specs.Calls.{Opening}
+use Rattle.laws.specs.Determined.{IsOneOutcome}
+use Rattle.laws.specs.NewSearches.{SearchesCome}
+use Rattle.laws.specs.KeptFailures.{CachesAccepted, FindsFailures}
 use Rattle.laws.specs.Opens.{Call, step_call, Opens, IsOpenedRightly}
 use Rattle.laws.specs.Looks.{step_looks, AcceptsLink, kept_of, IsKeptSince, IsOnlyLiveEntry}
 use Rattle.laws.specs.LookUps.{look_ups_of, look_ups_by}
@@ -83,6 +86,8 @@ pub record Keeps (site : Site) (past : List Turn) (old : State) (turn : Turn) (n
   pub free : (q : Open) → Contains new.queries q → turn.served ≡ OpenQuery q.number → IsUdpPath (q.ask).path
       → is_failed (moved old turn.event).clock (failed_ask (q.ask).name (q.ask).kind (q.ask).server) (new.stores).failures ≡ false
   pub shown : (q : Open) → Contains new.queries q → IsOfRun site (turn ∷ past) new (old, legal, step) q
+  -- One state and one event have one outcome, where memory does not run out.
+  pub one : (out : List Action) → turn.out ≡ Some out → IsOneOutcome old turn.event turn.served out new
   -- A message that is accepted is used, and changes no other query; queries that are due are served in order, and
   -- nothing is late.
   pub accepted : (q : Open) (m : Message) → Contains old.queries q → Brings site.port q.ask turn.event m → turn.served ≡ OpenQuery q.number
@@ -114,6 +119,8 @@ pub record Keeps (site : Site) (past : List Turn) (old : State) (turn : Turn) (n
   -- lately is asked.
   pub opens : (out : List Action) (call : Call (at_moment old turn)) (frame : Opening)
       → turn.out ≡ Some out → step_call old turn new step ≡ Some call → Opens (at_moment old turn) call frame → IsOpenedRightly site (at_moment old turn) turn.served out new call frame
+  -- Each search of the query that is served was there, is at a referral's cut, or opens in this step.
+  pub searches : SearchesCome site old turn new step
   -- A chain of local zones and cache is answered at once; an accepted answer is cached, and a cached link is found.
   pub held : (now client : ℕ) (way : Via) (bytes : List ℕ) (out : List Action) (q : Query Plain) (chain : List Taken) (last : Taken)
       → turn.event ≡ Client now client way bytes → turn.out ≡ Some out → IsRequest bytes (request.Query q) → recursive q ≡ true → length chain ≤ 8
@@ -126,6 +133,9 @@ pub record Keeps (site : Site) (past : List Turn) (old : State) (turn : Turn) (n
   pub kept : (a : KeptAnswer) (n now : ℕ)
       → IsKeptSince site a (turn ∷ past) new (old, legal, step) n → n < (new.stores).cache_cap → (a.hit).ttl ≢ 0 → is_live now a.hit ≡ true → IsOnlyLiveEntry now a (new.stores).cache
       → hit_of (lent (asked_of site.home a.name a.kind) now (new.stores).cache) ≡ Some a.hit
+  -- A failure of a server that is accepted is cached, and is found for 30 seconds.
+  pub fails : CachesAccepted site old turn new step
+  pub failing : FindsFailures site (turn ∷ past) new (old, legal, step)
 
 abbrev pub turn_of : Event → Served → Option (List Action) → Turn
 turn_of event served out = record { event = event; served = served; out = out }
