@@ -1,5 +1,5 @@
 -- The promises of a step of the resolver: the laws of every run, for its newest step.
-use Rattle.std.specs.Prelude.{◌≡◌, ℕ, ◌≤◌, Option, Some, List, [], ◌∷◌, Contains}
+use Rattle.std.specs.Prelude.{◌≡◌, ℕ, ◌≤◌, Option, Some, List, ◌∷◌, Contains}
 use Rattle.limits.specs.Limits.{max_asks, max_look_ups}
 use Rattle.dname.specs.Labels.{Name}
 use Rattle.rdata.specs.declared.addr.Addr.{Addr}

@@ -1,5 +1,5 @@
 -- What is held is answered in its own step.
-use Rattle.std.proofs.Common.{◌≡◌, ℕ, ◌≤◌, inl, inr, List, [], ◌∷◌, length, refl, sym, ap, subst}
+use Rattle.std.proofs.Common.{◌≡◌, ℕ, ◌≤◌, inl, inr, true, Option, Some, List, [], ◌∷◌, length, refl, sym, ap, subst}
 use Rattle.rdata.specs.Types.{type_number}
 use Rattle.wire.specs.declared.via.Via.{Via}
 use Rattle.front.specs.Queries.{IsRequest}
@@ -8,9 +8,10 @@ use Rattle.front.specs.declared.queries.Request.TheVariants as request
 use Rattle.front.specs.declared.queries.Query.{Query}
 use Rattle.front.proofs.Single.{asked_once}
 use Rattle.resolution.specs.Jobs.{Home, Stores, Taken, Job, Next, Done, Seek, point}
-use Rattle.runs.specs.States.{Client, Action, Served, Own, Plain, client_query, job_for, Site, State, moved}
+use Rattle.runs.specs.States.{Event, Client, Action, Served, Own, Turn, Plain, client_query, recursive, job_for, Site, State, moved}
 use Rattle.runs.specs.Messages.{outcome_of, IsReply}
-use Rattle.runs.specs.Steps.{Comes, IsAsk, IsOpened, at_once, crowded, admitted, Resolves, IsHandled}
+use Rattle.runs.specs.Steps.{Comes, IsAsk, IsOpened, at_once, crowded, admitted, Resolves, IsHandled, Step}
+use Rattle.runs.specs.Runs.{Run}
 use Rattle.runs.proofs.Clocks.{clock_of_run}
 use Rattle.laws.specs.Held.{IsHeldChain, HeldIsReplied}
 use Rattle.laws.proofs.Walks.{IsAlong, walks_along}

@@ -10,11 +10,11 @@ use Rattle.lru_laws.specs.Orders.{IsWithin}
 use Rattle.lru_laws.proofs.Kept.{by_test}
 use Rattle.lru_laws.proofs.Places.{within_put, within_kept, within_used, within_found}
 use Rattle.classify.specs.Classes.{class_of}
-use Rattle.cache.specs.Failures.{FailedAsk, same_failed, is_failed, after_failed}
+use Rattle.cache.specs.Failures.{FailedAsk, same_failed, after_failed}
 use Rattle.cache.specs.FailureLaws.{same_failed_exact}
 use Rattle.cache.proofs.Failed.{found_is}
-use Rattle.resolution.specs.Jobs.{Home, Stores, with_told, Search, ask_of, is_server_failure, Job, Input, Start, Told, TimedOut, TcpFailed, Next, Point}
-use Rattle.resolution.specs.Rules.{PassesOver, Rule, takes, asks, follows, restarts, skips, hears, descends, gives_up, Rules, Enters, Advances}
+use Rattle.resolution.specs.Jobs.{Home, Stores, with_told, Search, ask_of, is_server_failure, Job, Input, Start, Told, TimedOut, TcpFailed, Point}
+use Rattle.resolution.specs.Rules.{PassesOver, Rule, takes, asks, follows, restarts, skips, hears, descends, gives_up, Rules, Enters}
 use Rattle.resolution.proofs.Passing.{found_failures, missed_failures}
 use Rattle.runs.specs.States.{Event, Client, Datagram, TcpReply, Tick, Action, Served, OpenQuery, Turn, Plain, via_of, Open, Site, State, moved}
 use Rattle.runs.specs.States as event
@@ -22,8 +22,7 @@ use Rattle.runs.specs.Messages.{Brings}
 use Rattle.runs.specs.Steps.{IsInput, IsOpened, at_once, crowded, admitted, IsHandled, IsIgnored, ServesOpen, IsTicked, IsTurn, Step}
 use Rattle.runs.specs.Runs.{Run}
 use Rattle.runs.proofs.Clocks.{clock_of_run}
-use Rattle.laws.specs.FirstStates.{room_of, first_of}
-use Rattle.laws.specs.KeptFailures.{FailureUses, rule_uses, rules_uses, enters_failed, call_failures, step_failures, AcceptsFailure, FailureIsLooked, is_one, IsFailureSince, FailureIsFound}
+use Rattle.laws.specs.KeptFailures.{rule_uses, rules_uses, enters_failed, call_failures, step_failures, AcceptsFailure, FailureIsLooked, is_one, IsFailureSince, FailureIsFound}
 use Rattle.laws.specs.Opens.{Call, handled_call, hears_call, either_call, ticked_call, turn_call, step_call}
 use Rattle.laws.proofs.Discipline.{open_by_run}
 use Rattle.laws.proofs.FailureKept.{class_failures}

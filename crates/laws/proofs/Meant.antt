@@ -11,7 +11,7 @@ use Rattle.front.specs.declared.queries.Request.TheVariants as request
 use Rattle.retry.specs.Plans.{Plan, wait_of}
 use Rattle.cache.specs.Failures.{failed_ask, is_failed}
 use Rattle.resolution.specs.Jobs.{Search, Job, wait_in, wait_of_job, Next, AskUdp, AskTcp, Done, Fail}
-use Rattle.runs.specs.States.{Event, Client, Datagram, TcpReply, Tick, Action, Served, Own, OpenQuery, Turn, Plain, ClientQuery, client_query, Path, ByUdp, ByTcp, Open, Site, State, moved}
+use Rattle.runs.specs.States.{Event, Client, Datagram, TcpReply, Tick, Action, Served, OpenQuery, Turn, Plain, ClientQuery, client_query, Path, Open, Site, State, moved}
 use Rattle.runs.specs.States as event
 use Rattle.runs.specs.Messages.{Brings}
 use Rattle.runs.specs.Steps.{IsOpened, at_once, crowded, admitted, IsHandled, IsIgnored, ServesOpen, IsTicked, IsTurn, Step}

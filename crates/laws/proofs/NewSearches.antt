@@ -1,5 +1,5 @@
 -- Each search that is there after a step was there before, is at an accepted referral's cut, or was opened by a rule.
-use Rattle.std.proofs.Common.{◌≡◌, ℕ, zero, suc, ◌+◌, ◌⊎◌, inl, inr, Option, Some, None, List, [], ◌∷◌, ◌++◌, Contains, refl, sym, ap, ◌∙◌, subst, append_assoc, append-nil}
+use Rattle.std.proofs.Common.{◌≡◌, ℕ, zero, suc, ◌+◌, ◌⊎◌, inl, inr, Option, Some, None, List, [], ◌∷◌, ◌++◌, Contains, refl, sym, ap, ◌∙◌, subst, append_assoc}
 use Rattle.lru.proofs.Splits.{Contains-head, Contains-tail, Contains-cons, Contains-nil}
 use Rattle.dname.specs.Labels.{Name}
 use Rattle.rdata.specs.Records.{Record}
@@ -8,7 +8,6 @@ use Rattle.zone.specs.Zones.{a_type}
 use Rattle.zone.specs.Links as said
 use Rattle.zone.specs.Links.{Link}
 use Rattle.message_grammar.specs.Messages.{Message}
-use Rattle.message_grammar.proofs.Single.{message_one}
 use Rattle.wire.specs.declared.via.Via.{Via}
 use Rattle.front.specs.declared.queries.Request.{Request}
 use Rattle.front.specs.declared.queries.Request.TheVariants as request
@@ -17,26 +16,23 @@ use Rattle.classify.specs.Classes.{class_of}
 use Rattle.retry.specs.Penalties.{penalty}
 use Rattle.retry.specs.Plans.{by_penalty}
 use Rattle.referral.specs.Cuts.{Cut}
-use Rattle.cache.specs.Failures.{FailedAsk}
-use Rattle.frames.specs.Frames.{Frame, Failed, opened, after_add, fresh_addresses}
-use Rattle.resolution.specs.Jobs.{Home, Stores, level_of, with_told, IsCutOf, AreAddressesOf, Search, search_at, with_frame, given, Job, job_at, Input, Start, Told, TimedOut, Next, Point}
+use Rattle.frames.specs.Frames.{Failed, opened, after_add, fresh_addresses}
+use Rattle.resolution.specs.Jobs.{Home, Stores, level_of, with_told, IsCutOf, Search, with_frame, given, Job, Input, Start, Told, TimedOut, Next, Point}
 use Rattle.resolution.specs.Jobs as jobs
-use Rattle.resolution.specs.Rules.{UsesServerAddress, turned, PassesOver, Rule, takes, asks, follows, restarts, skips, hears, descends, gives_up, Rules, IsAnswered, ByClass, Enters, Leaves, sends, sends_again, refuses, spent, looked_out, nowhere, too_long, done, Advances}
+use Rattle.resolution.specs.Rules.{UsesServerAddress, turned, Rule, takes, asks, follows, restarts, skips, hears, descends, gives_up, Rules, IsAnswered, ByClass, Enters, Leaves, sends, sends_again, refuses, spent, looked_out, nowhere, too_long, done, Advances}
 use Rattle.resolution.proofs.Passing.{passes_keep}
-use Rattle.runs.specs.States.{Event, Client, Datagram, TcpReply, TcpFailed, Tick, Action, Served, Nobody, Own, OpenQuery, Turn, Plain, via_of, Open, Site, State, moved}
+use Rattle.runs.specs.States.{Event, Client, Datagram, TcpReply, TcpFailed, Tick, Action, Served, OpenQuery, Turn, Plain, via_of, Open, Site, State, moved}
 use Rattle.runs.specs.Messages.{Brings}
-use Rattle.runs.specs.Steps.{IsHandled, IsInput, IsAsk, IsIgnored, ServesOpen, IsTicked, IsTurn, Step}
+use Rattle.runs.specs.Steps.{IsHandled, IsInput, IsAsk, IsIgnored, ServesOpen, IsTurn, Step}
 use Rattle.runs.specs.Runs.{Run}
 use Rattle.runs.proofs.Clocks.{clock_of_run}
 use Rattle.laws.specs.Calls.{Opening, opening_of}
-use Rattle.laws.specs.Opens.{Call, handled_call, hears_call, either_call, ticked_call, turn_call, step_call, RulesOpen, Opens}
-use Rattle.laws.specs.Steps.{AcceptsAs}
+use Rattle.laws.specs.Opens.{Call, handled_call, hears_call, either_call, turn_call, step_call, RulesOpen, Opens}
 use Rattle.laws.specs.NewSearches.{GoesOn, HadSearch, IsReferralSearch, opened_search, IsOpenedSearch, NewIsOpened}
 use Rattle.laws.proofs.Opened.{starts_rules}
 use Rattle.laws.proofs.OrderlyLists.{same_number}
 use Rattle.laws.proofs.Served.{BeginsWith, IsLeftBy, is_ask, step_calls}
 use Rattle.laws.proofs.Skipped.{same_after}
-use Rattle.laws.proofs.TimelyOpens.{not_own, not_nobody}
 
 -- ---- a search goes on
 

@@ -1,9 +1,9 @@
 -- One input to one job over the same stores has one result.
-use Rattle.std.proofs.Common.{◌≡◌, ◌≢◌, ℕ, zero, suc, ◌<◌, ◌⊎◌, inl, inr, Option, Some, None, List, [], ◌∷◌, ◌++◌, Contains, refl, sym, ap, ap₂, ◌∙◌, subst, arith, eq-or-lt_of_le, le_of_suc-le-suc}
-use Rattle.dname.specs.Labels.{Name, IsAtOrUnder}
+use Rattle.std.proofs.Common.{◌≡◌, ◌≢◌, ℕ, zero, suc, ◌<◌, ◌⊎◌, inl, inr, List, [], ◌∷◌, ◌++◌, refl, sym, ap, ap₂, ◌∙◌, subst, arith, eq-or-lt_of_le, le_of_suc-le-suc}
+use Rattle.dname.specs.Labels.{Name}
 use Rattle.rdata.specs.Records.{Record}
 use Rattle.rdata.specs.declared.addr.Addr.{Addr}
-use Rattle.zone.specs.Zones.{IsBeneath, a_type}
+use Rattle.zone.specs.Zones.{IsBeneath}
 use Rattle.zone.specs.Links.{Link}
 use Rattle.zone.specs.Look as local
 use Rattle.message_grammar.specs.Messages.{Message}
@@ -16,12 +16,10 @@ use Rattle.referral.specs.Cuts as referral
 use Rattle.cache.specs.Cached as cache
 use Rattle.cache.specs.Cached.{Hit, Question}
 use Rattle.frames.specs.Frames.{Failed, opened}
-use Rattle.resolution.specs.Jobs.{Home, Stores, level_of, with_answer, with_timeout, with_told, with_frame, IsCutOf, Taken, local_link, received_link, Search, Job, Input, Start, Told, TimedOut, TcpFailed, Next, Task, Seek, Take, Go, Again, Point, point, hit_from, cut_from}
-use Rattle.resolution.specs.Rules.{Says, Hits, Finds, Misses, UsesServerAddress, Rule, takes, asks, follows, restarts, skips, hears, descends, gives_up, Rules, IsAnswered, IsReferred, ByClass, Enters, Leaves, Advances}
-use Rattle.runs.specs.Steps.{IsAsk}
+use Rattle.resolution.specs.Jobs.{Home, Stores, level_of, with_told, with_frame, Taken, local_link, received_link, Search, Job, Input, Start, Told, TimedOut, TcpFailed, Next, Go, Point, point, hit_from, cut_from}
+use Rattle.resolution.specs.Rules.{Says, Hits, Finds, Misses, UsesServerAddress, Rule, takes, asks, follows, restarts, skips, hears, descends, gives_up, Rules, IsAnswered, IsReferred, ByClass, Enters, Leaves}
 use Rattle.laws.specs.Determined.{AreNamed, OneCall}
-use Rattle.laws.specs.Looks.{Looks, rule_hits, rules_hits, accepted_by, enters_accepted, call_looks}
-use Rattle.laws.specs.Uses.{KeptAnswer}
+use Rattle.laws.specs.Looks.{rule_hits, rules_hits, accepted_by, enters_accepted}
 use Rattle.laws.proofs.OneChoice.{cut_one, uses_one, are_ordered}
 use Rattle.laws.proofs.OneRule.{point_is, rule_one, leaves_one, no_rule_left}
 use Rattle.laws.proofs.Skipped.{same_after}

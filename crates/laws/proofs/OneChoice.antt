@@ -1,10 +1,9 @@
 -- What the rules choose is one thing: cuts, addresses, the links that are found, and the servers that are passed over.
-use Rattle.std.proofs.Common.{◌≡◌, ◌≢◌, ℕ, zero, suc, ◌+◌, ◌<◌, ◌≤◌, ◌⊎◌, inl, inr, Bool, true, false, Option, Some, None, List, [], ◌∷◌, ◌++◌, map, length, Contains, refl, sym, ap, ap₂, ◌∙◌, subst, arith, eq-or-lt_of_le, le_of_suc-le-suc, le_antisymm}
+use Rattle.std.proofs.Common.{◌≡◌, ◌≢◌, ℕ, zero, suc, ◌+◌, ◌<◌, ◌⊎◌, inl, inr, true, false, Option, Some, None, List, [], ◌∷◌, ◌++◌, map, length, refl, sym, ap, ap₂, ◌∙◌, subst, arith, eq-or-lt_of_le, le_of_suc-le-suc, le_antisymm}
 use Rattle.std.specs.Map.{lookup}
-use Rattle.dname.specs.Labels.{Name, same_name, IsAtOrUnder}
+use Rattle.dname.specs.Labels.{Name, same_name}
 use Rattle.rdata.specs.Records.{Record}
 use Rattle.rdata.specs.declared.addr.Addr.{Addr}
-use Rattle.zone.specs.Zones.{IsBeneath}
 use Rattle.zone.specs.Links as said
 use Rattle.zone.specs.Links.{Link}
 use Rattle.zone.specs.Look as local

@@ -1,6 +1,6 @@
 -- At each point of a query's work one rule applies, with one outcome, or one result is left.
-use Rattle.std.proofs.Common.{◌≡◌, ℕ, zero, suc, ◌+◌, ◌<◌, ◌≤◌, ◌⊎◌, inl, inr, true, false, Option, Some, None, List, [], ◌∷◌, ◌++◌, length, Contains, refl, sym, ap, ap₂, ◌∙◌, subst, arith}
-use Rattle.limits.specs.Limits.{max_aliases, max_asks, max_look_ups}
+use Rattle.std.proofs.Common.{◌≡◌, ℕ, suc, ◌+◌, ◌<◌, ◌≤◌, ◌⊎◌, inl, inr, true, false, Option, Some, None, List, [], ◌∷◌, ◌++◌, length, refl, sym, ap, ◌∙◌, subst, arith}
+use Rattle.limits.specs.Limits.{max_aliases, max_look_ups}
 use Rattle.dname.specs.Labels.{Name}
 use Rattle.rdata.specs.Records.{Record}
 use Rattle.rdata.specs.declared.addr.Addr.{Addr}
@@ -11,12 +11,12 @@ use Rattle.causes.specs.declared.cause.Cause.{Cause}
 use Rattle.causes.specs.declared.cause.Cause.TheVariants as cause
 use Rattle.front.specs.Chains.{alias_target}
 use Rattle.retry.specs.Plans.{upcoming}
-use Rattle.referral.specs.Cuts.{Cut, Known}
+use Rattle.referral.specs.Cuts.{Cut}
 use Rattle.cache.specs.Cached.{Question}
 use Rattle.cache.specs.Failures.{FailedAsk}
 use Rattle.frames.specs.Frames.{Failed, marked, opened, next_name}
 use Rattle.resolution.specs.Jobs.{Home, Stores, level_of, Taken, AreFresh, IsDead, IsEnding, Search, search_at, fails_now, Job, MayLookUp, Next, AskUdp, AskTcp, Done, Fail, MaySend, asked, asked_again, Task, Seek, Take, Go, Again, Point, point}
-use Rattle.resolution.specs.Rules.{PassesOver, IsFree, UsesServerAddress, turned, Rule, takes, asks, follows, restarts, skips, hears, descends, gives_up, IsDue, IsDueAgain, MayNotSend, spent_cause, Leaves, sends, sends_again, refuses, spent, looked_out, nowhere, too_long, done}
+use Rattle.resolution.specs.Rules.{PassesOver, IsFree, UsesServerAddress, turned, Rule, takes, asks, follows, restarts, skips, hears, descends, gives_up, IsDueAgain, MayNotSend, spent_cause, Leaves, sends, sends_again, refuses, spent, looked_out, nowhere, too_long, done}
 use Rattle.resolution.proofs.Passing.{passes_first}
 use Rattle.runs.specs.Steps.{IsAsk}
 use Rattle.laws.specs.Determined.{AreNamed}

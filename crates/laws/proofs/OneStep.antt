@@ -1,5 +1,5 @@
 -- Two steps of one state by one event are one.
-use Rattle.std.proofs.Common.{◌≡◌, ◌≢◌, ℕ, ◌+◌, ◌%◌, ◌<◌, ◌≤◌, ◌⊎◌, inl, inr, true, false, Option, Some, None, List, [], ◌∷◌, ◌++◌, length, Contains, refl, sym, ap, ap₂, ◌∙◌, subst, arith}
+use Rattle.std.proofs.Common.{◌≡◌, ◌≢◌, ℕ, ◌+◌, ◌%◌, ◌<◌, ◌≤◌, ◌⊎◌, inl, inr, true, false, Option, Some, None, List, [], ◌∷◌, ◌++◌, Contains, refl, sym, ap, ◌∙◌, subst, arith}
 use Rattle.dname.specs.Labels.{Name, root}
 use Rattle.rdata.specs.Records.{Record}
 use Rattle.rdata.specs.Types.{type_number}
@@ -13,7 +13,6 @@ use Rattle.message_grammar.specs.Messages.{Message, Question}
 use Rattle.message_grammar.proofs.Single.{message_one}
 use Rattle.wire.specs.declared.via.Via.{Via}
 use Rattle.front.specs.Openings.{Opening}
-use Rattle.front.specs.Queries.{IsRequest}
 use Rattle.front.specs.Replies.{reply_of, refusal_reply}
 use Rattle.front.proofs.Single.{asked_once, answer_once}
 use Rattle.front.specs.declared.queries.Request.{Request}
@@ -21,23 +20,20 @@ use Rattle.front.specs.declared.queries.Request.TheVariants as request
 use Rattle.front.specs.declared.queries.Refusal.{Refusal}
 use Rattle.front.specs.declared.queries.Outcome.{Outcome}
 use Rattle.front.specs.declared.queries.Outcome.TheVariants as outcome
-use Rattle.causes.specs.declared.cause.Cause.{Cause}
 use Rattle.causes.specs.declared.cause.Cause.TheVariants as cause
 use Rattle.lru_laws.specs.Orders.{HasSame}
-use Rattle.referral.specs.Cuts.{Cut, Known}
-use Rattle.rand_chacha.specs.ChaCha.{ChaCha}
-use Rattle.resolution.specs.Jobs.{Home, Stores, Taken, Job, wait_of_job, Input, Start, Told, TimedOut, Next, AskUdp, AskTcp, Done, Fail}
+use Rattle.referral.specs.Cuts.{Cut}
+use Rattle.resolution.specs.Jobs.{Home, Stores, Job, wait_of_job, Input, Start, Told, Next, AskUdp, AskTcp, Done, Fail}
 use Rattle.resolution.specs.Jobs as jobs
 use Rattle.resolution.specs.Rules.{Says, Advances}
-use Rattle.runs.specs.States.{Endpoint, Event, Client, Datagram, TcpReply, TcpFailed, Tick, Action, Reply, MoreDue, Served, Nobody, Own, OpenQuery, Turn, Plain, ClientQuery, client_query, recursive, Path, ByUdp, ByTcp, via_of, Ask, IsFor, Open, open_query, due_moment, Site, State, moved, word_of, low_half, socket_of, word_taken}
-use Rattle.runs.specs.Messages.{AreWritten, IsSent, sending, asking_message, Brings, outcome_of, IsReply, IsRefusal}
-use Rattle.runs.specs.Steps.{IsInUse, IsRaised, IsUdpAsk, IsTcpAsk, AreOthers, AreWith, Ends, Waits, WaitsByUdp, WaitsByTcp, Comes, Serves, IsAsk, IsOpened, at_once, crowded, admitted, Resolves, AnswersAtHand, IsHandled, IsOfNumber, IsFirstDue, IsInput, IsIgnored, ServesOpen, IsLate, SomeDue, IsFollowed, IsTicked, IsTurn, Step}
+use Rattle.runs.specs.States.{Event, Client, Datagram, TcpReply, TcpFailed, Tick, Action, Reply, MoreDue, Served, OpenQuery, Turn, Plain, ClientQuery, client_query, ByUdp, via_of, Ask, IsFor, Open, open_query, due_moment, Site, State, moved, word_of, low_half}
+use Rattle.runs.specs.Messages.{AreWritten, IsSent, sending, asking_message, Brings, IsReply, IsRefusal}
+use Rattle.runs.specs.Steps.{IsInUse, IsRaised, IsUdpAsk, IsTcpAsk, AreOthers, AreWith, Ends, Waits, WaitsByUdp, WaitsByTcp, Comes, Serves, IsAsk, IsOpened, at_once, crowded, admitted, Resolves, AnswersAtHand, IsHandled, IsFirstDue, IsInput, IsIgnored, ServesOpen, IsLate, SomeDue, IsFollowed, IsTicked, IsTurn, Step}
 use Rattle.runs.specs.Runs.{Run}
-use Rattle.runs.specs.Laws.{IsForTcp}
 use Rattle.runs.proofs.Clocks.{clock_of_run}
 use Rattle.runs.proofs.Heard.{accepted_is_heard, tcp_is_heard}
 use Rattle.laws.specs.Determined.{AreNamed, IsSameState, OneStep}
-use Rattle.laws.specs.Spent.{MayStart, Refers}
+use Rattle.laws.specs.Spent.{MayStart}
 use Rattle.laws.proofs.OneChoice.{are_ordered}
 use Rattle.laws.proofs.OneCall.{referral_named, one_call}
 use Rattle.laws.proofs.Discipline.{open_by_run}

@@ -8,7 +8,7 @@ use Rattle.front.specs.declared.queries.Request.{Request}
 use Rattle.front.specs.declared.queries.Request.TheVariants as request
 use Rattle.resolution.specs.Jobs.{Home, Job, Start}
 use Rattle.resolution.specs.Rules.{Stops}
-use Rattle.runs.specs.States.{Event, Client, Datagram, TcpReply, Tick, Action, Reply, Turn, Served, OpenQuery, Plain, client_query, Open, AreApart, moment, Site, State, IsNew, moved}
+use Rattle.runs.specs.States.{Event, Client, Datagram, TcpReply, Tick, Action, Reply, Turn, Served, Plain, client_query, Open, AreApart, moment, Site, State, IsNew, moved}
 use Rattle.runs.specs.States as states
 use Rattle.runs.specs.Messages.{IsReply, IsRefusal}
 use Rattle.runs.specs.Runs.{Run, Always, clock_of, asks_among, is_for}
@@ -21,6 +21,7 @@ use Rattle.cache.specs.Cached.{Hit}
 use Rattle.cache.specs.Failures.{FailedAsk}
 use Rattle.laws.specs.Replies.{RepliesAre}
 use Rattle.laws.specs.Caused.{IsExplained as IsExplainedSpec}
+use Rattle.laws.proofs.Enters.{IsShown}
 use Rattle.laws.proofs.Timed.{timed_later}
 use Rattle.laws.proofs.Later.{told_later}
 use Rattle.laws.proofs.Learnt.{start_stop_timed}

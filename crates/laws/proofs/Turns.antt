@@ -129,7 +129,7 @@ module _ (past : List Turn) (s : State) (h : IsExplained (s.site).port (s.site).
       let tells = call_tells (s.site).port (s.site).home q.number turn past q.ask e.served_is sound.asked (type_number ((q.client_query).query).kind) ((q.client_query).query).name q.job s.stores h.told.0 sound.work
       s.clock clock (shown q e.serves.stands) e.input e.serves.next e.serves.job e.serves.stores input e.serves.advances in
       let timely = call_timed (s.site).port (s.site).home q.number turn past q.ask e.served_is sound.asked (type_number ((q.client_query).query).kind) ((q.client_query).query).name q.job s.stores h.told.0 sound.work
-      s.clock clock h.told.1 sound.known sound.remote sound.plain e.input e.serves.next e.serves.job e.serves.stores input e.serves.advances in
+      s.clock clock h.told.1 sound.known sound.remote sound.plain (shown q e.serves.stands) e.input e.serves.next e.serves.job e.serves.stores input e.serves.advances in
       comes_of q e.serves.next e.serves.job e.serves.stores first new e.serves.stands e.served_is goes counts tells.0 timely.0 (tells.1, timely.1) enough e.serves.comes
 
   -- Its time is up.

@@ -1,15 +1,14 @@
 -- A step is determined: a state of a run and an event have one outcome.
-use Rattle.std.specs.Prelude.{◌≡◌, ◌≢◌, ℕ, Option, Some, List, [], Contains}
+use Rattle.std.specs.Prelude.{◌≡◌, ◌≢◌, ℕ, Some, List, [], Contains}
 use Rattle.dname.specs.Labels.{Name}
 use Rattle.referral.specs.Cuts.{Known}
 use Rattle.lru_laws.specs.Orders.{HasSame}
-use Rattle.cache.specs.Cached.{Question}
 use Rattle.resolution.specs.Jobs.{Home, Stores, Job, Input, Next}
 use Rattle.resolution.specs.Rules.{Advances}
 use Rattle.runs.specs.States.{Event, Action, Served, Turn, Site, State}
 use Rattle.runs.specs.Steps.{IsAsk, Step}
 use Rattle.runs.specs.Runs.{Run}
-use Rattle.laws.specs.Looks.{Looks, call_looks, step_looks}
+use Rattle.laws.specs.Looks.{call_looks}
 
 -- ---- one call
 

@@ -15,7 +15,7 @@ use Rattle.cache.specs.Keys.{Key}
 use Rattle.cache.specs.Cached.{Hit, lent, hit_of}
 use Rattle.resolution.specs.Jobs.{Home, Taken, local_link, kept_link, IsEnding}
 use Rattle.resolution.specs.Rules.{Says, IsRemote, asked_of}
-use Rattle.runs.specs.States.{Client, Action, Served, Own, Turn, Plain, client_query, recursive, Site, State, moved}
+use Rattle.runs.specs.States.{Client, Action, Own, Turn, Plain, client_query, recursive, Site, State, moved}
 use Rattle.runs.specs.Messages.{outcome_of, IsReply}
 use Rattle.runs.specs.Steps.{Step}
 use Rattle.runs.specs.Runs.{Run}

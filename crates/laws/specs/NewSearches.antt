@@ -1,6 +1,6 @@
 -- Where the searches of a query come from. Each one that the query has after a step stood before it, is at the cut of a
 -- referral that the step accepts, or is a frame that opens in the step.
-use Rattle.std.specs.Prelude.{◌≡◌, ℕ, ◌⊎◌, Option, Some, List, ◌∷◌, ◌++◌, Contains}
+use Rattle.std.specs.Prelude.{◌≡◌, ℕ, ◌⊎◌, Some, List, ◌∷◌, ◌++◌, Contains}
 use Rattle.dname.specs.Labels.{Name}
 use Rattle.rdata.specs.Records.{Record}
 use Rattle.rdata.specs.declared.addr.Addr.{Addr}
