@@ -83,11 +83,11 @@ referral_long : (id : ℕ) → length (encoding (referral_message id)) ≡ 52
 unfolding encoding put put_flat
 referral_long id = refl
 
-alias_long : (id : ℕ) → length (encoding (alias_message id)) ≡ 41
+alias_long : (id : ℕ) → length (encoding (alias_message id)) ≡ 37
 unfolding encoding put put_flat
 alias_long id = refl
 
-reply_long : length (encoding reply_message) ≡ 57
+reply_long : length (encoding reply_message) ≡ 53
 unfolding encoding put put_flat
 reply_long = refl
 
