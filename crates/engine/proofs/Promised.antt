@@ -18,6 +18,7 @@ use Rattle.laws.proofs.Times.{nothing_is_late}
 use Rattle.laws.proofs.KeptFailures.{failure_is_found, failure_is_looked}
 use Rattle.laws.specs.Determined.{IsOneOutcome}
 use Rattle.laws.proofs.NewSearches.{new_is_opened}
+use Rattle.laws.proofs.OneReading.{one_reading}
 use Rattle.laws.proofs.OneStep.{one_step}
 use Rattle.laws.proofs.Room.{room_stays}
 use Rattle.laws.proofs.Words.{words_in_order}
@@ -58,6 +59,7 @@ module _ (site : Site) (past : List Turn) (old : State) (t : Turn) (new : State)
     free = nobody_failing_is_asked site past old t new legal step;
     shown = open_is_of_run site (t ∷ past) new (old, legal, step);
     one = one_here;
+    reading = one_reading site past old t new legal step;
     accepted = accepted_is_heard site past old t new legal step;
     tcp = tcp_is_heard site past old t new legal step;
     others = others_stay site past old t new legal step;

@@ -21,7 +21,7 @@ use Rattle.laws.specs.LookUps.{look_ups_of, HadAllLookUps, IsShort}
 use Rattle.laws.specs.Words.{DrawsInOrder}
 use Rattle.laws.specs.FirstStates.{HasFirstRoom}
 use Rattle.laws.specs.Meant.{IsServedRightly, EndsAtHand, AsksNoFailing, AreOfRun}
-use Rattle.laws.specs.Determined.{IsOneOutcome}
+use Rattle.laws.specs.Determined.{IsOneOutcome, IsOneReading}
 use Rattle.laws.specs.Times.{IsInTime}
 use Rattle.laws.specs.Searches.{AreOfSearches}
 use Rattle.laws.specs.Steps.{AsksOn, AsksAgain, AsksReferred, RepliesAnswer, KeepsAlias}
@@ -65,8 +65,9 @@ pub record Keeps (site : Site) (past : List Turn) (old : State) (turn : Turn) (n
   pub at_hand : EndsAtHand turn
   pub free : AsksNoFailing old turn new
   pub shown : AreOfRun site (turn ∷ past) new (old, legal, step)
-  -- One outcome, where memory does not run out (OneStep).
+  -- One outcome, where memory does not run out, and one reading of it (OneStep, OneReading).
   pub one : (out : List Action) → turn.out ≡ Some out → IsOneOutcome old turn.event turn.served out new
+  pub reading : IsOneReading old turn new step
   -- What is accepted is used, and no other query is changed (AcceptedIsHeard, TcpIsHeard, OthersStay).
   pub accepted : (q : Open) (m : Message) → Contains old.queries q → Brings site.port q.ask turn.event m → turn.served ≡ OpenQuery q.number
   pub tcp : (q : Open) (number : ℕ) → Contains old.queries q → IsOfNumber number q → IsForTcp number turn.event → turn.served ≡ OpenQuery q.number

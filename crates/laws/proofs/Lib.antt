@@ -28,6 +28,7 @@ pub mod Near
 pub mod NewSearches
 pub mod OneCall
 pub mod OneChoice
+pub mod OneReading
 pub mod OneRule
 pub mod OneStep
 pub mod Opened

@@ -70,7 +70,7 @@ start_named port home (turn ∷ past) c (inl start) = start_named port home past
 start_named port home (turn ∷ past) c (inr (z, start, (k, ask, m, at, ns, glue, ttl, accepts, is, cut))) =
     subst (λ (x : Name). x ≢ []) (sym cut.owner) (referral_named z.owner ask.name ask.kind (via_of ask.path) m at ns glue ttl is)
 
-run_named : (site : Site) (run : List Turn) (s : State) → Run site run s → AreNamed (s.stores).delegations
+pub run_named : (site : Site) (run : List Turn) (s : State) → Run site run s → AreNamed (s.stores).delegations
 run_named site run s legal n k there =
     let (owner, (c, start, same)) = ((run_explained site run s legal).0).told.0.cuts n k there in
     subst (λ (x : Name). x ≢ []) (sym (owner ∙ ap (λ (x : Cut). x.owner) same)) (start_named site.port site.home run c start)
@@ -253,7 +253,7 @@ module _ (s : State) (named : AreNamed (s.stores).delegations) (out given : List
   told_one port q (TcpFailed now number) m n a b = absurd a
   told_one port q (Tick now) m n a b = absurd a
 
-  input_one : (e : Event) (q : Open) (x y : Input) → IsInput s e q x → IsInput s e q y → y ≡ x
+  pub input_one : (e : Event) (q : Open) (x y : Input) → IsInput s e q x → IsInput s e q y → y ≡ x
   input_one (Client now client way bytes) q x y a b = absurd a
   input_one (Datagram now sock from bytes) q x y (m, a, is) (n, b, so) =
       so ∙ (ap (Told (via_of (q.ask).path) (q.ask).server) (told_one (s.site).port q (Datagram now sock from bytes) n m b a) ∙ sym is)
@@ -275,7 +275,7 @@ module _ (s : State) (named : AreNamed (s.stores).delegations) (out given : List
 -- ---- due queries
 
 -- A number is that of one open query.
-abbrev AreSingle : State → Type 0
+abbrev pub AreSingle : State → Type 0
 AreSingle s = (p q : Open) → Contains s.queries p → Contains s.queries q → p.number ≡ q.number → p ≡ q
 
 first_one : (s : State) (p q : Open) → AreSingle s → IsFirstDue s p → IsFirstDue s q → p ≡ q

@@ -1,5 +1,5 @@
 -- A step is determined: a state of a run and an event have one outcome.
-use Rattle.std.specs.Prelude.{◌≡◌, ◌≢◌, ℕ, Some, List, [], Contains}
+use Rattle.std.specs.Prelude.{◌≡◌, ◌≢◌, ℕ, Some, None, List, [], Contains}
 use Rattle.dname.specs.Labels.{Name}
 use Rattle.referral.specs.Cuts.{Known}
 use Rattle.lru_laws.specs.Orders.{HasSame}
@@ -8,11 +8,11 @@ use Rattle.resolution.specs.Rules.{Advances}
 use Rattle.runs.specs.States.{Event, Action, Served, Turn, Site, State}
 use Rattle.runs.specs.Steps.{IsAsk, Step}
 use Rattle.runs.specs.Runs.{Run}
-use Rattle.laws.specs.Looks.{call_looks}
+use Rattle.laws.specs.Looks.{call_looks, step_looks}
 
 -- ---- one call
 
--- Each delegation stands under a name: not even the root's has no label.
+-- Each delegation stands under a name. Even the root's has a label, the empty one.
 abbrev pub AreNamed : List (Name × Known) → Type 0
 AreNamed es = (n : Name) (k : Known) → Contains es (n, k) → n ≢ []
 
@@ -43,3 +43,12 @@ abbrev pub OneStep : Type 0
 OneStep =
     (site : Site) (past : List Turn) (old : State) (event : Event) (served : Served) (out : List Action) (new : State) → Run site past old
     → Step old event served (Some out) new → IsOneOutcome old event served out new
+
+-- ---- one reading
+
+-- Whichever rules lead to a step's outcome, it caches the same answer, and has the same hits in the cache.
+abbrev pub IsOneReading : (old : State) (t : Turn) (new : State) → Step old t.event t.served t.out new → Type 0
+IsOneReading old t new step = (also : State) (again : Step old t.event t.served t.out also) → t.out ≢ None → step_looks old t also again ≡ step_looks old t new step
+
+abbrev pub OneReading : Type 0
+OneReading = (site : Site) (past : List Turn) (old : State) (t : Turn) (new : State) → Run site past old → (step : Step old t.event t.served t.out new) → IsOneReading old t new step
