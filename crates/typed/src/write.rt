@@ -28,14 +28,7 @@ pub fn write_action<A: Heap>(
             refusal,
             start,
             echo,
-        } => Ok(events::refuse(
-            writer,
-            *client,
-            *way,
-            *refusal,
-            *start,
-            echo.as_ref(),
-        )?),
+        } => Ok(events::refuse(writer, *client, *way, *refusal, *start, echo.as_ref())?),
         TypedAction::Ask { port, ask } => Ok(events::send(alloc, *port, ask)?),
     }
 }
