@@ -2,8 +2,8 @@
 //! it holds its lock.
 //!
 //! `read_event` makes a `TypedEvent` of an event's bytes: a client's request (`front`), or the reading of a server's
-//! message (`classify`). A `TypedAction` is a reply by its query and outcome, a refusal, or an ask; `reply_to`, `refuse`
-//! and `send` make one, and `write_action` writes the `events::Action` of it.
+//! message (`classify`). A `TypedAction` is a reply by its query and outcome, a refusal, or an ask. `reply_to`,
+//! `refuse` and `send` make one, and `write_action` writes the `events::Action` of it.
 //!
 //! Promised: a typed event is one of some bytes (`ReadAs`, the invariant of `TypedEvent`), and nothing else makes one.
 //! What is written of a typed action is the one action that contracts see it as (`said_view`), which is the reply, the
