@@ -54,6 +54,22 @@ pub fn reply_bytes<A: Heap>(
     }
 }
 
+/// The encoding of each reply is that reply, its question in lower case (RFC 1035, section 4.1), before it is written.
+pub fn reply_is_message<A: Heap>(query: &Query<A>, outcome: &Outcome<A>, via: Via)
+    ensures { IsMessage (encoding (reply_of via query.now outcome.now).0) (folded_message (reply_of via query.now outcome.now).0) }
+{
+    draft_of(query, outcome).writable_law();
+    short_law(Some(&query.echo));
+}
+
+/// The encoding of each refusal is that reply, its question in lower case, before it is written.
+pub fn refusal_is_message<A: Heap>(refusal: Refusal, start: Start, echo: Option<&Echo<A>>)
+    ensures { IsMessage (encoding (refusal_reply refusal start (option_copied echo.entry))) (folded_message (refusal_reply refusal start (option_copied echo.entry))) }
+{
+    empty_draft(start, echo, refusal.rcode()).writable_law();
+    short_law(echo);
+}
+
 /// The bytes of the reply to a query that is refused without a look-up: header, and the question if it was read. They
 /// are read back as that reply, its question in lower case. Of the writer holds what holds for `reply_bytes`.
 pub fn refusal_bytes<A: Heap>(
