@@ -1,5 +1,5 @@
-//! The examples in the heads of crates, each compiled as the body of a function, so that none is out of date: `tools/heads`
-//! compares them. The module `x_head` has that of `x`.
+//! The examples in the heads of crates, each compiled as the body of a function, so that none is out of date.
+//! `tools/heads` compares them. The module `x_head` has that of `x`.
 #![tactic(auto)]
 
 #[cfg(test)]
@@ -14,6 +14,10 @@ mod causes_head;
 mod classify_head;
 #[cfg(test)]
 mod config_head;
+#[cfg(test)]
+mod config_report_head;
+#[cfg(test)]
+mod counters_head;
 #[cfg(test)]
 mod dname_head;
 #[cfg(test)]
