@@ -18,7 +18,7 @@ take_drop-grown bytes more at n fits =
     let long : n ≤ length (drop at bytes) = omega (arith, length-drop at bytes) in
     ap (take n) (drop-append-le at bytes more a) ∙ take-append-le n (drop at bytes) more long
 
-label-grown : (bytes more : List ℕ) (at : ℕ) (l : List ℕ) → IsLabelAt bytes at l → IsLabelAt (bytes ++ more) at l
+pub label-grown : (bytes more : List ℕ) (at : ℕ) (l : List ℕ) → IsLabelAt bytes at l → IsLabelAt (bytes ++ more) at l
 label-grown bytes more at l h =
     let t = h.there in
     record {
@@ -29,7 +29,7 @@ label-grown bytes more at l h =
       text = take_drop-grown bytes more (at + 1) (length l) t ∙ h.text;
     }
 
-pointer-grown : (bytes more : List ℕ) (at target : ℕ) → IsPointerAt bytes at target → IsPointerAt (bytes ++ more) at target
+pub pointer-grown : (bytes more : List ℕ) (at target : ℕ) → IsPointerAt bytes at target → IsPointerAt (bytes ++ more) at target
 pointer-grown bytes more at target h = record {
   high = h.high;
   low = h.low;

@@ -3,7 +3,9 @@ pub mod Reading
 pub mod Growing
 pub mod Standing
 pub mod Written
+pub mod Walking
 pub mod Whole
+pub mod Compressing
 pub mod Letters
 pub mod Single
 pub mod Roots

@@ -19,7 +19,7 @@ one_label bytes at place a b h k same =
     let second = k.text in
     cc
 
-no_label_at_root : (bytes : List ℕ) (at place : ℕ) (l : List ℕ) → slice_get bytes at ≡ Some 0 → IsLabelAt bytes place l → place ≡ at → ⊥
+pub no_label_at_root : (bytes : List ℕ) (at place : ℕ) (l : List ℕ) → slice_get bytes at ≡ Some 0 → IsLabelAt bytes place l → place ≡ at → ⊥
 no_label_at_root bytes at place l h k same =
     let e = one_byte bytes at place 0 (length l) h k.head same in
     let n = k.nonempty in
@@ -30,7 +30,7 @@ no_pointer_at_root bytes at place target h k same =
     let e = one_byte bytes at place 0 (192 + k.high) h k.first same in
     absurd (omega arith)
 
-no_pointer_at_label : (bytes : List ℕ) (at place target : ℕ) (l : List ℕ) → IsLabelAt bytes at l → IsPointerAt bytes place target → place ≡ at → ⊥
+pub no_pointer_at_label : (bytes : List ℕ) (at place target : ℕ) (l : List ℕ) → IsLabelAt bytes at l → IsPointerAt bytes place target → place ≡ at → ⊥
 no_pointer_at_label bytes at place target l h k same =
     let e = one_byte bytes at place (length l) (192 + k.high) h.head k.first same in
     let s = h.short in

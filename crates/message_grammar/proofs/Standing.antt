@@ -13,7 +13,7 @@ use Rattle.message_grammar.proofs.Growing.{stands-grown}
 
 -- ---- the place behind a text
 
-get_behind : (pre rest : List ℕ) (b : ℕ) → slice_get (pre ++ b ∷ rest) (length pre) ≡ Some b
+pub get_behind : (pre rest : List ℕ) (b : ℕ) → slice_get (pre ++ b ∷ rest) (length pre) ≡ Some b
 get_behind [] rest b = refl
 get_behind (x ∷ pre) rest b = get_behind pre rest b
 
@@ -24,7 +24,7 @@ get_next pre rest a b =
     let n : length (pre ++ a ∷ []) ≡ length pre + 1 = length-append pre (a ∷ []) in
     cc
 
-label_behind : (pre l rest : List ℕ) → 0 < length l → length l < 64 → IsLabelAt (pre ++ length l ∷ (l ++ rest)) (length pre) l
+pub label_behind : (pre l rest : List ℕ) → 0 < length l → length l < 64 → IsLabelAt (pre ++ length l ∷ (l ++ rest)) (length pre) l
 label_behind pre l rest some few = record {
   head = get_behind pre (l ++ rest) (length l);
   nonempty = some;
@@ -33,7 +33,7 @@ label_behind pre l rest some few = record {
   text = ap (take (length l)) (drop-append-add pre (length l ∷ (l ++ rest)) 1) ∙ take-append_seam l rest;
 }
 
-pointer_behind : (pre : List ℕ) (place : ℕ) → place < 16384 → IsPointerAt (pre ++ pointer place) (length pre) place
+pub pointer_behind : (pre : List ℕ) (place : ℕ) → place < 16384 → IsPointerAt (pre ++ pointer place) (length pre) place
 pointer_behind pre place reach = record {
   high = place / 256;
   low = place % 256;
@@ -51,7 +51,7 @@ stands-along f bytes text start at place end last labels h b a e =
     let R : ℕ → Type 0 = λ x. Stands f bytes start at labels x in
     subst P b (subst Q a (subst R e h))
 
-folds_same : (l : List ℕ) → AreFolded l → folded_label l ≡ l
+pub folds_same : (l : List ℕ) → AreFolded l → folded_label l ≡ l
 folds_same [] h = refl
 folds_same (b ∷ l) h =
     let first = h.1 in
@@ -105,22 +105,22 @@ wire-onto (l ∷ a) (m ∷ b) h =
     let tail = wire-onto a b rest in
     cc
 
-same_suffix : (a b : List (List ℕ)) → same_name a b ≡ true → a ≡ b
+pub same_suffix : (a b : List (List ℕ)) → same_name a b ≡ true → a ≡ b
 same_suffix a b e = wire-onto a b ((bytes_decides (wire a) (wire b)).0 e)
 
-found : (bytes : List ℕ) (limit : ℕ) (notes : List Note) (name : List (List ℕ)) (p : ℕ) → AllStood bytes limit notes → find notes name ≡ Some p
-    → Stood bytes limit (record { suffix = name; place = p })
-found bytes limit [] name p h e = cc
-found bytes limit (n ∷ notes) name p h e = by (same_name n.suffix name) refl e (λ k. found bytes limit notes name p h.1 k)
+-- What is said of each note is said of the one that is found.
+pub found : (P : Note → Type 0) (notes : List Note) (name : List (List ℕ)) (p : ℕ) → AllByRecursion P notes → find notes name ≡ Some p
+    → P (record { suffix = name; place = p })
+found P [] name p h e = cc
+found P (n ∷ notes) name p (first, others) e = by (same_name n.suffix name) refl e (λ k. found P notes name p others k)
   where
     by : (b : Bool) → same_name n.suffix name ≡ b → (if b then Some n.place else find notes name) ≡ Some p
-        → (find notes name ≡ Some p → Stood bytes limit (record { suffix = name; place = p }))
-        → Stood bytes limit (record { suffix = name; place = p })
+        → (find notes name ≡ Some p → P (record { suffix = name; place = p })) → P (record { suffix = name; place = p })
     by true same at later =
         let s : n.suffix ≡ name = same_suffix n.suffix name same in
         let q : n.place ≡ p = cc in
         let whole : n ≡ record { suffix = name; place = p } = λ i. record { suffix = s i; place = q i } in
-        subst (Stood bytes limit) whole h.0
+        subst P whole first
     by false same at later = later at
 
 -- ---- a packed name
@@ -138,7 +138,7 @@ packed_step notes l tail pre start limit le stood label text inner None e =
     (sym (folds_same l label.bytes))
     (stands-along folded_label _ _ start _ _ _ _ tail inner (append_assoc pre (length l ∷ l) text) n last)
 packed_step notes l tail pre start limit le stood label text inner (Some p) e =
-    let s = found pre limit notes (l ∷ tail) p stood e in
+    let s = found (Stood pre limit) notes (l ∷ tail) p stood e in
     let b = s.before in
     pointer_here start (length pre) (length pre + 2) p s.end (l ∷ tail) (pointer_behind pre p s.reach) (omega arith)
     (stands-grown folded_label pre (pointer p) p p s.end (l ∷ tail) s.stands) refl

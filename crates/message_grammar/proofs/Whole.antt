@@ -57,7 +57,7 @@ second_pieces m = first_pieces m ++ flat_map record_pieces m.answer
 abbrev third_pieces : Message → List Piece
 third_pieces m = second_pieces m ++ flat_map record_pieces m.authority
 
-pieces_are : (m : Message) → IsWritable m → AllByRecursion IsPiece (message_pieces m)
+pub pieces_are : (m : Message) → IsWritable m → AllByRecursion IsPiece (message_pieces m)
 pieces_are m h =
     all-append IsPiece (third_pieces m) (flat_map record_pieces m.additional)
     (all-append IsPiece (second_pieces m) (flat_map record_pieces m.authority)

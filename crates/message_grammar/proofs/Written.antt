@@ -88,7 +88,7 @@ pub record FlatPut (before : List ℕ) (t : Text) (f : Flat) (u : Text) : Type 0
   pub continues : Continues t u
   pub there : FlatAt (before ++ u.bytes) (place_of t) f (place_of u)
 
-flat_put : (before : List ℕ) (t : Text) (f : Flat) → IsKept before t → IsFlat f → FlatPut before t f (put_flat t f)
+pub flat_put : (before : List ℕ) (t : Text) (f : Flat) → IsKept before t → IsFlat f → FlatPut before t f (put_flat t f)
 unfolding put_flat
 flat_put before t f kept is =
     let pre = before ++ t.bytes in
@@ -123,10 +123,10 @@ continues_on t u v h k = record {
 }
 
 -- What stands before a text stands before its continuation.
-grown_by : (before : List ℕ) (t u : Text) (h : Continues t u) → (before ++ t.bytes) ++ h.more ≡ before ++ u.bytes
+pub grown_by : (before : List ℕ) (t u : Text) (h : Continues t u) → (before ++ t.bytes) ++ h.more ≡ before ++ u.bytes
 grown_by before t u h = append_assoc before t.bytes h.more ∙ ap (λ x. before ++ x) (sym h.bytes)
 
-flats_put : (fs : List Flat) (before : List ℕ) (t : Text) → IsKept before t → AllByRecursion IsFlat fs → FlatsPut before t fs (put_flats t fs)
+pub flats_put : (fs : List Flat) (before : List ℕ) (t : Text) → IsKept before t → AllByRecursion IsFlat fs → FlatsPut before t fs (put_flats t fs)
 flats_put [] before t kept is = record {
   kept = kept;
   continues = record { more = []; bytes = sym (append-nil t.bytes); start = refl };
@@ -156,7 +156,20 @@ pub record PiecePut (before : List ℕ) (t : Text) (p : Piece) (u : Text) : Type
 long_two : (n : ℕ) → length (bytes_high_first 2 n) ≡ 2
 long_two n = refl
 
-group_put : (before : List ℕ) (t : Text) (fs : List Flat) → IsKept before t → AllByRecursion IsFlat fs
+-- Behind a group's length its text begins, with the notes so far.
+pub group_kept : (before : List ℕ) (t : Text) (size : List ℕ) → length size ≡ 2 → IsKept before t
+    → IsKept ((before ++ t.bytes) ++ size) (record { start = place_of t + 2; bytes = []; notes = t.notes })
+group_kept before t size two kept =
+    let pre = before ++ t.bytes in
+    let a = kept.at in
+    let nothing : (pre ++ size) ++ [] ≡ pre ++ size = append-nil (pre ++ size) in
+    record {
+      at = omega (arith, length-append pre size, length-append before t.bytes);
+      stood = stood-along (pre ++ size) ((pre ++ size) ++ []) t.notes t.notes
+          (stood-grown pre size (length pre) (length (pre ++ size)) t.notes kept.stood (omega (arith, length-append pre size))) (sym nothing) refl;
+    }
+
+pub group_put : (before : List ℕ) (t : Text) (fs : List Flat) → IsKept before t → AllByRecursion IsFlat fs
     → PiecePut before t (sized_group fs) (with_group t (group_of t fs))
 group_put before t fs kept is =
     let group = group_of t fs in
@@ -166,10 +179,7 @@ group_put before t fs kept is =
     let inner : Text = record { start = place_of t + 2; bytes = []; notes = t.notes } in
     let here : length pre ≡ place_of t = omega (arith, length-append before t.bytes) in
     let behind : length (pre ++ size) ≡ place_of t + 2 = omega (arith, length-append pre size, length-append before t.bytes) in
-    let nothing : (pre ++ size) ++ [] ≡ pre ++ size = append-nil (pre ++ size) in
-    let stood = stood-along (pre ++ size) ((pre ++ size) ++ []) t.notes t.notes
-    (stood-grown pre size (length pre) (length (pre ++ size)) t.notes kept.stood (omega (arith, length-append pre size))) (sym nothing) refl in
-    let done = flats_put fs (pre ++ size) inner (record { at = behind; stood = stood }) is in
+    let done = flats_put fs (pre ++ size) inner (group_kept before t size refl kept) is in
     let joined : (pre ++ size) ++ group.bytes ≡ before ++ (t.bytes ++ (size ++ group.bytes)) =
     append_assoc pre size group.bytes ∙ append_assoc before t.bytes (size ++ group.bytes) in
     let began = done.continues.start in
@@ -188,7 +198,7 @@ group_put before t fs kept is =
       };
     }
 
-piece_put : (before : List ℕ) (t : Text) (p : Piece) → IsKept before t → IsPiece p → PiecePut before t p (put t p)
+pub piece_put : (before : List ℕ) (t : Text) (p : Piece) → IsKept before t → IsPiece p → PiecePut before t p (put t p)
 unfolding put
 piece_put before t (flat_piece f) kept is =
     let done = flat_put before t f kept is in
@@ -199,7 +209,7 @@ pub record PiecesPut (before : List ℕ) (t : Text) (ps : List Piece) (u : Text)
   pub continues : Continues t u
   pub there : length u.bytes < 65536 → PiecesAt (before ++ u.bytes) (place_of t) ps (place_of u)
 
-pieces_put : (ps : List Piece) (before : List ℕ) (t : Text) → IsKept before t → AllByRecursion IsPiece ps → PiecesPut before t ps (after t ps)
+pub pieces_put : (ps : List Piece) (before : List ℕ) (t : Text) → IsKept before t → AllByRecursion IsPiece ps → PiecesPut before t ps (after t ps)
 pieces_put [] before t kept is = record {
   continues = record { more = []; bytes = sym (append-nil t.bytes); start = refl };
   there = λ few. refl;

@@ -4,6 +4,7 @@ use Rattle.dname.specs.Labels.{root, folded_labels, wire, IsAtOrUnder}
 use Rattle.rdata.specs.Records.{Record}
 use Rattle.message_grammar.specs.Names.{SpeltAt, NameAt, FullAt}
 use Rattle.message_grammar.specs.Messages.{Question, Message, IsWritable, IsMessage, encoding, folded_message}
+use Rattle.message_grammar.specs.Compression.{IsCompressed}
 
 -- At a place stands one name at most, and it has one end.
 abbrev pub OneName : Type 0
@@ -31,6 +32,11 @@ FullStandsThere =
 -- An encoding of at most 65,535 bytes is the message that was encoded, its questions' names in lower case.
 abbrev pub EncodingIsMessage : Type 0
 EncodingIsMessage = (m : Message) → IsWritable m → length (encoding m) ≤ 65535 → IsMessage (encoding m) (folded_message m)
+
+-- An encoding's names are compressed as RFC 1035, section 4.1.4, has it: each by a pointer to the first occurrence of
+-- the longest suffix of it that occurred before.
+abbrev pub EncodingIsCompressed : Type 0
+EncodingIsCompressed = (m : Message) → IsWritable m → IsCompressed (encoding m) m
 
 -- The letters of its questions' names change no length of an encoding.
 abbrev pub LettersKeepLength : Type 0

@@ -1,5 +1,5 @@
 //! Laws of the definitions: functions that do nothing, whose clauses are proved.
-ghost use Rattle.message_grammar.specs.Laws.{OneName, OneSpelling, SpellingIsName, NameIsSpelt, FullStandsThere, EncodingIsMessage, LettersKeepLength, LettersStayInQuestion, OneMessage, NamesEndInRoot};
+ghost use Rattle.message_grammar.specs.Laws.{OneName, OneSpelling, SpellingIsName, NameIsSpelt, FullStandsThere, EncodingIsMessage, EncodingIsCompressed, LettersKeepLength, LettersStayInQuestion, OneMessage, NamesEndInRoot};
 
 /// At a place of a message stands one name at most (RFC 1035, section 4.1.4).
 pub fn one_name_law()
@@ -29,6 +29,12 @@ pub fn full_name_law()
 /// The encoding of a message is that message (RFC 1035, section 4): what is written is read back.
 pub fn encoding_is_message()
     ensures { EncodingIsMessage }
+{}
+
+/// The names of an encoding are compressed (RFC 1035, section 4.1.4): each is its first labels and a pointer to the longest
+/// suffix of it that occurred before, at the first place of that suffix.
+pub fn encoding_is_compressed()
+    ensures { EncodingIsCompressed }
 {}
 
 /// The letters of a question's name change no length.

@@ -6,8 +6,9 @@
 //! over. `wire` reads and writes by these words, and the contracts of replies speak in them.
 //!
 //! Promised: bytes are one message at most (`one_message_law`), with one name at each place (`one_name_law`,
-//! `one_spelling_law`); the encoding of a message is that message (`encoding_is_message`); the letters of a question's
-//! name change nothing else (`letters_stay_in_question`, `letters_keep_length`).
+//! `one_spelling_law`). The encoding of a message is that message (`encoding_is_message`), and its names are compressed as
+//! far as they can be (`encoding_is_compressed`): `IsCompressed bytes m` speaks of bytes, places and pointers alone. The
+//! letters of a question's name change nothing else (`letters_stay_in_question`, `letters_keep_length`).
 //!
 //! ```text
 //! ghost use Rattle.message_grammar.specs.Messages.{IsMessage};
@@ -20,7 +21,7 @@
 mod laws;
 
 pub use laws::{
-    encoding_is_message, full_name_law, letters_keep_length, letters_stay_in_question,
-    name_is_spelt, names_end_in_root, one_message_law, one_name_law, one_spelling_law,
-    spelling_is_name,
+    encoding_is_compressed, encoding_is_message, full_name_law, letters_keep_length,
+    letters_stay_in_question, name_is_spelt, names_end_in_root, one_message_law, one_name_law,
+    one_spelling_law, spelling_is_name,
 };

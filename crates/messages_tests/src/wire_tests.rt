@@ -1,6 +1,7 @@
 //! The tests of `wire`, from outside: by what it makes public.
 mod chain_tests;
 mod growth_tests;
+mod lent_tests;
 mod skipped_tests;
 
 // ID 4660, RD, one question: www.example. A IN (RFC 1035, section 4.1).

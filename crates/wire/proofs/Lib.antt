@@ -20,3 +20,4 @@ pub mod Skipping
 pub mod Chaining
 pub mod MessagesRead
 pub mod Lending
+pub mod Lower

@@ -5,9 +5,11 @@ use Rattle.std.proofs.lemmas.Grind.{flat_map-append}
 use Rattle.std.specs.Prelude.{flat_map, IfSome, MatchOption}
 use Rattle.message_grammar.specs.Pieces.{Piece, Text, after}
 use Rattle.message_grammar.specs.Messages.{Message, IsMessage, IsWritable, encoding, folded_message}
+use Rattle.message_grammar.specs.Compression.{IsCompressed}
 use Rattle.message_grammar.proofs.Letters.{after-append, pieces_both}
+use Rattle.message_grammar.proofs.Whole.{encoding_holds}
+use Rattle.message_grammar.proofs.Compressing.{encoding_compressed}
 use Rattle.wire.specs.Puts.{Puts, IsOver}
-use Rattle.wire.proofs.Fitting.{message_some}
 use Rattle.wire.proofs.Writing.{text_given}
 
 -- No piece makes a text shorter.
@@ -58,10 +60,17 @@ four_after ps qs rs ss t =
     ap (λ (x : Text). after (after x rs) ss) (sym (after-append ps qs t))
     ∙ (ap (λ (x : Text). after x ss) (sym (after-append (ps ++ qs) rs t)) ∙ sym (after-append ((ps ++ qs) ++ rs) ss t))
 
+-- What is handed out of the text of a message: the encoding where it is within the limit, which is the message, with
+-- its names compressed.
+pub record GivenText {X : Type 0} (items : X → List ℕ) (o : Option X) (limit : ℕ) (m : Message) : Type 0 where
+  pub bytes : MatchOption o (limit < length (encoding m)) (λ v. (items v ≡ encoding m) × (length (items v) ≤ limit))
+  pub message : IfSome o (λ v. IsMessage (items v) (folded_message m))
+  pub compressed : IfSome o (λ v. IsCompressed (items v) m)
+
 -- What is handed out of a text that was put so.
 module _ {X F : Type 0} (items : X → List ℕ) (o : Option X) (limit : ℕ) (ps : List Piece) (old new : Text) (m : Message) (puts : Puts limit F ps old new) (is : (after old ps).bytes ≡ encoding m)
     (given : MatchOption o (limit < length new.bytes) (λ v. (items v ≡ new.bytes) × (length new.bytes ≤ limit))) where
-  pub bytes_given : MatchOption o (limit < length (encoding m)) (λ v. (items v ≡ encoding m) × (length (items v) ≤ limit))
+  bytes_given : MatchOption o (limit < length (encoding m)) (λ v. (items v ≡ encoding m) × (length (items v) ≤ limit))
   bytes_given = by puts
     where
       none : (p : Option X) → IsOver limit ps old new → MatchOption p (limit < length new.bytes) (λ v. (items v ≡ new.bytes) × (length new.bytes ≤ limit))
@@ -73,13 +82,25 @@ module _ {X F : Type 0} (items : X → List ℕ) (o : Option X) (limit : ℕ) (p
       by (inl (so, f)) = text_given items o new.bytes (encoding m) limit (ap (λ (t : Text). t.bytes) so ∙ is) given
       by (inr over) = none o over given
 
-  pub message_given : limit ≤ 65535 → (F → IsWritable m) → IfSome o (λ v. IsMessage (items v) (folded_message m))
-  message_given few fits = by puts
+  some_given : (P : List ℕ → Type 0) → (F → length (encoding m) ≤ limit → P (encoding m)) → IfSome o (λ v. P (items v))
+  some_given P go = by puts
     where
-      none : (p : Option X) → IsOver limit ps old new → MatchOption p (limit < length new.bytes) (λ v. (items v ≡ new.bytes) × (length new.bytes ≤ limit)) → IfSome p (λ v. IsMessage (items v) (folded_message m))
+      none : (p : Option X) → IsOver limit ps old new → MatchOption p (limit < length new.bytes) (λ v. (items v ≡ new.bytes) × (length new.bytes ≤ limit)) → IfSome p (λ v. P (items v))
       none None over h = tt
       none (Some v) over h = let long = over.now in let short = h.1 in absurd (omega (arith, long, short))
 
-      by : Puts limit F ps old new → IfSome o (λ v. IsMessage (items v) (folded_message m))
-      by (inl (so, f)) = message_some items o m limit few (fits f) bytes_given
+      some : (p : Option X) → F → MatchOption p (limit < length (encoding m)) (λ v. (items v ≡ encoding m) × (length (items v) ≤ limit)) → IfSome p (λ v. P (items v))
+      some None f h = tt
+      some (Some v) f h = subst P (sym h.0) (go f (subst (λ (x : List ℕ). length x ≤ limit) h.0 h.1))
+
+      by : Puts limit F ps old new → IfSome o (λ v. P (items v))
+      by (inl (so, f)) = some o f bytes_given
       by (inr over) = none o over given
+
+  -- All that is said of it.
+  pub text_given_out : limit ≤ 65535 → (F → IsWritable m) → GivenText items o limit m
+  text_given_out few fits = record {
+    bytes = bytes_given;
+    message = some_given (λ b. IsMessage b (folded_message m)) (λ f short. encoding_holds m (fits f) (omega (arith, few, short)));
+    compressed = some_given (λ b. IsCompressed b m) (λ f short. encoding_compressed m (fits f));
+  }

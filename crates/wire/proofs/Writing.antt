@@ -352,11 +352,12 @@ module _ {X : Type 0} (items : X → List ℕ) (o : Option X) (r : Result X Wire
       of None h = h
       of (Some v) h = tt
 
-pub lent_message : {X : Type 0} (items : X → List ℕ) (o : Option X) (r : Result X WireError) (d m : Message) → d ≡ m → IfSome o (λ v. IsMessage (items v) (folded_message d)) → r ≡ ok_or o OverLimit
-    → IfOk r (λ v. IsMessage (items v) (folded_message m))
-lent_message {X} items o r d m is given by =
-    subst (λ (x : Result X WireError). IfOk x (λ v. IsMessage (items v) (folded_message m))) (sym by) (of o (subst (λ (x : Message). IfSome o (λ v. IsMessage (items v) (folded_message x))) is given))
+-- What is said of the bytes that the draft gives is said of those that are handed on.
+pub lent_some : {X : Type 0} (P : List ℕ → Message → Type 0) (items : X → List ℕ) (o : Option X) (r : Result X WireError) (d m : Message) → d ≡ m → IfSome o (λ v. P (items v) d) → r ≡ ok_or o OverLimit
+    → IfOk r (λ v. P (items v) m)
+lent_some {X} P items o r d m is given by =
+    subst (λ (x : Result X WireError). IfOk x (λ v. P (items v) m)) (sym by) (of o (subst (λ (x : Message). IfSome o (λ v. P (items v) x)) is given))
   where
-    of : (p : Option X) → IfSome p (λ v. IsMessage (items v) (folded_message m)) → IfOk (ok_or p OverLimit) (λ v. IsMessage (items v) (folded_message m))
+    of : (p : Option X) → IfSome p (λ v. P (items v) m) → IfOk (ok_or p OverLimit) (λ v. P (items v) m)
     of None h = tt
     of (Some v) h = h

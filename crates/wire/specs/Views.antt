@@ -1,5 +1,5 @@
 -- A message that is read in its bytes: where its sections begin, and what each has.
-use Rattle.std.specs.Prelude.{◌≡◌, ℕ, ◌≤◌, Result, Ok, Err, IsOk, List, [], length}
+use Rattle.std.specs.Prelude.{◌≡◌, ℕ, ◌≤◌, Result, Ok, Err, IsOk, List, [], length, slice_range}
 use Rattle.rdata.specs.Data.{Datum, Ipv4, type_of}
 use Rattle.rdata.specs.Records.{Record, greatest_ttl}
 use Rattle.rdata.specs.Types.{type_number}
@@ -67,3 +67,14 @@ pub record IsLent (bytes ends : List ℕ) (at : ℕ) (kind : RType) (ttl start e
   pub starts : start ≤ end
   pub fits : end ≤ length bytes
   pub short : ttl ≤ greatest_ttl
+
+-- These bytes are the RDATA of the record: they stand in a message, and what is read there, its pointers followed in
+-- that message, are the record's data.
+pub record IsRdataOf (r : Record) (rdata : List ℕ) : Type 0 where
+  pub message : List ℕ
+  pub kind : RType
+  pub start : ℕ
+  pub end : ℕ
+  pub within : (start ≤ end) × (end ≤ length message)
+  pub stands : rdata ≡ slice_range message start end
+  pub reads : value_at kind message start end ≡ Ok r.value

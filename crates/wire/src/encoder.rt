@@ -1,11 +1,13 @@
 //! Messages written, whole or from parts that are borrowed.
-ghost use Rattle.std.specs.Prelude.{◌≡◌, ◌≤◌, ◌<◌, ◌+◌, ◌%◌, length, flat_map, OnOk, IfOk, IfErr, IfSome, MatchOption};
+ghost use Rattle.std.specs.Prelude.{◌≡◌, ◌≤◌, ◌<◌, ◌+◌, ◌%◌, length, flat_map, OnOk, IfOk, IfErr, IfSome, MatchOption, Ok};
 ghost use Rattle.std.specs.List.{AllByRecursion};
 ghost use Rattle.std.specs.Option.{option_copied};
 ghost use Rattle.rdata.specs.Rows.{in_set};
 ghost use Rattle.message_grammar.specs.Pieces.{after};
+ghost use Rattle.message_grammar.specs.Compression.{IsCompressed};
 ghost use Rattle.message_grammar.specs.Messages.{encoding, question_pieces, record_pieces, IsQuestion, IsRecord, IsMessage, folded_message};
 ghost use Rattle.wire.specs.Drafts.{RefusesText, asked_alone};
+ghost use Rattle.wire.specs.Entries.{message_of};
 ghost use Rattle.wire.specs.Puts.{Puts};
 
 use crate::echo::Echo;
@@ -49,13 +51,14 @@ impl<'a, A: Allocator> Model for Draft<'a, A> {
     ghost view = { λ d. drafted d.header d.questions.now (option_copied d.echo) d.first.now (in_set (option_copied d.second)) d.authority.now d.additional.now };
 }
 
-/// The encoding of a message (RFC 1035, section 4), names compressed: bytes that are this message, its questions' names
-/// in lower case. The query `www.example. A` has 29 bytes. Refused where it is longer than `limit`, or where a growth
-/// is refused.
+/// The encoding of a message (RFC 1035, section 4), names compressed: bytes that `decode` reads as this message. The query
+/// `www.example. A` has 29 bytes. Refused where it is longer than `limit`, or where a growth is refused.
 pub fn encode<A: Heap>(alloc: A, m: &Message<A>, limit: usize) -> Result<Vec<u8, A>, WireError>
     requires { limit ≤ TCP_LIMIT }
     ensures ok { IfOk result (λ v. (v.items ≡ encoding m.now) × (length (encoding m.now) ≤ limit)) }
     ensures message { IfOk result (λ v. IsMessage v.items (folded_message m.now)) }
+    ensures read { IfOk result (λ v. message_of v.items ≡ Ok m.now) }
+    ensures compressed { IfOk result (λ v. IsCompressed v.items m.now) }
     ensures err { IfErr result (λ e. RefusesText e (encoding m.now) limit) }
 {
     let lent = Draft {
@@ -67,6 +70,7 @@ pub fn encode<A: Heap>(alloc: A, m: &Message<A>, limit: usize) -> Result<Vec<u8,
         authority: m.authority.as_slice(),
         additional: m.additional.as_slice(),
     };
+    m.questions.lower_case_law();
     let mut writer = Writer::new(alloc)?;
     lent.encode(&mut writer, limit)?.ok_or(WireError::OverLimit)
 }
@@ -136,6 +140,7 @@ impl<A: Heap> Draft<'_, A> {
         requires { limit ≤ TCP_LIMIT }
         ensures bytes { IfOk result (λ o. MatchOption o (limit < length (encoding self.now)) (λ v. (v.items ≡ encoding self.now) × (length v.items ≤ limit))) }
         ensures message { IfOk result (λ o. IfSome o (λ v. IsMessage v.items (folded_message self.now))) }
+        ensures compressed { IfOk result (λ o. IfSome o (λ v. IsCompressed v.items self.now)) }
     {
         writer.begin_message()?;
         writer.put_header(

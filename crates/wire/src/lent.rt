@@ -7,6 +7,7 @@ ghost use Rattle.rdata.specs.Records.{greatest_ttl};
 ghost use Rattle.rdata.specs.Types.{type_number};
 ghost use Rattle.wire.specs.Chains.{AreChainEnds};
 ghost use Rattle.wire.specs.Entries.{entry_at};
+ghost use Rattle.wire.specs.Views.{IsRdataOf};
 
 use crate::fields::{four_at, two_at};
 use crate::names::{is_named, name_at, name_end};
@@ -165,6 +166,14 @@ impl<'a> Lent<'a> {
             Ok(value) => Ok(value),
             Err(_) => Err(Starved),
         }
+    }
+
+    /// The bytes of its RDATA as they stand in the message, pointers among them (RFC 1035, section 3.2.1): 192, 0, 2, 1 of
+    /// `a.example. 300 A 192.0.2.1`. Takes no memory.
+    pub fn rdata(&self) -> &'a [u8]
+        ensures { IsRdataOf self.now result.now }
+    {
+        &self.bytes[self.start..self.end]
     }
 
     /// The record, with memory of its own: `a.example. 300 A 192.0.2.1` with owner, TTL and address.

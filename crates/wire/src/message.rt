@@ -1,5 +1,7 @@
 //! Messages and questions as values.
 ghost use Rattle.std.specs.Prelude.{◌≡◌, [], ◌∷◌, ◌++◌, length, ◌↔◌, IsTrue, OnOk, OnErr};
+ghost use Rattle.std.specs.List.{AllByRecursion};
+ghost use Rattle.dname.specs.Labels.{IsName};
 
 use crate::header::Header;
 use dname::{Heap, Name, Starved};
@@ -81,6 +83,16 @@ impl<A: Allocator> Questions<A> {
         ensures { result.now ≡ self.now }
     {
         &self.items
+    }
+
+    /// The name of each question is in lower case (RFC 1035, section 2.3.3).
+    pub fn lower_case_law(&self)
+        ensures { AllByRecursion (λ q. IsName q.name) self.now }
+    {
+        let questions = self.as_slice();
+        for question in questions {
+            question.name.well_formed_law();
+        }
     }
 }
 

@@ -10,8 +10,8 @@ use Rattle.authority.proofs.gather.gathered.Goals as goal
 pub returns-in-None-clause-value : goal.returns-in-None-clause-value
 returns-in-None-clause-value g c = no_set (is_picked (target c.args.whose c.args.name.now) (type_number c.args.kind)) c.args.owner.now c.args.records.now c.in-None.ensures
 
-pub new-requires-in-Some : goal.new-requires-in-Some
-new-requires-in-Some g c =
+pub new-requires : goal.new-requires
+new-requires g c =
     let z : Zone = record { origin = []; records = c.args.records.now } in
     let p = is_picked (target c.args.whose c.args.name.now) (type_number c.args.kind) in
     let same = timed_picked (target c.args.whose c.args.name.now) (type_number c.args.kind) z c.in-Some.first.now c.requires c.in-Some.ensures in

@@ -9,8 +9,8 @@ use Rattle.authority.proofs.held.set_of.Goals as goal
 pub returns-in-None-clause-value : goal.returns-in-None-clause-value
 returns-in-None-clause-value g c = no_set (is_type (type_number c.args.kind)) c.args.owner.now c.args.held.now c.in-None.ensures
 
-pub new-requires-in-Some : goal.new-requires-in-Some
-new-requires-in-Some g c =
+pub new-requires : goal.new-requires
+new-requires g c =
     let p = is_type (type_number c.args.kind) in
     let same = timed_held (type_number c.args.kind) c.args.held.now c.in-Some.first.now c.requires c.in-Some.ensures in
     is_filled p c.args.owner.now c.args.held.now c.in-Some.first.now c.in_ok-items-in-Some.items.items same c.in-Some.ensures c.in_ok-items-in-Some.ensures

@@ -3,7 +3,6 @@ use Rattle.std.specs.List.{list_any}
 use Rattle.dname.specs.Labels.{AreLabels}
 use Rattle.zone.specs.Look.{cut_of, is_type, climbed}
 use Rattle.zone.specs.Zones.{ns_type}
-use Rattle.authority.specs.Climb.{above}
 use Rattle.authority.specs.Walk.{Stands, own_of}
 use Rattle.authority.proofs.Ascents.{shorter, cut_first, cut_more, cut_last}
 use Rattle.authority.proofs.SetRows.{own_timed, near_timed}
