@@ -105,7 +105,8 @@ impl<A: Allocator> View<'_, A> {
     pub fn question<B: Heap>(&self, alloc: B) -> Result<Option<Question<B>>, Starved>
         ensures { IfOk result (λ o. MatchOption o ((q : layouts.Question) → self.now.questions ≡ q ∷ [] → ⊥) (λ q. self.now.questions ≡ q ∷ [])) }
     {
-        if two_at(self.bytes, 4) != 1 {
+        let count = two_at(self.bytes, 4);
+        if count != 1 {
             return Ok(None);
         }
         let qtype = two_at(self.bytes, self.answer - 4);
