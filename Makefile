@@ -53,6 +53,7 @@ test: kit
 	tools/glossary
 	tools/references
 	tools/proved --check
+	tools/heads
 	tools/turned --texts
 	tools/prove
 	tools/examples

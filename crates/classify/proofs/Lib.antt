@@ -6,3 +6,6 @@ pub mod Sets
 pub mod Shortened
 pub mod Uses
 pub mod Walking
+pub mod Uncut
+pub mod Narrowings
+pub mod ReadMessages

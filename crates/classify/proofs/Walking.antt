@@ -1,7 +1,7 @@
 -- Records of a section, chosen as they come.
-use Rattle.std.proofs.Common.{◌≡◌, ℕ, zero, suc, ◌<◌, ◌≤◌, Bool, true, false, ◌&&◌, not, cond, ⊎_elim, List, [], ◌∷◌, ◌++◌, length, take, take_all, refl, sym, ◌∙◌, ap, subst, arith, append_assoc, length-append}
+use Rattle.std.proofs.Common.{◌≡◌, ℕ, zero, suc, ◌+◌, ◌<◌, ◌≤◌, Bool, true, false, ◌&&◌, not, cond, ⊎_elim, List, [], ◌∷◌, ◌++◌, length, take, take_all, drop, get_or, refl, sym, ◌∙◌, ap, subst, arith, append_assoc, length-append}
 use Rattle.std.specs.Prelude.{Contains, filter}
-use Rattle.std.proofs.lemmas.List.{append-nil, take-append-le, length-take, length-map}
+use Rattle.std.proofs.lemmas.List.{append-nil, take-append-le, take-append-drop, take_more, length-take, length-map}
 use Rattle.std.proofs.lemmas.List.Elements.{filter-append, filter_agree}
 use Rattle.dname.specs.Labels.{Name, is_under}
 use Rattle.rdata.specs.Records.{Record}
@@ -54,6 +54,22 @@ module _ {X : Type 0} (p : X → Bool) where
       let all = chosen_all whole front xs so_far none in
       sym (take_all n front few) ∙ ap (take n) all
 
+  -- Of a list that is walked those so far.
+  pub kept_more : (xs front new : List X) (x : X) (i : ℕ) → front ≡ filter p (take i xs) → i < length xs → x ≡ get_or xs i x → new ≡ front ++ filter p (x ∷ []) → new ≡ filter p (take (i + 1) xs)
+  kept_more xs front new x i so_far less is put =
+      let more : take (i + 1) xs ≡ take i xs ++ x ∷ [] = take_more xs i x less ∙ ap (λ y. take i xs ++ y ∷ []) (sym is) in
+      put ∙ (ap (λ (ys : List X). ys ++ filter p (x ∷ [])) so_far ∙ (sym (filter-append p (take i xs) (x ∷ [])) ∙ ap (filter p) (sym more)))
+
+  pub kept_full : (xs front : List X) (i n size : ℕ) → front ≡ filter p (take i xs) → length front ≤ n → size ≡ length front → n ≤ size → front ≡ take n (filter p xs)
+  kept_full xs front i n size so_far few long full =
+      first_full (filter p xs) front (drop i xs) n size
+      (ap (filter p) (sym (take-append-drop i xs)) ∙ (filter-append p (take i xs) (drop i xs) ∙ ap (λ (ys : List X). ys ++ filter p (drop i xs)) (sym so_far))) few long full
+
+  pub kept_whole : (xs front : List X) (i n : ℕ) → front ≡ filter p (take i xs) → length front ≤ n → length xs ≤ i → front ≡ take n (filter p xs)
+  kept_whole xs front i n so_far few long =
+      let all : front ≡ filter p xs = so_far ∙ ap (filter p) (take_all i xs long) in
+      sym (take_all n front few) ∙ ap (take n) all
+
   one_few : (x : X) (ys xs : List X) (b : Bool) → length ys ≤ length xs → length (cond b (x ∷ ys) ys) ≤ length (x ∷ xs)
   one_few x ys xs true few = omega (arith, few)
   one_few x ys xs false few = omega (arith, few)
@@ -96,7 +112,11 @@ pub set_few : (n : ℕ) (rs : List Record) → length (one_set (take n rs)) ≤ 
 set_few n rs = omega (arith, length-map (once (take n rs)) (with_ttl (lowest_ttl (take n rs))), once_few (take n rs), few_taken n rs)
 
 -- Those that are given for the sorted names are those that are taken.
+pub all_given : (f : Name) (servers : List Record) (targets : List Name) → ((n : Name) → is_one_of n targets ≡ list_any (λ (s : Record). names_server n s.value) servers)
+    → (rs : List Record) → filter (is_given f targets) rs ≡ filter (is_taken f servers) rs
+all_given f servers targets named rs =
+    filter_agree (is_given f targets) (is_taken f servers) (λ (r : Record). ap (λ (t : Bool). is_type a_type r && is_under r.owner f && t) (named r.owner)) rs
+
 pub given_is_taken : (f : Name) (servers : List Record) (targets : List Name) → ((n : Name) → is_one_of n targets ≡ list_any (λ (s : Record). names_server n s.value) servers)
     → (rs : List Record) → take max_glue (filter (is_given f targets) rs) ≡ addresses_of f servers rs
-given_is_taken f servers targets named rs =
-    ap (take max_glue) (filter_agree (is_given f targets) (is_taken f servers) (λ (r : Record). ap (λ (t : Bool). is_type a_type r && is_under r.owner f && t) (named r.owner)) rs)
+given_is_taken f servers targets named rs = ap (take max_glue) (all_given f servers targets named rs)

@@ -1,12 +1,14 @@
 //! The classes of a reply, by what it is used for, and why a reply is of no use.
 ghost use Rattle.std.specs.Prelude.{◌≡◌};
+ghost use Rattle.classify.specs.Classes as plain;
+ghost use Rattle.classify.specs.Classes.{refer};
 ghost use Rattle.classify.specs.Lifetimes.{referral_lifetime};
 ghost use Rattle.classify.specs.Views.{failure_number};
 
 use crate::lifetimes::referral_lifetime;
 use authority::Link;
 use dname::Name;
-use rdata::Records;
+use rdata::{Records, lowest_ttl};
 use std::alloc::{Allocator, Global};
 
 /// Why a reply is of no use.
@@ -53,6 +55,19 @@ pub struct Referral<A: Allocator = Global> {
 }
 
 impl<A: Allocator> Referral<A> {
+    /// The referral to these servers, with the lowest TTL of all these records.
+    pub(crate) fn new(at: Name<A>, servers: Records<A>, addresses: Records<A>) -> Referral<A>
+        ensures { plain.Referral result.at result.servers result.addresses result.ttl ≡ refer at servers addresses }
+    {
+        let ttl = lowest_ttl(servers.as_slice()).min(lowest_ttl(addresses.as_slice()));
+        Referral {
+            at,
+            servers,
+            addresses,
+            ttl,
+        }
+    }
+
     /// For how many seconds it is cached: its TTL, and a week at most (RFC 2181, sections 5.2 and 8).
     pub fn lifetime(&self) -> u32
         ensures { result ≡ referral_lifetime self.now.ttl }

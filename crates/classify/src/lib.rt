@@ -6,10 +6,14 @@
 //! used, the first 256 A records at or under the zone that was asked. `received` bounds the TTLs of an answer (a week; a
 //! negative answer three hours), `lifetime` and `Referral::lifetime` say for how long it is cached.
 //!
+//! `read` reads a message before it is known which zone's server sent it: a `Reading` has its ID, its question, and its
+//! class at the root, which `narrow` narrows to a zone.
+//!
 //! Promised: the class, exactly (`class_of`). A reply that is used is an answer or a referral in the RFC's words
 //! (`answer_law`, `referral_law`, `root_law`), and one that is so is used (`use_law`, `found_law`). An ask is sent
 //! again over TCP just where its reply over UDP is truncated (`truncated_law`). Bounds change TTLs alone
-//! (`received_law`).
+//! (`received_law`). The class at a zone is that at the root, narrowed (`narrow_law`), but for why a message is of no
+//! use.
 //! Not here: whether the message is the reply to an ask at all (`events::accepted_reply`).
 //!
 //! ```text
@@ -26,6 +30,8 @@
 mod class;
 mod laws;
 mod lifetimes;
+mod narrowing;
+mod reading;
 mod sections;
 mod table;
 mod targets;
@@ -33,4 +39,6 @@ mod targets;
 pub use class::{Class, Failure, Referral};
 pub use laws::{answer_law, found_law, referral_law, root_law, truncated_law, use_law};
 pub use lifetimes::{lifetime, received, received_law, referral_lifetime};
+pub use narrowing::{narrow, narrow_law};
+pub use reading::{Reading, read};
 pub use table::classify;

@@ -8,6 +8,7 @@ ghost use Rattle.rdata.specs.Sets.{one_set};
 ghost use Rattle.rdata.specs.Types.{type_number};
 ghost use Rattle.zone.specs.Look.{is_type};
 ghost use Rattle.classify.specs.Classes.{first_of, addresses_of};
+ghost use Rattle.classify.specs.Narrowed.{all_addresses};
 ghost use Rattle.classify.specs.Targets.{is_given};
 
 use crate::targets::{is_one_of, targets_of};
@@ -165,6 +166,23 @@ pub(crate) fn addresses_in<A: Heap>(
         if addresses.len() >= MAX_GLUE {
             return Ok(addresses);
         }
+        put_given(alloc, &mut addresses, &found, zone, &targets)?;
+    }
+    Ok(addresses)
+}
+
+/// All A records of the servers that stand at or under the zone, however many.
+pub(crate) fn all_addresses_in<A: Heap>(
+    alloc: A,
+    mut section: Walk<'_>,
+    zone: &Name<A>,
+    servers: &[Record<A>],
+) -> Result<Records<A>, Starved>
+    ensures { IfOk result (λ rs. rs ≡ all_addresses zone.now servers.now section.entry) }
+{
+    let targets = targets_of(alloc, servers)?;
+    let mut addresses = Records::new(alloc);
+    while let Some(found) = section.next() {
         put_given(alloc, &mut addresses, &found, zone, &targets)?;
     }
     Ok(addresses)

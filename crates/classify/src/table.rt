@@ -15,7 +15,7 @@ use crate::sections::{addresses_in, first_in, first_set_in, set_in};
 use authority::Link;
 use dname::{Heap, Name, Starved};
 use limits::MAX_REFERRAL_SERVERS;
-use rdata::{RType, Record, RecordSet, Records, lowest_ttl};
+use rdata::{RType, Record, RecordSet, Records};
 use std::alloc::Allocator;
 use wire::rcode::{NO_ERROR, NX_DOMAIN};
 use wire::{Via, View, Walk};
@@ -208,13 +208,7 @@ fn refer<A: Heap>(
     ensures { IfOk result (λ c. class_view c ≡ refer_by zone.now at servers message.now) }
 {
     let addresses = addresses_in(alloc, message.additional(), zone, servers.as_slice())?;
-    let ttl = lowest_ttl(servers.as_slice()).min(lowest_ttl(addresses.as_slice()));
-    Ok(Class::Referral(Referral {
-        at,
-        servers,
-        addresses,
-        ttl,
-    }))
+    Ok(Class::Referral(Referral::new(at, servers, addresses)))
 }
 
 // A link is an answer only with the bit AA.

@@ -101,10 +101,7 @@ impl<A: Allocator> Model for Builder<A> {
 fn fold(byte: u8) -> u8
     ensures { result ≡ folded byte }
 {
-    match byte {
-        b'A'..=b'Z' => byte + 32,
-        _ => byte,
-    }
+    byte.to_ascii_lowercase()
 }
 
 impl<A: Heap> Builder<A> {

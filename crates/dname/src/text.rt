@@ -1,6 +1,6 @@
 //! Names in text (RFC 1035, section 5.1).
 
-ghost use Rattle.std.specs.Prelude.{◌≡◌, ◌<◌, [], ◌∷◌, ◌++◌, length, drop, string_bytes, Some, Ok, OnOk, IfOk, MatchOption, MatchResult};
+ghost use Rattle.std.specs.Prelude.{◌≡◌, ◌<◌, [], ◌∷◌, ◌++◌, length, drop, string_bytes, Some, Ok, OnOk, OnErr, IfOk, MatchOption, MatchResult};
 ghost use Rattle.std.specs.Fmt.{WritesOnOk};
 ghost use Rattle.dname.specs.Tokens.{token_of};
 ghost use Rattle.dname.specs.Text.{Byte, Bad, tokens, escaped_token, spelled, with_origin, name_under, name_of_text, IsFault, fault_of, is_special, number_text, byte_text, label_text, name_text, fault_number, fault_text, TextIsReadBack};
@@ -163,14 +163,13 @@ pub fn write_number<W: fmt::Write>(f: &mut fmt::Formatter<W>, byte: u8) -> fmt::
 }
 
 /// Appends the name as text, as it is displayed: of `www.example`, `www.example.`. Where memory is refused, nothing is
-/// appended.
-pub fn put_name<A: Allocator, B: Allocator>(
-    out: &mut String<B>,
-    name: &Name<A>,
-) -> Result<(), Starved>
-    ensures { OnOk result (string_bytes out.new ≡ string_bytes out.old ++ name_text name.now) }
+/// appended: the text is written apart first.
+pub fn put_name<A: Allocator, B: Heap>(out: &mut String<B>, name: &Name<A>) -> Result<(), Starved>
+    ensures ok { OnOk result (string_bytes out.new ≡ string_bytes out.old ++ name_text name.now) }
+    ensures err { OnErr result (string_bytes out.new ≡ string_bytes out.old) }
 {
-    Ok(out.write(name)?)
+    let text = name.to_string(*out.allocator())?;
+    Ok(out.push_str(&text)?)
 }
 
 impl<A: Heap> Name<A> {

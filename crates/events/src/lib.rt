@@ -40,4 +40,4 @@ pub use event::Event;
 pub use laws::{id_is_in_message, local_answer_is_plain};
 pub use path::{Endpoint, Path};
 pub use read::read_asked;
-pub use say::{refuse, reply_to, send};
+pub use say::{ask_is_message, refuse, reply_to, send};

@@ -1,7 +1,8 @@
 //! Writing asks and replies.
-ghost use Rattle.std.specs.Prelude.{◌≡◌, ◌≤◌, IfOk, length, option_copied};
+ghost use Rattle.std.specs.Prelude.{◌≡◌, ◌≤◌, ◌<◌, IfOk, length, option_copied};
 ghost use Rattle.runs.specs.Messages.{AreWritten, asking_header, asking_message, IsSent, IsReply, IsRefusal};
 ghost use Rattle.dname.specs.Labels.{wire};
+ghost use Rattle.message_grammar.specs.Messages.{IsMessage, encoding, folded_message};
 ghost use Rattle.events.specs.Paths.{endpoint_view, path_view, directed};
 ghost use Rattle.events.specs.Plain.{plain_outcome};
 ghost use Rattle.events.specs.Views.{action_view, bytes_in};
@@ -15,6 +16,7 @@ use crate::path::{Endpoint, Path};
 use dname::{Heap, Starved};
 use front::{Echo, Outcome, Refusal, Start, Via, refusal_bytes, reply_bytes};
 use rdata::{INTERNET, Records};
+use std::alloc::Allocator;
 use wire::{Header, Message, Question, Questions, UDP_LIMIT, WireError, Writer, encode};
 
 /// An iterative query as it goes out on its path, to the server's `port`: one question in class IN, RD clear, at most 512
@@ -55,8 +57,23 @@ fn ask_bytes<A: Heap>(alloc: A, ask: &Ask<A>) -> Result<Bytes<A>, Starved>
     }
 }
 
+/// The encoding of each ask is that ask (RFC 1035, section 4.1), before it is written.
+pub fn ask_is_message<A: Allocator>(ask: &Ask<A>)
+    ensures { IsMessage (encoding (asking_message ask.now)) (folded_message (asking_message ask.now)) }
+{
+    ask.name.well_formed_law();
+    short_law(ask);
+    id_law(ask.id);
+    let _ = ask.kind.number();
+}
+
+// An ID has 16 bits.
+fn id_law(id: u16)
+    ensures { id < 65536 }
+{}
+
 // A name has at most 255 bytes.
-fn short_law<A: Heap>(ask: &Ask<A>)
+fn short_law<A: Allocator>(ask: &Ask<A>)
     ensures { length (wire ask.now.name) ≤ 255 }
 {
     let _ = ask.name.size();

@@ -4,3 +4,4 @@ pub mod Following
 pub mod Single
 pub mod Short
 pub mod Echoes
+pub mod Written

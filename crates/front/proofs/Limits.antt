@@ -1,7 +1,7 @@
 -- Which reply goes out, by the length of the whole one.
 use Rattle.std.proofs.Common.{◌≡◌, ◌∙◌, sym, ap, subst, ℕ, ◌<◌, ◌≤◌, nat_lt, false, if◌then◌else◌, Option, Some, List, [], ◌∷◌, length, refl}
 use Rattle.std.proofs.lemmas.Bool.{lt-ltb, le-ltb}
-use Rattle.message_grammar.specs.Messages.{Message, IsMessage, encoding, folded_message}
+use Rattle.message_grammar.specs.Messages.{Message, encoding}
 use Rattle.causes.specs.declared.cause.Cause.{Cause}
 use Rattle.causes.specs.declared.cause.Cause.TheVariants.{ReplyTooLarge}
 use Rattle.front.specs.Replies.{whole_reply, truncated_reply, bare, failure_of, reply_of}
@@ -34,9 +34,9 @@ pub reply_fails : {A : Type 0} (q : Query A) (o : Outcome A) (m : Message) → m
     → reply_of Tcp q o ≡ (bare q.start (q.echo ∷ []) false 2, Some ReplyTooLarge)
 reply_fails q o m is long = over 65535 (length (encoding (whole_reply q o))) _ _ (subst (λ (n : Message). 65535 < length (encoding n)) is long)
 
--- What is read back as a message is read back as the reply, where that message goes out.
-pub reply_read : {A : Type 0} (via way : Via) (q : Query A) (o : Outcome A) (m n : Message) (cause : Option Cause) (bytes : List ℕ) → via ≡ way → reply_of way q o ≡ (n, cause)
-    → m ≡ n → IsMessage bytes (folded_message m) → IsMessage bytes (folded_message (reply_of via q o).0)
-reply_read via way q o m n cause bytes on sent is read =
-    subst (λ (v : Via). IsMessage bytes (folded_message (reply_of v q o).0)) (sym on)
-    (subst (λ (r : Message × Option Cause). IsMessage bytes (folded_message r.0)) (sym sent) (subst (λ (k : Message). IsMessage bytes (folded_message k)) is read))
+-- What is said of the bytes of a message is said of them with the reply, where that message goes out.
+pub reply_said : {A : Type 0} (P : List ℕ → Message → Type 0) (via way : Via) (q : Query A) (o : Outcome A) (m n : Message) (cause : Option Cause) (bytes : List ℕ) → via ≡ way
+    → reply_of way q o ≡ (n, cause) → m ≡ n → P bytes m → P bytes (reply_of via q o).0
+reply_said P via way q o m n cause bytes on sent is said =
+    subst (λ (v : Via). P bytes (reply_of v q o).0) (sym on)
+    (subst (λ (r : Message × Option Cause). P bytes r.0) (sym sent) (subst (λ (k : Message). P bytes k) is said))

@@ -8,7 +8,8 @@
 //!
 //! Promised: the meaning of bytes (`IsRequest`, one at most: `reading_is_one`), the answer of local zones
 //! (`AnswersLocally`, `local_answer_is_one`), and the reply to the byte (`reply_of`), which repeats the client's
-//! question in its own letters (`echo_is_question`). Reading a reply, or fewer than 12 bytes, takes no memory.
+//! question in its own letters (`echo_is_question`). Its bytes are read back as the reply, which is known before they
+//! are written (`reply_is_message`, `refusal_is_message`). Reading a reply, or fewer than 12 bytes, takes no memory.
 //! Not here: recursion (`iterate`, `engine`); sockets (`server`).
 //!
 //! ```text
@@ -31,6 +32,6 @@ pub use follow::{Step, alias_target, answer_local};
 pub use laws::{echo_is_question, local_answer_is_one, reading_is_one};
 pub use queries::{End, Outcome, Query, Refusal, Request};
 pub use read::read_query;
-pub use reply::{refusal_bytes, reply_bytes};
+pub use reply::{refusal_bytes, refusal_is_message, reply_bytes, reply_is_message};
 pub use start::Start;
 pub use wire::{Draft, Echo, Via, Writer};

@@ -2,6 +2,7 @@
 ghost use Rattle.std.specs.Prelude.{◌≡◌, false, ◌≤◌, ◌<◌, [], IfOk, IfSome, length, option_copied};
 ghost use Rattle.dname.specs.Labels.{wire};
 ghost use Rattle.wire.specs.Drafts.{asked_alone};
+ghost use Rattle.message_grammar.specs.Compression.{IsCompressed};
 ghost use Rattle.message_grammar.specs.Messages.{IsMessage, encoding, folded_message};
 ghost use Rattle.front.specs.Replies.{reply_header, whole_reply, truncated_reply, bare, reply_of, failure_of, refusal_reply};
 ghost use Rattle.wire.specs.Limits.{limit_of};
@@ -15,7 +16,8 @@ use wire::{Draft, Echo, Header, TCP_LIMIT, UDP_LIMIT, Via, Writer, rcode};
 
 /// The bytes of the reply, and the cause of a SERVFAIL. A reply over 512 bytes on UDP keeps header and
 /// question, with TC set; one over 65,535 bytes on TCP is a SERVFAIL. The bytes are read back as the reply, its
-/// question in lower case.
+/// question in lower case, and its names are compressed (RFC 1035, section 4.1.4). After a refusal the writer may
+/// hold a part of the reply: the next message begins it anew.
 pub fn reply_bytes<A: Heap>(
     writer: &mut Writer<A>,
     query: &Query<A>,
@@ -24,6 +26,7 @@ pub fn reply_bytes<A: Heap>(
 ) -> Result<(Vec<u8, A>, Option<Cause>), Starved>
     ensures bytes { IfOk result (λ r. r.0.items ≡ encoding (reply_of via query.now outcome.now).0) }
     ensures message { IfOk result (λ r. IsMessage r.0.items (folded_message (reply_of via query.now outcome.now).0)) }
+    ensures compressed { IfOk result (λ r. IsCompressed r.0.items (reply_of via query.now outcome.now).0) }
     ensures cause { IfOk result (λ r. r.1 ≡ (reply_of via query.now outcome.now).1) }
     ensures short { IfOk result (λ r. length r.0.items ≤ limit_of via) }
 {
@@ -51,8 +54,24 @@ pub fn reply_bytes<A: Heap>(
     }
 }
 
+/// The encoding of each reply is that reply, its question in lower case (RFC 1035, section 4.1), before it is written.
+pub fn reply_is_message<A: Heap>(query: &Query<A>, outcome: &Outcome<A>, via: Via)
+    ensures { IsMessage (encoding (reply_of via query.now outcome.now).0) (folded_message (reply_of via query.now outcome.now).0) }
+{
+    draft_of(query, outcome).writable_law();
+    short_law(Some(&query.echo));
+}
+
+/// The encoding of each refusal is that reply, its question in lower case, before it is written.
+pub fn refusal_is_message<A: Heap>(refusal: Refusal, start: Start, echo: Option<&Echo<A>>)
+    ensures { IsMessage (encoding (refusal_reply refusal start (option_copied echo.entry))) (folded_message (refusal_reply refusal start (option_copied echo.entry))) }
+{
+    empty_draft(start, echo, refusal.rcode()).writable_law();
+    short_law(echo);
+}
+
 /// The bytes of the reply to a query that is refused without a look-up: header, and the question if it was read. They
-/// are read back as that reply, its question in lower case.
+/// are read back as that reply, its question in lower case. Of the writer holds what holds for `reply_bytes`.
 pub fn refusal_bytes<A: Heap>(
     writer: &mut Writer<A>,
     refusal: Refusal,
@@ -61,6 +80,7 @@ pub fn refusal_bytes<A: Heap>(
 ) -> Result<Vec<u8, A>, Starved>
     ensures bytes { IfOk result (λ r. r.items ≡ encoding (refusal_reply refusal start (option_copied echo.entry))) }
     ensures message { IfOk result (λ r. IsMessage r.items (folded_message (refusal_reply refusal start (option_copied echo.entry)))) }
+    ensures compressed { IfOk result (λ r. IsCompressed r.items (refusal_reply refusal start (option_copied echo.entry))) }
     ensures short { IfOk result (λ r. length r.items ≤ UDP_LIMIT) }
 {
     short_law(echo);
@@ -81,6 +101,7 @@ fn short_bytes<A: Heap>(
     requires fits { length (encoding draft.now) ≤ limit }
     ensures bytes { IfOk result (λ r. r.items ≡ encoding draft.now) }
     ensures message { IfOk result (λ r. IsMessage r.items (folded_message draft.now)) }
+    ensures compressed { IfOk result (λ r. IsCompressed r.items draft.now) }
     ensures short { IfOk result (λ r. length r.items ≤ limit) }
 {
     match draft.encode(writer, limit)? {

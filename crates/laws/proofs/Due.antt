@@ -8,12 +8,12 @@ use Rattle.front.specs.declared.queries.Request.TheVariants as request
 use Rattle.front.specs.declared.queries.Outcome.TheVariants as outcome
 use Rattle.causes.specs.declared.cause.Cause.TheVariants as cause
 use Rattle.resolution.specs.Jobs.{Stores, Job, Next, AskUdp, AskTcp, Done, Fail}
-use Rattle.runs.specs.States.{Event, Client, Datagram, TcpReply, TcpFailed, Tick, Action, MoreDue, Served, Nobody, OpenQuery, Turn, Plain, ClientQuery, Open, due_moment, State, moved}
+use Rattle.runs.specs.States.{Event, Client, Datagram, TcpReply, TcpFailed, Tick, Action, MoreDue, Served, Nobody, OpenQuery, Turn, Plain, ClientQuery, Open, due_moment, Site, State, moved}
 use Rattle.runs.specs.Messages.{IsReply}
-use Rattle.runs.specs.Steps.{Comes, IsOpened, at_once, crowded, admitted, IsHandled, IsIgnored, ServesOpen, IsFirstDue, IsLate, SomeDue, IsFollowed, IsTicked, IsTurn}
-use Rattle.runs.specs.Runs.{GivesOut, is_ask}
+use Rattle.runs.specs.Steps.{Comes, IsOpened, at_once, crowded, admitted, IsHandled, IsIgnored, ServesOpen, IsFirstDue, IsLate, SomeDue, IsFollowed, IsTicked, IsTurn, Step}
+use Rattle.runs.specs.Runs.{Run, GivesOut, is_ask}
 use Rattle.runs.proofs.Clocks.{turn_stays}
-use Rattle.laws.specs.Laws.{is_reply, IsOnlyAction, IsDue, IsTick, DueInOrder}
+use Rattle.laws.specs.Laws.{is_reply, IsOnlyAction, IsDue, IsTick, TicksInOrder, DueInOrder}
 use Rattle.laws.proofs.Fates.{reply_is, ask_is}
 use Rattle.laws.proofs.Orders.{IsStep, one_step, run_orderly}
 
@@ -67,8 +67,9 @@ told_at_ticks s (Tick now) served (Some out) new h g = (now, refl)
 not_due : (s : State) (now : ℕ) (q : Open) → ((p : Open) → Contains s.queries p → s.clock < due_moment p) → IsDue s q → ⊥
 not_due s now q nobody (there, due) = let lt = nobody q there in omega arith
 
-pub due_in_order : DueInOrder
-due_in_order site past old now served out new legal step = record { none = none step.turn; first = λ p due. first step.turn p due; more = more step.turn; told = λ p due other. told step.turn p due other }
+tick_in_order : (site : Site) (past : List Turn) (old : State) (now : ℕ) (served : Served) (out : List Action) (new : State) → Run site past old → Step old (Tick now) served (Some out) new
+    → TicksInOrder (moved old (Tick now)) served out new
+tick_in_order site past old now served out new legal step = record { none = none step.turn; first = λ p due. first step.turn p due; more = more step.turn; told = λ p due other. told step.turn p due other }
   where
     s : State
     s = moved old (Tick now)
@@ -116,3 +117,9 @@ due_in_order site past old now served out new legal step = record { none = none 
     told (inl h) p due other = absurd (not_due s now p h.nobody due)
     told (inr (f, x, inl (e, due))) p d other = subst (λ (l : List Action). Contains l MoreDue) (sym e) (Contains-append_right f (MoreDue ∷ []) MoreDue (Contains-head MoreDue []))
     told (inr (f, x, inr (e, none))) p (there, due) other = absurd (none (p, is.to_new p there other, subst (λ (n : ℕ). due_moment p ≤ n) (sym clock) due))
+
+pub due_in_order : DueInOrder
+due_in_order site past old t new legal step now out tick gives =
+    subst (λ (e : Event). TicksInOrder (moved old e) t.served out new) (sym tick)
+    (tick_in_order site past old now t.served out new legal
+    (subst (λ (o : Option (List Action)). Step old (Tick now) t.served o new) gives (subst (λ (e : Event). Step old e t.served t.out new) tick step)))

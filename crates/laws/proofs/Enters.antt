@@ -29,7 +29,7 @@ use Rattle.runs.specs.States as states
 use Rattle.runs.specs.Messages.{Brings}
 use Rattle.runs.specs.Runs.{IsOpenAskOf, Earlier, clock_of}
 use Rattle.laws.specs.Failures.{SaysFailure}
-use Rattle.laws.specs.Spent.{AsksBy, EndsBadly, IsBad, BringsTruncated, IsOpenAsk, IsOver, MayStart, IsUdpPath, Repeats, LearnsLink, TellsOfNone}
+use Rattle.laws.specs.Spent.{AsksBy, AsksZone, EndsBadly, IsBad, BringsTruncated, IsOpenAsk, IsOver, MayStart, IsUdpPath, Repeats, LearnsLink, TellsOfNone}
 use Rattle.laws.proofs.TimelyLists.{more_followed}
 use Rattle.laws.proofs.TimelyStores.{kept_from, cut_kept_from}
 use Rattle.retry.proofs.Steps.{timed_out_low, answered_low}
@@ -46,6 +46,10 @@ brought_ends port ask (Datagram now sock from bytes) m b = (names_end_in_root by
 brought_ends port ask (TcpReply now number bytes) m b = (names_end_in_root bytes m b.1).authority
 brought_ends port ask (states.TcpFailed now number) m b = absurd b
 brought_ends port ask (Tick now) m b = absurd b
+
+-- The query is open after these steps with this job: the zone that it asks is that of its innermost search.
+abbrev pub IsShown : ℕ → Home → ℕ → List Turn → Job → Type 0
+IsShown port home k past j = (s : Search) (rest : List Search) → j.searches ≡ s ∷ rest → AsksZone port home k (s.frame).zone past
 
 -- ---- the ask over TCP is an open ask
 
@@ -64,10 +68,11 @@ module _ (port : ℕ) (home : Home) (k : ℕ) (turn : Turn) (past : List Turn) (
   grown = inr (turn, refl)
 
   -- The asked server said nothing of use: the search goes on.
-  pub ends_badly : (b : Bool) (s : Search) → ask.name ≡ s.name → ask.kind ≡ s.kind → ((c : Cut) → (s.frame).zone ≡ c.owner → IsBad port c.owner ask turn.event)
+  pub ends_badly : (b : Bool) (s : Search) → ask.name ≡ s.name → ask.kind ≡ s.kind → AsksZone port home k (s.frame).zone past → ((c : Cut) → (s.frame).zone ≡ c.owner → IsBad port c.owner ask turn.event)
       → IsAsk port home k past (Passed b K) s ask.server → IsIdle port home k (turn ∷ past) (Passed b M) s
-  ends_badly b s name kind bad h =
-      let ended : EndsBadly port k h.cut.owner s.name s.kind ask.server turn past = (ask, served, asked, record { server = refl; name = name; kind = kind }, bad h.cut h.stands.zone) in
+  ends_badly b s name kind shown bad h =
+      let zone : AsksZone port home k h.cut.owner past = subst (λ (z : Name). AsksZone port home k z past) h.stands.zone shown in
+      let ended : EndsBadly port home k h.cut.owner s.name s.kind ask.server turn past = (ask, served, asked, record { server = refl; name = name; kind = kind }, bad h.cut h.stands.zone, zone) in
       let wider = passed_on port home past (turn ∷ past) grown k K M more_known b in
       let later = asked_on port home past (turn ∷ past) grown k (Passed b K) (Passed b M) wider s h.cut h.ended h.asked in
       let z = h.cut.owner in
@@ -87,7 +92,7 @@ module _ (port : ℕ) (home : Home) (k : ℕ) (turn : Turn) (past : List Turn) (
       once_later b s z a (inr e) = inr (e.0, more_known s.name s.kind a e.1)
 
       -- It ended so before, or it was known to fail then.
-      again : (b : Bool) (s : Search) (z : Name) (a : Addr) → EndsBadly port k z s.name s.kind a turn past → FailsOnce port home k past (Passed b K) z s.name s.kind a
+      again : (b : Bool) (s : Search) (z : Name) (a : Addr) → EndsBadly port home k z s.name s.kind a turn past → FailsOnce port home k past (Passed b K) z s.name s.kind a
           → FailsTwice port home k (turn ∷ past) (Passed b M) z s.name s.kind a
       again b s z a ended (inl e) = inl (inl (ended, e))
       again b s z a ended (inr e) = inr (e.0, more_known s.name s.kind a e.1)
@@ -121,12 +126,12 @@ module _ (port : ℕ) (home : Home) (k : ℕ) (turn : Turn) (past : List Turn) (
     known_now = some_on port home past (turn ∷ past) grown k K M more_known j.skipped known
 
     -- Nothing of use came: what is due next is due.
-    pub goes_further : ((c : Cut) → (s.frame).zone ≡ c.owner → IsBad port c.owner ask turn.event) → j.searches ≡ s ∷ rest → p ≡ point Go j stores → Sound p
-    goes_further bad is e = subst Sound (sym e) (record {
+    pub goes_further : AsksZone port home k (s.frame).zone past → ((c : Cut) → (s.frame).zone ≡ c.owner → IsBad port c.owner ask turn.event) → j.searches ≡ s ∷ rest → p ≡ point Go j stores → Sound p
+    goes_further shown bad is e = subst Sound (sym e) (record {
       told = told;
       marks = marks_now;
       stands = subst (λ (l : List Search). OnTop port home k (turn ∷ past) (Passed j.skipped M) j.name j.kind l (IsIdle port home k (turn ∷ past) (Passed j.skipped M))) (sym is)
-          (ends_badly j.skipped s top.1 top.2 bad top.0, around_now);
+          (ends_badly j.skipped s top.1 top.2 shown bad top.0, around_now);
       known = known_now;
     })
 
@@ -263,11 +268,11 @@ module _ (port : ℕ) (home : Home) (k : ℕ) (turn : Turn) (past : List Turn) (
           open_udp (ByUdp sock) u a = a
           open_udp (ByTcp number) u a = absurd u
 
-      pub class_enters : (c : class.Class) → class_of (s.frame).zone s.name s.kind (via_of ask.path) m ≡ c → j.searches ≡ s ∷ rest → ByClass now ask.server s rest c j stores p → Sound p
-      class_enters (class.Answer l) is searches h = answer_enters l is h
-      class_enters (class.Referral at ns glue ttl) is searches h = referral_enters at ns glue ttl is h
-      class_enters class.Truncated is searches h = truncated_enters is searches h
-      class_enters (class.Failed f) is searches h = goes_further (λ c zone. inr (inr (
+      pub class_enters : AsksZone port home k (s.frame).zone past → (c : class.Class) → class_of (s.frame).zone s.name s.kind (via_of ask.path) m ≡ c → j.searches ≡ s ∷ rest → ByClass now ask.server s rest c j stores p → Sound p
+      class_enters shown (class.Answer l) is searches h = answer_enters l is h
+      class_enters shown (class.Referral at ns glue ttl) is searches h = referral_enters at ns glue ttl is h
+      class_enters shown class.Truncated is searches h = truncated_enters is searches h
+      class_enters shown (class.Failed f) is searches h = goes_further shown (λ c zone. inr (inr (
         m,
         f,
         brings,
@@ -331,21 +336,21 @@ module _ (port : ℕ) (home : Home) (k : ℕ) (turn : Turn) (past : List Turn) (
       by (s ∷ rest) e h = f s rest e h.0 h.1
 
   pub enters_sound : (now : ℕ) → now ≡ clock_of (turn ∷ past) → (input : Input) (j : Job) (stores : Stores) (p : Point) → AreTold port home past stores → AreMarked port home k past (Passed j.skipped K) j.failed
-      → (j.skipped ≡ true → SomeKnown K) → OnTop port home k past (Passed j.skipped K) j.name j.kind j.searches (IsAskingAs j.skipped) → IsInputNow input → Enters now input j stores p → Sound p
-  enters_sound now clock Start j stores p told marks known top is e = absurd is
-  enters_sound now clock (Told way server m) j stores p told marks known top (via_is, server_is, brings) e = elim e [
+      → (j.skipped ≡ true → SomeKnown K) → OnTop port home k past (Passed j.skipped K) j.name j.kind j.searches (IsAskingAs j.skipped) → IsShown port home k past j → IsInputNow input → Enters now input j stores p → Sound p
+  enters_sound now clock Start j stores p told marks known top shown is e = absurd is
+  enters_sound now clock (Told way server m) j stores p told marks known top shown (via_is, server_is, brings) e = elim e [
     | inl (none, at) ↦ absurd (subst (λ (l : List Search). OnTop port home k past (Passed j.skipped K) j.name j.kind l (IsAskingAs j.skipped)) none top)
     | inr (s, rest, searches, by) ↦
         let h = subst (λ (l : List Search). OnTop port home k past (Passed j.skipped K) j.name j.kind l (IsAskingAs j.skipped)) searches top in
         class_enters s rest now j (with_told now s ask.server m stores) p (told_now s m now stores clock (h.0).1 (h.0).2 brings (told_later port home turn past stores told)) marks known h.0 h.1 m brings
-        (class_of (s.frame).zone s.name s.kind (via_of ask.path) m) refl searches
+        (shown s rest searches) (class_of (s.frame).zone s.name s.kind (via_of ask.path) m) refl searches
         (subst (λ (w : Via). ByClass now ask.server s rest (class_of (s.frame).zone s.name s.kind w m) j (with_told now s ask.server m stores) p) via_is
         (subst (λ (a : Addr). ByClass now a s rest (class_of (s.frame).zone s.name s.kind way m) j (with_told now s a m stores) p) server_is by))
   ]
-  enters_sound now clock (TimedOut server) j stores p told marks known top (server_is, bad) e =
-      with_top (Sound p) j top (λ s rest searches h around. goes_further s rest now j (with_timeout stores server) p (timed_told (turn ∷ past) stores server (told_later port home turn past stores told)) marks known h around (λ c zone. bad c.owner) searches e)
-  enters_sound now clock (TcpFailed server) j stores p told marks known top (server_is, bad) e =
-      with_top (Sound p) j top (λ s rest searches h around. goes_further s rest now j (with_timeout stores server) p (timed_told (turn ∷ past) stores server (told_later port home turn past stores told)) marks known h around (λ c zone. bad c.owner) searches e)
+  enters_sound now clock (TimedOut server) j stores p told marks known top shown (server_is, bad) e =
+      with_top (Sound p) j top (λ s rest searches h around. goes_further s rest now j (with_timeout stores server) p (timed_told (turn ∷ past) stores server (told_later port home turn past stores told)) marks known h around (shown s rest searches) (λ c zone. bad c.owner) searches e)
+  enters_sound now clock (TcpFailed server) j stores p told marks known top shown (server_is, bad) e =
+      with_top (Sound p) j top (λ s rest searches h around. goes_further s rest now j (with_timeout stores server) p (timed_told (turn ∷ past) stores server (told_later port home turn past stores told)) marks known h around (shown s rest searches) (λ c zone. bad c.owner) searches e)
 
   -- ---- what the stores hold where memory was wanting on the way
 

@@ -11,7 +11,7 @@ use Rattle.laws.proofs.Calls.{heard}
 use Rattle.laws.proofs.Skipped.{fails_at}
 
 -- What is made of a message changes no failure.
-class_failures : (now : ℕ) (server : Addr) (s : Search) (rest : List Search) (c : class.Class) (j : Job) (stores : Stores) (p : Point) → ByClass now server s rest c j stores p
+pub class_failures : (now : ℕ) (server : Addr) (s : Search) (rest : List Search) (c : class.Class) (j : Job) (stores : Stores) (p : Point) → ByClass now server s rest c j stores p
     → (p.stores).failures ≡ stores.failures
 class_failures now server s [] (class.Answer l) j stores p (task, job, learnt) = ap (λ (x : Stores). x.failures) learnt.stores
 class_failures now server s (around ∷ rest) (class.Answer l) j stores p (after, marks, task, learnt, hears, job) = ap (λ (x : Stores). x.failures) learnt.stores

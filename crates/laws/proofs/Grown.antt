@@ -48,11 +48,11 @@ module _ (port : ℕ) (home : Home) (old new : List Turn) (grows : Grows old new
 
   module _ (k : ℕ) (Known More : Name → ℕ → Addr → Type 0) (f : (n : Name) (t : ℕ) (a : Addr) → Known n t a → More n t a) where
     once_on : (z n : Name) (t : ℕ) (a : Addr) → FailsOnce port home k old Known z n t a → FailsOnce port home k new More z n t a
-    once_on z n t a (inl e) = inl (earlier_on (EndsBadly port k z n t a) old new grows e)
+    once_on z n t a (inl e) = inl (earlier_on (EndsBadly port home k z n t a) old new grows e)
     once_on z n t a (inr e) = inr (f n t a e)
 
     pub twice_on : (z n : Name) (t : ℕ) (a : Addr) → FailsTwice port home k old Known z n t a → FailsTwice port home k new More z n t a
-    twice_on z n t a (inl e) = inl (earlier_on (λ turn past. EndsBadly port k z n t a turn past × Earlier (EndsBadly port k z n t a) past) old new grows e)
+    twice_on z n t a (inl e) = inl (earlier_on (λ turn past. EndsBadly port home k z n t a turn past × Earlier (EndsBadly port home k z n t a) past) old new grows e)
     twice_on z n t a (inr e) = inr (f n t a e)
 
     used_on : (n : Name) (t : ℕ) (Beneath Below : Name → Type 0) (c : Cut) → ((x : Name) → Beneath x → Below x)

@@ -24,7 +24,7 @@ use Rattle.laws.proofs.Told.{AreTold, KnownIn}
 use Rattle.laws.proofs.Chains.{IsReached, rules_reach}
 use Rattle.laws.proofs.TimelyPoints.{IsSound, Lately}
 use Rattle.laws.proofs.Leaving.{IsWaitingFor}
-use Rattle.laws.proofs.Enters.{open_asks, brought_ends}
+use Rattle.laws.proofs.Enters.{IsShown, open_asks, brought_ends}
 use Rattle.laws.proofs.Timed.{IsLearnt, AreTimed, AreKnown, KnownBy, IsTimed, timed_at, rules_timed, timed_later, known_later}
 use Rattle.laws.proofs.TimelySent.{GoesTimely, leaves_timed}
 use Rattle.laws.proofs.States.{KnownNow, IsInputNow, TruncatedNow, top_at, enters_reach, lately_now, enters_now}
@@ -114,10 +114,10 @@ module _ (port : ℕ) (home : Home) (k : ℕ) (turn : Turn) (past : List Turn) (
   enters_timed (TcpFailed server) p is h = still p (with_timeout stores server) timed h
 
   -- What one call gives.
-  pub call_timed : (input : Input) (next : Next) (new : Job) (after : Stores) → IsInputNow port home k turn past ask served asked t from j stores told work input → Advances home now input j stores next new after
+  pub call_timed : IsShown port home k past j → (input : Input) (next : Next) (new : Job) (after : Stores) → IsInputNow port home k turn past ask served asked t from j stores told work input → Advances home now input j stores next new after
       → GoesTimely port home turn past k t now clock Mine (λ is. is) from j.deadline j.asks next new × AreTimed port home (turn ∷ past) after
-  call_timed input next new after is a =
-      let first = enters_now port home k turn past ask served asked t from j stores told work now clock input a.first is a.enters in
+  call_timed shown input next new after is a =
+      let first = enters_now port home k turn past ask served asked t from j stores told work now clock shown input a.first is a.enters in
       let reached = enters_reach port home k turn past ask served asked t from j stores told work now input stores a.first is a.enters in
       let (sound, reach) = rules_reach port home (turn ∷ past) t k (KnownNow port home k turn past ask served asked t from j stores told work) (TruncatedNow port home k turn past ask served asked t from j stores told work) now
       (lately_now port home k turn past ask served asked t from j stores told work now clock) a.count from a.first a.last first reached a.rules in

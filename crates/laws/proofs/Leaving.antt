@@ -37,10 +37,10 @@ module _ (port : ℕ) (home : Home) (run : List Turn) (k : ℕ) (K : Name → �
   FailsFor DeadlineOver = Unit {0}
   FailsFor ChainTooLong = EndsLong
   FailsFor TooManyAsks = Unit {0}
-  FailsFor NoServerLeft = EndsSpent port home run (HasFailed port run k) t from
+  FailsFor NoServerLeft = EndsSpent port home run (HasFailed port home run k) t from
   FailsFor ReplyTooLarge = Unit {0}
   FailsFor TooManyLookUps = Unit {0}
-  FailsFor KnownFailure = SomeKnown K × EndsSpent port home run (λ z n u a. HasFailed port run k z n u a ⊎ K n u a) t from
+  FailsFor KnownFailure = SomeKnown K × EndsSpent port home run (λ z n u a. HasFailed port home run k z n u a ⊎ K n u a) t from
 
 module _ (port : ℕ) (home : Home) (run : List Turn) (k : ℕ) (K : Name → ℕ → Addr → Type 0) (t : ℕ) (from : Name) (Truncates : Addr → Name → ℕ → Type 0) where
   abbrev pub GoesOut : Next → Job → Type 0
@@ -91,16 +91,16 @@ module _ (port : ℕ) (home : Home) (run : List Turn) (k : ℕ) (K : Name → �
   spent_for : (b : Bool) → (b ≡ true → SomeKnown K) → EndsSpent port home run (FailsTwice port home k run (Passed b K)) t from → FailsFor port home run k K t from (spent_cause b)
   spent_for true known (n, rs, few, leads, ends) = (
     known refl,
-    (n, rs, few, leads, spent_with port home run (FailsTwice port home k run (Passed true K)) (λ z m u a. HasFailed port run k z m u a ⊎ K m u a) (λ z m u a w. either z m u a w) n t 0 ends),
+    (n, rs, few, leads, spent_with port home run (FailsTwice port home k run (Passed true K)) (λ z m u a. HasFailed port home run k z m u a ⊎ K m u a) (λ z m u a w. either z m u a w) n t 0 ends),
   )
     where
-      either : (z m : Name) (u : ℕ) (a : Addr) → FailsTwice port home k run (Passed true K) z m u a → HasFailed port run k z m u a ⊎ K m u a
+      either : (z m : Name) (u : ℕ) (a : Addr) → FailsTwice port home k run (Passed true K) z m u a → HasFailed port home run k z m u a ⊎ K m u a
       either z m u a (inl w) = inl w
       either z m u a (inr w) = inr w.1
   spent_for false known (n, rs, few, leads, ends) =
-      (n, rs, few, leads, spent_with port home run (FailsTwice port home k run (Passed false K)) (HasFailed port run k) (λ z m u a w. asked z m u a w) n t 0 ends)
+      (n, rs, few, leads, spent_with port home run (FailsTwice port home k run (Passed false K)) (HasFailed port home run k) (λ z m u a w. asked z m u a w) n t 0 ends)
     where
-      asked : (z m : Name) (u : ℕ) (a : Addr) → FailsTwice port home k run (Passed false K) z m u a → HasFailed port run k z m u a
+      asked : (z m : Name) (u : ℕ) (a : Addr) → FailsTwice port home k run (Passed false K) z m u a → HasFailed port home run k z m u a
       asked z m u a (inl w) = w
       asked z m u a (inr w) = let none = w.0 in absurd (cc)
 

@@ -7,8 +7,8 @@ pub mod Due
 pub mod Enters
 pub mod Every
 pub mod Failing
-pub mod Fates
 pub mod FailureKept
+pub mod Fates
 pub mod FollowedAnswered
 pub mod FollowedLists
 pub mod FollowedSearches
@@ -17,6 +17,7 @@ pub mod Found
 pub mod Grown
 pub mod Held
 pub mod KeptEntries
+pub mod KeptFailures
 pub mod Later
 pub mod Learnt
 pub mod Leaving
@@ -24,6 +25,12 @@ pub mod LookUps
 pub mod Looked
 pub mod Meant
 pub mod Near
+pub mod NewSearches
+pub mod OneCall
+pub mod OneChoice
+pub mod OneReading
+pub mod OneRule
+pub mod OneStep
 pub mod Opened
 pub mod Opens
 pub mod OrderlyLists
@@ -32,11 +39,11 @@ pub mod Orders
 pub mod Replies
 pub mod RightEntries
 pub mod RightLists
-pub mod Room
 pub mod RightPoints
+pub mod Room
 pub mod Runs
-pub mod Servers
 pub mod Served
+pub mod Servers
 pub mod Short
 pub mod Skipped
 pub mod Sound

@@ -38,7 +38,7 @@ enters_keeps now (Told v a n) j stores p (inr (s, rest, top, h)) via server m so
 enters_keeps now (TimedOut a) j stores p h via server m sought others l told searches is = absurd (cc)
 enters_keeps now (TcpFailed a) j stores p h via server m sought others l told searches is = absurd (cc)
 
-told_is : (s : State) (port : ℕ) (e : Event) (q : Open) (input : Input) (m : Message) → (s.site).port ≡ port → IsInput s e q input → Brings port q.ask e m → input ≡ Told (via_of (q.ask).path) (q.ask).server m
+pub told_is : (s : State) (port : ℕ) (e : Event) (q : Open) (input : Input) (m : Message) → (s.site).port ≡ port → IsInput s e q input → Brings port q.ask e m → input ≡ Told (via_of (q.ask).path) (q.ask).server m
 told_is s port (Client now client way bytes) q input m here i b = absurd b
 told_is s port (Datagram now sock from bytes) q input m here (n, (path_so, to_so, was, answers_so), e) (path, to, is, answers) = e ∙ ap (Told (via_of (q.ask).path) (q.ask).server) (message_one bytes n m was is)
 told_is s port (TcpReply now number bytes) q input m here (inl (n, (path_so, was, answers_so), e)) (path, is, answers) = e ∙ ap (Told (via_of (q.ask).path) (q.ask).server) (message_one bytes n m was is)

@@ -11,10 +11,10 @@ use Rattle.front.specs.declared.queries.Request.TheVariants as request
 use Rattle.retry.specs.Plans.{Plan, wait_of}
 use Rattle.cache.specs.Failures.{failed_ask, is_failed}
 use Rattle.resolution.specs.Jobs.{Search, Job, wait_in, wait_of_job, Next, AskUdp, AskTcp, Done, Fail}
-use Rattle.runs.specs.States.{Event, Client, Datagram, TcpReply, Tick, Action, Served, Own, OpenQuery, Turn, Plain, ClientQuery, client_query, Path, ByUdp, ByTcp, Open, Site, State, moved}
+use Rattle.runs.specs.States.{Event, Client, Datagram, TcpReply, Tick, Action, Served, OpenQuery, Turn, Plain, ClientQuery, client_query, Path, Open, Site, State, moved}
 use Rattle.runs.specs.States as event
 use Rattle.runs.specs.Messages.{Brings}
-use Rattle.runs.specs.Steps.{IsOpened, at_once, crowded, admitted, IsHandled, IsIgnored, ServesOpen, IsTicked, IsTurn}
+use Rattle.runs.specs.Steps.{IsOpened, at_once, crowded, admitted, IsHandled, IsIgnored, ServesOpen, IsTicked, IsTurn, Step}
 use Rattle.runs.specs.Runs.{Run, Came, clock_of}
 use Rattle.runs.proofs.Clocks.{clock_of_run}
 use Rattle.laws.specs.Spent.{IsUdpPath}
@@ -96,10 +96,16 @@ over_at_once s client way (request.Refuse refusal start echo) served out new (is
 over_at_once s client way (request.Query q) served out new (inl (rd, h)) = λ clear. (h.served_is, (h.result, h.action, h.reply, h.out_is))
 over_at_once s client way (request.Query q) served out new (inr (rd, h)) = λ clear. absurd (let both = sym rd ∙ clear in cc)
 
-pub at_hand_is_replied : AtHandIsReplied
-at_hand_is_replied site past old now client way bytes served out new asked legal step reads =
+at_hand_comes : (old : State) (now client : ℕ) (way : Via) (bytes : List ℕ) (served : Served) (out : List Action) (new : State) (asked : Request Plain)
+    → Step old (Client now client way bytes) served (Some out) new → IsRequest bytes asked → IsOverAtOnce client way asked served out
+at_hand_comes old now client way bytes served out new asked step reads =
     let (other, read, h) = step.turn in
     subst (λ (a : Request Plain). IsOverAtOnce client way a served out) (asked_once bytes other asked read reads) (over_at_once (moved old (Client now client way bytes)) client way other served out new h)
+
+pub at_hand_is_replied : AtHandIsReplied
+at_hand_is_replied site past old t new legal step now client way bytes out asked comes gives reads =
+    at_hand_comes old now client way bytes t.served out new asked
+    (subst (λ (o : Option (List Action)). Step old (Client now client way bytes) t.served o new) gives (subst (λ (e : Event). Step old e t.served t.out new) comes step)) reads
 
 -- ---- whom a step asks
 

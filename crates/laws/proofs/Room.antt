@@ -12,7 +12,7 @@ use Rattle.classify.specs.Classes.{class_of}
 use Rattle.cache.specs.Cached.{Hit}
 use Rattle.resolution.specs.Jobs.{Home, Stores, with_told, Search, Taken, local_link, Job, Input, Start, Told, TimedOut, TcpFailed, Next, Point}
 use Rattle.resolution.specs.Rules.{Says, Hits, Finds, Rule, takes, asks, follows, restarts, skips, hears, descends, gives_up, Rules, IsAnswered, ByClass, Enters, Advances, Stops}
-use Rattle.runs.specs.States.{Event, Client, Datagram, TcpReply, Tick, Action, Served, Turn, Plain, Site, State, moved}
+use Rattle.runs.specs.States.{Event, Client, Datagram, TcpReply, Tick, Action, Served, Plain, State, moved}
 use Rattle.runs.specs.States as event
 use Rattle.runs.specs.Steps.{IsOpened, at_once, crowded, admitted, IsIgnored, ServesOpen, IsHandled, IsTicked, IsLeft, IsTurn}
 use Rattle.laws.proofs.Skipped.{same_after}

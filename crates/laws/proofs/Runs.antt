@@ -8,7 +8,7 @@ use Rattle.front.specs.declared.queries.Request.{Request}
 use Rattle.front.specs.declared.queries.Request.TheVariants as request
 use Rattle.resolution.specs.Jobs.{Home, Job, Start}
 use Rattle.resolution.specs.Rules.{Stops}
-use Rattle.runs.specs.States.{Event, Client, Datagram, TcpReply, Tick, Action, Reply, Turn, Served, OpenQuery, Plain, client_query, Open, AreApart, moment, Site, State, IsNew, moved}
+use Rattle.runs.specs.States.{Event, Client, Datagram, TcpReply, Tick, Action, Reply, Turn, Served, Plain, client_query, Open, AreApart, moment, Site, State, IsNew, moved}
 use Rattle.runs.specs.States as states
 use Rattle.runs.specs.Messages.{IsReply, IsRefusal}
 use Rattle.runs.specs.Runs.{Run, Always, clock_of, asks_among, is_for}
@@ -21,6 +21,7 @@ use Rattle.cache.specs.Cached.{Hit}
 use Rattle.cache.specs.Failures.{FailedAsk}
 use Rattle.laws.specs.Replies.{RepliesAre}
 use Rattle.laws.specs.Caused.{IsExplained as IsExplainedSpec}
+use Rattle.laws.proofs.Enters.{IsShown}
 use Rattle.laws.proofs.Timed.{timed_later}
 use Rattle.laws.proofs.Later.{told_later}
 use Rattle.laws.proofs.Learnt.{start_stop_timed}
@@ -34,7 +35,8 @@ use Rattle.laws.proofs.Turns.{Keeps, hears_now, ignored_now, late_now, left_now,
 
 -- ---- a step
 
-module _ (past : List Turn) (s : State) (h : IsExplained (s.site).port (s.site).home past s) (apart : AreApart s.queries) where
+module _ (past : List Turn) (s : State) (h : IsExplained (s.site).port (s.site).home past s) (apart : AreApart s.queries)
+    (shown : (q : Open) → Contains s.queries q → IsShown (s.site).port (s.site).home q.number past q.job) where
   abbrev IsNow : Event → Type 0
   IsNow event = s.clock ≡ max (clock_of past) (moment event)
 
@@ -89,13 +91,13 @@ module _ (past : List Turn) (s : State) (h : IsExplained (s.site).port (s.site).
       let k = late_now past s h (turn_of (Tick now) served (Some out)) clock first new late in
       (k.0, followed_answered (s.site).home (turn_of (Tick now) served (Some out)) past (IsExplainedSpec (s.site).port (s.site).home) first out new followed k.1)
   ticked_now now served out new clock (inr (first, inr hears, followed)) enough =
-      let k = hears_now past s h (turn_of (Tick now) served (Some out)) clock first new (λ a c. followed_gives first out new followed a c) (followed_count first out new followed) hears enough in
+      let k = hears_now past s h (turn_of (Tick now) served (Some out)) clock shown first new (λ a c. followed_gives first out new followed a c) (followed_count first out new followed) hears enough in
       (k.0, followed_answered (s.site).home (turn_of (Tick now) served (Some out)) past (IsExplainedSpec (s.site).port (s.site).home) first out new followed k.1)
 
   heard_now : (event : Event) (served : Served) (out : List Action) (new : State) (clock : IsNow event) → (heard : IsIgnored s event served out new ⊎ ServesOpen s event served out new)
       → Spends s (LooksUp (turn_of event served (Some out))) (either_call s event served out new heard) → Keeps past s h (turn_of event served (Some out)) clock new out
   heard_now event served out new clock (inl e) enough = ignored_now past s h (turn_of event served (Some out)) clock out new e
-  heard_now event served out new clock (inr e) enough = hears_now past s h (turn_of event served (Some out)) clock out new (λ a c. c) refl e enough
+  heard_now event served out new clock (inr e) enough = hears_now past s h (turn_of event served (Some out)) clock shown out new (λ a c. c) refl e enough
 
   -- Of a step where memory was wanting nothing goes out.
   abbrev pub Explains : Event → Served → Option (List Action) → State → Type 0
@@ -159,7 +161,20 @@ run_explained site (t ∷ past) s (old, before, step) =
     let (h, all) = run_explained site past old before in
     let (clock, here) = clock_of_run site past old before in
     let keeps = turn_explained past (moved old t.event) (moves (old.site).port (old.site).home past old t.event (subst (λ (x : Site). IsExplained x.port x.home past old) (sym here) h)) (stays_apart site past old before)
-    t.event t.served t.out s (ap (λ (n : ℕ). max n (moment t.event)) clock) step.turn
+    (λ q there sought others searches. record {
+      site = site;
+      port_is = sym (ap (λ (x : Site). x.port) here);
+      home_is = sym (ap (λ (x : Site). x.home) here);
+      state = old;
+      leads = before;
+      query = q;
+      open_now = there;
+      number = refl;
+      sought = sought;
+      others = others;
+      searches = searches;
+      zone = refl;
+    }) t.event t.served t.out s (ap (λ (n : ℕ). max n (moment t.event)) clock) step.turn
     (step_spends (old.site).port (old.site).home site past old t s (sym (ap (λ (x : Site). x.port) here)) (sym (ap (λ (x : Site). x.home) here)) before step) in (
       subst (λ (x : Site). IsExplained x.port x.home (t ∷ past) s) here keeps.0,
       (subst (λ (x : Site). RepliesAre x.home (IsExplainedSpec x.port x.home) t past) here keeps.1, all),

@@ -29,7 +29,7 @@ use Rattle.laws.proofs.Chains.{LeadsOn, IsOfName, IsReached, rules_reach}
 use Rattle.laws.proofs.Leaving.{IsWaitingFor, GoesOut, leaves_tell}
 use Rattle.laws.proofs.Later.{told_later, leads_later, work_on}
 use Rattle.laws.proofs.Enters as enters
-use Rattle.laws.proofs.Enters.{taken_now, enters_sound, stops_told}
+use Rattle.laws.proofs.Enters.{IsShown, taken_now, enters_sound, stops_told}
 use Rattle.laws.proofs.TimelyLists.{some_or_none}
 
 abbrev pub turn_of : Event → Served → Option (List Action) → Turn
@@ -204,13 +204,13 @@ module _ (port : ℕ) (home : Home) (k : ℕ) (turn : Turn) (past : List Turn) (
     pub lately_now : Lately port home k (turn ∷ past) KnownNow TruncatedNow now
     lately_now n u a since e young = inl (served, (since, e, subst (λ (m : ℕ). m - since < 30000) clock young))
 
-    pub enters_now : (input : Input) (p : Point) → IsInputNow input → Enters now input j stores p → IsSound port home k (turn ∷ past) KnownNow TruncatedNow p
-    enters_now input p is h = enters_sound port home k turn past ask served asked KnownBefore KnownNow still_known now clock input j stores p told work.marks work.known work.top is h
+    pub enters_now : IsShown port home k past j → (input : Input) (p : Point) → IsInputNow input → Enters now input j stores p → IsSound port home k (turn ∷ past) KnownNow TruncatedNow p
+    enters_now shown input p is h = enters_sound port home k turn past ask served asked KnownBefore KnownNow still_known now clock input j stores p told work.marks work.known work.top shown is h
 
-    pub call_tells : (input : Input) (next : Next) (new : Job) (after : Stores) → IsInputNow input → Advances home now input j stores next new after
+    pub call_tells : IsShown port home k past j → (input : Input) (next : Next) (new : Job) (after : Stores) → IsInputNow input → Advances home now input j stores next new after
         → GoesOut port home (turn ∷ past) k KnownNow t from TruncatedNow next new × AreTold port home (turn ∷ past) after
-    call_tells input next new after is a =
-        let first = enters_now input a.first is a.enters in
+    call_tells shown input next new after is a =
+        let first = enters_now shown input a.first is a.enters in
         let reached = enters_reach now input stores a.first is a.enters in
         let (sound, reach) = rules_reach port home (turn ∷ past) t k KnownNow TruncatedNow now lately_now a.count from a.first a.last first reached a.rules in
         leaves_tell port home (turn ∷ past) k KnownNow t from TruncatedNow now a.last next new after sound reach a.leaves

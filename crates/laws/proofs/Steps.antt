@@ -216,7 +216,7 @@ module _ (site : Site) (past : List Turn) (old : State) (t : Turn) (out : List A
       by (inr ((now, tick), late)) = absurd (not_late now tick late)
 
 pub lost_is_asked_on : LostIsAskedOn
-lost_is_asked_on site past old t out new q sought others server a vain due = by vain
+lost_is_asked_on site past old t new out q sought others server a vain due = by vain
   where
     on : ((now : ℕ) × (t.event ≡ Tick now) × ((at_moment old t).clock < (q.job).deadline)) ⊎ (((now : ℕ) × (number : ℕ) × (t.event ≡ TcpFailed now number))
         ⊎ ((now : ℕ) × (number : ℕ) × (bytes : List ℕ) × (t.event ≡ TcpReply now number bytes) × ((m : Message) → Brings ((at_moment old t).site).port q.ask t.event m → ⊥)))
@@ -239,14 +239,14 @@ lost_is_asked_on site past old t out new q sought others server a vain due = by 
         }) due
 
 pub truncated_is_asked_again : TruncatedIsAskedAgain
-truncated_is_asked_again site past old t out new q sought others a short =
+truncated_is_asked_again site past old t new out q sought others a short =
     let (first, v, behind) = told_by site past old t out new q sought others a short.message short.brings in
     sends_tcp site past old t out new q sought others a _ first (q.ask).server v behind
     (truncated_is_repeated ((at_moment old t).site).home (at_moment old t).clock _ q.job (at_moment old t).stores v.next v.job v.stores sought others (q.ask).server v.advances
     (hears_class site past old t out new q sought others a class.Truncated short.message short.is_class))
 
 pub answer_is_replied : AnswerIsReplied
-answer_is_replied site past old t out new q sought l a answer ends fresh =
+answer_is_replied site past old t new out q sought l a answer ends fresh =
     let (first, v, behind) = told_by site past old t out new q sought [] a answer.message answer.brings in
     let s : State = at_moment old t in
     let is : v.next ≡ Done (q.job).chain (received_link sought.name l s.clock)
@@ -254,7 +254,7 @@ answer_is_replied site past old t out new q sought l a answer ends fresh =
     replies site past old t out new q sought [] a _ v.stores first behind (subst (λ (k : Next). Comes s q.client_query q.number s.opened k v.job v.stores first new) is v.comes)
 
 pub alias_is_kept : AliasIsKept
-alias_is_kept site past old t out new q sought r a answer fresh = by (told_by site past old t out new q sought [] a answer.message answer.brings)
+alias_is_kept site past old t new out q sought r a answer fresh = by (told_by site past old t out new q sought [] a answer.message answer.brings)
   where
     s : State
     s = at_moment old t
@@ -279,7 +279,7 @@ alias_is_kept site past old t out new q sought r a answer fresh = by (told_by si
         (hears_class site past old t out new q sought [] a (class.Answer (Alias r)) answer.message answer.is_class) fresh)
 
 pub referral_is_asked : ReferralIsAsked
-referral_is_asked site past old t out new q sought others at ns glue ttl a referral = by (told_by site past old t out new q sought others a referral.message referral.brings)
+referral_is_asked site past old t new out q sought others at ns glue ttl a referral = by (told_by site past old t out new q sought others a referral.message referral.brings)
   where
     s : State
     s = at_moment old t

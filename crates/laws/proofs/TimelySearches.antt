@@ -69,10 +69,10 @@ module _ (port : ℕ) (home : Home) (k : ℕ) (run : List Turn) (Known : Name �
   -- Why a server of a zone is of no use once, and for good: it was asked for nothing, once and twice, or it is known to
   -- fail.
   abbrev pub FailsOnce : Name → Name → ℕ → Addr → Type 0
-  FailsOnce z n t a = Earlier (EndsBadly port k z n t a) run ⊎ Known n t a
+  FailsOnce z n t a = Earlier (EndsBadly port home k z n t a) run ⊎ Known n t a
 
   abbrev pub FailsTwice : Name → Name → ℕ → Addr → Type 0
-  FailsTwice z n t a = HasFailed port run k z n t a ⊎ Known n t a
+  FailsTwice z n t a = HasFailed port home run k z n t a ⊎ Known n t a
 
   -- A search whose frame was opened at the cut.
   pub record Stands (s : Search) (c : Cut) : Type 0 where

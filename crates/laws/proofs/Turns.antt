@@ -20,7 +20,7 @@ use Rattle.laws.proofs.TimelyPoints.{Lately}
 use Rattle.laws.proofs.Later.{work_on}
 use Rattle.laws.specs.LookUps.{HasLookedUp}
 use Rattle.laws.specs.Caused.{AreCrowded, IsPastDeadline, IsExplained as IsExplainedSpec}
-use Rattle.laws.proofs.Enters.{open_asks}
+use Rattle.laws.proofs.Enters.{IsShown, open_asks}
 use Rattle.laws.proofs.Leaving.{FailsFor, IsWaitingFor, GoesOut}
 use Rattle.laws.proofs.TimelySent.{FailsAt, GoesTimely}
 use Rattle.laws.proofs.Learnt.{call_timed, stop_timed, start_timed}
@@ -73,13 +73,13 @@ module _ (past : List Turn) (s : State) (h : IsExplained (s.site).port (s.site).
       rs,
       few,
       leads,
-      spent_with (s.site).port (s.site).home (turn ∷ past) _ (λ z n t a. HasFailed (s.site).port (turn ∷ past) q.number z n t a ⊎ WasKnown (s.site).port q.number turn past n t a)
+      spent_with (s.site).port (s.site).home (turn ∷ past) _ (λ z n t a. HasFailed (s.site).port (s.site).home (turn ∷ past) q.number z n t a ⊎ WasKnown (s.site).port q.number turn past n t a)
           (λ z n t a w. either z n t a w) m _ 0 spent,
     ),
   )
     where
-      either : (z n : Name) (t : ℕ) (a : Addr) → HasFailed (s.site).port (turn ∷ past) q.number z n t a ⊎ KnownIn (s.site).port q.number (turn ∷ past) n t a
-          → HasFailed (s.site).port (turn ∷ past) q.number z n t a ⊎ WasKnown (s.site).port q.number turn past n t a
+      either : (z n : Name) (t : ℕ) (a : Addr) → HasFailed (s.site).port (s.site).home (turn ∷ past) q.number z n t a ⊎ KnownIn (s.site).port q.number (turn ∷ past) n t a
+          → HasFailed (s.site).port (s.site).home (turn ∷ past) q.number z n t a ⊎ WasKnown (s.site).port q.number turn past n t a
       either z n t a (inl w) = inl w
       either z n t a (inr w) = inr (known_was (s.site).port q.number turn past n t a w)
 
@@ -121,15 +121,15 @@ module _ (past : List Turn) (s : State) (h : IsExplained (s.site).port (s.site).
   )
 
   -- An open query is served by what the event is for it.
-  pub hears_now : (first : List Action) (new : State) → ((a : Action) → Contains first a → GivesOut turn.out a) → asks_in turn.out ≡ asks_among first → (e : ServesOpen s turn.event turn.served first new) → LooksUp (e.serves).next → Keeps new first
-  hears_now first new goes counts e enough =
+  pub hears_now : ((q : Open) → Contains s.queries q → IsShown (s.site).port (s.site).home q.number past q.job) → (first : List Action) (new : State) → ((a : Action) → Contains first a → GivesOut turn.out a) → asks_in turn.out ≡ asks_among first → (e : ServesOpen s turn.event turn.served first new) → LooksUp (e.serves).next → Keeps new first
+  hears_now shown first new goes counts e enough =
       let q = e.query in
       let sound = h.queries q e.serves.stands in
       let input = is_input (s.site).port (s.site).home s q turn.event turn.served turn.out past q.number e.served_is sound.asked (KnownIn (s.site).port q.number past) (KnownIn (s.site).port q.number (turn ∷ past)) (λ n t a e. inr e) e.input refl e.brings in
       let tells = call_tells (s.site).port (s.site).home q.number turn past q.ask e.served_is sound.asked (type_number ((q.client_query).query).kind) ((q.client_query).query).name q.job s.stores h.told.0 sound.work
-      s.clock clock e.input e.serves.next e.serves.job e.serves.stores input e.serves.advances in
+      s.clock clock (shown q e.serves.stands) e.input e.serves.next e.serves.job e.serves.stores input e.serves.advances in
       let timely = call_timed (s.site).port (s.site).home q.number turn past q.ask e.served_is sound.asked (type_number ((q.client_query).query).kind) ((q.client_query).query).name q.job s.stores h.told.0 sound.work
-      s.clock clock h.told.1 sound.known sound.remote sound.plain e.input e.serves.next e.serves.job e.serves.stores input e.serves.advances in
+      s.clock clock h.told.1 sound.known sound.remote sound.plain (shown q e.serves.stands) e.input e.serves.next e.serves.job e.serves.stores input e.serves.advances in
       comes_of q e.serves.next e.serves.job e.serves.stores first new e.serves.stands e.served_is goes counts tells.0 timely.0 (tells.1, timely.1) enough e.serves.comes
 
   -- Its time is up.
@@ -206,13 +206,13 @@ module _ (past : List Turn) (s : State) (h : IsExplained (s.site).port (s.site).
         rs,
         few,
         leads,
-        spent_with (s.site).port (s.site).home (turn ∷ past) _ (λ z n t a. HasFailed (s.site).port (turn ∷ past) s.opened z n t a ⊎ WasKnown (s.site).port s.opened turn past n t a)
+        spent_with (s.site).port (s.site).home (turn ∷ past) _ (λ z n t a. HasFailed (s.site).port (s.site).home (turn ∷ past) s.opened z n t a ⊎ WasKnown (s.site).port s.opened turn past n t a)
             (λ z n t a w. either z n t a w) m _ 0 spent,
       ),
     )
       where
-        either : (z n : Name) (t : ℕ) (a : Addr) → HasFailed (s.site).port (turn ∷ past) s.opened z n t a ⊎ KnownHere n t a
-            → HasFailed (s.site).port (turn ∷ past) s.opened z n t a ⊎ WasKnown (s.site).port s.opened turn past n t a
+        either : (z n : Name) (t : ℕ) (a : Addr) → HasFailed (s.site).port (s.site).home (turn ∷ past) s.opened z n t a ⊎ KnownHere n t a
+            → HasFailed (s.site).port (s.site).home (turn ∷ past) s.opened z n t a ⊎ WasKnown (s.site).port s.opened turn past n t a
         either z n t a (inl w) = inl w
         either z n t a (inr w) = inr (inl w)
 

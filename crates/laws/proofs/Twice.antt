@@ -8,12 +8,13 @@ use Rattle.classify.specs.Classes as class
 use Rattle.classify.specs.Classes.{class_of, by_code, truncated_over}
 use Rattle.classify.specs.declared.class.Failure.{Failure}
 use Rattle.wire.specs.declared.via.Via.TheVariants as via
+use Rattle.resolution.specs.Jobs.{Home}
 use Rattle.runs.specs.States.{Turn, Event, Client, Datagram, TcpReply, TcpFailed, Tick, Path, ByUdp, ByTcp, Ask, IsFor, via_of}
 use Rattle.runs.specs.Messages.{Brings}
 use Rattle.runs.specs.Runs.{Earlier, IsOpenAskOf}
 use Rattle.laws.specs.Spent.{Twice, IsUdpPath, Repeats, AsksBy, IsBad, EndsBadly, HasFailed, SendsTo}
 
-module _ (port k : ℕ) where
+module _ (port : ℕ) (home : Home) (k : ℕ) where
   -- A reply that was truncated over UDP is no bad end.
   truncated_no_failure : (z n : Name) (t : ℕ) (m : Message) (f : Failure) → m.header.tc ≡ true → class_of z n t via.Udp m ≡ class.Failed f → ⊥
   truncated_no_failure z n t m f tc e = let short : class_of z n t via.Udp m ≡ class.Truncated = ap (λ b. cond b (truncated_over via.Udp) (by_code z n t m)) tc in absurd (apart (sym short ∙ e))
@@ -53,10 +54,10 @@ module _ (port k : ℕ) where
     origin ask (ByTcp number) run e same h = repeated ask run same h
 
     abbrev Bad : Turn → List Turn → Type 0
-    Bad turn past = EndsBadly port k z n t a turn past
+    Bad turn past = EndsBadly port home k z n t a turn past
 
     bad_origin : (turn : Turn) (past : List Turn) → Bad turn past → Earlier (SendsTo port k a n t) past
-    bad_origin turn past (ask, served, asked, same, bad) = origin ask ask.path past refl same asked
+    bad_origin turn past (ask, served, asked, same, bad, zone) = origin ask ask.path past refl same asked
 
     earlier_origin : (run : List Turn) → Earlier Bad run → Earlier (SendsTo port k a n t) run
     earlier_origin [] h = absurd h
@@ -67,21 +68,21 @@ module _ (port k : ℕ) where
     second_by_udp ask [] udp same h e = absurd h
     second_by_udp ask (turn ∷ past) udp same (inl (served, sent)) (inl b) = inl ((ask, udp, same, served, sent), bad_origin turn past b)
     second_by_udp ask (turn ∷ past) udp same (inl (served, sent)) (inr e) = inl ((ask, udp, same, served, sent), earlier_origin past e)
-    second_by_udp ask (turn ∷ past) udp same (inr (other, more)) (inl (bad, served, asked, for_it, ends)) = absurd (other served)
+    second_by_udp ask (turn ∷ past) udp same (inr (other, more)) (inl (bad, served, asked, for_it, ends, zone)) = absurd (other served)
     second_by_udp ask (turn ∷ past) udp same (inr (other, more)) (inr e) = inr (second_by_udp ask past udp same more e)
 
     second_repeated : (ask : Ask) (run : List Turn) → IsFor a n t ask → Repeats port k ask run → Earlier Bad run → Twice (SendsTo port k a n t) run
     second_repeated ask [] same h e = absurd h
-    second_repeated ask (turn ∷ past) same (inl (served, sent, short)) (inl (bad, is, asked, for_it, ends)) = absurd (not_both z bad short.ask turn.event short.message short.udp short.brings short.tc ends)
+    second_repeated ask (turn ∷ past) same (inl (served, sent, short)) (inl (bad, is, asked, for_it, ends, zone)) = absurd (not_both z bad short.ask turn.event short.message short.udp short.brings short.tc ends)
     second_repeated ask (turn ∷ past) same (inl (served, sent, short)) (inr e) = inr (second_by_udp short.ask past short.udp (same_ask ask short.ask same short.same) short.asked e)
-    second_repeated ask (turn ∷ past) same (inr (other, more)) (inl (bad, served, asked, for_it, ends)) = absurd (other served)
+    second_repeated ask (turn ∷ past) same (inr (other, more)) (inl (bad, served, asked, for_it, ends, zone)) = absurd (other served)
     second_repeated ask (turn ∷ past) same (inr (other, more)) (inr e) = inr (second_repeated ask past same more e)
 
     second : (ask : Ask) (path : Path) (run : List Turn) → ask.path ≡ path → IsFor a n t ask → AsksBy port k ask path run → Earlier Bad run → Twice (SendsTo port k a n t) run
     second ask (ByUdp sock) run e same h earlier = second_by_udp ask run (subst IsUdpPath (sym e) tt) same h earlier
     second ask (ByTcp number) run e same h earlier = second_repeated ask run same h earlier
 
-    pub two_asks : (run : List Turn) → HasFailed port run k z n t a → Twice (SendsTo port k a n t) run
+    pub two_asks : (run : List Turn) → HasFailed port home run k z n t a → Twice (SendsTo port k a n t) run
     two_asks [] h = absurd h
-    two_asks (turn ∷ past) (inl ((ask, served, asked, same, bad), e)) = inr (second ask ask.path past refl same asked e)
+    two_asks (turn ∷ past) (inl ((ask, served, asked, same, bad, zone), e)) = inr (second ask ask.path past refl same asked e)
     two_asks (turn ∷ past) (inr h) = inr (two_asks past h)

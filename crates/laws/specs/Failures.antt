@@ -27,7 +27,7 @@ EndsSpent port home run Fails t from =
 
 abbrev pub HasNoServer : ℕ → Home → ClientQuery → Turn → List Turn → Type 0
 HasNoServer port home who turn past =
-    (k : ℕ) × IsNumber k turn past × EndsSpent port home (turn ∷ past) (HasFailed port (turn ∷ past) k) (type_number (who.query).kind) (who.query).name
+    (k : ℕ) × IsNumber k turn past × EndsSpent port home (turn ∷ past) (HasFailed port home (turn ∷ past) k) (type_number (who.query).kind) (who.query).name
 
 -- ---- servers that failed lately
 
@@ -54,7 +54,7 @@ WasKnown port k turn past n t a = FailedLately port n t a turn past ⊎ Earlier 
 abbrev pub HasKnownFailure : ℕ → Home → ClientQuery → Turn → List Turn → Type 0
 HasKnownFailure port home who turn past =
     (k : ℕ) × IsNumber k turn past × ((n : Name) × (t : ℕ) × (a : Addr) × WasKnown port k turn past n t a)
-    × EndsSpent port home (turn ∷ past) (λ z n t a. HasFailed port (turn ∷ past) k z n t a ⊎ WasKnown port k turn past n t a) (type_number (who.query).kind) (who.query).name
+    × EndsSpent port home (turn ∷ past) (λ z n t a. HasFailed port home (turn ∷ past) k z n t a ⊎ WasKnown port k turn past n t a) (type_number (who.query).kind) (who.query).name
 
 abbrev pub IsSpentFor : ℕ → Home → ClientQuery → Outcome Plain → Turn → List Turn → Type 0
 IsSpentFor port home who result turn past = result ≡ Fail NoServerLeft → HasNoServer port home who turn past

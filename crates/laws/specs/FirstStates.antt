@@ -11,5 +11,8 @@ first_of site (t ∷ past) s (old, legal, step) = first_of site past old legal
 abbrev pub room_of : Stores → List ℕ
 room_of stores = stores.cache_cap ∷ stores.delegations_cap ∷ stores.penalties_cap ∷ stores.failures_cap ∷ []
 
+abbrev pub HasFirstRoom : (site : Site) (run : List Turn) (s : State) → Run site run s → Type 0
+HasFirstRoom site run s legal = room_of s.stores ≡ room_of (first_of site run s legal).stores
+
 abbrev pub RoomStays : Type 0
-RoomStays = (site : Site) (run : List Turn) (s : State) (legal : Run site run s) → room_of s.stores ≡ room_of (first_of site run s legal).stores
+RoomStays = (site : Site) (run : List Turn) (s : State) (legal : Run site run s) → HasFirstRoom site run s legal

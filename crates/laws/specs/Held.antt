@@ -15,7 +15,7 @@ use Rattle.cache.specs.Keys.{Key}
 use Rattle.cache.specs.Cached.{Hit, lent, hit_of}
 use Rattle.resolution.specs.Jobs.{Home, Taken, local_link, kept_link, IsEnding}
 use Rattle.resolution.specs.Rules.{Says, IsRemote, asked_of}
-use Rattle.runs.specs.States.{Client, Action, Served, Own, Turn, Plain, client_query, recursive, Site, State, moved}
+use Rattle.runs.specs.States.{Client, Action, Own, Turn, Plain, client_query, recursive, Site, State, moved}
 use Rattle.runs.specs.Messages.{outcome_of, IsReply}
 use Rattle.runs.specs.Steps.{Step}
 use Rattle.runs.specs.Runs.{Run}
@@ -33,9 +33,12 @@ IsHeldChain home now t es n (l ∷ ls) last = Holds home now t es n l × ((r : R
 
 -- A recursive query with such a chain, of at most eight aliases, is answered with it in the very step in which it
 -- comes, and nothing is sent.
+abbrev pub RepliesHeld : Site → State → Turn → Type 0
+RepliesHeld site old t =
+    (now client : ℕ) (way : Via) (bytes : List ℕ) (out : List Action) (q : Query Plain) (chain : List Taken) (last : Taken)
+    → t.event ≡ Client now client way bytes → t.out ≡ Some out → IsRequest bytes (request.Query q) → recursive q ≡ true → length chain ≤ 8
+    → IsHeldChain site.home (moved old t.event).clock (type_number q.kind) (old.stores).cache q.name chain last
+    → (t.served ≡ Own) × ((action : Action) × IsReply (client_query client way q) (outcome_of (moved old t.event).clock chain last) action × (out ≡ action ∷ []))
+
 abbrev pub HeldIsReplied : Type 0
-HeldIsReplied =
-    (site : Site) (past : List Turn) (old : State) (now client : ℕ) (way : Via) (bytes : List ℕ) (served : Served) (out : List Action) (new : State) (q : Query Plain) (chain : List Taken) (last : Taken)
-    → Run site past old → Step old (Client now client way bytes) served (Some out) new → IsRequest bytes (request.Query q) → recursive q ≡ true → length chain ≤ 8
-    → IsHeldChain site.home (moved old (Client now client way bytes)).clock (type_number q.kind) (old.stores).cache q.name chain last
-    → (served ≡ Own) × ((action : Action) × IsReply (client_query client way q) (outcome_of (moved old (Client now client way bytes)).clock chain last) action × (out ≡ action ∷ []))
+HeldIsReplied = (site : Site) (past : List Turn) (old : State) (t : Turn) (new : State) → Run site past old → Step old t.event t.served t.out new → RepliesHeld site old t

@@ -38,15 +38,21 @@ GivesOne event Nobody out = out ≡ []
 GivesOne event Own out = (IsNoQuery event × (out ≡ [])) ⊎ ((action : Action) × (is_reply action ≡ true) × (out ≡ action ∷ []))
 GivesOne event (OpenQuery k) out = (action : Action) × ((is_reply action ≡ true) ⊎ (is_ask action ≡ true)) × IsOnlyAction action out
 
+abbrev pub GivesOneAction : Turn → List Turn → Type 0
+GivesOneAction t past = (out : List Action) → t.out ≡ Some out → GivesOne t.event t.served out
+
 abbrev pub OneAction : Type 0
-OneAction = (site : Site) (run : List Turn) (s : State) → Run site run s → Always (λ t past. (out : List Action) → t.out ≡ Some out → GivesOne t.event t.served out) run
+OneAction = (site : Site) (run : List Turn) (s : State) → Run site run s → Always GivesOneAction run
 
 -- No event but a tick gives word that another query is due.
 abbrev pub IsTick : Event → Type 0
 IsTick event = (now : ℕ) × (event ≡ Tick now)
 
+abbrev pub TellsAtTicks : Turn → List Turn → Type 0
+TellsAtTicks t past = GivesOut t.out MoreDue → IsTick t.event
+
 abbrev pub MoreDueAtTicks : Type 0
-MoreDueAtTicks = (site : Site) (run : List Turn) (s : State) → Run site run s → Always (λ t past. GivesOut t.out MoreDue → IsTick t.event) run
+MoreDueAtTicks = (site : Site) (run : List Turn) (s : State) → Run site run s → Always TellsAtTicks run
 
 -- ---- one end
 
@@ -56,20 +62,27 @@ pub record IsOver (k : ℕ) (t : Turn) (past : List Turn) : Type 0 where
   pub no_ask : (action : Action) → GivesOut t.out action → is_ask action ≡ true → ⊥
 
 -- A query that is over is never served again. So it has one reply at most.
+abbrev pub IsNotOver : ℕ → Turn → List Turn → Type 0
+IsNotOver k t past = t.served ≡ OpenQuery k → Earlier (IsOver k) past → ⊥
+
 abbrev pub NeverAgain : Type 0
-NeverAgain = (site : Site) (run : List Turn) (s : State) → Run site run s → (k : ℕ) → Always (λ t past. t.served ≡ OpenQuery k → Earlier (IsOver k) past → ⊥) run
+NeverAgain = (site : Site) (run : List Turn) (s : State) → Run site run s → (k : ℕ) → Always (IsNotOver k) run
 
 abbrev pub RepliesTo : ℕ → Turn → List Turn → Type 0
 RepliesTo k t past = (t.served ≡ OpenQuery k) × ((action : Action) × GivesOut t.out action × (is_reply action ≡ true))
 
+abbrev pub RepliesOnce : ℕ → Turn → List Turn → Type 0
+RepliesOnce k t past = RepliesTo k t past → Earlier (RepliesTo k) past → ⊥
+
 abbrev pub OneReply : Type 0
-OneReply = (site : Site) (run : List Turn) (s : State) → Run site run s → (k : ℕ) → Always (λ t past. RepliesTo k t past → Earlier (RepliesTo k) past → ⊥) run
+OneReply = (site : Site) (run : List Turn) (s : State) → Run site run s → (k : ℕ) → Always (RepliesOnce k) run
 
 -- Only one client's query comes under a number.
+abbrev pub ComesOnce : ℕ → Turn → List Turn → Type 0
+ComesOnce k t past = (who : ClientQuery) → Came (OpenQuery k) who t past → Earlier (λ u before. (other : ClientQuery) × Came (OpenQuery k) other u before) past → ⊥
+
 abbrev pub OneComing : Type 0
-OneComing =
-    (site : Site) (run : List Turn) (s : State) → Run site run s → (k : ℕ)
-    → Always (λ t past. (who : ClientQuery) → Came (OpenQuery k) who t past → Earlier (λ u before. (other : ClientQuery) × Came (OpenQuery k) other u before) past → ⊥) run
+OneComing = (site : Site) (run : List Turn) (s : State) → Run site run s → (k : ℕ) → Always (ComesOnce k) run
 
 -- ---- one open ask
 
@@ -90,18 +103,20 @@ FewAsks = (site : Site) (run : List Turn) (s : State) → Run site run s → (k 
 abbrev pub IsLine : Open → ℕ → Addr → ℕ → Type 0
 IsLine q sock server id = ((q.ask).path ≡ ByUdp sock) × ((q.ask).server ≡ server) × ((q.ask).id ≡ id)
 
+abbrev pub HaveOwnLines : List Open → Type 0
+HaveOwnLines queries = (p q : Open) (sock : ℕ) (server : Addr) (id : ℕ) → Contains queries p → Contains queries q → IsLine p sock server id → IsLine q sock server id → p ≡ q
+
 abbrev pub OneLine : Type 0
-OneLine =
-    (site : Site) (run : List Turn) (s : State) → Run site run s → (p q : Open) (sock : ℕ) (server : Addr) (id : ℕ)
-    → Contains s.queries p → Contains s.queries q → IsLine p sock server id → IsLine q sock server id → p ≡ q
+OneLine = (site : Site) (run : List Turn) (s : State) → Run site run s → HaveOwnLines s.queries
 
 -- ---- one query a step
 
 -- No open query is changed, opened or closed but the one that is served.
+abbrev pub LeavesOthers : State → Turn → State → Type 0
+LeavesOthers old t new = (q : Open) → t.served ≢ OpenQuery q.number → (Contains old.queries q → Contains new.queries q) × (Contains new.queries q → Contains old.queries q)
+
 abbrev pub OthersStay : Type 0
-OthersStay =
-    (site : Site) (past : List Turn) (old : State) (t : Turn) (new : State) → Run site past old → Step old t.event t.served t.out new
-    → (q : Open) → t.served ≢ OpenQuery q.number → (Contains old.queries q → Contains new.queries q) × (Contains new.queries q → Contains old.queries q)
+OthersStay = (site : Site) (past : List Turn) (old : State) (t : Turn) (new : State) → Run site past old → Step old t.event t.served t.out new → LeavesOthers old t new
 
 -- ---- due queries
 
@@ -117,7 +132,8 @@ pub record TicksInOrder (s : State) (served : Served) (out : List Action) (new :
   pub more : Contains out MoreDue → (p : Open) × IsDue s p × (served ≢ OpenQuery p.number)
   pub told : (p : Open) → IsDue s p → served ≢ OpenQuery p.number → Contains out MoreDue
 
+abbrev pub ServesInOrder : State → Turn → State → Type 0
+ServesInOrder old t new = (now : ℕ) (out : List Action) → t.event ≡ Tick now → t.out ≡ Some out → TicksInOrder (moved old t.event) t.served out new
+
 abbrev pub DueInOrder : Type 0
-DueInOrder =
-    (site : Site) (past : List Turn) (old : State) (now : ℕ) (served : Served) (out : List Action) (new : State) → Run site past old → Step old (Tick now) served (Some out) new
-    → TicksInOrder (moved old (Tick now)) served out new
+DueInOrder = (site : Site) (past : List Turn) (old : State) (t : Turn) (new : State) → Run site past old → Step old t.event t.served t.out new → ServesInOrder old t new

@@ -16,7 +16,10 @@ pub mod Calls
 pub mod Steps
 pub mod Held
 pub mod Opens
+pub mod NewSearches
 pub mod Looks
+pub mod KeptFailures
+pub mod Determined
 pub mod LookUps
 pub mod Meant
 pub mod Uses

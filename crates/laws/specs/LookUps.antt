@@ -54,16 +54,20 @@ abbrev pub FewLookUps : Type 0
 FewLookUps = (site : Site) (run : List Turn) (s : State) (legal : Run site run s) (k : ℕ) → look_ups_of k site run s legal ≤ max_look_ups
 
 -- A call that fails since its look-ups are used up is one of a query that had 64.
+abbrev pub HadAllLookUps : (site : Site) (past : List Turn) (old : State) (t : Turn) (new : State) → Run site past old → Step old t.event t.served t.out new → Type 0
+HadAllLookUps site past old t new legal step =
+    (call : Call (moved old t.event)) → step_call old t new step ≡ Some call → call.next ≡ Fail TooManyLookUps → look_ups_by t.served site past old t new legal step ≡ max_look_ups
+
 abbrev pub LookUpsAreSpent : Type 0
 LookUpsAreSpent =
-    (site : Site) (past : List Turn) (old : State) (t : Turn) (new : State) (legal : Run site past old) (step : Step old t.event t.served t.out new) (call : Call (moved old t.event))
-    → step_call old t new step ≡ Some call → call.next ≡ Fail TooManyLookUps → look_ups_by t.served site past old t new legal step ≡ max_look_ups
+    (site : Site) (past : List Turn) (old : State) (t : Turn) (new : State) (legal : Run site past old) (step : Step old t.event t.served t.out new) → HadAllLookUps site past old t new legal step
 
 -- No step takes more rules than these.
+abbrev pub IsShort : (old : State) (t : Turn) (new : State) → Step old t.event t.served t.out new → Type 0
+IsShort old t new step = (call : Call (moved old t.event)) → step_call old t new step ≡ Some call → (call.advances).count ≤ 488
+
 abbrev pub StepsAreShort : Type 0
-StepsAreShort =
-    (site : Site) (past : List Turn) (old : State) (t : Turn) (new : State) (legal : Run site past old) (step : Step old t.event t.served t.out new) (call : Call (moved old t.event))
-    → step_call old t new step ≡ Some call → (call.advances).count ≤ 488
+StepsAreShort = (site : Site) (past : List Turn) (old : State) (t : Turn) (new : State) → Run site past old → (step : Step old t.event t.served t.out new) → IsShort old t new step
 
 -- Why a query fails since its look-ups are used up. A run shows events and actions alone, and 64 look-ups may send
 -- nothing. So there are states through which these steps lead, by rules that take 64 turns of servers' names for the

@@ -123,12 +123,15 @@ abbrev pub kept_of : Search → Link → ℕ → KeptAnswer
 kept_of sought l now = record { name = sought.name; kind = sought.kind; hit = hit_from l now }
 
 -- A step that does not run out of memory caches the answer that it accepts, and no other.
-abbrev pub AcceptedIsLooked : Type 0
-AcceptedIsLooked =
-    (site : Site) (past : List Turn) (old : State) (t : Turn) (new : State) → Run site past old → (step : Step old t.event t.served t.out new) → t.out ≢ None
+abbrev pub CachesAnswer : (site : Site) (old : State) (t : Turn) (new : State) → Step old t.event t.served t.out new → Type 0
+CachesAnswer site old t new step =
+    t.out ≢ None
     → ((q : Open) (sought : Search) (others : List Search) (l : Link) → AcceptsLink site.port old t q sought others l → (step_looks old t new step).accepted ≡ Some (kept_of sought l (moved old t.event).clock))
     × ((a : KeptAnswer) → (step_looks old t new step).accepted ≡ Some a
     → (q : Open) × (sought : Search) × (others : List Search) × (l : Link) × AcceptsLink site.port old t q sought others l × (a ≡ kept_of sought l (moved old t.event).clock))
+
+abbrev pub AcceptedIsLooked : Type 0
+AcceptedIsLooked = (site : Site) (past : List Turn) (old : State) (t : Turn) (new : State) → Run site past old → (step : Step old t.event t.served t.out new) → CachesAnswer site old t new step
 
 -- ---- over a run
 
@@ -149,8 +152,11 @@ IsOnlyLiveEntry now a es = (k : Key) (h : Hit) → Contains es (k, h) → k.name
 -- A link that was accepted with a TTL above 0 is the cache's answer to its question while it lives. That holds where
 -- since then no link of its name was accepted, no other entry of its name lives, fewer links were cached and found than
 -- the cache has room for, and memory ran out in no step.
-abbrev pub KeptIsFound : Type 0
-KeptIsFound =
-    (site : Site) (run : List Turn) (s : State) (legal : Run site run s) (a : KeptAnswer) (n now : ℕ)
+abbrev pub FindsKept : (site : Site) (run : List Turn) (s : State) → Run site run s → Type 0
+FindsKept site run s legal =
+    (a : KeptAnswer) (n now : ℕ)
     → IsKeptSince site a run s legal n → n < (s.stores).cache_cap → (a.hit).ttl ≢ 0 → is_live now a.hit ≡ true → IsOnlyLiveEntry now a (s.stores).cache
     → hit_of (lent (asked_of site.home a.name a.kind) now (s.stores).cache) ≡ Some a.hit
+
+abbrev pub KeptIsFound : Type 0
+KeptIsFound = (site : Site) (run : List Turn) (s : State) (legal : Run site run s) → FindsKept site run s legal

@@ -29,10 +29,13 @@ IsForOpenQuery site s t q =
     ⊎ (((now : ℕ) × (t.event ≡ Tick now) × (due_moment q ≤ s.clock)) ⊎ ((t.out ≡ None) × IsMeant s t.event q)))
 
 -- A query is served under its number where it comes, or where the event is for it, and in no other step.
-abbrev pub ServedIsMeant : Type 0
-ServedIsMeant =
-    (site : Site) (past : List Turn) (old : State) (t : Turn) (new : State) → Run site past old → Step old t.event t.served t.out new → (k : ℕ) → t.served ≡ OpenQuery k
+abbrev pub IsServedRightly : Site → List Turn → State → Turn → Type 0
+IsServedRightly site past old t =
+    (k : ℕ) → t.served ≡ OpenQuery k
     → ((who : ClientQuery) × Came (OpenQuery k) who t past) ⊎ ((q : Open) × Contains old.queries q × (q.number ≡ k) × IsForOpenQuery site (moved old t.event) t q)
+
+abbrev pub ServedIsMeant : Type 0
+ServedIsMeant = (site : Site) (past : List Turn) (old : State) (t : Turn) (new : State) → Run site past old → Step old t.event t.served t.out new → IsServedRightly site past old t
 
 -- A request that is dropped, refused, or without RD is over in its own step, with its one reply.
 abbrev pub IsOverAtOnce : ℕ → Via → Request Plain → Served → List Action → Type 0
@@ -41,19 +44,24 @@ IsOverAtOnce client way (request.Refuse refusal start echo) served out = (served
 IsOverAtOnce client way (request.Query q) served out =
     recursive q ≡ false → (served ≡ Own) × ((o : Outcome Plain) × (action : Action) × IsReply (client_query client way q) o action × (out ≡ action ∷ []))
 
+abbrev pub EndsAtHand : Turn → Type 0
+EndsAtHand t =
+    (now client : ℕ) (way : Via) (bytes : List ℕ) (out : List Action) (asked : Request Plain)
+    → t.event ≡ Client now client way bytes → t.out ≡ Some out → IsRequest bytes asked → IsOverAtOnce client way asked t.served out
+
 abbrev pub AtHandIsReplied : Type 0
-AtHandIsReplied =
-    (site : Site) (past : List Turn) (old : State) (now client : ℕ) (way : Via) (bytes : List ℕ) (served : Served) (out : List Action) (new : State) (asked : Request Plain)
-    → Run site past old → Step old (Client now client way bytes) served (Some out) new → IsRequest bytes asked → IsOverAtOnce client way asked served out
+AtHandIsReplied = (site : Site) (past : List Turn) (old : State) (t : Turn) (new : State) → Run site past old → Step old t.event t.served t.out new → EndsAtHand t
 
 -- ---- which server a step asks
 
 -- Over UDP no server is asked that failed less than 30 seconds ago to answer the same question (RFC 2308, section 7.1).
-abbrev pub NobodyFailingIsAsked : Type 0
-NobodyFailingIsAsked =
-    (site : Site) (past : List Turn) (old : State) (t : Turn) (new : State) → Run site past old → Step old t.event t.served t.out new
-    → (q : Open) → Contains new.queries q → t.served ≡ OpenQuery q.number → IsUdpPath (q.ask).path
+abbrev pub AsksNoFailing : State → Turn → State → Type 0
+AsksNoFailing old t new =
+    (q : Open) → Contains new.queries q → t.served ≡ OpenQuery q.number → IsUdpPath (q.ask).path
     → is_failed (moved old t.event).clock (failed_ask (q.ask).name (q.ask).kind (q.ask).server) (new.stores).failures ≡ false
+
+abbrev pub NobodyFailingIsAsked : Type 0
+NobodyFailingIsAsked = (site : Site) (past : List Turn) (old : State) (t : Turn) (new : State) → Run site past old → Step old t.event t.served t.out new → AsksNoFailing old t new
 
 -- ---- the fields of an open query
 
@@ -83,5 +91,8 @@ pub record IsOfRun (site : Site) (run : List Turn) (s : State) (legal : Run site
   pub asks : (q.job).asks ≡ asks_of q.number run
   pub look_ups : (q.job).look_ups ≡ look_ups_of q.number site run s legal
 
+abbrev pub AreOfRun : (site : Site) (run : List Turn) (s : State) → Run site run s → Type 0
+AreOfRun site run s legal = (q : Open) → Contains s.queries q → IsOfRun site run s legal q
+
 abbrev pub OpenIsOfRun : Type 0
-OpenIsOfRun = (site : Site) (run : List Turn) (s : State) (legal : Run site run s) (q : Open) → Contains s.queries q → IsOfRun site run s legal q
+OpenIsOfRun = (site : Site) (run : List Turn) (s : State) (legal : Run site run s) → AreOfRun site run s legal

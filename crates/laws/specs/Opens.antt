@@ -112,9 +112,10 @@ pub record IsOpenedRightly (site : Site) (s : State) (served : Served) (out : Li
       → (sought : Search) × (rest : List Search) × IsGivenOf (search_at frame.name frame.kind (opened (level_of new.stores) frame.nesting frame.cut)) sought × ((q.job).searches ≡ sought ∷ rest)
 
 -- Each frame that opens in a step of a run.
-abbrev pub FramesOpenInSteps : Type 0
-FramesOpenInSteps =
-    (site : Site) (past : List Turn) (old : State) (t : Turn) (new : State) (legal : Run site past old) (step : Step old t.event t.served t.out new)
+abbrev pub OpensFrames : (site : Site) (old : State) (t : Turn) (new : State) → Step old t.event t.served t.out new → Type 0
+OpensFrames site old t new step =
     (out : List Action) (call : Call (moved old t.event)) (frame : Opening)
-    → t.out ≡ Some out → step_call old t new step ≡ Some call → Opens (moved old t.event) call frame
-    → IsOpenedRightly site (moved old t.event) t.served out new call frame
+    → t.out ≡ Some out → step_call old t new step ≡ Some call → Opens (moved old t.event) call frame → IsOpenedRightly site (moved old t.event) t.served out new call frame
+
+abbrev pub FramesOpenInSteps : Type 0
+FramesOpenInSteps = (site : Site) (past : List Turn) (old : State) (t : Turn) (new : State) → Run site past old → (step : Step old t.event t.served t.out new) → OpensFrames site old t new step

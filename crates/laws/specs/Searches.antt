@@ -14,5 +14,8 @@ pub record IsOfSearch (q : Open) : Type 0 where
   pub kind : (q.ask).kind ≡ sought.kind
   pub own : others ≡ [] → (sought.name ≡ (q.job).name) × (sought.kind ≡ (q.job).kind)
 
+abbrev pub AreOfSearches : List Open → Type 0
+AreOfSearches queries = (q : Open) → Contains queries q → IsOfSearch q
+
 abbrev pub AskIsOfSearch : Type 0
-AskIsOfSearch = (site : Site) (run : List Turn) (s : State) → Run site run s → (q : Open) → Contains s.queries q → IsOfSearch q
+AskIsOfSearch = (site : Site) (run : List Turn) (s : State) → Run site run s → AreOfSearches s.queries

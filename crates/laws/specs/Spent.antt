@@ -16,11 +16,11 @@ use Rattle.classify.specs.Lifetimes.{received}
 use Rattle.referral.specs.Cuts.{Cut}
 use Rattle.frames.specs.Frames.{taken_addresses, unknown_names}
 use Rattle.front.specs.Chains.{alias_target}
-use Rattle.resolution.specs.Jobs.{Home, IsCutOf, IsRootCut, AreAddressesOf}
+use Rattle.resolution.specs.Jobs.{Home, Search, IsCutOf, IsRootCut, AreAddressesOf}
 use Rattle.resolution.specs.Rules.{Says, asked_of}
-use Rattle.runs.specs.States.{Turn, Event, Tick, TcpReply, TcpFailed, Action, OpenQuery, Path, ByUdp, ByTcp, Ask, IsFor, via_of}
+use Rattle.runs.specs.States.{Turn, Event, Tick, TcpReply, TcpFailed, Action, OpenQuery, Path, ByUdp, ByTcp, Ask, IsFor, Open, Site, State, via_of}
 use Rattle.runs.specs.Messages.{IsSent, Brings}
-use Rattle.runs.specs.Runs.{GivesOut, Earlier, IsOpenAskOf, Accepts}
+use Rattle.runs.specs.Runs.{Run, GivesOut, Earlier, IsOpenAskOf, Accepts}
 use Rattle.laws.specs.Timely.{AcceptsAnswer}
 
 -- Two steps of the run are so.
@@ -70,13 +70,30 @@ IsBad port z ask event =
     × ((event ≡ TcpFailed now number) ⊎ ((bytes : List ℕ) × (event ≡ TcpReply now number bytes) × ((m : Message) → Brings port ask event m → ⊥))))
     ⊎ ((m : Message) × (f : Failure) × Brings port ask event m × (class_of z ask.name ask.kind (via_of ask.path) m ≡ class.Failed f)))
 
--- In this step an ask of the address for the name and type ends in vain.
-abbrev pub EndsBadly : ℕ → ℕ → Name → Name → ℕ → Addr → Turn → List Turn → Type 0
-EndsBadly port k z n t a turn past = (ask : Ask) × (turn.served ≡ OpenQuery k) × IsOpenAsk port k ask past × IsFor a n t ask × IsBad port z ask turn.event
+-- The zone whose servers query k asks after these steps: that of its innermost search, in a state to which they lead.
+pub record AsksZone (port : ℕ) (home : Home) (k : ℕ) (z : Name) (past : List Turn) : Type 0 where
+  pub site : Site
+  pub port_is : site.port ≡ port
+  pub home_is : site.home ≡ home
+  pub state : State
+  pub leads : Run site past state
+  pub query : Open
+  pub open_now : Contains state.queries query
+  pub number : query.number ≡ k
+  pub sought : Search
+  pub others : List Search
+  pub searches : (query.job).searches ≡ sought ∷ others
+  pub zone : (sought.frame).zone ≡ z
+
+-- In this step an ask of the address for the name and type ends in vain. It was an ask of the servers of that zone: what
+-- a server of another zone said, such as a referral from above, is no failure of theirs.
+abbrev pub EndsBadly : ℕ → Home → ℕ → Name → Name → ℕ → Addr → Turn → List Turn → Type 0
+EndsBadly port home k z n t a turn past =
+    (ask : Ask) × (turn.served ≡ OpenQuery k) × IsOpenAsk port k ask past × IsFor a n t ask × IsBad port z ask turn.event × AsksZone port home k z past
 
 -- The address was asked twice, and each time in vain.
-abbrev pub HasFailed : ℕ → List Turn → ℕ → Name → Name → ℕ → Addr → Type 0
-HasFailed port run k z n t a = Twice (EndsBadly port k z n t a) run
+abbrev pub HasFailed : ℕ → Home → List Turn → ℕ → Name → Name → ℕ → Addr → Type 0
+HasFailed port home run k z n t a = Twice (EndsBadly port home k z n t a) run
 
 -- In this step the address is asked for the name and type over UDP.
 abbrev pub SendsTo : ℕ → ℕ → Addr → Name → ℕ → Turn → List Turn → Type 0
@@ -85,7 +102,7 @@ SendsTo port k a n t turn past =
 
 -- Two such ends are those of two asks over UDP: an ask that goes on over TCP ends once.
 abbrev pub FailedIsAskedTwice : Type 0
-FailedIsAskedTwice = (port k : ℕ) (z n : Name) (t : ℕ) (a : Addr) (run : List Turn) → HasFailed port run k z n t a → Twice (SendsTo port k a n t) run
+FailedIsAskedTwice = (port : ℕ) (home : Home) (k : ℕ) (z n : Name) (t : ℕ) (a : Addr) (run : List Turn) → HasFailed port home run k z n t a → Twice (SendsTo port k a n t) run
 
 -- ---- links and addresses of servers' names
 

@@ -82,42 +82,57 @@ AsksServer Is site s q server sought out new =
 
 -- After an ask that ended in vain, the plan's next address that did not fail lately is asked the same question, while
 -- there is one (RFC 2308, section 7.1).
-abbrev pub LostIsAskedOn : Type 0
-LostIsAskedOn =
-    (site : Site) (past : List Turn) (old : State) (t : Turn) (out : List Action) (new : State) (q : Open) (sought : Search) (others : List Search) (server : Addr)
+abbrev pub AsksOn : Site → List Turn → State → Turn → State → Type 0
+AsksOn site past old t new =
+    (out : List Action) (q : Open) (sought : Search) (others : List Search) (server : Addr)
     → Attends site past old t out new q sought others → EndsInVain site (at_moment old t) t q sought → next_server (at_moment old t).clock (new.stores).failures sought ≡ Some server
     → AsksServer IsSentByUdp site (at_moment old t) q server sought out new
 
+abbrev pub LostIsAskedOn : Type 0
+LostIsAskedOn = (site : Site) (past : List Turn) (old : State) (t : Turn) (new : State) → AsksOn site past old t new
+
 -- After a reply that was truncated over UDP, the same server is asked the same question over TCP.
-abbrev pub TruncatedIsAskedAgain : Type 0
-TruncatedIsAskedAgain =
-    (site : Site) (past : List Turn) (old : State) (t : Turn) (out : List Action) (new : State) (q : Open) (sought : Search) (others : List Search)
+abbrev pub AsksAgain : Site → List Turn → State → Turn → State → Type 0
+AsksAgain site past old t new =
+    (out : List Action) (q : Open) (sought : Search) (others : List Search)
     → Attends site past old t out new q sought others → AcceptsAs site t q sought class.Truncated
     → AsksServer IsTcp site (at_moment old t) q (q.ask).server sought out new
 
+abbrev pub TruncatedIsAskedAgain : Type 0
+TruncatedIsAskedAgain = (site : Site) (past : List Turn) (old : State) (t : Turn) (new : State) → AsksAgain site past old t new
+
 -- After a referral of which an address is used that did not fail lately, such an address is asked the same question. It
 -- is the first of a plan by the penalties once the server that referred has its own.
-abbrev pub ReferralIsAsked : Type 0
-ReferralIsAsked =
-    (site : Site) (past : List Turn) (old : State) (t : Turn) (out : List Action) (new : State) (q : Open) (sought : Search) (others : List Search)
+abbrev pub AsksReferred : Site → List Turn → State → Turn → State → Type 0
+AsksReferred site past old t new =
+    (out : List Action) (q : Open) (sought : Search) (others : List Search)
     (at : Name) (ns glue : List Record) (ttl : ℕ)
     → Attends site past old t out new q sought others → AcceptsAs site t q sought (class.Referral at ns glue ttl)
     → (c : Cut) × IsCutOf at ns glue c
     × ((d : Addr) → next_server (at_moment old t).clock (new.stores).failures (with_frame sought (opened (level_of (with_answer (at_moment old t).stores (q.ask).server)) (sought.frame).nesting c)) ≡ Some d → AsksServer IsSentByUdp site (at_moment old t) q d sought out new)
     × ((b : Addr) → Contains (taken_addresses c) b → fails_now (at_moment old t).clock (new.stores).failures sought b ≡ false → (d : Addr) × Contains (taken_addresses c) d × AsksServer IsSentByUdp site (at_moment old t) q d sought out new)
 
+abbrev pub ReferralIsAsked : Type 0
+ReferralIsAsked = (site : Site) (past : List Turn) (old : State) (t : Turn) (new : State) → AsksReferred site past old t new
+
 -- After an answer for the query's own name that ends its chain, the reply of the whole chain goes out, where no link of
 -- it that came from the cache has expired.
-abbrev pub AnswerIsReplied : Type 0
-AnswerIsReplied =
-    (site : Site) (past : List Turn) (old : State) (t : Turn) (out : List Action) (new : State) (q : Open) (sought : Search) (l : Link)
+abbrev pub RepliesAnswer : Site → List Turn → State → Turn → State → Type 0
+RepliesAnswer site past old t new =
+    (out : List Action) (q : Open) (sought : Search) (l : Link)
     → Attends site past old t out new q sought [] → AcceptsAs site t q sought (class.Answer l) → IsEnding l → AreFresh (at_moment old t).clock (q.job).chain
     → Replies q (outcome_of (at_moment old t).clock (q.job).chain (received_link sought.name l (at_moment old t).clock)) out
 
+abbrev pub AnswerIsReplied : Type 0
+AnswerIsReplied = (site : Site) (past : List Turn) (old : State) (t : Turn) (new : State) → RepliesAnswer site past old t new
+
 -- After an alias for the query's own name, it stands in the chain of the open query, or the query is answered.
-abbrev pub AliasIsKept : Type 0
-AliasIsKept =
-    (site : Site) (past : List Turn) (old : State) (t : Turn) (out : List Action) (new : State) (q : Open) (sought : Search) (r : Record)
+abbrev pub KeepsAlias : Site → List Turn → State → Turn → State → Type 0
+KeepsAlias site past old t new =
+    (out : List Action) (q : Open) (sought : Search) (r : Record)
     → Attends site past old t out new q sought [] → AcceptsAs site t q sought (class.Answer (Alias r)) → AreFresh (at_moment old t).clock (q.job).chain
     → ((after : Open) × Contains new.queries after × (after.number ≡ q.number) × Contains (after.job).chain (received_link sought.name (Alias r) (at_moment old t).clock))
     ⊎ ((o : Outcome Plain) × Replies q o out)
+
+abbrev pub AliasIsKept : Type 0
+AliasIsKept = (site : Site) (past : List Turn) (old : State) (t : Turn) (new : State) → KeepsAlias site past old t new

@@ -32,7 +32,8 @@ AreDrawn start site [] s new n = (n ≡ zero) × (s.generator ≡ start)
 AreDrawn start site (t ∷ past) s (old, legal, step) n = (m : ℕ) × AreDrawn start site past old legal m × Draws start site old t m n × (s.generator ≡ drawn n start)
 
 -- The words of the first state's stream, which is a seed's, are taken in order, from its first.
+abbrev pub DrawsInOrder : (site : Site) (run : List Turn) (s : State) → Run site run s → Type 0
+DrawsInOrder site run s legal = (seed : List ℕ) × ((first_of site run s legal).generator ≡ of_seed seed) × (n : ℕ) × AreDrawn (of_seed seed) site run s legal n
+
 abbrev pub WordsInOrder : Type 0
-WordsInOrder =
-    (site : Site) (run : List Turn) (s : State) (legal : Run site run s)
-    → (seed : List ℕ) × ((first_of site run s legal).generator ≡ of_seed seed) × (n : ℕ) × AreDrawn (of_seed seed) site run s legal n
+WordsInOrder = (site : Site) (run : List Turn) (s : State) (legal : Run site run s) → DrawsInOrder site run s legal

@@ -1,6 +1,7 @@
 //! Messages are used, and delegations are followed: functions that do nothing, whose clauses are proved.
 
 ghost use Rattle.laws.specs.Calls.{NextIsAsked, TruncatedIsRepeated, ReferralIsFollowed, AskedDidNotFail, FailureIsKept, FramesOpenRightly, AnswerIsUsed, AliasStays};
+ghost use Rattle.laws.specs.NewSearches.{NewIsOpened};
 ghost use Rattle.laws.specs.Opens.{FramesOpenInSteps};
 ghost use Rattle.laws.specs.Searches.{AskIsOfSearch};
 ghost use Rattle.laws.specs.Steps.{LostIsAskedOn, TruncatedIsAskedAgain, ReferralIsAsked, AnswerIsReplied, AliasIsKept};
@@ -26,7 +27,8 @@ pub fn calls_law()
 /// address. A truncated reply is asked for again over TCP. A referral of which an address is used is followed. An
 /// answer that ends the chain is replied, and an alias stays in the chain. A frame that opens is at the start of its
 /// question, and the first address of its plan is asked. Only the query's deadline and its 40 asks stand before an ask,
-/// and for a new query 1,024 others.
+/// and for a new query 1,024 others. Each search that the query has after the step was there before it, is at the cut
+/// of a referral that the step accepts, or is a frame that opens in the step.
 pub fn runs_law()
     ensures ask { AskIsOfSearch }
     ensures lost { LostIsAskedOn }
@@ -35,4 +37,5 @@ pub fn runs_law()
     ensures answer { AnswerIsReplied }
     ensures alias { AliasIsKept }
     ensures opens { FramesOpenInSteps }
+    ensures searches { NewIsOpened }
 {}

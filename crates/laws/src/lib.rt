@@ -7,9 +7,10 @@
 //! no link is sent beyond its TTL, and every failure has its cause; `every_failure_is_spent`, `failed_is_asked_twice`:
 //! no server is left only where all were asked twice. `discipline_law`, `isolation_law`, `due_law`, `words_law`,
 //! `room_law`: one reply and one open ask a query, in due order, with identifiers of the first state's seed and stores
-//! of its capacities. `meant_law`: which query a step serves, and the fields of an open query. `calls_law`,
-//! `runs_law`: an accepted message is used in its own step. `held_law`, `kept_law`: local and cached links are
-//! answered, and a cached link is found until its TTL expires. `engine::Core::step` keeps each of them.
+//! of its capacities. `determined_law`: one state and one event have one outcome. `meant_law`: which query a step
+//! serves, and the fields of an open query. `calls_law`, `runs_law`: an accepted message is used in its own step.
+//! `held_law`, `kept_law`, `failures_law`: local and cached links are answered, a cached link is found until its TTL
+//! expires, and a cached failure for 30 seconds. `engine::Core::step` keeps each of them.
 //! Not here: which definitions a reader has to believe (docs/DEFINITIONS.md); that the premises can be met
 //! (`witness`); the same without a premise on servers, in a network in memory (`network`).
 //!
@@ -28,7 +29,9 @@ mod right;
 mod timely;
 
 pub use followed::{calls_law, runs_law};
-pub use kept::{held_law, kept_law};
-pub use orderly::{discipline_law, due_law, isolation_law, meant_law, room_law, words_law};
+pub use kept::{failures_law, held_law, kept_law};
+pub use orderly::{
+    determined_law, discipline_law, due_law, isolation_law, meant_law, room_law, words_law,
+};
 pub use right::{headline_and_timely_law, headline_law, truth_law};
 pub use timely::{every_failure_is_spent, failed_is_asked_twice, timely_law};

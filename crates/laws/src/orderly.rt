@@ -1,6 +1,7 @@
 //! One reply and one open ask: functions that do nothing, whose clauses are proved.
 
 ghost use Rattle.laws.specs.Laws.{OneAction, MoreDueAtTicks, NeverAgain, OneReply, OneComing, OpenByRun, FewAsks, OneLine, OthersStay, DueInOrder};
+ghost use Rattle.laws.specs.Determined.{OneCall, OneReading, OneStep};
 ghost use Rattle.laws.specs.FirstStates.{RoomStays};
 ghost use Rattle.laws.specs.LookUps.{FewLookUps, LookUpsAreSpent, StepsAreShort};
 ghost use Rattle.laws.specs.Meant.{ServedIsMeant, AtHandIsReplied, NobodyFailingIsAsked, OpenIsOfRun};
@@ -60,4 +61,14 @@ pub fn words_law()
 /// The capacity of each store is that of the first state.
 pub fn room_law()
     ensures { RoomStays }
+{}
+
+/// The outcome is determined. One input to the work on a query has one result, whichever rules lead to it, with one
+/// entry that is cached and the same hits in the cache. Over every run, two steps from one state by one event, neither
+/// of which runs out of memory, serve the same query, give the same actions and lead to the same state. What they cache
+/// and find in the cache is the same, too.
+pub fn determined_law()
+    ensures call { OneCall }
+    ensures step { OneStep }
+    ensures reading { OneReading }
 {}

@@ -1,5 +1,5 @@
 //! Records printed as a zone text.
-ghost use Rattle.std.specs.Prelude.{◌≡◌, ◌++◌, IfOk, OnOk, string_bytes};
+ghost use Rattle.std.specs.Prelude.{◌≡◌, ◌++◌, IfOk, OnOk, OnErr, string_bytes};
 ghost use Rattle.rdata.specs.Text.{record_text};
 ghost use Rattle.masterfile.specs.Printed.{line_text, file_text};
 ghost use Rattle.masterfile.specs.ReadBack.{FitMessages, IsReadAs};
@@ -32,10 +32,7 @@ pub fn print<A: Heap, B: Allocator>(
     Ok(out)
 }
 
-fn put_line<A: Allocator, B: Allocator>(
-    out: &mut String<B>,
-    record: &Record<A>,
-) -> Result<(), Starved>
+fn put_line<A: Allocator, B: Heap>(out: &mut String<B>, record: &Record<A>) -> Result<(), Starved>
     ensures { OnOk result (string_bytes out.new ≡ string_bytes out.old ++ line_text record.now) }
 {
     put_record(out, record)?;
@@ -43,12 +40,15 @@ fn put_line<A: Allocator, B: Allocator>(
     Ok(())
 }
 
-/// Appends a record as it is displayed, `OWNER TTL IN TYPE DATA`. Where memory is refused, nothing is appended.
-pub fn put_record<A: Allocator, B: Allocator>(
+/// Appends a record as it is displayed, `OWNER TTL IN TYPE DATA`. Where memory is refused, nothing is appended: the
+/// text is written apart first.
+pub fn put_record<A: Allocator, B: Heap>(
     out: &mut String<B>,
     record: &Record<A>,
 ) -> Result<(), Starved>
-    ensures { OnOk result (string_bytes out.new ≡ string_bytes out.old ++ record_text record.now) }
+    ensures ok { OnOk result (string_bytes out.new ≡ string_bytes out.old ++ record_text record.now) }
+    ensures err { OnErr result (string_bytes out.new ≡ string_bytes out.old) }
 {
-    Ok(out.write(record)?)
+    let text = record.to_string(*out.allocator())?;
+    Ok(out.push_str(&text)?)
 }

@@ -6,11 +6,10 @@ use Rattle.std.specs.List.{AllByRecursion}
 use Rattle.std.specs.Cmp.Lexicographic.{bytes_decides}
 use Rattle.std.proofs.lemmas.List.{append-nil}
 use Rattle.std.proofs.lemmas.List.Elements.{Contains-append_left, Contains-append_right, Contains-append_cases}
-use Rattle.std.proofs.lemmas.Bool.Decides.{nat_tests}
 use Rattle.dname.specs.Labels.{folded_label, folded_labels, wire, same_name, IsAtOrUnder}
-use Rattle.message_grammar.specs.Names.{IsLabelAt, IsPointerAt, Stands, as_written}
-use Rattle.message_grammar.specs.Packing.{Note, find, pointer_or, packed, noted, notes_or, packed_notes, full_notes}
-use Rattle.message_grammar.specs.Pieces.{Flat, plain_bytes, packed_name, asked_name, full_name, Piece, flat_piece, sized_group, Text, place_of, flat_bytes, flat_notes, put_flat, put_flats, group_of, with_group, put, after, empty, written}
+use Rattle.message_grammar.specs.Names.{IsLabelAt, as_written}
+use Rattle.message_grammar.specs.Packing.{Note, find, pointer_or, packed, noted, notes_or, packed_notes}
+use Rattle.message_grammar.specs.Pieces.{Flat, plain_bytes, packed_name, asked_name, full_name, Piece, flat_piece, sized_group, Text, place_of, flat_bytes, flat_notes, put_flat, put_flats, group_of, with_group, put, after, empty}
 use Rattle.message_grammar.specs.Messages.{Message, IsWritable, message_pieces, encoding}
 use Rattle.message_grammar.specs.Places.{IsAt}
 use Rattle.message_grammar.specs.Compression.{IsWrittenFor, IsOccurrence, RestAt, in_full, by_pointer, IsCompressedAt, FlatPackedAt, names_behind, FlatsPackedAt, GroupPackedAt, PiecesPackedAt, IsCompressed}
@@ -18,7 +17,7 @@ use Rattle.message_grammar.proofs.Reading.{one_reading}
 use Rattle.message_grammar.proofs.Growing.{at-grown}
 use Rattle.message_grammar.proofs.Standing.{Stood, AllStood, stood-grown, found}
 use Rattle.message_grammar.proofs.Walking.{Step, Walks, walks-grown, walks-along, packed_walks, full_walks, full_as_packed, walk_written, walk_noted, Among, HasNote}
-use Rattle.message_grammar.proofs.Written.{IsFlat, IsPiece, at_behind, piece-along, IsKept, Continues, flat_put, flats_put, group_kept, group_put, piece_put, pieces_put, grown_by}
+use Rattle.message_grammar.proofs.Written.{IsFlat, IsPiece, at_behind, piece-along, IsKept, Continues, flat_put, flats_put, group_kept, group_put, pieces_put, grown_by}
 use Rattle.message_grammar.proofs.Whole.{pieces_are}
 
 -- ---- notes in the order of their places

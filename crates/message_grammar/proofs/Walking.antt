@@ -1,13 +1,13 @@
 -- A name that was written, as a walk over its labels: which of them stand there, and which are noted.
-use Rattle.std.proofs.Common.{◌≡◌, ℕ, ◌+◌, ◌<◌, ◌≤◌, Bool, true, false, ◌⊎◌, inl, inr, List, [], ◌∷◌, ◌++◌, length, Option, Some, None, refl, sym, ◌∙◌, ap, subst, arith, length-append, append_assoc}
+use Rattle.std.proofs.Common.{◌≡◌, ℕ, ◌+◌, ◌<◌, ◌≤◌, Bool, true, false, ◌⊎◌, inl, inr, List, [], ◌∷◌, ◌++◌, length, Option, Some, None, refl, sym, ap, subst, arith, length-append, append_assoc}
 use Rattle.std.specs.Prelude.{slice_get, nat_lt, if◌then◌else◌}
 use Rattle.std.specs.List.{AllByRecursion}
 use Rattle.std.proofs.lemmas.Bool.Decides.{nat_tests}
 use Rattle.dname.specs.Labels.{folded_label, folded_labels, wire, AreLabels, AreSpelled}
 use Rattle.message_grammar.specs.Names.{IsLabelAt, IsPointerAt, as_written}
-use Rattle.message_grammar.specs.Packing.{Note, find, pointer, pointer_or, packed, noted, notes_or, packed_notes, full_notes}
+use Rattle.message_grammar.specs.Packing.{Note, find, pointer_or, packed, noted, notes_or, packed_notes, full_notes}
 use Rattle.message_grammar.specs.Compression.{LabelsAt, IsWrittenFor}
-use Rattle.message_grammar.proofs.Reading.{folded_long, one_byte, one_label, no_label_at_root, no_pointer_at_label}
+use Rattle.message_grammar.proofs.Reading.{folded_long, one_label, no_label_at_root, no_pointer_at_label}
 use Rattle.message_grammar.proofs.Growing.{get-grown, label-grown, pointer-grown}
 use Rattle.message_grammar.proofs.Standing.{get_behind, label_behind, pointer_behind, found}
 

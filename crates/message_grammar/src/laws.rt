@@ -31,8 +31,8 @@ pub fn encoding_is_message()
     ensures { EncodingIsMessage }
 {}
 
-/// The names of an encoding are compressed (RFC 1035, section 4.1.4): each is its first labels and a pointer to the longest
-/// suffix of it that occurred before, at the first place of that suffix.
+/// The names of an encoding are compressed (RFC 1035, section 4.1.4): each is its first labels and a pointer to the
+/// longest suffix of it that occurred before, at the first place of that suffix.
 pub fn encoding_is_compressed()
     ensures { EncodingIsCompressed }
 {}

@@ -6,9 +6,10 @@
 //! over. `wire` reads and writes by these words, and the contracts of replies speak in them.
 //!
 //! Promised: bytes are one message at most (`one_message_law`), with one name at each place (`one_name_law`,
-//! `one_spelling_law`). The encoding of a message is that message (`encoding_is_message`), and its names are compressed as
-//! far as they can be (`encoding_is_compressed`): `IsCompressed bytes m` speaks of bytes, places and pointers alone. The
-//! letters of a question's name change nothing else (`letters_stay_in_question`, `letters_keep_length`).
+//! `one_spelling_law`). The encoding of a message is that message (`encoding_is_message`), and its names are
+//! compressed as far as they can be (`encoding_is_compressed`): `IsCompressed bytes m` speaks of bytes, places and
+//! pointers alone. The letters of a question's name change nothing else (`letters_stay_in_question`,
+//! `letters_keep_length`).
 //!
 //! ```text
 //! ghost use Rattle.message_grammar.specs.Messages.{IsMessage};

@@ -1,4 +1,5 @@
 //! The tests of `rdata`, from outside: by what it makes public.
+mod dedup_tests;
 mod growth_tests;
 mod long_tests;
 

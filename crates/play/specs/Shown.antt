@@ -1,10 +1,11 @@
 -- What is printed of a step of a network.
-use Rattle.std.specs.Prelude.{◌≡◌, ◌⊎◌, ℕ, Option, Some, None, List, [], ◌∷◌, ◌++◌, codes, decimal}
+use Rattle.std.specs.Prelude.{◌≡◌, ◌⊎◌, ℕ, Option, Some, None, List, [], ◌∷◌, ◌++◌, codes}
 use Rattle.wire.specs.declared.via.Via.{Via}
 use Rattle.wire.specs.declared.via.Via.TheVariants.{Udp, Tcp}
 use Rattle.network.specs.Networks.{Sent, sent_at, NetworkEvent, Client, Carry, CarryTruncated, CarryTcp, Lose, Tick, NetworkAction, Reply, WasSent, WasAsked, MoreDue}
 use Rattle.reply_lines.specs.Lines.{ArePrinted, AreNone}
 use Rattle.reply_lines.specs.Asks.{IsAskPrinted}
+pub use Rattle.reply_lines.specs.Actions.{drop_line}
 
 -- The line of an ask that went out.
 abbrev pub PutsAsk : Option Sent → ℕ → Via → List ℕ → List ℕ → Type 0
@@ -29,9 +30,6 @@ client_of (CarryTruncated now k) = None
 client_of (CarryTcp now k) = None
 client_of (Lose now k) = None
 client_of (Tick now) = None
-
-abbrev pub drop_line : ℕ → List ℕ
-drop_line client = codes "drop " ++ decimal client ++ codes "\n"
 
 -- Bytes of a client after which nothing comes out are dropped.
 abbrev pub PutsOut : List Sent → Option ℕ → List NetworkAction → List ℕ → List ℕ → Type 0

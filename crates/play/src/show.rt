@@ -9,7 +9,7 @@ ghost use Rattle.play.specs.Shown.{client_of, drop_line};
 use causes::Cause;
 use dname::{Heap, Starved};
 use front::Via;
-use reply_lines::{put_ask_bytes, put_reply_bytes};
+use reply_lines::{Action, put_action};
 use score::{Clients, Count, Sends};
 use simnet::{Sim, SimAction, SimActions, SimEvent};
 use std::alloc::Allocator;
@@ -64,7 +64,7 @@ impl<A: Heap> Show<A> {
     fn let_fall(&mut self, client: u64) -> Result<(), Starved>
         ensures { OnOk result (seen self.new ≡ with_text (drop_line client) (seen self.old)) }
     {
-        write!(&mut self.text, "drop {client}\n")?;
+        put_action(self.alloc, &mut self.text, Action::Drop { client })?;
         Ok(())
     }
 
@@ -73,7 +73,7 @@ impl<A: Heap> Show<A> {
         ensures is { OnOk result (seen self.new ≡ with_text (codes "starved\n") (seen self.old)) }
         ensures passed { OnOk result (self.new.sends.passed ≡ self.old.sends.passed) }
     {
-        self.text.push_str("starved\n")?;
+        put_action(self.alloc, &mut self.text, Action::Starved)?;
         Ok(())
     }
 
@@ -87,7 +87,7 @@ impl<A: Heap> Show<A> {
             self.action(action)?;
         }
         if more_due {
-            self.text.push_str("due\n")?;
+            put_action(self.alloc, &mut self.text, Action::Due)?;
         }
         Ok(())
     }
@@ -119,7 +119,12 @@ impl<A: Heap> Show<A> {
         ensures is { OnOk result (Acts (Reply client _way bytes.now cause) (seen self.old) (seen self.new)) }
         ensures passed { OnOk result (self.new.sends.passed ≡ self.old.sends.passed) }
     {
-        put_reply_bytes(self.alloc, &mut self.text, client, bytes, cause)?;
+        let shown = Action::Reply {
+            client,
+            bytes,
+            cause,
+        };
+        put_action(self.alloc, &mut self.text, shown)?;
         if let Some(query) = self.clients.query(client) {
             self.count = self
                 .count
@@ -136,14 +141,15 @@ impl<A: Heap> Show<A> {
         self.sends.push(way)?;
         match self.network.sent(number) {
             None => Ok(()),
-            Some(sent) => put_ask_bytes(
-                self.alloc,
-                &mut self.text,
-                number,
-                way,
-                sent.to.address,
-                sent.bytes.as_slice(),
-            ),
+            Some(sent) => {
+                let shown = Action::Ask {
+                    number,
+                    way,
+                    server: sent.to.address,
+                    bytes: sent.bytes.as_slice(),
+                };
+                put_action(self.alloc, &mut self.text, shown)
+            }
         }
     }
 }

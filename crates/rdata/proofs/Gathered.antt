@@ -1,11 +1,12 @@
 -- A walk that keeps what is new makes the set.
-use Rattle.std.proofs.Common.{◌≡◌, ℕ, Bool, true, false, ◌&&◌, ◌||◌, not, cond, List, [], ◌∷◌, ◌++◌, map, filter, fold, append-nil, append_assoc, refl, sym, ◌∙◌, ap}
+use Rattle.std.proofs.Common.{◌≡◌, ℕ, ◌+◌, ◌<◌, ◌≤◌, Bool, true, false, ◌&&◌, ◌||◌, not, cond, List, [], ◌∷◌, ◌++◌, length, take, take_all, get_or, map, filter, fold, append-nil, append_assoc, refl, sym, ◌∙◌, ap}
 use Rattle.std.proofs.lemmas.Bool.{and_parts}
+use Rattle.std.proofs.lemmas.List.{take_more}
 use Rattle.dname.specs.Labels.{same_name}
 use Rattle.dname.specs.Laws.{same_name-exact}
 use Rattle.rdata.specs.Data.{same_data}
 use Rattle.rdata.specs.Records.{Record}
-use Rattle.rdata.specs.Sets.{is_repeat, once, with_ttl}
+use Rattle.rdata.specs.Sets.{is_repeat, once, lowest_ttl, with_ttl, one_set}
 use Rattle.rdata.specs.Gathering.{has, add_once, gathered}
 use Rattle.rdata.proofs.Exact.{same_data-exact}
 
@@ -99,3 +100,14 @@ fold_last t kept (x ∷ xs) r = fold_last t (add_once t kept x) xs r
 pub gathered_last : (t : ℕ) (xs : List Record) (r : Record) → gathered t (xs ++ r ∷ []) ≡ add_once t (gathered t xs) r
 unfolding gathered
 gathered_last t xs r = fold_last t [] xs r
+
+-- One record more of a list that is walked, and its end.
+pub kept_more : (t : ℕ) (rs : List Record) (i : ℕ) (r : Record) (old new : List Record) → i < length rs → r ≡ get_or rs i r → old ≡ gathered t (take i rs) → new ≡ add_once t old r
+    → new ≡ gathered t (take (i + 1) rs)
+kept_more t rs i r old new less is so_far step =
+    let more : take (i + 1) rs ≡ take i rs ++ r ∷ [] = take_more rs i r less ∙ ap (λ (y : Record). take i rs ++ y ∷ []) (sym is) in
+    step ∙ (ap (λ (l : List Record). add_once t l r) so_far ∙ (sym (gathered_last t (take i rs) r) ∙ ap (gathered t) (sym more)))
+
+pub kept_whole : (t i : ℕ) (rs kept : List Record) → length rs ≤ i → t ≡ lowest_ttl rs → kept ≡ gathered t (take i rs) → kept ≡ one_set rs
+kept_whole t i rs kept past least is =
+    is ∙ (ap (gathered t) (take_all i rs past) ∙ (gathered_once t rs ∙ ap (λ (n : ℕ). map (with_ttl n) (once rs)) least))

@@ -39,7 +39,7 @@ pub use laws::{number_names_type_law, same_data_law, word_names_type_law};
 pub use record_set::RecordSet;
 pub use records::{GREATEST_TTL, Record, Records};
 pub use rtype::{INTERNET, RType, is_same_word};
-pub use sets::{Later, lowest_ttl, put_once, same_set, set_at};
+pub use sets::{Later, dedup_set, lowest_ttl, put_once, same_set, set_at};
 pub use shared::{Place, Shared, Values};
 pub use soa::Soa;
 pub use srv::Srv;

@@ -1,19 +1,19 @@
 //! Records made one RRset (RFC 2181, sections 5 and 5.2).
-ghost use Rattle.std.specs.Prelude.{◌≡◌, ℕ, ◌≤◌, ◌∷◌, ◌++◌, [], not, cond, map, min, IfOk, OnOk};
+ghost use Rattle.std.specs.Prelude.{◌≡◌, ℕ, ◌≤◌, ◌∷◌, ◌++◌, [], not, cond, map, min, IfOk, OnOk, OnErr};
 ghost use Rattle.std.specs.List.{list_any};
-ghost use Rattle.rdata.specs.Gathering.{gathered, has_datum, add_datum};
+ghost use Rattle.rdata.specs.Gathering.{gathered, has, add_once, has_datum, add_datum};
 ghost use Rattle.rdata.specs.Kept.{datum};
 ghost use Rattle.rdata.specs.Later.{AreFound};
 ghost use Rattle.rdata.specs.Order.{same_kept};
 ghost use Rattle.rdata.specs.Records.{same_set, greatest_ttl};
 ghost use Rattle.rdata.specs.Rows.{rows, in_set};
 ghost use Rattle.rdata.specs.Selected.{is_at, records_at};
-ghost use Rattle.rdata.specs.Sets.{lowest_ttl, one_set};
+ghost use Rattle.rdata.specs.Sets.{lowest_ttl, one_set, with_ttl};
 ghost use Rattle.rdata.specs.Types.{type_number};
 
 use crate::data::RData;
 use crate::record_set::RecordSet;
-use crate::records::{GREATEST_TTL, Record};
+use crate::records::{GREATEST_TTL, Record, Records};
 use crate::rtype::RType;
 use crate::shared::Values;
 use dname::{Heap, Name, Starved};
@@ -58,6 +58,50 @@ pub fn set_at<A: Heap>(
     }))
 }
 
+/// Any records as one set (RFC 2181, sections 5 and 5.2): of those that repeat each other, TTLs aside, the first, in
+/// order, all with the lowest TTL. Of `a.example. 300 A 192.0.2.1`, `b.example. 60 A 192.0.2.1` and the first again
+/// with TTL 90 it is the first two with TTL 60. Each record is compared with each that is kept: `set_at` serves long
+/// lists.
+pub fn dedup_set<A: Heap>(alloc: A, records: &[Record<A>]) -> Result<Records<A>, Starved>
+    ensures { IfOk result (λ rs. rs ≡ one_set records.now) }
+{
+    let ttl = lowest_ttl(records);
+    let mut kept = Records::with_capacity(alloc, records.len())?;
+    for rr in records {
+        keep_once(&mut kept, ttl, rr)?;
+    }
+    Ok(kept)
+}
+
+// Adds a record with this TTL, unless it repeats one that is kept.
+fn keep_once<A: Heap>(kept: &mut Records<A>, ttl: u32, added: &Record<A>) -> Result<(), Starved>
+    requires { ttl ≤ greatest_ttl }
+    ensures { OnOk result (kept.new ≡ add_once ttl kept.old added.now) }
+{
+    if has_record(kept.as_slice(), added) {
+        return Ok(());
+    }
+    Ok(kept.push(timed(added, ttl)?)?)
+}
+
+fn has_record<A: Allocator>(kept: &[Record<A>], added: &Record<A>) -> bool
+    ensures { result ≡ has kept.now added.now }
+{
+    kept.iter().any(|rr| rr.repeats(added))
+}
+
+// A copy with this TTL.
+fn timed<A: Heap>(rr: &Record<A>, ttl: u32) -> Result<Record<A>, Starved>
+    requires { ttl ≤ greatest_ttl }
+    ensures { IfOk result (λ r. r ≡ with_ttl ttl rr.now) }
+{
+    Ok(Record {
+        owner: rr.owner.clone()?,
+        ttl,
+        value: rr.value.clone()?,
+    })
+}
+
 // The data of an owner's records of a type, each once, in order.
 fn values_at<A: Heap>(
     alloc: A,
@@ -99,7 +143,8 @@ fn lowest_ttl_at<A: Allocator>(records: &[Record<A>], owner: &Name<A>, kind: RTy
 }
 
 /// Adds data to a set that is being made, unless it has them already (RFC 2181, section 5): of 192.0.2.1, 192.0.2.2 and
-/// 192.0.2.1 the first two stay. `later` finds those that stand behind the first sixteen.
+/// 192.0.2.1 the first two stay. `later` finds those that stand behind the first sixteen. Where memory is refused, the
+/// set is as before, and `later` is of no use any more.
 pub fn put_once<'a, A: Heap>(
     values: &mut Vec<RData<A>, A>,
     later: &mut Later<'a, A>,
@@ -108,6 +153,7 @@ pub fn put_once<'a, A: Heap>(
     requires { AreFound later.old (map datum values.old.items) }
     ensures values { OnOk result (map datum values.new.items ≡ add_datum (map datum values.old.items) (datum added.now)) }
     ensures found { OnOk result (AreFound later.new (map datum values.new.items)) }
+    ensures err { OnErr result (map datum values.new.items ≡ map datum values.old.items) }
 {
     if is_new(values, later, added)? {
         values.push(added.clone()?)?;

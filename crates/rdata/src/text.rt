@@ -1,5 +1,5 @@
 //! Data in text, as a master file and the program's output lines have them (RFC 1035, section 5.1).
-ghost use Rattle.std.specs.Prelude.{◌≡◌, ◌++◌, Some, OnOk, string_bytes, flat_map};
+ghost use Rattle.std.specs.Prelude.{◌≡◌, ◌++◌, Some, OnOk, OnErr, string_bytes, flat_map};
 ghost use Rattle.std.specs.Fmt.{WritesOnOk};
 ghost use Rattle.rdata.specs.Kept.{datum};
 ghost use Rattle.rdata.specs.Text.{record_text, data_text, soa_text, srv_text, spaced_string, ipv4_text, ipv6_text, group_text, next_group_text, glyph, quoted};
@@ -10,7 +10,7 @@ use crate::records::Record;
 use crate::soa::Soa;
 use crate::srv::Srv;
 use crate::texts::{CharacterString, Texts, next_string};
-use dname::{Starved, write_number};
+use dname::{Heap, Starved, write_number};
 use std::alloc::Allocator;
 use std::fmt;
 
@@ -183,19 +183,22 @@ impl fmt::Display for Groups {
     }
 }
 
-/// Appends type and data as they are displayed: `MX 10 mail.example.`. Where memory is refused, nothing is appended.
-pub fn put_data<A: Allocator, B: Allocator>(
-    out: &mut String<B>,
-    value: &RData<A>,
-) -> Result<(), Starved>
-    ensures { OnOk result (string_bytes out.new ≡ string_bytes out.old ++ data_text (datum value.now)) }
+/// Appends type and data as they are displayed: `MX 10 mail.example.`. Where memory is refused, nothing is appended:
+/// the text is written apart first.
+pub fn put_data<A: Allocator, B: Heap>(out: &mut String<B>, value: &RData<A>) -> Result<(), Starved>
+    ensures ok { OnOk result (string_bytes out.new ≡ string_bytes out.old ++ data_text (datum value.now)) }
+    ensures err { OnErr result (string_bytes out.new ≡ string_bytes out.old) }
 {
-    Ok(out.write(value)?)
+    let text = value.to_string(*out.allocator())?;
+    Ok(out.push_str(&text)?)
 }
 
-/// Appends an IPv4 address, four numbers parted by dots: of the bytes 192, 0, 2, 1 it is `192.0.2.1`.
-pub fn put_ipv4<A: Allocator>(out: &mut String<A>, address: &[u8; 4]) -> Result<(), Starved>
-    ensures { OnOk result (string_bytes out.new ≡ string_bytes out.old ++ ipv4_text address.now) }
+/// Appends an IPv4 address, four numbers parted by dots: of the bytes 192, 0, 2, 1 it is `192.0.2.1`. Where memory is
+/// refused, nothing is appended.
+pub fn put_ipv4<A: Heap>(out: &mut String<A>, address: &[u8; 4]) -> Result<(), Starved>
+    ensures ok { OnOk result (string_bytes out.new ≡ string_bytes out.old ++ ipv4_text address.now) }
+    ensures err { OnErr result (string_bytes out.new ≡ string_bytes out.old) }
 {
-    Ok(out.write(Addr(*address))?)
+    let text = Addr(*address).to_string(*out.allocator())?;
+    Ok(out.push_str(&text)?)
 }

@@ -1,5 +1,5 @@
 //! An ask of a server as a line.
-ghost use Rattle.std.specs.Prelude.{◌≡◌, ◌⊎◌, ◌++◌, OnOk, string_bytes};
+ghost use Rattle.std.specs.Prelude.{◌≡◌, ◌⊎◌, ◌++◌, OnOk, OnErr, string_bytes};
 ghost use Rattle.reply_lines.specs.Lines.{AreNone};
 ghost use Rattle.reply_lines.specs.Asks.{IsAskPrinted, ask_text, asked_text, kind_text, question_text, way_word};
 
@@ -9,9 +9,8 @@ use std::alloc::Allocator;
 use wire::{Message, Question, Via, WireError, decode};
 
 /// Appends the line of an ask: `send NUMBER ADDRESS NAME TYPE`, or `tcp` in place of `send` over TCP, with the
-/// question of the ask's bytes. Nothing is appended where they are no message. Where memory is refused, a part of
-/// the line stands.
-pub fn put_ask_bytes<A: Heap, B: Allocator>(
+/// question of the ask's bytes. Nothing is appended where they are no message, and where memory is refused.
+pub fn put_ask_bytes<A: Heap, B: Heap>(
     alloc: A,
     out: &mut String<B>,
     number: u64,
@@ -19,7 +18,8 @@ pub fn put_ask_bytes<A: Heap, B: Allocator>(
     server: Addr,
     bytes: &[u8],
 ) -> Result<(), Starved>
-    ensures { OnOk result (IsAskPrinted bytes.now number way server.0 (string_bytes out.old) (string_bytes out.new) ⊎ AreNone bytes.now (string_bytes out.old) (string_bytes out.new)) }
+    ensures ok { OnOk result (IsAskPrinted bytes.now number way server.0 (string_bytes out.old) (string_bytes out.new) ⊎ AreNone bytes.now (string_bytes out.old) (string_bytes out.new)) }
+    ensures err { OnErr result (string_bytes out.new ≡ string_bytes out.old) }
 {
     match decode(alloc, bytes) {
         Ok(message) => put_ask(out, number, way, server, &message),
@@ -28,8 +28,24 @@ pub fn put_ask_bytes<A: Heap, B: Allocator>(
     }
 }
 
+// The line is written apart first, so that none of it stands where memory is refused.
+fn put_ask<A: Allocator, B: Heap>(
+    out: &mut String<B>,
+    number: u64,
+    way: Via,
+    server: Addr,
+    message: &Message<A>,
+) -> Result<(), Starved>
+    ensures ok { OnOk result (string_bytes out.new ≡ string_bytes out.old ++ ask_text number way server.0 message.now.questions) }
+    ensures err { OnErr result (string_bytes out.new ≡ string_bytes out.old) }
+{
+    let mut text = String::new(*out.allocator());
+    put_line(&mut text, number, way, server, message)?;
+    Ok(out.push_str(&text)?)
+}
+
 #[tactic(auto, unfolding(crate::specs::Asks::ask_text))]
-fn put_ask<A: Allocator, B: Allocator>(
+fn put_line<A: Allocator, B: Heap>(
     out: &mut String<B>,
     number: u64,
     way: Via,
@@ -57,7 +73,7 @@ fn way_word(way: Via) -> &'static str
 }
 
 // What is asked: an ask has one question.
-fn put_questions<A: Allocator, B: Allocator>(
+fn put_questions<A: Allocator, B: Heap>(
     out: &mut String<B>,
     questions: &[Question<A>],
 ) -> Result<(), Starved>
@@ -70,7 +86,7 @@ fn put_questions<A: Allocator, B: Allocator>(
 }
 
 #[tactic(auto, unfolding(crate::specs::Asks::question_text))]
-fn put_question<A: Allocator, B: Allocator>(
+fn put_question<A: Allocator, B: Heap>(
     out: &mut String<B>,
     question: &Question<A>,
 ) -> Result<(), Starved>
@@ -83,7 +99,7 @@ fn put_question<A: Allocator, B: Allocator>(
 }
 
 // The word of a type; the number of one without a word.
-fn put_kind<B: Allocator>(out: &mut String<B>, number: u16) -> Result<(), Starved>
+fn put_kind<B: Heap>(out: &mut String<B>, number: u16) -> Result<(), Starved>
     ensures { OnOk result (string_bytes out.new ≡ string_bytes out.old ++ kind_text number) }
 {
     match RType::from_number(number) {

@@ -1,11 +1,12 @@
-//! The lines that the program prints: a reply as text, and an ask of a server.
+//! The lines that the program prints: what a resolver does at an event, its replies and its asks of servers.
 //!
 //! `put_reply` appends the lines of a message: `reply CLIENT RCODE` with the flags `aa` and `tc` and the cause of a
 //! SERVFAIL, then a line for each record under its section, `an`, `ns` or `ar`. `put_reply_bytes` does so from a
-//! reply's bytes; `put_ask_bytes` writes the line of an ask.
+//! reply's bytes; `put_ask_bytes` writes the line of an ask. `put_action` writes any of them, and `drop CLIENT`, `due`
+//! and `starved`.
 //!
-//! Promised: the text, byte by byte (`reply_text`, `ArePrinted`, `IsAskPrinted`); bytes that are no message print
-//! nothing (`AreNone`). Where memory is refused, a part of the text may stand.
+//! Promised: the text, byte by byte (`reply_text`, `ArePrinted`, `IsAskPrinted`, `IsPrinted`); bytes that are no
+//! message print nothing (`AreNone`). Where memory is refused, the text is as before.
 //! Not here: what a resolver answers (`front`, `engine`); the lines of a script's other events (`play`).
 //!
 //! ```text
@@ -16,8 +17,10 @@
 //! ```
 #![tactic(auto)]
 
+mod action;
 mod ask;
 mod reply;
 
+pub use action::{Action, put_action};
 pub use ask::put_ask_bytes;
 pub use reply::{put_reply, put_reply_bytes};

@@ -1,5 +1,5 @@
 //! A reply as the program prints it: a line for its head, and one for each record.
-ghost use Rattle.std.specs.Prelude.{◌≡◌, ◌⊎◌, ◌++◌, OnOk, string_bytes};
+ghost use Rattle.std.specs.Prelude.{◌≡◌, ◌⊎◌, ◌++◌, OnOk, OnErr, string_bytes};
 ghost use Rattle.std.specs.List.{flat_map};
 ghost use Rattle.reply_lines.specs.Lines.{AreNone, ArePrinted, cause_words, flag_word, head_line, rcode_word, record_line, reply_text};
 
@@ -10,9 +10,25 @@ use std::alloc::Allocator;
 use wire::{Header, Message, WireError, decode};
 
 /// Appends the lines of a reply: `reply CLIENT RCODE`, with ` aa`, ` tc` and ` cause N` where they hold, then a
-/// line for each record of the sections in order. Where memory is refused, a part of them stands.
+/// line for each record of the sections in order. Where memory is refused, nothing is appended: the lines are written
+/// apart first.
+pub fn put_reply<A: Allocator, B: Heap>(
+    out: &mut String<B>,
+    client: u64,
+    message: &Message<A>,
+    cause: Option<Cause>,
+) -> Result<(), Starved>
+    ensures ok { OnOk result (string_bytes out.new ≡ string_bytes out.old ++ reply_text client message.now cause) }
+    ensures err { OnErr result (string_bytes out.new ≡ string_bytes out.old) }
+{
+    let mut text = String::new(*out.allocator());
+    put_lines(&mut text, client, message, cause)?;
+    Ok(out.push_str(&text)?)
+}
+
+// The lines of a reply.
 #[tactic(auto, unfolding(crate::specs::Lines::reply_text))]
-pub fn put_reply<A: Allocator, B: Allocator>(
+fn put_lines<A: Allocator, B: Heap>(
     out: &mut String<B>,
     client: u64,
     message: &Message<A>,
@@ -26,16 +42,16 @@ pub fn put_reply<A: Allocator, B: Allocator>(
     put_records(out, "ar", message.additional.as_slice())
 }
 
-/// The same from the reply's bytes. Nothing is appended where they are no message. Where memory is refused, a part
-/// of the lines stands.
-pub fn put_reply_bytes<A: Heap, B: Allocator>(
+/// The same from the reply's bytes. Nothing is appended where they are no message, and where memory is refused.
+pub fn put_reply_bytes<A: Heap, B: Heap>(
     alloc: A,
     out: &mut String<B>,
     client: u64,
     bytes: &[u8],
     cause: Option<Cause>,
 ) -> Result<(), Starved>
-    ensures { OnOk result (ArePrinted bytes.now client cause (string_bytes out.old) (string_bytes out.new) ⊎ AreNone bytes.now (string_bytes out.old) (string_bytes out.new)) }
+    ensures ok { OnOk result (ArePrinted bytes.now client cause (string_bytes out.old) (string_bytes out.new) ⊎ AreNone bytes.now (string_bytes out.old) (string_bytes out.new)) }
+    ensures err { OnErr result (string_bytes out.new ≡ string_bytes out.old) }
 {
     match decode(alloc, bytes) {
         Ok(message) => put_reply(out, client, &message, cause),
@@ -46,7 +62,7 @@ pub fn put_reply_bytes<A: Heap, B: Allocator>(
 
 // The first line of a reply.
 #[tactic(auto, unfolding(crate::specs::Lines::head_line))]
-fn put_head<B: Allocator>(
+fn put_head<B: Heap>(
     out: &mut String<B>,
     client: u64,
     header: &Header,
@@ -64,7 +80,7 @@ fn put_head<B: Allocator>(
 }
 
 // The word of an RCODE (RFC 1035, section 4.1.1); the number of one without a word.
-fn put_rcode<B: Allocator>(out: &mut String<B>, rcode: u8) -> Result<(), Starved>
+fn put_rcode<B: Heap>(out: &mut String<B>, rcode: u8) -> Result<(), Starved>
     ensures { OnOk result (string_bytes out.new ≡ string_bytes out.old ++ rcode_word rcode) }
 {
     match rcode {
@@ -79,7 +95,7 @@ fn put_rcode<B: Allocator>(out: &mut String<B>, rcode: u8) -> Result<(), Starved
     Ok(())
 }
 
-fn put_flag<B: Allocator>(out: &mut String<B>, set: bool, word: &str) -> Result<(), Starved>
+fn put_flag<B: Heap>(out: &mut String<B>, set: bool, word: &str) -> Result<(), Starved>
     ensures { OnOk result (string_bytes out.new ≡ string_bytes out.old ++ flag_word set word.now) }
 {
     if set {
@@ -88,7 +104,7 @@ fn put_flag<B: Allocator>(out: &mut String<B>, set: bool, word: &str) -> Result<
     Ok(())
 }
 
-fn put_cause<B: Allocator>(out: &mut String<B>, cause: Option<Cause>) -> Result<(), Starved>
+fn put_cause<B: Heap>(out: &mut String<B>, cause: Option<Cause>) -> Result<(), Starved>
     ensures { OnOk result (string_bytes out.new ≡ string_bytes out.old ++ cause_words cause) }
 {
     if let Some(cause) = cause {
@@ -99,7 +115,7 @@ fn put_cause<B: Allocator>(out: &mut String<B>, cause: Option<Cause>) -> Result<
 }
 
 // The lines of a section.
-fn put_records<A: Allocator, B: Allocator>(
+fn put_records<A: Allocator, B: Heap>(
     out: &mut String<B>,
     section: &str,
     records: &[Record<A>],
@@ -113,7 +129,7 @@ fn put_records<A: Allocator, B: Allocator>(
 }
 
 #[tactic(auto, unfolding(crate::specs::Lines::record_line))]
-fn put_record<A: Allocator, B: Allocator>(
+fn put_record<A: Allocator, B: Heap>(
     out: &mut String<B>,
     section: &str,
     rr: &Record<A>,

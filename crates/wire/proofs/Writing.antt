@@ -10,7 +10,7 @@ use Rattle.message_grammar.proofs.Letters.{after-append, flats_both, headed, que
 use Rattle.rdata.specs.Records.{Record}
 use Rattle.wire.specs.Drafts.{asked_alone, drafted}
 use Rattle.message_grammar.specs.Pieces.{flat_piece, short_number, long_number}
-use Rattle.message_grammar.specs.Messages.{Header, Question, high_flags, low_flags, Message, IsMessage, folded_message, header_pieces, question_pieces, record_pieces, encoding}
+use Rattle.message_grammar.specs.Messages.{Header, Question, high_flags, low_flags, Message, header_pieces, question_pieces, record_pieces, encoding}
 use Rattle.wire.specs.declared.error.WireError.{WireError}
 use Rattle.wire.specs.declared.error.WireError.TheVariants.{OverLimit}
 use Rattle.wire.specs.Drafts.{RefusesText}

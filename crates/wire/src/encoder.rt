@@ -51,8 +51,8 @@ impl<'a, A: Allocator> Model for Draft<'a, A> {
     ghost view = { λ d. drafted d.header d.questions.now (option_copied d.echo) d.first.now (in_set (option_copied d.second)) d.authority.now d.additional.now };
 }
 
-/// The encoding of a message (RFC 1035, section 4), names compressed: bytes that `decode` reads as this message. The query
-/// `www.example. A` has 29 bytes. Refused where it is longer than `limit`, or where a growth is refused.
+/// The encoding of a message (RFC 1035, section 4), names compressed: bytes that `decode` reads as this message. The
+/// query `www.example. A` has 29 bytes. Refused where it is longer than `limit`, or where a growth is refused.
 pub fn encode<A: Heap>(alloc: A, m: &Message<A>, limit: usize) -> Result<Vec<u8, A>, WireError>
     requires { limit ≤ TCP_LIMIT }
     ensures ok { IfOk result (λ v. (v.items ≡ encoding m.now) × (length (encoding m.now) ≤ limit)) }
@@ -131,7 +131,7 @@ impl<A: Heap> Draft<'_, A> {
     /// The bytes of the message, in its one encoding; none where they are more than `limit`, which is at most 65,535
     /// (RFC 1035, sections 4.1 and 4.2). The reply to `a. A` with one address has 35 bytes, and none with `limit` 34.
     /// They are read back as the message, its question in lower case. Past the limit no further record is written. The
-    /// writer may have written other messages before.
+    /// writer may have written other messages before, or a part of one where memory was refused.
     pub fn encode(
         &self,
         writer: &mut Writer<A>,

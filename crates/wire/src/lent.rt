@@ -168,8 +168,8 @@ impl<'a> Lent<'a> {
         }
     }
 
-    /// The bytes of its RDATA as they stand in the message, pointers among them (RFC 1035, section 3.2.1): 192, 0, 2, 1 of
-    /// `a.example. 300 A 192.0.2.1`. Takes no memory.
+    /// The bytes of its RDATA as they stand in the message, pointers among them (RFC 1035, section 3.2.1): 192, 0, 2, 1
+    /// of `a.example. 300 A 192.0.2.1`. Takes no memory.
     pub fn rdata(&self) -> &'a [u8]
         ensures { IsRdataOf self.now result.now }
     {

@@ -41,6 +41,7 @@ mod spelling;
 mod values;
 mod via;
 mod view;
+mod writable;
 mod writer;
 
 pub use echo::Echo;

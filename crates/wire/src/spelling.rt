@@ -61,8 +61,8 @@ impl<A: Allocator> Spelling<A> {
         }
     }
 
-    // Every spelling is labels of 1 to 63 bytes and the root's, at most 255 bytes in all.
-    pub(crate) fn well_formed_law(&self)
+    /// Each spelling has labels of 1 to 63 bytes and then the root's, at most 255 bytes in all.
+    pub fn well_formed_law(&self)
         ensures { IsSpelling self.now }
     {
         let _ = self.name.size();

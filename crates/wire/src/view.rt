@@ -1,5 +1,5 @@
 //! A message that is read in its bytes.
-ghost use Rattle.std.specs.Prelude.{◌≡◌, ◌≢◌, ◌≤◌, ◌⊎◌, [], ◌∷◌, ◌↔◌, length, IfOk, IfErr, IsTrue};
+ghost use Rattle.std.specs.Prelude.{◌≡◌, ◌≢◌, ◌≤◌, ◌⊎◌, [], ◌∷◌, ◌↔◌, length, IfOk, IfErr, IsTrue, MatchOption};
 ghost use Rattle.message_grammar.specs.Messages as layouts;
 ghost use Rattle.message_grammar.specs.Messages.{IsMessage};
 ghost use Rattle.wire.specs.declared.error.WireError.TheVariants.{Memory};
@@ -12,9 +12,11 @@ use crate::error::WireError;
 use crate::fields::two_at;
 use crate::header::Header;
 use crate::lent::Walk;
-use crate::names::is_named;
+use crate::message::Question;
+use crate::names::{is_named, name_at};
+use crate::parts::Faults;
 use crate::skips::{questions_end, section_end};
-use dname::{Heap, Name};
+use dname::{Heap, Name, Starved};
 use std::alloc::{Allocator, Global};
 use std::marker::Model;
 
@@ -96,6 +98,29 @@ impl<A: Allocator> View<'_, A> {
             return false;
         }
         is_named(self.bytes, &self.ends, 12, name)
+    }
+
+    /// Its one question, with memory of its own: of the query `www.example. A`, that for `www.example`, 1 and 1. None
+    /// where the header announces none or several.
+    pub fn question<B: Heap>(&self, alloc: B) -> Result<Option<Question<B>>, Starved>
+        ensures { IfOk result (λ o. MatchOption o ((q : layouts.Question) → self.now.questions ≡ q ∷ [] → ⊥) (λ q. self.now.questions ≡ q ∷ [])) }
+    {
+        let count = two_at(self.bytes, 4);
+        if count != 1 {
+            return Ok(None);
+        }
+        let qtype = two_at(self.bytes, self.answer - 4);
+        let qclass = two_at(self.bytes, self.answer - 2);
+        let faults = Faults::in_message();
+        // The name was read before, so only memory can run out.
+        match name_at(alloc, self.bytes, &self.ends, faults, self.bytes.len(), 12) {
+            Ok((name, _)) => Ok(Some(Question {
+                name,
+                qtype,
+                qclass,
+            })),
+            Err(_) => Err(Starved),
+        }
     }
 
     /// The records of its answer section, one after the other: in a reply with two addresses, these two.

@@ -29,17 +29,17 @@ world = record sample { hosts = sample_host ∷ root_host ∷ []; hints = root_a
 
 -- ---- it is well formed
 
-served_too : (a : Address) (o : Name) → Serves sample a o → Serves world a o
+pub served_too : (a : Address) (o : Name) → Serves sample a o → Serves world a o
 served_too a o (h, m, e, stands) = elim (in_cases sample_host h [] m) [
   | inl same ↦ (h, subst (Contains world.hosts) same (first_in sample_host (root_host ∷ [])), e, stands)
   | inr n ↦ absurd (none_in h n)
 ]
 
-serves_root : Serves world root_address root
+pub serves_root : Serves world root_address root
 serves_root = (root_host, later_in sample_host root_host (root_host ∷ []) (first_in root_host []), refl, first_in root [])
 
 -- Each server is the small world's, or the root's own.
-abbrev IsEither : Address → Name → Type 0
+abbrev pub IsEither : Address → Name → Type 0
 IsEither a o = Serves sample a o ⊎ ((root_address ≡ a) × (root ≡ o))
 
 by_host : (a : Address) (o : Name) → Serves world a o → IsEither a o
@@ -82,36 +82,36 @@ world_stands = record {
 
 -- ---- its zones at work
 
-abbrev Each : {X : Type 0} → (X → Type 0) → List X → Type 0
+abbrev pub Each : {X : Type 0} → (X → Type 0) → List X → Type 0
 Each P [] = Unit {0}
 Each P (x ∷ xs) = P x × Each P xs
 
-each_of : {X : Type 0} (P : X → Type 0) (xs : List X) → Each P xs → (x : X) → Contains xs x → P x
+pub each_of : {X : Type 0} (P : X → Type 0) (xs : List X) → Each P xs → (x : X) → Contains xs x → P x
 each_of P [] all x m = absurd (none_in x m)
 each_of P (y ∷ ys) all x m = elim (in_cases y x ys m) [
   | inl e ↦ subst P e all.0
   | inr n ↦ each_of P ys all.1 x n
 ]
 
-root_there : Contains world.zones root_zone
+pub root_there : Contains world.zones root_zone
 root_there = first_in root_zone (lower_zone ∷ [])
 
-lower_there : Contains world.zones lower_zone
+pub lower_there : Contains world.zones lower_zone
 lower_there = later_in root_zone lower_zone (lower_zone ∷ []) (first_in lower_zone [])
 
 abbrev IsNamedRecord : Record → Type 0
 IsNamedRecord r = r.owner ≡ [] → ⊥
 
-root_named : IsNamed root_zone
+pub root_named : IsNamed root_zone
 root_named r m = each_of IsNamedRecord root_zone.records (λ e. cc, (λ e. cc, (λ e. cc, (λ e. cc, tt)))) r m
 
-lower_named : IsNamed lower_zone
+pub lower_named : IsNamed lower_zone
 lower_named r m = each_of IsNamedRecord lower_zone.records (λ e. cc, (λ e. cc, (λ e. cc, (λ e. cc, tt)))) r m
 
-root_rules : IsZone root_zone
+pub root_rules : IsZone root_zone
 root_rules = sample_stands.world.zones root_zone root_there
 
-lower_rules : IsZone lower_zone
+pub lower_rules : IsZone lower_zone
 lower_rules = sample_stands.world.zones lower_zone lower_there
 
 refers : IsReferral root_zone host_name lower_name servers glue
@@ -128,7 +128,7 @@ apart e = omega (arith, ap length e)
 other_server : server_address ≡ root_address → ⊥
 other_server e = let n = ap (λ (a : Address). slice_index a 3) e in omega (arith, n)
 
-not_lower : Serves world root_address lower_name → ⊥
+pub not_lower : Serves world root_address lower_name → ⊥
 not_lower serves = elim (by_host root_address lower_name serves) as (λ x. ⊥) [
   | inl old ↦ other_server (only old)
   | inr own ↦ apart own.1

@@ -107,10 +107,10 @@ later_long = refl
 n_label : IsLabel (110 ∷ [])
 n_label = record { nonempty = omega arith; short = omega arith; bytes = (omega arith, refl, tt) }
 
-l_label : IsLabel (108 ∷ [])
+pub l_label : IsLabel (108 ∷ [])
 l_label = record { nonempty = omega arith; short = omega arith; bytes = (omega arith, refl, tt) }
 
-x_label : IsLabel (120 ∷ [])
+pub x_label : IsLabel (120 ∷ [])
 x_label = record { nonempty = omega arith; short = omega arith; bytes = (omega arith, refl, tt) }
 
 pub server_is_name : IsName server_name
@@ -128,16 +128,16 @@ spelling = record { spelled = (omega arith, omega arith, (omega arith, omega ari
 is_question : IsQuestion question
 is_question = record { name = spelling; qtype = omega arith; qclass = omega arith }
 
-server_record : IsRecord (entry lower_name (Ns server_name))
+pub server_record : IsRecord (entry lower_name (Ns server_name))
 server_record = record { owner = lower_is_name; ttl = omega arith; fits = tt; names = server_is_name }
 
-glue_record : IsRecord (entry server_name (Ipv4 server_address))
+pub glue_record : IsRecord (entry server_name (Ipv4 server_address))
 glue_record = record { owner = server_is_name; ttl = omega arith; fits = refl; names = tt }
 
-found_record : IsRecord (entry host_name (Ipv4 server_address))
+pub found_record : IsRecord (entry host_name (Ipv4 server_address))
 found_record = record { owner = host_is_name; ttl = omega arith; fits = refl; names = tt }
 
-is_header : (id : ℕ) (qr aa rd ra : Bool) → id < 65536 → IsHeader (header id qr aa rd ra)
+pub is_header : (id : ℕ) (qr aa rd ra : Bool) → id < 65536 → IsHeader (header id qr aa rd ra)
 is_header id qr aa rd ra fits = record { id = fits; opcode = omega arith; z = omega arith; rcode = omega arith }
 
 client_writable : IsWritable client_message

@@ -15,7 +15,9 @@ use Rattle.front.specs.declared.queries.Request.TheVariants as request
 use Rattle.front.specs.declared.queries.Query.{Query}
 use Rattle.cache.specs.Cached.{is_live}
 use Rattle.resolution.specs.Jobs.{Taken}
-use Rattle.classify.specs.Classes.{Referral, class_of}
+use Rattle.zone.specs.Links.{Alias}
+use Rattle.front.specs.Chains.{alias_target}
+use Rattle.classify.specs.Classes.{Answer, Referral, class_of}
 use Rattle.world_truth.specs.Worlds.{World, IsWorld}
 use Rattle.runs.specs.States.{Client, TcpReply, Tick, Action, Reply, Own, OpenQuery, Turn, Plain, ClientQuery, recursive, ByTcp, Ask, Site, State, via_of}
 use Rattle.runs.specs.Messages.{IsSent}
@@ -192,3 +194,39 @@ pub record IsAnsweredOverTcp (port : ℕ) (run : List Turn) : Type 0 where
 
 abbrev pub StreamStands : Type 0
 StreamStands = (W : World) × (site : Site) × (run : List Turn) × (s : State) × AreMet W site run s × IsAnsweredOverTcp site.port run
+
+-- ---- aliases
+
+-- A step accepts an alias for the open ask of query k, and asks for its target, of the same type (RFC 1034, section
+-- 3.6.2); the next step replies with the alias and with what it leads to.
+pub record IsAnsweredByAlias (port : ℕ) (run : List Turn) : Type 0 where
+  pub k : ℕ
+  pub who : ClientQuery
+  pub last : Turn
+  pub led : Turn
+  pub past : List Turn
+  pub run_is : run ≡ last ∷ led ∷ past
+  pub ask : Ask
+  pub message : Message
+  pub accepts : Accepts port k ask message led past
+  pub zone : Name
+  pub alias : Record
+  pub leads : class_of zone ask.name ask.kind (via_of ask.path) message ≡ Answer (Alias alias)
+  pub next : Ask
+  pub action : Action
+  pub gives : GivesOut led.out action
+  pub sent : IsSent port next action
+  pub target : next.name ≡ alias_target alias
+  pub kind : next.kind ≡ ask.kind
+  pub served : last.served ≡ OpenQuery k
+  pub bytes : List ℕ
+  pub replied : GivesOut last.out (Reply who.client who.way bytes None)
+  pub reply : Message
+  pub is : IsMessage bytes reply
+  pub first : Contains reply.answer alias
+  pub second : Record
+  pub behind : Contains reply.answer second
+  pub owner : second.owner ≡ alias_target alias
+
+abbrev pub AliasStands : Type 0
+AliasStands = (W : World) × (site : Site) × (run : List Turn) × (s : State) × AreMet W site run s × IsAnsweredByAlias site.port run

@@ -3,7 +3,7 @@
 //!
 //! `LawsStand` has a well formed world, a site, and an honest run from a new resolver: a client asks, the server of
 //! the root refers the resolver to another, and that one's answer goes to the client. In others servers are silent, a
-//! server fails, memory is refused, the cache answers, and an answer comes over TCP.
+//! server fails, memory is refused, the cache answers, an answer comes over TCP, and an alias is followed.
 //!
 //! Promised: there are such runs (`laws_stand`), so that no law of `laws` is of nothing.
 //! Not here: the laws themselves (`laws`).

@@ -16,5 +16,5 @@ returns-in_ok-self-clause-is g c =
       sends = sym (append-nil _);
       counts = subst (λ (o : Option (Query Plain)). IsCountedFor (s.network).world o c.args.bytes.now s.count c.in_ok-self.field-0) c.in-Some.ensures
           (subst (λ (W : World). IsCounted W (plain c.in-Some.query.now) c.args.bytes.now s.count c.in_ok-self.field-0) c.world.ensures c.in_ok-self.ensures);
-      prints = c.in_ok-put_reply_bytes.ensures;
+      prints = c.in_ok-put_action.ensures.ok;
     }

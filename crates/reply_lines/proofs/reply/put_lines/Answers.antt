@@ -5,7 +5,7 @@ use Rattle.std.proofs.lemmas.Result.{on_ok_weaker}
 use Rattle.rdata.specs.Records.{Record}
 use Rattle.reply_lines.specs.Lines.{record_line}
 use Rattle.reply_lines.proofs.Printed.{whole_printed}
-use Rattle.reply_lines.proofs.reply.put_reply.Goals as goal
+use Rattle.reply_lines.proofs.reply.put_lines.Goals as goal
 
 pub returns : goal.returns
 returns g c =

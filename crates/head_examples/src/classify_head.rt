@@ -1,0 +1,27 @@
+//! The example in the head of `classify`.
+use classify::{Class, classify, lifetime, received};
+use dname::{Heap, Name};
+use rdata::RType;
+use std::test::Fail;
+use wire::{Via, View};
+
+pub fn example<H: Heap>(
+    alloc: H,
+    bytes: &[u8],
+    zone: &Name<H>,
+    name: &Name<H>,
+) -> Result<(), Fail> {
+    let message = View::new(alloc, bytes)?;
+    match classify(alloc, zone, name, RType::A, Via::Udp, &message)? {
+        Class::Answer(link) => {
+            let link = received(link);
+            let seconds = lifetime(&link);
+        }
+        Class::Referral(referral) => {
+            let seconds = referral.lifetime(); // ask referral.servers
+        }
+        Class::Truncated => {} // ask the same server over TCP
+        Class::Failed(failure) => {} // ask the next server
+    }
+    Ok(())
+}

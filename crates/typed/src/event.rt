@@ -1,0 +1,159 @@
+//! Events whose bytes were read.
+ghost use Rattle.std.specs.Prelude.{◌≡◌, ◌≤◌, IfOk};
+ghost use Rattle.runs.specs.States.{Event as EventSpec, latest, moment};
+ghost use Rattle.events.specs.Views.{event_view};
+ghost use Rattle.typed.specs.Events.{ReadAs, HasBytes};
+ghost use Rattle.typed.specs.Views.{parsed_view};
+
+use classify::{Reading, read};
+use dname::{Heap, Starved};
+use events::{Endpoint, Event, read_asked};
+use front::{Request, Via};
+use limits::LATEST_MOMENT;
+use std::alloc::{Allocator, Global};
+use std::marker::Model;
+
+/// An event as it was read: what its bytes say stands in place of them.
+#[derive(Drop)]
+pub enum Parsed<A: Allocator = Global> {
+    /// A client's request.
+    Client {
+        /// When it came, in milliseconds.
+        moment: u64,
+        /// The client's number, with which the reply goes out.
+        client: u64,
+        /// The way by which it came, and by which the reply goes.
+        way: Via,
+        /// What its bytes ask for.
+        request: Request<A>,
+    },
+    /// A datagram at a socket.
+    Datagram {
+        /// When it came, in milliseconds.
+        moment: u64,
+        /// The number of the socket at which it came.
+        socket: u16,
+        /// The address and the port that it was sent from, which may be forged.
+        from: Endpoint,
+        /// What was read of its message; none where it replies to no ask.
+        reading: Option<Reading<A>>,
+    },
+    /// The reply to the ask over TCP of this number.
+    TcpReply {
+        /// When it came, in milliseconds.
+        moment: u64,
+        /// The number of the ask, as `events::Action::TcpAsk` gave it.
+        number: u64,
+        /// What was read of its message; none where it replies to no ask.
+        reading: Option<Reading<A>>,
+    },
+    /// The ask over TCP of this number failed.
+    TcpFailed {
+        /// When it failed, in milliseconds.
+        moment: u64,
+        /// The number of the ask, as `events::Action::TcpAsk` gave it.
+        number: u64,
+    },
+    /// The clock's moment.
+    Tick {
+        /// The moment, in milliseconds.
+        moment: u64,
+    },
+}
+
+/// An event whose bytes were read: `read_event` alone makes one. Contracts see what was read.
+#[derive(Drop)]
+pub struct TypedEvent<A: Allocator = Global> {
+    parsed: Parsed<A>,
+}
+
+impl<A: Allocator> Model for TypedEvent<A> {
+    ghost use Rattle.typed.specs.Events.{Parsed, HasBytes};
+    ghost use Rattle.typed.specs.Views.{parsed_view};
+
+    ghost Value = { Parsed };
+
+    ghost view = { λ e. parsed_view e.parsed };
+
+    ghost invariant = { λ e. HasBytes (parsed_view e.parsed) };
+}
+
+impl<A: Allocator> TypedEvent<A> {
+    /// What was read.
+    pub fn parsed(&self) -> &Parsed<A>
+        ensures is { parsed_view result.now ≡ self.now }
+        ensures bytes { HasBytes self.now }
+    {
+        &self.parsed
+    }
+
+    /// When it came, `LATEST_MOMENT` at most.
+    pub fn moment(&self) -> u64
+        ensures is { (e : EventSpec) → ReadAs e self.now → result ≡ moment e }
+        ensures most { result ≤ latest }
+    {
+        moment_of(&self.parsed)
+    }
+}
+
+fn moment_of<A: Allocator>(parsed: &Parsed<A>) -> u64
+    ensures is { (e : EventSpec) → ReadAs e (parsed_view parsed.now) → result ≡ moment e }
+    ensures most { result ≤ latest }
+{
+    match parsed {
+        Parsed::Client { moment, .. }
+        | Parsed::Datagram { moment, .. }
+        | Parsed::TcpReply { moment, .. }
+        | Parsed::TcpFailed { moment, .. }
+        | Parsed::Tick { moment } => (*moment).min(LATEST_MOMENT),
+    }
+}
+
+/// An event whose bytes are read, before the resolver is locked. A server's message is read whole, whichever ask it
+/// replies to.
+pub fn read_event<A: Heap>(alloc: A, event: &Event<A>) -> Result<TypedEvent<A>, Starved>
+    ensures { IfOk result (λ t. ReadAs (event_view event.now) t) }
+{
+    let parsed = parse(alloc, event)?;
+    Ok(TypedEvent { parsed })
+}
+
+fn parse<A: Heap>(alloc: A, event: &Event<A>) -> Result<Parsed<A>, Starved>
+    ensures { IfOk result (λ p. ReadAs (event_view event.now) (parsed_view p)) }
+{
+    Ok(match *event {
+        Event::Client {
+            moment,
+            client,
+            way,
+            ref bytes,
+        } => Parsed::Client {
+            moment,
+            client,
+            way,
+            request: read_asked(alloc, bytes.as_slice())?,
+        },
+        Event::Datagram {
+            moment,
+            socket,
+            from,
+            ref bytes,
+        } => Parsed::Datagram {
+            moment,
+            socket,
+            from,
+            reading: read(alloc, Via::Udp, bytes.as_slice())?,
+        },
+        Event::TcpReply {
+            moment,
+            number,
+            ref bytes,
+        } => Parsed::TcpReply {
+            moment,
+            number,
+            reading: read(alloc, Via::Tcp, bytes.as_slice())?,
+        },
+        Event::TcpFailed { moment, number } => Parsed::TcpFailed { moment, number },
+        Event::Tick { moment } => Parsed::Tick { moment },
+    })
+}
