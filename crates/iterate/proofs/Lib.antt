@@ -4,3 +4,4 @@ pub mod Passed
 pub mod Sought
 pub mod QueryStarts
 pub mod Turns
+pub mod Narrowly

@@ -1,9 +1,10 @@
 //! One call for one input: task after task, until an ask goes out or the query is over.
 ghost use Rattle.std.specs.Prelude.{ℕ, IfOk, OnErr};
-ghost use Rattle.resolution.specs.Jobs.{Point, point, IsFreshTask};
+ghost use Rattle.resolution.specs.Jobs.{Input as InputSpec, Point, point, IsFreshTask};
 ghost use Rattle.resolution.specs.Rules.{Rules, Leaves, Advances, Stops};
 ghost use Rattle.lookup.specs.Uses.{OnlyUses};
-ghost use Rattle.iterate.specs.Views.{input_view, next_view, task_view};
+ghost use Rattle.iterate.specs.Inputs.{IsGiven};
+ghost use Rattle.iterate.specs.Views.{next_view, task_view};
 
 use crate::calls::{Input, Next};
 use crate::entering::enter;
@@ -37,7 +38,9 @@ pub(crate) fn run<S: BuildHasher + Drop, A: Heap>(
 }
 
 /// The work on one input of a query, and what goes out. The input is used, and the rules of RFC 1034, section 5.3.3,
-/// are applied until a server is to be asked or the query is over. `now` is the moment of the call, in milliseconds.
+/// are applied until a server is to be asked or the query is over. `now` is the moment of the call, in milliseconds. The
+/// contract holds for each message that has the reading, of which there is one: its question is that of the innermost
+/// search.
 /// Where memory runs out the stores may have cached what was accepted, and lost what that pushes out; nothing else is
 /// new in them or gone. The job is to be dropped then.
 pub fn advance<S: BuildHasher + Drop, A: Heap>(
@@ -48,8 +51,9 @@ pub fn advance<S: BuildHasher + Drop, A: Heap>(
     stores: &mut Stores<S, A>,
     now: u64,
 ) -> Result<Next<A>, Starved>
-    ensures advances { IfOk result (λ next. Advances home.now now (input_view input.entry) job.old stores.old (next_view next) job.new stores.new) }
-    ensures stops { OnErr result (Stops (input_view input.entry) now job.old stores.old stores.new) }
+    requires given { (i : InputSpec) × IsGiven job.old input.entry i }
+    ensures advances { (i : InputSpec) → IsGiven job.old input.entry i → IfOk result (λ next. Advances home.now now i job.old stores.old (next_view next) job.new stores.new) }
+    ensures stops { (i : InputSpec) → IsGiven job.old input.entry i → OnErr result (Stops i now job.old stores.old stores.new) }
 {
     let first = enter(alloc, job, input, stores, now)?;
     Ok(run(alloc, job, first, home, stores, now)?)

@@ -3,19 +3,19 @@
 
 use crate::chain::Chain;
 use causes::Cause;
+use classify::Reading;
 use dname::Name;
 use lookup::Taken;
 use rdata::{Addr, RType};
 use std::alloc::{Allocator, Global};
-use wire::{Via, View};
 
 /// An input for a query.
 #[derive(Drop)]
-pub enum Input<'m, A: Allocator = Global> {
+pub enum Input<'r, A: Allocator = Global> {
     /// The query itself.
     Start,
-    /// A message that was accepted for its ask: the way it came, the server, and the message.
-    Told(Via, Addr, View<'m, A>),
+    /// A message that was accepted for its ask: the server, and what was read of the message.
+    Told(Addr, &'r Reading<A>),
     /// No reply of this server came in time.
     TimedOut(Addr),
     /// The ask of this server over TCP failed.

@@ -1,9 +1,10 @@
 //! The use of an input: first the penalty of its server changes, down for a reply whatever that says, up for none. Then
 //! the message is used, or the search goes on.
 ghost use Rattle.std.specs.Prelude.{IfOk, OnErr};
-ghost use Rattle.resolution.specs.Jobs.{point};
+ghost use Rattle.resolution.specs.Jobs.{Input as InputSpec, point};
 ghost use Rattle.resolution.specs.Rules.{Enters, Stops};
-ghost use Rattle.iterate.specs.Views.{input_view, task_view};
+ghost use Rattle.iterate.specs.Inputs.{IsGiven};
+ghost use Rattle.iterate.specs.Views.{task_view};
 
 use crate::calls::Input;
 use crate::job::Job;
@@ -21,14 +22,14 @@ pub(crate) fn enter<S: BuildHasher + Drop, A: Heap>(
     stores: &mut Stores<S, A>,
     now: u64,
 ) -> Result<Task<A>, Starved>
-    ensures enters { IfOk result (λ t. Enters now (input_view input.entry) job.old stores.old (point (task_view t) job.new stores.new)) }
-    ensures stops { OnErr result (Stops (input_view input.entry) now job.old stores.old stores.new) }
+    ensures enters { (i : InputSpec) → IsGiven job.old input.entry i → IfOk result (λ t. Enters now i job.old stores.old (point (task_view t) job.new stores.new)) }
+    ensures stops { (i : InputSpec) → IsGiven job.old input.entry i → OnErr result (Stops i now job.old stores.old stores.new) }
 {
     match input {
         Input::Start => Ok(Task::Seek),
-        Input::Told(via, server, message) => {
+        Input::Told(server, reading) => {
             stores.answered(server);
-            Ok(use_reply(alloc, job, via, server, &message, stores, now)?)
+            Ok(use_reply(alloc, job, server, reading, stores, now)?)
         }
         Input::TimedOut(server) | Input::TcpFailed(server) => {
             stores.timed_out(server)?;

@@ -2,11 +2,16 @@
 ghost use Rattle.std.specs.Prelude.{◌≡◌, ◌⊎◌, ℕ, IfOk, OnOk, OnErr};
 ghost use Rattle.zone.specs.Links.{Link as LinkSpec};
 ghost use Rattle.authority.specs.Answers.{link_view};
+ghost use Rattle.message_grammar.specs.Messages.{Message};
+ghost use Rattle.wire.specs.declared.via.Via.{Via};
 ghost use Rattle.classify.specs.Classes.{class_of};
+ghost use Rattle.classify.specs.Read.{IsReadingOf};
+ghost use Rattle.classify.specs.Views.{reading_view};
 ghost use Rattle.resolution.specs.Jobs.{Stores as StoresSpec, Search as SearchSpec, Told, Go, point, with_answer, with_failure, with_told, is_server_failure, received_link, IsCutOf, with_frame, level_of};
 ghost use Rattle.resolution.specs.Rules.{KeepsAnswer, IsAnswered, IsReferred, ByClass, Enters, Stops};
 ghost use Rattle.frames.specs.Frames.{opened};
 ghost use Rattle.lookup.specs.Views.{with_cut};
+ghost use Rattle.iterate.specs.Inputs.{IsSoughtIn, IsReadingFor};
 ghost use Rattle.iterate.specs.Moves.{with_search};
 ghost use Rattle.iterate.specs.Views.{task_view};
 
@@ -15,15 +20,13 @@ use crate::search::Search;
 use crate::serving::use_server_address;
 use crate::task::Task;
 use authority::Link;
-use classify::{Class, Referral, classify, received};
+use classify::{Class, Reading, Referral, narrow, narrow_law, received};
 use dname::{Heap, Starved};
 use lookup::{Stores, Taken, cut_of};
 use rdata::Addr;
 use referral::Cut;
 use std::alloc::Allocator;
 use std::hash::BuildHasher;
-use wire::rcode::SERV_FAIL;
-use wire::{Via, View};
 
 // A link was accepted for the innermost search, which is over. One of the query's own name is used for it; one of a
 // server's name is used by the search around.
@@ -140,26 +143,19 @@ fn refer<S: BuildHasher + Drop, A: Heap>(
     }
 }
 
-// Whether the message says that its server failed to answer (RFC 1035, section 4.1.1).
-fn is_server_failure<A: Allocator>(message: &View<'_, A>) -> bool
-    ensures { result ≡ is_server_failure message.now }
-{
-    message.header().rcode == SERV_FAIL && !message.header().tc
-}
-
-// Caches that the server failed to answer the question of the search, where the message says so (RFC 2308, section
+// Caches that the server failed to answer the question of the search, where its message says so (RFC 2308, section
 // 7.1).
 fn note_failure<S: BuildHasher + Drop, A: Heap>(
     search: &Search<A>,
     server: Addr,
-    message: &View<'_, A>,
+    reading: &Reading<A>,
     stores: &mut Stores<S, A>,
     now: u64,
 ) -> Result<(), Starved>
-    ensures ok { OnOk result (stores.new ≡ with_failure now search.now server message.now stores.old) }
+    ensures ok { (m : Message) → reading.now.failed ≡ is_server_failure m → OnOk result (stores.new ≡ with_failure now search.now server m stores.old) }
     ensures err { OnErr result (stores.new ≡ stores.old) }
 {
-    if is_server_failure(message) {
+    if reading.failed {
         stores.failed(search.name(), search.kind(), server, now)?;
     }
     Ok(())
@@ -170,24 +166,17 @@ fn use_reply_for<S: BuildHasher + Drop, A: Heap>(
     alloc: A,
     job: &mut Job<A>,
     search: Search<A>,
-    via: Via,
     server: Addr,
-    message: &View<'_, A>,
+    reading: &Reading<A>,
     stores: &mut Stores<S, A>,
     now: u64,
 ) -> Result<Task<A>, Starved>
-    ensures by { IfOk result (λ t. ByClass now server search (job.old).searches (class_of search.frame.zone search.name search.kind via message.now) (with_search job.old search) stores.old (point (task_view t) job.new stores.new)) }
-    ensures stops { (before : StoresSpec) → stores.old ≡ with_told now search server message.now before → OnErr result (Stops (Told via server message.now) now (with_search job.old search) before stores.new) }
+    ensures by { (via : Via) (m : Message) → IsReadingFor search via m (reading_view reading.now) → IfOk result (λ t. ByClass now server search (job.old).searches (class_of search.frame.zone search.name search.kind via m) (with_search job.old search) stores.old (point (task_view t) job.new stores.new)) }
+    ensures stops { (via : Via) (m : Message) → IsReadingFor search via m (reading_view reading.now) → (before : StoresSpec) → stores.old ≡ with_told now search server m before → OnErr result (Stops (Told via server m) now (with_search job.old search) before stores.new) }
 {
-    let class = classify(
-        alloc,
-        search.frame().zone(),
-        search.name(),
-        search.kind(),
-        via,
-        message,
-    );
-    match class {
+    let zone = search.frame().zone();
+    narrow_law(zone);
+    match narrow(alloc, zone, &reading.class) {
         Err(starved) => {
             drop(search);
             Err(starved)
@@ -214,23 +203,22 @@ fn use_reply_for<S: BuildHasher + Drop, A: Heap>(
 pub(crate) fn use_reply<S: BuildHasher + Drop, A: Heap>(
     alloc: A,
     job: &mut Job<A>,
-    via: Via,
     server: Addr,
-    message: &View<'_, A>,
+    reading: &Reading<A>,
     stores: &mut Stores<S, A>,
     now: u64,
 ) -> Result<Task<A>, Starved>
-    ensures enters { (before : StoresSpec) → stores.old ≡ with_answer before server → IfOk result (λ t. Enters now (Told via server message.now) job.old before (point (task_view t) job.new stores.new)) }
-    ensures stops { (before : StoresSpec) → stores.old ≡ with_answer before server → OnErr result (Stops (Told via server message.now) now job.old before stores.new) }
+    ensures enters { (via : Via) (m : Message) → IsReadingOf via m (reading_view reading.now) → IsSoughtIn job.old (reading_view reading.now) → (before : StoresSpec) → stores.old ≡ with_answer before server → IfOk result (λ t. Enters now (Told via server m) job.old before (point (task_view t) job.new stores.new)) }
+    ensures stops { (via : Via) (m : Message) → IsReadingOf via m (reading_view reading.now) → IsSoughtIn job.old (reading_view reading.now) → (before : StoresSpec) → stores.old ≡ with_answer before server → OnErr result (Stops (Told via server m) now job.old before stores.new) }
 {
     match job.pop() {
         None => Ok(Task::Go),
-        Some(search) => match note_failure(&search, server, message, stores, now) {
+        Some(search) => match note_failure(&search, server, reading, stores, now) {
             Err(starved) => {
                 drop(search);
                 Err(starved)
             }
-            Ok(()) => use_reply_for(alloc, job, search, via, server, message, stores, now),
+            Ok(()) => use_reply_for(alloc, job, search, server, reading, stores, now),
         },
     }
 }
