@@ -4,14 +4,13 @@ use Rattle.std.specs.Prelude.{MatchOption, is_some}
 use Rattle.resolution.specs.Jobs.{Stores, Input}
 use Rattle.resolution.specs.Jobs as jobs
 use Rattle.resolution.specs.Rules.{Stops}
-use Rattle.events.specs.declared.action.Action.{Action}
-use Rattle.events.specs.Views.{listed}
 use Rattle.runs.specs.States.{Endpoint, Event, Datagram, TcpReply, TcpFailed, Tick, Action as ActionSpec, Nobody, OpenQuery, Open, State}
+use Rattle.runs.specs.Messages.{id_in}
 use Rattle.runs.specs.Steps.{AreOthers, IsOfLine, IsOfNumber, IsFirstDue, IsFollowed, IsInput, IsLeft, IsUnfit}
 use Rattle.open_queries.specs.Lookups.{IsTheOne}
 use Rattle.engine.specs.Moves.{IsToldBy, IsHeard, IsPassed, IsServed, IsLost}
-use Rattle.engine.specs.Replies.{alone, if_any}
-use Rattle.engine.specs.Finds.{Finds, Reaches, NoneDue, Tells, Untold, Rings, Unrung}
+use Rattle.engine.specs.Replies.{alone, if_any, all_given}
+use Rattle.engine.specs.Finds.{Finds, IsOffLine, Reaches, NoneDue, Tells, Untold, Rings, Unrung}
 use Rattle.engine.specs.Turns.{Turns, IsQuiet}
 use Rattle.engine.proofs.Found.{found_is}
 
@@ -42,9 +41,17 @@ module _ (s : State) (now sock : ℕ) (from : Endpoint) (bytes : List ℕ) where
     };
   }
 
-  module _ (k : ℕ) (h : Reaches s sock from bytes k) (new : State) where
-    reached : {A : Type 0} (o : Option (Action A)) → IsHeard s k at_socket o new → Turns s at_socket (Some (if_any o)) new
-    reached None p = record {
+  -- For no open ask under the ID of the bytes.
+  pub datagram_missed : IsOffLine s sock from (id_in bytes) → Turns s at_socket (Some []) s
+  datagram_missed (inl port) = missed (inl port)
+  datagram_missed (inr none) = missed (inr (inr none))
+
+  pub datagram_short : length bytes < 12 → Turns s at_socket (Some []) s
+  datagram_short short = missed (inr (inl short))
+
+  module _ (k : ℕ) (h : Reaches s sock from (id_in bytes) k) (new : State) where
+    pub datagram_heard : {X : Type 0} (given : X → ActionSpec) (o : Option X) → IsHeard given s k at_socket o new → Turns s at_socket (Some (if_any given o)) new
+    datagram_heard given None p = record {
       served = Nobody;
       turn = inl record {
         served_is = refl;
@@ -53,13 +60,13 @@ module _ (s : State) (now sock : ℕ) (from : Endpoint) (bytes : List ℕ) where
         state = p.state;
       };
     }
-    reached (Some a) p = record {
+    datagram_heard given (Some a) p = record {
       served = OpenQuery (p.query).number;
       turn = inr record { query = p.query; input = p.input; served_is = refl; brings = p.told; serves = p.serves };
     }
 
-    unreached : IsLost s k at_socket new → Turns s at_socket None new
-    unreached p = record {
+    pub datagram_lost : IsLost s k at_socket new → Turns s at_socket None new
+    datagram_lost p = record {
       served = OpenQuery (p.query).number;
       turn = (
         p.query,
@@ -73,79 +80,59 @@ module _ (s : State) (now sock : ℕ) (from : Endpoint) (bytes : List ℕ) where
       );
     }
 
-    loud : IsQuiet s at_socket → ⊥
-    loud (inl port) = port h.port
-    loud (inr (inl short)) = let long = h.header in absurd (omega arith)
-    loud (inr (inr none)) = none h.found.query h.found.one.stands h.found.is
-
-module _ (s : State) (e : Event) (now sock : ℕ) (from : Endpoint) (bytes : List ℕ) (is : e ≡ Datagram now sock from bytes) where
-  pub datagram_missed : IsQuiet s (Datagram 0 sock from bytes) → Turns s e (Some []) s
-  datagram_missed h = subst (λ (x : Event). Turns s x (Some []) s) (sym is) (missed s now sock from bytes h)
-
-  module _ (k : ℕ) (h : Reaches s sock from bytes k) (new : State) where
-    pub datagram_heard : {A : Type 0} (o : Option (Action A)) → IsHeard s k e o new → Turns s e (Some (if_any o)) new
-    datagram_heard o p = subst (λ (x : Event). Turns s x (Some (if_any o)) new) (sym is) (reached s now sock from bytes k h new o (subst (λ (x : Event). IsHeard s k x o new) is p))
-
-    pub datagram_lost : IsLost s k e new → Turns s e None new
-    datagram_lost p = subst (λ (x : Event). Turns s x None new) (sym is) (unreached s now sock from bytes k h new (subst (λ (x : Event). IsLost s k x new) is p))
-
-    pub datagram_loud : IsQuiet s e → ⊥
-    datagram_loud q = loud s now sock from bytes k h new (subst (IsQuiet s) is q)
+    pub datagram_loud : 12 ≤ length bytes → IsQuiet s at_socket → ⊥
+    datagram_loud header (inl port) = port h.port
+    datagram_loud header (inr (inl short)) = absurd (omega arith)
+    datagram_loud header (inr (inr none)) = none h.found.query h.found.one.stands h.found.is
 
 -- ---- a reply over TCP
 
 abbrev NoneAsked : State → ℕ → Type 0
 NoneAsked s ask = (q : Open) → Contains s.queries q → IsOfNumber ask q → ⊥
 
-module _ (s : State) (e : Event) (now ask : ℕ) (bytes : List ℕ) (is : e ≡ TcpReply now ask bytes) where
+module _ (s : State) (now ask : ℕ) (bytes : List ℕ) where
   abbrev on_stream : Event
   on_stream = TcpReply now ask bytes
 
-  pub reply_missed : NoneAsked s ask → Turns s e (Some []) s
-  reply_missed none = subst (λ (x : Event). Turns s x (Some []) s) (sym is)
-      record { served = Nobody; turn = inl record { served_is = refl; nobody = none; out_is = refl; state = refl } }
+  pub reply_missed : NoneAsked s ask → Turns s on_stream (Some []) s
+  reply_missed none = record { served = Nobody; turn = inl record { served_is = refl; nobody = none; out_is = refl; state = refl } }
 
   module _ (k : ℕ) (h : Finds (IsOfNumber ask) s.queries k) where
     of_number : (q : Open) → IsTheOne s.queries k q → IsOfNumber ask q
     of_number q one = found_is (IsOfNumber ask) s.queries k q h one
 
-    pub reply_heard : (out : List ActionSpec) (new : State) → IsServed s k e out new → Turns s e (Some out) new
-    reply_heard out new p = subst (λ (x : Event). Turns s x (Some out) new) (sym is)
-        record {
-          served = OpenQuery (p.query).number;
-          turn = inr record { query = p.query; input = p.input; served_is = refl; brings = inl (subst (λ (x : Event). IsToldBy (s.site).port (p.query).ask x p.input) is p.told); serves = p.serves };
-        }
+    pub reply_heard : (out : List ActionSpec) (new : State) → IsServed s k on_stream out new → Turns s on_stream (Some out) new
+    reply_heard out new p = record {
+      served = OpenQuery (p.query).number;
+      turn = inr record { query = p.query; input = p.input; served_is = refl; brings = inl p.told; serves = p.serves };
+    }
 
-    pub reply_lost : (new : State) → IsLost s k e new → Turns s e None new
-    reply_lost new lost =
-        let p : IsLost s k on_stream new = subst (λ (x : Event). IsLost s k x new) is lost in
-        subst (λ (x : Event). Turns s x None new) (sym is)
-        record {
-          served = OpenQuery (p.query).number;
-          turn = (
-            p.query,
-            p.one.stands,
-            refl,
-            of_number p.query p.one,
-            more_stores s k (p.query).number
-                (λ stores. (input : Input) × IsToldBy (s.site).port (p.query).ask on_stream input × Stops input s.clock (p.query).job s.stores stores)
-                (λ stores. (input : Input) × IsInput s on_stream p.query input × Stops input s.clock (p.query).job s.stores stores)
-                new (sym p.one.number_is) (λ it. (it.0, inl it.1, it.2)) p.left,
-          );
-        }
+    pub reply_lost : (new : State) → IsLost s k on_stream new → Turns s on_stream None new
+    reply_lost new p = record {
+      served = OpenQuery (p.query).number;
+      turn = (
+        p.query,
+        p.one.stands,
+        refl,
+        of_number p.query p.one,
+        more_stores s k (p.query).number
+            (λ stores. (input : Input) × IsToldBy (s.site).port (p.query).ask on_stream input × Stops input s.clock (p.query).job s.stores stores)
+            (λ stores. (input : Input) × IsInput s on_stream p.query input × Stops input s.clock (p.query).job s.stores stores)
+            new (sym p.one.number_is) (λ it. (it.0, inl it.1, it.2)) p.left,
+      );
+    }
 
-    pub reply_loud : IsQuiet s e → ⊥
-    reply_loud q = let none : NoneAsked s ask = subst (IsQuiet s) is q in none h.query h.one.stands h.is
+    pub reply_loud : IsQuiet s on_stream → ⊥
+    reply_loud none = none h.query h.one.stands h.is
 
     -- Where it is not accepted the ask failed.
-    module _ (mid : State) (passed : IsPassed s k e mid) where
+    module _ (mid : State) (passed : IsPassed s k on_stream mid) where
       unfit : (q : Open) → IsTheOne s.queries k q → IsUnfit s on_stream q
-      unfit q one = subst (IsUnfit s on_stream) (one.alone passed.query passed.one.stands passed.one.number_is) (subst (λ (x : Event). IsUnfit s x passed.query) is passed.unfit)
+      unfit q one = subst (IsUnfit s on_stream) (one.alone passed.query passed.one.stands passed.one.number_is) passed.unfit
 
-      pub reply_failed : (out : List ActionSpec) (new : State) → Tells mid k jobs.TcpFailed out new → Turns s e (Some out) new
+      pub reply_failed : (out : List ActionSpec) (new : State) → Tells mid k jobs.TcpFailed out new → Turns s on_stream (Some out) new
       reply_failed out new told =
           let p : Tells s k jobs.TcpFailed out new = subst (λ (z : State). Tells z k jobs.TcpFailed out new) passed.state told in
-          subst (λ (x : Event). Turns s x (Some out) new) (sym is)
           record {
             served = OpenQuery (p.query).number;
             turn = inr record {
@@ -157,10 +144,9 @@ module _ (s : State) (e : Event) (now ask : ℕ) (bytes : List ℕ) (is : e ≡ 
             };
           }
 
-      pub reply_failed_lost : (new : State) → Untold mid k jobs.TcpFailed new → Turns s e None new
+      pub reply_failed_lost : (new : State) → Untold mid k jobs.TcpFailed new → Turns s on_stream None new
       reply_failed_lost new lost =
           let p : Untold s k jobs.TcpFailed new = subst (λ (z : State). Untold z k jobs.TcpFailed new) passed.state lost in
-          subst (λ (x : Event). Turns s x None new) (sym is)
           record {
             served = OpenQuery (p.query).number;
             turn = (
@@ -178,62 +164,60 @@ module _ (s : State) (e : Event) (now ask : ℕ) (bytes : List ℕ) (is : e ≡ 
 
 -- ---- an ask over TCP that failed
 
-module _ (s : State) (e : Event) (now ask : ℕ) (is : e ≡ TcpFailed now ask) where
+module _ (s : State) (now ask : ℕ) where
   abbrev off_stream : Event
   off_stream = TcpFailed now ask
 
-  pub failure_missed : NoneAsked s ask → Turns s e (Some []) s
-  failure_missed none = subst (λ (x : Event). Turns s x (Some []) s) (sym is)
-      record { served = Nobody; turn = inl record { served_is = refl; nobody = none; out_is = refl; state = refl } }
+  pub failure_missed : NoneAsked s ask → Turns s off_stream (Some []) s
+  failure_missed none = record { served = Nobody; turn = inl record { served_is = refl; nobody = none; out_is = refl; state = refl } }
 
   module _ (k : ℕ) (h : Finds (IsOfNumber ask) s.queries k) where
     of_failed : (q : Open) → IsTheOne s.queries k q → IsOfNumber ask q
     of_failed q one = found_is (IsOfNumber ask) s.queries k q h one
 
-    pub failure_heard : (out : List ActionSpec) (new : State) → Tells s k jobs.TcpFailed out new → Turns s e (Some out) new
-    failure_heard out new p = subst (λ (x : Event). Turns s x (Some out) new) (sym is)
-        record {
-          served = OpenQuery (p.query).number;
-          turn = inr record {
-            query = p.query;
-            input = jobs.TcpFailed ((p.query).ask).server;
-            served_is = refl;
-            brings = (of_failed p.query p.one, refl);
-            serves = p.serves;
-          };
-        }
+    pub failure_heard : (out : List ActionSpec) (new : State) → Tells s k jobs.TcpFailed out new → Turns s off_stream (Some out) new
+    failure_heard out new p = record {
+      served = OpenQuery (p.query).number;
+      turn = inr record {
+        query = p.query;
+        input = jobs.TcpFailed ((p.query).ask).server;
+        served_is = refl;
+        brings = (of_failed p.query p.one, refl);
+        serves = p.serves;
+      };
+    }
 
-    pub failure_lost : (new : State) → Untold s k jobs.TcpFailed new → Turns s e None new
-    failure_lost new p = subst (λ (x : Event). Turns s x None new) (sym is)
-        record {
-          served = OpenQuery (p.query).number;
-          turn = (
-            p.query,
-            p.one.stands,
-            refl,
-            of_failed p.query p.one,
-            more_stores s k (p.query).number
-                (Stops (jobs.TcpFailed ((p.query).ask).server) s.clock (p.query).job s.stores)
-                (λ stores. (input : Input) × IsInput s off_stream p.query input × Stops input s.clock (p.query).job s.stores stores)
-                new (sym p.one.number_is)
-                (λ stops. (jobs.TcpFailed ((p.query).ask).server, (of_failed p.query p.one, refl), stops)) p.left,
-          );
-        }
+    pub failure_lost : (new : State) → Untold s k jobs.TcpFailed new → Turns s off_stream None new
+    failure_lost new p = record {
+      served = OpenQuery (p.query).number;
+      turn = (
+        p.query,
+        p.one.stands,
+        refl,
+        of_failed p.query p.one,
+        more_stores s k (p.query).number
+            (Stops (jobs.TcpFailed ((p.query).ask).server) s.clock (p.query).job s.stores)
+            (λ stores. (input : Input) × IsInput s off_stream p.query input × Stops input s.clock (p.query).job s.stores stores)
+            new (sym p.one.number_is)
+            (λ stops. (jobs.TcpFailed ((p.query).ask).server, (of_failed p.query p.one, refl), stops)) p.left,
+      );
+    }
 
-    pub failure_loud : IsQuiet s e → ⊥
-    failure_loud q = let none : NoneAsked s ask = subst (IsQuiet s) is q in none h.query h.one.stands h.is
+    pub failure_loud : IsQuiet s off_stream → ⊥
+    failure_loud none = none h.query h.one.stands h.is
 
 -- ---- a tick
 
 none_then_some : (s : State) (q : Open) → NoneDue s → IsFirstDue s q → ⊥
 none_then_some s q none first = let before = none q first.stands in let due = first.due in absurd (omega arith)
 
-pub followed : {A : Type 0} (new : State) (a : Action A) (o : Option ℕ) (more : Bool) → more ≡ is_some o → MatchOption o (NoneDue new) (λ k. Finds (IsFirstDue new) new.queries k) → IsFollowed (alone a) (listed (Some a) more) new
-followed new a None more is none = inr (
-  ap (listed (Some a)) is,
+pub followed : {X : Type 0} (given : X → ActionSpec) (new : State) (a : X) (o : Option ℕ) (more : Bool) → more ≡ is_some o → MatchOption o (NoneDue new) (λ k. Finds (IsFirstDue new) new.queries k)
+    → IsFollowed (alone given a) (all_given given (Some a) more) new
+followed given new a None more is none = inr (
+  ap (all_given given (Some a)) is,
   λ some. let before = none some.0 some.1 in let due = some.2 in absurd (omega arith),
 )
-followed new a (Some k) more is h = inl (ap (listed (Some a)) is, (h.query, h.is.stands, h.is.due))
+followed given new a (Some k) more is h = inl (ap (all_given given (Some a)) is, (h.query, h.is.stands, h.is.due))
 
 module _ (s : State) (now : ℕ) where
   abbrev at_time : Event

@@ -22,6 +22,7 @@ first_is_sound s some early none = record {
   few = subst (λ (qs : List Open). length qs ≤ most_open) (sym none) (omega arith);
   opened = λ q m. absurd (none_in q (subst (λ (qs : List Open). Contains qs q) none m));
   asked = λ q m number path. absurd (none_in q (subst (λ (qs : List Open). Contains qs q) none m));
+  sought = λ q m. absurd (none_in q (subst (λ (qs : List Open). Contains qs q) none m));
 }
 
 -- A refusal of a catalog is one of the resolver's, once its settings are allowed.

@@ -8,13 +8,11 @@ use Rattle.causes.specs.declared.cause.Cause.TheVariants as cause
 use Rattle.front.specs.declared.queries.Outcome.TheVariants as outcome
 use Rattle.resolution.specs.Jobs.{Input}
 use Rattle.resolution.specs.Rules.{Stops}
-use Rattle.runs.specs.States.{Endpoint, Datagram, Action, ClientQuery, Open, due_moment, AreApart, State}
-use Rattle.runs.specs.Messages.{id_in}
-use Rattle.runs.specs.Steps.{Ends, Serves, IsLeft, IsOfLine, IsOfNumber, IsFirstDue}
+use Rattle.runs.specs.States.{Endpoint, Action, ClientQuery, Open, due_moment, AreApart, State}
+use Rattle.runs.specs.Steps.{Ends, Serves, IsLeft, IsOfNumber, IsFirstDue}
 use Rattle.open_queries.specs.Lookups.{IsOnLine, IsOnStream, Stands, IsFound, IsNoLater, IsEarliestQuery, IsTheOne, IsTaken}
 use Rattle.engine.specs.Moves.{ServesOne, DropsOne}
-use Rattle.engine.specs.Finds.{Finds, OfTheOne, Reaches, NoneDue, IsLateOne, IsEarlyOne, Tells, Untold, Expires}
-use Rattle.engine.specs.Turns.{IsQuiet}
+use Rattle.engine.specs.Finds.{Finds, OfTheOne, IsOffLine, Reaches, NoneDue, IsLateOne, IsEarlyOne, Tells, Untold, Expires}
 use Rattle.engine.proofs.Lift.{ends_too}
 
 alone_of : (qs : List Open) → AreApart qs → (p q : Open) → Contains qs p → Contains qs q → p.number ≡ q.number → p ≡ q
@@ -69,10 +67,10 @@ expires s k q others who out new taken is h =
 
 -- ---- look-ups
 
-pub reaches : (s : State) (sock : ℕ) (from : Endpoint) (bytes : List ℕ) (o : Option ℕ) → AreApart s.queries → from.port ≡ (s.site).port → 12 ≤ length bytes
-    → IsFound (IsOnLine sock from.address (id_in bytes)) s.queries o → MatchOption o (IsQuiet s (Datagram 0 sock from bytes)) (Reaches s sock from bytes)
-reaches s sock from bytes None apart port header none = inr (inr none)
-reaches s sock from bytes (Some k) apart port header h = record { port = port; header = header; found = finds (IsOfLine sock from bytes) s.queries k apart h }
+pub reaches : (s : State) (sock : ℕ) (from : Endpoint) (id : ℕ) (o : Option ℕ) → AreApart s.queries → from.port ≡ (s.site).port
+    → IsFound (IsOnLine sock from.address id) s.queries o → MatchOption o (IsOffLine s sock from id) (Reaches s sock from id)
+reaches s sock from id None apart port none = inr none
+reaches s sock from id (Some k) apart port h = record { port = port; found = finds (IsOnLine sock from.address id) s.queries k apart h }
 
 pub asked : (qs : List Open) (ask : ℕ) (o : Option ℕ) → AreApart qs → IsFound (IsOnStream ask) qs o
     → MatchOption o ((q : Open) → Contains qs q → IsOfNumber ask q → ⊥) (λ k. Finds (IsOfNumber ask) qs k)

@@ -1,37 +1,126 @@
--- An event that is for the open query of a number.
-use Rattle.std.proofs.Common.{◌≡◌, ℕ, inl, inr, List, sym, ◌∙◌, subst, ap, Some}
+-- A message that is for the open query of a number.
+use Rattle.std.proofs.Common.{◌≡◌, ℕ, inl, inr, Bool, true, false, Option, None, List, ◌∷◌, [], refl, sym, ◌∙◌, ap, subst}
+use Rattle.std.specs.Prelude.{◌↔◌, IsTrue}
+use Rattle.rdata.specs.Types.{type_number}
+use Rattle.rdata.specs.declared.addr.Addr.{Addr}
+use Rattle.rdata.specs.declared.rtype.RType.{RType}
+use Rattle.message_grammar.specs.Messages.{Question, Message, IsMessage}
+use Rattle.message_grammar.proofs.Single.{message_one}
+use Rattle.wire.specs.declared.via.Via.{Via}
+use Rattle.wire.specs.declared.via.Via.TheVariants.{Udp, Tcp}
+use Rattle.classify.specs.Read.{Reading, only_question, IsReadingOf, AreRead}
+use Rattle.classify.specs.Views.{reading_view}
+use Rattle.classify.specs.declared.reading.Reading.{Reading as ReadingCode}
+use Rattle.resolution.specs.Jobs.{Search, Told}
 use Rattle.resolution.specs.Rules.{Stops}
-use Rattle.iterate.specs.declared.calls.Input.{Input}
-use Rattle.iterate.specs.Views.{input_view}
-use Rattle.runs.specs.States.{Event, Action, Open, State}
-use Rattle.runs.specs.Steps.{Serves}
-use Rattle.engine.specs.Moves.{ServesOne, DropsOne, IsRead, Forgets, IsServed, IsLost}
+use Rattle.runs.specs.States.{Endpoint, endpoint, Event, Datagram, TcpReply, Action, Ask, Open, via_of, State}
+use Rattle.runs.specs.Messages.{question_for, AnswersAsk, id_in}
+use Rattle.runs.specs.Steps.{IsOfLine, IsOfNumber}
+use Rattle.laws.specs.Searches.{IsSought, AreSought}
+use Rattle.iterate.specs.Inputs.{IsSoughtIn, IsGiven}
+use Rattle.iterate.specs.declared.calls.Input.TheVariants as input
+use Rattle.open_queries.specs.Lookups.{IsTheOne}
+use Rattle.engine.specs.Moves.{ServesOne, DropsOne, Answers, Carries, Forgets, IsPassed, IsServed, IsLost}
+use Rattle.engine.specs.Finds.{OfTheOne, Reaches}
+use Rattle.engine.proofs.Found.{found_is}
 
-pub is_served : {A : Type 0} (s : State) (k : ℕ) (event : Event) (input : Input A) (out : List Action) (new : State) → IsRead s k event (Some input) → ServesOne s k (input_view input) out new → IsServed s k event out new
-is_served s k event input out new read h = record {
-  query = read.query;
-  one = read.one;
-  input = input_view input;
-  told = read.reads;
-  serves = subst (λ (q : Open). Serves s q (input_view input) out new) (read.one.alone h.query h.one.stands h.one.number_is) h.serves;
+-- ---- what a reading answers
+
+pub answers_ask : (way : Via) (m : Message) (r : Reading) (a : Ask) → IsReadingOf way m r → Answers a r → AnswersAsk a m
+answers_ask way m r a reads is = record {
+  qr = reads.qr;
+  opcode = reads.opcode;
+  id = reads.id ∙ is.id;
+  question = reads.question ∙ (λ i. question_for (is.name i) (is.kind i) ∷ []);
 }
 
-pub is_lost : {A : Type 0} (s : State) (k : ℕ) (event : Event) (input : Input A) (new : State) → IsRead s k event (Some input) → DropsOne s k (input_view input) new → IsLost s k event new
-is_lost s k event input new read h =
-    let same : h.query ≡ read.query = read.one.alone h.query h.one.stands h.one.number_is in
+only_one : (q r : Question) → q ∷ [] ≡ r ∷ [] → q ≡ r
+only_one q r same = cc
+
+pub ask_answers : (way : Via) (m : Message) (r : Reading) (a : Ask) → IsReadingOf way m r → AnswersAsk a m → Answers a r
+ask_answers way m r a reads is =
+    let same : question_for r.name r.kind ≡ question_for a.name a.kind = only_one _ _ (sym reads.question ∙ is.question) in
+    record { id = sym reads.id ∙ is.id; name = ap (λ (q : Question). q.name) same; kind = ap (λ (q : Question). q.qtype) same }
+
+-- Bytes of which nothing was read answer no ask for a served type.
+pub unread : (way : Via) (bytes : List ℕ) (k : RType) (a : Ask) (m : Message) → AreRead way bytes None → a.kind ≡ type_number k → IsMessage bytes m → AnswersAsk a m → ⊥
+unread way bytes k a m none kind is answers = none m is a.name k answers.qr answers.opcode (answers.question ∙ (λ i. question_for a.name (kind i) ∷ []))
+
+-- ---- its search
+
+first_of : (s t : Search) (rest others : List Search) → s ∷ rest ≡ t ∷ others → s ≡ t
+first_of s t rest others same = cc
+
+sought_in : (q : Open) (r : Reading) → IsSought q → Answers q.ask r → IsSoughtIn q.job r
+sought_in q r h is s rest e =
+    let f = h.found in
+    let same : s ≡ f.sought = first_of s f.sought rest f.others (sym e ∙ f.searches) in
+    (is.name ∙ sym f.name ∙ ap (λ (x : Search). x.name) (sym same), is.kind ∙ sym f.kind ∙ ap (λ (x : Search). x.kind) (sym same))
+
+pub given_told : {A : Type 0} (qs : List Open) (k : ℕ) (way : Via) (server : Addr) (m : Message) (r : ReadingCode A) → AreSought qs → IsReadingOf way m (reading_view r) → OfTheOne qs k (λ q. Answers q.ask (reading_view r))
+    → OfTheOne qs k (λ q. IsGiven q.job (input.Told server r) (Told way server m))
+given_told qs k way server m r sought reads answers q one = (way, m, reads, sought_in q (reading_view r) (sought q one.stands) (answers q one), refl)
+
+-- ---- what an event carries
+
+pub datagram_carries : (s : State) (now sock id k : ℕ) (from : Endpoint) (bytes : List ℕ) (m : Message) → Reaches s sock from id k → IsMessage bytes m
+    → OfTheOne s.queries k (Carries (s.site).port (Datagram now sock from bytes) Udp m)
+datagram_carries s now sock id k from bytes m h is q one =
+    let line = found_is _ s.queries k q h.found one in
     record {
-      query = read.query;
-      one = read.one;
-      left = record {
-        queries = h.left.queries;
-        stores = elim h.left.stores [
-          | inl e ↦ inl e
-          | inr stops ↦ inr (input_view input, read.reads, subst (λ (q : Open). Stops (input_view input) s.clock q.job s.stores new.stores) same stops)
-        ];
-        generator = h.left.generator;
-        state = h.left.state;
-      };
+      brings = λ answers. (line.0, (λ i. endpoint (sym line.1 i) (h.port i)), is, answers);
+      only = λ n brought. subst (AnswersAsk q.ask) (message_one bytes n m brought.2 is) brought.3;
+      way_is = ap via_of (sym line.0);
     }
+
+pub reply_carries : (qs : List Open) (port now ask k : ℕ) (bytes : List ℕ) (m : Message) → OfTheOne qs k (IsOfNumber ask) → IsMessage bytes m → OfTheOne qs k (Carries port (TcpReply now ask bytes) Tcp m)
+reply_carries qs port now ask k bytes m over is q one =
+    let path = over q one in
+    record {
+      brings = λ answers. (path, is, answers);
+      only = λ n brought. subst (AnswersAsk q.ask) (message_one bytes n m brought.1 is) brought.2;
+      way_is = ap via_of (sym path);
+    }
+
+-- ---- what becomes of it
+
+module _ (s : State) (k : ℕ) (event : Event) (way : Via) (m : Message) (r : Reading) (reads : IsReadingOf way m r) (carries : OfTheOne s.queries k (Carries (s.site).port event way m)) where
+  pub is_passed : (q : Open) → IsTheOne s.queries k q → (Answers q.ask r → ⊥) → IsPassed s k event s
+  is_passed q one other = record {
+    query = q;
+    one = one;
+    unfit = λ n brought. other (ask_answers way m r q.ask reads ((carries q one).only n brought));
+    state = refl;
+  }
+
+  module _ (server : Addr) (asked : OfTheOne s.queries k (λ q. server ≡ (q.ask).server)) (answers : OfTheOne s.queries k (λ q. Answers q.ask r)) (new : State) where
+    pub is_served : (out : List Action) → ServesOne s k (Told way server m) out new → IsServed s k event out new
+    is_served out h =
+        let it = carries h.query h.one in
+        record {
+          query = h.query;
+          one = h.one;
+          input = Told way server m;
+          told = (m, it.brings (answers_ask way m r (h.query).ask reads (answers h.query h.one)), (λ i. Told (it.way_is i) (asked h.query h.one i) m));
+          serves = h.serves;
+        }
+
+    pub is_lost : DropsOne s k (Told way server m) new → IsLost s k event new
+    is_lost h =
+        let it = carries h.query h.one in
+        record {
+          query = h.query;
+          one = h.one;
+          left = record {
+            queries = h.left.queries;
+            stores = elim h.left.stores [
+              | inl e ↦ inl e
+              | inr stops ↦ inr (Told way server m, (m, it.brings (answers_ask way m r (h.query).ask reads (answers h.query h.one)), (λ i. Told (it.way_is i) (asked h.query h.one i) m)), stops)
+            ];
+            generator = h.left.generator;
+            state = h.left.state;
+          };
+        }
 
 pub is_lost_unread : (s : State) (k : ℕ) (event : Event) (new : State) → Forgets s k new → IsLost s k event new
 is_lost_unread s k event new h = record {

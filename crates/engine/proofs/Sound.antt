@@ -7,6 +7,7 @@ use Rattle.front.specs.declared.queries.Outcome.{Outcome}
 use Rattle.resolution.specs.Jobs.{Stores, Job, wait_of_job, Input, Next, AskUdp, AskTcp, Done, Fail}
 use Rattle.runs.specs.States.{Event, Client, Datagram, TcpReply, TcpFailed, Tick, Action, Served, Plain, ClientQuery, client_query, ByUdp, ByTcp, Open, open_query, Site, State, AreApart, latest, told_moment, moved}
 use Rattle.runs.specs.Steps.{AreOthers, AreWith, Ends, Waits, Comes, Serves, IsAsk, most_open, IsOpened, at_once, crowded, admitted, IsHandled, IsIgnored, ServesOpen, IsTicked, IsLeft, IsTurn}
+use Rattle.laws.specs.Searches.{AreSought}
 use Rattle.engine.specs.ResolverStates.{IsSound}
 use Rattle.engine.proofs.Counts.{HasNumber, others_no_more, with_no_more, with_one_more}
 
@@ -21,9 +22,10 @@ moved_is_sound s e sound = record {
   few = sound.few;
   opened = sound.opened;
   asked = sound.asked;
+  sought = sound.sought;
 }
 
-module _ (s : State) (sound : IsSound s) (new : State) (apart : AreApart new.queries) where
+module _ (s : State) (sound : IsSound s) (new : State) (apart : AreApart new.queries) (sought : AreSought new.queries) where
   same_is_sound : new ≡ s → IsSound new
   same_is_sound same = subst (λ (z : State). IsSound z) (sym same) sound
 
@@ -36,6 +38,7 @@ module _ (s : State) (sound : IsSound s) (new : State) (apart : AreApart new.que
     few = few;
     opened = opened;
     asked = asked;
+    sought = sought;
   }
 
   -- A query is over, or gone.

@@ -2,6 +2,7 @@
 use Rattle.std.proofs.Common.{◌≡◌, Option, List, Ok, Err, Result, IfOk, OnErr, sym, subst}
 use Rattle.runs.specs.States.{Event, Action, State, AreApart, moved}
 use Rattle.runs.specs.Steps.{IsTurn}
+use Rattle.laws.proofs.FollowedSearches.{turn_sought}
 use Rattle.engine.specs.ResolverStates.{IsSound}
 use Rattle.engine.specs.Turns.{Turns}
 use Rattle.engine.specs.Promises.{Steps}
@@ -22,4 +23,6 @@ module _ (was mid : State) (event : Event) (heard : mid ≡ moved was event) whe
     stepped = steps was event turns.served out new (record { turn = subst (λ (z : State). IsTurn z event turns.served out new) heard turns.turn; apart = apart })
 
     pub stepped_is_sound : IsSound was → IsSound new
-    stepped_is_sound sound = turn_is_sound mid (heard_is_sound sound) new apart event turns.served out turns.turn
+    stepped_is_sound sound =
+        let here : IsSound mid = heard_is_sound sound in
+        turn_is_sound mid here new apart (turn_sought mid event turns.served out new here.sought turns.turn) event turns.served out turns.turn

@@ -1,13 +1,13 @@
 -- The query that is found for an event, and the end of an ask that is not answered.
-use Rattle.std.specs.Prelude.{◌≡◌, ℕ, ◌<◌, ◌≤◌, ◌⊎◌, List, length, Contains}
+use Rattle.std.specs.Prelude.{◌≡◌, ◌≢◌, ℕ, ◌<◌, ◌≤◌, ◌⊎◌, List, Contains}
 use Rattle.rdata.specs.declared.addr.Addr.{Addr}
 use Rattle.causes.specs.declared.cause.Cause.TheVariants as cause
 use Rattle.front.specs.declared.queries.Outcome.TheVariants as outcome
 use Rattle.resolution.specs.Jobs.{Input, TimedOut}
 use Rattle.resolution.specs.Rules.{Stops}
 use Rattle.runs.specs.States.{Endpoint, Action, Open, due_moment, State}
-use Rattle.runs.specs.Steps.{Ends, Serves, IsLeft, IsOfLine}
-use Rattle.open_queries.specs.Lookups.{IsTheOne}
+use Rattle.runs.specs.Steps.{Ends, Serves, IsLeft}
+use Rattle.open_queries.specs.Lookups.{IsOnLine, IsTheOne}
 use Rattle.engine.specs.Moves.{Forgets}
 
 -- The one open query of this number has that property.
@@ -20,11 +20,13 @@ pub record Finds (IsSo : Open → Type 0) (qs : List Open) (k : ℕ) : Type 0 wh
 abbrev pub OfTheOne : List Open → ℕ → (Open → Type 0) → Type 0
 OfTheOne qs k IsSo = (q : Open) → IsTheOne qs k q → IsSo q
 
--- A datagram from the servers' port, with room for a header, is for the ask of the open query of a number.
-pub record Reaches (s : State) (sock : ℕ) (from : Endpoint) (bytes : List ℕ) (k : ℕ) : Type 0 where
+-- A datagram under an ID from the servers' port is for the ask of the open query of a number; or it is for no open ask.
+pub record Reaches (s : State) (sock : ℕ) (from : Endpoint) (id k : ℕ) : Type 0 where
   pub port : from.port ≡ (s.site).port
-  pub header : 12 ≤ length bytes
-  pub found : Finds (IsOfLine sock from bytes) s.queries k
+  pub found : Finds (IsOnLine sock from.address id) s.queries k
+
+abbrev pub IsOffLine : State → ℕ → Endpoint → ℕ → Type 0
+IsOffLine s sock from id = (from.port ≢ (s.site).port) ⊎ ((q : Open) → Contains s.queries q → IsOnLine sock from.address id q → ⊥)
 
 -- No open query is due.
 abbrev pub NoneDue : State → Type 0

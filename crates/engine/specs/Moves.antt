@@ -1,15 +1,14 @@
 -- Treatment of one query, in a state that is without it.
 use Rattle.std.specs.Prelude.{◌≡◌, ℕ, ◌⊎◌, Option, Some, None, List}
+use Rattle.wire.specs.declared.via.Via.{Via}
+use Rattle.classify.specs.Read.{Reading, AreRead}
 use Rattle.message_grammar.specs.Messages.{Message}
 use Rattle.resolution.specs.Jobs.{Stores, Job, Input as InputSpec, Told, Next}
 use Rattle.resolution.specs.Rules.{Advances, Stops}
 use Rattle.runs.specs.States.{Event, Action as ActionSpec, ClientQuery, Ask, via_of, Open, State, Served, word_taken}
-use Rattle.runs.specs.Messages.{IsSent, Brings}
+use Rattle.runs.specs.Messages.{IsSent, AnswersAsk, Brings}
 use Rattle.runs.specs.Steps.{AreWith, Comes, Serves, IsLeft, IsUnfit, IsOpened}
 use Rattle.open_queries.specs.Lookups.{IsTheOne, IsTaken}
-use Rattle.events.specs.declared.action.Action.{Action}
-use Rattle.iterate.specs.declared.calls.Input.{Input}
-use Rattle.iterate.specs.Views.{input_view}
 use Rattle.engine.specs.Replies.{alone}
 
 -- An ask goes out, and its query is open.
@@ -48,19 +47,25 @@ pub record DropsOne (s : State) (k : ℕ) (input : InputSpec) (new : State) : Ty
   pub one : IsTheOne s.queries k query
   pub left : IsLeft s k (Stops input s.clock query.job s.stores) new
 
--- The message that an event brings for an ask and that is accepted, as an input; or none.
+-- The message that an event brings for an ask and that is accepted, as an input.
 abbrev pub IsToldBy : ℕ → Ask → Event → InputSpec → Type 0
 IsToldBy port a event input = (m : Message) × Brings port a event m × (input ≡ Told (via_of a.path) a.server m)
 
-abbrev pub Reads : {A : Type 0} → ℕ → Ask → Event → Option (Input A) → Type 0
-Reads port a event None = (m : Message) → Brings port a event m → ⊥
-Reads port a event (Some input) = IsToldBy port a event (input_view input)
+-- A message of this reading answers the ask.
+pub record Answers (a : Ask) (r : Reading) : Type 0 where
+  pub id : r.id ≡ a.id
+  pub name : r.name ≡ a.name
+  pub kind : r.kind ≡ a.kind
 
--- The input that an event brings for the open query of a number; or none.
-pub record IsRead {A : Type 0} (s : State) (k : ℕ) (event : Event) (o : Option (Input A)) : Type 0 where
-  pub query : Open
-  pub one : IsTheOne s.queries k query
-  pub reads : Reads (s.site).port query.ask event o
+-- An event carries this one message on the way of a query's ask.
+pub record Carries (port : ℕ) (event : Event) (way : Via) (m : Message) (q : Open) : Type 0 where
+  pub brings : AnswersAsk q.ask m → Brings port q.ask event m
+  pub only : (n : Message) → Brings port q.ask event n → AnswersAsk q.ask m
+  pub way_is : way ≡ via_of (q.ask).path
+
+-- That was read of some bytes.
+abbrev pub HasBeenRead : Via → Option Reading → Type 0
+HasBeenRead way o = (bytes : List ℕ) × AreRead way bytes o
 
 -- The query of a number is taken out, and nothing else changes.
 pub record Forgets (s : State) (k : ℕ) (new : State) : Type 0 where
@@ -82,9 +87,9 @@ pub record IsServed (s : State) (k : ℕ) (event : Event) (out : List ActionSpec
   pub told : IsToldBy (s.site).port query.ask event input
   pub serves : Serves s query input out new
 
-abbrev pub IsHeard : {A : Type 0} → State → ℕ → Event → Option (Action A) → State → Type 0
-IsHeard s k event None new = IsPassed s k event new
-IsHeard s k event (Some a) new = IsServed s k event (alone a) new
+abbrev pub IsHeard : {X : Type 0} → (X → ActionSpec) → State → ℕ → Event → Option X → State → Type 0
+IsHeard given s k event None new = IsPassed s k event new
+IsHeard given s k event (Some a) new = IsServed s k event (alone given a) new
 
 pub record IsLost (s : State) (k : ℕ) (event : Event) (new : State) : Type 0 where
   pub query : Open

@@ -2,6 +2,7 @@
 use Rattle.std.specs.Prelude.{◌≡◌, ℕ, ◌<◌, ◌≤◌, length, Contains}
 use Rattle.runs.specs.States.{ByTcp, Open, State, latest}
 use Rattle.runs.specs.Steps.{most_open}
+use Rattle.laws.specs.Searches.{AreSought}
 use Rattle.engine.specs.declared.state.ResolverState.{ResolverState}
 
 abbrev pub state_of : {A : Type 0} → ResolverState A → State
@@ -16,10 +17,11 @@ state_of w = record {
 }
 
 -- There is a socket, the clock is a moment that counts, not too many queries are open, each was opened, and so was each
--- ask over TCP.
+-- ask over TCP; each query asks for what its innermost search seeks.
 pub record IsSound (s : State) : Type 0 where
   pub sockets : 0 < (s.site).sockets
   pub clock : s.clock ≤ latest
   pub few : length s.queries ≤ most_open
   pub opened : (q : Open) → Contains s.queries q → q.number < s.opened
   pub asked : (q : Open) → Contains s.queries q → (number : ℕ) → (q.ask).path ≡ ByTcp number → number < s.tcp_asks
+  pub sought : AreSought s.queries

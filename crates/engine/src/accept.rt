@@ -1,50 +1,44 @@
-//! Events for open queries: the message that an event brings for the open ask of a query is read, and the query is
-//! served by it.
-ghost use Rattle.std.specs.Prelude.{IfOk, OnErr};
-ghost use Rattle.events.specs.Views.{event_view};
-ghost use Rattle.runs.specs.States.{Open};
+//! Messages for open queries: a query is served by one whose reading answers its open ask.
+ghost use Rattle.std.specs.Prelude.{◌×◌, ◌↔◌, IfOk, OnErr, IsTrue};
+ghost use Rattle.message_grammar.specs.Messages.{Message};
+ghost use Rattle.wire.specs.declared.via.Via.{Via};
+ghost use Rattle.classify.specs.Read.{IsReadingOf};
+ghost use Rattle.classify.specs.Views.{reading_view};
+ghost use Rattle.runs.specs.States.{Event, Open};
 ghost use Rattle.open_queries.specs.Lookups.{IsTheOne};
 ghost use Rattle.engine.specs.ResolverStates.{state_of, IsSound};
-ghost use Rattle.engine.specs.Moves.{Reads, IsRead, Forgets, IsHeard, IsLost};
+ghost use Rattle.engine.specs.Moves.{Answers, Carries, Forgets, IsHeard, IsLost};
+ghost use Rattle.engine.specs.Finds.{OfTheOne};
 
+use crate::output::Output;
 use crate::state::ResolverState;
+use classify::Reading;
 use dname::{Heap, Starved};
-use events::{Action, Ask, Event, accepted_reply};
+use events::Ask;
 use iterate::Input;
+use std::alloc::Allocator;
 
-// The message that an event brings for an ask and that is accepted, as an input.
-fn read<'e, A: Heap>(
-    alloc: A,
-    port: u16,
-    ask: &Ask<A>,
-    event: &'e Event<A>,
-) -> Result<Option<Input<'e, A>>, Starved>
-    ensures { IfOk result (Reads port ask.now (event_view event.now)) }
+// Whether a message of this reading answers the ask: it has its ID, and its one question (RFC 1035, section 7.3).
+fn answers<A: Allocator>(ask: &Ask<A>, reading: &Reading<A>) -> bool
+    ensures { IsTrue result ↔ Answers ask.now (reading_view reading.now) }
 {
-    match accepted_reply(alloc, port, ask, event)? {
-        Some(message) => Ok(Some(Input::Told(ask.path.via(), ask.server, message))),
-        None => Ok(None),
-    }
+    reading.id == ask.id && reading.kind.number() == ask.kind.number() && reading.name == ask.name
 }
 
 impl<A: Heap> ResolverState<A> {
-    // The input that an event brings for the open query of that number.
-    fn read_for<'e>(
-        &self,
-        number: u64,
-        event: &'e Event<A>,
-    ) -> Result<Option<Input<'e, A>>, Starved>
+    // Whether a message of this reading answers the ask of the open query of that number.
+    fn is_answered(&self, number: u64, reading: &Reading<A>) -> bool
         requires { (q : Open) × IsTheOne self.now.queries number q }
-        ensures { IfOk result (IsRead (state_of self.now) number (event_view event.now)) }
+        ensures { OfTheOne self.now.queries number (λ q. IsTrue result ↔ Answers q.ask (reading_view reading.now)) }
     {
         match self.queries.get(number) {
-            Some(open) => read(self.alloc, self.port, open.ask(), event),
+            Some(open) => answers(open.ask(), reading),
             None => unreachable!(),
         }
     }
 
     // Drops the open query of that number.
-    fn forget(&mut self, number: u64)
+    pub fn forget(&mut self, number: u64)
         requires { (q : Open) × IsTheOne self.old.queries number q }
         ensures { Forgets (state_of self.old) number (state_of self.new) }
     {
@@ -54,27 +48,23 @@ impl<A: Heap> ResolverState<A> {
         }
     }
 
-    // Serves the open query of that number by the message that an event brings for it.
-    pub fn accept_event(
+    // Serves the open query of that number by a message of this reading, where it answers the query's ask.
+    pub fn hear<O: Output<A>>(
         &mut self,
+        output: &mut O,
         number: u64,
-        event: &Event<A>,
-    ) -> Result<Option<Action<A>>, Starved>
+        reading: &Reading<A>,
+    ) -> Result<Option<O::Given>, Starved>
         requires sound { IsSound (state_of self.old) }
         requires there { (q : Open) × IsTheOne self.old.queries number q }
-        ensures ok { IfOk result (λ o. IsHeard (state_of self.old) number (event_view event.now) o (state_of self.new)) }
-        ensures err { OnErr result (IsLost (state_of self.old) number (event_view event.now) (state_of self.new)) }
+        requires read { (way : Via) × (m : Message) × IsReadingOf way m (reading_view reading.now) }
+        ensures ok { (event : Event) (way : Via) (m : Message) → IsReadingOf way m (reading_view reading.now) → OfTheOne self.old.queries number (Carries self.old.port event way m) → IfOk result (λ o. IsHeard O.given (state_of self.old) number event o (state_of self.new)) }
+        ensures err { (event : Event) (way : Via) (m : Message) → IsReadingOf way m (reading_view reading.now) → OfTheOne self.old.queries number (Carries self.old.port event way m) → OnErr result (IsLost (state_of self.old) number event (state_of self.new)) }
     {
-        match self.read_for(number, event) {
-            Ok(Some(input)) => match self.go_on(number, input) {
-                Ok(action) => Ok(Some(action)),
-                Err(_) => Err(Starved),
-            },
-            Ok(None) => Ok(None),
-            Err(_) => {
-                self.forget(number);
-                Err(Starved)
-            }
+        if !self.is_answered(number, reading) {
+            return Ok(None);
         }
+        let server = self.server_of(number);
+        Ok(Some(self.go_on(output, number, Input::Told(server, reading))?))
     }
 }

@@ -1,27 +1,27 @@
 //! Requests of clients: they are dropped, refused, answered by local zones (without RD), or resolved.
-ghost use Rattle.std.specs.Prelude.{◌≡◌, ℕ, ◌<◌, ◌≤◌, Some, None, IfOk, IsOk, OnErr, length};
+ghost use Rattle.std.specs.Prelude.{◌≡◌, ℕ, ◌<◌, ◌≤◌, Some, None, List, IfOk, IsOk, OnErr, length};
 ghost use Rattle.resolution.specs.Jobs.{Start as StartSpec};
 ghost use Rattle.resolution.specs.Rules.{Stops};
 ghost use Rattle.iterate.specs.Beginnings.{StartsWith};
 ghost use Rattle.front.specs.declared.queries.Request.TheVariants as request;
 ghost use Rattle.runs.specs.States.{Client, Own, latest, recursive, job_for};
-ghost use Rattle.runs.specs.Messages.{IsRefusal};
 ghost use Rattle.runs.specs.Steps.{AnswersAtHand};
 ghost use Rattle.events.specs.Plain.{plain_asked};
-ghost use Rattle.events.specs.Views.{action_view};
+ghost use Rattle.front.specs.Queries.{IsRequest};
 ghost use Rattle.engine.specs.ResolverStates.{state_of, IsSound};
 ghost use Rattle.engine.specs.Replies.{alone, if_any};
 ghost use Rattle.engine.specs.Calls.{Handles, IsResolved, Begins, IsGone};
 ghost use Rattle.engine.specs.Turns.{Turns};
 
 use crate::hashing::StoreHasher;
+use crate::output::{Output, refusal, reply};
 use crate::state::ResolverState;
 use dname::{Heap, Starved};
-use events::{Action, ClientQuery, local_answer_is_plain, read_asked, refuse, reply_to};
-use front::{Echo, Refusal, Request, Start, answer_local};
+use events::{ClientQuery, local_answer_is_plain, read_asked};
+use front::{Request, answer_local};
 use iterate::{Chain, Started, begin_query};
 use lookup::{Home, Stores};
-use wire::{Via, Writer};
+use wire::Via;
 
 // The result of starting a query at `now` milliseconds: its answer, or work that waits. For the proof: it says of
 // `begin_query` what the steps of a run speak of.
@@ -54,85 +54,103 @@ fn is_recursive<A: Heap>(client_query: &ClientQuery<A>) -> bool
     client_query.query.start.wants_recursion()
 }
 
-// Sends a refusal, with the question that it repeats. For the proof: it says of `refuse` what a run speaks of.
-fn refused<A: Heap>(
-    writer: &mut Writer<A>,
-    client: u64,
-    way: Via,
-    refusal: Refusal,
-    start: Start,
-    echo: Option<Echo<A>>,
-) -> Result<Action<A>, Starved>
-    ensures { IfOk result (λ a. IsRefusal client way refusal start echo (action_view a)) }
-{
-    refuse(writer, client, way, refusal, start, echo.as_ref())
-}
-
 impl<A: Heap> ResolverState<A> {
     // Treats a client's bytes: they are dropped, refused, answered or opened.
-    pub fn client(
+    pub fn client<O: Output<A>>(
         &mut self,
+        output: &mut O,
         client: u64,
         way: Via,
         bytes: &[u8],
-    ) -> Result<Option<Action<A>>, Starved>
+    ) -> Result<Option<O::Given>, Starved>
         requires sound { IsSound (state_of self.old) }
-        ensures ok { IfOk result (λ a. (now : ℕ) → Turns (state_of self.old) (Client now client way bytes.now) (Some (if_any a)) (state_of self.new)) }
+        ensures ok { IfOk result (λ a. (now : ℕ) → Turns (state_of self.old) (Client now client way bytes.now) (Some (if_any O.given a)) (state_of self.new)) }
         ensures err { OnErr result ((now : ℕ) → Turns (state_of self.old) (Client now client way bytes.now) None (state_of self.new)) }
         ensures quiet { length bytes.now < 12 → IsOk result }
     {
         let asked = read_asked(self.alloc, bytes)?;
-        self.handle(client, way, asked)
+        self.handle(output, client, way, asked)
+    }
+
+    // Treats what was read of a client's bytes.
+    pub fn read_client<O: Output<A>>(
+        &mut self,
+        output: &mut O,
+        client: u64,
+        way: Via,
+        request: &Request<A>,
+    ) -> Result<Option<O::Given>, Starved>
+        requires sound { IsSound (state_of self.old) }
+        ensures ok { (now : ℕ) (bytes : List ℕ) → IsRequest bytes (plain_asked request.now) → IfOk result (λ a. Turns (state_of self.old) (Client now client way bytes) (Some (if_any O.given a)) (state_of self.new)) }
+        ensures err { (now : ℕ) (bytes : List ℕ) → OnErr result (Turns (state_of self.old) (Client now client way bytes) None (state_of self.new)) }
+    {
+        let request = request.copied()?;
+        self.handle(output, client, way, request)
     }
 
     // Dispatches a client's request: it is dropped, refused, or resolved.
-    fn handle(
+    fn handle<O: Output<A>>(
         &mut self,
+        output: &mut O,
         client: u64,
         way: Via,
         asked: Request<A>,
-    ) -> Result<Option<Action<A>>, Starved>
+    ) -> Result<Option<O::Given>, Starved>
         requires sound { IsSound (state_of self.old) }
-        ensures ok { IfOk result (λ a. Handles (state_of self.old) client way (plain_asked asked) (if_any a) (state_of self.new)) }
+        ensures ok { IfOk result (λ a. Handles (state_of self.old) client way (plain_asked asked) (if_any O.given a) (state_of self.new)) }
         ensures err { OnErr result (IsGone (state_of self.old) (state_of self.new)) }
         ensures quiet { plain_asked asked ≡ request.Drop → IsOk result }
     {
         match asked {
             Request::Drop => Ok(None),
-            Request::Refuse(refusal, start, echo) => {
-                Ok(Some(refused(&mut self.writer, client, way, refusal, start, echo)?))
+            Request::Refuse(why, start, echo) => {
+                Ok(Some(refusal(output, self.alloc, client, way, why, start, echo)?))
             }
-            Request::Query(query) => Ok(Some(self.resolve(ClientQuery { client, way, query })?)),
+            Request::Query(query) => {
+                Ok(Some(self.resolve(output, ClientQuery { client, way, query })?))
+            }
         }
     }
 
     // Treats a query: without RD it is answered by the local zones alone (RFC 1034, section 4.3.1).
-    fn resolve(&mut self, client_query: ClientQuery<A>) -> Result<Action<A>, Starved>
+    fn resolve<O: Output<A>>(
+        &mut self,
+        output: &mut O,
+        client_query: ClientQuery<A>,
+    ) -> Result<O::Given, Starved>
         requires sound { IsSound (state_of self.old) }
-        ensures ok { IfOk result (λ a. IsResolved (state_of self.old) client_query (alone a) (state_of self.new)) }
+        ensures ok { IfOk result (λ a. IsResolved (state_of self.old) client_query (alone O.given a) (state_of self.new)) }
         ensures err { OnErr result (IsGone (state_of self.old) (state_of self.new)) }
     {
         if is_recursive(&client_query) {
-            Ok(self.begin_query(client_query)?)
+            Ok(self.begin_query(output, client_query)?)
         } else {
-            Ok(self.at_hand(&client_query)?)
+            Ok(self.at_hand(output, client_query)?)
         }
     }
 
     // Answers from the local zones alone.
-    fn at_hand(&mut self, client_query: &ClientQuery<A>) -> Result<Action<A>, Starved>
-        ensures ok { IfOk result (λ a. AnswersAtHand (state_of self.old) client_query.now Own (alone a) (state_of self.new)) }
+    fn at_hand<O: Output<A>>(
+        &mut self,
+        output: &mut O,
+        client_query: ClientQuery<A>,
+    ) -> Result<O::Given, Starved>
+        ensures ok { IfOk result (λ a. AnswersAtHand (state_of self.old) client_query Own (alone O.given a) (state_of self.new)) }
         ensures same { state_of self.new ≡ state_of self.old }
     {
         local_answer_is_plain(self.alloc);
         let outcome = answer_local(self.alloc, &client_query.query, self.home.catalog())?;
-        reply_to(&mut self.writer, client_query, &outcome)
+        reply(output, self.alloc, client_query, outcome)
     }
 
     // Begins a recursive query: it is answered by a link that is found, or its work begins.
-    fn begin_query(&mut self, client_query: ClientQuery<A>) -> Result<Action<A>, Starved>
+    fn begin_query<O: Output<A>>(
+        &mut self,
+        output: &mut O,
+        client_query: ClientQuery<A>,
+    ) -> Result<O::Given, Starved>
         requires sound { IsSound (state_of self.old) }
-        ensures ok { IfOk result (λ a. Begins (state_of self.old) client_query (alone a) (state_of self.new)) }
+        ensures ok { IfOk result (λ a. Begins (state_of self.old) client_query (alone O.given a) (state_of self.new)) }
         ensures err { OnErr result (IsGone (state_of self.old) (state_of self.new)) }
     {
         match begun(
@@ -143,9 +161,9 @@ impl<A: Heap> ResolverState<A> {
             self.clock,
         )? {
             Started::Answered(last) => {
-                self.answer(self.opened, &client_query, Chain::new(self.alloc), last)
+                self.answer(output, self.opened, client_query, Chain::new(self.alloc), last)
             }
-            Started::Working(job, next) => self.admit(client_query, job, next),
+            Started::Working(job, next) => self.admit(output, client_query, job, next),
         }
     }
 }

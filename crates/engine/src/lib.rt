@@ -1,8 +1,9 @@
 //! The resolver as a machine of one thread: events in, actions out.
 //!
 //! `Core::new` makes a resolver of a `Config`: local zones, hints, and the `Settings` of an operator. `Core::step`
-//! takes one `events::Event` and gives one action at most, a reply or an ask, and whether another query is due. `Core`
-//! is a `book::Machine`, so that many workers can share one.
+//! takes one `events::Event` and gives one action at most, a reply or an ask, and whether another query is due.
+//! `Core::step_typed` is the same step where messages are read before it and written after it (`typed`). `Core` is a
+//! `book::Machine`, so that many workers can share one.
 //!
 //! Promised: a step is one of `runs`, and each law of `laws` is kept by it, whatever run led there (`Steps`). The
 //! history of a shared resolver is a run (`history_is_run`). A new resolver is the one of its `Config` (`IsMade`), or
@@ -32,6 +33,7 @@ mod datagram;
 mod handle;
 mod hashing;
 mod machine;
+mod output;
 mod settings;
 mod state;
 mod stream;

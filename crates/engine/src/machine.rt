@@ -9,9 +9,12 @@ ghost use Rattle.engine.specs.ResolverStates.{state_of};
 ghost use Rattle.engine.specs.Turns.{IsQuiet};
 ghost use Rattle.engine.specs.Promises.{Steps};
 ghost use Rattle.events.specs.Views.{event_view};
-ghost use Rattle.runs.specs.States.{moved};
+ghost use Rattle.runs.specs.States.{Event as EventSpec, moved};
+ghost use Rattle.typed.specs.Events.{ReadAs};
+ghost use Rattle.typed.specs.Views.{said_listed};
 
 use crate::hashing::{Seeded, StoreHasher};
+use crate::output::{Given, Unwritten};
 use crate::settings::{Config, CoreError};
 use crate::state::ResolverState;
 use authority::{Catalog, CatalogError};
@@ -26,19 +29,23 @@ use rdata::Addr;
 use std::alloc::{Allocator, Global};
 use std::hash::DefaultHasher;
 use std::marker::Model;
+use typed::{TypedActions, TypedEvent};
 use wire::Writer;
 use zone::Zone;
 
 /// A resolver: its local zones and hints, the stores, and the open queries.
 pub struct Core<A: Allocator = Global> {
     state: ResolverState<A>,
+    // The writer of the replies of `step`.
+    writer: Writer<A>,
 }
 
 // By hand, so that each drop of a resolver calls this, and does not write out all that it holds.
 impl<A: Allocator> Drop for Core<A> {
     fn drop(self) {
-        let Core { state } = self;
+        let Core { state, writer } = self;
         drop(state);
+        drop(writer);
     }
 }
 
@@ -120,8 +127,8 @@ impl<A: Heap> Core<A> {
                 opened: 0,
                 tcp_asks: 0,
                 generator: ChaCha20Rng::from_seed(settings.seed),
-                writer,
             },
+            writer,
         })
     }
 
@@ -132,10 +139,25 @@ impl<A: Heap> Core<A> {
         ensures err { OnErr result (Steps self.old (event_view event.now) None self.new) }
         ensures quiet { IsQuiet (moved self.old (event_view event.now)) (event_view event.now) → IsOk result }
     {
-        self.state.advance_clock(event);
-        let out = self.state.handle_event(event);
+        self.state.advance_clock(event.moment());
+        let given = self.state.handle_event(&mut self.writer, event);
         self.state.queries.apart_law();
-        out
+        let Given { first, more_due } = given?;
+        Ok(Actions { first, more_due })
+    }
+
+    /// One step whose event was read before and whose action is written after, so that no bytes are read or written in
+    /// it. It is a step on the bytes that the event was read from, and its action is the one that is written of it
+    /// (`typed::write_actions`). Out of memory, it leaves what `step` leaves.
+    pub fn step_typed(&mut self, event: &TypedEvent<A>) -> Result<TypedActions<A>, Starved>
+        ensures ok { (e : EventSpec) → ReadAs e event.now → IfOk result (λ a. Steps self.old e (Some (said_listed a.first a.more_due)) self.new) }
+        ensures err { (e : EventSpec) → ReadAs e event.now → OnErr result (Steps self.old e None self.new) }
+    {
+        self.state.advance_clock(event.moment());
+        let given = self.state.handle_parsed(&mut Unwritten, event.parsed());
+        self.state.queries.apart_law();
+        let Given { first, more_due } = given?;
+        Ok(TypedActions { first, more_due })
     }
 
     /// How many entries each store has, expired ones among them.

@@ -4,7 +4,6 @@ use lookup::{Home, Stores};
 use open_queries::Queries;
 use rand_chacha::ChaCha20Rng;
 use std::alloc::{Allocator, Global};
-use wire::Writer;
 
 // The state between two steps: the parts that no step changes, the clock in milliseconds, the stores, the open queries,
 // and the numbers of the next query and of the next ask over TCP.
@@ -30,6 +29,4 @@ pub struct ResolverState<A: Allocator = Global> {
     pub tcp_asks: u64,
     // Gives a word for the socket and the ID of each ask (RFC 5452, section 4).
     pub generator: ChaCha20Rng,
-    // The writer of all replies.
-    pub writer: Writer<A>,
 }

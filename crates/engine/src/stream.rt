@@ -1,20 +1,26 @@
 //! Replies over TCP, and asks over TCP that failed.
 ghost use Rattle.std.specs.Prelude.{◌≡◌, ℕ, List, Some, None, IfOk, IsOk, OnErr, MatchOption, Contains};
 ghost use Rattle.resolution.specs.Jobs as jobs;
-ghost use Rattle.events.specs.Views.{event_view};
+ghost use Rattle.rdata.specs.Types.{type_number};
+ghost use Rattle.wire.specs.declared.via.Via.TheVariants as via;
+ghost use Rattle.classify.specs.Read.{AreRead};
+ghost use Rattle.classify.specs.Views.{read_view};
 ghost use Rattle.runs.specs.States.{Open, TcpReply, TcpFailed};
 ghost use Rattle.runs.specs.Steps.{IsOfNumber};
 ghost use Rattle.open_queries.specs.Lookups.{IsTheOne};
 ghost use Rattle.engine.specs.ResolverStates.{state_of, IsSound};
 ghost use Rattle.engine.specs.Replies.{alone, if_any};
+ghost use Rattle.engine.specs.Moves.{HasBeenRead, IsHeard, IsLost};
 ghost use Rattle.engine.specs.Finds.{Finds, OfTheOne, Tells, Untold};
 ghost use Rattle.engine.specs.Turns.{Turns, IsQuiet};
 
+use crate::output::Output;
 use crate::state::ResolverState;
+use classify::{Reading, read};
 use dname::{Heap, Starved};
-use events::{Action, Event};
 use iterate::Input;
-use rdata::Addr;
+use rdata::{Addr, RType};
+use wire::Via;
 
 impl<A: Heap> ResolverState<A> {
     // The server that the open query of that number asks.
@@ -36,45 +42,119 @@ impl<A: Heap> ResolverState<A> {
         self.queries.find_tcp(ask)
     }
 
+    // The type that the ask of the open query of that number is for.
+    pub fn kind_of(&self, number: u64) -> RType
+        requires { (q : Open) × IsTheOne self.now.queries number q }
+        ensures { OfTheOne self.now.queries number (λ q. (q.ask).kind ≡ type_number result) }
+    {
+        match self.queries.get(number) {
+            Some(open) => open.ask().kind,
+            None => unreachable!(),
+        }
+    }
+
     // Treats the open ask of the query of that number as failed.
-    fn fail_ask(&mut self, number: u64) -> Result<Action<A>, Starved>
+    fn fail_ask<O: Output<A>>(
+        &mut self,
+        output: &mut O,
+        number: u64,
+    ) -> Result<O::Given, Starved>
         requires sound { IsSound (state_of self.old) }
         requires there { (q : Open) × IsTheOne self.old.queries number q }
-        ensures ok { IfOk result (λ a. Tells (state_of self.old) number jobs.TcpFailed (alone a) (state_of self.new)) }
+        ensures ok { IfOk result (λ a. Tells (state_of self.old) number jobs.TcpFailed (alone O.given a) (state_of self.new)) }
         ensures err { OnErr result (Untold (state_of self.old) number jobs.TcpFailed (state_of self.new)) }
     {
         let server = self.server_of(number);
-        self.go_on(number, Input::TcpFailed(server))
+        self.go_on(output, number, Input::TcpFailed(server))
     }
 
-    // Treats a reply over TCP: the query of its ask is served by it, or by the failure of that ask where it is not
-    // accepted.
-    pub fn tcp_reply(&mut self, ask: u64, event: &Event<A>) -> Result<Option<Action<A>>, Starved>
+    // Serves the open query of that number by what was read of the reply to its ask over TCP, where that is accepted.
+    fn hear_over<O: Output<A>>(
+        &mut self,
+        output: &mut O,
+        ask: u64,
+        number: u64,
+        reading: &Option<Reading<A>>,
+    ) -> Result<Option<O::Given>, Starved>
         requires sound { IsSound (state_of self.old) }
-        requires is { (now : ℕ) × (bytes : List ℕ) × (event_view event.now ≡ TcpReply now ask bytes) }
-        ensures ok { IfOk result (λ a. Turns (state_of self.old) (event_view event.now) (Some (if_any a)) (state_of self.new)) }
-        ensures err { OnErr result (Turns (state_of self.old) (event_view event.now) None (state_of self.new)) }
-        ensures quiet { IsQuiet (state_of self.old) (event_view event.now) → IsOk result }
+        requires there { (q : Open) × IsTheOne self.old.queries number q }
+        requires asked { OfTheOne self.old.queries number (IsOfNumber ask) }
+        requires read { HasBeenRead via.Tcp (read_view reading.now) }
+        ensures ok { (now : ℕ) (bytes : List ℕ) → AreRead via.Tcp bytes (read_view reading.now) → IfOk result (λ o. IsHeard O.given (state_of self.old) number (TcpReply now ask bytes) o (state_of self.new)) }
+        ensures err { (now : ℕ) (bytes : List ℕ) → AreRead via.Tcp bytes (read_view reading.now) → OnErr result (IsLost (state_of self.old) number (TcpReply now ask bytes) (state_of self.new)) }
+    {
+        match reading {
+            Some(reading) => self.hear(output, number, reading),
+            None => {
+                self.kind_of(number);
+                Ok(None)
+            }
+        }
+    }
+
+    // Treats what was read of a reply over TCP: the query of its ask is served by it, or by the failure of that ask
+    // where it is not accepted.
+    pub fn read_reply<O: Output<A>>(
+        &mut self,
+        output: &mut O,
+        ask: u64,
+        reading: &Option<Reading<A>>,
+    ) -> Result<Option<O::Given>, Starved>
+        requires sound { IsSound (state_of self.old) }
+        requires read { HasBeenRead via.Tcp (read_view reading.now) }
+        ensures ok { (now : ℕ) (bytes : List ℕ) → AreRead via.Tcp bytes (read_view reading.now) → IfOk result (λ a. Turns (state_of self.old) (TcpReply now ask bytes) (Some (if_any O.given a)) (state_of self.new)) }
+        ensures err { (now : ℕ) (bytes : List ℕ) → AreRead via.Tcp bytes (read_view reading.now) → OnErr result (Turns (state_of self.old) (TcpReply now ask bytes) None (state_of self.new)) }
     {
         let Some(number) = self.asked_over(ask) else {
             return Ok(None);
         };
-        match self.accept_event(number, event)? {
-            Some(action) => Ok(Some(action)),
-            None => Ok(Some(self.fail_ask(number)?)),
+        match self.hear_over(output, ask, number, reading)? {
+            Some(given) => Ok(Some(given)),
+            None => Ok(Some(self.fail_ask(output, number)?)),
+        }
+    }
+
+    // Treats a reply over TCP. Only one to an open ask is read.
+    pub fn tcp_reply<O: Output<A>>(
+        &mut self,
+        output: &mut O,
+        ask: u64,
+        bytes: &[u8],
+    ) -> Result<Option<O::Given>, Starved>
+        requires sound { IsSound (state_of self.old) }
+        ensures ok { (now : ℕ) → IfOk result (λ a. Turns (state_of self.old) (TcpReply now ask bytes.now) (Some (if_any O.given a)) (state_of self.new)) }
+        ensures err { (now : ℕ) → OnErr result (Turns (state_of self.old) (TcpReply now ask bytes.now) None (state_of self.new)) }
+        ensures quiet { (now : ℕ) → IsQuiet (state_of self.old) (TcpReply now ask bytes.now) → IsOk result }
+    {
+        let Some(number) = self.asked_over(ask) else {
+            return Ok(None);
+        };
+        match read(self.alloc, Via::Tcp, bytes) {
+            Err(starved) => {
+                self.forget(number);
+                Err(starved)
+            }
+            Ok(reading) => {
+                let given = self.read_reply(output, ask, &reading);
+                drop(reading);
+                given
+            }
         }
     }
 
     // Treats the failure of the ask over TCP of this number.
-    pub fn tcp_failed(&mut self, ask: u64, event: &Event<A>) -> Result<Option<Action<A>>, Starved>
+    pub fn tcp_failed<O: Output<A>>(
+        &mut self,
+        output: &mut O,
+        ask: u64,
+    ) -> Result<Option<O::Given>, Starved>
         requires sound { IsSound (state_of self.old) }
-        requires is { (now : ℕ) × (event_view event.now ≡ TcpFailed now ask) }
-        ensures ok { IfOk result (λ a. Turns (state_of self.old) (event_view event.now) (Some (if_any a)) (state_of self.new)) }
-        ensures err { OnErr result (Turns (state_of self.old) (event_view event.now) None (state_of self.new)) }
-        ensures quiet { IsQuiet (state_of self.old) (event_view event.now) → IsOk result }
+        ensures ok { (now : ℕ) → IfOk result (λ a. Turns (state_of self.old) (TcpFailed now ask) (Some (if_any O.given a)) (state_of self.new)) }
+        ensures err { (now : ℕ) → OnErr result (Turns (state_of self.old) (TcpFailed now ask) None (state_of self.new)) }
+        ensures quiet { (now : ℕ) → IsQuiet (state_of self.old) (TcpFailed now ask) → IsOk result }
     {
         match self.asked_over(ask) {
-            Some(number) => Ok(Some(self.fail_ask(number)?)),
+            Some(number) => Ok(Some(self.fail_ask(output, number)?)),
             None => Ok(None),
         }
     }

@@ -17,14 +17,9 @@ use Rattle.runs.specs.States.{Event, Client, Datagram, TcpReply, Tick, Action, S
 use Rattle.runs.specs.States as event
 use Rattle.runs.specs.Steps.{Comes, IsOpened, at_once, crowded, admitted, IsHandled, ServesOpen, IsTurn}
 use Rattle.runs.specs.Runs.{Run}
-use Rattle.laws.specs.Searches.{AskIsOfSearch}
+use Rattle.laws.specs.Searches.{AskIsOfSearch, IsOutermost, Seeks, IsSought, AreSought}
 
 -- ---- along the rules
-
-abbrev pub IsOutermost : Name → ℕ → List Search → Type 0
-IsOutermost n t [] = Unit {0}
-IsOutermost n t (s ∷ []) = (s.name ≡ n) × (s.kind ≡ t)
-IsOutermost n t (s ∷ o ∷ rest) = IsOutermost n t (o ∷ rest)
 
 alike : (n : Name) (t : ℕ) (a b : Search) (rest : List Search) → b.name ≡ a.name → b.kind ≡ a.kind → IsOutermost n t (a ∷ rest) → IsOutermost n t (b ∷ rest)
 alike n t a b [] e f h = (e ∙ h.0, f ∙ h.1)
@@ -71,28 +66,20 @@ module _ (home : Home) (now : ℕ) where
   right_rules (suc n) a b h (mid, more, rule) = right_rule mid b (right_rules n a mid h more) rule
 
 -- What goes out is for the innermost search.
-pub record IsFound (n : Name) (t : ℕ) (new : Job) : Type 0 where
-  pub sought : Search
-  pub others : List Search
-  pub searches : new.searches ≡ sought ∷ others
-  pub name : sought.name ≡ n
-  pub kind : sought.kind ≡ t
-  pub outermost : IsOutermost new.name new.kind (sought ∷ others)
-
 abbrev pub IsAskOf : Next → Job → Type 0
-IsAskOf (AskUdp server n t) new = IsFound n t new
-IsAskOf (AskTcp server n t) new = IsFound n t new
+IsAskOf (AskUdp server n t) new = Seeks n t new
+IsAskOf (AskTcp server n t) new = Seeks n t new
 IsAskOf (Done chain last) new = Unit {0}
 IsAskOf (Fail c) new = Unit {0}
 
 right_leaves : (home : Home) (now : ℕ) (p : Point) (next : Next) (new : Job) (after : Stores) → IsRight p.task p.job → Leaves home now p next new after → IsAskOf next new
 right_leaves home now p next new after h (sends server s rest is may n j e) =
     let top : IsOutermost (p.job).name (p.job).kind (s ∷ rest) = subst (IsOutermost (p.job).name (p.job).kind) is.searches (subst (λ (k : Task). IsRight k p.job) is.task h) in
-    subst (λ (k : Next). IsAskOf k new) (sym n) (subst (IsFound s.name s.kind) (sym j)
+    subst (λ (k : Next). IsAskOf k new) (sym n) (subst (Seeks s.name s.kind) (sym j)
     (record { sought = given s; others = rest; searches = refl; name = refl; kind = refl; outermost = alike (p.job).name (p.job).kind s (given s) rest refl refl top }))
 right_leaves home now p next new after h (sends_again server s rest is may n j e) =
     let top : IsOutermost (p.job).name (p.job).kind (s ∷ rest) = subst (IsOutermost (p.job).name (p.job).kind) is.searches (subst (λ (k : Task). IsRight k p.job) is.task h) in
-    subst (λ (k : Next). IsAskOf k new) (sym n) (subst (IsFound s.name s.kind) (sym j)
+    subst (λ (k : Next). IsAskOf k new) (sym n) (subst (Seeks s.name s.kind) (sym j)
     (record { sought = s; others = rest; searches = is.searches; name = refl; kind = refl; outermost = top }))
 right_leaves home now p next new after h (refuses c x y others is refused n e) = subst (λ (k : Next). IsAskOf k new) (sym n) tt
 right_leaves home now p next new after h (spent x t up n e) = subst (λ (k : Next). IsAskOf k new) (sym n) tt
@@ -137,21 +124,14 @@ call_right home now input old stores next new after ready call =
 
 -- ---- over runs
 
--- What an open query keeps.
-pub record IsSought (q : Open) : Type 0 where
-  pub found : IsFound (q.ask).name (q.ask).kind q.job
-
 ready_of : (q : Open) → IsSought q → IsOutermost (q.job).name (q.job).kind (q.job).searches
 ready_of q h = let f = h.found in subst (IsOutermost (q.job).name (q.job).kind) (sym f.searches) f.outermost
 
-abbrev AllSought : List Open → Type 0
-AllSought qs = (q : Open) → Contains qs q → IsSought q
-
-asked_found : (server : Addr) (n : Name) (t : ℕ) (ask : Ask) (job : Job) → IsFor server n t ask → IsFound n t job → IsFound ask.name ask.kind job
+asked_found : (server : Addr) (n : Name) (t : ℕ) (ask : Ask) (job : Job) → IsFor server n t ask → Seeks n t job → Seeks ask.name ask.kind job
 asked_found server n t ask job for f = record { sought = f.sought; others = f.others; searches = f.searches; name = f.name ∙ sym for.name; kind = f.kind ∙ sym for.kind; outermost = f.outermost }
 
-comes_sought : (s : State) (who : ClientQuery) (k opened : ℕ) (next : Next) (job : Job) (stores : Stores) (out : List Action) (new : State) → AllSought s.queries → IsAskOf next job → Comes s who k opened next job stores out new
-    → AllSought new.queries
+comes_sought : (s : State) (who : ClientQuery) (k opened : ℕ) (next : Next) (job : Job) (stores : Stores) (out : List Action) (new : State) → AreSought s.queries → IsAskOf next job → Comes s who k opened next job stores out new
+    → AreSought new.queries
 comes_sought s who k opened (AskUdp server n t) job stores out new all is h q c = elim (((h.waits).queries).only q c) [
   | inl e ↦ subst IsSought (sym e) (record { found = asked_found server n t h.ask job h.for is })
   | inr d ↦ all q d.0
@@ -163,10 +143,10 @@ comes_sought s who k opened (AskTcp server n t) job stores out new all is h q c 
 comes_sought s who k opened (Done chain last) job stores out new all is h q c = all q ((h.queries).only q c).0
 comes_sought s who k opened (Fail x) job stores out new all is h q c = all q ((h.queries).only q c).0
 
-same_sought : (s new : State) → AllSought s.queries → new ≡ s → AllSought new.queries
-same_sought s new all e = subst (λ (x : State). AllSought x.queries) (sym e) all
+same_sought : (s new : State) → AreSought s.queries → new ≡ s → AreSought new.queries
+same_sought s new all e = subst (λ (x : State). AreSought x.queries) (sym e) all
 
-handled_sought : (s : State) (client : ℕ) (way : Via) (asked : Request Plain) (served : Served) (out : List Action) (new : State) → AllSought s.queries → IsHandled s client way asked served out new → AllSought new.queries
+handled_sought : (s : State) (client : ℕ) (way : Via) (asked : Request Plain) (served : Served) (out : List Action) (new : State) → AreSought s.queries → IsHandled s client way asked served out new → AreSought new.queries
 handled_sought s client way request.Drop served out new all h = same_sought s new all h.2
 handled_sought s client way (request.Refuse refusal start echo) served out new all h = same_sought s new all h.2
 handled_sought s client way (request.Query q) served out new all (inl (rd, h)) = same_sought s new all h.state
@@ -175,7 +155,7 @@ handled_sought s client way (request.Query q) served out new all (inr (rd, h)) =
     is : IsAskOf h.next h.job
     is = call_right (s.site).home s.clock Start (job_for s.clock q) s.stores h.next h.job h.stores refl h.advances
 
-    by : IsOpened s (record { client = client; way = way; query = q }) h.next h.job h.stores served out new → AllSought new.queries
+    by : IsOpened s (record { client = client; way = way; query = q }) h.next h.job h.stores served out new → AreSought new.queries
     by (at_once own over comes) = comes_sought s _ _ _ h.next h.job h.stores out new all is comes
     by (crowded own asking many e) = λ p c. all p ((e.queries).only p c).0
     by (admitted own asking few comes) = comes_sought s _ _ _ h.next h.job h.stores out new all is comes
@@ -186,13 +166,14 @@ ready_input s e q (Told via server m) h other = h
 ready_input s e q (TimedOut server) h other = h
 ready_input s e q (TcpFailed server) h other = h
 
-hears_sought : (s : State) (e : Event) (served : Served) (out : List Action) (new : State) → AllSought s.queries → (h : ServesOpen s e served out new) → (h.input ≡ Start → ⊥) → AllSought new.queries
+hears_sought : (s : State) (e : Event) (served : Served) (out : List Action) (new : State) → AreSought s.queries → (h : ServesOpen s e served out new) → (h.input ≡ Start → ⊥) → AreSought new.queries
 hears_sought s e served out new all h other =
     let v = h.serves in
     comes_sought s _ _ _ v.next v.job v.stores out new all
     (call_right (s.site).home s.clock h.input (h.query).job s.stores v.next v.job v.stores (ready_input s e h.query h.input (ready_of h.query (all h.query v.stands)) other) v.advances) v.comes
 
-turn_sought : (s : State) (e : Event) (served : Served) (out : Option (List Action)) (new : State) → AllSought s.queries → IsTurn s e served out new → AllSought new.queries
+-- A step of a state whose queries keep this leaves one.
+pub turn_sought : (s : State) (e : Event) (served : Served) (out : Option (List Action)) (new : State) → AreSought s.queries → IsTurn s e served out new → AreSought new.queries
 turn_sought s (Client now client way bytes) served None new all h = λ q c. all q (((h.1).queries).only q c).0
 turn_sought s (Datagram now sock from bytes) served None new all h = λ q c. all q (((h.4).queries).only q c).0
 turn_sought s (TcpReply now number bytes) served None new all h = λ q c. all q (((h.4).queries).only q c).0
@@ -209,7 +190,7 @@ turn_sought s (Tick now) served (Some out) new all (inl h) = same_sought s new a
 turn_sought s (Tick now) served (Some out) new all (inr (first, inl h, followed)) = λ q c. all q (((h.ends).queries).only q c).0
 turn_sought s (Tick now) served (Some out) new all (inr (first, inr h, followed)) = hears_sought s (Tick now) served first new all h (λ e. let i = (h.brings).2 in cc)
 
-run_sought : (site : Site) (run : List Turn) (s : State) → Run site run s → AllSought s.queries
+run_sought : (site : Site) (run : List Turn) (s : State) → Run site run s → AreSought s.queries
 run_sought site [] s new = λ q c. absurd (Contains-nil q (subst (λ (l : List Open). Contains l q) new.queries c))
 run_sought site (t ∷ past) s (old, legal, step) = turn_sought (moved old t.event) t.event t.served t.out s (run_sought site past old legal) step.turn
 

@@ -1,6 +1,7 @@
 -- The question of a query's open ask, over every run.
-use Rattle.std.specs.Prelude.{◌≡◌, List, [], ◌∷◌, Contains}
-use Rattle.resolution.specs.Jobs.{Search}
+use Rattle.std.specs.Prelude.{◌≡◌, ℕ, List, [], ◌∷◌, Contains}
+use Rattle.dname.specs.Labels.{Name}
+use Rattle.resolution.specs.Jobs.{Job, Search}
 use Rattle.runs.specs.States.{Turn, Open, Site, State}
 use Rattle.runs.specs.Runs.{Run}
 
@@ -19,3 +20,26 @@ AreOfSearches queries = (q : Open) → Contains queries q → IsOfSearch q
 
 abbrev pub AskIsOfSearch : Type 0
 AskIsOfSearch = (site : Site) (run : List Turn) (s : State) → Run site run s → AreOfSearches s.queries
+
+-- ---- what the states of a resolver keep of it
+
+-- The outermost of these searches, the last one, is for this name and type.
+abbrev pub IsOutermost : Name → ℕ → List Search → Type 0
+IsOutermost n t [] = Unit {0}
+IsOutermost n t (s ∷ []) = (s.name ≡ n) × (s.kind ≡ t)
+IsOutermost n t (s ∷ o ∷ rest) = IsOutermost n t (o ∷ rest)
+
+-- The innermost search of a job is for this name and type, and the outermost one for those of the job.
+pub record Seeks (n : Name) (t : ℕ) (new : Job) : Type 0 where
+  pub sought : Search
+  pub others : List Search
+  pub searches : new.searches ≡ sought ∷ others
+  pub name : sought.name ≡ n
+  pub kind : sought.kind ≡ t
+  pub outermost : IsOutermost new.name new.kind (sought ∷ others)
+
+pub record IsSought (q : Open) : Type 0 where
+  pub found : Seeks (q.ask).name (q.ask).kind q.job
+
+abbrev pub AreSought : List Open → Type 0
+AreSought queries = (q : Open) → Contains queries q → IsSought q

@@ -1,6 +1,6 @@
 -- The code's typed events, seen as plain values, and its typed actions, seen as the actions that are written of them.
 use Rattle.std.specs.Prelude.{Bool, Option, Some, None, List, ◌∷◌}
-use Rattle.classify.specs.Views.{read_view}
+use Rattle.classify.specs.Views.{reading_view, read_view}
 use Rattle.runs.specs.States.{Action}
 use Rattle.events.specs.Paths.{endpoint_view}
 use Rattle.events.specs.Plain.{plain_asked, plain_outcome}
@@ -14,7 +14,7 @@ use Rattle.typed.specs.declared.action.TypedAction.TheVariants as said
 
 abbrev pub parsed_view : {A : Type 0} → Parsed A → plain.Parsed
 parsed_view (parsed.Client now client way request) = plain.Client now client way (plain_asked request)
-parsed_view (parsed.Datagram now sock from reading) = plain.Datagram now sock (endpoint_view from) (read_view reading)
+parsed_view (parsed.Datagram now sock from reading) = plain.Datagram now sock (endpoint_view from) (reading_view reading)
 parsed_view (parsed.TcpReply now number reading) = plain.TcpReply now number (read_view reading)
 parsed_view (parsed.TcpFailed now number) = plain.TcpFailed now number
 parsed_view (parsed.Tick now) = plain.Tick now

@@ -1,8 +1,8 @@
 //! Events whose bytes were read.
-ghost use Rattle.std.specs.Prelude.{◌≡◌, ◌≤◌, IfOk};
+ghost use Rattle.std.specs.Prelude.{◌≡◌, ◌≤◌, IfOk, MatchOption};
 ghost use Rattle.runs.specs.States.{Event as EventSpec, latest, moment};
 ghost use Rattle.events.specs.Views.{event_view};
-ghost use Rattle.typed.specs.Events.{ReadAs, HasBytes};
+ghost use Rattle.typed.specs.Events.{ReadAs, HasBytes, RepliesToNone};
 ghost use Rattle.typed.specs.Views.{parsed_view};
 
 use classify::{Reading, read};
@@ -35,8 +35,8 @@ pub enum Parsed<A: Allocator = Global> {
         socket: u16,
         /// The address and the port that it was sent from, which may be forged.
         from: Endpoint,
-        /// What was read of its message; none where it replies to no ask.
-        reading: Option<Reading<A>>,
+        /// What was read of its message.
+        reading: Reading<A>,
     },
     /// The reply to the ask over TCP of this number.
     TcpReply {
@@ -110,18 +110,20 @@ fn moment_of<A: Allocator>(parsed: &Parsed<A>) -> u64
 }
 
 /// An event whose bytes are read, before the resolver is locked. A server's message is read whole, whichever ask it
-/// replies to.
-pub fn read_event<A: Heap>(alloc: A, event: &Event<A>) -> Result<TypedEvent<A>, Starved>
-    ensures { IfOk result (λ t. ReadAs (event_view event.now) t) }
+/// replies to. None for a datagram that replies to no question of a served type: it is for no query.
+pub fn read_event<A: Heap>(alloc: A, event: &Event<A>) -> Result<Option<TypedEvent<A>>, Starved>
+    ensures { IfOk result (λ o. MatchOption o (RepliesToNone (event_view event.now)) (λ t. ReadAs (event_view event.now) t)) }
 {
-    let parsed = parse(alloc, event)?;
-    Ok(TypedEvent { parsed })
+    match parse(alloc, event)? {
+        Some(parsed) => Ok(Some(TypedEvent { parsed })),
+        None => Ok(None),
+    }
 }
 
-fn parse<A: Heap>(alloc: A, event: &Event<A>) -> Result<Parsed<A>, Starved>
-    ensures { IfOk result (λ p. ReadAs (event_view event.now) (parsed_view p)) }
+fn parse<A: Heap>(alloc: A, event: &Event<A>) -> Result<Option<Parsed<A>>, Starved>
+    ensures { IfOk result (λ o. MatchOption o (RepliesToNone (event_view event.now)) (λ p. ReadAs (event_view event.now) (parsed_view p))) }
 {
-    Ok(match *event {
+    Ok(Some(match *event {
         Event::Client {
             moment,
             client,
@@ -138,11 +140,14 @@ fn parse<A: Heap>(alloc: A, event: &Event<A>) -> Result<Parsed<A>, Starved>
             socket,
             from,
             ref bytes,
-        } => Parsed::Datagram {
-            moment,
-            socket,
-            from,
-            reading: read(alloc, Via::Udp, bytes.as_slice())?,
+        } => match read(alloc, Via::Udp, bytes.as_slice())? {
+            None => return Ok(None),
+            Some(reading) => Parsed::Datagram {
+                moment,
+                socket,
+                from,
+                reading,
+            },
         },
         Event::TcpReply {
             moment,
@@ -155,5 +160,5 @@ fn parse<A: Heap>(alloc: A, event: &Event<A>) -> Result<Parsed<A>, Starved>
         },
         Event::TcpFailed { moment, number } => Parsed::TcpFailed { moment, number },
         Event::Tick { moment } => Parsed::Tick { moment },
-    })
+    }))
 }

@@ -11,7 +11,7 @@
 //! Not here: which query an event is for (`engine`).
 //!
 //! ```text
-//! let event = read_event(alloc, &event)?;
+//! let Some(event) = read_event(alloc, &event)? else { return Ok(()) };   // a datagram that is for no query
 //! match event.parsed() {
 //!     Parsed::Client { client, way, request, .. } => { /* answer it under the lock */ }
 //!     Parsed::Datagram { reading, .. } => { /* find the ask under the lock */ }
