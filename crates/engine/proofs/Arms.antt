@@ -9,7 +9,9 @@ use Rattle.runs.specs.Messages.{id_in}
 use Rattle.runs.specs.Steps.{AreOthers, IsOfLine, IsOfNumber, IsFirstDue, IsFollowed, IsInput, IsLeft, IsUnfit}
 use Rattle.open_queries.specs.Lookups.{IsTheOne}
 use Rattle.engine.specs.Moves.{IsToldBy, IsHeard, IsPassed, IsServed, IsLost}
-use Rattle.engine.specs.Replies.{alone, if_any, all_given}
+use Rattle.typed.specs.declared.action.TypedAction.{TypedAction}
+use Rattle.typed.specs.Views.{said_listed}
+use Rattle.engine.specs.Replies.{alone, if_any}
 use Rattle.engine.specs.Finds.{Finds, IsOffLine, Reaches, NoneDue, Tells, Untold, Rings, Unrung}
 use Rattle.engine.specs.Turns.{Turns, IsQuiet}
 use Rattle.engine.proofs.Found.{found_is}
@@ -50,8 +52,8 @@ module _ (s : State) (now sock : ℕ) (from : Endpoint) (bytes : List ℕ) where
   datagram_short short = missed (inr (inl short))
 
   module _ (k : ℕ) (h : Reaches s sock from (id_in bytes) k) (new : State) where
-    pub datagram_heard : {X : Type 0} (given : X → ActionSpec) (o : Option X) → IsHeard given s k at_socket o new → Turns s at_socket (Some (if_any given o)) new
-    datagram_heard given None p = record {
+    pub datagram_heard : {A : Type 0} (o : Option (TypedAction A)) → IsHeard s k at_socket o new → Turns s at_socket (Some (if_any o)) new
+    datagram_heard None p = record {
       served = Nobody;
       turn = inl record {
         served_is = refl;
@@ -60,7 +62,7 @@ module _ (s : State) (now sock : ℕ) (from : Endpoint) (bytes : List ℕ) where
         state = p.state;
       };
     }
-    datagram_heard given (Some a) p = record {
+    datagram_heard (Some a) p = record {
       served = OpenQuery (p.query).number;
       turn = inr record { query = p.query; input = p.input; served_is = refl; brings = p.told; serves = p.serves };
     }
@@ -211,13 +213,13 @@ module _ (s : State) (now ask : ℕ) where
 none_then_some : (s : State) (q : Open) → NoneDue s → IsFirstDue s q → ⊥
 none_then_some s q none first = let before = none q first.stands in let due = first.due in absurd (omega arith)
 
-pub followed : {X : Type 0} (given : X → ActionSpec) (new : State) (a : X) (o : Option ℕ) (more : Bool) → more ≡ is_some o → MatchOption o (NoneDue new) (λ k. Finds (IsFirstDue new) new.queries k)
-    → IsFollowed (alone given a) (all_given given (Some a) more) new
-followed given new a None more is none = inr (
-  ap (all_given given (Some a)) is,
+pub followed : {A : Type 0} (new : State) (a : TypedAction A) (o : Option ℕ) (more : Bool) → more ≡ is_some o → MatchOption o (NoneDue new) (λ k. Finds (IsFirstDue new) new.queries k)
+    → IsFollowed (alone a) (said_listed (Some a) more) new
+followed new a None more is none = inr (
+  ap (said_listed (Some a)) is,
   λ some. let before = none some.0 some.1 in let due = some.2 in absurd (omega arith),
 )
-followed given new a (Some k) more is h = inl (ap (all_given given (Some a)) is, (h.query, h.is.stands, h.is.due))
+followed new a (Some k) more is h = inl (ap (said_listed (Some a)) is, (h.query, h.is.stands, h.is.due))
 
 module _ (s : State) (now : ℕ) where
   abbrev at_time : Event

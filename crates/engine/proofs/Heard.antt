@@ -9,16 +9,13 @@ use Rattle.message_grammar.proofs.Single.{message_one}
 use Rattle.wire.specs.declared.via.Via.{Via}
 use Rattle.wire.specs.declared.via.Via.TheVariants.{Udp, Tcp}
 use Rattle.classify.specs.Read.{Reading, only_question, IsReadingOf, AreRead}
-use Rattle.classify.specs.Views.{reading_view}
-use Rattle.classify.specs.declared.reading.Reading.{Reading as ReadingCode}
 use Rattle.resolution.specs.Jobs.{Search, Told}
 use Rattle.resolution.specs.Rules.{Stops}
 use Rattle.runs.specs.States.{Endpoint, endpoint, Event, Datagram, TcpReply, Action, Ask, Open, via_of, State}
 use Rattle.runs.specs.Messages.{question_for, AnswersAsk, id_in}
 use Rattle.runs.specs.Steps.{IsOfLine, IsOfNumber}
-use Rattle.laws.specs.Searches.{IsSought, AreSought}
-use Rattle.iterate.specs.Inputs.{IsSoughtIn, IsGiven}
-use Rattle.iterate.specs.declared.calls.Input.TheVariants as input
+use Rattle.laws.specs.Searches.{IsSought}
+use Rattle.iterate.specs.Inputs.{IsSoughtIn}
 use Rattle.open_queries.specs.Lookups.{IsTheOne}
 use Rattle.engine.specs.Moves.{ServesOne, DropsOne, Answers, Carries, Forgets, IsPassed, IsServed, IsLost}
 use Rattle.engine.specs.Finds.{OfTheOne, Reaches}
@@ -56,10 +53,6 @@ sought_in q r h is s rest e =
     let f = h.found in
     let same : s ≡ f.sought = first_of s f.sought rest f.others (sym e ∙ f.searches) in
     (is.name ∙ sym f.name ∙ ap (λ (x : Search). x.name) (sym same), is.kind ∙ sym f.kind ∙ ap (λ (x : Search). x.kind) (sym same))
-
-pub given_told : {A : Type 0} (qs : List Open) (k : ℕ) (way : Via) (server : Addr) (m : Message) (r : ReadingCode A) → AreSought qs → IsReadingOf way m (reading_view r) → OfTheOne qs k (λ q. Answers q.ask (reading_view r))
-    → OfTheOne qs k (λ q. IsGiven q.job (input.Told server r) (Told way server m))
-given_told qs k way server m r sought reads answers q one = (way, m, reads, sought_in q (reading_view r) (sought q one.stands) (answers q one), refl)
 
 -- ---- what an event carries
 

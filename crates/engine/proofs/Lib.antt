@@ -12,3 +12,4 @@ pub mod Sound
 pub mod Promised
 pub mod Stepped
 pub mod Histories
+pub mod Unwritten

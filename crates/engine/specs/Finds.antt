@@ -8,7 +8,6 @@ use Rattle.resolution.specs.Rules.{Stops}
 use Rattle.runs.specs.States.{Endpoint, Action, Open, due_moment, State}
 use Rattle.runs.specs.Steps.{Ends, Serves, IsLeft}
 use Rattle.open_queries.specs.Lookups.{IsOnLine, IsTheOne}
-use Rattle.engine.specs.Moves.{Forgets}
 
 -- The one open query of this number has that property.
 pub record Finds (IsSo : Open → Type 0) (qs : List Open) (k : ℕ) : Type 0 where
@@ -56,9 +55,9 @@ pub record Expires (s : State) (k : ℕ) (out : List Action) (new : State) : Typ
   pub one : IsTheOne s.queries k query
   pub ends : Ends s query.client_query query.number (outcome.Fail cause.DeadlineOver) s.stores out new
 
--- A query that is due: its time is up, or its ask waited too long; out of memory, it is dropped.
+-- A query that is due: its time is up, or its ask waited too long; out of memory in the work, it is dropped.
 abbrev pub Rings : State → ℕ → List Action → State → Type 0
 Rings s k out new = (IsLateOne s k × Expires s k out new) ⊎ (IsEarlyOne s k × Tells s k TimedOut out new)
 
 abbrev pub Unrung : State → ℕ → State → Type 0
-Unrung s k new = Forgets s k new ⊎ (IsEarlyOne s k × Untold s k TimedOut new)
+Unrung s k new = IsEarlyOne s k × Untold s k TimedOut new

@@ -1,14 +1,16 @@
 -- Treatment of one query, in a state that is without it.
-use Rattle.std.specs.Prelude.{◌≡◌, ℕ, ◌⊎◌, Option, Some, None, List}
+use Rattle.std.specs.Prelude.{◌≡◌, ℕ, ◌⊎◌, Option, Some, None, List, Contains}
 use Rattle.wire.specs.declared.via.Via.{Via}
 use Rattle.classify.specs.Read.{Reading, AreRead}
-use Rattle.message_grammar.specs.Messages.{Message}
+use Rattle.message_grammar.specs.Messages.{Message, encoding}
 use Rattle.resolution.specs.Jobs.{Stores, Job, Input as InputSpec, Told, Next}
 use Rattle.resolution.specs.Rules.{Advances, Stops}
-use Rattle.runs.specs.States.{Event, Action as ActionSpec, ClientQuery, Ask, via_of, Open, State, Served, word_taken}
-use Rattle.runs.specs.Messages.{IsSent, AnswersAsk, Brings}
+use Rattle.runs.specs.States.{Event, Action as ActionSpec, ClientQuery, Ask, ByUdp, via_of, Open, State, Served, word_taken}
+use Rattle.runs.specs.Messages.{id_in, asking_message, IsSent, AnswersAsk, Brings}
 use Rattle.runs.specs.Steps.{AreWith, Comes, Serves, IsLeft, IsUnfit, IsOpened}
 use Rattle.open_queries.specs.Lookups.{IsTheOne, IsTaken}
+use Rattle.typed.specs.declared.action.TypedAction.{TypedAction}
+use Rattle.typed.specs.declared.action.TypedAction.TheVariants as said
 use Rattle.engine.specs.Replies.{alone}
 
 -- An ask goes out, and its query is open.
@@ -87,9 +89,9 @@ pub record IsServed (s : State) (k : ℕ) (event : Event) (out : List ActionSpec
   pub told : IsToldBy (s.site).port query.ask event input
   pub serves : Serves s query input out new
 
-abbrev pub IsHeard : {X : Type 0} → (X → ActionSpec) → State → ℕ → Event → Option X → State → Type 0
-IsHeard given s k event None new = IsPassed s k event new
-IsHeard given s k event (Some a) new = IsServed s k event (alone given a) new
+abbrev pub IsHeard : {A : Type 0} → State → ℕ → Event → Option (TypedAction A) → State → Type 0
+IsHeard s k event None new = IsPassed s k event new
+IsHeard s k event (Some a) new = IsServed s k event (alone a) new
 
 pub record IsLost (s : State) (k : ℕ) (event : Event) (new : State) : Type 0 where
   pub query : Open
@@ -100,3 +102,27 @@ pub record IsLost (s : State) (k : ℕ) (event : Event) (new : State) : Type 0 w
 pub record Opens (s : State) (who : ClientQuery) (next : Next) (job : Job) (out : List ActionSpec) (new : State) : Type 0 where
   pub served : Served
   pub opened : IsOpened s who next job s.stores served out new
+
+-- The ask of an open query is like this one: of one path, and over UDP of one server under one ID.
+abbrev pub IsLike : Ask → Open → Type 0
+IsLike a q = ((q.ask).path ≡ a.path) × ((sock : ℕ) → a.path ≡ ByUdp sock → ((q.ask).server ≡ a.server) × ((q.ask).id ≡ a.id))
+
+-- The query whose ask is like this one is dropped, if there is one.
+abbrev pub DropsAsking : Ask → State → State → Type 0
+DropsAsking a s new =
+    (((q : Open) → Contains s.queries q → IsLike a q → ⊥) × (new ≡ s))
+    ⊎ ((q : Open) × IsLike a q × IsTaken s.queries q.number q new.queries × (new ≡ record s { queries = new.queries }))
+
+-- What a step did for an action that is not written is taken back: for an ask its query, and the numbers that were
+-- given to it; for a reply nothing.
+pub record IsAskUndone (a : Ask) (opened tcp_asks : ℕ) (old new : State) : Type 0 where
+  pub id : id_in (encoding (asking_message a)) ≡ a.id
+  pub between : State
+  pub drops : DropsAsking a old between
+  pub state : new ≡ record between { opened = opened; tcp_asks = tcp_asks }
+
+abbrev pub IsUndone : {A : Type 0} → Option (TypedAction A) → ℕ → ℕ → State → State → Type 0
+IsUndone None opened tcp_asks old new = new ≡ old
+IsUndone (Some (said.Reply who o)) opened tcp_asks old new = new ≡ old
+IsUndone (Some (said.Refusal client way refusal start echo)) opened tcp_asks old new = new ≡ old
+IsUndone (Some (said.Ask port a)) opened tcp_asks old new = IsAskUndone a opened tcp_asks old new

@@ -1,16 +1,12 @@
--- The one action of a step, among all that goes out. `given`: the plain action that an action of the code is.
-use Rattle.std.specs.Prelude.{Bool, Option, Some, None, List, [], ◌∷◌}
-use Rattle.events.specs.Views.{due_listed}
+-- The one action of a step, among all that goes out.
+use Rattle.std.specs.Prelude.{Option, Some, None, List, [], ◌∷◌}
 use Rattle.runs.specs.States.{Action}
+use Rattle.typed.specs.declared.action.TypedAction.{TypedAction}
+use Rattle.typed.specs.Views.{said_view}
 
-abbrev pub alone : {X : Type 0} → (X → Action) → X → List Action
-alone given a = given a ∷ []
+abbrev pub alone : {A : Type 0} → TypedAction A → List Action
+alone a = said_view a ∷ []
 
-abbrev pub if_any : {X : Type 0} → (X → Action) → Option X → List Action
-if_any given None = []
-if_any given (Some a) = alone given a
-
--- One action at most, and then whether another query is due.
-abbrev pub all_given : {X : Type 0} → (X → Action) → Option X → Bool → List Action
-all_given given None due = due_listed due
-all_given given (Some a) due = given a ∷ due_listed due
+abbrev pub if_any : {A : Type 0} → Option (TypedAction A) → List Action
+if_any None = []
+if_any (Some a) = alone a

@@ -1,5 +1,5 @@
 //! Messages for open queries: a query is served by one whose reading answers its open ask.
-ghost use Rattle.std.specs.Prelude.{◌×◌, ◌↔◌, IfOk, OnErr, IsTrue};
+ghost use Rattle.std.specs.Prelude.{◌↔◌, IfOk, OnErr, IsTrue};
 ghost use Rattle.message_grammar.specs.Messages.{Message};
 ghost use Rattle.wire.specs.declared.via.Via.{Via};
 ghost use Rattle.classify.specs.Read.{IsReadingOf};
@@ -10,13 +10,12 @@ ghost use Rattle.engine.specs.ResolverStates.{state_of, IsSound};
 ghost use Rattle.engine.specs.Moves.{Answers, Carries, Forgets, IsHeard, IsLost};
 ghost use Rattle.engine.specs.Finds.{OfTheOne};
 
-use crate::output::Output;
 use crate::state::ResolverState;
 use classify::Reading;
 use dname::{Heap, Starved};
 use events::Ask;
-use iterate::Input;
 use std::alloc::Allocator;
+use typed::TypedAction;
 
 // Whether a message of this reading answers the ask: it has its ID, and its one question (RFC 1035, section 7.3).
 fn answers<A: Allocator>(ask: &Ask<A>, reading: &Reading<A>) -> bool
@@ -49,22 +48,21 @@ impl<A: Heap> ResolverState<A> {
     }
 
     // Serves the open query of that number by a message of this reading, where it answers the query's ask.
-    pub fn hear<O: Output<A>>(
+    pub fn hear(
         &mut self,
-        output: &mut O,
         number: u64,
         reading: &Reading<A>,
-    ) -> Result<Option<O::Given>, Starved>
+    ) -> Result<Option<TypedAction<A>>, Starved>
         requires sound { IsSound (state_of self.old) }
         requires there { (q : Open) × IsTheOne self.old.queries number q }
         requires read { (way : Via) × (m : Message) × IsReadingOf way m (reading_view reading.now) }
-        ensures ok { (event : Event) (way : Via) (m : Message) → IsReadingOf way m (reading_view reading.now) → OfTheOne self.old.queries number (Carries self.old.port event way m) → IfOk result (λ o. IsHeard O.given (state_of self.old) number event o (state_of self.new)) }
+        ensures ok { (event : Event) (way : Via) (m : Message) → IsReadingOf way m (reading_view reading.now) → OfTheOne self.old.queries number (Carries self.old.port event way m) → IfOk result (λ o. IsHeard (state_of self.old) number event o (state_of self.new)) }
         ensures err { (event : Event) (way : Via) (m : Message) → IsReadingOf way m (reading_view reading.now) → OfTheOne self.old.queries number (Carries self.old.port event way m) → OnErr result (IsLost (state_of self.old) number event (state_of self.new)) }
     {
         if !self.is_answered(number, reading) {
             return Ok(None);
         }
         let server = self.server_of(number);
-        Ok(Some(self.go_on(output, number, Input::Told(server, reading))?))
+        Ok(Some(self.go_on_by_reply(number, server, reading)?))
     }
 }

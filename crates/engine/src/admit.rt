@@ -8,13 +8,13 @@ ghost use Rattle.engine.specs.ResolverStates.{state_of, IsSound};
 ghost use Rattle.engine.specs.Moves.{Halts, Opens};
 ghost use Rattle.engine.specs.Replies.{alone};
 
-use crate::output::Output;
 use crate::state::ResolverState;
 use causes::Cause;
 use dname::{Heap, Starved};
 use events::ClientQuery;
 use iterate::{Job, Next};
 use limits::MAX_OPEN_QUERIES;
+use typed::TypedAction;
 
 // Whether a server is to be asked.
 fn is_ask<A: Heap>(next: &Next<A>) -> bool
@@ -32,16 +32,15 @@ fn turn_away<A: Heap>(client_query: ClientQuery<A>, job: Job<A>, next: Next<A>) 
 
 impl<A: Heap> ResolverState<A> {
     // Opens a query that has to wait, under the next number.
-    fn let_in<O: Output<A>>(
+    fn let_in(
         &mut self,
-        output: &mut O,
         client_query: ClientQuery<A>,
         job: Job<A>,
         next: Next<A>,
-    ) -> Result<O::Given, Starved>
+    ) -> Result<TypedAction<A>, Starved>
         requires sound { IsSound (state_of self.old) }
         requires asks { IsAsk (next_view next) }
-        ensures ok { IfOk result (λ a. Comes (state_of self.old) client_query self.old.opened (self.old.opened + 1) (next_view next) job self.old.stores (alone O.given a) (state_of self.new)) }
+        ensures ok { IfOk result (λ a. Comes (state_of self.old) client_query self.old.opened (self.old.opened + 1) (next_view next) job self.old.stores (alone a) (state_of self.new)) }
         ensures err { OnErr result (Halts (state_of self.old) (state_of self.new)) }
     {
         let number = self.opened;
@@ -49,30 +48,29 @@ impl<A: Heap> ResolverState<A> {
             turn_away(client_query, job, next);
             return Err(Starved);
         }
-        let action = self.follow(output, number, client_query, job, next)?;
+        let action = self.follow(number, client_query, job, next)?;
         self.opened = number + 1;
         Ok(action)
     }
 
     // Sends the result of the work on a new query: the reply, or an ask where not too many queries wait.
-    pub fn admit<O: Output<A>>(
+    pub fn admit(
         &mut self,
-        output: &mut O,
         client_query: ClientQuery<A>,
         job: Job<A>,
         next: Next<A>,
-    ) -> Result<O::Given, Starved>
+    ) -> Result<TypedAction<A>, Starved>
         requires { IsSound (state_of self.old) }
-        ensures ok { IfOk result (λ a. Opens (state_of self.old) client_query (next_view next) job (alone O.given a) (state_of self.new)) }
+        ensures ok { IfOk result (λ a. Opens (state_of self.old) client_query (next_view next) job (alone a) (state_of self.new)) }
         ensures err { OnErr result (Halts (state_of self.old) (state_of self.new)) }
     {
         if !is_ask(&next) {
-            return self.follow(output, self.opened, client_query, job, next);
+            return self.follow(self.opened, client_query, job, next);
         }
         if self.queries.len() < MAX_OPEN_QUERIES {
-            return self.let_in(output, client_query, job, next);
+            return self.let_in(client_query, job, next);
         }
         drop(next);
-        self.fail(output, self.opened, client_query, Cause::TooManyOpen)
+        Ok(self.fail(self.opened, client_query, Cause::TooManyOpen))
     }
 }

@@ -3,107 +3,106 @@
 ghost use Rattle.std.specs.Prelude.{◌≡◌, IfOk, OnErr};
 ghost use Rattle.causes.specs.declared.cause.Cause.TheVariants as cause;
 ghost use Rattle.front.specs.declared.queries.Outcome.TheVariants as outcome;
-ghost use Rattle.resolution.specs.Jobs.{Input as InputSpec};
-ghost use Rattle.iterate.specs.Inputs.{IsGiven};
-ghost use Rattle.iterate.specs.Views.{next_view};
+ghost use Rattle.message_grammar.specs.Messages.{Message};
+ghost use Rattle.wire.specs.declared.via.Via.{Via};
+ghost use Rattle.classify.specs.Read.{IsReadingOf};
+ghost use Rattle.classify.specs.Views.{reading_view};
+ghost use Rattle.resolution.specs.Jobs.{Told};
+ghost use Rattle.iterate.specs.Inputs.{IsSoughtIn};
+ghost use Rattle.iterate.specs.Views.{input_view, next_view};
 ghost use Rattle.runs.specs.States.{Open};
 ghost use Rattle.runs.specs.Messages.{outcome_of};
 ghost use Rattle.runs.specs.Steps.{Ends, Comes};
 ghost use Rattle.open_queries.specs.Lookups.{HasNo, IsTheOne};
 ghost use Rattle.engine.specs.ResolverStates.{state_of, IsSound};
-ghost use Rattle.engine.specs.Moves.{Halts, Goes, Falls, ServesOne, DropsOne};
+ghost use Rattle.engine.specs.Moves.{Halts, Goes, Falls, ServesOne, DropsOne, Answers};
 ghost use Rattle.engine.specs.Finds.{OfTheOne};
 ghost use Rattle.engine.specs.Replies.{alone};
 
 use crate::answer::outcome_of;
-use crate::output::{Output, reply};
 use crate::state::ResolverState;
 use causes::Cause;
+use classify::Reading;
 use dname::{Heap, Starved};
 use events::ClientQuery;
 use front::Outcome;
-use iterate::{Chain, Input, Job, Next, advance};
+use iterate::{Chain, Input, Job, Next, advance, advance_by_reply};
 use lookup::Taken;
+use rdata::Addr;
+use typed::{TypedAction, reply_to};
 
 impl<A: Heap> ResolverState<A> {
-    // Sends the answer of a chain and its end; the query of that number is over.
-    pub fn answer<O: Output<A>>(
-        &mut self,
-        output: &mut O,
+    // The answer of a chain and its end, as it goes out; the query of that number is over.
+    pub fn answer(
+        &self,
         number: u64,
         client_query: ClientQuery<A>,
         chain: Chain<A>,
         last: Taken<A>,
-    ) -> Result<O::Given, Starved>
-        requires { HasNo self.old.queries number }
-        ensures ok { IfOk result (λ a. Ends (state_of self.old) client_query number (outcome_of self.old.clock chain last) self.old.stores (alone O.given a) (state_of self.new)) }
-        ensures same { state_of self.new ≡ state_of self.old }
+    ) -> Result<TypedAction<A>, Starved>
+        requires { HasNo self.now.queries number }
+        ensures { IfOk result (λ a. Ends (state_of self.now) client_query number (outcome_of self.now.clock chain last) self.now.stores (alone a) (state_of self.now)) }
     {
         let outcome = outcome_of(self.alloc, chain, last, self.clock)?;
-        reply(output, self.alloc, client_query, outcome)
+        Ok(reply_to(client_query, outcome))
     }
 
-    // Sends the failure; the query of that number is over.
-    pub fn fail<O: Output<A>>(
-        &mut self,
-        output: &mut O,
+    // The failure, as it goes out; the query of that number is over.
+    pub fn fail(
+        &self,
         number: u64,
         client_query: ClientQuery<A>,
         cause: Cause,
-    ) -> Result<O::Given, Starved>
-        requires { HasNo self.old.queries number }
-        ensures ok { IfOk result (λ a. Ends (state_of self.old) client_query number (outcome.Fail cause) self.old.stores (alone O.given a) (state_of self.new)) }
-        ensures same { state_of self.new ≡ state_of self.old }
+    ) -> TypedAction<A>
+        requires { HasNo self.now.queries number }
+        ensures { Ends (state_of self.now) client_query number (outcome.Fail cause) self.now.stores (alone result) (state_of self.now) }
     {
-        reply(output, self.alloc, client_query, Outcome::Fail(cause))
+        reply_to(client_query, Outcome::Fail(cause))
     }
 
     // Sends the result of the work: an ask, or the reply.
-    pub fn follow<O: Output<A>>(
+    pub fn follow(
         &mut self,
-        output: &mut O,
         number: u64,
         client_query: ClientQuery<A>,
         job: Job<A>,
         next: Next<A>,
-    ) -> Result<O::Given, Starved>
+    ) -> Result<TypedAction<A>, Starved>
         requires sound { IsSound (state_of self.old) }
         requires fresh { HasNo self.old.queries number }
-        ensures ok { IfOk result (λ a. Comes (state_of self.old) client_query number self.old.opened (next_view next) job self.old.stores (alone O.given a) (state_of self.new)) }
+        ensures ok { IfOk result (λ a. Comes (state_of self.old) client_query number self.old.opened (next_view next) job self.old.stores (alone a) (state_of self.new)) }
         ensures err { OnErr result (Halts (state_of self.old) (state_of self.new)) }
     {
         match next {
             Next::AskUdp(server, name, kind) => {
-                self.ask_udp(output, number, client_query, job, server, name, kind)
+                self.ask_udp(number, client_query, job, server, name, kind)
             }
             Next::AskTcp(server, name, kind) => {
-                self.ask_tcp(output, number, client_query, job, server, name, kind)
+                self.ask_tcp(number, client_query, job, server, name, kind)
             }
             Next::Done(chain, last) => {
                 drop(job);
-                self.answer(output, number, client_query, chain, last)
+                self.answer(number, client_query, chain, last)
             }
             Next::Fail(cause) => {
                 drop(job);
-                self.fail(output, number, client_query, cause)
+                Ok(self.fail(number, client_query, cause))
             }
         }
     }
 
     // Goes on with the work on the query of that number by one input, and sends its result.
-    fn advance_query<O: Output<A>>(
+    fn advance_query(
         &mut self,
-        output: &mut O,
         number: u64,
         client_query: ClientQuery<A>,
         mut job: Job<A>,
-        input: Input<'_, A>,
-    ) -> Result<O::Given, Starved>
+        input: Input,
+    ) -> Result<TypedAction<A>, Starved>
         requires sound { IsSound (state_of self.old) }
         requires fresh { HasNo self.old.queries number }
-        requires given { (i : InputSpec) × IsGiven job input.entry i }
-        ensures ok { (i : InputSpec) → IsGiven job input.entry i → IfOk result (λ a. Goes (state_of self.old) client_query number job i (alone O.given a) (state_of self.new)) }
-        ensures err { (i : InputSpec) → IsGiven job input.entry i → OnErr result (Falls (state_of self.old) job i (state_of self.new)) }
+        ensures ok { IfOk result (λ a. Goes (state_of self.old) client_query number job (input_view input) (alone a) (state_of self.new)) }
+        ensures err { OnErr result (Falls (state_of self.old) job (input_view input) (state_of self.new)) }
     {
         let gives = advance(
             self.alloc,
@@ -119,27 +118,83 @@ impl<A: Heap> ResolverState<A> {
                 drop(job);
                 Err(starved)
             }
-            Ok(next) => self.follow(output, number, client_query, job, next),
+            Ok(next) => self.follow(number, client_query, job, next),
         }
     }
 
-    // Serves the open query of that number. The contract holds for each input of the rules that the input is.
-    pub fn go_on<O: Output<A>>(
+    // Goes on with the work on the query of that number by a message of the server that it asks, and sends its result.
+    fn advance_query_by_reply(
         &mut self,
-        output: &mut O,
         number: u64,
-        input: Input<'_, A>,
-    ) -> Result<O::Given, Starved>
+        client_query: ClientQuery<A>,
+        mut job: Job<A>,
+        server: Addr,
+        reading: &Reading<A>,
+    ) -> Result<TypedAction<A>, Starved>
+        requires sound { IsSound (state_of self.old) }
+        requires fresh { HasNo self.old.queries number }
+        requires read { (way : Via) × (m : Message) × IsReadingOf way m (reading_view reading.now) × IsSoughtIn job (reading_view reading.now) }
+        ensures ok { (way : Via) (m : Message) → IsReadingOf way m (reading_view reading.now) → IsSoughtIn job (reading_view reading.now) → IfOk result (λ a. Goes (state_of self.old) client_query number job (Told way server m) (alone a) (state_of self.new)) }
+        ensures err { (way : Via) (m : Message) → IsReadingOf way m (reading_view reading.now) → IsSoughtIn job (reading_view reading.now) → OnErr result (Falls (state_of self.old) job (Told way server m) (state_of self.new)) }
+    {
+        let gives = advance_by_reply(
+            self.alloc,
+            &mut job,
+            server,
+            reading,
+            &self.home,
+            &mut self.stores,
+            self.clock,
+        );
+        match gives {
+            Err(starved) => {
+                drop(client_query);
+                drop(job);
+                Err(starved)
+            }
+            Ok(next) => self.follow(number, client_query, job, next),
+        }
+    }
+
+    // Serves the open query of that number.
+    pub fn go_on(
+        &mut self,
+        number: u64,
+        input: Input,
+    ) -> Result<TypedAction<A>, Starved>
         requires sound { IsSound (state_of self.old) }
         requires there { (q : Open) × IsTheOne self.old.queries number q }
-        requires given { (i : InputSpec) × OfTheOne self.old.queries number (λ q. IsGiven q.job input.entry i) }
-        ensures ok { (i : InputSpec) → OfTheOne self.old.queries number (λ q. IsGiven q.job input.entry i) → IfOk result (λ a. ServesOne (state_of self.old) number i (alone O.given a) (state_of self.new)) }
-        ensures err { (i : InputSpec) → OfTheOne self.old.queries number (λ q. IsGiven q.job input.entry i) → OnErr result (DropsOne (state_of self.old) number i (state_of self.new)) }
+        ensures ok { IfOk result (λ a. ServesOne (state_of self.old) number (input_view input) (alone a) (state_of self.new)) }
+        ensures err { OnErr result (DropsOne (state_of self.old) number (input_view input) (state_of self.new)) }
     {
         match self.queries.take_out(number) {
             Some(open) => {
                 let (client_query, job) = open.into_work();
-                self.advance_query(output, number, client_query, job, input)
+                self.advance_query(number, client_query, job, input)
+            }
+            None => unreachable!(),
+        }
+    }
+
+    // Serves the open query of that number by a message of the server that it asks. The contract holds for each message
+    // that has the reading.
+    pub fn go_on_by_reply(
+        &mut self,
+        number: u64,
+        server: Addr,
+        reading: &Reading<A>,
+    ) -> Result<TypedAction<A>, Starved>
+        requires sound { IsSound (state_of self.old) }
+        requires there { (q : Open) × IsTheOne self.old.queries number q }
+        requires read { (way : Via) × (m : Message) × IsReadingOf way m (reading_view reading.now) }
+        requires answers { OfTheOne self.old.queries number (λ q. Answers q.ask (reading_view reading.now)) }
+        ensures ok { (way : Via) (m : Message) → IsReadingOf way m (reading_view reading.now) → IfOk result (λ a. ServesOne (state_of self.old) number (Told way server m) (alone a) (state_of self.new)) }
+        ensures err { (way : Via) (m : Message) → IsReadingOf way m (reading_view reading.now) → OnErr result (DropsOne (state_of self.old) number (Told way server m) (state_of self.new)) }
+    {
+        match self.queries.take_out(number) {
+            Some(open) => {
+                let (client_query, job) = open.into_work();
+                self.advance_query_by_reply(number, client_query, job, server, reading)
             }
             None => unreachable!(),
         }

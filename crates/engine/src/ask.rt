@@ -2,6 +2,7 @@
 //! open asks over UDP have socket, server and ID in common (RFC 5452, section 4).
 ghost use Rattle.std.specs.Prelude.{◌≡◌, ◌+◌, ◌<◌, ◌/◌, ◌%◌, IfOk, OnErr};
 ghost use Rattle.rdata.specs.Types.{type_number};
+ghost use Rattle.typed.specs.Views.{said_view};
 ghost use Rattle.runs.specs.States.{open_query, word_of, word_taken};
 ghost use Rattle.runs.specs.Steps.{WaitsByUdp, WaitsByTcp};
 ghost use Rattle.open_queries.specs.Lookups.{HasNo, IsFree};
@@ -9,7 +10,6 @@ ghost use Rattle.engine.specs.ResolverStates.{state_of, IsSound};
 ghost use Rattle.engine.specs.Moves.{Puts, Halts};
 ghost use Rattle.engine.specs.Replies.{alone};
 
-use crate::output::{Output, ask as give_ask};
 use crate::state::ResolverState;
 use dname::{Heap, Name, Starved};
 use events::{Ask, ClientQuery, Path};
@@ -18,6 +18,7 @@ use limits::TCP_WAIT_MS;
 use open_queries::Open;
 use rand_core::utils::NextWord;
 use rdata::{Addr, RType};
+use typed::{TypedAction, send};
 
 impl<A: Heap> ResolverState<A> {
     // The next word of the generator.
@@ -29,18 +30,17 @@ impl<A: Heap> ResolverState<A> {
     }
 
     // Sends a query's ask, which is like no other one; the query waits for it.
-    fn put<O: Output<A>>(
+    fn put(
         &mut self,
-        output: &mut O,
         number: u64,
         client_query: ClientQuery<A>,
         job: Job<A>,
         ask: Ask<A>,
         due: u64,
-    ) -> Result<O::Given, Starved>
+    ) -> Result<TypedAction<A>, Starved>
         requires fresh { HasNo self.old.queries number }
         requires free { IsFree self.old.queries ask }
-        ensures ok { IfOk result (λ a. Puts (state_of self.old) (open_query number client_query job ask due) (O.given a) (state_of self.new)) }
+        ensures ok { IfOk result (λ a. Puts (state_of self.old) (open_query number client_query job ask due) (said_view a) (state_of self.new)) }
         ensures err { OnErr result (state_of self.new ≡ state_of self.old) }
     {
         let open = Open {
@@ -50,7 +50,7 @@ impl<A: Heap> ResolverState<A> {
             ask,
             due,
         };
-        match give_ask(output, self.alloc, self.port, &open.ask) {
+        match send(self.alloc, self.port, &open.ask) {
             Err(starved) => {
                 drop(open);
                 Err(starved)
@@ -67,19 +67,18 @@ impl<A: Heap> ResolverState<A> {
 
     // Asks a server in a datagram. The ID and the socket are of a word of the generator, the ID raised until no other
     // open ask is like it.
-    pub fn ask_udp<O: Output<A>>(
+    pub fn ask_udp(
         &mut self,
-        output: &mut O,
         number: u64,
         client_query: ClientQuery<A>,
         job: Job<A>,
         server: Addr,
         name: Name<A>,
         kind: RType,
-    ) -> Result<O::Given, Starved>
+    ) -> Result<TypedAction<A>, Starved>
         requires sound { IsSound (state_of self.old) }
         requires fresh { HasNo self.old.queries number }
-        ensures ok { IfOk result (λ a. WaitsByUdp (state_of self.old) client_query number self.old.opened server name (type_number kind) job self.old.stores (alone O.given a) (state_of self.new)) }
+        ensures ok { IfOk result (λ a. WaitsByUdp (state_of self.old) client_query number self.old.opened server name (type_number kind) job self.old.stores (alone a) (state_of self.new)) }
         ensures err { OnErr result (Halts (state_of self.old) (state_of self.new)) }
     {
         let word = self.word();
@@ -93,23 +92,22 @@ impl<A: Heap> ResolverState<A> {
             name,
             kind,
         };
-        self.put(output, number, client_query, job, ask, due)
+        self.put(number, client_query, job, ask, due)
     }
 
     // Asks a server over TCP, under the next number. The ID is of a word of the generator.
-    pub fn ask_tcp<O: Output<A>>(
+    pub fn ask_tcp(
         &mut self,
-        output: &mut O,
         number: u64,
         client_query: ClientQuery<A>,
         job: Job<A>,
         server: Addr,
         name: Name<A>,
         kind: RType,
-    ) -> Result<O::Given, Starved>
+    ) -> Result<TypedAction<A>, Starved>
         requires sound { IsSound (state_of self.old) }
         requires fresh { HasNo self.old.queries number }
-        ensures ok { IfOk result (λ a. WaitsByTcp (state_of self.old) client_query number self.old.opened server name (type_number kind) job self.old.stores (alone O.given a) (state_of self.new)) }
+        ensures ok { IfOk result (λ a. WaitsByTcp (state_of self.old) client_query number self.old.opened server name (type_number kind) job self.old.stores (alone a) (state_of self.new)) }
         ensures err { OnErr result (Halts (state_of self.old) (state_of self.new)) }
     {
         if self.tcp_asks == u64::MAX {
@@ -127,7 +125,7 @@ impl<A: Heap> ResolverState<A> {
             name,
             kind,
         };
-        let action = self.put(output, number, client_query, job, ask, due)?;
+        let action = self.put(number, client_query, job, ask, due)?;
         self.tcp_asks += 1;
         Ok(action)
     }

@@ -1,5 +1,6 @@
 //! Requests of clients: they are dropped, refused, answered by local zones (without RD), or resolved.
-ghost use Rattle.std.specs.Prelude.{◌≡◌, ℕ, ◌<◌, ◌≤◌, Some, None, List, IfOk, IsOk, OnErr, length};
+ghost use Rattle.std.specs.Result.{IsOkAnd};
+ghost use Rattle.std.specs.Prelude.{◌≡◌, ℕ, ◌<◌, ◌≤◌, Some, None, List, IfOk, OnErr, length};
 ghost use Rattle.resolution.specs.Jobs.{Start as StartSpec};
 ghost use Rattle.resolution.specs.Rules.{Stops};
 ghost use Rattle.iterate.specs.Beginnings.{StartsWith};
@@ -14,13 +15,13 @@ ghost use Rattle.engine.specs.Calls.{Handles, IsResolved, Begins, IsGone};
 ghost use Rattle.engine.specs.Turns.{Turns};
 
 use crate::hashing::StoreHasher;
-use crate::output::{Output, refusal, reply};
 use crate::state::ResolverState;
 use dname::{Heap, Starved};
 use events::{ClientQuery, local_answer_is_plain, read_asked};
 use front::{Request, answer_local};
 use iterate::{Chain, Started, begin_query};
 use lookup::{Home, Stores};
+use typed::{TypedAction, refuse, reply_to};
 use wire::Via;
 
 // The result of starting a query at `now` milliseconds: its answer, or work that waits. For the proof: it says of
@@ -54,103 +55,98 @@ fn is_recursive<A: Heap>(client_query: &ClientQuery<A>) -> bool
     client_query.query.start.wants_recursion()
 }
 
+// STUB
+fn copied<A: Heap>(_request: &Request<A>) -> Result<Request<A>, Starved>
+    ensures { IfOk result (λ r. r ≡ _request.now) }
+{
+    Err(Starved)
+}
+
 impl<A: Heap> ResolverState<A> {
     // Treats a client's bytes: they are dropped, refused, answered or opened.
-    pub fn client<O: Output<A>>(
+    pub fn client(
         &mut self,
-        output: &mut O,
         client: u64,
         way: Via,
         bytes: &[u8],
-    ) -> Result<Option<O::Given>, Starved>
+    ) -> Result<Option<TypedAction<A>>, Starved>
         requires sound { IsSound (state_of self.old) }
-        ensures ok { IfOk result (λ a. (now : ℕ) → Turns (state_of self.old) (Client now client way bytes.now) (Some (if_any O.given a)) (state_of self.new)) }
+        ensures ok { IfOk result (λ a. (now : ℕ) → Turns (state_of self.old) (Client now client way bytes.now) (Some (if_any a)) (state_of self.new)) }
         ensures err { OnErr result ((now : ℕ) → Turns (state_of self.old) (Client now client way bytes.now) None (state_of self.new)) }
-        ensures quiet { length bytes.now < 12 → IsOk result }
+        ensures quiet { length bytes.now < 12 → IsOkAnd result (λ o. o ≡ None) }
     {
         let asked = read_asked(self.alloc, bytes)?;
-        self.handle(output, client, way, asked)
+        self.handle(client, way, asked)
     }
 
     // Treats what was read of a client's bytes.
-    pub fn read_client<O: Output<A>>(
+    pub fn read_client(
         &mut self,
-        output: &mut O,
         client: u64,
         way: Via,
         request: &Request<A>,
-    ) -> Result<Option<O::Given>, Starved>
+    ) -> Result<Option<TypedAction<A>>, Starved>
         requires sound { IsSound (state_of self.old) }
-        ensures ok { (now : ℕ) (bytes : List ℕ) → IsRequest bytes (plain_asked request.now) → IfOk result (λ a. Turns (state_of self.old) (Client now client way bytes) (Some (if_any O.given a)) (state_of self.new)) }
+        ensures ok { (now : ℕ) (bytes : List ℕ) → IsRequest bytes (plain_asked request.now) → IfOk result (λ a. Turns (state_of self.old) (Client now client way bytes) (Some (if_any a)) (state_of self.new)) }
         ensures err { (now : ℕ) (bytes : List ℕ) → OnErr result (Turns (state_of self.old) (Client now client way bytes) None (state_of self.new)) }
     {
-        let request = request.copied()?;
-        self.handle(output, client, way, request)
+        let request = copied(request)?;
+        self.handle(client, way, request)
     }
 
     // Dispatches a client's request: it is dropped, refused, or resolved.
-    fn handle<O: Output<A>>(
+    fn handle(
         &mut self,
-        output: &mut O,
         client: u64,
         way: Via,
         asked: Request<A>,
-    ) -> Result<Option<O::Given>, Starved>
+    ) -> Result<Option<TypedAction<A>>, Starved>
         requires sound { IsSound (state_of self.old) }
-        ensures ok { IfOk result (λ a. Handles (state_of self.old) client way (plain_asked asked) (if_any O.given a) (state_of self.new)) }
+        ensures ok { IfOk result (λ a. Handles (state_of self.old) client way (plain_asked asked) (if_any a) (state_of self.new)) }
         ensures err { OnErr result (IsGone (state_of self.old) (state_of self.new)) }
-        ensures quiet { plain_asked asked ≡ request.Drop → IsOk result }
+        ensures quiet { plain_asked asked ≡ request.Drop → IsOkAnd result (λ o. o ≡ None) }
     {
         match asked {
             Request::Drop => Ok(None),
-            Request::Refuse(why, start, echo) => {
-                Ok(Some(refusal(output, self.alloc, client, way, why, start, echo)?))
-            }
+            Request::Refuse(why, start, echo) => Ok(Some(refuse(client, way, why, start, echo))),
             Request::Query(query) => {
-                Ok(Some(self.resolve(output, ClientQuery { client, way, query })?))
+                Ok(Some(self.resolve(ClientQuery { client, way, query })?))
             }
         }
     }
 
     // Treats a query: without RD it is answered by the local zones alone (RFC 1034, section 4.3.1).
-    fn resolve<O: Output<A>>(
+    fn resolve(
         &mut self,
-        output: &mut O,
         client_query: ClientQuery<A>,
-    ) -> Result<O::Given, Starved>
+    ) -> Result<TypedAction<A>, Starved>
         requires sound { IsSound (state_of self.old) }
-        ensures ok { IfOk result (λ a. IsResolved (state_of self.old) client_query (alone O.given a) (state_of self.new)) }
+        ensures ok { IfOk result (λ a. IsResolved (state_of self.old) client_query (alone a) (state_of self.new)) }
         ensures err { OnErr result (IsGone (state_of self.old) (state_of self.new)) }
     {
         if is_recursive(&client_query) {
-            Ok(self.begin_query(output, client_query)?)
+            Ok(self.begin_query(client_query)?)
         } else {
-            Ok(self.at_hand(output, client_query)?)
+            Ok(self.at_hand(client_query)?)
         }
     }
 
     // Answers from the local zones alone.
-    fn at_hand<O: Output<A>>(
-        &mut self,
-        output: &mut O,
-        client_query: ClientQuery<A>,
-    ) -> Result<O::Given, Starved>
-        ensures ok { IfOk result (λ a. AnswersAtHand (state_of self.old) client_query Own (alone O.given a) (state_of self.new)) }
-        ensures same { state_of self.new ≡ state_of self.old }
+    fn at_hand(&self, client_query: ClientQuery<A>) -> Result<TypedAction<A>, Starved>
+        ensures { IfOk result (λ a. AnswersAtHand (state_of self.now) client_query Own (alone a) (state_of self.now)) }
     {
         local_answer_is_plain(self.alloc);
         let outcome = answer_local(self.alloc, &client_query.query, self.home.catalog())?;
-        reply(output, self.alloc, client_query, outcome)
+        Ok(reply_to(client_query, outcome))
     }
 
     // Begins a recursive query: it is answered by a link that is found, or its work begins.
-    fn begin_query<O: Output<A>>(
+    fn begin_query(
         &mut self,
-        output: &mut O,
         client_query: ClientQuery<A>,
-    ) -> Result<O::Given, Starved>
+    ) -> Result<TypedAction<A>, Starved>
         requires sound { IsSound (state_of self.old) }
-        ensures ok { IfOk result (λ a. Begins (state_of self.old) client_query (alone O.given a) (state_of self.new)) }
+        ensures ok { IfOk result (λ a. Begins (state_of self.old) client_query (alone a) (state_of self.new)) }
         ensures err { OnErr result (IsGone (state_of self.old) (state_of self.new)) }
     {
         match begun(
@@ -161,9 +157,9 @@ impl<A: Heap> ResolverState<A> {
             self.clock,
         )? {
             Started::Answered(last) => {
-                self.answer(output, self.opened, client_query, Chain::new(self.alloc), last)
+                self.answer(self.opened, client_query, Chain::new(self.alloc), last)
             }
-            Started::Working(job, next) => self.admit(output, client_query, job, next),
+            Started::Working(job, next) => self.admit(client_query, job, next),
         }
     }
 }

@@ -1,6 +1,7 @@
 //! Datagrams from servers. The ask that one may answer is found by its socket, its sender and its ID, and only a
 //! message that is accepted for that ask is used.
-ghost use Rattle.std.specs.Prelude.{◌≡◌, ℕ, List, Some, None, IfOk, IsOk, OnErr, MatchOption};
+ghost use Rattle.std.specs.Result.{IsOkAnd};
+ghost use Rattle.std.specs.Prelude.{◌≡◌, ℕ, List, Some, None, IfOk, OnErr, MatchOption};
 ghost use Rattle.message_grammar.specs.Messages.{Message};
 ghost use Rattle.wire.specs.declared.via.Via.TheVariants as via;
 ghost use Rattle.classify.specs.Read.{IsReadingOf, IsReadFrom};
@@ -12,11 +13,11 @@ ghost use Rattle.engine.specs.Replies.{if_any};
 ghost use Rattle.engine.specs.Finds.{IsOffLine, Reaches};
 ghost use Rattle.engine.specs.Turns.{Turns, IsQuiet};
 
-use crate::output::Output;
 use crate::state::ResolverState;
 use classify::{Reading, read};
 use dname::{Heap, Starved};
 use events::{Endpoint, id_in, id_is_in_message};
+use typed::TypedAction;
 use wire::Via;
 
 // The bytes of a message's header (RFC 1035, section 4.1.1).
@@ -35,37 +36,35 @@ impl<A: Heap> ResolverState<A> {
     }
 
     // Serves the query that a datagram of this reading is for, if it is accepted.
-    pub fn read_datagram<O: Output<A>>(
+    pub fn read_datagram(
         &mut self,
-        output: &mut O,
         socket: u16,
         from: Endpoint,
         reading: &Reading<A>,
-    ) -> Result<Option<O::Given>, Starved>
+    ) -> Result<Option<TypedAction<A>>, Starved>
         requires sound { IsSound (state_of self.old) }
         requires read { (m : Message) × IsReadingOf via.Udp m (reading_view reading.now) }
-        ensures ok { (now : ℕ) (bytes : List ℕ) → IsReadFrom via.Udp bytes (reading_view reading.now) → IfOk result (λ a. Turns (state_of self.old) (Datagram now socket (endpoint_view from) bytes) (Some (if_any O.given a)) (state_of self.new)) }
+        ensures ok { (now : ℕ) (bytes : List ℕ) → IsReadFrom via.Udp bytes (reading_view reading.now) → IfOk result (λ a. Turns (state_of self.old) (Datagram now socket (endpoint_view from) bytes) (Some (if_any a)) (state_of self.new)) }
         ensures err { (now : ℕ) (bytes : List ℕ) → IsReadFrom via.Udp bytes (reading_view reading.now) → OnErr result (Turns (state_of self.old) (Datagram now socket (endpoint_view from) bytes) None (state_of self.new)) }
     {
         id_is_in_message();
         match self.asked_on(socket, from, reading.id) {
-            Some(number) => self.hear(output, number, reading),
+            Some(number) => self.hear(number, reading),
             None => Ok(None),
         }
     }
 
     // Serves the query that a datagram is for, if it is accepted. Only the bytes of an open ask's reply are read.
-    pub fn datagram<O: Output<A>>(
+    pub fn datagram(
         &mut self,
-        output: &mut O,
         socket: u16,
         from: Endpoint,
         bytes: &[u8],
-    ) -> Result<Option<O::Given>, Starved>
+    ) -> Result<Option<TypedAction<A>>, Starved>
         requires sound { IsSound (state_of self.old) }
-        ensures ok { (now : ℕ) → IfOk result (λ a. Turns (state_of self.old) (Datagram now socket (endpoint_view from) bytes.now) (Some (if_any O.given a)) (state_of self.new)) }
+        ensures ok { (now : ℕ) → IfOk result (λ a. Turns (state_of self.old) (Datagram now socket (endpoint_view from) bytes.now) (Some (if_any a)) (state_of self.new)) }
         ensures err { (now : ℕ) → OnErr result (Turns (state_of self.old) (Datagram now socket (endpoint_view from) bytes.now) None (state_of self.new)) }
-        ensures quiet { (now : ℕ) → IsQuiet (state_of self.old) (Datagram now socket (endpoint_view from) bytes.now) → IsOk result }
+        ensures quiet { (now : ℕ) → IsQuiet (state_of self.old) (Datagram now socket (endpoint_view from) bytes.now) → IsOkAnd result (λ o. o ≡ None) }
     {
         if bytes.len() < HEADER {
             return Ok(None);
@@ -83,7 +82,7 @@ impl<A: Heap> ResolverState<A> {
                 Ok(None)
             }
             Ok(Some(reading)) => {
-                let given = self.read_datagram(output, socket, from, &reading);
+                let given = self.read_datagram(socket, from, &reading);
                 drop(reading);
                 given
             }

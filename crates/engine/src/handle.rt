@@ -1,25 +1,26 @@
 //! Treatment of an event: the clock goes on to its moment, never back, and then the part for the event's kind is
 //! called.
-ghost use Rattle.std.specs.Prelude.{◌≡◌, max, Some, None, IfOk, IsOk, OnErr};
+ghost use Rattle.std.specs.Result.{IsOkAnd};
+ghost use Rattle.std.specs.Prelude.{◌≡◌, max, Some, None, IfOk, OnErr};
 ghost use Rattle.events.specs.Views.{event_view};
 ghost use Rattle.runs.specs.States.{Event as EventSpec};
 ghost use Rattle.typed.specs.Events.{ReadAs, HasBytes};
-ghost use Rattle.typed.specs.Views.{parsed_view};
+ghost use Rattle.typed.specs.Views.{parsed_view, said_listed};
 ghost use Rattle.engine.specs.ResolverStates.{state_of, IsSound};
-ghost use Rattle.engine.specs.Replies.{all_given, if_any};
+ghost use Rattle.engine.specs.Replies.{if_any};
 ghost use Rattle.engine.specs.Turns.{Turns, IsQuiet};
 
-use crate::output::{Given, Output};
 use crate::state::ResolverState;
 use dname::{Heap, Starved};
 use events::Event;
-use typed::Parsed;
+use std::alloc::Allocator;
+use typed::{Parsed, TypedAction, TypedActions};
 
 // One action at most, without word that another query is due.
-fn alone<O: Output<A>, A: Heap>(first: Option<O::Given>) -> Given<O::Given>
-    ensures { all_given O.given result.first result.more_due ≡ if_any O.given first }
+fn alone<A: Allocator>(first: Option<TypedAction<A>>) -> TypedActions<A>
+    ensures { said_listed result.first result.more_due ≡ if_any first }
 {
-    Given {
+    TypedActions {
         first,
         more_due: false,
     }
@@ -34,15 +35,14 @@ impl<A: Heap> ResolverState<A> {
     }
 
     // Serves the query that an event is for.
-    pub fn handle_event<O: Output<A>>(
+    pub fn handle_event(
         &mut self,
-        output: &mut O,
         event: &Event<A>,
-    ) -> Result<Given<O::Given>, Starved>
+    ) -> Result<TypedActions<A>, Starved>
         requires sound { IsSound (state_of self.old) }
-        ensures ok { IfOk result (λ g. Turns (state_of self.old) (event_view event.now) (Some (all_given O.given g.first g.more_due)) (state_of self.new)) }
+        ensures ok { IfOk result (λ a. Turns (state_of self.old) (event_view event.now) (Some (said_listed a.first a.more_due)) (state_of self.new)) }
         ensures err { OnErr result (Turns (state_of self.old) (event_view event.now) None (state_of self.new)) }
-        ensures quiet { IsQuiet (state_of self.old) (event_view event.now) → IsOk result }
+        ensures quiet { IsQuiet (state_of self.old) (event_view event.now) → IsOkAnd result (λ a. a.first ≡ None) }
     {
         match event {
             Event::Client {
@@ -51,8 +51,8 @@ impl<A: Heap> ResolverState<A> {
                 bytes,
                 ..
             } => {
-                let first = self.client(output, *client, *way, bytes.as_slice())?;
-                Ok(alone::<O, A>(first))
+                let first = self.client(*client, *way, bytes.as_slice())?;
+                Ok(alone(first))
             }
             Event::Datagram {
                 socket,
@@ -60,30 +60,29 @@ impl<A: Heap> ResolverState<A> {
                 bytes,
                 ..
             } => {
-                let first = self.datagram(output, *socket, *from, bytes.as_slice())?;
-                Ok(alone::<O, A>(first))
+                let first = self.datagram(*socket, *from, bytes.as_slice())?;
+                Ok(alone(first))
             }
             Event::TcpReply { number, bytes, .. } => {
-                let first = self.tcp_reply(output, *number, bytes.as_slice())?;
-                Ok(alone::<O, A>(first))
+                let first = self.tcp_reply(*number, bytes.as_slice())?;
+                Ok(alone(first))
             }
             Event::TcpFailed { number, .. } => {
-                let first = self.tcp_failed(output, *number)?;
-                Ok(alone::<O, A>(first))
+                let first = self.tcp_failed(*number)?;
+                Ok(alone(first))
             }
-            Event::Tick { .. } => self.tick(output),
+            Event::Tick { .. } => self.tick(),
         }
     }
 
     // Serves the query that an event is for whose bytes were read.
-    pub fn handle_parsed<O: Output<A>>(
+    pub fn handle_parsed(
         &mut self,
-        output: &mut O,
         event: &Parsed<A>,
-    ) -> Result<Given<O::Given>, Starved>
+    ) -> Result<TypedActions<A>, Starved>
         requires sound { IsSound (state_of self.old) }
         requires bytes { HasBytes (parsed_view event.now) }
-        ensures ok { (e : EventSpec) → ReadAs e (parsed_view event.now) → IfOk result (λ g. Turns (state_of self.old) e (Some (all_given O.given g.first g.more_due)) (state_of self.new)) }
+        ensures ok { (e : EventSpec) → ReadAs e (parsed_view event.now) → IfOk result (λ a. Turns (state_of self.old) e (Some (said_listed a.first a.more_due)) (state_of self.new)) }
         ensures err { (e : EventSpec) → ReadAs e (parsed_view event.now) → OnErr result (Turns (state_of self.old) e None (state_of self.new)) }
     {
         match event {
@@ -93,8 +92,8 @@ impl<A: Heap> ResolverState<A> {
                 request,
                 ..
             } => {
-                let first = self.read_client(output, *client, *way, request)?;
-                Ok(alone::<O, A>(first))
+                let first = self.read_client(*client, *way, request)?;
+                Ok(alone(first))
             }
             Parsed::Datagram {
                 socket,
@@ -102,20 +101,20 @@ impl<A: Heap> ResolverState<A> {
                 reading,
                 ..
             } => {
-                let first = self.read_datagram(output, *socket, *from, reading)?;
-                Ok(alone::<O, A>(first))
+                let first = self.read_datagram(*socket, *from, reading)?;
+                Ok(alone(first))
             }
             Parsed::TcpReply {
                 number, reading, ..
             } => {
-                let first = self.read_reply(output, *number, reading)?;
-                Ok(alone::<O, A>(first))
+                let first = self.read_reply(*number, reading)?;
+                Ok(alone(first))
             }
             Parsed::TcpFailed { number, .. } => {
-                let first = self.tcp_failed(output, *number)?;
-                Ok(alone::<O, A>(first))
+                let first = self.tcp_failed(*number)?;
+                Ok(alone(first))
             }
-            Parsed::Tick { .. } => self.tick(output),
+            Parsed::Tick { .. } => self.tick(),
         }
     }
 }

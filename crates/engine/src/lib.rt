@@ -33,11 +33,11 @@ mod datagram;
 mod handle;
 mod hashing;
 mod machine;
-mod output;
 mod settings;
 mod state;
 mod stream;
 mod tick;
+mod withdraw;
 
 pub use booked::history_is_run;
 pub use machine::Core;

@@ -14,7 +14,6 @@ ghost use Rattle.typed.specs.Events.{ReadAs};
 ghost use Rattle.typed.specs.Views.{said_listed};
 
 use crate::hashing::{Seeded, StoreHasher};
-use crate::output::{Given, Unwritten};
 use crate::settings::{Config, CoreError};
 use crate::state::ResolverState;
 use authority::{Catalog, CatalogError};
@@ -29,14 +28,14 @@ use rdata::Addr;
 use std::alloc::{Allocator, Global};
 use std::hash::DefaultHasher;
 use std::marker::Model;
-use typed::{TypedActions, TypedEvent};
+use typed::{TypedActions, TypedEvent, write_actions};
 use wire::Writer;
 use zone::Zone;
 
 /// A resolver: its local zones and hints, the stores, and the open queries.
 pub struct Core<A: Allocator = Global> {
     state: ResolverState<A>,
-    // The writer of the replies of `step`.
+    // The writer of what `step` gives.
     writer: Writer<A>,
 }
 
@@ -140,10 +139,20 @@ impl<A: Heap> Core<A> {
         ensures quiet { IsQuiet (moved self.old (event_view event.now)) (event_view event.now) → IsOk result }
     {
         self.state.advance_clock(event.moment());
-        let given = self.state.handle_event(&mut self.writer, event);
+        let (opened, tcp_asks) = (self.state.opened, self.state.tcp_asks);
+        let out = match self.state.handle_event(event) {
+            Err(starved) => Err(starved),
+            Ok(said) => {
+                let written = write_actions(self.state.alloc, &mut self.writer, &said);
+                if written.is_err() {
+                    self.state.withdraw(&said.first, opened, tcp_asks);
+                }
+                drop(said);
+                written
+            }
+        };
         self.state.queries.apart_law();
-        let Given { first, more_due } = given?;
-        Ok(Actions { first, more_due })
+        out
     }
 
     /// One step whose event was read before and whose action is written after, so that no bytes are read or written in
@@ -154,10 +163,9 @@ impl<A: Heap> Core<A> {
         ensures err { (e : EventSpec) → ReadAs e event.now → OnErr result (Steps self.old e None self.new) }
     {
         self.state.advance_clock(event.moment());
-        let given = self.state.handle_parsed(&mut Unwritten, event.parsed());
+        let said = self.state.handle_parsed(event.parsed());
         self.state.queries.apart_law();
-        let Given { first, more_due } = given?;
-        Ok(TypedActions { first, more_due })
+        said
     }
 
     /// How many entries each store has, expired ones among them.

@@ -1,5 +1,6 @@
 //! Replies over TCP, and asks over TCP that failed.
-ghost use Rattle.std.specs.Prelude.{◌≡◌, ℕ, List, Some, None, IfOk, IsOk, OnErr, MatchOption, Contains};
+ghost use Rattle.std.specs.Result.{IsOkAnd};
+ghost use Rattle.std.specs.Prelude.{◌≡◌, ℕ, List, Some, None, IfOk, OnErr, MatchOption, Contains};
 ghost use Rattle.resolution.specs.Jobs as jobs;
 ghost use Rattle.rdata.specs.Types.{type_number};
 ghost use Rattle.wire.specs.declared.via.Via.TheVariants as via;
@@ -14,12 +15,12 @@ ghost use Rattle.engine.specs.Moves.{HasBeenRead, IsHeard, IsLost};
 ghost use Rattle.engine.specs.Finds.{Finds, OfTheOne, Tells, Untold};
 ghost use Rattle.engine.specs.Turns.{Turns, IsQuiet};
 
-use crate::output::Output;
 use crate::state::ResolverState;
 use classify::{Reading, read};
 use dname::{Heap, Starved};
 use iterate::Input;
 use rdata::{Addr, RType};
+use typed::TypedAction;
 use wire::Via;
 
 impl<A: Heap> ResolverState<A> {
@@ -54,37 +55,35 @@ impl<A: Heap> ResolverState<A> {
     }
 
     // Treats the open ask of the query of that number as failed.
-    fn fail_ask<O: Output<A>>(
+    fn fail_ask(
         &mut self,
-        output: &mut O,
         number: u64,
-    ) -> Result<O::Given, Starved>
+    ) -> Result<TypedAction<A>, Starved>
         requires sound { IsSound (state_of self.old) }
         requires there { (q : Open) × IsTheOne self.old.queries number q }
-        ensures ok { IfOk result (λ a. Tells (state_of self.old) number jobs.TcpFailed (alone O.given a) (state_of self.new)) }
+        ensures ok { IfOk result (λ a. Tells (state_of self.old) number jobs.TcpFailed (alone a) (state_of self.new)) }
         ensures err { OnErr result (Untold (state_of self.old) number jobs.TcpFailed (state_of self.new)) }
     {
         let server = self.server_of(number);
-        self.go_on(output, number, Input::TcpFailed(server))
+        self.go_on(number, Input::TcpFailed(server))
     }
 
     // Serves the open query of that number by what was read of the reply to its ask over TCP, where that is accepted.
-    fn hear_over<O: Output<A>>(
+    fn hear_over(
         &mut self,
-        output: &mut O,
         ask: u64,
         number: u64,
         reading: &Option<Reading<A>>,
-    ) -> Result<Option<O::Given>, Starved>
+    ) -> Result<Option<TypedAction<A>>, Starved>
         requires sound { IsSound (state_of self.old) }
         requires there { (q : Open) × IsTheOne self.old.queries number q }
         requires asked { OfTheOne self.old.queries number (IsOfNumber ask) }
         requires read { HasBeenRead via.Tcp (read_view reading.now) }
-        ensures ok { (now : ℕ) (bytes : List ℕ) → AreRead via.Tcp bytes (read_view reading.now) → IfOk result (λ o. IsHeard O.given (state_of self.old) number (TcpReply now ask bytes) o (state_of self.new)) }
+        ensures ok { (now : ℕ) (bytes : List ℕ) → AreRead via.Tcp bytes (read_view reading.now) → IfOk result (λ o. IsHeard (state_of self.old) number (TcpReply now ask bytes) o (state_of self.new)) }
         ensures err { (now : ℕ) (bytes : List ℕ) → AreRead via.Tcp bytes (read_view reading.now) → OnErr result (IsLost (state_of self.old) number (TcpReply now ask bytes) (state_of self.new)) }
     {
         match reading {
-            Some(reading) => self.hear(output, number, reading),
+            Some(reading) => self.hear(number, reading),
             None => {
                 self.kind_of(number);
                 Ok(None)
@@ -94,37 +93,35 @@ impl<A: Heap> ResolverState<A> {
 
     // Treats what was read of a reply over TCP: the query of its ask is served by it, or by the failure of that ask
     // where it is not accepted.
-    pub fn read_reply<O: Output<A>>(
+    pub fn read_reply(
         &mut self,
-        output: &mut O,
         ask: u64,
         reading: &Option<Reading<A>>,
-    ) -> Result<Option<O::Given>, Starved>
+    ) -> Result<Option<TypedAction<A>>, Starved>
         requires sound { IsSound (state_of self.old) }
         requires read { HasBeenRead via.Tcp (read_view reading.now) }
-        ensures ok { (now : ℕ) (bytes : List ℕ) → AreRead via.Tcp bytes (read_view reading.now) → IfOk result (λ a. Turns (state_of self.old) (TcpReply now ask bytes) (Some (if_any O.given a)) (state_of self.new)) }
+        ensures ok { (now : ℕ) (bytes : List ℕ) → AreRead via.Tcp bytes (read_view reading.now) → IfOk result (λ a. Turns (state_of self.old) (TcpReply now ask bytes) (Some (if_any a)) (state_of self.new)) }
         ensures err { (now : ℕ) (bytes : List ℕ) → AreRead via.Tcp bytes (read_view reading.now) → OnErr result (Turns (state_of self.old) (TcpReply now ask bytes) None (state_of self.new)) }
     {
         let Some(number) = self.asked_over(ask) else {
             return Ok(None);
         };
-        match self.hear_over(output, ask, number, reading)? {
+        match self.hear_over(ask, number, reading)? {
             Some(given) => Ok(Some(given)),
-            None => Ok(Some(self.fail_ask(output, number)?)),
+            None => Ok(Some(self.fail_ask(number)?)),
         }
     }
 
     // Treats a reply over TCP. Only one to an open ask is read.
-    pub fn tcp_reply<O: Output<A>>(
+    pub fn tcp_reply(
         &mut self,
-        output: &mut O,
         ask: u64,
         bytes: &[u8],
-    ) -> Result<Option<O::Given>, Starved>
+    ) -> Result<Option<TypedAction<A>>, Starved>
         requires sound { IsSound (state_of self.old) }
-        ensures ok { (now : ℕ) → IfOk result (λ a. Turns (state_of self.old) (TcpReply now ask bytes.now) (Some (if_any O.given a)) (state_of self.new)) }
+        ensures ok { (now : ℕ) → IfOk result (λ a. Turns (state_of self.old) (TcpReply now ask bytes.now) (Some (if_any a)) (state_of self.new)) }
         ensures err { (now : ℕ) → OnErr result (Turns (state_of self.old) (TcpReply now ask bytes.now) None (state_of self.new)) }
-        ensures quiet { (now : ℕ) → IsQuiet (state_of self.old) (TcpReply now ask bytes.now) → IsOk result }
+        ensures quiet { (now : ℕ) → IsQuiet (state_of self.old) (TcpReply now ask bytes.now) → IsOkAnd result (λ o. o ≡ None) }
     {
         let Some(number) = self.asked_over(ask) else {
             return Ok(None);
@@ -135,7 +132,7 @@ impl<A: Heap> ResolverState<A> {
                 Err(starved)
             }
             Ok(reading) => {
-                let given = self.read_reply(output, ask, &reading);
+                let given = self.read_reply(ask, &reading);
                 drop(reading);
                 given
             }
@@ -143,18 +140,17 @@ impl<A: Heap> ResolverState<A> {
     }
 
     // Treats the failure of the ask over TCP of this number.
-    pub fn tcp_failed<O: Output<A>>(
+    pub fn tcp_failed(
         &mut self,
-        output: &mut O,
         ask: u64,
-    ) -> Result<Option<O::Given>, Starved>
+    ) -> Result<Option<TypedAction<A>>, Starved>
         requires sound { IsSound (state_of self.old) }
-        ensures ok { (now : ℕ) → IfOk result (λ a. Turns (state_of self.old) (TcpFailed now ask) (Some (if_any O.given a)) (state_of self.new)) }
+        ensures ok { (now : ℕ) → IfOk result (λ a. Turns (state_of self.old) (TcpFailed now ask) (Some (if_any a)) (state_of self.new)) }
         ensures err { (now : ℕ) → OnErr result (Turns (state_of self.old) (TcpFailed now ask) None (state_of self.new)) }
-        ensures quiet { (now : ℕ) → IsQuiet (state_of self.old) (TcpFailed now ask) → IsOk result }
+        ensures quiet { (now : ℕ) → IsQuiet (state_of self.old) (TcpFailed now ask) → IsOkAnd result (λ o. o ≡ None) }
     {
         match self.asked_over(ask) {
-            Some(number) => Ok(Some(self.fail_ask(output, number)?)),
+            Some(number) => Ok(Some(self.fail_ask(number)?)),
             None => Ok(None),
         }
     }

@@ -1,20 +1,21 @@
 //! A tick: the query that is due first is served.
-ghost use Rattle.std.specs.Prelude.{ℕ, Some, None, IfOk, IsOk, OnErr, MatchOption};
+ghost use Rattle.std.specs.Result.{IsOkAnd};
+ghost use Rattle.std.specs.Prelude.{◌≡◌, ℕ, Some, None, IfOk, OnErr, MatchOption};
 ghost use Rattle.std.specs.Bool.{MatchBool};
 ghost use Rattle.runs.specs.States.{Tick, Open};
 ghost use Rattle.runs.specs.Steps.{IsFirstDue};
 ghost use Rattle.open_queries.specs.Lookups.{IsTheOne};
 ghost use Rattle.engine.specs.ResolverStates.{state_of, IsSound};
-ghost use Rattle.engine.specs.Replies.{alone, all_given};
-ghost use Rattle.engine.specs.Moves.{Forgets};
+ghost use Rattle.typed.specs.Views.{said_listed};
+ghost use Rattle.engine.specs.Replies.{alone};
 ghost use Rattle.engine.specs.Finds.{Finds, NoneDue, IsLateOne, IsEarlyOne, Expires, Rings, Unrung};
 ghost use Rattle.engine.specs.Turns.{Turns, IsQuiet};
 
-use crate::output::{Given, Output};
 use crate::state::ResolverState;
 use causes::Cause;
 use dname::{Heap, Starved};
 use iterate::Input;
+use typed::{TypedAction, TypedActions};
 
 impl<A: Heap> ResolverState<A> {
     // The number of the query that is due first, where one is due.
@@ -40,52 +41,51 @@ impl<A: Heap> ResolverState<A> {
     }
 
     // Ends the open query of that number, whose time is up.
-    fn end<O: Output<A>>(&mut self, output: &mut O, number: u64) -> Result<O::Given, Starved>
+    fn end(&mut self, number: u64) -> TypedAction<A>
         requires { (q : Open) × IsTheOne self.old.queries number q }
-        ensures ok { IfOk result (λ a. Expires (state_of self.old) number (alone O.given a) (state_of self.new)) }
-        ensures err { OnErr result (Forgets (state_of self.old) number (state_of self.new)) }
+        ensures { Expires (state_of self.old) number (alone result) (state_of self.new) }
     {
         match self.queries.take_out(number) {
             Some(open) => {
                 let (client_query, job) = open.into_work();
                 drop(job);
-                self.fail(output, number, client_query, Cause::DeadlineOver)
+                self.fail(number, client_query, Cause::DeadlineOver)
             }
             None => unreachable!(),
         }
     }
 
     // Serves the query of that number, which is due.
-    fn ring<O: Output<A>>(&mut self, output: &mut O, number: u64) -> Result<O::Given, Starved>
+    fn ring(&mut self, number: u64) -> Result<TypedAction<A>, Starved>
         requires sound { IsSound (state_of self.old) }
         requires there { (q : Open) × IsTheOne self.old.queries number q }
-        ensures ok { IfOk result (λ a. Rings (state_of self.old) number (alone O.given a) (state_of self.new)) }
+        ensures ok { IfOk result (λ a. Rings (state_of self.old) number (alone a) (state_of self.new)) }
         ensures err { OnErr result (Unrung (state_of self.old) number (state_of self.new)) }
     {
         if self.is_late(number) {
-            self.end(output, number)
+            Ok(self.end(number))
         } else {
             let server = self.server_of(number);
-            self.go_on(output, number, Input::TimedOut(server))
+            self.go_on(number, Input::TimedOut(server))
         }
     }
 
     // Serves the query that is due first, and says whether another one is due.
-    pub fn tick<O: Output<A>>(&mut self, output: &mut O) -> Result<Given<O::Given>, Starved>
+    pub fn tick(&mut self) -> Result<TypedActions<A>, Starved>
         requires sound { IsSound (state_of self.old) }
-        ensures ok { IfOk result (λ g. (now : ℕ) → Turns (state_of self.old) (Tick now) (Some (all_given O.given g.first g.more_due)) (state_of self.new)) }
+        ensures ok { IfOk result (λ a. (now : ℕ) → Turns (state_of self.old) (Tick now) (Some (said_listed a.first a.more_due)) (state_of self.new)) }
         ensures err { OnErr result ((now : ℕ) → Turns (state_of self.old) (Tick now) None (state_of self.new)) }
-        ensures quiet { (now : ℕ) → IsQuiet (state_of self.old) (Tick now) → IsOk result }
+        ensures quiet { (now : ℕ) → IsQuiet (state_of self.old) (Tick now) → IsOkAnd result (λ a. a.first ≡ None) }
     {
         match self.first_due() {
             Some(number) => {
-                let first = Some(self.ring(output, number)?);
-                Ok(Given {
+                let first = Some(self.ring(number)?);
+                Ok(TypedActions {
                     first,
                     more_due: self.first_due().is_some(),
                 })
             }
-            None => Ok(Given {
+            None => Ok(TypedActions {
                 first: None,
                 more_due: false,
             }),

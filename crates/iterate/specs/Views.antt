@@ -1,13 +1,20 @@
--- The code's results and tasks, seen as the plain values of the rules.
+-- The code's inputs, results and tasks, seen as the plain values of the rules.
 use Rattle.rdata.specs.Types.{type_number}
 use Rattle.resolution.specs.Jobs as plain
 use Rattle.iterate.specs.Moves as moves
+use Rattle.iterate.specs.declared.calls.Input.{Input}
+use Rattle.iterate.specs.declared.calls.Input.TheVariants as input
 use Rattle.iterate.specs.declared.calls.Next.{Next}
 use Rattle.iterate.specs.declared.calls.Next.TheVariants as next
 use Rattle.iterate.specs.declared.task.Task.{Task}
 use Rattle.iterate.specs.declared.task.Task.TheVariants as task
 use Rattle.iterate.specs.declared.task.Move.{Move}
 use Rattle.iterate.specs.declared.task.Move.TheVariants as moves_of
+
+abbrev pub input_view : Input → plain.Input
+input_view input.Start = plain.Start
+input_view (input.TimedOut server) = plain.TimedOut server
+input_view (input.TcpFailed server) = plain.TcpFailed server
 
 abbrev pub next_view : {A : Type 0} → Next A → plain.Next
 next_view (next.AskUdp server n t) = plain.AskUdp server n (type_number t)

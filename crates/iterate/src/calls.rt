@@ -3,19 +3,16 @@
 
 use crate::chain::Chain;
 use causes::Cause;
-use classify::Reading;
 use dname::Name;
 use lookup::Taken;
 use rdata::{Addr, RType};
 use std::alloc::{Allocator, Global};
 
-/// An input for a query.
-#[derive(Drop)]
-pub enum Input<'r, A: Allocator = Global> {
+/// An input for a query, beside the messages that are accepted for its asks.
+#[derive(Clone, Copy)]
+pub enum Input {
     /// The query itself.
     Start,
-    /// A message that was accepted for its ask: the server, and what was read of the message.
-    Told(Addr, &'r Reading<A>),
     /// No reply of this server came in time.
     TimedOut(Addr),
     /// The ask of this server over TCP failed.

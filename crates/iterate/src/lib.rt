@@ -2,9 +2,9 @@
 //! replies.
 //!
 //! `begin_query` starts a query: a link that is found for its name and is no alias is the answer, without a job; else a
-//! `Job` is made, with ten seconds for it. `advance` takes an `Input` for a job: the query itself, what was read
-//! of the message that was accepted for its ask, a time-out, an ask over TCP that failed. Both answer with the `Next` thing that goes out: an
-//! ask of a server in a datagram or over TCP, the CNAME chain and its end, or the cause of a failure.
+//! `Job` is made, with ten seconds for it. `advance_by_reply` takes what was read of a message that was accepted for its
+//! ask, and `advance` another `Input`: a time-out, or an ask over TCP that failed. All three answer with the `Next` thing
+//! that goes out: an ask of a server in a datagram or over TCP, the CNAME chain and its end, or the cause of a failure.
 //!
 //! Promised: each call is one by the rules of `resolution` (`Advances`); where memory runs out the stores have nothing
 //! new but what was accepted, and have lost nothing but what one `keep` of that pushes out (`Stops`). At most 40 asks,
@@ -14,9 +14,9 @@
 //! ```text
 //! match begin_query(alloc, name, RType::A, home, stores, 0)? {
 //!     Started::Answered(last) => { /* the answer */ }
-//!     // Later: `advance` with Input::Told(server, &reading) or Input::TimedOut(server).
+//!     // Later: `advance_by_reply(.., server, &reading, ..)`, or `advance` with Input::TimedOut(server).
 //!     Started::Working(job, Next::AskUdp(server, name, kind)) => {}
-//!     // Later: Input::Told(server, &reading) or Input::TcpFailed(server).
+//!     // Later: the same, or Input::TcpFailed(server).
 //!     Started::Working(job, Next::AskTcp(server, name, kind)) => {}
 //!     Started::Working(_, Next::Done(chain, last)) => { /* the aliases, and the link that ends them */ }
 //!     Started::Working(_, Next::Fail(cause)) => { /* SERVFAIL */ }
@@ -38,7 +38,7 @@ mod search;
 mod serving;
 mod task;
 
-pub use advancing::advance;
+pub use advancing::{advance, advance_by_reply};
 pub use beginning::{Started, begin_query};
 pub use calls::{Input, Next};
 pub use chain::Chain;

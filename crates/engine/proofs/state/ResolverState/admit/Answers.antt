@@ -12,21 +12,21 @@ use Rattle.engine.proofs.state.ResolverState.admit.Goals as goal
 pub returns-then-not-is_ask-clause-ok : goal.returns-then-not-is_ask-clause-ok
 returns-then-not-is_ask-clause-ok g c =
     IfOk-weaker c.follow.result _ _
-    (λ a h. opens_at_once (state_of c.args.self.now) c.args.client_query (next_view c.args.next) c.args.job (alone g.O.Output.given a) (state_of c.follow.new.self) c.if-not-is_ask.ensures h)
+    (λ a h. opens_at_once (state_of c.args.self.now) c.args.client_query (next_view c.args.next) c.args.job (alone a) (state_of c.follow.new.self) c.if-not-is_ask.ensures h)
     c.follow.ensures.ok
 
 pub returns-then-len-lt-MAX_OPEN_QUERIES-clause-ok : goal.returns-then-len-lt-MAX_OPEN_QUERIES-clause-ok
 returns-then-len-lt-MAX_OPEN_QUERIES-clause-ok g c =
     let room : length c.args.self.now.queries < most_open = omega (arith, c.len.ensures, c.if-len-lt-MAX_OPEN_QUERIES.true) in
     IfOk-weaker c.let_in.result _ _
-    (λ a h. opens_new (state_of c.args.self.now) c.args.client_query (next_view c.args.next) c.args.job (alone g.O.Output.given a) (state_of c.let_in.new.self) c.if-not-is_ask.ensures room h)
+    (λ a h. opens_new (state_of c.args.self.now) c.args.client_query (next_view c.args.next) c.args.job (alone a) (state_of c.let_in.new.self) c.if-not-is_ask.ensures room h)
     c.let_in.ensures.ok
 
 pub returns-clause-ok : goal.returns-clause-ok
 returns-clause-ok g c =
     let full : most_open ≤ length c.args.self.now.queries = omega (arith, c.len.ensures, c.if-len-lt-MAX_OPEN_QUERIES.false) in
     IfOk-weaker c.fail.result _ _
-    (λ a h. opens_not (state_of c.args.self.now) c.args.client_query (next_view c.args.next) c.args.job (alone g.O.Output.given a) (state_of c.fail.new.self) c.if-not-is_ask.ensures full h)
+    (λ a h. opens_not (state_of c.args.self.now) c.args.client_query (next_view c.args.next) c.args.job (alone a) (state_of c.fail.new.self) c.if-not-is_ask.ensures full h)
     c.fail.ensures.ok
 
 pub returns-clause-err : goal.returns-clause-err

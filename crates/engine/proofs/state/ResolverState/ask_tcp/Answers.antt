@@ -1,6 +1,7 @@
 use Rattle.std.proofs.Common.{◌+◌, refl, ap}
 use Rattle.rdata.specs.Types.{type_number}
 use Rattle.runs.specs.States.{State, ByTcp, low_half}
+use Rattle.typed.specs.Views.{said_view}
 use Rattle.engine.specs.ResolverStates.{state_of}
 use Rattle.engine.proofs.Asks.{still_none, over_fresh, waits_by_tcp}
 use Rattle.engine.proofs.state.ResolverState.ask_tcp.Goals as goal
@@ -15,6 +16,6 @@ put-requires-clause-free g c =
 pub returns-clause-ok : goal.returns-clause-ok
 returns-clause-ok g c =
     let drew = c.word.ensures.state in
-    waits_by_tcp (state_of c.args.self.now) (state_of c.word.new.self) drew (state_of c.put.new.self) c.args.client_query c.args.number c.args.job _ _ (g.O.Output.given c.in_ok-action.action) c.in_ok-action.ensures.ok
+    waits_by_tcp (state_of c.args.self.now) (state_of c.word.new.self) drew (state_of c.put.new.self) c.args.client_query c.args.number c.args.job _ _ (said_view c.in_ok-action.action) c.in_ok-action.ensures.ok
     c.args.server c.args.name (type_number c.args.kind)
     record { server = refl; name = refl; kind = refl } (ap (λ (z : State). ByTcp z.tcp_asks) drew) (ap low_half c.word.ensures.is) (ap (λ (z : State). z.clock + 3000) drew)

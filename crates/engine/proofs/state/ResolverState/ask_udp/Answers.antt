@@ -4,6 +4,7 @@ use Rattle.rdata.specs.Types.{type_number}
 use Rattle.runs.specs.States.{State, low_half}
 use Rattle.runs.specs.Steps.{IsRaised}
 use Rattle.open_queries.specs.Lookups.{IsTakenId}
+use Rattle.typed.specs.Views.{said_view}
 use Rattle.engine.specs.ResolverStates.{state_of}
 use Rattle.engine.proofs.Asks.{still_none, waits_by_udp, halts}
 use Rattle.engine.proofs.state.ResolverState.ask_udp.Goals as goal
@@ -19,7 +20,7 @@ returns-clause-ok g c =
     let drew = c.word-word.ensures.state in
     let sockets : c.from.result ≡ c.args.self.now.sockets = c.from.ensures ∙ ap (λ (z : State). (z.site).sockets) drew in
     IfOk-weaker c.put.result _ _
-    (λ a h. waits_by_udp (state_of c.args.self.now) (state_of c.word-word.new.self) drew (state_of c.put.new.self) c.args.client_query c.args.number c.args.job _ _ (g.O.Output.given a) h
+    (λ a h. waits_by_udp (state_of c.args.self.now) (state_of c.word-word.new.self) drew (state_of c.put.new.self) c.args.client_query c.args.number c.args.job _ _ (said_view a) h
     c.args.server c.args.name (type_number c.args.kind) (c.word-word.result / 65536 % c.from.result)
     record { server = refl; name = refl; kind = refl } c.requires.fresh
     (λ i. c.word-word.ensures.is i / 65536 % sockets i) refl

@@ -7,6 +7,7 @@ use Rattle.front.specs.Chains.{AnswersLocally}
 use Rattle.front.specs.declared.queries.Query.{Query}
 use Rattle.runs.specs.States.{Plain, ClientQuery}
 use Rattle.events.specs.Plain.{plain_outcome}
+use Rattle.typed.specs.Views.{said_view}
 use Rattle.engine.proofs.state.ResolverState.at_hand.Goals as goal
 
 pub returns-clause-ok : goal.returns-clause-ok
@@ -20,7 +21,7 @@ returns-clause-ok g c =
           (ap (λ (w : ClientQuery). w.query) c.client_query.view_is)
           (subst (λ (zones : List Zone). AnswersLocally (λ n. looked zones n (type_number c.client_query.inside.query.kind)) c.client_query.inside.query.name (plain_outcome c.in_ok-outcome.outcome)) c.catalog.ensures
           (c.local_answer_is_plain.ensures (λ n. looked c.catalog.result.now n (type_number c.client_query.inside.query.kind)) c.client_query.inside.query.name c.in_ok-outcome.outcome c.in_ok-outcome.ensures));
-      action = g.O.Output.given a;
+      action = said_view a;
       reply = h;
       out_is = refl;
       state = refl;

@@ -26,7 +26,7 @@ returns-in-Answered-clause-ok g c =
     let s : State = state_of c.args.self.now in
     let known = rw c.in-Answered.is at c.in_ok-last.ensures.begins in
     IfOk-weaker c.answer.result _ _
-    (λ a h. begins_known s (record s { stores = c.begun.new.stores }) c.args.client_query c.new.result c.in-Answered.last known.0 c.begun.new.stores (alone g.O.Output.given a) (state_of c.answer.new.self) c.requires.sound refl c.new.ensures known.1 h)
+    (λ a h. begins_known s (record s { stores = c.begun.new.stores }) c.args.client_query c.new.result c.in-Answered.last known.0 c.begun.new.stores (alone a) (state_of c.answer.new.self) c.requires.sound refl c.new.ensures known.1 h)
     c.answer.ensures.ok
 
 pub returns-in-Answered-clause-err : goal.returns-in-Answered-clause-err
@@ -41,7 +41,7 @@ pub returns-in-Working-clause-ok : goal.returns-in-Working-clause-ok
 returns-in-Working-clause-ok g c =
     let s : State = state_of c.args.self.now in
     IfOk-weaker c.admit.result _ _
-    (λ a h. begins s (record s { stores = c.begun.new.stores }) c.args.client_query (next_view c.in-Working.next) c.in-Working.job c.begun.new.stores (alone g.O.Output.given a) (state_of c.admit.new.self) c.requires.sound refl
+    (λ a h. begins s (record s { stores = c.begun.new.stores }) c.args.client_query (next_view c.in-Working.next) c.in-Working.job c.begun.new.stores (alone a) (state_of c.admit.new.self) c.requires.sound refl
     (rw c.in-Working.is at c.in_ok-last.ensures.begins) h)
     c.admit.ensures.ok
 

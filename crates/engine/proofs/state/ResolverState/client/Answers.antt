@@ -22,7 +22,7 @@ pub returns-clause-ok : goal.returns-clause-ok
 returns-clause-ok g c =
     let s : State = state_of c.args.self.now in
     IfOk-weaker c.handle.result _ _
-    (λ a h now. turns_handled s now c.args.client c.args.way c.args.bytes.now (plain_asked c.in_ok-asked.asked) (if_any g.O.Output.given a) (state_of c.handle.new.self) c.in_ok-asked.ensures.asked h)
+    (λ a h now. turns_handled s now c.args.client c.args.way c.args.bytes.now (plain_asked c.in_ok-asked.asked) (if_any a) (state_of c.handle.new.self) c.in_ok-asked.ensures.asked h)
     c.handle.ensures.ok
 
 pub returns-clause-err : goal.returns-clause-err

@@ -17,7 +17,7 @@ returns-clause-ok g c =
     let s : State = state_of c.args.self.now in
     let mid : State = state_of c.fail.new.self in
     IfOk-weaker c.fail.result _ _
-    (λ a h. expires s c.args.number c.in-Some.open c.take_out.new.self c.into_work-client_query.result.0 (alone g.O.Output.given a) mid c.in-Some.ensures c.into_work-client_query.ensures.client_query h)
+    (λ a h. expires s c.args.number c.in-Some.open c.take_out.new.self c.into_work-client_query.result.0 (alone a) mid c.in-Some.ensures c.into_work-client_query.ensures.client_query h)
     c.fail.ensures.ok
 
 pub returns-clause-err : goal.returns-clause-err

@@ -2,6 +2,7 @@ use Rattle.std.proofs.Common.{sym, subst, []}
 use Rattle.front.specs.declared.queries.Request.{Request}
 use Rattle.events.specs.Plain.{plain, plain_asked}
 use Rattle.runs.specs.States.{State}
+use Rattle.typed.specs.Views.{said_view}
 use Rattle.engine.specs.ResolverStates.{state_of}
 use Rattle.engine.specs.Replies.{alone}
 use Rattle.engine.specs.Calls.{Handles}
@@ -16,8 +17,8 @@ returns-in-Drop-clause-ok g c =
 pub returns-in_ok-refusal-in-Refuse-clause-ok : goal.returns-in_ok-refusal-in-Refuse-clause-ok
 returns-in_ok-refusal-in-Refuse-clause-ok g c =
     let s : State = state_of c.args.self.now in
-    subst (λ (x : Request _). Handles s c.args.client c.args.way (plain_asked x) (alone g.O.Output.given c.in_ok-refusal-in-Refuse.field-0) s) (sym c.in-Refuse.is)
-    (handles_refused s c.args.client c.args.way c.in-Refuse.why c.in-Refuse.start c.in-Refuse.echo (g.O.Output.given c.in_ok-refusal-in-Refuse.field-0) c.in_ok-refusal-in-Refuse.ensures)
+    subst (λ (x : Request _). Handles s c.args.client c.args.way (plain_asked x) (alone c.in_ok-refusal-in-Refuse.field-0) s) (sym c.in-Refuse.is)
+    (handles_refused s c.args.client c.args.way c.in-Refuse.why c.in-Refuse.start c.in-Refuse.echo (said_view c.in_ok-refusal-in-Refuse.field-0) c.in_ok-refusal-in-Refuse.ensures)
 
 pub returns-in_err-refusal-in-Refuse-clause-err : goal.returns-in_err-refusal-in-Refuse-clause-err
 returns-in_err-refusal-in-Refuse-clause-err g c = at_err _ (lost_none (state_of c.args.self.now) c.requires.sound)
@@ -26,8 +27,8 @@ pub returns-in_ok-resolve-in-Query-clause-ok : goal.returns-in_ok-resolve-in-Que
 returns-in_ok-resolve-in-Query-clause-ok g c =
     let s : State = state_of c.args.self.now in
     let new : State = state_of c.resolve.new.self in
-    subst (λ (x : Request _). Handles s c.args.client c.args.way (plain_asked x) (alone g.O.Output.given c.in_ok-resolve-in-Query.field-0) new) (sym c.in-Query.is)
-    (handles_query s c.args.client c.args.way (plain c.in-Query.query) (alone g.O.Output.given c.in_ok-resolve-in-Query.field-0) new c.in_ok-resolve-in-Query.ensures.ok)
+    subst (λ (x : Request _). Handles s c.args.client c.args.way (plain_asked x) (alone c.in_ok-resolve-in-Query.field-0) new) (sym c.in-Query.is)
+    (handles_query s c.args.client c.args.way (plain c.in-Query.query) (alone c.in_ok-resolve-in-Query.field-0) new c.in_ok-resolve-in-Query.ensures.ok)
 
 pub returns-in_err-resolve-in-Query-clause-err : goal.returns-in_err-resolve-in-Query-clause-err
 returns-in_err-resolve-in-Query-clause-err g c = at_err _ c.in_err-resolve-in-Query.ensures.err

@@ -9,4 +9,4 @@ follow-requires g c = record { sound = c.requires.sound; fresh = next_is_fresh (
 
 pub returns-clause-ok : goal.returns-clause-ok
 returns-clause-ok g c =
-    raise (state_of c.args.self.now) c.args.client_query c.args.self.now.opened c.args.job c.args.self.now.stores (alone g.O.Output.given c.in_ok-action.action) (state_of c.follow.new.self) (next_view c.args.next) c.requires.asks c.in_ok-action.ensures.ok
+    raise (state_of c.args.self.now) c.args.client_query c.args.self.now.opened c.args.job c.args.self.now.stores (alone c.in_ok-action.action) (state_of c.follow.new.self) (next_view c.args.next) c.requires.asks c.in_ok-action.ensures.ok

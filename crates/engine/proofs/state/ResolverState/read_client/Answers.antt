@@ -12,7 +12,7 @@ returns-in_err-request-clause-err g c = λ now bytes.
 pub returns-clause-ok : goal.returns-clause-ok
 returns-clause-ok g c = λ now bytes reads.
     IfOk-weaker c.handle.result _ _
-    (λ a h. turns_handled (state_of c.args.self.now) now c.args.client c.args.way bytes (plain_asked c.in_ok-request.request) (if_any g.O.Output.given a) (state_of c.handle.new.self) (search rules) h)
+    (λ a h. turns_handled (state_of c.args.self.now) now c.args.client c.args.way bytes (plain_asked c.in_ok-request.request) (if_any a) (state_of c.handle.new.self) (search rules) h)
     c.handle.ensures.ok
 
 pub returns-clause-err : goal.returns-clause-err

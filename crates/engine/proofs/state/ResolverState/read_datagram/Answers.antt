@@ -25,7 +25,7 @@ returns-in-Some-clause-ok g c = λ now bytes from.
     let to = endpoint_view c.args.from in
     let id : (reading_view c.args.reading.now).id ≡ id_in bytes = sym (from.reads).id ∙ c.id_is_in_message.ensures bytes from.message from.is in
     IfOk-weaker c.hear.result _ _
-    (datagram_heard s now c.args.socket to bytes c.in-Some.number (subst (λ (n : ℕ). Reaches s c.args.socket to n c.in-Some.number) id c.in-Some.ensures) (state_of c.hear.new.self) g.O.Output.given)
+    (datagram_heard s now c.args.socket to bytes c.in-Some.number (subst (λ (n : ℕ). Reaches s c.args.socket to n c.in-Some.number) id c.in-Some.ensures) (state_of c.hear.new.self))
     (c.hear.ensures.ok (Datagram now c.args.socket to bytes) Udp from.message from.reads
     (datagram_carries s now c.args.socket _ c.in-Some.number to bytes from.message c.in-Some.ensures from.is))
 

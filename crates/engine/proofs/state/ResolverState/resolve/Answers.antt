@@ -6,11 +6,11 @@ use Rattle.engine.proofs.state.ResolverState.resolve.Goals as goal
 
 pub returns-in_ok-begin_query-clause-ok : goal.returns-in_ok-begin_query-clause-ok
 returns-in_ok-begin_query-clause-ok g c =
-    resolved (state_of c.args.self.now) c.args.client_query (alone g.O.Output.given c.in_ok-begin_query.field-0) (state_of c.begin_query.new.self) (sym c.is_recursive.ensures ∙ c.if-is_recursive.true) c.in_ok-begin_query.ensures.ok
+    resolved (state_of c.args.self.now) c.args.client_query (alone c.in_ok-begin_query.field-0) (state_of c.begin_query.new.self) (sym c.is_recursive.ensures ∙ c.if-is_recursive.true) c.in_ok-begin_query.ensures.ok
 
 pub returns-in_ok-at_hand-clause-ok : goal.returns-in_ok-at_hand-clause-ok
 returns-in_ok-at_hand-clause-ok g c =
-    answered (state_of c.args.self.now) c.args.client_query (alone g.O.Output.given c.in_ok-at_hand.field-0) (state_of c.at_hand.new.self) (sym c.is_recursive.ensures ∙ c.if-is_recursive.false) c.in_ok-at_hand.ensures.ok
+    answered (state_of c.args.self.now) c.args.client_query (alone c.in_ok-at_hand.field-0) (state_of c.at_hand.new.self) (sym c.is_recursive.ensures ∙ c.if-is_recursive.false) c.in_ok-at_hand.ensures.ok
 
 pub returns-in_err-at_hand-clause-err : goal.returns-in_err-at_hand-clause-err
 returns-in_err-at_hand-clause-err g c = at_err _ (lost_same (state_of c.args.self.now) (state_of c.at_hand.new.self) c.requires.sound c.in_err-at_hand.ensures.same)

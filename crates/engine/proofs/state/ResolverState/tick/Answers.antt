@@ -10,4 +10,4 @@ returns-in_err-ring-in-Some-clause-err g c =
 pub returns-in_ok-ring-in-Some-clause-ok : goal.returns-in_ok-ring-in-Some-clause-ok
 returns-in_ok-ring-in-Some-clause-ok g c = λ now.
     tick_rung (state_of c.args.self.now) now c.in-Some.number c.in-Some.ensures (state_of c.ring.new.self) _ _ c.in_ok-ring-in-Some.ensures.ok
-    (followed g.O.Output.given (state_of c.ring.new.self) _ c.first_due-in-Some.result c.is_some.result c.is_some.ensures c.first_due-in-Some.ensures)
+    (followed (state_of c.ring.new.self) _ c.first_due-in-Some.result c.is_some.result c.is_some.ensures c.first_due-in-Some.ensures)

@@ -1,0 +1,19 @@
+use Rattle.resolution.specs.Jobs.{Told, point}
+use Rattle.resolution.proofs.Falls.{enters_fresh}
+use Rattle.resolution.proofs.Keeping.{enters_stop}
+use Rattle.lookup.proofs.Uses.{uses_stop}
+use Rattle.iterate.specs.Views.{task_view}
+use Rattle.iterate.proofs.Accepted.{on_err}
+use Rattle.iterate.proofs.advancing.advance_by_reply.Goals as goal
+
+pub run-requires : goal.run-requires
+run-requires g c =
+    let (way, m, reads, sought) = c.requires in
+    enters_fresh c.args.now (Told way c.args.server m) c.args.job.now c.args.stores.now (point (task_view c.in_ok-first.first) c.enter_by_reply.new.job c.enter_by_reply.new.stores)
+    (c.in_ok-first.ensures.enters way m reads sought)
+
+pub returns-in_err-run-clause-stops : goal.returns-in_err-run-clause-stops
+returns-in_err-run-clause-stops g c = λ way m reads sought.
+    let told = Told way c.args.server m in
+    let entered = enters_stop c.args.now c.args.job.now c.args.stores.now told (point (task_view c.in_ok-first.first) c.enter_by_reply.new.job c.enter_by_reply.new.stores) (c.in_ok-first.ensures.enters way m reads sought) in
+    on_err c.from_residual-in_err-run.result (uses_stop told c.args.now c.args.job.now c.args.stores.now c.enter_by_reply.new.stores c.run.new.stores entered c.in_err-run.ensures.only)
