@@ -1,6 +1,6 @@
 -- An event that is for the open query of a number.
 use Rattle.std.proofs.Common.{◌≡◌, ℕ, inl, inr, List, sym, ◌∙◌, subst, ap, Some}
-use Rattle.resolution.specs.Rules.{Stops}
+use Rattle.resolution.specs.Stops.{Stops}
 use Rattle.iterate.specs.declared.calls.Input.{Input}
 use Rattle.iterate.specs.Views.{input_view}
 use Rattle.runs.specs.States.{Event, Action, Open, State}
@@ -26,7 +26,7 @@ is_lost s k event input new read h =
         queries = h.left.queries;
         stores = elim h.left.stores [
           | inl e ↦ inl e
-          | inr stops ↦ inr (input_view input, read.reads, subst (λ (q : Open). Stops (input_view input) s.clock q.job s.stores new.stores) same stops)
+          | inr stops ↦ inr (input_view input, read.reads, subst (λ (q : Open). Stops (s.site).home s.clock (input_view input) q.job s.stores new.stores) same stops)
         ];
         generator = h.left.generator;
         state = h.left.state;

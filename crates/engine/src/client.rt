@@ -1,7 +1,7 @@
 //! Requests of clients: they are dropped, refused, answered by local zones (without RD), or resolved.
 ghost use Rattle.std.specs.Prelude.{◌≡◌, ℕ, ◌<◌, ◌≤◌, Some, None, IfOk, IsOk, OnErr, length};
 ghost use Rattle.resolution.specs.Jobs.{Start as StartSpec};
-ghost use Rattle.resolution.specs.Rules.{Stops};
+ghost use Rattle.resolution.specs.Stops.{Stops};
 ghost use Rattle.iterate.specs.Beginnings.{StartsWith};
 ghost use Rattle.front.specs.declared.queries.Request.TheVariants as request;
 ghost use Rattle.runs.specs.States.{Client, Own, latest, recursive, job_for};
@@ -11,7 +11,7 @@ ghost use Rattle.events.specs.Plain.{plain_asked};
 ghost use Rattle.events.specs.Views.{action_view};
 ghost use Rattle.engine.specs.ResolverStates.{state_of, IsSound};
 ghost use Rattle.engine.specs.Replies.{alone, if_any};
-ghost use Rattle.engine.specs.Calls.{Handles, IsResolved, Begins, IsGone};
+ghost use Rattle.engine.specs.Calls.{Handles, IsResolved, Begins, DropsWork, IsGone};
 ghost use Rattle.engine.specs.Turns.{Turns};
 
 use crate::hashing::StoreHasher;
@@ -34,7 +34,7 @@ fn begun<A: Heap>(
 ) -> Result<Started<A>, Starved>
     requires { now ≤ latest }
     ensures begins { IfOk result (λ b. StartsWith home.now now (job_for now client_query.now.query) stores.old b stores.new) }
-    ensures stops { OnErr result (Stops StartSpec now (job_for now client_query.now.query) stores.old stores.new) }
+    ensures stops { OnErr result (Stops home.now now StartSpec (job_for now client_query.now.query) stores.old stores.new) }
 {
     begin_query(
         alloc,
@@ -94,7 +94,7 @@ impl<A: Heap> ResolverState<A> {
     ) -> Result<Option<Action<A>>, Starved>
         requires sound { IsSound (state_of self.old) }
         ensures ok { IfOk result (λ a. Handles (state_of self.old) client way (plain_asked asked) (if_any a) (state_of self.new)) }
-        ensures err { OnErr result (IsGone (state_of self.old) (state_of self.new)) }
+        ensures err { OnErr result (IsGone (state_of self.old) (plain_asked asked) (state_of self.new)) }
         ensures quiet { plain_asked asked ≡ request.Drop → IsOk result }
     {
         match asked {
@@ -110,7 +110,7 @@ impl<A: Heap> ResolverState<A> {
     fn resolve(&mut self, client_query: ClientQuery<A>) -> Result<Action<A>, Starved>
         requires sound { IsSound (state_of self.old) }
         ensures ok { IfOk result (λ a. IsResolved (state_of self.old) client_query (alone a) (state_of self.new)) }
-        ensures err { OnErr result (IsGone (state_of self.old) (state_of self.new)) }
+        ensures err { OnErr result (IsGone (state_of self.old) (request.Query client_query.query) (state_of self.new)) }
     {
         if is_recursive(&client_query) {
             Ok(self.begin_query(client_query)?)
@@ -133,7 +133,7 @@ impl<A: Heap> ResolverState<A> {
     fn begin_query(&mut self, client_query: ClientQuery<A>) -> Result<Action<A>, Starved>
         requires sound { IsSound (state_of self.old) }
         ensures ok { IfOk result (λ a. Begins (state_of self.old) client_query (alone a) (state_of self.new)) }
-        ensures err { OnErr result (IsGone (state_of self.old) (state_of self.new)) }
+        ensures err { OnErr result (DropsWork (state_of self.old) client_query.query (state_of self.new)) }
     {
         match begun(
             self.alloc,

@@ -2,7 +2,8 @@
 //! the message is used, or the search goes on.
 ghost use Rattle.std.specs.Prelude.{IfOk, OnErr};
 ghost use Rattle.resolution.specs.Jobs.{point};
-ghost use Rattle.resolution.specs.Rules.{Enters, Stops};
+ghost use Rattle.resolution.specs.Rules.{Enters};
+ghost use Rattle.resolution.specs.Stops.{EntersInPart};
 ghost use Rattle.iterate.specs.Views.{input_view, task_view};
 
 use crate::calls::Input;
@@ -22,7 +23,7 @@ pub(crate) fn enter<S: BuildHasher + Drop, A: Heap>(
     now: u64,
 ) -> Result<Task<A>, Starved>
     ensures enters { IfOk result (λ t. Enters now (input_view input.entry) job.old stores.old (point (task_view t) job.new stores.new)) }
-    ensures stops { OnErr result (Stops (input_view input.entry) now job.old stores.old stores.new) }
+    ensures part { OnErr result (EntersInPart now (input_view input.entry) job.old stores.old stores.new) }
 {
     match input {
         Input::Start => Ok(Task::Seek),

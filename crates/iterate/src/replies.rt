@@ -4,7 +4,8 @@ ghost use Rattle.zone.specs.Links.{Link as LinkSpec};
 ghost use Rattle.authority.specs.Answers.{link_view};
 ghost use Rattle.classify.specs.Classes.{class_of};
 ghost use Rattle.resolution.specs.Jobs.{Stores as StoresSpec, Search as SearchSpec, Told, Go, point, with_answer, with_failure, with_told, is_server_failure, received_link, IsCutOf, with_frame, level_of};
-ghost use Rattle.resolution.specs.Rules.{KeepsAnswer, IsAnswered, IsReferred, ByClass, Enters, Stops};
+ghost use Rattle.resolution.specs.Rules.{KeepsAnswer, IsAnswered, IsReferred, ByClass, Enters};
+ghost use Rattle.resolution.specs.Stops.{IsToldInPart, EntersInPart};
 ghost use Rattle.frames.specs.Frames.{opened};
 ghost use Rattle.lookup.specs.Views.{with_cut};
 ghost use Rattle.iterate.specs.Moves.{with_search};
@@ -177,7 +178,7 @@ fn use_reply_for<S: BuildHasher + Drop, A: Heap>(
     now: u64,
 ) -> Result<Task<A>, Starved>
     ensures by { IfOk result (λ t. ByClass now server search (job.old).searches (class_of search.frame.zone search.name search.kind via message.now) (with_search job.old search) stores.old (point (task_view t) job.new stores.new)) }
-    ensures stops { (before : StoresSpec) → stores.old ≡ with_told now search server message.now before → OnErr result (Stops (Told via server message.now) now (with_search job.old search) before stores.new) }
+    ensures part { (before : StoresSpec) → stores.old ≡ with_told now search server message.now before → OnErr result (IsToldInPart now search via server message.now before stores.new) }
 {
     let class = classify(
         alloc,
@@ -221,7 +222,7 @@ pub(crate) fn use_reply<S: BuildHasher + Drop, A: Heap>(
     now: u64,
 ) -> Result<Task<A>, Starved>
     ensures enters { (before : StoresSpec) → stores.old ≡ with_answer before server → IfOk result (λ t. Enters now (Told via server message.now) job.old before (point (task_view t) job.new stores.new)) }
-    ensures stops { (before : StoresSpec) → stores.old ≡ with_answer before server → OnErr result (Stops (Told via server message.now) now job.old before stores.new) }
+    ensures part { (before : StoresSpec) → stores.old ≡ with_answer before server → OnErr result (EntersInPart now (Told via server message.now) job.old before stores.new) }
 {
     match job.pop() {
         None => Ok(Task::Go),
