@@ -3,7 +3,7 @@ use Rattle.std.proofs.Common.{◌≡◌, ℕ, inl, inr, Bool, Option, Some, None
 use Rattle.std.specs.Prelude.{MatchOption, is_some}
 use Rattle.resolution.specs.Jobs.{Stores, Input}
 use Rattle.resolution.specs.Jobs as jobs
-use Rattle.resolution.specs.Rules.{Stops}
+use Rattle.resolution.specs.Stops.{Stops}
 use Rattle.runs.specs.States.{Endpoint, Event, Datagram, TcpReply, TcpFailed, Tick, Action as ActionSpec, Nobody, OpenQuery, Open, State}
 use Rattle.runs.specs.Messages.{id_in}
 use Rattle.runs.specs.Steps.{AreOthers, IsOfLine, IsOfNumber, IsFirstDue, IsFollowed, IsInput, IsLeft, IsUnfit}
@@ -76,8 +76,8 @@ module _ (s : State) (now sock : ℕ) (from : Endpoint) (bytes : List ℕ) where
         refl,
         (h.port, found_is (IsOfLine sock from bytes) s.queries k p.query h.found p.one),
         more_stores s k (p.query).number
-            (λ stores. (input : Input) × IsToldBy (s.site).port (p.query).ask at_socket input × Stops input s.clock (p.query).job s.stores stores)
-            (λ stores. (input : Input) × IsInput s at_socket p.query input × Stops input s.clock (p.query).job s.stores stores)
+            (λ stores. (input : Input) × IsToldBy (s.site).port (p.query).ask at_socket input × Stops (s.site).home s.clock input (p.query).job s.stores stores)
+            (λ stores. (input : Input) × IsInput s at_socket p.query input × Stops (s.site).home s.clock input (p.query).job s.stores stores)
             new (sym p.one.number_is) (λ it. it) p.left,
       );
     }
@@ -118,8 +118,8 @@ module _ (s : State) (now ask : ℕ) (bytes : List ℕ) where
         refl,
         of_number p.query p.one,
         more_stores s k (p.query).number
-            (λ stores. (input : Input) × IsToldBy (s.site).port (p.query).ask on_stream input × Stops input s.clock (p.query).job s.stores stores)
-            (λ stores. (input : Input) × IsInput s on_stream p.query input × Stops input s.clock (p.query).job s.stores stores)
+            (λ stores. (input : Input) × IsToldBy (s.site).port (p.query).ask on_stream input × Stops (s.site).home s.clock input (p.query).job s.stores stores)
+            (λ stores. (input : Input) × IsInput s on_stream p.query input × Stops (s.site).home s.clock input (p.query).job s.stores stores)
             new (sym p.one.number_is) (λ it. (it.0, inl it.1, it.2)) p.left,
       );
     }
@@ -157,8 +157,8 @@ module _ (s : State) (now ask : ℕ) (bytes : List ℕ) where
               refl,
               of_number p.query p.one,
               more_stores s k (p.query).number
-                  (Stops (jobs.TcpFailed ((p.query).ask).server) s.clock (p.query).job s.stores)
-                  (λ stores. (input : Input) × IsInput s on_stream p.query input × Stops input s.clock (p.query).job s.stores stores)
+                  (Stops (s.site).home s.clock (jobs.TcpFailed ((p.query).ask).server) (p.query).job s.stores)
+                  (λ stores. (input : Input) × IsInput s on_stream p.query input × Stops (s.site).home s.clock input (p.query).job s.stores stores)
                   new (sym p.one.number_is)
                   (λ stops. (jobs.TcpFailed ((p.query).ask).server, inr (of_number p.query p.one, unfit p.query p.one, refl), stops)) p.left,
             );
@@ -198,8 +198,8 @@ module _ (s : State) (now ask : ℕ) where
         refl,
         of_failed p.query p.one,
         more_stores s k (p.query).number
-            (Stops (jobs.TcpFailed ((p.query).ask).server) s.clock (p.query).job s.stores)
-            (λ stores. (input : Input) × IsInput s off_stream p.query input × Stops input s.clock (p.query).job s.stores stores)
+            (Stops (s.site).home s.clock (jobs.TcpFailed ((p.query).ask).server) (p.query).job s.stores)
+            (λ stores. (input : Input) × IsInput s off_stream p.query input × Stops (s.site).home s.clock input (p.query).job s.stores stores)
             new (sym p.one.number_is)
             (λ stops. (jobs.TcpFailed ((p.query).ask).server, (of_failed p.query p.one, refl), stops)) p.left,
       );
@@ -276,8 +276,8 @@ module _ (s : State) (now : ℕ) where
         refl,
         first_of_all p.query p.one,
         more_stores s k (p.query).number
-            (Stops (jobs.TimedOut ((p.query).ask).server) s.clock (p.query).job s.stores)
-            (λ stores. (input : Input) × IsInput s at_time p.query input × Stops input s.clock (p.query).job s.stores stores)
+            (Stops (s.site).home s.clock (jobs.TimedOut ((p.query).ask).server) (p.query).job s.stores)
+            (λ stores. (input : Input) × IsInput s at_time p.query input × Stops (s.site).home s.clock input (p.query).job s.stores stores)
             new (sym p.one.number_is)
             (λ stops. (jobs.TimedOut ((p.query).ask).server, (first_of_all p.query p.one, early p.query p.one, refl), stops)) p.left,
       );

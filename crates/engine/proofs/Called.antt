@@ -9,13 +9,14 @@ use Rattle.front.specs.declared.queries.Query.{Query}
 use Rattle.front.specs.declared.queries.Request.{Request}
 use Rattle.front.specs.declared.queries.Request.TheVariants as request
 use Rattle.resolution.specs.Jobs.{Stores, Taken, Job, Start, Next, Done}
-use Rattle.resolution.specs.Rules.{Advances, Stops}
+use Rattle.resolution.specs.Rules.{Advances}
+use Rattle.resolution.specs.Stops.{Stops}
 use Rattle.runs.specs.States.{Client, Action, Plain, ClientQuery, client_query, recursive, Served, Own, Open, job_for, State}
 use Rattle.runs.specs.Messages.{IsRefusal, outcome_of}
-use Rattle.runs.specs.Steps.{AreOthers, Ends, AnswersAtHand, IsOpened, at_once, crowded, admitted}
+use Rattle.runs.specs.Steps.{AreOthers, Ends, IsLeft, AnswersAtHand, IsOpened, at_once, crowded, admitted}
 use Rattle.engine.specs.ResolverStates.{IsSound}
 use Rattle.engine.specs.Moves.{Halts, Falls, Opens}
-use Rattle.engine.specs.Calls.{Handles, IsResolved, Begins, IsGone}
+use Rattle.engine.specs.Calls.{Handles, IsResolved, Begins, DropsWork, IsGone}
 use Rattle.engine.specs.Turns.{Turns}
 use Rattle.engine.proofs.Started.{next_is_fresh, opens_at_once}
 use Rattle.engine.proofs.Lift.{others_same, lift, ends_too, falls_after}
@@ -26,28 +27,39 @@ at_err (Err e) h = h
 
 -- ---- out of memory
 
-pub lost_none : (s : State) → IsSound s → IsGone s s
-lost_none s sound = record { queries = others_same s.queries s.opened (next_is_fresh s sound); stores = inl refl; generator = inl refl; state = refl }
+-- The stores stand as they did, or so, or else so.
+left_by : (s : State) (P Q : Stores → Type 0) (new : State) → ((stores : Stores) → P stores → Q stores) → IsLeft s s.opened P new → IsLeft s s.opened Q new
+left_by s P Q new weaker h = record { queries = h.queries; stores = elim h.stores [ inl e ↦ inl e | inr p ↦ inr (weaker new.stores p) ]; generator = h.generator; state = h.state }
 
-pub lost_same : (s new : State) → IsSound s → new ≡ s → IsGone s new
-lost_same s new sound same = subst (IsGone s) (sym same) (lost_none s sound)
+left_same : (s : State) (P : Stores → Type 0) → IsSound s → IsLeft s s.opened P s
+left_same s P sound = record { queries = others_same s.queries s.opened (next_is_fresh s sound); stores = inl refl; generator = inl refl; state = refl }
 
-falls_lost : (s : State) (job : Job) (new : State) → IsSound s → Falls s job Start new → IsGone s new
-falls_lost s job new sound h =
+pub lost_none : (s : State) (asked : Request Plain) → IsSound s → IsGone s asked s
+lost_none s asked sound = left_same s _ sound
+
+pub lost_same : (s new : State) (asked : Request Plain) → IsSound s → new ≡ s → IsGone s asked new
+lost_same s new asked sound same = subst (IsGone s asked) (sym same) (lost_none s asked sound)
+
+falls_lost : (s : State) (q : Query Plain) (new : State) → IsSound s → Falls s (job_for s.clock q) Start new → DropsWork s q new
+falls_lost s q new sound h =
     let qs : new.queries ≡ s.queries = ap (λ (z : State). z.queries) h.state in
     record {
       queries = subst (λ (x : List Open). AreOthers s.opened s.queries x) (sym qs) (others_same s.queries s.opened (next_is_fresh s sound));
-      stores = elim h.stores [ inl e ↦ inl e | inr stops ↦ inr (job, stops) ];
+      stores = h.stores;
       generator = h.generator;
       state = h.state ∙ ap (λ (x : List Open). record s { stores = new.stores; queries = x; generator = new.generator }) (sym qs);
     }
 
-pub lost_in : (s : State) (job : Job) (stores : Stores) → IsSound s → Stops Start s.clock job s.stores stores → IsGone s (record s { stores = stores })
-lost_in s job stores sound stops = falls_lost s job (record s { stores = stores }) sound (record { stores = inr stops; generator = inl refl; state = refl })
+pub lost_in : (s : State) (q : Query Plain) (stores : Stores) → IsSound s → Stops (s.site).home s.clock Start (job_for s.clock q) s.stores stores → DropsWork s q (record s { stores = stores })
+lost_in s q stores sound stops = falls_lost s q (record s { stores = stores }) sound (record { stores = inr stops; generator = inl refl; state = refl })
 
-pub lost_after : (s mid : State) (job : Job) (next : Next) (after : Job) (stores : Stores) (new : State) → IsSound s → mid ≡ record s { stores = stores }
-    → Advances (s.site).home s.clock Start job s.stores next after stores → Halts mid new → IsGone s new
-lost_after s mid job next after stores new sound e advances h = falls_lost s job new sound (falls_after s mid job Start next after stores new e advances h)
+pub lost_after : (s mid : State) (q : Query Plain) (next : Next) (after : Job) (stores : Stores) (new : State) → IsSound s → mid ≡ record s { stores = stores }
+    → Advances (s.site).home s.clock Start (job_for s.clock q) s.stores next after stores → Halts mid new → DropsWork s q new
+lost_after s mid q next after stores new sound e advances h = falls_lost s q new sound (falls_after s mid (job_for s.clock q) Start next after stores new e advances h)
+
+-- What the work on a recursive query left is what its request did.
+pub lost_work : (s : State) (q : Query Plain) (new : State) → recursive q ≡ true → DropsWork s q new → IsGone s (request.Query q) new
+lost_work s q new wants h = left_by s _ _ new (λ stores stops. (q, refl, wants, stops)) h
 
 -- ---- a query that begins: what was said of the state after its work is said of the one before
 
@@ -106,5 +118,12 @@ module _ (s : State) (now client : ℕ) (way : Via) (bytes : List ℕ) where
   pub turns_handled : (asked : Request Plain) (out : List Action) (new : State) → IsRequest bytes asked → Handles s client way asked out new → Turns s (Client now client way bytes) (Some out) new
   turns_handled asked out new reads h = record { served = h.served; turn = (asked, reads, h.is) }
 
-  pub turns_gone : (new : State) → IsGone s new → Turns s (Client now client way bytes) None new
-  turns_gone new h = record { served = Own; turn = (refl, h) }
+  pub turns_gone : (asked : Request Plain) (new : State) → IsRequest bytes asked → IsGone s asked new → Turns s (Client now client way bytes) None new
+  turns_gone asked new reads h = record {
+    served = Own;
+    turn = (refl, left_by s _ _ new (λ stores (q, is, wants, stops). (q, subst (IsRequest bytes) is reads, wants, stops)) h);
+  }
+
+  -- The bytes were not read.
+  pub turns_unread : IsSound s → Turns s (Client now client way bytes) None s
+  turns_unread sound = record { served = Own; turn = (refl, left_same s _ sound) }

@@ -7,7 +7,7 @@ use Rattle.rdata.specs.declared.addr.Addr.{Addr}
 use Rattle.causes.specs.declared.cause.Cause.TheVariants as cause
 use Rattle.front.specs.declared.queries.Outcome.TheVariants as outcome
 use Rattle.resolution.specs.Jobs.{Input}
-use Rattle.resolution.specs.Rules.{Stops}
+use Rattle.resolution.specs.Stops.{Stops}
 use Rattle.runs.specs.States.{Endpoint, Action, ClientQuery, Open, due_moment, AreApart, State}
 use Rattle.runs.specs.Steps.{Ends, Serves, IsLeft, IsOfNumber, IsFirstDue}
 use Rattle.open_queries.specs.Lookups.{IsOnLine, IsOnStream, Stands, IsFound, IsNoLater, IsEarliestQuery, IsTheOne, IsTaken}
@@ -51,7 +51,7 @@ pub untold : (s : State) (k : ℕ) (word : Addr → Input) (server : Addr) (new 
 untold s k word server new asked h = record {
   query = h.query;
   one = h.one;
-  left = subst (λ (x : Addr). IsLeft s k (Stops (word x) s.clock h.query.job s.stores) new) (asked h.query h.one) h.left;
+  left = subst (λ (x : Addr). IsLeft s k (Stops (s.site).home s.clock (word x) h.query.job s.stores) new) (asked h.query h.one) h.left;
 }
 
 pub expires : (s : State) (k : ℕ) (q : Open) (others : List Open) (who : ClientQuery) (out : List Action) (new : State) → IsTaken s.queries k q others → who ≡ q.client_query

@@ -10,7 +10,7 @@ use Rattle.wire.specs.declared.via.Via.{Via}
 use Rattle.wire.specs.declared.via.Via.TheVariants.{Udp, Tcp}
 use Rattle.classify.specs.Read.{Reading, only_question, IsReadingOf, AreRead}
 use Rattle.resolution.specs.Jobs.{Search, Told}
-use Rattle.resolution.specs.Rules.{Stops}
+use Rattle.resolution.specs.Stops.{Stops}
 use Rattle.runs.specs.States.{Endpoint, endpoint, Event, Datagram, TcpReply, Action, Ask, Open, via_of, State}
 use Rattle.runs.specs.Messages.{question_for, AnswersAsk, id_in}
 use Rattle.runs.specs.Steps.{IsOfLine, IsOfNumber}

@@ -3,7 +3,8 @@ use Rattle.std.proofs.Common.{◌≡◌, ℕ, ◌⊎◌, inl, inr, List, [], ◌
 use Rattle.rdata.specs.declared.addr.Addr.{Addr}
 use Rattle.front.specs.declared.queries.Outcome.{Outcome}
 use Rattle.resolution.specs.Jobs.{Stores, Job, Input, Next, AskUdp, AskTcp, Done, Fail}
-use Rattle.resolution.specs.Rules.{Advances, Stops}
+use Rattle.resolution.specs.Rules.{Advances}
+use Rattle.resolution.specs.Stops.{Stops}
 use Rattle.resolution.proofs.Keeping.{advances_stop}
 use Rattle.runs.specs.States.{Action, Plain, ClientQuery, Open, State, word_taken}
 use Rattle.runs.specs.Messages.{IsReply}
@@ -85,7 +86,7 @@ falls_after s mid job input next after stores new e advances h =
     let is : new ≡ record s { stores = stores; generator = new.generator } = h.state ∙ ap (λ (z : State). record z { generator = new.generator }) e in
     let st : new.stores ≡ stores = ap (λ (z : State). z.stores) is in
     record {
-      stores = inr (subst (Stops input s.clock job s.stores) (sym st) (advances_stop (s.site).home s.clock input job s.stores next after stores advances));
+      stores = inr (subst (Stops (s.site).home s.clock input job s.stores) (sym st) (advances_stop (s.site).home s.clock input job s.stores next after stores advances));
       generator = g;
       state = is ∙ ap (λ (x : Stores). record s { stores = x; generator = new.generator }) (sym st);
     }
@@ -94,7 +95,7 @@ falls_after s mid job input next after stores new e advances h =
 pub halts_same : (s new : State) → new ≡ s → Halts s new
 halts_same s new same = subst (Halts s) (sym same) (record { generator = inl refl; state = refl })
 
-pub falls_in : (s : State) (job : Job) (input : Input) (stores : Stores) → Stops input s.clock job s.stores stores → Falls s job input (record s { stores = stores })
+pub falls_in : (s : State) (job : Job) (input : Input) (stores : Stores) → Stops (s.site).home s.clock input job s.stores stores → Falls s job input (record s { stores = stores })
 falls_in s job input stores stops = record { stores = inr stops; generator = inl refl; state = refl }
 
 -- The open query of a number.

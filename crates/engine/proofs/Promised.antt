@@ -19,6 +19,7 @@ use Rattle.laws.proofs.KeptFailures.{failure_is_found, failure_is_looked}
 use Rattle.laws.specs.Determined.{IsOneOutcome}
 use Rattle.laws.proofs.NewSearches.{new_is_opened}
 use Rattle.laws.proofs.OneReading.{one_reading}
+use Rattle.laws.proofs.OwnWork.{order_is_kept}
 use Rattle.laws.proofs.OneStep.{one_step}
 use Rattle.laws.proofs.Room.{room_stays}
 use Rattle.laws.proofs.Words.{words_in_order}
@@ -63,6 +64,7 @@ module _ (site : Site) (past : List Turn) (old : State) (t : Turn) (new : State)
     accepted = accepted_is_heard site past old t new legal step;
     tcp = tcp_is_heard site past old t new legal step;
     others = others_stay site past old t new legal step;
+    starved = order_is_kept site past old t new legal step;
     order = due_in_order site past old t new legal step;
     more_due = (more_at_ticks site (t ∷ past) new (old, legal, step)).0;
     late = λ k. (nothing_is_late site (t ∷ past) new (old, legal, step) k).0;

@@ -8,7 +8,7 @@ use Rattle.front.specs.declared.queries.Request.{Request}
 use Rattle.front.specs.declared.queries.Request.TheVariants as request
 use Rattle.front.specs.declared.queries.Outcome.{Outcome}
 use Rattle.resolution.specs.Jobs.{Stores, Job, Start, Input, Next, AskUdp, AskTcp, Done, Fail}
-use Rattle.resolution.specs.Rules.{Stops}
+use Rattle.resolution.specs.Stops.{Stops}
 use Rattle.resolution.proofs.Keeping.{advances_stop}
 use Rattle.rand_chacha.specs.ChaCha.{ChaCha}
 use Rattle.runs.specs.States.{Endpoint, endpoint, Event, Client, Datagram, TcpReply, TcpFailed, Tick, Action, Reply, Send, TcpAsk, MoreDue, Served, Own, OpenQuery, Plain, ClientQuery, client_query, Path, ByUdp, ByTcp, Ask, Open, State, job_for, word_taken}
@@ -19,7 +19,8 @@ use Rattle.typed.specs.Actions.{asked}
 use Rattle.engine.specs.ResolverStates.{IsSound}
 use Rattle.engine.specs.Moves.{IsLike, IsAskUndone}
 use Rattle.engine.specs.Turns.{Turns}
-use Rattle.engine.proofs.Called.{lost_same}
+use Rattle.engine.specs.Calls.{IsGone}
+use Rattle.engine.proofs.Called.{lost_same, lost_work, turns_gone}
 
 -- ---- lists of one
 
@@ -94,33 +95,30 @@ module _ (s mid new : State) (x : Action) where
     opened_bare who next job stores served out (crowded is asks full h) first = ends_bare who s.opened _ stores out h first
     opened_bare who next job stores served out (admitted is asks room h) first = comes_bare who s.opened (s.opened + 1) next job stores out h first
 
-    abbrev IsLost : Type 0
-    IsLost = IsLeft s s.opened (λ stores. (j : Job) × Stops Start s.clock j s.stores stores) new
-
-    handled_lost : (client : ℕ) (way : Via) (request : Request Plain) (served : Served) (out rest : List Action) → IsHandled s client way request served out mid → out ≡ x ∷ rest → IsLost
-    handled_lost client way request.Drop served out rest h is = not_none x rest out h.1 is
-    handled_lost client way (request.Refuse refusal start echo) served out rest h is =
+    handled_gone : (client : ℕ) (way : Via) (request : Request Plain) (served : Served) (out rest : List Action) → IsHandled s client way request served out mid → out ≡ x ∷ rest → IsGone s request new
+    handled_gone client way request.Drop served out rest h is = not_none x rest out h.1 is
+    handled_gone client way (request.Refuse refusal start echo) served out rest h is =
         let (action, refuses, one) = h.1 in
-        lost_same s new sound (reply client way refuses.0 None (sym (first_of x rest out is action one) ∙ refuses.2) ∙ h.2)
-    handled_lost client way (request.Query q) served out rest (inl (rd, h)) is =
-        lost_same s new sound (reply client way h.reply.0 _ (sym (first_of x rest out is h.action h.out_is) ∙ h.reply.2) ∙ h.state)
-    handled_lost client way (request.Query q) served out rest (inr (rd, h)) is =
-        left s s.opened h.stores (λ stores. (j : Job) × Stops Start s.clock j s.stores stores) new
+        lost_same s new _ sound (reply client way refuses.0 None (sym (first_of x rest out is action one) ∙ refuses.2) ∙ h.2)
+    handled_gone client way (request.Query q) served out rest (inl (rd, h)) is =
+        lost_same s new _ sound (reply client way h.reply.0 _ (sym (first_of x rest out is h.action h.out_is) ∙ h.reply.2) ∙ h.state)
+    handled_gone client way (request.Query q) served out rest (inr (rd, h)) is =
+        lost_work s q new rd (left s s.opened h.stores (Stops (s.site).home s.clock Start (job_for s.clock q) s.stores) new
         (opened_bare (client_query client way q) h.next h.job h.stores served out h.opened (first_of x rest out is))
-        (job_for s.clock q, advances_stop (s.site).home s.clock Start (job_for s.clock q) s.stores h.next h.job h.stores h.advances)
+        (advances_stop (s.site).home s.clock Start (job_for s.clock q) s.stores h.next h.job h.stores h.advances))
 
     abbrev IsLostFor : Event → Open → Type 0
-    IsLostFor e q = IsLeft s q.number (λ stores. (input : Input) × IsInput s e q input × Stops input s.clock q.job s.stores stores) new
+    IsLostFor e q = IsLeft s q.number (λ stores. (input : Input) × IsInput s e q input × Stops (s.site).home s.clock input q.job s.stores stores) new
 
     served_lost : (e : Event) (served : Served) (out : List Action) → (h : ServesOpen s e served out mid) → IsFirst x out → IsLostFor e h.query
     served_lost e served out h first =
         let v = h.serves in
-        left s (h.query).number v.stores (λ stores. (input : Input) × IsInput s e h.query input × Stops input s.clock (h.query).job s.stores stores) new
+        left s (h.query).number v.stores (λ stores. (input : Input) × IsInput s e h.query input × Stops (s.site).home s.clock input (h.query).job s.stores stores) new
         (comes_bare (h.query).client_query (h.query).number s.opened v.next v.job v.stores out v.comes first)
         (h.input, h.brings, advances_stop (s.site).home s.clock h.input (h.query).job s.stores v.next v.job v.stores v.advances)
 
     turn_lost : IdIsInMessage → (e : Event) (served : Served) (out rest : List Action) → IsTurn s e served (Some out) mid → out ≡ x ∷ rest → Turns s e None new
-    turn_lost ids (Client now client way bytes) served out rest (request, reads, h) is = record { served = Own; turn = (refl, handled_lost client way request served out rest h is) }
+    turn_lost ids (Client now client way bytes) served out rest (request, reads, h) is = turns_gone s now client way bytes request new reads (handled_gone client way request served out rest h is)
     turn_lost ids (Datagram now sock from bytes) served out rest (inl h) is = not_none x rest out h.out_is is
     turn_lost ids (Datagram now sock from bytes) served out rest (inr h) is =
         let (m, (path, to, message, answers), told) = h.brings in

@@ -1,10 +1,12 @@
 -- Treatment of a new query.
 use Rattle.std.specs.Prelude.{◌≡◌, ℕ, true, false, ◌⊎◌, List}
 use Rattle.wire.specs.declared.via.Via.{Via}
+use Rattle.front.specs.declared.queries.Query.{Query}
 use Rattle.front.specs.declared.queries.Request.{Request}
-use Rattle.resolution.specs.Jobs.{Job, Stores, Start}
-use Rattle.resolution.specs.Rules.{Stops}
-use Rattle.runs.specs.States.{Action, Plain, ClientQuery, Served, recursive, State}
+use Rattle.front.specs.declared.queries.Request.TheVariants as request
+use Rattle.resolution.specs.Jobs.{Stores, Start}
+use Rattle.resolution.specs.Stops.{Stops}
+use Rattle.runs.specs.States.{Action, Plain, ClientQuery, Served, recursive, job_for, State}
 use Rattle.runs.specs.Steps.{AnswersAtHand, Resolves, IsHandled, IsLeft}
 
 -- A client's request is dropped, refused, or answered.
@@ -22,6 +24,10 @@ pub record Begins (s : State) (who : ClientQuery) (out : List Action) (new : Sta
   pub served : Served
   pub resolves : Resolves s who served out new
 
--- Memory ran out: the query is dropped.
-abbrev pub IsGone : State → State → Type 0
-IsGone s new = IsLeft s s.opened (λ (stores : Stores). (j : Job) × Stops Start s.clock j s.stores stores) new
+-- Memory ran out: the query is dropped. The stores stand as they did, or as its own work left them.
+abbrev pub DropsWork : State → Query Plain → State → Type 0
+DropsWork s q new = IsLeft s s.opened (λ (stores : Stores). Stops (s.site).home s.clock Start (job_for s.clock q) s.stores stores) new
+
+abbrev pub IsGone : State → Request Plain → State → Type 0
+IsGone s asked new =
+    IsLeft s s.opened (λ (stores : Stores). (q : Query Plain) × (asked ≡ request.Query q) × (recursive q ≡ true) × Stops (s.site).home s.clock Start (job_for s.clock q) s.stores stores) new

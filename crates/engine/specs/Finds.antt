@@ -4,7 +4,7 @@ use Rattle.rdata.specs.declared.addr.Addr.{Addr}
 use Rattle.causes.specs.declared.cause.Cause.TheVariants as cause
 use Rattle.front.specs.declared.queries.Outcome.TheVariants as outcome
 use Rattle.resolution.specs.Jobs.{Input, TimedOut}
-use Rattle.resolution.specs.Rules.{Stops}
+use Rattle.resolution.specs.Stops.{Stops}
 use Rattle.runs.specs.States.{Endpoint, Action, Open, due_moment, State}
 use Rattle.runs.specs.Steps.{Ends, Serves, IsLeft}
 use Rattle.open_queries.specs.Lookups.{IsOnLine, IsTheOne}
@@ -40,7 +40,7 @@ pub record Tells (s : State) (k : ℕ) (word : Addr → Input) (out : List Actio
 pub record Untold (s : State) (k : ℕ) (word : Addr → Input) (new : State) : Type 0 where
   pub query : Open
   pub one : IsTheOne s.queries k query
-  pub left : IsLeft s k (Stops (word (query.ask).server) s.clock query.job s.stores) new
+  pub left : IsLeft s k (Stops (s.site).home s.clock (word (query.ask).server) query.job s.stores) new
 
 -- The time of the open query of a number is up, or it is not.
 abbrev pub IsLateOne : State → ℕ → Type 0

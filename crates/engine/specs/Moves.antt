@@ -4,7 +4,8 @@ use Rattle.wire.specs.declared.via.Via.{Via}
 use Rattle.classify.specs.Read.{Reading, AreRead}
 use Rattle.message_grammar.specs.Messages.{Message, encoding}
 use Rattle.resolution.specs.Jobs.{Stores, Job, Input as InputSpec, Told, Next}
-use Rattle.resolution.specs.Rules.{Advances, Stops}
+use Rattle.resolution.specs.Rules.{Advances}
+use Rattle.resolution.specs.Stops.{Stops}
 use Rattle.runs.specs.States.{Event, Action as ActionSpec, ClientQuery, Ask, ByUdp, via_of, Open, State, Served, word_taken}
 use Rattle.runs.specs.Messages.{id_in, asking_message, IsSent, AnswersAsk, Brings}
 use Rattle.runs.specs.Steps.{AreWith, Comes, Serves, IsLeft, IsUnfit, IsOpened}
@@ -34,7 +35,7 @@ pub record Goes (s : State) (who : ClientQuery) (k : ℕ) (job : Job) (input : I
 
 -- Memory ran out in the work, or after it.
 pub record Falls (s : State) (job : Job) (input : InputSpec) (new : State) : Type 0 where
-  pub stores : (new.stores ≡ s.stores) ⊎ Stops input s.clock job s.stores new.stores
+  pub stores : (new.stores ≡ s.stores) ⊎ Stops (s.site).home s.clock input job s.stores new.stores
   pub generator : (new.generator ≡ s.generator) ⊎ (new.generator ≡ word_taken s.generator)
   pub state : new ≡ record s { stores = new.stores; generator = new.generator }
 
@@ -47,7 +48,7 @@ pub record ServesOne (s : State) (k : ℕ) (input : InputSpec) (out : List Actio
 pub record DropsOne (s : State) (k : ℕ) (input : InputSpec) (new : State) : Type 0 where
   pub query : Open
   pub one : IsTheOne s.queries k query
-  pub left : IsLeft s k (Stops input s.clock query.job s.stores) new
+  pub left : IsLeft s k (Stops (s.site).home s.clock input query.job s.stores) new
 
 -- The message that an event brings for an ask and that is accepted, as an input.
 abbrev pub IsToldBy : ℕ → Ask → Event → InputSpec → Type 0
@@ -96,7 +97,7 @@ IsHeard s k event (Some a) new = IsServed s k event (alone a) new
 pub record IsLost (s : State) (k : ℕ) (event : Event) (new : State) : Type 0 where
   pub query : Open
   pub one : IsTheOne s.queries k query
-  pub left : IsLeft s k (λ stores. (input : InputSpec) × IsToldBy (s.site).port query.ask event input × Stops input s.clock query.job s.stores stores) new
+  pub left : IsLeft s k (λ stores. (input : InputSpec) × IsToldBy (s.site).port query.ask event input × Stops (s.site).home s.clock input query.job s.stores stores) new
 
 -- A new query is opened or over, by the result of its work.
 pub record Opens (s : State) (who : ClientQuery) (next : Next) (job : Job) (out : List ActionSpec) (new : State) : Type 0 where

@@ -1,27 +1,22 @@
 -- The promises of a step of the resolver: the laws of every run, for its newest step.
-use Rattle.std.specs.Prelude.{◌≡◌, ℕ, ◌≤◌, Option, Some, List, ◌∷◌, Contains}
-use Rattle.limits.specs.Limits.{max_asks, max_look_ups}
-use Rattle.dname.specs.Labels.{Name}
-use Rattle.rdata.specs.declared.addr.Addr.{Addr}
-use Rattle.message_grammar.specs.Messages.{Message}
-use Rattle.world_truth.specs.Worlds.{World, IsWorld}
-use Rattle.runs.specs.States.{Event, Action, Served, OpenQuery, Turn, Open, Site, State}
-use Rattle.runs.specs.Messages.{Brings}
-use Rattle.runs.specs.Steps.{IsOfNumber, Step}
-use Rattle.runs.specs.Runs.{Run, clock_of, asks_of}
-use Rattle.runs.specs.Laws.{IsForTcp}
-use Rattle.laws.specs.Headline.{IsHomeIn, IsHonest, RepliesAreRight}
-use Rattle.laws.specs.Truthful.{HoldsTruth}
+use Rattle.std.specs.Prelude.{ℕ, Option, List, ◌∷◌}
+use Rattle.runs.specs.States.{Event, Action, Served, Turn, Site, State}
+use Rattle.runs.specs.Steps.{Step}
+use Rattle.runs.specs.Runs.{Run}
+use Rattle.runs.specs.Laws.{IsAtClockOf, HearsAccepted, HearsTcp}
+use Rattle.laws.specs.Headline.{IsRightInWorlds}
+use Rattle.laws.specs.Truthful.{IsTrueInWorlds}
 use Rattle.laws.specs.Replies.{RepliesAre}
 use Rattle.laws.specs.Caused.{IsExplained}
 use Rattle.laws.specs.Failures.{IsSpentFor}
-use Rattle.laws.specs.Spent.{HasFailed, SendsTo, Twice}
-use Rattle.laws.specs.Laws.{GivesOneAction, ComesOnce, RepliesOnce, IsNotOver, AreOpenByRun, HaveOwnLines, LeavesOthers, ServesInOrder, TellsAtTicks}
-use Rattle.laws.specs.LookUps.{look_ups_of, HadAllLookUps, IsShort}
+use Rattle.laws.specs.Spent.{AsksFailedTwice}
+use Rattle.laws.specs.Laws.{GivesOneAction, ComesOnce, RepliesOnce, IsNotOver, HasFewAsks, AreOpenByRun, HaveOwnLines, LeavesOthers, ServesInOrder, TellsAtTicks}
+use Rattle.laws.specs.LookUps.{HasFewLookUps, HadAllLookUps, IsShort}
 use Rattle.laws.specs.Words.{DrawsInOrder}
 use Rattle.laws.specs.FirstStates.{HasFirstRoom}
 use Rattle.laws.specs.Meant.{IsServedRightly, EndsAtHand, AsksNoFailing, AreOfRun}
-use Rattle.laws.specs.Determined.{IsOneOutcome, IsOneReading}
+use Rattle.laws.specs.OwnWork.{MovesByOwnWork}
+use Rattle.laws.specs.Determined.{HasOneOutcome, IsOneReading}
 use Rattle.laws.specs.Times.{IsInTime}
 use Rattle.laws.specs.Searches.{AreOfSearches}
 use Rattle.laws.specs.Steps.{AsksOn, AsksAgain, AsksReferred, RepliesAnswer, KeepsAlias}
@@ -36,20 +31,20 @@ use Rattle.laws.specs.KeptFailures.{CachesAccepted, FindsFailures}
 -- the crate of that law.
 pub record Keeps (site : Site) (past : List Turn) (old : State) (turn : Turn) (new : State) (legal : Run site past old) (step : Step old turn.event turn.served turn.out new) : Type 0 where
   -- Where servers were honest, replies are right (Headline) and the resolver's data are true (HeldIsTrue).
-  pub right : (W : World) → IsWorld W → IsHomeIn W site.home → IsHonest W site.port (turn ∷ past) → RepliesAreRight W turn past
-  pub truth : (W : World) → IsWorld W → IsHomeIn W site.home → IsHonest W site.port (turn ∷ past) → HoldsTruth W site.port (turn ∷ past) new
+  pub right : IsRightInWorlds site turn past
+  pub truth : IsTrueInWorlds site (turn ∷ past) new
   -- Replies are in time, and each failure has its cause (RepliesAreTimely, EveryFailureIsSpent, FailedIsAskedTwice).
   pub timely : RepliesAre site.home (IsExplained site.port site.home) turn past
   pub spent : RepliesAre site.home (IsSpentFor site.port site.home) turn past
-  pub twice : (k : ℕ) (z n : Name) (t : ℕ) (a : Addr) → HasFailed site.port site.home (turn ∷ past) k z n t a → Twice (SendsTo site.port k a n t) (turn ∷ past)
+  pub twice : AsksFailedTwice site.port site.home (turn ∷ past)
   -- One action (OneAction); one coming, one reply, 40 asks (OneComing, OneReply, NeverAgain, FewAsks).
   pub action : GivesOneAction turn past
   pub coming : (k : ℕ) → ComesOnce k turn past
   pub reply : (k : ℕ) → RepliesOnce k turn past
   pub never_again : (k : ℕ) → IsNotOver k turn past
-  pub asks : (k : ℕ) → asks_of k (turn ∷ past) ≤ max_asks
+  pub asks : HasFewAsks (turn ∷ past)
   -- 64 turns of servers' names, and short steps (FewLookUps, LookUpsAreSpent, StepsAreShort).
-  pub look_ups : (k : ℕ) → look_ups_of k site (turn ∷ past) new (old, legal, step) ≤ max_look_ups
+  pub look_ups : HasFewLookUps site (turn ∷ past) new (old, legal, step)
   pub looked_out : HadAllLookUps site past old turn new legal step
   pub short : IsShort old turn new step
   -- One open ask a query, like no other (OpenByRun, OneLine); by words of the seed, in stores of the first size
@@ -60,18 +55,20 @@ pub record Keeps (site : Site) (past : List Turn) (old : State) (turn : Turn) (n
   pub room : HasFirstRoom site (turn ∷ past) new (old, legal, step)
   -- The clock is the run's (ClockOfRun). Whom a step serves, what is over at once, whom it asks, and the fields of open
   -- queries (ServedIsMeant, AtHandIsReplied, NobodyFailingIsAsked, OpenIsOfRun).
-  pub clock : (new.clock ≡ clock_of (turn ∷ past)) × (new.site ≡ site)
+  pub clock : IsAtClockOf site (turn ∷ past) new
   pub served : IsServedRightly site past old turn
   pub at_hand : EndsAtHand turn
   pub free : AsksNoFailing old turn new
   pub shown : AreOfRun site (turn ∷ past) new (old, legal, step)
   -- One outcome, where memory does not run out, and one reading of it (OneStep, OneReading).
-  pub one : (out : List Action) → turn.out ≡ Some out → IsOneOutcome old turn.event turn.served out new
+  pub one : HasOneOutcome old turn new
   pub reading : IsOneReading old turn new step
   -- What is accepted is used, and no other query is changed (AcceptedIsHeard, TcpIsHeard, OthersStay).
-  pub accepted : (q : Open) (m : Message) → Contains old.queries q → Brings site.port q.ask turn.event m → turn.served ≡ OpenQuery q.number
-  pub tcp : (q : Open) (number : ℕ) → Contains old.queries q → IsOfNumber number q → IsForTcp number turn.event → turn.served ≡ OpenQuery q.number
+  pub accepted : HearsAccepted site old turn
+  pub tcp : HearsTcp old turn
   pub others : LeavesOthers old turn new
+  -- Where memory ran out, the stores are as the query's own work left them (OrderIsKept).
+  pub starved : MovesByOwnWork site old turn new
   -- Due queries in order, and nothing late (DueInOrder, MoreDueAtTicks, NothingIsLate).
   pub order : ServesInOrder old turn new
   pub more_due : TellsAtTicks turn past

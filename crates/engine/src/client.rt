@@ -2,7 +2,7 @@
 ghost use Rattle.std.specs.Result.{IsOkAnd};
 ghost use Rattle.std.specs.Prelude.{◌≡◌, ℕ, ◌<◌, ◌≤◌, Some, None, List, IfOk, OnErr, length};
 ghost use Rattle.resolution.specs.Jobs.{Start as StartSpec};
-ghost use Rattle.resolution.specs.Rules.{Stops};
+ghost use Rattle.resolution.specs.Stops.{Stops};
 ghost use Rattle.iterate.specs.Beginnings.{StartsWith};
 ghost use Rattle.front.specs.declared.queries.Request.TheVariants as request;
 ghost use Rattle.runs.specs.States.{Client, Own, latest, recursive, job_for};
@@ -11,7 +11,7 @@ ghost use Rattle.events.specs.Plain.{plain_asked};
 ghost use Rattle.front.specs.Queries.{IsRequest};
 ghost use Rattle.engine.specs.ResolverStates.{state_of, IsSound};
 ghost use Rattle.engine.specs.Replies.{alone, if_any};
-ghost use Rattle.engine.specs.Calls.{Handles, IsResolved, Begins, IsGone};
+ghost use Rattle.engine.specs.Calls.{Handles, IsResolved, Begins, DropsWork, IsGone};
 ghost use Rattle.engine.specs.Turns.{Turns};
 
 use crate::hashing::StoreHasher;
@@ -35,7 +35,7 @@ fn begun<A: Heap>(
 ) -> Result<Started<A>, Starved>
     requires { now ≤ latest }
     ensures begins { IfOk result (λ b. StartsWith home.now now (job_for now client_query.now.query) stores.old b stores.new) }
-    ensures stops { OnErr result (Stops StartSpec now (job_for now client_query.now.query) stores.old stores.new) }
+    ensures stops { OnErr result (Stops home.now now StartSpec (job_for now client_query.now.query) stores.old stores.new) }
 {
     begin_query(
         alloc,
@@ -88,7 +88,7 @@ impl<A: Heap> ResolverState<A> {
     ) -> Result<Option<TypedAction<A>>, Starved>
         requires sound { IsSound (state_of self.old) }
         ensures ok { (now : ℕ) (bytes : List ℕ) → IsRequest bytes (plain_asked request.now) → IfOk result (λ a. Turns (state_of self.old) (Client now client way bytes) (Some (if_any a)) (state_of self.new)) }
-        ensures err { (now : ℕ) (bytes : List ℕ) → OnErr result (Turns (state_of self.old) (Client now client way bytes) None (state_of self.new)) }
+        ensures err { (now : ℕ) (bytes : List ℕ) → IsRequest bytes (plain_asked request.now) → OnErr result (Turns (state_of self.old) (Client now client way bytes) None (state_of self.new)) }
     {
         let request = copied(request)?;
         self.handle(client, way, request)
@@ -103,7 +103,7 @@ impl<A: Heap> ResolverState<A> {
     ) -> Result<Option<TypedAction<A>>, Starved>
         requires sound { IsSound (state_of self.old) }
         ensures ok { IfOk result (λ a. Handles (state_of self.old) client way (plain_asked asked) (if_any a) (state_of self.new)) }
-        ensures err { OnErr result (IsGone (state_of self.old) (state_of self.new)) }
+        ensures err { OnErr result (IsGone (state_of self.old) (plain_asked asked) (state_of self.new)) }
         ensures quiet { plain_asked asked ≡ request.Drop → IsOkAnd result (λ o. o ≡ None) }
     {
         match asked {
@@ -122,7 +122,7 @@ impl<A: Heap> ResolverState<A> {
     ) -> Result<TypedAction<A>, Starved>
         requires sound { IsSound (state_of self.old) }
         ensures ok { IfOk result (λ a. IsResolved (state_of self.old) client_query (alone a) (state_of self.new)) }
-        ensures err { OnErr result (IsGone (state_of self.old) (state_of self.new)) }
+        ensures err { OnErr result (IsGone (state_of self.old) (request.Query client_query.query) (state_of self.new)) }
     {
         if is_recursive(&client_query) {
             Ok(self.begin_query(client_query)?)
@@ -147,7 +147,7 @@ impl<A: Heap> ResolverState<A> {
     ) -> Result<TypedAction<A>, Starved>
         requires sound { IsSound (state_of self.old) }
         ensures ok { IfOk result (λ a. Begins (state_of self.old) client_query (alone a) (state_of self.new)) }
-        ensures err { OnErr result (IsGone (state_of self.old) (state_of self.new)) }
+        ensures err { OnErr result (DropsWork (state_of self.old) client_query.query (state_of self.new)) }
     {
         match begun(
             self.alloc,

@@ -1,5 +1,6 @@
 pub mod Accepted
 pub mod Alive
+pub mod Parts
 pub mod Passed
 pub mod Sought
 pub mod QueryStarts

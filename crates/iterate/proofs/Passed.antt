@@ -5,29 +5,25 @@ use Rattle.cache.specs.Failures.{same_failed}
 use Rattle.resolution.specs.Jobs.{Home, Stores, Search, given, ask_of, left_of, Job, Go, point}
 use Rattle.resolution.specs.Rules.{PassesOver, Rule, skips}
 use Rattle.resolution.proofs.Passing.{left_first}
-use Rattle.lookup.specs.Uses.{OnlyUses}
-use Rattle.lookup.proofs.Uses.{uses_refl, uses_then}
-use Rattle.iterate.specs.Moves.{with_search, skipping, IsNextFailed, has_some, ArePassed}
+use Rattle.iterate.specs.Moves.{with_search, skipping, IsNextFailed, has_some, ArePassed, ArePassedInPart}
 
 pub record Passing (now : ℕ) (before : Search) (old : Stores) (here : Search) (stores : Stores) (some : Bool) : Type 0 where
   pub count : ℕ
   pub passes : PassesOver now count before old.failures here stores.failures
   pub stores_is : stores ≡ record old { failures = stores.failures }
   pub is_some : some ≡ has_some count
-  pub uses : OnlyUses old stores
 
 pub passing_first : (now : ℕ) (s : Search) (stores : Stores) → Passing now s stores s stores false
-passing_first now s stores = record { count = zero; passes = (refl, refl); stores_is = refl; is_some = refl; uses = uses_refl stores }
+passing_first now s stores = record { count = zero; passes = (refl, refl); stores_is = refl; is_some = refl }
 
 -- One more is passed over.
 pub passing_on : (now : ℕ) (before : Search) (old : Stores) (here : Search) (stores : Stores) (some : Bool) (next : Search) (new : Stores) → Passing now before old here stores some
-    → IsNextFailed now here stores new true → OnlyUses stores new → next ≡ given here → Passing now before old next new true
-passing_on now before old here stores some next new h (server, due, fails, is) uses one = record {
+    → IsNextFailed now here stores new true → next ≡ given here → Passing now before old next new true
+passing_on now before old here stores some next new h (server, due, fails, is) one = record {
   count = suc h.count;
   passes = (here, stores.failures, server, h.passes, due, fails, one, ap (λ (s : Stores). s.failures) is);
   stores_is = is ∙ ((λ i. record (h.stores_is i) { failures = used same_failed (ask_of here server) stores.failures }) ∙ ap (λ fs. record old { failures = fs }) (sym (ap (λ (s : Stores). s.failures) is)));
   is_some = refl;
-  uses = uses_then old stores new h.uses uses;
 }
 
 pub passing_falls : (now : ℕ) (here next : Search) (stores new : Stores) → IsNextFailed now here stores new true → next ≡ given here
@@ -42,7 +38,15 @@ pub passing_ends : (now : ℕ) (before : Search) (old : Stores) (here : Search) 
 passing_ends now before old here stores new some h (free, same) =
     subst (λ (s : Stores). ArePassed now before old here s some) (sym same) (record { count = h.count; passes = h.passes; free = free; stores = h.stores_is; is_some = h.is_some })
 
+-- Where memory ran out, so many were passed over by then.
+pub passing_stops : (now : ℕ) (before : Search) (old : Stores) (here : Search) (stores new : Stores) (some : Bool) → Passing now before old here stores some → new ≡ stores → ArePassedInPart now before old new
+passing_stops now before old here stores new some h same =
+    subst (ArePassedInPart now before old) (sym same) (record { count = h.count; after = here; passes = h.passes; stores = h.stores_is })
+
 -- ---- what comes of it
+
+pub passed_so_far : (now : ℕ) (before : Search) (old : Stores) (after : Search) (new : Stores) (some : Bool) → ArePassed now before old after new some → ArePassedInPart now before old new
+passed_so_far now before old after new some h = record { count = h.count; after = after; passes = h.passes; stores = h.stores }
 
 -- Where none was passed over, nothing changed.
 pub none_passed : (now : ℕ) (before : Search) (old : Stores) (after : Search) (new : Stores) → ArePassed now before old after new false → (after ≡ before) × (new ≡ old)

@@ -1,13 +1,13 @@
 -- A query that comes, by what was found for its name first.
 use Rattle.std.proofs.Common.{◌≡◌, ℕ, zero, suc, List, [], ◌∷◌, ◌++◌, refl, sym, subst}
 use Rattle.resolution.specs.Jobs.{Home, Stores, Taken, AreFresh, IsEnding, Job, Start, Next, Done, Seek, Take, Point, point}
-use Rattle.resolution.specs.Rules.{Finds, Rule, takes, Rules, Leaves, done, Advances, Stops}
+use Rattle.resolution.specs.Rules.{Finds, Rule, takes, Rules, Leaves, done, Advances}
+use Rattle.resolution.specs.Stops.{LooksInPart, IsPart, Stops, in_rule}
 use Rattle.resolution.proofs.Falls.{stays_fresh}
-use Rattle.resolution.proofs.Keeping.{enters_stop}
 use Rattle.lookup.specs.Found.{IsFound}
 use Rattle.lookup.specs.declared.lookup.Found.{Found}
-use Rattle.lookup.specs.Uses.{OnlyUses}
-use Rattle.lookup.proofs.Uses.{uses_stop}
+use Rattle.lookup.proofs.Uses.{found_part}
+use Rattle.iterate.proofs.Parts.{seek_part}
 
 -- A rule, and further ones after it.
 rules_after : (home : Home) (now n : ℕ) (a b c : Point) → Rule home now a b → Rules home now n b c → Rules home now (suc n) a c
@@ -32,9 +32,16 @@ module _ (home : Home) (now : ℕ) (j : Job) (old : Stores) where
   begins_work mid last count next job new rule rules leaves =
       record { first = point Seek j old; count = suc count; last = last; enters = refl; rules = rules_after home now count (point Seek j old) mid last rule rules; leaves = leaves }
 
--- Where look-ups alone came before memory was wanting.
-pub uses_started : (now : ℕ) (j : Job) (old new : Stores) → OnlyUses old new → Stops Start now j old new
-uses_started now j old new uses = uses_stop Start now j old old new (enters_stop now j old Start (point Seek j old) refl) uses
+-- Where memory ran out in the first rule, or in a later one.
+pub stops_first : (home : Home) (now : ℕ) (j : Job) (old new : Stores) → LooksInPart home now j.name j.kind old new → Stops home now Start j old new
+stops_first home now j old new part = in_rule (point Seek j old) (point Seek j old) 0 refl refl (seek_part home now j old new part)
+
+pub stops_found : {A : Type 0} (home : Home) (now : ℕ) (j : Job) (old : Stores) (f : Found A) (new : Stores) → IsFound home now j.name j.kind old f new → Stops home now Start j old new
+stops_found home now j old f new found = stops_first home now j old new (found_part home now j.name j.kind old f new found)
+
+pub stops_later : (home : Home) (now : ℕ) (j : Job) (old : Stores) (mid last : Point) (count : ℕ) (new : Stores) → Rule home now (point Seek j old) mid → Rules home now count mid last → IsPart home now last new
+    → Stops home now Start j old new
+stops_later home now j old mid last count new rule rules part = in_rule (point Seek j old) last (suc count) refl (rules_after home now count (point Seek j old) mid last rule rules) part
 
 -- What was found for a query was found for its job.
 pub found_of : {A : Type 0} (home : Home) (now : ℕ) (query j : Job) (before mid : Stores) (f : Found A) → j ≡ query → IsFound home now query.name query.kind before f mid → IsFound home now j.name j.kind before f mid

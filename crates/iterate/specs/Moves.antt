@@ -64,6 +64,13 @@ abbrev pub has_some : ℕ → Bool
 has_some zero = false
 has_some (suc n) = true
 
+-- Some of them were passed over, where memory ran out on the way.
+pub record ArePassedInPart (now : ℕ) (before : Search) (old new : Stores) : Type 0 where
+  pub count : ℕ
+  pub after : Search
+  pub passes : PassesOver now count before old.failures after new.failures
+  pub stores : new ≡ record old { failures = new.failures }
+
 pub record ArePassed (now : ℕ) (before : Search) (old : Stores) (after : Search) (new : Stores) (some : Bool) : Type 0 where
   pub count : ℕ
   pub passes : PassesOver now count before old.failures after new.failures

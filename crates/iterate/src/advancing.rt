@@ -5,8 +5,8 @@ ghost use Rattle.wire.specs.declared.via.Via.{Via};
 ghost use Rattle.classify.specs.Read.{IsReadingOf};
 ghost use Rattle.classify.specs.Views.{reading_view};
 ghost use Rattle.resolution.specs.Jobs.{Told, Point, point, IsFreshTask};
-ghost use Rattle.resolution.specs.Rules.{Rules, Leaves, Advances, Stops};
-ghost use Rattle.lookup.specs.Uses.{OnlyUses};
+ghost use Rattle.resolution.specs.Rules.{Rules, Leaves, Advances};
+ghost use Rattle.resolution.specs.Stops.{IsPart, Stops};
 ghost use Rattle.iterate.specs.Inputs.{IsSoughtIn};
 ghost use Rattle.iterate.specs.Views.{input_view, next_view, task_view};
 
@@ -32,7 +32,7 @@ pub(crate) fn run<S: BuildHasher + Drop, A: Heap>(
 ) -> Result<Next<A>, Starved>
     requires { IsFreshTask now (task_view first) }
     ensures rules { IfOk result (λ next. (count : ℕ) × (last : Point) × Rules home.now now count (point (task_view first) job.old stores.old) last × Leaves home.now now last (next_view next) job.new stores.new) }
-    ensures only { OnErr result (OnlyUses stores.old stores.new) }
+    ensures part { OnErr result ((count : ℕ) × (last : Point) × Rules home.now now count (point (task_view first) job.old stores.old) last × IsPart home.now now last stores.new) }
 {
     let mut task = first;
     'turns: loop {
@@ -45,8 +45,8 @@ pub(crate) fn run<S: BuildHasher + Drop, A: Heap>(
 
 /// The work on one input of a query, and what goes out. The input is used, and the rules of RFC 1034, section 5.3.3,
 /// are applied until a server is to be asked or the query is over. `now` is the moment of the call, in milliseconds.
-/// Where memory runs out the stores may have cached what was accepted, and lost what that pushes out; nothing else is
-/// new in them or gone. The job is to be dropped then.
+/// Where memory runs out, the stores are as the input, or part of it, and the rules on the way left them. The job is to
+/// be dropped then.
 pub fn advance<S: BuildHasher + Drop, A: Heap>(
     alloc: A,
     job: &mut Job<A>,
@@ -56,7 +56,7 @@ pub fn advance<S: BuildHasher + Drop, A: Heap>(
     now: u64,
 ) -> Result<Next<A>, Starved>
     ensures advances { IfOk result (λ next. Advances home.now now (input_view input) job.old stores.old (next_view next) job.new stores.new) }
-    ensures stops { OnErr result (Stops (input_view input) now job.old stores.old stores.new) }
+    ensures stops { OnErr result (Stops home.now now (input_view input) job.old stores.old stores.new) }
 {
     let first = enter(job, input, stores, now)?;
     Ok(run(alloc, job, first, home, stores, now)?)
@@ -76,7 +76,7 @@ pub fn advance_by_reply<S: BuildHasher + Drop, A: Heap>(
 ) -> Result<Next<A>, Starved>
     requires read { (way : Via) × (m : Message) × IsReadingOf way m (reading_view reading.now) × IsSoughtIn job.old (reading_view reading.now) }
     ensures advances { (way : Via) (m : Message) → IsReadingOf way m (reading_view reading.now) → IsSoughtIn job.old (reading_view reading.now) → IfOk result (λ next. Advances home.now now (Told way server m) job.old stores.old (next_view next) job.new stores.new) }
-    ensures stops { (way : Via) (m : Message) → IsReadingOf way m (reading_view reading.now) → IsSoughtIn job.old (reading_view reading.now) → OnErr result (Stops (Told way server m) now job.old stores.old stores.new) }
+    ensures stops { (way : Via) (m : Message) → IsReadingOf way m (reading_view reading.now) → IsSoughtIn job.old (reading_view reading.now) → OnErr result (Stops home.now now (Told way server m) job.old stores.old stores.new) }
 {
     let first = enter_by_reply(alloc, job, server, reading, stores, now)?;
     Ok(run(alloc, job, first, home, stores, now)?)

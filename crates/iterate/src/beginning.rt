@@ -2,9 +2,8 @@
 ghost use Rattle.std.specs.Prelude.{◌+◌, ◌^◌, ◌<◌, ◌↔◌, IsTrue, IfOk, OnErr};
 ghost use Rattle.rdata.specs.Types.{type_number};
 ghost use Rattle.resolution.specs.Jobs.{Stores as StoresSpec, Start, job_at, IsEnding};
-ghost use Rattle.resolution.specs.Rules.{Stops};
+ghost use Rattle.resolution.specs.Stops.{Stops};
 ghost use Rattle.lookup.specs.Found.{IsFound};
-ghost use Rattle.lookup.specs.Uses.{OnlyUses};
 ghost use Rattle.iterate.specs.Beginnings.{StartsWith};
 
 use crate::advancing::run;
@@ -47,7 +46,7 @@ fn set_out<S: BuildHasher + Drop, A: Heap>(
 ) -> Result<Started<A>, Starved>
     requires { (before : StoresSpec) × IsFound home.now now job.name job.kind before found stores.old }
     ensures begins { (before : StoresSpec) → IsFound home.now now job.name job.kind before found stores.old → IfOk result (λ b. StartsWith home.now now job before b stores.new) }
-    ensures only { OnErr result (OnlyUses stores.old stores.new) }
+    ensures stops { (before : StoresSpec) → IsFound home.now now job.name job.kind before found stores.old → OnErr result (Stops home.now now Start job before stores.new) }
 {
     match due_after(alloc, &mut job, found, stores) {
         Err(starved) => {
@@ -77,7 +76,7 @@ fn work<S: BuildHasher + Drop, A: Heap>(
     requires time { now + 10000 < 2 ^ 64 }
     requires found { (before : StoresSpec) × IsFound home.now now name.now (type_number kind) before found stores.old }
     ensures begins { (before : StoresSpec) → IsFound home.now now name.now (type_number kind) before found stores.old → IfOk result (λ b. StartsWith home.now now (job_at name.now (type_number kind) now) before b stores.new) }
-    ensures only { OnErr result (OnlyUses stores.old stores.new) }
+    ensures stops { (before : StoresSpec) → IsFound home.now now name.now (type_number kind) before found stores.old → OnErr result (Stops home.now now Start (job_at name.now (type_number kind) now) before stores.new) }
 {
     match name.copied(alloc) {
         Err(starved) => {
@@ -90,7 +89,7 @@ fn work<S: BuildHasher + Drop, A: Heap>(
 
 /// The result of a query for a name and a type at the moment `now`, in milliseconds. A link that is found for the name
 /// and is no alias is the answer: neither is a job made, nor the name copied for it. Else the work begins, as by
-/// `advance` with `Input::Start`. Running out of memory leaves the stores with the same entries.
+/// `advance` with `Input::Start`. Where memory runs out, the stores are as the rules on the way left them.
 pub fn begin_query<S: BuildHasher + Drop, A: Heap>(
     alloc: A,
     name: &Name<A>,
@@ -101,7 +100,7 @@ pub fn begin_query<S: BuildHasher + Drop, A: Heap>(
 ) -> Result<Started<A>, Starved>
     requires { now + 10000 < 2 ^ 64 }
     ensures begins { IfOk result (λ b. StartsWith home.now now (job_at name.now (type_number kind) now) stores.old b stores.new) }
-    ensures stops { OnErr result (Stops Start now (job_at name.now (type_number kind) now) stores.old stores.new) }
+    ensures stops { OnErr result (Stops home.now now Start (job_at name.now (type_number kind) now) stores.old stores.new) }
 {
     match find(alloc, home, name, kind, stores, now)? {
         Found::Known(last) => {

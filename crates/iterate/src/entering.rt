@@ -6,7 +6,8 @@ ghost use Rattle.wire.specs.declared.via.Via.{Via};
 ghost use Rattle.classify.specs.Read.{IsReadingOf};
 ghost use Rattle.classify.specs.Views.{reading_view};
 ghost use Rattle.resolution.specs.Jobs.{Told, point};
-ghost use Rattle.resolution.specs.Rules.{Enters, Stops};
+ghost use Rattle.resolution.specs.Rules.{Enters};
+ghost use Rattle.resolution.specs.Stops.{EntersInPart};
 ghost use Rattle.iterate.specs.Inputs.{IsSoughtIn};
 ghost use Rattle.iterate.specs.Views.{input_view, task_view};
 
@@ -28,7 +29,7 @@ pub(crate) fn enter<S: BuildHasher + Drop, A: Heap>(
     now: u64,
 ) -> Result<Task<A>, Starved>
     ensures enters { IfOk result (λ t. Enters now (input_view input) job.old stores.old (point (task_view t) job.new stores.new)) }
-    ensures stops { OnErr result (Stops (input_view input) now job.old stores.old stores.new) }
+    ensures part { OnErr result (EntersInPart now (input_view input) job.old stores.old stores.new) }
 {
     match input {
         Input::Start => Ok(Task::Seek),
@@ -49,7 +50,7 @@ pub(crate) fn enter_by_reply<S: BuildHasher + Drop, A: Heap>(
     now: u64,
 ) -> Result<Task<A>, Starved>
     ensures enters { (way : Via) (m : Message) → IsReadingOf way m (reading_view reading.now) → IsSoughtIn job.old (reading_view reading.now) → IfOk result (λ t. Enters now (Told way server m) job.old stores.old (point (task_view t) job.new stores.new)) }
-    ensures stops { (way : Via) (m : Message) → IsReadingOf way m (reading_view reading.now) → IsSoughtIn job.old (reading_view reading.now) → OnErr result (Stops (Told way server m) now job.old stores.old stores.new) }
+    ensures part { (way : Via) (m : Message) → IsReadingOf way m (reading_view reading.now) → IsSoughtIn job.old (reading_view reading.now) → OnErr result (EntersInPart now (Told way server m) job.old stores.old stores.new) }
 {
     stores.answered(server);
     Ok(use_reply(alloc, job, server, reading, stores, now)?)

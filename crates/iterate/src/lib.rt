@@ -6,10 +6,10 @@
 //! ask, and `advance` another `Input`: a time-out, or an ask over TCP that failed. All three answer with the `Next` thing
 //! that goes out: an ask of a server in a datagram or over TCP, the CNAME chain and its end, or the cause of a failure.
 //!
-//! Promised: each call is one by the rules of `resolution` (`Advances`); where memory runs out the stores have nothing
-//! new but what was accepted, and have lost nothing but what one `keep` of that pushes out (`Stops`). At most 40 asks,
-//! 64 look-ups of servers' names, which are three deep, and eight aliases. Not here: which message is a reply
-//! (`events`), identifiers, sockets and many queries at once (`engine`).
+//! Promised: each call is one by the rules of `resolution` (`Advances`); where memory runs out, the stores are as its
+//! input, or part of it, and the rules on the way left them (`Stops`). At most 40 asks, 64 look-ups of servers' names,
+//! which are three deep, and eight aliases. Not here: which message is a reply (`events`), identifiers, sockets and
+//! many queries at once (`engine`).
 //!
 //! ```text
 //! match begin_query(alloc, name, RType::A, home, stores, 0)? {

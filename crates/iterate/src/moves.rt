@@ -1,11 +1,11 @@
 //! One move of a query at work. `make_move` does one task by the rule that fits it (RFC 1034, section 5.3.3).
 //! `due_after` is the task after a look-up, for a query at work and for a new one.
-ghost use Rattle.std.specs.Prelude.{◌≡◌, ℕ, IfOk, OnOk};
+ghost use Rattle.std.specs.Prelude.{◌≡◌, ℕ, IfOk, OnOk, OnErr};
 ghost use Rattle.frames.specs.Frames.{opened};
 ghost use Rattle.resolution.specs.Jobs.{Home as HomeSpec, Stores as StoresSpec, Seek, point, search_at, level_of, IsFreshTask};
 ghost use Rattle.resolution.specs.Rules.{Rule};
+ghost use Rattle.resolution.specs.Stops.{IsPart};
 ghost use Rattle.lookup.specs.Found.{IsFound};
-ghost use Rattle.lookup.specs.Uses.{OnlyUses};
 ghost use Rattle.iterate.specs.Moves.{IsMove, begun};
 ghost use Rattle.iterate.specs.Views.{task_view, move_view};
 
@@ -65,7 +65,7 @@ fn seek<S: BuildHasher + Drop, A: Heap>(
     now: u64,
 ) -> Result<Move<A>, Starved>
     ensures is { IfOk result (λ t. IsMove home.now now (point Seek job.old stores.old) (move_view t) job.new stores.new) }
-    ensures only { OnlyUses stores.old stores.new }
+    ensures part { OnErr result (IsPart home.now now (point Seek job.old stores.old) stores.new) }
 {
     let found = find(alloc, home, job.name(), job.kind(), stores, now)?;
     Ok(Move::Onward(due_after(alloc, job, found, stores)?))
@@ -83,7 +83,7 @@ pub(crate) fn make_move<S: BuildHasher + Drop, A: Heap>(
 ) -> Result<Move<A>, Starved>
     requires fresh { IsFreshTask now (task_view task) }
     ensures is { IfOk result (λ t. IsMove home.now now (point (task_view task) job.old stores.old) (move_view t) job.new stores.new) }
-    ensures only { OnlyUses stores.old stores.new }
+    ensures part { OnErr result (IsPart home.now now (point (task_view task) job.old stores.old) stores.new) }
 {
     match task {
         Task::Seek => seek(alloc, job, home, stores, now),

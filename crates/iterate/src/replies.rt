@@ -172,7 +172,7 @@ fn use_reply_for<S: BuildHasher + Drop, A: Heap>(
     now: u64,
 ) -> Result<Task<A>, Starved>
     ensures by { (via : Via) (m : Message) → IsReadingFor search via m (reading_view reading.now) → IfOk result (λ t. ByClass now server search (job.old).searches (class_of search.frame.zone search.name search.kind via m) (with_search job.old search) stores.old (point (task_view t) job.new stores.new)) }
-    ensures stops { (via : Via) (m : Message) → IsReadingFor search via m (reading_view reading.now) → (before : StoresSpec) → stores.old ≡ with_told now search server m before → OnErr result (Stops (Told via server m) now (with_search job.old search) before stores.new) }
+    ensures part { (via : Via) (m : Message) → IsReadingFor search via m (reading_view reading.now) → (before : StoresSpec) → stores.old ≡ with_told now search server m before → OnErr result (IsToldInPart now search via server m before stores.new) }
 {
     let zone = search.frame().zone();
     narrow_law(zone);
@@ -209,7 +209,7 @@ pub(crate) fn use_reply<S: BuildHasher + Drop, A: Heap>(
     now: u64,
 ) -> Result<Task<A>, Starved>
     ensures enters { (via : Via) (m : Message) → IsReadingOf via m (reading_view reading.now) → IsSoughtIn job.old (reading_view reading.now) → (before : StoresSpec) → stores.old ≡ with_answer before server → IfOk result (λ t. Enters now (Told via server m) job.old before (point (task_view t) job.new stores.new)) }
-    ensures stops { (via : Via) (m : Message) → IsReadingOf via m (reading_view reading.now) → IsSoughtIn job.old (reading_view reading.now) → (before : StoresSpec) → stores.old ≡ with_answer before server → OnErr result (Stops (Told via server m) now job.old before stores.new) }
+    ensures part { (via : Via) (m : Message) → IsReadingOf via m (reading_view reading.now) → IsSoughtIn job.old (reading_view reading.now) → (before : StoresSpec) → stores.old ≡ with_answer before server → OnErr result (EntersInPart now (Told via server m) job.old before stores.new) }
 {
     match job.pop() {
         None => Ok(Task::Go),

@@ -1,13 +1,13 @@
 //! Servers of the innermost search: the next of its plan, and where all were asked, addresses of those of which only
 //! the name is known (RFC 1034, section 5.3.3, steps 2 and 3).
-ghost use Rattle.std.specs.Prelude.{◌≡◌, ◌+◌, ◌<◌, ℕ, Some, None, ◌∷◌, IfOk, OnOk};
+ghost use Rattle.std.specs.Prelude.{◌≡◌, ◌+◌, ◌<◌, ℕ, Some, None, ◌∷◌, IfOk, OnOk, OnErr};
 ghost use Rattle.retry.specs.Plans.{upcoming};
 ghost use Rattle.zone.specs.Zones.{a_type};
 ghost use Rattle.frames.specs.Frames.{Failed as FailedSpec, next_name, opened};
 ghost use Rattle.resolution.specs.Jobs.{Home as HomeSpec, Stores as StoresSpec, Search as SearchSpec, Go, point, level_of, search_at, MayLookUp};
 ghost use Rattle.resolution.specs.Rules.{Rule, UsesServerAddress, IsFree, turned};
-ghost use Rattle.lookup.specs.Uses.{OnlyUses};
-ghost use Rattle.iterate.specs.Moves.{IsMove, IsAdded, IsNextFailed, ArePassed, with_search};
+ghost use Rattle.resolution.specs.Stops.{LooksInPart, IsPart};
+ghost use Rattle.iterate.specs.Moves.{IsMove, IsAdded, IsNextFailed, ArePassed, ArePassedInPart, with_search};
 ghost use Rattle.iterate.specs.Views.{move_view};
 
 use crate::asking::ask;
@@ -112,7 +112,7 @@ fn look_for<S: BuildHasher + Drop, A: Heap>(
     requires few { MayLookUp job.old }
     ensures rule { (before : SearchSpec) → upcoming (before.frame).plan ≡ None → next_name (job.old).failed before.frame ≡ Some name → search ≡ turned (job.old).failed before
         → OnOk result (Rule home.now now (point Go (with_search job.old before) stores.old) (point Go job.new stores.new)) }
-    ensures only { OnlyUses stores.old stores.new }
+    ensures part { OnErr result (LooksInPart home.now now name a_type stores.old stores.new) }
 {
     match find(alloc, home, &name, RType::A, stores, now) {
         Err(starved) => {
@@ -169,7 +169,7 @@ fn go_further<S: BuildHasher + Drop, A: Heap>(
 ) -> Result<Move<A>, Starved>
     requires { upcoming (search.frame).plan ≡ None }
     ensures is { IfOk result (λ t. IsMove home.now now (point Go (with_search job.old search) stores.old) (move_view t) job.new stores.new) }
-    ensures only { OnlyUses stores.old stores.new }
+    ensures part { OnErr result (IsPart home.now now (point Go (with_search job.old search) stores.old) stores.new) }
 {
     match job.next_name(&mut search) {
         Err(starved) => {
@@ -196,7 +196,7 @@ fn is_next_failed<S: BuildHasher + Drop, A: Heap>(
     now: u64,
 ) -> Result<bool, Starved>
     ensures is { IfOk result (IsNextFailed now search.now stores.old stores.new) }
-    ensures only { OnlyUses stores.old stores.new }
+    ensures part { OnErr result (stores.new ≡ stores.old) }
 {
     match search.upcoming() {
         Some(server) => Ok(stores.is_failed(search.name(), search.kind(), server, now)?),
@@ -212,7 +212,7 @@ fn pass_over<S: BuildHasher + Drop, A: Heap>(
     now: u64,
 ) -> Result<bool, Starved>
     ensures is { IfOk result (ArePassed now search.old stores.old search.new stores.new) }
-    ensures only { OnlyUses stores.old stores.new }
+    ensures part { OnErr result (ArePassedInPart now search.old stores.old stores.new) }
 {
     let mut passed = false;
     while is_next_failed(search, stores, now)? {
@@ -233,7 +233,7 @@ fn ask_on<S: BuildHasher + Drop, A: Heap>(
 ) -> Result<Move<A>, Starved>
     requires { IsFree now search stores.old.failures }
     ensures is { IfOk result (λ t. IsMove home.now now (point Go (with_search job.old search) stores.old) (move_view t) job.new stores.new) }
-    ensures only { OnlyUses stores.old stores.new }
+    ensures part { OnErr result (IsPart home.now now (point Go (with_search job.old search) stores.old) stores.new) }
 {
     match search.next_address() {
         Some(server) => ask(job, search, server, now),
@@ -251,7 +251,7 @@ fn go_on<S: BuildHasher + Drop, A: Heap>(
     now: u64,
 ) -> Result<Move<A>, Starved>
     ensures is { IfOk result (λ t. IsMove home.now now (point Go (with_search job.old search) stores.old) (move_view t) job.new stores.new) }
-    ensures only { OnlyUses stores.old stores.new }
+    ensures part { OnErr result (IsPart home.now now (point Go (with_search job.old search) stores.old) stores.new) }
 {
     match pass_over(&mut search, stores, now) {
         Err(starved) => {
@@ -275,7 +275,7 @@ pub(crate) fn go<S: BuildHasher + Drop, A: Heap>(
     now: u64,
 ) -> Result<Move<A>, Starved>
     ensures is { IfOk result (λ t. IsMove home.now now (point Go job.old stores.old) (move_view t) job.new stores.new) }
-    ensures only { OnlyUses stores.old stores.new }
+    ensures part { OnErr result (IsPart home.now now (point Go job.old stores.old) stores.new) }
 {
     match job.pop() {
         Some(search) => Ok(go_on(alloc, job, search, home, stores, now)?),

@@ -23,7 +23,7 @@ use Rattle.cache.specs.Failures.{FailedAsk, after_failed}
 use Rattle.cache.proofs.Failed.{failed_members}
 use Rattle.resolution.specs.Jobs.{Home, Stores, level_of, with_timeout, with_told, is_server_failure, IsCutOf, Search, ask_of, Job, Input, Start, Told, TimedOut, TcpFailed, Task, Go, Again, Point, point, hit_from, cut_from}
 use Rattle.retry.specs.Penalties.{AreAtMost, answered, timed_out}
-use Rattle.resolution.specs.Rules.{KeepsAnswer, IsAnswered, IsReferred, ByClass, Enters, server_of, IsTakenEntry, IsTakenCut, IsTakenFailure, Stops}
+use Rattle.resolution.specs.Rules.{KeepsAnswer, IsAnswered, IsReferred, ByClass, Enters, IsTakenEntry, IsTakenCut, IsTakenFailure, WritesPenalty, BringsOnly}
 use Rattle.runs.specs.States.{Turn, Event, Client, Datagram, TcpReply, Tick, OpenQuery, Path, ByUdp, ByTcp, Ask, via_of}
 use Rattle.runs.specs.States as states
 use Rattle.runs.specs.Messages.{Brings}
@@ -355,10 +355,12 @@ module _ (port : ℕ) (home : Home) (k : ℕ) (turn : Turn) (past : List Turn) (
   -- ---- what the stores hold where memory was wanting on the way
 
   stopped_penalties : (input : Input) (stores : Stores) (low : AreAtMost 8 stores.penalties) (new : List (Addr × ℕ))
-      → (new ≡ stores.penalties) ⊎ ((server : Addr) × (server_of input ≡ Some server) × ((new ≡ answered server stores.penalties) ⊎ (new ≡ timed_out server stores.penalties_cap stores.penalties))) → AreAtMost 8 new
+      → (new ≡ stores.penalties) ⊎ WritesPenalty input stores new → AreAtMost 8 new
   stopped_penalties input stores low new (inl e) = subst (AreAtMost 8) (sym e) low
-  stopped_penalties input stores low new (inr (server, is, inl e)) = subst (AreAtMost 8) (sym e) (answered_low server stores.penalties low)
-  stopped_penalties input stores low new (inr (server, is, inr e)) = subst (AreAtMost 8) (sym e) (timed_out_low server stores.penalties_cap stores.penalties low)
+  stopped_penalties Start stores low new (inr none) = absurd none
+  stopped_penalties (Told way server m) stores low new (inr e) = subst (AreAtMost 8) (sym e) (answered_low server stores.penalties low)
+  stopped_penalties (TimedOut server) stores low new (inr e) = subst (AreAtMost 8) (sym e) (timed_out_low server stores.penalties_cap stores.penalties low)
+  stopped_penalties (TcpFailed server) stores low new (inr e) = subst (AreAtMost 8) (sym e) (timed_out_low server stores.penalties_cap stores.penalties low)
 
   module _ (now : ℕ) (clock : now ≡ clock_of (turn ∷ past)) (j : Job) (stores : Stores) (told : AreTold port home past stores) (marks : AreMarked port home k past (Passed j.skipped K) j.failed)
       (known : j.skipped ≡ true → SomeKnown K) (top : OnTop port home k past (Passed j.skipped K) j.name j.kind j.searches (IsAskingAs j.skipped)) where
@@ -387,7 +389,7 @@ module _ (port : ℕ) (home : Home) (k : ℕ) (turn : Turn) (past : List Turn) (
     taken_failure (TimedOut server) is x (s, a, none, same) = absurd none
     taken_failure (TcpFailed server) is x (s, a, none, same) = absurd none
 
-    pub stops_told : (input : Input) (after : Stores) → IsInputNow input → Stops input now j stores after → AreTold port home (turn ∷ past) after
+    pub stops_told : (input : Input) (after : Stores) → IsInputNow input → BringsOnly input now j stores after → AreTold port home (turn ∷ past) after
     stops_told input after is h = record {
       links = λ key e c. elim (h.cache (key, e) c) [
         | inl d ↦ (told_later port home turn past stores told).links key e d

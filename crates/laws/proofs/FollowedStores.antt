@@ -10,7 +10,8 @@ use Rattle.classify.specs.Classes.{class_of}
 use Rattle.retry.specs.Penalties.{AreAtMost}
 use Rattle.retry.proofs.Steps.{timed_out_low, answered_low}
 use Rattle.resolution.specs.Jobs.{Stores, with_answer, with_timeout, with_told, Search, Job, Input, Start, Told, TimedOut, TcpFailed, Next, AskUdp, AskTcp, Done, Fail, Point}
-use Rattle.resolution.specs.Rules.{IsAnswered, ByClass, Enters, Advances, Stops}
+use Rattle.resolution.specs.Rules.{IsAnswered, ByClass, Enters, Advances, WritesPenalty, BringsOnly}
+use Rattle.resolution.proofs.Keeping.{stops_bring}
 use Rattle.runs.specs.States.{Event, Client, Datagram, TcpReply, TcpFailed, Tick, Action, Served, Turn, Plain, ClientQuery, Site, State, moved}
 use Rattle.runs.specs.Steps.{Comes, IsOpened, at_once, crowded, admitted, IsHandled, IsIgnored, ServesOpen, IsLeft, IsTurn}
 use Rattle.runs.specs.Runs.{Run}
@@ -24,7 +25,7 @@ abbrev pub Changes : State → Stores → Type 0
 Changes s after =
     (after ≡ s.stores)
     ⊎ (((input : Input) × (j : Job) × (next : Next) × (new : Job) × Advances (s.site).home s.clock input j s.stores next new after)
-    ⊎ ((input : Input) × (j : Job) × Stops input s.clock j s.stores after))
+    ⊎ ((input : Input) × (j : Job) × BringsOnly input s.clock j s.stores after))
 
 pub comes_stores : (s : State) (who : ClientQuery) (k opened : ℕ) (next : Next) (job : Job) (stores : Stores) (out : List Action) (new : State) → Comes s who k opened next job stores out new → new.stores ≡ stores
 comes_stores s who k opened (AskUdp server n t) job stores out new h = ap (λ (x : State). x.stores) (h.waits).state
@@ -60,11 +61,11 @@ left_stores : (s : State) (k : ℕ) (P : Stores → Type 0) (new : State) → ((
 left_stores s k P new gives h = elim h.stores [ inl e ↦ inl e | inr p ↦ gives new.stores p ]
 
 pub turn_stores : (s : State) (event : Event) (served : Served) (out : Option (List Action)) (new : State) → IsTurn s event served out new → Changes s new.stores
-turn_stores s (Client now client way bytes) served None new h = left_stores s _ _ new (λ after p. inr (inr (Start, p.0, p.1))) h.1
-turn_stores s (Datagram now sock from bytes) served None new (q, there, is, meant, h) = left_stores s _ _ new (λ after p. inr (inr (p.0, q.job, p.2))) h
-turn_stores s (TcpReply now number bytes) served None new (q, there, is, meant, h) = left_stores s _ _ new (λ after p. inr (inr (p.0, q.job, p.2))) h
-turn_stores s (TcpFailed now number) served None new (q, there, is, meant, h) = left_stores s _ _ new (λ after p. inr (inr (p.0, q.job, p.2))) h
-turn_stores s (Tick now) served None new (q, there, is, meant, h) = left_stores s _ _ new (λ after p. inr (inr (p.0, q.job, p.2))) h
+turn_stores s (Client now client way bytes) served None new h = left_stores s _ _ new (λ after p. inr (inr (Start, _, stops_bring _ _ _ _ _ _ p.3))) h.1
+turn_stores s (Datagram now sock from bytes) served None new (q, there, is, meant, h) = left_stores s _ _ new (λ after p. inr (inr (p.0, q.job, stops_bring _ _ _ _ _ _ p.2))) h
+turn_stores s (TcpReply now number bytes) served None new (q, there, is, meant, h) = left_stores s _ _ new (λ after p. inr (inr (p.0, q.job, stops_bring _ _ _ _ _ _ p.2))) h
+turn_stores s (TcpFailed now number) served None new (q, there, is, meant, h) = left_stores s _ _ new (λ after p. inr (inr (p.0, q.job, stops_bring _ _ _ _ _ _ p.2))) h
+turn_stores s (Tick now) served None new (q, there, is, meant, h) = left_stores s _ _ new (λ after p. inr (inr (p.0, q.job, stops_bring _ _ _ _ _ _ p.2))) h
 turn_stores s (Client now client way bytes) served (Some out) new (asked, reads, h) = handled_stores s client way asked served out new h
 turn_stores s (Datagram now sock from bytes) served (Some out) new h = either_stores s _ served out new h
 turn_stores s (TcpReply now number bytes) served (Some out) new h = either_stores s _ served out new h
@@ -99,6 +100,12 @@ enters_low now (Told via server m) j stores p (inr (s, rest, top, is)) h =
 enters_low now (TimedOut server) j stores p is h = low_by (with_timeout stores server) p.stores (ap (λ (x : Point). (x.stores).penalties) is) (timed_out_low server stores.penalties_cap stores.penalties h)
 enters_low now (TcpFailed server) j stores p is h = low_by (with_timeout stores server) p.stores (ap (λ (x : Point). (x.stores).penalties) is) (timed_out_low server stores.penalties_cap stores.penalties h)
 
+written_low : (input : Input) (stores : Stores) (new : List (Addr × ℕ)) → WritesPenalty input stores new → AreLow stores → AreAtMost 8 new
+written_low Start stores new none h = absurd none
+written_low (Told via server m) stores new e h = subst (AreAtMost 8) (sym e) (answered_low server stores.penalties h)
+written_low (TimedOut server) stores new e h = subst (AreAtMost 8) (sym e) (timed_out_low server stores.penalties_cap stores.penalties h)
+written_low (TcpFailed server) stores new e h = subst (AreAtMost 8) (sym e) (timed_out_low server stores.penalties_cap stores.penalties h)
+
 changes_low : (s : State) (after : Stores) → Changes s after → AreLow s.stores → AreLow after
 changes_low s after (inl e) h = low_by s.stores after (ap (λ (x : Stores). x.penalties) e) h
 changes_low s after (inr (inl (input, j, next, new, call))) h =
@@ -107,10 +114,7 @@ changes_low s after (inr (inl (input, j, next, new, call))) h =
     low_by (call.first).stores after (ap (λ (x : Stores). x.penalties) (same_after (s.site).home s.clock call.last next new after call.leaves) ∙ rules.penalties) first
 changes_low s after (inr (inr (input, j, stops))) h = elim stops.penalties [
   | inl e ↦ low_by s.stores after e h
-  | inr x ↦ elim x.2 [
-    | inl e ↦ subst (AreAtMost 8) (sym e) (answered_low x.0 (s.stores).penalties h)
-    | inr e ↦ subst (AreAtMost 8) (sym e) (timed_out_low x.0 (s.stores).penalties_cap (s.stores).penalties h)
-  ]
+  | inr writes ↦ written_low input s.stores after.penalties writes h
 ]
 
 pub low_run : (site : Site) (run : List Turn) (s : State) → Run site run s → AreAtMost 8 (s.stores).penalties

@@ -13,7 +13,7 @@ use Rattle.classify.proofs.Roots.{of_root}
 use Rattle.cache.specs.Keys.{Key, key_for}
 use Rattle.cache.specs.Cached.{Hit, IsKept}
 use Rattle.resolution.specs.Jobs.{Home, Stores, with_answer, with_timeout, with_told, received_link, Search, Job, job_at, Input, Start, Told, TimedOut, TcpFailed, Next, Task, Take, Go, Again, Point, point, hit_from}
-use Rattle.resolution.specs.Rules.{IsRemote, KeepsAnswer, ByClass, Enters, Advances, IsTakenEntry, Stops}
+use Rattle.resolution.specs.Rules.{IsRemote, KeepsAnswer, ByClass, Enters, Advances, IsTakenEntry, BringsOnly}
 use Rattle.runs.specs.States.{Turn, OpenQuery, Ask, via_of}
 use Rattle.runs.specs.Messages.{Brings}
 use Rattle.runs.specs.Runs.{Earlier, clock_of}
@@ -132,7 +132,7 @@ module _ (port : ℕ) (home : Home) (k : ℕ) (turn : Turn) (past : List Turn) (
   taken_timed (TimedOut server) is x (s, l, c, kept) = absurd c
   taken_timed (TcpFailed server) is x (s, l, c, kept) = absurd c
 
-  pub stop_timed : (input : Input) (after : Stores) → IsInputNow port home k turn past ask served asked t from j stores told work input → Stops input now j stores after → AreTimed port home (turn ∷ past) after
+  pub stop_timed : (input : Input) (after : Stores) → IsInputNow port home k turn past ask served asked t from j stores told work input → BringsOnly input now j stores after → AreTimed port home (turn ∷ past) after
   stop_timed input after is h key e c = elim (h.cache (key, e) c) [
     | inl d ↦ timed_later port home turn past stores timed key e d
     | inr new ↦ taken_timed input is (key, e) new
@@ -162,7 +162,7 @@ module _ (port : ℕ) (home : Home) (turn : Turn) (past : List Turn) (k : ℕ) (
       zero_least : 0 ≤ 8
       zero_least = omega arith
 
-pub start_stop_timed : (port : ℕ) (home : Home) (run : List Turn) (now : ℕ) (j : Job) (stores after : Stores) → AreTimed port home run stores → Stops Start now j stores after → AreTimed port home run after
+pub start_stop_timed : (port : ℕ) (home : Home) (run : List Turn) (now : ℕ) (j : Job) (stores after : Stores) → AreTimed port home run stores → BringsOnly Start now j stores after → AreTimed port home run after
 start_stop_timed port home run now j stores after timed h key e c = elim (h.cache (key, e) c) [
   | inl d ↦ timed key e d
   | inr (s, l, none, kept) ↦ absurd none

@@ -24,6 +24,7 @@ pub mod Leaving
 pub mod LookUps
 pub mod Looked
 pub mod Meant
+pub mod OwnWork
 pub mod Near
 pub mod NewSearches
 pub mod OneCall

@@ -27,7 +27,7 @@ use Rattle.world_truth.specs.Serving.{MayServe}
 use Rattle.world_truth.specs.Frames.{MayAsk}
 use Rattle.world_truth.proofs.Honest.{honest_answer}
 use Rattle.resolution.specs.Jobs.{Home, Stores, level_of, with_told, Taken, IsEnding, bytes_of, Search, with_frame, given, Job, Input, Start, Told, TimedOut, TcpFailed, Next, AskUdp, AskTcp, Done, Fail, Task, Seek, Take, Go, Again, Point, hit_from}
-use Rattle.resolution.specs.Rules.{Says, IsRemote, asked_by, asked_of, Hits, Finds, Misses, UsesServerAddress, turned, Rule, takes, asks, follows, restarts, skips, hears, descends, gives_up, Rules, ByClass, Enters, Leaves, sends, sends_again, refuses, spent, looked_out, nowhere, too_long, done, Advances, IsTakenEntry, IsTakenCut, Stops}
+use Rattle.resolution.specs.Rules.{Says, IsRemote, asked_by, asked_of, Hits, Finds, Misses, UsesServerAddress, turned, Rule, takes, asks, follows, restarts, skips, hears, descends, gives_up, Rules, ByClass, Enters, Leaves, sends, sends_again, refuses, spent, looked_out, nowhere, too_long, done, Advances, IsTakenEntry, IsTakenCut, BringsOnly}
 use Rattle.resolution.proofs.Passing.{passes_keep}
 use Rattle.laws.specs.Headline.{IsHomeIn}
 use Rattle.laws.specs.Truthful.{IsTrueOnce, IsTrueEntry, IsTrueCut, IsTrueFrame, AreTrueStores, TrueAliasesLead, IsWanted, AreTrueSearches, IsTrueJob, AsksTruly}
@@ -361,7 +361,7 @@ module _ (W : World) (w : IsWorld W) (home : Home) (ours : IsHomeIn W home) (now
       leaves_true q t adv.last next new after (rules_true q t adv.count adv.first adv.last (enters_true q t input old stores adv.first told h all adv.enters) adv.rules) adv.leaves
 
   -- Where memory was wanting on the way.
-  pub stops_true : (input : Input) (old : Job) (stores after : Stores) → IsTrueInput W old input → AreTrueStores W stores → Stops input now old stores after → AreTrueStores W after
+  pub stops_true : (input : Input) (old : Job) (stores after : Stores) → IsTrueInput W old input → AreTrueStores W stores → BringsOnly input now old stores after → AreTrueStores W after
   stops_true input old stores after told all stops = record {
     cache = λ k e m. elim (stops.cache (k, e) m) as (λ x. IsTrueEntry W k e.link) [ inl there ↦ all.cache k e there | inr new ↦ entry input told k e new ];
     cuts = λ n k m. elim (stops.delegations (n, k) m) as (λ x. ((k.cut).owner ≡ n) × IsTrueCut W k.cut) [ inl there ↦ all.cuts n k there | inr new ↦ cut input told n k new ];

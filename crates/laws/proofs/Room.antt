@@ -11,7 +11,9 @@ use Rattle.classify.specs.Classes as class
 use Rattle.classify.specs.Classes.{class_of}
 use Rattle.cache.specs.Cached.{Hit}
 use Rattle.resolution.specs.Jobs.{Home, Stores, with_told, Search, Taken, local_link, Job, Input, Start, Told, TimedOut, TcpFailed, Next, Point}
-use Rattle.resolution.specs.Rules.{Says, Hits, Finds, Rule, takes, asks, follows, restarts, skips, hears, descends, gives_up, Rules, IsAnswered, ByClass, Enters, Advances, Stops}
+use Rattle.resolution.specs.Rules.{Says, Hits, Finds, Rule, takes, asks, follows, restarts, skips, hears, descends, gives_up, Rules, IsAnswered, ByClass, Enters, Advances}
+use Rattle.resolution.specs.Stops.{Stops}
+use Rattle.resolution.proofs.Keeping.{stops_bring}
 use Rattle.runs.specs.States.{Event, Client, Datagram, TcpReply, Tick, Action, Served, Plain, State, moved}
 use Rattle.runs.specs.States as event
 use Rattle.runs.specs.Steps.{IsOpened, at_once, crowded, admitted, IsIgnored, ServesOpen, IsHandled, IsTicked, IsLeft, IsTurn}
@@ -69,8 +71,8 @@ call_room home now input old stores next new after call =
     ap room_of (same_after home now call.last next new after call.leaves)
     ∙ (rules_room home now call.count call.first call.last call.rules ∙ enters_room now input old stores call.first call.enters)
 
-stops_room : (input : Input) (now : ℕ) (old : Job) (stores after : Stores) → Stops input now old stores after → SameRoom stores after
-stops_room input now old stores after h = λ i. h.cache_cap i ∷ h.delegations_cap i ∷ h.penalties_cap i ∷ h.failures_cap i ∷ []
+stops_room : (home : Home) (now : ℕ) (input : Input) (old : Job) (stores after : Stores) → Stops home now input old stores after → SameRoom stores after
+stops_room home now input old stores after stops = let h = stops_bring home now input old stores after stops in λ i. h.cache_cap i ∷ h.delegations_cap i ∷ h.penalties_cap i ∷ h.failures_cap i ∷ []
 
 -- ---- a step
 
@@ -108,11 +110,11 @@ module _ (s new : State) (k : ℕ) where
   left_room Way same left = elim left.stores [ inl e ↦ ap room_of e | inr way ↦ same new.stores way ]
 
 turn_room : (s : State) (e : Event) (served : Served) (out : Option (List Action)) (new : State) → IsTurn s e served out new → SameIn s new
-turn_room s (Client now client way bytes) served None new (is, left) = left_room s new s.opened _ (λ stores h. stops_room _ _ _ _ _ h.1) left
-turn_room s (Datagram now sock from bytes) served None new (q, there, is, meant, left) = left_room s new q.number _ (λ stores h. stops_room _ _ _ _ _ h.2) left
-turn_room s (TcpReply now number bytes) served None new (q, there, is, meant, left) = left_room s new q.number _ (λ stores h. stops_room _ _ _ _ _ h.2) left
-turn_room s (event.TcpFailed now number) served None new (q, there, is, meant, left) = left_room s new q.number _ (λ stores h. stops_room _ _ _ _ _ h.2) left
-turn_room s (Tick now) served None new (q, there, is, meant, left) = left_room s new q.number _ (λ stores h. stops_room _ _ _ _ _ h.2) left
+turn_room s (Client now client way bytes) served None new (is, left) = left_room s new s.opened _ (λ stores h. stops_room _ _ _ _ _ _ h.3) left
+turn_room s (Datagram now sock from bytes) served None new (q, there, is, meant, left) = left_room s new q.number _ (λ stores h. stops_room _ _ _ _ _ _ h.2) left
+turn_room s (TcpReply now number bytes) served None new (q, there, is, meant, left) = left_room s new q.number _ (λ stores h. stops_room _ _ _ _ _ _ h.2) left
+turn_room s (event.TcpFailed now number) served None new (q, there, is, meant, left) = left_room s new q.number _ (λ stores h. stops_room _ _ _ _ _ _ h.2) left
+turn_room s (Tick now) served None new (q, there, is, meant, left) = left_room s new q.number _ (λ stores h. stops_room _ _ _ _ _ _ h.2) left
 turn_room s (Client now client way bytes) served (Some out) new (asked, reads, h) = handled_room s client way asked served out new h
 turn_room s (Datagram now sock from bytes) served (Some out) new h = either_room s (Datagram now sock from bytes) served out new h
 turn_room s (TcpReply now number bytes) served (Some out) new h = either_room s (TcpReply now number bytes) served out new h

@@ -1,14 +1,16 @@
 -- Each step, and each run, keeps what stands of the state, and each reply has its cause.
-use Rattle.std.proofs.Common.{◌≡◌, ℕ, ◌⊎◌, inl, inr, max, Option, Some, None, List, [], ◌∷◌, Contains, refl, sym, ap, ◌∙◌, subst}
+use Rattle.std.proofs.Common.{◌≡◌, ℕ, ◌⊎◌, inl, inr, max, true, Option, Some, None, List, [], ◌∷◌, Contains, refl, sym, ap, ◌∙◌, subst}
 use Rattle.lru.proofs.Splits.{Contains-nil}
 use Rattle.dname.specs.Labels.{Name}
 use Rattle.wire.specs.declared.via.Via.{Via}
 use Rattle.front.specs.Queries.{IsRequest}
+use Rattle.front.specs.declared.queries.Query.{Query}
 use Rattle.front.specs.declared.queries.Request.{Request}
 use Rattle.front.specs.declared.queries.Request.TheVariants as request
 use Rattle.resolution.specs.Jobs.{Home, Job, Start}
-use Rattle.resolution.specs.Rules.{Stops}
-use Rattle.runs.specs.States.{Event, Client, Datagram, TcpReply, Tick, Action, Reply, Turn, Served, Plain, client_query, Open, AreApart, moment, Site, State, IsNew, moved}
+use Rattle.resolution.specs.Stops.{Stops}
+use Rattle.resolution.proofs.Keeping.{stops_bring}
+use Rattle.runs.specs.States.{Event, Client, Datagram, TcpReply, Tick, Action, Reply, Turn, Served, Plain, client_query, recursive, job_for, Open, AreApart, moment, Site, State, IsNew, moved}
 use Rattle.runs.specs.States as states
 use Rattle.runs.specs.Messages.{IsReply, IsRefusal}
 use Rattle.runs.specs.Runs.{Run, Always, clock_of, asks_among, is_for}
@@ -106,12 +108,12 @@ module _ (past : List Turn) (s : State) (h : IsExplained (s.site).port (s.site).
 
   starved_turn : (event : Event) (served : Served) (new : State) → IsNow event → IsStarved s event served new → Explains event served None new
   starved_turn (Client now client way bytes) served new clock (is, e) = (
-    left_now past s h (turn_of (Client now client way bytes) served None) clock s.opened (λ stores. (j : Job) × Stops Start s.clock j s.stores stores) new e
-        (λ stores (j, stops). (
-          start_stops (s.site).port (s.site).home (turn_of (Client now client way bytes) served None ∷ past) 0 (λ n t a. Unit {0}) 0 [] (λ a n u. Unit {0}) s.clock j s.stores stores
-              (told_later (s.site).port (s.site).home (turn_of (Client now client way bytes) served None) past s.stores h.told.0) stops,
-          start_stop_timed (s.site).port (s.site).home (turn_of (Client now client way bytes) served None ∷ past) s.clock j s.stores stores
-              (timed_later (s.site).port (s.site).home (turn_of (Client now client way bytes) served None) past s.stores h.told.1) stops,
+    left_now past s h (turn_of (Client now client way bytes) served None) clock s.opened (λ stores. (q : Query Plain) × IsRequest bytes (request.Query q) × (recursive q ≡ true) × Stops (s.site).home s.clock Start (job_for s.clock q) s.stores stores) new e
+        (λ stores (q, reads, rd, stops). (
+          start_stops (s.site).port (s.site).home (turn_of (Client now client way bytes) served None ∷ past) 0 (λ n t a. Unit {0}) 0 [] (λ a n u. Unit {0}) s.clock (job_for s.clock q) s.stores stores
+              (told_later (s.site).port (s.site).home (turn_of (Client now client way bytes) served None) past s.stores h.told.0) (stops_bring (s.site).home s.clock Start (job_for s.clock q) s.stores stores stops),
+          start_stop_timed (s.site).port (s.site).home (turn_of (Client now client way bytes) served None ∷ past) s.clock (job_for s.clock q) s.stores stores
+              (timed_later (s.site).port (s.site).home (turn_of (Client now client way bytes) served None) past s.stores h.told.1) (stops_bring (s.site).home s.clock Start (job_for s.clock q) s.stores stores stops),
         ))
         (λ q c other e. not_own q.number (sym is ∙ e)) (λ j le. ap (is_for j) is),
     λ to by text c there. absurd there,

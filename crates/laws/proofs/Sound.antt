@@ -13,9 +13,9 @@ use Rattle.front.specs.Laws.{question_of}
 use Rattle.front.proofs.Echoes.{echo_is_question}
 use Rattle.front.proofs.Single.{asked_once}
 use Rattle.front.specs.Openings.{Opening}
-use Rattle.front.specs.declared.queries.Query.{Query}
 use Rattle.front.specs.declared.queries.Refusal.{Refusal}
 use Rattle.message_grammar.specs.Messages as wire
+use Rattle.front.specs.declared.queries.Query.{Query}
 use Rattle.front.specs.declared.queries.Request.{Request}
 use Rattle.front.specs.declared.queries.Request.TheVariants as request
 use Rattle.front.specs.declared.queries.Outcome.{Outcome}
@@ -25,7 +25,8 @@ use Rattle.world_truth.specs.Serving.{MayServe}
 use Rattle.world_truth.specs.Frames.{MayAsk}
 use Rattle.front.specs.Replies.{reply_of}
 use Rattle.resolution.specs.Jobs.{wait_of_job, Stores, Job, bytes_of, Input, Start, Next, AskUdp, AskTcp, Done, Fail}
-use Rattle.resolution.specs.Rules.{Stops}
+use Rattle.resolution.specs.Stops.{Stops}
+use Rattle.resolution.proofs.Keeping.{stops_bring}
 use Rattle.runs.specs.States.{Event, Client, Datagram, TcpReply, TcpFailed, Tick, Action, Reply, MoreDue, Served, Nobody, Own, OpenQuery, Turn, Plain, ClientQuery, client_query, recursive, job_for, Ask, IsFor, Open, open_query, Site, State}
 use Rattle.runs.specs.Messages.{AreWritten, IsSent, Brings, outcome_of, IsRefusal}
 use Rattle.runs.specs.Steps.{AreOthers, Ends, Waits, Comes, IsAsk, IsOpened, at_once, crowded, admitted, Resolves, IsHandled, IsInput, IsIgnored, ServesOpen, IsLate, IsFollowed, IsTicked, IsLeft, IsTurn}
@@ -347,14 +348,13 @@ module _ (W : World) (w : IsWorld W) (site : Site) (ours : IsHomeIn W site.home)
   }
 
   meant_sound : (event : Event) (q : Open) (new : State) → t.event ≡ event → IsNoClient event → Contains s.queries q → t.served ≡ OpenQuery q.number
-      → IsLeft s q.number (λ stores. (input : Input) × IsInput s event q input × Stops input s.clock q.job s.stores stores) new → HoldsTruth W site.port (t ∷ past) new
+      → IsLeft s q.number (λ stores. (input : Input) × IsInput s event q input × Stops (s.site).home s.clock input q.job s.stores stores) new → HoldsTruth W site.port (t ∷ past) new
   meant_sound event q new is other stands served left = left_sound q.number _ new (only_query q.number served) (no_client event other is)
-      (λ stores on. stops_true W w (s.site).home home_here s.clock on.0 q.job s.stores stores (told_true q event on.0 is stands served on.1) sound.stores on.2) left
+      (λ stores on. stops_true W w (s.site).home home_here s.clock on.0 q.job s.stores stores (told_true q event on.0 is stands served on.1) sound.stores (stops_bring _ _ _ _ _ _ on.2)) left
 
-  -- What the start of any work leaves: `Stops` reads nothing of the job then.
-  start_stops : (j : Job) (stores : Stores) → Stops Start s.clock j s.stores stores → AreTrueStores W stores
-  start_stops j stores stops = stops_true W w (s.site).home home_here s.clock Start (record j { searches = [] }) s.stores stores refl sound.stores
-      (record { cache = stops.cache; cache_lost = stops.cache_lost; delegations = stops.delegations; delegations_lost = stops.delegations_lost; penalties = stops.penalties; cache_cap = stops.cache_cap; delegations_cap = stops.delegations_cap; penalties_cap = stops.penalties_cap; failures = stops.failures; failures_lost = stops.failures_lost; failures_cap = stops.failures_cap })
+  -- What the start of the work on a query leaves.
+  start_stops : (q : Query Plain) (stores : Stores) → Stops (s.site).home s.clock Start (job_for s.clock q) s.stores stores → AreTrueStores W stores
+  start_stops q stores stops = stops_true W w (s.site).home home_here s.clock Start (job_for s.clock q) s.stores stores refl sound.stores (stops_bring _ _ _ _ _ _ stops)
 
   -- ---- the step
 
@@ -434,7 +434,7 @@ module _ (W : World) (w : IsWorld W) (site : Site) (ours : IsHomeIn W site.home)
 
   pub turn_done : (event : Event) (out : Option (List Action)) (new : State) → t.event ≡ event → t.out ≡ out → IsTurn s event t.served out new → IsDone new
   turn_done (Client now client way bytes) None new event is (served, left) =
-      starved_done new is (left_sound s.opened _ new (only_own s.opened served) (own_none served) (λ stores on. start_stops on.0 stores on.1) left)
+      starved_done new is (left_sound s.opened _ new (only_own s.opened served) (own_none served) (λ stores on. start_stops on.0 stores on.3) left)
   turn_done (Datagram now sock from bytes) None new event is (q, stands, served, meant, left) = starved_done new is (meant_sound _ q new event tt stands served left)
   turn_done (TcpReply now number bytes) None new event is (q, stands, served, meant, left) = starved_done new is (meant_sound _ q new event tt stands served left)
   turn_done (TcpFailed now number) None new event is (q, stands, served, meant, left) = starved_done new is (meant_sound _ q new event tt stands served left)

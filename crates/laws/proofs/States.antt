@@ -14,7 +14,7 @@ use Rattle.wire.specs.declared.via.Via.{Via}
 use Rattle.lru.proofs.Splits.{Contains-nil}
 use Rattle.lru_laws.specs.Orders.{KeepsOnly}
 use Rattle.resolution.specs.Jobs.{Home, Stores, with_told, Taken, received_link, Search, Job, job_at, Input, Start, Told, TimedOut, TcpFailed, Next, Task, Take, Go, Again, Point, point}
-use Rattle.resolution.specs.Rules.{IsRemote, ByClass, Enters, Advances, IsTakenEntry, IsTakenCut, IsTakenFailure, Stops}
+use Rattle.resolution.specs.Rules.{IsRemote, ByClass, Enters, Advances, IsTakenEntry, IsTakenCut, IsTakenFailure, BringsOnly}
 use Rattle.runs.specs.States.{Event, Client, Datagram, TcpReply, Tick, Action, Turn, Served, Nobody, Own, OpenQuery, ClientQuery, recursive, Path, ByUdp, ByTcp, Ask, via_of, Open, State}
 use Rattle.runs.specs.States as states
 use Rattle.runs.specs.Messages.{Brings}
@@ -30,7 +30,6 @@ use Rattle.laws.proofs.Leaving.{IsWaitingFor, GoesOut, leaves_tell}
 use Rattle.laws.proofs.Later.{told_later, leads_later, work_on}
 use Rattle.laws.proofs.Enters as enters
 use Rattle.laws.proofs.Enters.{IsShown, taken_now, enters_sound, stops_told}
-use Rattle.laws.proofs.TimelyLists.{some_or_none}
 
 abbrev pub turn_of : Event → Served → Option (List Action) → Turn
 turn_of event served out = record { event = event; served = served; out = out }
@@ -215,7 +214,7 @@ module _ (port : ℕ) (home : Home) (k : ℕ) (turn : Turn) (past : List Turn) (
         let (sound, reach) = rules_reach port home (turn ∷ past) t k KnownNow TruncatedNow now lately_now a.count from a.first a.last first reached a.rules in
         leaves_tell port home (turn ∷ past) k KnownNow t from TruncatedNow now a.last next new after sound reach a.leaves
 
-    pub stop_tells : (input : Input) (after : Stores) → IsInputNow input → Stops input now j stores after → AreTold port home (turn ∷ past) after
+    pub stop_tells : (input : Input) (after : Stores) → IsInputNow input → BringsOnly input now j stores after → AreTold port home (turn ∷ past) after
     stop_tells input after is h = stops_told port home k turn past ask served asked KnownBefore KnownNow still_known now clock j stores told work.marks work.known work.top input after is h
 
 -- ---- a query that comes
@@ -236,13 +235,13 @@ module _ (port : ℕ) (home : Home) (run : List Turn) (k : ℕ) (K : Name → �
   none_added : {X : Type 0} (P : X → Type 0) (old new : List X) → ((x : X) → P x → ⊥) → KeepsOnly old P new → (x : X) → Contains new x → Contains old x
   none_added P old new none only x c = elim (only x c) [ inl d ↦ d | inr p ↦ absurd (none x p) ]
 
-  pub start_stops : (now : ℕ) (j : Job) (stores after : Stores) → AreTold port home run stores → Stops Start now j stores after → AreTold port home run after
+  pub start_stops : (now : ℕ) (j : Job) (stores after : Stores) → AreTold port home run stores → BringsOnly Start now j stores after → AreTold port home run after
   start_stops now j stores after told h = record {
     links = λ key e c. told.links key e (none_added (IsTakenEntry j Start now) stores.cache after.cache (λ x (s, l, c, kept). c) h.cache (key, e) c);
     cuts = λ n e c. told.cuts n e (none_added (IsTakenCut j Start now) stores.delegations after.delegations (λ x (s, at, ns, glue, ttl, c, none, is_cut, kept). none) h.delegations (n, e) c);
     failures = λ f since c. told.failures f since (none_added (IsTakenFailure j Start now) stores.failures after.failures (λ x (s, a, none, same). none) h.failures (f, since) c);
     low = elim h.penalties [
       | inl e ↦ subst (AreAtMost 8) (sym e) told.low
-      | inr (server, is, e) ↦ absurd (some_or_none (sym is))
+      | inr none ↦ absurd none
     ];
   }

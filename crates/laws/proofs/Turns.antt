@@ -8,7 +8,8 @@ use Rattle.causes.specs.declared.cause.Cause.TheVariants as cause
 use Rattle.front.specs.declared.queries.Outcome.{Outcome}
 use Rattle.front.specs.declared.queries.Outcome.TheVariants as outcome
 use Rattle.resolution.specs.Jobs.{Stores, Job, Input, Next, AskUdp, AskTcp, Done, Fail}
-use Rattle.resolution.specs.Rules.{Stops}
+use Rattle.resolution.specs.Stops.{Stops}
+use Rattle.resolution.proofs.Keeping.{stops_bring}
 use Rattle.runs.specs.States.{Action, Turn, Served, Own, OpenQuery, Plain, ClientQuery, recursive, Open, AreApart, State}
 use Rattle.runs.specs.Runs.{IsOpenAskOf, GivesOut, Came, clock_of, asks_among, asks_in, is_for, asks_of}
 use Rattle.runs.specs.Steps.{Ends, Comes, IsAsk, IsOpened, at_once, crowded, admitted, Resolves, IsInput, IsIgnored, ServesOpen, IsLate, IsLeft}
@@ -156,15 +157,15 @@ module _ (past : List Turn) (s : State) (h : IsExplained (s.site).port (s.site).
   ]) e.queries apart free
 
   pub starved_now : (q : Open) (new : State) → Contains s.queries q → turn.served ≡ OpenQuery q.number
-      → IsLeft s q.number (λ stores. (input : Input) × IsInput s turn.event q input × Stops input s.clock q.job s.stores stores) new → IsExplained (s.site).port (s.site).home (turn ∷ past) new
+      → IsLeft s q.number (λ stores. (input : Input) × IsInput s turn.event q input × Stops (s.site).home s.clock input q.job s.stores stores) new → IsExplained (s.site).port (s.site).home (turn ∷ past) new
   starved_now q new there is e =
       let sound = h.queries q there in
-      left_now q.number (λ stores. (input : Input) × IsInput s turn.event q input × Stops input s.clock q.job s.stores stores) new e
+      left_now q.number (λ stores. (input : Input) × IsInput s turn.event q input × Stops (s.site).home s.clock input q.job s.stores stores) new e
       (λ stores (input, brings, stops). (
         stop_tells (s.site).port (s.site).home q.number turn past q.ask is sound.asked (type_number ((q.client_query).query).kind) ((q.client_query).query).name q.job s.stores h.told.0 sound.work
-            s.clock clock input stores (is_input (s.site).port (s.site).home s q turn.event turn.served turn.out past q.number is sound.asked (KnownIn (s.site).port q.number past) (KnownIn (s.site).port q.number (turn ∷ past)) (λ n t a e. inr e) input refl brings) stops,
+            s.clock clock input stores (is_input (s.site).port (s.site).home s q turn.event turn.served turn.out past q.number is sound.asked (KnownIn (s.site).port q.number past) (KnownIn (s.site).port q.number (turn ∷ past)) (λ n t a e. inr e) input refl brings) (stops_bring (s.site).home s.clock input q.job s.stores stores stops),
         stop_timed (s.site).port (s.site).home q.number turn past q.ask is sound.asked (type_number ((q.client_query).query).kind) ((q.client_query).query).name q.job s.stores h.told.0 sound.work
-            s.clock clock h.told.1 sound.known sound.remote sound.plain input stores (is_input (s.site).port (s.site).home s q turn.event turn.served turn.out past q.number is sound.asked (KnownIn (s.site).port q.number past) (KnownIn (s.site).port q.number (turn ∷ past)) (λ n t a e. inr e) input refl brings) stops,
+            s.clock clock h.told.1 sound.known sound.remote sound.plain input stores (is_input (s.site).port (s.site).home s q turn.event turn.served turn.out past q.number is sound.asked (KnownIn (s.site).port q.number past) (KnownIn (s.site).port q.number (turn ∷ past)) (λ n t a e. inr e) input refl brings) (stops_bring (s.site).home s.clock input q.job s.stores stores stops),
       ))
       (others_apart q is) (others_free q there is)
 

@@ -38,6 +38,9 @@ abbrev pub IsOneOutcome : State → Event → Served → List Action → State �
 IsOneOutcome old event served out new =
     (instead : Served) (given : List Action) (also : State) → Step old event instead (Some given) also → (instead ≡ served) × (given ≡ out) × IsSameState new also
 
+abbrev pub HasOneOutcome : State → Turn → State → Type 0
+HasOneOutcome old t new = (out : List Action) → t.out ≡ Some out → IsOneOutcome old t.event t.served out new
+
 -- A step that does not run out of memory has one outcome.
 abbrev pub OneStep : Type 0
 OneStep =

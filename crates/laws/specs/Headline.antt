@@ -70,6 +70,10 @@ pub record IsRightAnswer (W : World) (t : Turn) (past : List Turn) (client : ℕ
 abbrev pub RepliesAreRight : World → Turn → List Turn → Type 0
 RepliesAreRight W t past = (client : ℕ) (way : Via) (bytes : List ℕ) (c : Option Cause) → GivesOut t.out (Reply client way bytes c) → IsRightAnswer W t past client way bytes c
 
+-- The same in each well formed world that has these local zones and hints, where servers were honest.
+abbrev pub IsRightInWorlds : Site → Turn → List Turn → Type 0
+IsRightInWorlds site t past = (W : World) → IsWorld W → IsHomeIn W site.home → IsHonest W site.port (t ∷ past) → RepliesAreRight W t past
+
 -- Every reply is right up to which servers were honest, whatever they send later.
 abbrev pub Headline : Type 0
 Headline = (W : World) (site : Site) (run : List Turn) (s : State) → IsWorld W → IsHomeIn W site.home → Run site run s

@@ -96,8 +96,11 @@ abbrev pub OpenByRun : Type 0
 OpenByRun = (site : Site) (run : List Turn) (s : State) → Run site run s → AreOpenByRun site.port run s.queries
 
 -- At most 40 asks go out for a query.
+abbrev pub HasFewAsks : List Turn → Type 0
+HasFewAsks run = (k : ℕ) → asks_of k run ≤ max_asks
+
 abbrev pub FewAsks : Type 0
-FewAsks = (site : Site) (run : List Turn) (s : State) → Run site run s → (k : ℕ) → asks_of k run ≤ max_asks
+FewAsks = (site : Site) (run : List Turn) (s : State) → Run site run s → HasFewAsks run
 
 -- The open asks of two queries from one socket to one server have two IDs.
 abbrev pub IsLine : Open → ℕ → Addr → ℕ → Type 0

@@ -22,4 +22,5 @@ pub mod KeptFailures
 pub mod Determined
 pub mod LookUps
 pub mod Meant
+pub mod OwnWork
 pub mod Uses

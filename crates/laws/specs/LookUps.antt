@@ -50,8 +50,11 @@ look_ups_by (OpenQuery k) site past old t new legal step = step_look_ups old t n
 -- ---- laws
 
 -- A query has at most 64 turns of servers' names.
+abbrev pub HasFewLookUps : (site : Site) (run : List Turn) (s : State) → Run site run s → Type 0
+HasFewLookUps site run s legal = (k : ℕ) → look_ups_of k site run s legal ≤ max_look_ups
+
 abbrev pub FewLookUps : Type 0
-FewLookUps = (site : Site) (run : List Turn) (s : State) (legal : Run site run s) (k : ℕ) → look_ups_of k site run s legal ≤ max_look_ups
+FewLookUps = (site : Site) (run : List Turn) (s : State) (legal : Run site run s) → HasFewLookUps site run s legal
 
 -- A call that fails since its look-ups are used up is one of a query that had 64.
 abbrev pub HadAllLookUps : (site : Site) (past : List Turn) (old : State) (t : Turn) (new : State) → Run site past old → Step old t.event t.served t.out new → Type 0

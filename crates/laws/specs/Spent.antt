@@ -101,8 +101,11 @@ SendsTo port k a n t turn past =
     (ask : Ask) × IsUdpPath ask.path × IsFor a n t ask × (turn.served ≡ OpenQuery k) × ((action : Action) × GivesOut turn.out action × IsSent port ask action)
 
 -- Two such ends are those of two asks over UDP: an ask that goes on over TCP ends once.
+abbrev pub AsksFailedTwice : ℕ → Home → List Turn → Type 0
+AsksFailedTwice port home run = (k : ℕ) (z n : Name) (t : ℕ) (a : Addr) → HasFailed port home run k z n t a → Twice (SendsTo port k a n t) run
+
 abbrev pub FailedIsAskedTwice : Type 0
-FailedIsAskedTwice = (port : ℕ) (home : Home) (k : ℕ) (z n : Name) (t : ℕ) (a : Addr) (run : List Turn) → HasFailed port home run k z n t a → Twice (SendsTo port k a n t) run
+FailedIsAskedTwice = (port : ℕ) (home : Home) (run : List Turn) → AsksFailedTwice port home run
 
 -- ---- links and addresses of servers' names
 

@@ -119,6 +119,10 @@ pub record HoldsTruth (W : World) (port : ℕ) (run : List Turn) (s : State) : T
   pub queries : (q : Open) → Contains s.queries q → IsTrueOpen W port run q
   pub numbers : (k : ℕ) (who : ClientQuery) → Earlier (Came (OpenQuery k) who) run → k < s.opened
 
+-- The same in each well formed world that has these local zones and hints, where servers were honest.
+abbrev pub IsTrueInWorlds : Site → List Turn → State → Type 0
+IsTrueInWorlds site run s = (W : World) → IsWorld W → IsHomeIn W site.home → IsHonest W site.port run → HoldsTruth W site.port run s
+
 -- In an honest run all data of the resolver are true.
 abbrev pub HeldIsTrue : Type 0
 HeldIsTrue = (W : World) (site : Site) (run : List Turn) (s : State) → IsWorld W → IsHomeIn W site.home → Run site run s → IsHonest W site.port run → HoldsTruth W site.port run s

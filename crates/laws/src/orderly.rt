@@ -5,6 +5,7 @@ ghost use Rattle.laws.specs.Determined.{OneCall, OneReading, OneStep};
 ghost use Rattle.laws.specs.FirstStates.{RoomStays};
 ghost use Rattle.laws.specs.LookUps.{FewLookUps, LookUpsAreSpent, StepsAreShort};
 ghost use Rattle.laws.specs.Meant.{ServedIsMeant, AtHandIsReplied, NobodyFailingIsAsked, OpenIsOfRun};
+ghost use Rattle.laws.specs.OwnWork.{OrderIsKept};
 ghost use Rattle.laws.specs.Times.{NothingIsLate};
 ghost use Rattle.laws.specs.Words.{WordsInOrder};
 
@@ -61,6 +62,13 @@ pub fn words_law()
 /// The capacity of each store is that of the first state.
 pub fn room_law()
     ensures { RoomStays }
+{}
+
+/// Where memory runs out in a step, the stores stand as they did, or as the work on its own query left them. The input
+/// was written, or part of it: a penalty as this input writes it, and one whole link or delegation at most. Then the
+/// entries that the query's look-ups used came to the front, one after another, and nothing else moved.
+pub fn order_law()
+    ensures { OrderIsKept }
 {}
 
 /// The outcome is determined. One input to the work on a query has one result, whichever rules lead to it, with one

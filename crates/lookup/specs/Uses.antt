@@ -1,15 +1,9 @@
--- Stores after look-ups alone.
-use Rattle.std.specs.Prelude.{◌≡◌}
-use Rattle.lru_laws.specs.Orders.{HasSame}
+-- Stores where memory runs out in a look-up.
+use Rattle.std.specs.Prelude.{◌≡◌, ℕ, ◌⊎◌}
+use Rattle.cache.specs.Cached.{Question}
 use Rattle.resolution.specs.Jobs.{Stores}
+use Rattle.resolution.specs.Stops.{after_look_up}
 
--- The same links, delegations and failures are there, at most in another order, and nothing else changed.
-pub record OnlyUses (old new : Stores) : Type 0 where
-  pub cache : HasSame old.cache new.cache
-  pub delegations : HasSame old.delegations new.delegations
-  pub penalties : new.penalties ≡ old.penalties
-  pub failures : HasSame old.failures new.failures
-  pub cache_cap : new.cache_cap ≡ old.cache_cap
-  pub delegations_cap : new.delegations_cap ≡ old.delegations_cap
-  pub penalties_cap : new.penalties_cap ≡ old.penalties_cap
-  pub failures_cap : new.failures_cap ≡ old.failures_cap
+-- The question was looked up in them, or it was not.
+abbrev pub IsAskedInPart : Question → ℕ → Stores → Stores → Type 0
+IsAskedInPart a now old new = (new ≡ old) ⊎ (new ≡ after_look_up a now old)

@@ -6,9 +6,9 @@
 //! cache next; where neither has a link, it gives the cut at which servers are sought: the one that the zones name, or
 //! a deeper one that is cached. `Taken` is a link with its source, and `into_sent` the link as it is sent.
 //!
-//! Promised: the link that is found, or that there is none and where the search starts (`IsFound`); a look-up leaves
-//! the same entries, in another order at most (`OnlyUses`); each call of the stores is one equation over `resolution`'s
-//! definitions.
+//! Promised: the link that is found, or that there is none and where the search starts (`IsFound`). Where memory runs
+//! out, the look-up was made in the stores, or it was not (`LooksInPart`). Each call of the stores is one equation over
+//! `resolution`'s definitions.
 //! Not here: asking servers (`iterate`).
 //!
 //! ```text

@@ -1,13 +1,15 @@
 //! The look-up without a query to a server: local zones, cache, and else the cut where the search starts.
-ghost use Rattle.std.specs.Prelude.{◌↔◌, IsTrue, IfOk};
+ghost use Rattle.std.specs.Prelude.{◌↔◌, IsTrue, IfOk, OnErr};
 ghost use Rattle.rdata.specs.Types.{type_number};
 ghost use Rattle.zone.specs.Zones.{IsBeneath};
 ghost use Rattle.dname.specs.Labels.{Name as NameSpec};
 ghost use Rattle.zone.specs.Look.{Cut as CutSpec, NotHere};
 ghost use Rattle.resolution.specs.Jobs.{Home as HomeSpec};
 ghost use Rattle.resolution.specs.Rules.{Begins};
+ghost use Rattle.resolution.specs.Stops.{LooksInPart};
 ghost use Rattle.lookup.specs.Found.{IsFound, IsKept, IsDeeper, IsBegun};
-ghost use Rattle.lookup.specs.Uses.{OnlyUses};
+ghost use Rattle.cache.specs.Cached.{asked_to};
+ghost use Rattle.lookup.specs.Uses.{IsAskedInPart};
 
 use crate::home::Home;
 use crate::made::cut_of;
@@ -53,7 +55,7 @@ fn find_kept<S: BuildHasher + Drop, A: Heap>(
     now: u64,
 ) -> Result<Kept<A>, Starved>
     ensures kept { IfOk result (λ k. IsKept top.now now name.now (type_number kind) stores.old k stores.new) }
-    ensures only { OnlyUses stores.old stores.new }
+    ensures part { OnErr result (IsAskedInPart (asked_to top.now name.now (type_number kind)) now stores.old stores.new) }
 {
     name.well_formed_law();
     match stores.look(name, kind, top, now)? {
@@ -131,7 +133,7 @@ fn found_beyond<A: Heap>(home: &Home<A>, kept: Kept<A>) -> Result<Found<A>, Star
 /// cache (RFC 1034, section 5.3.3, step 1). In the cache an NXDOMAIN of a name above counts, as far up as the cut that
 /// the local zones name (RFC 8020, section 2). Without a link it is the cut where servers are sought (step 2): the one
 /// that the local zones name, or a deeper one that is cached. Where they name none, it is the deepest cached one, or
-/// the root's. Running out of memory leaves the stores with the same entries.
+/// the root's. Where memory runs out, the look-up was made in the stores, or it was not.
 pub fn find<S: BuildHasher + Drop, A: Heap>(
     alloc: A,
     home: &Home<A>,
@@ -141,7 +143,7 @@ pub fn find<S: BuildHasher + Drop, A: Heap>(
     now: u64,
 ) -> Result<Found<A>, Starved>
     ensures found { IfOk result (λ f. IsFound home.now now name.now (type_number kind) stores.old f stores.new) }
-    ensures only { OnlyUses stores.old stores.new }
+    ensures part { OnErr result (LooksInPart home.now now name.now (type_number kind) stores.old stores.new) }
 {
     match home.catalog().look(alloc, name, kind)? {
         Local::Link(link) => Ok(Found::Known(Taken::local(name, link)?)),

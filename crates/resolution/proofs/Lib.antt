@@ -1,3 +1,4 @@
 pub mod Falls
 pub mod Keeping
+pub mod Looked
 pub mod Passing

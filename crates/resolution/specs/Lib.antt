@@ -1,4 +1,5 @@
 -- To be read: what the words of the contracts mean.
 pub mod Jobs
 pub mod Rules
+pub mod Stops
 pub mod Laws

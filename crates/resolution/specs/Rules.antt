@@ -271,13 +271,6 @@ IsClass j (Told via server m) s c = ((rest : List Search) × (j.searches ≡ s �
 IsClass j (TimedOut server) s c = ⊥
 IsClass j (TcpFailed server) s c = ⊥
 
--- The server whose answer, or failure to answer, is the input.
-abbrev pub server_of : Input → Option Addr
-server_of Start = None
-server_of (Told via server m) = Some server
-server_of (TimedOut server) = Some server
-server_of (TcpFailed server) = Some server
-
 -- An entry that such a message may add to the stores.
 abbrev pub IsTakenEntry : Job → Input → ℕ → Key × Hit → Type 0
 IsTakenEntry j input now e = (s : Search) × (l : Link) × IsClass j input s (class.Answer l) × cache.IsKept s.name s.kind (hit_from l now) e
@@ -310,18 +303,22 @@ IsLostCut j input now stores e =
 abbrev pub IsLostFailure : Job → Input → Stores → FailedAsk × ℕ → Type 0
 IsLostFailure j input stores e = (s : Search) × (a : Addr) × IsFailureOf j input s a × MayGo same_failed stores.failures_cap (ask_of s a) stores.failures e
 
--- The stores where memory ran out on the way. What was accepted may be cached or not, and what one `keep` of it pushes
--- out may be gone; every other entry that was there stays, maybe in another order, and nothing else is new. The penalty
--- may be written or not.
-pub record Stops (input : Input) (now : ℕ) (old : Job) (stores after : Stores) : Type 0 where
+-- The penalties after the input: that of a server that answered is halved, that of one that did not is raised.
+abbrev pub WritesPenalty : Input → Stores → List (Addr × ℕ) → Type 0
+WritesPenalty Start stores penalties = ⊥
+WritesPenalty (Told via server m) stores penalties = penalties ≡ answered server stores.penalties
+WritesPenalty (TimedOut server) stores penalties = penalties ≡ timed_out server stores.penalties_cap stores.penalties
+WritesPenalty (TcpFailed server) stores penalties = penalties ≡ timed_out server stores.penalties_cap stores.penalties
+
+-- What a call brings into the stores and takes from them, whole or where memory ran out on the way. What was accepted
+-- may be cached or not, and what one `keep` of it pushes out may be gone; every other entry that was there stays, maybe
+-- in another order, and nothing else is new. A penalty is as it was, or as this input writes it.
+pub record BringsOnly (input : Input) (now : ℕ) (old : Job) (stores after : Stores) : Type 0 where
   pub cache : KeepsOnly stores.cache (IsTakenEntry old input now) after.cache
   pub cache_lost : LosesOnly stores.cache (IsLostEntry old input now stores) after.cache
   pub delegations : KeepsOnly stores.delegations (IsTakenCut old input now) after.delegations
   pub delegations_lost : LosesOnly stores.delegations (IsLostCut old input now stores) after.delegations
-  pub penalties :
-      (after.penalties ≡ stores.penalties)
-      ⊎ ((server : Addr) × (server_of input ≡ Some server)
-      × ((after.penalties ≡ answered server stores.penalties) ⊎ (after.penalties ≡ timed_out server stores.penalties_cap stores.penalties)))
+  pub penalties : (after.penalties ≡ stores.penalties) ⊎ WritesPenalty input stores after.penalties
   pub failures : KeepsOnly stores.failures (IsTakenFailure old input now) after.failures
   pub failures_lost : LosesOnly stores.failures (IsLostFailure old input stores) after.failures
   pub cache_cap : after.cache_cap ≡ stores.cache_cap

@@ -7,9 +7,9 @@
 //! build on them.
 //!
 //! Promised: the rules end (`end_law`). A link that was accepted for a query serves that query, whatever its TTL
-//! (`received_law`). Where memory ran out nothing is new in the stores beside what was accepted, and nothing is gone
-//! from them beside what one `keep` of that pushes out (`stores_law`). Not here: clients, sockets and identifiers
-//! (`runs`).
+//! (`received_law`). Where memory ran out, part of an input was used; or the input was, some rules, and part of one
+//! more (`Stops`). Nothing is new in the stores then beside what was accepted, and nothing is gone from them beside
+//! what one `keep` of that pushes out (`stores_law`). Not here: clients, sockets and identifiers (`runs`).
 //!
 //! ```text
 //! ghost use Rattle.resolution.specs.Rules.{Advances};

@@ -11,13 +11,15 @@ use Rattle.message_grammar.specs.Messages.{Message}
 use Rattle.wire.specs.declared.via.Via.{Via}
 use Rattle.front.specs.Queries.{IsRequest}
 use Rattle.front.specs.Chains.{AnswersLocally}
+use Rattle.front.specs.declared.queries.Query.{Query}
 use Rattle.front.specs.declared.queries.Request.{Request}
 use Rattle.front.specs.declared.queries.Request.TheVariants as request
 use Rattle.front.specs.declared.queries.Outcome.{Outcome}
 use Rattle.front.specs.declared.queries.Outcome.TheVariants as outcome
 use Rattle.resolution.specs.Jobs.{Stores, Job, wait_of_job, Input, Start, Told, TimedOut, Next, AskUdp, AskTcp, Done, Fail}
 use Rattle.resolution.specs.Jobs as jobs
-use Rattle.resolution.specs.Rules.{Advances, Stops}
+use Rattle.resolution.specs.Rules.{Advances}
+use Rattle.resolution.specs.Stops.{Stops}
 use Rattle.runs.specs.States.{Endpoint, Event, Client, Datagram, TcpReply, TcpFailed, Tick, Action, MoreDue, Served, Nobody, Own, OpenQuery, Plain, ClientQuery, client_query, recursive, job_for, ByUdp, ByTcp, via_of, Ask, IsFor, Open, open_query, due_moment, AreApart, State, moved, word_of, word_taken, low_half, socket_of}
 use Rattle.runs.specs.Messages.{IsSent, Brings, id_in, outcome_of, IsReply, IsRefusal}
 
@@ -234,8 +236,8 @@ IsMeant s (TcpReply now number bytes) q = IsOfNumber number q
 IsMeant s (TcpFailed now number) q = IsOfNumber number q
 IsMeant s (Tick now) q = IsFirstDue s q
 
--- The query is dropped without a reply. The stores stand as they did, or as its work left them on the way; a word of
--- the generator may have been taken.
+-- The query is dropped without a reply. The stores stand as they did, or as its work left them on the way: the work on
+-- the client's own query, or that on the open query by the event's input. A word of the generator may have been taken.
 pub record IsLeft (s : State) (k : ℕ) (IsOnTheWay : Stores → Type 0) (new : State) : Type 0 where
   pub queries : AreOthers k s.queries new.queries
   pub stores : (new.stores ≡ s.stores) ⊎ IsOnTheWay new.stores
@@ -244,10 +246,11 @@ pub record IsLeft (s : State) (k : ℕ) (IsOnTheWay : Stores → Type 0) (new : 
 
 abbrev pub IsStarved : State → Event → Served → State → Type 0
 IsStarved s (Client now client way bytes) served new =
-    (served ≡ Own) × IsLeft s s.opened (λ stores. (j : Job) × Stops Start s.clock j s.stores stores) new
+    (served ≡ Own)
+    × IsLeft s s.opened (λ stores. (q : Query Plain) × IsRequest bytes (request.Query q) × (recursive q ≡ true) × Stops (s.site).home s.clock Start (job_for s.clock q) s.stores stores) new
 IsStarved s event served new =
     (q : Open) × Contains s.queries q × (served ≡ OpenQuery q.number) × IsMeant s event q
-    × IsLeft s q.number (λ stores. (input : Input) × IsInput s event q input × Stops input s.clock q.job s.stores stores) new
+    × IsLeft s q.number (λ stores. (input : Input) × IsInput s event q input × Stops (s.site).home s.clock input q.job s.stores stores) new
 
 -- ---- a step
 

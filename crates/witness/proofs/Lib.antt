@@ -3,6 +3,7 @@ pub mod Cached
 pub mod Course
 pub mod Failing
 pub mod Place
+pub mod Servers
 pub mod Steps
 pub mod Streams
 pub mod Talk

@@ -1,6 +1,6 @@
 -- The premises of the laws over runs can be met: by a run in which a referral is followed and a query answered, by one
 -- in which servers are silent, one in which a server fails, one in which memory is refused, one in which the cache
--- answers, and one that goes on over TCP.
+-- answers, one that goes on over TCP, one that follows an alias, and one that looks up a server's name.
 use Rattle.std.specs.Prelude.{◌≡◌, ◌≢◌, ℕ, ◌<◌, true, Some, None, List, [], ◌∷◌, ◌++◌, Contains}
 use Rattle.dname.specs.Labels.{Name, root}
 use Rattle.rdata.specs.Data.{Ipv4}
@@ -15,9 +15,11 @@ use Rattle.front.specs.declared.queries.Request.TheVariants as request
 use Rattle.front.specs.declared.queries.Query.{Query}
 use Rattle.cache.specs.Cached.{is_live}
 use Rattle.resolution.specs.Jobs.{Taken}
+use Rattle.zone.specs.Zones.{a_type}
 use Rattle.zone.specs.Links.{Alias}
 use Rattle.front.specs.Chains.{alias_target}
 use Rattle.classify.specs.Classes.{Answer, Referral, class_of}
+use Rattle.classify.specs.Targets.{targets_of}
 use Rattle.world_truth.specs.Worlds.{World, IsWorld}
 use Rattle.runs.specs.States.{Client, TcpReply, Tick, Action, Reply, Own, OpenQuery, Turn, Plain, ClientQuery, recursive, ByTcp, Ask, Site, State, via_of}
 use Rattle.runs.specs.Messages.{IsSent}
@@ -230,3 +232,45 @@ pub record IsAnsweredByAlias (port : ℕ) (run : List Turn) : Type 0 where
 
 abbrev pub AliasStands : Type 0
 AliasStands = (W : World) × (site : Site) × (run : List Turn) × (s : State) × AreMet W site run s × IsAnsweredByAlias site.port run
+
+-- ---- names of servers
+
+-- A step accepts a referral for the open ask of query k that names a server and gives no address, and asks for one. The
+-- next step accepts it, and asks the server at it what was asked before (RFC 1034, section 5.3.3, steps 2 and 3); the
+-- last one replies.
+pub record LooksUpServer (port : ℕ) (run : List Turn) : Type 0 where
+  pub k : ℕ
+  pub who : ClientQuery
+  pub last : Turn
+  pub found : Turn
+  pub referred : Turn
+  pub past : List Turn
+  pub run_is : run ≡ last ∷ found ∷ referred ∷ past
+  pub ask : Ask
+  pub message : Message
+  pub accepts : Accepts port k ask message referred past
+  pub cut : Name
+  pub servers : List Record
+  pub ttl : ℕ
+  pub refers : class_of root ask.name ask.kind (via_of ask.path) message ≡ Referral cut servers [] ttl
+  pub server : Name
+  pub named : Contains (targets_of servers) server
+  pub inner : Ask
+  pub action : Action
+  pub gives : GivesOut referred.out action
+  pub sent : IsSent port inner action
+  pub sought : (inner.name ≡ server) × (inner.kind ≡ a_type)
+  pub reply : Message
+  pub heard : Accepts port k inner reply found (referred ∷ past)
+  pub address : Record
+  pub stands : Contains reply.answer address
+  pub next : Ask
+  pub asking : Action
+  pub asks_on : GivesOut found.out asking
+  pub sent_on : IsSent port next asking
+  pub same : (next.name ≡ ask.name) × (next.kind ≡ ask.kind)
+  pub value : address.value ≡ Ipv4 (next.server).0
+  pub replies : RepliesWithRecord k who last (found ∷ referred ∷ past)
+
+abbrev pub LookUpStands : Type 0
+LookUpStands = (W : World) × (site : Site) × (run : List Turn) × (s : State) × AreMet W site run s × LooksUpServer site.port run

@@ -1,12 +1,13 @@
 //! That the laws stand of something, as a function that does nothing, whose clauses are proved.
 
-ghost use Rattle.witness.specs.Stands.{LawsStand, SilenceStands, KnownFailureStands, StarvedStands, CacheStands, StreamStands, AliasStands};
+ghost use Rattle.witness.specs.Stands.{LawsStand, SilenceStands, KnownFailureStands, StarvedStands, CacheStands, StreamStands, AliasStands, LookUpStands};
 
 /// The laws over runs are of something: there is a well formed world and an honest run in it, in which a client
 /// asks, the server that is asked refers the resolver to another, and that one's answer goes to the client. There are runs
 /// in which the only server is silent and the query fails for want of servers, in which it fails and the query with it, in
 /// which memory is refused, in which the same question is answered from the cache a second later, in which a truncated
-/// answer is asked for again over TCP, and in which an alias is followed to its target.
+/// answer is asked for again over TCP, in which an alias is followed to its target, and in which the address of a server
+/// is looked up that a referral names without one.
 pub fn laws_stand()
     ensures answered { LawsStand }
     ensures silent { SilenceStands }
@@ -15,4 +16,5 @@ pub fn laws_stand()
     ensures cached { CacheStands }
     ensures stream { StreamStands }
     ensures alias { AliasStands }
+    ensures look_up { LookUpStands }
 {}

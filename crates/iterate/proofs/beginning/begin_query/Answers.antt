@@ -1,15 +1,13 @@
 use Rattle.std.proofs.Common.{refl}
-use Rattle.std.proofs.lemmas.Result.{on_err_weaker}
 use Rattle.rdata.specs.Types.{type_number}
 use Rattle.resolution.specs.Jobs.{Job, job_at}
-use Rattle.lookup.proofs.Uses.{uses_then}
 use Rattle.iterate.proofs.Accepted.{on_err}
-use Rattle.iterate.proofs.QueryStarts.{begins_known, uses_started}
+use Rattle.iterate.proofs.QueryStarts.{begins_known, stops_first}
 use Rattle.iterate.proofs.beginning.begin_query.Goals as goal
 
 pub returns-in_err-last-clause-stops : goal.returns-in_err-last-clause-stops
 returns-in_err-last-clause-stops g c =
-    on_err c.from_residual.result (uses_started c.args.now (job_at c.args.name.now (type_number c.args.kind) c.args.now) c.args.stores.now c.find.new.stores c.in_err-last.ensures.only)
+    on_err c.from_residual.result (stops_first c.args.home.now c.args.now (job_at c.args.name.now (type_number c.args.kind) c.args.now) c.args.stores.now c.find.new.stores c.in_err-last.ensures.part)
 
 pub returns-then-is_end-clause-begins : goal.returns-then-is_end-clause-begins
 returns-then-is_end-clause-begins g c =
@@ -20,13 +18,7 @@ pub returns-else-is_end-clause-begins : goal.returns-else-is_end-clause-begins
 returns-else-is_end-clause-begins g c = c.work.ensures.begins c.args.stores.now (rw c.in-Known.is at c.in_ok-last.ensures.found)
 
 pub returns-else-is_end-clause-stops : goal.returns-else-is_end-clause-stops
-returns-else-is_end-clause-stops g c =
-    on_err_weaker c.work.result
-    (λ uses. uses_started c.args.now (job_at c.args.name.now (type_number c.args.kind) c.args.now) c.args.stores.now c.work.new.stores (uses_then c.args.stores.now c.find.new.stores c.work.new.stores c.in_ok-last.ensures.only uses))
-    c.work.ensures.only
+returns-else-is_end-clause-stops g c = c.work.ensures.stops c.args.stores.now (rw c.in-Known.is at c.in_ok-last.ensures.found)
 
 pub returns-in-Start-clause-stops : goal.returns-in-Start-clause-stops
-returns-in-Start-clause-stops g c =
-    on_err_weaker c.work-in-Start.result
-    (λ uses. uses_started c.args.now (job_at c.args.name.now (type_number c.args.kind) c.args.now) c.args.stores.now c.work-in-Start.new.stores (uses_then c.args.stores.now c.find.new.stores c.work-in-Start.new.stores c.in_ok-last.ensures.only uses))
-    c.work-in-Start.ensures.only
+returns-in-Start-clause-stops g c = c.work-in-Start.ensures.stops c.args.stores.now (rw c.in-Start.is at c.in_ok-last.ensures.found)

@@ -1,9 +1,10 @@
-use Rattle.std.proofs.Common.{subst, ap, ◌∙◌, IfOk}
+use Rattle.std.proofs.Common.{subst, ap, ◌∙◌, IfOk, OnErr}
 use Rattle.dname.specs.Labels.{Name}
 use Rattle.rdata.specs.Types.{type_number}
-use Rattle.resolution.specs.Jobs.{Job, job_at}
+use Rattle.resolution.specs.Jobs.{Job, job_at, Start}
+use Rattle.resolution.specs.Stops.{Stops}
 use Rattle.iterate.specs.Beginnings.{StartsWith}
-use Rattle.iterate.proofs.QueryStarts.{found_of}
+use Rattle.iterate.proofs.QueryStarts.{found_of, stops_found}
 use Rattle.iterate.proofs.beginning.work.Goals as goal
 
 pub set_out-requires : goal.set_out-requires
@@ -20,3 +21,13 @@ returns-in-Ok-clause-begins g c = λ before found.
     let is = c.new.ensures ∙ ap (λ (n : Name). job_at n t c.args.now) c.in-Ok.ensures in
     subst (λ (j : Job). IfOk c.set_out.result (λ b. StartsWith c.args.home.now c.args.now j before b c.set_out.new.stores)) is
     (c.set_out.ensures.begins before (found_of c.args.home.now c.args.now (job_at c.args.name.now t c.args.now) c.new.result before c.args.stores.now c.args.found is found))
+
+pub returns-in-Err-clause-stops : goal.returns-in-Err-clause-stops
+returns-in-Err-clause-stops g c = λ before found. stops_found c.args.home.now c.args.now (job_at c.args.name.now (type_number c.args.kind) c.args.now) before c.args.found c.args.stores.now found
+
+pub returns-in-Ok-clause-stops : goal.returns-in-Ok-clause-stops
+returns-in-Ok-clause-stops g c = λ before found.
+    let t = type_number c.args.kind in
+    let is = c.new.ensures ∙ ap (λ (n : Name). job_at n t c.args.now) c.in-Ok.ensures in
+    subst (λ (j : Job). OnErr c.set_out.result (Stops c.args.home.now c.args.now Start j before c.set_out.new.stores)) is
+    (c.set_out.ensures.stops before (found_of c.args.home.now c.args.now (job_at c.args.name.now t c.args.now) c.new.result before c.args.stores.now c.args.found is found))

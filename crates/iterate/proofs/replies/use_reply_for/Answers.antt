@@ -1,4 +1,4 @@
-use Rattle.std.proofs.Common.{◌≡◌, sym, ap, ◌∙◌, subst, IfOk}
+use Rattle.std.proofs.Common.{◌≡◌, inl, sym, ap, ◌∙◌, subst, IfOk}
 use Rattle.std.proofs.lemmas.Result.{on_err_weaker}
 use Rattle.authority.specs.Answers.{link_view}
 use Rattle.classify.specs.Classes as class
@@ -8,7 +8,7 @@ use Rattle.resolution.specs.Jobs.{point}
 use Rattle.resolution.specs.Rules.{ByClass}
 use Rattle.iterate.specs.Moves.{with_search}
 use Rattle.iterate.specs.Views.{task_view}
-use Rattle.iterate.proofs.Accepted.{failure_stops, kept_stops, on_err}
+use Rattle.iterate.proofs.Accepted.{kept_part, on_err}
 use Rattle.iterate.proofs.Narrowly.{is_answer, same_use}
 use Rattle.iterate.proofs.replies.use_reply_for.Goals as goal
 
@@ -21,27 +21,26 @@ returns-in-Ok-Answer-clause-by g c = λ via m for.
     (λ (k : class.Class). IfOk c.answer.result (λ t. ByClass c.args.now c.args.server c.args.search (c.args.job.now).searches k (with_search c.args.job.now c.args.search) c.args.stores.now (point (task_view t) c.answer.new.job c.answer.new.stores)))
     (sym classed) c.answer.ensures.by
 
-pub returns-in-Ok-Answer-clause-stops : goal.returns-in-Ok-Answer-clause-stops
-returns-in-Ok-Answer-clause-stops g c = λ via m for before is.
+pub returns-in-Ok-Answer-clause-part : goal.returns-in-Ok-Answer-clause-part
+returns-in-Ok-Answer-clause-part g c = λ via m for before is.
     let at = c.zone-zone.ensures ∙ ap (λ (f : Frame). f.zone) c.frame.ensures in
     let same = same_use c.zone-zone.result.now c.args.search via m (reading_view c.args.reading.now) (class_view c.in-Ok-Answer.field-0) at c.narrow_law.ensures for c.in-Ok-Answer.ensures in
     let classed = is_answer _ (class_view c.in-Ok-Answer.field-0) (link_view c.in-Ok-Answer.link) same (ap class_view c.in-Ok-Answer.field-0-is) in
     on_err_weaker c.answer.result
-    (kept_stops c.args.now c.args.job.now before c.args.stores.now c.answer.new.stores via c.args.server m c.args.search (link_view c.in-Ok-Answer.link) is classed)
+    (kept_part c.args.now before c.args.stores.now c.answer.new.stores via c.args.server m c.args.search (link_view c.in-Ok-Answer.link) is classed)
     c.answer.ensures.stops
 
-pub returns-in_err-refer-in-Ok-Referral-clause-stops : goal.returns-in_err-refer-in-Ok-Referral-clause-stops
-returns-in_err-refer-in-Ok-Referral-clause-stops g c = λ via m for before is.
-    on_err c.from_residual.result (failure_stops c.args.now c.args.job.now before c.refer.new.stores via c.args.server m c.args.search
-    (c.in_err-refer-in-Ok-Referral.ensures.err ∙ is))
+pub returns-in_err-refer-in-Ok-Referral-clause-part : goal.returns-in_err-refer-in-Ok-Referral-clause-part
+returns-in_err-refer-in-Ok-Referral-clause-part g c = λ via m for before is.
+    on_err c.from_residual.result (inl (c.in_err-refer-in-Ok-Referral.ensures.err ∙ is))
 
-pub returns-in_err-push-in-Ok-Truncated-clause-stops : goal.returns-in_err-push-in-Ok-Truncated-clause-stops
-returns-in_err-push-in-Ok-Truncated-clause-stops g c = λ via m for before is.
-    on_err c.from_residual-in_err-push-in-Ok-Truncated.result (failure_stops c.args.now c.args.job.now before c.args.stores.now via c.args.server m c.args.search is)
+pub returns-in_err-push-in-Ok-Truncated-clause-part : goal.returns-in_err-push-in-Ok-Truncated-clause-part
+returns-in_err-push-in-Ok-Truncated-clause-part g c = λ via m for before is.
+    on_err c.from_residual-in_err-push-in-Ok-Truncated.result (inl is)
 
-pub returns-in_err-push-in-Ok-Failed-clause-stops : goal.returns-in_err-push-in-Ok-Failed-clause-stops
-returns-in_err-push-in-Ok-Failed-clause-stops g c = λ via m for before is.
-    on_err c.from_residual-in_err-push-in-Ok-Failed.result (failure_stops c.args.now c.args.job.now before c.args.stores.now via c.args.server m c.args.search is)
+pub returns-in_err-push-in-Ok-Failed-clause-part : goal.returns-in_err-push-in-Ok-Failed-clause-part
+returns-in_err-push-in-Ok-Failed-clause-part g c = λ via m for before is.
+    on_err c.from_residual-in_err-push-in-Ok-Failed.result (inl is)
 
-pub returns-in-Err-clause-stops : goal.returns-in-Err-clause-stops
-returns-in-Err-clause-stops g c = λ via m for before is. failure_stops c.args.now c.args.job.now before c.args.stores.now via c.args.server m c.args.search is
+pub returns-in-Err-clause-part : goal.returns-in-Err-clause-part
+returns-in-Err-clause-part g c = λ via m for before is. inl is

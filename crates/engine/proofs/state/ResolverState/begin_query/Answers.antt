@@ -2,7 +2,7 @@ use Rattle.std.proofs.Common.{[], refl}
 use Rattle.std.proofs.lemmas.Result.{IfOk-weaker, on_err_weaker}
 use Rattle.iterate.specs.Views.{next_view}
 use Rattle.resolution.specs.Jobs.{Done}
-use Rattle.runs.specs.States.{State, job_for}
+use Rattle.runs.specs.States.{State}
 use Rattle.engine.specs.ResolverStates.{state_of}
 use Rattle.engine.specs.Replies.{alone}
 use Rattle.engine.proofs.Started.{next_is_fresh}
@@ -19,7 +19,7 @@ admit-requires g c =
 
 pub returns-in_err-last-clause-err : goal.returns-in_err-last-clause-err
 returns-in_err-last-clause-err g c =
-    at_err c.from_residual.result (lost_in (state_of c.args.self.now) (job_for c.args.self.now.clock c.args.client_query.query) c.begun.new.stores c.requires.sound c.in_err-last.ensures.stops)
+    at_err c.from_residual.result (lost_in (state_of c.args.self.now) c.args.client_query.query c.begun.new.stores c.requires.sound c.in_err-last.ensures.stops)
 
 pub returns-in-Answered-clause-ok : goal.returns-in-Answered-clause-ok
 returns-in-Answered-clause-ok g c =
@@ -35,7 +35,7 @@ returns-in-Answered-clause-err g c =
     let mid : State = record s { stores = c.begun.new.stores } in
     let known = rw c.in-Answered.is at c.in_ok-last.ensures.begins in
     at_err c.answer.result
-    (lost_after s mid (job_for s.clock c.args.client_query.query) (Done [] c.in-Answered.last) known.0 c.begun.new.stores (state_of c.answer.new.self) c.requires.sound refl known.1 (halts_same mid (state_of c.answer.new.self) c.answer.ensures.same))
+    (lost_after s mid c.args.client_query.query (Done [] c.in-Answered.last) known.0 c.begun.new.stores (state_of c.answer.new.self) c.requires.sound refl known.1 (halts_same mid (state_of c.answer.new.self) c.answer.ensures.same))
 
 pub returns-in-Working-clause-ok : goal.returns-in-Working-clause-ok
 returns-in-Working-clause-ok g c =
@@ -49,6 +49,6 @@ pub returns-in-Working-clause-err : goal.returns-in-Working-clause-err
 returns-in-Working-clause-err g c =
     let s : State = state_of c.args.self.now in
     on_err_weaker c.admit.result
-    (lost_after s (record s { stores = c.begun.new.stores }) (job_for s.clock c.args.client_query.query) (next_view c.in-Working.next) c.in-Working.job c.begun.new.stores (state_of c.admit.new.self) c.requires.sound refl
+    (lost_after s (record s { stores = c.begun.new.stores }) c.args.client_query.query (next_view c.in-Working.next) c.in-Working.job c.begun.new.stores (state_of c.admit.new.self) c.requires.sound refl
     (rw c.in-Working.is at c.in_ok-last.ensures.begins))
     c.admit.ensures.err

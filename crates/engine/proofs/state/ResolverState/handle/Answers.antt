@@ -5,7 +5,7 @@ use Rattle.runs.specs.States.{State}
 use Rattle.typed.specs.Views.{said_view}
 use Rattle.engine.specs.ResolverStates.{state_of}
 use Rattle.engine.specs.Replies.{alone}
-use Rattle.engine.specs.Calls.{Handles}
+use Rattle.engine.specs.Calls.{Handles, IsGone}
 use Rattle.engine.proofs.Called.{at_err, lost_none, handles_dropped, handles_refused, handles_query}
 use Rattle.engine.proofs.state.ResolverState.handle.Goals as goal
 
@@ -31,4 +31,5 @@ returns-in_ok-resolve-in-Query-clause-ok g c =
     (handles_query s c.args.client c.args.way (plain c.in-Query.query) (alone c.in_ok-resolve-in-Query.field-0) new c.in_ok-resolve-in-Query.ensures.ok)
 
 pub returns-in_err-resolve-in-Query-clause-err : goal.returns-in_err-resolve-in-Query-clause-err
-returns-in_err-resolve-in-Query-clause-err g c = at_err _ c.in_err-resolve-in-Query.ensures.err
+returns-in_err-resolve-in-Query-clause-err g c =
+    at_err _ (subst (λ (x : Request _). IsGone (state_of c.args.self.now) (plain_asked x) (state_of c.resolve.new.self)) (sym c.in-Query.is) c.in_err-resolve-in-Query.ensures.err)
