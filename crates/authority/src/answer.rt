@@ -1,5 +1,5 @@
 //! The result of a look-up: the link of a name, or the zone cut over it.
-ghost use Rattle.std.specs.Prelude.{◌≡◌};
+ghost use Rattle.std.specs.Prelude.{◌≡◌, ◌↔◌, IsTrue};
 
 use dname::{Heap, Name};
 use rdata::{Record, RecordSet, Records};
@@ -27,6 +27,22 @@ impl<A: Heap> Clone for Link<A> {
             Link::Alias(record) => Ok(Link::Alias(record.clone()?)),
             Link::NoData(soa) => Ok(Link::NoData(soa.clone()?)),
             Link::NxDomain(soa) => Ok(Link::NxDomain(soa.clone()?)),
+        }
+    }
+}
+
+impl<A: Allocator> Link<A> {
+    /// Whether both are one link, TTLs and all.
+    #[tactic(auto, using(rdata::proofs::Exact::exact))]
+    pub fn same(&self, other: &Link<A>) -> bool
+        ensures { IsTrue result ↔ (self.now ≡ other.now) }
+    {
+        match (self, other) {
+            (Link::Found(set), Link::Found(other)) => set == other,
+            (Link::Alias(record), Link::Alias(other)) => record == other,
+            (Link::NoData(soa), Link::NoData(other)) => soa == other,
+            (Link::NxDomain(soa), Link::NxDomain(other)) => soa == other,
+            _ => false,
         }
     }
 }

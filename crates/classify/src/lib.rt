@@ -28,6 +28,8 @@
 #![tactic(auto)]
 
 mod class;
+mod copies;
+mod equality;
 mod laws;
 mod lifetimes;
 mod narrowing;

@@ -5,9 +5,11 @@ use Rattle.book.specs.Histories.{Line, LeadsMachine}
 use Rattle.events.specs.declared.event.Event.{Event}
 use Rattle.events.specs.Views.{event_view}
 use Rattle.runs.specs.States.{Action, State, IsNew}
+use Rattle.typed.specs.Events.{Parsed}
+use Rattle.typed.specs.declared.action.TypedActions.{TypedActions}
 use Rattle.engine.specs.Beginnings.{IsBegun, first_state}
 use Rattle.engine.specs.Promises.{Steps, turn_of}
-use Rattle.engine.specs.Histories.{Moves, out_of, IsRunOf}
+use Rattle.engine.specs.Histories.{Moves, out_of, IsRunOf, written_of, TypedMoves, IsTypedRunOf}
 
 begun_is_new : (start : State) → IsBegun start → IsNew start.site start
 begun_is_new start h =
@@ -44,3 +46,17 @@ module _ (A : Type 0) where
   history_is_run workers start [] s begun same = record { run = []; legal = subst (λ (z : State). IsNew start.site z) same (begun_is_new start begun); first = sym same; shows = tt }
   history_is_run workers start (e ∷ older) s begun h =
       one_more e older start h.0 s (history_is_run workers start older h.0 begun h.1) (step_by e.event e.out h.0 s h.2)
+
+module _ (A : Type 0) where
+  one_more_typed : (e : Line Parsed (TypedActions A)) (older : List (Line Parsed (TypedActions A))) (start mid s : State) → IsTypedRunOf A older start mid → TypedMoves mid e.event e.out s → IsTypedRunOf A (e ∷ older) start s
+  one_more_typed e older start mid s before (event, reads, steps) = record {
+    run = turn_of event steps.served (written_of e.out) ∷ before.run;
+    legal = (mid, before.legal, steps.step);
+    first = before.first;
+    shows = (reads, refl, before.shows);
+  }
+
+  pub typed_history_is_run : (workers : ℕ) (start : State) (lines : List (Line Parsed (TypedActions A))) (s : State)
+      → IsBegun start → LeadsMachine (TypedMoves {A = A}) workers start lines s → IsTypedRunOf A lines start s
+  typed_history_is_run workers start [] s begun same = record { run = []; legal = subst (λ (z : State). IsNew start.site z) same (begun_is_new start begun); first = sym same; shows = tt }
+  typed_history_is_run workers start (e ∷ older) s begun h = one_more_typed e older start h.0 s (typed_history_is_run workers start older h.0 begun h.1) h.2

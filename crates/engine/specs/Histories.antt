@@ -4,9 +4,12 @@ use Rattle.memory.specs.declared.Starved.{Starved}
 use Rattle.book.specs.Histories.{Line, LeadsMachine}
 use Rattle.events.specs.declared.event.Event.{Event}
 use Rattle.events.specs.Views.{event_view}
-use Rattle.runs.specs.States.{Action, Turn, State}
+use Rattle.runs.specs.States.{Event as EventSpec, Action, Turn, State}
 use Rattle.runs.specs.Runs.{Run}
 use Rattle.laws.specs.FirstStates.{first_of}
+use Rattle.typed.specs.Events.{Parsed, ReadAs}
+use Rattle.typed.specs.Views.{said_listed}
+use Rattle.typed.specs.declared.action.TypedActions.{TypedActions}
 use Rattle.engine.specs.Beginnings.{IsBegun}
 use Rattle.engine.specs.Promises.{Steps}
 
@@ -37,3 +40,33 @@ abbrev pub HistoryIsRun : Type 0 → Type 0
 HistoryIsRun A =
     (workers : ℕ) (start : State) (lines : List (Line (Event A) (List Action))) (s : State)
     → IsBegun start → LeadsMachine (Moves {A = A}) workers start lines s → IsRunOf A lines start s
+
+-- ---- the machine whose messages are read before its steps and written after them
+
+-- What goes out, once it is written.
+abbrev pub written_of : {A : Type 0} → Result (TypedActions A) Starved → Option (List Action)
+written_of (Ok said) = Some (said_listed said.first said.more_due)
+written_of (Err refused) = None
+
+-- A step on some event that is read so.
+abbrev pub TypedMoves : {A : Type 0} → State → Parsed → Result (TypedActions A) Starved → State → Type 0
+TypedMoves s parsed result new = (e : EventSpec) × ReadAs e parsed × Steps s e (written_of result) new
+
+abbrev pub TypedShows : {A : Type 0} → List Turn → List (Line Parsed (TypedActions A)) → Type 0
+TypedShows [] [] = Unit {0}
+TypedShows [] (e ∷ older) = ⊥
+TypedShows (t ∷ past) [] = ⊥
+TypedShows (t ∷ past) (e ∷ older) = ReadAs t.event e.event × (t.out ≡ written_of e.out) × TypedShows past older
+
+-- A run from that first state on: its events are read as those of the history, and what went out is what is written of
+-- the history's actions.
+pub record IsTypedRunOf (A : Type 0) (lines : List (Line Parsed (TypedActions A))) (start s : State) : Type 0 where
+  pub run : List Turn
+  pub legal : Run start.site run s
+  pub first : first_of start.site run s legal ≡ start
+  pub shows : TypedShows run lines
+
+abbrev pub TypedHistoryIsRun : Type 0 → Type 0
+TypedHistoryIsRun A =
+    (workers : ℕ) (start : State) (lines : List (Line Parsed (TypedActions A))) (s : State)
+    → IsBegun start → LeadsMachine (TypedMoves {A = A}) workers start lines s → IsTypedRunOf A lines start s

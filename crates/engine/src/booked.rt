@@ -1,6 +1,6 @@
 //! The resolver as the machine of a book: workers on several threads share it, and one history of its steps leads
 //! to each of its states.
-ghost use Rattle.engine.specs.Histories.{HistoryIsRun};
+ghost use Rattle.engine.specs.Histories.{HistoryIsRun, TypedHistoryIsRun};
 
 use crate::machine::Core;
 use book::{Machine, Measured};
@@ -8,6 +8,7 @@ use counters::StoreSizes;
 use dname::Starved;
 use events::{Actions, Event};
 use std::alloc::Allocator;
+use typed::{TypedActions, TypedEvent};
 
 impl Machine for Core {
     type State = Core;
@@ -56,8 +57,65 @@ impl Measured for Core {
     }
 }
 
+/// The resolver as a machine whose events were read before its steps, and whose actions are written after them: while it
+/// is locked no bytes are read or written.
+pub struct TypedCore;
+
+impl Machine for TypedCore {
+    type State = Core;
+
+    type Event = TypedEvent;
+
+    type Out = TypedActions;
+
+    ghost use Rattle.engine.specs.Beginnings.{IsBegun};
+    ghost use Rattle.engine.specs.Histories.{TypedMoves};
+
+    ghost moves = { λ s e r t. TypedMoves s e r t };
+
+    ghost begins = { IsBegun };
+
+    fn step(state: &mut Core, event: &TypedEvent) -> Result<TypedActions, Starved> {
+        state.step_typed(event)
+    }
+
+    fn copy_event(event: &TypedEvent) -> Result<TypedEvent, Starved> {
+        event.copied()
+    }
+
+    fn copy_out(out: &TypedActions) -> Result<TypedActions, Starved> {
+        out.copied()
+    }
+
+    fn same_event(a: &TypedEvent, b: &TypedEvent) -> bool {
+        a.same(b)
+    }
+
+    fn same_out(a: &TypedActions, b: &TypedActions) -> bool {
+        a.same(b)
+    }
+}
+
+impl Measured for TypedCore {
+    type Sizes = StoreSizes;
+
+    ghost use Rattle.lookup.specs.Views.{sizes_of};
+
+    ghost sizes_of = { λ s. sizes_of s.stores };
+
+    fn sizes(state: &Core) -> StoreSizes {
+        state.sizes()
+    }
+}
+
 /// The history of such a book, from a resolver that has done nothing yet, is a run: each law of runs holds of it,
 /// whichever worker took which step.
 pub fn history_is_run<A: Allocator>(_alloc: A)
     ensures { HistoryIsRun A }
+{}
+
+/// The history of a book of the machine whose messages are read and written outside of its steps is a run too: a step is
+/// one on the bytes that its event was read from, and its actions are the ones that are written of it.
+pub fn typed_history_is_run<A: Allocator>(_alloc: A)
+    ensures { TypedHistoryIsRun A }
 {}

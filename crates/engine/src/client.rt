@@ -55,13 +55,6 @@ fn is_recursive<A: Heap>(client_query: &ClientQuery<A>) -> bool
     client_query.query.start.wants_recursion()
 }
 
-// STUB
-fn copied<A: Heap>(_request: &Request<A>) -> Result<Request<A>, Starved>
-    ensures { IfOk result (λ r. r ≡ _request.now) }
-{
-    Err(Starved)
-}
-
 impl<A: Heap> ResolverState<A> {
     // Treats a client's bytes: they are dropped, refused, answered or opened.
     pub fn client(
@@ -90,7 +83,7 @@ impl<A: Heap> ResolverState<A> {
         ensures ok { (now : ℕ) (bytes : List ℕ) → IsRequest bytes (plain_asked request.now) → IfOk result (λ a. Turns (state_of self.old) (Client now client way bytes) (Some (if_any a)) (state_of self.new)) }
         ensures err { (now : ℕ) (bytes : List ℕ) → IsRequest bytes (plain_asked request.now) → OnErr result (Turns (state_of self.old) (Client now client way bytes) None (state_of self.new)) }
     {
-        let request = copied(request)?;
+        let request = request.clone()?;
         self.handle(client, way, request)
     }
 

@@ -39,6 +39,6 @@ mod stream;
 mod tick;
 mod withdraw;
 
-pub use booked::history_is_run;
+pub use booked::{TypedCore, history_is_run, typed_history_is_run};
 pub use machine::Core;
 pub use settings::{Config, CoreError, Settings};

@@ -1,6 +1,9 @@
 //! A query with its client.
+ghost use Rattle.std.specs.Prelude.{◌≡◌, ◌↔◌, IsTrue};
+
+use dname::Heap;
 use front::{Query, Via};
-use std::alloc::{Allocator, Global};
+use std::alloc::{AllocError, Allocator, Global};
 use std::marker::Model;
 
 /// A client by its number, the way by which it asks and is answered, and its query.
@@ -21,4 +24,25 @@ impl<A: Allocator> Model for ClientQuery<A> {
     ghost Value = { ClientQuery };
 
     ghost view = { λ a. record { client = a.client; way = a.way; query = plain a.query } };
+}
+
+impl<A: Heap> Clone for ClientQuery<A> {
+    ghost is_clone = { λ x y. y ≡ x };
+
+    fn clone(&self) -> Result<ClientQuery<A>, AllocError> {
+        Ok(ClientQuery {
+            client: self.client,
+            way: self.way,
+            query: self.query.clone()?,
+        })
+    }
+}
+
+impl<A: Allocator> ClientQuery<A> {
+    /// Whether both are one client's, by one way, and the same query.
+    pub fn same(&self, other: &ClientQuery<A>) -> bool
+        ensures { IsTrue result ↔ (self.now ≡ other.now) }
+    {
+        self.client == other.client && self.way == other.way && self.query.same(&other.query)
+    }
 }

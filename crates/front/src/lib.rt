@@ -21,6 +21,8 @@
 //! ```
 #![tactic(auto)]
 
+mod copies;
+mod equality;
 mod follow;
 mod laws;
 mod queries;
@@ -28,6 +30,7 @@ mod read;
 mod reply;
 mod start;
 
+pub use equality::same_echo;
 pub use follow::{Step, alias_target, answer_local};
 pub use laws::{echo_is_question, local_answer_is_one, reading_is_one};
 pub use queries::{End, Outcome, Query, Refusal, Request};

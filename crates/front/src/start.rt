@@ -4,7 +4,7 @@ ghost use Rattle.std.specs.Prelude.{◌≡◌, ◌<◌};
 use std::marker::Model;
 
 /// The fields of a query's header that its reply repeats (RFC 1035, section 4.1.1). Its opcode is at most 15.
-#[derive(Clone, Copy)]
+#[derive(Clone, Copy, PartialEq, Eq)]
 pub struct Start {
     id: u16,
     opcode: u8,

@@ -8,6 +8,7 @@ pub mod Caps
 pub mod Text
 -- Computed: functions that the code is compared with.
 pub mod Order
+pub mod Equality
 -- Kept: invariants of the code's values, and how contracts see them.
 pub mod Kept
 pub mod Gathering

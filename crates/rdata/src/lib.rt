@@ -21,6 +21,7 @@
 
 mod addr;
 mod data;
+mod equality;
 mod laws;
 mod order;
 mod record_set;

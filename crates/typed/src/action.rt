@@ -3,7 +3,8 @@ use events::{Ask, ClientQuery};
 use front::{Echo, Outcome, Refusal, Start, Via};
 use std::alloc::{Allocator, Global};
 
-/// An action by its parts, of which its bytes are written. Contracts see the action that they give.
+/// An action by its parts, of which its bytes are written. Contracts see the action that is written of it
+/// (`said_view`), but those of `copied` and `same` its parts.
 #[derive(Drop)]
 pub enum TypedAction<A: Allocator = Global> {
     /// The reply of an outcome to the client who asked, by its way.

@@ -1,5 +1,5 @@
 //! Events whose bytes were read.
-ghost use Rattle.std.specs.Prelude.{◌≡◌, ◌≤◌, IfOk, MatchOption};
+ghost use Rattle.std.specs.Prelude.{◌≡◌, ◌≤◌, ◌↔◌, IfOk, MatchOption, IsTrue};
 ghost use Rattle.runs.specs.States.{Event as EventSpec, latest, moment};
 ghost use Rattle.events.specs.Views.{event_view};
 ghost use Rattle.typed.specs.Events.{ReadAs, HasBytes, RepliesToNone};
@@ -61,7 +61,8 @@ pub enum Parsed<A: Allocator = Global> {
     },
 }
 
-/// An event whose bytes were read: `read_event` alone makes one. Contracts see what was read.
+/// An event whose bytes were read: `read_event` alone makes one, and `copied` another of it. Contracts see what was
+/// read.
 #[derive(Drop)]
 pub struct TypedEvent<A: Allocator = Global> {
     parsed: Parsed<A>,
@@ -93,6 +94,23 @@ impl<A: Allocator> TypedEvent<A> {
         ensures most { result ≤ latest }
     {
         moment_of(&self.parsed)
+    }
+
+    /// Whether both were read the same, and came at one moment.
+    pub fn same(&self, other: &TypedEvent<A>) -> bool
+        ensures { IsTrue result ↔ (self.now ≡ other.now) }
+    {
+        self.parsed.same(&other.parsed)
+    }
+}
+
+impl<A: Heap> TypedEvent<A> {
+    /// The same event, copied on the memory of the old one.
+    pub fn copied(&self) -> Result<TypedEvent<A>, Starved>
+        ensures { IfOk result (λ e. e ≡ self.now) }
+    {
+        let parsed = self.parsed.copied()?;
+        Ok(TypedEvent { parsed })
     }
 }
 

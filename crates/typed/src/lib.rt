@@ -5,9 +5,10 @@
 //! message (`classify`). A `TypedAction` is a reply by its query and outcome, a refusal, or an ask. `reply_to`,
 //! `refuse` and `send` make one, and `write_action` writes the `events::Action` of it.
 //!
-//! Promised: a typed event is one of some bytes (`ReadAs`, the invariant of `TypedEvent`), and nothing else makes one.
-//! What is written of a typed action is the one action that contracts see it as (`said_view`), which is the reply, the
-//! refusal or the ask before it is written (`reply_law`, `refusal_law`, `ask_law`).
+//! Promised: a typed event is one of some bytes (`ReadAs`, the invariant of `TypedEvent`): `read_event` makes it, or it
+//! is a copy of one. What is written of a typed action is the one action that contracts see it as (`said_view`), which
+//! is the reply, the refusal or the ask before it is written (`reply_law`, `refusal_law`, `ask_law`). A copy is equal,
+//! and `same` is exact: of events by what was read, of actions by their parts.
 //! Not here: which query an event is for (`engine`).
 //!
 //! ```text
@@ -22,6 +23,8 @@
 #![tactic(auto)]
 
 mod action;
+mod copies;
+mod equality;
 mod event;
 mod laws;
 mod say;

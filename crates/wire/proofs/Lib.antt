@@ -21,3 +21,4 @@ pub mod Chaining
 pub mod MessagesRead
 pub mod Lending
 pub mod Lower
+pub mod Exact

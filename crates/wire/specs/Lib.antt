@@ -13,6 +13,7 @@ pub mod Parts
 pub mod Numbers
 pub mod Values
 pub mod Skips
+pub mod Echoes
 -- Kept: invariants of the code's values, and how contracts see them.
 pub mod Puts
 pub mod Chains

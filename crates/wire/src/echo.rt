@@ -1,6 +1,11 @@
 //! The question that a reply repeats.
+ghost use Rattle.std.specs.Prelude.{◌≡◌};
+ghost use Rattle.wire.specs.Echoes.{same_question, same_question_per, same_question_equiv};
+
 use crate::spelling::Spelling;
-use std::alloc::{Allocator, Global};
+use dname::Heap;
+use std::alloc::{AllocError, Allocator, Global};
+use std::cmp::Eq;
 use std::marker::Model;
 
 /// A question in the client's own letters.
@@ -20,4 +25,30 @@ impl<A: Allocator> Model for Echo<A> {
     ghost Value = { Question };
 
     ghost view = { λ e. record { name = e.spelling; qtype = e.qtype; qclass = e.qclass } };
+}
+
+impl<A: Heap> Clone for Echo<A> {
+    ghost is_clone = { λ x y. y ≡ x };
+
+    fn clone(&self) -> Result<Echo<A>, AllocError> {
+        Ok(Echo {
+            spelling: self.spelling.clone()?,
+            qtype: self.qtype,
+            qclass: self.qclass,
+        })
+    }
+}
+
+impl<A: Allocator> PartialEq for Echo<A> {
+    ghost eq = { same_question };
+
+    ghost laws = { same_question_per };
+
+    fn eq(&self, other: &Echo<A>) -> bool {
+        self.qtype == other.qtype && self.qclass == other.qclass && self.spelling == other.spelling
+    }
+}
+
+impl<A: Allocator> Eq for Echo<A> {
+    ghost laws = { same_question_equiv };
 }

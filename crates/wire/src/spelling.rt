@@ -1,11 +1,13 @@
 //! A name with the letters of the query that asks for it.
 ghost use Rattle.std.specs.Prelude.{◌≡◌, ◌≤◌, IfOk, length};
-ghost use Rattle.dname.specs.Labels.{wire, folded_labels};
+ghost use Rattle.dname.specs.Labels.{wire, folded_labels, same_name};
+ghost use Rattle.dname.specs.Laws.{same_name_per, same_name_equiv};
 ghost use Rattle.dname.specs.Wire.{labels_of, IsSpellingWire};
 ghost use Rattle.message_grammar.specs.Messages.{IsSpelling};
 
 use dname::{Heap, Name, Starved};
-use std::alloc::{Allocator, Global};
+use std::alloc::{AllocError, Allocator, Global};
+use std::cmp::Eq;
 use std::marker::Model;
 
 /// A name with the letters in which it was written. Contracts see the list of its labels in these letters,
@@ -47,6 +49,31 @@ impl<A: Heap> Spelling<A> {
         let letters = Vec::from_slice(alloc, letters)?;
         Ok(Spelling { letters, name })
     }
+}
+
+impl<A: Heap> Clone for Spelling<A> {
+    ghost is_clone = { λ x y. y ≡ x };
+
+    fn clone(&self) -> Result<Spelling<A>, AllocError> {
+        Ok(Spelling {
+            letters: Vec::from_slice(*self.letters.allocator(), &self.letters)?,
+            name: self.name.clone()?,
+        })
+    }
+}
+
+impl<A: Allocator> PartialEq for Spelling<A> {
+    ghost eq = { same_name };
+
+    ghost laws = { same_name_per };
+
+    fn eq(&self, other: &Spelling<A>) -> bool {
+        self.wire() == other.wire()
+    }
+}
+
+impl<A: Allocator> Eq for Spelling<A> {
+    ghost laws = { same_name_equiv };
 }
 
 impl<A: Allocator> Spelling<A> {
