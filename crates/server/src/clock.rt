@@ -1,13 +1,15 @@
 //! The loop that lets time pass, so that queries which are due are served.
 use crate::desk::Desk;
 use crate::log::{Log, log_start};
-use book::{Machine, Ticket};
+use crate::worker::Worker;
+use book::Machine;
 use counters::Outcome;
-use events::{Actions, Event};
+use events::Event;
 use std::sync::Wait;
 use std::sync::ledger::Ledger;
 use std::thread;
 use std::time::{Clock, Duration};
+use typed::{TypedActions, TypedEvent};
 
 // How long a loop rests that has nothing to do, in milliseconds.
 const REST_MS: u64 = 50;
@@ -16,10 +18,10 @@ const REST_MS: u64 = 50;
 const WATCHDOG_MS: u64 = 1_000;
 
 /// Lets time pass until the flag is up: every 50 ms, and again at once while another query is due.
-pub(crate) fn pass_time<M: Machine<Event = Event, Out = Actions>, L: Ledger, R: Wait + Clock>(
+pub(crate) fn pass_time<M: Machine<Event = TypedEvent, Out = TypedActions>, L: Ledger, R: Wait + Clock>(
     rt: &R,
     desk: &Desk<'_, M, L>,
-    ticket: &mut Ticket<L>,
+    worker: &mut Worker<L>,
 ) {
     let mut log = Log::new(desk.ends.shown.and_then(|shown| shown.log));
     let mut told = 0;
@@ -34,7 +36,7 @@ pub(crate) fn pass_time<M: Machine<Event = Event, Out = Actions>, L: Ledger, R: 
         if late > 0 {
             desk.ends.count(Outcome::Dropped(late));
         }
-        let more_due = desk.put(rt, ticket, Event::Tick { moment }).more_due;
+        let more_due = desk.put(rt, worker, Event::Tick { moment }).more_due;
         if moment.saturating_sub(told) >= WATCHDOG_MS {
             told = moment;
             desk.ends.tell("WATCHDOG=1");

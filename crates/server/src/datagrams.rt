@@ -4,18 +4,20 @@ ghost use Rattle.std.specs.Prelude.{◌≤◌, IfSome, length};
 use crate::clock::rest;
 use crate::desk::Desk;
 use crate::ends::{Ends, MOST_BYTES, endpoint_of, is_early};
-use book::{Machine, Ticket};
+use crate::worker::Worker;
+use book::Machine;
 use counters::{Outcome, SocketFault};
-use events::{Actions, Endpoint, Event};
+use events::Endpoint;
 use std::sync::Wait;
 use std::sync::ledger::Ledger;
 use std::time::Clock;
+use typed::{TypedActions, TypedEvent};
 
 /// Takes the datagrams of clients until the flag is up.
-pub(crate) fn take_datagrams<M: Machine<Event = Event, Out = Actions>, L: Ledger, R: Wait + Clock>(
+pub(crate) fn take_datagrams<M: Machine<Event = TypedEvent, Out = TypedActions>, L: Ledger, R: Wait + Clock>(
     rt: &R,
     desk: &Desk<'_, M, L>,
-    ticket: &mut Ticket<L>,
+    worker: &mut Worker<L>,
 ) {
     let mut buffer = [0u8; MOST_BYTES];
     for _ in rt.forever() {
@@ -23,7 +25,7 @@ pub(crate) fn take_datagrams<M: Machine<Event = Event, Out = Actions>, L: Ledger
             return;
         }
         if let Some((count, from)) = next_datagram(rt, desk.ends, &mut buffer) {
-            desk.put_datagram(rt, ticket, from, &buffer[..count]);
+            desk.put_datagram(rt, worker, from, &buffer[..count]);
         }
     }
 }

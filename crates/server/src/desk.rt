@@ -8,12 +8,14 @@ use crate::outbox::{Outbox, StreamAsk, StreamReply};
 use crate::poller::Poller;
 use crate::query::{Asker, Query};
 use crate::tally::Arrival;
-use book::{Machine, Ticket};
+use crate::worker::Worker;
+use book::Machine;
 use counters::{Outcome, SocketFault};
 use crossbeam_channel::{Receiver, Sender};
 use dispatch::{Reach, client_of, hand_over, stream_reply_event};
 use events::{Action, Actions, Bytes, Endpoint, Event};
 use front::Via;
+use memory::Starved;
 use mio::{Events, Poll};
 use pool::{Shared, submit};
 use std::alloc::Global;
@@ -21,6 +23,7 @@ use std::sync::Wait;
 use std::sync::atomic::{AtomicBool, Ordering};
 use std::sync::ledger::Ledger;
 use std::time::Clock;
+use typed::{TypedActions, TypedEvent, read_event, write_actions};
 
 // More asks than one query makes: a query that comes to nothing but refused asks ends before.
 const MAX_REFUSED_HANDOVERS: u32 = 64;
@@ -77,7 +80,7 @@ pub(crate) struct Desk<'a, M: Machine, L: Ledger> {
     pub beginning: Beginning,
 }
 
-impl<M: Machine<Event = Event, Out = Actions>, L: Ledger> Desk<'_, M, L> {
+impl<M: Machine<Event = TypedEvent, Out = TypedActions>, L: Ledger> Desk<'_, M, L> {
     /// Whether the flag is up.
     pub fn is_over(&self) -> bool {
         self.stop.load(Ordering::SeqCst)
@@ -99,7 +102,7 @@ impl<M: Machine<Event = Event, Out = Actions>, L: Ledger> Desk<'_, M, L> {
     pub fn put_datagram<R: Wait + Clock>(
         &self,
         rt: &R,
-        ticket: &mut Ticket<L>,
+        worker: &mut Worker<L>,
         from: Endpoint,
         bytes: &[u8],
     )
@@ -111,7 +114,7 @@ impl<M: Machine<Event = Event, Out = Actions>, L: Ledger> Desk<'_, M, L> {
         };
         match Vec::from_slice(self.alloc, bytes) {
             Ok(bytes) => {
-                self.put_query(rt, ticket, asker, bytes);
+                self.put_query(rt, worker, asker, bytes);
             }
             Err(_) => self.ends.count(Outcome::MemoryRefused),
         }
@@ -121,7 +124,7 @@ impl<M: Machine<Event = Event, Out = Actions>, L: Ledger> Desk<'_, M, L> {
     pub fn put_frame<R: Wait + Clock>(
         &self,
         rt: &R,
-        ticket: &mut Ticket<L>,
+        worker: &mut Worker<L>,
         number: u64,
         bytes: Vec<u8>,
     ) -> bool
@@ -131,7 +134,7 @@ impl<M: Machine<Event = Event, Out = Actions>, L: Ledger> Desk<'_, M, L> {
             client: number,
             way: Via::Tcp,
         };
-        self.put_query(rt, ticket, asker, bytes)
+        self.put_query(rt, worker, asker, bytes)
     }
 
     // Puts what a client sent: a question that equals others which are under way waits for them at the door, whether
@@ -139,7 +142,7 @@ impl<M: Machine<Event = Event, Out = Actions>, L: Ledger> Desk<'_, M, L> {
     fn put_query<R: Wait + Clock>(
         &self,
         rt: &R,
-        ticket: &mut Ticket<L>,
+        worker: &mut Worker<L>,
         asker: Asker,
         bytes: Vec<u8>,
     ) -> bool
@@ -154,11 +157,11 @@ impl<M: Machine<Event = Event, Out = Actions>, L: Ledger> Desk<'_, M, L> {
         }
         let moment = self.moment(rt);
         let Some(question) = self.entrance.question(&query) else {
-            return self.put(rt, ticket, query.into_event(moment)).speaks;
+            return self.put(rt, worker, query.into_event(moment)).speaks;
         };
         let answers = match self.entrance.admit(rt, question, moment, query) {
             Entry::In(query) => self
-                .put_question(rt, ticket, question, moment, query)
+                .put_question(rt, worker, question, moment, query)
                 .speaks,
             Entry::Held => {
                 self.ends.count(Outcome::Held);
@@ -169,7 +172,7 @@ impl<M: Machine<Event = Event, Out = Actions>, L: Ledger> Desk<'_, M, L> {
                 false
             }
         };
-        self.let_in(rt, ticket);
+        self.let_in(rt, worker);
         answers
     }
 
@@ -177,18 +180,18 @@ impl<M: Machine<Event = Event, Out = Actions>, L: Ledger> Desk<'_, M, L> {
     fn put_question<R: Wait + Clock>(
         &self,
         rt: &R,
-        ticket: &mut Ticket<L>,
+        worker: &mut Worker<L>,
         question: Question,
         came: u64,
         query: Query,
     ) -> Upshot {
         let event = query.into_event(self.moment(rt));
         let came = self.came(&event, Some(came));
-        self.step(rt, ticket, event, Some(question), came)
+        self.step(rt, worker, event, Some(question), came)
     }
 
     /// Puts the questions that are called in, some of them.
-    pub fn let_in<R: Wait + Clock>(&self, rt: &R, ticket: &mut Ticket<L>) {
+    pub fn let_in<R: Wait + Clock>(&self, rt: &R, worker: &mut Worker<L>) {
         for _ in 0..MOST_LET_IN {
             let Some(held) = self.entrance.next(rt) else {
                 return;
@@ -197,15 +200,15 @@ impl<M: Machine<Event = Event, Out = Actions>, L: Ledger> Desk<'_, M, L> {
                 key: held.key,
                 client: held.client,
             };
-            self.put_question(rt, ticket, question, held.since, held.payload);
+            self.put_question(rt, worker, question, held.since, held.payload);
         }
     }
 
     /// Puts an event, and hands over what goes out; what came of it. Then who waited for it comes in.
-    pub fn put<R: Wait + Clock>(&self, rt: &R, ticket: &mut Ticket<L>, event: Event) -> Upshot {
+    pub fn put<R: Wait + Clock>(&self, rt: &R, worker: &mut Worker<L>, event: Event) -> Upshot {
         let came = self.came(&event, None);
-        let upshot = self.step(rt, ticket, event, None, came);
-        self.let_in(rt, ticket);
+        let upshot = self.step(rt, worker, event, None, came);
+        self.let_in(rt, worker);
         upshot
     }
 
@@ -214,7 +217,7 @@ impl<M: Machine<Event = Event, Out = Actions>, L: Ledger> Desk<'_, M, L> {
     fn step<R: Wait + Clock>(
         &self,
         rt: &R,
-        ticket: &mut Ticket<L>,
+        worker: &mut Worker<L>,
         event: Event,
         question: Option<Question>,
         came: Option<Arrival>,
@@ -223,18 +226,12 @@ impl<M: Machine<Event = Event, Out = Actions>, L: Ledger> Desk<'_, M, L> {
         let mut question = question;
         let mut came = came;
         for _ in 0..MAX_REFUSED_HANDOVERS {
-            let Ok(entry) = submit(rt, self.shared, ticket, event) else {
-                self.ends.count(Outcome::MemoryRefused);
+            let Some(actions) = self.take_step(rt, worker, event) else {
                 self.tell_door(rt, question, None);
                 return NOTHING;
             };
-            let Ok(actions) = entry.out() else {
-                self.ends.count(Outcome::MemoryRefused);
-                self.tell_door(rt, question, None);
-                return NOTHING;
-            };
-            self.count_step(rt, came.take(), actions);
-            self.tell_door(rt, question.take(), Some(actions));
+            self.count_step(rt, came.take(), &actions);
+            self.tell_door(rt, question.take(), Some(&actions));
             let refused = actions
                 .first
                 .as_ref()
@@ -250,6 +247,36 @@ impl<M: Machine<Event = Event, Out = Actions>, L: Ledger> Desk<'_, M, L> {
             }
         }
         NOTHING
+    }
+
+    // Reads an event, takes the machine's step, and writes what it gives: the machine is locked for the step alone. None
+    // out of memory, which is counted, and for a datagram that replies to no question.
+    fn take_step<R: Wait>(&self, rt: &R, worker: &mut Worker<L>, event: Event) -> Option<Actions> {
+        let actions = self.read_and_step(rt, worker, event);
+        if actions.is_err() {
+            self.ends.count(Outcome::MemoryRefused);
+        }
+        actions.ok().flatten()
+    }
+
+    fn read_and_step<R: Wait>(
+        &self,
+        rt: &R,
+        worker: &mut Worker<L>,
+        event: Event,
+    ) -> Result<Option<Actions>, Starved> {
+        let parsed = read_event(self.alloc, &event)?;
+        drop(event);
+        let Some(parsed) = parsed else {
+            return Ok(None);
+        };
+        let Ok(entry) = submit(rt, self.shared, &mut worker.ticket, parsed) else {
+            return Err(Starved);
+        };
+        match entry.out() {
+            Ok(said) => Ok(Some(write_actions(self.alloc, &mut worker.writer, said)?)),
+            Err(_) => Err(Starved),
+        }
     }
 
     // The query of an event, where queries are counted. One that was held came at the moment that is given.

@@ -45,6 +45,7 @@ mod server_streams;
 mod streams;
 mod tally;
 mod upstream;
+mod worker;
 
 pub use desk::Bounds;
 pub use dispatch::{LOOPS, Reach};

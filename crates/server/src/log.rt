@@ -4,10 +4,11 @@ use crate::ends::receive_room;
 use crate::tally::Tally;
 use book::Machine;
 use counters::{AskFault, Counter, SocketFault, Way};
-use events::{Actions, Endpoint, Event};
+use events::Endpoint;
 use std::alloc::Global;
 use std::sync::Wait;
 use std::sync::ledger::Ledger;
+use typed::{TypedActions, TypedEvent};
 
 // The descriptor of the standard error.
 const STDERR: i32 = 2;
@@ -119,7 +120,7 @@ impl Log {
     }
 
     /// Looks what went wrong, and logs it once a minute.
-    pub fn look<M: Machine<Event = Event, Out = Actions>, L: Ledger, R: Wait>(
+    pub fn look<M: Machine<Event = TypedEvent, Out = TypedActions>, L: Ledger, R: Wait>(
         &mut self,
         rt: &R,
         desk: &Desk<'_, M, L>,
@@ -171,7 +172,7 @@ impl Log {
 }
 
 /// Logs the start, where it is to be logged: where clients are served, what is held and what is kept.
-pub(crate) fn log_start<M: Machine<Event = Event, Out = Actions>, L: Ledger>(
+pub(crate) fn log_start<M: Machine<Event = TypedEvent, Out = TypedActions>, L: Ledger>(
     desk: &Desk<'_, M, L>,
 ) {
     let Some(shown) = desk.ends.shown else {
@@ -195,7 +196,7 @@ pub(crate) fn log_start<M: Machine<Event = Event, Out = Actions>, L: Ledger>(
 }
 
 // Logs how much is held and kept at most.
-fn log_sizes<M: Machine<Event = Event, Out = Actions>, L: Ledger>(
+fn log_sizes<M: Machine<Event = TypedEvent, Out = TypedActions>, L: Ledger>(
     desk: &Desk<'_, M, L>,
     shown: Shown,
 ) {

@@ -6,7 +6,7 @@ use crate::ends::{LISTENER, SLICE_MS, accept_fault, address_of, is_early};
 use crate::poller::Poller;
 use book::{Machine, Measured};
 use counters::{MOST_REQUEST, Outcome, SocketFault, StoreSizes, is_request, put_response};
-use events::{Actions, Endpoint, Event};
+use events::Endpoint;
 use mio::{Events, Interest};
 use std::alloc::Global;
 use std::io;
@@ -16,6 +16,7 @@ use std::os::fd::AsRawFd;
 use std::sync::Wait;
 use std::sync::ledger::Ledger;
 use std::time::{Clock, Duration};
+use typed::{TypedActions, TypedEvent};
 
 // How many sockets are told of at once.
 const EVENTS: usize = 4;
@@ -51,7 +52,7 @@ impl Scrapes {
 
 /// Serves the counters until the flag is up. Whatever a client does, it holds up nothing but this loop.
 pub(crate) fn serve_counters<
-    M: Measured<Event = Event, Out = Actions, Sizes = StoreSizes>,
+    M: Measured<Event = TypedEvent, Out = TypedActions, Sizes = StoreSizes>,
     L: Ledger,
     R: Wait + Clock,
 >(rt: &R, desk: &Desk<'_, M, L>) {
@@ -80,7 +81,7 @@ pub(crate) fn serve_counters<
 
 // Serves one client, and closes its stream.
 fn serve_one<
-    M: Measured<Event = Event, Out = Actions, Sizes = StoreSizes>,
+    M: Measured<Event = TypedEvent, Out = TypedActions, Sizes = StoreSizes>,
     L: Ledger,
     R: Wait + Clock,
 >(rt: &R, desk: &Desk<'_, M, L>, mut stream: TcpStream) {
@@ -97,7 +98,7 @@ fn serve_one<
 }
 
 // The response to a request. None where no memory is left for it.
-fn response_to<M: Measured<Event = Event, Out = Actions, Sizes = StoreSizes>, L: Ledger, R: Wait>(
+fn response_to<M: Measured<Event = TypedEvent, Out = TypedActions, Sizes = StoreSizes>, L: Ledger, R: Wait>(
     rt: &R,
     desk: &Desk<'_, M, L>,
     request: &[u8],
@@ -111,7 +112,7 @@ fn response_to<M: Measured<Event = Event, Out = Actions, Sizes = StoreSizes>, L:
 }
 
 // How many bytes a request has, which stand at the front of the buffer. None where it is too long, or comes too late.
-fn read_request<M: Machine<Event = Event, Out = Actions>, L: Ledger, R: Wait + Clock>(
+fn read_request<M: Machine<Event = TypedEvent, Out = TypedActions>, L: Ledger, R: Wait + Clock>(
     rt: &R,
     desk: &Desk<'_, M, L>,
     stream: &mut TcpStream,
@@ -139,7 +140,7 @@ fn read_request<M: Machine<Event = Event, Out = Actions>, L: Ledger, R: Wait + C
 }
 
 // Writes a response, as far as its client takes it in time.
-fn write_response<M: Machine<Event = Event, Out = Actions>, L: Ledger, R: Wait + Clock>(
+fn write_response<M: Machine<Event = TypedEvent, Out = TypedActions>, L: Ledger, R: Wait + Clock>(
     rt: &R,
     desk: &Desk<'_, M, L>,
     stream: &mut TcpStream,

@@ -12,10 +12,10 @@ use crate::moments::Beginning;
 use crate::server_streams::ask_servers;
 use crate::streams::take_streams;
 use crate::upstream::take_answers;
+use crate::worker::{Worker, workers_of};
 use book::{Machine, Measured, Ticket};
 use counters::StoreSizes;
 use dispatch::{Role, role_of};
-use events::{Actions, Event};
 use pool::Shared;
 use std::alloc::Global;
 use std::net::{Net, TcpListener, TcpStream};
@@ -25,12 +25,13 @@ use std::sync::ledger::Ledger;
 use std::thread;
 use std::thread::{Scope, Threads};
 use std::time::Clock;
+use typed::{TypedActions, TypedEvent};
 
 /// Serves at these ends within these bounds until the flag is up: each ticket is for one loop, by its worker's number.
 /// Every loop has ended when this returns. Where a thread can't be made the flag is put up, and the server is refused
 /// with `Threads`.
 pub fn serve_until<
-    M: Measured<Event = Event, Out = Actions, Sizes = StoreSizes> + Send + Sync,
+    M: Measured<Event = TypedEvent, Out = TypedActions, Sizes = StoreSizes> + Send + Sync,
     L: Ledger + Send + Sync,
     R: Net<Listener = TcpListener, Stream = TcpStream> + Threads + Wait + Clock + Sync,
 >(
@@ -50,6 +51,9 @@ pub fn serve_until<
     let Some(entrance) = Entrance::new(alloc, &bounds.seed, bounds.clients) else {
         return Err(ServeError::Memory);
     };
+    let Ok(workers) = workers_of(alloc, tickets) else {
+        return Err(ServeError::Memory);
+    };
     let (to_servers, asks) = crossbeam_channel::unbounded(alloc)?;
     let (to_streams, replies) = crossbeam_channel::unbounded(alloc)?;
     let desk = Desk {
@@ -65,38 +69,38 @@ pub fn serve_until<
         stop,
         beginning,
     };
-    if run(rt, &desk, tickets) {
+    if run(rt, &desk, workers) {
         Ok(())
     } else {
         Err(ServeError::Threads)
     }
 }
 
-// Runs a loop for each ticket, until all have ended; whether each had its thread.
+// Runs a loop for each worker, until all have ended; whether each had its thread.
 fn run<
-    M: Measured<Event = Event, Out = Actions, Sizes = StoreSizes> + Send + Sync,
+    M: Measured<Event = TypedEvent, Out = TypedActions, Sizes = StoreSizes> + Send + Sync,
     L: Ledger + Send + Sync,
     R: Net<Listener = TcpListener, Stream = TcpStream> + Threads + Wait + Clock + Sync,
->(rt: &R, desk: &Desk<'_, M, L>, tickets: Vec<Ticket<L>>) -> bool {
+>(rt: &R, desk: &Desk<'_, M, L>, workers: Vec<Worker<L>>) -> bool {
     thread::scope(
         thread::scope_env(),
         rt,
-        |scope| start_all(rt, scope, desk, tickets),
+        |scope| start_all(rt, scope, desk, workers),
     )
 }
 
-// Begins what each ticket is for; whether each has its thread.
+// Begins what each worker is for; whether each has its thread.
 fn start_all<
     's,
     'd,
     E,
-    M: Measured<Event = Event, Out = Actions, Sizes = StoreSizes> + Send + Sync,
+    M: Measured<Event = TypedEvent, Out = TypedActions, Sizes = StoreSizes> + Send + Sync,
     L: Ledger + Send + Sync,
     R: Net<Listener = TcpListener, Stream = TcpStream> + Wait + Clock + Sync,
->(rt: &'s R, scope: &Scope<'s, E>, desk: &'s Desk<'d, M, L>, tickets: Vec<Ticket<L>>) -> bool {
+>(rt: &'s R, scope: &Scope<'s, E>, desk: &'s Desk<'d, M, L>, workers: Vec<Worker<L>>) -> bool {
     let mut well = start_counters(rt, scope, desk);
-    for ticket in tickets {
-        let started = start(rt, scope, desk, ticket);
+    for worker in workers {
+        let started = start(rt, scope, desk, worker);
         well = well && started;
     }
     well
@@ -108,7 +112,7 @@ fn start_counters<
     's,
     'd,
     E,
-    M: Measured<Event = Event, Out = Actions, Sizes = StoreSizes> + Send + Sync,
+    M: Measured<Event = TypedEvent, Out = TypedActions, Sizes = StoreSizes> + Send + Sync,
     L: Ledger + Send + Sync,
     R: Net<Listener = TcpListener, Stream = TcpStream> + Wait + Clock + Sync,
 >(rt: &'s R, scope: &Scope<'s, E>, desk: &'s Desk<'d, M, L>) -> bool {
@@ -122,35 +126,35 @@ fn start_counters<
     started
 }
 
-// Begins what the ticket is for, in a thread of its own; whether there is one. Where none can be made the flag is put
+// Begins what the worker is for, in a thread of its own; whether there is one. Where none can be made the flag is put
 // up.
 fn start<
     's,
     'd,
     E,
-    M: Machine<Event = Event, Out = Actions> + Send + Sync,
+    M: Machine<Event = TypedEvent, Out = TypedActions> + Send + Sync,
     L: Ledger + Send + Sync,
     R: Net<Listener = TcpListener, Stream = TcpStream> + Wait + Clock + Sync,
->(rt: &'s R, scope: &Scope<'s, E>, desk: &'s Desk<'d, M, L>, ticket: Ticket<L>) -> bool {
-    let started = scope.spawn(move || work(rt, desk, ticket)).is_ok();
+>(rt: &'s R, scope: &Scope<'s, E>, desk: &'s Desk<'d, M, L>, worker: Worker<L>) -> bool {
+    let started = scope.spawn(move || work(rt, desk, worker)).is_ok();
     if !started {
         desk.stop.store(true, Ordering::SeqCst);
     }
     started
 }
 
-// Does what the ticket is for, until the flag is up.
+// Does what the worker is for, until the flag is up.
 fn work<
-    M: Machine<Event = Event, Out = Actions>,
+    M: Machine<Event = TypedEvent, Out = TypedActions>,
     L: Ledger,
     R: Net<Listener = TcpListener, Stream = TcpStream> + Wait + Clock,
->(rt: &R, desk: &Desk<'_, M, L>, ticket: Ticket<L>) {
-    let mut ticket = ticket;
-    match role_of(ticket.worker()) {
-        Role::Datagrams => take_datagrams(rt, desk, &mut ticket),
-        Role::Streams => take_streams(rt, desk, &mut ticket),
-        Role::Clock => pass_time(rt, desk, &mut ticket),
-        Role::Upstream => take_answers(rt, desk, &mut ticket),
-        Role::Asks => ask_servers(rt, desk, &mut ticket),
+>(rt: &R, desk: &Desk<'_, M, L>, worker: Worker<L>) {
+    let mut worker = worker;
+    match role_of(worker.ticket.worker()) {
+        Role::Datagrams => take_datagrams(rt, desk, &mut worker),
+        Role::Streams => take_streams(rt, desk, &mut worker),
+        Role::Clock => pass_time(rt, desk, &mut worker),
+        Role::Upstream => take_answers(rt, desk, &mut worker),
+        Role::Asks => ask_servers(rt, desk, &mut worker),
     }
 }

@@ -7,10 +7,10 @@ use crate::ends::{SLICE_MS, address_of, lacks_descriptors};
 use crate::framed_stream::{FramedStream, MOST_FRAME_BYTES, StreamFault};
 use crate::outbox::StreamAsk;
 use crate::poller::Poller;
-use book::{Machine, Ticket};
+use crate::worker::Worker;
+use book::Machine;
 use counters::{AskFault, Outcome, Way};
 use dispatch::stream_reply_event;
-use events::{Actions, Event};
 use limits::TCP_WAIT_MS;
 use mio::net::TcpStream;
 use mio::{Events, Interest};
@@ -21,6 +21,7 @@ use std::net::Net;
 use std::sync::Wait;
 use std::sync::ledger::Ledger;
 use std::time::Clock;
+use typed::{TypedActions, TypedEvent};
 
 // How many asks are under way for each worker of the server's file.
 const ASKS_OF_A_WORKER: usize = 16;
@@ -78,10 +79,10 @@ fn ask_fault(fault: StreamFault) -> AskFault
 /// Asks servers over TCP, many at a time, until the flag is up. What is no reply is told as a failure, and so is an ask
 /// whose time is over, its wait for a stream included.
 pub(crate) fn ask_servers<
-    M: Machine<Event = Event, Out = Actions>,
+    M: Machine<Event = TypedEvent, Out = TypedActions>,
     L: Ledger,
     R: Net + Wait + Clock,
->(rt: &R, desk: &Desk<'_, M, L>, ticket: &mut Ticket<L>) {
+>(rt: &R, desk: &Desk<'_, M, L>, worker: &mut Worker<L>) {
     let servers = &desk.ends.servers;
     let Ok(mut events) = Events::with_capacity(desk.alloc, EVENTS) else {
         return;
@@ -101,14 +102,14 @@ pub(crate) fn ask_servers<
         for event in events.iter() {
             stir(&mut talks, event.token().0);
         }
-        begin_all(rt, desk, ticket, &mut talks);
+        begin_all(rt, desk, worker, &mut talks);
         let now = desk.moment(rt);
         let check = now.saturating_sub(checked) >= CHECK_MS;
         if check {
             checked = now;
         }
         for key in 0..talks.capacity() {
-            advance(rt, desk, ticket, &mut talks, key, check, &mut buffer);
+            advance(rt, desk, worker, &mut talks, key, check, &mut buffer);
         }
     }
 }
@@ -138,10 +139,10 @@ fn stir(talks: &mut Slab<Talk>, key: usize) {
 }
 
 // Begins the asks that were handed on, as many as may be under way.
-fn begin_all<M: Machine<Event = Event, Out = Actions>, L: Ledger, R: Net + Wait + Clock>(
+fn begin_all<M: Machine<Event = TypedEvent, Out = TypedActions>, L: Ledger, R: Net + Wait + Clock>(
     rt: &R,
     desk: &Desk<'_, M, L>,
-    ticket: &mut Ticket<L>,
+    worker: &mut Worker<L>,
     talks: &mut Slab<Talk>,
 ) {
     let most = most_talks(desk.bounds);
@@ -164,7 +165,7 @@ fn begin_all<M: Machine<Event = Event, Out = Actions>, L: Ledger, R: Net + Wait 
         if let Err(fault) = begun {
             desk.ends.count(Outcome::AskFailed(Way::Tcp, fault));
             let event = stream_reply_event(desk.moment(rt), number, None);
-            desk.put(rt, ticket, event);
+            desk.put(rt, worker, event);
         }
     }
 }
@@ -224,10 +225,10 @@ fn begin<R: Net>(
 
 // Goes on with the talk of this key where there is something to do, and ends it where its reply has come, where it has
 // failed and, at a check, where its time is over.
-fn advance<M: Machine<Event = Event, Out = Actions>, L: Ledger, R: Wait + Clock>(
+fn advance<M: Machine<Event = TypedEvent, Out = TypedActions>, L: Ledger, R: Wait + Clock>(
     rt: &R,
     desk: &Desk<'_, M, L>,
-    ticket: &mut Ticket<L>,
+    worker: &mut Worker<L>,
     talks: &mut Slab<Talk>,
     key: usize,
     check: bool,
@@ -256,5 +257,5 @@ fn advance<M: Machine<Event = Event, Out = Actions>, L: Ledger, R: Wait + Clock>
         }
     };
     let event = stream_reply_event(desk.moment(rt), number, frame);
-    desk.put(rt, ticket, event);
+    desk.put(rt, worker, event);
 }

@@ -3,12 +3,13 @@ use crate::desk::Desk;
 use crate::ends::{LISTENER, SLICE_MS};
 use crate::framed_stream::MOST_FRAME_BYTES;
 use crate::places::Places;
-use book::{Machine, Ticket};
-use events::{Actions, Event};
+use crate::worker::Worker;
+use book::Machine;
 use mio::Events;
 use std::sync::Wait;
 use std::sync::ledger::Ledger;
 use std::time::Clock;
+use typed::{TypedActions, TypedEvent};
 
 // How many sockets are told of at once.
 const EVENTS: usize = 300;
@@ -23,10 +24,10 @@ const RETRY_MS: u64 = 20;
 const REPLIES_IN_A_ROW: u32 = 1_024;
 
 /// Takes the streams of clients, and answers their frames, each as its reply comes, until the flag is up.
-pub(crate) fn take_streams<M: Machine<Event = Event, Out = Actions>, L: Ledger, R: Wait + Clock>(
+pub(crate) fn take_streams<M: Machine<Event = TypedEvent, Out = TypedActions>, L: Ledger, R: Wait + Clock>(
     rt: &R,
     desk: &Desk<'_, M, L>,
-    ticket: &mut Ticket<L>,
+    worker: &mut Worker<L>,
 ) {
     let streams = &desk.ends.streams;
     let Ok(mut events) = Events::with_capacity(desk.alloc, EVENTS) else {
@@ -55,7 +56,7 @@ pub(crate) fn take_streams<M: Machine<Event = Event, Out = Actions>, L: Ledger, 
         }
         hand_out(rt, desk, &mut places);
         for key in 0..places.keys() {
-            take_questions(rt, desk, ticket, &mut places, key, &mut buffer);
+            take_questions(rt, desk, worker, &mut places, key, &mut buffer);
         }
         let now = desk.moment(rt);
         places.end_over(desk.ends, now);
@@ -82,7 +83,7 @@ fn stir(places: &mut Places, key: usize) {
 }
 
 // Puts the replies that have come on their streams.
-fn hand_out<M: Machine<Event = Event, Out = Actions>, L: Ledger, R: Wait + Clock>(
+fn hand_out<M: Machine<Event = TypedEvent, Out = TypedActions>, L: Ledger, R: Wait + Clock>(
     rt: &R,
     desk: &Desk<'_, M, L>,
     places: &mut Places,
@@ -98,10 +99,10 @@ fn hand_out<M: Machine<Event = Event, Out = Actions>, L: Ledger, R: Wait + Clock
 
 // Writes and reads the stream at this key where there is something to do, and puts the questions that came. Where it is
 // known at once that nothing goes out for one, since it is no query or was dropped at the door, the stream is to end.
-fn take_questions<M: Machine<Event = Event, Out = Actions>, L: Ledger, R: Wait + Clock>(
+fn take_questions<M: Machine<Event = TypedEvent, Out = TypedActions>, L: Ledger, R: Wait + Clock>(
     rt: &R,
     desk: &Desk<'_, M, L>,
-    ticket: &mut Ticket<L>,
+    worker: &mut Worker<L>,
     places: &mut Places,
     key: usize,
     buffer: &mut [u8],
@@ -118,7 +119,7 @@ fn take_questions<M: Machine<Event = Event, Out = Actions>, L: Ledger, R: Wait +
         let Some(bytes) = client.next_question(desk.alloc, now, buffer) else {
             return;
         };
-        if !desk.put_frame(rt, ticket, client.number, bytes) {
+        if !desk.put_frame(rt, worker, client.number, bytes) {
             client.close();
         }
     }

@@ -1,14 +1,15 @@
 //! The loop that takes other servers' datagrams.
 use crate::desk::Desk;
 use crate::ends::{Ends, MOST_BYTES, SLICE_MS};
-use book::{Machine, Ticket};
+use crate::worker::Worker;
+use book::Machine;
 use counters::{AskFault, Outcome, SocketFault, Way};
 use dispatch::datagram_event;
-use events::{Actions, Event};
 use mio::Events;
 use std::sync::Wait;
 use std::sync::ledger::Ledger;
 use std::time::Clock;
+use typed::{TypedActions, TypedEvent};
 
 // How many sockets are told of at once.
 const EVENTS: usize = 256;
@@ -52,10 +53,10 @@ fn count_asks(ends: &Ends, counted: &mut Counted, silent: u64) {
 }
 
 /// Takes what repeats the asks that are open, each at its own socket, until the flag is up.
-pub(crate) fn take_answers<M: Machine<Event = Event, Out = Actions>, L: Ledger, R: Wait + Clock>(
+pub(crate) fn take_answers<M: Machine<Event = TypedEvent, Out = TypedActions>, L: Ledger, R: Wait + Clock>(
     rt: &R,
     desk: &Desk<'_, M, L>,
-    ticket: &mut Ticket<L>,
+    worker: &mut Worker<L>,
 ) {
     let asks = &desk.ends.asks;
     let Ok(mut events) = Events::with_capacity(desk.alloc, EVENTS) else {
@@ -75,7 +76,7 @@ pub(crate) fn take_answers<M: Machine<Event = Event, Out = Actions>, L: Ledger, 
         }
         desk.wait(&asks.poller, &mut poll, &mut events, SLICE_MS);
         for event in events.iter() {
-            take_answer(rt, desk, ticket, event.token().0, &mut buffer);
+            take_answer(rt, desk, worker, event.token().0, &mut buffer);
         }
         let now = desk.moment(rt);
         if now.saturating_sub(swept) >= SLICE_MS {
@@ -87,10 +88,10 @@ pub(crate) fn take_answers<M: Machine<Event = Event, Out = Actions>, L: Ledger, 
 }
 
 // Takes what came for the ask of this key, where it repeats it.
-fn take_answer<M: Machine<Event = Event, Out = Actions>, L: Ledger, R: Wait + Clock>(
+fn take_answer<M: Machine<Event = TypedEvent, Out = TypedActions>, L: Ledger, R: Wait + Clock>(
     rt: &R,
     desk: &Desk<'_, M, L>,
-    ticket: &mut Ticket<L>,
+    worker: &mut Worker<L>,
     key: usize,
     buffer: &mut [u8; MOST_BYTES],
 ) {
@@ -100,7 +101,7 @@ fn take_answer<M: Machine<Event = Event, Out = Actions>, L: Ledger, R: Wait + Cl
         let event = datagram_event(desk.alloc, desk.moment(rt), number, to, &buffer[..count]);
         match event {
             Ok(event) => {
-                desk.put(rt, ticket, event);
+                desk.put(rt, worker, event);
             }
             Err(_) => desk.ends.count(Outcome::MemoryRefused),
         }

@@ -3,7 +3,7 @@ ghost use Rattle.std.specs.Prelude.{◌≡◌};
 ghost use Rattle.engine.specs.Beginnings.{IsBegun};
 
 use book::Book;
-use engine::Core;
+use engine::{Core, TypedCore};
 use pool::Shared;
 use server::{Bounds, Ends, LOOPS, ServeError, serve_until};
 use std::alloc::Global;
@@ -52,7 +52,7 @@ fn serve_by<
     requires parts { (blank.parts ≡ L.parts) × (blank.parts ≡ 5) }
     requires begun { IsBegun core }
 {
-    let Ok((book, tickets)) = Book::<Core, L>::new(alloc, blank, core, LOOPS, KEPT) else {
+    let Ok((book, tickets)) = Book::<TypedCore, L>::new(alloc, blank, core, LOOPS, KEPT) else {
         return Err(ServeError::Memory);
     };
     serve_until(rt, alloc, &Shared::new(book), tickets, ends, bounds, stop)
