@@ -1,5 +1,5 @@
 -- What comes in for an open query: its ask ends for nothing, or an answer or a referral is taken.
-use Rattle.std.proofs.Common.{◌≡◌, ◌≢◌, ℕ, ◌⊎◌, Bool, true, false, cond, inl, inr, Some, List, [], ◌∷◌, Contains, refl, sym, ap, ◌∙◌, subst}
+use Rattle.std.proofs.Common.{◌≡◌, ◌≢◌, ℕ, ◌⊎◌, Bool, true, false, cond, inl, inr, List, [], ◌∷◌, Contains, refl, sym, ap, ◌∙◌, subst}
 use Rattle.dname.specs.Labels.{Name, IsAtOrUnder}
 use Rattle.rdata.specs.Records.{Record}
 use Rattle.rdata.specs.declared.addr.Addr.{Addr}
@@ -22,7 +22,7 @@ use Rattle.cache.specs.Cached.{Hit, IsKept}
 use Rattle.cache.specs.Failures.{FailedAsk, after_failed}
 use Rattle.cache.proofs.Failed.{failed_members}
 use Rattle.resolution.specs.Jobs.{Home, Stores, level_of, with_timeout, with_told, is_server_failure, IsCutOf, Search, ask_of, Job, Input, Start, Told, TimedOut, TcpFailed, Task, Go, Again, Point, point, hit_from, cut_from}
-use Rattle.retry.specs.Penalties.{AreAtMost, answered, timed_out}
+use Rattle.retry.specs.Penalties.{AreAtMost}
 use Rattle.resolution.specs.Rules.{KeepsAnswer, IsAnswered, IsReferred, ByClass, Enters, IsTakenEntry, IsTakenCut, IsTakenFailure, WritesPenalty, BringsOnly}
 use Rattle.runs.specs.States.{Turn, Event, Client, Datagram, TcpReply, Tick, OpenQuery, Path, ByUdp, ByTcp, Ask, via_of}
 use Rattle.runs.specs.States as states

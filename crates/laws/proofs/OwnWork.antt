@@ -1,26 +1,23 @@
 -- Where memory ran out in a step, the stores are as this query's own work left them.
-use Rattle.std.proofs.Common.{◌≡◌, ℕ, zero, suc, ◌+◌, ◌⊎◌, inl, inr, cond, true, Option, Some, None, is_some, List, ◌∷◌, ◌++◌, drop, Contains, refl, sym, ap, ◌∙◌, subst}
+use Rattle.std.proofs.Common.{◌≡◌, ℕ, zero, suc, ◌+◌, ◌⊎◌, inl, inr, cond, Option, Some, None, is_some, List, ◌∷◌, ◌++◌, drop, Contains, refl, sym, ap, subst}
 use Rattle.zone.proofs.LawLists.{first_in, later_in}
 use Rattle.dname.specs.Labels.{Name}
 use Rattle.zone.specs.Zones.{a_type}
 use Rattle.rdata.specs.declared.addr.Addr.{Addr}
 use Rattle.wire.specs.declared.via.Via.{Via}
-use Rattle.front.specs.Queries.{IsRequest}
-use Rattle.front.specs.declared.queries.Query.{Query}
 use Rattle.front.specs.declared.queries.Request.TheVariants as request
 use Rattle.retry.specs.Plans.{Plan, upcoming, advanced}
 use Rattle.cache.specs.Failures.{FailedAsk}
 use Rattle.resolution.specs.Jobs.{Home, Stores, Search, given, ask_of, left_of, Job, Input, Start, Go, Point}
-use Rattle.resolution.specs.Rules.{PassesOver, Rule, takes, asks, follows, restarts, skips, hears, descends, gives_up, Rules, Enters}
-use Rattle.resolution.specs.Stops.{LooksInPart, EntersInPart, IsPart, untouched, looked, passed, Stops, in_input, in_rule}
+use Rattle.resolution.specs.Rules.{PassesOver, Rule, takes, asks, follows, restarts, skips, hears, descends, gives_up, Rules}
+use Rattle.resolution.specs.Stops.{LooksInPart, IsPart, untouched, looked, passed, Stops, in_input, in_rule}
 use Rattle.resolution.proofs.Looked.{finds_look, misses_look}
 use Rattle.resolution.proofs.Passing.{passes_keep, passes_ask, left_first}
-use Rattle.runs.specs.States.{Event, Client, Datagram, TcpReply, Tick, Action, Served, OpenQuery, Turn, Plain, recursive, job_for, Open, Site, State, moved}
+use Rattle.runs.specs.States.{Event, Client, Datagram, TcpReply, Tick, Action, Served, OpenQuery, job_for, Open, Site, State, moved}
 use Rattle.runs.specs.States as event
-use Rattle.runs.specs.Steps.{IsInput, IsMeant, IsLeft, IsStarved, IsTurn, Step}
-use Rattle.runs.specs.Runs.{Run}
+use Rattle.runs.specs.Steps.{IsInput, IsLeft, IsStarved, IsTurn}
 use Rattle.runs.proofs.Clocks.{clock_of_run}
-use Rattle.laws.specs.OwnWork.{IsSoughtFrom, IsLeftFrom, IsUse, AreUses, IsWrittenAndUsed, IsWorkOf, MovesByOwnWork, OrderIsKept}
+use Rattle.laws.specs.OwnWork.{IsSoughtFrom, IsUse, AreUses, IsWrittenAndUsed, IsWorkOf, OrderIsKept}
 use Rattle.laws.proofs.States.{turn_of}
 
 -- ---- plans

@@ -7,7 +7,7 @@ use Rattle.front.specs.Queries.{IsRequest}
 use Rattle.front.specs.declared.queries.Query.{Query}
 use Rattle.front.specs.declared.queries.Request.{Request}
 use Rattle.front.specs.declared.queries.Request.TheVariants as request
-use Rattle.resolution.specs.Jobs.{Home, Job, Start}
+use Rattle.resolution.specs.Jobs.{Home, Start}
 use Rattle.resolution.specs.Stops.{Stops}
 use Rattle.resolution.proofs.Keeping.{stops_bring}
 use Rattle.runs.specs.States.{Event, Client, Datagram, TcpReply, Tick, Action, Reply, Turn, Served, Plain, client_query, recursive, job_for, Open, AreApart, moment, Site, State, IsNew, moved}

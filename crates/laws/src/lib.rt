@@ -7,7 +7,7 @@
 //! no link is sent beyond its TTL, and every failure has its cause; `every_failure_is_spent`, `failed_is_asked_twice`:
 //! no server is left only where all were asked twice. `discipline_law`, `isolation_law`, `due_law`, `words_law`,
 //! `room_law`: one reply and one open ask a query, in due order, with identifiers of the first state's seed and stores
-//! of its capacities. `order_law`: where memory runs out, the stores are as the query's own work left them.
+//! of its capacities. `starved_law`: where memory runs out, the stores are as the query's own work left them.
 //! `determined_law`: one state and one event have one outcome. `meant_law`: which query a step
 //! serves, and the fields of an open query. `calls_law`, `runs_law`: an accepted message is used in its own step.
 //! `held_law`, `kept_law`, `failures_law`: local and cached links are answered, a cached link is found until its TTL
@@ -32,7 +32,7 @@ mod timely;
 pub use followed::{calls_law, runs_law};
 pub use kept::{failures_law, held_law, kept_law};
 pub use orderly::{
-    determined_law, discipline_law, due_law, isolation_law, meant_law, order_law, room_law,
+    determined_law, discipline_law, due_law, isolation_law, meant_law, room_law, starved_law,
     words_law,
 };
 pub use right::{headline_and_timely_law, headline_law, truth_law};

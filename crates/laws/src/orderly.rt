@@ -67,7 +67,7 @@ pub fn room_law()
 /// Where memory runs out in a step, the stores stand as they did, or as the work on its own query left them. The input
 /// was written, or part of it: a penalty as this input writes it, and one whole link or delegation at most. Then the
 /// entries that the query's look-ups used came to the front, one after another, and nothing else moved.
-pub fn order_law()
+pub fn starved_law()
     ensures { OrderIsKept }
 {}
 

@@ -20,7 +20,7 @@ use Rattle.cache.specs.Failures.{FailedAsk, after_failed}
 use Rattle.cache.proofs.Failed.{failed_members, failed_lost}
 use Rattle.resolution.specs.Jobs.{Home, Stores, with_answer, with_told, is_server_failure, Taken, Search, ask_of, Job, Input, Start, Told, TimedOut, TcpFailed, Next, Point, hit_from, cut_from}
 use Rattle.resolution.specs.Rules.{asked_of, Finds, Hits, Misses, PassesOver, Rule, takes, asks, follows, restarts, skips, hears, descends, gives_up, Rules, KeepsAnswer, ByClass, Enters, Leaves, sends, sends_again, refuses, spent, looked_out, nowhere, too_long, done, Advances, IsTakenEntry, IsTakenCut, IsLostEntry, IsLostCut, IsTakenFailure, IsLostFailure, BringsOnly}
-use Rattle.resolution.specs.Stops.{EntersInPart, looked_up_by, after_look_up, IsSoughtAt, IsPart, untouched, looked, passed, Stops, in_input, in_rule}
+use Rattle.resolution.specs.Stops.{EntersInPart, looked_up_by, after_look_up, IsPart, untouched, looked, passed, Stops, in_input, in_rule}
 use Rattle.resolution.proofs.Passing.{passes_members}
 
 still_only : {X : Type 0} (old mid new : List X) (P : X → Type 0) → KeepsOnly old P mid → HasSame mid new → KeepsOnly old P new

@@ -1,7 +1,6 @@
 -- The stores after a look-up, whether it finds a link or not.
-use Rattle.std.proofs.Common.{◌≡◌, ℕ, inl, inr, ◌⊎◌, Option, Some, None, refl, ◌∙◌}
+use Rattle.std.proofs.Common.{◌≡◌, ℕ, inl, inr, Option, Some, None, refl, ◌∙◌}
 use Rattle.dname.specs.Labels.{Name}
-use Rattle.zone.specs.Links.{Link}
 use Rattle.zone.specs.Look as local
 use Rattle.referral.specs.Cuts.{Cut, after_best}
 use Rattle.cache.specs.Keys.{Key}

@@ -143,7 +143,7 @@ not_lower serves = elim (by_host root_address lower_name serves) as (λ x. ⊥) 
 abbrev IsShorter : Address → Zone → Zone → Type 0
 IsShorter a z y = Serves world a y.origin → IsAtOrUnder host_name y.origin → length y.origin ≤ length z.origin
 
-by_root : AnswersFrom world root_address host_name root_zone
+pub by_root : AnswersFrom world root_address host_name root_zone
 by_root = record {
   stands = root_there;
   served = serves_root;

@@ -125,7 +125,7 @@ host_is_name = record { labels = (x_label, (l_label, refl)); short = omega arith
 spelling : IsSpelling host_name
 spelling = record { spelled = (omega arith, omega arith, (omega arith, omega arith, refl)); short = omega arith }
 
-is_question : IsQuestion question
+pub is_question : IsQuestion question
 is_question = record { name = spelling; qtype = omega arith; qclass = omega arith }
 
 pub server_record : IsRecord (entry lower_name (Ns server_name))

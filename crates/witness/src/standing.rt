@@ -2,12 +2,12 @@
 
 ghost use Rattle.witness.specs.Stands.{LawsStand, SilenceStands, KnownFailureStands, StarvedStands, CacheStands, StreamStands, AliasStands, LookUpStands};
 
-/// The laws over runs are of something: there is a well formed world and an honest run in it, in which a client
-/// asks, the server that is asked refers the resolver to another, and that one's answer goes to the client. There are runs
-/// in which the only server is silent and the query fails for want of servers, in which it fails and the query with it, in
-/// which memory is refused, in which the same question is answered from the cache a second later, in which a truncated
-/// answer is asked for again over TCP, in which an alias is followed to its target, and in which the address of a server
-/// is looked up that a referral names without one.
+/// The laws over runs are of something: there is a well formed world and an honest run in it, in which a client asks,
+/// the server that is asked refers the resolver to another, and that one's answer goes to the client. There are runs in
+/// which the only server is silent and the query fails for want of servers, in which it fails and the query with it,
+/// and in which memory is refused. In others the same question is answered from the cache a second later, a truncated
+/// answer is asked for again over TCP, and an alias is followed to its target. In one the address of a server is looked
+/// up that a referral names without one.
 pub fn laws_stand()
     ensures answered { LawsStand }
     ensures silent { SilenceStands }

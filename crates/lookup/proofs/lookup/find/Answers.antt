@@ -1,4 +1,4 @@
-use Rattle.std.proofs.Common.{inl, inr, ap, ◌≡◌}
+use Rattle.std.proofs.Common.{inl, inr, ap}
 use Rattle.rdata.specs.Types.{type_number}
 use Rattle.zone.specs.Look.{Cut, NotHere}
 use Rattle.authority.specs.Answers.{local_view}
