@@ -1,6 +1,6 @@
 //! The tests of what one query stands on that no row of `vectors_resolver` can hold: what is left where a growth is
-//! refused (`cache`, `referral`, `retry`, `classify`, `frames`, `lookup`, `iterate`, `events`), how much memory an answer
-//! takes, scans of open queries, threads and streams.
+//! refused (`cache`, `referral`, `retry`, `classify`, `frames`, `lookup`, `iterate`, `events`, `typed`), how much memory
+//! an answer takes, scans of open queries, threads and streams.
 #![tactic(auto)]
 
 #[cfg(test)]
@@ -29,5 +29,7 @@ mod retry_tests;
 mod shared;
 #[cfg(test)]
 mod sockets_tests;
+#[cfg(test)]
+mod typed_tests;
 #[cfg(test)]
 mod worked;
