@@ -20,8 +20,7 @@ line_end text None h = (
   omega arith,
 )
 line_end text (Some place) (first, there) =
-    let high = first.high in
-    (
+    let high = first.high in (
       sym (line_is_position text ∙ position_or_len_is (is_byte 10) text place 0 (omega arith) (λ k lt. is_false (is_byte 10 (slice_index text k)) (first.before k (omega arith) lt)) (λ within. there)),
       omega arith,
     )
