@@ -10,10 +10,11 @@ ghost use Rattle.resolution.specs.Jobs.{local_link, kept_link, is_dead, has_ende
 ghost use Rattle.lookup.specs.Views.{owner_in, source_view, is_at_hand, IsBounded, taken_at, accepted_link};
 
 use authority::Link;
-use cache::{Hit, retimed, seconds_left};
+use cache::{Hit, retimed};
 use classify::lifetime;
 use dname::{Heap, Name, Starved};
 use front::alias_target;
+use rdata::{is_young, seconds_left};
 use std::alloc::{AllocError, Allocator, Global};
 use std::marker::Model;
 
@@ -44,7 +45,7 @@ impl Source {
         ensures { result ≡ has_ended now (source_view self) }
     {
         match self {
-            Source::Cached { ttl, since } => { 1_000 * u64::from(ttl) <= now.saturating_sub(since) }
+            Source::Cached { ttl, since } => !is_young(ttl, since, now),
             Source::Local | Source::Accepted { .. } => false,
         }
     }
