@@ -41,6 +41,7 @@ pub enum Source {
 
 impl Source {
     // Whether a link of this source has expired.
+    #[tactic(auto, using(crate::proofs::Times::not_younger))]
     fn has_ended(self, now: u64) -> bool
         ensures { result ≡ has_ended now (source_view self) }
     {
