@@ -8,3 +8,4 @@ pub mod SetRows
 pub mod SomeAnswers
 pub mod Twins
 pub mod Walks
+pub mod AtOrigin

@@ -14,7 +14,7 @@ use Rattle.zone.specs.Links.{Link, Found, NxDomain}
 use Rattle.zone.specs.Look.{is_owned, is_type, at, of_type, owns, is_cut, cut_of, firsts, with_owner, said, said_by, said_alias, said_wild, climbed, link_by, is_address, ns_of, add_glue, addresses_of}
 use Rattle.zone.proofs.Trees.{not_own}
 use Rattle.authority.specs.Walk.{own_of, wild_of, Stands, near_or, met, told}
-use Rattle.authority.proofs.Ascents.{ascends, climb_by}
+use Rattle.authority.proofs.Ascents.{climb_by}
 use Rattle.authority.proofs.Picks.{none_picked, found_by, of_type_at, owners_stay, link_here, link_above}
 
 -- No owner at or under a name: no records of it.
@@ -129,25 +129,18 @@ pub near_last : (rs : List Record) (n : List (List ℕ)) (near : Option (List Re
     → met soa q t near (climbed soa q t rs n) ≡ climbed soa q t rs q → met soa q t near (NxDomain soa) ≡ climbed soa q t rs q
 near_last rs n near soa q t e h = sym (ap (λ (m : List (List ℕ)). met soa q t near (climbed soa q t rs m)) e) ∙ h
 
--- Each name is looked up once.
-pub count_more : (n p q : List (List ℕ)) (count : ℕ) → parent_of n ≡ Some p → count + length n ≡ length q + 1 → (count + 1) + length p ≡ length q + 1
-count_more n p q count up h = let a = ascends n p up in omega (arith, h, ap length a.from, ap length a.to)
-
-pub count_last : (n q : List (List ℕ)) (count : ℕ) → n ≡ root → count + length n ≡ length q + 1 → count ≡ length q
-count_last n q count e h = omega (arith, h, ap length e)
-
 pub labels_within : (n : List (List ℕ)) → length n ≤ length (wire n)
 labels_within [] = omega arith
 labels_within (l ∷ ls) = let k = labels_within ls in omega (arith, k, length-append l (wire ls))
 
 -- The whole walk.
 told_by : {H : Type 0} (z : Zone) (soa : Record) (q : List (List ℕ)) (t : ℕ) (o : Option (Stand H)) (near : Option (List Record)) → cut_of z q ≡ None → Stands q z.records o
-    → met soa q t near (NxDomain soa) ≡ climbed soa q t z.records q → told soa q t o near ≡ link_by soa z q t
-told_by z soa q t None near free h k = k ∙ link_above soa z q t false free h.under refl
+    → (has_under q z.records ≡ false → met soa q t near (NxDomain soa) ≡ climbed soa q t z.records q) → told soa q t o near ≡ link_by soa z q t
+told_by z soa q t None near free h k = k (sym h.under) ∙ link_above soa z q t false free h.under refl
 told_by z soa q t (Some s) near free h k = ap (said soa q t) h.own ∙ link_here soa z q t true free h.under refl
 
 pub walk_told : {H : Type 0} (z : Zone) (soa : Record) (q : List (List ℕ)) (t : ℕ) (o : Option (Stand H)) (near : Option (List Record)) → None ≡ cut_of z q → Stands q z.records o
-    → met soa q t near (NxDomain soa) ≡ climbed soa q t z.records q → told soa q t o near ≡ link_by soa z q t
+    → (has_under q z.records ≡ false → met soa q t near (NxDomain soa) ≡ climbed soa q t z.records q) → told soa q t o near ≡ link_by soa z q t
 walk_told z soa q t o near free h k = told_by z soa q t o near (sym free) h k
 
 -- A server's addresses.

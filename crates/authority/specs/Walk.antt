@@ -1,6 +1,6 @@
 -- The result of one walk up from a name in a zone.
-use Rattle.std.specs.Prelude.{◌≡◌, ℕ, cond, is_some, Option, Some, None, List, [], ◌∷◌, length}
-use Rattle.dname.specs.Labels.{star}
+use Rattle.std.specs.Prelude.{◌≡◌, ℕ, ◌+◌, false, cond, is_some, Option, Some, None, List, [], ◌∷◌}
+use Rattle.dname.specs.Labels.{star, same_name}
 use Rattle.rdata.specs.Records.{Record}
 use Rattle.zone.specs.declared.tree.Stand.{Stand}
 use Rattle.zone.specs.Tree.{has_under}
@@ -39,12 +39,17 @@ abbrev pub told : {H : Type 0} → Record → List (List ℕ) → ℕ → Option
 told soa q t (Some s) near = said soa q t s.own
 told soa q t None near = met soa q t near (NxDomain soa)
 
--- A whole walk: the cut, the records of the name and of the names above it, and a look-up for each of its labels and
--- the root.
+-- How many names have a node, from this name up to the origin.
+abbrev pub nodes_met : Zone → List (List ℕ) → ℕ
+nodes_met z [] = 0
+nodes_met z (l ∷ ls) = cond (has_under (l ∷ ls) z.records) 1 0 + cond (same_name (l ∷ ls) z.origin) 0 (nodes_met z ls)
+
+-- A whole walk: the cut, the records of the name, those of the nearest wildcard above it where the name has no node, and
+-- how many nodes were met up to the origin.
 pub record IsWalk {H : Type 0} (z : Zone) (q : List (List ℕ)) (w : Walk H) : Type 0 where
   pub cut : w.cut ≡ cut_of z q
   pub here : Stands q z.records w.here
-  pub near : (soa : Record) (t : ℕ) → met soa q t w.near (NxDomain soa) ≡ climbed soa q t z.records q
+  pub near : has_under q z.records ≡ false → (soa : Record) (t : ℕ) → met soa q t w.near (NxDomain soa) ≡ climbed soa q t z.records q
   pub here_timed : IsTimed w.here
   pub near_timed : AreTimedIn w.near
-  pub count : w.count ≡ length q
+  pub count : w.count ≡ nodes_met z q

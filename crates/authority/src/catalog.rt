@@ -133,8 +133,9 @@ impl<A: Heap> Catalog<A> {
         Ok(local)
     }
 
-    /// The result of `look`, and how many names were looked up in the tree of the zone that answers, glue aside: at
-    /// most two more than the name has labels. A name without a node counts too.
+    /// The result of `look`, and how many nodes were met in the tree of the zone that answers, from the name up to the
+    /// zone's origin, glue aside: at most two more than the name has labels. `www.example` in a zone `example` that has
+    /// it meets two.
     pub fn look_counted(
         &self,
         alloc: A,

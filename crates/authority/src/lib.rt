@@ -7,7 +7,7 @@
 //!
 //! Promised: the result is that of this zone, by the RFC's relations (clause `relation`, `IsLooked`) and by the
 //! function that computes it (clause `value`, `looked`). It is one (`one_answer_law`), and there is one for every name
-//! that a zone is over (`some_answer_law`). At most two names more than the name has labels are looked up in the tree
+//! that a zone is over (`some_answer_law`). At most two nodes of the tree more than the name has labels are met
 //! (`look_counted`).
 //! Not here: following a CNAME chain (`front`, `iterate`).
 //!

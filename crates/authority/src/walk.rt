@@ -1,5 +1,5 @@
 //! Look-up by one walk up from the name: its cost grows with the number of the name's labels alone.
-ghost use Rattle.std.specs.Prelude.{◌≡◌, ◌≤◌, ◌+◌, ◌&&◌, not, cond, length, Some, None, IfOk};
+ghost use Rattle.std.specs.Prelude.{◌≡◌, ◌≤◌, ◌+◌, ◌&&◌, not, cond, is_some, length, Some, None, IfOk};
 ghost use Rattle.std.specs.List.{list_any};
 ghost use Rattle.dname.specs.Labels.{same_name};
 ghost use Rattle.rdata.specs.Types.{type_number};
@@ -28,7 +28,7 @@ pub(crate) struct Walk<'a, A: Allocator> {
     here: Option<Stand<'a, A>>,
     // The records of the wildcard at the nearest existing name above it.
     near: Option<Held<'a, A>>,
-    // How many names were looked up.
+    // How many names have a node, from the name up to the origin.
     count: usize,
 }
 
@@ -72,7 +72,18 @@ fn nearer<'a, A: Allocator>(
     }
 }
 
-// The walk from a name to the root. Names above the origin count too.
+// Whether a name has a node, as a number.
+fn node_count<A: Allocator>(stand: &Option<Stand<'_, A>>) -> usize
+    ensures { result ≡ cond (is_some stand.now) 1 0 }
+{
+    match stand {
+        Some(_) => 1,
+        None => 0,
+    }
+}
+
+// The walk from a name up to the zone's origin, or to the root where the name is not under that. The names that have a
+// node are counted.
 fn walk_up<'a, A: Heap>(zone: &'a Zone<A>, name: &Name<A>) -> Result<Walk<'a, A>, Starved>
     ensures { IfOk result (λ w. IsWalk zone.now name.now w) }
 {
@@ -82,12 +93,12 @@ fn walk_up<'a, A: Heap>(zone: &'a Zone<A>, name: &Name<A>) -> Result<Walk<'a, A>
     let here = zone.stand_at(&up);
     let mut cut = cut_at(zone, &here, &up)?;
     let mut near = None;
-    let mut count = 1;
-    'up: while up.ascend() {
+    let mut count = node_count(&here);
+    'up: while !up.is(zone.origin()) && up.ascend() {
         let stand = zone.stand_at(&up);
         cut = first_or(cut_at(zone, &stand, &up)?, cut);
+        count += node_count(&stand);
         near = nearer(near, stand);
-        count += 1;
     }
     Ok(Walk {
         cut,
@@ -133,8 +144,8 @@ fn link<A: Heap>(
     }
 }
 
-// The result for a name and a type, and how many names of the zone's tree were looked up, glue aside: at most two more
-// than the name has labels. A name that has no node counts too.
+// The result for a name and a type, and how many nodes of the zone's tree were met on the way up to the origin, glue
+// aside: at most two more than the name has labels.
 pub(crate) fn look_counted<A: Heap>(
     alloc: A,
     zone: &Zone<A>,

@@ -1,12 +1,12 @@
 -- What a cache answers to a question, and its entries after each call.
-use Rattle.std.specs.Prelude.{◌≡◌, ◌≢◌, ℕ, ◌-◌, ◌/◌, Bool, true, false, cond, nat_eq, ◌⊎◌, Option, Some, None, List, [], ◌∷◌, map, Contains}
+use Rattle.std.specs.Prelude.{◌≡◌, ◌≢◌, ℕ, min, Bool, true, false, cond, nat_eq, ◌⊎◌, Option, Some, None, List, [], ◌∷◌, map, Contains}
 use Rattle.std.specs.Map.{lookup, remove_entry}
 use Rattle.dname.specs.Labels.{is_under}
-use Rattle.rdata.specs.Records.{Record}
+use Rattle.rdata.specs.Records.{Record, greatest_ttl}
 use Rattle.rdata.specs.Sets.{with_ttl}
 use Rattle.zone.specs.Links.{Link, Found, Alias, NoData, NxDomain}
 use Rattle.zone.specs.Zones.{cname_type}
-use Rattle.lru_laws.specs.Ages.{is_young}
+use Rattle.rdata.specs.Ages.{is_young, seconds_left}
 use Rattle.lru_laws.specs.Orders.{MayGo}
 use Rattle.lru_laws.specs.Stores as stores
 use Rattle.cache.specs.Keys.{Key, same_key, kind_key, error_key, key_for}
@@ -20,6 +20,11 @@ pub record Hit : Type 0 where
 abbrev pub as_kept : Link → ℕ → ℕ → Hit
 as_kept l ttl now = record { link = l; ttl = ttl; since = now }
 
+-- The seconds for which a link is kept that is to be kept for so many: no TTL is greater than 2,147,483,647 (RFC 2181,
+-- section 8).
+abbrev pub kept_ttl : ℕ → ℕ
+kept_ttl ttl = min ttl greatest_ttl
+
 -- Whether a link is younger than its TTL. One that was cached in what is now the future has age 0.
 abbrev pub is_live : ℕ → Hit → Bool
 is_live now h = is_young now h.ttl h.since
@@ -30,10 +35,6 @@ retimed ttl (Found rs) = Found (map (with_ttl ttl) rs)
 retimed ttl (Alias r) = Alias (with_ttl ttl r)
 retimed ttl (NoData soa) = NoData (with_ttl ttl soa)
 retimed ttl (NxDomain soa) = NxDomain (with_ttl ttl soa)
-
--- The seconds that are left of a time to live that began at that moment, its age in whole seconds; 0 where it is over.
-abbrev pub seconds_left : ℕ → ℕ → ℕ → ℕ
-seconds_left now ttl since = ttl - (now - since) / 1000
 
 abbrev pub left_of : ℕ → Hit → ℕ
 left_of now h = seconds_left now h.ttl h.since

@@ -4,7 +4,7 @@ use Rattle.std.specs.Prelude.{◌≡◌, ℕ, ◌-◌, ◌<◌, Bool, true, ◌&
 use Rattle.std.specs.Cmp.Lexicographic.{pointwise}
 use Rattle.dname.specs.Labels.{same_name}
 use Rattle.rdata.specs.declared.addr.Addr.{Addr}
-use Rattle.lru_laws.specs.Ages.{is_young}
+use Rattle.rdata.specs.Ages.{is_young}
 use Rattle.lru_laws.specs.Orders.{kept, used}
 use Rattle.lru_laws.specs.Stores as stores
 

@@ -3,12 +3,11 @@ ghost use Rattle.std.specs.Prelude.{◌≡◌, ◌≢◌, ◌≤◌, [], ◌∷�
 ghost use Rattle.std.specs.Bool.{OnTrue, OnFalse};
 ghost use Rattle.std.specs.NonZero.{non_zero_usize_get};
 ghost use Rattle.lru.specs.LruCache.{lru_cache, IsValid};
-ghost use Rattle.rdata.specs.Records.{greatest_ttl};
 ghost use Rattle.rdata.specs.Types.{type_number};
 ghost use Rattle.authority.specs.Answers.{link_view};
 ghost use Rattle.lru_laws.specs.Orders.{KeepsOnly, LosesOnly, HasSame};
 ghost use Rattle.cache.specs.Keys.{same_key, key_for, error_key};
-ghost use Rattle.cache.specs.Cached.{as_kept, is_error, live_at, set_at, alias_at, under, answer, asked_to, above_to, error_above, hit_of, lent, moved, swept, stored, after_keep, IsKept, IsGone, IsHeld, IsMiss};
+ghost use Rattle.cache.specs.Cached.{as_kept, kept_ttl, is_error, live_at, set_at, alias_at, under, answer, asked_to, above_to, error_above, hit_of, lent, moved, swept, stored, after_keep, IsKept, IsGone, IsHeld, IsMiss};
 ghost use Rattle.cache.specs.Packed.{hit_of_packed};
 
 use crate::hit::Hit;
@@ -18,7 +17,7 @@ use authority::Link;
 use dname::{Heap, Name, Starved};
 use lru::LruCache;
 use lru_laws::keep_for;
-use rdata::RType;
+use rdata::{GREATEST_TTL, RType};
 use std::alloc::{Allocator, Global};
 use std::hash::BuildHasher;
 use std::marker::Model;
@@ -100,9 +99,9 @@ impl<S: BuildHasher + Drop, A: Heap> Cache<S, A> {
         self.entries.len()
     }
 
-    /// Caches the link for this name and type from the moment `now`, in milliseconds, for `ttl` seconds, at most
-    /// 2,147,483,647 (RFC 2181, section 8). With `ttl` 300 and `now` 0, `look` finds it up to 299,999. A link with TTL
-    /// 0 is not cached, and the entry under its key goes. Running out of memory changes nothing.
+    /// Caches the link for this name and type from the moment `now`, in milliseconds, for `ttl` seconds. With `ttl` 300
+    /// and `now` 0, `look` finds it up to 299,999. More than 2,147,483,647 counts as that (RFC 2181, section 8). A link
+    /// with TTL 0 is not cached, and the entry under its key goes. Running out of memory changes nothing.
     pub fn keep(
         &mut self,
         name: &Name<A>,
@@ -111,12 +110,11 @@ impl<S: BuildHasher + Drop, A: Heap> Cache<S, A> {
         ttl: u32,
         now: u64,
     ) -> Result<(), Starved>
-        requires { ttl ≤ greatest_ttl }
-        ensures ok { OnOk result (self.new ≡ lru_cache (after_keep self.old.cap name.now (type_number kind) (as_kept (link_view link.now) ttl now) self.old.entries) self.old.cap) }
+        ensures ok { OnOk result (self.new ≡ lru_cache (after_keep self.old.cap name.now (type_number kind) (as_kept (link_view link.now) (kept_ttl ttl) now) self.old.entries) self.old.cap) }
         ensures err { OnErr result (self.new ≡ self.old) }
-        ensures there { OnOk result (ttl ≢ 0 → Contains self.new.entries (key_for name.now (type_number kind) (link_view link.now), as_kept (link_view link.now) ttl now)) }
-        ensures only { KeepsOnly self.old.entries (IsKept name.now (type_number kind) (as_kept (link_view link.now) ttl now)) self.new.entries }
-        ensures gone { LosesOnly self.old.entries (IsGone self.old.cap name.now (type_number kind) (as_kept (link_view link.now) ttl now) self.old.entries) self.new.entries }
+        ensures there { OnOk result (ttl ≢ 0 → Contains self.new.entries (key_for name.now (type_number kind) (link_view link.now), as_kept (link_view link.now) (kept_ttl ttl) now)) }
+        ensures only { KeepsOnly self.old.entries (IsKept name.now (type_number kind) (as_kept (link_view link.now) (kept_ttl ttl) now)) self.new.entries }
+        ensures gone { LosesOnly self.old.entries (IsGone self.old.cap name.now (type_number kind) (as_kept (link_view link.now) (kept_ttl ttl) now) self.old.entries) self.new.entries }
     {
         let mut error = self.key_of(name)?;
         error.slot = Slot::NameError;
@@ -124,7 +122,8 @@ impl<S: BuildHasher + Drop, A: Heap> Cache<S, A> {
             name: name.clone()?,
             slot: Slot::for_link(kind, link),
         };
-        let packed = Packed::of(*self.entries.allocator(), name, link, ttl, now)?;
+        let kept = ttl.min(GREATEST_TTL);
+        let packed = Packed::of(*self.entries.allocator(), name, link, kept, now)?;
         self.store(key, packed)?;
         self.sweep(&error, link);
         self.put_back(error);

@@ -10,8 +10,7 @@ ghost use Rattle.cache.specs.FailureLaws.{same_failed_per, same_failed_equiv, sa
 use dname::{Heap, Name, Starved};
 use limits::FAILURE_LIFETIME;
 use lru::LruCache;
-use lru_laws::is_young;
-use rdata::{Addr, RType};
+use rdata::{Addr, RType, is_young};
 use std::alloc::{Allocator, Global};
 use std::cmp::Eq;
 use std::hash::{BuildHasher, Hash, Hasher};

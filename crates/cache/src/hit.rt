@@ -4,12 +4,11 @@ ghost use Rattle.rdata.specs.Records.{greatest_ttl};
 ghost use Rattle.rdata.specs.Sets.{with_ttl};
 ghost use Rattle.zone.specs.Links.{Found};
 ghost use Rattle.authority.specs.Answers.{link_view};
-ghost use Rattle.cache.specs.Cached.{is_live, as_set, as_alias, retimed, seconds_left, left_of, aged};
+ghost use Rattle.cache.specs.Cached.{is_live, as_set, as_alias, retimed, left_of, aged};
 
 use authority::Link;
 use dname::{Heap, Starved};
-use lru_laws::is_young;
-use rdata::{Record, RecordSet};
+use rdata::{Record, RecordSet, is_young, seconds_left};
 use std::alloc::{AllocError, Allocator, Global};
 use std::marker::Model;
 
@@ -75,16 +74,6 @@ impl<A: Allocator> Hit<A> {
         let ttl = self.left(now);
         retimed(self.link, ttl)
     }
-}
-
-/// How many seconds are left at the moment `now` of a TTL that began at the moment `since`, both in milliseconds: 290
-/// for 300, 0 and 10,000; 0 where it is over.
-pub fn seconds_left(ttl: u32, since: u64, now: u64) -> u32
-    ensures value { result ≡ seconds_left now ttl since }
-    ensures most { result ≤ ttl }
-{
-    let age = now.saturating_sub(since) / 1_000;
-    u64::from(ttl).saturating_sub(age) as u32
 }
 
 /// The link with this TTL, in seconds, on each record: with 60, its record has TTL 60. Takes no memory.

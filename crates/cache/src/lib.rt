@@ -34,7 +34,7 @@ mod packed;
 
 pub use cache::Cache;
 pub use failures::Failures;
-pub use hit::{Hit, retimed, seconds_left};
+pub use hit::{Hit, retimed};
 pub use laws::{aging_law, failures_law, given_law, members_law};
 // A crate can name a cache in a contract only if the types of its fields are exported.
 #[doc(hidden)]

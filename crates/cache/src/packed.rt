@@ -13,8 +13,7 @@ use crate::denial::Denial;
 use crate::hit::{Hit, alias_of, set_of, set_of_one};
 use authority::Link;
 use dname::{Heap, Name, Starved};
-use lru_laws::is_young;
-use rdata::{Place, RData, Record, RecordSet, Shared, Values};
+use rdata::{Place, RData, Record, RecordSet, Shared, Values, is_young};
 use std::alloc::{Allocator, Global};
 use std::marker::Model;
 

@@ -1,6 +1,5 @@
 //! How long the records of a reply are cached (RFC 2181, section 8; RFC 2308, sections 3 and 5).
 ghost use Rattle.std.specs.Prelude.{◌≡◌, ◌≤◌};
-ghost use Rattle.rdata.specs.Caps.{capped};
 ghost use Rattle.rdata.specs.Records.{greatest_ttl};
 ghost use Rattle.authority.specs.Answers.{link_view};
 ghost use Rattle.classify.specs.Lifetimes.{received, received_denial, shortest, lifetime_of, referral_lifetime, ReceivedIsSame, ReceivedIsShort};
@@ -8,7 +7,7 @@ ghost use Rattle.classify.specs.Lifetimes.{received, received_denial, shortest, 
 use authority::Link;
 use dname::Heap;
 use limits::{MAX_NEGATIVE_TTL, MAX_TTL};
-use rdata::{Record, RecordSet};
+use rdata::{Record, RecordSet, cap_ttl};
 use std::alloc::Allocator;
 use zone::denial_ttl;
 
@@ -22,17 +21,10 @@ pub fn received<A: Heap>(link: Link<A>) -> Link<A>
             set.cap_ttl(MAX_TTL);
             Link::Found(set)
         }
-        Link::Alias(record) => Link::Alias(capped(record, MAX_TTL)),
+        Link::Alias(record) => Link::Alias(cap_ttl(record, MAX_TTL)),
         Link::NoData(soa) => Link::NoData(received_denial(soa)),
         Link::NxDomain(soa) => Link::NxDomain(received_denial(soa)),
     }
-}
-
-fn capped<A: Allocator>(mut kept: Record<A>, most: u32) -> Record<A>
-    ensures { result ≡ capped most kept }
-{
-    kept.ttl = kept.ttl.min(most);
-    kept
 }
 
 fn received_denial<A: Allocator>(mut soa: Record<A>) -> Record<A>

@@ -9,3 +9,4 @@ pub mod Ordered
 pub mod Spellings
 pub mod ReadNames
 pub mod FirstFaults
+pub mod Numbers

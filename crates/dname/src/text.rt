@@ -156,10 +156,7 @@ fn write_byte<W: fmt::Write>(f: &mut fmt::Formatter<W>, byte: u8) -> fmt::Result
 pub fn write_number<W: fmt::Write>(f: &mut fmt::Formatter<W>, byte: u8) -> fmt::Result
     ensures { WritesOnOk W.write_str_gives f.old result (number_text byte) f.new }
 {
-    f.write_char('\\')?;
-    f.write_char(char::from(b'0' + byte / 100))?;
-    f.write_char(char::from(b'0' + byte / 10 % 10))?;
-    f.write_char(char::from(b'0' + byte % 10))
+    write!(f, "\\{byte:03}")
 }
 
 /// Appends the name as text, as it is displayed: of `www.example`, `www.example.`. Where memory is refused, nothing is

@@ -19,6 +19,8 @@ mod config_report_head;
 #[cfg(test)]
 mod counters_head;
 #[cfg(test)]
+mod decimal_head;
+#[cfg(test)]
 mod dname_head;
 #[cfg(test)]
 mod engine_fixture_head;

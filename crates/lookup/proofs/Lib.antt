@@ -2,3 +2,4 @@ pub mod Lists
 pub mod Owners
 pub mod Uses
 pub mod Kept
+pub mod Times

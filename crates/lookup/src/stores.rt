@@ -161,6 +161,7 @@ impl<S: BuildHasher + Drop, A: Heap> Stores<S, A> {
 
     /// Caches a link that is within the limits on TTLs (`classify::received`) for this name and type from the moment
     /// `now`, in milliseconds, for as long as it lives. Running out of memory changes nothing.
+    #[tactic(auto, using(crate::proofs::Times::whole_ttl))]
     pub fn keep_link(
         &mut self,
         name: &Name<A>,

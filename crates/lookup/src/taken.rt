@@ -10,10 +10,11 @@ ghost use Rattle.resolution.specs.Jobs.{local_link, kept_link, is_dead, has_ende
 ghost use Rattle.lookup.specs.Views.{owner_in, source_view, is_at_hand, IsBounded, taken_at, accepted_link};
 
 use authority::Link;
-use cache::{Hit, retimed, seconds_left};
+use cache::{Hit, retimed};
 use classify::lifetime;
 use dname::{Heap, Name, Starved};
 use front::alias_target;
+use rdata::{is_young, seconds_left};
 use std::alloc::{AllocError, Allocator, Global};
 use std::marker::Model;
 
@@ -40,11 +41,12 @@ pub enum Source {
 
 impl Source {
     // Whether a link of this source has expired.
+    #[tactic(auto, using(crate::proofs::Times::not_younger))]
     fn has_ended(self, now: u64) -> bool
         ensures { result ≡ has_ended now (source_view self) }
     {
         match self {
-            Source::Cached { ttl, since } => { 1_000 * u64::from(ttl) <= now.saturating_sub(since) }
+            Source::Cached { ttl, since } => !is_young(ttl, since, now),
             Source::Local | Source::Accepted { .. } => false,
         }
     }

@@ -1,4 +1,3 @@
 -- To be read: what the words of the contracts mean.
 pub mod Orders
-pub mod Ages
 pub mod Stores

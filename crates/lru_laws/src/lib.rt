@@ -1,5 +1,5 @@
 //! What the crate `lru` does to the list of its entries, in exact words, for keys whose equality is exact: laws for
-//! the stores that stand on it, and the one test by which what they keep lives (`is_young`).
+//! the stores that stand on it.
 //!
 //! `kept` and `used` (`specs`) are the list after an entry was put and after one was looked up; `KeepsOnly` and
 //! `LosesOnly` say what may be new in it and what may be gone. The contracts of `retry`, `cache` and `referral`
@@ -9,7 +9,7 @@
 //! (`kept_law`); a look-up changes the order alone (`used_law`); a removal loses one key's (`removed_law`); an
 //! entry goes down by one place at most with each call (`places_law`); no key stands twice, and there are no more
 //! entries than the capacity (`keys_law`).
-//! Not here: what is done with what no longer lives (`cache`, `referral`).
+//! Not here: how long what is kept lives (`rdata`), and what is done with what no longer lives (`cache`, `referral`).
 //!
 //! ```text
 //! pub fn timed_out(&mut self, addr: Addr) -> Result<(), Starved>
@@ -19,10 +19,8 @@
 //! ```
 #![tactic(auto)]
 
-mod ages;
 mod laws;
 mod store;
 
-pub use ages::is_young;
 pub use laws::{kept_law, keys_law, mapped_law, places_law, removed_law, used_law};
 pub use store::keep_for;

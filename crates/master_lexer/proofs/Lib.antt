@@ -4,3 +4,4 @@ mod Heads
 pub mod PartsLaw
 pub mod LineLaw
 pub mod LinesLaw
+mod LineEnds

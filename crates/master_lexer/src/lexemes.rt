@@ -3,6 +3,8 @@ ghost use Rattle.std.specs.Prelude.{◌≡◌, ◌<◌, ◌≤◌, false, length
 ghost use Rattle.master_lexer.specs.Lexemes.{ends_word, word_size, quote_size, line_size, first as first_of};
 ghost use Rattle.master_lexer.specs.Views.{lexeme_of};
 
+use memchr::memchr;
+
 /// A word of a master file in its raw bytes: escapes stand as they were written.
 #[derive(Clone, Copy, Drop)]
 pub enum Word<'a> {
@@ -79,11 +81,7 @@ fn line_len(text: &[u8]) -> usize
     ensures value { result ≡ line_size text.now }
     ensures within { result ≤ length text.now }
 {
-    let mut size = 0;
-    while size < text.len() && text[size] != b'\n' {
-        size += 1;
-    }
-    size
+    memchr(b'\n', text).unwrap_or(text.len())
 }
 
 /// What `text` begins with, and the text after it; `None` at its end.

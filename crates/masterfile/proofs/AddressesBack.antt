@@ -1,5 +1,5 @@
 -- Addresses, as they are printed, are read as these addresses.
-use Rattle.std.proofs.Common.{◌≡◌, ℕ, suc, ◌+◌, ◌*◌, ◌/◌, ◌%◌, ◌<◌, ◌≤◌, ◌==◌, Bool, true, false, ◌||◌, Result, Ok, List, [], ◌∷◌, ◌++◌, length, get_or, codes, decimal, refl, sym, ap, subst, ◌∙◌, append_assoc, arith, inl, inr}
+use Rattle.std.proofs.Common.{◌≡◌, ℕ, suc, ◌+◌, ◌*◌, ◌/◌, ◌%◌, ◌<◌, ◌≤◌, ◌==◌, true, false, Result, Ok, List, [], ◌∷◌, ◌++◌, length, get_or, codes, decimal, refl, sym, ap, subst, ◌∙◌, append_assoc, arith, inl, inr}
 use Rattle.std.proofs.lemmas.Bool.Decides.{nat_tests}
 use Rattle.std.proofs.lemmas.Fmt.{decimal_nonempty, digits_is_IsNumeral}
 use Rattle.std.specs.Char.{digit_value}
@@ -15,23 +15,13 @@ use Rattle.master_lexer.specs.Lexemes.{ends_word}
 use Rattle.master_lexer.specs.Lines.{is_plain}
 use Rattle.masterfile.specs.declared.faults.FileKind.{FileKind}
 use Rattle.masterfile.specs.Addresses.{fields, octet, octets, ipv4_of, has_dot, ipv6_of}
+use Rattle.masterfile.proofs.Dots.{hex_no_dot, dots_append}
+use Rattle.masterfile.proofs.FieldLemmas.{fields_last, fields_front}
 use Rattle.masterfile.proofs.Ipv6Lemmas.{ipv6_read}
 use Rattle.masterfile.proofs.PlainWords.{plain_append, plain_byte, eight_joined}
 use Rattle.masterfile.proofs.NumbersBack.{decimal_digits, digits_plain, digits_no_dot, octet_back}
 
-neither : (a b : Bool) → (a || b) ≡ false → (a ≡ false) × (b ≡ false)
-neither true b e = cc
-neither false b e = (refl, e)
-
 -- ---- IPv4
-
-fields_last : (w : List ℕ) → has_dot w ≡ false → fields w ≡ w ∷ []
-fields_last [] h = refl
-fields_last (c ∷ cs) h = let q = neither (c == 46) (has_dot cs) h in rw (q.0, fields_last cs q.1) refl
-
-fields_front : (w rest : List ℕ) → has_dot w ≡ false → fields (w ++ 46 ∷ rest) ≡ w ∷ fields rest
-fields_front [] rest h = refl
-fields_front (c ∷ cs) rest h = let q = neither (c == 46) (has_dot cs) h in rw (q.0, fields_front cs rest q.1) refl
 
 dotted_fields : (a b c d : List ℕ) → has_dot a ≡ false → has_dot b ≡ false → has_dot c ≡ false → has_dot d ≡ false
     → fields (a ++ 46 ∷ (b ++ 46 ∷ (c ++ 46 ∷ d))) ≡ a ∷ b ∷ c ∷ d ∷ []
@@ -103,16 +93,9 @@ hex_ends c h = grind (arith, nat_tests)
 hex_slash : (c : ℕ) → digit_value c < 16 → (c == 92) ≡ false
 hex_slash c h = grind (arith, nat_tests)
 
-hex_dot : (c : ℕ) → digit_value c < 16 → (c == 46) ≡ false
-hex_dot c h = grind (arith, nat_tests)
-
 hex_plain : (w : List ℕ) → AllDigits 16 w → is_plain false w ≡ true
 hex_plain [] h = refl
 hex_plain (c ∷ w) h = plain_byte c w (hex_ends c h.0) (hex_slash c h.0) (hex_plain w h.1)
-
-hex_no_dot : (w : List ℕ) → AllDigits 16 w → has_dot w ≡ false
-hex_no_dot [] h = refl
-hex_no_dot (c ∷ w) h = rw (hex_dot c h.0) (hex_no_dot w h.1)
 
 -- how many digits there are
 few_more : (k n m : ℕ) (acc : List ℕ) → length (digits_onto k 16 false (n / 16) (digit_glyph false (n % 16) ∷ acc)) ≤ m + length (digit_glyph false (n % 16) ∷ acc) → length (digits_onto (suc k) 16 false n acc) ≤ m + 1 + length acc
@@ -176,10 +159,6 @@ octets_back (h ∷ l ∷ os) k p =
     let low : (256 * h + l) % 256 ≡ l = omega arith in
     let rest : octets_of (segments_from os) ≡ os = octets_back os k.1.1 p in
     cc
-
-dots_append : (a b : List ℕ) → has_dot a ≡ false → has_dot b ≡ false → has_dot (a ++ b) ≡ false
-dots_append [] b h k = k
-dots_append (c ∷ a) b h k = let q = neither (c == 46) (has_dot a) h in rw (q.0) (dots_append a b q.1 k)
 
 group_digits : (h l : ℕ) → h < 256 → l < 256 → AllDigits 16 (group_text h l)
 group_digits h l a b = (group_is (256 * h + l) (omega arith)).0.0.1

@@ -1,24 +1,55 @@
 -- On the fields between dots.
-use Rattle.std.proofs.Common.{◌≡◌, ℕ, ◌<◌, ◌==◌, Bool, true, false, cond, Result, Ok, Err, List, [], ◌∷◌, ◌++◌, length, refl, ap, ◌∙◌, arith}
+use Rattle.std.proofs.Common.{◌≡◌, ℕ, zero, suc, ◌+◌, ◌<◌, ◌≤◌, ◌==◌, Bool, true, false, ◌||◌, cond, Some, None, Result, Ok, Err, List, [], ◌∷◌, ◌++◌, length, get_or, take, drop, take_all, take-append-drop, length-drop, drop-cons, ◌-◌, refl, sym, ap, ◌∙◌, arith}
+use Rattle.std.specs.List.{list_any}
+use Rattle.memchr.specs.Find.{IsFirstByte, is_byte}
 use Rattle.std.proofs.lemmas.Bool.Decides.{nat_tests}
+use Rattle.masterfile.proofs.Dots.{neither}
 use Rattle.masterfile.specs.declared.faults.FileKind.{FileKind}
 use Rattle.masterfile.specs.declared.faults.FileKind.TheVariants.{BadData}
 use Rattle.masterfile.specs.Faults.{◌>>=◌}
-use Rattle.masterfile.specs.Addresses.{onto_first, fields, octet, octets, after_octet, surplus_kind, ipv4_of}
+use Rattle.masterfile.specs.Addresses.{onto_first, fields, has_dot, octet, octets, after_octet, surplus_kind, ipv4_of}
 
--- bytes that stand before the first field's rest
-abbrev pub behind : List ℕ → List (List ℕ) → List (List ℕ)
-behind front [] = front ∷ []
-behind front (f ∷ fs) = (front ++ f) ∷ fs
+pub fields_last : (w : List ℕ) → has_dot w ≡ false → fields w ≡ w ∷ []
+fields_last [] h = refl
+fields_last (c ∷ cs) h = let q = neither (c == 46) (has_dot cs) h in rw (q.0, fields_last cs q.1) refl
 
-behind_first : (b : Bool) (c : ℕ) (fs : List (List ℕ)) → behind [] (cond b ([] ∷ fs) (onto_first c fs)) ≡ cond b ([] ∷ fs) (onto_first c fs)
-behind_first true c fs = refl
-behind_first false c [] = refl
-behind_first false c (f ∷ fs) = refl
+pub fields_front : (w rest : List ℕ) → has_dot w ≡ false → fields (w ++ 46 ∷ rest) ≡ w ∷ fields rest
+fields_front [] rest h = refl
+fields_front (c ∷ cs) rest h = let q = neither (c == 46) (has_dot cs) h in rw (q.0, fields_front cs rest q.1) refl
 
-pub behind_nothing : (w : List ℕ) → behind [] (fields w) ≡ fields w
-behind_nothing [] = refl
-behind_nothing (c ∷ cs) = behind_first (c == 46) c (fields cs)
+-- the library's search for a dot, and its test of one
+dots_are_any : (w : List ℕ) → list_any (λ (c : ℕ). c == 46) w ≡ has_dot w
+dots_are_any [] = refl
+dots_are_any (c ∷ cs) = ap (λ (b : Bool). c == 46 || b) (dots_are_any cs)
+
+pub any_dot : (w : List ℕ) (b : Bool) → b ≡ list_any (λ (c : ℕ). c == 46) w → b ≡ has_dot w
+any_dot w b e = e ∙ dots_are_any w
+
+is_false : (b : Bool) → ¬ (b ≡ true) → b ≡ false
+is_false true h = absurd (h refl)
+is_false false h = refl
+
+no_dot_before : (w : List ℕ) (k : ℕ) → k ≤ length w → ((i : ℕ) → i < k → (get_or w i 0 == 46) ≡ false) → has_dot (take k w) ≡ false
+no_dot_before w zero le h = refl
+no_dot_before [] (suc k) le h = refl
+no_dot_before (c ∷ cs) (suc k) le h = rw (h 0 (omega arith)) (no_dot_before cs k (omega arith) (λ i lt. h (suc i) (omega arith)))
+
+is_dot : (c : ℕ) → (c == 46) ≡ true → c ≡ 46
+is_dot c e = grind (arith, nat_tests, e)
+
+pub no_dot : (w : List ℕ) → IsFirstByte (is_byte 46) w None → fields w ≡ w ∷ []
+no_dot w h =
+    let none = no_dot_before w (length w) (omega arith) (λ i lt. is_false (get_or w i 0 == 46) (h i (omega arith) lt)) in
+    fields_last w (ap has_dot (sym (take_all (length w) w (omega arith))) ∙ none)
+
+pub first_dot : (w : List ℕ) (k : ℕ) → IsFirstByte (is_byte 46) w (Some k) → fields w ≡ take k w ∷ fields (take (length w - (k + 1)) (drop (k + 1) w))
+first_dot w k (first, there) =
+    let high = first.high in
+    let none = no_dot_before w k (omega arith) (λ i lt. is_false (get_or w i 0 == 46) (first.before i (omega arith) lt)) in
+    let next : suc k ≡ k + 1 = omega arith in
+    let from : drop k w ≡ 46 ∷ drop (k + 1) w = drop-cons w k 0 high ∙ ap (λ (c : ℕ). c ∷ drop (suc k) w) (is_dot (get_or w k 0) there) ∙ ap (λ (n : ℕ). 46 ∷ drop n w) next in
+    ap fields (sym (take-append-drop k w) ∙ ap (λ (x : List ℕ). take k w ++ x) from) ∙ fields_front (take k w) (drop (k + 1) w) none
+    ∙ ap (λ (x : List ℕ). take k w ∷ fields x) (sym (take_all (length w - (k + 1)) (drop (k + 1) w) (omega (arith, length-drop (k + 1) w))))
 
 -- there is a field, so numbers that were all read are one or more
 some_first : (b : Bool) (c : ℕ) (fs : List (List ℕ)) → 0 < length (cond b ([] ∷ fs) (onto_first c fs))

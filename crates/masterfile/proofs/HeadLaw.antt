@@ -5,7 +5,8 @@ use Rattle.rdata.specs.declared.rtype.RType.{RType}
 use Rattle.master_lexer.specs.Lexemes.{Word, plain, quoted, broken}
 use Rattle.masterfile.specs.declared.faults.FileKind.TheVariants.{UnknownType, BadClass, BadData}
 use Rattle.masterfile.specs.Faults.{◌>>=◌}
-use Rattle.masterfile.specs.Numbers.{is_number, value_from, within, number_of}
+use Rattle.decimal.specs.Digits.{value_from}
+use Rattle.masterfile.specs.Numbers.{is_number, within, number_of}
 use Rattle.masterfile.specs.Fields.{type_named}
 use Rattle.masterfile.specs.Entries.{Head, take_head, head_of_type, is_internet, is_foreign_class}
 use Rattle.masterfile.specs.MasterText.{IsTtlWord, IsClassWord, IsTypeWord, HasHead, type_alone, class_first, ttl_first, ttl_and_class, class_and_ttl}

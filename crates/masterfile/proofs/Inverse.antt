@@ -10,7 +10,8 @@ use Rattle.masterfile.specs.declared.faults.FileKind.{FileKind}
 use Rattle.masterfile.specs.declared.faults.FileKind.TheVariants.{BadData}
 use Rattle.masterfile.specs.Faults.{◌>>=◌, onto}
 use Rattle.masterfile.specs.Numbers.{number_of}
-use Rattle.masterfile.specs.Addresses.{ipv4_of, ipv6_of}
+use Rattle.masterfile.specs.Addresses.{ipv4_of, ipv6_of, has_dot}
+use Rattle.masterfile.proofs.Ipv6Texts.{text_is_address, address_is_text}
 use Rattle.masterfile.specs.Strings.{string_word, strings_from}
 use Rattle.masterfile.specs.Fields.{take_by, take_name, take_number, take_end, name_of, take_authority, take_exchange, take_service, take_data, greatest_16, greatest_32}
 use Rattle.masterfile.specs.MasterText.{AreStrings, strings_size, IsNameData, IsAuthorityData, IsServiceData, IsData}
@@ -194,7 +195,10 @@ data_is origin rtype.Soa ws d rest e h =
 data_is origin rtype.Ptr ws d rest e h = name_data origin Ptr ws d rest e h
 data_is origin rtype.Mx ws d rest e h = exchange_data origin ws d rest e h
 data_is origin rtype.Txt ws d rest e h = text_data origin ws d rest e
-data_is origin rtype.Aaaa ws d rest e h = address_data Ipv6 ipv6_of ws d rest e h
+data_is origin rtype.Aaaa ws d rest e h =
+    let (w, a, spelled, read, is) = address_data Ipv6 ipv6_of ws d rest e h in
+    let (groups, text, octets) = address_is_text w a (has_dot w) refl read in
+    (w, groups, spelled, text, is ∙ ap Ipv6 octets)
 data_is origin rtype.Srv ws d rest e h =
     let s = steps (take_service origin ws) (λ (a : Service × List Word). Ok (Srv a.0, a.1)) (d, rest) e in
     let p = pair_is (Srv s.0.0) d s.0.1 rest s.2 in
@@ -219,5 +223,5 @@ data_read origin rtype.Ptr ws d h = rw (h.1.1, h.1.2, h.2) refl
 data_read origin rtype.Mx ws d h = rw (h.4, h.5, h.6, h.7) refl
 data_read origin rtype.Txt [] d h = absurd (omega (arith, h.1))
 data_read origin rtype.Txt (w ∷ ws) d h = rw (strings_read 0 (w ∷ ws) h.0 h.2 (omega (arith, h.3)), h.4) refl
-data_read origin rtype.Aaaa ws d h = rw (h.2, h.3, h.4) refl
+data_read origin rtype.Aaaa ws d h = rw (h.2, text_is_address h.0 h.1 h.3, h.4) refl
 data_read origin rtype.Srv ws d h = rw (h.1.spelled, h.1.numbers.0, h.1.numbers.1, h.1.numbers.2, h.1.host, h.2) refl

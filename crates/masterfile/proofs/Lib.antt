@@ -1,4 +1,3 @@
-pub mod NumberLemmas
 pub mod FieldLemmas
 pub mod Ipv6Lemmas
 pub mod Fronts
@@ -18,3 +17,5 @@ mod StringsBack
 mod RecordsBack
 pub mod ReadBack
 pub mod KeptRecords
+pub mod Dots
+pub mod Ipv6Texts

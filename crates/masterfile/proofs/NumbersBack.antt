@@ -6,7 +6,8 @@ use Rattle.std.proofs.lemmas.Fmt.{decimal_nonempty, first_decimal, decimal_digit
 use Rattle.std.proofs.lemmas.Str.Parse.{IsNumeralModel, numerals_by_fold}
 use Rattle.master_lexer.specs.Lexemes.{ends_word}
 use Rattle.master_lexer.specs.Lines.{is_plain}
-use Rattle.masterfile.specs.Numbers.{is_digit, are_digits, is_number, value_from, number_of}
+use Rattle.decimal.specs.Digits.{is_digit, are_digits, value_from}
+use Rattle.masterfile.specs.Numbers.{is_number, number_of}
 use Rattle.masterfile.specs.Addresses.{is_decimal, octet, has_dot}
 use Rattle.masterfile.proofs.PlainWords.{both, and_true, plain_byte}
 

@@ -6,7 +6,8 @@ use Rattle.dname.specs.Labels.{folded}
 use Rattle.rdata.specs.Types.{type_word}
 use Rattle.rdata.specs.declared.rtype.RType.{RType}
 use Rattle.rdata.specs.declared.rtype.RType.TheVariants as rtype
-use Rattle.masterfile.specs.Numbers.{is_digit, is_number}
+use Rattle.decimal.specs.Digits.{is_digit}
+use Rattle.masterfile.specs.Numbers.{is_number}
 use Rattle.masterfile.specs.Fields.{same_word, find_type, type_named, served_types}
 use Rattle.masterfile.specs.Entries.{is_internet, is_foreign_class, begins_directive}
 

@@ -6,7 +6,8 @@ use Rattle.std.specs.Net.Reader.{read_ipv6, whole_value}
 use Rattle.masterfile.specs.declared.faults.FileKind.{FileKind}
 use Rattle.masterfile.specs.declared.faults.FileKind.TheVariants.{BadData}
 use Rattle.masterfile.specs.Faults.{◌>>=◌}
-use Rattle.masterfile.specs.Numbers.{is_number, value_from, within}
+use Rattle.decimal.specs.Digits.{value_from}
+use Rattle.masterfile.specs.Numbers.{is_number, within}
 
 abbrev pub onto_first : ℕ → List (List ℕ) → List (List ℕ)
 onto_first c [] = (c ∷ []) ∷ []
@@ -60,7 +61,6 @@ abbrev pub segments_read : Option (List ℕ) → Result (List ℕ) FileKind
 segments_read None = Err BadData
 segments_read (Some segments) = Ok (octets_of segments)
 
--- Eight groups of one to four hexadecimal digits, parted by colons; one `::` may stand for groups of zeros. An IPv4
--- address at the end is not allowed.
+-- The address that a word writes, as the library reads it, without an IPv4 address at the end.
 abbrev pub ipv6_of : List ℕ → Result (List ℕ) FileKind
 ipv6_of w = cond (has_dot w) (Err BadData) (segments_read (whole_value (read_ipv6 w)))

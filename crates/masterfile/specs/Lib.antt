@@ -1,5 +1,6 @@
 -- To be read: what the words of the contracts mean.
 pub mod MasterText
+pub mod Ipv6Text
 pub mod Files
 pub mod Printed
 pub mod ReadBack

@@ -8,7 +8,9 @@ use Rattle.master_lexer.specs.Lexemes.{Word, plain}
 use Rattle.master_lexer.specs.Entries.{Entry, Lead, margin, blank, shifted}
 use Rattle.master_lexer.specs.Parts.{IsPartedFrom}
 use Rattle.masterfile.specs.Numbers.{number_of}
-use Rattle.masterfile.specs.Addresses.{ipv4_of, ipv6_of}
+use Rattle.std.specs.Net.Addr.{octets_of}
+use Rattle.masterfile.specs.Addresses.{ipv4_of}
+use Rattle.masterfile.specs.Ipv6Text.{IsAddressText}
 use Rattle.masterfile.specs.Strings.{string_word}
 use Rattle.masterfile.specs.Fields.{same_word, name_of, type_named, greatest_16, greatest_32}
 use Rattle.masterfile.specs.Entries.{Context, is_internet, first_some, begins_directive}
@@ -63,7 +65,7 @@ IsData origin rtype.Soa ws d = (s : Authority) × IsAuthorityData origin ws s ×
 IsData origin rtype.Ptr ws d = (n : List (List ℕ)) × IsNameData origin ws n × (d ≡ Ptr n)
 IsData origin rtype.Mx ws d = (v w : List ℕ) × (p : ℕ) × (n : List (List ℕ)) × (ws ≡ plain v ∷ plain w ∷ []) × (number_of greatest_16 v ≡ Ok p) × (name_of origin w ≡ Ok n) × (d ≡ Mx p n)
 IsData origin rtype.Txt ws d = (ts : List (List ℕ)) × (0 < length ws) × AreStrings ws ts × (strings_size ts ≤ 65535) × (d ≡ Txt ts)
-IsData origin rtype.Aaaa ws d = (w : List ℕ) × (a : List ℕ) × (ws ≡ plain w ∷ []) × (ipv6_of w ≡ Ok a) × (d ≡ Ipv6 a)
+IsData origin rtype.Aaaa ws d = (w : List ℕ) × (groups : List ℕ) × (ws ≡ plain w ∷ []) × IsAddressText w groups × (d ≡ Ipv6 (octets_of groups))
 IsData origin rtype.Srv ws d = (s : Service) × IsServiceData origin ws s × (d ≡ Srv s)
 
 -- Digits are a TTL, `IN` is the class, and another word is a type.

@@ -1,25 +1,21 @@
 //! Addresses of A and AAAA records, read (RFC 1035, section 3.4.1; RFC 4291, section 2.2).
 ghost use Rattle.std.specs.Prelude.{◌≡◌, ◌<◌, length, MatchOption, MatchResult, Ok, Err};
-ghost use Rattle.masterfile.specs.Addresses.{fields, is_decimal as decimal_test, octet as octet_of, octets, octets_after, after_octet, surplus_kind, IsFirstField, has_dot as dot_test, ipv4_of, ipv6_of};
+ghost use Rattle.masterfile.specs.Addresses.{fields, is_decimal as decimal_test, octet as octet_of, octets, octets_after, after_octet, surplus_kind, IsFirstField, ipv4_of, ipv6_of};
 
 use crate::faults::FileKind;
-use crate::numbers::{is_number, value};
+use crate::numbers::is_number;
+use memchr::memchr;
 use std::net::Ipv6Addr;
 
 /// The bytes before the first dot, and those behind it.
-#[tactic(auto, using(crate::proofs::FieldLemmas::behind_nothing))]
 fn first_field(word: &[u8]) -> (&[u8], Option<&[u8]>)
     ensures value { IsFirstField word.now result.0.now result.1 }
     ensures shorter { MatchOption result.1 (Unit {0}) (λ r. length r.now < length word.now) }
 {
-    let mut size = 0;
-    while size < word.len() {
-        if word[size] == b'.' {
-            return (&word[..size], Some(&word[size + 1..]));
-        }
-        size += 1;
+    match memchr(b'.', word) {
+        Some(size) => (&word[..size], Some(&word[size + 1..])),
+        None => (word, None),
     }
-    (word, None)
 }
 
 /// Whether a field is a number without a zero in front.
@@ -38,7 +34,7 @@ fn octet(field: &[u8]) -> Result<u8, FileKind>
     if !is_decimal(field) {
         return Err(FileKind::BadData);
     }
-    match value(field, 255) {
+    match decimal::value(field, 255) {
         Some(value) => Ok(value as u8),
         None => Err(FileKind::BadNumber),
     }
@@ -91,22 +87,11 @@ pub(crate) fn ipv4(word: &[u8]) -> Result<[u8; 4], FileKind>
     }
 }
 
-fn has_dot(word: &[u8]) -> bool
-    ensures { result ≡ dot_test word.now }
-{
-    for byte in word {
-        if *byte == b'.' {
-            return true;
-        }
-    }
-    false
-}
-
 /// The address that a word writes: groups of hexadecimal digits, with no IPv4 address at the end.
 pub(crate) fn ipv6(word: &[u8]) -> Result<[u8; 16], FileKind>
     ensures { MatchResult result (λ a. ipv6_of word.now ≡ Ok a) (λ e. ipv6_of word.now ≡ Err e) }
 {
-    if has_dot(word) {
+    if word.contains(&b'.') {
         return Err(FileKind::BadData);
     }
     match Ipv6Addr::parse_ascii(word) {

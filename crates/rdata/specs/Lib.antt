@@ -5,6 +5,7 @@ pub mod Records
 pub mod Sets
 pub mod Selected
 pub mod Caps
+pub mod Ages
 pub mod Text
 -- Computed: functions that the code is compared with.
 pub mod Order

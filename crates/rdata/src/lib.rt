@@ -33,6 +33,7 @@ mod soa;
 mod srv;
 mod text;
 mod texts;
+mod ttl;
 
 pub use addr::Addr;
 pub use data::RData;
@@ -46,3 +47,4 @@ pub use soa::Soa;
 pub use srv::Srv;
 pub use text::{put_data, put_ipv4};
 pub use texts::{CharacterString, Texts, next_string};
+pub use ttl::{cap_ttl, is_young, seconds_left};

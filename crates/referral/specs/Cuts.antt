@@ -3,7 +3,7 @@ use Rattle.std.specs.Prelude.{◌≡◌, ◌≢◌, ℕ, ◌≤◌, Bool, true, 
 use Rattle.std.specs.Map.{lookup}
 use Rattle.dname.specs.Labels.{same_name, IsAtOrUnder}
 use Rattle.rdata.specs.declared.addr.Addr.{Addr}
-use Rattle.lru_laws.specs.Ages.{is_young}
+use Rattle.rdata.specs.Ages.{is_young}
 use Rattle.lru_laws.specs.Orders.{mapped, MayGo}
 use Rattle.lru_laws.specs.Stores as stores
 

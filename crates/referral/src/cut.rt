@@ -4,7 +4,7 @@ ghost use Rattle.referral.specs.Cuts.{is_live, as_kept, known_of};
 
 use crate::lists::{Addresses, Names};
 use dname::{Heap, Name};
-use lru_laws::is_young;
+use rdata::is_young;
 use std::alloc::{AllocError, Allocator, Global};
 use std::marker::Model;
 

@@ -19,7 +19,8 @@ use Rattle.retry.specs.Plans.{Plan, advanced, wait_of}
 use Rattle.referral.specs.Cuts.{ServerAddress, Cut, Known}
 use Rattle.referral.specs.Cuts as referral
 use Rattle.cache.specs.Keys.{Key}
-use Rattle.cache.specs.Cached.{Hit, retimed, seconds_left}
+use Rattle.rdata.specs.Ages.{seconds_left}
+use Rattle.cache.specs.Cached.{Hit, retimed}
 use Rattle.cache.specs.Cached as cache
 use Rattle.cache.specs.Failures.{FailedAsk, failed_ask, is_failed, after_failed}
 use Rattle.frames.specs.Frames.{Frame, Failed, most_taken}

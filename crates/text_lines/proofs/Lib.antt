@@ -1,3 +1,3 @@
 pub mod Addresses
 pub mod Pieces
-pub mod Values
+pub mod Blanks

@@ -1,6 +1,7 @@
 -- What a word says, and the next word of a line.
-use Rattle.std.specs.Prelude.{ℕ, ◌+◌, ◌-◌, ◌*◌, Bool, true, ◌&&◌, cond, nat_le, Result, Ok, Err, Option, Some, None, List, [], ◌∷◌}
+use Rattle.std.specs.Prelude.{ℕ, ◌&&◌, cond, nat_le, Result, Ok, Err, Option, Some, None, List, [], ◌∷◌}
 use Rattle.std.specs.Net.Reader.{read_ipv4, whole_value}
+use Rattle.decimal.specs.Digits.{are_digits, value_from}
 use Rattle.hex.specs.Hex.{decode_of}
 use Rattle.hex.specs.declared.error.FromHexError.{FromHexError}
 use Rattle.rdata.specs.declared.rtype.RType.{RType}
@@ -11,18 +12,6 @@ use Rattle.dname.specs.Text.{name_of_text}
 use Rattle.text_lines.specs.declared.fault.LineKind.{LineKind}
 use Rattle.text_lines.specs.declared.fault.LineKind.TheVariants.{BadNumber, BadType, WordCount, BadHex, BadAddress}
 use Rattle.text_lines.specs.Faults.{kind_of_name, ◌>>=◌}
-
-abbrev pub is_digit : ℕ → Bool
-is_digit c = nat_le 48 c && nat_le c 57
-
-abbrev pub are_digits : List ℕ → Bool
-are_digits [] = true
-are_digits (c ∷ cs) = is_digit c && are_digits cs
-
--- The value of the digits behind a number that was read.
-abbrev pub value_from : ℕ → List ℕ → ℕ
-value_from n [] = n
-value_from n (c ∷ cs) = value_from (n * 10 + (c - 48)) cs
 
 -- A word of digits, whose number is within the limits.
 abbrev pub number_of : ℕ → ℕ → List ℕ → Result ℕ LineKind

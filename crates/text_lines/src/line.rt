@@ -10,6 +10,7 @@ ghost use Rattle.text_lines.specs.Words.{number_of, address_of, name_of, bytes_o
 use crate::fault::LineKind;
 use crate::word;
 use dname::{Heap, Name};
+use memchr::memchr2;
 use rdata::{Addr, RType};
 use std::marker::Model;
 
@@ -138,21 +139,11 @@ fn first_piece(text: &str) -> (&str, &str)
     }
 }
 
-fn is_blank(byte: u8) -> bool
-    ensures { result ≡ blank_test byte }
-{
-    byte == b' ' || byte == b'\t'
-}
-
 // How many bytes stand before the first blank.
 fn piece_len(text: &[u8]) -> usize
     ensures size { result ≡ position_or_len blank_test text.now }
     ensures within { result ≤ length text.now }
     ensures plain { result < length text.now → slice_index text.now result < 128 }
 {
-    let mut size = 0;
-    while size < text.len() && !is_blank(text[size]) {
-        size += 1;
-    }
-    size
+    memchr2(b' ', b'\t', text).unwrap_or(text.len())
 }

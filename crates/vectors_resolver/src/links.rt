@@ -5,7 +5,7 @@ use crate::shown::put_link;
 use authority::Link;
 use cache::{Cache, Hit};
 use lru::DefaultHasher;
-use rdata::{GREATEST_TTL, RType};
+use rdata::RType;
 use text_lines::{LineKind, name};
 
 /// A cache, once a row has made one.
@@ -88,7 +88,7 @@ impl Links {
     ) -> Result<(), LineKind> {
         let owner = name(row.alloc, text)?;
         let cache = self.cache()?;
-        cache.keep(&owner, kind, link, ttl.min(GREATEST_TTL), now)?;
+        cache.keep(&owner, kind, link, ttl, now)?;
         Ok(())
     }
 

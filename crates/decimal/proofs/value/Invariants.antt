@@ -1,6 +1,6 @@
 use Rattle.std.proofs.Common.{◌≡◌, ◌≤◌, drop, true}
-use Rattle.text_lines.specs.Words.{are_digits, value_from}
-use Rattle.text_lines.proofs.word.value.Given as goal
+use Rattle.decimal.specs.Digits.{are_digits, value_from}
+use Rattle.decimal.proofs.value.Given as goal
 
 abbrev pub invariant-loop-byte : goal.invariant-loop-byte
 invariant-loop-byte l = record {

@@ -1,6 +1,6 @@
 -- On the value of digits.
 use Rattle.std.proofs.Common.{◌≡◌, ℕ, suc, ◌+◌, ◌-◌, ◌*◌, ◌<◌, ◌≤◌, List, [], ◌∷◌, length, drop, get_or, drop-cons, arith}
-use Rattle.text_lines.specs.Words.{value_from}
+use Rattle.decimal.specs.Digits.{value_from}
 
 pub value_grows : (n : ℕ) (cs : List ℕ) → n ≤ value_from n cs
 value_grows n [] = omega arith

@@ -1,8 +1,8 @@
 use Rattle.std.proofs.Common.{◌<◌, arith}
 use Rattle.std.proofs.lemmas.Bool.Decides.{nat_tests}
-use Rattle.masterfile.specs.Numbers.{value_from}
-use Rattle.masterfile.proofs.NumberLemmas.{value_over}
-use Rattle.masterfile.proofs.numbers.value.Goals as goal
+use Rattle.decimal.specs.Digits.{value_from}
+use Rattle.decimal.proofs.Values.{value_over}
+use Rattle.decimal.proofs.value.Goals as goal
 
 pub returns-then-next-from : goal.returns-then-next-from
 returns-then-next-from c =

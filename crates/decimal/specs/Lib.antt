@@ -1,0 +1,2 @@
+-- Computed: functions that the code is compared with.
+pub mod Digits
