@@ -15,6 +15,3 @@ pub message_read : {A : Type 0} (via : Via) (bytes : List ℕ) (m : Message) (o 
     → (AreUnderRoot m → MatchOption o (IsNoReply m) (λ r. IsReadingOf via m (reading_view r))) → AreRead via bytes (read_view o)
 message_read via bytes m None is h = λ n there. subst IsNoReply (message_one bytes m n is there) (h (names_end_in_root bytes m is))
 message_read via bytes m (Some r) is h = record { message = m; is = is; reads = h (names_end_in_root bytes m is) }
-
-pub unread : (bytes : List ℕ) (e : WireError) → (e ≡ Memory → ⊥) → (e ≡ Memory) ⊎ ((m : Message) → IsMessage bytes m → ⊥) → (m : Message) → IsMessage bytes m → ⊥
-unread bytes e other refused = ⊎_elim (λ memory. absurd (other memory)) (λ none. none) refused

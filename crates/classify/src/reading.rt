@@ -16,7 +16,7 @@ use limits::MAX_GLUE;
 use rdata::{INTERNET, RType};
 use std::alloc::{Allocator, Global};
 use wire::rcode::SERV_FAIL;
-use wire::{Question, Via, View, WireError};
+use wire::{Question, Via, View};
 
 /// What is read of a server's message: all by which it is matched with an ask, and all for which it is used.
 #[derive(Drop)]
@@ -40,7 +40,6 @@ pub fn read<A: Heap>(alloc: A, via: Via, bytes: &[u8]) -> Result<Option<Reading<
 {
     match View::new(alloc, bytes) {
         Ok(message) => Ok(read_message(alloc, via, &message)?),
-        Err(WireError::Memory) => Err(Starved),
         Err(_) => Ok(None),
     }
 }

@@ -55,8 +55,8 @@ not_read bytes e other refused = ⊎_elim (λ memory. absurd (other memory)) (λ
 pub no_ask : (ask reply : List ℕ) (e : WireError) → (e ≡ Memory → ⊥) → (e ≡ Memory) ⊎ ((m : Message) → IsMessage ask m → ⊥) → Repeats ask reply → ⊥
 no_ask ask reply e other refused (a, m, was, here, r) = not_read ask e other refused a was
 
-pub no_reply : (ask reply : List ℕ) (e : WireError) → (e ≡ Memory → ⊥) → (e ≡ Memory) ⊎ ((m : Message) → IsMessage reply m → ⊥) → Repeats ask reply → ⊥
-no_reply ask reply e other refused (a, m, was, here, r) = not_read reply e other refused m here
+pub no_reply : (ask reply : List ℕ) → ((m : Message) → IsMessage reply m → ⊥) → Repeats ask reply → ⊥
+no_reply ask reply refused (a, m, was, here, r) = refused m here
 
 pub never : (ask reply : List ℕ) → (Repeats ask reply → ⊥) → (IsTrue false ↔ Repeats ask reply)
 never ask reply none = (λ yes. absurd (cc), λ r. absurd (none r))

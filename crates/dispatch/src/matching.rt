@@ -18,7 +18,6 @@ pub fn repeats<A: Heap>(alloc: A, ask: &[u8], reply: &[u8]) -> Result<bool, Star
     };
     match View::new(alloc, reply) {
         Ok(reply) => Ok(repeats_message(&asked, &reply)),
-        Err(WireError::Memory) => Err(Starved),
         Err(_) => Ok(false),
     }
 }

@@ -49,9 +49,6 @@ judged a bytes m None is opening other = λ n what answers. other (ap (λ (x : M
 judged a bytes m (Some n) is opening (same, asked) =
     subst (λ (x : Message). IsMessage bytes x × AnswersAsk a x) (sym same) (is, answered bytes m a is opening asked)
 
-pub unread : (bytes : List ℕ) (e : WireError) → (e ≡ Memory → ⊥) → (e ≡ Memory) ⊎ ((m : Message) → IsMessage bytes m → ⊥) → (m : Message) → IsMessage bytes m → ⊥
-unread bytes e other refused = ⊎_elim (λ memory. absurd (other memory)) (λ none. none) refused
-
 -- ---- events
 
 pub brings : (port : ℕ) (a : Ask) (e : Event) (bytes : List ℕ) (m : Message) → ComesFor port a e bytes → IsMessage bytes m → AnswersAsk a m → Brings port a e m

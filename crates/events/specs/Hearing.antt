@@ -19,7 +19,3 @@ pub record OpensReply (id : ℕ) (bytes : List ℕ) : Type 0 where
   pub under : id_in bytes ≡ id
   pub reply : (header_of bytes).qr ≡ true
   pub operation : (header_of bytes).opcode ≡ 0
-
--- An event that may bring the reply to an ask.
-abbrev pub MayReply : ℕ → Ask → Event → Type 0
-MayReply port a event = (bytes : List ℕ) × ComesFor port a event bytes × OpensReply a.id bytes

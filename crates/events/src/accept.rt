@@ -1,36 +1,35 @@
 //! Which message is accepted as the reply to an ask.
-ghost use Rattle.std.specs.Prelude.{◌≡◌, ℕ, ◌≤◌, ◌↔◌, List, [], ◌∷◌, IfOk, IsOk, IsTrue, MatchOption, length};
+ghost use Rattle.std.specs.Prelude.{◌≡◌, ℕ, ◌≤◌, ◌↔◌, List, [], ◌∷◌, IsTrue, MatchOption, length};
 ghost use Rattle.message_grammar.specs.Messages as layouts;
 ghost use Rattle.message_grammar.specs.Messages.{IsMessage};
 ghost use Rattle.runs.specs.States.{endpoint};
 ghost use Rattle.runs.specs.Messages.{id_in, question_for, AnswersAsk, Brings};
 ghost use Rattle.events.specs.Paths.{endpoint_view};
 ghost use Rattle.events.specs.Views.{event_view};
-ghost use Rattle.events.specs.Hearing.{ComesFor, OpensReply, MayReply};
+ghost use Rattle.events.specs.Hearing.{ComesFor, OpensReply};
 
 use crate::ask::Ask;
 use crate::event::Event;
 use crate::path::{Endpoint, Path};
-use dname::{Heap, Starved};
+use dname::Heap;
 use rdata::INTERNET;
 use std::alloc::Allocator;
-use wire::{View, WireError};
+use wire::View;
 
 /// The reply to an ask that an event brings, and none where it brings none. It is a message of operation 0 with QR set,
 /// the ask's ID and its one question in class IN. It came over UDP at the ask's socket from `port` of the server that
 /// was asked, or over TCP under the ask's number (RFC 1035, section 7.3). Only bytes that come so and have such a
-/// header are read further: others take no memory.
+/// header are read further. It needs no memory: none is never said for want of it.
 pub fn accepted_reply<'a, A: Heap>(
     alloc: A,
     port: u16,
     ask: &Ask<A>,
     event: &'a Event<A>,
-) -> Result<Option<View<'a, A>>, Starved>
-    ensures brought { IfOk result (λ r. MatchOption r ((m : layouts.Message) → Brings port ask.now (event_view event.now) m → ⊥) (λ m. Brings port ask.now (event_view event.now) m)) }
-    ensures quiet { (MayReply port ask.now (event_view event.now) → ⊥) → IsOk result }
+) -> Option<View<'a, A>>
+    ensures { MatchOption result ((m : layouts.Message) → Brings port ask.now (event_view event.now) m → ⊥) (λ m. Brings port ask.now (event_view event.now) m) }
 {
     match bytes_for(port, ask, event) {
-        None => Ok(None),
+        None => None,
         Some(bytes) => message_for(alloc, ask, bytes),
     }
 }
@@ -60,21 +59,15 @@ fn is_from<A: Allocator>(ask: &Ask<A>, port: u16, from: Endpoint) -> bool
 }
 
 // The message that bytes are, where it answers the ask.
-fn message_for<'a, A: Heap>(
-    alloc: A,
-    ask: &Ask<A>,
-    bytes: &'a [u8],
-) -> Result<Option<View<'a, A>>, Starved>
-    ensures brought { IfOk result (λ r. MatchOption r ((m : layouts.Message) → IsMessage bytes.now m → AnswersAsk ask.now m → ⊥) (λ m. IsMessage bytes.now m × AnswersAsk ask.now m)) }
-    ensures quiet { (OpensReply ask.now.id bytes.now → ⊥) → IsOk result }
+fn message_for<'a, A: Heap>(alloc: A, ask: &Ask<A>, bytes: &'a [u8]) -> Option<View<'a, A>>
+    ensures { MatchOption result ((m : layouts.Message) → IsMessage bytes.now m → AnswersAsk ask.now m → ⊥) (λ m. IsMessage bytes.now m × AnswersAsk ask.now m) }
 {
     if !opens_reply(ask.id, bytes) {
-        return Ok(None);
+        return None;
     }
     match View::new(alloc, bytes) {
-        Ok(message) => Ok(of_question(ask, message)),
-        Err(WireError::Memory) => Err(Starved),
-        Err(_) => Ok(None),
+        Ok(message) => of_question(ask, message),
+        Err(_) => None,
     }
 }
 

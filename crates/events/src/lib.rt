@@ -16,7 +16,7 @@
 //! let action = send(alloc, 53, &ask)?;
 //! let from = Endpoint { address: Addr([192, 0, 2, 1]), port: 53 };
 //! let event = Event::Datagram { moment: 20, socket: 7, from, bytes };
-//! if let Some(message) = accepted_reply(alloc, 53, &ask, &event)? { /* accepted */ }
+//! if let Some(message) = accepted_reply(alloc, 53, &ask, &event) { /* accepted */ }
 //! ```
 #![tactic(auto)]
 

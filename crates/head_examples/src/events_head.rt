@@ -23,7 +23,7 @@ pub fn example<H: Heap>(alloc: H, name: Name<H>, bytes: Bytes<H>) -> Result<(), 
         from,
         bytes,
     };
-    if let Some(message) = accepted_reply(alloc, 53, &ask, &event)? {
+    if let Some(message) = accepted_reply(alloc, 53, &ask, &event) {
         // accepted
     }
     Ok(())

@@ -387,10 +387,8 @@ impl<A: Heap> Resolution<A> {
 
     // What a reply is used for, and its RCODE.
     fn class_of(&self, way: Via, bytes: &[u8]) -> Result<Option<(Class<A>, u8)>, Starved> {
-        let view = match View::new(self.alloc, bytes) {
-            Ok(view) => view,
-            Err(WireError::Memory) => return Err(Starved),
-            Err(_) => return Ok(None),
+        let Ok(view) = View::new(self.alloc, bytes) else {
+            return Ok(None);
         };
         let (Some(zone), Some(search)) = (self.searches.zone(), self.searches.innermost()) else {
             return Ok(None);

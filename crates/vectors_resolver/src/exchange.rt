@@ -90,7 +90,7 @@ fn event(row: &mut Row<'_>) -> Result<Event, LineKind> {
 }
 
 fn put_heard(alloc: Global, ask: &Ask, event: &Event, out: &mut String) -> Result<(), LineKind> {
-    let is_heard = accepted_reply(alloc, PORT, ask, event)?.is_some();
+    let is_heard = accepted_reply(alloc, PORT, ask, event).is_some();
     out.push_str(if is_heard { "accepted\n" } else { "ignored\n" })?;
     Ok(())
 }

@@ -1,9 +1,9 @@
 -- What bytes give is never refused when out of memory: that befalls only the code that reads them.
-use Rattle.std.proofs.Common.{◌≡◌, ◌≢◌, ℕ, zero, suc, ◌+◌, ◌-◌, ◌*◌, Bool, true, false, List, [], length, Option, Some, None, Result, Ok, Err, IfErr, IsErrAnd, sym, ◌∙◌}
+use Rattle.std.proofs.Common.{◌≡◌, ◌≢◌, ℕ, zero, suc, ◌+◌, ◌-◌, ◌*◌, Bool, true, false, List, [], length, Option, Some, None, Result, Ok, Err, IfErr, IsErrAnd, sym, ◌∙◌, ◌⊎◌, inl, inr}
 use Rattle.std.specs.Prelude.{nat_eq, nat_le, nat_lt, if◌then◌else◌, slice_index, slice_range}
 use Rattle.rdata.specs.declared.rtype.RType.{RType}
 use Rattle.rdata.specs.declared.rtype.RType.TheVariants as served
-use Rattle.message_grammar.specs.Messages.{Message, served_type}
+use Rattle.message_grammar.specs.Messages.{Message, IsMessage, served_type}
 use Rattle.rdata.specs.Records.{Record}
 use Rattle.wire.specs.declared.error.WireError.{WireError}
 use Rattle.wire.specs.declared.error.WireError.TheVariants.{Short, BadRdataLength, TrailingBytes, Memory}
@@ -211,3 +211,19 @@ never_memory bytes e h = never bytes e (message_of bytes) (message_told bytes) h
 pub handed_told : {X : Type 0} (bytes : List ℕ) (r : Result X WireError) (e : WireError) → IsErrAnd r (λ y. y ≡ e) → message_of bytes ≡ Err e → IfErr r (λ d. d ≢ Memory)
 handed_told bytes (Ok x) e h k = tt
 handed_told bytes (Err d) e h k = λ same. never_memory bytes e k (sym h ∙ same)
+
+pub short_is_told : Short ≡ Memory → ⊥
+short_is_told e = cc
+
+pub rest_is_told : TrailingBytes ≡ Memory → ⊥
+rest_is_told e = cc
+
+-- A refusal for another reason than want of memory is one of bytes that are no message.
+pub none_by : (bytes : List ℕ) (e : WireError) → e ≢ Memory → (e ≡ Memory) ⊎ ((m : Message) → IsMessage bytes m → ⊥) → (m : Message) → IsMessage bytes m → ⊥
+none_by bytes e told (inl same) = absurd (told same)
+none_by bytes e told (inr none) = none
+
+pub surely_none : {X : Type 0} (bytes : List ℕ) (r : Result X WireError) → IfErr r (λ e. (e ≡ Memory) ⊎ ((m : Message) → IsMessage bytes m → ⊥)) → IfErr r (λ e. e ≢ Memory)
+    → IfErr r (λ e. (m : Message) → IsMessage bytes m → ⊥)
+surely_none bytes (Ok x) h told = tt
+surely_none bytes (Err e) h told = none_by bytes e told h

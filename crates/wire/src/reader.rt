@@ -56,7 +56,7 @@ pub fn decode<A: Heap>(alloc: A, bytes: &[u8]) -> Result<Message<A>, WireError>
     ensures read { IfOk result (λ m. IsMessage bytes.now m) }
     ensures refused { IfErr result (λ e. (e ≡ Memory) ⊎ ((m : layouts.Message) → IsMessage bytes.now m → ⊥)) }
 {
-    let ends = chain_ends(alloc, bytes)?;
+    let ends = chain_ends(alloc, bytes);
     message_of(alloc, bytes, &ends)
 }
 
@@ -67,7 +67,7 @@ fn check_sections<A: Heap>(alloc: A, bytes: &[u8], at: usize) -> Result<(), Wire
     ensures read { IfOk result (λ _. AreBehind bytes.now at) }
     ensures refused { IfErr result (λ e. (questions : List layouts.Question) → message_of bytes.now ≡ message_first bytes.now (questions, at) → Fails e (message_of bytes.now)) }
 {
-    let ends = chain_ends(alloc, bytes)?;
+    let ends = chain_ends(alloc, bytes);
     let authority = section_end(bytes, &ends, two_at(bytes, 6), at)?;
     let additional = section_end(bytes, &ends, two_at(bytes, 8), authority)?;
     let end = section_end(bytes, &ends, two_at(bytes, 10), additional)?;

@@ -1,9 +1,8 @@
 //! A message that is read in its bytes.
-ghost use Rattle.std.specs.Prelude.{◌≡◌, ◌≢◌, ◌≤◌, ◌⊎◌, [], ◌∷◌, ◌↔◌, length, IfOk, IfErr, IsTrue, MatchOption};
+ghost use Rattle.std.specs.Prelude.{◌≡◌, ◌≢◌, [], ◌∷◌, ◌↔◌, IfOk, IfErr, IsTrue, MatchOption};
 ghost use Rattle.message_grammar.specs.Messages as layouts;
 ghost use Rattle.message_grammar.specs.Messages.{IsMessage};
 ghost use Rattle.wire.specs.declared.error.WireError.TheVariants.{Memory};
-ghost use Rattle.wire.specs.declared.via.TheConstants.{UDP_LIMIT};
 ghost use Rattle.wire.specs.Entries.{message_of};
 ghost use Rattle.wire.specs.Results.{Gives};
 
@@ -46,18 +45,18 @@ impl<'a, A: Allocator> Model for View<'a, A> {
 impl<'a, A: Heap> View<'a, A> {
     /// The message that these bytes are (RFC 1035, section 4): of the 29 bytes of the query `www.example. A`, one whose
     /// sections have no records. Records of types that are not served and of classes other than IN are left out.
-    /// Refused by the first fault from the left. Up to 512 bytes take no memory; for more a table of their chains of
-    /// pointers is made.
+    /// Refused by the first fault from the left, and never for want of memory: of more than 512 bytes a table of their
+    /// chains of pointers is made where there is memory for it.
     pub fn new(alloc: A, bytes: &'a [u8]) -> Result<View<'a, A>, WireError>
         ensures exact { Gives {Y = layouts.Message} (λ m. m) result (message_of bytes.now) }
         ensures read { IfOk result (λ m. IsMessage bytes.now m) }
-        ensures refused { IfErr result (λ e. (e ≡ Memory) ⊎ ((m : layouts.Message) → IsMessage bytes.now m → ⊥)) }
-        ensures quiet { length bytes.now ≤ UDP_LIMIT → IfErr result (λ e. e ≢ Memory) }
+        ensures refused { IfErr result (λ e. (m : layouts.Message) → IsMessage bytes.now m → ⊥) }
+        ensures quiet { IfErr result (λ e. e ≢ Memory) }
     {
         if bytes.len() < 12 {
             return Err(WireError::Short);
         }
-        let ends = chain_ends(alloc, bytes)?;
+        let ends = chain_ends(alloc, bytes);
         let answer = questions_end(bytes, &ends, two_at(bytes, 4), 12)?;
         let authority = section_end(bytes, &ends, two_at(bytes, 6), answer)?;
         let additional = section_end(bytes, &ends, two_at(bytes, 8), authority)?;

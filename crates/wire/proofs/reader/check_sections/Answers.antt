@@ -10,7 +10,7 @@ use Rattle.wire.proofs.reader.check_sections.Goals as goal
 pub returns-in_err-authority-clause-refused : goal.returns-in_err-authority-clause-refused
 returns-in_err-authority-clause-refused g c =
     let bytes = c.args.bytes.now in
-    behind_handed_on bytes c.args.at c.from_residual-in_err-authority.result c.in_err-authority.field-0.0 c.from_residual-in_err-authority.ensures.1
+    behind_handed_on bytes c.args.at c.from_residual.result c.in_err-authority.field-0.0 c.from_residual.ensures.1
     (λ questions so. fails_is c.in_err-authority.field-0.0 (message_of bytes) (no_answer bytes questions c.args.at c.in_err-authority.field-0.0 (record { so_far = so }) (c.in_err-authority.ensures ∙ ap (λ n. end_of (section_from n bytes c.args.at)) c.two_at.ensures)))
 
 pub returns-in_err-additional-clause-refused : goal.returns-in_err-additional-clause-refused

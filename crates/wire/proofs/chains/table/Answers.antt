@@ -1,5 +1,5 @@
 use Rattle.wire.proofs.Chaining.{ends_more}
-use Rattle.wire.proofs.chains.chain_ends.Goals as goal
+use Rattle.wire.proofs.chains.table.Goals as goal
 
 pub loop-at-preserved : goal.loop-at-preserved
 loop-at-preserved g c =
