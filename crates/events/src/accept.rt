@@ -94,5 +94,5 @@ pub fn id_in(bytes: &[u8]) -> u16
     requires { 2 ≤ length bytes.now }
     ensures { result ≡ id_in bytes.now }
 {
-    u16::from(bytes[0]) * 256 + u16::from(bytes[1])
+    u16::from_be_bytes([bytes[0], bytes[1]])
 }

@@ -33,7 +33,7 @@ fn start_at(bytes: &[u8]) -> Start
     requires { 12 ≤ length bytes.now }
     ensures { result ≡ opening_of bytes.now }
 {
-    let id = u16::from(bytes[0]) * 256 + u16::from(bytes[1]);
+    let id = u16::from_be_bytes([bytes[0], bytes[1]]);
     Start::new(id, bytes[2] / 8 % 16, bytes[2] % 2 == 1)
 }
 

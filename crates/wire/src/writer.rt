@@ -62,14 +62,14 @@ fn pointer_to(place: u16) -> [u8; 2]
     requires { place < POINTER_LIMIT }
     ensures { result ≡ pointer place }
 {
-    [192 + (place / 256) as u8, (place % 256) as u8]
+    (0xc000 + place).to_be_bytes()
 }
 
 // A count: its lowest 16 bits. A message with more than 65,535 of anything is over every limit.
 fn low_bytes(count: usize) -> [u8; 2]
     ensures { result ≡ bytes_high_first 2 count }
 {
-    [(count / 256 % 256) as u8, (count % 256) as u8]
+    ((count % 65_536) as u16).to_be_bytes()
 }
 
 impl<A: Heap> Writer<A> {
