@@ -1,5 +1,6 @@
 //! The beginning of a query: its answer where that is known, or else the work on it.
-ghost use Rattle.std.specs.Prelude.{◌+◌, ◌^◌, ◌<◌, ◌↔◌, IsTrue, IfOk, OnErr};
+ghost use Rattle.std.specs.Prelude.{◌↔◌, min, IsTrue, IfOk, OnErr};
+ghost use Rattle.limits.specs.Limits.{latest_moment};
 ghost use Rattle.rdata.specs.Types.{type_number};
 ghost use Rattle.resolution.specs.Jobs.{Stores as StoresSpec, Start, job_at, IsEnding};
 ghost use Rattle.resolution.specs.Stops.{Stops};
@@ -73,10 +74,9 @@ fn work<S: BuildHasher + Drop, A: Heap>(
     stores: &mut Stores<S, A>,
     now: u64,
 ) -> Result<Started<A>, Starved>
-    requires time { now + 10000 < 2 ^ 64 }
-    requires found { (before : StoresSpec) × IsFound home.now now name.now (type_number kind) before found stores.old }
-    ensures begins { (before : StoresSpec) → IsFound home.now now name.now (type_number kind) before found stores.old → IfOk result (λ b. StartsWith home.now now (job_at name.now (type_number kind) now) before b stores.new) }
-    ensures stops { (before : StoresSpec) → IsFound home.now now name.now (type_number kind) before found stores.old → OnErr result (Stops home.now now Start (job_at name.now (type_number kind) now) before stores.new) }
+    requires { (before : StoresSpec) × IsFound home.now now name.now (type_number kind) before found stores.old }
+    ensures begins { (before : StoresSpec) → IsFound home.now now name.now (type_number kind) before found stores.old → IfOk result (λ b. StartsWith home.now now (job_at name.now (type_number kind) (min now latest_moment)) before b stores.new) }
+    ensures stops { (before : StoresSpec) → IsFound home.now now name.now (type_number kind) before found stores.old → OnErr result (Stops home.now now Start (job_at name.now (type_number kind) (min now latest_moment)) before stores.new) }
 {
     match name.copied(alloc) {
         Err(starved) => {
@@ -87,9 +87,10 @@ fn work<S: BuildHasher + Drop, A: Heap>(
     }
 }
 
-/// The result of a query for a name and a type at the moment `now`, in milliseconds. A link that is found for the name
-/// and is no alias is the answer: neither is a job made, nor the name copied for it. Else the work begins, as by
-/// `advance` with `Input::Start`. Where memory runs out, the stores are as the rules on the way left them.
+/// The result of a query for a name and a type at the moment `now`, in milliseconds; its ten seconds count from 2^62
+/// where `now` is later. A link that is found for the name and is no alias is the answer: neither is a job made, nor the
+/// name copied for it. Else the work begins, as by `advance` with `Input::Start`. Where memory runs out, the stores are
+/// as the rules on the way left them.
 pub fn begin_query<S: BuildHasher + Drop, A: Heap>(
     alloc: A,
     name: &Name<A>,
@@ -98,9 +99,8 @@ pub fn begin_query<S: BuildHasher + Drop, A: Heap>(
     stores: &mut Stores<S, A>,
     now: u64,
 ) -> Result<Started<A>, Starved>
-    requires { now + 10000 < 2 ^ 64 }
-    ensures begins { IfOk result (λ b. StartsWith home.now now (job_at name.now (type_number kind) now) stores.old b stores.new) }
-    ensures stops { OnErr result (Stops home.now now Start (job_at name.now (type_number kind) now) stores.old stores.new) }
+    ensures begins { IfOk result (λ b. StartsWith home.now now (job_at name.now (type_number kind) (min now latest_moment)) stores.old b stores.new) }
+    ensures stops { OnErr result (Stops home.now now Start (job_at name.now (type_number kind) (min now latest_moment)) stores.old stores.new) }
 {
     match find(alloc, home, name, kind, stores, now)? {
         Found::Known(last) => {

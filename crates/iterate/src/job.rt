@@ -1,7 +1,7 @@
 //! The work on one query, and its limits: asks, look-ups of servers' names, time, the length of its chain.
-ghost use Rattle.std.specs.Prelude.{◌≡◌, ◌+◌, ◌^◌, ◌<◌, ◌≤◌, [], length, IfOk, OnOk, MatchOption};
+ghost use Rattle.std.specs.Prelude.{◌≡◌, ◌+◌, ◌<◌, ◌≤◌, [], length, min, IfOk, OnOk, MatchOption};
 ghost use Rattle.std.specs.Bool.{MatchBool};
-ghost use Rattle.limits.specs.Limits.{max_look_ups};
+ghost use Rattle.limits.specs.Limits.{latest_moment, max_look_ups};
 ghost use Rattle.rdata.specs.Types.{type_number};
 ghost use Rattle.frames.specs.Frames.{marked, next_name};
 ghost use Rattle.resolution.specs.Jobs.{job_at, wait_of_job, asked_again, looked_up, MayLookUp, MaySend};
@@ -13,7 +13,7 @@ use crate::search::{Search, Searches};
 use causes::Cause;
 use dname::{Heap, Name, Starved};
 use frames::Failed;
-use limits::{MAX_ASKS, MAX_LOOK_UPS, QUERY_LIFETIME_MS};
+use limits::{LATEST_MOMENT, MAX_ASKS, MAX_LOOK_UPS, QUERY_LIFETIME_MS};
 use lookup::Taken;
 use rdata::RType;
 use std::alloc::{Allocator, Global};
@@ -67,10 +67,10 @@ impl<A: Allocator> Model for Job<A> {
 }
 
 impl<A: Heap> Job<A> {
-    /// The work on a query that comes at the moment `now`, in milliseconds; it has ten seconds. Takes no memory.
+    /// The work on a query that comes at the moment `now`, in milliseconds; it has ten seconds. A moment after 2^62 counts
+    /// as that. Takes no memory.
     pub fn new(name: Name<A>, kind: RType, now: u64) -> Job<A>
-        requires { now + 10000 < 2 ^ 64 }
-        ensures { result ≡ job_at name (type_number kind) now }
+        ensures { result ≡ job_at name (type_number kind) (min now latest_moment) }
     {
         let alloc = name.allocator();
         Job {
@@ -81,7 +81,7 @@ impl<A: Heap> Job<A> {
             failed: Failed::new(alloc),
             asks: 0,
             look_ups: 0,
-            deadline: now + QUERY_LIFETIME_MS,
+            deadline: now.min(LATEST_MOMENT) + QUERY_LIFETIME_MS,
             skipped: false,
         }
     }
