@@ -12,11 +12,12 @@ use Rattle.dname.specs.Labels.{Name, same_name, is_under}
 use Rattle.dname.specs.Order.{name_cmp, name_cmp_total, name_cmp_ties}
 use Rattle.rdata.specs.Data.{Datum, Ipv4, Ns, Cname, Soa, Ptr, Mx, Txt, Ipv6, Srv}
 use Rattle.rdata.specs.Records.{Record}
+use Rattle.rdata.specs.Targets.{ns_target, targets_of}
 use Rattle.zone.specs.Zones.{a_type}
 use Rattle.zone.specs.Look.{is_type}
 use Rattle.zone.proofs.LawLists.{any_from, any_of, same_tests}
 use Rattle.classify.specs.Classes.{names_server, is_taken}
-use Rattle.classify.specs.Targets.{ns_target, targets_of, is_one_of}
+use Rattle.classify.specs.Targets.{is_one_of}
 
 -- ---- the names that records give
 

@@ -7,7 +7,8 @@ ghost use Rattle.dname.specs.Order.{name_cmp};
 ghost use Rattle.rdata.specs.Kept.{datum};
 ghost use Rattle.rdata.specs.Records.{Record as RecordSpec};
 ghost use Rattle.classify.specs.Classes.{names_server};
-ghost use Rattle.classify.specs.Targets.{ns_target, targets_of, is_one_of};
+ghost use Rattle.rdata.specs.Targets.{ns_target, targets_of};
+ghost use Rattle.classify.specs.Targets.{is_one_of};
 
 use dname::{Heap, Name, Starved};
 use rdata::{RData, Record};

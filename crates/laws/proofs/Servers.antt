@@ -29,7 +29,7 @@ use Rattle.world_truth.specs.Reading.{IsReferralTo, NamesServer, GivesAddress}
 use Rattle.world_truth.specs.Frames.{MayAsk, IsDelegation, IsFrame, frame_at, AreTargets, AreTaken}
 use Rattle.world_truth.specs.Frames as truth
 use Rattle.world_truth.proofs.Grown.{hints_start, cut_starts, kept_starts, kept_below_starts, referral_kept, referral_starts, address_adds, frame_asks}
-use Rattle.classify.specs.Targets.{ns_target as target_names}
+use Rattle.rdata.specs.Targets.{ns_target}
 use Rattle.resolution.specs.Jobs.{Home, Stores, ipv4_of, row_of, IsCutOf, hinted, root_cut, bytes_of, AreAddressesOf, cut_from}
 use Rattle.resolution.specs.Rules.{Begins, Misses}
 use Rattle.laws.specs.Headline.{IsHomeIn}
@@ -52,7 +52,7 @@ opened_true W q level nesting c h = record {
       h.serve a (subst (Contains (cut_bytes c)) (ap bytes_of address ∙ is) (map_in address_bytes c.addresses s ms));
 }
 
-named : (d : Datum) (n : Name) → Contains (target_names d) n → d ≡ Ns n
+named : (d : Datum) (n : Name) → Contains (ns_target d) n → d ≡ Ns n
 named (Ipv4 a) n m = absurd (none_in n m)
 named (Ns p) n m = ap Ns (only_one p n m)
 named (Cname p) n m = absurd (none_in n m)
@@ -77,7 +77,7 @@ addressed (Srv v) a m = absurd (none_in a m)
 module _ (at : Name) (ns glue : List Record) (c : Cut) (is : IsCutOf at ns glue c) where
   cut_names : AreTargets c.names ns
   cut_names n m =
-      let (r, mr, there) = flat_from (λ (r : Record). target_names r.value) ns n (subst (λ (xs : List Name). Contains xs n) is.names m) in
+      let (r, mr, there) = flat_from (λ (r : Record). ns_target r.value) ns n (subst (λ (xs : List Name). Contains xs n) is.names m) in
       (r, mr, named r.value n there)
 
   cut_addresses : truth.AreAddresses (cut_bytes c) glue

@@ -12,7 +12,6 @@ use Rattle.rdata.specs.Rows.{plain_row, plain_rows}
 use Rattle.rdata.specs.declared.addr.Addr.{Addr}
 use Rattle.rdata.proofs.SetRows.{rows_long, row_at, rows_whole}
 use Rattle.zone.specs.Zones.{Zone}
-use Rattle.classify.specs.Targets as classify
 use Rattle.referral.specs.Cuts.{ServerAddress, Cut}
 use Rattle.referral.specs.Made as made
 use Rattle.frames.specs.Frames.{most_taken}
@@ -31,21 +30,6 @@ root_is zones hints root is = is ∙ ap made.hint_cut (sym (hints_are hints root
 
 pub home_is : (zones : List Zone) (hints : List Addr) (root : Cut) → root ≡ made.hint_cut hints → home_of zones root ≡ home_at zones hints
 home_is zones hints root is = ap (home_at zones) (hints_are hints root is)
-
-target_same : (d : Datum) → made.target_names d ≡ classify.ns_target d
-target_same (Ipv4 b) = refl
-target_same (Ns n) = refl
-target_same (Cname n) = refl
-target_same (Soa s) = refl
-target_same (Ptr n) = refl
-target_same (Mx p n) = refl
-target_same (Txt ts) = refl
-target_same (Ipv6 b) = refl
-target_same (Srv v) = refl
-
-targets_same : (ns : List Record) → made.targets_of ns ≡ classify.targets_of ns
-targets_same [] = refl
-targets_same (r ∷ rs) = ap (λ (xs : List Name). xs ++ made.targets_of rs) (target_same r.value) ∙ ap (λ (xs : List Name). classify.ns_target r.value ++ xs) (targets_same rs)
 
 row_step : (n : Name) (d : Datum) (rest : List ServerAddress) (rows : List (Name × List ℕ)) → map row_of rest ≡ rows
     → map row_of (made.addresses_at n d ++ rest) ≡ map (λ (b : List ℕ). (n, b)) (ipv4_of d) ++ rows
@@ -66,7 +50,7 @@ rows_same (r ∷ rs) = row_step r.owner r.value (made.addresses_in rs) (rows_of 
 pub made_is_cut : (at : Name) (ns glue : List Record) (c : Cut) → c ≡ made.record_cut at ns glue → IsCutOf at ns glue c
 made_is_cut at ns glue c is = record {
   owner = ap (λ (x : Cut). x.owner) is;
-  names = ap (λ (x : Cut). x.names) is ∙ targets_same ns;
+  names = ap (λ (x : Cut). x.names) is;
   addresses = ap (λ (x : Cut). map row_of x.addresses) is ∙ rows_same glue;
 }
 

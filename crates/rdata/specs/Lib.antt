@@ -4,6 +4,7 @@ pub mod Types
 pub mod Records
 pub mod Sets
 pub mod Selected
+pub mod Targets
 pub mod Caps
 pub mod Ages
 pub mod Text

@@ -8,8 +8,9 @@ use Rattle.lru.proofs.Splits.{Contains-head, Contains-tail, Contains-cons, Conta
 use Rattle.dname.specs.Labels.{Name}
 use Rattle.rdata.specs.Data.{Datum, Ipv4, Ns, Cname, Soa, Ptr, Mx, Txt, Ipv6, Srv}
 use Rattle.rdata.specs.Records.{Record}
+use Rattle.rdata.specs.Targets.{ns_target, targets_of}
 use Rattle.referral.specs.Cuts.{ServerAddress}
-use Rattle.referral.specs.Made.{target_names, targets_of, addresses_at, addresses_in, with_target, with_address}
+use Rattle.referral.specs.Made.{addresses_at, addresses_in, with_target, with_address}
 
 -- One element more of a walk.
 flat_more : {X Y : Type 0} (f : X → List Y) (xs : List X) (i : ℕ) (x : X) → i < length xs → x ≡ get_or xs i x → flat_map f (take (i + 1) xs) ≡ flat_map f (take i xs) ++ f x
@@ -17,7 +18,7 @@ flat_more {X} {Y} f xs i x lt is =
     ap (flat_map f) (take_more xs i x lt ∙ ap (λ (y : X). take i xs ++ y ∷ []) (sym is))
     ∙ (flat_map-append f (take i xs) (x ∷ []) ∙ ap (λ (l : List Y). flat_map f (take i xs) ++ l) (append-nil (f x)))
 
-target_put : (names : List Name) (d : Datum) → with_target names d ≡ names ++ target_names d
+target_put : (names : List Name) (d : Datum) → with_target names d ≡ names ++ ns_target d
 target_put names (Ipv4 a) = sym (append-nil names)
 target_put names (Ns n) = refl
 target_put names (Cname n) = sym (append-nil names)
@@ -41,7 +42,7 @@ address_put addresses n (Srv v) = sym (append-nil addresses)
 
 pub target_more : (rs : List Record) (i : ℕ) (r : Record) (old new : List Name) → i < length rs → r ≡ get_or rs i r → old ≡ targets_of (take i rs) → new ≡ with_target old r.value → new ≡ targets_of (take (i + 1) rs)
 target_more rs i r old new lt is walked put =
-    put ∙ (target_put old r.value ∙ (ap (λ (l : List Name). l ++ target_names r.value) walked ∙ sym (flat_more (λ (x : Record). target_names x.value) rs i r lt is)))
+    put ∙ (target_put old r.value ∙ (ap (λ (l : List Name). l ++ ns_target r.value) walked ∙ sym (flat_more (λ (x : Record). ns_target x.value) rs i r lt is)))
 
 pub address_more : (rs : List Record) (i : ℕ) (r : Record) (old new : List ServerAddress) → i < length rs → r ≡ get_or rs i r → old ≡ addresses_in (take i rs) → new ≡ with_address old r.owner r.value
     → new ≡ addresses_in (take (i + 1) rs)
@@ -78,7 +79,7 @@ flat_in {X} {Y} f (z ∷ xs) x y m n = elim (Contains-cons z xs x m) [
 one_in : {X : Type 0} (x y : X) → Contains (x ∷ []) y → x ≡ y
 one_in x y m = elim (Contains-cons x [] y m) [ inl e ↦ e | inr n ↦ absurd (Contains-nil y n) ]
 
-target_is : (d : Datum) (n : Name) → Contains (target_names d) n → d ≡ Ns n
+target_is : (d : Datum) (n : Name) → Contains (ns_target d) n → d ≡ Ns n
 target_is (Ipv4 a) n m = absurd (Contains-nil n m)
 target_is (Ns t) n m = ap Ns (one_in t n m)
 target_is (Cname t) n m = absurd (Contains-nil n m)
@@ -103,10 +104,10 @@ address_is o (Ipv6 a) s m = absurd (Contains-nil s m)
 address_is o (Srv v) s m = absurd (Contains-nil s m)
 
 pub names_are_targets : (ns : List Record) (n : Name) → Contains (targets_of ns) n → (r : Record) × Contains ns r × (r.value ≡ Ns n)
-names_are_targets ns n m = let (r, there, is) = flat_of (λ (x : Record). target_names x.value) ns n m in (r, there, target_is r.value n is)
+names_are_targets ns n m = let (r, there, is) = flat_of (λ (x : Record). ns_target x.value) ns n m in (r, there, target_is r.value n is)
 
 pub targets_are_names : (ns : List Record) (r : Record) (n : Name) → Contains ns r → r.value ≡ Ns n → Contains (targets_of ns) n
-targets_are_names ns r n m is = flat_in (λ (x : Record). target_names x.value) ns r n m (subst (λ (d : Datum). Contains (target_names d) n) (sym is) (Contains-head n []))
+targets_are_names ns r n m is = flat_in (λ (x : Record). ns_target x.value) ns r n m (subst (λ (d : Datum). Contains (ns_target d) n) (sym is) (Contains-head n []))
 
 pub addresses_are_glue : (glue : List Record) (s : ServerAddress) → Contains (addresses_in glue) s → (r : Record) × Contains glue r × (r.owner ≡ s.name) × (r.value ≡ Ipv4 (s.address).0)
 addresses_are_glue glue s m =

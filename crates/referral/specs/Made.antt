@@ -5,15 +5,8 @@ use Rattle.dname.specs.Labels.{Name, root}
 use Rattle.rdata.specs.declared.addr.Addr.{Addr}
 use Rattle.rdata.specs.Data.{Datum, Ns, Ipv4}
 use Rattle.rdata.specs.Records.{Record}
+use Rattle.rdata.specs.Targets.{targets_of}
 use Rattle.referral.specs.Cuts.{Cut, ServerAddress}
-
--- The server in these data, if they are of type NS.
-abbrev pub target_names : Datum → List Name
-target_names (Ns n) = n ∷ []
-target_names _ = []
-
-abbrev pub targets_of : List Record → List Name
-targets_of ns = flat_map (λ (r : Record). target_names r.value) ns
 
 -- The address of this name in these data, if they are of type A.
 abbrev pub addresses_at : Name → Datum → List ServerAddress

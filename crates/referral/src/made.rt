@@ -1,6 +1,7 @@
 //! Cuts made of records and of hints.
 ghost use Rattle.std.specs.Prelude.{◌≡◌, map, IfOk, OnOk};
-ghost use Rattle.referral.specs.Made.{targets_of, addresses_in, with_target, with_address, record_cut, hinted, hint_cut};
+ghost use Rattle.rdata.specs.Targets.{targets_of};
+ghost use Rattle.referral.specs.Made.{addresses_in, with_target, with_address, record_cut, hinted, hint_cut};
 
 use crate::cut::Cut;
 use crate::lists::{Addresses, Names, ServerAddress};

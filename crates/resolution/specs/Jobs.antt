@@ -13,7 +13,7 @@ use Rattle.causes.specs.declared.cause.Cause.{Cause}
 use Rattle.message_grammar.specs.Messages.{Message}
 use Rattle.wire.specs.declared.via.Via.{Via}
 use Rattle.classify.specs.Lifetimes.{received, lifetime_of, referral_lifetime}
-use Rattle.classify.specs.Targets.{targets_of}
+use Rattle.rdata.specs.Targets.{targets_of}
 use Rattle.retry.specs.Penalties.{penalty, answered, timed_out}
 use Rattle.retry.specs.Plans.{Plan, advanced, wait_of}
 use Rattle.referral.specs.Cuts.{ServerAddress, Cut, Known}

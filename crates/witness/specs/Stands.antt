@@ -19,7 +19,7 @@ use Rattle.zone.specs.Zones.{a_type}
 use Rattle.zone.specs.Links.{Alias}
 use Rattle.front.specs.Chains.{alias_target}
 use Rattle.classify.specs.Classes.{Answer, Referral, class_of}
-use Rattle.classify.specs.Targets.{targets_of}
+use Rattle.rdata.specs.Targets.{targets_of}
 use Rattle.world_truth.specs.Worlds.{World, IsWorld}
 use Rattle.runs.specs.States.{Client, TcpReply, Tick, Action, Reply, Own, OpenQuery, Turn, Plain, ClientQuery, recursive, ByTcp, Ask, Site, State, via_of}
 use Rattle.runs.specs.Messages.{IsSent}

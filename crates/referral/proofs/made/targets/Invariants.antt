@@ -1,5 +1,5 @@
 use Rattle.std.proofs.Common.{◌≡◌, take}
-use Rattle.referral.specs.Made.{targets_of}
+use Rattle.rdata.specs.Targets.{targets_of}
 use Rattle.referral.proofs.made.targets.Given as goal
 
 abbrev pub invariant-loop-server : goal.invariant-loop-server
