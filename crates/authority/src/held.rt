@@ -7,17 +7,16 @@ ghost use Rattle.rdata.specs.Rows.{in_set};
 ghost use Rattle.rdata.specs.Types.{type_number};
 ghost use Rattle.zone.specs.Zones.{cname_type};
 ghost use Rattle.zone.specs.Look.{is_type, of_type, firsts, with_owner, said, said_alias, said_wild};
-ghost use Rattle.authority.specs.Answers.{link_view};
+ghost use Rattle.zone.specs.Views.{link_view};
 ghost use Rattle.authority.specs.Values.{values_of, AreTimed};
 
-use crate::answer::Link;
 use crate::gather::owned_by;
 use crate::plain::is_kind;
 use dname::{Heap, Name, Starved};
 use rdata::{RData, RType, Record, RecordSet, Values, put_once};
 use std::alloc::Allocator;
 use std::collections::BTreeSet;
-use zone::Held;
+use zone::{Held, Link};
 
 // The data of a type among these records, each once.
 fn values_of<A: Heap>(

@@ -34,7 +34,7 @@ mod plain;
 mod refer;
 mod walk;
 
-pub use answer::{Link, Local};
+pub use answer::Local;
 pub use catalog::{Catalog, CatalogError};
 pub use laws::{one_answer_law, some_answer_law};
 pub use plain::look_in;

@@ -6,16 +6,18 @@ ghost use Rattle.dname.specs.Labels.{is_under};
 ghost use Rattle.rdata.specs.Types.{type_number};
 ghost use Rattle.zone.specs.Zones.{cname_type};
 ghost use Rattle.zone.specs.Look.{is_type, is_owned, at, is_cut, cut_of, said, said_alias, said_wild, ns_of, glue_of, local_by, or_else, add_glue, is_address, addresses_of, climbed, Cut, link_by};
-ghost use Rattle.authority.specs.Answers.{link_view, local_view};
+ghost use Rattle.zone.specs.Views.{link_view};
+ghost use Rattle.authority.specs.Answers.{local_view};
 ghost use Rattle.authority.specs.Climb.{target, is_picked, picked, has_glue, has_under};
 ghost use Rattle.authority.specs.Values.{HaveOneTtl};
 ghost use Rattle.authority.specs.declared.plain.Whose.TheVariants.{Wildcard};
 
-use crate::answer::{Link, Local};
+use crate::answer::Local;
 use crate::gather::{gathered, owned_by, records_in};
 use dname::{Heap, Name, Starved};
 use rdata::{RData, RType, Record, Records};
 use std::alloc::Allocator;
+use zone::Link;
 
 // Whose records are meant: those of a name itself, or of the wildcard right under it (RFC 4592, section 2.1.1).
 #[derive(Clone, Copy)]

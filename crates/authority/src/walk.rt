@@ -6,18 +6,19 @@ ghost use Rattle.rdata.specs.Types.{type_number};
 ghost use Rattle.zone.specs.Zones.{ns_type};
 ghost use Rattle.zone.specs.Links.{NxDomain};
 ghost use Rattle.zone.specs.Look.{is_type, local_by};
-ghost use Rattle.authority.specs.Answers.{link_view, local_view};
+ghost use Rattle.zone.specs.Views.{link_view};
+ghost use Rattle.authority.specs.Answers.{local_view};
 ghost use Rattle.authority.specs.Values.{IsTimed, AreTimedIn};
 ghost use Rattle.authority.specs.Walk.{own_of, wild_of, near_or, met, told, IsWalk};
 
-use crate::answer::{Link, Local};
+use crate::answer::Local;
 use crate::held::{has_type, say, say_wild};
 use crate::plain::first_or;
 use crate::refer::refer;
 use dname::{Heap, Name, Starved, Suffix};
 use rdata::{RType, Record};
 use std::alloc::Allocator;
-use zone::{Held, Stand, Zone, zone_keeps_rules};
+use zone::{Held, Link, Stand, Zone, zone_keeps_rules};
 
 // The result of a walk up from a name.
 #[derive(Drop)]

@@ -3,7 +3,6 @@ use crate::done::{Counted, Done, finish};
 use crate::names::{addresses, name};
 use crate::resident::resident;
 use anyhow::Result;
-use authority::Link;
 use cache::Cache;
 use dname::{Name, Starved};
 use lru::DefaultHasher;
@@ -13,6 +12,7 @@ use std::hash::BuildHasherDefault;
 use std::num::NonZeroUsize;
 use std::rt::Runtime;
 use std::time::Instant;
+use zone::Link;
 
 /// What a link says of its name.
 #[derive(Clone, Copy)]

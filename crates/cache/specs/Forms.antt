@@ -1,7 +1,7 @@
 -- Links as they are stored, seen as plain values.
 use Rattle.std.specs.Prelude.{[], ◌∷◌}
 use Rattle.rdata.specs.Kept.{datum}
-use Rattle.authority.specs.Answers.{link_view}
+use Rattle.zone.specs.Views.{link_view}
 use Rattle.cache.specs.Packed as packed
 use Rattle.cache.specs.declared.packed.Form.{Form}
 use Rattle.cache.specs.declared.packed.Form.TheVariants as form

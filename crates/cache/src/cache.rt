@@ -4,7 +4,7 @@ ghost use Rattle.std.specs.Bool.{OnTrue, OnFalse};
 ghost use Rattle.std.specs.NonZero.{non_zero_usize_get};
 ghost use Rattle.lru.specs.LruCache.{lru_cache, IsValid};
 ghost use Rattle.rdata.specs.Types.{type_number};
-ghost use Rattle.authority.specs.Answers.{link_view};
+ghost use Rattle.zone.specs.Views.{link_view};
 ghost use Rattle.lru_laws.specs.Orders.{KeepsOnly, LosesOnly, HasSame};
 ghost use Rattle.cache.specs.Keys.{same_key, key_for, error_key};
 ghost use Rattle.cache.specs.Cached.{as_kept, kept_ttl, is_error, live_at, set_at, alias_at, under, answer, asked_to, above_to, error_above, hit_of, lent, moved, swept, stored, after_keep, IsKept, IsGone, IsHeld, IsMiss};
@@ -13,7 +13,6 @@ ghost use Rattle.cache.specs.Packed.{hit_of_packed};
 use crate::hit::Hit;
 use crate::key::{Key, Slot};
 use crate::packed::Packed;
-use authority::Link;
 use dname::{Heap, Name, Starved};
 use lru::LruCache;
 use lru_laws::keep_for;
@@ -22,6 +21,7 @@ use std::alloc::{Allocator, Global};
 use std::hash::BuildHasher;
 use std::marker::Model;
 use std::num::NonZeroUsize;
+use zone::Link;
 
 /// The cached links. Contracts see the entries, the most recently used first, and the capacity. An expired entry stays
 /// until it is replaced or pushed out.

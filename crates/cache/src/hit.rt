@@ -3,14 +3,14 @@ ghost use Rattle.std.specs.Prelude.{◌≡◌, ◌≤◌, [], ◌∷◌, IfOk, o
 ghost use Rattle.rdata.specs.Records.{greatest_ttl};
 ghost use Rattle.rdata.specs.Sets.{with_ttl};
 ghost use Rattle.zone.specs.Links.{Found};
-ghost use Rattle.authority.specs.Answers.{link_view};
+ghost use Rattle.zone.specs.Views.{link_view};
 ghost use Rattle.cache.specs.Cached.{is_live, as_set, as_alias, retimed, left_of, aged};
 
-use authority::Link;
 use dname::{Heap, Starved};
 use rdata::{Record, RecordSet, is_young, seconds_left};
 use std::alloc::{AllocError, Allocator, Global};
 use std::marker::Model;
+use zone::Link;
 
 /// A cached link.
 #[derive(Drop)]
@@ -24,7 +24,7 @@ pub struct Hit<A: Allocator = Global> {
 }
 
 impl<A: Allocator> Model for Hit<A> {
-    ghost use Rattle.authority.specs.Answers.{link_view};
+    ghost use Rattle.zone.specs.Views.{link_view};
     ghost use Rattle.cache.specs.Cached.{Hit as HitSpec};
 
     ghost Value = { HitSpec };

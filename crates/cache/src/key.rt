@@ -4,15 +4,15 @@ ghost use Rattle.cache.specs.Keys.{same_slot, same_key, slot_for};
 ghost use Rattle.rdata.specs.Types.{type_number};
 ghost use Rattle.cache.specs.Kinds.{slot_view};
 ghost use Rattle.cache.specs.Laws.{same_key_per, same_key_equiv, same_key_fed, fed_key};
-ghost use Rattle.authority.specs.Answers.{link_view};
+ghost use Rattle.zone.specs.Views.{link_view};
 
-use authority::Link;
 use dname::Name;
 use rdata::RType;
 use std::alloc::{Allocator, Global};
 use std::cmp::Eq;
 use std::hash::{Hash, Hasher};
 use std::marker::Model;
+use zone::Link;
 
 /// What an entry is about: one type of a name, or the whole name.
 #[derive(Clone, Copy)]

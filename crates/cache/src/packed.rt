@@ -4,18 +4,18 @@ ghost use Rattle.rdata.specs.Kept.{datum};
 ghost use Rattle.rdata.specs.Records.{greatest_ttl};
 ghost use Rattle.rdata.specs.Rows.{first_in};
 ghost use Rattle.zone.specs.Links.{Found};
-ghost use Rattle.authority.specs.Answers.{link_view};
+ghost use Rattle.zone.specs.Views.{link_view};
 ghost use Rattle.cache.specs.Cached.{is_live, as_set, as_alias, with_link, as_kept};
 ghost use Rattle.cache.specs.Packed.{owned, link_of, hit_of_packed};
 ghost use Rattle.cache.specs.Forms.{form_view};
 
 use crate::denial::Denial;
 use crate::hit::{Hit, alias_of, set_of, set_of_one};
-use authority::Link;
 use dname::{Heap, Name, Starved};
 use rdata::{Place, RData, Record, RecordSet, Shared, Values, is_young};
 use std::alloc::{Allocator, Global};
 use std::marker::Model;
+use zone::Link;
 
 // The record with these data and this TTL, in seconds, that the name owns.
 fn owned<A: Heap>(name: &Name<A>, ttl: u32, value: &RData<A>) -> Result<Record<A>, Starved>

@@ -1,7 +1,7 @@
 -- The code's classes, seen as the plain values of their definition.
 use Rattle.std.specs.Prelude.{ℕ, Option, Some, None}
 use Rattle.rdata.specs.Types.{type_number}
-use Rattle.authority.specs.Answers.{link_view}
+use Rattle.zone.specs.Views.{link_view}
 use Rattle.classify.specs.Classes as plain
 use Rattle.classify.specs.Read.{Reading as ReadingSpec}
 use Rattle.classify.specs.declared.class.Failure.{Failure}

@@ -6,10 +6,10 @@ ghost use Rattle.classify.specs.Lifetimes.{referral_lifetime};
 ghost use Rattle.classify.specs.Views.{failure_number};
 
 use crate::lifetimes::referral_lifetime;
-use authority::Link;
 use dname::Name;
 use rdata::{Records, lowest_ttl};
 use std::alloc::{Allocator, Global};
+use zone::Link;
 
 /// Why a reply is of no use.
 #[derive(Clone, Copy, Debug, PartialEq, Eq)]

@@ -1,15 +1,14 @@
 //! How long the records of a reply are cached (RFC 2181, section 8; RFC 2308, sections 3 and 5).
 ghost use Rattle.std.specs.Prelude.{◌≡◌, ◌≤◌};
 ghost use Rattle.rdata.specs.Records.{greatest_ttl};
-ghost use Rattle.authority.specs.Answers.{link_view};
+ghost use Rattle.zone.specs.Views.{link_view};
 ghost use Rattle.classify.specs.Lifetimes.{received, received_denial, shortest, lifetime_of, referral_lifetime, ReceivedIsSame, ReceivedIsShort};
 
-use authority::Link;
 use dname::Heap;
 use limits::{MAX_NEGATIVE_TTL, MAX_TTL};
 use rdata::{Record, RecordSet, cap_ttl};
 use std::alloc::Allocator;
-use zone::denial_ttl;
+use zone::{Link, denial_ttl};
 
 /// The link of a reply as it is cached and sent; takes no memory. The TTL of a record is a week at most; that of a
 /// negative answer's SOA the lesser of it and its MINIMUM, and three hours at most (RFC 2308, sections 3 and 5).

@@ -2,17 +2,17 @@
 ghost use Rattle.std.specs.Prelude.{◌≡◌, [], ◌∷◌, ◌++◌, filter, IfOk, OnOk};
 ghost use Rattle.dname.specs.Labels.{is_under};
 ghost use Rattle.rdata.specs.Records.{Record as RecordSpec};
-ghost use Rattle.authority.specs.Answers.{link_view};
+ghost use Rattle.zone.specs.Views.{link_view};
 ghost use Rattle.classify.specs.Classes as plain;
 ghost use Rattle.classify.specs.Narrowed.{link_within, leads_within, addresses_within, narrowed, may_stand, ZoneNarrows};
 ghost use Rattle.classify.specs.Views.{class_view};
 
 use crate::class::{Class, Failure, Referral};
-use authority::Link;
 use dname::{Heap, Name, Starved};
 use limits::MAX_GLUE;
 use rdata::{Record, Records};
 use std::alloc::Allocator;
+use zone::Link;
 
 /// The class at a zone of a message whose class at the root this is, as `read` gives it. A negative answer of another
 /// zone and a referral that leads to none beneath are of no use; of the addresses the first `MAX_GLUE` at or under the

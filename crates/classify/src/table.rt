@@ -6,19 +6,19 @@ ghost use Rattle.rdata.specs.Selected.{records_at};
 ghost use Rattle.rdata.specs.Sets.{one_set};
 ghost use Rattle.rdata.specs.Types.{type_number};
 ghost use Rattle.zone.specs.Zones.{ns_type, cname_type, soa_type};
-ghost use Rattle.authority.specs.Answers.{link_view};
+ghost use Rattle.zone.specs.Views.{link_view};
 ghost use Rattle.classify.specs.Classes.{first_of, answer_by, refer_by, leads_down, by_cut, by_servers, denial_by, denies, by_denial, by_alias, by_set, by_code, truncated_over, class_of};
 ghost use Rattle.classify.specs.Views.{class_view};
 
 use crate::class::{Class, Failure, Referral};
 use crate::sections::{addresses_in, first_in, first_set_in, set_in};
-use authority::Link;
 use dname::{Heap, Name, Starved};
 use limits::MAX_REFERRAL_SERVERS;
 use rdata::{RType, Record, RecordSet, Records};
 use std::alloc::Allocator;
 use wire::rcode::{NO_ERROR, NX_DOMAIN};
 use wire::{Via, View, Walk};
+use zone::Link;
 
 /// The class of a reply to the question for this name and type, which came this way from a server of the zone: the
 /// first line that fits of

@@ -1,16 +1,16 @@
 //! The outcome of a chain and its end: each link with the TTL that is left of it, and AA where the link of the name in
 //! the question is that of a local zone.
 ghost use Rattle.std.specs.Prelude.{◌≡◌, [], ◌∷◌, IfOk, MatchOption};
-ghost use Rattle.authority.specs.Answers.{link_view};
+ghost use Rattle.zone.specs.Views.{link_view};
 ghost use Rattle.events.specs.Plain.{plain_end, plain_outcome};
 ghost use Rattle.runs.specs.Messages.{is_local_first, alias_in, aliases_of, end_in, outcome_of};
 
-use authority::Link;
 use dname::{Heap, Starved};
 use front::{End, Outcome};
 use iterate::Chain;
 use lookup::Taken;
 use rdata::{Record, Records};
+use zone::Link;
 
 // The answer of a chain and its end, at the moment `now`.
 pub fn outcome_of<A: Heap>(

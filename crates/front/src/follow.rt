@@ -2,18 +2,20 @@
 ghost use Rattle.std.specs.Prelude.{◌≡◌, ℕ, List, [], ◌∷◌, IfOk};
 ghost use Rattle.rdata.specs.Types.{type_number};
 ghost use Rattle.zone.specs.Look.{Linked};
-ghost use Rattle.authority.specs.Answers.{link_view, local_view};
+ghost use Rattle.zone.specs.Views.{link_view};
+ghost use Rattle.authority.specs.Answers.{local_view};
 ghost use Rattle.authority.specs.Catalogs.{looked};
 ghost use Rattle.front.specs.Chains.{AnswersLocally, FollowsOn, alias_target};
 ghost use Rattle.front.specs.Steps.{IsStep};
 
 use crate::queries::{End, Outcome, Query};
-use authority::{Catalog, Link, Local};
+use authority::{Catalog, Local};
 use causes::Cause;
 use dname::{Heap, Name, Starved};
 use limits::MAX_ALIASES;
 use rdata::{RData, RType, Record, Records};
 use std::alloc::{Allocator, Global};
+use zone::Link;
 
 /// The answer of the local zones alone to a query without RD: nothing where none is over the name, a referral at a zone
 /// cut, else the CNAME chain through local zones and its end. A ninth alias is a failure.

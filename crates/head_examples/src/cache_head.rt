@@ -1,5 +1,4 @@
 //! The example in the head of `cache`.
-use authority::Link;
 use cache::Cache;
 use dname::{Heap, Name};
 use rdata::RType;
@@ -7,6 +6,7 @@ use std::hash::BuildHasher;
 use std::num::NonZeroUsize;
 use std::process::Abort;
 use std::test::Fail;
+use zone::Link;
 
 pub fn example<R: Abort, S: BuildHasher + Drop, H: Heap>(
     rt: &R,

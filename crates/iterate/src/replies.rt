@@ -1,7 +1,7 @@
 //! Use of the messages that are accepted for a query (RFC 1034, section 5.3.3, step 4).
 ghost use Rattle.std.specs.Prelude.{◌≡◌, ◌⊎◌, ℕ, IfOk, OnOk, OnErr};
 ghost use Rattle.zone.specs.Links.{Link as LinkSpec};
-ghost use Rattle.authority.specs.Answers.{link_view};
+ghost use Rattle.zone.specs.Views.{link_view};
 ghost use Rattle.message_grammar.specs.Messages.{Message};
 ghost use Rattle.wire.specs.declared.via.Via.{Via};
 ghost use Rattle.classify.specs.Classes.{class_of};
@@ -20,7 +20,6 @@ use crate::job::Job;
 use crate::search::Search;
 use crate::serving::use_server_address;
 use crate::task::Task;
-use authority::Link;
 use classify::{Class, Reading, Referral, narrow, narrow_law, received};
 use dname::{Heap, Starved};
 use lookup::{Stores, Taken, cut_of};
@@ -28,6 +27,7 @@ use rdata::Addr;
 use referral::Cut;
 use std::alloc::Allocator;
 use std::hash::BuildHasher;
+use zone::Link;
 
 // A link was accepted for the innermost search, which is over. One of the query's own name is used for it; one of a
 // server's name is used by the search around.

@@ -15,13 +15,13 @@ use crate::calls::Next;
 use crate::job::Job;
 use crate::search::Search;
 use crate::task::{Move, Task};
-use authority::Link;
 use causes::Cause;
 use dname::{Heap, Name, Starved};
 use lookup::{Found, Home, Stores, Taken, find, found_addresses};
 use rdata::{RType, RecordSet};
 use referral::Cut;
 use std::hash::BuildHasher;
+use zone::Link;
 
 // Adds the addresses of a set, found for a server's name, to the search; those that are not known yet are asked next.
 fn add_set<S: BuildHasher + Drop, A: Heap>(

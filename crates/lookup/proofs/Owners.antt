@@ -6,9 +6,9 @@ use Rattle.rdata.specs.Data.{Datum}
 use Rattle.rdata.specs.Records.{Record}
 use Rattle.rdata.specs.Rows.{plain_rows}
 use Rattle.zone.specs.Links.{Link as LinkSpec}
-use Rattle.authority.specs.Answers.{link_view}
-use Rattle.authority.specs.declared.answer.Link.{Link}
-use Rattle.authority.specs.declared.answer.Link.TheVariants as held
+use Rattle.zone.specs.Views.{link_view}
+use Rattle.zone.specs.declared.link.Link.{Link}
+use Rattle.zone.specs.declared.link.Link.TheVariants as held
 use Rattle.resolution.specs.Jobs.{Source}
 use Rattle.lookup.specs.Views.{owner_of_all, owner_in, taken_at}
 

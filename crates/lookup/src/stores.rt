@@ -4,7 +4,7 @@
 ghost use Rattle.std.specs.Prelude.{◌≡◌, IfOk, IfSome, OnOk, OnErr};
 ghost use Rattle.std.specs.NonZero.{non_zero_usize_get};
 ghost use Rattle.rdata.specs.Types.{type_number};
-ghost use Rattle.authority.specs.Answers.{link_view};
+ghost use Rattle.zone.specs.Views.{link_view};
 ghost use Rattle.referral.specs.Cuts.{IsBest};
 ghost use Rattle.cache.specs.Cached.{asked_to, lent, hit_of, IsHeld};
 ghost use Rattle.cache.specs.Failures.{failed_ask, is_failed};
@@ -12,7 +12,6 @@ ghost use Rattle.frames.specs.Frames.{opened, fresh_addresses, after_add};
 ghost use Rattle.resolution.specs.Jobs.{level_of, with_answer, with_timeout};
 ghost use Rattle.lookup.specs.Views.{no_stores, sizes_of, with_link, with_cut, with_failed, after_look, after_best, after_failure_look};
 
-use authority::Link;
 use cache::{Cache, Failures, Hit};
 use classify::{lifetime, referral_lifetime};
 use counters::StoreSizes;
@@ -25,6 +24,7 @@ use std::alloc::{Allocator, Global};
 use std::hash::BuildHasher;
 use std::marker::Model;
 use std::num::NonZeroUsize;
+use zone::Link;
 
 /// How many entries each store may have.
 #[derive(Clone, Copy)]

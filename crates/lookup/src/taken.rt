@@ -4,12 +4,11 @@
 ghost use Rattle.std.specs.Prelude.{◌≡◌, IfOk, MatchOption};
 ghost use Rattle.rdata.specs.Records.{Record};
 ghost use Rattle.zone.specs.Links.{Alias};
-ghost use Rattle.authority.specs.Answers.{link_view};
+ghost use Rattle.zone.specs.Views.{link_view};
 ghost use Rattle.front.specs.Chains.{alias_target};
 ghost use Rattle.resolution.specs.Jobs.{local_link, kept_link, is_dead, has_ended, IsEnding, sent};
 ghost use Rattle.lookup.specs.Views.{owner_in, source_view, is_at_hand, IsBounded, taken_at, accepted_link};
 
-use authority::Link;
 use cache::{Hit, retimed};
 use classify::lifetime;
 use dname::{Heap, Name, Starved};
@@ -17,6 +16,7 @@ use front::alias_target;
 use rdata::{is_young, seconds_left};
 use std::alloc::{AllocError, Allocator, Global};
 use std::marker::Model;
+use zone::Link;
 
 /// The source of a link. TTLs are in seconds, as the link had them at the moment `since`, which is in milliseconds.
 #[derive(Clone, Copy)]
@@ -75,7 +75,7 @@ impl<A: Allocator> Drop for Taken<A> {
 }
 
 impl<A: Allocator> Model for Taken<A> {
-    ghost use Rattle.authority.specs.Answers.{link_view};
+    ghost use Rattle.zone.specs.Views.{link_view};
     ghost use Rattle.resolution.specs.Jobs.{Taken as TakenSpec};
     ghost use Rattle.lookup.specs.Views.{name_of, source_view, IsBounded};
 

@@ -3,12 +3,12 @@ mod long_tests;
 mod tests;
 
 use crate::shared::{capacity, hasher};
-use authority::Link;
 use cache::Cache;
 use dname::{Heap, Starved};
 use lru::DefaultHasher;
 use rdata::{RType, Record, RecordSet, Records, set_at};
 use record_fixtures::name;
+use zone::Link;
 
 // A cache with room for so many links.
 fn empty_cache<A: Heap>(alloc: A, room: usize) -> Result<Cache<DefaultHasher, A>, Starved> {

@@ -1,11 +1,11 @@
 use crate::worked::{Case, unsaid};
-use authority::Link;
 use classify::{Class, Referral, classify};
 use dname::{Heap, Starved, put_name};
 use rdata::{RType, Record, RecordSet, Records, put_data};
 use record_fixtures::{Row, Value, name, record, records};
 use std::test::Fail;
 use wire::{Header, Message, Questions, TCP_LIMIT, Via, View, encode};
+use zone::Link;
 
 // A reply, and what it is used for where w.a.example. was asked for of a server of example.
 struct Reply {

@@ -1,6 +1,5 @@
 use crate::shared::{home, stores};
 use crate::worked::{Case, Stage, first_wrong_step, unsaid};
-use authority::Link;
 use dname::{Heap, Name, Starved};
 use lookup::{Found, Home, Stores, cut_of, find};
 use lru::DefaultHasher;
@@ -10,6 +9,7 @@ use referral::Cut;
 use refusing_alloc::Refusing;
 use std::alloc::Allocator;
 use std::test::Fail;
+use zone::Link;
 
 const LOCAL: Addr = Addr([192, 0, 2, 1]);
 

@@ -2,16 +2,16 @@
 ghost use Rattle.std.specs.Prelude.{◌≡◌, ◌++◌, OnOk, codes, decimal, string_bytes};
 ghost use Rattle.dname.specs.Text.{name_text};
 ghost use Rattle.rdata.specs.Kept.{datum};
-ghost use Rattle.authority.specs.Answers.{link_view};
+ghost use Rattle.zone.specs.Views.{link_view};
 ghost use Rattle.classify.specs.Views.{class_view};
 ghost use Rattle.trace.specs.Lines.{alias_text, cause_line, cause_words, class_line, class_text, code_text, denial_text, failure_text, indent, link_text, loss_line, loss_words, referral_text, search_line, servers_text};
 
-use authority::Link;
 use causes::Cause;
 use classify::{Class, Failure, Referral};
 use dname::{Name, Starved};
 use rdata::{RData, RType};
 use std::alloc::Allocator;
+use zone::Link;
 
 /// Why there is nothing to class.
 #[derive(Clone, Copy, Debug, PartialEq, Eq)]

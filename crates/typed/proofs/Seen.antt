@@ -5,9 +5,9 @@ use Rattle.rdata.specs.declared.rtype.RType.{RType}
 use Rattle.rdata.specs.declared.rtype.RType.TheVariants as kind
 use Rattle.rdata.proofs.Words.{number_names_type}
 use Rattle.zone.specs.Links as plain_link
-use Rattle.authority.specs.Answers.{link_view}
-use Rattle.authority.specs.declared.answer.Link.{Link}
-use Rattle.authority.specs.declared.answer.Link.TheVariants as link
+use Rattle.zone.specs.Views.{link_view}
+use Rattle.zone.specs.declared.link.Link.{Link}
+use Rattle.zone.specs.declared.link.Link.TheVariants as link
 use Rattle.front.specs.declared.queries.Request.{Request}
 use Rattle.front.specs.declared.queries.Request.TheVariants as request
 use Rattle.classify.specs.Classes as plain_class

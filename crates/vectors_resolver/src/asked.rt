@@ -10,7 +10,7 @@ ghost use Rattle.std.specs.Prelude.{◌<◌, ◌+◌, ◌^◌};
 use crate::replies::reply;
 use crate::row::{Row, hasher};
 use crate::shown::{put_asked, put_cut, put_link};
-use authority::{Catalog, Link};
+use authority::Catalog;
 use dname::Name;
 use frames::Frame;
 use front::Via;
@@ -23,7 +23,7 @@ use std::alloc::Global;
 use std::num::NonZeroUsize;
 use text_lines::LineKind;
 use wire::View;
-use zone::Zone;
+use zone::{Link, Zone};
 
 #[derive(Drop)]
 struct AtHand {

@@ -2,11 +2,11 @@
 //! `send NAME FOUND SENT`, a hit for type A that is found at one moment and sent at another.
 use crate::row::{Row, hasher};
 use crate::shown::put_link;
-use authority::Link;
 use cache::{Cache, Hit};
 use lru::DefaultHasher;
 use rdata::RType;
 use text_lines::{LineKind, name};
+use zone::Link;
 
 /// A cache, once a row has made one.
 #[derive(Drop)]

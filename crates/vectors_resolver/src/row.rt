@@ -1,5 +1,4 @@
 //! A row of a script: its command, its words, and the records behind ` : `, parted by semicolons.
-use authority::Link;
 use dname::Name;
 use lru::DefaultHasher;
 use masterfile::{FileError, FileKind};
@@ -10,6 +9,7 @@ use std::hash::BuildHasherDefault;
 use std::mem;
 use std::num::NonZeroUsize;
 use text_lines::{LineKind, LineWords};
+use zone::Link;
 
 /// What hashes the keys of a store.
 pub fn hasher() -> DefaultHasher {

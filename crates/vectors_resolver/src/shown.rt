@@ -1,5 +1,4 @@
 //! Links, cuts and actions as they are printed.
-use authority::Link;
 use causes::Cause;
 use events::{Action, Bytes, Endpoint};
 use front::Via;
@@ -7,6 +6,7 @@ use rdata::{Addr, Record, RecordSet};
 use referral::{Cut, ServerAddress};
 use std::alloc::Global;
 use text_lines::LineKind;
+use zone::Link;
 
 /// A line for each record.
 pub fn put_records(out: &mut String, records: &[Record]) -> Result<(), LineKind> {

@@ -3,13 +3,13 @@
 use crate::named_texts::NamedTexts;
 use crate::notation;
 use crate::unanswered::{Unanswered, put_fault};
-use authority::{Catalog, Link, Local};
+use authority::{Catalog, Local};
 use dname::{Name, put_name};
 use rdata::Records;
 use std::alloc::Global;
 use text_lines::{LineWords, name};
 use vectors::first_word;
-use zone::Zone;
+use zone::{Link, Zone};
 
 /// `ORIGIN NAME ..: TEXT`: the zone of these lines, in short, or why it is none.
 pub fn put_zone(

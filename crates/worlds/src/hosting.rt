@@ -2,14 +2,14 @@
 ghost use Rattle.std.specs.Prelude.{◌≡◌, ◌<◌, ◌++◌, ◌||◌, ℕ, List, IfOk, IfSome, OnOk, Some, option_map};
 ghost use Rattle.rdata.specs.Types.{type_number};
 ghost use Rattle.zone.specs.Look.{Linked};
-ghost use Rattle.authority.specs.Answers.{link_view};
+ghost use Rattle.zone.specs.Views.{link_view};
 ghost use Rattle.authority.specs.Catalogs.{looked, among};
 ghost use Rattle.front.specs.declared.queries.Request.TheVariants as asked;
 ghost use Rattle.worlds.specs.Rules.{has_name, serves_at, serves};
 ghost use Rattle.worlds.specs.Hosting.{IsFollowed, host_header, referral_to, answer_to, IsSent, IsReplyFrom, IsHostReply, IsHonestReply};
 
 use crate::world::{Host, World};
-use authority::{Catalog, Link, Local};
+use authority::{Catalog, Local};
 use dname::{Heap, Name, Starved};
 use front::{
     Draft, End, Query, Request, Start, Step, alias_target, echo_is_question, read_query,
@@ -19,6 +19,7 @@ use limits::MAX_ALIASES;
 use rdata::{Addr, RType, Records};
 use std::alloc::Allocator;
 use wire::{Header, TCP_LIMIT, Writer};
+use zone::Link;
 
 fn put_names<A: Heap>(names: &mut Vec<Name<A>, A>, more: &[Name<A>]) -> Result<(), Starved>
     ensures { OnOk result (names.new.items ≡ names.old.items ++ more.now) }

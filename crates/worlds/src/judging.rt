@@ -8,13 +8,13 @@ ghost use Rattle.world_truth.specs.Replies.{IsRight};
 ghost use Rattle.worlds.specs.Judging.{IsRest, IsRightMessage, is_reply_to, is_empty, has, lacks_some, once, is_set, is_only, is_none};
 
 use crate::world::World;
-use authority::Link;
 use dname::{Heap, Name, Starved};
 use limits::MAX_ALIASES;
 use rdata::{INTERNET, RData, RType, Record, RecordSet};
 use std::alloc::Allocator;
 use wire::rcode::{NO_ERROR, NX_DOMAIN};
 use wire::{Message, WireError, decode};
+use zone::Link;
 
 // Whether the records have that one.
 fn has<A: Allocator>(records: &[Record<A>], wanted: &Record<A>) -> bool

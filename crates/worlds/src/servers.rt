@@ -11,11 +11,11 @@ ghost use Rattle.worlds.specs.Rules.{serves, is_missed, some_missed, is_missed_a
 
 use crate::rules::{has_name, has_origin};
 use crate::world::Host;
-use authority::{Catalog, Link, Local};
+use authority::{Catalog, Local};
 use dname::{Heap, Name, Starved};
 use rdata::{Addr, RData, RType, Record, RecordSet};
 use std::alloc::Allocator;
-use zone::Zone;
+use zone::{Link, Zone};
 
 // Whether the server at that address serves the zone of that origin.
 pub fn serves<A: Allocator>(hosts: &[Host<A>], address: Addr, origin: &Name<A>) -> bool

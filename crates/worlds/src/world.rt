@@ -2,7 +2,7 @@
 ghost use Rattle.std.specs.Prelude.{◌≡◌, IfOk, MatchResult, filter};
 ghost use Rattle.dname.specs.Labels.{root};
 ghost use Rattle.rdata.specs.Types.{type_number};
-ghost use Rattle.authority.specs.Answers.{link_view};
+ghost use Rattle.zone.specs.Views.{link_view};
 ghost use Rattle.world_truth.specs.Frames.{AreHeld};
 ghost use Rattle.world_truth.specs.Worlds.{IsWorld, HaveOwnOrigins};
 ghost use Rattle.world_truth.specs.Truths.{IsTrueLink};
@@ -13,12 +13,12 @@ ghost use Rattle.worlds.specs.Rules.{has_name};
 use crate::fault::WorldError;
 use crate::rules::{has_loose_cuts, has_name, has_origin, has_undelegated};
 use crate::servers::{has_bad_hint, has_idle_host, has_lame_cuts, lacks_start};
-use authority::{Catalog, CatalogError, Link, Local};
+use authority::{Catalog, CatalogError, Local};
 use dname::{Heap, Name, Starved};
 use rdata::{Addr, RType};
 use std::alloc::{Allocator, Global};
 use std::marker::Model;
-use zone::Zone;
+use zone::{Link, Zone};
 
 /// A server: its address, and the origins of the zones that it serves. A world may have several of one
 /// address, which then serve together.

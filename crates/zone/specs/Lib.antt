@@ -12,3 +12,4 @@ pub mod Rules
 pub mod Last
 -- Kept: invariants of the code's values, and how contracts see them.
 pub mod Kept
+pub mod Views

@@ -25,6 +25,7 @@ mod cuts;
 mod denial;
 mod fault;
 mod laws;
+mod link;
 mod nodes;
 mod rules;
 mod scan;
@@ -38,5 +39,6 @@ pub use laws::{
     cut_law, delegated_name_law, encloser_law, existence_law, link_law, local_law, name_error_law,
     one_link_law, own_records_law, zone_keeps_rules, zone_law,
 };
+pub use link::Link;
 pub use tree::{Held, Stand};
 pub use zone::Zone;

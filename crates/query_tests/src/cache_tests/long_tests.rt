@@ -1,5 +1,4 @@
 use super::{empty_cache, records_of, set_of};
-use authority::Link;
 use cache::{Cache, Hit};
 use dname::{Name, Starved};
 use lru::DefaultHasher;
@@ -9,6 +8,7 @@ use record_fixtures::name;
 use std::alloc::Global;
 use std::test::Fail;
 use wire::{Message, decode};
+use zone::Link;
 
 // A TXT record of these bytes, which are 32,000.
 fn put_long_record(bytes: &mut Vec<u8>, strings: &[u8]) -> Result<(), Starved> {

@@ -3,7 +3,6 @@ ghost use Rattle.rdata.specs.Records.{greatest_ttl};
 
 use super::{empty_cache, set_of};
 use crate::worked::{Case, Stage, first_wrong_step, unsaid};
-use authority::Link;
 use cache::{Cache, Hit};
 use dname::{Heap, Name, Starved};
 use lru::DefaultHasher;
@@ -12,6 +11,7 @@ use record_fixtures::{Row, Value, name, record, records};
 use refusing_alloc::Refusing;
 use std::alloc::Allocator;
 use std::test::Fail;
+use zone::Link;
 
 // The links that the tests keep, of the name under which they are kept.
 #[derive(Clone, Copy)]

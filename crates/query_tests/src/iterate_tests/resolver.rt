@@ -2,7 +2,6 @@
 ghost use Rattle.std.specs.Prelude.{◌<◌, ◌+◌, ◌^◌};
 
 use crate::shared::{home, stores};
-use authority::Link;
 use causes::Cause;
 use dname::{Heap, Name, Starved};
 use iterate::{Input, Job, Next, Started, advance, begin_query};
@@ -11,6 +10,7 @@ use lru::DefaultHasher;
 use rdata::{RData, RType, RecordSet, Records};
 use record_fixtures::{Row, Value, address, name, record, records};
 use wire::{Header, Message, Questions, UDP_LIMIT, Via, View, encode};
+use zone::Link;
 
 // Servers are known by the last byte of their address, which stands in 192.0.2.0/24: one of the root, one of
 // the zone example, one of a zone beneath the one at hand.

@@ -1,12 +1,12 @@
 //! Look-up by the tree of a zone's names, beside a walk over the list of its records: the same answers.
 
 use crate::authority_tests::made::{Maker, known};
-use authority::{Catalog, Link, Local, look_in};
+use authority::{Catalog, Local, look_in};
 use dname::{Heap, Name, Starved};
 use rdata::{RType, Record, Values};
 use std::alloc::Allocator;
 use std::test::Fail;
-use zone::{Zone, zone_keeps_rules};
+use zone::{Link, Zone, zone_keeps_rules};
 
 fn is_same<A: Allocator>(one: &Record<A>, other: &Record<A>) -> bool {
     one.owner == other.owner && one.ttl == other.ttl && one.value == other.value

@@ -1,6 +1,6 @@
 use Rattle.std.proofs.Common.{◌∙◌, sym, arith}
 use Rattle.rdata.specs.Types.{type_number}
-use Rattle.authority.specs.Answers.{link_view}
+use Rattle.zone.specs.Views.{link_view}
 use Rattle.authority.proofs.Picks.{look_link}
 use Rattle.authority.proofs.AtOrigin.{nodes_within}
 use Rattle.authority.proofs.Walks.{walk_told, labels_within}

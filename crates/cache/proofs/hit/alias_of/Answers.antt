@@ -1,5 +1,5 @@
 use Rattle.std.proofs.Common.{◌∙◌, ap, sym}
-use Rattle.authority.specs.Answers.{link_view}
+use Rattle.zone.specs.Views.{link_view}
 use Rattle.cache.specs.Cached.{as_alias}
 use Rattle.cache.proofs.Unpacked.{first_alias}
 use Rattle.cache.proofs.hit.alias_of.Goals as goal

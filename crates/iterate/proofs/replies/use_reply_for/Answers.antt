@@ -1,6 +1,6 @@
 use Rattle.std.proofs.Common.{◌≡◌, inl, sym, ap, ◌∙◌, subst, IfOk}
 use Rattle.std.proofs.lemmas.Result.{on_err_weaker}
-use Rattle.authority.specs.Answers.{link_view}
+use Rattle.zone.specs.Views.{link_view}
 use Rattle.classify.specs.Classes as class
 use Rattle.classify.specs.Views.{class_view, reading_view}
 use Rattle.frames.specs.Frames.{Frame}

@@ -1,6 +1,6 @@
 use Rattle.std.proofs.Common.{◌≡◌, true, rules}
 use Rattle.dname.specs.Labels.{same_name}
-use Rattle.authority.specs.Answers.{link_view}
+use Rattle.zone.specs.Views.{link_view}
 use Rattle.lookup.specs.Views.{owner_in, source_view}
 use Rattle.lookup.proofs.Owners.{taken_own}
 use Rattle.lookup.proofs.taken.named.Goals as goal

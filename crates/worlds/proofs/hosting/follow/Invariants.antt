@@ -2,7 +2,8 @@
 use Rattle.std.proofs.Common.{◌-◌, length}
 use Rattle.rdata.specs.Types.{type_number}
 use Rattle.zone.specs.Look.{Linked}
-use Rattle.authority.specs.Answers.{link_view, local_view}
+use Rattle.zone.specs.Views.{link_view}
+use Rattle.authority.specs.Answers.{local_view}
 use Rattle.authority.specs.Catalogs.{among, looked}
 use Rattle.front.proofs.Following.{Going}
 use Rattle.worlds.proofs.hosting.follow.Given as goal

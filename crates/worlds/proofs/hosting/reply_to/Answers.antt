@@ -2,7 +2,8 @@ use Rattle.std.proofs.Common.{◌≡◌, ◌∙◌, sym, ap, subst, refl, Some, 
 use Rattle.dname.specs.Labels.{Name}
 use Rattle.rdata.specs.Types.{type_number}
 use Rattle.zone.specs.Look.{Local, Linked}
-use Rattle.authority.specs.Answers.{link_view, local_view}
+use Rattle.zone.specs.Views.{link_view}
+use Rattle.authority.specs.Answers.{local_view}
 use Rattle.authority.specs.Catalogs.{among, looked}
 use Rattle.worlds.specs.Hosting.{says, IsReplyBy}
 use Rattle.worlds.proofs.Origins.{said_is, replied}

@@ -1,6 +1,6 @@
 use Rattle.std.proofs.Common.{sym, ◌∙◌, subst}
 use Rattle.rdata.specs.Types.{type_number}
-use Rattle.authority.specs.Answers.{link_view}
+use Rattle.zone.specs.Views.{link_view}
 use Rattle.world_truth.specs.Truths.{IsTrueLink}
 use Rattle.worlds.proofs.Judged.{clause, never, lacks_first, lacks_room, not_same, no_target, goes_so, found_so, no_data_so, nx_domain_so}
 use Rattle.worlds.proofs.judging.+judged.Goals as goal

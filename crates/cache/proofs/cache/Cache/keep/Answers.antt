@@ -1,6 +1,6 @@
 use Rattle.std.proofs.Common.{rules, arith}
 use Rattle.rdata.specs.Types.{type_number}
-use Rattle.authority.specs.Answers.{link_view}
+use Rattle.zone.specs.Views.{link_view}
 use Rattle.cache.specs.Cached.{as_kept, kept_ttl}
 use Rattle.cache.proofs.Steps.{keep_there, keep_only, keep_gone}
 use Rattle.cache.proofs.cache.Cache.keep.Goals as goal

@@ -1,7 +1,7 @@
 use Rattle.std.proofs.Common.{sym, ap, ◌∙◌}
 use Rattle.std.specs.Map.{remove_entry}
 use Rattle.lru.specs.LruCache.{lru_cache}
-use Rattle.authority.specs.Answers.{link_view}
+use Rattle.zone.specs.Views.{link_view}
 use Rattle.cache.specs.Keys.{same_key}
 use Rattle.cache.proofs.Steps.{swept_is}
 use Rattle.cache.proofs.Unpacked.{popped_shows}

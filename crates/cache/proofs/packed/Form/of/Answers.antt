@@ -2,7 +2,7 @@ use Rattle.std.proofs.Common.{rules, ◌≡◌, ◌∙◌, sym, ap, true}
 use Rattle.dname.specs.Labels.{same_name}
 use Rattle.rdata.specs.Kept.{datum}
 use Rattle.zone.specs.Links.{Alias}
-use Rattle.authority.specs.Answers.{link_view}
+use Rattle.zone.specs.Views.{link_view}
 use Rattle.cache.proofs.Unpacked.{alias_is}
 use Rattle.cache.proofs.packed.Form.of.Goals as goal
 

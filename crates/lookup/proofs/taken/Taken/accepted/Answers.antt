@@ -1,6 +1,6 @@
 use Rattle.std.proofs.Common.{◌≡◌, ℕ, true, ap, ◌∙◌, rules}
 use Rattle.dname.specs.Labels.{same_name}
-use Rattle.authority.specs.Answers.{link_view}
+use Rattle.zone.specs.Views.{link_view}
 use Rattle.resolution.specs.Jobs.{Accepted}
 use Rattle.lookup.specs.Views.{owner_in, taken_at}
 use Rattle.lookup.proofs.Owners.{taken_own}

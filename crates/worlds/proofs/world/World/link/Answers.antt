@@ -1,6 +1,7 @@
 use Rattle.std.proofs.Common.{inl, inr, subst}
 use Rattle.rdata.specs.Types.{type_number}
-use Rattle.authority.specs.Answers.{link_view, local_view}
+use Rattle.zone.specs.Views.{link_view}
+use Rattle.authority.specs.Answers.{local_view}
 use Rattle.authority.specs.Catalogs.{IsLooked}
 use Rattle.world_truth.specs.Worlds.{World}
 use Rattle.worlds.proofs.Judged.{looked_true, no_cut, not_nowhere}
