@@ -4,7 +4,7 @@ ghost use Rattle.asks.specs.Waits.{IsFreeFor, AreSame, IsChanged, IsFound, IsEar
 
 use crate::ask::{AskKey, Waiting};
 use crate::indexes::{ByAsk, ByDue, Open, change_ask, change_due, drop_ask, drop_due, make_room};
-use dname::{Heap, Starved};
+use memory::{Heap, Starved};
 use rdata::Addr;
 use std::alloc::{Allocator, Global};
 use std::collections::{BTreeSet, HashMap};

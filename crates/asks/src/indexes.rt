@@ -6,7 +6,7 @@ ghost use Rattle.asks.specs.Waits.{AreSame};
 ghost use Rattle.asks.specs.Indexes.{points, lists, is_ask, has_ask, is_due};
 
 use crate::ask::{AskKey, Waiting};
-use dname::{Heap, Starved};
+use memory::{Heap, Starved};
 use std::collections::{BTreeSet, HashMap};
 use std::hash::{BuildHasherDefault, FoldHasher};
 

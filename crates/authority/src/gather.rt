@@ -8,7 +8,8 @@ ghost use Rattle.authority.specs.Climb.{target, picked};
 ghost use Rattle.authority.specs.Values.{values_of, HaveOneTtl};
 
 use crate::plain::{Whose, answers, first_of};
-use dname::{Heap, Name, Starved};
+use dname::Name;
+use memory::{Heap, Starved};
 use rdata::{RData, RType, Record, RecordSet, Records, Values, put_once};
 use std::collections::BTreeSet;
 

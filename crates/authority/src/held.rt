@@ -12,7 +12,8 @@ ghost use Rattle.authority.specs.Values.{values_of, AreTimed};
 
 use crate::gather::owned_by;
 use crate::plain::is_kind;
-use dname::{Heap, Name, Starved};
+use dname::Name;
+use memory::{Heap, Starved};
 use rdata::{RData, RType, Record, RecordSet, Values, put_once};
 use std::alloc::Allocator;
 use std::collections::BTreeSet;

@@ -8,7 +8,8 @@ ghost use Rattle.authority.specs.CatalogFaults.{CatalogRefuses};
 ghost use Rattle.authority.specs.Origins.{ArePlaces};
 
 use crate::catalog::CatalogError;
-use dname::{Heap, Name, Starved, Suffix};
+use dname::{Name, Suffix};
+use memory::{Heap, Starved};
 use std::alloc::Allocator;
 use std::collections::HashMap;
 use std::hash::{BuildHasherDefault, FoldHasher};

@@ -14,7 +14,8 @@ ghost use Rattle.authority.specs.declared.plain.Whose.TheVariants.{Wildcard};
 
 use crate::answer::Local;
 use crate::gather::{gathered, owned_by, records_in};
-use dname::{Heap, Name, Starved};
+use dname::Name;
+use memory::{Heap, Starved};
 use rdata::{RData, RType, Record, Records};
 use std::alloc::Allocator;
 use zone::Link;

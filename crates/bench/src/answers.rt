@@ -2,9 +2,9 @@
 use crate::names::name;
 use crate::steps::{ask, core, query, step_all, tell, weight};
 use anyhow::Result;
-use dname::{Heap, Starved};
 use engine::Core;
 use events::Event;
+use memory::{Heap, Starved};
 use refusing_alloc::Refusing;
 use std::fmt;
 use std::rt::Runtime;

@@ -1,6 +1,6 @@
 //! What comes out of work.
 use anyhow::Result;
-use dname::Starved;
+use memory::Starved;
 use std::io;
 use std::time::{Clock, Duration, Instant};
 

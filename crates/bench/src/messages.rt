@@ -3,7 +3,7 @@ ghost use Rattle.std.specs.Prelude.{◌<◌};
 
 use crate::done::low;
 use crate::names::{addresses, name};
-use dname::Heap;
+use memory::Heap;
 use refusing_alloc::Refusing;
 use std::fmt;
 use std::rt::Runtime;

@@ -2,7 +2,8 @@
 ghost use Rattle.std.specs.Prelude.{◌<◌};
 
 use crate::done::low;
-use dname::{Heap, Name, NameError, Starved};
+use dname::{Name, NameError};
+use memory::{Heap, Starved};
 use rdata::{Addr, RData, RType, Record, Records, set_at};
 use std::alloc::Global;
 use std::cmp::Ordering;

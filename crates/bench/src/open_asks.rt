@@ -2,7 +2,7 @@
 use crate::done::{Done, finish};
 use anyhow::Result;
 use asks::{AskIndex, AskKey};
-use dname::{Heap, Starved};
+use memory::{Heap, Starved};
 use rdata::Addr;
 use std::rt::Runtime;
 use std::time::Instant;

@@ -2,9 +2,9 @@
 use crate::answers::Known;
 use crate::done::{Done, finish, low};
 use anyhow::Result;
-use dname::{Heap, Starved};
 use engine::{Config, Core, Settings};
 use events::{Action, Actions, Bytes, Endpoint, Event};
+use memory::{Heap, Starved};
 use rdata::Addr;
 use std::fmt;
 use std::rt::Runtime;

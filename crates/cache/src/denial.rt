@@ -3,7 +3,8 @@ ghost use Rattle.std.specs.Prelude.{◌≡◌, ◌≤◌, IfOk, IfSome};
 ghost use Rattle.rdata.specs.Records.{greatest_ttl};
 ghost use Rattle.cache.specs.Denials.{denied};
 
-use dname::{Heap, Starved, Suffix};
+use dname::Suffix;
+use memory::{Heap, Starved};
 use rdata::{RData, Record, Soa};
 use std::alloc::{Allocator, Global};
 use std::marker::Model;

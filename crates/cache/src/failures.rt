@@ -7,9 +7,10 @@ ghost use Rattle.lru_laws.specs.Orders.{KeepsOnly, LosesOnly, HasSame, MayGo};
 ghost use Rattle.cache.specs.Failures.{failed_ask, same_failed, is_failed, after_failed, after_is_failed};
 ghost use Rattle.cache.specs.FailureLaws.{same_failed_per, same_failed_equiv, same_failed_fed, fed_failed};
 
-use dname::{Heap, Name, Starved};
+use dname::Name;
 use limits::FAILURE_LIFETIME;
 use lru::LruCache;
+use memory::{Heap, Starved};
 use rdata::{Addr, RType, is_young};
 use std::alloc::{Allocator, Global};
 use std::cmp::Eq;

@@ -6,7 +6,7 @@ ghost use Rattle.zone.specs.Links.{Found};
 ghost use Rattle.zone.specs.Views.{link_view};
 ghost use Rattle.cache.specs.Cached.{is_live, as_set, as_alias, retimed, left_of, aged};
 
-use dname::{Heap, Starved};
+use memory::{Heap, Starved};
 use rdata::{Record, RecordSet, is_young, seconds_left};
 use std::alloc::{AllocError, Allocator, Global};
 use std::marker::Model;

@@ -11,7 +11,8 @@ ghost use Rattle.cache.specs.Forms.{form_view};
 
 use crate::denial::Denial;
 use crate::hit::{Hit, alias_of, set_of, set_of_one};
-use dname::{Heap, Name, Starved};
+use dname::Name;
+use memory::{Heap, Starved};
 use rdata::{Place, RData, Record, RecordSet, Shared, Values, is_young};
 use std::alloc::{Allocator, Global};
 use std::marker::Model;

@@ -3,7 +3,7 @@ ghost use Rattle.std.specs.Prelude.{◌≡◌};
 
 use crate::class::{Class, Referral};
 use crate::reading::Reading;
-use dname::Heap;
+use memory::Heap;
 use std::alloc::AllocError;
 
 impl<A: Heap> Clone for Referral<A> {

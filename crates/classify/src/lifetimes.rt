@@ -4,8 +4,8 @@ ghost use Rattle.rdata.specs.Records.{greatest_ttl};
 ghost use Rattle.zone.specs.Views.{link_view};
 ghost use Rattle.classify.specs.Lifetimes.{received, received_denial, shortest, lifetime_of, referral_lifetime, ReceivedIsSame, ReceivedIsShort};
 
-use dname::Heap;
 use limits::{MAX_NEGATIVE_TTL, MAX_TTL};
+use memory::Heap;
 use rdata::{Record, RecordSet, cap_ttl};
 use std::alloc::Allocator;
 use zone::{Link, denial_ttl};

@@ -8,8 +8,9 @@ ghost use Rattle.classify.specs.Narrowed.{link_within, leads_within, addresses_w
 ghost use Rattle.classify.specs.Views.{class_view};
 
 use crate::class::{Class, Failure, Referral};
-use dname::{Heap, Name, Starved};
+use dname::Name;
 use limits::MAX_GLUE;
+use memory::{Heap, Starved};
 use rdata::{Record, Records};
 use std::alloc::Allocator;
 use zone::Link;

@@ -12,8 +12,9 @@ ghost use Rattle.classify.specs.Narrowed.{all_addresses};
 ghost use Rattle.classify.specs.Targets.{is_given};
 
 use crate::targets::{is_one_of, targets_of};
-use dname::{Heap, Name, Starved};
+use dname::Name;
 use limits::MAX_GLUE;
+use memory::{Heap, Starved};
 use rdata::{RType, Record, RecordSet, Records, set_at};
 use std::alloc::Allocator;
 use wire::{Lent, Walk};

@@ -12,8 +12,9 @@ ghost use Rattle.classify.specs.Views.{class_view};
 
 use crate::class::{Class, Failure, Referral};
 use crate::sections::{addresses_in, first_in, first_set_in, set_in};
-use dname::{Heap, Name, Starved};
+use dname::Name;
 use limits::MAX_REFERRAL_SERVERS;
+use memory::{Heap, Starved};
 use rdata::{RType, Record, RecordSet, Records};
 use std::alloc::Allocator;
 use wire::rcode::{NO_ERROR, NX_DOMAIN};

@@ -10,7 +10,8 @@ ghost use Rattle.classify.specs.Classes.{names_server};
 ghost use Rattle.rdata.specs.Targets.{ns_target, targets_of};
 ghost use Rattle.classify.specs.Targets.{is_one_of};
 
-use dname::{Heap, Name, Starved};
+use dname::Name;
+use memory::{Heap, Starved};
 use rdata::{RData, Record};
 use std::alloc::Allocator;
 

@@ -10,13 +10,12 @@ ghost use Rattle.commands.specs.Exchanges.{query_for, AreMessage, AreLinesOf, Ar
 
 use authority::Catalog;
 use causes::Cause;
-use dname::{Heap, Name, Starved};
-use front::{
-    Outcome, Query, Request, Via, Writer, answer_local, read_query, refusal_bytes, reply_bytes,
-};
+use dname::Name;
+use front::{Outcome, Query, Request, answer_local, read_query, refusal_bytes, reply_bytes};
+use memory::{Heap, Starved};
 use rdata::{INTERNET, RType, Records};
 use reply_lines::put_reply_bytes;
-use wire::{Header, Message, Question, Questions, UDP_LIMIT, encode};
+use wire::{Header, Message, Question, Questions, UDP_LIMIT, Via, Writer, encode};
 
 // The number of the client in the printed reply.
 const CLIENT: u64 = 1;

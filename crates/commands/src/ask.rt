@@ -9,7 +9,8 @@ use crate::fault::Fault;
 use crate::texts::Texts;
 use crate::zones::read_zone;
 use authority::{Catalog, CatalogError};
-use dname::{Heap, Name, Starved};
+use dname::Name;
+use memory::{Heap, Starved};
 use rdata::RType;
 use zone::Zone;
 

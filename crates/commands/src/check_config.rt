@@ -18,15 +18,16 @@ use crate::serve::prepare_zones;
 use crate::texts::Texts;
 use config::{LocalFile, ServeConfig, read_config};
 use config_report::{file_report, line_report, notes, put_total, zone_report};
-use dname::{Heap, Name, Starved};
+use dname::Name;
 use events::Endpoint;
-use front::Via;
 use masterfile::FileError;
+use memory::{Heap, Starved};
 use rdata::Records;
 use server::Shown;
 use std::alloc::Allocator;
 use std::io::Write;
 use text_lines::LineError;
+use wire::Via;
 use zone::{Zone, ZoneError};
 
 // Why a server would not start, and what says so in words.

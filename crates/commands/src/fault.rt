@@ -3,12 +3,13 @@ ghost use Rattle.std.specs.Prelude.{◌≡◌, Some};
 ghost use Rattle.commands.specs.Faults.{fault_text, status_of, file_fault, zone_fault, name_fault, line_fault, pool_fault, world_fault};
 ghost use Rattle.commands.specs.declared.fault.Fault.TheVariants.{Memory};
 
-use dname::{NameError, Starved};
+use dname::NameError;
 use masterfile::{FileError, FileKind};
+use memory::Starved;
 use pool::PoolError;
-use script::{LineError, LineKind};
 use std::alloc::AllocFailed;
 use std::fmt;
+use text_lines::{LineError, LineKind};
 use world_text::WorldFault;
 use worlds::WorldError;
 use zone::ZoneError;

@@ -5,7 +5,8 @@ ghost use Rattle.commands.specs.Files.{CountsRecords, PrintsRecords, IsNoZone, I
 use crate::fault::Fault;
 use crate::texts::Texts;
 use crate::zones::{read_records, read_zone};
-use dname::{Heap, Name, Starved};
+use dname::Name;
+use memory::{Heap, Starved};
 
 /// `ok N records`, where the text at a path is a zone of that origin.
 pub fn check<'a, A: Heap, T: Texts>(

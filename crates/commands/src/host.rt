@@ -1,9 +1,8 @@
 //! The machine under a server: where its random bytes and its sockets come from. Tests put another in its place.
 ghost use Rattle.std.specs.Prelude.{◌≡◌, ◌⊎◌, IfSome};
 
-use dname::{Heap, Starved};
 use events::Endpoint;
-use front::Via;
+use memory::{Heap, Starved};
 use server::{Ends, Shown};
 use std::alloc::Global;
 use std::io::Read;
@@ -11,6 +10,7 @@ use std::net::{Ipv4Addr, Net, SocketAddr, SocketAddrV4, TcpListener, TcpStream, 
 use std::rt::{Env, Files};
 use std::time::Instant;
 use std::{env, fs};
+use wire::Via;
 
 /// What the start of a server needs besides memory and files.
 pub trait Host {

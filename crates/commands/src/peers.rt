@@ -1,7 +1,7 @@
 //! The network of a trace: a socket for each ask, as the machine has them.
 use crate::host::Machine;
-use dname::{Heap, Starved};
 use events::Endpoint;
+use memory::{Heap, Starved};
 use sockets::{FrameError, read_framed, write_framed};
 use std::io::{ErrorKind, Read};
 use std::net::{Ipv4Addr, Net, SocketAddr, SocketAddrV4, TcpListener, TcpStream, UdpSocket};

@@ -5,7 +5,7 @@ ghost use Rattle.commands.specs.Scripts.{HoldsWorld, HoldsNoWorld, HoldsOrders, 
 
 use crate::fault::Fault;
 use crate::texts::Texts;
-use dname::Heap;
+use memory::Heap;
 use script::{Order, read_script};
 use world_text::world_in;
 use worlds::World;

@@ -18,7 +18,7 @@ use crate::storm_scripts::storm;
 use crate::texts::Texts;
 use crate::trace_query::trace_query;
 use commandline::{Command, LineFault, help_text, is_version, read_words};
-use dname::Heap;
+use memory::Heap;
 use std::alloc::{Allocator, Global};
 use std::io::Write;
 use std::sync::Wait;

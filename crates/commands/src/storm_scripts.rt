@@ -9,7 +9,7 @@ ghost use Rattle.commands.specs.Storms.{HoldAsks, HoldsAsks, HoldsNoAsks, FailsT
 
 use crate::fault::Fault;
 use crate::texts::Texts;
-use dname::Starved;
+use memory::Starved;
 use play::settings;
 use pool::PoolError;
 use script::{Order, read_asks};

@@ -3,7 +3,7 @@ ghost use Rattle.std.specs.Prelude.{◌≡◌, ℕ, List, Option, None, IfOk, st
 ghost use Rattle.std.specs.Option.{option_map};
 ghost use Rattle.commands.specs.Texts.{MayHold};
 
-use dname::{Heap, Starved};
+use memory::{Heap, Starved};
 use std::io::ErrorKind;
 use std::rt::Files;
 use std::{fs, io};

@@ -4,7 +4,8 @@ ghost use Rattle.commands.specs.Zones.{HoldsRecords, HoldsNoRecords, HoldsZone, 
 
 use crate::fault::Fault;
 use crate::texts::Texts;
-use dname::{Heap, Name};
+use dname::Name;
+use memory::Heap;
 use rdata::Records;
 use zone::Zone;
 

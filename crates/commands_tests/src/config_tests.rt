@@ -1,9 +1,10 @@
 //! Files of a server, by examples.
-use config::{LineKind, ServeConfig, read_config};
-use dname::Heap;
+use config::{ServeConfig, read_config};
+use memory::Heap;
 use rdata::Addr;
 use refusing_alloc::Refusing;
 use std::test::Fail;
+use text_lines::LineKind;
 
 const WHOLE: &str =
     "; a server\n\nlisten 127.0.0.1 5300\nport 5353\nhint 198.41.0.4\n hint\t170.247.170.2\nlocal corp.example. corp.zone\nlocal . \tr/\u{e9}.zone \ncache 1000000\ndelegations 1\npenalties 7\nfailures 8\nsockets 16\nworkers 1\nstreams 256\nclients 1024\nseed 000102030405060708090A0b0c0d0e0f101112131415161718191a1b1c1d1e1f\n";

@@ -1,8 +1,8 @@
 //! A command that is done over texts and in a place of the test's own.
 use commandline::Command;
 use commands::{Host, Outcome, Server, Texts, run_command};
-use dname::Heap;
 use failing_writer::{Page, WIDE};
+use memory::Heap;
 use std::sync::Wait;
 use std::thread::Threads;
 use trace::Peers;

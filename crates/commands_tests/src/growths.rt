@@ -5,7 +5,7 @@ use crate::plays::{
     ALIAS, DENIED, KEPT, LOOKED_UP, NESTED, RUN_OUT, SMALL, TRUNCATED, Worked, play,
 };
 use crate::scripts::Held;
-use dname::Heap;
+use memory::Heap;
 use refusing_alloc::Refusing;
 use std::alloc::AllocError;
 use std::process::Abort;

@@ -1,6 +1,6 @@
 //! Servers of a small world at addresses of this host.
-use dname::Starved;
 use events::Endpoint;
+use memory::Starved;
 use rdata::Addr;
 use sockets::{read_framed, write_framed};
 use std::alloc::Global;

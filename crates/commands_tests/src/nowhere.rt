@@ -1,10 +1,10 @@
 //! A machine on which no server can listen.
 use commands::Host;
-use dname::{Heap, Starved};
 use events::Endpoint;
-use front::Via;
+use memory::{Heap, Starved};
 use server::Shown;
 use trace::Peers;
+use wire::Via;
 
 /// No place for a server.
 #[derive(Clone, Copy)]

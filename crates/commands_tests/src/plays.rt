@@ -3,7 +3,7 @@
 use crate::done::{Done, Ending};
 use crate::scripts::{Held, perform_over};
 use commandline::Command;
-use dname::Heap;
+use memory::Heap;
 use std::alloc::{AllocError, Global};
 use std::ops::Range;
 use std::sync::Wait;

@@ -3,7 +3,7 @@ use crate::done::{Done, ROOMY, perform};
 use crate::nowhere::Nowhere;
 use commandline::Command;
 use commands::Texts;
-use dname::{Heap, Starved};
+use memory::{Heap, Starved};
 use std::sync::Wait;
 use std::thread::Threads;
 

@@ -2,16 +2,16 @@
 use crate::done::{Done, ROOMY, start};
 use commandline::Command;
 use commands::{Host, Server, Texts};
-use dname::{Heap, Starved};
 use engine_fixture::{Desk, Out};
 use events::Endpoint;
-use front::Via;
+use memory::{Heap, Starved};
 use server::Shown;
 use std::alloc::{AllocError, Global};
 use std::sync::Wait;
 use std::test::Fail;
 use std::thread::Threads;
 use trace::Peers;
+use wire::Via;
 
 static CORP: &str = "$TTL 300\n@ SOA ns h 1 2 3 4 60\n@ NS ns\ndb A 10.0.0.5\n";
 

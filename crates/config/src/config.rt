@@ -12,7 +12,8 @@ ghost use Rattle.text_lines.specs.Texts.{IsTextFault};
 ghost use Rattle.config.specs.Configs.{config_of};
 
 use crate::draft::Draft;
-use dname::{Heap, Name};
+use dname::Name;
+use memory::Heap;
 use rdata::Addr;
 use std::alloc::{Allocator, Global};
 use std::marker::Model;

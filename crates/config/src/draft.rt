@@ -6,9 +6,10 @@ ghost use Rattle.config.specs.Configs.{blank, end_in, number_in, hint_in, zone_i
 
 use crate::config::{Endpoint, LocalFile, LogLevel, ServeConfig};
 use crate::keyword::Keyword;
-use dname::{Heap, Name};
+use dname::Name;
 use hex::FromHex;
 use limits::{MAX_ENTRIES, MAX_SOCKETS, MAX_WORKERS};
+use memory::Heap;
 use rdata::Addr;
 use std::alloc::Allocator;
 use std::marker::Model;

@@ -21,4 +21,3 @@ mod draft;
 mod keyword;
 
 pub use config::{Endpoint, LocalFile, LogLevel, ServeConfig, read_config};
-pub use text_lines::{LineError, LineKind};

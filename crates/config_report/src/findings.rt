@@ -3,8 +3,8 @@ ghost use Rattle.std.specs.Prelude.{◌≡◌, ◌++◌, IfOk, OnOk, length, not
 ghost use Rattle.config_report.specs.Notes.{hints_text, is_loopback, listen_text, metrics_text, note, notes_text, open_text, readers_line, sockets_text, strangers_line, total_text};
 
 use config::{Endpoint, ServeConfig};
-use dname::{Heap, Starved};
 use limits::{MAX_SERVERS, MAX_SOCKETS};
+use memory::{Heap, Starved};
 use rdata::Addr;
 use std::alloc::Allocator;
 

@@ -5,8 +5,8 @@ ghost use Rattle.text_lines.specs.Texts.{stated_words};
 ghost use Rattle.config_report.specs.Reports.{file_report_text, first_or_none, line_at, line_report_text, line_sentence_of, report_text};
 
 use crate::sentences::{file_sentence, line_sentence, word_count};
-use dname::{Heap, Starved};
 use masterfile::FileError;
+use memory::{Heap, Starved};
 use text_lines::{LineError, LineKind, LineWords, TextLines};
 
 /// `PATH:LINE: WORDS: SENTENCE` of a line of a server's file that is refused: of the line as it stands there, and what

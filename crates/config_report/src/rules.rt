@@ -11,7 +11,8 @@ ghost use Rattle.zone.specs.Rules.{clashes, differs, is_out_of_place, is_wildcar
 ghost use Rattle.config_report.specs.Culprits.{breaks, rule_type, rule_text, zone_report_text};
 
 use crate::sentences::rule_sentence;
-use dname::{Heap, Name, Starved, Suffix};
+use dname::{Name, Suffix};
+use memory::{Heap, Starved};
 use rdata::{RType, Record};
 use std::alloc::Allocator;
 use zone::ZoneError;

@@ -5,8 +5,8 @@ ghost use Rattle.dispatch.specs.Targets.{target};
 
 use crate::senders::sender_of;
 use events::{Action, Bytes, Endpoint};
-use front::Via;
 use std::alloc::Allocator;
+use wire::Via;
 
 /// Where an action goes.
 #[derive(Clone, Copy, Debug, PartialEq, Eq)]

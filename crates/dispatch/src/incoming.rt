@@ -7,9 +7,9 @@ ghost use Rattle.events.specs.Views.{event_view};
 ghost use Rattle.dispatch.specs.Senders.{client_number};
 
 use crate::senders::client_of;
-use dname::{Heap, Starved};
 use events::{Bytes, Endpoint, Event};
-use front::Via;
+use memory::{Heap, Starved};
+use wire::Via;
 
 // Bytes that came, on memory of their own.
 fn owned<A: Heap>(alloc: A, bytes: &[u8]) -> Result<Bytes<A>, Starved>

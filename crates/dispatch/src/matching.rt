@@ -2,7 +2,7 @@
 ghost use Rattle.std.specs.Prelude.{◌≡◌, ◌↔◌, IfOk, IsTrue, length};
 ghost use Rattle.dispatch.specs.Repeats.{Repeats, RepeatsAsk, IsAcceptedFor};
 
-use dname::{Heap, Starved};
+use memory::{Heap, Starved};
 use wire::{Message, Question, View, WireError, decode};
 
 /// Whether a message repeats an ask: a reply of operation 0 under its ID, with its one question (RFC 5452, section 9.1).

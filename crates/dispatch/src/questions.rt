@@ -2,8 +2,8 @@
 ghost use Rattle.std.specs.Prelude.{◌≡◌, ◌↔◌, ◌++◌, ◌-◌, ℕ, ◌≤◌, IfOk, IfSome, IsTrue, MatchOption, length, take, drop};
 ghost use Rattle.dispatch.specs.Questions.{HasQuestion, EndsName, IsPlainQuery, IsFailure, PlainIsQuery, FailureIsServfail};
 
-use dname::{Heap, Starved};
 use events::Bytes;
+use memory::{Heap, Starved};
 
 // Bytes of a message's header (RFC 1035, section 4.1.1).
 const HEADER: usize = 12;

@@ -32,7 +32,6 @@ mod walk;
 
 pub use builder::{Builder, Overflow};
 pub use labels::Labels;
-pub use memory::{Heap, Starved};
 pub use name::{LONGEST_NAME, Name};
 pub use suffix::Suffix;
 pub use text::{

@@ -12,8 +12,8 @@ ghost use Rattle.engine.specs.Finds.{OfTheOne};
 
 use crate::state::ResolverState;
 use classify::Reading;
-use dname::{Heap, Starved};
 use events::Ask;
+use memory::{Heap, Starved};
 use std::alloc::Allocator;
 use typed::TypedAction;
 

@@ -10,10 +10,10 @@ ghost use Rattle.engine.specs.Replies.{alone};
 
 use crate::state::ResolverState;
 use causes::Cause;
-use dname::{Heap, Starved};
 use events::ClientQuery;
 use iterate::{Job, Next};
 use limits::MAX_OPEN_QUERIES;
+use memory::{Heap, Starved};
 use typed::TypedAction;
 
 // Whether a server is to be asked.

@@ -23,11 +23,11 @@ use crate::answer::outcome_of;
 use crate::state::ResolverState;
 use causes::Cause;
 use classify::Reading;
-use dname::{Heap, Starved};
 use events::ClientQuery;
 use front::Outcome;
 use iterate::{Chain, Input, Job, Next, advance, advance_by_reply};
 use lookup::Taken;
+use memory::{Heap, Starved};
 use rdata::Addr;
 use typed::{TypedAction, reply_to};
 
@@ -48,12 +48,7 @@ impl<A: Heap> ResolverState<A> {
     }
 
     // The failure, as it goes out; the query of that number is over.
-    pub fn fail(
-        &self,
-        number: u64,
-        client_query: ClientQuery<A>,
-        cause: Cause,
-    ) -> TypedAction<A>
+    pub fn fail(&self, number: u64, client_query: ClientQuery<A>, cause: Cause) -> TypedAction<A>
         requires { HasNo self.now.queries number }
         ensures { Ends (state_of self.now) client_query number (outcome.Fail cause) self.now.stores (alone result) (state_of self.now) }
     {
@@ -157,11 +152,7 @@ impl<A: Heap> ResolverState<A> {
     }
 
     // Serves the open query of that number.
-    pub fn go_on(
-        &mut self,
-        number: u64,
-        input: Input,
-    ) -> Result<TypedAction<A>, Starved>
+    pub fn go_on(&mut self, number: u64, input: Input) -> Result<TypedAction<A>, Starved>
         requires sound { IsSound (state_of self.old) }
         requires there { (q : Open) × IsTheOne self.old.queries number q }
         ensures ok { IfOk result (λ a. ServesOne (state_of self.old) number (input_view input) (alone a) (state_of self.new)) }

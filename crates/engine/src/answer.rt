@@ -5,10 +5,10 @@ ghost use Rattle.zone.specs.Views.{link_view};
 ghost use Rattle.events.specs.Plain.{plain_end, plain_outcome};
 ghost use Rattle.runs.specs.Messages.{is_local_first, alias_in, aliases_of, end_in, outcome_of};
 
-use dname::{Heap, Starved};
 use front::{End, Outcome};
 use iterate::Chain;
 use lookup::Taken;
+use memory::{Heap, Starved};
 use rdata::{Record, Records};
 use zone::Link;
 

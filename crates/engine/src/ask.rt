@@ -11,10 +11,11 @@ ghost use Rattle.engine.specs.Moves.{Puts, Halts};
 ghost use Rattle.engine.specs.Replies.{alone};
 
 use crate::state::ResolverState;
-use dname::{Heap, Name, Starved};
+use dname::Name;
 use events::{Ask, ClientQuery, Path};
 use iterate::Job;
 use limits::TCP_WAIT_MS;
+use memory::{Heap, Starved};
 use open_queries::Open;
 use rand_core::utils::NextWord;
 use rdata::{Addr, RType};

@@ -5,8 +5,8 @@ ghost use Rattle.engine.specs.Histories.{HistoryIsRun, TypedHistoryIsRun};
 use crate::machine::Core;
 use book::{Machine, Measured};
 use counters::StoreSizes;
-use dname::Starved;
 use events::{Actions, Event};
+use memory::Starved;
 use std::alloc::Allocator;
 use typed::{TypedActions, TypedEvent};
 

@@ -16,11 +16,11 @@ ghost use Rattle.engine.specs.Turns.{Turns};
 
 use crate::hashing::StoreHasher;
 use crate::state::ResolverState;
-use dname::{Heap, Starved};
 use events::{ClientQuery, local_answer_is_plain, read_asked};
 use front::{Request, answer_local};
 use iterate::{Chain, Started, begin_query};
 use lookup::{Home, Stores};
+use memory::{Heap, Starved};
 use typed::{TypedAction, refuse, reply_to};
 use wire::Via;
 
@@ -102,17 +102,12 @@ impl<A: Heap> ResolverState<A> {
         match asked {
             Request::Drop => Ok(None),
             Request::Refuse(why, start, echo) => Ok(Some(refuse(client, way, why, start, echo))),
-            Request::Query(query) => {
-                Ok(Some(self.resolve(ClientQuery { client, way, query })?))
-            }
+            Request::Query(query) => { Ok(Some(self.resolve(ClientQuery { client, way, query })?)) }
         }
     }
 
     // Treats a query: without RD it is answered by the local zones alone (RFC 1034, section 4.3.1).
-    fn resolve(
-        &mut self,
-        client_query: ClientQuery<A>,
-    ) -> Result<TypedAction<A>, Starved>
+    fn resolve(&mut self, client_query: ClientQuery<A>) -> Result<TypedAction<A>, Starved>
         requires sound { IsSound (state_of self.old) }
         ensures ok { IfOk result (λ a. IsResolved (state_of self.old) client_query (alone a) (state_of self.new)) }
         ensures err { OnErr result (IsGone (state_of self.old) (request.Query client_query.query) (state_of self.new)) }
@@ -134,10 +129,7 @@ impl<A: Heap> ResolverState<A> {
     }
 
     // Begins a recursive query: it is answered by a link that is found, or its work begins.
-    fn begin_query(
-        &mut self,
-        client_query: ClientQuery<A>,
-    ) -> Result<TypedAction<A>, Starved>
+    fn begin_query(&mut self, client_query: ClientQuery<A>) -> Result<TypedAction<A>, Starved>
         requires sound { IsSound (state_of self.old) }
         ensures ok { IfOk result (λ a. Begins (state_of self.old) client_query (alone a) (state_of self.new)) }
         ensures err { OnErr result (DropsWork (state_of self.old) client_query.query (state_of self.new)) }

@@ -15,8 +15,8 @@ ghost use Rattle.engine.specs.Turns.{Turns, IsQuiet};
 
 use crate::state::ResolverState;
 use classify::{Reading, read};
-use dname::{Heap, Starved};
 use events::{Endpoint, id_in, id_is_in_message};
+use memory::{Heap, Starved};
 use typed::TypedAction;
 use wire::Via;
 

@@ -11,8 +11,8 @@ ghost use Rattle.engine.specs.Replies.{if_any};
 ghost use Rattle.engine.specs.Turns.{Turns, IsQuiet};
 
 use crate::state::ResolverState;
-use dname::{Heap, Starved};
 use events::Event;
+use memory::{Heap, Starved};
 use std::alloc::Allocator;
 use typed::{Parsed, TypedAction, TypedActions};
 
@@ -35,10 +35,7 @@ impl<A: Heap> ResolverState<A> {
     }
 
     // Serves the query that an event is for.
-    pub fn handle_event(
-        &mut self,
-        event: &Event<A>,
-    ) -> Result<TypedActions<A>, Starved>
+    pub fn handle_event(&mut self, event: &Event<A>) -> Result<TypedActions<A>, Starved>
         requires sound { IsSound (state_of self.old) }
         ensures ok { IfOk result (λ a. Turns (state_of self.old) (event_view event.now) (Some (said_listed a.first a.more_due)) (state_of self.new)) }
         ensures err { OnErr result (Turns (state_of self.old) (event_view event.now) None (state_of self.new)) }
@@ -76,10 +73,7 @@ impl<A: Heap> ResolverState<A> {
     }
 
     // Serves the query that an event is for whose bytes were read.
-    pub fn handle_parsed(
-        &mut self,
-        event: &Parsed<A>,
-    ) -> Result<TypedActions<A>, Starved>
+    pub fn handle_parsed(&mut self, event: &Parsed<A>) -> Result<TypedActions<A>, Starved>
         requires sound { IsSound (state_of self.old) }
         requires bytes { HasBytes (parsed_view event.now) }
         ensures ok { (e : EventSpec) → ReadAs e (parsed_view event.now) → IfOk result (λ a. Turns (state_of self.old) e (Some (said_listed a.first a.more_due)) (state_of self.new)) }
@@ -105,7 +99,9 @@ impl<A: Heap> ResolverState<A> {
                 Ok(alone(first))
             }
             Parsed::TcpReply {
-                number, reading, ..
+                number,
+                reading,
+                ..
             } => {
                 let first = self.read_reply(*number, reading)?;
                 Ok(alone(first))

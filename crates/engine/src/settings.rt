@@ -4,9 +4,9 @@ ghost use Rattle.std.specs.NonZero.{non_zero_usize_get};
 ghost use Rattle.engine.specs.Beginnings.{IsRoom, IsAllowed, core_fault_number, core_fault_text};
 
 use authority::CatalogError;
-use dname::Starved;
 use limits::{MAX_ENTRIES, MAX_SOCKETS};
 use lookup::Capacities;
+use memory::Starved;
 use rdata::Addr;
 use std::alloc::{Allocator, Global};
 use std::fmt;

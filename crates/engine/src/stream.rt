@@ -17,8 +17,8 @@ ghost use Rattle.engine.specs.Turns.{Turns, IsQuiet};
 
 use crate::state::ResolverState;
 use classify::{Reading, read};
-use dname::{Heap, Starved};
 use iterate::Input;
+use memory::{Heap, Starved};
 use rdata::{Addr, RType};
 use typed::TypedAction;
 use wire::Via;
@@ -55,10 +55,7 @@ impl<A: Heap> ResolverState<A> {
     }
 
     // Treats the open ask of the query of that number as failed.
-    fn fail_ask(
-        &mut self,
-        number: u64,
-    ) -> Result<TypedAction<A>, Starved>
+    fn fail_ask(&mut self, number: u64) -> Result<TypedAction<A>, Starved>
         requires sound { IsSound (state_of self.old) }
         requires there { (q : Open) × IsTheOne self.old.queries number q }
         ensures ok { IfOk result (λ a. Tells (state_of self.old) number jobs.TcpFailed (alone a) (state_of self.new)) }
@@ -113,11 +110,7 @@ impl<A: Heap> ResolverState<A> {
     }
 
     // Treats a reply over TCP. Only one to an open ask is read.
-    pub fn tcp_reply(
-        &mut self,
-        ask: u64,
-        bytes: &[u8],
-    ) -> Result<Option<TypedAction<A>>, Starved>
+    pub fn tcp_reply(&mut self, ask: u64, bytes: &[u8]) -> Result<Option<TypedAction<A>>, Starved>
         requires sound { IsSound (state_of self.old) }
         ensures ok { (now : ℕ) → IfOk result (λ a. Turns (state_of self.old) (TcpReply now ask bytes.now) (Some (if_any a)) (state_of self.new)) }
         ensures err { (now : ℕ) → OnErr result (Turns (state_of self.old) (TcpReply now ask bytes.now) None (state_of self.new)) }
@@ -140,10 +133,7 @@ impl<A: Heap> ResolverState<A> {
     }
 
     // Treats the failure of the ask over TCP of this number.
-    pub fn tcp_failed(
-        &mut self,
-        ask: u64,
-    ) -> Result<Option<TypedAction<A>>, Starved>
+    pub fn tcp_failed(&mut self, ask: u64) -> Result<Option<TypedAction<A>>, Starved>
         requires sound { IsSound (state_of self.old) }
         ensures ok { (now : ℕ) → IfOk result (λ a. Turns (state_of self.old) (TcpFailed now ask) (Some (if_any a)) (state_of self.new)) }
         ensures err { (now : ℕ) → OnErr result (Turns (state_of self.old) (TcpFailed now ask) None (state_of self.new)) }

@@ -13,8 +13,8 @@ ghost use Rattle.engine.specs.Turns.{Turns, IsQuiet};
 
 use crate::state::ResolverState;
 use causes::Cause;
-use dname::{Heap, Starved};
 use iterate::Input;
+use memory::{Heap, Starved};
 use typed::{TypedAction, TypedActions};
 
 impl<A: Heap> ResolverState<A> {

@@ -8,8 +8,8 @@ ghost use Rattle.engine.specs.Moves.{IsLike, DropsAsking, IsUndone};
 ghost use Rattle.engine.specs.Finds.{Finds};
 
 use crate::state::ResolverState;
-use dname::Heap;
 use events::{Ask, Path, ask_is_message, id_is_in_message};
+use memory::Heap;
 use typed::TypedAction;
 
 // The ID of an ask is in the first bytes of its encoding.

@@ -1,6 +1,6 @@
 //! Asks that went out, and the events that answer them.
-use dname::{Heap, Starved};
 use events::{Action, Bytes, Endpoint, Event, Path};
+use memory::{Heap, Starved};
 use rdata::Addr;
 use std::alloc::Allocator;
 use wire::TCP_LIMIT;

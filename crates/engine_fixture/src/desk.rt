@@ -1,9 +1,9 @@
 //! A resolver, its last ask, and what went out last.
 use crate::ask::{Ask, PORT, bounded};
 use crate::out::Out;
-use dname::{Heap, Starved};
 use engine::{Config, Core, Settings};
 use events::{Action, Actions, Event, Path};
+use memory::{Heap, Starved};
 use rdata::Addr;
 use wire::Via;
 

@@ -1,7 +1,7 @@
 //! Bytes of messages, put together, cut short or changed.
-use dname::{Heap, Starved};
 use engine_fixture::{Desk, Out, bounded, under};
 use events::{Bytes, Event};
+use memory::{Heap, Starved};
 
 // What becomes of a message on its way.
 #[derive(Clone, Copy)]

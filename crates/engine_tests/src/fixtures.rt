@@ -1,8 +1,8 @@
 //! A resolver with one server of the root, and messages about www.example, for tests.
 use crate::bytes::joined;
-use dname::{Heap, Starved};
 use engine_fixture::{Ask, Desk, Out, bounded};
 use events::{Bytes, Event};
+use memory::{Heap, Starved};
 use rdata::Addr;
 use refusing_alloc::Refusing;
 

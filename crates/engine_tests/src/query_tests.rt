@@ -1,9 +1,9 @@
 //! Each change of one byte of a client's query.
 use crate::bytes::{Change, changed};
 use crate::fixtures::{QUERY, desk, end};
-use dname::{Heap, Starved};
 use engine_fixture::{Desk, Out};
 use events::Event;
+use memory::{Heap, Starved};
 use std::test::Fail;
 
 const WHOLE: usize = QUERY.len();

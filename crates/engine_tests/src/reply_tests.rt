@@ -2,8 +2,8 @@
 use crate::bytes::{Change, Places, changed, joined, told};
 use crate::fixtures::{QUERY, end};
 use crate::talks::{Talk, goes_on, renew, waiting};
-use dname::{Heap, Starved};
 use engine_fixture::{Desk, Out};
+use memory::{Heap, Starved};
 use rdata::Addr;
 use std::test::Fail;
 

@@ -1,8 +1,8 @@
 //! Two clients wait, another one was answered, and an event for one of the two wants memory: what it leaves.
 use crate::fixtures::end;
-use dname::{Heap, Starved};
 use engine_fixture::{Ask, Desk, Out, under};
 use events::{Event, Path};
+use memory::{Heap, Starved};
 use rdata::Addr;
 use refusing_alloc::Refusing;
 use std::test::Fail;

@@ -1,8 +1,8 @@
 //! Talks with servers up to a last reply, and a resolver that waits for it.
 use crate::bytes::{Change, told};
 use crate::fixtures::end;
-use dname::{Heap, Starved};
 use engine_fixture::{Desk, Out};
+use memory::{Heap, Starved};
 use rdata::Addr;
 use std::mem;
 

@@ -11,7 +11,7 @@ ghost use Rattle.events.specs.Hearing.{ComesFor, OpensReply};
 use crate::ask::Ask;
 use crate::event::Event;
 use crate::path::{Endpoint, Path};
-use dname::Heap;
+use memory::Heap;
 use rdata::INTERNET;
 use std::alloc::Allocator;
 use wire::View;

@@ -5,10 +5,10 @@ ghost use Rattle.events.specs.declared.action.Action.TheVariants.{Reply};
 use crate::bytes::Bytes;
 use crate::path::Endpoint;
 use causes::Cause;
-use dname::{Heap, Starved};
-use front::Via;
+use memory::{Heap, Starved};
 use std::alloc::{Allocator, Global};
 use std::marker::Model;
+use wire::Via;
 
 /// An action: a reply or an ask that goes out.
 #[derive(Drop)]

@@ -4,7 +4,8 @@ ghost use Rattle.rdata.specs.Types.{type_number};
 ghost use Rattle.events.specs.Paths.{path_view};
 
 use crate::path::Path;
-use dname::{Heap, Name};
+use dname::Name;
+use memory::Heap;
 use rdata::{Addr, RType};
 use std::alloc::{AllocError, Allocator, Global};
 use std::marker::Model;

@@ -1,7 +1,7 @@
 //! Bytes of messages.
 ghost use Rattle.std.specs.Prelude.{◌≡◌, ◌≤◌, ◌↔◌, IfOk, IsTrue, length};
 
-use dname::{Heap, Starved};
+use memory::{Heap, Starved};
 use std::alloc::{Allocator, Global};
 use std::marker::Model;
 use wire::TCP_LIMIT;

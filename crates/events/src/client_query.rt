@@ -1,10 +1,11 @@
 //! A query with its client.
 ghost use Rattle.std.specs.Prelude.{◌≡◌, ◌↔◌, IsTrue};
 
-use dname::Heap;
-use front::{Query, Via};
+use front::Query;
+use memory::Heap;
 use std::alloc::{AllocError, Allocator, Global};
 use std::marker::Model;
+use wire::Via;
 
 /// A client by its number, the way by which it asks and is answered, and its query.
 #[derive(Drop)]

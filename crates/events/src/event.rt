@@ -6,10 +6,10 @@ ghost use Rattle.events.specs.declared.event.Event.TheVariants.{Client, Datagram
 
 use crate::bytes::Bytes;
 use crate::path::Endpoint;
-use dname::{Heap, Starved};
-use front::Via;
 use limits::LATEST_MOMENT;
+use memory::{Heap, Starved};
 use std::alloc::{Allocator, Global};
+use wire::Via;
 
 /// An event, with the moment at which it came, in milliseconds.
 #[derive(Drop)]

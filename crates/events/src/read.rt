@@ -3,8 +3,8 @@ ghost use Rattle.std.specs.Prelude.{◌≤◌, ◌<◌, IfOk, IsOk, length, slic
 ghost use Rattle.front.specs.Queries.{IsRequest};
 ghost use Rattle.events.specs.Plain.{plain_asked};
 
-use dname::{Heap, Starved};
 use front::{Request, read_query};
+use memory::{Heap, Starved};
 
 /// The meaning of a client's bytes, as a value without an allocator. Under 12 bytes and a reply take no memory.
 // For the proof: it says of `read_query` what the steps of a run speak of, which know no allocator.

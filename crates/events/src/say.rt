@@ -13,11 +13,11 @@ use crate::ask::Ask;
 use crate::bytes::Bytes;
 use crate::client_query::ClientQuery;
 use crate::path::{Endpoint, Path};
-use dname::{Heap, Starved};
-use front::{Echo, Outcome, Refusal, Start, Via, refusal_bytes, reply_bytes};
+use front::{Outcome, Refusal, Start, refusal_bytes, reply_bytes};
+use memory::{Heap, Starved};
 use rdata::{INTERNET, Records};
 use std::alloc::Allocator;
-use wire::{Header, Message, Question, Questions, UDP_LIMIT, WireError, Writer, encode};
+use wire::{Echo, Header, Message, Question, Questions, UDP_LIMIT, Via, WireError, Writer, encode};
 
 /// An iterative query as it goes out on its path, to the server's `port`: one question in class IN, RD clear, at most 512
 /// bytes (RFC 1035, sections 2.3.4 and 4.1.2).

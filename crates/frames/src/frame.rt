@@ -6,8 +6,9 @@ ghost use Rattle.frames.specs.Frames.{opened, is_skipped, next_place, next_name,
 
 use crate::failed::Failed;
 use crate::taken::{first_names, fresh_addresses, taken_addresses, unknown_names};
-use dname::{Heap, Name, Starved};
+use dname::Name;
 use limits::MAX_NESTING;
+use memory::{Heap, Starved};
 use rdata::Addr;
 use referral::{Cut, Names};
 use retry::{Penalties, Plan};

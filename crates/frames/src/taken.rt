@@ -7,8 +7,9 @@ ghost use Rattle.referral.specs.Cuts.{ServerAddress as ServerAddressSpec};
 ghost use Rattle.frames.specs.Frames.{has_address, each_once, most_taken};
 ghost use Rattle.frames.specs.Seen.{AreSeen};
 
-use dname::{Heap, Name, Starved};
+use dname::Name;
 use limits::MAX_SERVERS;
+use memory::{Heap, Starved};
 use rdata::Addr;
 use referral::{Names, ServerAddress};
 use std::alloc::Allocator;

@@ -6,7 +6,8 @@ ghost use Rattle.std.specs.Option.{option_copied};
 ghost use Rattle.frames.specs.Trimmed.{alone, entry_at, entry_of, trimmed};
 
 use crate::taken::{first_names, has_address, taken_addresses};
-use dname::{Heap, Name, Starved};
+use dname::Name;
+use memory::{Heap, Starved};
 use rdata::Addr;
 use referral::{Addresses, Cut, Names, ServerAddress};
 use std::alloc::Allocator;

@@ -2,7 +2,7 @@
 ghost use Rattle.std.specs.Prelude.{◌≡◌};
 
 use crate::queries::{End, Outcome, Query, Request};
-use dname::Heap;
+use memory::Heap;
 use std::alloc::AllocError;
 
 impl<A: Heap> Clone for Query<A> {

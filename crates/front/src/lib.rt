@@ -37,4 +37,3 @@ pub use queries::{End, Outcome, Query, Refusal, Request};
 pub use read::read_query;
 pub use reply::{refusal_bytes, refusal_is_message, reply_bytes, reply_is_message};
 pub use start::Start;
-pub use wire::{Draft, Echo, Via, Writer};

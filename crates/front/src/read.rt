@@ -5,7 +5,8 @@ ghost use Rattle.front.specs.Queries.{IsRequest, by_question};
 
 use crate::queries::{Query, Refusal, Request};
 use crate::start::Start;
-use dname::{Heap, Name, Starved};
+use dname::Name;
+use memory::{Heap, Starved};
 use rdata::{INTERNET, RType};
 use wire::{Echo, WireError, decode_question};
 

@@ -10,7 +10,7 @@ ghost use Rattle.wire.specs.Limits.{limit_of};
 use crate::queries::{Outcome, Query, Refusal};
 use crate::start::Start;
 use causes::Cause;
-use dname::{Heap, Starved};
+use memory::{Heap, Starved};
 use std::alloc::Allocator;
 use wire::{Draft, Echo, Header, TCP_LIMIT, UDP_LIMIT, Via, Writer, rcode};
 

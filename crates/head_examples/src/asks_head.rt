@@ -1,6 +1,6 @@
 //! The example in the head of `asks`.
 use asks::{AskIndex, AskKey};
-use dname::Heap;
+use memory::Heap;
 use rdata::Addr;
 use std::process::Abort;
 use std::test::Fail;

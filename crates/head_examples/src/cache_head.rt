@@ -1,6 +1,7 @@
 //! The example in the head of `cache`.
 use cache::Cache;
-use dname::{Heap, Name};
+use dname::Name;
+use memory::Heap;
 use rdata::RType;
 use std::hash::BuildHasher;
 use std::num::NonZeroUsize;

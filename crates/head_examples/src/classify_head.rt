@@ -1,6 +1,7 @@
 //! The example in the head of `classify`.
 use classify::{Class, classify, lifetime, received};
-use dname::{Heap, Name};
+use dname::Name;
+use memory::Heap;
 use rdata::RType;
 use std::test::Fail;
 use wire::{Via, View};

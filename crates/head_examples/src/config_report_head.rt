@@ -1,7 +1,7 @@
 //! The example in the head of `config_report`.
 use config::read_config;
 use config_report::line_report;
-use dname::{Heap, Starved};
+use memory::{Heap, Starved};
 use std::test::Fail;
 
 fn example<A: Heap>(alloc: A, text: &str) -> Result<(), Starved> {

@@ -1,5 +1,6 @@
 //! The example in the head of `dname`.
-use dname::{Heap, Name};
+use dname::Name;
+use memory::Heap;
 use std::process::Abort;
 use std::test::Fail;
 

@@ -1,7 +1,7 @@
 //! The example in the head of `engine`.
-use dname::Heap;
 use engine::{Config, Core, Settings};
 use events::{Action, Bytes, Event};
+use memory::Heap;
 use rdata::Addr;
 use std::test::Fail;
 use wire::Via;

@@ -1,6 +1,7 @@
 //! The example in the head of `events`.
-use dname::{Heap, Name};
+use dname::Name;
 use events::{Ask, Bytes, Endpoint, Event, Path, accepted_reply, send};
+use memory::Heap;
 use rdata::{Addr, RType};
 use std::test::Fail;
 

@@ -1,6 +1,6 @@
 //! The example in the head of `frames`.
-use dname::Heap;
 use frames::{Failed, Frame};
+use memory::Heap;
 use rdata::Addr;
 use referral::Cut;
 use retry::Penalties;

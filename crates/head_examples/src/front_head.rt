@@ -1,7 +1,7 @@
 //! The example in the head of `front`.
 use authority::Catalog;
-use dname::Heap;
 use front::{Request, answer_local, read_query, reply_bytes};
+use memory::Heap;
 use std::test::Fail;
 use wire::{Via, Writer};
 

@@ -1,6 +1,7 @@
 //! The example in the head of `lookup`.
-use dname::{Heap, Name};
+use dname::Name;
 use lookup::{Found, Home, Stores, find};
+use memory::Heap;
 use rdata::RType;
 use std::hash::BuildHasher;
 use std::test::Fail;

@@ -1,6 +1,7 @@
 //! The example in the head of `masterfile`.
-use dname::{Heap, Name};
+use dname::Name;
 use masterfile::{print, read};
+use memory::Heap;
 use std::process::Abort;
 use std::test::Fail;
 

@@ -1,5 +1,5 @@
 //! The example in the head of `play`.
-use dname::Heap;
+use memory::Heap;
 use play::play;
 use script::read_script;
 use std::test::Fail;

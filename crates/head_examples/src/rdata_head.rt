@@ -1,5 +1,6 @@
 //! The example in the head of `rdata`.
-use dname::{Heap, Name};
+use dname::Name;
+use memory::Heap;
 use rdata::{Addr, RData, RType, Record, Records, set_at};
 use std::process::Abort;
 use std::test::Fail;

@@ -1,5 +1,5 @@
 //! The example in the head of `record_fixtures`.
-use dname::Heap;
+use memory::Heap;
 use record_fixtures::{Value, name, records};
 use std::test::Fail;
 use zone::Zone;

@@ -1,5 +1,6 @@
 //! The example in the head of `referral`.
-use dname::{Heap, Name};
+use dname::Name;
+use memory::Heap;
 use rdata::Records;
 use referral::{Cut, Delegations};
 use std::hash::BuildHasher;

@@ -1,5 +1,5 @@
 //! The example in the head of `reply_lines`.
-use dname::Heap;
+use memory::Heap;
 use reply_lines::put_reply_bytes;
 use std::test::Fail;
 

@@ -1,5 +1,5 @@
 //! The example in the head of `retry`.
-use dname::Heap;
+use memory::Heap;
 use rdata::Addr;
 use retry::{Penalties, Plan};
 use std::hash::BuildHasher;

@@ -1,5 +1,5 @@
 //! The example in the head of `score`.
-use dname::Heap;
+use memory::Heap;
 use score::Sends;
 use std::process::Abort;
 use std::test::Fail;

@@ -1,5 +1,5 @@
 //! The example in the head of `script`.
-use dname::Heap;
+use memory::Heap;
 use script::{Order, read_script};
 use std::process::Abort;
 use std::test::Fail;

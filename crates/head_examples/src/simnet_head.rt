@@ -1,7 +1,8 @@
 //! The example in the head of `simnet`.
-use dname::Heap;
+use engine::Settings;
 use events::Bytes;
-use simnet::{Settings, Sim, SimEvent};
+use memory::Heap;
+use simnet::{Sim, SimEvent};
 use std::test::Fail;
 use wire::Via;
 use worlds::World;

@@ -1,5 +1,5 @@
 //! The example in the head of `sockets`.
-use dname::Heap;
+use memory::Heap;
 use sockets::{read_framed, write_framed};
 use std::io::{Read, Write};
 use std::test::Fail;

@@ -1,5 +1,5 @@
 //! The example in the head of `wire`.
-use dname::Heap;
+use memory::Heap;
 use std::test::Fail;
 use wire::{UDP_LIMIT, decode, encode};
 

@@ -1,5 +1,5 @@
 //! The example in the head of `world_text`.
-use dname::Heap;
+use memory::Heap;
 use std::process::Abort;
 use std::test::Fail;
 use world_text::world_in;

@@ -1,5 +1,6 @@
 //! The example in the head of `worlds`.
-use dname::{Heap, Name};
+use dname::Name;
+use memory::Heap;
 use rdata::{Addr, RType};
 use std::test::Fail;
 use worlds::{Host, World, host_reply, judge};

@@ -1,5 +1,6 @@
 //! The example in the head of `zone`.
-use dname::{Heap, Name};
+use dname::Name;
+use memory::Heap;
 use rdata::Records;
 use std::test::Fail;
 use zone::Zone;

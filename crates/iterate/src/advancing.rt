@@ -16,8 +16,8 @@ use crate::job::Job;
 use crate::moves::make_move;
 use crate::task::{Move, Task};
 use classify::Reading;
-use dname::{Heap, Starved};
 use lookup::{Home, Stores};
+use memory::{Heap, Starved};
 use rdata::Addr;
 use std::hash::BuildHasher;
 

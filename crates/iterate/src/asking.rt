@@ -11,7 +11,8 @@ use crate::job::Job;
 use crate::search::Search;
 use crate::task::Move;
 use causes::Cause;
-use dname::{Heap, Name, Starved};
+use dname::Name;
+use memory::{Heap, Starved};
 use rdata::Addr;
 use std::alloc::AllocError;
 

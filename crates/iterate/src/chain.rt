@@ -4,8 +4,8 @@ ghost use Rattle.std.specs.Prelude.{◌≡◌, [], ◌∷◌, ◌++◌, length, 
 ghost use Rattle.resolution.specs.Jobs.{Taken as TakenSpec, AreFresh, IsDead};
 ghost use Rattle.iterate.specs.Moves.{IsTakenFrom};
 
-use dname::{Heap, Starved};
 use lookup::Taken;
+use memory::{Heap, Starved};
 use std::alloc::{Allocator, Global};
 use std::marker::Model;
 

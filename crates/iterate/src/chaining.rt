@@ -12,9 +12,10 @@ use crate::calls::Next;
 use crate::job::Job;
 use crate::task::{Move, Task};
 use causes::Cause;
-use dname::{Heap, Name, Starved};
+use dname::Name;
 use limits::MAX_ALIASES;
 use lookup::Taken;
+use memory::{Heap, Starved};
 
 // The name that an alias leads to; nothing where the link ends a chain.
 fn target<A: Heap>(link: &Taken<A>) -> Result<Option<Name<A>>, Starved>

@@ -16,8 +16,8 @@ use crate::job::Job;
 use crate::replies::use_reply;
 use crate::task::Task;
 use classify::Reading;
-use dname::{Heap, Starved};
 use lookup::Stores;
+use memory::{Heap, Starved};
 use rdata::Addr;
 use std::hash::BuildHasher;
 

@@ -11,10 +11,11 @@ ghost use Rattle.iterate.specs.Moves.{with_search, begun, followed, skipping, Is
 use crate::chain::Chain;
 use crate::search::{Search, Searches};
 use causes::Cause;
-use dname::{Heap, Name, Starved};
+use dname::Name;
 use frames::Failed;
 use limits::{LATEST_MOMENT, MAX_ASKS, MAX_LOOK_UPS, QUERY_LIFETIME_MS};
 use lookup::Taken;
+use memory::{Heap, Starved};
 use rdata::RType;
 use std::alloc::{Allocator, Global};
 use std::marker::Model;

@@ -6,9 +6,10 @@ ghost use Rattle.frames.specs.Frames.{next_name, after_add, fresh_addresses};
 ghost use Rattle.resolution.specs.Jobs.{level_of, search_at, with_frame, given, wait_in};
 ghost use Rattle.resolution.specs.Rules.{turned};
 
-use dname::{Heap, Name, Starved};
+use dname::Name;
 use frames::{Failed, Frame};
 use lookup::Stores;
+use memory::{Heap, Starved};
 use rdata::{Addr, RType};
 use std::alloc::{Allocator, Global};
 use std::hash::BuildHasher;

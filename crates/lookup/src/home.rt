@@ -6,7 +6,8 @@ ghost use Rattle.resolution.specs.Jobs.{root_cut};
 ghost use Rattle.lookup.specs.Views.{home_at};
 
 use authority::Catalog;
-use dname::{Heap, Name, Starved};
+use dname::Name;
+use memory::{Heap, Starved};
 use rdata::Addr;
 use referral::Cut;
 use std::alloc::{Allocator, Global};

@@ -5,8 +5,9 @@ ghost use Rattle.rdata.specs.Kept.{datum};
 ghost use Rattle.frames.specs.Frames.{most_taken};
 ghost use Rattle.resolution.specs.Jobs.{ipv4_of, bytes_of, IsCutOf, AreAddressesOf};
 
-use dname::{Heap, Name, Starved};
+use dname::Name;
 use limits::MAX_SERVERS;
+use memory::{Heap, Starved};
 use rdata::{Addr, RData, Record, RecordSet};
 use referral::Cut;
 

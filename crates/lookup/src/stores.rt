@@ -15,8 +15,9 @@ ghost use Rattle.lookup.specs.Views.{no_stores, sizes_of, with_link, with_cut, w
 use cache::{Cache, Failures, Hit};
 use classify::{lifetime, referral_lifetime};
 use counters::StoreSizes;
-use dname::{Heap, Name, Starved};
+use dname::Name;
 use frames::{Frame, trimmed};
+use memory::{Heap, Starved};
 use rdata::{Addr, RType};
 use referral::{Cut, Delegations};
 use retry::Penalties;

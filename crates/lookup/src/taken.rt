@@ -11,8 +11,9 @@ ghost use Rattle.lookup.specs.Views.{owner_in, source_view, is_at_hand, IsBounde
 
 use cache::{Hit, retimed};
 use classify::lifetime;
-use dname::{Heap, Name, Starved};
+use dname::Name;
 use front::alias_target;
+use memory::{Heap, Starved};
 use rdata::{is_young, seconds_left};
 use std::alloc::{AllocError, Allocator, Global};
 use std::marker::Model;

@@ -91,12 +91,12 @@ impl<T: Drop> From<AllocFailed<T>> for FileKind {
     }
 }
 
-impl From<dname::Starved> for FileKind {
+impl From<memory::Starved> for FileKind {
     ghost use Rattle.masterfile.specs.declared.faults.FileKind.TheVariants.{Memory};
 
     ghost from_gives = { λ _ e. e ≡ Memory };
 
-    fn from(_error: dname::Starved) -> FileKind {
+    fn from(_error: memory::Starved) -> FileKind {
         FileKind::Memory
     }
 }

@@ -11,8 +11,9 @@ use crate::addresses::{ipv4, ipv6};
 use crate::faults::FileKind;
 use crate::numbers::number;
 use crate::strings::string;
-use dname::{Heap, Name, NameError};
+use dname::{Name, NameError};
 use master_lexer::{Word, Words};
+use memory::Heap;
 use rdata::{Addr, CharacterString, RData, RType, Soa, Srv, Texts};
 
 /// The next word, where it has no quotes.

@@ -5,8 +5,9 @@ ghost use Rattle.masterfile.specs.MasterText.{IsMasterText};
 
 use crate::entries::Context;
 use crate::faults::{FileError, FileKind};
-use dname::{Heap, Name, Starved};
+use dname::Name;
 use master_lexer::{Lead, Words};
+use memory::{Heap, Starved};
 use rdata::{Record, Records};
 
 /// The records of a zone text, in order (RFC 1035, section 5.1; `$TTL`: RFC 2308, section 4). A name that no dot ends is

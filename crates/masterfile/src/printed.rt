@@ -5,7 +5,8 @@ ghost use Rattle.masterfile.specs.Printed.{line_text, file_text};
 ghost use Rattle.masterfile.specs.ReadBack.{FitMessages, IsReadAs};
 
 use crate::sound::record_is_sound;
-use dname::{Heap, Name, Starved, put_name};
+use dname::{Name, put_name};
+use memory::{Heap, Starved};
 use rdata::Record;
 use std::alloc::Allocator;
 

@@ -5,7 +5,8 @@ ghost use Rattle.masterfile.specs.Strings.{unescaped, byte_onto, string_of};
 ghost use Rattle.masterfile.specs.Faults.{FaultIn};
 
 use crate::faults::FileKind;
-use dname::{Heap, escape};
+use dname::escape;
+use memory::Heap;
 use rdata::CharacterString;
 
 /// The first byte that a text writes, and the text behind it; `None` at its end.

@@ -1,5 +1,5 @@
 use asks::{AskIndex, AskKey};
-use dname::{Heap, Starved};
+use memory::{Heap, Starved};
 use record_fixtures::address;
 use refusing_alloc::Refusing;
 use std::test::Fail;

@@ -3,7 +3,7 @@ mod dedup_tests;
 mod growth_tests;
 mod long_tests;
 
-use dname::{Heap, Starved};
+use memory::{Heap, Starved};
 use rdata::{Addr, RData, RType, Record, RecordSet, Records, set_at};
 use record_fixtures::name;
 

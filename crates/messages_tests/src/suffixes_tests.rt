@@ -1,4 +1,5 @@
-use dname::{Heap, Name, NameError};
+use dname::{Name, NameError};
+use memory::Heap;
 use refusing_alloc::Refusing;
 use std::test::Fail;
 use suffixes::Suffixes;

@@ -7,7 +7,7 @@ ghost use Rattle.slab.specs.Slab.{HasRoomFor};
 ghost use Rattle.open_queries.specs.Indexes.{is_number};
 
 use crate::open::Open;
-use dname::{Heap, Starved};
+use memory::{Heap, Starved};
 use slab::Slab;
 use std::alloc::Allocator;
 use std::collections::HashMap;

@@ -9,7 +9,7 @@ use crate::indexes::{
 };
 use crate::open::Open;
 use asks::AskIndex;
-use dname::{Heap, Starved};
+use memory::{Heap, Starved};
 use rdata::Addr;
 use slab::Slab;
 use std::alloc::{Allocator, Global};

@@ -10,16 +10,17 @@ ghost use Rattle.play.specs.Shown.{client_of};
 ghost use Rattle.play.specs.Played.{IsPlayed, IsReady, settings};
 
 use crate::show::Show;
-use dname::{Heap, Name, Starved};
+use dname::Name;
+use engine::Settings;
 use events::Bytes;
-use front::Via;
+use memory::{Heap, Starved};
 use network::network_law;
 use rdata::RType;
 use score::{Clients, Count, Sends, query_bytes};
 use script::Order;
-use simnet::{Settings, Sim, SimEvent};
+use simnet::{Sim, SimEvent};
 use std::alloc::Allocator;
-use wire::TCP_LIMIT;
+use wire::{TCP_LIMIT, Via};
 use worlds::World;
 
 /// What is printed of a script in a world: a line for each ask, the lines of each reply, a line for bytes of a client

@@ -7,12 +7,12 @@ ghost use Rattle.play.specs.Seen.{seen, with_text, Acts, ActsAll, Heeds, way_act
 ghost use Rattle.play.specs.Shown.{client_of, drop_line};
 
 use causes::Cause;
-use dname::{Heap, Starved};
-use front::Via;
+use memory::{Heap, Starved};
 use reply_lines::{Action, put_action};
 use score::{Clients, Count, Sends};
 use simnet::{Sim, SimAction, SimActions, SimEvent};
 use std::alloc::Allocator;
+use wire::Via;
 
 /// A network, and what was seen in it so far.
 #[derive(Drop)]

@@ -4,8 +4,8 @@ mod tests;
 
 use crate::shared::{capacity, hasher};
 use cache::Cache;
-use dname::{Heap, Starved};
 use lru::DefaultHasher;
+use memory::{Heap, Starved};
 use rdata::{RType, Record, RecordSet, Records, set_at};
 use record_fixtures::name;
 use zone::Link;

@@ -1,6 +1,7 @@
 use crate::worked::{Case, unsaid};
 use classify::{Class, Referral, classify};
-use dname::{Heap, Starved, put_name};
+use dname::put_name;
+use memory::{Heap, Starved};
 use rdata::{RType, Record, RecordSet, Records, put_data};
 use record_fixtures::{Row, Value, name, record, records};
 use std::test::Fail;

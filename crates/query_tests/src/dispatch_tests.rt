@@ -3,12 +3,12 @@ use dispatch::{
     Carrier, LOOPS, Reach, Role, client_of, hand_over, place_of, repeats, role_of, sender_of,
     silence_before_yielding, stream_client, stream_number,
 };
-use dname::Starved;
 use events::{Action, Bytes, Endpoint};
-use front::Via;
+use memory::Starved;
 use rdata::Addr;
 use std::alloc::Global;
 use std::test::Fail;
+use wire::Via;
 
 const SENDER: Endpoint = Endpoint {
     address: Addr([127, 0, 0, 2]),

@@ -1,15 +1,16 @@
 //! What is accepted as the reply to an ask, part by part, and what goes out.
 use causes::Cause;
-use dname::{Heap, Name, Starved};
+use dname::Name;
 use events::{
     Action, Actions, Ask, Bytes, ClientQuery, Endpoint, Event, Path, accepted_reply, read_asked,
     refuse, reply_to, send,
 };
-use front::{Outcome, Request, Via};
+use front::{Outcome, Request};
+use memory::{Heap, Starved};
 use rdata::{Addr, RType};
 use refusing_alloc::Refusing;
 use std::test::Fail;
-use wire::{TCP_LIMIT, Writer};
+use wire::{TCP_LIMIT, Via, Writer};
 
 const SERVER: Addr = Addr([192, 0, 2, 1]);
 

@@ -1,8 +1,8 @@
 use crate::shared::{capacity, hasher};
 use crate::worked::{Case, Stage, first_wrong_step, unsaid};
 use cache::Failures;
-use dname::{Heap, Starved};
 use lru::DefaultHasher;
+use memory::{Heap, Starved};
 use rdata::RType;
 use record_fixtures::{address, name};
 use std::test::Fail;

@@ -1,8 +1,8 @@
 use crate::shared::{capacity, cut_of, hasher};
 use crate::worked::{Case, unsaid};
-use dname::{Heap, Starved};
 use frames::{Failed, Frame, trimmed};
 use lru::DefaultHasher;
+use memory::{Heap, Starved};
 use rdata::Addr;
 use record_fixtures::{Row, Value, name};
 use referral::Cut;

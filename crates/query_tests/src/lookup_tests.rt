@@ -1,8 +1,9 @@
 use crate::shared::{home, stores};
 use crate::worked::{Case, Stage, first_wrong_step, unsaid};
-use dname::{Heap, Name, Starved};
+use dname::Name;
 use lookup::{Found, Home, Stores, cut_of, find};
 use lru::DefaultHasher;
+use memory::{Heap, Starved};
 use rdata::{Addr, RData, RType, RecordSet, Records};
 use record_fixtures::{Row, Value, name, record, records};
 use referral::Cut;

@@ -1,7 +1,7 @@
 use crate::shared::{capacity, cut_of, hasher};
 use crate::worked::{Case, Stage, first_wrong_step, unsaid};
-use dname::{Heap, Starved};
 use lru::DefaultHasher;
+use memory::{Heap, Starved};
 use record_fixtures::{Value, name};
 use referral::{Cut, Delegations, ServerAddress};
 use std::test::Fail;

@@ -1,7 +1,7 @@
 use crate::shared::{capacity, hasher};
 use crate::worked::{Case, Stage, first_wrong_step, unsaid};
-use dname::{Heap, Starved};
 use lru::DefaultHasher;
+use memory::{Heap, Starved};
 use rdata::Addr;
 use refusing_alloc::Refusing;
 use retry::{Penalties, Plan};

@@ -1,8 +1,8 @@
 //! What the tests of several crates are made of.
 use authority::Catalog;
-use dname::{Heap, Starved};
 use lookup::{Capacities, Hashers, Home, Stores};
 use lru::DefaultHasher;
+use memory::{Heap, Starved};
 use rdata::{Addr, Record};
 use record_fixtures::{Row, name, records};
 use referral::Cut;

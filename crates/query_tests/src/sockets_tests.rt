@@ -1,5 +1,5 @@
 //! Frames over readers and writers that end or fault at each byte.
-use dname::Heap;
+use memory::Heap;
 use refusing_alloc::Refusing;
 use sockets::{FrameError, framed, read_framed, write_framed};
 use std::alloc::Global;

@@ -1,15 +1,15 @@
 //! Copies of typed events and actions: each is the same as what it was copied of, and as no other.
 use causes::Cause;
-use dname::{Heap, Starved};
 use events::{Ask, Bytes, ClientQuery, Endpoint, Event, Path, read_asked};
-use front::{End, Outcome, Request, Via};
+use front::{End, Outcome, Request};
+use memory::{Heap, Starved};
 use rdata::{RType, Records, set_at};
 use record_fixtures::{Row, Value, address, name, records};
 use refusing_alloc::Refusing;
 use std::alloc::Allocator;
 use std::test::Fail;
 use typed::{TypedAction, TypedActions, TypedEvent, read_event, refuse, reply_to, send};
-use wire::TCP_LIMIT;
+use wire::{TCP_LIMIT, Via};
 
 // An event, by its moment and the bytes that came; the client, the socket or the ask is always the same.
 #[derive(Clone, Copy)]

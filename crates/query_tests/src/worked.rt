@@ -1,5 +1,5 @@
 //! Worked cases: what comes of each, also while growths are refused.
-use dname::{Heap, Starved};
+use memory::{Heap, Starved};
 use refusing_alloc::Refusing;
 use std::alloc::Allocator;
 

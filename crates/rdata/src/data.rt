@@ -9,7 +9,8 @@ use crate::rtype::RType;
 use crate::soa::Soa;
 use crate::srv::Srv;
 use crate::texts::Texts;
-use dname::{Heap, Name};
+use dname::Name;
+use memory::Heap;
 use std::alloc::{AllocError, Allocator, Global};
 
 /// RDATA of the served types (RFC 1035, section 3.3; AAAA: RFC 3596, section 2.2; SRV: RFC 2782).

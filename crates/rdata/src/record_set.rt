@@ -8,7 +8,8 @@ ghost use Rattle.rdata.specs.Sets.{lowest_ttl, with_ttl};
 use crate::data::RData;
 use crate::records::{Record, Records};
 use crate::shared::Values;
-use dname::{Heap, Name, Starved};
+use dname::Name;
+use memory::{Heap, Starved};
 use std::alloc::{AllocError, Allocator, Global};
 use std::marker::Model;
 

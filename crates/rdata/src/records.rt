@@ -8,7 +8,8 @@ ghost use Rattle.rdata.specs.Types.{type_number};
 
 use crate::data::RData;
 use crate::rtype::RType;
-use dname::{Heap, Name, Starved};
+use dname::Name;
+use memory::{Heap, Starved};
 use std::alloc::{AllocError, Allocator, Global};
 use std::marker::Model;
 

@@ -16,7 +16,8 @@ use crate::record_set::RecordSet;
 use crate::records::{GREATEST_TTL, Record, Records};
 use crate::rtype::RType;
 use crate::shared::Values;
-use dname::{Heap, Name, Starved};
+use dname::Name;
+use memory::{Heap, Starved};
 use std::alloc::Allocator;
 use std::collections::BTreeSet;
 

@@ -4,7 +4,7 @@ ghost use Rattle.rdata.specs.Kept.{datum};
 ghost use Rattle.rdata.specs.Shared.{values_of};
 
 use crate::data::RData;
-use dname::{Heap, Starved};
+use memory::{Heap, Starved};
 use std::alloc::{AllocError, Allocator, Global};
 use std::marker::Model;
 use std::sync::Arc;

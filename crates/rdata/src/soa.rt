@@ -1,5 +1,6 @@
 //! The data of an SOA record.
-use dname::{Heap, Name};
+use dname::Name;
+use memory::Heap;
 use std::alloc::{AllocError, Allocator, Global};
 use std::marker::Model;
 

@@ -10,7 +10,8 @@ use crate::records::Record;
 use crate::soa::Soa;
 use crate::srv::Srv;
 use crate::texts::{CharacterString, Texts, next_string};
-use dname::{Heap, Starved, write_number};
+use dname::write_number;
+use memory::{Heap, Starved};
 use std::alloc::Allocator;
 use std::fmt;
 

@@ -5,7 +5,7 @@ ghost use Rattle.std.specs.Cmp.Lexicographic.{pointwise, nat_list_eq_equiv};
 ghost use Rattle.dname.specs.Labels.{wire};
 ghost use Rattle.rdata.specs.Strings.{strings_of, IsStringsWire, IsTextsWire, IsCut};
 
-use dname::{Heap, Starved};
+use memory::{Heap, Starved};
 use std::alloc::{AllocError, Allocator, Global};
 use std::marker::Model;
 

@@ -15,7 +15,8 @@
 //! ```
 #![tactic(auto)]
 
-use dname::{Heap, Name, Starved};
+use dname::Name;
+use memory::{Heap, Starved};
 use rdata::{Addr, CharacterString, GREATEST_TTL, RData, Record, Records, Soa, Srv, Texts};
 
 const DOCUMENTED: [u8; 16] = [0x20, 1, 0xd, 0xb8, 0, 0, 0, 0, 0, 0, 0, 0, 0, 0, 0, 1];

@@ -3,7 +3,8 @@ ghost use Rattle.std.specs.Prelude.{◌≡◌, List, ℕ};
 ghost use Rattle.referral.specs.Cuts.{is_live, as_kept, known_of};
 
 use crate::lists::{Addresses, Names};
-use dname::{Heap, Name};
+use dname::Name;
+use memory::Heap;
 use rdata::is_young;
 use std::alloc::{AllocError, Allocator, Global};
 use std::marker::Model;

@@ -7,9 +7,10 @@ ghost use Rattle.lru_laws.specs.Orders.{KeepsOnly, LosesOnly, HasSame};
 ghost use Rattle.referral.specs.Cuts.{as_kept, known_of, AreNamed, live_at, under, nearest, cut_of, after_best, after_keep, IsBest, IsKept, IsGone};
 
 use crate::cut::{Cut, Servers};
-use dname::{Heap, Name, Starved};
+use dname::Name;
 use lru::LruCache;
 use lru_laws::keep_for;
+use memory::{Heap, Starved};
 use std::alloc::{Allocator, Global};
 use std::hash::BuildHasher;
 use std::marker::Model;

@@ -1,7 +1,8 @@
 //! Lists of names and of addresses of servers.
 ghost use Rattle.std.specs.Prelude.{◌≡◌, [], ◌∷◌, ◌++◌, IfOk, OnOk, OnErr};
 
-use dname::{Heap, Name, Starved};
+use dname::Name;
+use memory::{Heap, Starved};
 use rdata::Addr;
 use std::alloc::{AllocError, Allocator, Global};
 use std::marker::Model;

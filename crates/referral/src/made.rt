@@ -5,7 +5,8 @@ ghost use Rattle.referral.specs.Made.{addresses_in, with_target, with_address, r
 
 use crate::cut::Cut;
 use crate::lists::{Addresses, Names, ServerAddress};
-use dname::{Heap, Name, Starved};
+use dname::Name;
+use memory::{Heap, Starved};
 use rdata::{Addr, RData, Record};
 
 // Adds the target of the record, if it is of type NS.

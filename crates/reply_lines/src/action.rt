@@ -5,7 +5,7 @@ ghost use Rattle.reply_lines.specs.Actions.{IsPrinted, drop_line};
 use crate::ask::put_ask_bytes;
 use crate::reply::put_reply_bytes;
 use causes::Cause;
-use dname::{Heap, Starved};
+use memory::{Heap, Starved};
 use rdata::Addr;
 use wire::Via;
 

@@ -3,7 +3,8 @@ ghost use Rattle.std.specs.Prelude.{◌≡◌, ◌⊎◌, ◌++◌, OnOk, OnErr,
 ghost use Rattle.reply_lines.specs.Lines.{AreNone};
 ghost use Rattle.reply_lines.specs.Asks.{IsAskPrinted, ask_text, asked_text, kind_text, question_text, way_word};
 
-use dname::{Heap, Starved, put_name};
+use dname::put_name;
+use memory::{Heap, Starved};
 use rdata::{Addr, RType, put_ipv4};
 use std::alloc::Allocator;
 use wire::{Message, Question, Via, WireError, decode};

@@ -4,7 +4,8 @@ ghost use Rattle.std.specs.List.{flat_map};
 ghost use Rattle.reply_lines.specs.Lines.{AreNone, ArePrinted, cause_words, flag_word, head_line, rcode_word, record_line, reply_text};
 
 use causes::Cause;
-use dname::{Heap, Starved, put_name};
+use dname::put_name;
+use memory::{Heap, Starved};
 use rdata::{Record, put_data};
 use std::alloc::Allocator;
 use wire::{Header, Message, WireError, decode};

@@ -6,8 +6,8 @@ ghost use Rattle.lru.specs.LruCache.{lru_cache, IsValid};
 ghost use Rattle.lru_laws.specs.Orders.{KeepsOnly, LosesOnly, MayGo};
 ghost use Rattle.retry.specs.Penalties.{same_addr, penalty, raised, timed_out, answered, AreAtMost};
 
-use dname::{Heap, Starved};
 use lru::LruCache;
+use memory::{Heap, Starved};
 use rdata::Addr;
 use std::alloc::{Allocator, Global};
 use std::hash::BuildHasher;

@@ -4,7 +4,7 @@ ghost use Rattle.retry.specs.Penalties.{penalty};
 ghost use Rattle.retry.specs.Plans.{planned, IsByPenalty, upcoming, advanced, wait_of};
 
 use crate::penalties::Penalties;
-use dname::{Heap, Starved};
+use memory::{Heap, Starved};
 use rdata::Addr;
 use std::alloc::{Allocator, Global};
 use std::hash::BuildHasher;

@@ -4,9 +4,9 @@ ghost use Rattle.events.specs.Plain.{plain};
 ghost use Rattle.runs.specs.States.{recursive};
 ghost use Rattle.score.specs.Clients.{AskRecursively, IsHeard, query_of};
 
-use dname::{Heap, Starved};
 use events::read_asked;
 use front::{Query, Request};
+use memory::{Heap, Starved};
 use std::alloc::Allocator;
 use std::marker::Model;
 

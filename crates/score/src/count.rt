@@ -3,8 +3,8 @@ ghost use Rattle.std.specs.Prelude.{◌≡◌, ◌+◌, ◌↔◌, IfOk, IsTrue,
 ghost use Rattle.events.specs.Plain.{plain};
 ghost use Rattle.score.specs.Counts.{IsFailure, IsCounted};
 
-use dname::{Heap, Starved};
 use front::Query;
+use memory::{Heap, Starved};
 use std::alloc::Allocator;
 use wire::rcode::SERV_FAIL;
 use wire::{Message, WireError, decode};

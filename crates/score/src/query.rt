@@ -4,8 +4,9 @@ ghost use Rattle.rdata.specs.Types.{type_number};
 ghost use Rattle.message_grammar.specs.Messages.{encoding};
 ghost use Rattle.score.specs.Clients.{query_for};
 
-use dname::{Heap, Name, Starved};
+use dname::Name;
 use events::Bytes;
+use memory::{Heap, Starved};
 use rdata::{INTERNET, RType, Records};
 use wire::{Header, Message, Question, Questions, UDP_LIMIT, encode};
 

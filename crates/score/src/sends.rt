@@ -2,10 +2,10 @@
 ghost use Rattle.std.specs.Prelude.{◌≡◌, ◌++◌, ◌∷◌, [], ◌<◌, ◌^◌, OnOk, IfSome, MatchOption, None, take};
 ghost use Rattle.score.specs.Sends.{IsLowest, NoneLeft, left_mark, lowest, place_of, taken_off, way_at};
 
-use dname::{Heap, Starved};
-use front::Via;
+use memory::{Heap, Starved};
 use std::alloc::Allocator;
 use std::marker::Model;
+use wire::Via;
 
 /// An ask that went out: by which way, and whether it is left, which it is until it is carried, truncated or lost.
 #[derive(Clone, Copy)]

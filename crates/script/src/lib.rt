@@ -21,4 +21,3 @@ mod script;
 
 pub use order::Order;
 pub use script::{read_asks, read_script};
-pub use text_lines::{LineError, LineKind};

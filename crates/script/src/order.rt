@@ -6,8 +6,9 @@ ghost use Rattle.script.specs.Orders.{order_seen, number_in, ask_in, raw_in, mar
 
 use crate::keyword::Keyword;
 use crate::mark::Mark;
-use dname::{Heap, Name};
+use dname::Name;
 use limits::LATEST_MOMENT;
+use memory::Heap;
 use rdata::RType;
 use std::alloc::{Allocator, Global};
 use text_lines::{LineKind, LineWords};

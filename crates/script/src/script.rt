@@ -11,7 +11,7 @@ ghost use Rattle.script.specs.Orders.{order_seen, asks_of, orders_of, said, scri
 
 use crate::keyword::{Keyword, Scope};
 use crate::order::{Order, order_of};
-use dname::Heap;
+use memory::Heap;
 use text_lines::{LineError, LineKind, LineWords, TextLines};
 
 /// The orders of a script. Refused by its first bad line, counted from 1: an unknown first or last word, a number out of

@@ -18,11 +18,11 @@ const REST_MS: u64 = 50;
 const WATCHDOG_MS: u64 = 1_000;
 
 /// Lets time pass until the flag is up: every 50 ms, and again at once while another query is due.
-pub(crate) fn pass_time<M: Machine<Event = TypedEvent, Out = TypedActions>, L: Ledger, R: Wait + Clock>(
-    rt: &R,
-    desk: &Desk<'_, M, L>,
-    worker: &mut Worker<L>,
-) {
+pub(crate) fn pass_time<
+    M: Machine<Event = TypedEvent, Out = TypedActions>,
+    L: Ledger,
+    R: Wait + Clock,
+>(rt: &R, desk: &Desk<'_, M, L>, worker: &mut Worker<L>) {
     let mut log = Log::new(desk.ends.shown.and_then(|shown| shown.log));
     let mut told = 0;
     log_start(desk);

@@ -14,11 +14,11 @@ use std::time::Clock;
 use typed::{TypedActions, TypedEvent};
 
 /// Takes the datagrams of clients until the flag is up.
-pub(crate) fn take_datagrams<M: Machine<Event = TypedEvent, Out = TypedActions>, L: Ledger, R: Wait + Clock>(
-    rt: &R,
-    desk: &Desk<'_, M, L>,
-    worker: &mut Worker<L>,
-) {
+pub(crate) fn take_datagrams<
+    M: Machine<Event = TypedEvent, Out = TypedActions>,
+    L: Ledger,
+    R: Wait + Clock,
+>(rt: &R, desk: &Desk<'_, M, L>, worker: &mut Worker<L>) {
     let mut buffer = [0u8; MOST_BYTES];
     for _ in rt.forever() {
         if desk.is_over() {

@@ -14,7 +14,6 @@ use counters::{Outcome, SocketFault};
 use crossbeam_channel::{Receiver, Sender};
 use dispatch::{Reach, client_of, hand_over, stream_reply_event};
 use events::{Action, Actions, Bytes, Endpoint, Event};
-use front::Via;
 use memory::Starved;
 use mio::{Events, Poll};
 use pool::{Shared, submit};
@@ -24,6 +23,7 @@ use std::sync::atomic::{AtomicBool, Ordering};
 use std::sync::ledger::Ledger;
 use std::time::Clock;
 use typed::{TypedActions, TypedEvent, read_event, write_actions};
+use wire::Via;
 
 // More asks than one query makes: a query that comes to nothing but refused asks ends before.
 const MAX_REFUSED_HANDOVERS: u32 = 64;

@@ -48,7 +48,6 @@ mod upstream;
 mod worker;
 
 pub use desk::Bounds;
-pub use dispatch::{LOOPS, Reach};
 pub use ends::Ends;
 pub use fault::ServeError;
 pub use log::{Shown, Verbosity};

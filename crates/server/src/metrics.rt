@@ -98,11 +98,11 @@ fn serve_one<
 }
 
 // The response to a request. None where no memory is left for it.
-fn response_to<M: Measured<Event = TypedEvent, Out = TypedActions, Sizes = StoreSizes>, L: Ledger, R: Wait>(
-    rt: &R,
-    desk: &Desk<'_, M, L>,
-    request: &[u8],
-) -> Option<String> {
+fn response_to<
+    M: Measured<Event = TypedEvent, Out = TypedActions, Sizes = StoreSizes>,
+    L: Ledger,
+    R: Wait,
+>(rt: &R, desk: &Desk<'_, M, L>, request: &[u8]) -> Option<String> {
     let tally = desk.ends.tally.as_ref()?;
     let (cells, waiting) = tally.values(rt);
     let mut response = String::new(desk.alloc);

@@ -8,7 +8,7 @@ ghost use Rattle.server.specs.Tallies.{counted_as};
 use counters::Way;
 use dispatch::stream_client;
 use events::{Action, Bytes, Event};
-use front::Via;
+use wire::Via;
 
 /// Who asks: a client's number, and the way by which its reply goes.
 #[derive(Clone, Copy, PartialEq, Eq)]

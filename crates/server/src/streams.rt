@@ -24,11 +24,11 @@ const RETRY_MS: u64 = 20;
 const REPLIES_IN_A_ROW: u32 = 1_024;
 
 /// Takes the streams of clients, and answers their frames, each as its reply comes, until the flag is up.
-pub(crate) fn take_streams<M: Machine<Event = TypedEvent, Out = TypedActions>, L: Ledger, R: Wait + Clock>(
-    rt: &R,
-    desk: &Desk<'_, M, L>,
-    worker: &mut Worker<L>,
-) {
+pub(crate) fn take_streams<
+    M: Machine<Event = TypedEvent, Out = TypedActions>,
+    L: Ledger,
+    R: Wait + Clock,
+>(rt: &R, desk: &Desk<'_, M, L>, worker: &mut Worker<L>) {
     let streams = &desk.ends.streams;
     let Ok(mut events) = Events::with_capacity(desk.alloc, EVENTS) else {
         return;

@@ -53,11 +53,11 @@ fn count_asks(ends: &Ends, counted: &mut Counted, silent: u64) {
 }
 
 /// Takes what repeats the asks that are open, each at its own socket, until the flag is up.
-pub(crate) fn take_answers<M: Machine<Event = TypedEvent, Out = TypedActions>, L: Ledger, R: Wait + Clock>(
-    rt: &R,
-    desk: &Desk<'_, M, L>,
-    worker: &mut Worker<L>,
-) {
+pub(crate) fn take_answers<
+    M: Machine<Event = TypedEvent, Out = TypedActions>,
+    L: Ledger,
+    R: Wait + Clock,
+>(rt: &R, desk: &Desk<'_, M, L>, worker: &mut Worker<L>) {
     let asks = &desk.ends.asks;
     let Ok(mut events) = Events::with_capacity(desk.alloc, EVENTS) else {
         return;

@@ -4,8 +4,8 @@ ghost use Rattle.engine.specs.Beginnings.{IsBegun};
 ghost use Rattle.server_start.specs.Resolvers.{IsDescribed, settings_in};
 
 use config::ServeConfig;
-use dname::Heap;
 use engine::{Config, Core, CoreError, Settings};
+use memory::Heap;
 use std::alloc::Allocator;
 use zone::Zone;
 

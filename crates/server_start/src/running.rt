@@ -3,9 +3,10 @@ ghost use Rattle.std.specs.Prelude.{◌≡◌};
 ghost use Rattle.engine.specs.Beginnings.{IsBegun};
 
 use book::Book;
+use dispatch::LOOPS;
 use engine::{Core, TypedCore};
 use pool::Shared;
-use server::{Bounds, Ends, LOOPS, ServeError, serve_until};
+use server::{Bounds, Ends, ServeError, serve_until};
 use std::alloc::Global;
 use std::marker::Brand;
 use std::net::{Net, TcpListener, TcpStream};

@@ -3,11 +3,11 @@ ghost use Rattle.std.specs.Prelude.{◌≡◌, ◌↔◌, [], IfOk, IsTrue};
 ghost use Rattle.simnet.specs.declared.action.SimAction.TheVariants.{Reply};
 
 use causes::Cause;
-use dname::{Heap, Starved};
 use events::Bytes;
-use front::Via;
+use memory::{Heap, Starved};
 use std::alloc::{Allocator, Global};
 use std::marker::Model;
+use wire::Via;
 
 /// What the resolver does. An ask stands in the network under its number; the first one has number 1.
 #[derive(Drop)]

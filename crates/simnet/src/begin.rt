@@ -3,8 +3,8 @@ ghost use Rattle.std.specs.Prelude.{MatchResult};
 ghost use Rattle.simnet.specs.Beginnings.{IsResolverOf, SimRefuses};
 
 use crate::fault::SimError;
-use dname::Heap;
 use engine::{Config, Core, Settings};
+use memory::Heap;
 use worlds::World;
 
 // A resolver that is set so, holds the world's local zones and begins at its hints.

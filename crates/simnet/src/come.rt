@@ -7,9 +7,9 @@ ghost use Rattle.network.specs.Networks.{truncated, IsGiven, IsTruncatedReply, I
 ghost use Rattle.simnet.specs.Replies.{AsksOne};
 
 use crate::sent::Sent;
-use dname::{Heap, Starved};
 use events::Bytes;
 use front::echo_is_question;
+use memory::{Heap, Starved};
 use rdata::Records;
 use std::alloc::Allocator;
 use wire::{Message, UDP_LIMIT, WireError, decode, encode};

@@ -2,10 +2,10 @@
 ghost use Rattle.std.specs.Prelude.{◌≡◌, ◌↔◌, IfOk, IsTrue};
 ghost use Rattle.simnet.specs.declared.event.SimEvent.TheVariants.{Client};
 
-use dname::{Heap, Starved};
 use events::Bytes;
-use front::Via;
+use memory::{Heap, Starved};
 use std::alloc::{Allocator, Global};
+use wire::Via;
 
 /// What happens, and its moment in milliseconds.
 #[derive(Drop)]

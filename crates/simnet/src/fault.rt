@@ -2,7 +2,7 @@
 ghost use Rattle.std.specs.Prelude.{◌≡◌, Some};
 ghost use Rattle.simnet.specs.Beginnings.{sim_fault_number, sim_fault_text};
 
-use dname::Starved;
+use memory::Starved;
 use std::alloc::AllocError;
 use std::fmt;
 

@@ -37,4 +37,3 @@ pub use reach::{lost, over_tcp, truncated_over_udp, whole_over_udp};
 pub use sent::Sent;
 pub use sim::Sim;
 // What a network is begun with: those that drive one need nothing else of the engine.
-pub use engine::Settings;

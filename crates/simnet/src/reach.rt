@@ -6,8 +6,8 @@ ghost use Rattle.network.specs.Networks.{IsTruncatedReply, IsFitReply, OverUdp, 
 
 use crate::come::{fit, given, truncated};
 use crate::sent::Sent;
-use dname::{Heap, Starved};
 use events::{Bytes, Event, Path};
+use memory::{Heap, Starved};
 use worlds::World;
 
 /// A reply over UDP as it comes: whole where it has at most 512 bytes, else truncated; nothing from a server that does

@@ -1,7 +1,7 @@
 //! Asks of servers from outside, and what comes of them.
 use crate::fixtures::{LONG, WWW, message_bytes, server, world};
-use dname::{Heap, Starved};
 use events::{Endpoint, Event, Path};
+use memory::{Heap, Starved};
 use simnet::{Sent, lost, over_tcp, truncated_over_udp, whole_over_udp};
 use std::test::Fail;
 use worlds::World;

@@ -5,7 +5,7 @@ use crate::steps::Steps;
 use crate::watched::Order::{Carry, Client, Lose, Tcp, Tick, Truncate};
 use crate::watched::Verdict::{Nobody, One, OneOfMore};
 use crate::watched::Watched;
-use dname::{Heap, Starved};
+use memory::{Heap, Starved};
 use rdata::RType;
 use std::test::Fail;
 

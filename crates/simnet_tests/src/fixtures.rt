@@ -1,7 +1,7 @@
 //! A network of three zones and their servers, and what is asked in it.
-use dname::{Heap, Starved};
 use engine::Settings;
 use events::Bytes;
+use memory::{Heap, Starved};
 use rdata::Addr;
 use simnet::Sim;
 use wire::TCP_LIMIT;

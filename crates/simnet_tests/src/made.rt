@@ -1,7 +1,7 @@
 //! Trees of zones, and numbers made from a seed.
 use crate::question::Question;
 use crate::watched::Watched;
-use dname::{Heap, Starved};
+use memory::{Heap, Starved};
 use rdata::RType;
 
 /// Numbers that follow from a seed, by a linear congruential generator.

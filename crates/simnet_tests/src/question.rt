@@ -1,6 +1,7 @@
 //! Questions, and for whom they are asked.
-use dname::{Heap, Name, Starved};
+use dname::Name;
 use events::Bytes;
+use memory::{Heap, Starved};
 use rdata::RType;
 use score::query_bytes;
 

@@ -1,6 +1,6 @@
 //! Queries that wait, each looked up by a walk through all of them.
-use dname::{Heap, Starved};
 use events::Path;
+use memory::{Heap, Starved};
 use rdata::Addr;
 
 // The longest that a query waits, in milliseconds.

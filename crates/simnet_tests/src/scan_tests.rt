@@ -4,7 +4,7 @@ use crate::steps::Steps;
 use crate::watched::Order::{Carry, Client, Lose, Tcp, Tick, Truncate};
 use crate::watched::Verdict::{Differ, Nobody, One, OneOfMore};
 use crate::watched::{Order, Verdict, Watched};
-use dname::{Heap, Starved};
+use memory::{Heap, Starved};
 use std::test::Fail;
 
 // Three asks and an answer, and one from the cache.

@@ -1,6 +1,6 @@
 //! Steps of scripts, each of which serves whom a walk through all waiting queries serves.
 use crate::watched::{Order, Verdict, Watched};
-use dname::{Heap, Starved};
+use memory::{Heap, Starved};
 
 /// A moment, what happens then, and on whom the resolver and the room agree.
 pub type Step = (u64, Order, Verdict);

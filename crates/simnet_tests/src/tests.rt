@@ -1,8 +1,8 @@
 //! A network of three zones and their servers, from outside.
 use crate::fixtures::{LONG, SETTINGS, WWW, end, message_bytes, network, world};
-use dname::{Heap, Starved};
 use engine::Settings;
 use events::Path;
+use memory::{Heap, Starved};
 use rdata::Addr;
 use refusing_alloc::Refusing;
 use simnet::{Sim, SimAction, SimActions, SimError, SimEvent};

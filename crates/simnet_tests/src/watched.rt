@@ -2,9 +2,10 @@
 use crate::fixtures::{end, network_of};
 use crate::question::{Question, ask_alike};
 use crate::room::{Ask, Room, Served};
-use dname::{Heap, Starved};
+use engine::Settings;
 use events::Bytes;
-use simnet::{Sent, Settings, Sim, SimAction, SimActions, SimEvent};
+use memory::{Heap, Starved};
+use simnet::{Sent, Sim, SimAction, SimActions, SimEvent};
 use wire::Via;
 
 const SETTINGS: Settings = Settings {

@@ -8,7 +8,7 @@ ghost use Rattle.storm.specs.Runs.{out_of};
 
 use crate::within::{Beginning, Within};
 use book::Entry;
-use dname::Starved;
+use memory::Starved;
 use score::{Clients, Count};
 use simnet::{SimAction, SimActions};
 use std::alloc::Global;

@@ -4,12 +4,13 @@ ghost use Rattle.script.specs.Orders.{order_seen};
 ghost use Rattle.storm.specs.Lists.{AsksQueries, AsksAll, AsksOne, HasOther, OneHasOther};
 
 use crate::query::StormQuery;
-use dname::{Name, Starved};
-use front::Via;
+use dname::Name;
+use memory::Starved;
 use rdata::RType;
 use score::{Clients, query_bytes};
 use script::Order;
 use std::alloc::Global;
+use wire::Via;
 
 /// What each of these scripts asks, all at moment 0 up to the first `at`. Their clients are numbered on over the
 /// scripts in their order. None where a script has other lines than `at` and `ask`.

@@ -1,7 +1,7 @@
 //! A query that a worker of a storm sends, and when.
 use events::Bytes;
-use front::Via;
 use std::alloc::{Allocator, Global};
+use wire::Via;
 
 /// Bytes that a client sends by its way, and their moment in milliseconds.
 #[derive(Drop)]

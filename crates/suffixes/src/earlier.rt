@@ -6,7 +6,8 @@ ghost use Rattle.message_grammar.specs.Packing.{find};
 ghost use Rattle.suffixes.specs.Kept.{note_of, notes_of, IsKept, AreKept, AreLinked};
 ghost use Rattle.suffixes.specs.Longest.{longest, first_notes};
 
-use dname::{Heap, LONGEST_NAME, Name, Starved, next_label};
+use dname::{LONGEST_NAME, Name, next_label};
+use memory::{Heap, Starved};
 use std::alloc::{Allocator, Global};
 use std::marker::Model;
 

@@ -3,7 +3,8 @@ ghost use Rattle.std.specs.Prelude.{◌≡◌, Some};
 ghost use Rattle.text_lines.specs.Faults.{line_fault_number, kind_of_name, kind_text, error_text};
 ghost use Rattle.text_lines.specs.declared.fault.LineKind.TheVariants.{Memory};
 
-use dname::{NameError, Starved};
+use dname::NameError;
+use memory::Starved;
 use std::alloc::{AllocError, AllocFailed};
 use std::fmt;
 

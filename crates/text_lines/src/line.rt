@@ -9,8 +9,9 @@ ghost use Rattle.text_lines.specs.Words.{number_of, address_of, name_of, bytes_o
 
 use crate::fault::LineKind;
 use crate::word;
-use dname::{Heap, Name};
+use dname::Name;
 use memchr::memchr2;
+use memory::Heap;
 use rdata::{Addr, RType};
 use std::marker::Model;
 

@@ -4,8 +4,9 @@ ghost use Rattle.text_lines.specs.Faults.{IsLineFault};
 ghost use Rattle.text_lines.specs.Words.{number_of, address_of, name_of, bytes_of, type_of};
 
 use crate::fault::LineKind;
-use dname::{Heap, Name};
+use dname::Name;
 use hex::FromHexError;
+use memory::Heap;
 use rdata::{Addr, RType};
 use std::net::Ipv4Addr;
 

@@ -8,7 +8,8 @@ ghost use Rattle.trace.specs.Lines.{alias_text, cause_line, cause_words, class_l
 
 use causes::Cause;
 use classify::{Class, Failure, Referral};
-use dname::{Name, Starved};
+use dname::Name;
+use memory::Starved;
 use rdata::{RData, RType};
 use std::alloc::Allocator;
 use zone::Link;

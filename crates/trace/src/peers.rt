@@ -1,6 +1,6 @@
 //! The network of a trace. Tests put another in its place.
-use dname::{Heap, Starved};
 use events::Endpoint;
+use memory::{Heap, Starved};
 
 /// The servers that can be asked, one ask at a time.
 pub trait Peers {

@@ -1,6 +1,7 @@
 //! Which search an ask belongs to, and the zone whose server it asks, as far as the asks and replies before show it.
 use classify::{Class, Referral};
-use dname::{Heap, Name, Starved};
+use dname::Name;
+use memory::{Heap, Starved};
 use rdata::{RData, RType, Record, Records};
 use std::alloc::Allocator;
 

@@ -1,7 +1,8 @@
 //! Actions that are not written yet.
 use events::{Ask, ClientQuery};
-use front::{Echo, Outcome, Refusal, Start, Via};
+use front::{Outcome, Refusal, Start};
 use std::alloc::{Allocator, Global};
+use wire::{Echo, Via};
 
 /// An action by its parts, of which its bytes are written. Contracts see the action that is written of it
 /// (`said_view`), but those of `copied` and `same` its parts.

@@ -4,8 +4,8 @@ ghost use Rattle.std.specs.Prelude.{◌≡◌, IfOk};
 use crate::action::{TypedAction, TypedActions};
 use crate::event::Parsed;
 use classify::Reading;
-use dname::{Heap, Starved};
-use front::Echo;
+use memory::{Heap, Starved};
+use wire::Echo;
 
 impl<A: Heap> Parsed<A> {
     /// The same, copied.

@@ -8,8 +8,9 @@ use crate::action::{TypedAction, TypedActions};
 use crate::event::Parsed;
 use classify::Reading;
 use events::{Ask, ClientQuery, Endpoint};
-use front::{Echo, Outcome, Refusal, Request, Start, Via, same_echo};
+use front::{Outcome, Refusal, Request, Start, same_echo};
 use std::alloc::Allocator;
+use wire::{Echo, Via};
 
 impl<A: Allocator> Parsed<A> {
     /// Whether both were read the same, and came at one moment.

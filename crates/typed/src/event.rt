@@ -6,12 +6,13 @@ ghost use Rattle.typed.specs.Events.{ReadAs, HasBytes, RepliesToNone};
 ghost use Rattle.typed.specs.Views.{parsed_view};
 
 use classify::{Reading, read};
-use dname::{Heap, Starved};
 use events::{Endpoint, Event, read_asked};
-use front::{Request, Via};
+use front::Request;
 use limits::LATEST_MOMENT;
+use memory::{Heap, Starved};
 use std::alloc::{Allocator, Global};
 use std::marker::Model;
+use wire::Via;
 
 /// An event as it was read: what its bytes say stands in place of them.
 #[derive(Drop)]

@@ -4,9 +4,10 @@ ghost use Rattle.runs.specs.Messages.{IsReply, IsRefusal, IsSent};
 ghost use Rattle.events.specs.Plain.{plain_outcome};
 ghost use Rattle.typed.specs.Actions.{replied, refused, asked};
 
-use dname::Heap;
 use events::{Ask, ClientQuery, ask_is_message};
-use front::{Echo, Outcome, Refusal, Start, Via, refusal_is_message, reply_is_message};
+use front::{Outcome, Refusal, Start, refusal_is_message, reply_is_message};
+use memory::Heap;
+use wire::{Echo, Via};
 
 /// What is written of an outcome is its reply to the client who asked, by its way and within its limit (RFC 1035,
 /// section 4.2.1).

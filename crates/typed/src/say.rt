@@ -6,9 +6,10 @@ ghost use Rattle.typed.specs.Views.{said_view};
 
 use crate::action::TypedAction;
 use crate::laws::{ask_law, refusal_law, reply_law};
-use dname::{Heap, Starved};
 use events::{Ask, ClientQuery};
-use front::{Echo, Outcome, Refusal, Start, Via};
+use front::{Outcome, Refusal, Start};
+use memory::{Heap, Starved};
+use wire::{Echo, Via};
 
 /// The reply of an outcome to the client who asked, by its way. Takes no memory.
 pub fn reply_to<A: Heap>(client_query: ClientQuery<A>, outcome: Outcome<A>) -> TypedAction<A>

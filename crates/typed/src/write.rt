@@ -4,8 +4,8 @@ ghost use Rattle.events.specs.Views.{action_view};
 ghost use Rattle.typed.specs.Views.{said_view, said_listed};
 
 use crate::action::{TypedAction, TypedActions};
-use dname::{Heap, Starved};
 use events::{Action, Actions};
+use memory::{Heap, Starved};
 use wire::Writer;
 
 /// The action of a typed one, with its bytes. A reply that is too long for its way is truncated on UDP, and a SERVFAIL

@@ -14,8 +14,8 @@
 //! ```
 #![tactic(auto)]
 
-use dname::Starved;
 use hex::FromHexError;
+use memory::Starved;
 use std::alloc::Global;
 use std::io;
 use std::io::{BufRead, BufReader};

@@ -2,7 +2,7 @@
 use crate::fault::{Answer, Fault};
 use crate::name_rows::sign;
 use crate::record_texts::read_records;
-use dname::Starved;
+use memory::Starved;
 use rdata::{RData, RType, Record, Records, put_data};
 use std::alloc::Global;
 use vectors::number;

@@ -4,15 +4,17 @@ use crate::message_rows::{bytes_of, size};
 use crate::record_texts::{before_records, read_type};
 use authority::Catalog;
 use causes::Cause;
-use dname::{Name, Starved};
+use dname::Name;
 use front::{
-    Echo, End, Outcome, Query, Refusal, Request, Start, Via, Writer, answer_local, read_query,
-    refusal_bytes, reply_bytes,
+    End, Outcome, Query, Refusal, Request, Start, answer_local, read_query, refusal_bytes,
+    reply_bytes,
 };
+use memory::Starved;
 use rdata::{CharacterString, RData, RType, Record, RecordSet, Records, Texts, set_at};
 use reply_lines::put_reply_bytes;
 use std::alloc::Global;
 use vectors::{first_word, number, put_bytes, words};
+use wire::{Echo, Via, Writer};
 use zone::Zone;
 
 /// Answers a command of queries or replies.

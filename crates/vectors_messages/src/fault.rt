@@ -1,6 +1,7 @@
 //! Why a row has no answer.
-use dname::{NameError, Starved};
+use dname::NameError;
 use masterfile::{FileError, FileKind};
+use memory::Starved;
 use std::alloc::{AllocError, AllocFailed};
 use wire::WireError;
 

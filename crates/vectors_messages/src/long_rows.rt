@@ -1,6 +1,7 @@
 //! Rows that stand for many records or strings.
 use crate::fault::{Answer, Fault};
-use dname::{Name, Starved};
+use dname::Name;
+use memory::Starved;
 use rdata::{Addr, CharacterString, RData, Record, Records, Texts, lowest_ttl};
 use std::alloc::Global;
 use vectors::{first_word, number};

@@ -24,7 +24,7 @@ mod set_rows;
 mod suffix_rows;
 
 use crate::fault::{Answer, Fault};
-use dname::Starved;
+use memory::Starved;
 use std::alloc::Global;
 use std::process::ExitCode;
 use vectors::{Answers, first_word, run};

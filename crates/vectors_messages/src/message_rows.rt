@@ -1,7 +1,8 @@
 //! Rows of messages (RFC 1035, section 4).
 use crate::both::{Outcome, outcome_of};
 use crate::fault::{Answer, Fault};
-use dname::{Name, Starved};
+use dname::Name;
+use memory::Starved;
 use rdata::Record;
 use std::alloc::Global;
 use vectors::{first_word, number, put_bytes};

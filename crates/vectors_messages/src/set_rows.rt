@@ -1,7 +1,8 @@
 //! Rows of record sets (RFC 2181, section 5).
 use crate::fault::{Answer, Fault};
 use crate::record_texts::{before_records, put_record, read_records, read_type};
-use dname::{Name, Starved};
+use dname::Name;
+use memory::Starved;
 use rdata::{GREATEST_TTL, Record, RecordSet, Records, lowest_ttl, same_set, set_at};
 use std::alloc::Global;
 use vectors::{first_word, number};

@@ -13,7 +13,6 @@ use crate::shown::{put_asked, put_cut, put_link};
 use authority::Catalog;
 use dname::Name;
 use frames::Frame;
-use front::Via;
 use iterate::{Input, Job, Next, Started, advance, begin_query};
 use lookup::{Capacities, Found, Hashers, Home, Stores, Taken, find, found_addresses};
 use lru::DefaultHasher;
@@ -22,7 +21,7 @@ use referral::Cut;
 use std::alloc::Global;
 use std::num::NonZeroUsize;
 use text_lines::LineKind;
-use wire::View;
+use wire::{Via, View};
 use zone::{Link, Zone};
 
 #[derive(Drop)]

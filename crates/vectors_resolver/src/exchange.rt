@@ -10,11 +10,11 @@ use events::{
     Action, Ask, Bytes, ClientQuery, Endpoint, Event, Path, accepted_reply, read_asked, refuse,
     reply_to, send,
 };
-use front::{Outcome, Request, Via};
+use front::{Outcome, Request};
 use rdata::RType;
 use std::alloc::Global;
 use text_lines::LineKind;
-use wire::{TCP_LIMIT, Writer};
+use wire::{TCP_LIMIT, Via, Writer};
 
 const PORT: u16 = 53;
 

@@ -5,10 +5,9 @@ use crate::row::Row;
 use crate::shown::{put_link, put_records};
 use classify::{Class, Referral, classify, lifetime, received};
 use dname::Name;
-use front::Via;
 use rdata::RType;
 use text_lines::LineKind;
-use wire::{Header, Message, Questions, TCP_LIMIT, View, encode};
+use wire::{Header, Message, Questions, TCP_LIMIT, Via, View, encode};
 
 /// How a message came, as the next word says.
 pub fn way(row: &mut Row<'_>) -> Result<Via, LineKind> {

@@ -8,7 +8,7 @@ use crate::row::Row;
 use crate::servers::Servers;
 use crate::settings::show_settings;
 use crate::steps::Steps;
-use dname::Starved;
+use memory::Starved;
 use std::alloc::Global;
 use text_lines::LineKind;
 use vectors::Answers;

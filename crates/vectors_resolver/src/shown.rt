@@ -1,11 +1,11 @@
 //! Links, cuts and actions as they are printed.
 use causes::Cause;
 use events::{Action, Bytes, Endpoint};
-use front::Via;
 use rdata::{Addr, Record, RecordSet};
 use referral::{Cut, ServerAddress};
 use std::alloc::Global;
 use text_lines::LineKind;
+use wire::Via;
 use zone::Link;
 
 /// A line for each record.

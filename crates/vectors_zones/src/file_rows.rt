@@ -2,9 +2,10 @@
 
 use crate::notation;
 use crate::unanswered::{Unanswered, put_fault};
-use dname::{Name, Starved};
+use dname::Name;
 use master_lexer::{Lead, Word, Words};
 use masterfile::{print, read_block};
+use memory::Starved;
 use rdata::Record;
 use std::alloc::Global;
 use text_lines::name;

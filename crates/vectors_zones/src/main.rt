@@ -25,7 +25,7 @@ use crate::file_rows::Shown;
 use crate::named_texts::NamedTexts;
 use crate::unanswered::Unanswered;
 use authority::Catalog;
-use dname::Starved;
+use memory::Starved;
 use std::alloc::Global;
 use std::process::ExitCode;
 use vectors::{Answers, first_word, run};

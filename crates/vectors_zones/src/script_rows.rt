@@ -4,8 +4,9 @@ use crate::notation;
 use crate::unanswered::{Unanswered, put_fault};
 use dname::{Name, put_name};
 use rdata::RType;
-use script::{LineError, Order, read_asks, read_script};
+use script::{Order, read_asks, read_script};
 use std::alloc::Global;
+use text_lines::LineError;
 use vectors::put_bytes;
 use wire::Via;
 

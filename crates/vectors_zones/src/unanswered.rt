@@ -1,6 +1,6 @@
 //! Rows that have no answer, and answers that are refusals.
 
-use dname::Starved;
+use memory::Starved;
 use std::alloc::{AllocError, AllocFailed};
 use std::fmt::Display;
 use text_lines::LineKind;

@@ -6,7 +6,8 @@ use crate::unanswered::{Unanswered, put_fault};
 use dname::{Name, put_name};
 use rdata::{Addr, put_ipv4};
 use std::alloc::Global;
-use world_text::{Block, LineError, WorldFault, WorldText, read_world, world_in};
+use text_lines::LineError;
+use world_text::{Block, WorldFault, WorldText, read_world, world_in};
 use worlds::{Host, World};
 
 /// `NAME ..: TEXT`: the world of these lines, in short, which `ask`, `hear` and `judge` then speak of, or why it is

@@ -5,7 +5,7 @@ ghost use Rattle.wire.specs.Chains.{IsChainEnd, AreChainEnds, chain_behind};
 use crate::error::WireError;
 use crate::parts::{Part, part_at};
 use crate::via::UDP_LIMIT;
-use dname::{Heap, Starved};
+use memory::{Heap, Starved};
 use suffixes::POINTER_LIMIT;
 
 // The end of the chain of pointers from a place, by the ends of the chains from the places before it.

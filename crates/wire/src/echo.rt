@@ -3,7 +3,7 @@ ghost use Rattle.std.specs.Prelude.{◌≡◌};
 ghost use Rattle.wire.specs.Echoes.{same_question, same_question_per, same_question_equiv};
 
 use crate::spelling::Spelling;
-use dname::Heap;
+use memory::Heap;
 use std::alloc::{AllocError, Allocator, Global};
 use std::cmp::Eq;
 use std::marker::Model;

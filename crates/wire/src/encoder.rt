@@ -16,7 +16,7 @@ use crate::header::Header;
 use crate::message::{Message, Question};
 use crate::via::TCP_LIMIT;
 use crate::writer::{Tally, Writer};
-use dname::{Heap, Starved};
+use memory::{Heap, Starved};
 use rdata::{Record, RecordSet};
 use std::alloc::{Allocator, Global};
 use std::marker::Model;

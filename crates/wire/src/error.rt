@@ -2,7 +2,7 @@
 ghost use Rattle.std.specs.Prelude.{◌≡◌, Some};
 ghost use Rattle.wire.specs.Errors.{number_of, fault_text};
 
-use dname::Starved;
+use memory::Starved;
 use std::alloc::{AllocError, AllocFailed};
 use std::fmt;
 

@@ -4,7 +4,8 @@ ghost use Rattle.std.specs.List.{AllByRecursion};
 ghost use Rattle.dname.specs.Labels.{IsName};
 
 use crate::header::Header;
-use dname::{Heap, Name, Starved};
+use dname::Name;
+use memory::{Heap, Starved};
 use rdata::Records;
 use std::alloc::{Allocator, Global};
 use std::marker::Model;

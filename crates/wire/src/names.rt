@@ -14,7 +14,8 @@ use crate::error::WireError;
 use crate::parts::{Faults, Part, part_at};
 use crate::spelling::Spelling;
 use arrayvec::ArrayVec;
-use dname::{Heap, Name};
+use dname::Name;
+use memory::Heap;
 use std::alloc::Allocator;
 
 // Adds a label, behind its length, to a spelling that has room for it.

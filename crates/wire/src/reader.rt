@@ -18,7 +18,8 @@ use crate::message::Message;
 use crate::names::spelling_at;
 use crate::records::{questions_at, section_at};
 use crate::skips::section_end;
-use dname::{Heap, Name};
+use dname::Name;
+use memory::Heap;
 
 // The message that these bytes are, by the table of its chains of pointers.
 #[tactic(auto, using(crate::proofs::Walks::fails_with), unfolding(crate::specs::Entries::message_of))]

@@ -15,7 +15,7 @@ use crate::names::{name_at, name_end};
 use crate::parts::Faults;
 use crate::served::served_type;
 use crate::values::value_at;
-use dname::{Heap, Starved};
+use memory::{Heap, Starved};
 use rdata::{GREATEST_TTL, Record, Records};
 
 // The TTL of a record: one with its top bit set is 0 (RFC 2181, section 8). So 300 is 300, and 2,147,483,648 is 0.

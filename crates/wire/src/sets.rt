@@ -7,7 +7,8 @@ ghost use Rattle.message_grammar.specs.Messages.{record_pieces, IsRecord};
 ghost use Rattle.wire.specs.Puts.{Puts};
 
 use crate::writer::Writer;
-use dname::{Heap, Name, Starved};
+use dname::Name;
+use memory::{Heap, Starved};
 use rdata::{RecordSet, Values};
 
 impl<A: Heap> Writer<A> {

@@ -5,7 +5,8 @@ ghost use Rattle.dname.specs.Laws.{same_name_per, same_name_equiv};
 ghost use Rattle.dname.specs.Wire.{labels_of, IsSpellingWire};
 ghost use Rattle.message_grammar.specs.Messages.{IsSpelling};
 
-use dname::{Heap, Name, Starved};
+use dname::Name;
+use memory::{Heap, Starved};
 use std::alloc::{AllocError, Allocator, Global};
 use std::cmp::Eq;
 use std::marker::Model;

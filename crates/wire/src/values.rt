@@ -11,7 +11,8 @@ use crate::fields::{four_at, two_at};
 use crate::names::{full_name_at, name_at};
 use crate::parts::Faults;
 use crate::skips::texts_end;
-use dname::{Heap, Name};
+use dname::Name;
+use memory::Heap;
 use rdata::{Addr, RData, RType, Soa, Srv, Texts};
 
 // A name in RDATA that end at `end`.

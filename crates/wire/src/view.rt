@@ -15,7 +15,8 @@ use crate::message::Question;
 use crate::names::{is_named, name_at};
 use crate::parts::Faults;
 use crate::skips::{questions_end, section_end};
-use dname::{Heap, Name, Starved};
+use dname::Name;
+use memory::{Heap, Starved};
 use std::alloc::{Allocator, Global};
 use std::marker::Model;
 

@@ -6,8 +6,9 @@ ghost use Rattle.world_text.specs.Seen.{said_seen};
 
 use crate::world_fault::WorldFault;
 use crate::world_text::{Block, WorldText, read_world};
-use dname::{Heap, Name, Starved};
+use dname::Name;
 use masterfile::read_block;
+use memory::{Heap, Starved};
 use worlds::World;
 use zone::Zone;
 

@@ -25,6 +25,5 @@ mod world_fault;
 mod world_text;
 
 pub use build::world_in;
-pub use text_lines::{LineError, LineKind};
 pub use world_fault::WorldFault;
 pub use world_text::{Block, WorldText, read_world};

@@ -12,7 +12,7 @@ ghost use Rattle.world_text.specs.Seen.{said_seen, block_seen, reading_seen, clo
 use crate::open_block::OpenBlock;
 use crate::statement::{Statement, statement_in};
 use crate::world_text::{Block, WorldText};
-use dname::{Heap, Starved};
+use memory::{Heap, Starved};
 use rdata::Addr;
 use std::alloc::Allocator;
 use text_lines::{LineError, LineKind};

@@ -6,7 +6,8 @@ ghost use Rattle.text_lines.specs.Texts.{stated_words};
 ghost use Rattle.world_text.specs.Statements.{statement_seen, origin_in, names_in, host_in, hint_in, stated_by, stated};
 
 use crate::keyword::Keyword;
-use dname::{Heap, Name};
+use dname::Name;
+use memory::Heap;
 use rdata::Addr;
 use std::alloc::{Allocator, Global};
 use text_lines::{LineKind, LineWords, name};

@@ -3,8 +3,8 @@ ghost use Rattle.std.specs.Prelude.{◌≡◌, Some};
 ghost use Rattle.world_text.specs.WorldFaults.{line_fault, file_fault, zone_fault, rule_fault, fault_text};
 ghost use Rattle.world_text.specs.declared.world_fault.WorldFault.TheVariants.{Memory};
 
-use dname::Starved;
 use masterfile::{FileError, FileKind};
+use memory::Starved;
 use std::alloc::{AllocError, AllocFailed};
 use std::fmt;
 use text_lines::{LineError, LineKind};

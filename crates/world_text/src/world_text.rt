@@ -9,7 +9,8 @@ ghost use Rattle.world_text.specs.Readings.{said_in};
 ghost use Rattle.world_text.specs.Seen.{said_seen};
 
 use crate::reader::Reader;
-use dname::{Heap, Name};
+use dname::Name;
+use memory::Heap;
 use rdata::Addr;
 use std::alloc::{Allocator, Global};
 use std::marker::Model;

@@ -2,7 +2,7 @@
 ghost use Rattle.std.specs.Prelude.{◌≡◌, Some};
 ghost use Rattle.worlds.specs.Refusals.{world_fault_number, world_fault_text};
 
-use dname::Starved;
+use memory::Starved;
 use std::alloc::AllocError;
 use std::fmt;
 

@@ -10,15 +10,15 @@ ghost use Rattle.worlds.specs.Hosting.{IsFollowed, host_header, referral_to, ans
 
 use crate::world::{Host, World};
 use authority::{Catalog, Local};
-use dname::{Heap, Name, Starved};
+use dname::Name;
 use front::{
-    Draft, End, Query, Request, Start, Step, alias_target, echo_is_question, read_query,
-    reading_is_one,
+    End, Query, Request, Start, Step, alias_target, echo_is_question, read_query, reading_is_one,
 };
 use limits::MAX_ALIASES;
+use memory::{Heap, Starved};
 use rdata::{Addr, RType, Records};
 use std::alloc::Allocator;
-use wire::{Header, TCP_LIMIT, Writer};
+use wire::{Draft, Header, TCP_LIMIT, Writer};
 use zone::Link;
 
 fn put_names<A: Heap>(names: &mut Vec<Name<A>, A>, more: &[Name<A>]) -> Result<(), Starved>

@@ -8,8 +8,9 @@ ghost use Rattle.world_truth.specs.Replies.{IsRight};
 ghost use Rattle.worlds.specs.Judging.{IsRest, IsRightMessage, is_reply_to, is_empty, has, lacks_some, once, is_set, is_only, is_none};
 
 use crate::world::World;
-use dname::{Heap, Name, Starved};
+use dname::Name;
 use limits::MAX_ALIASES;
+use memory::{Heap, Starved};
 use rdata::{INTERNET, RData, RType, Record, RecordSet};
 use std::alloc::Allocator;
 use wire::rcode::{NO_ERROR, NX_DOMAIN};

@@ -12,7 +12,8 @@ ghost use Rattle.worlds.specs.Rules.{serves, is_missed, some_missed, is_missed_a
 use crate::rules::{has_name, has_origin};
 use crate::world::Host;
 use authority::{Catalog, Local};
-use dname::{Heap, Name, Starved};
+use dname::Name;
+use memory::{Heap, Starved};
 use rdata::{Addr, RData, RType, Record, RecordSet};
 use std::alloc::Allocator;
 use zone::{Link, Zone};

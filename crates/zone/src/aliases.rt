@@ -9,7 +9,8 @@ ghost use Rattle.zone.specs.Last.{kept_after, alias_of, last_target, is_beside};
 ghost use Rattle.zone.specs.Rules.{has_cname_clash};
 ghost use Rattle.zone.specs.Kept.{zone_with};
 
-use dname::{Heap, Name, Starved};
+use dname::Name;
+use memory::{Heap, Starved};
 use rdata::{RData, Record};
 use std::alloc::Allocator;
 use std::collections::HashMap;

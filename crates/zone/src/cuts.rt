@@ -7,7 +7,8 @@ ghost use Rattle.zone.specs.Look.{is_type, is_owned, owns, is_cut, is_beneath_cu
 ghost use Rattle.zone.specs.Kept.{zone_with};
 
 use crate::scan::is_type;
-use dname::{Heap, Name, Starved};
+use dname::Name;
+use memory::{Heap, Starved};
 use rdata::{RType, Record};
 use std::alloc::Allocator;
 use std::collections::HashSet;

@@ -6,7 +6,7 @@ ghost use Rattle.zone.specs.Links.{counted, denial_ttl, lessened};
 ghost use Rattle.zone.specs.Look.{is_type, denial_by};
 
 use crate::scan::is_type;
-use dname::{Heap, Starved};
+use memory::{Heap, Starved};
 use rdata::{GREATEST_TTL, RData, RType, Record};
 use std::alloc::Allocator;
 

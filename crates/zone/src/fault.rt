@@ -2,7 +2,7 @@
 ghost use Rattle.std.specs.Prelude.{◌≡◌, Some};
 ghost use Rattle.zone.specs.Faults.{fault_number, fault_text};
 
-use dname::Starved;
+use memory::Starved;
 use std::alloc::{AllocError, AllocFailed};
 use std::fmt;
 

@@ -1,7 +1,7 @@
 //! The link of a name and a type: what a zone's look-up, or a server, says of them.
 ghost use Rattle.std.specs.Prelude.{◌≡◌, ◌↔◌, IsTrue};
 
-use dname::Heap;
+use memory::Heap;
 use rdata::{Record, RecordSet};
 use std::alloc::{AllocError, Allocator, Global};
 

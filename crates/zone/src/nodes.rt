@@ -4,7 +4,8 @@ ghost use Rattle.dname.specs.Keys.{at_name};
 ghost use Rattle.dname.specs.Labels.{same_name, is_under};
 ghost use Rattle.zone.specs.Tree.{put_place, seen, spot, spot_after, IsTree};
 
-use dname::{Heap, Name, Starved};
+use dname::Name;
+use memory::{Heap, Starved};
 use rdata::Record;
 use std::alloc::Allocator;
 use std::collections::HashMap;

@@ -11,7 +11,8 @@ use crate::cuts::Cuts;
 use crate::fault::ZoneError;
 use crate::scan::{count_of_type, is_address, is_type, owns};
 use crate::ttls::has_mixed_ttls;
-use dname::{Heap, Name, Starved};
+use dname::Name;
+use memory::{Heap, Starved};
 use rdata::{RType, Record};
 use std::alloc::Allocator;
 

@@ -3,7 +3,8 @@ ghost use Rattle.std.specs.Prelude.{◌≡◌, ◌<◌, false, length, get_or, I
 ghost use Rattle.zone.specs.Tree.{has_under, IsTree, IsStand};
 
 use crate::nodes::{Nodes, nodes_of};
-use dname::{Heap, Starved, Suffix};
+use dname::Suffix;
+use memory::{Heap, Starved};
 use rdata::{Record, Records};
 use std::alloc::{AllocError, Allocator};
 use std::marker::Model;

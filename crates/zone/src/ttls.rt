@@ -5,7 +5,8 @@ ghost use Rattle.zone.specs.Last.{SetKey, same_key, set_of, ttl_of, kept_after, 
 ghost use Rattle.zone.specs.Rules.{has_mixed_ttls};
 ghost use Rattle.zone.specs.Kept.{zone_with};
 
-use dname::{Heap, Name, Starved};
+use dname::Name;
+use memory::{Heap, Starved};
 use rdata::Record;
 use std::collections::HashMap;
 use std::hash::{BuildHasherDefault, FoldHasher};

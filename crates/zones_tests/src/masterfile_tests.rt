@@ -1,8 +1,9 @@
 //! Memory refused while a text is read and printed.
 
 use crate::refusals::{Work, refuse_each};
-use dname::{Heap, Name, Starved};
+use dname::Name;
 use masterfile::{FileKind, print, read};
+use memory::{Heap, Starved};
 use record_fixtures::name;
 use std::test::Fail;
 use worlds::WorldError;

@@ -1,6 +1,6 @@
 //! Each growth of some work refused in turn.
 
-use dname::{Heap, Starved};
+use memory::{Heap, Starved};
 use refusing_alloc::Refusing;
 use std::process::Abort;
 

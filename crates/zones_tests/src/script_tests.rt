@@ -1,9 +1,10 @@
 //! Memory refused while a script is read.
 
 use crate::refusals::{Work, refuse_each};
-use dname::{Heap, Starved};
-use script::{LineKind, read_script};
+use memory::{Heap, Starved};
+use script::read_script;
 use std::test::Fail;
+use text_lines::LineKind;
 
 // Each kind of line.
 const SCRIPT: &str =

@@ -1,9 +1,10 @@
 //! Memory refused while the lines of a world text are read.
 
 use crate::refusals::{Work, refuse_each};
-use dname::{Heap, Starved};
+use memory::{Heap, Starved};
 use std::test::Fail;
-use world_text::{LineKind, read_world};
+use text_lines::LineKind;
+use world_text::read_world;
 
 // The root and two zones beneath it, one of them local.
 const TEXT: &str =

@@ -1,7 +1,7 @@
 //! Memory refused while worlds are checked, servers reply and replies are judged; and what is too large for a row.
 
 use crate::refusals::{Work, refuse_each};
-use dname::{Heap, Starved};
+use memory::{Heap, Starved};
 use rdata::{Addr, RType};
 use record_fixtures::name;
 use std::test::Fail;

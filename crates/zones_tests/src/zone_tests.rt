@@ -1,7 +1,7 @@
 //! Memory refused while a zone is built and copied.
 
 use crate::refusals::{Work, refuse_each};
-use dname::{Heap, Starved};
+use memory::{Heap, Starved};
 use record_fixtures::{Row, Value, name, records};
 use std::alloc::AllocError;
 use std::test::Fail;

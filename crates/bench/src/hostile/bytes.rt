@@ -1,6 +1,6 @@
 //! Bytes of messages, written out: names of any text, and records with them.
-use dname::{Heap, Starved};
 use events::Bytes;
+use memory::{Heap, Starved};
 use wire::TCP_LIMIT;
 
 /// Types of records, by number (RFC 1035, section 3.2.2).

@@ -4,8 +4,8 @@ use crate::hostile::bytes::{
 };
 use crate::hostile::talk::{Says, Talk};
 use crate::hostile::trees::long_name;
-use dname::{Heap, Starved};
 use events::Bytes;
+use memory::{Heap, Starved};
 
 /// How many servers of the root are cached, where they are many.
 pub const ROOT_SERVERS: u16 = 4_300;

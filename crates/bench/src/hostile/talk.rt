@@ -1,9 +1,9 @@
 //! A resolver, and what it asked last.
 use crate::hostile::bytes::{A_TYPE, bounded, put_ns, query};
 use crate::steps::core;
-use dname::{Heap, Starved};
 use engine::Core;
 use events::{Action, Actions, Bytes, Endpoint, Event, Path};
+use memory::{Heap, Starved};
 use wire::Via;
 
 /// What a server says: the third and fourth byte of the header, how many records stand in the answer and in the

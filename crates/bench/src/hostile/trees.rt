@@ -3,7 +3,7 @@ use crate::hostile::bytes::{
     A_TYPE, NS_TYPE, QUESTION, pointer, put_label, put_middle, put_root_soa,
 };
 use crate::hostile::talk::{Says, Talk};
-use dname::{Heap, Starved};
+use memory::{Heap, Starved};
 
 /// How many addresses of a server's name are cached, where they are many.
 pub const ADDRESSES: u16 = 4_000;

@@ -1,13 +1,14 @@
 //! A query that a local zone answers, bytes to bytes.
 use crate::wire_tests::{QUERY, REPLY};
 use authority::Catalog;
-use dname::{Heap, Starved};
-use front::{Outcome, Query, Request, Via, Writer, answer_local, read_query, reply_bytes};
+use front::{Outcome, Query, Request, answer_local, read_query, reply_bytes};
+use memory::{Heap, Starved};
 use rdata::{Addr, RData, Record, Records, Soa};
 use record_fixtures::name;
 use refusing_alloc::Refusing;
 use std::alloc::Allocator;
 use std::test::Fail;
+use wire::{Via, Writer};
 use zone::Zone;
 
 // A zone of three records: its origin; its server, mailbox, REFRESH, RETRY and EXPIRE; a host and that one's address.

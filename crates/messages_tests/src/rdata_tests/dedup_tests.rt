@@ -1,4 +1,4 @@
-use dname::{Heap, Starved};
+use memory::{Heap, Starved};
 use rdata::{Record, dedup_set};
 use record_fixtures::{Row, Value, records};
 use std::test::Fail;

@@ -1,5 +1,6 @@
 use super::{copies, set_of};
-use dname::{Heap, Name, NameError, Starved, put_name};
+use dname::{Name, NameError, put_name};
+use memory::{Heap, Starved};
 use rdata::{RType, Record, Records, put_data, set_at};
 use record_fixtures::{Row, Value, name, record, records};
 use refusing_alloc::Refusing;

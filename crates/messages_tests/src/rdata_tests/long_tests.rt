@@ -1,5 +1,5 @@
 use super::addresses_at;
-use dname::Starved;
+use memory::Starved;
 use rdata::{Addr, RData, Record, Records};
 use record_fixtures::name;
 use std::alloc::Global;

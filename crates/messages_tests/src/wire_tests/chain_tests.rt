@@ -1,4 +1,4 @@
-use dname::{Heap, Starved};
+use memory::{Heap, Starved};
 use refusing_alloc::Refusing;
 use std::test::Fail;
 use wire::{WireError, decode};

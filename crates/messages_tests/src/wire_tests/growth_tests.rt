@@ -1,5 +1,5 @@
 use crate::wire_tests::DENIAL;
-use dname::Heap;
+use memory::Heap;
 use refusing_alloc::Refusing;
 use std::test::Fail;
 use wire::{WireError, decode, decode_question, encode};

@@ -1,5 +1,5 @@
 use crate::wire_tests::{DENIAL, REPLY};
-use dname::Heap;
+use memory::Heap;
 use std::test::Fail;
 use wire::{View, WireError};
 

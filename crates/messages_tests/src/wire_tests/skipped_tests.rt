@@ -1,4 +1,4 @@
-use dname::Heap;
+use memory::Heap;
 use refusing_alloc::Refusing;
 use std::test::Fail;
 use wire::{WireError, decode};

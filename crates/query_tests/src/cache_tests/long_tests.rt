@@ -1,8 +1,9 @@
 use super::{empty_cache, records_of, set_of};
 use cache::{Cache, Hit};
-use dname::{Name, Starved};
+use dname::Name;
 use lru::DefaultHasher;
 use masterfile::put_record;
+use memory::Starved;
 use rdata::{RType, Record, RecordSet, Records};
 use record_fixtures::name;
 use std::alloc::Global;

@@ -1,6 +1,7 @@
 //! Out of memory, and how much of it a query takes.
 use crate::iterate_tests::resolver::{Asked, EXAMPLE, Event, Out, ROOT, Step, first_wrong};
-use dname::{Heap, Name, Starved};
+use dname::Name;
+use memory::{Heap, Starved};
 use record_fixtures::{Value, name};
 use refusing_alloc::Refusing;
 use std::alloc::Global;

@@ -3,10 +3,11 @@ ghost use Rattle.std.specs.Prelude.{◌<◌, ◌+◌, ◌^◌};
 
 use crate::shared::{home, stores};
 use causes::Cause;
-use dname::{Heap, Name, Starved};
+use dname::Name;
 use iterate::{Input, Job, Next, Started, advance, begin_query};
 use lookup::{Home, Stores};
 use lru::DefaultHasher;
+use memory::{Heap, Starved};
 use rdata::{RData, RType, RecordSet, Records};
 use record_fixtures::{Row, Value, address, name, record, records};
 use wire::{Header, Message, Questions, UDP_LIMIT, Via, View, encode};

@@ -1,7 +1,7 @@
 //! Look-ups that go through all queries.
 use crate::open_queries_tests::shared::{FIRST, SECOND, TCP};
-use dname::Heap;
 use events::{Ask, Path};
+use memory::Heap;
 use open_queries::Queries;
 use rdata::Addr;
 

@@ -1,12 +1,14 @@
 //! Queries that are put in and taken out.
 ghost use Rattle.open_queries.specs.Lookups.{HasNo, IsFree};
 
-use dname::{Heap, Name, Starved};
+use dname::Name;
 use events::{Ask, ClientQuery, Path, read_asked};
-use front::{Request, Via};
+use front::Request;
 use iterate::Job;
+use memory::{Heap, Starved};
 use open_queries::{Open, Queries};
 use rdata::{Addr, RType};
+use wire::Via;
 
 // A client's query for www.example. A, under ID 5 with RD set.
 const QUERY: &[u8] = b"\0\x05\x01\0\0\x01\0\0\0\0\0\0\x03www\x07example\0\0\x01\0\x01";

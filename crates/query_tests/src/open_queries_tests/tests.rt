@@ -1,6 +1,6 @@
 use crate::open_queries_tests::scans::{NUMBERS, agree};
 use crate::open_queries_tests::shared::{FIRST, SECOND, TCP, turn_tcp, turn_udp};
-use dname::{Heap, Starved};
+use memory::{Heap, Starved};
 use open_queries::Queries;
 use rdata::Addr;
 use refusing_alloc::Refusing;

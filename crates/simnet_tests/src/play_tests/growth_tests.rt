@@ -1,7 +1,7 @@
 //! Scripts while memory is refused somewhere: the play ends, or each reply that counts is right all the same.
 
 use crate::play_tests::texts::{all_right, script, world};
-use dname::Starved;
+use memory::Starved;
 use play::play;
 use refusing_alloc::Refusing;
 use std::alloc::{AllocError, Global};

@@ -1,6 +1,6 @@
 //! What texts say, and what a play's last line says.
 
-use dname::Heap;
+use memory::Heap;
 use script::{Order, read_script};
 use world_text::read_world;
 use worlds::World;

@@ -2,9 +2,10 @@
 ghost use Rattle.std.specs.Prelude.{◌≡◌, IfOk};
 ghost use Rattle.simnet.specs.Beginnings.{Begins};
 
-use dname::Starved;
+use engine::Settings;
+use memory::Starved;
 use script::{Order, read_script};
-use simnet::{Settings, Sim};
+use simnet::Sim;
 use std::alloc::Global;
 use world_text::world_in;
 use worlds::World;

@@ -5,7 +5,7 @@ ghost use Rattle.simnet.specs.Beginnings.{Begins};
 
 use crate::storm_tests::small::{network, orders_of};
 use book::Entry;
-use dname::Starved;
+use memory::Starved;
 use pool::PoolError;
 use score::Clients;
 use simnet::{Sim, SimAction, SimActions, SimEvent};

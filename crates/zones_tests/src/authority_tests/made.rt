@@ -1,7 +1,8 @@
 //! Catalogs, and zones and questions made from a seed.
 
 use authority::Catalog;
-use dname::{Heap, Name, Starved};
+use dname::Name;
+use memory::{Heap, Starved};
 use rand_chacha::ChaCha8Rng;
 use rand_core::{Rng, SeedableRng};
 use rdata::{RType, Record, Records};

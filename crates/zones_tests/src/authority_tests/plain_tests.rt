@@ -2,7 +2,8 @@
 
 use crate::authority_tests::made::{Maker, known};
 use authority::{Catalog, Local, look_in};
-use dname::{Heap, Name, Starved};
+use dname::Name;
+use memory::{Heap, Starved};
 use rdata::{RType, Record, Values};
 use std::alloc::Allocator;
 use std::test::Fail;

@@ -1,7 +1,8 @@
 use crate::authority_tests::made::known;
 use crate::refusals::{Work, refuse_each};
 use authority::{Catalog, CatalogError, Local};
-use dname::{Heap, Name, Starved};
+use dname::Name;
+use memory::{Heap, Starved};
 use rdata::{RType, Records};
 use record_fixtures::{Row, Value, name, record, records};
 use std::test::Fail;
