@@ -202,6 +202,7 @@ module _ (ids : IdIsInMessage) (port to : ℕ) (a b : Ask) (bytes : List ℕ) (r
       record { path = at ∙ ap ByTcp line ∙ sym by; server = ap (λ (p : Endpoint). p.address) ends; id = same_id whole }
 
   unfolding asked
+
   pub are_like : asked port a ≡ sending to b b.path bytes → AreLike a b
   are_like same = on_path a.path b.path refl refl same
 
@@ -226,12 +227,12 @@ module _ (s mid new : State) (sound : IsSound s) (ids : IdIsInMessage) (port : �
 
       taken : (q : Open) → IsLike a q → _ → _ → IsBare s after.number stores new
       taken q alike gone state =
-          let same : q ≡ after = elim (w.queries).only q (gone.one).stands as (λ _. q ≡ after) [
+          let same : q ≡ after = elim ((w.queries).only q (gone.one).stands) as (λ _. q ≡ after) [
             | inl e ↦ e
             | inr was ↦ absurd (own q was.0 was.1 (alike.0 ∙ like.path, λ sock udp. let both = alike.1 sock (like.path ∙ udp) in (both.0 ∙ like.server, both.1 ∙ like.id)))
           ] in
           let is : new ≡ record s { stores = stores; queries = (undone.between).queries; generator = word_taken s.generator } =
-              undone.state ∙ ap (λ (z : State). record z { opened = s.opened; tcp_asks = s.tcp_asks }) (state ∙ ap (λ (z : State). record z { queries = (undone.between).queries }) w.state) in
+          undone.state ∙ ap (λ (z : State). record z { opened = s.opened; tcp_asks = s.tcp_asks }) (state ∙ ap (λ (z : State). record z { queries = (undone.between).queries }) w.state) in
           let qs : new.queries ≡ (undone.between).queries = ap (λ (z : State). z.queries) is in
           record {
             queries = subst (AreOthers after.number s.queries) (sym qs) (others after q.number (undone.between).queries w.queries (ap (λ (o : Open). o.number) same) gone.others);
@@ -245,6 +246,7 @@ module _ (s mid new : State) (sound : IsSound s) (ids : IdIsInMessage) (port : �
   no_ask client way bytes cause (ByTcp number) same = cc
 
   unfolding asked
+
   keeps_reply : KeepsReply s mid new (asked port a)
   keeps_reply client way bytes cause same = absurd (no_ask client way bytes cause a.path same)
 

@@ -1,16 +1,19 @@
 //! The work on one query, and its limits: asks, look-ups of servers' names, time, the length of its chain.
-ghost use Rattle.std.specs.Prelude.{◌≡◌, ◌+◌, ◌<◌, ◌≤◌, [], length, min, IfOk, OnOk, MatchOption};
+ghost use Rattle.std.specs.Prelude.{◌↔◌, ◌≡◌, ◌+◌, ◌<◌, ◌≤◌, [], length, min, IfOk, OnOk, IsTrue, MatchOption};
 ghost use Rattle.std.specs.Bool.{MatchBool};
 ghost use Rattle.limits.specs.Limits.{latest_moment, max_look_ups};
 ghost use Rattle.rdata.specs.Types.{type_number};
 ghost use Rattle.frames.specs.Frames.{marked, next_name};
 ghost use Rattle.resolution.specs.Jobs.{job_at, wait_of_job, asked_again, looked_up, MayLookUp, MaySend};
 ghost use Rattle.resolution.specs.Rules.{MayNotSend, turned, spent_cause};
+ghost use Rattle.classify.specs.Views.{reading_view};
+ghost use Rattle.iterate.specs.Inputs.{IsSoughtIn};
 ghost use Rattle.iterate.specs.Moves.{with_search, begun, followed, skipping, IsRestart};
 
 use crate::chain::Chain;
 use crate::search::{Search, Searches};
 use causes::Cause;
+use classify::Reading;
 use dname::Name;
 use frames::Failed;
 use limits::{LATEST_MOMENT, MAX_ASKS, MAX_LOOK_UPS, QUERY_LIFETIME_MS};
@@ -181,6 +184,13 @@ impl<A: Allocator> Job<A> {
         ensures { result ≡ wait_of_job self.now }
     {
         self.searches.wait_ms()
+    }
+
+    /// Whether this reading has the question of the innermost search; so it is too where there is no search.
+    pub fn seeks(&self, reading: &Reading<A>) -> bool
+        ensures { IsTrue result ↔ IsSoughtIn self.now (reading_view reading.now) }
+    {
+        self.searches.seek(&reading.name, reading.kind)
     }
 
     // How many aliases there are.

@@ -1,10 +1,11 @@
 //! Searches for servers: that for the query's name, and those for servers' addresses within it.
-ghost use Rattle.std.specs.Prelude.{◌≡◌, ◌+◌, ◌<◌, [], ◌∷◌, None, IfOk, OnOk, IfSome, IfNone, MatchOption, Contains};
+ghost use Rattle.std.specs.Prelude.{◌≡◌, ◌↔◌, ◌+◌, ◌<◌, [], ◌∷◌, None, IfOk, OnOk, IsTrue, IfSome, IfNone, MatchOption, Contains};
 ghost use Rattle.rdata.specs.Types.{type_number};
 ghost use Rattle.retry.specs.Plans.{upcoming};
 ghost use Rattle.frames.specs.Frames.{next_name, after_add, fresh_addresses};
 ghost use Rattle.resolution.specs.Jobs.{level_of, search_at, with_frame, given, wait_in};
 ghost use Rattle.resolution.specs.Rules.{turned};
+ghost use Rattle.iterate.specs.Inputs.{IsSoughtBy};
 
 use dname::Name;
 use frames::{Failed, Frame};
@@ -183,6 +184,16 @@ impl<A: Allocator> Searches<A> {
         ensures { self.new ≡ [] }
     {
         self.searches.clear();
+    }
+
+    // Whether the innermost search is for this name and type; so it is too where there is no search.
+    pub(crate) fn seek(&self, name: &Name<A>, kind: RType) -> bool
+        ensures { IsTrue result ↔ IsSoughtBy self.now name.now (type_number kind) }
+    {
+        match self.searches.first() {
+            Some(search) => search.kind.number() == kind.number() && search.name == *name,
+            None => true,
+        }
     }
 
     // How long a reply of the innermost search's server is waited for, in milliseconds.

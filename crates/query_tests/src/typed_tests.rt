@@ -62,13 +62,15 @@ const EVENTS: &[Told] = &[
     Told::Datagram(5, OTHER_TTL),
     Told::Datagram(5, DENIAL),
     Told::Datagram(5, REFERRAL),
-    Told::Datagram(5, b""),
     Told::TcpReply(5, ANSWER),
     Told::TcpReply(5, b""),
     Told::TcpFailed(5),
     Told::Tick(5),
     Told::Tick(6),
 ];
+
+// Datagrams that reply to no question: no message, and a query.
+const NO_REPLIES: &[Told] = &[Told::Datagram(5, b""), Told::Datagram(5, QUERY)];
 
 fn message_bytes<A: Heap>(alloc: A, bytes: &[u8]) -> Result<Bytes<A>, Starved> {
     if bytes.len() > TCP_LIMIT {
@@ -104,7 +106,7 @@ fn event<A: Heap>(alloc: A, row: Told) -> Result<Event<A>, Starved> {
     })
 }
 
-fn typed_event<A: Heap>(alloc: A, row: Told) -> Result<TypedEvent<A>, Starved> {
+fn typed_event<A: Heap>(alloc: A, row: Told) -> Result<Option<TypedEvent<A>>, Starved> {
     let event = event(alloc, row)?;
     read_event(alloc, &event)
 }
@@ -112,7 +114,9 @@ fn typed_event<A: Heap>(alloc: A, row: Told) -> Result<TypedEvent<A>, Starved> {
 fn typed_events<A: Heap>(alloc: A) -> Result<Vec<TypedEvent<A>, A>, Starved> {
     let mut events = Vec::with_capacity(alloc, EVENTS.len())?;
     for row in EVENTS {
-        events.push(typed_event(alloc, *row)?)?;
+        if let Some(event) = typed_event(alloc, *row)? {
+            events.push(event)?;
+        }
     }
     Ok(events)
 }
@@ -314,6 +318,24 @@ fn copies<T: Copied + Drop, B: Allocator>(
     let wrong = wrong_copy(rows)?;
     let growths = heap.growths().saturating_sub(before);
     Ok((wrong, growths, first_unsaid(heap, rows, growths)))
+}
+
+// How many of these rows are read as events.
+fn read_rows<A: Heap>(alloc: A, rows: &[Told]) -> Result<u32, Starved> {
+    let mut read = 0u32;
+    for row in rows {
+        if typed_event(alloc, *row)?.is_some() {
+            read = read.saturating_add(1);
+        }
+    }
+    Ok(read)
+}
+
+#[test]
+fn datagrams_that_reply_to_no_question_are_no_events(rt: HostRuntime) -> Result<(), Fail> {
+    assert_eq!(rt; read_rows(rt.alloc(), NO_REPLIES)?, 0);
+    assert_eq!(rt; read_rows(rt.alloc(), EVENTS)?, 16);
+    Ok(())
 }
 
 #[test]

@@ -11,9 +11,10 @@ use crate::replies::reply;
 use crate::row::{Row, hasher};
 use crate::shown::{put_asked, put_cut, put_link};
 use authority::Catalog;
+use classify::read;
 use dname::Name;
 use frames::Frame;
-use iterate::{Input, Job, Next, Started, advance, begin_query};
+use iterate::{Input, Job, Next, Started, advance, advance_by_reply, begin_query};
 use lookup::{Capacities, Found, Hashers, Home, Stores, Taken, find, found_addresses};
 use lru::DefaultHasher;
 use rdata::{Addr, RType, Records};
@@ -21,7 +22,7 @@ use referral::Cut;
 use std::alloc::Global;
 use std::num::NonZeroUsize;
 use text_lines::LineKind;
-use wire::{Via, View};
+use wire::Via;
 use zone::{Link, Zone};
 
 #[derive(Drop)]
@@ -325,7 +326,7 @@ impl Asked {
     fn advance(
         &mut self,
         alloc: Global,
-        input: Input<'_>,
+        input: Input,
         now: u64,
         out: &mut String,
     ) -> Result<(), LineKind> {
@@ -348,10 +349,20 @@ impl Asked {
         now: u64,
         out: &mut String,
     ) -> Result<(), LineKind> {
-        match View::new(row.alloc, bytes) {
-            Ok(view) => self.advance(row.alloc, Input::Told(Via::Udp, server, view), now, out),
-            Err(_) => Err(LineKind::BadHex),
+        let reading = read(row.alloc, Via::Udp, bytes)?.ok_or(LineKind::BadHex)?;
+        if !self.job.seeks(&reading) {
+            return Err(LineKind::UnknownWord);
         }
+        let next = advance_by_reply(
+            row.alloc,
+            &mut self.job,
+            server,
+            &reading,
+            &self.home,
+            &mut self.stores,
+            now,
+        )?;
+        put_next(out, row.alloc, &next, self.job.asks())
     }
 
     fn reply(&mut self, row: &mut Row<'_>, out: &mut String) -> Result<(), LineKind> {

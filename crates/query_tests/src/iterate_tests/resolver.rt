@@ -3,14 +3,15 @@ ghost use Rattle.std.specs.Prelude.{◌<◌, ◌+◌, ◌^◌};
 
 use crate::shared::{home, stores};
 use causes::Cause;
+use classify::read;
 use dname::Name;
-use iterate::{Input, Job, Next, Started, advance, begin_query};
+use iterate::{Input, Job, Next, Started, advance, advance_by_reply, begin_query};
 use lookup::{Home, Stores};
 use lru::DefaultHasher;
 use memory::{Heap, Starved};
 use rdata::{RData, RType, RecordSet, Records};
 use record_fixtures::{Row, Value, address, name, record, records};
-use wire::{Header, Message, Questions, UDP_LIMIT, Via, View, encode};
+use wire::{Header, Message, Questions, UDP_LIMIT, Via, encode};
 use zone::Link;
 
 // Servers are known by the last byte of their address, which stands in 192.0.2.0/24: one of the root, one of
@@ -248,7 +249,7 @@ impl<A: Heap> Asked<A> {
         self.query(&name, now)
     }
 
-    fn advance(&mut self, input: Input<'_, A>, now: u32) -> Result<Out, Starved> {
+    fn advance(&mut self, input: Input, now: u32) -> Result<Out, Starved> {
         let next = advance(
             self.alloc,
             &mut self.job,
@@ -265,10 +266,22 @@ impl<A: Heap> Asked<A> {
         let Ok(bytes) = encode(self.alloc, message, UDP_LIMIT) else {
             return Err(Starved);
         };
-        match View::new(self.alloc, &bytes) {
-            Ok(view) => self.advance(Input::Told(Via::Udp, address(server), view), now),
-            Err(_) => Err(Starved),
+        let Some(reading) = read(self.alloc, Via::Udp, &bytes)? else {
+            return Err(Starved);
+        };
+        if !self.job.seeks(&reading) {
+            return Err(Starved);
         }
+        let next = advance_by_reply(
+            self.alloc,
+            &mut self.job,
+            address(server),
+            &reading,
+            &self.home,
+            &mut self.stores,
+            u64::from(now),
+        )?;
+        Ok(short(&next))
     }
 
     // What goes out at this moment for what comes in.
