@@ -1,11 +1,12 @@
 //! Rows about a resolver's steps. `core HINT` makes one with that server of the root; `client CLIENT AT BYTES` is what
-//! a client says over UDP, `server SERVER AT BYTES` what a server says by the way of the last ask, behind its ID, and
+//! a client says over UDP, `server SERVER AT BYTES` what a server says by the way of the last ask, behind its ID.
+//! `stray BY PORT SERVER AT BYTES` is the same where the socket, or the number over TCP, is greater by BY, from that port;
 //! `tick AT` time. `client-fronts` and `server-fronts` before the words of such a row are each front of the bytes; what
 //! comes of those that follow one another is said once where it is the same.
 use crate::row::Row;
 use crate::shown::{put_hex, put_reply};
 use engine_fixture::{Ask, Out, TestResolver, bounded};
-use events::{Action, Actions, Bytes, Event};
+use events::{Action, Actions, Bytes, Endpoint, Event, Path};
 use rdata::Addr;
 use std::alloc::Global;
 use text_lines::LineKind;
@@ -134,6 +135,33 @@ impl Speech {
         take(resolver, &event, out)
     }
 
+    // The server says its message from this port where nobody waits for it, so far behind the ask's socket or number.
+    fn stray(
+        &self,
+        resolver: &TestResolver<Global>,
+        by: u16,
+        port: u16,
+    ) -> Result<Event, LineKind> {
+        let ask = resolver.ask();
+        let bytes = front_of(resolver.heap(), ask.id, &self.bytes, self.whole())?;
+        Ok(match ask.path {
+            Path::Udp(socket) => Event::Datagram {
+                moment: self.moment,
+                socket: socket.saturating_add(by),
+                from: Endpoint {
+                    address: self.server,
+                    port,
+                },
+                bytes,
+            },
+            Path::Tcp(number) => Event::TcpReply {
+                moment: self.moment,
+                number: number.saturating_add(u64::from(by)),
+                bytes,
+            },
+        })
+    }
+
     // How long the server's message is, its ID before these bytes.
     fn whole(&self) -> usize {
         self.bytes.len().saturating_add(2)
@@ -184,6 +212,7 @@ impl Steps {
             "core" => self.begin(row),
             "client" => self.ask(row, out),
             "server" => self.tell(row, out),
+            "stray" => self.stray(row, out),
             "client-fronts" => self.ask_fronts(row, out),
             "server-fronts" => self.tell_fronts(row, out),
             _ => self.tick(row, out),
@@ -212,6 +241,15 @@ impl Steps {
     fn tell(&mut self, row: &mut Row<'_>, out: &mut String) -> Result<(), LineKind> {
         let speech = of_server(row)?;
         speech.tell(self.resolver()?, speech.whole(), out)
+    }
+
+    fn stray(&mut self, row: &mut Row<'_>, out: &mut String) -> Result<(), LineKind> {
+        let by = row.short()?;
+        let port = row.short()?;
+        let speech = of_server(row)?;
+        let resolver = self.resolver()?;
+        let event = speech.stray(resolver, by, port)?;
+        take(resolver, &event, out)
     }
 
     fn tick(&mut self, row: &mut Row<'_>, out: &mut String) -> Result<(), LineKind> {
