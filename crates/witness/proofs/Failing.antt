@@ -87,7 +87,7 @@ work_failed id = record {
 
 -- ---- the replies
 
-abbrev refusing : Cause → Action
+abbrev pub refusing : Cause → Action
 refusing c = Reply 1 Udp (encoding failed_reply) (Some c)
 
 none_left_reply : IsReply who (outcome.Fail NoServerLeft) (refusing NoServerLeft)

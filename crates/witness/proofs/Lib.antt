@@ -2,8 +2,10 @@ pub mod Aliases
 pub mod Cached
 pub mod Course
 pub mod Failing
+pub mod LookUps
 pub mod Place
 pub mod Servers
 pub mod Steps
 pub mod Streams
 pub mod Talk
+pub mod Unaddressed

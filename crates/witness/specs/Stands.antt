@@ -1,6 +1,7 @@
 -- The premises of the laws over runs can be met: by a run in which a referral is followed and a query answered, by one
 -- in which servers are silent, one in which a server fails, one in which memory is refused, one in which the cache
--- answers, one that goes on over TCP, one that follows an alias, and one that looks up a server's name.
+-- answers, one that goes on over TCP, one that follows an alias, one that looks up a server's name, and one that would
+-- have to look up too many.
 use Rattle.std.specs.Prelude.{◌≡◌, ◌≢◌, ℕ, ◌<◌, true, Some, None, List, [], ◌∷◌, ◌++◌, Contains}
 use Rattle.dname.specs.Labels.{Name, root}
 use Rattle.rdata.specs.Data.{Ipv4}
@@ -9,7 +10,7 @@ use Rattle.rdata.specs.Types.{type_number}
 use Rattle.message_grammar.specs.Messages.{Message, IsMessage}
 use Rattle.wire.specs.declared.via.Via.{Via}
 use Rattle.causes.specs.declared.cause.Cause.{Cause}
-use Rattle.causes.specs.declared.cause.Cause.TheVariants.{NoServerLeft, KnownFailure}
+use Rattle.causes.specs.declared.cause.Cause.TheVariants.{NoServerLeft, KnownFailure, TooManyLookUps}
 use Rattle.front.specs.Queries.{IsRequest}
 use Rattle.front.specs.declared.queries.Request.TheVariants as request
 use Rattle.front.specs.declared.queries.Query.{Query}
@@ -274,3 +275,19 @@ pub record LooksUpServer (port : ℕ) (run : List Turn) : Type 0 where
 
 abbrev pub LookUpStands : Type 0
 LookUpStands = (W : World) × (site : Site) × (run : List Turn) × (s : State) × AreMet W site run s × LooksUpServer site.port run
+
+-- ---- too many look-ups
+
+-- A query is over in its own step, before any server is asked: 64 names of servers were looked up for it, and another one
+-- would have to be.
+pub record IsTooManyLookUps (run : List Turn) : Type 0 where
+  pub who : ClientQuery
+  pub last : Turn
+  pub run_is : run ≡ last ∷ []
+  pub recursive_is : recursive who.query ≡ true
+  pub came : Came Own who last []
+  pub bytes : List ℕ
+  pub gives : GivesOut last.out (Reply who.client who.way bytes (Some TooManyLookUps))
+
+abbrev pub TooManyLookUpsStands : Type 0
+TooManyLookUpsStands = (W : World) × (site : Site) × (run : List Turn) × (s : State) × AreMet W site run s × IsTooManyLookUps run
