@@ -117,28 +117,33 @@ impl<R: Net<Listener = TcpListener, Stream = TcpStream> + Clock> Client<'_, R> {
 
     // Asks in a datagram.
     fn asks(&self, question: Question) -> Option<()> {
-        let mut buffer = [0u8; 512];
+        let socket = self.sends(question)?;
+        self.hears(&socket, question)
+    }
+
+    // Sends a question in a datagram, from a port of its own.
+    fn sends(&self, question: Question) -> Option<UdpSocket> {
         let socket = UdpSocket::bind(self.rt, address(ANYWHERE)).ok()?;
         socket.set_read_timeout(Some(patience())).ok()?;
         socket.send_to(question.query, address(self.at)).ok()?;
+        Some(socket)
+    }
+
+    // Takes the reply to what was sent from this port.
+    fn hears(&self, socket: &UdpSocket, question: Question) -> Option<()> {
+        let mut buffer = [0u8; 512];
         let (count, _) = socket.recv_from(&mut buffer).ok()?;
         self.is_right(question, &buffer[..count])
     }
 
-    // Asks in a datagram from each of many ports before a reply is read: each port has its own.
+    // Asks from each of many ports before a reply is read: each port has its own.
     fn asks_from_many(&self) -> Option<()> {
         let mut sockets = Vec::new(self.alloc);
         for place in 0..PORTS {
-            let socket = UdpSocket::bind(self.rt, address(ANYWHERE)).ok()?;
-            socket.set_read_timeout(Some(patience())).ok()?;
-            let question = question_at(place);
-            socket.send_to(question.query, address(self.at)).ok()?;
-            sockets.push(socket).ok()?;
+            sockets.push(self.sends(question_at(place))?).ok()?;
         }
-        let mut buffer = [0u8; 512];
         for (place, socket) in sockets.iter().enumerate() {
-            let (count, _) = socket.recv_from(&mut buffer).ok()?;
-            self.is_right(question_at(place), &buffer[..count])?;
+            self.hears(socket, question_at(place))?;
         }
         Some(())
     }
