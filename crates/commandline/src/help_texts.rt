@@ -82,6 +82,7 @@ The file of a server has lines of these words; blank lines and lines that begin 
   workers N                  how many times sixteen asks over TCP are under way, up to 16; 4
   streams N                  how many streams of clients are open at once, up to 256; 1
   clients N                  how many questions of one address may be under way in datagrams, up to 1024; 256
+  loops N                    how many threads take clients' datagrams, up to 16; 1
   seed HEX                   what identifiers are drawn from, 64 digits; random
 ";
 

@@ -79,11 +79,12 @@ LacksZone held (l ∷ ls) f = HoldsNoZone held l.file l.origin f ⊎ ((z : ZoneS
 abbrev pub IsSeedOf : Config → List ℕ → Type 0
 IsSeedOf c seed = IfSome c.seed (λ stated. stated ≡ seed)
 
--- As many streams and workers as the file says, and servers are asked in the blocks of its hints.
+-- As many streams, workers and loops as the file says, and servers are asked in the blocks of its hints.
 pub record IsBounded (config : Config) (b : Bounds) : Type 0 where
   pub streams : b.streams ≡ config.streams
   pub workers : b.workers ≡ config.workers
   pub clients : b.clients ≡ config.clients
+  pub loops : b.loops ≡ config.loops
   pub hints : List Addr
   pub hinted : map (λ (a : Addr). a.0) hints ≡ config.hints
   pub reach : IsReach hints b.reach

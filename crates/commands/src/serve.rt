@@ -156,12 +156,14 @@ fn bounds_of<A: Allocator>(
         u16::try_from(config.streams),
         u16::try_from(config.workers),
         u16::try_from(config.clients),
+        u16::try_from(config.loops),
     ) {
-        (Ok(streams), Ok(workers), Ok(clients)) => Ok(Bounds {
+        (Ok(streams), Ok(workers), Ok(clients), Ok(loops)) => Ok(Bounds {
             streams,
             workers,
             reach: Reach::of_hints(&config.hints),
             clients,
+            loops,
             seed,
         }),
         _ => Err(Fault::Settings),

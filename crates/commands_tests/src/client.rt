@@ -51,6 +51,17 @@ const SHORT: &[u8] = b"\0\x05";
 
 const REPLY: &[u8] = b"\0\x05\x80\0\0\0\0\0\0\0\0\0";
 
+// How many ports ask at once, and what each of them asks.
+const PORTS: usize = 200;
+
+fn question_at(place: usize) -> Question {
+    match place % 3 {
+        0 => WWW,
+        1 => APP,
+        _ => DB,
+    }
+}
+
 // Any port of this host that is free.
 pub const ANYWHERE: Endpoint = Endpoint {
     address: Addr([127, 0, 0, 1]),
@@ -82,6 +93,7 @@ impl<R: Net<Listener = TcpListener, Stream = TcpStream> + Clock> Client<'_, R> {
         self.asks(WWW).ok_or("a datagram once more")?;
         self.asks_on_one(WWW).ok_or("a frame")?;
         self.asks(APP).ok_or("an alias")?;
+        self.asks_from_many().ok_or("many datagrams at once")?;
         let asked = asked.load(Ordering::SeqCst);
         self.asks_beside_silence().ok_or("beside a silent stream")?;
         self.asks_at_once().ok_or("two frames at once")?;
@@ -105,12 +117,35 @@ impl<R: Net<Listener = TcpListener, Stream = TcpStream> + Clock> Client<'_, R> {
 
     // Asks in a datagram.
     fn asks(&self, question: Question) -> Option<()> {
-        let mut buffer = [0u8; 512];
+        let socket = self.sends(question)?;
+        self.hears(&socket, question)
+    }
+
+    // Sends a question in a datagram, from a port of its own.
+    fn sends(&self, question: Question) -> Option<UdpSocket> {
         let socket = UdpSocket::bind(self.rt, address(ANYWHERE)).ok()?;
         socket.set_read_timeout(Some(patience())).ok()?;
         socket.send_to(question.query, address(self.at)).ok()?;
+        Some(socket)
+    }
+
+    // Takes the reply to what was sent from this port.
+    fn hears(&self, socket: &UdpSocket, question: Question) -> Option<()> {
+        let mut buffer = [0u8; 512];
         let (count, _) = socket.recv_from(&mut buffer).ok()?;
         self.is_right(question, &buffer[..count])
+    }
+
+    // Asks from each of many ports before a reply is read: each port has its own.
+    fn asks_from_many(&self) -> Option<()> {
+        let mut sockets = Vec::new(self.alloc);
+        for place in 0..PORTS {
+            sockets.push(self.sends(question_at(place))?).ok()?;
+        }
+        for (place, socket) in sockets.iter().enumerate() {
+            self.hears(socket, question_at(place))?;
+        }
+        Some(())
     }
 
     fn open(&self) -> Option<TcpStream> {

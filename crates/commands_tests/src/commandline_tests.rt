@@ -205,6 +205,7 @@ fn help_explains_commands_and_numbers(rt: HostRuntime) -> Result<(), Fail> {
         "error: output",
         "2 for the command line",
         "clients N",
+        "loops N",
         "note: SENTENCE",
     ] {
         assert!(rt; help.as_str().contains(text), "{text}");

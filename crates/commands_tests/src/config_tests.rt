@@ -7,7 +7,7 @@ use std::test::Fail;
 use text_lines::LineKind;
 
 const WHOLE: &str =
-    "; a server\n\nlisten 127.0.0.1 5300\nport 5353\nhint 198.41.0.4\n hint\t170.247.170.2\nlocal corp.example. corp.zone\nlocal . \tr/\u{e9}.zone \ncache 1000000\ndelegations 1\npenalties 7\nfailures 8\nsockets 16\nworkers 1\nstreams 256\nclients 1024\nseed 000102030405060708090A0b0c0d0e0f101112131415161718191a1b1c1d1e1f\n";
+    "; a server\n\nlisten 127.0.0.1 5300\nport 5353\nhint 198.41.0.4\n hint\t170.247.170.2\nlocal corp.example. corp.zone\nlocal . \tr/\u{e9}.zone \ncache 1000000\ndelegations 1\npenalties 7\nfailures 8\nsockets 16\nworkers 1\nstreams 256\nclients 1024\nloops 16\nseed 000102030405060708090A0b0c0d0e0f101112131415161718191a1b1c1d1e1f\n";
 
 // Whether the text is refused at this line with this number.
 fn is_refused<A: Heap>(alloc: A, text: &str, line: usize, number: u8) -> bool {
@@ -17,7 +17,7 @@ fn is_refused<A: Heap>(alloc: A, text: &str, line: usize, number: u8) -> bool {
     }
 }
 
-fn has_numbers<A: Heap>(config: &ServeConfig<'_, A>, numbers: [u32; 9]) -> bool {
+fn has_numbers<A: Heap>(config: &ServeConfig<'_, A>, numbers: [u32; 10]) -> bool {
     let port = u32::from(config.port);
     numbers
         == [
@@ -30,6 +30,7 @@ fn has_numbers<A: Heap>(config: &ServeConfig<'_, A>, numbers: [u32; 9]) -> bool 
             config.workers,
             config.streams,
             config.clients,
+            config.loops,
         ]
 }
 
@@ -53,7 +54,7 @@ fn each_line_is_read(rt: HostRuntime) -> Result<(), Fail> {
         Err(_) => assert!(rt; false, "the text is a server's"),
         Ok(config) => {
             assert!(rt; is_whole(&config));
-            assert!(rt; has_numbers(&config, [5353, 1_000_000, 1, 7, 8, 16, 1, 256, 1_024]));
+            assert!(rt; has_numbers(&config, [5353, 1_000_000, 1, 7, 8, 16, 1, 256, 1_024, 16]));
         }
     }
     Ok(())
@@ -64,7 +65,7 @@ fn what_is_left_out_is_as_usual(rt: HostRuntime) -> Result<(), Fail> {
     match read_config(rt.alloc(), "listen 0.0.0.0 0") {
         Err(_) => assert!(rt; false, "the text is a server's"),
         Ok(config) => {
-            assert!(rt; has_numbers(&config, [53, 1024, 1024, 1024, 1024, 16, 4, 1, 256]));
+            assert!(rt; has_numbers(&config, [53, 1024, 1024, 1024, 1024, 16, 4, 1, 256, 1]));
             assert!(rt;
                 config.seed.is_none() && config.hints.is_empty() && config.locals.is_empty()
             );
@@ -116,6 +117,12 @@ fn the_first_bad_line_is_named(rt: HostRuntime) -> Result<(), Fail> {
         ("streams 8\nstreams 8", 2, 5),
         ("clients 0", 1, 2),
         ("clients 1025", 1, 2),
+        ("loops 0", 1, 2),
+        ("loops 17", 1, 2),
+        ("loops", 1, 5),
+        ("loops x", 1, 2),
+        ("loops 2 2", 1, 5),
+        ("loops 2\nloops 2", 2, 5),
         ("hint 1.2.3.04", 1, 8),
         ("local a..b x", 1, 3),
         ("local a", 1, 5),

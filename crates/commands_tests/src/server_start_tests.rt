@@ -21,11 +21,11 @@ use std::time::Clock;
 use worlds::World;
 
 // The resolver that this text of a server's file describes, with the local zone of the world.
-fn resolver(alloc: Global, world: &World, port: u16) -> Result<Core, Starved>
+fn resolver(alloc: Global, world: &World, port: u16, loops: u16) -> Result<Core, Starved>
     ensures { IfOk result IsBegun }
 {
     let text = format!(in alloc;
-        "listen 127.0.0.1 0\nport {port}\nhint 127.0.0.2\nlocal corp.example. corp\nsockets 2\nworkers 2\nstreams 16\n"
+        "listen 127.0.0.1 0\nport {port}\nhint 127.0.0.2\nlocal corp.example. corp\nsockets 2\nworkers 2\nstreams 16\nloops {loops}\n"
     )?;
     let Ok(config) = read_config(alloc, text.as_str()) else {
         return Err(Starved);
@@ -37,12 +37,13 @@ fn resolver(alloc: Global, world: &World, port: u16) -> Result<Core, Starved>
 }
 
 // What the text says of its loops.
-fn bounds() -> Bounds {
+fn bounds(loops: u16) -> Bounds {
     Bounds {
         streams: 16,
         workers: 2,
         reach: Reach::of_hints(&[Addr([127, 0, 0, 2])]),
         clients: 256,
+        loops,
         seed: [7; 32],
     }
 }
@@ -53,11 +54,12 @@ fn resolve<R: Net<Listener = TcpListener, Stream = TcpStream> + Threads + Wait +
     alloc: Global,
     world: &World,
     port: u16,
+    loops: u16,
     ends: &Ends,
     stop: &AtomicBool,
 ) -> bool {
-    match resolver(alloc, world, port) {
-        Ok(core) => run_server(rt, alloc, core, ends, bounds(), stop).is_ok(),
+    match resolver(alloc, world, port, loops) {
+        Ok(core) => run_server(rt, alloc, core, ends, bounds(loops), stop).is_ok(),
         Err(_) => false,
     }
 }
@@ -67,6 +69,7 @@ fn seen_by<R: Net<Listener = TcpListener, Stream = TcpStream> + Threads + Wait +
     client: &Client<'_, R>,
     hosts: &[Nameserver],
     port: u16,
+    loops: u16,
     ends: &Ends,
 ) -> Result<u64, &'static str> {
     let (rt, alloc, world) = (client.rt, client.alloc, client.world);
@@ -81,7 +84,7 @@ fn seen_by<R: Net<Listener = TcpListener, Stream = TcpStream> + Threads + Wait +
                 stop.store(true, Ordering::SeqCst);
             }
         }
-        let runs = scope.spawn(move || resolve(rt, alloc, world, port, ends, stop));
+        let runs = scope.spawn(move || resolve(rt, alloc, world, port, loops, ends, stop));
         let seen = client.visit(asked);
         stop.store(true, Ordering::SeqCst);
         match runs {
@@ -101,6 +104,7 @@ fn seen_by<R: Net<Listener = TcpListener, Stream = TcpStream> + Threads + Wait +
 fn meeting<R: Net<Listener = TcpListener, Stream = TcpStream> + Threads + Wait + Clock + Sync>(
     rt: &R,
     alloc: Global,
+    loops: u16,
 ) -> Result<u64, &'static str> {
     let hosts = nameservers(rt, alloc).ok_or("no sockets for the servers")?;
     let port = port_of(&hosts).ok_or("no port")?;
@@ -119,14 +123,16 @@ fn meeting<R: Net<Listener = TcpListener, Stream = TcpStream> + Threads + Wait +
         world: &world,
         at,
     };
-    seen_by(&client, &hosts, port, &ends)
+    seen_by(&client, &hosts, port, loops, &ends)
 }
 
 #[test]
 fn each_client_is_answered_right(rt: HostRuntime) {
-    assert_eq!(rt;
-        meeting(&rt, rt.alloc()),
-        Ok(4),
-        "four questions reach the servers"
-    );
+    for loops in [1, 4] {
+        assert_eq!(rt;
+            meeting(&rt, rt.alloc(), loops),
+            Ok(4),
+            "four questions reach the servers, loops {loops}"
+        );
+    }
 }

@@ -26,6 +26,10 @@ max_streams = 256
 abbrev pub max_clients : ℕ
 max_clients = 1024
 
+-- The most loops that take clients' datagrams.
+abbrev pub max_loops : ℕ
+max_loops = 16
+
 -- Where a server listens, or serves its counters.
 pub record End : Type 0 where
   pub address : List ℕ
@@ -50,6 +54,7 @@ pub record Draft : Type 0 where
   pub workers : Option ℕ
   pub streams : Option ℕ
   pub clients : Option ℕ
+  pub loops : Option ℕ
   pub metrics : Option End
   pub log : Option LogLevel
   pub seed : Option (List ℕ)
@@ -68,6 +73,7 @@ blank = record {
   workers = None;
   streams = None;
   clients = None;
+  loops = None;
   metrics = None;
   log = None;
   seed = None;
@@ -134,6 +140,7 @@ said_by d the.Sockets ws = number_in 1 max_sockets ws >>= λ n. (once d.sockets 
 said_by d the.Workers ws = number_in 1 max_workers ws >>= λ n. (once d.workers n >>= λ v. Ok (record d { workers = v }))
 said_by d the.Streams ws = number_in 1 max_streams ws >>= λ n. (once d.streams n >>= λ v. Ok (record d { streams = v }))
 said_by d the.Clients ws = number_in 1 max_clients ws >>= λ n. (once d.clients n >>= λ v. Ok (record d { clients = v }))
+said_by d the.Loops ws = number_in 1 max_loops ws >>= λ n. (once d.loops n >>= λ v. Ok (record d { loops = v }))
 said_by d the.Metrics ws = end_in 1 ws >>= λ e. (once d.metrics e >>= λ v. Ok (record d { metrics = v }))
 said_by d the.Log ws = level_in ws >>= λ l. (once d.log l >>= λ v. Ok (record d { log = v }))
 said_by d the.Seed ws = seed_in ws >>= λ s. (once d.seed s >>= λ v. Ok (record d { seed = v }))
@@ -162,6 +169,7 @@ pub record Config : Type 0 where
   pub workers : ℕ
   pub streams : ℕ
   pub clients : ℕ
+  pub loops : ℕ
   pub metrics : Option End
   pub log : Option LogLevel
   pub seed : Option (List ℕ)
@@ -186,6 +194,7 @@ finished d (Some e) = Ok (record {
   workers = stated d.workers 4;
   streams = stated d.streams 1;
   clients = stated d.clients 256;
+  loops = stated d.loops 1;
   metrics = d.metrics;
   log = d.log;
   seed = d.seed;

@@ -2,7 +2,7 @@
 use Rattle.std.specs.Prelude.{ℕ, cond, codes, List, Option, Some, None}
 use Rattle.std.specs.Str.{bytes_eq}
 use Rattle.config.specs.declared.keyword.Keyword.{Keyword}
-use Rattle.config.specs.declared.keyword.Keyword.TheVariants.{Listen, Port, Hint, Local, Cache, Delegations, Penalties, Failures, Sockets, Workers, Streams, Clients, Metrics, Log, Seed}
+use Rattle.config.specs.declared.keyword.Keyword.TheVariants.{Listen, Port, Hint, Local, Cache, Delegations, Penalties, Failures, Sockets, Workers, Streams, Clients, Loops, Metrics, Log, Seed}
 
 -- The keyword that a word is, letters as they stand.
 abbrev pub keyword_of : List ℕ → Option Keyword
@@ -19,6 +19,7 @@ keyword_of w =
     (cond (bytes_eq w (codes "workers")) (Some Workers)
     (cond (bytes_eq w (codes "streams")) (Some Streams)
     (cond (bytes_eq w (codes "clients")) (Some Clients)
+    (cond (bytes_eq w (codes "loops")) (Some Loops)
     (cond (bytes_eq w (codes "metrics")) (Some Metrics)
     (cond (bytes_eq w (codes "log")) (Some Log)
-    (cond (bytes_eq w (codes "seed")) (Some Seed) None))))))))))))))
+    (cond (bytes_eq w (codes "seed")) (Some Seed) None)))))))))))))))

@@ -4,9 +4,10 @@
 //! server of the root, `local ORIGIN FILE` a zone that is served from its file. `cache N`, `delegations N`,
 //! `penalties N` and `failures N` say how many entries are kept of each (1,024), `sockets N` of how many socket
 //! numbers each ask draws one (16), `workers N` how many times sixteen asks over TCP are under way (4), `streams N` how
-//! many streams of clients are open (1), `clients N` how many questions of one address are under way (256). `metrics
-//! ADDRESS PORT` says where its counters are served and `log LEVEL` how much it logs (nothing), `seed HEX` where identifiers begin. Blank lines and lines that begin with `;`
-//! are skipped. Words are parted by spaces and tabs.
+//! many streams of clients are open (1), `clients N` how many questions of one address are under way (256), `loops N`
+//! how many loops take clients' datagrams (1). `metrics ADDRESS PORT` says where its counters are served, `log LEVEL`
+//! how much it logs (nothing) and `seed HEX` where identifiers begin. Blank lines and lines that begin with `;` are
+//! skipped. Words are parted by spaces and tabs.
 ghost use Rattle.std.specs.Prelude.{◌≡◌, Ok, Err, MatchResult};
 ghost use Rattle.text_lines.specs.Texts.{IsTextFault};
 ghost use Rattle.config.specs.Configs.{config_of};
@@ -89,6 +90,8 @@ pub struct ServeConfig<'t, A: Allocator = Global> {
     pub streams: u32,
     /// Questions that one address may have under way in datagrams, 1 to 1,024.
     pub clients: u32,
+    /// Loops that take clients' datagrams, 1 to 16.
+    pub loops: u32,
     /// Where its counters are served over HTTP; nowhere where there is none. Its port is not 0.
     pub metrics: Option<Endpoint>,
     /// How much it logs; nothing where there is none.
@@ -104,7 +107,7 @@ impl<'t, A: Allocator> Model for ServeConfig<'t, A> {
 
     ghost Value = { Config };
 
-    ghost view = { λ c. record { listen = c.listen; port = c.port; hints = map (λ a. a.0) c.hints.items; locals = c.locals.items; cache = c.cache; delegations = c.delegations; penalties = c.penalties; failures = c.failures; sockets = c.sockets; workers = c.workers; streams = c.streams; clients = c.clients; metrics = c.metrics; log = c.log; seed = c.seed } };
+    ghost view = { λ c. record { listen = c.listen; port = c.port; hints = map (λ a. a.0) c.hints.items; locals = c.locals.items; cache = c.cache; delegations = c.delegations; penalties = c.penalties; failures = c.failures; sockets = c.sockets; workers = c.workers; streams = c.streams; clients = c.clients; loops = c.loops; metrics = c.metrics; log = c.log; seed = c.seed } };
 }
 
 /// What a server's file says. Refused by its first bad line, counted from 1: a value out of its limits as a bad number,

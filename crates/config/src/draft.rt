@@ -25,10 +25,13 @@ const SOCKETS: u64 = MAX_SOCKETS as u64;
 const WORKERS: u64 = MAX_WORKERS as u64;
 
 // How many streams of clients are open at once, at most.
-const STREAMS: u64 = 256;
+const MAX_STREAMS: u64 = 256;
 
 // How many questions one address may have under way, at most.
-const CLIENTS: u64 = 1_024;
+const MAX_CLIENTS: u64 = 1_024;
+
+// How many loops take clients' datagrams, at most.
+const MAX_LOOPS: u64 = 16;
 
 /// What the lines said up to here.
 #[derive(Drop)]
@@ -45,6 +48,7 @@ pub(crate) struct Draft<'t, A: Allocator> {
     workers: Option<u32>,
     streams: Option<u32>,
     clients: Option<u32>,
+    loops: Option<u32>,
     metrics: Option<Endpoint>,
     log: Option<LogLevel>,
     seed: Option<[u8; 32]>,
@@ -56,7 +60,7 @@ impl<'t, A: Allocator> Model for Draft<'t, A> {
 
     ghost Value = { DraftSpec };
 
-    ghost view = { λ d. record { listen = d.listen; port = d.port; hints = map (λ a. a.0) d.hints.items; locals = d.locals.items; cache = d.cache; delegations = d.delegations; penalties = d.penalties; failures = d.failures; sockets = d.sockets; workers = d.workers; streams = d.streams; clients = d.clients; metrics = d.metrics; log = d.log; seed = d.seed } };
+    ghost view = { λ d. record { listen = d.listen; port = d.port; hints = map (λ a. a.0) d.hints.items; locals = d.locals.items; cache = d.cache; delegations = d.delegations; penalties = d.penalties; failures = d.failures; sockets = d.sockets; workers = d.workers; streams = d.streams; clients = d.clients; loops = d.loops; metrics = d.metrics; log = d.log; seed = d.seed } };
 }
 
 // A value that one line alone may state.
@@ -86,6 +90,7 @@ impl<'t, A: Heap> Draft<'t, A> {
             workers: None,
             streams: None,
             clients: None,
+            loops: None,
             metrics: None,
             log: None,
             seed: None,
@@ -123,8 +128,9 @@ impl<'t, A: Heap> Draft<'t, A> {
             Keyword::Failures => self.failures = once(self.failures, number(words, ENTRIES)?)?,
             Keyword::Sockets => self.sockets = once(self.sockets, number(words, SOCKETS)?)?,
             Keyword::Workers => self.workers = once(self.workers, number(words, WORKERS)?)?,
-            Keyword::Streams => self.streams = once(self.streams, number(words, STREAMS)?)?,
-            Keyword::Clients => self.clients = once(self.clients, number(words, CLIENTS)?)?,
+            Keyword::Streams => self.streams = once(self.streams, number(words, MAX_STREAMS)?)?,
+            Keyword::Clients => self.clients = once(self.clients, number(words, MAX_CLIENTS)?)?,
+            Keyword::Loops => self.loops = once(self.loops, number(words, MAX_LOOPS)?)?,
             Keyword::Metrics => self.metrics = once(self.metrics.take(), endpoint(words, 1)?)?,
             Keyword::Log => self.log = once(self.log, level(words)?)?,
             Keyword::Seed => self.seed = once(self.seed, seed(words)?)?,
@@ -160,6 +166,7 @@ impl<'t, A: Heap> Draft<'t, A> {
             workers,
             streams,
             clients,
+            loops,
             metrics,
             log,
             seed,
@@ -180,6 +187,7 @@ impl<'t, A: Heap> Draft<'t, A> {
             workers: or_usual(workers, 4),
             streams: or_usual(streams, 1),
             clients: or_usual(clients, 256),
+            loops: or_usual(loops, 1),
             metrics,
             log,
             seed,

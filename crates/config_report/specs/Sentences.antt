@@ -16,7 +16,7 @@ word_count w = cond (bytes_eq w (codes "listen") || (bytes_eq w (codes "local") 
 abbrev pub words_of : List ℕ → List ℕ
 words_of w =
     cond (bytes_eq w (codes "log")) (codes "a level is warn or info")
-    (codes "a line begins with listen, port, hint, local, cache, delegations, penalties, failures, sockets, workers, streams, clients, metrics, log or seed")
+    (codes "a line begins with listen, port, hint, local, cache, delegations, penalties, failures, sockets, workers, streams, clients, loops, metrics, log or seed")
 
 -- The form of a line that begins with this word.
 abbrev pub form_of : List ℕ → List ℕ
@@ -34,7 +34,7 @@ range_of w =
     cond (bytes_eq w (codes "listen")) (codes "a port is a number from 0 to 65535")
     (cond (bytes_eq w (codes "metrics")) (codes "a port is a number from 1 to 65535")
     (cond (bytes_eq w (codes "port")) (codes "a number from 1 to 65535")
-    (cond (bytes_eq w (codes "sockets") || bytes_eq w (codes "workers")) (codes "a number from 1 to 16")
+    (cond (bytes_eq w (codes "sockets") || (bytes_eq w (codes "workers") || bytes_eq w (codes "loops"))) (codes "a number from 1 to 16")
     (cond (bytes_eq w (codes "streams")) (codes "a number from 1 to 256")
     (cond (bytes_eq w (codes "clients")) (codes "a number from 1 to 1024") (codes "a number from 1 to 1000000"))))))
 

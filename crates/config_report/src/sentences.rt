@@ -43,7 +43,7 @@ fn words_of(word: &str) -> &'static str
     match word {
         "log" => "a level is warn or info",
         _ =>
-            "a line begins with listen, port, hint, local, cache, delegations, penalties, failures, sockets, workers, streams, clients, metrics, log or seed",
+            "a line begins with listen, port, hint, local, cache, delegations, penalties, failures, sockets, workers, streams, clients, loops, metrics, log or seed",
     }
 }
 
@@ -70,7 +70,7 @@ fn range_of(word: &str) -> &'static str
         "listen" => "a port is a number from 0 to 65535",
         "metrics" => "a port is a number from 1 to 65535",
         "port" => "a number from 1 to 65535",
-        "sockets" | "workers" => "a number from 1 to 16",
+        "sockets" | "workers" | "loops" => "a number from 1 to 16",
         "streams" => "a number from 1 to 256",
         "clients" => "a number from 1 to 1024",
         _ => "a number from 1 to 1000000",

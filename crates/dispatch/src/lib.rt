@@ -3,8 +3,8 @@
 //! `query_event`, `stream_query_event`, `datagram_event` and `stream_reply_event` make an `events::Event` of what came. `hand_over`
 //! gives an action to a `Carrier`, sockets and channels or a list in a test, by its `destination_of`. A client's number
 //! is its address and port (`client_of`, `sender_of`), so that nothing is kept of it; that of a stream holds its address
-//! and its place (`stream_number`, `stream_client`, `place_of`). `repeats` says which datagrams are for an ask, `Reach` which servers are asked, and
-//! `role_of` what each loop does.
+//! and its place (`stream_number`, `stream_client`, `place_of`). `repeats` says which datagrams are
+//! for an ask, `Reach` which servers are asked, `role_of` what each loop does, and `loop_count` how many there are.
 //!
 //! Promised: each event and each target exactly (`target`, `Adds`); a reply goes back to the address and the port
 //! that its query came from (`replies_go_back`), and to nobody else; which messages repeat an ask (`Repeats`), and
@@ -40,5 +40,5 @@ pub use places::{
     place_of, places_are_kept, silence_before_yielding, stream_client, stream_number,
 };
 pub use questions::{failure_for, flags_law, is_failure, is_plain_query, question_end};
-pub use roles::{LOOPS, Role, role_of};
+pub use roles::{Role, loop_count, role_of};
 pub use senders::{client_of, replies_go_back, sender_of};

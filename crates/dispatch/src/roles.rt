@@ -1,5 +1,6 @@
 //! The loops of a server.
-ghost use Rattle.dispatch.specs.Roles.{IsRole};
+ghost use Rattle.std.specs.Prelude.{◌≡◌};
+ghost use Rattle.dispatch.specs.Roles.{IsRole, loop_count};
 
 /// What a loop does, over and over.
 #[derive(Clone, Copy, Debug, PartialEq, Eq)]
@@ -16,18 +17,26 @@ pub enum Role {
     Asks,
 }
 
-/// How many loops there are, a ticket for each.
-pub const LOOPS: usize = 5;
+// Streams, clock, upstream and asks.
+const OTHER_LOOPS: usize = 4;
 
-/// What the loop of this number does.
+/// How many loops there are where so many take clients' datagrams.
+pub fn loop_count(takers: u16) -> usize
+    ensures { result ≡ loop_count takers }
+{
+    usize::from(takers) + OTHER_LOOPS
+}
+
+/// What the loop of this number does: the first five have a role each, and all behind them take clients' datagrams, as
+/// the first does.
 pub fn role_of(worker: usize) -> Role
     ensures { IsRole worker result }
 {
     match worker {
-        0 => Role::Datagrams,
         1 => Role::Streams,
         2 => Role::Clock,
         3 => Role::Upstream,
-        _ => Role::Asks,
+        4 => Role::Asks,
+        _ => Role::Datagrams,
     }
 }

@@ -1,6 +1,6 @@
 //! Clients by their numbers, the loops of a small server, and what is handed over of each action.
 use dispatch::{
-    Carrier, LOOPS, Reach, Role, client_of, hand_over, place_of, repeats, role_of, sender_of,
+    Carrier, Reach, Role, client_of, hand_over, loop_count, place_of, repeats, role_of, sender_of,
     silence_before_yielding, stream_client, stream_number,
 };
 use events::{Action, Bytes, Endpoint};
@@ -24,17 +24,18 @@ fn a_number_holds_its_sender(rt: HostRuntime) -> Result<(), Fail> {
 
 #[test]
 fn each_worker_has_its_loop(rt: HostRuntime) -> Result<(), Fail> {
-    let roles = [
-        Role::Datagrams,
-        Role::Streams,
-        Role::Clock,
-        Role::Upstream,
-        Role::Asks,
-    ];
-    assert_eq!(rt; LOOPS, roles.len());
-    for (worker, role) in roles.iter().enumerate() {
-        assert!(rt; role_of(worker) == *role, "worker {worker}");
+    for (worker, role) in [
+        (0, Role::Datagrams),
+        (1, Role::Streams),
+        (2, Role::Clock),
+        (3, Role::Upstream),
+        (4, Role::Asks),
+        (5, Role::Datagrams),
+        (19, Role::Datagrams),
+    ] {
+        assert!(rt; role_of(worker) == role, "worker {worker}");
     }
+    assert_eq!(rt; (loop_count(1), loop_count(16)), (5, 20));
     Ok(())
 }
 

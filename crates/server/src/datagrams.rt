@@ -1,4 +1,4 @@
-//! The loop that takes clients' datagrams.
+//! The loops that take clients' datagrams, all from one socket: each datagram comes to one of them.
 ghost use Rattle.std.specs.Prelude.{◌≤◌, IfSome, length};
 
 use crate::clock::rest;

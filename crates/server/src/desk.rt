@@ -60,6 +60,8 @@ pub struct Bounds {
     pub reach: Reach,
     /// How many questions one address may have under way, 1 to 1,024.
     pub clients: u16,
+    /// How many loops take clients' datagrams, 1 to 16.
+    pub loops: u16,
     /// Behind this the questions of clients are hashed.
     pub seed: [u8; 32],
 }

@@ -89,7 +89,7 @@ pub(crate) fn is_early(error: &io::Error) -> bool {
 /// The sockets at which a server meets its clients, and those through which it asks other servers.
 #[derive(Drop)]
 pub struct Ends {
-    /// Where the datagrams of clients come.
+    /// Where the datagrams of clients come, to as many loops as take them.
     pub(crate) clients: UdpSocket,
     /// Where the streams of clients come.
     pub(crate) listener: TcpListener,

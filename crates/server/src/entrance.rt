@@ -197,9 +197,11 @@ impl Entrance {
         if !self.called.load(Ordering::SeqCst) {
             return None;
         }
+        // Before the door is looked at: whom another loop calls in behind that look puts the flag up again.
+        self.called.store(false, Ordering::SeqCst);
         let next = self.door.lock(rt).next();
-        if next.is_none() {
-            self.called.store(false, Ordering::SeqCst);
+        if next.is_some() {
+            self.called.store(true, Ordering::SeqCst);
         }
         next
     }

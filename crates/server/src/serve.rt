@@ -43,7 +43,7 @@ pub fn serve_until<
     bounds: Bounds,
     stop: &AtomicBool,
 ) -> Result<(), ServeError>
-    requires { IsStaffed tickets.items }
+    requires { IsStaffed bounds.loops tickets.items }
 {
     let Some(beginning) = Beginning::now(rt) else {
         return Err(ServeError::Clock);

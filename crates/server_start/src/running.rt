@@ -1,9 +1,10 @@
 //! A resolver at its sockets: its state in a book, which the loops of a server take turns at.
 ghost use Rattle.std.specs.Prelude.{◌≡◌};
+ghost use Rattle.dispatch.specs.Roles.{loop_count};
 ghost use Rattle.engine.specs.Beginnings.{IsBegun};
 
 use book::Book;
-use dispatch::LOOPS;
+use dispatch::loop_count;
 use engine::{Core, TypedCore};
 use pool::Shared;
 use server::{Bounds, Ends, ServeError, serve_until};
@@ -32,7 +33,7 @@ pub fn run_server<
 ) -> Result<(), ServeError>
     requires { IsBegun core }
 {
-    let blank = Blank::new(LOOPS as u64);
+    let blank = Blank::new(loop_count(bounds.loops) as u64);
     serve_by::<Brand, R>(rt, alloc, blank, core, ends, bounds, stop)
 }
 
@@ -50,10 +51,11 @@ fn serve_by<
     stop: &AtomicBool,
 ) -> Result<(), ServeError>
     requires name { blank.name ≡ L.name }
-    requires parts { (blank.parts ≡ L.parts) × (blank.parts ≡ 5) }
+    requires parts { (blank.parts ≡ L.parts) × (blank.parts ≡ loop_count bounds.loops) }
     requires begun { IsBegun core }
 {
-    let Ok((book, tickets)) = Book::<TypedCore, L>::new(alloc, blank, core, LOOPS, KEPT) else {
+    let loops = loop_count(bounds.loops);
+    let Ok((book, tickets)) = Book::<TypedCore, L>::new(alloc, blank, core, loops, KEPT) else {
         return Err(ServeError::Memory);
     };
     serve_until(rt, alloc, &Shared::new(book), tickets, ends, bounds, stop)
