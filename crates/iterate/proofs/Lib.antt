@@ -6,3 +6,4 @@ pub mod Sought
 pub mod QueryStarts
 pub mod Turns
 pub mod Narrowly
+pub mod Seeking

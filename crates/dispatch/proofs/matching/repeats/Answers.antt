@@ -18,7 +18,7 @@ returns-in-Ok-new-clause-kept g c = λ h.
     let both = judged c.args.ask.now c.args.reply.now c.in-Ok.asked c.in-Ok-new.reply c.repeats_message.result c.in-Ok.ensures.read c.in-Ok-new.ensures.read c.repeats_message.ensures in
     both.1 (accepted_repeats c.args.ask.now c.args.reply.now h)
 
-pub returns-in-Err-new : goal.returns-in-Err-new
-returns-in-Err-new g c =
+pub returns : goal.returns
+returns g c =
     let none = no_reply c.args.ask.now c.args.reply.now c.in-Err-new.ensures.refused in
     record { exact = never c.args.ask.now c.args.reply.now none; kept = never_accepted c.args.ask.now c.args.reply.now none }

@@ -11,9 +11,9 @@ use Rattle.iterate.proofs.beginning.work.Goals as goal
 pub set_out-requires : goal.set_out-requires
 set_out-requires g c =
     let t = type_number c.args.kind in (
-      c.requires.found.0,
-      found_of c.args.home.now c.args.now (job_at c.args.name.now t (min c.args.now latest_moment)) c.new.result c.requires.found.0 c.args.stores.now c.args.found
-          (c.new.ensures ∙ ap (λ (n : Name). job_at n t (min c.args.now latest_moment)) c.in-Ok.ensures) c.requires.found.1,
+      c.requires.0,
+      found_of c.args.home.now c.args.now (job_at c.args.name.now t (min c.args.now latest_moment)) c.new.result c.requires.0 c.args.stores.now c.args.found
+          (c.new.ensures ∙ ap (λ (n : Name). job_at n t (min c.args.now latest_moment)) c.in-Ok.ensures) c.requires.1,
     )
 
 pub returns-in-Ok-clause-begins : goal.returns-in-Ok-clause-begins

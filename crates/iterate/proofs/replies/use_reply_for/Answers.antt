@@ -4,12 +4,12 @@ use Rattle.zone.specs.Views.{link_view}
 use Rattle.classify.specs.Classes as class
 use Rattle.classify.specs.Views.{class_view, reading_view}
 use Rattle.frames.specs.Frames.{Frame}
-use Rattle.resolution.specs.Jobs.{point}
+use Rattle.resolution.specs.Jobs.{Job, Go, Again, point}
 use Rattle.resolution.specs.Rules.{ByClass}
 use Rattle.iterate.specs.Moves.{with_search}
 use Rattle.iterate.specs.Views.{task_view}
 use Rattle.iterate.proofs.Accepted.{kept_part, on_err}
-use Rattle.iterate.proofs.Narrowly.{is_answer, same_use}
+use Rattle.iterate.proofs.Narrowly.{is_answer, is_referral, is_truncated, is_failed, same_use}
 use Rattle.iterate.proofs.replies.use_reply_for.Goals as goal
 
 pub returns-in-Ok-Answer-clause-by : goal.returns-in-Ok-Answer-clause-by
@@ -20,6 +20,31 @@ returns-in-Ok-Answer-clause-by g c = λ via m for.
     subst
     (λ (k : class.Class). IfOk c.answer.result (λ t. ByClass c.args.now c.args.server c.args.search (c.args.job.now).searches k (with_search c.args.job.now c.args.search) c.args.stores.now (point (task_view t) c.answer.new.job c.answer.new.stores)))
     (sym classed) c.answer.ensures.by
+
+pub returns-in_ok-refer-in-Ok-Referral-clause-by : goal.returns-in_ok-refer-in-Ok-Referral-clause-by
+returns-in_ok-refer-in-Ok-Referral-clause-by g c = λ via m for.
+    let at = c.zone-zone.ensures ∙ ap (λ (f : Frame). f.zone) c.frame.ensures in
+    let same = same_use c.zone-zone.result.now c.args.search via m (reading_view c.args.reading.now) (class_view c.in-Ok-Referral.field-0) at c.narrow_law.ensures for c.in-Ok-Referral.ensures in
+    let r = c.in-Ok-Referral.referral in
+    let classed = is_referral _ (class_view c.in-Ok-Referral.field-0) r.at r.servers r.addresses r.ttl same (ap class_view c.in-Ok-Referral.field-0-is) in
+    subst (λ (k : class.Class). ByClass c.args.now c.args.server c.args.search (c.args.job.now).searches k (with_search c.args.job.now c.args.search) c.args.stores.now (point Go c.refer.new.job c.refer.new.stores))
+    (sym classed) c.in_ok-refer-in-Ok-Referral.ensures.by
+
+pub returns-in_ok-push-in-Ok-Truncated-clause-by : goal.returns-in_ok-push-in-Ok-Truncated-clause-by
+returns-in_ok-push-in-Ok-Truncated-clause-by g c = λ via m for.
+    let at = c.zone-zone.ensures ∙ ap (λ (f : Frame). f.zone) c.frame.ensures in
+    let same = same_use c.zone-zone.result.now c.args.search via m (reading_view c.args.reading.now) (class_view c.in-Ok-Truncated.field-0) at c.narrow_law.ensures for c.in-Ok-Truncated.ensures in
+    let classed = is_truncated _ (class_view c.in-Ok-Truncated.field-0) same (ap class_view c.in-Ok-Truncated.field-0-is) in
+    subst (λ (k : class.Class). ByClass c.args.now c.args.server c.args.search (c.args.job.now).searches k (with_search c.args.job.now c.args.search) c.args.stores.now (point (Again c.args.server) c.push.new.self c.args.stores.now))
+    (sym classed) (ap (λ (j : Job). point (Again c.args.server) j c.args.stores.now) c.in_ok-push-in-Ok-Truncated.ensures)
+
+pub returns-in_ok-push-in-Ok-Failed-clause-by : goal.returns-in_ok-push-in-Ok-Failed-clause-by
+returns-in_ok-push-in-Ok-Failed-clause-by g c = λ via m for.
+    let at = c.zone-zone.ensures ∙ ap (λ (f : Frame). f.zone) c.frame.ensures in
+    let same = same_use c.zone-zone.result.now c.args.search via m (reading_view c.args.reading.now) (class_view c.in-Ok-Failed.field-0) at c.narrow_law.ensures for c.in-Ok-Failed.ensures in
+    let classed = (is_failed _ (class_view c.in-Ok-Failed.field-0) c.in-Ok-Failed.field-0-0 same (ap class_view c.in-Ok-Failed.field-0-is)).1 in
+    subst (λ (k : class.Class). ByClass c.args.now c.args.server c.args.search (c.args.job.now).searches k (with_search c.args.job.now c.args.search) c.args.stores.now (point Go c.push-in-Ok-Failed.new.self c.args.stores.now))
+    (sym classed) (ap (λ (j : Job). point Go j c.args.stores.now) c.in_ok-push-in-Ok-Failed.ensures)
 
 pub returns-in-Ok-Answer-clause-part : goal.returns-in-Ok-Answer-clause-part
 returns-in-Ok-Answer-clause-part g c = λ via m for before is.
