@@ -6,7 +6,7 @@ use Rattle.std.proofs.lemmas.Grind.{get_or-set_at}
 use Rattle.std.proofs.lemmas.Bool.Decides.{eqb_tells}
 use Rattle.memory.specs.declared.Starved.{Starved}
 use Rattle.book.specs.Histories.{Line, line, lines_of, count_of, LeadsMachine}
-use Rattle.book.specs.Books.{Page, Seat, seat, Reached, IsHistory, Adds, Stands}
+use Rattle.book.specs.Books.{BookView, TicketView, ticket_view, Reached, IsHistory, Adds, Stands}
 
 take_again : {X : Type 0} → (k : ℕ) (x : X) (xs : List X) → take k (x ∷ take k xs) ≡ take k (x ∷ xs)
 take_again zero x xs = refl
@@ -47,7 +47,7 @@ module _ {E O : Type 0} where
 
 module _ {S E O : Type 0} (moves : S → E → Result O Starved → S → Type 0) (begins : S → Type 0) where
   -- one more line
-  pub grown : (p q : Page S E O) (e : Line E O) → Reached moves begins p → e.worker < length p.counts → Adds moves p e q → Reached moves begins q
+  pub grown : (p q : BookView S E O) (e : Line E O) → Reached moves begins p → e.worker < length p.counts → Adds moves p e q → Reached moves begins q
   grown p q e r inside a =
       let f = r.fits in
       let long : length q.counts ≡ length p.counts = ap length a.counts ∙ length-set p.counts e.worker (e.number + 1) in
@@ -66,7 +66,7 @@ module _ {S E O : Type 0} (moves : S → E → Result O Starved → S → Type 0
       }
 
   -- nothing is forgotten, so that the last lines are all of them
-  pub told : (p : Page S E O) (h : List (Line E O)) → Reached moves begins p → p.entries ≤ p.keep → h ≡ reverse p.tail → IsHistory moves begins p h
+  pub told : (p : BookView S E O) (h : List (Line E O)) → Reached moves begins p → p.entries ≤ p.keep → h ≡ reverse p.tail → IsHistory moves begins p h
   told p h r few is =
       let f = r.fits in
       let all : h ≡ reverse r.lines = is ∙ ap reverse (f.tail ∙ take_all p.keep r.lines (subst (λ n. n ≤ p.keep) f.entries few)) in
@@ -79,10 +79,10 @@ module _ {S E O : Type 0} (moves : S → E → Result O Starved → S → Type 0
       }
 
   -- one more line, told of the book and the ticket as they were handed in
-  pub stood : (p p' q : Page S E O) (t t' : Seat) (event kept : E) (out : Result O Starved) → p ≡ p' → t ≡ t' → kept ≡ event
-      → Adds moves p (line t.worker t.count kept out) q → Stands moves p' t' event q (seat t.worker (t.count + 1))
+  pub stood : (p p' q : BookView S E O) (t t' : TicketView) (event kept : E) (out : Result O Starved) → p ≡ p' → t ≡ t' → kept ≡ event
+      → Adds moves p (line t.worker t.count kept out) q → Stands moves p' t' event q (ticket_view t.worker (t.count + 1))
   stood p p' q t t' event kept out here this same adds =
-      let u = seat t.worker (t.count + 1) in
+      let u = ticket_view t.worker (t.count + 1) in
       let stands : Stands moves p t event q u = record { entry = line t.worker t.count kept out; takes = record { worker = refl; number = refl; event_is = same; adds = adds; ticket = refl } } in
       subst (λ b. Stands moves b t' event q u) here (subst (λ v. Stands moves p v event q u) this stands)
 

@@ -1,7 +1,7 @@
 //! The book: a machine's state, its counts and its last entries, which one history led to.
 ghost use Rattle.std.specs.Prelude.{◌≡◌, ◌<◌, ◌≤◌, ◌↔◌, ◌⊎◌, [], ◌∷◌, reverse, replicate, take, IfOk, OnErr, MatchOption, IsTrue, option_copied, slice_get};
 ghost use Rattle.circular_buffer.specs.Buffer.{buffer};
-ghost use Rattle.book.specs.Books.{page, seats, Owns, Reached, IsHistory, Takes, Stands};
+ghost use Rattle.book.specs.Books.{book_view, first_tickets, Owns, Reached, IsHistory, Takes, Stands};
 
 use crate::entry::Entry;
 use crate::machine::Machine;
@@ -27,13 +27,13 @@ pub struct Book<M: Machine, L: Ledger, A: Allocator = Global> {
 
 impl<M: Machine, L: Ledger, A: Allocator> Model for Book<M, L, A> {
     ghost use Rattle.std.specs.Prelude.{◌≡◌};
-    ghost use Rattle.book.specs.Books.{Page, page, Reached};
+    ghost use Rattle.book.specs.Books.{BookView, book_view, Reached};
 
-    ghost Value = { Page M.State M.Event M.Out };
+    ghost Value = { BookView M.State M.Event M.Out };
 
-    ghost view = { λ b. page b.state b.entries b.counts.items b.tail.items b.tail.capacity };
+    ghost view = { λ b. book_view b.state b.entries b.counts.items b.tail.items b.tail.capacity };
 
-    ghost invariant = { λ b. (b.shares.total ≡ b.entries) × Reached M.moves M.begins (page b.state b.entries b.counts.items b.tail.items b.tail.capacity) };
+    ghost invariant = { λ b. (b.shares.total ≡ b.entries) × Reached M.moves M.begins (book_view b.state b.entries b.counts.items b.tail.items b.tail.capacity) };
 }
 
 // A copy of the event, where entries are kept.
@@ -81,8 +81,8 @@ impl<M: Machine, L: Ledger, A: Heap> Book<M, L, A> {
         requires parts { (blank.parts ≡ L.parts) × (blank.parts ≡ workers) }
         requires begins { M.begins start }
         requires some { 0 < workers }
-        ensures book { IfOk result (λ r. r.0 ≡ page start 0 (replicate workers 0) [] keep) }
-        ensures tickets { IfOk result (λ r. r.1.items ≡ seats workers) }
+        ensures book { IfOk result (λ r. r.0 ≡ book_view start 0 (replicate workers 0) [] keep) }
+        ensures tickets { IfOk result (λ r. r.1.items ≡ first_tickets workers) }
     {
         let counts = vec![in alloc; 0; workers]?;
         let tail = HeapCircularBuffer::with_capacity(alloc, keep)?;

@@ -1,6 +1,6 @@
 //! The right to put events as one worker.
 ghost use Rattle.std.specs.Prelude.{◌≡◌, IfOk};
-ghost use Rattle.book.specs.Books.{seat, seats};
+ghost use Rattle.book.specs.Books.{ticket_view, first_tickets};
 
 use memory::{Heap, Starved};
 use std::marker::Model;
@@ -20,11 +20,11 @@ pub struct Ticket<L: Ledger> {
 
 impl<L: Ledger> Model for Ticket<L> {
     ghost use Rattle.std.specs.Prelude.{◌≡◌};
-    ghost use Rattle.book.specs.Books.{Seat, seat};
+    ghost use Rattle.book.specs.Books.{TicketView, ticket_view};
 
-    ghost Value = { Seat };
+    ghost Value = { TicketView };
 
-    ghost view = { λ t. seat t.worker t.count };
+    ghost view = { λ t. ticket_view t.worker t.count };
 
     ghost invariant = { λ t. (t.share.parts ≡ 1) × (t.share.amount ≡ t.count) };
 }
@@ -32,7 +32,7 @@ impl<L: Ledger> Model for Ticket<L> {
 impl<L: Ledger> Ticket<L> {
     fn fresh(worker: usize, share: Share<L>) -> Ticket<L>
         requires { (share.parts ≡ 1) × (share.amount ≡ 0) }
-        ensures { result ≡ seat worker 0 }
+        ensures { result ≡ ticket_view worker 0 }
     {
         Ticket {
             worker,
@@ -77,7 +77,7 @@ pub(crate) fn issue<L: Ledger, A: Heap>(
 ) -> Result<Vec<Ticket<L>, A>, Starved>
     requires parts { all.parts ≡ workers }
     requires amount { all.amount ≡ 0 }
-    ensures { IfOk result (λ v. v.items ≡ seats workers) }
+    ensures { IfOk result (λ v. v.items ≡ first_tickets workers) }
 {
     let mut all = all;
     let mut tickets = Vec::with_capacity(alloc, workers)?;

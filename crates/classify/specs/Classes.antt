@@ -4,7 +4,7 @@ use Rattle.std.specs.Prelude.{ℕ, Bool, false, ◌&&◌, ◌||◌, not, cond, n
 use Rattle.std.specs.List.{list_any}
 use Rattle.limits.specs.Limits.{max_referral_servers, max_glue}
 use Rattle.dname.specs.Labels.{Name, same_name, is_under}
-use Rattle.rdata.specs.Data.{Datum, Ipv4, Ns, Cname, Soa, Ptr, Mx, Txt, Ipv6, Srv}
+use Rattle.rdata.specs.Data.{Datum, Ns}
 use Rattle.rdata.specs.Records.{Record}
 use Rattle.rdata.specs.Selected.{records_at}
 use Rattle.rdata.specs.Sets.{one_set, lowest_ttl}
@@ -35,15 +35,8 @@ answer_by m l = cond m.header.aa (Answer l) (Failed NoAuthority)
 
 -- Of a referral's servers, the first A records that stand at or under the zone of the server that was asked.
 abbrev pub names_server : Name → Datum → Bool
-names_server n (Ipv4 a) = false
 names_server n (Ns target) = same_name target n
-names_server n (Cname target) = false
-names_server n (Soa s) = false
-names_server n (Ptr target) = false
-names_server n (Mx p target) = false
-names_server n (Txt ts) = false
-names_server n (Ipv6 a) = false
-names_server n (Srv v) = false
+names_server _ _ = false
 
 abbrev pub is_taken : Name → List Record → Record → Bool
 is_taken f servers r = is_type a_type r && is_under r.owner f && list_any (λ (s : Record). names_server r.owner s.value) servers

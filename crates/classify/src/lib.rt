@@ -14,7 +14,7 @@
 //! again over TCP just where its reply over UDP is truncated (`truncated_law`). Bounds change TTLs alone
 //! (`received_law`). The class at a zone is that at the root, narrowed (`narrow_law`), but for why a message is of no
 //! use.
-//! Not here: whether the message is the reply to an ask at all (`events::accepted_reply`).
+//! Not here: whether the message is the reply to an ask at all (`engine`).
 //!
 //! ```text
 //! let message = View::new(alloc, bytes)?;

@@ -7,7 +7,7 @@ use Rattle.rdata.specs.Types.{type_named}
 use Rattle.rdata.specs.declared.rtype.RType.{RType}
 use Rattle.commands.specs.Zones.{HoldsNoZone}
 use Rattle.commands.specs.declared.fault.Fault.{Fault}
-use Rattle.commands.specs.declared.fault.Fault.TheVariants.{File, Zone, Script, Block, World, Unreadable, BadName, BadType, Settings, Memory, Pool, Socket, Threads, Output}
+use Rattle.commands.specs.declared.fault.Fault.TheVariants.{File, Zone, Unreadable, BadName, BadType, Memory}
 
 -- The fault of a word that is to be a name, or a type.
 abbrev pub fault_of_name : Result (List (List ℕ)) NameError → Option Fault
@@ -36,11 +36,4 @@ IsAskFault held file origin name kind (Unreadable path) = HasNoZone held file or
 IsAskFault held file origin name kind (File path e) = HasNoZone held file origin name kind (File path e)
 IsAskFault held file origin name kind (Zone path e) = HasNoZone held file origin name kind (Zone path e)
 IsAskFault held file origin name kind Memory = Unit {0}
-IsAskFault held file origin name kind Output = ⊥
-IsAskFault held file origin name kind Settings = ⊥
-IsAskFault held file origin name kind Socket = ⊥
-IsAskFault held file origin name kind (Pool e) = ⊥
-IsAskFault held file origin name kind Threads = ⊥
-IsAskFault held file origin name kind (Script path e) = ⊥
-IsAskFault held file origin name kind (Block path line e) = ⊥
-IsAskFault held file origin name kind (World path e) = ⊥
+IsAskFault _ _ _ _ _ _ = ⊥

@@ -46,20 +46,12 @@ fault_text Output = codes "output"
 
 -- 1 where the input is refused, 3 when out of memory, 4 for what the system refuses: a file, a socket, a thread, output.
 abbrev pub status_of : Fault → ℕ
-status_of (File path e) = 1
-status_of (Zone path e) = 1
-status_of (Script path e) = 1
-status_of (Block path line e) = 1
-status_of (World path e) = 1
 status_of (Unreadable path) = 4
-status_of (BadName e) = 1
-status_of BadType = 1
-status_of Settings = 1
 status_of Memory = 3
 status_of Socket = 4
-status_of (Pool e) = 1
 status_of Threads = 4
 status_of Output = 4
+status_of _ = 1
 
 -- The line of a fault.
 abbrev pub fault_line : Fault → List ℕ

@@ -6,7 +6,7 @@ use Rattle.masterfile.specs.Printed.{file_text}
 use Rattle.zone.specs.Zones.{Zone as ZoneSpec}
 use Rattle.commands.specs.Zones.{HoldsRecords, HoldsNoRecords, HoldsZone, HoldsNoZone}
 use Rattle.commands.specs.declared.fault.Fault.{Fault}
-use Rattle.commands.specs.declared.fault.Fault.TheVariants.{File, Zone, Script, Block, World, Unreadable, BadName, BadType, Settings, Memory, Pool, Socket, Threads, Output}
+use Rattle.commands.specs.declared.fault.Fault.TheVariants.{File, Zone, Unreadable, BadName, Memory}
 
 -- The number of records of the zone that the file holds.
 abbrev pub CountsRecords : Option (Option (List ℕ)) → List ℕ → List ℕ → Type 0
@@ -21,33 +21,16 @@ PrintsRecords known origin text =
 -- The word is no name, or the file holds no zone of that origin. `held` is what is known to stand at a path.
 abbrev pub IsNoZone : (List ℕ → Option (Option (List ℕ))) → List ℕ → List ℕ → Fault → Type 0
 IsNoZone held file origin (BadName e) = name_of_text origin ≡ Err e
-IsNoZone held file origin BadType = ⊥
 IsNoZone held file origin (Unreadable path) = (o : List (List ℕ)) × (name_of_text origin ≡ Ok o) × HoldsNoZone held file o (Unreadable path)
 IsNoZone held file origin (File path e) = (o : List (List ℕ)) × (name_of_text origin ≡ Ok o) × HoldsNoZone held file o (File path e)
 IsNoZone held file origin (Zone path e) = (o : List (List ℕ)) × (name_of_text origin ≡ Ok o) × HoldsNoZone held file o (Zone path e)
 IsNoZone held file origin Memory = Unit {0}
-IsNoZone held file origin Output = ⊥
-IsNoZone held file origin Settings = ⊥
-IsNoZone held file origin Socket = ⊥
-IsNoZone held file origin (Pool e) = ⊥
-IsNoZone held file origin Threads = ⊥
-IsNoZone held file origin (Script path e) = ⊥
-IsNoZone held file origin (Block path line e) = ⊥
-IsNoZone held file origin (World path e) = ⊥
+IsNoZone _ _ _ _ = ⊥
 
 -- The word is no name, or the file holds no records.
 abbrev pub IsNoFile : (List ℕ → Option (Option (List ℕ))) → List ℕ → List ℕ → Fault → Type 0
 IsNoFile held file origin (BadName e) = name_of_text origin ≡ Err e
-IsNoFile held file origin BadType = ⊥
 IsNoFile held file origin (Unreadable path) = (o : List (List ℕ)) × (name_of_text origin ≡ Ok o) × HoldsNoRecords held file o (Unreadable path)
 IsNoFile held file origin (File path e) = (o : List (List ℕ)) × (name_of_text origin ≡ Ok o) × HoldsNoRecords held file o (File path e)
-IsNoFile held file origin (Zone path e) = ⊥
 IsNoFile held file origin Memory = Unit {0}
-IsNoFile held file origin Output = ⊥
-IsNoFile held file origin Settings = ⊥
-IsNoFile held file origin Socket = ⊥
-IsNoFile held file origin (Pool e) = ⊥
-IsNoFile held file origin Threads = ⊥
-IsNoFile held file origin (Script path e) = ⊥
-IsNoFile held file origin (Block path line e) = ⊥
-IsNoFile held file origin (World path e) = ⊥
+IsNoFile _ _ _ _ = ⊥

@@ -78,14 +78,8 @@ IsDone A held (CheckConfig config) out out2 err err2 n =
 
 -- The server that a command starts: `serve` alone starts one.
 abbrev pub StartsFor : (List ℕ → Option (Option (List ℕ))) → Command → ℕ → Option Prepared → Type 0
-StartsFor held (Ask origin file name kind) status server = server ≡ None
-StartsFor held (Check origin file) status server = server ≡ None
-StartsFor held (Dump origin file) status server = server ≡ None
-StartsFor held (Play world script) status server = server ≡ None
-StartsFor held (Storm keep world scripts) status server = server ≡ None
-StartsFor held (CheckConfig config) status server = server ≡ None
-StartsFor held (Trace config name kind) status server = server ≡ None
 StartsFor held (Serve config) status server = Starts held (string_bytes config) status server
+StartsFor _ _ _ server = server ≡ None
 
 -- The version was printed, with status 0, where the words ask for that; help, with status 2, where they do not; or no
 -- memory was left for it.

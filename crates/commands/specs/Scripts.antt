@@ -9,7 +9,7 @@ use Rattle.world_text.specs.declared.world_fault.WorldFault.{WorldFault}
 use Rattle.world_text.specs.declared.world_fault.WorldFault.TheVariants as of
 use Rattle.commands.specs.Texts.{MayHold}
 use Rattle.commands.specs.declared.fault.Fault.{Fault}
-use Rattle.commands.specs.declared.fault.Fault.TheVariants.{File, Zone, Script, Block, World, Unreadable, BadName, BadType, Settings, Memory, Pool, Socket, Threads, Output}
+use Rattle.commands.specs.declared.fault.Fault.TheVariants.{File, Zone, Script, Block, World, Unreadable, Memory}
 
 -- The text is there, and it says that world.
 pub record HoldsWorld (known : Option (Option (List ℕ))) (W : WorldSpec) : Type 0 where
@@ -33,17 +33,7 @@ abbrev pub HoldsNo : {T : Type 0} → (List ℕ → Result T LineError) → (Lis
 HoldsNo read held file (Unreadable path) = (path.now ≡ file) × MayHold (held file) None
 HoldsNo read held file (Script path e) = (path.now ≡ file) × ((text : List ℕ) × MayHold (held file) (Some text) × (read text ≡ Err e))
 HoldsNo read held file Memory = Unit {0}
-HoldsNo read held file (File path e) = ⊥
-HoldsNo read held file (Zone path e) = ⊥
-HoldsNo read held file (Block path line e) = ⊥
-HoldsNo read held file (World path e) = ⊥
-HoldsNo read held file (BadName e) = ⊥
-HoldsNo read held file BadType = ⊥
-HoldsNo read held file Output = ⊥
-HoldsNo read held file Settings = ⊥
-HoldsNo read held file Socket = ⊥
-HoldsNo read held file (Pool e) = ⊥
-HoldsNo read held file Threads = ⊥
+HoldsNo _ _ _ _ = ⊥
 
 -- As a script.
 abbrev pub HoldsOrders : Option (Option (List ℕ)) → List Order → Type 0
@@ -61,14 +51,7 @@ HoldsNoWorld held file (File path e) = (path.now ≡ file) × IsRefusedFor (held
 HoldsNoWorld held file (Block path line e) = (path.now ≡ file) × IsRefusedFor (held file) (of.Zone line e)
 HoldsNoWorld held file (World path e) = (path.now ≡ file) × IsRefusedFor (held file) (of.World e)
 HoldsNoWorld held file Memory = Unit {0}
-HoldsNoWorld held file (Zone path e) = ⊥
-HoldsNoWorld held file (BadName e) = ⊥
-HoldsNoWorld held file BadType = ⊥
-HoldsNoWorld held file Output = ⊥
-HoldsNoWorld held file Settings = ⊥
-HoldsNoWorld held file Socket = ⊥
-HoldsNoWorld held file (Pool e) = ⊥
-HoldsNoWorld held file Threads = ⊥
+HoldsNoWorld _ _ _ = ⊥
 
 -- What the script's orders print in the world that the text says.
 pub record PrintsScript (world script : Option (Option (List ℕ))) (text : List ℕ) : Type 0 where

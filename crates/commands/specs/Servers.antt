@@ -15,7 +15,7 @@ use Rattle.commands.specs.Scripts.{HoldsNo}
 use Rattle.commands.specs.Texts.{MayHold}
 use Rattle.commands.specs.Zones.{HoldsZone, HoldsNoZone}
 use Rattle.commands.specs.declared.fault.Fault.{Fault}
-use Rattle.commands.specs.declared.fault.Fault.TheVariants.{File, Zone, Script, Block, World, Unreadable, BadName, BadType, Settings, Memory, Pool, Socket, Threads, Output}
+use Rattle.commands.specs.declared.fault.Fault.TheVariants.{Unreadable, Settings, Memory, Socket}
 
 -- The text is read as the file of a server that listens there.
 pub record Describes (text : List ℕ) (at : End) : Type 0 where
@@ -52,18 +52,7 @@ pub record PrintsAddress (known : Option (Option (List ℕ))) (text : List ℕ) 
 abbrev pub IsUnbound : Fault → Type 0
 IsUnbound Socket = Unit {0}
 IsUnbound Memory = Unit {0}
-IsUnbound (Unreadable path) = ⊥
-IsUnbound (File path e) = ⊥
-IsUnbound (Zone path e) = ⊥
-IsUnbound (Script path e) = ⊥
-IsUnbound (Block path line e) = ⊥
-IsUnbound (World path e) = ⊥
-IsUnbound (BadName e) = ⊥
-IsUnbound BadType = ⊥
-IsUnbound Settings = ⊥
-IsUnbound (Pool e) = ⊥
-IsUnbound Threads = ⊥
-IsUnbound Output = ⊥
+IsUnbound _ = ⊥
 
 -- ---- The server that is started.
 

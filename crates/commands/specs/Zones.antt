@@ -19,17 +19,7 @@ abbrev pub HoldsNoRecords : (List ℕ → Option (Option (List ℕ))) → List �
 HoldsNoRecords held file origin (Unreadable path) = (path.now ≡ file) × MayHold (held file) None
 HoldsNoRecords held file origin (File path e) = (path.now ≡ file) × ((text : List ℕ) × MayHold (held file) (Some text) × (read_text origin text ≡ Err e))
 HoldsNoRecords held file origin Memory = Unit {0}
-HoldsNoRecords held file origin (Zone path e) = ⊥
-HoldsNoRecords held file origin (BadName e) = ⊥
-HoldsNoRecords held file origin BadType = ⊥
-HoldsNoRecords held file origin Output = ⊥
-HoldsNoRecords held file origin Settings = ⊥
-HoldsNoRecords held file origin Socket = ⊥
-HoldsNoRecords held file origin (Pool e) = ⊥
-HoldsNoRecords held file origin Threads = ⊥
-HoldsNoRecords held file origin (Script path e) = ⊥
-HoldsNoRecords held file origin (Block path line e) = ⊥
-HoldsNoRecords held file origin (World path e) = ⊥
+HoldsNoRecords _ _ _ _ = ⊥
 
 -- The text's records meet the rules of a zone.
 abbrev pub HoldsZone : Option (Option (List ℕ)) → List (List ℕ) → ZoneSpec → Type 0

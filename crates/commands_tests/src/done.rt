@@ -1,7 +1,7 @@
 //! A command that is done over texts and in a place of the test's own.
 use commandline::Command;
 use commands::{Host, Outcome, Server, Texts, run_command};
-use failing_writer::{Page, WIDE};
+use failing_writer::{AMPLE, FailingWriter};
 use memory::Heap;
 use std::sync::Wait;
 use std::thread::Threads;
@@ -13,8 +13,8 @@ pub struct Done {
     pub status: u8,
     /// Whether it started a server.
     pub serves: bool,
-    pub out: Page,
-    pub err: Page,
+    pub out: FailingWriter,
+    pub err: FailingWriter,
 }
 
 /// A status, an output and the line of a fault.
@@ -31,7 +31,7 @@ impl Done {
 pub type Rooms = (usize, usize);
 
 /// As many as a command may want.
-pub const ROOMY: Rooms = (WIDE, WIDE);
+pub const ROOMY: Rooms = (AMPLE, AMPLE);
 
 /// Does a command in this memory, and hands out the server that it started. What it writes takes other memory.
 pub fn start<R: Threads + Wait + AllocGlobal + Sync, A: Heap, T: Texts, H: Host + Peers>(
@@ -42,8 +42,8 @@ pub fn start<R: Threads + Wait + AllocGlobal + Sync, A: Heap, T: Texts, H: Host 
     host: &mut H,
     (room, fault_room): Rooms,
 ) -> (Done, Option<Server<A>>) {
-    let mut out = Page::new(rt.alloc(), room);
-    let mut err = Page::new(rt.alloc(), fault_room);
+    let mut out = FailingWriter::new(rt.alloc(), room);
+    let mut err = FailingWriter::new(rt.alloc(), fault_room);
     let Outcome { status, server } = run_command(
         rt, alloc, command, texts, host, &mut out, &mut err,
     );

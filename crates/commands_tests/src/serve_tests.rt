@@ -2,7 +2,7 @@
 use crate::done::{Done, ROOMY, start};
 use commandline::Command;
 use commands::{Host, Server, Texts};
-use engine_fixture::{Desk, Out};
+use engine_fixture::{Out, TestResolver};
 use events::Endpoint;
 use memory::{Heap, Starved};
 use server::Shown;
@@ -156,15 +156,15 @@ const REPLY: &[u8] =
     b"\x124\x84\x80\0\x01\0\x01\0\0\0\0\x02db\x04corp\x07example\0\0\x01\0\x01\xc0\x0c\0\x01\0\x01\0\0\x01\x2c\0\x04\x0a\0\0\x05";
 
 // Whether the first client is replied to so.
-fn replies(desk: &mut Desk<Global>) -> Result<bool, Starved> {
-    let query = desk.query(1, 0, QUERY)?;
-    Ok(desk.step(&query) == Out::Replied && desk.has_sent(1, REPLY))
+fn replies(resolver: &mut TestResolver<Global>) -> Result<bool, Starved> {
+    let query = resolver.query(1, 0, QUERY)?;
+    Ok(resolver.step(&query) == Out::Replied && resolver.has_sent(1, REPLY))
 }
 
 // Whether the server's resolver replies so.
 fn serves_so(alloc: Global, server: Server) -> Result<bool, Starved> {
-    let mut desk = Desk::of(alloc, server.into_core());
-    replies(&mut desk)
+    let mut resolver = TestResolver::of(alloc, server.into_core());
+    replies(&mut resolver)
 }
 
 // Whether a server that listens there replies so.

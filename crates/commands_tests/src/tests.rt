@@ -4,7 +4,7 @@ use crate::done::{Ending, ROOMY, Rooms, perform};
 use crate::nowhere::Nowhere;
 use commandline::{Command, LineFault};
 use commands::{Texts, refuse_line, run_words};
-use failing_writer::{Page, WIDE};
+use failing_writer::{AMPLE, FailingWriter};
 use memory::{Heap, Starved};
 use refusing_alloc::Refusing;
 use std::alloc::{AllocError, Global};
@@ -403,7 +403,7 @@ fn fails_at<R: Threads + Wait + AllocGlobal + Sync>(
 ) -> Result<bool, AllocError> {
     let command = Line::Check("lab.example.").command(rt.alloc())?;
     let mut texts = Held::Text(LAB);
-    let rooms = (room, WIDE);
+    let rooms = (room, AMPLE);
     let done = perform(rt, rt.alloc(), &command, &mut texts, &mut Nowhere, rooms);
     let has_front = COUNTED.get(..room) == Some(done.out.bytes.as_slice());
     Ok(done.status == 4 && has_front && done.err.holds("error: output\n"))
@@ -433,7 +433,7 @@ fn a_fault_line_may_fail(rt: HostRuntime) -> Result<(), Fail> {
             &rt,
             rt.alloc(),
             (line, Held::Nothing),
-            (WIDE, 0),
+            (AMPLE, 0),
             (4, "", "")
         )?
     );
@@ -511,8 +511,8 @@ fn says<R: Threads + Wait + AllocGlobal + Sync>(
 ) -> Result<bool, AllocError> {
     let words = words_of(rt.alloc(), texts)?;
     let mut source = Held::Text(LAB);
-    let mut out = Page::new(rt.alloc(), WIDE);
-    let mut err = Page::new(rt.alloc(), WIDE);
+    let mut out = FailingWriter::new(rt.alloc(), AMPLE);
+    let mut err = FailingWriter::new(rt.alloc(), AMPLE);
     let done = run_words(rt, &words, &mut source, &mut Nowhere, &mut out, &mut err);
     Ok(said.is(done.status, out.bytes.as_slice()) && err.holds(""))
 }
@@ -539,8 +539,8 @@ fn lines_are_read_and_done_or_get_help(rt: HostRuntime) -> Result<(), Fail> {
 #[test]
 fn lines_may_starve(rt: HostRuntime) -> Result<(), Fail> {
     let alloc = rt.alloc();
-    let mut out = Page::new(alloc, WIDE);
-    let mut err = Page::new(alloc, WIDE);
+    let mut out = FailingWriter::new(alloc, AMPLE);
+    let mut err = FailingWriter::new(alloc, AMPLE);
     let status = refuse_line(alloc, &[], LineFault::Memory, &mut out, &mut err);
     let is_told = out.holds("") && err.holds("error: memory\n");
     assert_eq!(rt; (status, is_told), (3, true));

@@ -31,15 +31,7 @@ breaks z Memory r = false
 -- The type of what is missing at the origin.
 abbrev pub rule_type : ZoneError → ℕ
 rule_type NoServers = ns_type
-rule_type Soa = soa_type
-rule_type ForeignOwner = soa_type
-rule_type CnameClash = soa_type
-rule_type MixedTtls = soa_type
-rule_type DataAtCut = soa_type
-rule_type InnerStar = soa_type
-rule_type WildcardAuthority = soa_type
-rule_type WildcardBeneathCut = soa_type
-rule_type Memory = soa_type
+rule_type _ = soa_type
 
 abbrev pub word_of : Option RType → List ℕ
 word_of None = codes ""

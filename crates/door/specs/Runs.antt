@@ -57,24 +57,14 @@ module _ {T : Type 0} where
   -- Who was told to wait.
   abbrev pub told : Move T → List (Held T)
   told (admits k c moment p r) = told_by k c moment p r
-  told (opens k c moment) = []
-  told (settles k c) = []
-  told (closes k c) = []
-  told (expires now) = []
-  told (fails k r) = []
-  told (lets_in r) = []
-  told (drops now gone) = []
+  told _ = []
 
   -- Who was handed out, or dropped: he came in, or was failed, or had waited for his time.
   abbrev pub ended : Move T → List (Held T)
-  ended (admits k c moment p r) = []
-  ended (opens k c moment) = []
-  ended (settles k c) = []
-  ended (closes k c) = []
-  ended (expires now) = []
   ended (fails k r) = option_to_list r
   ended (lets_in r) = option_to_list r
   ended (drops now gone) = gone
+  ended _ = []
 
   -- All of a run.
   abbrev pub all : (Move T → List (Held T)) → List (Move T) → List (Held T)

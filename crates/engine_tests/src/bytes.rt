@@ -1,5 +1,5 @@
 //! Bytes of messages, put together, cut short or changed.
-use engine_fixture::{Desk, Out, bounded, under};
+use engine_fixture::{Out, TestResolver, bounded, under};
 use events::{Bytes, Event};
 use memory::{Heap, Starved};
 
@@ -62,14 +62,18 @@ fn message<A: Heap>(
     bounded(bytes)
 }
 
-fn event<A: Heap>(desk: &Desk<A>, rest: &[u8], change: Change) -> Result<Event<A>, Starved> {
-    let ask = desk.ask();
-    let bytes = message(desk.heap(), ask.id, rest, change)?;
+fn event<A: Heap>(
+    resolver: &TestResolver<A>,
+    rest: &[u8],
+    change: Change,
+) -> Result<Event<A>, Starved> {
+    let ask = resolver.ask();
+    let bytes = message(resolver.heap(), ask.id, rest, change)?;
     Ok(ask.told(0, bytes))
 }
 
 // The server of the last ask says this behind the ask's ID, and it comes so changed.
-pub fn told<A: Heap>(desk: &mut Desk<A>, rest: &[u8], change: Change) -> Out {
-    let event = event(desk, rest, change);
-    desk.take(event)
+pub fn told<A: Heap>(resolver: &mut TestResolver<A>, rest: &[u8], change: Change) -> Out {
+    let event = event(resolver, rest, change);
+    resolver.take(event)
 }

@@ -1,6 +1,6 @@
 //! A resolver with one server of the root, and messages about www.example, for tests.
 use crate::bytes::joined;
-use engine_fixture::{Ask, Desk, Out, bounded};
+use engine_fixture::{Ask, Out, TestResolver, bounded};
 use events::{Bytes, Event};
 use memory::{Heap, Starved};
 use rdata::Addr;
@@ -57,17 +57,17 @@ fn message<A: Heap>(
     bounded(bytes)
 }
 
-// A desk at which the server of the root is known.
-pub fn desk<A: Heap>(alloc: A) -> Result<Desk<A>, Starved> {
-    Desk::new(alloc, Addr([192, 0, 2, ROOT]))
+// A resolver that knows a server of the root.
+pub fn resolver<A: Heap>(alloc: A) -> Result<TestResolver<A>, Starved> {
+    TestResolver::new(alloc, Addr([192, 0, 2, ROOT]))
 }
 
-// A desk is done with. All its parts are dropped here alone: each exit of a function that drops one spells them out.
-pub fn end<A: Heap>(desk: Desk<A>) {
-    drop(desk);
+// Ends a resolver. All its parts are dropped here alone: each exit of a function that drops one spells them out.
+pub fn end<A: Heap>(resolver: TestResolver<A>) {
+    drop(resolver);
 }
 
-// What happens at a desk.
+// What comes to a resolver.
 #[derive(Clone, Copy)]
 pub enum Act {
     // Client 3 asks, at that moment.
@@ -80,46 +80,46 @@ pub enum Act {
 
 // A message from 192.0.2.`from` at the socket of the last ask and under its ID.
 fn reply<A: Heap>(
-    desk: &Desk<A>,
+    resolver: &TestResolver<A>,
     from: u8,
     rest: &[u8],
     lines: &[Line],
 ) -> Result<Event<A>, Starved> {
     let ask = Ask {
         server: Addr([192, 0, 2, from]),
-        ..desk.ask()
+        ..resolver.ask()
     };
-    let bytes = message(desk.heap(), ask.id, rest, lines)?;
+    let bytes = message(resolver.heap(), ask.id, rest, lines)?;
     Ok(ask.told(0, bytes))
 }
 
 // What the resolver is told by an act.
-fn event<A: Heap>(desk: &Desk<A>, act: Act) -> Result<Event<A>, Starved> {
+fn event<A: Heap>(resolver: &TestResolver<A>, act: Act) -> Result<Event<A>, Starved> {
     match act {
-        Act::Asks(moment, bytes) => desk.query(3, moment, bytes),
-        Act::Told(from, rest, lines) => reply(desk, from, rest, lines),
+        Act::Asks(moment, bytes) => resolver.query(3, moment, bytes),
+        Act::Told(from, rest, lines) => reply(resolver, from, rest, lines),
         Act::Tick(moment) => Ok(Event::Tick { moment }),
     }
 }
 
-fn perform<A: Heap>(desk: &mut Desk<A>, act: Act) -> Out {
-    let event = event(desk, act);
-    desk.take(event)
+fn perform<A: Heap>(resolver: &mut TestResolver<A>, act: Act) -> Out {
+    let event = event(resolver, act);
+    resolver.take(event)
 }
 
 // The place of the first of these acts of which something else comes.
-fn first_other<A: Heap>(desk: &mut Desk<A>, acts: &[(Act, Out)]) -> Option<usize> {
+fn first_other<A: Heap>(resolver: &mut TestResolver<A>, acts: &[(Act, Out)]) -> Option<usize> {
     for (place, (act, out)) in acts.iter().enumerate() {
-        if perform(desk, *act) != *out {
+        if perform(resolver, *act) != *out {
             return Some(place);
         }
     }
     None
 }
 
-fn perform_all<A: Heap>(desk: &mut Desk<A>, acts: &[(Act, Out)]) {
+fn perform_all<A: Heap>(resolver: &mut TestResolver<A>, acts: &[(Act, Out)]) {
     for (act, _) in acts {
-        perform(desk, *act);
+        perform(resolver, *act);
     }
 }
 
@@ -134,34 +134,34 @@ pub struct Starving {
 }
 
 impl Starving {
-    // The desk before the last act. What comes of the acts before it is seen by other rows.
-    fn begin<A: Heap>(self, alloc: A) -> Result<Desk<A>, Starved> {
-        let mut desk = desk(alloc)?;
-        perform_all(&mut desk, self.acts);
-        Ok(desk)
+    // The resolver before the last act. What comes of the acts before it is seen by other rows.
+    fn begin<A: Heap>(self, alloc: A) -> Result<TestResolver<A>, Starved> {
+        let mut resolver = resolver(alloc)?;
+        perform_all(&mut resolver, self.acts);
+        Ok(resolver)
     }
 
     // How many growths the last step takes where none is refused, and what comes of it.
     pub fn last_step<A: Heap>(self, alloc: A) -> Result<(u64, Out), Starved> {
         let heap = Refusing::new(alloc);
-        let mut desk = self.begin(&heap)?;
-        let event = event(&desk, self.last.0);
+        let mut resolver = self.begin(&heap)?;
+        let event = event(&resolver, self.last.0);
         let before = heap.growths();
-        let out = desk.take(event);
+        let out = resolver.take(event);
         let growths = heap.growths().saturating_sub(before);
-        end(desk);
+        end(resolver);
         Ok((growths, out))
     }
 
     // What comes of the last step where that growth is refused, and whether all comes then as it has to.
     fn without<A: Heap>(self, alloc: A, growth: u64) -> Result<(Out, bool), Starved> {
         let heap = Refusing::new(alloc);
-        let mut desk = self.begin(&heap)?;
-        let event = event(&desk, self.last.0);
+        let mut resolver = self.begin(&heap)?;
+        let event = event(&resolver, self.last.0);
         heap.refuse_after(growth);
-        let out = desk.take(event);
-        let goes_on = first_other(&mut desk, self.after).is_none();
-        end(desk);
+        let out = resolver.take(event);
+        let goes_on = first_other(&mut resolver, self.after).is_none();
+        end(resolver);
         Ok((out, goes_on))
     }
 

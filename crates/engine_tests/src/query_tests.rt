@@ -1,28 +1,28 @@
 //! Each change of one byte of a client's query.
 use crate::bytes::{Change, changed};
-use crate::fixtures::{QUERY, desk, end};
-use engine_fixture::{Desk, Out};
+use crate::fixtures::{QUERY, end, resolver};
+use engine_fixture::{Out, TestResolver};
 use events::Event;
 use memory::{Heap, Starved};
 use std::test::Fail;
 
 const WHOLE: usize = QUERY.len();
 
-fn event<A: Heap>(desk: &Desk<A>, change: Change) -> Result<Event<A>, Starved> {
-    let bytes = changed(desk.heap(), QUERY, change)?;
-    desk.query(3, 0, bytes.as_slice())
+fn event<A: Heap>(resolver: &TestResolver<A>, change: Change) -> Result<Event<A>, Starved> {
+    let bytes = changed(resolver.heap(), QUERY, change)?;
+    resolver.query(3, 0, bytes.as_slice())
 }
 
 // What the query brings as it comes.
-fn asked<A: Heap>(desk: &mut Desk<A>, change: Change) -> Out {
-    let event = event(desk, change);
-    desk.take(event)
+fn asked<A: Heap>(resolver: &mut TestResolver<A>, change: Change) -> Out {
+    let event = event(resolver, change);
+    resolver.take(event)
 }
 
 // The first change of that byte by which the query is not dropped, or refused, or the server of the root asked.
-fn wrong_turn<A: Heap>(desk: &mut Desk<A>, place: usize) -> Option<u8> {
+fn wrong_turn<A: Heap>(resolver: &mut TestResolver<A>, place: usize) -> Option<u8> {
     for bits in 1..=255u8 {
-        let out = asked(desk, Change::Turned(place, bits));
+        let out = asked(resolver, Change::Turned(place, bits));
         if !matches!(out, Out::Nothing | Out::Replied | Out::Asked(1)) {
             return Some(bits);
         }
@@ -31,9 +31,9 @@ fn wrong_turn<A: Heap>(desk: &mut Desk<A>, place: usize) -> Option<u8> {
 }
 
 fn wrong_bits<A: Heap>(alloc: A, place: usize) -> Result<Option<u8>, Starved> {
-    let mut desk = desk(alloc)?;
-    let bits = wrong_turn(&mut desk, place);
-    end(desk);
+    let mut resolver = resolver(alloc)?;
+    let bits = wrong_turn(&mut resolver, place);
+    end(resolver);
     Ok(bits)
 }
 

@@ -2,7 +2,7 @@
 use crate::bytes::{Change, Places, changed, joined, told};
 use crate::fixtures::{QUERY, end};
 use crate::talks::{Talk, goes_on, renew, waiting};
-use engine_fixture::{Desk, Out};
+use engine_fixture::{Out, TestResolver};
 use memory::{Heap, Starved};
 use rdata::Addr;
 use std::test::Fail;
@@ -127,24 +127,28 @@ fn wanted<A: Heap>(alloc: A, place: usize, bits: u8) -> Result<Vec<u8, A>, Starv
     }
 }
 
-fn has_sent_wanted<A: Heap>(desk: &Desk<A>, place: usize, bits: u8) -> Result<bool, Starved> {
-    let reply = wanted(desk.heap(), place, bits)?;
-    Ok(desk.has_sent(3, reply.as_slice()))
+fn has_sent_wanted<A: Heap>(
+    resolver: &TestResolver<A>,
+    place: usize,
+    bits: u8,
+) -> Result<bool, Starved> {
+    let reply = wanted(resolver.heap(), place, bits)?;
+    Ok(resolver.has_sent(3, reply.as_slice()))
 }
 
 // Whether what was brought is well: where the server is asked again, the whole reply is taken when it comes; where the
 // client is answered, what it was sent is right.
 fn is_well<A: Heap>(
-    desk: &mut Desk<A>,
+    resolver: &mut TestResolver<A>,
     talk: Talk,
     out: Out,
     place: usize,
     bits: u8,
 ) -> Result<bool, Starved> {
     match out {
-        Out::Asked(1) => Ok(goes_on(desk, talk)),
+        Out::Asked(1) => Ok(goes_on(resolver, talk)),
         Out::Failed(7) => Ok(place == 3 && bits & 0x0f == 2),
-        Out::Replied => has_sent_wanted(desk, place, bits),
+        Out::Replied => has_sent_wanted(resolver, place, bits),
         _ => Ok(out == Out::AskedOverTcp(1)),
     }
 }
@@ -152,41 +156,45 @@ fn is_well<A: Heap>(
 // A resolver that waits is told the reply with some bits of that byte turned. Where that brings something, another one
 // waits then.
 fn stands<A: Heap>(
-    desk: &mut Desk<A>,
+    resolver: &mut TestResolver<A>,
     talk: Talk,
     place: usize,
     bits: u8,
 ) -> Result<bool, Starved> {
-    let out = told(desk, talk.reply, Change::Turned(place, bits));
+    let out = told(resolver, talk.reply, Change::Turned(place, bits));
     if !may_come(out, place, bits) {
         return Ok(false);
     }
     if out == Out::Nothing {
         return Ok(true);
     }
-    let is_well = is_well(desk, talk, out, place, bits)?;
-    renew(desk, talk)?;
+    let is_well = is_well(resolver, talk, out, place, bits)?;
+    renew(resolver, talk)?;
     Ok(is_well)
 }
 
 // The first change of that byte that does not stand; 0 where the whole reply is not taken behind all of them.
 fn wrong_turn<A: Heap>(
-    desk: &mut Desk<A>,
+    resolver: &mut TestResolver<A>,
     talk: Talk,
     place: usize,
 ) -> Result<Option<u8>, Starved> {
     for bits in 1..=255u8 {
-        if !stands(desk, talk, place, bits)? {
+        if !stands(resolver, talk, place, bits)? {
             return Ok(Some(bits));
         }
     }
-    Ok(if goes_on(desk, talk) { None } else { Some(0) })
+    Ok(if goes_on(resolver, talk) {
+        None
+    } else {
+        Some(0)
+    })
 }
 
 fn wrong_bits<A: Heap>(alloc: A, talk: Talk, place: usize) -> Result<Option<u8>, Starved> {
-    let mut desk = waiting(alloc, talk)?;
-    let bits = wrong_turn(&mut desk, talk, place);
-    end(desk);
+    let mut resolver = waiting(alloc, talk)?;
+    let bits = wrong_turn(&mut resolver, talk, place);
+    end(resolver);
     bits
 }
 

@@ -1,6 +1,6 @@
 //! Two clients wait, another one was answered, and an event for one of the two wants memory: what it leaves.
 use crate::fixtures::end;
-use engine_fixture::{Ask, Desk, Out, under};
+use engine_fixture::{Ask, Out, TestResolver, under};
 use events::{Event, Path};
 use memory::{Heap, Starved};
 use rdata::Addr;
@@ -88,10 +88,10 @@ const SEQUELS: &[Sequel] = &[
     (1_500, &[(Act::Tick(0), Out::Asked(1))]),
 ];
 
-// Two clients wait at the desk, by these asks.
+// Two clients wait at the resolver, by these asks.
 #[derive(Drop)]
 struct Scene<A: Heap> {
-    desk: Desk<A>,
+    resolver: TestResolver<A>,
     mine: Ask,
     others: Ask,
 }
@@ -106,53 +106,61 @@ fn is_over_tcp(kind: Kind) -> bool {
 }
 
 // A client asks at that moment.
-fn ask<A: Heap>(desk: &mut Desk<A>, client: u64, moment: u64, bytes: &[u8]) -> Ask {
-    let query = desk.query(client, moment, bytes);
-    desk.take(query);
-    desk.ask()
+fn ask<A: Heap>(resolver: &mut TestResolver<A>, client: u64, moment: u64, bytes: &[u8]) -> Ask {
+    let query = resolver.query(client, moment, bytes);
+    resolver.take(query);
+    resolver.ask()
 }
 
 // The reply to the last ask comes truncated.
-fn cut<A: Heap>(desk: &mut Desk<A>) -> Ask {
-    let cut = told(desk.heap(), desk.ask(), 0, CUT);
-    desk.take(cut);
-    desk.ask()
+fn cut<A: Heap>(resolver: &mut TestResolver<A>) -> Ask {
+    let cut = told(resolver.heap(), resolver.ask(), 0, CUT);
+    resolver.take(cut);
+    resolver.ask()
 }
 
 // Client 3 asks, and over TCP where it is to be so.
-fn begin<A: Heap>(desk: &mut Desk<A>, kind: Kind) -> Ask {
+fn begin<A: Heap>(resolver: &mut TestResolver<A>, kind: Kind) -> Ask {
     if matches!(kind, Kind::Query) {
-        return desk.ask();
+        return resolver.ask();
     }
-    let asked = ask(desk, 3, 0, QUERY);
-    if is_over_tcp(kind) { cut(desk) } else { asked }
+    let asked = ask(resolver, 3, 0, QUERY);
+    if is_over_tcp(kind) {
+        cut(resolver)
+    } else {
+        asked
+    }
 }
 
 // Client 5 asks, and is told.
-fn remember<A: Heap>(desk: &mut Desk<A>) {
-    let asked = ask(desk, 5, 0, KNOWN);
-    let found = told(desk.heap(), asked, 0, KNOWN_FOUND);
-    desk.take(found);
+fn remember<A: Heap>(resolver: &mut TestResolver<A>) {
+    let asked = ask(resolver, 5, 0, KNOWN);
+    let found = told(resolver.heap(), asked, 0, KNOWN_FOUND);
+    resolver.take(found);
 }
 
 // What client 5 asked for is known, and both other clients have asked.
 fn set_scene<A: Heap>(alloc: A, kind: Kind) -> Result<Scene<A>, Starved> {
-    let mut desk = Desk::new(alloc, Addr([192, 0, 2, 1]))?;
-    remember(&mut desk);
-    let mine = begin(&mut desk, kind);
-    let others = ask(&mut desk, 4, 500, OTHERS);
-    Ok(Scene { desk, mine, others })
+    let mut resolver = TestResolver::new(alloc, Addr([192, 0, 2, 1]))?;
+    remember(&mut resolver);
+    let mine = begin(&mut resolver, kind);
+    let others = ask(&mut resolver, 4, 500, OTHERS);
+    Ok(Scene {
+        resolver,
+        mine,
+        others,
+    })
 }
 
 impl<A: Heap> Scene<A> {
     // It is done with.
     fn end(self) {
         let Scene {
-            desk,
+            resolver,
             mine: _,
             others: _,
         } = self;
-        end(desk);
+        end(resolver);
     }
 
     // Whether client 3's ask went the way that it had to.
@@ -162,13 +170,13 @@ impl<A: Heap> Scene<A> {
 
     // The reply with an address to client 3's ask, or to another one.
     fn found(&self, ask: Ask, moment: u64) -> Result<Event<A>, Starved> {
-        told(self.desk.heap(), ask, moment, FOUND)
+        told(self.resolver.heap(), ask, moment, FOUND)
     }
 
     // The event for client 3 at that moment.
     fn event(&self, kind: Kind, moment: u64) -> Result<Event<A>, Starved> {
         match kind {
-            Kind::Query => self.desk.query(3, moment, QUERY),
+            Kind::Query => self.resolver.query(3, moment, QUERY),
             Kind::Told | Kind::ToldOverTcp => self.found(self.mine, moment),
             Kind::LostOverTcp | Kind::Late => Ok(self.mine.lost(moment)),
         }
@@ -179,8 +187,8 @@ impl<A: Heap> Scene<A> {
         match act {
             Act::Late => self.found(self.mine, 1_000),
             Act::LateForNext => self.found(next, 1_000),
-            Act::Other => told(self.desk.heap(), self.others, 1_000, OTHERS_FOUND),
-            Act::Known => self.desk.query(5, 1_000, KNOWN),
+            Act::Other => told(self.resolver.heap(), self.others, 1_000, OTHERS_FOUND),
+            Act::Known => self.resolver.query(5, 1_000, KNOWN),
             Act::Tick(moment) => Ok(Event::Tick { moment }),
         }
     }
@@ -188,8 +196,8 @@ impl<A: Heap> Scene<A> {
     // Whether the client that is owed a whole reply at an act was sent it.
     fn is_paid(&self, act: Act) -> bool {
         match act {
-            Act::Other => self.desk.has_sent(4, OTHERS_REPLY),
-            Act::Known => self.desk.has_sent(5, KNOWN_REPLY),
+            Act::Other => self.resolver.has_sent(4, OTHERS_REPLY),
+            Act::Known => self.resolver.has_sent(5, KNOWN_REPLY),
             _ => true,
         }
     }
@@ -197,7 +205,7 @@ impl<A: Heap> Scene<A> {
     // What comes of an act; something else where a client is not sent the whole reply that it is owed.
     fn perform(&mut self, act: Act, next: Ask) -> Out {
         let event = self.event_of(act, next);
-        let out = self.desk.take(event);
+        let out = self.resolver.take(event);
         if self.is_paid(act) { out } else { Out::Other }
     }
 
@@ -220,15 +228,15 @@ fn growths<A: Heap>(alloc: A, kind: Kind) -> Result<(u64, Ask), Starved> {
     let is_set = scene.is_set(kind);
     let event = scene.event(kind, 1_000);
     let before = heap.growths();
-    scene.desk.take(event);
+    scene.resolver.take(event);
     let growths = heap.growths().saturating_sub(before);
-    let next = scene.desk.ask();
+    let next = scene.resolver.ask();
     scene.end();
     Ok((if is_set { growths } else { 0 }, next))
 }
 
-// What comes of the step at the moment of a sequel where one of its growths is refused, and whether all goes on as it has
-// to then.
+// What comes of the step at the moment of a sequel where one of its growths is refused, and whether all goes on as it
+// has to then.
 fn without<A: Heap>(
     alloc: A,
     kind: Kind,
@@ -240,7 +248,7 @@ fn without<A: Heap>(
     let mut scene = set_scene(&heap, kind)?;
     let event = scene.event(kind, sequel.0);
     heap.refuse_after(growth);
-    let out = scene.desk.take(event);
+    let out = scene.resolver.take(event);
     let goes_on = scene.goes_on(sequel.1, next);
     scene.end();
     Ok((out, goes_on))

@@ -1,13 +1,14 @@
 //! Talks with servers up to a last reply, and a resolver that waits for it.
 use crate::bytes::{Change, told};
 use crate::fixtures::end;
-use engine_fixture::{Desk, Out};
+use engine_fixture::{Out, TestResolver};
 use memory::{Heap, Starved};
 use rdata::Addr;
 use std::mem;
 
-// The server of the root, a client's query, the replies behind their IDs that lead to the last ask, and what the last of
-// those brings; the reply to that ask, what the whole of it brings, and what the client has to be sent then, if anything.
+// The server of the root, a client's query, the replies behind their IDs that lead to the last ask, and what the last
+// of those brings; the reply to that ask, what the whole of it brings, and what the client has to be sent then, if
+// anything.
 #[derive(Clone, Copy)]
 pub struct Talk {
     pub root: Addr,
@@ -20,38 +21,38 @@ pub struct Talk {
 }
 
 // The client asks, and all but the last ask are answered.
-fn lead<A: Heap>(desk: &mut Desk<A>, talk: Talk) -> Out {
-    let query = desk.query(3, 0, talk.query);
-    let mut out = desk.take(query);
+fn lead<A: Heap>(resolver: &mut TestResolver<A>, talk: Talk) -> Out {
+    let query = resolver.query(3, 0, talk.query);
+    let mut out = resolver.take(query);
     for reply in talk.before {
-        out = told(desk, reply, Change::Nothing);
+        out = told(resolver, reply, Change::Nothing);
     }
     out
 }
 
 // A resolver that waits for the reply of a talk.
-pub fn waiting<A: Heap>(alloc: A, talk: Talk) -> Result<Desk<A>, Starved> {
-    let mut desk = Desk::new(alloc, talk.root)?;
-    if lead(&mut desk, talk) == talk.asked {
-        Ok(desk)
+pub fn waiting<A: Heap>(alloc: A, talk: Talk) -> Result<TestResolver<A>, Starved> {
+    let mut resolver = TestResolver::new(alloc, talk.root)?;
+    if lead(&mut resolver, talk) == talk.asked {
+        Ok(resolver)
     } else {
-        end(desk);
+        end(resolver);
         Err(Starved)
     }
 }
 
 // Another one waits.
-pub fn renew<A: Heap>(desk: &mut Desk<A>, talk: Talk) -> Result<(), Starved> {
-    let next = waiting(desk.heap(), talk)?;
-    end(mem::replace(desk, next));
+pub fn renew<A: Heap>(resolver: &mut TestResolver<A>, talk: Talk) -> Result<(), Starved> {
+    let next = waiting(resolver.heap(), talk)?;
+    end(mem::replace(resolver, next));
     Ok(())
 }
 
 // Whether a resolver that waits for the reply takes the whole one when it comes, and sends what it has to.
-pub fn goes_on<A: Heap>(desk: &mut Desk<A>, talk: Talk) -> bool {
-    let out = told(desk, talk.reply, Change::Nothing);
+pub fn goes_on<A: Heap>(resolver: &mut TestResolver<A>, talk: Talk) -> bool {
+    let out = told(resolver, talk.reply, Change::Nothing);
     let is_sent = match talk.sent {
-        Some(sent) => desk.has_sent(3, sent),
+        Some(sent) => resolver.has_sent(3, sent),
         None => true,
     };
     out == talk.out && is_sent

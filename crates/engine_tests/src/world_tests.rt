@@ -2,7 +2,7 @@
 use crate::bytes::{Change, Places, told};
 use crate::fixtures::end;
 use crate::talks::{Talk, goes_on, renew, waiting};
-use engine_fixture::{Desk, Out};
+use engine_fixture::{Out, TestResolver};
 use memory::{Heap, Starved};
 use rdata::Addr;
 use std::test::Fail;
@@ -91,31 +91,39 @@ const TALK_OF_APP: Talk = Talk {
 };
 
 // A resolver that waits for the reply is told it with a change. Where that brings something, another one waits then.
-fn tell<A: Heap>(desk: &mut Desk<A>, talk: Talk, change: Change) -> Result<bool, Starved> {
-    match told(desk, talk.reply, change) {
+fn tell<A: Heap>(
+    resolver: &mut TestResolver<A>,
+    talk: Talk,
+    change: Change,
+) -> Result<bool, Starved> {
+    match told(resolver, talk.reply, change) {
         Out::Nothing => Ok(true),
         Out::Starved | Out::Other => Ok(false),
         _ => {
-            renew(desk, talk)?;
+            renew(resolver, talk)?;
             Ok(true)
         }
     }
 }
 
 // Whether each change of that byte of the reply is ignored or brings something, and the whole reply is taken then.
-fn stands_at<A: Heap>(desk: &mut Desk<A>, talk: Talk, place: usize) -> Result<bool, Starved> {
+fn stands_at<A: Heap>(
+    resolver: &mut TestResolver<A>,
+    talk: Talk,
+    place: usize,
+) -> Result<bool, Starved> {
     for bits in 1..=255u8 {
-        if !tell(desk, talk, Change::Turned(place, bits))? {
+        if !tell(resolver, talk, Change::Turned(place, bits))? {
             return Ok(false);
         }
     }
-    Ok(goes_on(desk, talk))
+    Ok(goes_on(resolver, talk))
 }
 
 fn stands<A: Heap>(alloc: A, talk: Talk, place: usize) -> Result<bool, Starved> {
-    let mut desk = waiting(alloc, talk)?;
-    let stands = stands_at(&mut desk, talk, place);
-    end(desk);
+    let mut resolver = waiting(alloc, talk)?;
+    let stands = stands_at(&mut resolver, talk, place);
+    end(resolver);
     stands
 }
 

@@ -1,3 +1,2 @@
 pub mod Plainly
-pub mod Replying
 pub mod Short

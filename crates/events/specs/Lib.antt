@@ -1,5 +1,4 @@
 -- To be read: what the words of the contracts mean.
-pub mod Hearing
 pub mod Laws
 -- Kept: invariants of the code's values, and how contracts see them.
 pub mod Paths

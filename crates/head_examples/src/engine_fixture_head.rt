@@ -1,5 +1,5 @@
 //! The example in the head of `engine_fixture`.
-use engine_fixture::{Desk, Out, under};
+use engine_fixture::{Out, TestResolver, under};
 use rdata::Addr;
 use std::test::Fail;
 
@@ -12,11 +12,11 @@ const FOUND: &[u8] =
 
 #[test]
 fn example(rt: HostRuntime) -> Result<(), Fail> {
-    let mut desk = Desk::new(rt.alloc(), Addr([192, 0, 2, 1]))?;
-    let query = desk.query(3, 0, QUERY)?;
-    assert_eq!(rt; desk.step(&query), Out::Asked(1));
-    let ask = desk.ask();
+    let mut resolver = TestResolver::new(rt.alloc(), Addr([192, 0, 2, 1]))?;
+    let query = resolver.query(3, 0, QUERY)?;
+    assert_eq!(rt; resolver.step(&query), Out::Asked(1));
+    let ask = resolver.ask();
     let reply = ask.told(20, under(rt.alloc(), ask.id, FOUND)?);
-    assert_eq!(rt; desk.step(&reply), Out::Replied);
+    assert_eq!(rt; resolver.step(&reply), Out::Replied);
     Ok(())
 }

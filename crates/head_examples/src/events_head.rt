@@ -1,6 +1,6 @@
 //! The example in the head of `events`.
 use dname::Name;
-use events::{Ask, Bytes, Endpoint, Event, Path, accepted_reply, send};
+use events::{Ask, Bytes, Endpoint, Event, Path, send};
 use memory::Heap;
 use rdata::{Addr, RType};
 use std::test::Fail;
@@ -24,8 +24,5 @@ pub fn example<H: Heap>(alloc: H, name: Name<H>, bytes: Bytes<H>) -> Result<(), 
         from,
         bytes,
     };
-    if let Some(message) = accepted_reply(alloc, 53, &ask, &event) {
-        // accepted
-    }
     Ok(())
 }

@@ -16,7 +16,7 @@ use Rattle.runs.specs.Steps.{Step}
 use Rattle.runs.specs.Runs.{Run, Always}
 use Rattle.laws.specs.Headline.{IsHonest, IsHomeIn, IsRightReply}
 use Rattle.laws.specs.Headline as resolver
-use Rattle.network.specs.Networks.{NetworkEvent, Client, Carry, CarryTruncated, CarryTcp, Lose, Tick, NetworkAction, Reply, Network, Reaches, shown, NetworkStep}
+use Rattle.network.specs.Networks.{NetworkEvent, Client, NetworkAction, Reply, Network, Reaches, shown, NetworkStep}
 
 -- An event and what came out, `None` where memory was wanting.
 pub record Line : Type 0 where
@@ -49,11 +49,7 @@ BringsOf l client way asked = (now : ℕ) × (bytes : List ℕ) × (l.event ≡ 
 -- On this line no client's bytes come.
 abbrev pub IsOfNoClient : NetworkEvent → Type 0
 IsOfNoClient (Client now client way bytes) = ⊥
-IsOfNoClient (Carry now k) = Unit {0}
-IsOfNoClient (CarryTruncated now k) = Unit {0}
-IsOfNoClient (CarryTcp now k) = Unit {0}
-IsOfNoClient (Lose now k) = Unit {0}
-IsOfNoClient (Tick now) = Unit {0}
+IsOfNoClient _ = Unit {0}
 
 -- Where a client's bytes come on a line, its reply is to them. Else it is to a recursive query that came on an
 -- earlier line.

@@ -2,7 +2,7 @@
 use Rattle.std.specs.Prelude.{◌≡◌, ◌⊎◌, ℕ, Option, Some, None, List, [], ◌∷◌, ◌++◌, codes}
 use Rattle.wire.specs.declared.via.Via.{Via}
 use Rattle.wire.specs.declared.via.Via.TheVariants.{Udp, Tcp}
-use Rattle.network.specs.Networks.{Sent, sent_at, NetworkEvent, Client, Carry, CarryTruncated, CarryTcp, Lose, Tick, NetworkAction, Reply, WasSent, WasAsked, MoreDue}
+use Rattle.network.specs.Networks.{Sent, sent_at, NetworkEvent, Client, NetworkAction, Reply, WasSent, WasAsked, MoreDue}
 use Rattle.reply_lines.specs.Lines.{ArePrinted, AreNone}
 use Rattle.reply_lines.specs.Asks.{IsAskPrinted}
 pub use Rattle.reply_lines.specs.Actions.{drop_line}
@@ -25,11 +25,7 @@ PutsAll sends (a ∷ rest) before after = (middle : List ℕ) × Puts sends a be
 
 abbrev pub client_of : NetworkEvent → Option ℕ
 client_of (Client now client way bytes) = Some client
-client_of (Carry now k) = None
-client_of (CarryTruncated now k) = None
-client_of (CarryTcp now k) = None
-client_of (Lose now k) = None
-client_of (Tick now) = None
+client_of _ = None
 
 -- Bytes of a client after which nothing comes out are dropped.
 abbrev pub PutsOut : List Sent → Option ℕ → List NetworkAction → List ℕ → List ℕ → Type 0

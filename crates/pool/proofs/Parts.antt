@@ -4,7 +4,7 @@ use Rattle.std.proofs.lemmas.List.{reverse-append, reverse-reverse}
 use Rattle.std.proofs.lemmas.List.Elements.{All-nil, All-cons, All-head, All-tail, All-push, All-same, All-weaker}
 use Rattle.memory.specs.declared.Starved.{Starved}
 use Rattle.book.specs.Histories.{Line, lines_of, LeadsMachine}
-use Rattle.book.specs.Books.{Page, Seat, IsHistory}
+use Rattle.book.specs.Books.{BookView, TicketView, IsHistory}
 use Rattle.pool.specs.Closings.{Part, OneEach, Closes}
 
 turned : {X : Type 0} (P : X → Type 0) (xs : List X) → All P xs → All P (reverse xs)
@@ -26,7 +26,7 @@ module _ {S E O : Type 0} (moves : S → E → Result O Starved → S → Type 0
   workers_of n start (e ∷ es) t h = All-cons (λ (d : Line E O). d.worker < n) e es h.3 (workers_of n start es h.0 h.1)
 
   -- the whole history of a book, with a ticket for each worker and the list of each
-  pub closed : (begins : S → Type 0) (p : Page S E O) (parts : List (Part E O)) (h : List (Line E O)) → p.entries ≤ p.keep → h ≡ reverse p.tail
+  pub closed : (begins : S → Type 0) (p : BookView S E O) (parts : List (Part E O)) (h : List (Line E O)) → p.entries ≤ p.keep → h ≡ reverse p.tail
       → IsHistory moves begins p h → OneEach p.counts parts → All (λ q. lines_of q.ticket.worker h ≡ q.lines) parts → Closes moves begins p parts h
   closed begins p parts h few is history tickets lists =
       let n = length p.counts in
@@ -41,6 +41,6 @@ module _ {S E O : Type 0} (moves : S → E → Result O Starved → S → Type 0
         shuffle = record {
           lists = lists;
           others = All-weaker (λ (e : Line E O). e.worker < n) (λ (e : Line E O). Any (λ (q : Part E O). q.ticket.worker ≡ e.worker) parts)
-              (λ e small. let a = tickets.each e.worker small in (a.0, a.1, a.2, a.3, ap (λ (s : Seat). s.worker) a.4)) h inside;
+              (λ e small. let a = tickets.each e.worker small in (a.0, a.1, a.2, a.3, ap (λ (s : TicketView). s.worker) a.4)) h inside;
         };
       }

@@ -1,7 +1,7 @@
 //! What the workers kept, held against the history of the machine that they shared.
 ghost use Rattle.std.specs.Prelude.{◌≡◌, ◌↔◌, IsTrue, IfOk, IfErr, All, Any, map};
 ghost use Rattle.book.specs.Histories.{lines_of};
-ghost use Rattle.book.specs.Books.{seat};
+ghost use Rattle.book.specs.Books.{ticket_view};
 ghost use Rattle.pool.specs.Closings.{part, OneEach, Closes, IsOpen};
 
 use crate::fault::PoolError;
@@ -113,7 +113,7 @@ fn has_ticket<M: Machine, L: Ledger, A: Allocator>(
     worker: usize,
     count: u64,
 ) -> bool
-    ensures { IsTrue result ↔ Any (λ p. p.ticket ≡ seat worker count) kept.now }
+    ensures { IsTrue result ↔ Any (λ p. p.ticket ≡ ticket_view worker count) kept.now }
 {
     kept.iter().any(|k| k.ticket().worker() == worker && k.ticket().count() == count)
 }

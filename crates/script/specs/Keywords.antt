@@ -24,12 +24,7 @@ keyword_of w =
 abbrev pub asking : Keyword → Option Keyword
 asking At = Some At
 asking Ask = Some Ask
-asking Raw = None
-asking Carry = None
-asking Truncate = None
-asking Lose = None
-asking Run = None
-asking Tick = None
+asking _ = None
 
 abbrev pub if_asking : Option Keyword → Option Keyword
 if_asking (Some k) = asking k

@@ -34,7 +34,7 @@ use Rattle.score.specs.Clients.{Queries, recursive_in, known, query_of}
 use Rattle.score.specs.Counts.{IsFailure, IsRightFor, IsCountedFor}
 use Rattle.score.specs.declared.count.Count.{Count}
 use Rattle.storm.specs.Counts.{Counts, CountsOut, CountsStep, CountsAll, none_yet, IsStorm, IsTotalOf}
-use Rattle.storm.specs.Errands.{asked, carries, errands_of, moment_of}
+use Rattle.storm.specs.FollowUps.{asked, carries, follow_ups_of, moment_of}
 use Rattle.storm.specs.Lists.{AsksOne, AsksQueries, AsksAll}
 use Rattle.storm.specs.Runs.{Entry, IsRunOf, out_of, seen}
 use Rattle.storm.specs.declared.query.StormQuery.{StormQuery}
@@ -187,25 +187,25 @@ module _ {A : Type 0} (clients : Queries) where
       ⊎_elim (λ same. subst FairEvent same tt) (λ rest. fair_carries now out event rest) (in_cases (happens.CarryTcp now k) event (carries now out) among)
   fair_carries now (MoreDue ∷ out) event among = fair_carries now out event among
 
-  fair_errands : (from : SimEvent A) (out : Result (List NetworkAction) Starved) (event : SimEvent A) → Contains (errands_of from out) event → FairEvent event
-  fair_errands from (Ok out) event among = fair_carries (moment_of from) out event among
-  fair_errands from (Err starved) event among = absurd (none_in event among)
+  fair_follow_ups : (from : SimEvent A) (out : Result (List NetworkAction) Starved) (event : SimEvent A) → Contains (follow_ups_of from out) event → FairEvent event
+  fair_follow_ups from (Ok out) event among = fair_carries (moment_of from) out event among
+  fair_follow_ups from (Err starved) event among = absurd (none_in event among)
 
   abbrev AllFair : List (Entry A) → Type 0
   AllFair es = (e : Entry A) → Contains es e → FairEvent e.event
 
   fair_work : (es : List (Entry A)) (qs : List (StormQuery A)) (waiting : List (SimEvent A)) → AllKnown clients qs → ((event : SimEvent A) → Contains waiting event → FairEvent event)
-      → Follows asked errands_of es qs waiting → AllFair es
+      → Follows asked follow_ups_of es qs waiting → AllFair es
   fair_work [] qs waiting knows fair h e among = absurd (none_in e among)
   fair_work (e ∷ es) qs (next ∷ waiting) knows fair (is, more) x among =
       ⊎_elim (λ same. subst (λ (y : Entry A). FairEvent y.event) same (subst FairEvent (sym is) (fair next (first_in next waiting))))
-      (λ rest. fair_work es qs (waiting ++ errands_of e.event e.out) knows
-      (λ event some. ⊎_elim (λ old. fair event (later_in next event waiting old)) (λ new. fair_errands e.event e.out event new) (in_append waiting (errands_of e.event e.out) event some))
+      (λ rest. fair_work es qs (waiting ++ follow_ups_of e.event e.out) knows
+      (λ event some. ⊎_elim (λ old. fair event (later_in next event waiting old)) (λ new. fair_follow_ups e.event e.out event new) (in_append waiting (follow_ups_of e.event e.out) event some))
       more x rest)
       (in_cases e x es among)
   fair_work (e ∷ es) (q ∷ qs) [] knows fair (is, more) x among =
       ⊎_elim (λ same. subst (λ (y : Entry A). FairEvent y.event) same (subst FairEvent (sym is) (knows q (first_in q qs))))
-      (λ rest. fair_work es qs (errands_of e.event e.out) (λ p some. knows p (later_in q p qs some)) (λ event some. fair_errands e.event e.out event some) more x rest)
+      (λ rest. fair_work es qs (follow_ups_of e.event e.out) (λ p some. knows p (later_in q p qs some)) (λ event some. fair_follow_ups e.event e.out event some) more x rest)
       (in_cases e x es among)
   fair_work (e ∷ es) [] [] knows fair h x among = absurd h
 

@@ -14,9 +14,9 @@ use Rattle.storm.specs.Runs.{Entry, IsRunOf, AreRight, out_of, seen}
 use Rattle.storm.specs.declared.query.StormQuery.{StormQuery}
 
 -- a run from one of some starts, all of which are among others
-pub begun_as : {S Q E O : Type 0} (moves : S → E → Result O Starved → S → Type 0) (B C : S → Type 0) (event_of : Q → E) (errands : E → Result O Starved → List E)
-    (queries : List (List Q)) (h : List (Line E O)) (lists : List (List (Line E O))) → ((s : S) → B s → C s) → HaveRun moves B event_of errands queries h lists → HaveRun moves C event_of errands queries h lists
-begun_as moves B C event_of errands queries h lists f r =
+pub begun_as : {S Q E O : Type 0} (moves : S → E → Result O Starved → S → Type 0) (B C : S → Type 0) (event_of : Q → E) (follow_ups : E → Result O Starved → List E)
+    (queries : List (List Q)) (h : List (Line E O)) (lists : List (List (Line E O))) → ((s : S) → B s → C s) → HaveRun moves B event_of follow_ups queries h lists → HaveRun moves C event_of follow_ups queries h lists
+begun_as moves B C event_of follow_ups queries h lists f r =
     record { start = r.start; begun = f r.start r.begun; state = r.state; legal = r.legal; many = r.many; kept = r.kept; worked = r.worked }
 
 -- a step as the laws speak of it

@@ -1,5 +1,5 @@
 -- To be read: what the words of the contracts mean.
 pub mod Runs
 pub mod Lists
-pub mod Errands
+pub mod FollowUps
 pub mod Counts

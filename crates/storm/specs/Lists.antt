@@ -42,12 +42,7 @@ abbrev pub HasOther : List Order → Type 0
 HasOther [] = ⊥
 HasOther (at n ∷ os) = HasOther os
 HasOther (ask name kind by rd ∷ os) = HasOther os
-HasOther (raw bytes by ∷ os) = Unit {0}
-HasOther (carry k ∷ os) = Unit {0}
-HasOther (truncate k ∷ os) = Unit {0}
-HasOther (lose k ∷ os) = Unit {0}
-HasOther (run ∷ os) = Unit {0}
-HasOther (tick ∷ os) = Unit {0}
+HasOther _ = Unit {0}
 
 -- One of several has.
 abbrev pub OneHasOther : List (List Order) → Type 0

@@ -8,18 +8,18 @@ use Rattle.simnet.specs.declared.event.SimEvent.{SimEvent}
 use Rattle.simnet.specs.Promises.{Moves}
 use Rattle.simnet.specs.Views.{sim_event_view}
 use Rattle.workers.specs.Runs.{HaveRun}
-use Rattle.storm.specs.Errands.{asked, errands_of}
+use Rattle.storm.specs.FollowUps.{asked, follow_ups_of}
 use Rattle.storm.specs.declared.query.StormQuery.{StormQuery}
 
 -- An event by a worker, and what came out.
 abbrev pub Entry : Type 0 → Type 0
 Entry A = Line (SimEvent A) (List NetworkAction)
 
--- h, the oldest entry first, is one legal history of a network that began as `start`. Each worker's entries in it are
--- those that the worker kept: its queries in their order, each followed by the replies to all asks that come of it,
--- that of the oldest ask first.
+-- h, the oldest entry first, is one legal history of a network that began as `start`. Each worker's entries
+-- in it are those that the worker kept: its queries in their order, each followed by the replies to all asks
+-- that come of it, that of the oldest ask first.
 abbrev pub IsRunOf : {A : Type 0} → Network → List (List (StormQuery A)) → List (Entry A) → List (List (Entry A)) → Type 0
-IsRunOf start queries h lists = HaveRun Moves (λ s. s ≡ start) asked errands_of queries h lists
+IsRunOf start queries h lists = HaveRun Moves (λ s. s ≡ start) asked follow_ups_of queries h lists
 
 -- What came out, if memory was not wanting.
 abbrev pub out_of : Result (List NetworkAction) Starved → Option (List NetworkAction)

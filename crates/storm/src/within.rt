@@ -1,7 +1,7 @@
-//! A network as a machine that workers share, whose errands are the replies to its asks.
+//! A network as a machine that workers share, whose follow-up events are the replies to its asks.
 ghost use Rattle.std.specs.Prelude.{◌≡◌, [], ◌∷◌};
 ghost use Rattle.simnet.specs.Views.{sim_action_view};
-ghost use Rattle.storm.specs.Errands.{moment_of, is_errand};
+ghost use Rattle.storm.specs.FollowUps.{moment_of, is_follow_up};
 
 use crate::query::StormQuery;
 use book::Machine;
@@ -9,7 +9,7 @@ use memory::Starved;
 use simnet::{Sim, SimAction, SimActions, SimEvent};
 use std::collections::VecDeque;
 use std::marker::{Brand, PhantomData};
-use workers::Errands;
+use workers::FollowUps;
 
 /// From which networks a history may begin. Each run picks the one that it is given.
 pub trait Beginning {
@@ -62,14 +62,14 @@ impl<P: Beginning> Machine for Within<P> {
 }
 
 /// The reply to each ask that goes out is carried, at the moment of the event that it came of.
-impl<P: Beginning> Errands for Within<P> {
+impl<P: Beginning> FollowUps for Within<P> {
     type Query = StormQuery;
 
-    ghost use Rattle.storm.specs.Errands.{asked, errands_of};
+    ghost use Rattle.storm.specs.FollowUps.{asked, follow_ups_of};
 
     ghost event_of = { asked };
 
-    ghost errands = { errands_of };
+    ghost follow_ups = { follow_ups_of };
 
     fn event(query: &StormQuery) -> Result<SimEvent, Starved> {
         Ok(SimEvent::Client {
@@ -80,7 +80,7 @@ impl<P: Beginning> Errands for Within<P> {
         })
     }
 
-    fn add_errands(
+    fn add_follow_ups(
         event: &SimEvent,
         out: &Result<SimActions, Starved>,
         waiting: &mut VecDeque<SimEvent>,
@@ -88,10 +88,10 @@ impl<P: Beginning> Errands for Within<P> {
         let Ok(actions) = out else {
             return Ok(());
         };
-        let Some(errand) = errand_after(moment_of(event), actions) else {
+        let Some(follow_up) = follow_up_after(moment_of(event), actions) else {
             return Ok(());
         };
-        waiting.push_back(errand)?;
+        waiting.push_back(follow_up)?;
         Ok(())
     }
 }
@@ -111,17 +111,17 @@ fn moment_of(event: &SimEvent) -> u64
 }
 
 // What carries the reply to the ask that went out, if one did.
-fn errand_after(moment: u64, actions: &SimActions) -> Option<SimEvent>
-    ensures { is_errand moment actions.now result }
+fn follow_up_after(moment: u64, actions: &SimActions) -> Option<SimEvent>
+    ensures { is_follow_up moment actions.now result }
 {
     match &actions.first {
-        Some(action) => errand_of(moment, action),
+        Some(action) => follow_up_of(moment, action),
         None => None,
     }
 }
 
-fn errand_of(moment: u64, action: &SimAction) -> Option<SimEvent>
-    ensures { is_errand moment (sim_action_view action.now ∷ []) result }
+fn follow_up_of(moment: u64, action: &SimAction) -> Option<SimEvent>
+    ensures { is_follow_up moment (sim_action_view action.now ∷ []) result }
 {
     match *action {
         SimAction::Sent { number } => Some(SimEvent::Carry { moment, number }),

@@ -33,10 +33,7 @@ error_text e = codes "line " ++ decimal e.line ++ codes ": " ++ kind_text e.kind
 
 abbrev pub kind_of_name : NameError → LineKind
 kind_of_name name_error.Memory = Memory
-kind_of_name name_error.EmptyLabel = BadName
-kind_of_name name_error.LongLabel = BadName
-kind_of_name name_error.LongName = BadName
-kind_of_name name_error.BadByte = BadName
+kind_of_name _ = BadName
 
 -- What is said of a refusal: it is the fault that stands there, or memory was wanting.
 abbrev pub IsLineFault : {X : Type 0} → LineKind → Result X LineKind → Type 0

@@ -12,9 +12,9 @@ use std::sync::ledger::{Blank, Ledger};
 use std::test::Fail;
 use std::thread::Threads;
 use std::time::Clock;
-use workers::{Errands, Meeting, Open, run_all};
+use workers::{FollowUps, Meeting, Open, run_all};
 
-// Counts its steps. Each event but 0 calls for one errand: the event that is less by one.
+// Counts its steps. Each event but 0 calls for one follow-up event: the event that is less by one.
 struct Falling;
 
 impl Machine for Falling {
@@ -53,20 +53,20 @@ impl Machine for Falling {
     }
 }
 
-impl Errands for Falling {
+impl FollowUps for Falling {
     type Query = u64;
 
     ghost use Rattle.std.specs.Prelude.{◌-◌, cond, nat_eq, [], ◌∷◌};
 
     ghost event_of = { λ q. q };
 
-    ghost errands = { λ e _. cond (nat_eq e 0) [] ((e - 1) ∷ []) };
+    ghost follow_ups = { λ e _. cond (nat_eq e 0) [] ((e - 1) ∷ []) };
 
     fn event(query: &u64) -> Result<u64, Starved> {
         Ok(*query)
     }
 
-    fn add_errands(
+    fn add_follow_ups(
         event: &u64,
         _out: &Result<u64, Starved>,
         waiting: &mut VecDeque<u64>,
@@ -138,7 +138,7 @@ fn run_of_one<L: Ledger + Send + Sync, R: Threads + Wait + Sync>(
 }
 
 #[test]
-fn errands_come_before_the_next_query(rt: HostRuntime) -> Result<(), Fail> {
+fn follow_ups_come_before_the_next_query(rt: HostRuntime) -> Result<(), Fail> {
     assert!(rt; run_of_one::<Brand, _>(&rt, rt.alloc(), Blank::new(1), 5)?);
     Ok(())
 }
@@ -159,7 +159,7 @@ struct Outcome {
     in_step: bool,
 }
 
-// Four workers of 50 queries each, all of which call for one errand.
+// Four workers of 50 queries each, all of which call for one follow-up event.
 fn met<L: Ledger + Send + Sync, R: Threads + Wait + Clock + Sync>(
     rt: &R,
     alloc: Global,

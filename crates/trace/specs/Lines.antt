@@ -2,7 +2,7 @@
 use Rattle.std.specs.Prelude.{ℕ, cond, nat_eq, length, List, [], ◌++◌, codes, decimal}
 use Rattle.dname.specs.Labels.{Name}
 use Rattle.dname.specs.Text.{name_text}
-use Rattle.rdata.specs.Data.{Datum, Ipv4, Ns, Cname, Soa, Ptr, Mx, Txt, Ipv6, Srv}
+use Rattle.rdata.specs.Data.{Datum, Cname}
 use Rattle.rdata.specs.Records.{Record}
 use Rattle.rdata.specs.Types.{type_word}
 use Rattle.rdata.specs.declared.rtype.RType.{RType}
@@ -25,14 +25,7 @@ indent n = cond (nat_eq n 0) [] (cond (nat_eq n 1) (codes "  ") (cond (nat_eq n 
 -- The name that an alias stands for.
 abbrev pub alias_text : Datum → List ℕ
 alias_text (Cname target) = codes "alias to " ++ name_text target
-alias_text (Ipv4 a) = codes "alias"
-alias_text (Ns target) = codes "alias"
-alias_text (Soa s) = codes "alias"
-alias_text (Ptr target) = codes "alias"
-alias_text (Mx p target) = codes "alias"
-alias_text (Txt ts) = codes "alias"
-alias_text (Ipv6 a) = codes "alias"
-alias_text (Srv v) = codes "alias"
+alias_text _ = codes "alias"
 
 -- What a zone denies.
 unfoldable pub denial_text : List ℕ → Name → List ℕ

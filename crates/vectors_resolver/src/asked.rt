@@ -5,8 +5,6 @@
 //! a server's name takes, and `accepted NAME AT LATER : RECORD` is of a link alone.
 //! `query NAME TYPE AT`, `reply SERVER AT FLAG .. : SECTION RECORD ; ..`, `time-out SERVER AT` and `tcp-failed SERVER
 //! AT` are the work on one query; `until-failure` before one of them does it again until the query fails.
-ghost use Rattle.std.specs.Prelude.{◌<◌, ◌+◌, ◌^◌};
-
 use crate::replies::reply;
 use crate::row::{Row, hasher};
 use crate::shown::{put_asked, put_cut, put_link};
@@ -17,12 +15,12 @@ use frames::Frame;
 use iterate::{Input, Job, Next, Started, advance, advance_by_reply, begin_query};
 use lookup::{Capacities, Found, Hashers, Home, Stores, Taken, find, found_addresses};
 use lru::DefaultHasher;
-use rdata::{Addr, RType, Records};
+use rdata::{Addr, INTERNET, RType, Records};
 use referral::Cut;
 use std::alloc::Global;
 use std::num::NonZeroUsize;
 use text_lines::LineKind;
-use wire::Via;
+use wire::{Question, Questions, Via};
 use zone::{Link, Zone};
 
 #[derive(Drop)]
@@ -38,6 +36,8 @@ struct Asked {
     stores: Stores<DefaultHasher>,
     frame: Option<Frame>,
     job: Job,
+    // What was asked last.
+    question: Question,
 }
 
 /// What later resolvers have at hand, and the last one.
@@ -45,13 +45,6 @@ struct Asked {
 pub struct Resolvers {
     at_hand: Option<AtHand>,
     asked: Option<Asked>,
-}
-
-// A moment at which a query may come: its deadline, ten seconds later, is a number of milliseconds too.
-fn moment(now: u32) -> u64
-    ensures { result + 10000 < 2 ^ 64 }
-{
-    u64::from(now)
 }
 
 fn zone(at_hand: &AtHand) -> Result<Zone, LineKind> {
@@ -94,7 +87,16 @@ fn fresh(alloc: Global, at_hand: &AtHand, room: NonZeroUsize) -> Result<Asked, L
         home,
         stores,
         frame: None,
-        job: Job::new(root, RType::A, moment(0)),
+        question: question(&root, RType::A)?,
+        job: Job::new(root, RType::A, 0),
+    })
+}
+
+fn question(name: &Name, kind: RType) -> Result<Question, LineKind> {
+    Ok(Question {
+        name: name.clone()?,
+        qtype: kind.number(),
+        qclass: INTERNET,
     })
 }
 
@@ -293,9 +295,26 @@ impl Asked {
             Started::Answered(last) => put_done(out, alloc, &[], &last),
             Started::Working(job, next) => {
                 self.job = job;
-                put_next(out, alloc, &next, self.job.asks())
+                self.go_out(alloc, &next, out)
             }
         }
+    }
+
+    // Shows what goes out, and notes what it asks.
+    fn go_out(&mut self, alloc: Global, next: &Next, out: &mut String) -> Result<(), LineKind> {
+        if let Next::AskUdp(_, name, kind) | Next::AskTcp(_, name, kind) = next {
+            self.question = question(name, *kind)?;
+        }
+        put_next(out, alloc, next, self.job.asks())
+    }
+
+    // The question that was asked last.
+    fn question(&self) -> Result<Question, LineKind> {
+        Ok(Question {
+            name: self.question.name.clone()?,
+            qtype: self.question.qtype,
+            qclass: self.question.qclass,
+        })
     }
 
     fn begin(
@@ -311,7 +330,7 @@ impl Asked {
             kind,
             &self.home,
             &mut self.stores,
-            moment(now),
+            u64::from(now),
         )?)
     }
 
@@ -338,7 +357,7 @@ impl Asked {
             &mut self.stores,
             now,
         )?;
-        put_next(out, alloc, &next, self.job.asks())
+        self.go_out(alloc, &next, out)
     }
 
     fn told(
@@ -362,13 +381,15 @@ impl Asked {
             &mut self.stores,
             now,
         )?;
-        put_next(out, row.alloc, &next, self.job.asks())
+        self.go_out(row.alloc, &next, out)
     }
 
     fn reply(&mut self, row: &mut Row<'_>, out: &mut String) -> Result<(), LineKind> {
         let server = row.address()?;
         let now = row.number()?;
-        let bytes = reply(row)?;
+        let mut questions = Questions::new(row.alloc);
+        questions.push(self.question()?)?;
+        let bytes = reply(row, questions)?;
         self.told(row, server, &bytes, now, out)
     }
 

@@ -1,15 +1,11 @@
-//! Rows about one ask and its reply. `asking PATH NUMBER SERVER ID NAME TYPE` is an ask, for port 53; `sent` shows how
-//! it goes out, and `hear SOCKET SERVER PORT BYTES` and `hear-stream NUMBER BYTES` whether something is accepted as the
-//! reply to it. `answer-late CLIENT WAY BYTES` is what a client gets whose query's deadline is over.
+//! Rows about one ask, and about replies to clients. `asking PATH NUMBER SERVER ID NAME TYPE` is an ask, for port 53; `sent` shows how
+//! it goes out. `answer-late CLIENT WAY BYTES` is what a client gets whose query's deadline is over.
 use crate::replies::way;
 use crate::row::Row;
 use crate::shown::put_action;
 use causes::Cause;
 use dname::Name;
-use events::{
-    Action, Ask, Bytes, ClientQuery, Endpoint, Event, Path, accepted_reply, read_asked, refuse,
-    reply_to, send,
-};
+use events::{Action, Ask, Bytes, ClientQuery, Path, read_asked, refuse, reply_to, send};
 use front::{Outcome, Request};
 use rdata::RType;
 use std::alloc::Global;
@@ -61,40 +57,6 @@ fn ask(row: &mut Row<'_>) -> Result<Ask, LineKind> {
     })
 }
 
-fn datagram(row: &mut Row<'_>) -> Result<Event, LineKind> {
-    let socket = row.short()?;
-    let address = row.address()?;
-    let port = row.short()?;
-    Ok(Event::Datagram {
-        moment: 0,
-        socket,
-        from: Endpoint { address, port },
-        bytes: bounded(row.bytes()?)?,
-    })
-}
-
-fn stream_reply(row: &mut Row<'_>) -> Result<Event, LineKind> {
-    let number = row.number()?;
-    Ok(Event::TcpReply {
-        moment: 0,
-        number,
-        bytes: bounded(row.bytes()?)?,
-    })
-}
-
-fn event(row: &mut Row<'_>) -> Result<Event, LineKind> {
-    match row.command {
-        "hear" => datagram(row),
-        _ => stream_reply(row),
-    }
-}
-
-fn put_heard(alloc: Global, ask: &Ask, event: &Event, out: &mut String) -> Result<(), LineKind> {
-    let is_heard = accepted_reply(alloc, PORT, ask, event).is_some();
-    out.push_str(if is_heard { "accepted\n" } else { "ignored\n" })?;
-    Ok(())
-}
-
 impl Exchange {
     /// No ask.
     pub fn new() -> Exchange {
@@ -106,8 +68,7 @@ impl Exchange {
         match row.command {
             "asking" => self.begin(row),
             "sent" => self.put_sent(row, out),
-            "answer-late" => put_late_answer(row, out),
-            _ => self.hear(row, out),
+            _ => put_late_answer(row, out),
         }
     }
 
@@ -123,11 +84,6 @@ impl Exchange {
     fn put_sent(&self, row: &Row<'_>, out: &mut String) -> Result<(), LineKind> {
         let action = send(row.alloc, PORT, self.ask()?)?;
         put_action(out, &action)
-    }
-
-    fn hear(&self, row: &mut Row<'_>, out: &mut String) -> Result<(), LineKind> {
-        let event = event(row)?;
-        put_heard(row.alloc, self.ask()?, &event, out)
     }
 }
 

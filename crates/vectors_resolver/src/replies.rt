@@ -49,13 +49,13 @@ fn header(row: &mut Row<'_>) -> Result<Header, LineKind> {
     Ok(header)
 }
 
-fn message(row: &Row<'_>, header: Header) -> Result<Message, LineKind> {
+fn message(row: &Row<'_>, header: Header, questions: Questions) -> Result<Message, LineKind> {
     let answer = row.section("answer ")?;
     let authority = row.section("authority ")?;
     let additional = row.section("additional ")?;
     Ok(Message {
         header,
-        questions: Questions::new(row.alloc),
+        questions,
         answer,
         authority,
         additional,
@@ -69,10 +69,10 @@ fn encoded(row: &Row<'_>, message: &Message) -> Result<Vec<u8>, LineKind> {
     }
 }
 
-/// The bytes of a reply with the flags that are left and the records of the row.
-pub fn reply(row: &mut Row<'_>) -> Result<Vec<u8>, LineKind> {
+/// The bytes of a reply to these questions with the flags that are left and the records of the row.
+pub fn reply(row: &mut Row<'_>, questions: Questions) -> Result<Vec<u8>, LineKind> {
     let header = header(row)?;
-    let message = message(row, header)?;
+    let message = message(row, header, questions)?;
     encoded(row, &message)
 }
 
@@ -119,7 +119,7 @@ pub fn show_class(row: &mut Row<'_>, out: &mut String) -> Result<(), LineKind> {
     let name = row.name()?;
     let kind = row.rtype()?;
     let via = way(row)?;
-    let bytes = reply(row)?;
+    let bytes = reply(row, Questions::new(row.alloc))?;
     let class = class(row, &zone, &name, kind, via, &bytes)?;
     put_class(row, out, &class)
 }

@@ -55,10 +55,8 @@ impl Script {
             "classify" => show_class(row, out),
             "received" => show_received(row, out),
             "settings" => show_settings(row, out),
-            "asking" | "sent" | "hear" | "hear-stream" | "answer-late" => {
-                self.exchange.perform(row, out)
-            }
-            "core" | "client" | "server" | "tick" | "client-fronts" | "server-fronts" => {
+            "asking" | "sent" | "answer-late" => self.exchange.perform(row, out),
+            "core" | "client" | "server" | "stray" | "tick" | "client-fronts" | "server-fronts" => {
                 self.steps.perform(row, out)
             }
             _ => self.resolvers.perform(row, out),

@@ -1,11 +1,12 @@
-//! Rows about a resolver's steps. `core HINT` makes one with that server of the root; `client CLIENT AT BYTES` is what a
-//! client says over UDP, `server SERVER AT BYTES` what a server says by the way of the last ask, behind its ID, and
+//! Rows about a resolver's steps. `core HINT` makes one with that server of the root; `client CLIENT AT BYTES` is what
+//! a client says over UDP, `server SERVER AT BYTES` what a server says by the way of the last ask, behind its ID.
+//! `stray BY PORT SERVER AT BYTES` is the same where the socket, or the number over TCP, is greater by BY, from that port;
 //! `tick AT` time. `client-fronts` and `server-fronts` before the words of such a row are each front of the bytes; what
 //! comes of those that follow one another is said once where it is the same.
 use crate::row::Row;
 use crate::shown::{put_hex, put_reply};
-use engine_fixture::{Ask, Desk, Out, bounded};
-use events::{Action, Actions, Bytes, Event};
+use engine_fixture::{Ask, Out, TestResolver, bounded};
+use events::{Action, Actions, Bytes, Endpoint, Event, Path};
 use rdata::Addr;
 use std::alloc::Global;
 use text_lines::LineKind;
@@ -14,7 +15,7 @@ use text_lines::LineKind;
 #[derive(Drop)]
 pub struct Steps {
     hint: Addr,
-    desk: Option<Desk<Global>>,
+    resolver: Option<TestResolver<Global>>,
 }
 
 fn put_ask(out: &mut String, to: Addr, way: &str, bytes: &[u8]) -> Result<(), LineKind> {
@@ -55,19 +56,27 @@ fn front_of(alloc: Global, id: [u8; 2], rest: &[u8], length: usize) -> Result<By
 }
 
 // What a server says to the last ask.
-fn told(desk: &Desk<Global>, speech: &Speech, length: usize) -> Result<Event, LineKind> {
+fn told(
+    resolver: &TestResolver<Global>,
+    speech: &Speech,
+    length: usize,
+) -> Result<Event, LineKind> {
     let ask = Ask {
         server: speech.server,
-        ..desk.ask()
+        ..resolver.ask()
     };
-    let bytes = front_of(desk.heap(), ask.id, &speech.bytes, length)?;
+    let bytes = front_of(resolver.heap(), ask.id, &speech.bytes, length)?;
     Ok(ask.told(speech.moment, bytes))
 }
 
-fn take(desk: &mut Desk<Global>, event: &Event, out: &mut String) -> Result<(), LineKind> {
-    match desk.step(event) {
+fn take(
+    resolver: &mut TestResolver<Global>,
+    event: &Event,
+    out: &mut String,
+) -> Result<(), LineKind> {
+    match resolver.step(event) {
         Out::Starved => Err(LineKind::Memory),
-        _ => put_actions(out, desk.last()),
+        _ => put_actions(out, resolver.last()),
     }
 }
 
@@ -106,24 +115,51 @@ impl Speech {
     // The client says the first so many bytes.
     fn ask(
         &self,
-        desk: &mut Desk<Global>,
+        resolver: &mut TestResolver<Global>,
         length: usize,
         out: &mut String,
     ) -> Result<(), LineKind> {
         let bytes = self.bytes.get(..length).unwrap_or(&[]);
-        let event = desk.query(self.client, self.moment, bytes)?;
-        take(desk, &event, out)
+        let event = resolver.query(self.client, self.moment, bytes)?;
+        take(resolver, &event, out)
     }
 
     // The server says the first so many bytes of its message.
     fn tell(
         &self,
-        desk: &mut Desk<Global>,
+        resolver: &mut TestResolver<Global>,
         length: usize,
         out: &mut String,
     ) -> Result<(), LineKind> {
-        let event = told(desk, self, length)?;
-        take(desk, &event, out)
+        let event = told(resolver, self, length)?;
+        take(resolver, &event, out)
+    }
+
+    // The server says its message from this port where nobody waits for it, so far behind the ask's socket or number.
+    fn stray(
+        &self,
+        resolver: &TestResolver<Global>,
+        by: u16,
+        port: u16,
+    ) -> Result<Event, LineKind> {
+        let ask = resolver.ask();
+        let bytes = front_of(resolver.heap(), ask.id, &self.bytes, self.whole())?;
+        Ok(match ask.path {
+            Path::Udp(socket) => Event::Datagram {
+                moment: self.moment,
+                socket: socket.saturating_add(by),
+                from: Endpoint {
+                    address: self.server,
+                    port,
+                },
+                bytes,
+            },
+            Path::Tcp(number) => Event::TcpReply {
+                moment: self.moment,
+                number: number.saturating_add(u64::from(by)),
+                bytes,
+            },
+        })
     }
 
     // How long the server's message is, its ID before these bytes.
@@ -166,7 +202,7 @@ impl Steps {
     pub fn new() -> Steps {
         Steps {
             hint: Addr([0, 0, 0, 0]),
-            desk: None,
+            resolver: None,
         }
     }
 
@@ -176,6 +212,7 @@ impl Steps {
             "core" => self.begin(row),
             "client" => self.ask(row, out),
             "server" => self.tell(row, out),
+            "stray" => self.stray(row, out),
             "client-fronts" => self.ask_fronts(row, out),
             "server-fronts" => self.tell_fronts(row, out),
             _ => self.tick(row, out),
@@ -188,27 +225,36 @@ impl Steps {
     }
 
     fn renew(&mut self, alloc: Global) -> Result<(), LineKind> {
-        self.desk = Some(Desk::new(alloc, self.hint)?);
+        self.resolver = Some(TestResolver::new(alloc, self.hint)?);
         Ok(())
     }
 
-    fn desk(&mut self) -> Result<&mut Desk<Global>, LineKind> {
-        self.desk.as_mut().ok_or(LineKind::UnknownWord)
+    fn resolver(&mut self) -> Result<&mut TestResolver<Global>, LineKind> {
+        self.resolver.as_mut().ok_or(LineKind::UnknownWord)
     }
 
     fn ask(&mut self, row: &mut Row<'_>, out: &mut String) -> Result<(), LineKind> {
         let speech = of_client(row)?;
-        speech.ask(self.desk()?, speech.bytes.len(), out)
+        speech.ask(self.resolver()?, speech.bytes.len(), out)
     }
 
     fn tell(&mut self, row: &mut Row<'_>, out: &mut String) -> Result<(), LineKind> {
         let speech = of_server(row)?;
-        speech.tell(self.desk()?, speech.whole(), out)
+        speech.tell(self.resolver()?, speech.whole(), out)
+    }
+
+    fn stray(&mut self, row: &mut Row<'_>, out: &mut String) -> Result<(), LineKind> {
+        let by = row.short()?;
+        let port = row.short()?;
+        let speech = of_server(row)?;
+        let resolver = self.resolver()?;
+        let event = speech.stray(resolver, by, port)?;
+        take(resolver, &event, out)
     }
 
     fn tick(&mut self, row: &mut Row<'_>, out: &mut String) -> Result<(), LineKind> {
         let moment = row.number()?;
-        take(self.desk()?, &Event::Tick { moment }, out)
+        take(self.resolver()?, &Event::Tick { moment }, out)
     }
 
     // Each front of the bytes is said to a new resolver.
@@ -218,7 +264,7 @@ impl Steps {
         for length in 0..speech.bytes.len() {
             self.renew(row.alloc)?;
             let mut said = String::new(row.alloc);
-            speech.ask(self.desk()?, length, &mut said)?;
+            speech.ask(self.resolver()?, length, &mut said)?;
             fronts.note(length, said, out)?;
         }
         fronts.put(speech.bytes.len(), out)
@@ -230,7 +276,7 @@ impl Steps {
         let mut fronts = no_fronts(row.alloc);
         for length in 0..speech.whole() {
             let mut said = String::new(row.alloc);
-            speech.tell(self.desk()?, length, &mut said)?;
+            speech.tell(self.resolver()?, length, &mut said)?;
             fronts.note(length, said, out)?;
         }
         fronts.put(speech.whole(), out)

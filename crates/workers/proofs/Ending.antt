@@ -4,23 +4,23 @@ use Rattle.std.proofs.lemmas.List.{get_or-map, length-map, length-append, get_or
 use Rattle.std.proofs.lemmas.Bool.{cases_eq}
 use Rattle.memory.specs.declared.Starved.{Starved}
 use Rattle.book.specs.Histories.{Line, lines_of, LeadsMachine}
-use Rattle.book.specs.Books.{Page, Seat, seat, seats}
+use Rattle.book.specs.Books.{BookView, TicketView, ticket_view, first_tickets}
 use Rattle.pool.specs.Closings.{Part, part, Closes}
 use Rattle.workers.specs.Working.{Follows, Did}
 use Rattle.workers.specs.Runs.{HaveRun}
 
-seats_long : (n : ℕ) → length (seats n) ≡ n
-seats_long zero = refl
-seats_long (suc n) = let more = length-append (seats n) (seat n 0 ∷ []) in let below = seats_long n in omega (arith, more, below)
+first_tickets_long : (n : ℕ) → length (first_tickets n) ≡ n
+first_tickets_long zero = refl
+first_tickets_long (suc n) = let more = length-append (first_tickets n) (ticket_view n 0 ∷ []) in let below = first_tickets_long n in omega (arith, more, below)
 
-seats_at : (n i : ℕ) (d : Seat) → i < n → get_or (seats n) i d ≡ seat i 0
-seats_at zero i d small = absurd (not-suc-le-zero small)
-seats_at (suc n) i d small =
-    let long = seats_long n in
-    elim (cases_eq i n) as (λ c. get_or (seats n ++ seat n 0 ∷ []) i d ≡ seat i 0) [
-      | inl last ↦ get_or_at (seats n) (seat n 0) [] d i (long ∙ sym last) ∙ ap (λ k. seat k 0) (sym last)
+first_tickets_at : (n i : ℕ) (d : TicketView) → i < n → get_or (first_tickets n) i d ≡ ticket_view i 0
+first_tickets_at zero i d small = absurd (not-suc-le-zero small)
+first_tickets_at (suc n) i d small =
+    let long = first_tickets_long n in
+    elim (cases_eq i n) as (λ c. get_or (first_tickets n ++ ticket_view n 0 ∷ []) i d ≡ ticket_view i 0) [
+      | inl last ↦ get_or_at (first_tickets n) (ticket_view n 0) [] d i (long ∙ sym last) ∙ ap (λ k. ticket_view k 0) (sym last)
       | inr other ↦ let below : i < n = omega (arith, small, other) in
-          get_or_append_left (seats n) (seat n 0 ∷ []) d i (omega (arith, long, below)) ∙ seats_at n i d below
+          get_or_append_left (first_tickets n) (ticket_view n 0 ∷ []) d i (omega (arith, long, below)) ∙ first_tickets_at n i d below
     ]
 
 -- an element's list, whatever is read past the end
@@ -33,30 +33,30 @@ pub both : {X Y : Type 0} (r : Result X Y) (P Q R : X → Type 0) → ((x : X) �
 both (Ok x) P Q R f p q = f x p q
 both (Err y) P Q R f p q = tt
 
-module _ {Q E O : Type 0} (event_of : Q → E) (errands : E → Result O Starved → List E) where
+module _ {Q E O : Type 0} (event_of : Q → E) (follow_ups : E → Result O Starved → List E) where
   -- each worker worked off its own list
   abbrev EachDid : List (List Q) → List (Part E O) → Type 0
-  EachDid queries parts = (w : ℕ) → w < length queries → Did event_of errands w (get_or queries w []) (get_or parts w (part (seat 0 0) []))
+  EachDid queries parts = (w : ℕ) → w < length queries → Did event_of follow_ups w (get_or queries w []) (get_or parts w (part (ticket_view 0 0) []))
 
-  each_did : {V : Type 0} (items : V → List Q) (vs : List V) (tickets : List Seat) (parts : List (Part E O)) → tickets ≡ seats (length vs)
-      → ((i : ℕ) (t : Seat) (v : V) (k : Part E O) → i < length tickets → Did event_of errands (get_or tickets i t).worker (items (get_or vs (get_or tickets i t).worker v)) (get_or parts i k))
+  each_did : {V : Type 0} (items : V → List Q) (vs : List V) (tickets : List TicketView) (parts : List (Part E O)) → tickets ≡ first_tickets (length vs)
+      → ((i : ℕ) (t : TicketView) (v : V) (k : Part E O) → i < length tickets → Did event_of follow_ups (get_or tickets i t).worker (items (get_or vs (get_or tickets i t).worker v)) (get_or parts i k))
       → EachDid (map items vs) parts
   each_did {V} items vs tickets parts are did w small =
-      let nothing : Part E O = part (seat 0 0) [] in
+      let nothing : Part E O = part (ticket_view 0 0) [] in
       let long = length-map vs items in
       let inside : w < length vs = omega (arith, long, small) in
-      let issued : length tickets ≡ length vs = ap length are ∙ seats_long (length vs) in
-      let own : (get_or tickets w (seat 0 0)).worker ≡ w = ap (λ s. s.worker) (ap (λ l. get_or l w (seat 0 0)) are ∙ seats_at (length vs) w (seat 0 0) inside) in
-      listed items vs w inside (λ qs. Did event_of errands w qs (get_or parts w nothing))
-      (λ v. subst (λ u. Did event_of errands u (items (get_or vs u v)) (get_or parts w nothing)) own (did w (seat 0 0) v nothing (omega (arith, issued, inside))))
+      let issued : length tickets ≡ length vs = ap length are ∙ first_tickets_long (length vs) in
+      let own : (get_or tickets w (ticket_view 0 0)).worker ≡ w = ap (λ s. s.worker) (ap (λ l. get_or l w (ticket_view 0 0)) are ∙ first_tickets_at (length vs) w (ticket_view 0 0) inside) in
+      listed items vs w inside (λ qs. Did event_of follow_ups w qs (get_or parts w nothing))
+      (λ v. subst (λ u. Did event_of follow_ups u (items (get_or vs u v)) (get_or parts w nothing)) own (did w (ticket_view 0 0) v nothing (omega (arith, issued, inside))))
 
-module _ {S Q E O : Type 0} (moves : S → E → Result O Starved → S → Type 0) (begins : S → Type 0) (event_of : Q → E) (errands : E → Result O Starved → List E) where
-  have_run : (queries : List (List Q)) (parts : List (Part E O)) (lists : List (List (Line E O))) (p : Page S E O) (h : List (Line E O))
-      → length parts ≡ length queries → EachDid event_of errands queries parts → Closes moves begins p parts h
-      → lists ≡ map (λ k. k.lines) parts → HaveRun moves begins event_of errands queries h lists
+module _ {S Q E O : Type 0} (moves : S → E → Result O Starved → S → Type 0) (begins : S → Type 0) (event_of : Q → E) (follow_ups : E → Result O Starved → List E) where
+  have_run : (queries : List (List Q)) (parts : List (Part E O)) (lists : List (List (Line E O))) (p : BookView S E O) (h : List (Line E O))
+      → length parts ≡ length queries → EachDid event_of follow_ups queries parts → Closes moves begins p parts h
+      → lists ≡ map (λ k. k.lines) parts → HaveRun moves begins event_of follow_ups queries h lists
   have_run queries parts lists p h all each closes is =
       let n = length queries in
-      let nothing : Part E O = part (seat 0 0) [] in
+      let nothing : Part E O = part (ticket_view 0 0) [] in
       let workers : length p.counts ≡ n = sym (closes.tickets).many ∙ all in
       let handed_in : (w : ℕ) → w < n → get_or lists w [] ≡ (get_or parts w nothing).lines =
       λ w small. ap (λ l. get_or l w []) is ∙ get_or-map (λ k. k.lines) parts w nothing [] (omega (arith, all, small)) in
@@ -69,16 +69,16 @@ module _ {S Q E O : Type 0} (moves : S → E → Result O Starved → S → Type
         legal = subst (λ k. LeadsMachine moves k (closes.history).start (reverse h) p.state) workers (closes.history).legal;
         many = ap length is ∙ length-map parts (λ k. k.lines) ∙ all;
         kept = λ w small. kept w small ∙ sym (handed_in w small);
-        worked = λ w small. subst (λ es. Follows event_of errands es (get_or queries w []) []) (sym (kept w small)) (each w small).follows;
+        worked = λ w small. subst (λ es. Follows event_of follow_ups es (get_or queries w []) []) (sym (kept w small)) (each w small).follows;
       }
 
   -- a run of workers whose tickets are those of the book
-  pub closed_run : {V : Type 0} (items : V → List Q) (vs : List V) (tickets : List Seat) (parts : List (Part E O)) (lists : List (List (Line E O))) (p : Page S E O) (h : List (Line E O))
-      → tickets ≡ seats (length vs) → length parts ≡ length tickets
-      → ((i : ℕ) (t : Seat) (v : V) (k : Part E O) → i < length tickets → Did event_of errands (get_or tickets i t).worker (items (get_or vs (get_or tickets i t).worker v)) (get_or parts i k))
-      → Closes moves begins p parts h → lists ≡ map (λ k. k.lines) parts → HaveRun moves begins event_of errands (map items vs) h lists
+  pub closed_run : {V : Type 0} (items : V → List Q) (vs : List V) (tickets : List TicketView) (parts : List (Part E O)) (lists : List (List (Line E O))) (p : BookView S E O) (h : List (Line E O))
+      → tickets ≡ first_tickets (length vs) → length parts ≡ length tickets
+      → ((i : ℕ) (t : TicketView) (v : V) (k : Part E O) → i < length tickets → Did event_of follow_ups (get_or tickets i t).worker (items (get_or vs (get_or tickets i t).worker v)) (get_or parts i k))
+      → Closes moves begins p parts h → lists ≡ map (λ k. k.lines) parts → HaveRun moves begins event_of follow_ups (map items vs) h lists
   closed_run items vs tickets parts lists p h are many did closes is =
-      let issued = seats_long (length vs) in
+      let issued = first_tickets_long (length vs) in
       let long = length-map vs items in
       let as_many : length parts ≡ length (map items vs) = omega (arith, many, ap length are, issued, long) in
-      have_run (map items vs) parts lists p h as_many (each_did event_of errands items vs tickets parts are did) closes is
+      have_run (map items vs) parts lists p h as_many (each_did event_of follow_ups items vs tickets parts are did) closes is

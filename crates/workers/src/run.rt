@@ -2,7 +2,7 @@
 ghost use Rattle.std.specs.Prelude.{◌≡◌, ◌<◌, IfOk, length, map};
 ghost use Rattle.workers.specs.Runs.{HaveRun};
 
-use crate::errands::Errands;
+use crate::follow_ups::FollowUps;
 use crate::gate::Gate;
 use crate::together::work_all;
 use book::Book;
@@ -16,7 +16,7 @@ use std::thread::Threads;
 /// Before each query a worker comes to the gate. Refused with `Forgot` where the history has more than `keep` lines,
 /// with `Memory` where a growth is refused.
 pub fn run_all<
-    M: Errands + Send + Sync,
+    M: FollowUps + Send + Sync,
     L: Ledger + Send + Sync,
     G: Gate + Sync,
     R: Threads + Wait + Sync,
@@ -33,7 +33,7 @@ pub fn run_all<
     requires parts { (blank.parts ≡ L.parts) × (blank.parts ≡ length queries.now) }
     requires some { 0 < length queries.now }
     requires begins { M.begins start }
-    ensures { IfOk result (λ c. HaveRun M.moves M.begins M.event_of M.errands (map (λ q. q.items) queries.now) c.history.items (map (λ v. v.items) c.lists.items)) }
+    ensures { IfOk result (λ c. HaveRun M.moves M.begins M.event_of M.follow_ups (map (λ q. q.items) queries.now) c.history.items (map (λ v. v.items) c.lists.items)) }
 {
     let (book, tickets) = Book::<M, L>::new(alloc, blank, start, queries.len(), keep)?;
     let shared = Shared::new(book);

@@ -3,7 +3,7 @@ use Rattle.std.specs.Prelude.{Bool, false, ◌&&◌, ◌||◌, not, nat_eq, nat_
 use Rattle.std.specs.List.{list_any}
 use Rattle.std.specs.Cmp.Lexicographic.{pointwise}
 use Rattle.dname.specs.Labels.{Name, root, same_name, is_under}
-use Rattle.rdata.specs.Data.{Datum, Ipv4, Ns, Cname, Soa, Ptr, Mx, Txt, Ipv6, Srv}
+use Rattle.rdata.specs.Data.{Datum, Ipv4, Ns}
 use Rattle.rdata.specs.Records.{Record}
 use Rattle.zone.specs.Zones.{Zone, a_type, ns_type}
 use Rattle.zone.specs.Links.{Link, Found, Alias, NoData, NxDomain}
@@ -57,14 +57,7 @@ has_undelegated zs locals ys = list_any (λ (z : Zone). not (is_placed zs locals
 -- An address of a server of a cut does not serve the cut.
 abbrev pub is_missed : List Host → Name → Datum → Bool
 is_missed hs c (Ipv4 a) = not (serves a c hs)
-is_missed hs c (Ns n) = false
-is_missed hs c (Cname n) = false
-is_missed hs c (Soa s) = false
-is_missed hs c (Ptr n) = false
-is_missed hs c (Mx p n) = false
-is_missed hs c (Txt ts) = false
-is_missed hs c (Ipv6 a) = false
-is_missed hs c (Srv v) = false
+is_missed _ _ _ = false
 
 abbrev pub some_missed : List Host → Name → List Record → Bool
 some_missed hs c rs = list_any (λ (r : Record). is_missed hs c r.value) rs
@@ -87,15 +80,8 @@ look_misses hs c (Cut d ns glue) = false
 look_misses hs c NotHere = false
 
 abbrev pub target_misses : List Zone → List Host → Name → Datum → Bool
-target_misses zs hs c (Ipv4 a) = false
 target_misses zs hs c (Ns n) = list_any (zone_misses hs c n) zs || look_misses hs c (looked zs n a_type)
-target_misses zs hs c (Cname n) = false
-target_misses zs hs c (Soa s) = false
-target_misses zs hs c (Ptr n) = false
-target_misses zs hs c (Mx p n) = false
-target_misses zs hs c (Txt ts) = false
-target_misses zs hs c (Ipv6 a) = false
-target_misses zs hs c (Srv v) = false
+target_misses _ _ _ _ = false
 
 abbrev pub is_lame : List Zone → List Host → Name → Record → Bool
 is_lame zs hs o r = makes_cut o r && target_misses zs hs r.owner r.value

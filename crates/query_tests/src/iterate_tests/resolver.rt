@@ -1,5 +1,4 @@
 //! A resolver in memory for tests: what comes in for a query, and what goes out, in short.
-ghost use Rattle.std.specs.Prelude.{◌<◌, ◌+◌, ◌^◌};
 
 use crate::shared::{home, stores};
 use causes::Cause;
@@ -9,9 +8,9 @@ use iterate::{Input, Job, Next, Started, advance, advance_by_reply, begin_query}
 use lookup::{Home, Stores};
 use lru::DefaultHasher;
 use memory::{Heap, Starved};
-use rdata::{RData, RType, RecordSet, Records};
+use rdata::{INTERNET, RData, RType, RecordSet, Records};
 use record_fixtures::{Row, Value, address, name, record, records};
-use wire::{Header, Message, Questions, UDP_LIMIT, Via, encode};
+use wire::{Header, Message, Question, Questions, UDP_LIMIT, Via, encode};
 use zone::Link;
 
 // Servers are known by the last byte of their address, which stands in 192.0.2.0/24: one of the root, one of
@@ -152,15 +151,8 @@ fn told<A: Heap>(alloc: A, event: Event) -> Result<Option<(u8, Message<A>)>, Sta
     })
 }
 
-// A moment at which a query may come: its deadline, ten seconds later, is a number of milliseconds too.
-fn moment(now: u32) -> u64
-    ensures { result + 10000 < 2 ^ 64 }
-{
-    u64::from(now)
-}
-
 fn job_of<A: Heap>(name: Name<A>) -> Job<A> {
-    Job::new(name, RType::A, moment(0))
+    Job::new(name, RType::A, 0)
 }
 
 fn job<A: Heap>(alloc: A, text: &str) -> Result<Job<A>, Starved> {
@@ -205,6 +197,8 @@ pub struct Asked<A: Heap> {
     home: Home<A>,
     stores: Stores<DefaultHasher, A>,
     job: Job<A>,
+    // The name and the type that were asked for last.
+    question: (Name<A>, RType),
 }
 
 impl<A: Heap> Asked<A> {
@@ -217,18 +211,37 @@ impl<A: Heap> Asked<A> {
             home,
             stores: stores(alloc, 20)?,
             job,
+            question: (Name::root(alloc)?, RType::A),
         })
     }
 
     // What goes out for a query whose work has begun.
-    fn begun(&mut self, begun: Started<A>) -> Out {
+    fn begun(&mut self, begun: Started<A>) -> Result<Out, Starved> {
         match begun {
-            Started::Answered(last) => done(0, last.link()),
+            Started::Answered(last) => Ok(done(0, last.link())),
             Started::Working(job, next) => {
                 self.job = job;
-                short(&next)
+                self.noted(next)
             }
         }
+    }
+
+    // What goes out, in short; what it asks is noted.
+    fn noted(&mut self, next: Next<A>) -> Result<Out, Starved> {
+        let out = short(&next);
+        if let Next::AskUdp(_, name, kind) | Next::AskTcp(_, name, kind) = next {
+            self.question = (name, kind);
+        }
+        Ok(out)
+    }
+
+    // The question that was asked last.
+    fn question(&self) -> Result<Question<A>, Starved> {
+        Ok(Question {
+            name: self.question.0.clone()?,
+            qtype: self.question.1.number(),
+            qclass: INTERNET,
+        })
     }
 
     // What goes out at this moment for another query that comes.
@@ -239,9 +252,9 @@ impl<A: Heap> Asked<A> {
             RType::A,
             &self.home,
             &mut self.stores,
-            moment(now),
+            u64::from(now),
         )?;
-        Ok(self.begun(begun))
+        self.begun(begun)
     }
 
     fn ask(&mut self, text: &str, now: u32) -> Result<Out, Starved> {
@@ -258,12 +271,14 @@ impl<A: Heap> Asked<A> {
             &mut self.stores,
             u64::from(now),
         )?;
-        Ok(short(&next))
+        self.noted(next)
     }
 
-    // What goes out at this moment for a message over UDP from that server.
-    fn told(&mut self, server: u8, message: &Message<A>, now: u32) -> Result<Out, Starved> {
-        let Ok(bytes) = encode(self.alloc, message, UDP_LIMIT) else {
+    // What goes out at this moment for a message over UDP from that server, which has the question that was asked.
+    fn told(&mut self, server: u8, message: Message<A>, now: u32) -> Result<Out, Starved> {
+        let mut message = message;
+        message.questions.push(self.question()?)?;
+        let Ok(bytes) = encode(self.alloc, &message, UDP_LIMIT) else {
             return Err(Starved);
         };
         let Some(reading) = read(self.alloc, Via::Udp, &bytes)? else {
@@ -281,7 +296,7 @@ impl<A: Heap> Asked<A> {
             &mut self.stores,
             u64::from(now),
         )?;
-        Ok(short(&next))
+        self.noted(next)
     }
 
     // What goes out at this moment for what comes in.
@@ -290,7 +305,7 @@ impl<A: Heap> Asked<A> {
             return self.ask(text, now);
         }
         match told(self.alloc, event)? {
-            Some((server, message)) => self.told(server, &message, now),
+            Some((server, message)) => self.told(server, message, now),
             None => self.advance(Input::Start, now),
         }
     }

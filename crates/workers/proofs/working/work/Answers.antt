@@ -5,10 +5,10 @@ use Rattle.workers.proofs.working.work.Goals as goal
 
 pub returns : goal.returns
 returns g c =
-    let event_of = g.M.Errands.event_of in
-    let errands = g.M.Errands.errands in
+    let event_of = g.M.FollowUps.event_of in
+    let follow_ups = g.M.FollowUps.follow_ups in
     let queries = c.args.queries.now in
     let i = c.loop-query.query-index in
     let entries = c.loop-query.entries.items in
-    did event_of errands c.args.ticket.worker queries c.loop-query.ticket entries c.new.result c.new.ensures c.loop-query.invariant.0
-    (ends event_of errands queries (drop i queries) entries (drop_all i queries c.loop-query-test.false) c.loop-query.invariant.1)
+    did event_of follow_ups c.args.ticket.worker queries c.loop-query.ticket entries c.new.result c.new.ensures c.loop-query.invariant.0
+    (ends event_of follow_ups queries (drop i queries) entries (drop_all i queries c.loop-query-test.false) c.loop-query.invariant.1)

@@ -1,13 +1,13 @@
-//! Machines that call for errands.
+//! Machines that call for follow-up events.
 ghost use Rattle.std.specs.Prelude.{◌≡◌, ◌++◌, IfOk, OnOk};
 
 use book::Machine;
 use memory::Starved;
 use std::collections::VecDeque;
 
-/// A machine that workers put queries to, and which calls for errands: events that are to follow what came out of a
-/// step, as a datagram that was sent is to be carried.
-pub trait Errands: Machine {
+/// A machine that workers put queries to, and which calls for follow-up events: events that are to follow what came out
+/// of a step, as a datagram that was sent is to be carried.
+pub trait FollowUps: Machine {
     /// What a worker has to put.
     type Query: Drop + Send + Sync;
 
@@ -18,17 +18,17 @@ pub trait Errands: Machine {
     ghost event_of: { Self.Query → Self.Event };
 
     /// The events that are to follow a step, in their order.
-    ghost errands: { Self.Event → Result Self.Out Starved → List Self.Event };
+    ghost follow_ups: { Self.Event → Result Self.Out Starved → List Self.Event };
 
     /// The event of a query.
     fn event(query: &Self::Query) -> Result<Self::Event, Starved>
         ensures { IfOk result (λ e. e ≡ event_of query.now) };
 
     /// What is to follow a step, behind what waits already.
-    fn add_errands(
+    fn add_follow_ups(
         event: &Self::Event,
         out: &Result<Self::Out, Starved>,
         waiting: &mut VecDeque<Self::Event>,
     ) -> Result<(), Starved>
-        ensures { OnOk result (waiting.new.items ≡ waiting.old.items ++ errands event.now out.now) };
+        ensures { OnOk result (waiting.new.items ≡ waiting.old.items ++ follow_ups event.now out.now) };
 }

@@ -9,7 +9,7 @@ use wire::Via;
 
 /// A resolver with one hint; what it asked last, and what went out last.
 #[derive(Drop)]
-pub struct Desk<A: Heap> {
+pub struct TestResolver<A: Heap> {
     alloc: A,
     core: Core<A>,
     ask: Ask,
@@ -45,15 +45,15 @@ fn ask_of<A: Heap>(actions: &Actions<A>) -> Option<Ask> {
     }
 }
 
-impl<A: Heap> Desk<A> {
+impl<A: Heap> TestResolver<A> {
     /// A new resolver with that server of the root, and no zones of its own.
-    pub fn new(alloc: A, hint: Addr) -> Result<Desk<A>, Starved> {
-        Ok(Desk::of(alloc, core(alloc, hint)?))
+    pub fn new(alloc: A, hint: Addr) -> Result<TestResolver<A>, Starved> {
+        Ok(TestResolver::of(alloc, core(alloc, hint)?))
     }
 
     /// This resolver, which has asked nothing yet.
-    pub fn of(alloc: A, core: Core<A>) -> Desk<A> {
-        Desk {
+    pub fn of(alloc: A, core: Core<A>) -> TestResolver<A> {
+        TestResolver {
             alloc,
             core,
             ask: Ask {

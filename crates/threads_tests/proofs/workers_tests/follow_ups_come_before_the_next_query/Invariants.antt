@@ -1,4 +1,4 @@
-use Rattle.threads_tests.proofs.workers_tests.errands_come_before_the_next_query.Given as goal
+use Rattle.threads_tests.proofs.workers_tests.follow_ups_come_before_the_next_query.Given as goal
 
 abbrev pub ghosts-run_of_one : goal.ghosts-run_of_one
 ghosts-run_of_one g a = record { name = a.blank.name; parts = a.blank.parts }

@@ -25,9 +25,9 @@ carries now (WasSent k ∷ out) = Carry now k ∷ carries now out
 carries now (WasAsked k ∷ out) = CarryTcp now k ∷ carries now out
 carries now (MoreDue ∷ out) = carries now out
 
-abbrev pub errands_of : {A E : Type 0} → SimEvent A → Result (List NetworkAction) E → List (SimEvent A)
-errands_of event (Ok out) = carries (moment_of event) out
-errands_of event (Err error) = []
+abbrev pub follow_ups_of : {A E : Type 0} → SimEvent A → Result (List NetworkAction) E → List (SimEvent A)
+follow_ups_of event (Ok out) = carries (moment_of event) out
+follow_ups_of event (Err error) = []
 
-abbrev pub is_errand : {A : Type 0} → ℕ → List NetworkAction → Option (SimEvent A) → Type 0
-is_errand now out errand = option_to_list errand ≡ carries now out
+abbrev pub is_follow_up : {A : Type 0} → ℕ → List NetworkAction → Option (SimEvent A) → Type 0
+is_follow_up now out follow_up = option_to_list follow_up ≡ carries now out
