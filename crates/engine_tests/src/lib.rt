@@ -1,5 +1,5 @@
 //! The tests of `engine`, from outside, that no row of `vectors_resolver` can hold: each change of one byte of a message,
-//! and what comes while memory is refused.
+//! what comes while memory is refused, and steps on bytes beside steps on what was read of them.
 #![tactic(auto)]
 
 #[cfg(test)]
@@ -16,5 +16,7 @@ mod starved_tests;
 mod talks;
 #[cfg(test)]
 mod tests;
+#[cfg(test)]
+mod typed_step_tests;
 #[cfg(test)]
 mod world_tests;

@@ -11,33 +11,33 @@ use std::test::Fail;
 const ROOT: Addr = Addr([198, 51, 100, 1]);
 
 // www.lab.example. A: example. has the server 198.51.100.2, lab.example. has 198.51.100.3, which says 192.0.2.1.
-const WWW: &[u8] = b"\0\x05\x01\0\0\x01\0\0\0\0\0\0\x03www\x03lab\x07example\0\0\x01\0\x01";
+pub const WWW: &[u8] = b"\0\x05\x01\0\0\x01\0\0\0\0\0\0\x03www\x03lab\x07example\0\0\x01\0\x01";
 
-const TO_EXAMPLE: &[u8] =
+pub const TO_EXAMPLE: &[u8] =
     b"\x80\0\0\x01\0\0\0\x01\0\x01\x03www\x03lab\x07example\0\0\x01\0\x01\xc0\x14\0\x02\0\x01\0\0\x0e\x10\0\x05\x02ns\xc0\x14\xc0\x2d\0\x01\0\x01\0\0\x0e\x10\0\x04\xc6\x33\x64\x02";
 
-const TO_LAB: &[u8] =
+pub const TO_LAB: &[u8] =
     b"\x80\0\0\x01\0\0\0\x01\0\x01\x03www\x03lab\x07example\0\0\x01\0\x01\xc0\x10\0\x02\0\x01\0\0\x0e\x10\0\x05\x02ns\xc0\x10\xc0\x2d\0\x01\0\x01\0\0\x0e\x10\0\x04\xc6\x33\x64\x03";
 
-const FOUND: &[u8] =
+pub const FOUND: &[u8] =
     b"\x84\0\0\x01\0\x01\0\0\0\0\x03www\x03lab\x07example\0\0\x01\0\x01\xc0\x0c\0\x01\0\x01\0\0\x01\x2c\0\x04\xc0\0\x02\x01";
 
 // gone.example. A: an NXDOMAIN with the SOA of example.
-const GONE: &[u8] = b"\0\x05\x01\0\0\x01\0\0\0\0\0\0\x04gone\x07example\0\0\x01\0\x01";
+pub const GONE: &[u8] = b"\0\x05\x01\0\0\x01\0\0\0\0\0\0\x04gone\x07example\0\0\x01\0\x01";
 
-const GONE_TO_EXAMPLE: &[u8] =
+pub const GONE_TO_EXAMPLE: &[u8] =
     b"\x80\0\0\x01\0\0\0\x01\0\x01\x04gone\x07example\0\0\x01\0\x01\xc0\x11\0\x02\0\x01\0\0\x0e\x10\0\x05\x02ns\xc0\x11\xc0\x2a\0\x01\0\x01\0\0\x0e\x10\0\x04\xc6\x33\x64\x02";
 
-const DENIED: &[u8] =
+pub const DENIED: &[u8] =
     b"\x84\x03\0\x01\0\0\0\x01\0\0\x04gone\x07example\0\0\x01\0\x01\xc0\x11\0\x06\0\x01\0\0\0\x3c\0\x1d\x02ns\xc0\x11\x01h\xc0\x11\0\0\0\x01\0\0\0\x02\0\0\0\x03\0\0\0\x04\0\0\0\x3c";
 
 // app.example. A: an alias of db.corp.example., which that server knows nothing of, and which it is asked for then.
-const APP: &[u8] = b"\0\x05\x01\0\0\x01\0\0\0\0\0\0\x03app\x07example\0\0\x01\0\x01";
+pub const APP: &[u8] = b"\0\x05\x01\0\0\x01\0\0\0\0\0\0\x03app\x07example\0\0\x01\0\x01";
 
-const APP_TO_EXAMPLE: &[u8] =
+pub const APP_TO_EXAMPLE: &[u8] =
     b"\x80\0\0\x01\0\0\0\x01\0\x01\x03app\x07example\0\0\x01\0\x01\xc0\x10\0\x02\0\x01\0\0\x0e\x10\0\x05\x02ns\xc0\x10\xc0\x29\0\x01\0\x01\0\0\x0e\x10\0\x04\xc6\x33\x64\x02";
 
-const ALIAS: &[u8] =
+pub const ALIAS: &[u8] =
     b"\x84\x03\0\x01\0\x01\0\x01\0\0\x03app\x07example\0\0\x01\0\x01\xc0\x0c\0\x05\0\x01\0\0\x0e\x10\0\x0a\x02db\x04corp\xc0\x10\xc0\x10\0\x06\0\x01\0\0\0\x3c\0\x1d\x02ns\xc0\x10\x01h\xc0\x10\0\0\0\x01\0\0\0\x02\0\0\0\x03\0\0\0\x04\0\0\0\x3c";
 
 const TALK_WITH_ROOT: Talk = Talk {
