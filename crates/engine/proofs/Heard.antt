@@ -1,5 +1,5 @@
 -- A message that is for the open query of a number.
-use Rattle.std.proofs.Common.{◌≡◌, ℕ, inl, inr, Bool, true, false, Option, None, List, ◌∷◌, [], refl, sym, ◌∙◌, ap, subst}
+use Rattle.std.proofs.Common.{◌≡◌, ℕ, inl, inr, None, List, ◌∷◌, [], refl, sym, ◌∙◌, ap, subst}
 use Rattle.std.specs.Prelude.{◌↔◌, IsTrue}
 use Rattle.dname.specs.Labels.{same_name}
 use Rattle.dname.specs.Laws.{same_name-exact, same_name-equal}
@@ -10,12 +10,11 @@ use Rattle.message_grammar.specs.Messages.{Question, Message, IsMessage}
 use Rattle.message_grammar.proofs.Single.{message_one}
 use Rattle.wire.specs.declared.via.Via.{Via}
 use Rattle.wire.specs.declared.via.Via.TheVariants.{Udp, Tcp}
-use Rattle.classify.specs.Read.{Reading, only_question, IsReadingOf, AreRead}
+use Rattle.classify.specs.Read.{Reading, IsReadingOf, AreRead}
 use Rattle.resolution.specs.Jobs.{Search, Told}
-use Rattle.resolution.specs.Stops.{Stops}
 use Rattle.runs.specs.States.{Endpoint, endpoint, Event, Datagram, TcpReply, Action, Ask, Open, via_of, State}
-use Rattle.runs.specs.Messages.{question_for, AnswersAsk, id_in}
-use Rattle.runs.specs.Steps.{IsOfLine, IsOfNumber}
+use Rattle.runs.specs.Messages.{question_for, AnswersAsk}
+use Rattle.runs.specs.Steps.{IsOfNumber}
 use Rattle.laws.specs.Searches.{IsSought}
 use Rattle.iterate.specs.Inputs.{IsSoughtIn}
 use Rattle.open_queries.specs.Lookups.{IsTheOne}

@@ -1,7 +1,6 @@
 -- What is left where the action of a step cannot be written is what a step out of memory leaves.
 use Rattle.std.proofs.Common.{◌≡◌, ◌≢◌, ℕ, ◌<◌, ◌⊎◌, inl, inr, Bool, Option, Some, None, Result, Ok, Err, OnErr, List, [], ◌∷◌, ◌++◌, Contains, refl, sym, ◌∙◌, ap, subst, arith}
 use Rattle.std.specs.Prelude.{IsOk, MatchOption}
-use Rattle.rdata.specs.declared.addr.Addr.{Addr}
 use Rattle.causes.specs.declared.cause.Cause.{Cause}
 use Rattle.message_grammar.specs.Messages.{Question, IsMessage, encoding, folded_message}
 use Rattle.wire.specs.declared.via.Via.{Via}
@@ -14,9 +13,9 @@ use Rattle.resolution.specs.Jobs.{Stores, Job, Start, Input, Next, AskUdp, AskTc
 use Rattle.resolution.specs.Stops.{Stops}
 use Rattle.resolution.proofs.Keeping.{advances_stop}
 use Rattle.rand_chacha.specs.ChaCha.{ChaCha}
-use Rattle.runs.specs.States.{Endpoint, endpoint, Event, Client, Datagram, TcpReply, TcpFailed, Tick, Action, Reply, Send, TcpAsk, MoreDue, Served, Own, OpenQuery, Plain, ClientQuery, client_query, Path, ByUdp, ByTcp, Ask, Open, State, job_for, word_taken}
-use Rattle.runs.specs.Messages.{id_in, asking_message, sending, Brings, AnswersAsk}
-use Rattle.runs.specs.Steps.{AreOthers, AreWith, Ends, Waits, Comes, IsOpened, at_once, crowded, admitted, IsHandled, IsInput, ServesOpen, IsFollowed, IsMeant, IsLeft, IsTurn}
+use Rattle.runs.specs.States.{Endpoint, endpoint, Event, Client, Datagram, TcpReply, TcpFailed, Tick, Action, Reply, Send, TcpAsk, MoreDue, Served, OpenQuery, Plain, ClientQuery, client_query, Path, ByUdp, ByTcp, Ask, Open, State, job_for, word_taken}
+use Rattle.runs.specs.Messages.{id_in, asking_message, sending}
+use Rattle.runs.specs.Steps.{AreOthers, AreWith, Ends, Waits, Comes, IsOpened, at_once, crowded, admitted, IsHandled, IsInput, ServesOpen, IsFollowed, IsLeft, IsTurn}
 use Rattle.events.specs.Laws.{IdIsInMessage}
 use Rattle.events.specs.Plain.{plain_outcome}
 use Rattle.events.specs.Views.{due_listed}

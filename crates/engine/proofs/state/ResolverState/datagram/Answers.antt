@@ -1,6 +1,5 @@
 use Rattle.std.proofs.Common.{ℕ, None, refl, subst, rules}
 use Rattle.wire.specs.declared.via.Via.TheVariants.{Udp}
-use Rattle.classify.specs.Read.{IsReadFrom}
 use Rattle.events.specs.Paths.{endpoint_view}
 use Rattle.runs.specs.States.{Datagram}
 use Rattle.engine.specs.ResolverStates.{state_of}

@@ -1,9 +1,6 @@
-use Rattle.std.proofs.Common.{Some, sym, subst}
 use Rattle.std.proofs.lemmas.Result.{IfOk-weaker, on_err_weaker}
-use Rattle.std.specs.Prelude.{MatchOption}
 use Rattle.events.specs.Views.{event_view}
 use Rattle.engine.specs.ResolverStates.{state_of}
-use Rattle.engine.proofs.Called.{at_err}
 use Rattle.engine.proofs.Unwritten.{as_written, unwritten, is_ok, none_gone}
 use Rattle.engine.proofs.state.ResolverState.serve.Goals as goal
 
