@@ -1,5 +1,5 @@
 -- What becomes of an event for an open query is a turn.
-use Rattle.std.proofs.Common.{◌≡◌, ℕ, inl, inr, Bool, Option, Some, None, List, [], Contains, refl, sym, ◌∙◌, ap, subst, arith}
+use Rattle.std.proofs.Common.{◌≡◌, ℕ, inl, inr, Bool, Option, Some, None, List, [], Contains, refl, sym, ap, subst, arith}
 use Rattle.std.specs.Prelude.{MatchOption, is_some}
 use Rattle.resolution.specs.Jobs.{Stores, Input}
 use Rattle.resolution.specs.Jobs as jobs
@@ -253,22 +253,7 @@ module _ (s : State) (now : ℕ) where
     }
 
     pub tick_lost : Unrung s k new → Turns s at_time None new
-    tick_lost (inl p) = record {
-      served = OpenQuery (p.query).number;
-      turn = (
-        p.query,
-        p.taken.one.stands,
-        refl,
-        first_of_all p.query p.taken.one,
-        record {
-          queries = subst (λ (n : ℕ). AreOthers n s.queries new.queries) (sym p.taken.one.number_is) p.taken.others;
-          stores = inl (ap (λ (z : State). z.stores) p.state);
-          generator = inl (ap (λ (z : State). z.generator) p.state);
-          state = p.state ∙ (λ i. record s { stores = sym (ap (λ (z : State). z.stores) p.state) i; queries = new.queries; generator = sym (ap (λ (z : State). z.generator) p.state) i });
-        },
-      );
-    }
-    tick_lost (inr (early, p)) = record {
+    tick_lost (early, p) = record {
       served = OpenQuery (p.query).number;
       turn = (
         p.query,

@@ -1,5 +1,5 @@
 -- What is found of an open query by its number, and what its ask comes to.
-use Rattle.std.proofs.Common.{◌≡◌, ℕ, ◌<◌, ◌≤◌, ◌⊎◌, inl, inr, Bool, true, false, leb, MatchBool, Option, Some, None, List, [], ◌∷◌, length, Contains, refl, sym, ◌∙◌, ap, subst, arith}
+use Rattle.std.proofs.Common.{◌≡◌, ℕ, ◌<◌, ◌≤◌, ◌⊎◌, inl, inr, Bool, true, false, leb, MatchBool, Option, Some, None, List, [], ◌∷◌, Contains, refl, sym, ◌∙◌, ap, subst, arith}
 use Rattle.std.proofs.lemmas.Bool.{leb-true, leb-false}
 use Rattle.std.specs.Prelude.{MatchOption}
 use Rattle.zone.proofs.LawLists.{none_in, in_cases}
@@ -8,10 +8,10 @@ use Rattle.causes.specs.declared.cause.Cause.TheVariants as cause
 use Rattle.front.specs.declared.queries.Outcome.TheVariants as outcome
 use Rattle.resolution.specs.Jobs.{Input}
 use Rattle.resolution.specs.Stops.{Stops}
-use Rattle.runs.specs.States.{Endpoint, Action, ClientQuery, Open, due_moment, AreApart, State}
+use Rattle.runs.specs.States.{Endpoint, Action, ClientQuery, Ask, ByUdp, ByTcp, Open, due_moment, AreApart, State}
 use Rattle.runs.specs.Steps.{Ends, Serves, IsLeft, IsOfNumber, IsFirstDue}
 use Rattle.open_queries.specs.Lookups.{IsOnLine, IsOnStream, Stands, IsFound, IsNoLater, IsEarliestQuery, IsTheOne, IsTaken}
-use Rattle.engine.specs.Moves.{ServesOne, DropsOne}
+use Rattle.engine.specs.Moves.{ServesOne, DropsOne, Forgets, IsLike, DropsAsking}
 use Rattle.engine.specs.Finds.{Finds, OfTheOne, IsOffLine, Reaches, NoneDue, IsLateOne, IsEarlyOne, Tells, Untold, Expires}
 use Rattle.engine.proofs.Lift.{ends_too}
 
@@ -76,6 +76,34 @@ pub asked : (qs : List Open) (ask : ℕ) (o : Option ℕ) → AreApart qs → Is
     → MatchOption o ((q : Open) → Contains qs q → IsOfNumber ask q → ⊥) (λ k. Finds (IsOfNumber ask) qs k)
 asked qs ask None apart none = none
 asked qs ask (Some k) apart h = finds (IsOfNumber ask) qs k apart h
+
+-- The query whose ask is like this one.
+module _ (qs : List Open) (a : Ask) where
+  abbrev IsOfAsk : Option ℕ → Type 0
+  IsOfAsk o = MatchOption o ((q : Open) → Contains qs q → IsLike a q → ⊥) (λ k. Finds (IsLike a) qs k)
+
+  pub like_udp : (sock : ℕ) (o : Option ℕ) → AreApart qs → a.path ≡ ByUdp sock → IsFound (IsOnLine sock a.server a.id) qs o → IsOfAsk o
+  like_udp sock None apart path none = λ q there like. let both = like.1 sock path in none q there (like.0 ∙ path, both.0, both.1)
+  like_udp sock (Some k) apart path h =
+      finds (IsLike a) qs k apart record { query = h.query; stands = h.stands; is = (h.is.0 ∙ sym path, λ s udp. (h.is.1, h.is.2)); number_is = h.number_is }
+
+  not_both : (number sock : ℕ) → a.path ≡ ByTcp number → a.path ≡ ByUdp sock → ⊥
+  not_both number sock tcp udp = let clash : ByTcp number ≡ ByUdp sock = sym tcp ∙ udp in cc
+
+  pub like_tcp : (number : ℕ) (o : Option ℕ) → AreApart qs → a.path ≡ ByTcp number → IsFound (IsOnStream number) qs o → IsOfAsk o
+  like_tcp number None apart path none = λ q there like. none q there (like.0 ∙ path)
+  like_tcp number (Some k) apart path h =
+      finds (IsLike a) qs k apart record { query = h.query; stands = h.stands; is = (h.is ∙ sym path, λ s udp. absurd (not_both number s path udp)); number_is = h.number_is }
+
+pub drops : (s : State) (a : Ask) (k : ℕ) (new : State) → Finds (IsLike a) s.queries k → Forgets s k new → DropsAsking a s new
+drops s a k new h gone =
+    let taken = gone.taken in
+    inr (
+      gone.query,
+      found_is (IsLike a) s.queries k gone.query h taken.one,
+      subst (λ (n : ℕ). IsTaken s.queries n gone.query new.queries) (sym taken.one.number_is) taken,
+      gone.state,
+    )
 
 pub is_due : (s : State) (due k : ℕ) → AreApart s.queries → IsEarliestQuery s.queries due k → due ≤ s.clock → Finds (IsFirstDue s) s.queries k
 is_due s due k apart h now = finds (IsFirstDue s) s.queries k apart record {

@@ -1,6 +1,8 @@
 -- A message that is for the open query of a number.
-use Rattle.std.proofs.Common.{◌≡◌, ℕ, inl, inr, Bool, true, false, Option, None, List, ◌∷◌, [], refl, sym, ◌∙◌, ap, subst}
+use Rattle.std.proofs.Common.{◌≡◌, ℕ, inl, inr, None, List, ◌∷◌, [], refl, sym, ◌∙◌, ap, subst}
 use Rattle.std.specs.Prelude.{◌↔◌, IsTrue}
+use Rattle.dname.specs.Labels.{same_name}
+use Rattle.dname.specs.Laws.{same_name-exact, same_name-equal}
 use Rattle.rdata.specs.Types.{type_number}
 use Rattle.rdata.specs.declared.addr.Addr.{Addr}
 use Rattle.rdata.specs.declared.rtype.RType.{RType}
@@ -8,12 +10,11 @@ use Rattle.message_grammar.specs.Messages.{Question, Message, IsMessage}
 use Rattle.message_grammar.proofs.Single.{message_one}
 use Rattle.wire.specs.declared.via.Via.{Via}
 use Rattle.wire.specs.declared.via.Via.TheVariants.{Udp, Tcp}
-use Rattle.classify.specs.Read.{Reading, only_question, IsReadingOf, AreRead}
+use Rattle.classify.specs.Read.{Reading, IsReadingOf, AreRead}
 use Rattle.resolution.specs.Jobs.{Search, Told}
-use Rattle.resolution.specs.Stops.{Stops}
 use Rattle.runs.specs.States.{Endpoint, endpoint, Event, Datagram, TcpReply, Action, Ask, Open, via_of, State}
-use Rattle.runs.specs.Messages.{question_for, AnswersAsk, id_in}
-use Rattle.runs.specs.Steps.{IsOfLine, IsOfNumber}
+use Rattle.runs.specs.Messages.{question_for, AnswersAsk}
+use Rattle.runs.specs.Steps.{IsOfNumber}
 use Rattle.laws.specs.Searches.{IsSought}
 use Rattle.iterate.specs.Inputs.{IsSoughtIn}
 use Rattle.open_queries.specs.Lookups.{IsTheOne}
@@ -30,6 +31,12 @@ answers_ask way m r a reads is = record {
   id = reads.id ∙ is.id;
   question = reads.question ∙ (λ i. question_for (is.name i) (is.kind i) ∷ []);
 }
+
+-- The last of the comparisons is that of the names.
+pub answers_by : (x a : Ask) (r : Reading) → x ≡ a → r.id ≡ x.id → r.kind ≡ x.kind → IsTrue (same_name r.name x.name) ↔ Answers a r
+answers_by x a r is id kind =
+    subst (λ (b : Ask). IsTrue (same_name r.name x.name) ↔ Answers b r) is
+    (λ t. record { id = id; name = same_name-exact r.name x.name t; kind = kind }, λ h. same_name-equal r.name x.name h.name)
 
 only_one : (q r : Question) → q ∷ [] ≡ r ∷ [] → q ≡ r
 only_one q r same = cc

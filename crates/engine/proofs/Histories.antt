@@ -1,11 +1,12 @@
 -- A history of the resolver is a run.
-use Rattle.std.proofs.Common.{◌≡◌, ℕ, Result, Ok, Err, List, [], ◌∷◌, refl, sym, ap, subst}
+use Rattle.std.proofs.Common.{◌≡◌, ℕ, Some, None, Result, Ok, Err, IfOk, OnErr, List, [], ◌∷◌, refl, sym, ap, subst}
 use Rattle.memory.specs.declared.Starved.{Starved}
 use Rattle.book.specs.Histories.{Line, LeadsMachine}
 use Rattle.events.specs.declared.event.Event.{Event}
 use Rattle.events.specs.Views.{event_view}
-use Rattle.runs.specs.States.{Action, State, IsNew}
-use Rattle.typed.specs.Events.{Parsed}
+use Rattle.runs.specs.States.{Event as EventSpec, Action, State, IsNew}
+use Rattle.typed.specs.Events.{Parsed, ReadAs, HasBytes}
+use Rattle.typed.specs.Views.{said_listed}
 use Rattle.typed.specs.declared.action.TypedActions.{TypedActions}
 use Rattle.engine.specs.Beginnings.{IsBegun, first_state}
 use Rattle.engine.specs.Promises.{Steps, turn_of}
@@ -60,3 +61,9 @@ module _ (A : Type 0) where
       → IsBegun start → LeadsMachine (TypedMoves {A = A}) workers start lines s → IsTypedRunOf A lines start s
   typed_history_is_run workers start [] s begun same = record { run = []; legal = subst (λ (z : State). IsNew start.site z) same (begun_is_new start begun); first = sym same; shows = tt }
   typed_history_is_run workers start (e ∷ older) s begun h = one_more_typed e older start h.0 s (typed_history_is_run workers start older h.0 begun h.1) h.2
+
+-- A step on an event that was read.
+pub typed_step : {A : Type 0} (parsed : Parsed) (r : Result (TypedActions A) Starved) (s new : State) → HasBytes parsed
+    → ((e : EventSpec) → ReadAs e parsed → IfOk r (λ a. Steps s e (Some (said_listed a.first a.more_due)) new)) → ((e : EventSpec) → ReadAs e parsed → OnErr r (Steps s e None new)) → TypedMoves s parsed r new
+typed_step parsed (Ok a) s new bytes ok err = (bytes.event, bytes.reads, ok bytes.event bytes.reads)
+typed_step parsed (Err refused) s new bytes ok err = (bytes.event, bytes.reads, err bytes.event bytes.reads)

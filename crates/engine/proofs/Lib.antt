@@ -13,3 +13,4 @@ pub mod Promised
 pub mod Stepped
 pub mod Histories
 pub mod Unwritten
+pub mod Told

@@ -1,9 +1,11 @@
 -- What is left where the action of a step cannot be written is what a step out of memory leaves.
-use Rattle.std.proofs.Common.{◌≡◌, ◌≢◌, ℕ, ◌<◌, ◌⊎◌, inl, inr, Option, Some, None, List, [], ◌∷◌, ◌++◌, Contains, refl, sym, ◌∙◌, ap, subst, arith}
-use Rattle.rdata.specs.declared.addr.Addr.{Addr}
+use Rattle.std.proofs.Common.{◌≡◌, ◌≢◌, ℕ, ◌<◌, ◌⊎◌, inl, inr, Bool, Option, Some, None, Result, Ok, Err, OnErr, List, [], ◌∷◌, ◌++◌, Contains, refl, sym, ◌∙◌, ap, subst, arith}
+use Rattle.std.specs.Prelude.{IsOk, MatchOption}
 use Rattle.causes.specs.declared.cause.Cause.{Cause}
-use Rattle.message_grammar.specs.Messages.{IsMessage, encoding, folded_message}
+use Rattle.message_grammar.specs.Messages.{Question, IsMessage, encoding, folded_message}
 use Rattle.wire.specs.declared.via.Via.{Via}
+use Rattle.front.specs.Openings.{Opening}
+use Rattle.front.specs.declared.queries.Refusal.{Refusal}
 use Rattle.front.specs.declared.queries.Request.{Request}
 use Rattle.front.specs.declared.queries.Request.TheVariants as request
 use Rattle.front.specs.declared.queries.Outcome.{Outcome}
@@ -11,13 +13,18 @@ use Rattle.resolution.specs.Jobs.{Stores, Job, Start, Input, Next, AskUdp, AskTc
 use Rattle.resolution.specs.Stops.{Stops}
 use Rattle.resolution.proofs.Keeping.{advances_stop}
 use Rattle.rand_chacha.specs.ChaCha.{ChaCha}
-use Rattle.runs.specs.States.{Endpoint, endpoint, Event, Client, Datagram, TcpReply, TcpFailed, Tick, Action, Reply, Send, TcpAsk, MoreDue, Served, Own, OpenQuery, Plain, ClientQuery, client_query, Path, ByUdp, ByTcp, Ask, Open, State, job_for, word_taken}
-use Rattle.runs.specs.Messages.{id_in, asking_message, sending, Brings, AnswersAsk}
-use Rattle.runs.specs.Steps.{AreOthers, AreWith, Ends, Waits, Comes, IsOpened, at_once, crowded, admitted, IsHandled, IsInput, ServesOpen, IsFollowed, IsMeant, IsLeft, IsTurn}
+use Rattle.runs.specs.States.{Endpoint, endpoint, Event, Client, Datagram, TcpReply, TcpFailed, Tick, Action, Reply, Send, TcpAsk, MoreDue, Served, OpenQuery, Plain, ClientQuery, client_query, Path, ByUdp, ByTcp, Ask, Open, State, job_for, word_taken}
+use Rattle.runs.specs.Messages.{id_in, asking_message, sending}
+use Rattle.runs.specs.Steps.{AreOthers, AreWith, Ends, Waits, Comes, IsOpened, at_once, crowded, admitted, IsHandled, IsInput, ServesOpen, IsFollowed, IsLeft, IsTurn}
 use Rattle.events.specs.Laws.{IdIsInMessage}
-use Rattle.typed.specs.Actions.{asked}
+use Rattle.events.specs.Plain.{plain_outcome}
+use Rattle.events.specs.Views.{due_listed}
+use Rattle.typed.specs.Actions.{replied, refused, asked}
+use Rattle.typed.specs.Views.{said_listed}
+use Rattle.typed.specs.declared.action.TypedAction.{TypedAction}
+use Rattle.typed.specs.declared.action.TypedAction.TheVariants as said
 use Rattle.engine.specs.ResolverStates.{IsSound}
-use Rattle.engine.specs.Moves.{IsLike, IsAskUndone}
+use Rattle.engine.specs.Moves.{IsLike, IsAskUndone, IsUndone}
 use Rattle.engine.specs.Turns.{Turns}
 use Rattle.engine.specs.Calls.{IsGone}
 use Rattle.engine.proofs.Called.{lost_same, lost_work, turns_gone}
@@ -252,3 +259,34 @@ module _ (s mid new : State) (sound : IsSound s) (ids : IdIsInMessage) (port : �
 
   pub ask_unwritten : (e : Event) (served : Served) (out rest : List Action) → IsTurn s e served (Some out) mid → out ≡ asked port a ∷ rest → Turns s e None new
   ask_unwritten e served out rest turn is = turn_lost s mid new (asked port a) sound keeps_reply takes_back ids e served out rest turn is
+
+-- ---- what a step gives, written or not
+
+pub as_written : (s mid new : State) (e : Event) (out a : List Action) → a ≡ out → new ≡ mid → Turns s e (Some out) mid → Turns s e (Some a) new
+as_written s mid new e out a is same h = subst (λ (z : State). Turns s e (Some a) z) (sym same) (subst (λ (o : List Action). Turns s e (Some o) mid) (sym is) h)
+
+pub is_ok : {T E : Type 0} (r : Result T E) (P : Type 0) → OnErr r P → (P → ⊥) → IsOk r
+is_ok (Ok x) P h never = tt
+is_ok (Err e) P h never = absurd (never h)
+
+pub none_gone : {A : Type 0} (first : Option (TypedAction A)) (P : TypedAction A → Type 0) → first ≡ None → MatchOption first ⊥ P → ⊥
+none_gone None P none h = h
+none_gone (Some a) P none h = absurd (cc)
+
+module _ (s mid new : State) (sound : IsSound s) (ids : IdIsInMessage) (e : Event) where
+  unfolding replied
+
+  reply_gone : (who : ClientQuery) (o : Outcome Plain) (rest : List Action) → Turns s e (Some (replied who o ∷ rest)) mid → new ≡ mid → Turns s e None new
+  reply_gone who o rest turns same = subst (Turns s e None) (sym same) (reply_unwritten s mid e turns.served _ rest who.client who.way _ _ sound ids turns.turn refl)
+
+  unfolding refused
+
+  refusal_gone : (client : ℕ) (way : Via) (refusal : Refusal) (start : Opening) (echo : Option Question) (rest : List Action) → Turns s e (Some (refused client way refusal start echo ∷ rest)) mid → new ≡ mid
+      → Turns s e None new
+  refusal_gone client way refusal start echo rest turns same = subst (Turns s e None) (sym same) (reply_unwritten s mid e turns.served _ rest client way _ None sound ids turns.turn refl)
+
+  pub unwritten : {A : Type 0} (first : Option (TypedAction A)) (more : Bool) → Turns s e (Some (said_listed first more)) mid → MatchOption first ⊥ (λ a. IsUndone a s.opened s.tcp_asks mid new) → Turns s e None new
+  unwritten None more turns h = absurd h
+  unwritten (Some (said.Reply who o)) more turns same = reply_gone who (plain_outcome o) (due_listed more) turns same
+  unwritten (Some (said.Refusal client way refusal start echo)) more turns same = refusal_gone client way refusal start echo (due_listed more) turns same
+  unwritten (Some (said.Ask port a)) more turns undone = ask_unwritten s mid new sound ids port a undone e turns.served _ (due_listed more) turns.turn refl

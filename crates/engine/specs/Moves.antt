@@ -122,8 +122,7 @@ pub record IsAskUndone (a : Ask) (opened tcp_asks : ℕ) (old new : State) : Typ
   pub drops : DropsAsking a old between
   pub state : new ≡ record between { opened = opened; tcp_asks = tcp_asks }
 
-abbrev pub IsUndone : {A : Type 0} → Option (TypedAction A) → ℕ → ℕ → State → State → Type 0
-IsUndone None opened tcp_asks old new = new ≡ old
-IsUndone (Some (said.Reply who o)) opened tcp_asks old new = new ≡ old
-IsUndone (Some (said.Refusal client way refusal start echo)) opened tcp_asks old new = new ≡ old
-IsUndone (Some (said.Ask port a)) opened tcp_asks old new = IsAskUndone a opened tcp_asks old new
+abbrev pub IsUndone : {A : Type 0} → TypedAction A → ℕ → ℕ → State → State → Type 0
+IsUndone (said.Reply who o) opened tcp_asks old new = new ≡ old
+IsUndone (said.Refusal client way refusal start echo) opened tcp_asks old new = new ≡ old
+IsUndone (said.Ask port a) opened tcp_asks old new = IsAskUndone a opened tcp_asks old new

@@ -18,7 +18,8 @@ use typed::{Parsed, TypedAction, TypedActions};
 
 // One action at most, without word that another query is due.
 fn alone<A: Allocator>(first: Option<TypedAction<A>>) -> TypedActions<A>
-    ensures { said_listed result.first result.more_due ≡ if_any first }
+    ensures listed { said_listed result.first result.more_due ≡ if_any first }
+    ensures first { result.first ≡ first }
 {
     TypedActions {
         first,

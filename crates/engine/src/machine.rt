@@ -28,7 +28,7 @@ use rdata::Addr;
 use std::alloc::{Allocator, Global};
 use std::hash::DefaultHasher;
 use std::marker::Model;
-use typed::{TypedActions, TypedEvent, write_actions};
+use typed::{TypedActions, TypedEvent};
 use wire::Writer;
 use zone::Zone;
 
@@ -139,18 +139,7 @@ impl<A: Heap> Core<A> {
         ensures quiet { IsQuiet (moved self.old (event_view event.now)) (event_view event.now) → IsOk result }
     {
         self.state.advance_clock(event.moment());
-        let (opened, tcp_asks) = (self.state.opened, self.state.tcp_asks);
-        let out = match self.state.handle_event(event) {
-            Err(starved) => Err(starved),
-            Ok(said) => {
-                let written = write_actions(self.state.alloc, &mut self.writer, &said);
-                if written.is_err() {
-                    self.state.withdraw(&said.first, opened, tcp_asks);
-                }
-                drop(said);
-                written
-            }
-        };
+        let out = self.state.serve(&mut self.writer, event);
         self.state.queries.apart_law();
         out
     }

@@ -1,16 +1,21 @@
-//! Asks that could not be written, taken back: out of memory a step drops its query, and gives its numbers again.
-ghost use Rattle.std.specs.Prelude.{◌≡◌, MatchOption, Contains};
+//! What a step gives, written. An ask that could not be written is taken back: out of memory a step drops its query,
+//! and gives its numbers again.
+ghost use Rattle.std.specs.Prelude.{◌≡◌, Some, None, IfOk, IsOk, OnErr, MatchOption, Contains};
 ghost use Rattle.message_grammar.specs.Messages.{encoding};
 ghost use Rattle.runs.specs.States.{Open};
 ghost use Rattle.runs.specs.Messages.{id_in, asking_message};
-ghost use Rattle.engine.specs.ResolverStates.{state_of};
-ghost use Rattle.engine.specs.Moves.{IsLike, DropsAsking, IsUndone};
+ghost use Rattle.events.specs.Views.{event_view};
+ghost use Rattle.typed.specs.Views.{said_listed};
+ghost use Rattle.engine.specs.ResolverStates.{state_of, IsSound};
+ghost use Rattle.engine.specs.Moves.{IsLike, DropsAsking, IsAskUndone, IsUndone};
 ghost use Rattle.engine.specs.Finds.{Finds};
+ghost use Rattle.engine.specs.Turns.{Turns, IsQuiet};
 
 use crate::state::ResolverState;
-use events::{Ask, Path, ask_is_message, id_is_in_message};
-use memory::Heap;
-use typed::TypedAction;
+use events::{Actions, Ask, Event, Path, ask_is_message, id_is_in_message};
+use memory::{Heap, Starved};
+use typed::{TypedAction, TypedActions, write_action};
+use wire::Writer;
 
 // The ID of an ask is in the first bytes of its encoding.
 fn id_law<A: Heap>(ask: &Ask<A>)
@@ -41,16 +46,71 @@ impl<A: Heap> ResolverState<A> {
         }
     }
 
-    // Takes back what was done for an action that could not be written, at a moment when so many queries had been
-    // opened, and so many asks had gone over TCP.
-    pub fn withdraw(&mut self, first: &Option<TypedAction<A>>, opened: u64, tcp_asks: u64)
-        ensures { IsUndone first.now opened tcp_asks (state_of self.old) (state_of self.new) }
+    // Takes back an ask that could not be written, at a moment when so many queries had been opened, and so many asks
+    // had gone over TCP.
+    fn take_back(&mut self, ask: &Ask<A>, opened: u64, tcp_asks: u64)
+        ensures { IsAskUndone ask.now opened tcp_asks (state_of self.old) (state_of self.new) }
     {
-        if let Some(TypedAction::Ask { ask, .. }) = first {
-            id_law(ask);
-            self.drop_asking(ask);
-            self.opened = opened;
-            self.tcp_asks = tcp_asks;
+        id_law(ask);
+        self.drop_asking(ask);
+        self.opened = opened;
+        self.tcp_asks = tcp_asks;
+    }
+
+    // Takes back what was done for an action that could not be written: for a reply nothing.
+    fn withdraw(&mut self, action: &TypedAction<A>, opened: u64, tcp_asks: u64)
+        ensures { IsUndone action.now opened tcp_asks (state_of self.old) (state_of self.new) }
+    {
+        match action {
+            TypedAction::Ask { ask, .. } => self.take_back(ask, opened, tcp_asks),
+            TypedAction::Reply { .. } | TypedAction::Refusal { .. } => {}
         }
+    }
+
+    // Writes what a step gives, and takes it back where it cannot be written.
+    fn write_out(
+        &mut self,
+        writer: &mut Writer<A>,
+        said: TypedActions<A>,
+        opened: u64,
+        tcp_asks: u64,
+    ) -> Result<Actions<A>, Starved>
+        ensures ok { IfOk result (λ a. (a ≡ said_listed said.first said.more_due) × (state_of self.new ≡ state_of self.old)) }
+        ensures err { OnErr result (MatchOption said.first ⊥ (λ a. IsUndone a opened tcp_asks (state_of self.old) (state_of self.new))) }
+    {
+        let TypedActions { first, more_due } = said;
+        let Some(action) = first else {
+            return Ok(Actions {
+                first: None,
+                more_due,
+            });
+        };
+        match write_action(self.alloc, writer, &action) {
+            Ok(written) => {
+                drop(action);
+                Ok(Actions {
+                    first: Some(written),
+                    more_due,
+                })
+            }
+            Err(starved) => {
+                self.withdraw(&action, opened, tcp_asks);
+                drop(action);
+                Err(starved)
+            }
+        }
+    }
+
+    // Serves the query that an event is for, and writes what goes out.
+    pub fn serve(&mut self, writer: &mut Writer<A>, event: &Event<A>) -> Result<Actions<A>, Starved>
+        requires sound { IsSound (state_of self.old) }
+        ensures ok { IfOk result (λ a. Turns (state_of self.old) (event_view event.now) (Some a) (state_of self.new)) }
+        ensures err { OnErr result (Turns (state_of self.old) (event_view event.now) None (state_of self.new)) }
+        ensures quiet { IsQuiet (state_of self.old) (event_view event.now) → IsOk result }
+    {
+        id_is_in_message();
+        let (opened, tcp_asks) = (self.opened, self.tcp_asks);
+        let said = self.handle_event(event)?;
+        self.write_out(writer, said, opened, tcp_asks)
     }
 }

@@ -7,16 +7,16 @@ use Rattle.engine.specs.Turns.{Turns, IsQuiet}
 use Rattle.engine.proofs.Stepped.{by_result, heard_is_sound, stepped, stepped_is_sound}
 use Rattle.engine.proofs.machine.Core.step.Goals as goal
 
-pub handle_event-out-requires : goal.handle_event-out-requires
-handle_event-out-requires g c = record { sound = heard_is_sound (state_of c.self.inside.state) (state_of c.advance_clock.new.self) (event_view c.args.event.now) c.advance_clock.ensures c.self.invariant }
+pub serve-out-requires : goal.serve-out-requires
+serve-out-requires g c = record { sound = heard_is_sound (state_of c.self.inside.state) (state_of c.advance_clock.new.self) (event_view c.args.event.now) c.advance_clock.ensures c.self.invariant }
 
 pub invariant_of-self : goal.invariant_of-self
 invariant_of-self g c =
     let was : State = state_of c.self.inside.state in
     let mid : State = state_of c.advance_clock.new.self in
-    let new : State = state_of c.handle_event-out.new.self in
+    let new : State = state_of c.serve-out.new.self in
     let event : Event = event_view c.args.event.now in
-    by_result c.handle_event-out.result (λ a. Turns mid event (Some a) new) (Turns mid event None new) (IsSound new) c.handle_event-out.ensures.ok c.handle_event-out.ensures.err
+    by_result c.serve-out.result (λ a. Turns mid event (Some a) new) (Turns mid event None new) (IsSound new) c.serve-out.ensures.ok c.serve-out.ensures.err
     (λ a h. stepped_is_sound was mid event c.advance_clock.ensures new c.apart_law.ensures (Some a) h c.self.invariant)
     (λ h. stepped_is_sound was mid event c.advance_clock.ensures new c.apart_law.ensures None h c.self.invariant)
 
@@ -24,11 +24,11 @@ pub returns : goal.returns
 returns g c =
     let was : State = c.args.self.now in
     let mid : State = state_of c.advance_clock.new.self in
-    let new : State = state_of c.handle_event-out.new.self in
+    let new : State = state_of c.serve-out.new.self in
     let event : Event = event_view c.args.event.now in
     let heard : mid ≡ moved was event = c.advance_clock.ensures ∙ ap (λ (z : State). moved z event) c.self.view_is in
     record {
-      ok = IfOk-weaker c.handle_event-out.result _ _ (λ a h. stepped was mid event heard new c.apart_law.ensures (Some a) h) c.handle_event-out.ensures.ok;
-      err = on_err_weaker c.handle_event-out.result (stepped was mid event heard new c.apart_law.ensures None) c.handle_event-out.ensures.err;
-      quiet = λ q. c.handle_event-out.ensures.quiet (subst (λ (z : State). IsQuiet z event) (sym heard) q);
+      ok = IfOk-weaker c.serve-out.result _ _ (λ a h. stepped was mid event heard new c.apart_law.ensures (Some a) h) c.serve-out.ensures.ok;
+      err = on_err_weaker c.serve-out.result (stepped was mid event heard new c.apart_law.ensures None) c.serve-out.ensures.err;
+      quiet = λ q. c.serve-out.ensures.quiet (subst (λ (z : State). IsQuiet z event) (sym heard) q);
     }

@@ -5,8 +5,6 @@ use Rattle.runs.specs.Steps.{most_open}
 use Rattle.engine.specs.ResolverStates.{state_of}
 use Rattle.engine.specs.Replies.{alone}
 use Rattle.engine.proofs.Started.{opens_at_once, opens_new, opens_not}
-use Rattle.engine.proofs.Called.{at_err}
-use Rattle.engine.proofs.Lift.{halts_same}
 use Rattle.engine.proofs.state.ResolverState.admit.Goals as goal
 
 pub returns-then-not-is_ask-clause-ok : goal.returns-then-not-is_ask-clause-ok
@@ -25,9 +23,4 @@ returns-then-len-lt-MAX_OPEN_QUERIES-clause-ok g c =
 pub returns-clause-ok : goal.returns-clause-ok
 returns-clause-ok g c =
     let full : most_open ≤ length c.args.self.now.queries = omega (arith, c.len.ensures, c.if-len-lt-MAX_OPEN_QUERIES.false) in
-    IfOk-weaker c.fail.result _ _
-    (λ a h. opens_not (state_of c.args.self.now) c.args.client_query (next_view c.args.next) c.args.job (alone a) (state_of c.fail.new.self) c.if-not-is_ask.ensures full h)
-    c.fail.ensures.ok
-
-pub returns-clause-err : goal.returns-clause-err
-returns-clause-err g c = at_err c.fail.result (halts_same (state_of c.args.self.now) (state_of c.fail.new.self) c.fail.ensures.same)
+    opens_not (state_of c.args.self.now) c.args.client_query (next_view c.args.next) c.args.job (alone c.fail.result) (state_of c.args.self.now) c.if-not-is_ask.ensures full c.fail.ensures

@@ -1,5 +1,4 @@
 use Rattle.std.proofs.Common.{List, refl, subst, ap}
-use Rattle.std.proofs.lemmas.Result.{IfOk-weaker}
 use Rattle.rdata.specs.Types.{type_number}
 use Rattle.zone.specs.Zones.{Zone}
 use Rattle.authority.specs.Catalogs.{looked}
@@ -10,20 +9,17 @@ use Rattle.events.specs.Plain.{plain_outcome}
 use Rattle.typed.specs.Views.{said_view}
 use Rattle.engine.proofs.state.ResolverState.at_hand.Goals as goal
 
-pub returns-clause-ok : goal.returns-clause-ok
-returns-clause-ok g c =
-    IfOk-weaker c.reply.result _ _
-    (λ a h. record {
-      served_is = refl;
-      result = plain_outcome c.in_ok-outcome.outcome;
-      answers =
-          subst (λ (q : Query Plain). AnswersLocally (λ n. looked c.args.self.now.home.zones n (type_number q.kind)) q.name (plain_outcome c.in_ok-outcome.outcome))
-          (ap (λ (w : ClientQuery). w.query) c.client_query.view_is)
-          (subst (λ (zones : List Zone). AnswersLocally (λ n. looked zones n (type_number c.client_query.inside.query.kind)) c.client_query.inside.query.name (plain_outcome c.in_ok-outcome.outcome)) c.catalog.ensures
-          (c.local_answer_is_plain.ensures (λ n. looked c.catalog.result.now n (type_number c.client_query.inside.query.kind)) c.client_query.inside.query.name c.in_ok-outcome.outcome c.in_ok-outcome.ensures));
-      action = said_view a;
-      reply = h;
-      out_is = refl;
-      state = refl;
-    })
-    c.reply.ensures
+pub returns : goal.returns
+returns g c = record {
+  served_is = refl;
+  result = plain_outcome c.in_ok-outcome.outcome;
+  answers =
+      subst (λ (q : Query Plain). AnswersLocally (λ n. looked c.args.self.now.home.zones n (type_number q.kind)) q.name (plain_outcome c.in_ok-outcome.outcome))
+      (ap (λ (w : ClientQuery). w.query) c.client_query.view_is)
+      (subst (λ (zones : List Zone). AnswersLocally (λ n. looked zones n (type_number c.client_query.inside.query.kind)) c.client_query.inside.query.name (plain_outcome c.in_ok-outcome.outcome)) c.catalog.ensures
+      (c.local_answer_is_plain.ensures (λ n. looked c.catalog.result.now n (type_number c.client_query.inside.query.kind)) c.client_query.inside.query.name c.in_ok-outcome.outcome c.in_ok-outcome.ensures));
+  action = said_view c.reply_to.result;
+  reply = c.reply_to.ensures;
+  out_is = refl;
+  state = refl;
+}

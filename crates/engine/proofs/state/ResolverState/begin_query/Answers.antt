@@ -15,7 +15,7 @@ answer-requires g c = next_is_fresh (state_of c.args.self.now) c.requires.sound
 
 pub admit-requires : goal.admit-requires
 admit-requires g c =
-    record { sockets = c.requires.sound.sockets; clock = c.requires.sound.clock; few = c.requires.sound.few; opened = c.requires.sound.opened; asked = c.requires.sound.asked }
+    record { sockets = c.requires.sound.sockets; clock = c.requires.sound.clock; few = c.requires.sound.few; opened = c.requires.sound.opened; asked = c.requires.sound.asked; sought = c.requires.sound.sought }
 
 pub returns-in_err-last-clause-err : goal.returns-in_err-last-clause-err
 returns-in_err-last-clause-err g c =
@@ -26,8 +26,8 @@ returns-in-Answered-clause-ok g c =
     let s : State = state_of c.args.self.now in
     let known = rw c.in-Answered.is at c.in_ok-last.ensures.begins in
     IfOk-weaker c.answer.result _ _
-    (λ a h. begins_known s (record s { stores = c.begun.new.stores }) c.args.client_query c.new.result c.in-Answered.last known.0 c.begun.new.stores (alone a) (state_of c.answer.new.self) c.requires.sound refl c.new.ensures known.1 h)
-    c.answer.ensures.ok
+    (λ a h. begins_known s (record s { stores = c.begun.new.stores }) c.args.client_query c.new.result c.in-Answered.last known.0 c.begun.new.stores (alone a) (record s { stores = c.begun.new.stores }) c.requires.sound refl c.new.ensures known.1 h)
+    c.answer.ensures
 
 pub returns-in-Answered-clause-err : goal.returns-in-Answered-clause-err
 returns-in-Answered-clause-err g c =
@@ -35,7 +35,7 @@ returns-in-Answered-clause-err g c =
     let mid : State = record s { stores = c.begun.new.stores } in
     let known = rw c.in-Answered.is at c.in_ok-last.ensures.begins in
     at_err c.answer.result
-    (lost_after s mid c.args.client_query.query (Done [] c.in-Answered.last) known.0 c.begun.new.stores (state_of c.answer.new.self) c.requires.sound refl known.1 (halts_same mid (state_of c.answer.new.self) c.answer.ensures.same))
+    (lost_after s mid c.args.client_query.query (Done [] c.in-Answered.last) known.0 c.begun.new.stores mid c.requires.sound refl known.1 (halts_same mid mid refl))
 
 pub returns-in-Working-clause-ok : goal.returns-in-Working-clause-ok
 returns-in-Working-clause-ok g c =

@@ -1,4 +1,4 @@
-use Rattle.std.proofs.Common.{sym, subst, IfOk}
+use Rattle.std.proofs.Common.{sym, subst, refl, IfOk}
 use Rattle.iterate.specs.declared.calls.Next.{Next}
 use Rattle.iterate.specs.Views.{next_view}
 use Rattle.runs.specs.States.{State}
@@ -12,15 +12,12 @@ use Rattle.engine.proofs.state.ResolverState.follow.Goals as goal
 pub returns-in-Done-clause-ok : goal.returns-in-Done-clause-ok
 returns-in-Done-clause-ok g c =
     let s : State = state_of c.args.self.now in
-    subst (λ (x : Next _). IfOk c.answer.result (λ a. Comes s c.args.client_query c.args.number s.opened (next_view x) c.args.job s.stores (alone a) (state_of c.answer.new.self))) (sym c.in-Done.is) c.answer.ensures.ok
+    subst (λ (x : Next _). IfOk c.answer.result (λ a. Comes s c.args.client_query c.args.number s.opened (next_view x) c.args.job s.stores (alone a) s)) (sym c.in-Done.is) c.answer.ensures
 
 pub returns-in-Done-clause-err : goal.returns-in-Done-clause-err
-returns-in-Done-clause-err g c = at_err c.answer.result (halts_same (state_of c.args.self.now) (state_of c.answer.new.self) c.answer.ensures.same)
+returns-in-Done-clause-err g c = let s : State = state_of c.args.self.now in at_err c.answer.result (halts_same s s refl)
 
 pub returns-in-Fail-clause-ok : goal.returns-in-Fail-clause-ok
 returns-in-Fail-clause-ok g c =
     let s : State = state_of c.args.self.now in
-    subst (λ (x : Next _). IfOk c.fail.result (λ a. Comes s c.args.client_query c.args.number s.opened (next_view x) c.args.job s.stores (alone a) (state_of c.fail.new.self))) (sym c.in-Fail.is) c.fail.ensures.ok
-
-pub returns-in-Fail-clause-err : goal.returns-in-Fail-clause-err
-returns-in-Fail-clause-err g c = at_err c.fail.result (halts_same (state_of c.args.self.now) (state_of c.fail.new.self) c.fail.ensures.same)
+    subst (λ (x : Next _). Comes s c.args.client_query c.args.number s.opened (next_view x) c.args.job s.stores (alone c.fail.result) s) (sym c.in-Fail.is) c.fail.ensures

@@ -6,7 +6,7 @@ use Rattle.typed.specs.Views.{said_view}
 use Rattle.engine.specs.ResolverStates.{state_of}
 use Rattle.engine.specs.Replies.{alone}
 use Rattle.engine.specs.Calls.{Handles, IsGone}
-use Rattle.engine.proofs.Called.{at_err, lost_none, handles_dropped, handles_refused, handles_query}
+use Rattle.engine.proofs.Called.{at_err, handles_dropped, handles_refused, handles_query}
 use Rattle.engine.proofs.state.ResolverState.handle.Goals as goal
 
 pub returns-in-Drop-clause-ok : goal.returns-in-Drop-clause-ok
@@ -14,14 +14,11 @@ returns-in-Drop-clause-ok g c =
     let s : State = state_of c.args.self.now in
     subst (λ (x : Request _). Handles s c.args.client c.args.way (plain_asked x) [] s) (sym c.in-Drop.is) (handles_dropped s c.args.client c.args.way)
 
-pub returns-in_ok-refusal-in-Refuse-clause-ok : goal.returns-in_ok-refusal-in-Refuse-clause-ok
-returns-in_ok-refusal-in-Refuse-clause-ok g c =
+pub returns-in-Refuse-clause-ok : goal.returns-in-Refuse-clause-ok
+returns-in-Refuse-clause-ok g c =
     let s : State = state_of c.args.self.now in
-    subst (λ (x : Request _). Handles s c.args.client c.args.way (plain_asked x) (alone c.in_ok-refusal-in-Refuse.field-0) s) (sym c.in-Refuse.is)
-    (handles_refused s c.args.client c.args.way c.in-Refuse.why c.in-Refuse.start c.in-Refuse.echo (said_view c.in_ok-refusal-in-Refuse.field-0) c.in_ok-refusal-in-Refuse.ensures)
-
-pub returns-in_err-refusal-in-Refuse-clause-err : goal.returns-in_err-refusal-in-Refuse-clause-err
-returns-in_err-refusal-in-Refuse-clause-err g c = at_err _ (lost_none (state_of c.args.self.now) c.requires.sound)
+    subst (λ (x : Request _). Handles s c.args.client c.args.way (plain_asked x) (alone c.refuse.result) s) (sym c.in-Refuse.is)
+    (handles_refused s c.args.client c.args.way c.in-Refuse.why c.in-Refuse.start c.in-Refuse.echo (said_view c.refuse.result) c.refuse.ensures)
 
 pub returns-in_ok-resolve-in-Query-clause-ok : goal.returns-in_ok-resolve-in-Query-clause-ok
 returns-in_ok-resolve-in-Query-clause-ok g c =

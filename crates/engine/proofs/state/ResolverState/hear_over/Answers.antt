@@ -1,10 +1,8 @@
-use Rattle.std.proofs.Common.{Some, refl, sym, subst}
-use Rattle.std.proofs.lemmas.Result.{IfOk-weaker, on_err_weaker}
+use Rattle.std.proofs.Common.{refl}
 use Rattle.wire.specs.declared.via.Via.TheVariants.{Tcp}
-use Rattle.classify.specs.Read.{Reading, IsReadFrom, AreRead}
+use Rattle.classify.specs.Read.{IsReadFrom}
 use Rattle.classify.specs.Views.{reading_view}
 use Rattle.runs.specs.States.{TcpReply}
-use Rattle.engine.specs.ResolverStates.{state_of}
 use Rattle.engine.proofs.Heard.{unread, reply_carries}
 use Rattle.engine.proofs.state.ResolverState.hear_over.Goals as goal
 

@@ -1,7 +1,6 @@
-use Rattle.std.proofs.Common.{◌≡◌, ℕ, List, sym, ◌∙◌, subst}
+use Rattle.std.proofs.Common.{◌≡◌, ℕ, sym, ◌∙◌, subst}
 use Rattle.std.proofs.lemmas.Result.{IfOk-weaker, on_err_weaker}
 use Rattle.wire.specs.declared.via.Via.TheVariants.{Udp}
-use Rattle.classify.specs.Read.{IsReadFrom}
 use Rattle.classify.specs.Views.{reading_view}
 use Rattle.events.specs.Paths.{endpoint_view}
 use Rattle.runs.specs.States.{Datagram}

@@ -1,6 +1,4 @@
-use Rattle.runs.specs.States.{TcpReply}
 use Rattle.engine.specs.ResolverStates.{state_of}
-use Rattle.engine.specs.Replies.{alone}
 use Rattle.engine.proofs.Called.{at_err}
 use Rattle.engine.proofs.Found.{found_is}
 use Rattle.engine.proofs.Arms.{reply_missed, reply_heard, reply_lost, reply_failed, reply_failed_lost}

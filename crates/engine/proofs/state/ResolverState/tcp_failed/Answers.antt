@@ -17,3 +17,6 @@ returns-in_ok-fail_ask-in-Some-clause-ok g c = λ now.
 
 pub returns-in-None-clause-ok : goal.returns-in-None-clause-ok
 returns-in-None-clause-ok g c = λ now. failure_missed (state_of c.args.self.now) now c.args.ask c.in-None.ensures
+
+pub returns-in_ok-fail_ask-in-Some-clause-quiet : goal.returns-in_ok-fail_ask-in-Some-clause-quiet
+returns-in_ok-fail_ask-in-Some-clause-quiet g c = λ now q. absurd (failure_loud (state_of c.args.self.now) now c.args.ask c.in-Some.number c.in-Some.ensures q)
