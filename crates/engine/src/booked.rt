@@ -76,6 +76,7 @@ impl Machine for TypedCore {
     ghost begins = { IsBegun };
 
     fn step(state: &mut Core, event: &TypedEvent) -> Result<TypedActions, Starved> {
+        // For the proof: the event was read of some bytes.
         let _ = event.parsed();
         state.step_typed(event)
     }
