@@ -1,5 +1,5 @@
 -- What becomes of an event for an open query is a turn.
-use Rattle.std.proofs.Common.{◌≡◌, ℕ, inl, inr, Bool, Option, Some, None, List, [], Contains, refl, sym, ap, subst, arith}
+use Rattle.std.proofs.Common.{◌≡◌, ◌<◌, ◌≤◌, ℕ, inl, inr, Bool, Option, Some, None, List, [], Contains, length, refl, sym, ap, subst, arith}
 use Rattle.std.specs.Prelude.{MatchOption, is_some}
 use Rattle.resolution.specs.Jobs.{Stores, Input}
 use Rattle.resolution.specs.Jobs as jobs

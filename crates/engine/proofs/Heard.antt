@@ -55,7 +55,7 @@ unread way bytes k a m none kind is answers = none m is a.name k answers.qr answ
 first_of : (s t : Search) (rest others : List Search) → s ∷ rest ≡ t ∷ others → s ≡ t
 first_of s t rest others same = cc
 
-sought_in : (q : Open) (r : Reading) → IsSought q → Answers q.ask r → IsSoughtIn q.job r
+pub sought_in : (q : Open) (r : Reading) → IsSought q → Answers q.ask r → IsSoughtIn q.job r
 sought_in q r h is s rest e =
     let f = h.found in
     let same : s ≡ f.sought = first_of s f.sought rest f.others (sym e ∙ f.searches) in

@@ -1,5 +1,5 @@
 -- What is left where the action of a step cannot be written is what a step out of memory leaves.
-use Rattle.std.proofs.Common.{◌≡◌, ◌≢◌, ℕ, ◌<◌, ◌⊎◌, inl, inr, Bool, Option, Some, None, Result, Ok, Err, OnErr, List, [], ◌∷◌, ◌++◌, Contains, refl, sym, ◌∙◌, ap, subst, arith}
+use Rattle.std.proofs.Common.{◌≡◌, ◌≢◌, ℕ, ◌+◌, ◌<◌, ◌⊎◌, inl, inr, Bool, Option, Some, None, Result, Ok, Err, OnErr, List, [], ◌∷◌, ◌++◌, Contains, refl, sym, ◌∙◌, ap, subst, arith}
 use Rattle.std.specs.Prelude.{IsOk, MatchOption}
 use Rattle.causes.specs.declared.cause.Cause.{Cause}
 use Rattle.message_grammar.specs.Messages.{Question, IsMessage, encoding, folded_message}
@@ -135,7 +135,7 @@ module _ (s mid new : State) (x : Action) where
             h.query,
             (h.serves).stands,
             refl,
-            (ap (λ (p : Endpoint). p.port) to, path, sym (ap (λ (p : Endpoint). p.address) to), sym answers.id ∙ ids bytes m message),
+            (ap (λ (p : Endpoint). p.port) to, (path, sym (ap (λ (p : Endpoint). p.address) to), sym answers.id ∙ ids bytes m message)),
             served_lost (Datagram now sock from bytes) served out h (first_of x rest out is),
           );
         }
@@ -208,9 +208,8 @@ module _ (ids : IdIsInMessage) (port to : ℕ) (a b : Ask) (bytes : List ℕ) (r
       let (line, ends, whole) = same_tcp k n (endpoint a.server port) (endpoint b.server to) _ bytes same in
       record { path = at ∙ ap ByTcp line ∙ sym by; server = ap (λ (p : Endpoint). p.address) ends; id = same_id whole }
 
+  are_like : asked port a ≡ sending to b b.path bytes → AreLike a b
   unfolding asked
-
-  pub are_like : asked port a ≡ sending to b b.path bytes → AreLike a b
   are_like same = on_path a.path b.path refl refl same
 
 module _ (s mid new : State) (sound : IsSound s) (ids : IdIsInMessage) (port : ℕ) (a : Ask) (undone : IsAskUndone a s.opened s.tcp_asks mid new) where
@@ -252,9 +251,8 @@ module _ (s mid new : State) (sound : IsSound s) (ids : IdIsInMessage) (port : �
   no_ask client way bytes cause (ByUdp sock) same = cc
   no_ask client way bytes cause (ByTcp number) same = cc
 
-  unfolding asked
-
   keeps_reply : KeepsReply s mid new (asked port a)
+  unfolding asked
   keeps_reply client way bytes cause same = absurd (no_ask client way bytes cause a.path same)
 
   pub ask_unwritten : (e : Event) (served : Served) (out rest : List Action) → IsTurn s e served (Some out) mid → out ≡ asked port a ∷ rest → Turns s e None new
@@ -266,7 +264,7 @@ pub as_written : (s mid new : State) (e : Event) (out a : List Action) → a ≡
 as_written s mid new e out a is same h = subst (λ (z : State). Turns s e (Some a) z) (sym same) (subst (λ (o : List Action). Turns s e (Some o) mid) (sym is) h)
 
 pub is_ok : {T E : Type 0} (r : Result T E) (P : Type 0) → OnErr r P → (P → ⊥) → IsOk r
-is_ok (Ok x) P h never = tt
+is_ok (Ok x) P h never = refl
 is_ok (Err e) P h never = absurd (never h)
 
 pub none_gone : {A : Type 0} (first : Option (TypedAction A)) (P : TypedAction A → Type 0) → first ≡ None → MatchOption first ⊥ P → ⊥
@@ -274,15 +272,13 @@ none_gone None P none h = h
 none_gone (Some a) P none h = absurd (cc)
 
 module _ (s mid new : State) (sound : IsSound s) (ids : IdIsInMessage) (e : Event) where
-  unfolding replied
-
   reply_gone : (who : ClientQuery) (o : Outcome Plain) (rest : List Action) → Turns s e (Some (replied who o ∷ rest)) mid → new ≡ mid → Turns s e None new
+  unfolding replied
   reply_gone who o rest turns same = subst (Turns s e None) (sym same) (reply_unwritten s mid e turns.served _ rest who.client who.way _ _ sound ids turns.turn refl)
-
-  unfolding refused
 
   refusal_gone : (client : ℕ) (way : Via) (refusal : Refusal) (start : Opening) (echo : Option Question) (rest : List Action) → Turns s e (Some (refused client way refusal start echo ∷ rest)) mid → new ≡ mid
       → Turns s e None new
+  unfolding refused
   refusal_gone client way refusal start echo rest turns same = subst (Turns s e None) (sym same) (reply_unwritten s mid e turns.served _ rest client way _ None sound ids turns.turn refl)
 
   pub unwritten : {A : Type 0} (first : Option (TypedAction A)) (more : Bool) → Turns s e (Some (said_listed first more)) mid → MatchOption first ⊥ (λ a. IsUndone a s.opened s.tcp_asks mid new) → Turns s e None new

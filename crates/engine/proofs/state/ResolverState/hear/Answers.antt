@@ -19,8 +19,8 @@ returns-then-not-is_answered-clause-ok g c = λ event way m reads carries.
     is_passed (state_of c.args.self.now) c.args.number event way m (reading_view c.args.reading.now) reads carries c.requires.there.0 c.requires.there.1
     (λ is. let said = (c.is_answered.ensures c.requires.there.0 c.requires.there.1).1 is in search rules)
 
-pub returns-in_ok-go_on_by_reply-clause-ok : goal.returns-in_ok-go_on_by_reply-clause-ok
-returns-in_ok-go_on_by_reply-clause-ok g c = λ event way m reads carries.
+pub returns-clause-ok : goal.returns-clause-ok
+returns-clause-ok g c = λ event way m reads carries.
     is_served (state_of c.args.self.now) c.args.number event way m (reading_view c.args.reading.now) reads carries c.server_of-server.result c.server_of-server.ensures (λ q one. (c.is_answered.ensures q one).0 (search rules))
     (state_of c.go_on_by_reply.new.self) (alone c.in_ok-go_on_by_reply.field-0) (c.in_ok-go_on_by_reply.ensures.ok way m reads)
 

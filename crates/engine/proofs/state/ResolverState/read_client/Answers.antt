@@ -1,3 +1,4 @@
+use Rattle.std.proofs.Common.{rules}
 use Rattle.std.proofs.lemmas.Result.{IfOk-weaker, on_err_weaker}
 use Rattle.events.specs.Plain.{plain_asked}
 use Rattle.engine.specs.ResolverStates.{state_of}

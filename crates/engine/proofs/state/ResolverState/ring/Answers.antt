@@ -15,5 +15,5 @@ returns-else-is_late-clause-ok g c =
 pub returns-else-is_late-clause-err : goal.returns-else-is_late-clause-err
 returns-else-is_late-clause-err g c =
     on_err_weaker c.go_on.result
-    (λ h. inr (c.if-is_late.ensures, untold (state_of c.args.self.now) c.args.number TimedOut c.server_of-server.result (state_of c.go_on.new.self) c.server_of-server.ensures h))
+    (λ h. (c.if-is_late.ensures, untold (state_of c.args.self.now) c.args.number TimedOut c.server_of-server.result (state_of c.go_on.new.self) c.server_of-server.ensures h))
     c.go_on.ensures.err

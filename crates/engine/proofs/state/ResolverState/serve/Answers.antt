@@ -7,14 +7,14 @@ use Rattle.engine.proofs.state.ResolverState.serve.Goals as goal
 pub returns-clause-ok : goal.returns-clause-ok
 returns-clause-ok g c =
     IfOk-weaker c.write_out.result _ _
-    (λ a h. as_written (state_of c.args.self.now) (state_of c.handle_event-said.new.self) (state_of c.write_out.new.self) (event_view c.args.event.now) _ a h.0 h.1 c.in_ok-said.ensures.ok)
+    (λ a h. as_written (state_of c.args.self.now) (state_of c.handle_event.new.self) (state_of c.write_out.new.self) (event_view c.args.event.now) _ a h.0 h.1 c.in_ok-said.ensures.ok)
     c.write_out.ensures.ok
 
 pub returns-clause-err : goal.returns-clause-err
 returns-clause-err g c =
     let turns = c.in_ok-said.ensures.ok in
     on_err_weaker c.write_out.result
-    (λ h. unwritten (state_of c.args.self.now) (state_of c.handle_event-said.new.self) (state_of c.write_out.new.self) c.requires.sound c.id_is_in_message.ensures (event_view c.args.event.now)
+    (λ h. unwritten (state_of c.args.self.now) (state_of c.handle_event.new.self) (state_of c.write_out.new.self) c.requires.sound c.id_is_in_message.ensures (event_view c.args.event.now)
     c.in_ok-said.said.first c.in_ok-said.said.more_due turns h)
     c.write_out.ensures.err
 

@@ -7,11 +7,11 @@ use Rattle.engine.proofs.state.ResolverState.tcp_reply.Goals as goal
 pub forget-requires : goal.forget-requires
 forget-requires g c = (c.in-Some.ensures.query, c.in-Some.ensures.one)
 
-pub read_reply-requires : goal.read_reply-requires
-read_reply-requires g c = record { sound = c.requires.sound; read = (c.args.bytes.now, c.in-Ok.ensures) }
+pub read_reply-given-requires : goal.read_reply-given-requires
+read_reply-given-requires g c = record { sound = c.requires.sound; read = (c.args.bytes.now, c.in-Ok.ensures) }
 
-pub returns-in-None-clause-ok : goal.returns-in-None-clause-ok
-returns-in-None-clause-ok g c = λ now. reply_missed (state_of c.args.self.now) now c.args.ask c.args.bytes.now c.in-None.ensures
+pub returns-in_default-clause-ok : goal.returns-in_default-clause-ok
+returns-in_default-clause-ok g c = λ now. reply_missed (state_of c.args.self.now) now c.args.ask c.args.bytes.now c.in_default.ensures
 
 pub returns-in-Err-clause-err : goal.returns-in-Err-clause-err
 returns-in-Err-clause-err g c = λ now.
