@@ -1,5 +1,5 @@
 -- The innermost search is the first of the list.
-use Rattle.std.proofs.Common.{◌≡◌, ℕ, Bool, Option, Some, None, List, [], ◌∷◌, IsTrue, refl, sym, ◌∙◌, ap}
+use Rattle.std.proofs.Common.{◌≡◌, ℕ, Bool, Some, None, List, [], ◌∷◌, IsTrue, refl, sym, ◌∙◌, ap}
 use Rattle.std.specs.Prelude.{◌↔◌, slice_get}
 use Rattle.dname.specs.Labels.{Name}
 use Rattle.resolution.specs.Jobs.{Search}

@@ -1,5 +1,5 @@
 -- What was found without asking, at the name and the type that were sought; and jobs after a search is over.
-use Rattle.std.proofs.Common.{◌≡◌, ℕ, ◌<◌, inl, inr, Some, List, ◌∷◌, sym, ap, ◌∙◌, subst}
+use Rattle.std.proofs.Common.{◌≡◌, ℕ, ◌<◌, inl, inr, Some, ◌∷◌, sym, ap, ◌∙◌, subst}
 use Rattle.dname.specs.Labels.{Name}
 use Rattle.referral.specs.Cuts.{Cut}
 use Rattle.zone.specs.Links.{Link}

@@ -7,7 +7,7 @@ use Rattle.iterate.proofs.advancing.advance_by_reply.Goals as goal
 
 pub run-requires : goal.run-requires
 run-requires g c =
-    let (way, m, reads, sought) = c.requires in
+    let (way, m, reads, sought) = c.requires.read in
     enters_fresh c.args.now (Told way c.args.server m) c.args.job.now c.args.stores.now (point (task_view c.in_ok-first.first) c.enter_by_reply.new.job c.enter_by_reply.new.stores)
     (c.in_ok-first.ensures.enters way m reads sought)
 

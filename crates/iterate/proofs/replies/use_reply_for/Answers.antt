@@ -1,4 +1,4 @@
-use Rattle.std.proofs.Common.{◌≡◌, inl, sym, ap, ◌∙◌, subst, IfOk}
+use Rattle.std.proofs.Common.{inl, sym, ap, ◌∙◌, subst, IfOk}
 use Rattle.std.proofs.lemmas.Result.{on_err_weaker}
 use Rattle.zone.specs.Views.{link_view}
 use Rattle.classify.specs.Classes as class
