@@ -23,6 +23,7 @@ use Rattle.typed.specs.Actions.{replied, refused, asked}
 use Rattle.typed.specs.Views.{said_listed}
 use Rattle.typed.specs.declared.action.TypedAction.{TypedAction}
 use Rattle.typed.specs.declared.action.TypedAction.TheVariants as said
+use Rattle.open_queries.specs.Lookups.{IsTaken}
 use Rattle.engine.specs.ResolverStates.{IsSound}
 use Rattle.engine.specs.Moves.{IsLike, IsAskUndone, IsUndone}
 use Rattle.engine.specs.Turns.{Turns}
@@ -231,7 +232,7 @@ module _ (s mid new : State) (sound : IsSound s) (ids : IdIsInMessage) (port : �
       like : AreLike a after.ask
       like = are_like ids port (s.site).port a after.ask (w.sent).0 ((w.sent).1).1 undone.id (sym (first w.action w.out_is) ∙ (w.sent).2)
 
-      taken : (q : Open) → IsLike a q → _ → _ → IsBare s after.number stores new
+      taken : (q : Open) → IsLike a q → IsTaken mid.queries q.number q (undone.between).queries → undone.between ≡ record mid { queries = (undone.between).queries } → IsBare s after.number stores new
       taken q alike gone state =
           let same : q ≡ after = elim ((w.queries).only q (gone.one).stands) as (λ _. q ≡ after) [
             | inl e ↦ e

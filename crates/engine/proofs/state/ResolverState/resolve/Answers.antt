@@ -10,7 +10,7 @@ returns-in_ok-begin_query-clause-ok g c =
 
 pub returns-in_ok-at_hand-clause-ok : goal.returns-in_ok-at_hand-clause-ok
 returns-in_ok-at_hand-clause-ok g c =
-    answered (state_of c.args.self.now) c.args.client_query (alone c.in_ok-at_hand.field-0) (state_of c.args.self.now) (sym c.is_recursive.ensures ∙ c.if-is_recursive.false) c.in_ok-at_hand.ensures.ok
+    answered (state_of c.args.self.now) c.args.client_query (alone c.in_ok-at_hand.field-0) (state_of c.args.self.now) (sym c.is_recursive.ensures ∙ c.if-is_recursive.false) c.in_ok-at_hand.ensures
 
 pub returns-in_err-at_hand-clause-err : goal.returns-in_err-at_hand-clause-err
 returns-in_err-at_hand-clause-err g c = at_err _ (lost_none (state_of c.args.self.now) _ c.requires.sound)
