@@ -302,8 +302,10 @@ impl Asked {
 
     // Shows what goes out, and notes what it asks.
     fn go_out(&mut self, alloc: Global, next: &Next, out: &mut String) -> Result<(), LineKind> {
-        if let Next::AskUdp(_, name, kind) | Next::AskTcp(_, name, kind) = next {
-            self.question = question(name, *kind)?;
+        match next {
+            Next::AskUdp(_, name, kind) => self.question = question(name, *kind)?,
+            Next::AskTcp(_, name, kind) => self.question = question(name, *kind)?,
+            Next::Done(..) | Next::Fail(_) => {}
         }
         put_next(out, alloc, next, self.job.asks())
     }

@@ -216,9 +216,9 @@ impl<A: Heap> Asked<A> {
     }
 
     // What goes out for a query whose work has begun.
-    fn begun(&mut self, begun: Started<A>) -> Result<Out, Starved> {
+    fn begun(&mut self, begun: Started<A>) -> Out {
         match begun {
-            Started::Answered(last) => Ok(done(0, last.link())),
+            Started::Answered(last) => done(0, last.link()),
             Started::Working(job, next) => {
                 self.job = job;
                 self.noted(next)
@@ -227,12 +227,15 @@ impl<A: Heap> Asked<A> {
     }
 
     // What goes out, in short; what it asks is noted.
-    fn noted(&mut self, next: Next<A>) -> Result<Out, Starved> {
+    fn noted(&mut self, next: Next<A>) -> Out {
         let out = short(&next);
-        if let Next::AskUdp(_, name, kind) | Next::AskTcp(_, name, kind) = next {
-            self.question = (name, kind);
+        match next {
+            Next::AskUdp(_server, name, kind) => self.question = (name, kind),
+            Next::AskTcp(_server, name, kind) => self.question = (name, kind),
+            Next::Done(_chain, _last) => {}
+            Next::Fail(_cause) => {}
         }
-        Ok(out)
+        out
     }
 
     // The question that was asked last.
@@ -254,7 +257,7 @@ impl<A: Heap> Asked<A> {
             &mut self.stores,
             u64::from(now),
         )?;
-        self.begun(begun)
+        Ok(self.begun(begun))
     }
 
     fn ask(&mut self, text: &str, now: u32) -> Result<Out, Starved> {
@@ -271,7 +274,7 @@ impl<A: Heap> Asked<A> {
             &mut self.stores,
             u64::from(now),
         )?;
-        self.noted(next)
+        Ok(self.noted(next))
     }
 
     // What goes out at this moment for a message over UDP from that server, which has the question that was asked.
@@ -296,7 +299,7 @@ impl<A: Heap> Asked<A> {
             &mut self.stores,
             u64::from(now),
         )?;
-        self.noted(next)
+        Ok(self.noted(next))
     }
 
     // What goes out at this moment for what comes in.
