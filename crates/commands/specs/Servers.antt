@@ -8,7 +8,7 @@ use Rattle.events.specs.declared.path.Endpoint.{Endpoint}
 use Rattle.config.specs.Configs.{Config, End, LocalZone, config_of}
 use Rattle.runs.specs.States.{State}
 use Rattle.dispatch.specs.Blocks.{IsReach}
-use Rattle.server.specs.declared.desk.Bounds.{Bounds}
+use Rattle.server.specs.declared.context.Bounds.{Bounds}
 use Rattle.server_start.specs.Resolvers.{IsDescribed}
 use Rattle.commands.specs.Faults.{IsReported}
 use Rattle.commands.specs.Scripts.{HoldsNo}

@@ -8,8 +8,8 @@ use Rattle.door.specs.declared.queries.Admission.{Admission}
 use Rattle.door.specs.declared.queries.Admission.TheVariants as door
 use Rattle.server.specs.declared.query.Asker.{Asker}
 use Rattle.server.specs.declared.query.Query.{Query}
-use Rattle.server.specs.declared.entrance.Entry.{Entry}
-use Rattle.server.specs.declared.entrance.Entry.TheVariants.{In, Held, Dropped}
+use Rattle.server.specs.declared.shared_door.Entry.{Entry}
+use Rattle.server.specs.declared.shared_door.Entry.TheVariants.{In, Held, Dropped}
 
 -- What is let in is stepped, what waits is held, and what is refused is dropped.
 abbrev pub IsEntry : Admission Query → Entry → Type 0

@@ -1,5 +1,5 @@
 //! The loop that lets time pass, so that queries which are due are served.
-use crate::desk::Desk;
+use crate::context::Context;
 use crate::log::{Log, log_start};
 use crate::worker::Worker;
 use book::Machine;
@@ -22,26 +22,26 @@ pub(crate) fn pass_time<
     M: Machine<Event = TypedEvent, Out = TypedActions>,
     L: Ledger,
     R: Wait + Clock,
->(rt: &R, desk: &Desk<'_, M, L>, worker: &mut Worker<L>) {
-    let mut log = Log::new(desk.ends.shown.and_then(|shown| shown.log));
+>(rt: &R, context: &Context<'_, M, L>, worker: &mut Worker<L>) {
+    let mut log = Log::new(context.ends.shown.and_then(|shown| shown.log));
     let mut told = 0;
-    log_start(desk);
-    desk.ends.tell("READY=1");
+    log_start(context);
+    context.ends.tell("READY=1");
     for _ in rt.forever() {
-        if desk.is_over() {
+        if context.is_over() {
             return;
         }
-        let moment = desk.moment(rt);
-        let late = desk.entrance.pass_time(rt, moment);
+        let moment = context.moment(rt);
+        let late = context.door.pass_time(rt, moment);
         if late > 0 {
-            desk.ends.count(Outcome::Dropped(late));
+            context.ends.count(Outcome::Dropped(late));
         }
-        let more_due = desk.put(rt, worker, Event::Tick { moment }).more_due;
+        let more_due = context.put(rt, worker, Event::Tick { moment }).more_due;
         if moment.saturating_sub(told) >= WATCHDOG_MS {
             told = moment;
-            desk.ends.tell("WATCHDOG=1");
+            context.ends.tell("WATCHDOG=1");
         }
-        log.look(rt, desk, moment);
+        log.look(rt, context, moment);
         if !more_due {
             rest(rt);
         }

@@ -2,7 +2,7 @@
 ghost use Rattle.std.specs.Prelude.{◌≤◌, IfSome, length};
 
 use crate::clock::rest;
-use crate::desk::Desk;
+use crate::context::Context;
 use crate::ends::{Ends, MOST_BYTES, endpoint_of, is_early};
 use crate::worker::Worker;
 use book::Machine;
@@ -18,14 +18,14 @@ pub(crate) fn take_datagrams<
     M: Machine<Event = TypedEvent, Out = TypedActions>,
     L: Ledger,
     R: Wait + Clock,
->(rt: &R, desk: &Desk<'_, M, L>, worker: &mut Worker<L>) {
+>(rt: &R, context: &Context<'_, M, L>, worker: &mut Worker<L>) {
     let mut buffer = [0u8; MOST_BYTES];
     for _ in rt.forever() {
-        if desk.is_over() {
+        if context.is_over() {
             return;
         }
-        if let Some((count, from)) = next_datagram(rt, desk.ends, &mut buffer) {
-            desk.put_datagram(rt, worker, from, &buffer[..count]);
+        if let Some((count, from)) = next_datagram(rt, context.ends, &mut buffer) {
+            context.put_datagram(rt, worker, from, &buffer[..count]);
         }
     }
 }

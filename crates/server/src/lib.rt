@@ -26,10 +26,9 @@
 
 mod client_stream;
 mod clock;
+mod context;
 mod datagrams;
-mod desk;
 mod ends;
-mod entrance;
 mod fault;
 mod framed_stream;
 mod log;
@@ -43,12 +42,13 @@ mod poller;
 mod query;
 mod serve;
 mod server_streams;
+mod shared_door;
 mod streams;
 mod tally;
 mod upstream;
 mod worker;
 
-pub use desk::Bounds;
+pub use context::Bounds;
 pub use ends::Ends;
 pub use fault::ServeError;
 pub use log::{Shown, Verbosity};

@@ -1,5 +1,5 @@
 //! What a server logs, where its file asks for it: lines to the standard error, one write each.
-use crate::desk::Desk;
+use crate::context::Context;
 use crate::ends::receive_room;
 use crate::tally::Tally;
 use book::Machine;
@@ -123,13 +123,13 @@ impl Log {
     pub fn look<M: Machine<Event = TypedEvent, Out = TypedActions>, L: Ledger, R: Wait>(
         &mut self,
         rt: &R,
-        desk: &Desk<'_, M, L>,
+        context: &Context<'_, M, L>,
         now: u64,
     ) {
         if self.verbosity.is_none() {
             return;
         }
-        let Some(tally) = &desk.ends.tally else {
+        let Some(tally) = &context.ends.tally else {
             return;
         };
         self.most_open = self.most_open.max(tally.open_queries(rt));
@@ -137,7 +137,7 @@ impl Log {
             return;
         }
         self.looked = now;
-        self.warn(desk.alloc, Troubles::counted(tally));
+        self.warn(context.alloc, Troubles::counted(tally));
     }
 
     // Logs what went wrong since it was logged last, a line a kind.
@@ -173,18 +173,18 @@ impl Log {
 
 /// Logs the start, where it is to be logged: where clients are served, what is held and what is kept.
 pub(crate) fn log_start<M: Machine<Event = TypedEvent, Out = TypedActions>, L: Ledger>(
-    desk: &Desk<'_, M, L>,
+    context: &Context<'_, M, L>,
 ) {
-    let Some(shown) = desk.ends.shown else {
+    let Some(shown) = context.ends.shown else {
         return;
     };
     if shown.log != Some(Verbosity::All) {
         return;
     }
-    let alloc = desk.alloc;
+    let alloc = context.alloc;
     let version = shown.version;
     put(format!(in alloc; "resolverd: info: {version}"));
-    if let Ok(end) = desk.ends.listen() {
+    if let Ok(end) = context.ends.listen() {
         let (address, port) = (end.address, end.port);
         put(format!(in alloc; "resolverd: info: serves clients at {address} port {port}\n"));
     }
@@ -192,15 +192,15 @@ pub(crate) fn log_start<M: Machine<Event = TypedEvent, Out = TypedActions>, L: L
         let (address, port) = (end.address, end.port);
         put(format!(in alloc; "resolverd: info: serves counters at {address} port {port}\n"));
     }
-    log_sizes(desk, shown);
+    log_sizes(context, shown);
 }
 
 // Logs how much is held and kept at most.
 fn log_sizes<M: Machine<Event = TypedEvent, Out = TypedActions>, L: Ledger>(
-    desk: &Desk<'_, M, L>,
+    context: &Context<'_, M, L>,
     shown: Shown,
 ) {
-    let alloc = desk.alloc;
+    let alloc = context.alloc;
     let Shown {
         zones,
         hints,
@@ -211,11 +211,11 @@ fn log_sizes<M: Machine<Event = TypedEvent, Out = TypedActions>, L: Ledger>(
     put(format!(in alloc;
         "resolverd: info: holds {zones} zones, and is told of {hints} servers of the root\n"
     ));
-    let streams = desk.bounds.streams;
+    let streams = context.bounds.streams;
     put(format!(in alloc;
         "resolverd: info: keeps {cache} answers and {delegations} delegations, and {streams} streams of clients\n"
     ));
-    if let Some(bytes) = receive_room(&desk.ends.clients) {
+    if let Some(bytes) = receive_room(&context.ends.clients) {
         put(format!(in alloc;
             "resolverd: info: the system holds {bytes} bytes of clients' datagrams that wait to be read\n"
         ));

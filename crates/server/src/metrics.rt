@@ -1,7 +1,7 @@
 //! The counters of a server over HTTP: one request at a time, bounded in time and in size.
 ghost use Rattle.std.specs.Prelude.{◌≤◌, IfSome, length};
 
-use crate::desk::Desk;
+use crate::context::Context;
 use crate::ends::{LISTENER, SLICE_MS, accept_fault, address_of, is_early};
 use crate::poller::Poller;
 use book::{Machine, Measured};
@@ -55,25 +55,27 @@ pub(crate) fn serve_counters<
     M: Measured<Event = TypedEvent, Out = TypedActions, Sizes = StoreSizes>,
     L: Ledger,
     R: Wait + Clock,
->(rt: &R, desk: &Desk<'_, M, L>) {
-    let Some(scrapes) = &desk.ends.scrapes else {
+>(rt: &R, context: &Context<'_, M, L>) {
+    let Some(scrapes) = &context.ends.scrapes else {
         return;
     };
-    let Ok(mut events) = Events::with_capacity(desk.alloc, EVENTS) else {
+    let Ok(mut events) = Events::with_capacity(context.alloc, EVENTS) else {
         return;
     };
     let mut poll = scrapes.poller.poll.lock(rt);
     for _ in rt.forever() {
-        if desk.is_over() {
+        if context.is_over() {
             return;
         }
         match scrapes.listener.accept() {
-            Ok((stream, _)) => serve_one(rt, desk, stream),
+            Ok((stream, _)) => serve_one(rt, context, stream),
             Err(error) => {
                 if !is_early(&error) {
-                    desk.ends.count(Outcome::SocketFailed(accept_fault(&error)));
+                    context
+                        .ends
+                        .count(Outcome::SocketFailed(accept_fault(&error)));
                 }
-                desk.wait(&scrapes.poller, &mut poll, &mut events, SLICE_MS);
+                context.wait(&scrapes.poller, &mut poll, &mut events, SLICE_MS);
             }
         }
     }
@@ -84,16 +86,16 @@ fn serve_one<
     M: Measured<Event = TypedEvent, Out = TypedActions, Sizes = StoreSizes>,
     L: Ledger,
     R: Wait + Clock,
->(rt: &R, desk: &Desk<'_, M, L>, mut stream: TcpStream) {
+>(rt: &R, context: &Context<'_, M, L>, mut stream: TcpStream) {
     let wait = Some(Duration::from_millis(WAIT_MS));
     if stream.set_read_timeout(wait).is_err() || stream.set_write_timeout(wait).is_err() {
         return;
     }
     let mut request = [0u8; MOST_REQUEST];
-    if let Some(count) = read_request(rt, desk, &mut stream, &mut request)
-        && let Some(response) = response_to(rt, desk, &request[..count])
+    if let Some(count) = read_request(rt, context, &mut stream, &mut request)
+        && let Some(response) = response_to(rt, context, &request[..count])
     {
-        write_response(rt, desk, &mut stream, response.as_bytes());
+        write_response(rt, context, &mut stream, response.as_bytes());
     }
 }
 
@@ -102,28 +104,36 @@ fn response_to<
     M: Measured<Event = TypedEvent, Out = TypedActions, Sizes = StoreSizes>,
     L: Ledger,
     R: Wait,
->(rt: &R, desk: &Desk<'_, M, L>, request: &[u8]) -> Option<String> {
-    let tally = desk.ends.tally.as_ref()?;
+>(rt: &R, context: &Context<'_, M, L>, request: &[u8]) -> Option<String> {
+    let tally = context.ends.tally.as_ref()?;
     let (cells, waiting) = tally.values(rt);
-    let mut response = String::new(desk.alloc);
-    let stores = pool::sizes(rt, desk.shared);
-    put_response(desk.alloc, &mut response, request, &cells, waiting, stores).ok()?;
+    let mut response = String::new(context.alloc);
+    let stores = pool::sizes(rt, context.shared);
+    put_response(
+        context.alloc,
+        &mut response,
+        request,
+        &cells,
+        waiting,
+        stores,
+    )
+    .ok()?;
     Some(response)
 }
 
 // How many bytes a request has, which stand at the front of the buffer. None where it is too long, or comes too late.
 fn read_request<M: Machine<Event = TypedEvent, Out = TypedActions>, L: Ledger, R: Wait + Clock>(
     rt: &R,
-    desk: &Desk<'_, M, L>,
+    context: &Context<'_, M, L>,
     stream: &mut TcpStream,
     buffer: &mut [u8; MOST_REQUEST],
 ) -> Option<usize>
     ensures { IfSome result (λ n. n ≤ MOST_REQUEST) }
 {
-    let began = desk.moment(rt);
+    let began = context.moment(rt);
     let mut count = 0usize;
     for _ in 0..MOST_REQUEST {
-        if count >= MOST_REQUEST || desk.moment(rt).saturating_sub(began) >= REQUEST_MS {
+        if count >= MOST_REQUEST || context.moment(rt).saturating_sub(began) >= REQUEST_MS {
             return None;
         }
         match stream.read(&mut buffer[count..]) {
@@ -142,14 +152,14 @@ fn read_request<M: Machine<Event = TypedEvent, Out = TypedActions>, L: Ledger, R
 // Writes a response, as far as its client takes it in time.
 fn write_response<M: Machine<Event = TypedEvent, Out = TypedActions>, L: Ledger, R: Wait + Clock>(
     rt: &R,
-    desk: &Desk<'_, M, L>,
+    context: &Context<'_, M, L>,
     stream: &mut TcpStream,
     response: &[u8],
 ) {
-    let began = desk.moment(rt);
+    let began = context.moment(rt);
     let mut rest = response;
     for _ in 0..response.len() {
-        if rest.is_empty() || desk.moment(rt).saturating_sub(began) >= REQUEST_MS {
+        if rest.is_empty() || context.moment(rt).saturating_sub(began) >= REQUEST_MS {
             return;
         }
         match stream.write(rest) {

@@ -1,5 +1,5 @@
 //! What goes out, by the sockets and the channels of a server.
-use crate::desk::Bounds;
+use crate::context::Bounds;
 use crate::ends::{Ends, address_of};
 use counters::{AskFault, Outcome, SocketFault, Way};
 use crossbeam_channel::Sender;

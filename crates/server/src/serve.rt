@@ -2,14 +2,14 @@
 ghost use Rattle.server.specs.Staff.{IsStaffed};
 
 use crate::clock::pass_time;
+use crate::context::{Bounds, Context};
 use crate::datagrams::take_datagrams;
-use crate::desk::{Bounds, Desk};
 use crate::ends::Ends;
-use crate::entrance::Entrance;
 use crate::fault::ServeError;
 use crate::metrics::serve_counters;
 use crate::moments::Beginning;
 use crate::server_streams::ask_servers;
+use crate::shared_door::SharedDoor;
 use crate::streams::take_streams;
 use crate::upstream::take_answers;
 use crate::worker::{Worker, workers_of};
@@ -48,7 +48,7 @@ pub fn serve_until<
     let Some(beginning) = Beginning::now(rt) else {
         return Err(ServeError::Clock);
     };
-    let Some(entrance) = Entrance::new(alloc, &bounds.seed, bounds.clients) else {
+    let Some(door) = SharedDoor::new(alloc, &bounds.seed, bounds.clients) else {
         return Err(ServeError::Memory);
     };
     let Ok(workers) = workers_of(alloc, tickets) else {
@@ -56,12 +56,12 @@ pub fn serve_until<
     };
     let (to_servers, asks) = crossbeam_channel::unbounded(alloc)?;
     let (to_streams, replies) = crossbeam_channel::unbounded(alloc)?;
-    let desk = Desk {
+    let context = Context {
         alloc,
         shared,
         ends,
         bounds,
-        entrance: &entrance,
+        door: &door,
         to_servers: &to_servers,
         asks: &asks,
         to_streams: &to_streams,
@@ -69,7 +69,7 @@ pub fn serve_until<
         stop,
         beginning,
     };
-    if run(rt, &desk, workers) {
+    if run(rt, &context, workers) {
         Ok(())
     } else {
         Err(ServeError::Threads)
@@ -81,11 +81,11 @@ fn run<
     M: Measured<Event = TypedEvent, Out = TypedActions, Sizes = StoreSizes> + Send + Sync,
     L: Ledger + Send + Sync,
     R: Net<Listener = TcpListener, Stream = TcpStream> + Threads + Wait + Clock + Sync,
->(rt: &R, desk: &Desk<'_, M, L>, workers: Vec<Worker<L>>) -> bool {
+>(rt: &R, context: &Context<'_, M, L>, workers: Vec<Worker<L>>) -> bool {
     thread::scope(
         thread::scope_env(),
         rt,
-        |scope| start_all(rt, scope, desk, workers),
+        |scope| start_all(rt, scope, context, workers),
     )
 }
 
@@ -97,10 +97,15 @@ fn start_all<
     M: Measured<Event = TypedEvent, Out = TypedActions, Sizes = StoreSizes> + Send + Sync,
     L: Ledger + Send + Sync,
     R: Net<Listener = TcpListener, Stream = TcpStream> + Wait + Clock + Sync,
->(rt: &'s R, scope: &Scope<'s, E>, desk: &'s Desk<'d, M, L>, workers: Vec<Worker<L>>) -> bool {
-    let mut well = start_counters(rt, scope, desk);
+>(
+    rt: &'s R,
+    scope: &Scope<'s, E>,
+    context: &'s Context<'d, M, L>,
+    workers: Vec<Worker<L>>,
+) -> bool {
+    let mut well = start_counters(rt, scope, context);
     for worker in workers {
-        let started = start(rt, scope, desk, worker);
+        let started = start(rt, scope, context, worker);
         well = well && started;
     }
     well
@@ -115,13 +120,13 @@ fn start_counters<
     M: Measured<Event = TypedEvent, Out = TypedActions, Sizes = StoreSizes> + Send + Sync,
     L: Ledger + Send + Sync,
     R: Net<Listener = TcpListener, Stream = TcpStream> + Wait + Clock + Sync,
->(rt: &'s R, scope: &Scope<'s, E>, desk: &'s Desk<'d, M, L>) -> bool {
-    if desk.ends.scrapes.is_none() {
+>(rt: &'s R, scope: &Scope<'s, E>, context: &'s Context<'d, M, L>) -> bool {
+    if context.ends.scrapes.is_none() {
         return true;
     }
-    let started = scope.spawn(move || serve_counters(rt, desk)).is_ok();
+    let started = scope.spawn(move || serve_counters(rt, context)).is_ok();
     if !started {
-        desk.stop.store(true, Ordering::SeqCst);
+        context.stop.store(true, Ordering::SeqCst);
     }
     started
 }
@@ -135,10 +140,10 @@ fn start<
     M: Machine<Event = TypedEvent, Out = TypedActions> + Send + Sync,
     L: Ledger + Send + Sync,
     R: Net<Listener = TcpListener, Stream = TcpStream> + Wait + Clock + Sync,
->(rt: &'s R, scope: &Scope<'s, E>, desk: &'s Desk<'d, M, L>, worker: Worker<L>) -> bool {
-    let started = scope.spawn(move || work(rt, desk, worker)).is_ok();
+>(rt: &'s R, scope: &Scope<'s, E>, context: &'s Context<'d, M, L>, worker: Worker<L>) -> bool {
+    let started = scope.spawn(move || work(rt, context, worker)).is_ok();
     if !started {
-        desk.stop.store(true, Ordering::SeqCst);
+        context.stop.store(true, Ordering::SeqCst);
     }
     started
 }
@@ -148,13 +153,13 @@ fn work<
     M: Machine<Event = TypedEvent, Out = TypedActions>,
     L: Ledger,
     R: Net<Listener = TcpListener, Stream = TcpStream> + Wait + Clock,
->(rt: &R, desk: &Desk<'_, M, L>, worker: Worker<L>) {
+>(rt: &R, context: &Context<'_, M, L>, worker: Worker<L>) {
     let mut worker = worker;
     match role_of(worker.ticket.worker()) {
-        Role::Datagrams => take_datagrams(rt, desk, &mut worker),
-        Role::Streams => take_streams(rt, desk, &mut worker),
-        Role::Clock => pass_time(rt, desk, &mut worker),
-        Role::Upstream => take_answers(rt, desk, &mut worker),
-        Role::Asks => ask_servers(rt, desk, &mut worker),
+        Role::Datagrams => take_datagrams(rt, context, &mut worker),
+        Role::Streams => take_streams(rt, context, &mut worker),
+        Role::Clock => pass_time(rt, context, &mut worker),
+        Role::Upstream => take_answers(rt, context, &mut worker),
+        Role::Asks => ask_servers(rt, context, &mut worker),
     }
 }

@@ -2,7 +2,7 @@
 ghost use Rattle.std.specs.Prelude.{◌≡◌, ◌<◌, ◌^◌, IfOk, IfSome, length};
 ghost use Rattle.server.specs.Failures.{ask_fault};
 
-use crate::desk::{Bounds, Desk};
+use crate::context::{Bounds, Context};
 use crate::ends::{SLICE_MS, address_of, lacks_descriptors};
 use crate::framed_stream::{FramedStream, MOST_FRAME_BYTES, StreamFault};
 use crate::outbox::StreamAsk;
@@ -82,34 +82,34 @@ pub(crate) fn ask_servers<
     M: Machine<Event = TypedEvent, Out = TypedActions>,
     L: Ledger,
     R: Net + Wait + Clock,
->(rt: &R, desk: &Desk<'_, M, L>, worker: &mut Worker<L>) {
-    let servers = &desk.ends.servers;
-    let Ok(mut events) = Events::with_capacity(desk.alloc, EVENTS) else {
+>(rt: &R, context: &Context<'_, M, L>, worker: &mut Worker<L>) {
+    let servers = &context.ends.servers;
+    let Ok(mut events) = Events::with_capacity(context.alloc, EVENTS) else {
         return;
     };
     let mut poll = servers.poll.lock(rt);
-    let mut talks = Slab::new(desk.alloc);
+    let mut talks = Slab::new(context.alloc);
     let mut buffer = [0u8; MOST_FRAME_BYTES];
     let mut checked = 0;
     for _ in rt.forever() {
-        if desk.is_over() {
+        if context.is_over() {
             return;
         }
         servers.expect_notice();
-        let begins = talks.len() < most_talks(desk.bounds) && !desk.asks.is_empty();
+        let begins = talks.len() < most_talks(context.bounds) && !context.asks.is_empty();
         let millis = wait_of(&talks, begins);
-        desk.wait(servers, &mut poll, &mut events, millis);
+        context.wait(servers, &mut poll, &mut events, millis);
         for event in events.iter() {
             stir(&mut talks, event.token().0);
         }
-        begin_all(rt, desk, worker, &mut talks);
-        let now = desk.moment(rt);
+        begin_all(rt, context, worker, &mut talks);
+        let now = context.moment(rt);
         let check = now.saturating_sub(checked) >= CHECK_MS;
         if check {
             checked = now;
         }
         for key in 0..talks.capacity() {
-            advance(rt, desk, worker, &mut talks, key, check, &mut buffer);
+            advance(rt, context, worker, &mut talks, key, check, &mut buffer);
         }
     }
 }
@@ -141,31 +141,31 @@ fn stir(talks: &mut Slab<Talk>, key: usize) {
 // Begins the asks that were handed on, as many as may be under way.
 fn begin_all<M: Machine<Event = TypedEvent, Out = TypedActions>, L: Ledger, R: Net + Wait + Clock>(
     rt: &R,
-    desk: &Desk<'_, M, L>,
+    context: &Context<'_, M, L>,
     worker: &mut Worker<L>,
     talks: &mut Slab<Talk>,
 ) {
-    let most = most_talks(desk.bounds);
+    let most = most_talks(context.bounds);
     for _ in 0..most {
         if talks.len() >= most {
             return;
         }
-        let Ok(ask) = desk.asks.try_recv(rt) else {
+        let Ok(ask) = context.asks.try_recv(rt) else {
             return;
         };
         let number = ask.number;
         let begun = begin(
             rt,
-            desk.alloc,
-            &desk.ends.servers,
+            context.alloc,
+            &context.ends.servers,
             talks,
             ask,
-            desk.moment(rt),
+            context.moment(rt),
         );
         if let Err(fault) = begun {
-            desk.ends.count(Outcome::AskFailed(Way::Tcp, fault));
-            let event = stream_reply_event(desk.moment(rt), number, None);
-            desk.put(rt, worker, event);
+            context.ends.count(Outcome::AskFailed(Way::Tcp, fault));
+            let event = stream_reply_event(context.moment(rt), number, None);
+            context.put(rt, worker, event);
         }
     }
 }
@@ -227,7 +227,7 @@ fn begin<R: Net>(
 // failed and, at a check, where its time is over.
 fn advance<M: Machine<Event = TypedEvent, Out = TypedActions>, L: Ledger, R: Wait + Clock>(
     rt: &R,
-    desk: &Desk<'_, M, L>,
+    context: &Context<'_, M, L>,
     worker: &mut Worker<L>,
     talks: &mut Slab<Talk>,
     key: usize,
@@ -239,8 +239,8 @@ fn advance<M: Machine<Event = TypedEvent, Out = TypedActions>, L: Ledger, R: Wai
     };
     let number = talk.number;
     let end = if talk.due {
-        talk.advance(desk.alloc, buffer)
-    } else if check && desk.moment(rt).saturating_sub(talk.moment) >= TCP_WAIT_MS {
+        talk.advance(context.alloc, buffer)
+    } else if check && context.moment(rt).saturating_sub(talk.moment) >= TCP_WAIT_MS {
         Some(Err(AskFault::Silent))
     } else {
         None
@@ -252,10 +252,10 @@ fn advance<M: Machine<Event = TypedEvent, Out = TypedActions>, L: Ledger, R: Wai
     let frame = match end {
         Ok(frame) => Some(frame),
         Err(fault) => {
-            desk.ends.count(Outcome::AskFailed(Way::Tcp, fault));
+            context.ends.count(Outcome::AskFailed(Way::Tcp, fault));
             None
         }
     };
-    let event = stream_reply_event(desk.moment(rt), number, frame);
-    desk.put(rt, worker, event);
+    let event = stream_reply_event(context.moment(rt), number, frame);
+    context.put(rt, worker, event);
 }

@@ -1,5 +1,5 @@
 //! The loop that takes clients' TCP streams.
-use crate::desk::Desk;
+use crate::context::Context;
 use crate::ends::{LISTENER, SLICE_MS};
 use crate::framed_stream::MOST_FRAME_BYTES;
 use crate::places::Places;
@@ -28,39 +28,39 @@ pub(crate) fn take_streams<
     M: Machine<Event = TypedEvent, Out = TypedActions>,
     L: Ledger,
     R: Wait + Clock,
->(rt: &R, desk: &Desk<'_, M, L>, worker: &mut Worker<L>) {
-    let streams = &desk.ends.streams;
-    let Ok(mut events) = Events::with_capacity(desk.alloc, EVENTS) else {
+>(rt: &R, context: &Context<'_, M, L>, worker: &mut Worker<L>) {
+    let streams = &context.ends.streams;
+    let Ok(mut events) = Events::with_capacity(context.alloc, EVENTS) else {
         return;
     };
     let mut poll = streams.poll.lock(rt);
-    let mut places = Places::new(desk.alloc, desk.bounds.streams);
+    let mut places = Places::new(context.alloc, context.bounds.streams);
     let mut buffer = [0u8; MOST_FRAME_BYTES];
     let mut waits = false;
     for _ in rt.forever() {
-        if desk.is_over() {
+        if context.is_over() {
             return;
         }
         streams.expect_notice();
-        let millis = if desk.replies.is_empty() {
+        let millis = if context.replies.is_empty() {
             wait_of(&places, waits)
         } else {
             0
         };
-        desk.wait(streams, &mut poll, &mut events, millis);
+        context.wait(streams, &mut poll, &mut events, millis);
         for event in events.iter() {
             match event.token().0 {
                 LISTENER => waits = true,
                 key => stir(&mut places, key),
             }
         }
-        hand_out(rt, desk, &mut places);
+        hand_out(rt, context, &mut places);
         for key in 0..places.keys() {
-            take_questions(rt, desk, worker, &mut places, key, &mut buffer);
+            take_questions(rt, context, worker, &mut places, key, &mut buffer);
         }
-        let now = desk.moment(rt);
-        places.end_over(desk.ends, now);
-        waits = waits && places.welcome(desk.ends, now);
+        let now = context.moment(rt);
+        places.end_over(context.ends, now);
+        waits = waits && places.welcome(context.ends, now);
     }
 }
 
@@ -85,12 +85,12 @@ fn stir(places: &mut Places, key: usize) {
 // Puts the replies that have come on their streams.
 fn hand_out<M: Machine<Event = TypedEvent, Out = TypedActions>, L: Ledger, R: Wait + Clock>(
     rt: &R,
-    desk: &Desk<'_, M, L>,
+    context: &Context<'_, M, L>,
     places: &mut Places,
 ) {
-    let now = desk.moment(rt);
+    let now = context.moment(rt);
     for _ in 0..REPLIES_IN_A_ROW {
-        let Ok(reply) = desk.replies.try_recv(rt) else {
+        let Ok(reply) = context.replies.try_recv(rt) else {
             return;
         };
         places.reply(reply.client, now, reply.bytes.as_slice());
@@ -101,7 +101,7 @@ fn hand_out<M: Machine<Event = TypedEvent, Out = TypedActions>, L: Ledger, R: Wa
 // known at once that nothing goes out for one, since it is no query or was dropped at the door, the stream is to end.
 fn take_questions<M: Machine<Event = TypedEvent, Out = TypedActions>, L: Ledger, R: Wait + Clock>(
     rt: &R,
-    desk: &Desk<'_, M, L>,
+    context: &Context<'_, M, L>,
     worker: &mut Worker<L>,
     places: &mut Places,
     key: usize,
@@ -113,13 +113,13 @@ fn take_questions<M: Machine<Event = TypedEvent, Out = TypedActions>, L: Ledger,
     if !client.due {
         return;
     }
-    client.exchange(desk.moment(rt), buffer);
+    client.exchange(context.moment(rt), buffer);
     for _ in rt.forever() {
-        let now = desk.moment(rt);
-        let Some(bytes) = client.next_question(desk.alloc, now, buffer) else {
+        let now = context.moment(rt);
+        let Some(bytes) = client.next_question(context.alloc, now, buffer) else {
             return;
         };
-        if !desk.put_frame(rt, worker, client.number, bytes) {
+        if !context.put_frame(rt, worker, client.number, bytes) {
             client.close();
         }
     }

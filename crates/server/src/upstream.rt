@@ -1,5 +1,5 @@
 //! The loop that takes other servers' datagrams.
-use crate::desk::Desk;
+use crate::context::Context;
 use crate::ends::{Ends, MOST_BYTES, SLICE_MS};
 use crate::worker::Worker;
 use book::Machine;
@@ -57,9 +57,9 @@ pub(crate) fn take_answers<
     M: Machine<Event = TypedEvent, Out = TypedActions>,
     L: Ledger,
     R: Wait + Clock,
->(rt: &R, desk: &Desk<'_, M, L>, worker: &mut Worker<L>) {
-    let asks = &desk.ends.asks;
-    let Ok(mut events) = Events::with_capacity(desk.alloc, EVENTS) else {
+>(rt: &R, context: &Context<'_, M, L>, worker: &mut Worker<L>) {
+    let asks = &context.ends.asks;
+    let Ok(mut events) = Events::with_capacity(context.alloc, EVENTS) else {
         return;
     };
     let mut poll = asks.poller.poll.lock(rt);
@@ -71,17 +71,17 @@ pub(crate) fn take_answers<
         unread: 0,
     };
     for _ in rt.forever() {
-        if desk.is_over() {
+        if context.is_over() {
             return;
         }
-        desk.wait(&asks.poller, &mut poll, &mut events, SLICE_MS);
+        context.wait(&asks.poller, &mut poll, &mut events, SLICE_MS);
         for event in events.iter() {
-            take_answer(rt, desk, worker, event.token().0, &mut buffer);
+            take_answer(rt, context, worker, event.token().0, &mut buffer);
         }
-        let now = desk.moment(rt);
+        let now = context.moment(rt);
         if now.saturating_sub(swept) >= SLICE_MS {
             let silent = asks.close_old(rt, now);
-            count_asks(desk.ends, &mut counted, silent);
+            count_asks(context.ends, &mut counted, silent);
             swept = now;
         }
     }
@@ -90,20 +90,26 @@ pub(crate) fn take_answers<
 // Takes what came for the ask of this key, where it repeats it.
 fn take_answer<M: Machine<Event = TypedEvent, Out = TypedActions>, L: Ledger, R: Wait + Clock>(
     rt: &R,
-    desk: &Desk<'_, M, L>,
+    context: &Context<'_, M, L>,
     worker: &mut Worker<L>,
     key: usize,
     buffer: &mut [u8; MOST_BYTES],
 ) {
-    if let Some((count, ask)) = desk.ends.asks.take(rt, key, buffer) {
+    if let Some((count, ask)) = context.ends.asks.take(rt, key, buffer) {
         let (number, to) = (ask.number, ask.to);
         drop(ask);
-        let event = datagram_event(desk.alloc, desk.moment(rt), number, to, &buffer[..count]);
+        let event = datagram_event(
+            context.alloc,
+            context.moment(rt),
+            number,
+            to,
+            &buffer[..count],
+        );
         match event {
             Ok(event) => {
-                desk.put(rt, worker, event);
+                context.put(rt, worker, event);
             }
-            Err(_) => desk.ends.count(Outcome::MemoryRefused),
+            Err(_) => context.ends.count(Outcome::MemoryRefused),
         }
     }
 }

@@ -2,11 +2,11 @@
 ghost use Rattle.std.specs.Prelude.{◌≤◌, length};
 
 use crate::ends::{Ends, address_of};
-use crate::entrance::{Entrance, Entry, Question};
 use crate::moments::Beginning;
 use crate::outbox::{Outbox, StreamAsk, StreamReply};
 use crate::poller::Poller;
 use crate::query::{Asker, Query};
+use crate::shared_door::{Entry, Question, SharedDoor};
 use crate::tally::Arrival;
 use crate::worker::Worker;
 use book::Machine;
@@ -36,7 +36,7 @@ const MOST_FAILED: u32 = 4_096;
 
 /// What came of an event.
 #[derive(Clone, Copy)]
-pub(crate) struct Upshot {
+pub(crate) struct StepEffect {
     /// Whether a reply or an ask goes out: of a client's bytes, whether they will have a reply.
     pub speaks: bool,
     /// Whether another query is due.
@@ -44,7 +44,7 @@ pub(crate) struct Upshot {
 }
 
 // What came of an event that is dropped, or that wants memory.
-const NOTHING: Upshot = Upshot {
+const NOTHING: StepEffect = StepEffect {
     speaks: false,
     more_due: false,
 };
@@ -68,12 +68,12 @@ pub struct Bounds {
 
 /// What the loops share.
 #[derive(Drop)]
-pub(crate) struct Desk<'a, M: Machine, L: Ledger> {
+pub(crate) struct Context<'a, M: Machine, L: Ledger> {
     pub alloc: Global,
     pub shared: &'a Shared<M, L>,
     pub ends: &'a Ends,
     pub bounds: Bounds,
-    pub entrance: &'a Entrance,
+    pub door: &'a SharedDoor,
     pub to_servers: &'a Sender<StreamAsk>,
     pub asks: &'a Receiver<StreamAsk>,
     pub to_streams: &'a Sender<StreamReply>,
@@ -82,7 +82,7 @@ pub(crate) struct Desk<'a, M: Machine, L: Ledger> {
     pub beginning: Beginning,
 }
 
-impl<M: Machine<Event = TypedEvent, Out = TypedActions>, L: Ledger> Desk<'_, M, L> {
+impl<M: Machine<Event = TypedEvent, Out = TypedActions>, L: Ledger> Context<'_, M, L> {
     /// Whether the flag is up.
     pub fn is_over(&self) -> bool {
         self.stop.load(Ordering::SeqCst)
@@ -158,10 +158,10 @@ impl<M: Machine<Event = TypedEvent, Out = TypedActions>, L: Ledger> Desk<'_, M, 
             tally.count_query(&query);
         }
         let moment = self.moment(rt);
-        let Some(question) = self.entrance.question(&query) else {
+        let Some(question) = self.door.question(&query) else {
             return self.put(rt, worker, query.into_event(moment)).speaks;
         };
-        let answers = match self.entrance.admit(rt, question, moment, query) {
+        let answers = match self.door.admit(rt, question, moment, query) {
             Entry::In(query) => self
                 .put_question(rt, worker, question, moment, query)
                 .speaks,
@@ -186,7 +186,7 @@ impl<M: Machine<Event = TypedEvent, Out = TypedActions>, L: Ledger> Desk<'_, M, 
         question: Question,
         came: u64,
         query: Query,
-    ) -> Upshot {
+    ) -> StepEffect {
         let event = query.into_event(self.moment(rt));
         let came = self.came(&event, Some(came));
         self.step(rt, worker, event, Some(question), came)
@@ -195,7 +195,7 @@ impl<M: Machine<Event = TypedEvent, Out = TypedActions>, L: Ledger> Desk<'_, M, 
     /// Puts the questions that are called in, some of them.
     pub fn let_in<R: Wait + Clock>(&self, rt: &R, worker: &mut Worker<L>) {
         for _ in 0..MOST_LET_IN {
-            let Some(held) = self.entrance.next(rt) else {
+            let Some(held) = self.door.next(rt) else {
                 return;
             };
             let question = Question {
@@ -207,11 +207,11 @@ impl<M: Machine<Event = TypedEvent, Out = TypedActions>, L: Ledger> Desk<'_, M, 
     }
 
     /// Puts an event, and hands over what goes out; what came of it. Then who waited for it comes in.
-    pub fn put<R: Wait + Clock>(&self, rt: &R, worker: &mut Worker<L>, event: Event) -> Upshot {
+    pub fn put<R: Wait + Clock>(&self, rt: &R, worker: &mut Worker<L>, event: Event) -> StepEffect {
         let came = self.came(&event, None);
-        let upshot = self.step(rt, worker, event, None, came);
+        let effect = self.step(rt, worker, event, None, came);
         self.let_in(rt, worker);
-        upshot
+        effect
     }
 
     // Puts an event, of a question that was let in or another one, and hands over what goes out; what came of it. An
@@ -223,7 +223,7 @@ impl<M: Machine<Event = TypedEvent, Out = TypedActions>, L: Ledger> Desk<'_, M, 
         event: Event,
         question: Option<Question>,
         came: Option<Arrival>,
-    ) -> Upshot {
+    ) -> StepEffect {
         let mut event = event;
         let mut question = question;
         let mut came = came;
@@ -241,7 +241,7 @@ impl<M: Machine<Event = TypedEvent, Out = TypedActions>, L: Ledger> Desk<'_, M, 
             match refused {
                 Some(number) => event = stream_reply_event(self.moment(rt), number, None),
                 None => {
-                    return Upshot {
+                    return StepEffect {
                         speaks: actions.first.is_some(),
                         more_due: actions.more_due,
                     };
@@ -310,13 +310,13 @@ impl<M: Machine<Event = TypedEvent, Out = TypedActions>, L: Ledger> Desk<'_, M, 
         match (question, actions) {
             (Some(question), actions) => {
                 let action = actions.and_then(|actions| actions.first.as_ref());
-                self.entrance.stepped(rt, question, self.moment(rt), action);
+                self.door.stepped(rt, question, self.moment(rt), action);
             }
             (None, Some(actions)) => {
                 if let Some(action) = &actions.first {
                     self.fail_others(rt, action);
                 }
-                self.entrance.other_stepped(rt, actions);
+                self.door.other_stepped(rt, actions);
             }
             (None, None) => {}
         }
@@ -325,7 +325,7 @@ impl<M: Machine<Event = TypedEvent, Out = TypedActions>, L: Ledger> Desk<'_, M, 
     // Where a query failed, those held for the same question get that failure.
     fn fail_others<R: Wait + Clock>(&self, rt: &R, failed: &Action) {
         for _ in 0..MOST_FAILED {
-            let Some((since, reply)) = self.entrance.next_failed(rt, failed) else {
+            let Some((since, reply)) = self.door.next_failed(rt, failed) else {
                 return;
             };
             if let Some(tally) = &self.ends.tally {

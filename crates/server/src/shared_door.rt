@@ -78,7 +78,7 @@ fn copied_failure(failed: &Action, asker: Asker, bytes: Bytes) -> Action
 
 /// The door, and the hash of what is asked.
 #[derive(Drop)]
-pub(crate) struct Entrance {
+pub(crate) struct SharedDoor {
     alloc: Global,
     door: Mutex<Door<Query>>,
     // Hashes begin as this one, behind a seed.
@@ -87,9 +87,9 @@ pub(crate) struct Entrance {
     called: AtomicBool,
 }
 
-impl Entrance {
+impl SharedDoor {
     /// With nobody at the door. One address has so many questions under way and waiting at most.
-    pub fn new(alloc: Global, seed: &[u8], each: u16) -> Option<Entrance> {
+    pub fn new(alloc: Global, seed: &[u8], each: u16) -> Option<SharedDoor> {
         let limits = Limits {
             equal: EQUAL,
             each: usize::from(each),
@@ -100,7 +100,7 @@ impl Entrance {
         let door = Door::new(alloc, limits).ok()?;
         let mut start = DefaultHasher::new();
         start.write(seed);
-        Some(Entrance {
+        Some(SharedDoor {
             alloc,
             door: Mutex::new(door),
             start,
