@@ -338,6 +338,38 @@ fn datagrams_that_reply_to_no_question_are_no_events(rt: HostRuntime) -> Result<
     Ok(())
 }
 
+// The first growth of reading an event whose refusal goes unsaid.
+fn first_unread<B: Allocator>(heap: &Refusing<B>, row: Told) -> Result<Option<u64>, Starved> {
+    let event = event(heap, row)?;
+    let before = heap.growths();
+    read_event(heap, &event)?;
+    let growths = heap.growths().saturating_sub(before);
+    for n in 0..growths {
+        heap.refuse_after(n);
+        if read_event(heap, &event).is_ok() {
+            return Ok(Some(n));
+        }
+    }
+    Ok(None)
+}
+
+// The first row, and the first growth of reading it, whose refusal goes unsaid.
+fn first_unread_row<B: Allocator>(heap: &Refusing<B>) -> Result<Option<(usize, u64)>, Starved> {
+    for (place, row) in EVENTS.iter().enumerate() {
+        if let Some(n) = first_unread(heap, *row)? {
+            return Ok(Some((place, n)));
+        }
+    }
+    Ok(None)
+}
+
+#[test]
+fn each_growth_of_reading_is_refused_in_turn(rt: HostRuntime) -> Result<(), Fail> {
+    let heap = Refusing::new(rt.alloc());
+    assert_eq!(rt; first_unread_row(&heap)?, None);
+    Ok(())
+}
+
 #[test]
 fn copies_of_events_are_the_same(rt: HostRuntime) -> Result<(), Fail> {
     let heap = Refusing::new(rt.alloc());

@@ -82,6 +82,13 @@ pub(crate) struct Context<'a, M: Machine, L: Ledger> {
     pub beginning: Beginning,
 }
 
+// What is read of an event, whose bytes are freed.
+fn read_whole(alloc: Global, event: Event) -> Result<Option<TypedEvent>, Starved> {
+    let read = read_event(alloc, &event);
+    drop(event);
+    read
+}
+
 impl<M: Machine<Event = TypedEvent, Out = TypedActions>, L: Ledger> Context<'_, M, L> {
     /// Whether the flag is up.
     pub fn is_over(&self) -> bool {
@@ -267,16 +274,29 @@ impl<M: Machine<Event = TypedEvent, Out = TypedActions>, L: Ledger> Context<'_, 
         worker: &mut Worker<L>,
         event: Event,
     ) -> Result<Option<Actions>, Starved> {
-        let parsed = read_event(self.alloc, &event)?;
-        drop(event);
-        let Some(parsed) = parsed else {
-            return Ok(None);
-        };
-        let Ok(entry) = submit(rt, self.shared, &mut worker.ticket, parsed) else {
-            return Err(Starved);
-        };
+        match read_whole(self.alloc, event)? {
+            Some(event) => Ok(Some(self.step_and_write(rt, worker, event)?)),
+            None => Ok(None),
+        }
+    }
+
+    // Takes the machine's step, and writes what it gives.
+    fn step_and_write<R: Wait>(
+        &self,
+        rt: &R,
+        worker: &mut Worker<L>,
+        event: TypedEvent,
+    ) -> Result<Actions, Starved> {
+        match submit(rt, self.shared, &mut worker.ticket, event) {
+            Ok(entry) => self.written(worker, &entry),
+            Err(_) => Err(Starved),
+        }
+    }
+
+    // What the step of this entry gives, written.
+    fn written(&self, worker: &mut Worker<L>, entry: &book::Entry<M>) -> Result<Actions, Starved> {
         match entry.out() {
-            Ok(said) => Ok(Some(write_actions(self.alloc, &mut worker.writer, said)?)),
+            Ok(given) => write_actions(self.alloc, &mut worker.writer, given),
             Err(_) => Err(Starved),
         }
     }
