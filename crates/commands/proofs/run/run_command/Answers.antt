@@ -7,6 +7,9 @@ use Rattle.commands.proofs.run.run_command.Goals as goal
 pub returns-in-Serve-clause-run : goal.returns-in-Serve-clause-run
 returns-in-Serve-clause-run g c = rw c.in-Serve.is (rw c.as_str-in-Serve.ensures.value at c.start_server.ensures.run)
 
+pub returns-in-Serve-clause-starts : goal.returns-in-Serve-clause-starts
+returns-in-Serve-clause-starts g c = rw c.in-Serve.is (rw c.as_str-in-Serve.ensures.value at c.start_server.ensures.starts)
+
 pub returns-in-Storm-clause-run : goal.returns-in-Storm-clause-run
 returns-in-Storm-clause-run g c =
     let ok = rw c.as_slice.ensures.value at (rw c.as_str-in-Storm.ensures.value at c.storm-done.ensures.ok) in
