@@ -1,6 +1,6 @@
 //! Answers that a resolver gives without asking anybody.
 use crate::names::name;
-use crate::steps::{ask, core, query, step_all, tell, weight};
+use crate::steps::{ask, core, query, read_and_step_all, step_all, tell, weight};
 use anyhow::Result;
 use engine::Core;
 use events::Event;
@@ -102,12 +102,34 @@ impl Known {
         sum
     }
 
+    // The same, of a query whose bytes are read once.
+    fn locked<A: Heap>(self, alloc: A, rounds: u64) -> Result<u64, Starved> {
+        let query = query(alloc)?;
+        let mut core = core(alloc, self.zones(alloc)?)?;
+        let learnt = self.learn(alloc, &mut core, &query);
+        let sum = read_and_step_all(alloc, &mut core, &query, rounds);
+        drop(core);
+        drop(query);
+        learnt?;
+        sum
+    }
+
     /// How often memory is asked for by the second of two such answers.
     pub fn growths<R: Runtime + AllocGlobal>(self, rt: &R) -> Result<u64, Starved> {
         let one = Refusing::new(rt.alloc());
         self.times(&one, 1)?;
         let two = Refusing::new(rt.alloc());
         self.times(&two, 2)?;
+        Ok(two.growths().saturating_sub(one.growths()))
+    }
+
+    /// How often memory is asked for by the step alone of the second of two such answers, which were read before and
+    /// are written after: while the lock of a server is held.
+    pub fn growths_locked<R: Runtime + AllocGlobal>(self, rt: &R) -> Result<u64, Starved> {
+        let one = Refusing::new(rt.alloc());
+        self.locked(&one, 1)?;
+        let two = Refusing::new(rt.alloc());
+        self.locked(&two, 2)?;
         Ok(two.growths().saturating_sub(one.growths()))
     }
 }

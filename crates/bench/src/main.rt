@@ -73,6 +73,8 @@ fn count_growths<R: Runtime + AllocGlobal>(rt: &R) -> Result<()> {
     for known in answers::EACH {
         let growths = known.growths(rt)?;
         println!(rt; "{known}: {growths} growths of memory")?;
+        let locked = known.growths_locked(rt)?;
+        println!(rt; "{known}, its step alone: {locked} growths of memory")?;
     }
     Ok(())
 }

@@ -9,6 +9,7 @@ use rdata::Addr;
 use std::fmt;
 use std::rt::Runtime;
 use std::time::Instant;
+use typed::{TypedEvent, read_event};
 use wire::{TCP_LIMIT, Via};
 use zone::Zone;
 
@@ -21,6 +22,8 @@ pub enum OnSteps {
     Answer(u16),
     /// A client's query whose answer is known.
     Serve(Known),
+    /// The same, read before and written after what is measured: for so long a server's loop holds the lock.
+    Locked(Known),
 }
 
 impl fmt::Display for OnSteps {
@@ -29,6 +32,7 @@ impl fmt::Display for OnSteps {
             OnSteps::Pass(open) => write!(f, "datagram passed over among {open}"),
             OnSteps::Answer(open) => write!(f, "query answered among {open}"),
             OnSteps::Serve(known) => write!(f, "{known}"),
+            OnSteps::Locked(known) => write!(f, "{known}, its step alone"),
         }
     }
 }
@@ -119,6 +123,33 @@ pub fn step_all<A: Heap>(
     Ok(sum)
 }
 
+/// An event that was read before, and comes so often: how many steps give an action.
+pub fn step_all_read<A: Heap>(
+    core: &mut Core<A>,
+    event: &TypedEvent<A>,
+    rounds: u64,
+) -> Result<u64, Starved> {
+    let mut sum = 0u64;
+    for _ in 0..rounds {
+        let actions = core.step_typed(event)?;
+        sum = sum.wrapping_add(u64::from(actions.first.is_some()));
+    }
+    Ok(sum)
+}
+
+/// The same of an event whose bytes are read first.
+pub fn read_and_step_all<A: Heap>(
+    alloc: A,
+    core: &mut Core<A>,
+    event: &Event<A>,
+    rounds: u64,
+) -> Result<u64, Starved> {
+    match read_event(alloc, event)? {
+        Some(read) => step_all_read(core, &read, rounds),
+        None => Err(Starved),
+    }
+}
+
 // A datagram of a server that was not asked, so often.
 fn pass_all<A: Heap>(alloc: A, core: &mut Core<A>, rounds: u64) -> Result<u64, Starved> {
     let foreign = datagram(alloc, (0, [0, 1]), Addr([192, 0, 2, 2]), REPLY)?;
@@ -189,14 +220,14 @@ impl OnSteps {
         match self {
             OnSteps::Pass(open) => step_all(core, query, u64::from(open)),
             OnSteps::Answer(open) => step_all(core, query, u64::from(open.saturating_sub(1))),
-            OnSteps::Serve(known) => known.learn(alloc, core, query),
+            OnSteps::Serve(known) | OnSteps::Locked(known) => known.learn(alloc, core, query),
         }
     }
 
     // The local zones: none but for the answer that is known from one.
     fn zones<A: Heap>(self, alloc: A) -> Result<Vec<Zone<A>, A>, Starved> {
         match self {
-            OnSteps::Serve(known) => known.zones(alloc),
+            OnSteps::Serve(known) | OnSteps::Locked(known) => known.zones(alloc),
             OnSteps::Pass(_) | OnSteps::Answer(_) => Ok(Vec::new(alloc)),
         }
     }
@@ -213,6 +244,7 @@ impl OnSteps {
             OnSteps::Pass(_) => pass_all(alloc, core, rounds),
             OnSteps::Answer(_) => answer_all(alloc, core, query, rounds),
             OnSteps::Serve(_) => step_all(core, query, rounds),
+            OnSteps::Locked(_) => read_and_step_all(alloc, core, query, rounds),
         }
     }
 

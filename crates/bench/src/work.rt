@@ -53,7 +53,7 @@ pub enum Work {
     Steps(OnSteps),
 }
 
-pub const ALL: [Work; 44] = [
+pub const ALL: [Work; 48] = [
     Work::Names(OnNames::Read),
     Work::Names(OnNames::Write),
     Work::Names(OnNames::Hash),
@@ -98,6 +98,10 @@ pub const ALL: [Work; 44] = [
     Work::Steps(OnSteps::Serve(Known::Cache(1))),
     Work::Steps(OnSteps::Serve(Known::Cache(3))),
     Work::Steps(OnSteps::Serve(Known::Cache(20))),
+    Work::Steps(OnSteps::Locked(Known::Zone)),
+    Work::Steps(OnSteps::Locked(Known::Cache(1))),
+    Work::Steps(OnSteps::Locked(Known::Cache(3))),
+    Work::Steps(OnSteps::Locked(Known::Cache(20))),
 ];
 
 /// Steps with one query open, and the same with 1,024: as queries are found by index, they take as long.
@@ -155,7 +159,7 @@ impl Work {
             Work::Messages(work) => work.rounds(),
             Work::FindAskOfOne | Work::FindAskOfMany => 10_000_000,
             Work::Steps(OnSteps::Pass(_)) => 10_000_000,
-            Work::Steps(OnSteps::Answer(_) | OnSteps::Serve(_)) => 1_000_000,
+            Work::Steps(OnSteps::Answer(_) | OnSteps::Serve(_) | OnSteps::Locked(_)) => 1_000_000,
             Work::KeepLink(_) | Work::FindLink | Work::FindSet(_) | Work::Look(..) => 1_000_000,
             Work::ReadZone | Work::BuildHundredThousand => 100_000,
             Work::BuildTenThousand => 10_000,
