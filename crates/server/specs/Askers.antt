@@ -1,4 +1,4 @@
--- Who asks, and what the door counts together.
+-- Who asks, and what admission counts together.
 use Rattle.std.specs.Prelude.{ℕ, Option, Some, None}
 use Rattle.wire.specs.declared.via.Via.{Via}
 use Rattle.wire.specs.declared.via.Via.TheVariants.{Udp, Tcp}
@@ -8,9 +8,9 @@ use Rattle.dispatch.specs.Places.{client_in}
 use Rattle.server.specs.declared.query.Asker.{Asker}
 
 -- A sender of datagrams counts by its own number, a stream by its address and place.
-abbrev pub client_at_door : Via → ℕ → ℕ
-client_at_door Udp client = client
-client_at_door Tcp client = client_in client
+abbrev pub admission_client : Via → ℕ → ℕ
+admission_client Udp client = client
+admission_client Tcp client = client_in client
 
 -- Whom an action replies to.
 abbrev pub asker_in : {A : Type 0} → Action A → Option Asker

@@ -1,21 +1,21 @@
--- What becomes of queries at the door.
+-- What becomes of queries that ask for admission.
 use Rattle.std.specs.Prelude.{◌≡◌, ℕ, Option, None, List}
 use Rattle.causes.specs.declared.cause.Cause.{Cause}
 use Rattle.runs.specs.States.{Action as ActionSpec, Reply}
 use Rattle.events.specs.declared.action.Action.{Action}
 use Rattle.events.specs.declared.action.Action.TheVariants as said
-use Rattle.door.specs.declared.queries.Admission.{Admission}
-use Rattle.door.specs.declared.queries.Admission.TheVariants as door
+use Rattle.admission.specs.declared.queries.Decision.{Decision}
+use Rattle.admission.specs.declared.queries.Decision.TheVariants as decision
 use Rattle.server.specs.declared.query.Asker.{Asker}
 use Rattle.server.specs.declared.query.Query.{Query}
-use Rattle.server.specs.declared.shared_door.Entry.{Entry}
-use Rattle.server.specs.declared.shared_door.Entry.TheVariants.{In, Held, Dropped}
+use Rattle.server.specs.declared.shared_admission.Entry.{Entry}
+use Rattle.server.specs.declared.shared_admission.Entry.TheVariants.{In, Held, Dropped}
 
--- What is let in is stepped, what waits is held, and what is refused is dropped.
-abbrev pub IsEntry : Admission Query → Entry → Type 0
-IsEntry (door.In query) entry = entry ≡ In query
-IsEntry door.Waits entry = entry ≡ Held
-IsEntry (door.Refused query) entry = entry ≡ Dropped
+-- What is admitted is stepped, what waits is held, and what is refused is dropped.
+abbrev pub IsEntry : Decision Query → Entry → Type 0
+IsEntry (decision.In query) entry = entry ≡ In query
+IsEntry decision.Waits entry = entry ≡ Held
+IsEntry (decision.Refused query) entry = entry ≡ Dropped
 
 -- Why a reply is a SERVFAIL, where it is one.
 abbrev pub cause_in : {A : Type 0} → Action A → Option Cause

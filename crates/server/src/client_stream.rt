@@ -14,7 +14,7 @@ const MOST_UNDER_WAY: u32 = 16;
 const IDLE_MS: u64 = 10_000;
 
 // How long a reply is waited for, in milliseconds: longer than a query stays open, so that its reply comes before, but
-// for what was held at the door first.
+// for what was held in admission first.
 const REPLY_MS: u64 = 12_000;
 
 const _: () = prove!(QUERY_LIFETIME_MS < REPLY_MS);

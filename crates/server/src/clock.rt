@@ -32,7 +32,7 @@ pub(crate) fn pass_time<
             return;
         }
         let moment = context.moment(rt);
-        let late = context.door.pass_time(rt, moment);
+        let late = context.admission.pass_time(rt, moment);
         if late > 0 {
             context.ends.count(Outcome::Dropped(late));
         }

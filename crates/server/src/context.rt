@@ -1,4 +1,4 @@
-//! What the loops share: the machine, the sockets, the door, the channels between the loops, and the flag.
+//! What the loops share: the machine, the sockets, admission, the channels between the loops, and the flag.
 ghost use Rattle.std.specs.Prelude.{◌≤◌, length};
 
 use crate::ends::{Ends, address_of};
@@ -6,7 +6,7 @@ use crate::moments::Beginning;
 use crate::outbox::{Outbox, StreamAsk, StreamReply};
 use crate::poller::Poller;
 use crate::query::{Asker, Query};
-use crate::shared_door::{Entry, Question, SharedDoor};
+use crate::shared_admission::{Entry, Question, SharedAdmission};
 use crate::tally::Arrival;
 use crate::worker::Worker;
 use book::Machine;
@@ -28,8 +28,8 @@ use wire::Via;
 // More asks than one query makes: a query that comes to nothing but refused asks ends before.
 const MAX_REFUSED_HANDOVERS: u32 = 64;
 
-// How many questions are let in in a row; the others are at the next event, or the next tick.
-const MOST_LET_IN: u32 = 256;
+// How many questions are admitted in a row; the others are at the next event, or the next tick.
+const MOST_ADMITTED: u32 = 256;
 
 // How many questions get a failure in a row: as many as wait.
 const MOST_FAILED: u32 = 4_096;
@@ -73,7 +73,7 @@ pub(crate) struct Context<'a, M: Machine, L: Ledger> {
     pub shared: &'a Shared<M, L>,
     pub ends: &'a Ends,
     pub bounds: Bounds,
-    pub door: &'a SharedDoor,
+    pub admission: &'a SharedAdmission,
     pub to_servers: &'a Sender<StreamAsk>,
     pub asks: &'a Receiver<StreamAsk>,
     pub to_streams: &'a Sender<StreamReply>,
@@ -146,8 +146,8 @@ impl<M: Machine<Event = TypedEvent, Out = TypedActions>, L: Ledger> Context<'_, 
         self.put_query(rt, worker, asker, bytes)
     }
 
-    // Puts what a client sent: a question that equals others which are under way waits for them at the door, whether
-    // they came in datagrams or on streams. Whether it will have a reply, or may have one.
+    // Puts what a client sent: a question that equals others which are under way waits for admission, whether they
+    // came in datagrams or on streams. Whether it will have a reply, or may have one.
     fn put_query<R: Wait + Clock>(
         &self,
         rt: &R,
@@ -165,10 +165,10 @@ impl<M: Machine<Event = TypedEvent, Out = TypedActions>, L: Ledger> Context<'_, 
             tally.count_query(&query);
         }
         let moment = self.moment(rt);
-        let Some(question) = self.door.question(&query) else {
+        let Some(question) = self.admission.question(&query) else {
             return self.put(rt, worker, query.into_event(moment)).speaks;
         };
-        let answers = match self.door.admit(rt, question, moment, query) {
+        let answers = match self.admission.admit(rt, question, moment, query) {
             Entry::In(query) => self
                 .put_question(rt, worker, question, moment, query)
                 .speaks,
@@ -181,11 +181,11 @@ impl<M: Machine<Event = TypedEvent, Out = TypedActions>, L: Ledger> Context<'_, 
                 false
             }
         };
-        self.let_in(rt, worker);
+        self.admit_waiting(rt, worker);
         answers
     }
 
-    // Puts a question that was let in, and came at that moment.
+    // Puts a question that was admitted, and came at that moment.
     fn put_question<R: Wait + Clock>(
         &self,
         rt: &R,
@@ -200,9 +200,9 @@ impl<M: Machine<Event = TypedEvent, Out = TypedActions>, L: Ledger> Context<'_, 
     }
 
     /// Puts the questions that are called in, some of them.
-    pub fn let_in<R: Wait + Clock>(&self, rt: &R, worker: &mut Worker<L>) {
-        for _ in 0..MOST_LET_IN {
-            let Some(held) = self.door.next(rt) else {
+    pub fn admit_waiting<R: Wait + Clock>(&self, rt: &R, worker: &mut Worker<L>) {
+        for _ in 0..MOST_ADMITTED {
+            let Some(held) = self.admission.next(rt) else {
                 return;
             };
             let question = Question {
@@ -213,15 +213,15 @@ impl<M: Machine<Event = TypedEvent, Out = TypedActions>, L: Ledger> Context<'_, 
         }
     }
 
-    /// Puts an event, and hands over what goes out; what came of it. Then who waited for it comes in.
+    /// Puts an event, and hands over what goes out; what came of it. Then who waited for it is admitted.
     pub fn put<R: Wait + Clock>(&self, rt: &R, worker: &mut Worker<L>, event: Event) -> StepEffect {
         let came = self.came(&event, None);
         let effect = self.step(rt, worker, event, None, came);
-        self.let_in(rt, worker);
+        self.admit_waiting(rt, worker);
         effect
     }
 
-    // Puts an event, of a question that was let in or another one, and hands over what goes out; what came of it. An
+    // Puts an event, of a question that was admitted or another one, and hands over what goes out; what came of it. An
     // ask over TCP that can't be made has failed, which is an event again.
     fn step<R: Wait + Clock>(
         &self,
@@ -236,11 +236,11 @@ impl<M: Machine<Event = TypedEvent, Out = TypedActions>, L: Ledger> Context<'_, 
         let mut came = came;
         for _ in 0..MAX_REFUSED_HANDOVERS {
             let Some(actions) = self.take_step(rt, worker, event) else {
-                self.tell_door(rt, question, None);
+                self.tell_admission(rt, question, None);
                 return NOTHING;
             };
             self.count_step(rt, came.take(), &actions);
-            self.tell_door(rt, question.take(), Some(&actions));
+            self.tell_admission(rt, question.take(), Some(&actions));
             let refused = actions
                 .first
                 .as_ref()
@@ -319,9 +319,9 @@ impl<M: Machine<Event = TypedEvent, Out = TypedActions>, L: Ledger> Context<'_, 
         }
     }
 
-    // Tells the door what came of a step, before that is handed over: else a reply might come before its question is
+    // Tells admission what came of a step, before that is handed over: else a reply might come before its question is
     // noted. Those who wait for a question that failed get the failure too (RFC 9520, section 3.2).
-    fn tell_door<R: Wait + Clock>(
+    fn tell_admission<R: Wait + Clock>(
         &self,
         rt: &R,
         question: Option<Question>,
@@ -330,13 +330,14 @@ impl<M: Machine<Event = TypedEvent, Out = TypedActions>, L: Ledger> Context<'_, 
         match (question, actions) {
             (Some(question), actions) => {
                 let action = actions.and_then(|actions| actions.first.as_ref());
-                self.door.stepped(rt, question, self.moment(rt), action);
+                self.admission
+                    .stepped(rt, question, self.moment(rt), action);
             }
             (None, Some(actions)) => {
                 if let Some(action) = &actions.first {
                     self.fail_others(rt, action);
                 }
-                self.door.other_stepped(rt, actions);
+                self.admission.other_stepped(rt, actions);
             }
             (None, None) => {}
         }
@@ -345,7 +346,7 @@ impl<M: Machine<Event = TypedEvent, Out = TypedActions>, L: Ledger> Context<'_, 
     // Where a query failed, those held for the same question get that failure.
     fn fail_others<R: Wait + Clock>(&self, rt: &R, failed: &Action) {
         for _ in 0..MOST_FAILED {
-            let Some((since, reply)) = self.door.next_failed(rt, failed) else {
+            let Some((since, reply)) = self.admission.next_failed(rt, failed) else {
                 return;
             };
             if let Some(tally) = &self.ends.tally {

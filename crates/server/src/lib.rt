@@ -11,11 +11,11 @@
 //! Where its file asks for it (`Ends::showing`) it counts, by the crate `counters`, and serves what it counts
 //! over HTTP, in a loop of its own.
 //!
-//! Clients' questions pass the crate `door` first, those in datagrams and those on streams alike.
+//! Clients' questions pass the crate `admission` first, those in datagrams and those on streams alike.
 //!
 //! Promised: the loops are safe, and there is a ticket for each (`IsStaffed`). Where replies and asks go, and which
 //! messages repeat an ask, is proved in `dispatch`, frames in `sockets`, the machine's one history in `book`, and which
-//! questions wait in `door`.
+//! questions wait in `admission`.
 //! Not here: what the machine is (`engine`); lists of who may ask, and limits of how often.
 //!
 //! ```text
@@ -42,7 +42,7 @@ mod poller;
 mod query;
 mod serve;
 mod server_streams;
-mod shared_door;
+mod shared_admission;
 mod streams;
 mod tally;
 mod upstream;

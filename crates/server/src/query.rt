@@ -2,7 +2,7 @@
 ghost use Rattle.std.specs.Prelude.{◌≡◌};
 ghost use Rattle.runs.specs.States.{Client};
 ghost use Rattle.events.specs.Views.{event_view};
-ghost use Rattle.server.specs.Askers.{asker_in, client_at_door};
+ghost use Rattle.server.specs.Askers.{admission_client, asker_in};
 ghost use Rattle.server.specs.Tallies.{counted_as};
 
 use counters::Way;
@@ -19,9 +19,9 @@ pub(crate) struct Asker {
 }
 
 impl Asker {
-    /// The client's number at the door, where all that one address asks counts together.
-    pub fn at_door(self) -> u64
-        ensures { result ≡ client_at_door self.way self.client }
+    /// The client's number in admission, where all that one address asks counts together.
+    pub fn admission_client(self) -> u64
+        ensures { result ≡ admission_client self.way self.client }
     {
         match self.way {
             Via::Udp => self.client,

@@ -9,7 +9,7 @@ use crate::fault::ServeError;
 use crate::metrics::serve_counters;
 use crate::moments::Beginning;
 use crate::server_streams::ask_servers;
-use crate::shared_door::SharedDoor;
+use crate::shared_admission::SharedAdmission;
 use crate::streams::take_streams;
 use crate::upstream::take_answers;
 use crate::worker::{Worker, workers_of};
@@ -48,7 +48,7 @@ pub fn serve_until<
     let Some(beginning) = Beginning::now(rt) else {
         return Err(ServeError::Clock);
     };
-    let Some(door) = SharedDoor::new(alloc, &bounds.seed, bounds.clients) else {
+    let Some(admission) = SharedAdmission::new(alloc, &bounds.seed, bounds.clients) else {
         return Err(ServeError::Memory);
     };
     let Ok(workers) = workers_of(alloc, tickets) else {
@@ -61,7 +61,7 @@ pub fn serve_until<
         shared,
         ends,
         bounds,
-        door: &door,
+        admission: &admission,
         to_servers: &to_servers,
         asks: &asks,
         to_streams: &to_streams,

@@ -98,7 +98,7 @@ fn hand_out<M: Machine<Event = TypedEvent, Out = TypedActions>, L: Ledger, R: Wa
 }
 
 // Writes and reads the stream at this key where there is something to do, and puts the questions that came. Where it is
-// known at once that nothing goes out for one, since it is no query or was dropped at the door, the stream is to end.
+// known at once that nothing goes out for one, since it is no query or was dropped in admission, the stream is to end.
 fn take_questions<M: Machine<Event = TypedEvent, Out = TypedActions>, L: Ledger, R: Wait + Clock>(
     rt: &R,
     context: &Context<'_, M, L>,

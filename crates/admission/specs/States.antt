@@ -1,0 +1,66 @@
+-- The queries in admission, and how many there are of a key and of an address.
+use Rattle.std.specs.Prelude.{◌≡◌, ℕ, ◌+◌, ◌-◌, ◌/◌, ◌<◌, ◌≤◌, Bool, ◌&&◌, ◌||◌, nat_eq, nat_lt, nat_le, List, length}
+use Rattle.std.specs.List.{count_by}
+use Rattle.admission.specs.declared.limits.Limits.{Limits}
+use Rattle.admission.specs.declared.queries.Admitted.{Admitted}
+use Rattle.admission.specs.declared.queries.Held.{Held}
+
+-- What contracts see of an admission: the queries that were admitted, those that are called in, and those that wait,
+-- each in the order in which they came there. What was admitted or is called in is inside.
+pub record State (T : Type 0) : Type 0 where
+  pub limits : Limits
+  pub admitted : List Admitted
+  pub ready : List (Held T)
+  pub waiting : List (Held T)
+
+-- A client's address: what is left of it without the port, its low sixteen bits.
+abbrev pub address_in : ℕ → ℕ
+address_in client = client / 65536
+
+abbrev pub admitted_with : ℕ → Admitted → Bool
+admitted_with k q = nat_eq q.key k
+
+abbrev pub admitted_from : ℕ → Admitted → Bool
+admitted_from a q = nat_eq (address_in q.client) a
+
+module _ {T : Type 0} where
+  -- A state of these four.
+  abbrev pub state : Limits → List Admitted → List (Held T) → List (Held T) → State T
+  state l a r w = record { limits = l; admitted = a; ready = r; waiting = w }
+
+  abbrev pub held_with : ℕ → Held T → Bool
+  held_with k q = nat_eq q.key k
+
+  abbrev pub held_from : ℕ → Held T → Bool
+  held_from a q = nat_eq (address_in q.client) a
+
+  -- How many queries are inside.
+  abbrev pub inside : State T → ℕ
+  inside d = length d.admitted + length d.ready
+
+  -- How many with this key are inside.
+  abbrev pub of_key : ℕ → State T → ℕ
+  of_key k d = count_by (admitted_with k) d.admitted + count_by (held_with k) d.ready
+
+  -- How many with this key wait.
+  abbrev pub waiting_of : ℕ → State T → ℕ
+  waiting_of k d = count_by (held_with k) d.waiting
+
+  -- How many from this address are inside or wait.
+  abbrev pub of_address : ℕ → State T → ℕ
+  of_address a d = count_by (admitted_from a) d.admitted + count_by (held_from a) d.ready + count_by (held_from a) d.waiting
+
+  -- Whether no query from this address is admitted now, nor held: it has as many as one address may have, all
+  -- places are taken, or it has some and only the reserve is left.
+  abbrev pub is_shut : ℕ → State T → Bool
+  is_shut a d = nat_le d.limits.each (of_address a d) || nat_le d.limits.places (inside d)
+      || (nat_lt 0 (of_address a d) && nat_le (d.limits.places - d.limits.reserve) (inside d))
+
+  -- What holds of an admission at all times: of equal queries, of one address' and of all there are as many as may be,
+  -- and no query waits in vain: as many equal ones are inside as may be.
+  pub record IsKept (d : State T) : Type 0 where
+    pub equal : (k : ℕ) → of_key k d ≤ d.limits.equal
+    pub each : (a : ℕ) → of_address a d ≤ d.limits.each
+    pub places : inside d ≤ d.limits.places
+    pub few : length d.waiting ≤ d.limits.waiting
+    pub not_in_vain : (k : ℕ) → 0 < waiting_of k d → of_key k d ≡ d.limits.equal

@@ -1,0 +1,248 @@
+//! Admission of queries: which are admitted, which wait, and which are called in.
+ghost use Rattle.std.specs.Prelude.{◌≡◌, ◌+◌, ◌<◌, ◌≤◌, false, [], ◌∷◌, ◌++◌, length, slice_index_or, None, IfOk};
+ghost use Rattle.std.specs.Option.{is_some};
+ghost use Rattle.std.specs.List.{count_by, remove};
+ghost use Rattle.std.specs.VecDeque.{deque_capacity};
+ghost use Rattle.admission.specs.declared.queries.Admitted.{Admitted};
+ghost use Rattle.admission.specs.States.{state, address_in, held_with, held_from, inside, of_key, of_address, is_shut, IsKept};
+ghost use Rattle.admission.specs.Moves.{Admits, AdmitsNext, admitted, is_entering, is_open, is_late, opened, left, called, first_of, without_first, taken, dropped};
+
+use crate::limits::Limits;
+use crate::places::{
+    address_in, admitted_from, admitted_with, drop_late, held_from, held_with, place_of_entering,
+    place_of_late, place_of_open, take_first,
+};
+use crate::queries::{Admitted, Decision, Held};
+use memory::{Heap, Starved};
+use std::alloc::{Allocator, Global};
+use std::collections::VecDeque;
+use std::marker::Model;
+
+/// The queries that were admitted, those that are called in and those that wait.
+#[derive(Drop)]
+pub struct Admission<T, A: Allocator = Global> {
+    limits: Limits,
+    admitted: Vec<Admitted, A>,
+    ready: VecDeque<Held<T>, A>,
+    waiting: VecDeque<Held<T>, A>,
+}
+
+impl<T, A: Allocator> Model for Admission<T, A> {
+    ghost use Rattle.std.specs.Prelude.{◌≤◌, vec_capacity};
+    ghost use Rattle.std.specs.VecDeque.{deque_capacity};
+    ghost use Rattle.admission.specs.States.{State, state, IsKept};
+
+    ghost Value = { State T };
+
+    ghost view = { λ d. state d.limits d.admitted.items d.ready.items d.waiting.items };
+
+    ghost invariant = { λ d. IsKept (state d.limits d.admitted.items d.ready.items d.waiting.items) × (d.limits.places ≤ vec_capacity d.admitted) × (d.limits.places ≤ deque_capacity d.ready) × (d.limits.waiting ≤ deque_capacity d.waiting) };
+}
+
+impl<T: Drop, A: Heap> Admission<T, A> {
+    /// An admission in which there is no query. It takes the room for all of them at once, so that no later call
+    /// wants memory.
+    pub fn new(alloc: A, limits: Limits) -> Result<Admission<T, A>, Starved>
+        ensures { IfOk result (λ d. d ≡ state limits [] [] []) }
+    {
+        let admitted = Vec::with_capacity(alloc, limits.places)?;
+        let ready = VecDeque::with_capacity(alloc, limits.places)?;
+        let waiting = VecDeque::with_capacity(alloc, limits.waiting)?;
+        Ok(Admission {
+            limits,
+            admitted,
+            ready,
+            waiting,
+        })
+    }
+}
+
+impl<T: Drop, A: Allocator> Admission<T, A> {
+    /// A query comes, with what is needed to put it in. It is admitted where fewer equal ones are inside than may be,
+    /// and waits where not. It is refused, and nothing changes, where its address or the places are full or too many
+    /// wait.
+    pub fn admit(&mut self, key: u64, client: u64, moment: u64, payload: T) -> Decision<T>
+        ensures { Admits self.old key client moment payload result self.new }
+    {
+        if self.is_shut(client) {
+            return Decision::Refused(payload);
+        }
+        if self.of_key(key) < self.limits.equal {
+            self.admit_now(key, client);
+            return Decision::In(payload);
+        }
+        if self.limits.waiting <= self.waiting.len() {
+            return Decision::Refused(payload);
+        }
+        let query = Held {
+            key,
+            client,
+            since: moment,
+            payload,
+        };
+        self.waiting.push_back(query).unwrap();
+        Decision::Waits
+    }
+
+    /// The step of a query has asked other servers: the query is open from that moment on. Nothing changes where no
+    /// such query enters.
+    pub fn opened(&mut self, key: u64, client: u64, moment: u64)
+        ensures { self.new ≡ opened key client moment self.old }
+    {
+        let Some(place) = place_of_entering(&self.admitted, key, client) else {
+            return;
+        };
+        self.admitted.remove(place);
+        let query = Admitted {
+            key,
+            client,
+            opened: Some(moment),
+        };
+        self.admitted.push(query).unwrap();
+    }
+
+    /// The step of a query has answered it, or lost it: it leaves, and the first that waits for its key is called in.
+    /// Nothing changes where no such query enters.
+    pub fn settled(&mut self, key: u64, client: u64)
+        ensures { self.new ≡ left (is_entering key client) self.old }
+    {
+        if let Some(place) = place_of_entering(&self.admitted, key, client) {
+            self.leave(place);
+        }
+    }
+
+    /// A reply to an open query has gone out: it leaves, and the first that waits for its key is called in. Nothing
+    /// changes where no such query is open.
+    pub fn closed(&mut self, key: u64, client: u64)
+        ensures { self.new ≡ left (is_open key client) self.old }
+    {
+        if let Some(place) = place_of_open(&self.admitted, key, client) {
+            self.leave(place);
+        }
+    }
+
+    /// The first query that has been open for its time leaves, and the first that waits for its key is called in;
+    /// whether there was one. To be called until there is none.
+    pub fn expire(&mut self, now: u64) -> bool
+        ensures some { result ≡ is_some (first_of (is_late now) self.old.admitted) }
+        ensures left { self.new ≡ left (is_late now) self.old }
+    {
+        let Some(place) = place_of_late(&self.admitted, now) else {
+            return false;
+        };
+        self.leave(place);
+        true
+    }
+
+    /// A query with this key has failed: the first that waits with it, which no longer waits, to be told so. To be
+    /// called until there is none, before `closed`.
+    pub fn fail(&mut self, key: u64) -> Option<Held<T>>
+        ensures first { result ≡ first_of (held_with key) self.old.waiting }
+        ensures others { self.new ≡ taken key self.old }
+    {
+        take_first(&mut self.waiting, key)
+    }
+
+    /// The first query that is called in, which is admitted: its step is to be taken now.
+    pub fn next(&mut self) -> Option<Held<T>>
+        ensures { AdmitsNext self.old result self.new }
+    {
+        let query = self.ready.pop_front()?;
+        let admitted = Admitted {
+            key: query.key,
+            client: query.client,
+            opened: None,
+        };
+        self.admitted.push(admitted).unwrap();
+        Some(query)
+    }
+
+    /// Drops the queries that have waited for their time, and says how many.
+    pub fn drop_late(&mut self, now: u64) -> usize
+        ensures dropped { self.new ≡ dropped now self.old }
+        ensures count { result + length self.new.waiting ≡ length self.old.waiting }
+    {
+        drop_late(&mut self.waiting, now)
+    }
+
+    // Whether no query from the address of that client is admitted now, nor held.
+    fn is_shut(&self, client: u64) -> bool
+        ensures { result ≡ is_shut (address_in client) self.now }
+    {
+        let inside = self.inside();
+        let from_address = self.of_address(address_in(client));
+        self.limits.each <= from_address
+            || self.limits.places <= inside
+            || (0 < from_address
+                && self.limits.places.saturating_sub(self.limits.reserve) <= inside)
+    }
+
+    /// What holds of an admission at all times: of equal queries, of one address' and in all as many are here as may
+    /// be, and none waits in vain.
+    pub fn always_law(&self)
+        ensures { IsKept self.now }
+    {
+        let _ = &self.limits;
+    }
+
+    /// How many queries are called in, and come with `next`.
+    pub fn ready(&self) -> usize
+        ensures { result ≡ length self.now.ready }
+    {
+        self.ready.len()
+    }
+
+    /// How many queries wait.
+    pub fn waiting(&self) -> usize
+        ensures { result ≡ length self.now.waiting }
+    {
+        self.waiting.len()
+    }
+
+    /// How many queries are inside.
+    pub fn inside(&self) -> usize
+        ensures { result ≡ inside self.now }
+    {
+        self.admitted.len() + self.ready.len()
+    }
+
+    // How many with this key are inside.
+    fn of_key(&self, key: u64) -> usize
+        ensures { result ≡ of_key key self.now }
+    {
+        admitted_with(&self.admitted, key) + held_with(&self.ready, key)
+    }
+
+    // How many from this address are inside or wait.
+    fn of_address(&self, address: u64) -> usize
+        ensures { result ≡ of_address address self.now }
+    {
+        admitted_from(&self.admitted, address)
+            + held_from(&self.ready, address)
+            + held_from(&self.waiting, address)
+    }
+
+    // Admits a query, whose step then runs.
+    fn admit_now(&mut self, key: u64, client: u64)
+        requires { (of_key key self.old < self.old.limits.equal) × (is_shut (address_in client) self.old ≡ false) }
+        ensures { self.new ≡ state self.old.limits (self.old.admitted ++ admitted key client None ∷ []) self.old.ready self.old.waiting }
+    {
+        let query = Admitted {
+            key,
+            client,
+            opened: None,
+        };
+        self.admitted.push(query).unwrap();
+    }
+
+    // The query at that place leaves, and the first that waits for its key is called in.
+    fn leave(&mut self, place: usize)
+        requires { place < length self.old.admitted }
+        ensures { (q : Admitted) → self.new ≡ called (slice_index_or self.old.admitted place q).key (record self.old { admitted = remove self.old.admitted place }) }
+    {
+        let gone = self.admitted.remove(place);
+        if let Some(query) = take_first(&mut self.waiting, gone.key) {
+            self.ready.push_back(query).unwrap();
+        }
+    }
+}

@@ -1,0 +1,223 @@
+//! Admission of clients' questions to the resolver: of equal ones few are under way at a time, the others wait.
+ghost use Rattle.std.specs.Prelude.{◌≡◌, ◌≤◌, IfSome, length};
+ghost use Rattle.events.specs.Views.{action_view};
+ghost use Rattle.server.specs.Entries.{IsEntry, failure_copy};
+
+use crate::query::{Asker, Query, asker_of};
+use admission::{Admission, Decision, Held, Limits};
+use dispatch::{bytes_of, failure_for, is_failure, is_plain_query, question_end};
+use events::{Action, Actions, Bytes};
+use std::alloc::Global;
+use std::hash::{DefaultHasher, Hasher};
+use std::sync::atomic::{AtomicBool, Ordering};
+use std::sync::{Mutex, Wait};
+
+// Equal questions that are under way at a time.
+const EQUAL: usize = 4;
+
+// Places, and how many of them are for addresses that have none.
+const PLACES: usize = 1_024;
+
+const RESERVE: usize = 64;
+
+// Questions that wait at most.
+const WAITING: usize = 4_096;
+
+// Bytes of a header, and of a type and a class.
+const HEADER: usize = 12;
+
+const TYPE_AND_CLASS: usize = 4;
+
+// Bytes of a name on the wire at most (RFC 1035, section 2.3.4).
+const MOST_NAME: usize = 255;
+
+/// A question in admission: a hash of what is asked, and the number under which its client is counted there.
+#[derive(Clone, Copy)]
+pub(crate) struct Question {
+    pub key: u64,
+    pub client: u64,
+}
+
+/// What becomes of a query that asks for admission.
+#[derive(Drop)]
+pub(crate) enum Entry {
+    /// Its step is to be taken now.
+    In(Query),
+    /// It waits.
+    Held,
+    /// It is dropped.
+    Dropped,
+}
+
+// What becomes of a query by what was decided of it.
+fn entry_of(decision: Decision<Query>) -> Entry
+    ensures { IsEntry decision result }
+{
+    match decision {
+        Decision::In(query) => Entry::In(query),
+        Decision::Waits => Entry::Held,
+        Decision::Refused(_) => Entry::Dropped,
+    }
+}
+
+// The failure of a query, with these bytes, as the reply to an equal one.
+fn copied_failure(failed: &Action, asker: Asker, bytes: Bytes) -> Action
+    ensures { action_view result ≡ failure_copy failed.now asker bytes }
+{
+    let cause = match failed {
+        Action::Reply { cause, .. } => *cause,
+        Action::Send { .. } | Action::TcpAsk { .. } => None,
+    };
+    Action::Reply {
+        client: asker.client,
+        way: asker.way,
+        bytes,
+        cause,
+    }
+}
+
+/// The admission that the loops share, and the hash of what is asked.
+#[derive(Drop)]
+pub(crate) struct SharedAdmission {
+    alloc: Global,
+    admission: Mutex<Admission<Query>>,
+    // Hashes begin as this one, behind a seed.
+    start: DefaultHasher,
+    // Whether someone may have been called in.
+    called: AtomicBool,
+}
+
+impl SharedAdmission {
+    /// With nobody in it. One address has so many questions under way and waiting at most.
+    pub fn new(alloc: Global, seed: &[u8], each: u16) -> Option<SharedAdmission> {
+        let limits = Limits {
+            equal: EQUAL,
+            each: usize::from(each),
+            places: PLACES,
+            reserve: RESERVE,
+            waiting: WAITING,
+        };
+        let admission = Admission::new(alloc, limits).ok()?;
+        let mut start = DefaultHasher::new();
+        start.write(seed);
+        Some(SharedAdmission {
+            alloc,
+            admission: Mutex::new(admission),
+            start,
+            called: AtomicBool::new(false),
+        })
+    }
+
+    // A hash of the question in lower case, of its type and class, and of RD. None where there is no plain question.
+    fn key_in(&self, message: &[u8]) -> Option<u64>
+        ensures { IfSome result (λ key. 17 ≤ length message.now) }
+    {
+        let end = question_end(message)?;
+        let name = message.get(HEADER..end - TYPE_AND_CLASS)?;
+        let rest = message.get(end - TYPE_AND_CLASS..end)?;
+        let mut letters = [0u8; MOST_NAME];
+        let letters = letters.get_mut(..name.len())?;
+        letters.copy_from_slice(name);
+        letters.make_ascii_lowercase();
+        let mut hasher = self.start;
+        hasher.write(letters);
+        hasher.write(rest);
+        hasher.write_u8(message.get(2)? & 1);
+        Some(hasher.finish())
+    }
+
+    /// What a query asks. None where it needs no admission: it is no plain query.
+    pub fn question(&self, query: &Query) -> Option<Question> {
+        let bytes = query.bytes.as_slice();
+        if !is_plain_query(bytes) {
+            return None;
+        }
+        let key = self.key_in(bytes)?;
+        Some(Question {
+            key,
+            client: query.asker.admission_client(),
+        })
+    }
+
+    /// A question comes.
+    pub fn admit<R: Wait>(&self, rt: &R, question: Question, moment: u64, query: Query) -> Entry {
+        let Question { key, client } = question;
+        entry_of(self.admission.lock(rt).admit(key, client, moment, query))
+    }
+
+    /// The step of a question gave this.
+    pub fn stepped<R: Wait>(
+        &self,
+        rt: &R,
+        question: Question,
+        moment: u64,
+        action: Option<&Action>,
+    ) {
+        let Question { key, client } = question;
+        match action {
+            Some(Action::Send { .. } | Action::TcpAsk { .. }) => {
+                self.admission.lock(rt).opened(key, client, moment);
+            }
+            Some(Action::Reply { .. }) | None => {
+                self.admission.lock(rt).settled(key, client);
+                self.called.store(true, Ordering::SeqCst);
+            }
+        }
+    }
+
+    /// Another step gave this. Where it is a reply to a client, its question is no longer open.
+    pub fn other_stepped<R: Wait>(&self, rt: &R, actions: &Actions) {
+        if let Some(action) = &actions.first
+            && let Some(asker) = asker_of(action)
+            && let Some(key) = self.key_in(bytes_of(action).as_slice())
+        {
+            self.admission
+                .lock(rt)
+                .closed(key, asker.admission_client());
+            self.called.store(true, Ordering::SeqCst);
+        }
+    }
+
+    /// The reply to a question that waits for what failed now, and since when that waited.
+    pub fn next_failed<R: Wait>(&self, rt: &R, failed: &Action) -> Option<(u64, Action)> {
+        asker_of(failed)?;
+        let failure = bytes_of(failed).as_slice();
+        if !is_failure(failure) {
+            return None;
+        }
+        let key = self.key_in(failure)?;
+        let held = self.admission.lock(rt).fail(key)?;
+        let Query { asker, bytes } = held.payload;
+        let query = bytes.as_slice();
+        let end = question_end(query)?;
+        let reply = failure_for(self.alloc, failure, query, end).ok()?;
+        Some((held.since, copied_failure(failed, asker, reply)))
+    }
+
+    /// A question that is called in.
+    pub fn next<R: Wait>(&self, rt: &R) -> Option<Held<Query>> {
+        if !self.called.load(Ordering::SeqCst) {
+            return None;
+        }
+        // Before admission is asked: whom another loop calls in behind that puts the flag up again.
+        self.called.store(false, Ordering::SeqCst);
+        let next = self.admission.lock(rt).next();
+        if next.is_some() {
+            self.called.store(true, Ordering::SeqCst);
+        }
+        next
+    }
+
+    /// Lets time pass: who is open or waits for too long leaves. How many were dropped that waited.
+    pub fn pass_time<R: Wait>(&self, rt: &R, now: u64) -> u64 {
+        let mut admission = self.admission.lock(rt);
+        for _ in 0..PLACES {
+            if !admission.expire(now) {
+                break;
+            }
+        }
+        let late = admission.drop_late(now) as u64;
+        self.called.store(true, Ordering::SeqCst);
+        late
+    }
+}
