@@ -1,5 +1,10 @@
 //! What the loops share: the machine, the sockets, admission, the channels between the loops, and the flag.
-ghost use Rattle.std.specs.Prelude.{◌≤◌, length};
+ghost use Rattle.std.specs.Prelude.{◌≤◌, length, IfOk, IfSome, MatchOption, OnErr};
+ghost use Rattle.events.specs.Views.{event_view};
+ghost use Rattle.pool.specs.Closings.{IsEventRefused};
+ghost use Rattle.pool.specs.declared.fault.PoolError.TheVariants.{Memory};
+ghost use Rattle.typed.specs.Events.{ReadAs, RepliesToNone};
+ghost use Rattle.server.specs.Steps.{IsPut, IsStepped, IsWritten};
 
 use crate::ends::{Ends, address_of};
 use crate::moments::Beginning;
@@ -23,7 +28,7 @@ use std::sync::atomic::{AtomicBool, Ordering};
 use std::sync::ledger::Ledger;
 use std::time::Clock;
 use typed::{TypedActions, TypedEvent, read_event, write_actions};
-use wire::Via;
+use wire::{Via, Writer};
 
 // More asks than one query makes: a query that comes to nothing but refused asks ends before.
 const MAX_REFUSED_HANDOVERS: u32 = 64;
@@ -82,11 +87,27 @@ pub(crate) struct Context<'a, M: Machine, L: Ledger> {
     pub beginning: Beginning,
 }
 
-// What is read of an event, whose bytes are freed.
-fn read_whole(alloc: Global, event: Event) -> Result<Option<TypedEvent>, Starved> {
+// What is read of an event, whose bytes are freed. None for a datagram that replies to no question.
+fn read_whole(alloc: Global, event: Event) -> Result<Option<TypedEvent>, Starved>
+    ensures { IfOk result (λ o. MatchOption o (RepliesToNone (event_view event)) (λ parsed. ReadAs (event_view event) parsed)) }
+{
     let read = read_event(alloc, &event);
     drop(event);
     read
+}
+
+// What a step gave, written. Refused where memory is out now, or was in the step.
+fn written(
+    alloc: Global,
+    writer: &mut Writer,
+    out: &Result<TypedActions, Starved>,
+) -> Result<Actions, Starved>
+    ensures { IfOk result (λ actions. IsWritten out.now actions) }
+{
+    match out {
+        Ok(given) => write_actions(alloc, writer, given),
+        Err(_) => Err(Starved),
+    }
 }
 
 impl<M: Machine<Event = TypedEvent, Out = TypedActions>, L: Ledger> Context<'_, M, L> {
@@ -258,45 +279,52 @@ impl<M: Machine<Event = TypedEvent, Out = TypedActions>, L: Ledger> Context<'_, 
         NOTHING
     }
 
-    // Reads an event, takes the machine's step, and writes what it gives: the machine is locked for the step alone. None
-    // out of memory, which is counted, and for a datagram that replies to no question.
-    fn take_step<R: Wait>(&self, rt: &R, worker: &mut Worker<L>, event: Event) -> Option<Actions> {
-        let actions = self.read_and_step(rt, worker, event);
-        if actions.is_err() {
-            self.ends.count(Outcome::MemoryRefused);
+    // Reads an event, takes the machine's step, and writes what it gives: the machine is locked for the step alone.
+    // None out of memory, which is counted, and for a datagram that replies to no question.
+    fn take_step<R: Wait>(&self, rt: &R, worker: &mut Worker<L>, event: Event) -> Option<Actions>
+        ensures { IfSome result (λ actions. IsPut M.moves M.begins worker.old.ticket (event_view event) actions worker.new.ticket) }
+    {
+        match self.read_and_step(rt, worker, event) {
+            Ok(actions) => actions,
+            Err(_) => {
+                self.ends.count(Outcome::MemoryRefused);
+                None
+            }
         }
-        actions.ok().flatten()
     }
 
+    // The same, refused out of memory. None for a datagram that replies to no question.
     fn read_and_step<R: Wait>(
         &self,
         rt: &R,
         worker: &mut Worker<L>,
         event: Event,
-    ) -> Result<Option<Actions>, Starved> {
-        match read_whole(self.alloc, event)? {
-            Some(event) => Ok(Some(self.step_and_write(rt, worker, event)?)),
-            None => Ok(None),
-        }
+    ) -> Result<Option<Actions>, Starved>
+        ensures { IfOk result (λ o. MatchOption o (RepliesToNone (event_view event)) (λ actions. IsPut M.moves M.begins worker.old.ticket (event_view event) actions worker.new.ticket)) }
+    {
+        let Some(parsed) = read_whole(self.alloc, event)? else {
+            return Ok(None);
+        };
+        let actions = self.step_and_write(rt, worker, parsed)?;
+        Ok(Some(actions))
     }
 
-    // Takes the machine's step, and writes what it gives.
+    // Takes the machine's step, and writes what it gives. Out of memory, the step may have been taken: the ticket shows
+    // whether it was.
     fn step_and_write<R: Wait>(
         &self,
         rt: &R,
         worker: &mut Worker<L>,
-        event: TypedEvent,
-    ) -> Result<Actions, Starved> {
-        match submit(rt, self.shared, &mut worker.ticket, event) {
-            Ok(entry) => self.written(worker, &entry),
-            Err(_) => Err(Starved),
-        }
-    }
-
-    // What the step of this entry gives, written.
-    fn written(&self, worker: &mut Worker<L>, entry: &book::Entry<M>) -> Result<Actions, Starved> {
-        match entry.out() {
-            Ok(given) => write_actions(self.alloc, &mut worker.writer, given),
+        parsed: TypedEvent,
+    ) -> Result<Actions, Starved>
+        ensures ok { IfOk result (λ actions. IsStepped M.moves M.begins worker.old.ticket parsed actions worker.new.ticket) }
+        ensures err { OnErr result (IsEventRefused worker.old.ticket worker.new.ticket Memory) }
+    {
+        match submit(rt, self.shared, &mut worker.ticket, parsed) {
+            Ok(entry) => {
+                entry.last_law();
+                written(self.alloc, &mut worker.writer, entry.out())
+            }
             Err(_) => Err(Starved),
         }
     }
