@@ -191,7 +191,7 @@ impl<M: Machine<Event = TypedEvent, Out = TypedActions>, L: Ledger> Context<'_, 
         };
         let answers = match self.admission.admit(rt, question, moment, query) {
             Entry::In(query) => self
-                .put_question(rt, worker, question, moment, query)
+                .put_question(rt, worker, question, moment, query.into_event(moment))
                 .speaks,
             Entry::Held => {
                 self.ends.count(Outcome::Held);
@@ -206,16 +206,15 @@ impl<M: Machine<Event = TypedEvent, Out = TypedActions>, L: Ledger> Context<'_, 
         answers
     }
 
-    // Puts a question that was admitted, and came at that moment.
+    // Puts the event of a question that was admitted, and came at that moment.
     fn put_question<R: Wait + Clock>(
         &self,
         rt: &R,
         worker: &mut Worker<L>,
         question: Question,
         came: u64,
-        query: Query,
+        event: Event,
     ) -> StepEffect {
-        let event = query.into_event(self.moment(rt));
         let came = self.came(&event, Some(came));
         self.step(rt, worker, event, Some(question), came)
     }
@@ -230,7 +229,8 @@ impl<M: Machine<Event = TypedEvent, Out = TypedActions>, L: Ledger> Context<'_, 
                 key: held.key,
                 client: held.client,
             };
-            self.put_question(rt, worker, question, held.since, held.payload);
+            let event = held.payload.into_event(self.moment(rt));
+            self.put_question(rt, worker, question, held.since, event);
         }
     }
 
@@ -256,16 +256,17 @@ impl<M: Machine<Event = TypedEvent, Out = TypedActions>, L: Ledger> Context<'_, 
         let mut question = question;
         let mut came = came;
         for _ in 0..MAX_REFUSED_HANDOVERS {
+            let moment = event.moment();
             let Some(actions) = self.take_step(rt, worker, event) else {
-                self.tell_admission(rt, question, None);
+                self.tell_admission(rt, question, moment, None);
                 return NOTHING;
             };
             self.count_step(rt, came.take(), &actions);
-            self.tell_admission(rt, question.take(), Some(&actions));
+            self.tell_admission(rt, question.take(), moment, Some(&actions));
             let refused = actions
                 .first
                 .as_ref()
-                .and_then(|action| self.send_out(rt, action));
+                .and_then(|action| self.send_out(rt, moment, action));
             match refused {
                 Some(number) => event = stream_reply_event(self.moment(rt), number, None),
                 None => {
@@ -353,17 +354,17 @@ impl<M: Machine<Event = TypedEvent, Out = TypedActions>, L: Ledger> Context<'_, 
         &self,
         rt: &R,
         question: Option<Question>,
+        moment: u64,
         actions: Option<&Actions>,
     ) {
         match (question, actions) {
             (Some(question), actions) => {
                 let action = actions.and_then(|actions| actions.first.as_ref());
-                self.admission
-                    .stepped(rt, question, self.moment(rt), action);
+                self.admission.stepped(rt, question, moment, action);
             }
             (None, Some(actions)) => {
                 if let Some(action) = &actions.first {
-                    self.fail_others(rt, action);
+                    self.fail_others(rt, moment, action);
                 }
                 self.admission.other_stepped(rt, actions);
             }
@@ -372,7 +373,7 @@ impl<M: Machine<Event = TypedEvent, Out = TypedActions>, L: Ledger> Context<'_, 
     }
 
     // Where a query failed, those held for the same question get that failure.
-    fn fail_others<R: Wait + Clock>(&self, rt: &R, failed: &Action) {
+    fn fail_others<R: Wait + Clock>(&self, rt: &R, moment: u64, failed: &Action) {
         for _ in 0..MOST_FAILED {
             let Some((since, reply)) = self.admission.next_failed(rt, failed) else {
                 return;
@@ -380,19 +381,19 @@ impl<M: Machine<Event = TypedEvent, Out = TypedActions>, L: Ledger> Context<'_, 
             if let Some(tally) = &self.ends.tally {
                 tally.count_copy(&reply, since, self.moment(rt));
             }
-            self.send_out(rt, &reply);
+            self.send_out(rt, moment, &reply);
         }
     }
 
-    // Hands an action over, to where it goes; the number of an ask over TCP that can't be made.
-    fn send_out<R: Wait + Clock>(&self, rt: &R, action: &Action) -> Option<u64> {
+    // Hands an action over at its event's moment, to where it goes; the number of an ask over TCP that can't be made.
+    fn send_out<R: Wait + Clock>(&self, rt: &R, moment: u64, action: &Action) -> Option<u64> {
         let mut outbox = Outbox {
             rt,
             ends: self.ends,
             bounds: self.bounds,
             to_streams: self.to_streams,
             to_servers: self.to_servers,
-            moment: self.moment(rt),
+            moment,
         };
         hand_over(&mut outbox, action)
     }
