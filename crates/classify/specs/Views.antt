@@ -19,7 +19,7 @@ failure_number failure.TruncatedOverTcp = 5
 
 abbrev pub class_view : {A : Type 0} → Class A → plain.Class
 class_view (class.Answer l) = plain.Answer (link_view l)
-class_view (class.Referral r) = plain.Referral r.at r.servers r.addresses r.ttl
+class_view (class.Referral r) = plain.Referral r.owner r.servers r.addresses r.ttl
 class_view class.Truncated = plain.Truncated
 class_view (class.Failed f) = plain.Failed f
 

@@ -45,7 +45,7 @@ impl Failure {
 #[derive(Drop)]
 pub struct Referral<A: Allocator = Global> {
     /// The zone's name.
-    pub at: Name<A>,
+    pub owner: Name<A>,
     /// Its NS set.
     pub servers: Records<A>,
     /// Its glue that is used, A records of its servers in bailiwick, in the order of the message.
@@ -56,12 +56,12 @@ pub struct Referral<A: Allocator = Global> {
 
 impl<A: Allocator> Referral<A> {
     /// The referral to these servers, with the lowest TTL of all these records.
-    pub(crate) fn new(at: Name<A>, servers: Records<A>, addresses: Records<A>) -> Referral<A>
-        ensures { plain.Referral result.at result.servers result.addresses result.ttl ≡ refer at servers addresses }
+    pub(crate) fn new(owner: Name<A>, servers: Records<A>, addresses: Records<A>) -> Referral<A>
+        ensures { plain.Referral result.owner result.servers result.addresses result.ttl ≡ refer owner servers addresses }
     {
         let ttl = lowest_ttl(servers.as_slice()).min(lowest_ttl(addresses.as_slice()));
         Referral {
-            at,
+            owner,
             servers,
             addresses,
             ttl,

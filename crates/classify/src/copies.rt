@@ -11,7 +11,7 @@ impl<A: Heap> Clone for Referral<A> {
 
     fn clone(&self) -> Result<Referral<A>, AllocError> {
         Ok(Referral {
-            at: self.at.clone()?,
+            owner: self.owner.clone()?,
             servers: self.servers.clone()?,
             addresses: self.addresses.clone()?,
             ttl: self.ttl,

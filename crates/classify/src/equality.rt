@@ -12,7 +12,7 @@ impl<A: Allocator> Referral<A> {
         ensures { IsTrue result ↔ (self.now ≡ other.now) }
     {
         self.ttl == other.ttl
-            && self.at == other.at
+            && self.owner == other.owner
             && self.servers == other.servers
             && self.addresses == other.addresses
     }

@@ -56,15 +56,15 @@ fn narrow_referral<A: Heap>(
     zone: &Name<A>,
     referral: &Referral<A>,
 ) -> Result<Class<A>, Starved>
-    ensures { IfOk result (λ c. class_view c ≡ narrowed zone.now (plain.Referral referral.now.at referral.now.servers referral.now.addresses referral.now.ttl)) }
+    ensures { IfOk result (λ c. class_view c ≡ narrowed zone.now (plain.Referral referral.now.owner referral.now.servers referral.now.addresses referral.now.ttl)) }
 {
-    if !leads_within(zone, &referral.at) {
+    if !leads_within(zone, &referral.owner) {
         return Ok(Class::Failed(Failure::Foreign));
     }
-    let at = referral.at.clone()?;
+    let owner = referral.owner.clone()?;
     let servers = referral.servers.clone()?;
     let addresses = addresses_within(alloc, zone, referral.addresses.as_slice())?;
-    Ok(Class::Referral(Referral::new(at, servers, addresses)))
+    Ok(Class::Referral(Referral::new(owner, servers, addresses)))
 }
 
 fn leads_within<A: Allocator>(zone: &Name<A>, cut: &Name<A>) -> bool

@@ -137,19 +137,19 @@ fn with_all_addresses<A: Heap>(
     message: &View<'_, A>,
     referral: Referral<A>,
 ) -> Result<Class<A>, Starved>
-    requires { IsCut zone.now message.now (plain.Referral referral.at referral.servers referral.addresses referral.ttl) }
-    ensures { IfOk result (λ c. class_view c ≡ uncut zone.now message.now (plain.Referral referral.at referral.servers referral.addresses referral.ttl)) }
+    requires { IsCut zone.now message.now (plain.Referral referral.owner referral.servers referral.addresses referral.ttl) }
+    ensures { IfOk result (λ c. class_view c ≡ uncut zone.now message.now (plain.Referral referral.owner referral.servers referral.addresses referral.ttl)) }
 {
     if referral.addresses.len() < MAX_GLUE {
         return Ok(Class::Referral(referral));
     }
     let Referral {
-        at,
+        owner,
         servers,
         addresses,
         ttl: _,
     } = referral;
     drop(addresses);
     let all = all_addresses_in(alloc, message.additional(), zone, servers.as_slice())?;
-    Ok(Class::Referral(Referral::new(at, servers, all)))
+    Ok(Class::Referral(Referral::new(owner, servers, all)))
 }

@@ -58,7 +58,7 @@ impl<A: Heap> Frame<A> {
         let first = first_names(cut.names.as_slice());
         let names = unknown_names(alloc, first, servers, &addresses)?;
         let plan = Plan::new(alloc, &addresses, penalties)?;
-        let zone = cut.at.clone()?;
+        let zone = cut.owner.clone()?;
         Ok(Frame {
             nesting,
             zone,

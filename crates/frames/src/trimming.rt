@@ -79,9 +79,9 @@ pub fn trimmed<A: Heap>(alloc: A, cut: &Cut<A>) -> Result<Cut<A>, Starved>
     let taken = taken_addresses(alloc, servers)?;
     let addresses = entries(alloc, servers, &taken, first)?;
     let names = copies(alloc, first)?;
-    let at = cut.at.clone()?;
+    let owner = cut.owner.clone()?;
     Ok(Cut {
-        at,
+        owner,
         names,
         addresses,
     })

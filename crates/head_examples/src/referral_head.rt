@@ -11,13 +11,13 @@ pub fn example<S: BuildHasher + Drop, H: Heap>(
     alloc: H,
     room: NonZeroUsize,
     hasher: S,
-    at: Name<H>,
+    owner: Name<H>,
     servers: &Records<H>,
     glue: &Records<H>,
     name: &Name<H>,
 ) -> Result<(), Fail> {
     let mut delegations = Delegations::new(alloc, room, hasher)?;
-    let cut = Cut::of_records(alloc, at, servers.as_slice(), glue.as_slice())?;
+    let cut = Cut::of_records(alloc, owner, servers.as_slice(), glue.as_slice())?;
     delegations.keep(cut, 3_600, 0)?;
     let best = delegations.best(name, 1_000)?;
     Ok(())

@@ -76,15 +76,15 @@ fn answer<S: BuildHasher + Drop, A: Heap>(
 
 // The cut that a referral leads to.
 fn cut_from<A: Heap>(alloc: A, referral: Referral<A>) -> Result<Cut<A>, Starved>
-    ensures { IfOk result (IsCutOf referral.at referral.servers referral.addresses) }
+    ensures { IfOk result (IsCutOf referral.owner referral.servers referral.addresses) }
 {
     let Referral {
-        at,
+        owner,
         servers,
         addresses,
         ttl: _,
     } = referral;
-    let cut = cut_of(alloc, at, servers.as_slice(), addresses.as_slice());
+    let cut = cut_of(alloc, owner, servers.as_slice(), addresses.as_slice());
     drop(servers);
     drop(addresses);
     Ok(cut?)
@@ -127,7 +127,7 @@ fn refer<S: BuildHasher + Drop, A: Heap>(
     stores: &mut Stores<S, A>,
     now: u64,
 ) -> Result<(), Starved>
-    ensures by { OnOk result (IsReferred now search (job.old).searches referral.at referral.servers referral.addresses referral.ttl (with_search job.old search) stores.old (point Go job.new stores.new)) }
+    ensures by { OnOk result (IsReferred now search (job.old).searches referral.owner referral.servers referral.addresses referral.ttl (with_search job.old search) stores.old (point Go job.new stores.new)) }
     ensures err { OnErr result (stores.new ≡ stores.old) }
 {
     let ttl = referral.ttl;

@@ -55,7 +55,7 @@ impl<A: Allocator> Home<A> {
     pub(crate) fn root_name(&self) -> &Name<A>
         ensures { result.now ≡ root }
     {
-        &self.root.at
+        &self.root.owner
     }
 
     /// The root's cut with the hints, which a query starts from where nothing better is known.

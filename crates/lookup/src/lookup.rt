@@ -71,7 +71,7 @@ fn deeper<A: Allocator>(best: Option<Cut<A>>, at: &Name<A>) -> Option<Cut<A>>
 {
     match best {
         Some(cut) => {
-            if is_beneath(&cut.at, at) {
+            if is_beneath(&cut.owner, at) {
                 Some(cut)
             } else {
                 drop(cut);

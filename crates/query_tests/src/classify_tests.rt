@@ -147,7 +147,7 @@ fn link_text<A: Heap>(alloc: A, link: &Link<A>) -> Result<String<A>, Starved> {
 }
 
 fn put_cut<A: Heap>(out: &mut String<A>, referral: &Referral<A>) -> Result<(), Starved> {
-    write!(out, "for {} to {}", referral.ttl, referral.at)?;
+    write!(out, "for {} to {}", referral.ttl, referral.owner)?;
     Ok(())
 }
 

@@ -94,7 +94,7 @@ fn alone<A: Heap>(alloc: A, row: Row<'_>) -> Result<RecordSet<A>, Starved> {
 fn is_start<A: Heap>(found: &Found<A>, at: &Name<A>) -> bool {
     match found {
         Found::Known(_) => false,
-        Found::Start(cut) => cut.at == *at,
+        Found::Start(cut) => cut.owner == *at,
     }
 }
 

@@ -13,7 +13,7 @@ use std::marker::Model;
 #[derive(Drop)]
 pub struct Cut<A: Allocator = Global> {
     /// The zone that is delegated: the owner of the NS records.
-    pub at: Name<A>,
+    pub owner: Name<A>,
     /// Its servers, as the NS records name them, in their order.
     pub names: Names<A>,
     /// Addresses of those servers: glue (RFC 1034, section 4.2.1), or addresses of hints.
@@ -25,7 +25,7 @@ impl<A: Allocator> Model for Cut<A> {
 
     ghost Value = { CutSpec };
 
-    ghost view = { λ c. record { owner = c.at; names = c.names; addresses = c.addresses } };
+    ghost view = { λ c. record { owner = c.owner; names = c.names; addresses = c.addresses } };
 }
 
 impl<A: Heap> Clone for Cut<A> {
@@ -33,7 +33,7 @@ impl<A: Heap> Clone for Cut<A> {
 
     fn clone(&self) -> Result<Cut<A>, AllocError> {
         Ok(Cut {
-            at: self.at.clone()?,
+            owner: self.owner.clone()?,
             names: self.names.clone()?,
             addresses: self.addresses.clone()?,
         })
@@ -76,12 +76,12 @@ impl<A: Allocator> Servers<A> {
         ensures { known_of result.0 result.1 ≡ as_kept cut ttl since }
     {
         let Cut {
-            at,
+            owner,
             names,
             addresses,
         } = cut;
         (
-            at,
+            owner,
             Servers {
                 names,
                 addresses,
@@ -106,11 +106,11 @@ impl<A: Allocator> Servers<A> {
     }
 
     // The cut of this name.
-    pub(crate) fn into_cut(self, at: Name<A>) -> Cut<A>
-        ensures { result ≡ (known_of at self).cut }
+    pub(crate) fn into_cut(self, owner: Name<A>) -> Cut<A>
+        ensures { result ≡ (known_of owner self).cut }
     {
         Cut {
-            at,
+            owner,
             names: self.names,
             addresses: self.addresses,
         }

@@ -12,7 +12,7 @@
 //!
 //! ```text
 //! let mut delegations = Delegations::new(alloc, room, hasher)?;
-//! let cut = Cut::of_records(alloc, at, servers.as_slice(), glue.as_slice())?;
+//! let cut = Cut::of_records(alloc, owner, servers.as_slice(), glue.as_slice())?;
 //! delegations.keep(cut, 3_600, 0)?;
 //! let best = delegations.best(name, 1_000)?;
 //! ```

@@ -70,14 +70,14 @@ impl<A: Heap> Cut<A> {
     /// the others the A records in order, each address with its owner (RFC 1034, section 4.2.1).
     pub fn of_records(
         alloc: A,
-        at: Name<A>,
+        owner: Name<A>,
         servers: &[Record<A>],
         glue: &[Record<A>],
     ) -> Result<Cut<A>, Starved>
-        ensures { IfOk result (λ c. c ≡ record_cut at servers.now glue.now) }
+        ensures { IfOk result (λ c. c ≡ record_cut owner servers.now glue.now) }
     {
         Ok(Cut {
-            at,
+            owner,
             names: targets(alloc, servers)?,
             addresses: addresses(alloc, glue)?,
         })
@@ -88,7 +88,7 @@ impl<A: Heap> Cut<A> {
         ensures { IfOk result (λ c. c ≡ hint_cut hints.now) }
     {
         Ok(Cut {
-            at: Name::root(alloc)?,
+            owner: Name::root(alloc)?,
             names: Names::new(alloc),
             addresses: hinted_addresses(alloc, hints)?,
         })

@@ -211,11 +211,11 @@ fn put_referral<A: Allocator, B: Allocator>(
     out: &mut String<B>,
     referral: &Referral<A>,
 ) -> Result<(), Starved>
-    ensures { OnOk result (string_bytes out.new ≡ string_bytes out.old ++ referral_text (referral.now).at (referral.now).servers (referral.now).addresses) }
+    ensures { OnOk result (string_bytes out.new ≡ string_bytes out.old ++ referral_text (referral.now).owner (referral.now).servers (referral.now).addresses) }
 {
     let servers = referral.servers.len();
     let addresses = referral.addresses.len();
-    put_servers(out, &referral.at, servers, addresses)
+    put_servers(out, &referral.owner, servers, addresses)
 }
 
 #[tactic(auto, unfolding(crate::specs::Lines::servers_text))]

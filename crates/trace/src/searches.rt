@@ -78,13 +78,13 @@ impl<A: Heap> Searches<A> {
     fn descend(&mut self, referral: Referral<A>) -> Result<(), Starved> {
         let place = self.cuts.len();
         let Referral {
-            at,
+            owner,
             servers,
             addresses,
             ttl: _,
         } = referral;
         drop(addresses);
-        self.cuts.push(Cut { zone: at, servers })?;
+        self.cuts.push(Cut { zone: owner, servers })?;
         if let Some(search) = self.open.last_mut() {
             search.cut = place;
         }

@@ -37,7 +37,7 @@ link_told (plain_link.NxDomain soa) = link.NxDomain soa
 
 abbrev class_told : {A : Type 0} → plain_class.Class → Class A
 class_told (plain_class.Answer l) = class.Answer (link_told l)
-class_told (plain_class.Referral at servers addresses ttl) = class.Referral (record { at = at; servers = servers; addresses = addresses; ttl = ttl })
+class_told (plain_class.Referral owner servers addresses ttl) = class.Referral (record { owner = owner; servers = servers; addresses = addresses; ttl = ttl })
 class_told plain_class.Truncated = class.Truncated
 class_told (plain_class.Failed f) = class.Failed f
 

@@ -77,10 +77,10 @@ pub fn reply(row: &mut Row<'_>, questions: Questions) -> Result<Vec<u8>, LineKin
 }
 
 fn put_referral(out: &mut String, referral: &Referral) -> Result<(), LineKind> {
-    let at = &referral.at;
+    let owner = &referral.owner;
     let ttl = referral.ttl;
     let kept = referral.lifetime();
-    writeln!(out, "referral to {at} for {ttl} s, kept for {kept} s")?;
+    writeln!(out, "referral to {owner} for {ttl} s, kept for {kept} s")?;
     put_records(out, referral.servers.as_slice())?;
     writeln!(out, "with")?;
     put_records(out, referral.addresses.as_slice())

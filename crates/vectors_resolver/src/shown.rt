@@ -46,8 +46,8 @@ fn put_server(out: &mut String, server: &ServerAddress) -> Result<(), LineKind> 
 
 /// Where a cut is, its servers' names, and their addresses.
 pub fn put_cut(out: &mut String, cut: &Cut) -> Result<(), LineKind> {
-    let at = &cut.at;
-    writeln!(out, "cut {at}")?;
+    let owner = &cut.owner;
+    writeln!(out, "cut {owner}")?;
     for name in cut.names.as_slice() {
         writeln!(out, "server {name}")?;
     }

@@ -26,7 +26,7 @@ returns-in_ok-refer-in-Ok-Referral-clause-by g c = λ via m for.
     let at = c.zone-zone.ensures ∙ ap (λ (f : Frame). f.zone) c.frame.ensures in
     let same = same_use c.zone-zone.result.now c.args.search via m (reading_view c.args.reading.now) (class_view c.in-Ok-Referral.field-0) at c.narrow_law.ensures for c.in-Ok-Referral.ensures in
     let r = c.in-Ok-Referral.referral in
-    let classed = is_referral _ (class_view c.in-Ok-Referral.field-0) r.at r.servers r.addresses r.ttl same (ap class_view c.in-Ok-Referral.field-0-is) in
+    let classed = is_referral _ (class_view c.in-Ok-Referral.field-0) r.owner r.servers r.addresses r.ttl same (ap class_view c.in-Ok-Referral.field-0-is) in
     subst (λ (k : class.Class). ByClass c.args.now c.args.server c.args.search (c.args.job.now).searches k (with_search c.args.job.now c.args.search) c.args.stores.now (point Go c.refer.new.job c.refer.new.stores))
     (sym classed) c.in_ok-refer-in-Ok-Referral.ensures.by
 
