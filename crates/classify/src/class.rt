@@ -1,13 +1,16 @@
 //! The classes of a reply, by what it is used for, and why a reply is of no use.
-ghost use Rattle.std.specs.Prelude.{◌≡◌};
+ghost use Rattle.std.specs.Prelude.{◌≡◌, IfOk};
 ghost use Rattle.classify.specs.Classes as plain;
 ghost use Rattle.classify.specs.Classes.{refer};
 ghost use Rattle.classify.specs.Lifetimes.{referral_lifetime};
 ghost use Rattle.classify.specs.Views.{failure_number};
+ghost use Rattle.referral.specs.Made.{record_cut};
 
 use crate::lifetimes::referral_lifetime;
 use dname::Name;
+use memory::{Heap, Starved};
 use rdata::{Records, lowest_ttl};
+use referral::Cut;
 use std::alloc::{Allocator, Global};
 use zone::Link;
 
@@ -73,6 +76,24 @@ impl<A: Allocator> Referral<A> {
         ensures { result ≡ referral_lifetime self.now.ttl }
     {
         referral_lifetime(self.ttl)
+    }
+}
+
+impl<A: Heap> Referral<A> {
+    /// The cut that it leads to: the names of its servers, and their addresses (RFC 1034, section 4.2.1).
+    pub fn into_cut(self, alloc: A) -> Result<Cut<A>, Starved>
+        ensures { IfOk result (λ c. c ≡ record_cut self.owner self.servers self.addresses) }
+    {
+        let Referral {
+            owner,
+            servers,
+            addresses,
+            ttl: _,
+        } = self;
+        let cut = Cut::of_records(alloc, owner, servers.as_slice(), addresses.as_slice());
+        drop(servers);
+        drop(addresses);
+        Ok(cut?)
     }
 }
 

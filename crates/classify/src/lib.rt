@@ -3,8 +3,9 @@
 //!
 //! `classify` takes the zone whose server was asked, the question, the way and the message, and gives the `Class`: the
 //! first line that fits of a short table. Of a referral the first 64 NS records are read, and only glue in bailiwick is
-//! used, the first 256 A records at or under the zone that was asked. `received` bounds the TTLs of an answer (a week; a
-//! negative answer three hours), `lifetime` and `Referral::lifetime` say for how long it is cached.
+//! used, the first 256 A records at or under the zone that was asked. `received` bounds the TTLs of an answer (a week;
+//! a negative answer three hours), `lifetime` and `Referral::lifetime` say for how long it is cached.
+//! `Referral::into_cut` makes the cut that a referral leads to.
 //!
 //! `read` reads a message before it is known which zone's server sent it: a `Reading` has its ID, its question, and its
 //! class at the root, which `narrow` narrows to a zone.
@@ -20,7 +21,7 @@
 //! let message = View::new(alloc, bytes)?;
 //! match classify(alloc, zone, name, RType::A, Via::Udp, &message)? {
 //!     Class::Answer(link) => { let link = received(link); let seconds = lifetime(&link); }
-//!     Class::Referral(referral) => { let seconds = referral.lifetime(); /* ask referral.servers */ }
+//!     Class::Referral(referral) => { let seconds = referral.lifetime(); let cut = referral.into_cut(alloc)?; }
 //!     Class::Truncated => { /* ask the same server over TCP */ }
 //!     Class::Failed(failure) => { /* ask the next server */ }
 //! }

@@ -19,7 +19,8 @@ pub fn example<H: Heap>(
             let seconds = lifetime(&link);
         }
         Class::Referral(referral) => {
-            let seconds = referral.lifetime(); // ask referral.servers
+            let seconds = referral.lifetime();
+            let cut = referral.into_cut(alloc)?;
         }
         Class::Truncated => {} // ask the same server over TCP
         Class::Failed(failure) => {} // ask the next server

@@ -21,7 +21,7 @@ use crate::search::Search;
 use crate::serving::use_server_address;
 use crate::task::Task;
 use classify::{Class, Reading, Referral, narrow, narrow_law, received};
-use lookup::{Stores, Taken, cut_of};
+use lookup::{Stores, Taken};
 use memory::{Heap, Starved};
 use rdata::Addr;
 use referral::Cut;
@@ -75,19 +75,11 @@ fn answer<S: BuildHasher + Drop, A: Heap>(
 }
 
 // The cut that a referral leads to.
+// For the proof: it says of `Referral::into_cut` what the rules of a query speak of.
 fn cut_from<A: Heap>(alloc: A, referral: Referral<A>) -> Result<Cut<A>, Starved>
     ensures { IfOk result (IsCutOf referral.owner referral.servers referral.addresses) }
 {
-    let Referral {
-        owner,
-        servers,
-        addresses,
-        ttl: _,
-    } = referral;
-    let cut = cut_of(alloc, owner, servers.as_slice(), addresses.as_slice());
-    drop(servers);
-    drop(addresses);
-    Ok(cut?)
+    Ok(referral.into_cut(alloc)?)
 }
 
 // Starts the search anew at this cut, which is cached.

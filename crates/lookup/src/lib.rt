@@ -27,7 +27,7 @@ mod taken;
 
 pub use home::Home;
 pub use lookup::{Found, find};
-pub use made::{cut_of, found_addresses};
+pub use made::found_addresses;
 pub use stores::{Capacities, Hashers, Stores};
 pub use taken::Taken;
 // A crate can name a link that was taken in a contract only if the types of its fields are exported.

@@ -11,10 +11,10 @@ use memory::{Heap, Starved};
 use rdata::{Addr, RData, Record, RecordSet};
 use referral::Cut;
 
-/// The cut that an NS set and glue make: the servers' names, and the A records among the glue (RFC 1034,
-/// section 4.2.1).
+// The cut that an NS set and glue make: the servers' names, and the A records among the glue (RFC 1034,
+// section 4.2.1).
 // For the proof: it says of `Cut::of_records` what the rules of a query speak of.
-pub fn cut_of<A: Heap>(
+pub(crate) fn cut_of<A: Heap>(
     alloc: A,
     at: Name<A>,
     servers: &[Record<A>],

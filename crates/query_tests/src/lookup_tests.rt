@@ -1,7 +1,7 @@
 use crate::shared::{home, stores};
 use crate::worked::{Case, Stage, first_wrong_step, unsaid};
 use dname::Name;
-use lookup::{Found, Home, Stores, cut_of, find};
+use lookup::{Found, Home, Stores, find};
 use lru::DefaultHasher;
 use memory::{Heap, Starved};
 use rdata::{Addr, RData, RType, RecordSet, Records};
@@ -129,7 +129,7 @@ fn cut<A: Heap>(alloc: A, at: &str) -> Result<Cut<A>, Starved> {
     let at = name(alloc, at)?;
     let servers = Records::new(alloc);
     let glue = records(alloc, GLUE)?;
-    cut_of(alloc, at, servers.as_slice(), glue.as_slice())
+    Cut::of_records(alloc, at, servers.as_slice(), glue.as_slice())
 }
 
 // What is done with a resolver that has asked nobody, and what has to come of it.

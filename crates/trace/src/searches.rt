@@ -2,15 +2,9 @@
 use classify::{Class, Referral};
 use dname::Name;
 use memory::{Heap, Starved};
-use rdata::{RData, RType, Record, Records};
+use rdata::RType;
+use referral::Cut;
 use std::alloc::Allocator;
-
-// A zone whose servers are known.
-#[derive(Drop)]
-struct Cut<A: Allocator> {
-    zone: Name<A>,
-    servers: Records<A>,
-}
 
 /// What is sought, and where.
 #[derive(Drop)]
@@ -19,7 +13,7 @@ pub(crate) struct Search<A: Allocator> {
     pub name: Name<A>,
     /// The type that they are asked for.
     pub kind: RType,
-    // The place of its zone among those that are known.
+    // The place of its zone's cut among those that are known.
     cut: usize,
 }
 
@@ -34,10 +28,7 @@ impl<A: Heap> Searches<A> {
     /// None, and of all zones the root alone is known.
     pub fn new(alloc: A) -> Result<Searches<A>, Starved> {
         let mut cuts = Vec::new(alloc);
-        cuts.push(Cut {
-            zone: Name::root(alloc)?,
-            servers: Records::new(alloc),
-        })?;
+        cuts.push(Cut::of_hints(alloc, &[])?)?;
         Ok(Searches {
             open: Vec::new(alloc),
             cuts,
@@ -77,14 +68,8 @@ impl<A: Heap> Searches<A> {
     // The innermost search goes on at the servers of a zone beneath.
     fn descend(&mut self, referral: Referral<A>) -> Result<(), Starved> {
         let place = self.cuts.len();
-        let Referral {
-            owner,
-            servers,
-            addresses,
-            ttl: _,
-        } = referral;
-        drop(addresses);
-        self.cuts.push(Cut { zone: owner, servers })?;
+        let alloc = *self.cuts.allocator();
+        self.cuts.push(referral.into_cut(alloc)?)?;
         if let Some(search) = self.open.last_mut() {
             search.cut = place;
         }
@@ -107,7 +92,7 @@ impl<A: Allocator> Searches<A> {
     pub fn zone(&self) -> Option<&Name<A>> {
         let search = self.open.last()?;
         let cut = self.cuts.get(search.cut)?;
-        Some(&cut.zone)
+        Some(&cut.owner)
     }
 
     // The place of the search for this name and type.
@@ -133,7 +118,7 @@ impl<A: Allocator> Searches<A> {
             return false;
         };
         match self.cuts.get(search.cut) {
-            Some(cut) => is_server(&cut.servers, name),
+            Some(cut) => is_server(cut, name),
             None => false,
         }
     }
@@ -143,7 +128,7 @@ impl<A: Allocator> Searches<A> {
         let mut best = 0;
         let mut most = 0;
         for place in 0..self.cuts.len() {
-            let zone = &self.cuts[place].zone;
+            let zone = &self.cuts[place].owner;
             if name.is_at_or_under(zone) && most <= zone.labels() {
                 best = place;
                 most = zone.labels();
@@ -153,17 +138,7 @@ impl<A: Allocator> Searches<A> {
     }
 }
 
-// Whether a name is that of one of these servers.
-fn is_server<A: Allocator>(servers: &Records<A>, name: &Name<A>) -> bool {
-    servers
-        .as_slice()
-        .iter()
-        .any(|server| is_target(server, name))
-}
-
-fn is_target<A: Allocator>(server: &Record<A>, name: &Name<A>) -> bool {
-    match &server.value {
-        RData::Ns(target) => *target == *name,
-        _ => false,
-    }
+// Whether a name is that of one of the servers of a cut.
+fn is_server<A: Allocator>(cut: &Cut<A>, name: &Name<A>) -> bool {
+    cut.names.as_slice().iter().any(|server| *server == *name)
 }
