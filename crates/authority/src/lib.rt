@@ -16,8 +16,7 @@
 //! zones.push(zone)?;
 //! let catalog = Catalog::new(zones)?;
 //! match catalog.look(alloc, name, RType::A)? {
-//!     Local::Link(Link::Found(set)) => { /* the RRset */ }
-//!     Local::Link(_) => { /* a CNAME, NODATA or NXDOMAIN */ }
+//!     Local::Link(link) => { /* the RRset, a CNAME, NODATA or NXDOMAIN */ }
 //!     Local::Cut(at, servers, glue) => { /* a referral to `at` */ }
 //!     Local::NotHere => { /* not in bailiwick of any local zone */ }
 //! }

@@ -5,6 +5,8 @@
 #[cfg(test)]
 mod asks_head;
 #[cfg(test)]
+mod authority_head;
+#[cfg(test)]
 mod cache_head;
 #[cfg(test)]
 mod causes_head;
@@ -33,11 +35,17 @@ mod frames_head;
 #[cfg(test)]
 mod front_head;
 #[cfg(test)]
+mod iterate_head;
+#[cfg(test)]
 mod lookup_head;
+#[cfg(test)]
+mod master_lexer_head;
 #[cfg(test)]
 mod masterfile_head;
 #[cfg(test)]
 mod memory_head;
+#[cfg(test)]
+mod open_queries_head;
 #[cfg(test)]
 mod play_head;
 #[cfg(test)]

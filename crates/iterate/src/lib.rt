@@ -14,12 +14,14 @@
 //! ```text
 //! match begin_query(alloc, name, RType::A, home, stores, 0)? {
 //!     Started::Answered(last) => { /* the answer */ }
-//!     // Later: `advance_by_reply(.., server, &reading, ..)`, or `advance` with Input::TimedOut(server).
-//!     Started::Working(job, Next::AskUdp(server, name, kind)) => {}
-//!     // Later: the same, or Input::TcpFailed(server).
-//!     Started::Working(job, Next::AskTcp(server, name, kind)) => {}
-//!     Started::Working(_, Next::Done(chain, last)) => { /* the aliases, and the link that ends them */ }
-//!     Started::Working(_, Next::Fail(cause)) => { /* SERVFAIL */ }
+//!     Started::Working(job, next) => match next {
+//!         // Later: `advance_by_reply(.., server, &reading, ..)`, or `advance` with Input::TimedOut(server).
+//!         Next::AskUdp(server, asked, kind) => {}
+//!         // Later: the same, or Input::TcpFailed(server).
+//!         Next::AskTcp(server, asked, kind) => {}
+//!         Next::Done(chain, last) => { /* the aliases, and the link that ends them */ }
+//!         Next::Fail(cause) => { /* SERVFAIL */ }
+//!     },
 //! }
 //! ```
 #![tactic(auto)]

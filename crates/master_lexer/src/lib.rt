@@ -11,11 +11,17 @@
 //! Not here: what a word means (`masterfile`); `$INCLUDE`.
 //!
 //! ```text
-//! let mut words = Words::new(b"www 300 A 192.0.2.1 ; a host\nftp 300 A 192.0.2.2\n", 1);
-//! assert!(rt; matches!(words.next(), Some(Word::Plain(b"www"))));
-//! assert_eq!(rt; words.by_ref().count(), 3);
-//! assert!(rt; words.is_at_end());
-//! assert!(rt; matches!(words.next_entry(), Some((2, Lead::Margin))));
+//! let mut words = Words::new(text, 1);
+//! let lead = Lead::of_line(text); // how the first line begins
+//! match words.next() {
+//!     Some(Word::Plain(bytes)) => { /* as it was written */ }
+//!     Some(Word::Quoted(bytes)) => { /* what stands between the quotes */ }
+//!     Some(Word::Broken) => { /* a fault: nothing after it is read */ }
+//!     None => { /* the entry has no words */ }
+//! }
+//! if words.is_at_end() {
+//!     let entry = words.next_entry(); // the line on which it starts, and how that begins
+//! }
 //! ```
 #![tactic(auto)]
 

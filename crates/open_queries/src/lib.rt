@@ -11,7 +11,7 @@
 //! Not here: serving a query (`engine`, `iterate`).
 //!
 //! ```text
-//! let mut queries = Queries::new(alloc);
+//! // None that is open has this number or this ask.
 //! queries.put(Open { number: 1, client_query, job, ask, due: 1_000 })?;
 //! if let Some(number) = queries.find(7, server, 4660) {
 //!     if let Some(open) = queries.take_out(number) { let (client_query, job) = open.into_work(); }
