@@ -5,9 +5,9 @@
 //! line of the fault, and gives the exit status and, of `serve`, the `Server` that was started, which `serve_at`
 //! runs. `Disk` and `Machine` are the real files and sockets; a test gives a `Texts` and a `Host` of its own.
 //!
-//! Promised: status, text and fault of each command by one definition (`IsLineDone`, `IsRun`): the lines of the
-//! reply that the zone gives (`PrintsAnswer`), the text of a script (`PrintsScript`, `PrintsStorm`), a server made
-//! of its file (`StartsFor`); and which of several faults counts.
+//! Promised: status, text and fault of each command by one definition (`IsLineDone`, `IsRun`). It says the lines of the
+//! reply that the zone gives (`PrintsAnswer`), the text of a script (`PrintsScript`, `PrintsStorm`), the server made of
+//! its file (`StartsFor`), and which of several faults counts.
 //! Not here: the words themselves (`commandline`).
 //!
 //! ```text

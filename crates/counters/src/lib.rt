@@ -4,8 +4,8 @@
 //! `count` adds it to what counts, a `Counting`: the `Cells` of a server, which many threads raise without a lock, or a
 //! list in a test. `put_metrics` appends the text of Prometheus' exposition format (version 0.0.4) to a string.
 //!
-//! Promised: which counters an outcome is added to, exactly (`counted`): a reply to one RCODE, and at most one source,
-//! one cause and one time (`reply_law`); that no two counters share a cell (`places_law`); the text, exactly
+//! Promised: which counters an outcome is added to, exactly (`counted`). A reply is added to one RCODE, and to at most
+//! one source, one cause and one time (`reply_law`). No two counters share a cell (`places_law`). The text, exactly
 //! (`exposition`), and the response to a request over HTTP (`response`).
 //! Not here: what a cell holds once many threads have raised it, which is tried and not proved; the sockets at which
 //! the text is served (`server`).

@@ -6,9 +6,9 @@
 //! and its place (`stream_number`, `stream_client`, `place_of`). `repeats` says which datagrams are
 //! for an ask, `Reach` which servers are asked, `role_of` what each loop does, and `loop_count` how many there are.
 //!
-//! Promised: each event and each target exactly (`target`, `Adds`); a reply goes back to the address and the port
-//! that its query came from (`replies_go_back`), and to nobody else; which messages repeat an ask (`Repeats`), and
-//! which addresses are asked (`reaches`), exactly.
+//! Promised: each event and each target exactly (`target`, `Adds`). A reply goes back to the address and the port that
+//! its query came from (`replies_go_back`), and to nobody else. Which messages repeat an ask (`Repeats`), and which
+//! addresses are asked (`reaches`), exactly.
 //! Not here: the sockets themselves (`server`).
 //!
 //! ```text

@@ -1,11 +1,12 @@
 //! The laws of every run of the resolver: definitions, in `specs`, and laws, a module each. Nothing here runs.
 //!
-//! Promised: in a well formed world where each accepted message is one that its server may send, each reply to a
-//! recursive query is a SERVFAIL, or exactly the answer that RFC 1034, section 4.3.2, finds in the zones, or truncated
-//! over UDP (`headline_law`; `truth_law`). With no premise on anyone, no link is sent beyond its TTL, and every failure
-//! has its cause (`timely_law`). A query has one reply and one open ask, in due order (`discipline_law`, and the other
-//! laws of module `orderly`). An accepted message is used in its own step (`calls_law`, `runs_law`). Local and cached
-//! links are answered (`held_law`, `kept_law`, `failures_law`). `engine::Core::step` keeps each of them.
+//! Promised: let the world be well formed, and each accepted message be one that its server may send. Then each reply
+//! to a recursive query is a SERVFAIL, or exactly the answer that RFC 1034, section 4.3.2, finds in the zones, or
+//! truncated over UDP (`headline_law`; `truth_law`). With no premise on anyone, no link is sent beyond its TTL, and
+//! every failure has its cause (`timely_law`). A query has one reply and one open ask, in due order (`discipline_law`,
+//! and the other laws of module `orderly`). An accepted message is used in its own step (`calls_law`, `runs_law`).
+//! Local and cached links are answered (`held_law`, `kept_law`, `failures_law`). `engine::Core::step` keeps each of
+//! them.
 //! Not here: which definitions a reader has to believe (docs/DEFINITIONS.md); that the premises can be met
 //! (`witness`); the same without a premise on servers, in a network in memory (`network`).
 //!

@@ -6,8 +6,8 @@
 //! speak in these words.
 //!
 //! Promised: a put brings its own entry alone and loses the old one of its key, or what stood past the capacity
-//! (`kept_law`); a look-up changes the order alone (`used_law`); a removal loses one key's (`removed_law`); an
-//! entry goes down by one place at most with each call (`places_law`); no key stands twice, and there are no more
+//! (`kept_law`). A look-up changes the order alone (`used_law`). A removal loses the entry of one key (`removed_law`).
+//! An entry goes down by one place at most with each call (`places_law`). No key stands twice, and there are no more
 //! entries than the capacity (`keys_law`).
 //! Not here: how long what is kept lives (`rdata`), and what is done with what no longer lives (`cache`, `referral`).
 //!

@@ -5,10 +5,10 @@
 //! thread, and `sizes` tells the sizes of its state. When all are done, `gather` takes the book (`into_book`) and what
 //! each worker `Kept`.
 //!
-//! Promised: an entry is of that worker, that event and its next number (`Enters`), and a refusal leaves the ticket
-//! as `IsEventRefused` says; the sizes that are told are those of a state to which one history led (`AreSizes`); a
-//! history that closes is legal, and a shuffle of the lists that the workers kept (`Closes`); why it does not close
-//! (`IsOpen`).
+//! Promised: an entry is of that worker, that event and its next number (`Enters`), and a refusal leaves the ticket as
+//! `IsEventRefused` says. The sizes that are told are those of a state to which one history led (`AreSizes`). A history
+//! that closes is legal, and a shuffle of the lists that the workers kept (`Closes`). Of another it is said why it does
+//! not close (`IsOpen`).
 //! Not here: making threads (`workers`, `server`); what the machine does (`engine`, `simnet`).
 //!
 //! ```text

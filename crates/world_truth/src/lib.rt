@@ -6,10 +6,10 @@
 //! at an address may reply, `IsRight` which bytes are the right reply. `IsAnswer` and `IsReferralTo` say what a
 //! message is taken for, `MayAsk` and `IsFrame` whose servers may be asked for a name.
 //!
-//! Promised: a name has one zone in charge and a question one truth (`charge_law`, `one_truth_law`), a right reply
-//! is right for one truth alone (`one_reply_law`); what an honest server answers is true, and where it refers may
-//! be followed (`honest_answer_law`, `honest_referral_law`, `frame_law`); an NXDOMAIN is true of all names beneath
-//! (`beneath_law`, RFC 8020); the premises can be met (`sample_law`).
+//! Promised: a name has one zone in charge and a question one truth (`charge_law`, `one_truth_law`). A right reply is
+//! right for one truth alone (`one_reply_law`). What an honest server answers is true, and where it refers may be
+//! followed (`honest_answer_law`, `honest_referral_law`, `frame_law`). An NXDOMAIN is true of all names beneath
+//! (`beneath_law`, RFC 8020). The premises can be met (`sample_law`).
 //! Not here: caches, retries, identifiers and time (`resolution`, `runs`, `laws`).
 //!
 //! ```text
