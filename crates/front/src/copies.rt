@@ -1,26 +1,14 @@
-//! Queries and their answers, copied.
+//! Requests and their answers, copied.
 ghost use Rattle.std.specs.Prelude.{◌≡◌};
 
-use crate::queries::{End, Outcome, Query, Request};
+use crate::queries::{End, Outcome, Request};
 use memory::Heap;
 use std::alloc::AllocError;
-
-impl<A: Heap> Clone for Query<A> {
-    ghost is_clone = { λ x y. y ≡ x };
-
-    fn clone(&self) -> Result<Query<A>, AllocError> {
-        Ok(Query {
-            start: self.start,
-            name: self.name.clone()?,
-            kind: self.kind,
-            echo: self.echo.clone()?,
-        })
-    }
-}
 
 impl<A: Heap> Clone for Request<A> {
     ghost is_clone = { λ x y. y ≡ x };
 
+    // A query is shared.
     fn clone(&self) -> Result<Request<A>, AllocError> {
         match self {
             Request::Drop => Ok(Request::Drop),

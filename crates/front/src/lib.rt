@@ -28,6 +28,7 @@ mod laws;
 mod queries;
 mod read;
 mod reply;
+mod shared;
 mod start;
 
 pub use equality::same_echo;
@@ -36,4 +37,5 @@ pub use laws::{echo_is_question, local_answer_is_one, reading_is_one};
 pub use queries::{End, Outcome, Query, Refusal, Request};
 pub use read::read_query;
 pub use reply::{refusal_bytes, refusal_is_message, reply_bytes, reply_is_message};
+pub use shared::SharedQuery;
 pub use start::Start;

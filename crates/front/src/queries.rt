@@ -4,6 +4,7 @@ ghost use Rattle.std.specs.Option.{option_copied};
 ghost use Rattle.rdata.specs.Rows.{in_set};
 ghost use Rattle.front.specs.Replies.{refusal_rcode, end_rcode, found_in, denied_by};
 
+use crate::shared::SharedQuery;
 use crate::start::Start;
 use causes::Cause;
 use dname::Name;
@@ -52,8 +53,8 @@ pub enum Request<A: Allocator = Global> {
     Drop,
     /// A refusal, with the question to repeat, if there is one.
     Refuse(Refusal, Start, Option<Echo<A>>),
-    /// A query.
-    Query(Query<A>),
+    /// A query, shared by all that hold it.
+    Query(SharedQuery<A>),
 }
 
 /// The end of a CNAME chain.

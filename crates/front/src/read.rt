@@ -4,6 +4,7 @@ ghost use Rattle.front.specs.Openings.{opening_of};
 ghost use Rattle.front.specs.Queries.{IsRequest, by_question};
 
 use crate::queries::{Query, Refusal, Request};
+use crate::shared::SharedQuery;
 use crate::start::Start;
 use dname::Name;
 use memory::{Heap, Starved};
@@ -23,7 +24,7 @@ pub fn read_query<A: Heap>(alloc: A, bytes: &[u8]) -> Result<Request<A>, Starved
     }
     let start = start_at(bytes);
     match decode_question(alloc, bytes) {
-        Ok(Some((name, echo))) => Ok(sort_question(start, name, echo)),
+        Ok(Some((name, echo))) => Ok(sort_question(alloc, start, name, echo)?),
         Ok(None) => Ok(Request::Refuse(Refusal::FormErr, start, None)),
         Err(WireError::Memory) => Err(Starved),
         Err(_) => Ok(Request::Refuse(Refusal::FormErr, start, None)),
@@ -39,16 +40,24 @@ fn start_at(bytes: &[u8]) -> Start
 }
 
 // A message of one question: a query, or one that is not served.
-fn sort_question<A: Heap>(start: Start, name: Name<A>, echo: Echo<A>) -> Request<A>
-    ensures { result ≡ by_question start (record { name = name; qtype = echo.qtype; qclass = echo.qclass }) echo.name }
+fn sort_question<A: Heap>(
+    alloc: A,
+    start: Start,
+    name: Name<A>,
+    echo: Echo<A>,
+) -> Result<Request<A>, Starved>
+    ensures { IfOk result (λ r. r ≡ by_question start (record { name = name; qtype = echo.qtype; qclass = echo.qclass }) echo.name) }
 {
     match RType::from_number(echo.qtype) {
-        Some(kind) if start.opcode() == 0 && echo.qclass == INTERNET => Request::Query(Query {
-            start,
-            name,
-            kind,
-            echo,
-        }),
-        _ => Request::Refuse(Refusal::NotImp, start, Some(echo)),
+        Some(kind) if start.opcode() == 0 && echo.qclass == INTERNET => {
+            let query = Query {
+                start,
+                name,
+                kind,
+                echo,
+            };
+            Ok(Request::Query(SharedQuery::new(alloc, query)?))
+        }
+        _ => Ok(Request::Refuse(Refusal::NotImp, start, Some(echo))),
     }
 }
