@@ -1,7 +1,7 @@
 //! A query with its client.
 ghost use Rattle.std.specs.Prelude.{◌≡◌, ◌↔◌, IsTrue};
 
-use front::Query;
+use front::SharedQuery;
 use memory::Heap;
 use std::alloc::{AllocError, Allocator, Global};
 use std::marker::Model;
@@ -14,8 +14,9 @@ pub struct ClientQuery<A: Allocator = Global> {
     pub client: u64,
     /// UDP or TCP; over UDP a reply of more than 512 bytes is truncated.
     pub way: Via,
-    /// The query, with the fields that the reply repeats: ID, RD, and the question in its own letters.
-    pub query: Query<A>,
+    /// The query, with the fields that the reply repeats: ID, RD, and the question in its own letters. It is shared by
+    /// all that hold it.
+    pub query: SharedQuery<A>,
 }
 
 impl<A: Allocator> Model for ClientQuery<A> {

@@ -5,7 +5,7 @@ ghost use Rattle.runs.specs.States.{recursive};
 ghost use Rattle.score.specs.Clients.{AskRecursively, IsHeard, query_of};
 
 use events::read_asked;
-use front::{Query, Request};
+use front::{Request, SharedQuery};
 use memory::{Heap, Starved};
 use std::alloc::Allocator;
 use std::marker::Model;
@@ -13,7 +13,7 @@ use std::marker::Model;
 /// For each client, in the order of their numbers, its query where that is recursive; the first one has number 1.
 #[derive(Drop)]
 pub struct Clients<A: Allocator> {
-    queries: Vec<Option<Query<A>>, A>,
+    queries: Vec<Option<SharedQuery<A>>, A>,
 }
 
 impl<A: Allocator> Model for Clients<A> {
@@ -48,7 +48,7 @@ impl<A: Heap> Clients<A> {
 
 impl<A: Allocator> Clients<A> {
     /// The recursive query of a client.
-    pub fn query(&self, client: u64) -> Option<&Query<A>>
+    pub fn query(&self, client: u64) -> Option<&SharedQuery<A>>
         ensures { option_map plain (option_copied result) ≡ query_of self.now client }
     {
         if client == 0 {
@@ -69,7 +69,7 @@ impl<A: Allocator> Clients<A> {
 }
 
 // The query that bytes ask, where recursion is desired.
-fn recursive_query<A: Heap>(alloc: A, bytes: &[u8]) -> Result<Option<Query<A>>, Starved>
+fn recursive_query<A: Heap>(alloc: A, bytes: &[u8]) -> Result<Option<SharedQuery<A>>, Starved>
     ensures { IfOk result (λ q. AskRecursively bytes.now (option_map plain q)) }
 {
     match read_asked(alloc, bytes)? {
@@ -78,7 +78,7 @@ fn recursive_query<A: Heap>(alloc: A, bytes: &[u8]) -> Result<Option<Query<A>>, 
     }
 }
 
-fn if_recursive<A: Heap>(query: Query<A>) -> Option<Query<A>>
+fn if_recursive<A: Heap>(query: SharedQuery<A>) -> Option<SharedQuery<A>>
     ensures { option_map plain result ≡ cond (recursive (plain query)) (Some (plain query)) None }
 {
     if query.start.wants_recursion() {

@@ -6,8 +6,8 @@ use authority::Catalog;
 use causes::Cause;
 use dname::Name;
 use front::{
-    End, Outcome, Query, Refusal, Request, Start, answer_local, read_query, refusal_bytes,
-    reply_bytes,
+    End, Outcome, Query, Refusal, Request, SharedQuery, Start, answer_local, read_query,
+    refusal_bytes, reply_bytes,
 };
 use memory::Starved;
 use rdata::{CharacterString, RData, RType, Record, RecordSet, Records, Texts, set_at};
@@ -61,7 +61,7 @@ fn put_query(query: &Query, out: &mut String) -> Answer {
 }
 
 // The query that these bytes are.
-fn query_of(alloc: Global, bytes: &[u8]) -> Result<Query, Fault> {
+fn query_of(alloc: Global, bytes: &[u8]) -> Result<SharedQuery, Fault> {
     match read_query(alloc, bytes)? {
         Request::Query(query) => Ok(query),
         _ => Err(Fault::NotUnderstood),

@@ -1,7 +1,7 @@
 //! A query that a local zone answers, bytes to bytes.
 use crate::wire_tests::{QUERY, REPLY};
 use authority::Catalog;
-use front::{Outcome, Query, Request, answer_local, read_query, reply_bytes};
+use front::{Outcome, Query, Request, SharedQuery, answer_local, read_query, reply_bytes};
 use memory::{Heap, Starved};
 use rdata::{Addr, RData, Record, Records, Soa};
 use record_fixtures::name;
@@ -90,7 +90,7 @@ fn catalog<A: Heap>(alloc: A, zone: Small<'_>) -> Result<Catalog<A>, Starved> {
 }
 
 // The query that these bytes are.
-fn query_of<A: Heap>(alloc: A, bytes: &[u8]) -> Result<Query<A>, Starved> {
+fn query_of<A: Heap>(alloc: A, bytes: &[u8]) -> Result<SharedQuery<A>, Starved> {
     match read_query(alloc, bytes)? {
         Request::Query(query) => Ok(query),
         _ => Err(Starved),

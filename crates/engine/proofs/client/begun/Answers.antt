@@ -12,11 +12,11 @@ returns-clause-begins g c =
     let q = c.client_query.inside.query in
     subst (λ (w : ClientQuery). IfOk c.begin_query.result (λ b. StartsWith c.args.home.now c.args.now (job_for c.args.now w.query) c.args.stores.now b c.begin_query.new.stores)) c.client_query.view_is
     (subst (λ (m : ℕ). IfOk c.begin_query.result (λ b. StartsWith c.args.home.now c.args.now (job_at q.name (type_number q.kind) m) c.args.stores.now b c.begin_query.new.stores)) (min-eq_left c.requires)
-    c.begin_query.ensures.begins)
+    (rw c.deref.ensures at (rw c.deref-2.ensures at c.begin_query.ensures.begins)))
 
 pub returns-clause-stops : goal.returns-clause-stops
 returns-clause-stops g c =
     let q = c.client_query.inside.query in
     subst (λ (w : ClientQuery). OnErr c.begin_query.result (Stops c.args.home.now c.args.now Start (job_for c.args.now w.query) c.args.stores.now c.begin_query.new.stores)) c.client_query.view_is
     (subst (λ (m : ℕ). OnErr c.begin_query.result (Stops c.args.home.now c.args.now Start (job_at q.name (type_number q.kind) m) c.args.stores.now c.begin_query.new.stores)) (min-eq_left c.requires)
-    c.begin_query.ensures.stops)
+    (rw c.deref.ensures at (rw c.deref-2.ensures at c.begin_query.ensures.stops)))
