@@ -28,9 +28,9 @@ pub enum Counter {
     FailedAsk(Way, AskFault),
     /// Datagrams at the socket of an ask which did not repeat it: the trace of a forger.
     ForeignDatagram,
-    /// Queries that were held at the door, since equal ones were under way.
+    /// Queries that were held in admission, since equal ones were under way.
     HeldQuery,
-    /// Queries that were dropped at the door.
+    /// Queries that were dropped in admission.
     DroppedQuery,
     /// Growths that were refused: for want of memory something was dropped.
     RefusedMemory,

@@ -37,9 +37,9 @@ pub enum Outcome {
     AskFailed(Way, AskFault),
     /// A datagram came to the socket of an ask and did not repeat it.
     Foreign,
-    /// A query is held at the door.
+    /// A query is held in admission.
     Held,
-    /// So many queries are dropped at the door.
+    /// So many queries are dropped in admission.
     Dropped(u64),
     /// A growth was refused.
     MemoryRefused,

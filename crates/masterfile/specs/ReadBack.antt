@@ -56,15 +56,8 @@ AreSound (r ∷ rs) = IsSound r × AreSound rs
 -- A TXT that fits a message: its strings have at most 65,535 bytes with their length bytes (RFC 1035, section 3.2.1). All
 -- other data are short enough.
 abbrev pub FitsMessage : Datum → Type 0
-FitsMessage (Ipv4 a) = Unit {0}
-FitsMessage (Ns n) = Unit {0}
-FitsMessage (Cname n) = Unit {0}
-FitsMessage (Soa s) = Unit {0}
-FitsMessage (Ptr n) = Unit {0}
-FitsMessage (Mx p n) = Unit {0}
 FitsMessage (Txt ts) = strings_size ts ≤ 65535
-FitsMessage (Ipv6 a) = Unit {0}
-FitsMessage (Srv s) = Unit {0}
+FitsMessage _ = Unit {0}
 
 abbrev pub FitMessages : List Record → Type 0
 FitMessages [] = Unit {0}
