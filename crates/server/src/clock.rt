@@ -1,6 +1,6 @@
 //! The loop that lets time pass, so that queries which are due are served.
 use crate::context::Context;
-use crate::log::{Log, log_start};
+use crate::log::Log;
 use crate::worker::Worker;
 use book::Machine;
 use counters::Outcome;
@@ -25,7 +25,6 @@ pub(crate) fn pass_time<
 >(rt: &R, context: &Context<'_, M, L>, worker: &mut Worker<L>) {
     let mut log = Log::new(context.ends.shown.and_then(|shown| shown.log));
     let mut told = 0;
-    log_start(context);
     context.ends.tell("READY=1");
     for _ in rt.forever() {
         if context.is_over() {

@@ -6,6 +6,7 @@ use crate::context::{Bounds, Context};
 use crate::datagrams::take_datagrams;
 use crate::ends::Ends;
 use crate::fault::ServeError;
+use crate::log::log_start;
 use crate::metrics::serve_counters;
 use crate::moments::Beginning;
 use crate::server_streams::ask_servers;
@@ -76,12 +77,14 @@ pub fn serve_until<
     }
 }
 
-// Runs a loop for each worker, until all have ended; whether each had its thread.
+// Logs the start, before any loop answers, and runs a loop for each worker, until all have ended; whether each had its
+// thread.
 fn run<
     M: Measured<Event = TypedEvent, Out = TypedActions, Sizes = StoreSizes> + Send + Sync,
     L: Ledger + Send + Sync,
     R: Net<Listener = TcpListener, Stream = TcpStream> + Threads + Wait + Clock + Sync,
 >(rt: &R, context: &Context<'_, M, L>, workers: Vec<Worker<L>>) -> bool {
+    log_start(context);
     thread::scope(
         thread::scope_env(),
         rt,
