@@ -374,9 +374,9 @@ fn each_growth_of_reading_is_refused_in_turn(rt: HostRuntime) -> Result<(), Fail
 fn copies_of_events_are_the_same(rt: HostRuntime) -> Result<(), Fail> {
     let heap = Refusing::new(rt.alloc());
     let events = typed_events(&heap)?;
-    // Two for each query and one more for its letters; one for the question that is refused; two for each answer, whose
-    // data are shared, five for the denial, and seven for the referral.
-    assert_eq!(rt; copies(&heap, &events)?, (None, 30, None));
+    // None for a query, which is shared; one for the question that is refused; two for each answer, whose data are
+    // shared, five for the denial, and seven for the referral.
+    assert_eq!(rt; copies(&heap, &events)?, (None, 23, None));
     Ok(())
 }
 
@@ -384,8 +384,8 @@ fn copies_of_events_are_the_same(rt: HostRuntime) -> Result<(), Fail> {
 fn copies_of_actions_are_the_same(rt: HostRuntime) -> Result<(), Fail> {
     let heap = Refusing::new(rt.alloc());
     let actions = typed_actions(&heap)?;
-    // Two for each query; four for each answer, whose data are shared, five for the denial, five for the referral; one
-    // for the question that is refused, and one for each ask.
-    assert_eq!(rt; copies(&heap, &actions)?, (None, 34, None));
+    // None for a query, which is shared; four for each answer, whose data are shared, five for the denial, five for the
+    // referral; one for the question that is refused, and one for each ask.
+    assert_eq!(rt; copies(&heap, &actions)?, (None, 22, None));
     Ok(())
 }
