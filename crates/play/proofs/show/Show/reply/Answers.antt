@@ -15,6 +15,7 @@ returns-in_ok-self-clause-is g c =
       clients = refl;
       sends = sym (append-nil _);
       counts = subst (λ (o : Option (Query Plain)). IsCountedFor (s.network).world o c.args.bytes.now s.count c.in_ok-self.field-0) c.in-Some.ensures
-          (subst (λ (W : World). IsCounted W (plain c.in-Some.query.now) c.args.bytes.now s.count c.in_ok-self.field-0) c.world.ensures c.in_ok-self.ensures);
+          (subst (λ (W : World). IsCounted W (plain c.in-Some.query.now) c.args.bytes.now s.count c.in_ok-self.field-0) c.world.ensures
+          (subst (λ q. IsCounted c.world.result.now (plain q) c.args.bytes.now s.count c.in_ok-self.field-0) c.deref.ensures c.in_ok-self.ensures));
       prints = c.in_ok-put_action.ensures.ok;
     }
