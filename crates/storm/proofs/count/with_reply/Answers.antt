@@ -9,5 +9,5 @@ pub returns-in-Some : goal.returns-in-Some
 returns-in-Some c =
     IfOk-weaker c.with.result _ _
     (λ n h. subst (λ o. IsCountedFor c.args.world.now o c.args.bytes.now c.args.count n) c.in-Some.ensures
-      (subst (λ q. IsCounted c.args.world.now (plain q) c.args.bytes.now c.args.count n) c.deref.ensures h))
+    (subst (λ q. IsCounted c.args.world.now (plain q) c.args.bytes.now c.args.count n) c.deref.ensures h))
     c.with.ensures
