@@ -60,17 +60,11 @@ open_front label rest n e = subst (λ (k : ℕ). drop k (label ++ rest) ≡ rest
 pasted_front : (bs rest : List ℕ) → take (length rest) (paste bs 0 rest (length rest)) ≡ rest
 pasted_front bs rest = rw take-length (take-append_seam rest (drop (0 + length rest) bs))
 
--- What stands behind the first label, moved to the front.
-pub moved_front : (bs label rest copied items : List ℕ) (size len : ℕ) → bs ≡ length label ∷ (label ++ rest) → size ≡ length bs → len ≡ length bs
-    → copied ≡ copy_within bs (size - length rest) len 0 → items ≡ take (length rest) copied → items ≡ rest
-moved_front bs label rest copied items size len e es el ec ei =
-    let whole : length bs ≡ suc (length label) + length rest = omega (arith, ap length e, length-append label rest) in
-    let at : size - length rest ≡ suc (length label) = omega arith in
-    let back : drop (size - length rest) bs ≡ rest = subst (λ (k : ℕ). drop k bs ≡ rest) (sym at) (subst (λ (x : List ℕ). drop (suc (length label)) x ≡ rest) (sym e) (open_front label rest (length label) refl)) in
-    let left : len - (size - length rest) ≡ length rest = omega arith in
-    ei ∙ (ap (λ (x : List ℕ). take (length rest) x) ec
-    ∙ (ap (λ (x : List ℕ). take (length rest) (paste bs 0 x (len - (size - length rest)))) back
-    ∙ (ap (λ (n : ℕ). take (length rest) (paste bs 0 rest n)) left ∙ pasted_front bs rest)))
+-- What stands behind the first label is the end of as many bytes.
+pub last_front : (bs label rest items : List ℕ) (left : ℕ) → bs ≡ length label ∷ (label ++ rest) → left ≡ length rest → items ≡ drop (length bs - left) bs → items ≡ rest
+last_front bs label rest items left e el ei =
+    let at : length bs - left ≡ suc (length label) = omega (arith, ap length e, length-append label rest) in
+    ei ∙ subst (λ (k : ℕ). drop k bs ≡ rest) (sym at) (subst (λ (x : List ℕ). drop (suc (length label)) x ≡ rest) (sym e) (open_front label rest (length label) refl))
 
 parent_is : (l : List ℕ) (ls : List (List ℕ)) → AreLabels ls → parent_of (l ∷ ls) ≡ Some ls
 parent_is l [] h = absurd h

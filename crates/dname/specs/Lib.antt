@@ -9,6 +9,7 @@ pub mod Draft
 pub mod Overflows
 pub mod Keys
 -- Kept: invariants of the code's values, and how contracts see them.
+pub mod Kept
 pub mod Laws
 pub mod Tokens
 pub mod Written

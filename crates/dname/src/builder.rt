@@ -4,6 +4,7 @@ ghost use Rattle.dname.specs.Labels.{folded};
 ghost use Rattle.dname.specs.Draft.{empty_draft, Refuses, pushed, shut};
 ghost use Rattle.dname.specs.Overflows.{overflow_number, overflow_text};
 
+use crate::bytes::NameBytes;
 use crate::name::{LONGEST_NAME, Name};
 use memory::{Heap, Starved};
 use std::alloc::{AllocError, AllocFailed, Allocator, Global};
@@ -155,6 +156,6 @@ impl<A: Heap> Builder<A> {
         requires { self.opened ≡ [] }
         ensures { result ≡ self.closed ++ [] ∷ [] }
     {
-        Name::from_wire(self.bytes)
+        Name::from_wire(NameBytes::of_vec(self.bytes))
     }
 }

@@ -30,7 +30,9 @@ impl<A: Allocator> Name<A> {
     pub fn iter(&self) -> Labels<'_>
         ensures { result ≡ self.now }
     {
-        Labels { rest: &self.bytes }
+        Labels {
+            rest: self.bytes.as_slice(),
+        }
     }
 }
 

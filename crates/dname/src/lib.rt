@@ -22,6 +22,7 @@
 
 mod allocated;
 mod builder;
+mod bytes;
 mod labels;
 mod name;
 mod order;
@@ -31,6 +32,7 @@ mod text;
 mod walk;
 
 pub use builder::{Builder, Overflow};
+pub use bytes::INLINE_NAME;
 pub use labels::Labels;
 pub use name::{LONGEST_NAME, Name};
 pub use suffix::Suffix;

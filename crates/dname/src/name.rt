@@ -5,6 +5,7 @@ ghost use Rattle.dname.specs.Labels.{wire, root, star, folded_labels, same_name,
 ghost use Rattle.dname.specs.Wire.{labels_of, IsNameWire, IsSpellingWire};
 ghost use Rattle.dname.specs.Laws.{fed_name, same_name_per, same_name_equiv, same_name_fed};
 
+use crate::bytes::NameBytes;
 use crate::walk::{has_end, next_label};
 use memory::{Heap, Starved};
 use std::alloc::{AllocError, Allocator, Global};
@@ -17,10 +18,17 @@ pub const LONGEST_NAME: usize = 255;
 
 /// A domain name in lower case, at most 255 bytes with its length bytes and closing zero (RFC 1035,
 /// section 2.3.4). Contracts see the list of its labels, the root's empty one last.
-#[derive(Drop)]
 pub struct Name<A: Allocator = Global> {
     // In wire form: each label behind its length, the root's zero last.
-    pub(crate) bytes: Vec<u8, A>,
+    pub(crate) bytes: NameBytes<A>,
+}
+
+// By hand, so that whatever drops it calls this.
+impl<A: Allocator> Drop for Name<A> {
+    fn drop(self) {
+        let Name { bytes } = self;
+        drop(bytes);
+    }
 }
 
 impl<A: Allocator> Model for Name<A> {
@@ -29,9 +37,9 @@ impl<A: Allocator> Model for Name<A> {
 
     ghost Value = { List (List ℕ) };
 
-    ghost view = { λ n. labels_of n.bytes.items };
+    ghost view = { λ n. labels_of n.bytes };
 
-    ghost invariant = { λ n. IsNameWire n.bytes.items };
+    ghost invariant = { λ n. IsNameWire n.bytes };
 }
 
 impl<A: Allocator> PartialEq for Name<A> {
@@ -55,7 +63,7 @@ impl<A: Allocator> Hash for Name<A> {
 
     fn hash<H: Hasher>(&self, state: &mut H) {
         // In one call: a hasher takes whole words of the bytes, and a slice would be given to it byte by byte.
-        state.write(&self.bytes);
+        state.write(self.bytes.as_slice());
     }
 }
 
@@ -63,16 +71,17 @@ impl<A: Heap> Clone for Name<A> {
     ghost is_clone = { λ x y. y ≡ x };
 
     fn clone(&self) -> Result<Name<A>, AllocError> {
-        let bytes = Vec::from_slice(*self.bytes.allocator(), &self.bytes)?;
-        Ok(Name { bytes })
+        Ok(Name {
+            bytes: self.bytes.clone()?,
+        })
     }
 }
 
 impl<A: Allocator> Name<A> {
     // A name from its wire form.
-    pub(crate) fn from_wire(bytes: Vec<u8, A>) -> Name<A>
-        requires { IsNameWire bytes.items }
-        ensures { result ≡ labels_of bytes.items }
+    pub(crate) fn from_wire(bytes: NameBytes<A>) -> Name<A>
+        requires { IsNameWire bytes }
+        ensures { result ≡ labels_of bytes }
     {
         Name { bytes }
     }
@@ -83,8 +92,9 @@ impl<A: Heap> Name<A> {
     pub fn root(alloc: A) -> Result<Name<A>, Starved>
         ensures { IfOk result (λ n. n ≡ root) }
     {
-        let bytes = Vec::from_slice(alloc, &[0])?;
-        Ok(Name { bytes })
+        Ok(Name {
+            bytes: NameBytes::new(alloc, &[0])?,
+        })
     }
 
     /// The name of these bytes, which are in wire form with letters of either case: 3 `WWW` 0 is `www`.
@@ -92,25 +102,26 @@ impl<A: Heap> Name<A> {
         requires { IsSpellingWire letters.now }
         ensures { IfOk result (λ n. n ≡ folded_labels (labels_of letters.now)) }
     {
-        Ok(Name::from_wire(letters.to_ascii_lowercase(alloc)?))
+        Ok(Name::from_wire(NameBytes::lower(alloc, letters)?))
     }
 
     /// The same name with memory of another allocator: a copy of `www.example` is equal to it.
     pub fn copied<B: Heap>(&self, alloc: B) -> Result<Name<B>, Starved>
         ensures { IfOk result (λ n. n ≡ self.now) }
     {
-        let bytes = Vec::from_slice(alloc, &self.bytes)?;
-        Ok(Name { bytes })
+        Ok(Name {
+            bytes: NameBytes::new(alloc, self.bytes.as_slice())?,
+        })
     }
 
     /// The name without its first label, `example` of `www.example`; the root has none above it.
     pub fn parent(&self) -> Result<Option<Name<A>>, Starved>
         ensures { IfOk result (λ p. p ≡ parent_of self.now) }
     {
-        match next_label(&self.bytes) {
+        match next_label(self.bytes.as_slice()) {
             None => Ok(None),
             Some((_, rest)) => {
-                let bytes = Vec::from_slice(*self.bytes.allocator(), rest)?;
+                let bytes = NameBytes::new(*self.bytes.allocator(), rest)?;
                 Ok(Some(Name { bytes }))
             }
         }
@@ -124,9 +135,7 @@ impl<A: Heap> Name<A> {
         ensures ok { OnOk result (self.new ≡ other.now) }
         ensures err { OnErr result (self.new ≡ self.old) }
     {
-        self.bytes.resize(other.bytes.len(), 0)?;
-        self.bytes.copy_from_slice(&other.bytes);
-        Ok(())
+        Ok(self.bytes.set(other.bytes.as_slice())?)
     }
 }
 
@@ -149,21 +158,21 @@ impl<A: Allocator> Name<A> {
         ensures is { result ≡ length (wire self.now) }
         ensures short { result ≤ 255 }
     {
-        self.bytes.len()
+        self.bytes.as_slice().len()
     }
 
     /// The name in wire form: of `www.a`, 3 `www` 1 `a` 0.
     pub fn wire(&self) -> &[u8]
         ensures { result.now ≡ wire self.now }
     {
-        &self.bytes
+        self.bytes.as_slice()
     }
 
     /// Whether this is the root: true of `.`, false of `example`.
     pub fn is_root(&self) -> bool
         ensures { IsTrue result ↔ (self.now ≡ root) }
     {
-        self.bytes[0] == 0
+        self.bytes.as_slice()[0] == 0
     }
 
     /// The first label, in lower case: `www` of `www.example`; none at the root.
@@ -171,7 +180,7 @@ impl<A: Allocator> Name<A> {
         ensures label { MatchOption result (self.now ≡ root) (λ l. (ls : List (List ℕ)) × (self.now ≡ l.now ∷ ls)) }
         ensures some { IfSome result (λ l. 0 < length l.now) }
     {
-        match next_label(&self.bytes) {
+        match next_label(self.bytes.as_slice()) {
             None => None,
             Some((label, _)) => Some(label),
         }
@@ -182,7 +191,7 @@ impl<A: Allocator> Name<A> {
         ensures relation { IsTrue result ↔ IsAtOrUnder self.now other.now }
         ensures test { result ≡ is_under self.now other.now }
     {
-        has_end(&self.bytes, &other.bytes)
+        has_end(self.bytes.as_slice(), other.bytes.as_slice())
     }
 
     /// Makes the name its parent, in place and without memory: `www.example` becomes `example`. False, and no change,
@@ -191,13 +200,11 @@ impl<A: Allocator> Name<A> {
         ensures above { OnTrue result (parent_of self.old ≡ Some self.new) }
         ensures root { OnFalse result ((self.old ≡ root) × (self.new ≡ self.old)) }
     {
-        let size = self.bytes.len();
-        let Some((_, rest)) = next_label(&self.bytes) else {
+        let Some((_, rest)) = next_label(self.bytes.as_slice()) else {
             return false;
         };
         let left = rest.len();
-        self.bytes.copy_within(size - left.., 0);
-        self.bytes.truncate(left);
+        self.bytes.keep_last(left);
         true
     }
 
@@ -216,7 +223,7 @@ impl<A: Allocator> Name<A> {
     pub fn well_formed_law(&self)
         ensures { IsName self.now }
     {
-        let _ = self.bytes.len();
+        let _ = self.bytes.as_slice();
     }
 
     /// The wire form of every name can be borrowed as a name, which is this name.
@@ -224,6 +231,6 @@ impl<A: Allocator> Name<A> {
         ensures form { IsNameWire (wire self.now) }
         ensures labels { labels_of (wire self.now) ≡ self.now }
     {
-        let _ = self.bytes.len();
+        let _ = self.bytes.as_slice();
     }
 }

@@ -48,8 +48,8 @@ impl<A: Allocator> Ord for Name<A> {
 
     fn cmp(&self, other: &Name<A>) -> Ordering {
         let (mine, theirs) = (self.labels(), other.labels());
-        let mut rest = behind(&self.bytes, mine.saturating_sub(theirs));
-        let mut others = behind(&other.bytes, theirs.saturating_sub(mine));
+        let mut rest = behind(self.bytes.as_slice(), mine.saturating_sub(theirs));
+        let mut others = behind(other.bytes.as_slice(), theirs.saturating_sub(mine));
         let mut order = mine.cmp(&theirs);
         // The labels are compared from the first one on, and the last difference counts: that of the label nearest to
         // the root.

@@ -11,7 +11,7 @@ impl<A: Allocator> Name<A> {
     pub fn is_wildcard(&self) -> bool
         ensures { result ≡ is_wildcard self.now }
     {
-        match next_label(&self.bytes) {
+        match next_label(self.bytes.as_slice()) {
             None => false,
             Some((label, _)) => label == b"*".as_slice(),
         }
@@ -21,7 +21,7 @@ impl<A: Allocator> Name<A> {
     pub fn has_inner_star(&self) -> bool
         ensures { result ≡ has_inner_star self.now }
     {
-        let Some((_, behind)) = next_label(&self.bytes) else {
+        let Some((_, behind)) = next_label(self.bytes.as_slice()) else {
             return false;
         };
         let mut rest = behind;

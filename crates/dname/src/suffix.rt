@@ -4,6 +4,7 @@ ghost use Rattle.std.specs.Bool.{OnTrue, OnFalse};
 ghost use Rattle.dname.specs.Labels.{wire, root, same_name, parent_of, IsName};
 ghost use Rattle.dname.specs.Wire.{labels_of, IsNameWire};
 
+use crate::bytes::NameBytes;
 use crate::name::Name;
 use crate::walk::next_label;
 use memory::{Heap, Starved};
@@ -33,7 +34,9 @@ impl<A: Allocator> Name<A> {
     pub fn suffix(&self) -> Suffix<'_>
         ensures { result ≡ self.now }
     {
-        Suffix { bytes: &self.bytes }
+        Suffix {
+            bytes: self.bytes.as_slice(),
+        }
     }
 }
 
@@ -78,7 +81,7 @@ impl<'a> Suffix<'a> {
     pub fn to_name<A: Heap>(&self, alloc: A) -> Result<Name<A>, Starved>
         ensures { IfOk result (λ n. n ≡ self.now) }
     {
-        Ok(Name::from_wire(Vec::from_slice(alloc, self.bytes)?))
+        Ok(Name::from_wire(NameBytes::new(alloc, self.bytes)?))
     }
 
     /// Each name has labels of 1 to 63 bytes and then the root's, at most 255 bytes in all.

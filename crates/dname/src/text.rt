@@ -9,6 +9,7 @@ ghost use Rattle.dname.specs.Spelling.{TextWritesName, FirstFaultCounts};
 ghost use Rattle.dname.specs.Wire.{labels_of, IsNameWire};
 
 use crate::builder::{Builder, Overflow};
+use crate::bytes::NameBytes;
 use crate::name::{LONGEST_NAME, Name};
 use crate::walk::next_label;
 use memory::{Heap, Starved};
@@ -258,7 +259,7 @@ impl<A: Heap> Builder<A> {
         }
         bytes.truncate(start);
         bytes.extend_from_slice(origin)?;
-        Ok(Name::from_wire(bytes))
+        Ok(Name::from_wire(NameBytes::of_vec(bytes)))
     }
 }
 
@@ -301,7 +302,7 @@ impl<A: Heap> Name<A> {
     ) -> Result<Name<A>, NameError>
         ensures { MatchResult result (λ n. name_under origin.now text.now ≡ Ok n) (λ e. IsFault e (name_under origin.now text.now)) }
     {
-        read(alloc, text, &origin.bytes)
+        read(alloc, text, origin.bytes.as_slice())
     }
 }
 

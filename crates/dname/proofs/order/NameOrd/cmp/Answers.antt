@@ -9,9 +9,9 @@ use Rattle.dname.proofs.order.NameOrd.cmp.Goals as goal
 pub loop-label-init : goal.loop-label-init
 loop-label-init g c =
     let rest : labels_of c.behind-rest.result.now ≡ drop (c.labels-mine.result - c.labels-theirs.result) c.args.self.now =
-    c.behind-rest.ensures.labels ∙ ((λ i. drop (c.saturating_sub.ensures i) (labels_of (c.deref.ensures.value i))) ∙ ap (drop (c.labels-mine.result - c.labels-theirs.result)) c.self.view_is) in
+    c.behind-rest.ensures.labels ∙ ((λ i. drop (c.saturating_sub.ensures i) (labels_of (c.as_slice.ensures i))) ∙ ap (drop (c.labels-mine.result - c.labels-theirs.result)) c.self.view_is) in
     let others : labels_of c.behind-others.result.now ≡ drop (c.labels-theirs.result - c.labels-mine.result) c.args.other.now =
-    c.behind-others.ensures.labels ∙ ((λ i. drop (c.saturating_sub-2.ensures i) (labels_of (c.deref-2.ensures.value i))) ∙ ap (drop (c.labels-theirs.result - c.labels-mine.result)) c.other.view_is) in
+    c.behind-others.ensures.labels ∙ ((λ i. drop (c.saturating_sub-2.ensures i) (labels_of (c.as_slice-2.ensures i))) ∙ ap (drop (c.labels-theirs.result - c.labels-mine.result)) c.other.view_is) in
     record {
       form = c.behind-rest.ensures.wire;
       its_form = c.behind-others.ensures.wire;
