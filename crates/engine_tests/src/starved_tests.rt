@@ -7,8 +7,9 @@ use rdata::Addr;
 use refusing_alloc::Refusing;
 use std::test::Fail;
 
-// What comes for client 3, who asks for www.example. A at 0: its query itself (at that event's own moment), the reply
-// to its ask by either way, the failure of its ask over TCP, and the end of its wait.
+// What comes for client 3, who asks at 0 for an address of a name of 51 bytes, which takes a growth of its own: its
+// query itself (at that event's own moment), the reply to its ask by either way, the failure of its ask over TCP, and
+// the end of its wait.
 #[derive(Clone, Copy)]
 enum Kind {
     Query,
@@ -19,13 +20,15 @@ enum Kind {
 }
 
 // Client 3's query, under ID 5 with RD set.
-const QUERY: &[u8] = b"\0\x05\x01\0\0\x01\0\0\0\0\0\0\x03www\x07example\0\0\x01\0\x01";
+const QUERY: &[u8] =
+    b"\0\x05\x01\0\0\x01\0\0\0\0\0\0\x29www-with-a-name-that-takes-its-own-growth\x07example\0\0\x01\0\x01";
 
-// The server's replies behind the ID: truncated, and with an address of www.example.
-const CUT: &[u8] = b"\x86\0\0\x01\0\0\0\0\0\0\x03www\x07example\0\0\x01\0\x01";
+// The server's replies behind the ID: truncated, and with an address of that name.
+const CUT: &[u8] =
+    b"\x86\0\0\x01\0\0\0\0\0\0\x29www-with-a-name-that-takes-its-own-growth\x07example\0\0\x01\0\x01";
 
 const FOUND: &[u8] =
-    b"\x84\0\0\x01\0\x01\0\0\0\0\x03www\x07example\0\0\x01\0\x01\xc0\x0c\0\x01\0\x01\0\0\0\x3c\0\x04\xc0\0\x02\x09";
+    b"\x84\0\0\x01\0\x01\0\0\0\0\x29www-with-a-name-that-takes-its-own-growth\x07example\0\0\x01\0\x01\xc0\x0c\0\x01\0\x01\0\0\0\x3c\0\x04\xc0\0\x02\x09";
 
 // What client 4 asks at 500, the server's reply behind the ID, and what the client gets: an address of mail.example.
 const OTHERS: &[u8] = b"\0\x06\x01\0\0\x01\0\0\0\0\0\0\x04mail\x07example\0\0\x01\0\x01";

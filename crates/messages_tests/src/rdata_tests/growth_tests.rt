@@ -1,7 +1,7 @@
-use super::{copies, set_of};
+use super::copies;
 use dname::{Name, NameError, put_name};
 use memory::{Heap, Starved};
-use rdata::{RType, Record, Records, put_data, set_at};
+use rdata::{RType, Record, RecordSet, Records, put_data, set_at};
 use record_fixtures::{Row, Value, name, record, records};
 use refusing_alloc::Refusing;
 use std::alloc::Allocator;
@@ -17,13 +17,26 @@ fn put_lines<A: Heap>(out: &mut String<A>, lines: &[Record<A>]) -> Result<(), St
     Ok(())
 }
 
+// A name that takes a growth of its own.
+const OWNER: &str = "an-owner-of-more-than-forty-bytes.lab.example";
+
 // Four records, two of them the same but for their TTLs.
 const LENT: &[Row<'static>] = &[
-    ("a.example", 300, Value::Txt("words")),
-    ("a.example", 60, Value::Txt("words")),
-    ("a.example", 90, Value::Mx("mail.example")),
-    ("a.example", 120, Value::Srv("srv.example")),
+    (OWNER, 300, Value::Txt("words")),
+    (OWNER, 60, Value::Txt("words")),
+    (OWNER, 90, Value::Mx("mail.example")),
+    (OWNER, 120, Value::Srv("srv.example")),
 ];
+
+// The owner's set of that type, of these records.
+fn owned_set<A: Heap>(
+    alloc: A,
+    records: &[Record<A>],
+    kind: RType,
+) -> Result<Option<RecordSet<A>>, Starved> {
+    let owner = name(alloc, OWNER)?;
+    set_at(alloc, records, &owner, kind)
+}
 
 // The records of the set of that type, by a copy of it.
 fn put_set<A: Heap>(
@@ -32,7 +45,7 @@ fn put_set<A: Heap>(
     lent: &Records<A>,
     kind: RType,
 ) -> Result<(), Starved> {
-    let Some(set) = set_of(alloc, lent.as_slice(), kind)? else {
+    let Some(set) = owned_set(alloc, lent.as_slice(), kind)? else {
         return Err(Starved);
     };
     let records = copies(alloc, &set)?;
@@ -67,9 +80,9 @@ fn is_played<A: Heap>(alloc: A, lent: &Records<A>) -> Result<bool, NameError> {
         put_set(&mut out, alloc, lent, kind)?;
     }
     let wanted = "a\\.b.example.com.example.com.
-a.example. 60 TXT \"words\"
-a.example. 90 MX 10 mail.example.
-a.example. 120 SRV 10 60 5060 srv.example.
+an-owner-of-more-than-forty-bytes.lab.example. 60 TXT \"words\"
+an-owner-of-more-than-forty-bytes.lab.example. 90 MX 10 mail.example.
+an-owner-of-more-than-forty-bytes.lab.example. 120 SRV 10 60 5060 srv.example.
 ";
     Ok(out.as_str() == wanted)
 }
@@ -104,10 +117,13 @@ fn each_growth_is_refused_in_turn(rt: HostRuntime) -> Result<(), Fail> {
     Ok(())
 }
 
+// A name that takes a growth of its own.
+const LONG_OWNER: &str = "twenty-addresses-of-one-long-name.lab.example";
+
 fn twenty_addresses<A: Heap>(alloc: A) -> Result<Records<A>, Starved> {
     let mut records = Records::new(alloc);
     for last in 0..20u8 {
-        let record = record(alloc, (".", 60, Value::A(last)))?;
+        let record = record(alloc, (LONG_OWNER, 60, Value::A(last)))?;
         records.push(record)?;
     }
     Ok(records)
@@ -128,16 +144,16 @@ fn set_size<A: Heap>(
 #[test]
 fn each_growth_of_a_long_set_is_refused(rt: HostRuntime) -> Result<(), Fail> {
     let heap = Refusing::new(rt.alloc());
-    let root = Name::root(&heap)?;
+    let owner = name(&heap, LONG_OWNER)?;
     let lent = twenty_addresses(&heap)?;
     let before = heap.growths();
-    assert!(rt; set_size(&heap, &lent, &root)? == Some(20));
+    assert!(rt; set_size(&heap, &lent, &owner)? == Some(20));
     let growths = heap.growths().saturating_sub(before);
     // The data, their order behind the first sixteen, what counts their holders, and the owner.
     assert_eq!(rt; growths, 4);
     for n in 0..growths {
         heap.refuse_after(n);
-        assert!(rt; set_size(&heap, &lent, &root).is_err(), "growth {n}");
+        assert!(rt; set_size(&heap, &lent, &owner).is_err(), "growth {n}");
     }
     Ok(())
 }

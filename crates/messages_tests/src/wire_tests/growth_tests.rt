@@ -1,8 +1,11 @@
-use crate::wire_tests::DENIAL;
 use memory::Heap;
 use refusing_alloc::Refusing;
 use std::test::Fail;
 use wire::{WireError, decode, decode_question, encode};
+
+// A negative answer in which each name has 58 bytes, and takes a growth of its own.
+const LONG_DENIAL: &[u8] =
+    b"\0\x01\x84\x80\0\x01\0\0\0\x01\0\0\x2dxxxxxxxxxxxxxxxxxxxxxxxxxxxxxxxxxxxxxxxxxxxxx\x03lab\x07example\0\0\x10\0\x01\xc0\x0c\0\x06\0\x01\0\0\0\x3c\0\x18\xc0\x0c\xc0\x0c\0\0\0\x01\0\0\0\x02\0\0\0\x03\0\0\0\x04\0\0\0\x3c";
 
 // Whether what is read is written as it stood.
 fn is_rewritten<A: Heap>(alloc: A, bytes: &[u8]) -> Result<bool, WireError> {
@@ -15,9 +18,9 @@ fn is_rewritten<A: Heap>(alloc: A, bytes: &[u8]) -> Result<bool, WireError> {
 // Whether a negative answer is written as it was read, or whether its question alone is read.
 fn is_read<A: Heap>(alloc: A, whole: bool) -> Result<bool, WireError> {
     if whole {
-        is_rewritten(alloc, DENIAL)
+        is_rewritten(alloc, LONG_DENIAL)
     } else {
-        Ok(decode_question(alloc, DENIAL)?.is_some())
+        Ok(decode_question(alloc, LONG_DENIAL)?.is_some())
     }
 }
 
