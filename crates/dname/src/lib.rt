@@ -5,7 +5,8 @@
 //! `Display` and `Debug` write it, `to_text` and `put_name` into a string. `Builder` makes a name label by label.
 //! `iter` gives its labels; `wire` is its wire form, over which `next_label` walks. Zones and bailiwick use
 //! `is_at_or_under`, `parent` and `ascend`, wildcards (RFC 4592) `is_wildcard` and `is_wildcard_of`. A `Suffix` is a
-//! name that borrows its bytes from one at or under it. `Ord` is the order of RFC 4034, section 6.1.
+//! name that borrows its bytes from one at or under it. `Ord` is the order of RFC 4034, section 6.1. A name of at most
+//! `INLINE_NAME` bytes lies in its value, and takes no other memory.
 //!
 //! Promised: a name has labels of 1 to 63 bytes, at most 255 bytes on the wire (`well_formed_law`, `IsName`). A text is
 //! read exactly where it writes a name (`text_writes_name`), else refused by its first fault (`first_fault_counts`).
