@@ -251,7 +251,9 @@ impl Asked {
         let text = row.word()?;
         let now = row.number()?;
         let owner = text_lines::name(row.alloc, text)?;
-        Ok(self.stores.keep_link(&owner, RType::A, link, now)?)
+        let kept = self.stores.keep_link(&owner, RType::A, link, now);
+        drop(owner);
+        Ok(kept?)
     }
 
     fn take_cut(&mut self, row: &mut Row<'_>, out: &mut String) -> Result<(), LineKind> {
@@ -287,7 +289,9 @@ impl Asked {
         now: u64,
     ) -> Result<Found, LineKind> {
         let name = text_lines::name(alloc, text)?;
-        Ok(find(alloc, &self.home, &name, kind, &mut self.stores, now)?)
+        let found = find(alloc, &self.home, &name, kind, &mut self.stores, now);
+        drop(name);
+        Ok(found?)
     }
 
     fn seek(&mut self, row: &mut Row<'_>, out: &mut String) -> Result<(), LineKind> {
@@ -386,14 +390,16 @@ impl Asked {
         now: u32,
     ) -> Result<Started, LineKind> {
         let name = text_lines::name(alloc, text)?;
-        Ok(begin_query(
+        let begun = begin_query(
             alloc,
             &name,
             kind,
             &self.home,
             &mut self.stores,
             u64::from(now),
-        )?)
+        );
+        drop(name);
+        Ok(begun?)
     }
 
     fn query(&mut self, row: &mut Row<'_>, out: &mut String) -> Result<(), LineKind> {
@@ -463,13 +469,18 @@ impl Asked {
     }
 
     fn lose(&mut self, row: &mut Row<'_>, out: &mut String) -> Result<(), LineKind> {
-        let server = row.address()?;
+        let input = lost(row)?;
         let now = row.number()?;
-        match row.command {
-            "time-out" => self.advance(row.alloc, Input::TimedOut(server), now, out),
-            "tcp-failed" => self.advance(row.alloc, Input::TcpFailed(server), now, out),
-            _ => Err(LineKind::UnknownWord),
-        }
+        self.advance(row.alloc, input, now, out)
+    }
+}
+
+fn lost(row: &mut Row<'_>) -> Result<Input, LineKind> {
+    let server = row.address()?;
+    match row.command {
+        "time-out" => Ok(Input::TimedOut(server)),
+        "tcp-failed" => Ok(Input::TcpFailed(server)),
+        _ => Err(LineKind::UnknownWord),
     }
 }
 

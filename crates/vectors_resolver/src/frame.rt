@@ -115,7 +115,9 @@ impl Opened {
         let text = row.word()?;
         let nesting = row.nesting()?;
         let name = text_lines::name(row.alloc, text)?;
-        Ok(self.failed.mark(&name, nesting)?)
+        let marked = self.failed.mark(&name, nesting);
+        drop(name);
+        Ok(marked?)
     }
 
     fn find(&mut self, found: &[Addr], levels: &Levels, out: &mut String) -> Result<(), LineKind> {

@@ -93,7 +93,9 @@ impl Links {
     ) -> Result<(), LineKind> {
         let cache = made(&mut self.cache)?;
         let owner = name(alloc, text)?;
-        Ok(cache.keep(&owner, kind, link, ttl, now)?)
+        let kept = cache.keep(&owner, kind, link, ttl, now);
+        drop(owner);
+        Ok(kept?)
     }
 
     fn hit(

@@ -91,11 +91,13 @@ impl Servers {
         let server = row.address()?;
         let now = row.number()?;
         let name = text_lines::name(row.alloc, text)?;
-        if row.command == "fail" {
+        let done = if row.command == "fail" {
             self.fail(&name, kind, server, now)
         } else {
             self.fails(&name, kind, server, now, out)
-        }
+        };
+        drop(name);
+        done
     }
 
     fn fail(&mut self, name: &Name, kind: RType, server: Addr, now: u64) -> Result<(), LineKind> {
@@ -172,8 +174,11 @@ impl Servers {
     fn best_cut(&mut self, row: &mut Row<'_>) -> Result<Option<Cut>, LineKind> {
         let text = row.word()?;
         let now = row.number()?;
+        let delegations = made(&mut self.delegations)?;
         let name = text_lines::name(row.alloc, text)?;
-        Ok(made(&mut self.delegations)?.best(&name, now)?)
+        let cut = delegations.best(&name, now);
+        drop(name);
+        Ok(cut?)
     }
 
     fn best(&mut self, row: &mut Row<'_>, out: &mut String) -> Result<(), LineKind> {
