@@ -1,95 +1,94 @@
+use crate::shared::{alone, is_named};
 use crate::worked::{Case, unsaid};
 use classify::{Class, Referral, classify};
-use dname::put_name;
 use memory::{Heap, Starved};
-use rdata::{RType, Record, RecordSet, Records, put_data};
+use rdata::{RType, Records};
 use record_fixtures::{Row, Value, name, record, records};
 use std::test::Fail;
-use wire::{Header, Message, Questions, TCP_LIMIT, Via, View, encode};
+use wire::{Via, View};
 use zone::Link;
 
-// A reply, and what it is used for where w.a.example. was asked for of a server of example.
-struct Reply {
-    answer: &'static [Row<'static>],
-    authority: &'static [Row<'static>],
-    additional: &'static [Row<'static>],
-    want: &'static str,
-}
+const W: &str = "w.a.example.";
 
-// A reply over UDP to a question for an address, whose parts are empty but for those that a case says otherwise of.
-const PLAIN: Reply = Reply {
-    answer: &[],
-    authority: &[],
-    additional: &[],
-    want: "failed 3",
-};
-
-impl Reply {
-    fn header(&self) -> Header {
-        Header {
-            id: 1,
-            qr: true,
-            opcode: 0,
-            aa: true,
-            tc: false,
-            rd: false,
-            ra: false,
-            z: 0,
-            rcode: 0,
-        }
-    }
-
-    fn reply<A: Heap>(&self, alloc: A) -> Result<Message<A>, Starved> {
-        Ok(Message {
-            header: self.header(),
-            questions: Questions::new(alloc),
-            answer: records(alloc, self.answer)?,
-            authority: records(alloc, self.authority)?,
-            additional: records(alloc, self.additional)?,
-        })
-    }
-
-    fn bytes<A: Heap>(&self, alloc: A) -> Result<Vec<u8, A>, Starved> {
-        let reply = self.reply(alloc)?;
-        match encode(alloc, &reply, TCP_LIMIT) {
-            Ok(bytes) => Ok(bytes),
-            Err(_) => Err(Starved),
-        }
-    }
-
-    // What a reply of these bytes is used for.
-    fn class_of<A: Heap>(&self, alloc: A, bytes: &[u8]) -> Result<Class<A>, Starved> {
-        let zone = name(alloc, "example.")?;
-        let asked = name(alloc, W)?;
-        match View::new(alloc, bytes) {
-            Ok(reply) => classify(alloc, &zone, &asked, RType::A, Via::Udp, &reply),
-            Err(_) => Err(Starved),
-        }
-    }
-
-    fn class<A: Heap>(&self, alloc: A) -> Result<Class<A>, Starved> {
-        let bytes = self.bytes(alloc)?;
-        self.class_of(alloc, &bytes)
-    }
-
-    fn said<A: Heap>(&self, alloc: A) -> Result<String<A>, Starved> {
-        let class = self.class(alloc)?;
-        text(alloc, &class)
-    }
-
-    fn is_met<A: Heap>(&self, alloc: A) -> Result<bool, Starved> {
-        Ok(self.said(alloc)?.as_str() == self.want)
-    }
-}
-
-// Replies of one kind.
+// What a reply is used for where w.a.example. was asked for of a server of example.
 #[derive(Clone, Copy)]
-struct Table(&'static [Reply]);
+enum Use {
+    // A set of one record.
+    Found(Row<'static>),
+    Alias(Row<'static>),
+    NoData(Row<'static>),
+    // A referral for so many seconds to a zone, its servers, and their addresses.
+    Referral(u32, &'static str, &'static [Row<'static>], &'static [Row<'static>]),
+}
+
+fn wanted<A: Heap>(alloc: A, want: Use) -> Result<Link<A>, Starved> {
+    match want {
+        Use::Found(row) => alone(alloc, row),
+        Use::Alias(row) => Ok(Link::Alias(record(alloc, row)?)),
+        Use::NoData(row) => Ok(Link::NoData(record(alloc, row)?)),
+        Use::Referral(..) => Err(Starved),
+    }
+}
+
+fn is_link<A: Heap>(alloc: A, link: &Link<A>, want: Use) -> Result<bool, Starved> {
+    let wanted = wanted(alloc, want)?;
+    let same = link.same(&wanted);
+    drop(wanted);
+    Ok(same)
+}
+
+fn are_rows<A: Heap>(alloc: A, given: &Records<A>, rows: &[Row<'_>]) -> Result<bool, Starved> {
+    let wanted = records(alloc, rows)?;
+    let same = *given == wanted;
+    drop(wanted);
+    Ok(same)
+}
+
+fn is_referral<A: Heap>(alloc: A, given: &Referral<A>, want: Use) -> Result<bool, Starved> {
+    let Use::Referral(ttl, owner, servers, addresses) = want else {
+        return Ok(false);
+    };
+    Ok(
+        given.ttl == ttl
+            && is_named(alloc, &given.owner, owner)?
+            && are_rows(alloc, &given.servers, servers)?
+            && are_rows(alloc, &given.addresses, addresses)?,
+    )
+}
+
+fn is_class<A: Heap>(alloc: A, class: &Class<A>, want: Use) -> Result<bool, Starved> {
+    match class {
+        Class::Answer(link) => is_link(alloc, link, want),
+        Class::Referral(referral) => is_referral(alloc, referral, want),
+        Class::Truncated | Class::Failed(_) => Ok(false),
+    }
+}
+
+// What a reply of these bytes over UDP is used for.
+fn class<A: Heap>(alloc: A, bytes: &[u8]) -> Result<Class<A>, Starved> {
+    let zone = name(alloc, "example.")?;
+    let asked = name(alloc, W)?;
+    match View::new(alloc, bytes) {
+        Ok(reply) => classify(alloc, &zone, &asked, RType::A, Via::Udp, &reply),
+        Err(_) => Err(Starved),
+    }
+}
+
+fn is_used<A: Heap>(alloc: A, bytes: &[u8], want: Use) -> Result<bool, Starved> {
+    let class = class(alloc, bytes)?;
+    let is_class = is_class(alloc, &class, want);
+    drop(class);
+    is_class
+}
+
+// Replies of one kind, each with what it is used for.
+#[derive(Clone, Copy)]
+struct Table(&'static [(&'static [u8], Use)]);
 
 impl Case for Table {
     fn wrong_step<A: Heap>(&self, alloc: A) -> Result<Option<usize>, Starved> {
-        for (place, reply) in self.0.iter().enumerate() {
-            if !reply.is_met(alloc)? {
+        for (place, (bytes, want)) in self.0.iter().enumerate() {
+            if !is_used(alloc, *bytes, *want)? {
                 return Ok(Some(place));
             }
         }
@@ -97,123 +96,40 @@ impl Case for Table {
     }
 }
 
-// Owner and TTL.
-fn put_head<A: Heap>(out: &mut String<A>, record: &Record<A>) -> Result<(), Starved> {
-    put_name(out, &record.owner)?;
-    write!(out, " {} ", record.ttl)?;
-    Ok(())
-}
+// w.a.example. 60 A 192.0.2.1.
+const ANSWER: &[u8] =
+    b"\0\x01\x84\0\0\0\0\x01\0\0\0\0\x01w\x01a\x07example\0\0\x01\0\x01\0\0\0\x3c\0\x04\xc0\0\x02\x01";
 
-fn put_record<A: Heap>(out: &mut String<A>, record: &Record<A>) -> Result<(), Starved> {
-    out.push_str("; ")?;
-    put_head(out, record)?;
-    put_data(out, &record.value)?;
-    Ok(())
-}
+// w.a.example. 60 CNAME x.example.
+const ALIAS: &[u8] =
+    b"\0\x01\x84\0\0\0\0\x01\0\0\0\0\x01w\x01a\x07example\0\0\x05\0\x01\0\0\0\x3c\0\x04\x01x\xc0\x10";
 
-fn put_records<A: Heap>(out: &mut String<A>, records: &Records<A>) -> Result<(), Starved> {
-    for record in records.as_slice() {
-        put_record(out, record)?;
-    }
-    Ok(())
-}
+// No answer, and the SOA record of example.
+const NO_DATA: &[u8] =
+    b"\0\x01\x84\0\0\0\0\0\0\x01\0\0\x07example\0\0\x06\0\x01\0\0\x0e\x10\0\x1b\x02ns\0\x01h\0\0\0\0\x01\0\0\0\x02\0\0\0\x03\0\0\0\x04\0\0\0\x3c";
 
-fn put_found<A: Heap>(out: &mut String<A>, alloc: A, set: &RecordSet<A>) -> Result<(), Starved> {
-    out.push_str("found")?;
-    let records = set.to_records(alloc)?;
-    put_records(out, &records)
-}
-
-// What a link is, and its one record.
-fn put_said<A: Heap>(out: &mut String<A>, word: &str, record: &Record<A>) -> Result<(), Starved> {
-    out.push_str(word)?;
-    put_record(out, record)?;
-    Ok(())
-}
-
-fn put_link<A: Heap>(out: &mut String<A>, alloc: A, link: &Link<A>) -> Result<(), Starved> {
-    match link {
-        Link::Found(set) => put_found(out, alloc, set),
-        Link::Alias(record) => put_said(out, "alias", record),
-        Link::NoData(soa) => put_said(out, "no data", soa),
-        Link::NxDomain(soa) => put_said(out, "no name", soa),
-    }
-}
-
-fn link_text<A: Heap>(alloc: A, link: &Link<A>) -> Result<String<A>, Starved> {
-    let mut out = String::new(alloc);
-    put_link(&mut out, alloc, link)?;
-    Ok(out)
-}
-
-fn put_cut<A: Heap>(out: &mut String<A>, referral: &Referral<A>) -> Result<(), Starved> {
-    write!(out, "for {} to {}", referral.ttl, referral.owner)?;
-    Ok(())
-}
-
-fn put_servers<A: Heap>(out: &mut String<A>, referral: &Referral<A>) -> Result<(), Starved> {
-    put_records(out, &referral.servers)?;
-    out.push_str("; with")?;
-    put_records(out, &referral.addresses)?;
-    Ok(())
-}
-
-fn referral_text<A: Heap>(alloc: A, referral: &Referral<A>) -> Result<String<A>, Starved> {
-    let mut out = String::new(alloc);
-    put_cut(&mut out, referral)?;
-    put_servers(&mut out, referral)?;
-    Ok(out)
-}
-
-fn text<A: Heap>(alloc: A, class: &Class<A>) -> Result<String<A>, Starved> {
-    match class {
-        Class::Answer(link) => link_text(alloc, link),
-        Class::Referral(referral) => referral_text(alloc, referral),
-        Class::Truncated => Ok(String::from_str(alloc, "truncated")?),
-        Class::Failed(failure) => Ok(format!(in alloc; "failed {}", failure.number())?),
-    }
-}
-
-const W: &str = "w.a.example.";
-
-const ADDRESS: Row<'static> = (W, 60, Value::A(1));
-
-const ALIAS: Row<'static> = (W, 60, Value::Cname("x.example."));
-
-const SOA: Row<'static> = ("example.", 3600, Value::Soa(60));
-
-const SERVERS: &[Row<'static>] = &[
-    ("a.example.", 3600, Value::Ns("ns.a.example.")),
-    ("b.example.", 5, Value::Ns("ns.b.example.")),
-    ("a.example.", 3600, Value::Ns("ns.")),
-    ("a.example.", 1800, Value::Ns("ns.a.example.")),
-];
-
-const SERVER_ADDRESS: Row<'static> = ("ns.a.example.", 60, Value::A(1));
+// Servers of a.example. and one of b.example., and an address: a.example. 3600 NS ns.a.example., b.example. 5 NS
+// ns.b.example., a.example. 3600 NS ns., a.example. 1800 NS ns.a.example.; ns.a.example. 60 A 192.0.2.1.
+const REFERRAL: &[u8] =
+    b"\0\x01\x84\0\0\0\0\0\0\x04\0\x01\x01a\x07example\0\0\x02\0\x01\0\0\x0e\x10\0\x05\x02ns\xc0\x0c\x01b\xc0\x0e\0\x02\0\x01\0\0\0\x05\0\x05\x02ns\xc0\x26\xc0\x0c\0\x02\0\x01\0\0\x0e\x10\0\x04\x02ns\0\xc0\x0c\0\x02\0\x01\0\0\x07\x08\0\x02\xc0\x21\xc0\x21\0\x01\0\x01\0\0\0\x3c\0\x04\xc0\0\x02\x01";
 
 // A set, an alias, a negative answer and a referral.
 const EACH: Table = Table(&[
-    Reply {
-        answer: &[ADDRESS],
-        want: "found; w.a.example. 60 A 192.0.2.1",
-        ..PLAIN
-    },
-    Reply {
-        answer: &[ALIAS],
-        want: "alias; w.a.example. 60 CNAME x.example.",
-        ..PLAIN
-    },
-    Reply {
-        authority: &[SOA],
-        want: "no data; example. 3600 SOA ns. h. 1 2 3 4 60",
-        ..PLAIN
-    },
-    Reply {
-        authority: SERVERS,
-        additional: &[SERVER_ADDRESS],
-        want: "for 60 to a.example.; a.example. 1800 NS ns.a.example.; a.example. 1800 NS ns.; with; ns.a.example. 60 A 192.0.2.1",
-        ..PLAIN
-    },
+    (ANSWER, Use::Found((W, 60, Value::A(1)))),
+    (ALIAS, Use::Alias((W, 60, Value::Cname("x.example.")))),
+    (NO_DATA, Use::NoData(("example.", 3600, Value::Soa(60)))),
+    (
+        REFERRAL,
+        Use::Referral(
+            60,
+            "a.example.",
+            &[
+                ("a.example.", 1800, Value::Ns("ns.a.example.")),
+                ("a.example.", 1800, Value::Ns("ns.")),
+            ],
+            &[("ns.a.example.", 60, Value::A(1))],
+        ),
+    ),
 ]);
 
 #[test]

@@ -22,19 +22,29 @@ fn a_number_holds_its_sender(rt: HostRuntime) -> Result<(), Fail> {
     Ok(())
 }
 
+const ROLES: [(usize, Role); 7] = [
+    (0, Role::Datagrams),
+    (1, Role::Streams),
+    (2, Role::Clock),
+    (3, Role::Upstream),
+    (4, Role::Asks),
+    (5, Role::Datagrams),
+    (19, Role::Datagrams),
+];
+
+// The first worker of another role.
+fn first_other_role() -> Option<usize> {
+    for (worker, role) in ROLES {
+        if role_of(worker) != role {
+            return Some(worker);
+        }
+    }
+    None
+}
+
 #[test]
 fn each_worker_has_its_loop(rt: HostRuntime) -> Result<(), Fail> {
-    for (worker, role) in [
-        (0, Role::Datagrams),
-        (1, Role::Streams),
-        (2, Role::Clock),
-        (3, Role::Upstream),
-        (4, Role::Asks),
-        (5, Role::Datagrams),
-        (19, Role::Datagrams),
-    ] {
-        assert!(rt; role_of(worker) == role, "worker {worker}");
-    }
+    assert_eq!(rt; first_other_role(), None);
     assert_eq!(rt; (loop_count(1), loop_count(16)), (5, 20));
     Ok(())
 }
@@ -77,58 +87,74 @@ fn reply_with(at: usize, byte: u8) -> [u8; 22] {
     reply
 }
 
-// Whether it does without its last byte.
-fn repeats_cut(alloc: Global, reply: &[u8; 22]) -> Result<bool, Starved> {
-    repeats(alloc, &ASK, &reply[..21])
+// Whether a reply repeats the ask where that is wanted, and does not without its last byte.
+fn goes(alloc: Global, reply: &[u8; 22], wanted: bool) -> Result<bool, Starved> {
+    Ok(repeats(alloc, &ASK, reply)? == wanted && !repeats(alloc, &ASK, &reply[..21])?)
+}
+
+// What is said of the first reply that goes otherwise.
+fn first_other_reply(alloc: Global) -> Result<Option<&'static str>, Starved> {
+    for (what, at, byte, wanted) in REPLIES {
+        if !goes(alloc, &reply_with(at, byte), wanted)? {
+            return Ok(Some(what));
+        }
+    }
+    Ok(None)
 }
 
 #[test]
 fn a_reply_repeats_its_ask(rt: HostRuntime) -> Result<(), Fail> {
     let alloc = rt.alloc();
-    for (what, at, byte, wanted) in REPLIES {
-        let reply = reply_with(at, byte);
-        assert_eq!(rt; repeats(alloc, &ASK, &reply), Ok(wanted), "{what}");
-        assert_eq!(rt; repeats_cut(alloc, &reply), Ok(false), "{what}, cut");
-    }
-    assert_eq!(rt;
-        repeats(alloc, &ASK, &WITH_ANSWER),
-        Ok(true),
-        "with an answer"
-    );
-    assert_eq!(rt;
-        repeats(alloc, &ASK[..21], &ASK),
-        Ok(false),
+    assert_eq!(rt; first_other_reply(alloc)?, None);
+    assert!(rt; repeats(alloc, &ASK, &WITH_ANSWER)?, "with an answer");
+    assert!(rt;
+        !repeats(alloc, &ASK[..21], &ASK)?,
         "an ask that is no message"
     );
     Ok(())
 }
 
+const PEER: Addr = Addr([192, 0, 2, 9]);
+
+// The first serial number with which a stream's place is not found again.
+fn first_misplaced() -> Option<u64> {
+    for (serial, place) in [(0, 0), (1, 255), (u64::MAX, 7)] {
+        if place_of(stream_number(PEER, serial, place)) != place {
+            return Some(serial);
+        }
+    }
+    None
+}
+
+// So many places, whether a reply is awaited, and for how many milliseconds a stream may be silent then.
+const SILENCES: [(u16, bool, u64); 5] = [
+    (1, false, 3_000),
+    (1, true, 10_000),
+    (4, true, 2_500),
+    (128, false, 23),
+    (128, true, 1_000),
+];
+
+fn first_other_silence() -> Option<(u16, bool)> {
+    for (places, awaits, wanted) in SILENCES {
+        if silence_before_yielding(places, awaits) != wanted {
+            return Some((places, awaits));
+        }
+    }
+    None
+}
+
 #[test]
 fn streams_have_places(rt: HostRuntime) -> Result<(), Fail> {
-    for (serial, place) in [(0, 0), (1, 255), (u64::MAX, 7)] {
-        assert_eq!(rt;
-            place_of(stream_number(Addr([192, 0, 2, 9]), serial, place)),
-            place
-        );
-    }
-    let number = stream_number(Addr([192, 0, 2, 9]), 3, 4);
+    let number = stream_number(PEER, 3, 4);
+    let sender = Endpoint {
+        address: PEER,
+        port: 4,
+    };
+    assert_eq!(rt; first_misplaced(), None);
     assert_eq!(rt; number, 0xC000_0209_0000_0304);
-    assert_eq!(rt;
-        sender_of(stream_client(number)),
-        Endpoint {
-            address: Addr([192, 0, 2, 9]),
-            port: 4
-        }
-    );
-    for (places, awaits, wanted) in [
-        (1, false, 3_000),
-        (1, true, 10_000),
-        (4, true, 2_500),
-        (128, false, 23),
-        (128, true, 1_000),
-    ] {
-        assert_eq!(rt; silence_before_yielding(places, awaits), wanted);
-    }
+    assert!(rt; sender_of(stream_client(number)) == sender);
+    assert_eq!(rt; first_other_silence(), None);
     Ok(())
 }
 
@@ -144,20 +170,35 @@ const ADDRESSES: [(u8, bool); 8] = [
     (224, false),
 ];
 
+// Whether an address of that first byte is asked without a hint in its block where that is wanted, and with one always;
+// and not both ends of all addresses are.
+fn is_reached(first: u8, wanted: bool) -> bool {
+    let root = Addr([198, 41, 0, 4]);
+    let none = Reach::of_hints(&[root]);
+    let hinted = Reach::of_hints(&[root, Addr([first, 9, 9, 9])]);
+    let asked = Addr([first, 0, 0, 1]);
+    none.has(asked) == wanted
+        && hinted.has(asked)
+        && !(hinted.has(Addr([0, 0, 0, 1])) && hinted.has(Addr([255, 0, 0, 1])))
+}
+
+fn first_unreached() -> Option<u8> {
+    for (first, wanted) in ADDRESSES {
+        if !is_reached(first, wanted) {
+            return Some(first);
+        }
+    }
+    None
+}
+
 #[test]
 fn hints_let_their_blocks_be_asked(rt: HostRuntime) -> Result<(), Fail> {
-    let none = Reach::of_hints(&[Addr([198, 41, 0, 4])]);
-    for (first, wanted) in ADDRESSES {
-        assert_eq!(rt; none.has(Addr([first, 0, 0, 1])), wanted, "{first}");
-        let hinted = Reach::of_hints(&[Addr([198, 41, 0, 4]), Addr([first, 9, 9, 9])]);
-        assert!(rt; hinted.has(Addr([first, 0, 0, 1])), "{first}, hinted");
-        assert!(rt; !hinted.has(Addr([0, 0, 0, 1])) || !hinted.has(Addr([255, 0, 0, 1])));
-    }
+    assert_eq!(rt; first_unreached(), None);
     Ok(())
 }
 
 // What was handed over last, and how long it was. It takes no ask over TCP.
-#[derive(Clone, Copy, Debug, PartialEq, Eq)]
+#[derive(Clone, Copy, PartialEq, Eq)]
 enum Last {
     Nothing,
     Client(Endpoint, usize),
@@ -204,35 +245,51 @@ fn handed_over(action: &Action) -> (Last, Option<u64>) {
     (last, refused)
 }
 
+fn reply_goes(alloc: Global, client: u64, way: Via, last: Last) -> Result<bool, Starved> {
+    let action = reply(alloc, client, way)?;
+    let handed_over = handed_over(&action);
+    drop(action);
+    Ok(handed_over == (last, None))
+}
+
 #[test]
 fn a_reply_goes_to_who_asked(rt: HostRuntime) -> Result<(), Fail> {
-    let datagram = reply(rt.alloc(), 0x7f00_0002_14b4, Via::Udp)?;
-    let frame = reply(rt.alloc(), 7, Via::Tcp)?;
-    assert_eq!(rt; handed_over(&datagram), (Last::Client(SENDER, 2), None));
-    assert_eq!(rt; handed_over(&frame), (Last::Stream(7, 2), None));
+    let (datagram, frame) = (Last::Client(SENDER, 2), Last::Stream(7, 2));
+    assert!(rt; reply_goes(rt.alloc(), 0x7f00_0002_14b4, Via::Udp, datagram)?);
+    assert!(rt; reply_goes(rt.alloc(), 7, Via::Tcp, frame)?);
     Ok(())
+}
+
+fn ask_over_udp(alloc: Global) -> Result<(Last, Option<u64>), Starved> {
+    let ask = Action::Send {
+        socket: 3,
+        to: SENDER,
+        bytes: bytes(alloc)?,
+    };
+    let handed_over = handed_over(&ask);
+    drop(ask);
+    Ok(handed_over)
 }
 
 #[test]
 fn an_ask_goes_to_its_server(rt: HostRuntime) -> Result<(), Fail> {
-    let (to, bytes) = (SENDER, bytes(rt.alloc())?);
-    let ask = Action::Send {
-        socket: 3,
-        to,
-        bytes,
-    };
-    assert_eq!(rt; handed_over(&ask), (Last::Server(3, SENDER, 2), None));
+    assert!(rt; ask_over_udp(rt.alloc())? == (Last::Server(3, SENDER, 2), None));
     Ok(())
+}
+
+fn ask_over_tcp(alloc: Global) -> Result<(Last, Option<u64>), Starved> {
+    let ask = Action::TcpAsk {
+        number: 9,
+        to: SENDER,
+        bytes: bytes(alloc)?,
+    };
+    let handed_over = handed_over(&ask);
+    drop(ask);
+    Ok(handed_over)
 }
 
 #[test]
 fn an_ask_that_no_worker_takes_is_told(rt: HostRuntime) -> Result<(), Fail> {
-    let (to, bytes) = (SENDER, bytes(rt.alloc())?);
-    let ask = Action::TcpAsk {
-        number: 9,
-        to,
-        bytes,
-    };
-    assert_eq!(rt; handed_over(&ask), (Last::Nothing, Some(9)));
+    assert!(rt; ask_over_tcp(rt.alloc())? == (Last::Nothing, Some(9)));
     Ok(())
 }

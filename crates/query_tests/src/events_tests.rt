@@ -1,6 +1,7 @@
 //! What goes out, each growth refused in turn, and copies of events and actions.
+use crate::shared::{client_query, message_bytes};
+use crate::worked::{Case, unsaid};
 use causes::Cause;
-use dname::Name;
 use events::{
     Action, Actions, Ask, Bytes, ClientQuery, Endpoint, Event, Path, read_asked, refuse, reply_to,
     send,
@@ -8,35 +9,25 @@ use events::{
 use front::{Outcome, Request};
 use memory::{Heap, Starved};
 use rdata::{Addr, RType};
-use refusing_alloc::Refusing;
+use record_fixtures::name;
 use std::test::Fail;
-use wire::{TCP_LIMIT, Via, Writer};
+use wire::{Via, Writer};
 
 const SERVER: Addr = Addr([192, 0, 2, 1]);
 
 // www.example. A, asked of that server under ID 4660.
 fn asking<A: Heap>(alloc: A, path: Path) -> Result<Ask<A>, Starved> {
-    let Ok(name) = Name::from_text(alloc, "www.example") else {
-        return Err(Starved);
-    };
     Ok(Ask {
         path,
         server: SERVER,
         id: 4660,
-        name,
+        name: name(alloc, "www.example")?,
         kind: RType::A,
     })
 }
 
 // A reply to it: QR and AA are set, and nothing is found.
 const REPLY: &[u8] = b"\x12\x34\x84\0\0\x01\0\0\0\0\0\0\x03www\x07example\0\0\x01\0\x01";
-
-fn message_bytes<A: Heap>(alloc: A, bytes: &[u8]) -> Result<Bytes<A>, Starved> {
-    if bytes.len() > TCP_LIMIT {
-        return Err(Starved);
-    }
-    Ok(Bytes::new(Vec::from_slice(alloc, bytes)?))
-}
 
 fn stream_reply<A: Heap>(alloc: A, moment: u64, number: u64) -> Result<Event<A>, Starved> {
     Ok(Event::TcpReply {
@@ -49,22 +40,29 @@ fn stream_reply<A: Heap>(alloc: A, moment: u64, number: u64) -> Result<Event<A>,
 // RFC 1035, section 4.1: a header of ID 4660 and nothing set, and the question.
 const ASK: &[u8] = b"\x12\x34\0\0\0\x01\0\0\0\0\0\0\x03www\x07example\0\0\x01\0\x01";
 
+fn is_send<A: Heap>(action: &Action<A>, path: Path) -> bool {
+    match action {
+        Action::Send { socket, to, bytes } => path == Path::Udp(*socket)
+            && is_for_server(*to, bytes),
+        Action::TcpAsk { number, to, bytes } => path == Path::Tcp(*number)
+            && is_for_server(*to, bytes),
+        Action::Reply { .. } => false,
+    }
+}
+
+fn sent<A: Heap>(alloc: A, path: Path) -> Result<Action<A>, Starved> {
+    let ask = asking(alloc, path)?;
+    let action = send(alloc, 53, &ask);
+    drop(ask);
+    action
+}
+
 // Whether the ask goes out so.
 fn is_sent<A: Heap>(alloc: A, path: Path) -> Result<bool, Starved> {
-    let ask = asking(alloc, path)?;
-    Ok(match send(alloc, 53, &ask)? {
-        Action::Send {
-            socket: 7,
-            to,
-            bytes,
-        } => path == Path::Udp(7) && is_for_server(to, &bytes),
-        Action::TcpAsk {
-            number: 9,
-            to,
-            bytes,
-        } => path == Path::Tcp(9) && is_for_server(to, &bytes),
-        _ => false,
-    })
+    let action = sent(alloc, path)?;
+    let is_send = is_send(&action, path);
+    drop(action);
+    Ok(is_send)
 }
 
 fn is_for_server<A: Heap>(to: Endpoint, bytes: &Bytes<A>) -> bool {
@@ -74,27 +72,20 @@ fn is_for_server<A: Heap>(to: Endpoint, bytes: &Bytes<A>) -> bool {
 // www.example. A of a client, under ID 5 with RD set.
 const QUERY: &[u8] = b"\0\x05\x01\0\0\x01\0\0\0\0\0\0\x03wWw\x07example\0\0\x01\0\x01";
 
-// Client 3 with that query.
-fn client_query<A: Heap>(alloc: A) -> Result<ClientQuery<A>, Starved> {
-    match read_asked(alloc, QUERY)? {
-        Request::Query(query) => Ok(ClientQuery {
-            client: 3,
-            way: Via::Tcp,
-            query,
-        }),
-        _ => Err(Starved),
-    }
+fn late_reply_to<A: Heap>(alloc: A, query: &ClientQuery<A>) -> Result<Action<A>, Starved> {
+    let mut writer = Writer::new(alloc)?;
+    let outcome = Outcome::Fail(Cause::DeadlineOver);
+    let action = reply_to(&mut writer, query, &outcome);
+    drop(outcome);
+    action
 }
 
 // The reply to that query, whose deadline is over.
 fn late_reply<A: Heap>(alloc: A) -> Result<Action<A>, Starved> {
-    let client_query = client_query(alloc)?;
-    let mut writer = Writer::new(alloc)?;
-    reply_to(
-        &mut writer,
-        &client_query,
-        &Outcome::Fail(Cause::DeadlineOver),
-    )
+    let client_query = client_query(alloc, QUERY)?;
+    let action = late_reply_to(alloc, &client_query);
+    drop(client_query);
+    action
 }
 
 // The refusal of bytes of class CH from client 4.
@@ -114,25 +105,24 @@ fn refusal<A: Heap>(alloc: A) -> Result<Action<A>, Starved> {
     }
 }
 
-#[test]
-fn each_growth_is_refused_in_turn(rt: HostRuntime) -> Result<(), Fail> {
-    let heap = Refusing::new(rt.alloc());
-    let before = heap.growths();
-    all_done(&heap)?;
-    let growths = heap.growths().saturating_sub(before);
-    assert!(rt; growths > 8);
-    for n in 0..growths {
-        heap.refuse_after(n);
-        assert!(rt; all_done(&heap).is_err(), "growth {n}");
-        assert!(rt; all_done(&heap).is_ok(), "after growth {n}");
+// An ask, a reply and a refusal.
+#[derive(Clone, Copy)]
+struct Each;
+
+impl Case for Each {
+    fn wrong_step<A: Heap>(&self, alloc: A) -> Result<Option<usize>, Starved> {
+        if !is_sent(alloc, Path::Udp(7))? {
+            return Ok(Some(0));
+        }
+        drop(late_reply(alloc)?);
+        drop(refusal(alloc)?);
+        Ok(None)
     }
-    Ok(())
 }
 
-fn all_done<A: Heap>(alloc: A) -> Result<(), Starved> {
-    is_sent(alloc, Path::Udp(7))?;
-    let _ = late_reply(alloc)?;
-    let _ = refusal(alloc)?;
+#[test]
+fn each_growth_is_refused_in_turn(rt: HostRuntime) -> Result<(), Fail> {
+    assert_eq!(rt; unsaid(rt.alloc(), &Each, 9)?, None);
     Ok(())
 }
 
@@ -143,12 +133,17 @@ fn is_copied<A: Heap>(event: &Event<A>) -> Result<bool, Starved> {
         moment: 5,
         number: 9,
     };
-    Ok(copy.same(event) && !event.same(&other))
+    let same = copy.same(event) && !event.same(&other);
+    drop(copy);
+    drop(other);
+    Ok(same)
 }
 
 fn event_is_copied<A: Heap>(alloc: A) -> Result<bool, Starved> {
     let event = stream_reply(alloc, 5, 9)?;
-    is_copied(&event)
+    let is_copied = is_copied(&event);
+    drop(event);
+    is_copied
 }
 
 fn actions<A: Heap>(first: Action<A>) -> Actions<A> {
@@ -160,12 +155,16 @@ fn actions<A: Heap>(first: Action<A>) -> Actions<A> {
 
 fn are_copied<A: Heap>(actions: &Actions<A>) -> Result<bool, Starved> {
     let copy = actions.copied()?;
-    Ok(copy.same(actions))
+    let same = copy.same(actions);
+    drop(copy);
+    Ok(same)
 }
 
 fn actions_are_copied<A: Heap>(alloc: A) -> Result<bool, Starved> {
     let actions = actions(late_reply(alloc)?);
-    are_copied(&actions)
+    let are_copied = are_copied(&actions);
+    drop(actions);
+    are_copied
 }
 
 // Whether actions are the same where one gives a reply and the other a refusal.

@@ -31,22 +31,32 @@ const STEPS: &[Step] = &[
 ];
 
 // Failures and the allocator that they stand on.
-#[derive(Drop)]
 struct Kept<A: Heap> {
     alloc: A,
     failures: Failures<DefaultHasher, A>,
 }
 
+impl<A: Heap> Drop for Kept<A> {
+    fn drop(self) {
+        let Self { alloc: _, failures } = self;
+        drop(failures);
+    }
+}
+
 impl<A: Heap> Kept<A> {
     fn note(&mut self, (text, kind, last): Ask, now: u64) -> Result<bool, Starved> {
         let name = name(self.alloc, text)?;
-        self.failures.failed(&name, kind, address(last), now)?;
+        let noted = self.failures.failed(&name, kind, address(last), now);
+        drop(name);
+        noted?;
         Ok(true)
     }
 
     fn fails(&mut self, (text, kind, last): Ask, now: u64) -> Result<bool, Starved> {
         let name = name(self.alloc, text)?;
-        self.failures.is_failed(&name, kind, address(last), now)
+        let fails = self.failures.is_failed(&name, kind, address(last), now);
+        drop(name);
+        fails
     }
 }
 
@@ -68,7 +78,8 @@ struct Noted;
 impl Case for Noted {
     fn wrong_step<A: Heap>(&self, alloc: A) -> Result<Option<usize>, Starved> {
         let failures = Failures::new(alloc, capacity(2)?, hasher())?;
-        first_wrong_step(&mut Kept { alloc, failures }, STEPS)
+        let mut kept = Kept { alloc, failures };
+        first_wrong_step(&mut kept, STEPS)
     }
 }
 

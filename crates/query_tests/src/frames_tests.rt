@@ -38,15 +38,10 @@ fn failures<A: Heap>(alloc: A) -> Result<Failed<A>, Starved> {
 }
 
 fn trimmed_cut<A: Heap>(alloc: A) -> Result<Cut<A>, Starved> {
-    let whole = cut_of(alloc, "example", SERVERS, &[])?;
-    trimmed(alloc, &whole)
-}
-
-// A frame at a trimmed cut, one deep.
-fn open<A: Heap>(alloc: A) -> Result<Frame<A>, Starved> {
-    let cut = trimmed_cut(alloc)?;
-    let penalties = no_penalties(alloc)?;
-    Frame::start(alloc, &cut, 1, &penalties)
+    let whole = cut_of(alloc, "example", SERVERS)?;
+    let cut = trimmed(alloc, &whole);
+    drop(whole);
+    cut
 }
 
 // Twenty addresses, five times over.
@@ -58,16 +53,15 @@ fn found<A: Heap>(alloc: A) -> Result<Vec<Addr, A>, Starved> {
     Ok(found)
 }
 
-fn add_twenty<A: Heap>(alloc: A, frame: &mut Frame<A>) -> Result<bool, Starved> {
-    let found = found(alloc)?;
-    let penalties = no_penalties(alloc)?;
-    frame.add(&found, &penalties)
-}
+type Levels<A> = Penalties<DefaultHasher, A>;
 
-// Whether one of the addresses is new to the frame.
-fn finds_new<A: Heap>(alloc: A) -> Result<bool, Starved> {
-    let mut frame = open(alloc)?;
-    add_twenty(alloc, &mut frame)
+// Whether one of the addresses is new to a frame at this cut, one deep.
+fn finds_new<A: Heap>(alloc: A, cut: &Cut<A>, penalties: &Levels<A>) -> Result<bool, Starved> {
+    let found = found(alloc)?;
+    let mut frame = Frame::start(alloc, cut, 1, penalties)?;
+    let is_new = frame.add(&found, penalties);
+    drop(frame);
+    is_new
 }
 
 // Whether the name whose turn it is is this one.
@@ -84,22 +78,46 @@ fn gives<A: Heap>(
     }
 }
 
-fn gives_third<A: Heap>(alloc: A) -> Result<bool, Starved> {
+fn gives_third<A: Heap>(alloc: A, cut: &Cut<A>, penalties: &Levels<A>) -> Result<bool, Starved> {
     let failed = failures(alloc)?;
-    let mut frame = open(alloc)?;
-    gives(alloc, &mut frame, &failed, "c.net")
+    let mut frame = Frame::start(alloc, cut, 1, penalties)?;
+    let gives = gives(alloc, &mut frame, &failed, "c.net");
+    drop(frame);
+    gives
 }
 
 // A frame that finds addresses, and the same once more, which looks a name up.
+fn wrong_by<A: Heap>(
+    alloc: A,
+    cut: &Cut<A>,
+    penalties: &Levels<A>,
+) -> Result<Option<usize>, Starved> {
+    if !finds_new(alloc, cut, penalties)? {
+        return Ok(Some(0));
+    }
+    Ok(if gives_third(alloc, cut, penalties)? {
+        None
+    } else {
+        Some(1)
+    })
+}
+
+fn wrong_at<A: Heap>(alloc: A, cut: &Cut<A>) -> Result<Option<usize>, Starved> {
+    let penalties = no_penalties(alloc)?;
+    let wrong = wrong_by(alloc, cut, &penalties);
+    drop(penalties);
+    wrong
+}
+
 #[derive(Clone, Copy)]
 struct Grown;
 
 impl Case for Grown {
     fn wrong_step<A: Heap>(&self, alloc: A) -> Result<Option<usize>, Starved> {
-        if !finds_new(alloc)? {
-            return Ok(Some(0));
-        }
-        Ok(if gives_third(alloc)? { None } else { Some(1) })
+        let cut = trimmed_cut(alloc)?;
+        let wrong = wrong_at(alloc, &cut);
+        drop(cut);
+        wrong
     }
 }
 

@@ -1,12 +1,11 @@
-use crate::shared::{home, stores};
+use crate::shared::{address_of, alone, cut_of, home, is_named, stores};
 use crate::worked::{Case, Stage, first_wrong_step, unsaid};
 use dname::Name;
 use lookup::{Found, Home, Stores, find};
 use lru::DefaultHasher;
 use memory::{Heap, Starved};
-use rdata::{Addr, RData, RType, RecordSet, Records};
-use record_fixtures::{Row, Value, name, record, records};
-use referral::Cut;
+use rdata::{Addr, RType};
+use record_fixtures::{Row, Value, name};
 use refusing_alloc::Refusing;
 use std::alloc::Allocator;
 use std::test::Fail;
@@ -28,18 +27,30 @@ const ZONE: &[Row<'static>] = &[
 ];
 
 // A resolver that has asked nobody.
-#[derive(Drop)]
 struct Resolver<A: Heap> {
     alloc: A,
     home: Home<A>,
     stores: Stores<DefaultHasher, A>,
 }
 
+impl<A: Heap> Drop for Resolver<A> {
+    fn drop(self) {
+        let Self {
+            alloc: _,
+            home,
+            stores,
+        } = self;
+        drop(home);
+        drop(stores);
+    }
+}
+
 fn fresh<A: Heap>(alloc: A) -> Result<Resolver<A>, Starved> {
+    let stores = stores(alloc, 10)?;
     Ok(Resolver {
         alloc,
         home: home(alloc, "example", ZONE, HINT)?,
-        stores: stores(alloc, 10)?,
+        stores,
     })
 }
 
@@ -54,83 +65,81 @@ impl<A: Heap> Resolver<A> {
         find(alloc, &self.home, asked, RType::A, &mut self.stores, now)
     }
 
-    // The address that is known of a name, and the TTL with which it goes out.
-    fn known(&mut self, asked: &str, now: u64) -> Result<Option<(Addr, u32)>, Starved> {
-        Ok(sent_address(self.find(asked, now)?, now))
-    }
-
-    fn starts_at(&mut self, asked: &str, at: &Name<A>, now: u64) -> Result<bool, Starved> {
-        let found = self.find(asked, now)?;
-        Ok(is_start(&found, at))
+    fn knows(&mut self, asked: &Name<A>) -> Result<bool, Starved> {
+        let found = self.find_name(asked, 0)?;
+        let is_known = is_known(&found);
+        drop(found);
+        Ok(is_known)
     }
 
     // Whether servers of a name are sought at this cut.
     fn starts(&mut self, asked: &str, at: &str, now: u64) -> Result<bool, Starved> {
-        let at = name(self.alloc, at)?;
-        self.starts_at(asked, &at, now)
+        let found = self.find(asked, now)?;
+        let is_start = is_start(self.alloc, &found, at);
+        drop(found);
+        is_start
     }
 
-    fn keep(&mut self, owner: &str, link: &Link<A>, now: u64) -> Result<(), Starved> {
+    // Whether that address is known of a name, and goes out with that TTL.
+    fn sends(&mut self, asked: &str, now: u64, want: (Addr, u32)) -> Result<bool, Starved> {
+        let found = self.find(asked, now)?;
+        Ok(sent_address(found, now) == Some(want))
+    }
+
+    fn keep(&mut self, owner: &str, link: &Link<A>, now: u64) -> Result<bool, Starved> {
         let at = name(self.alloc, owner)?;
-        self.stores.keep_link(&at, RType::A, link, now)
+        let kept = self.stores.keep_link(&at, RType::A, link, now);
+        drop(at);
+        kept?;
+        Ok(true)
     }
 
     // Keeps an address that lives for five seconds.
-    fn learn(&mut self, owner: &str, now: u64) -> Result<(), Starved> {
-        let link = Link::Found(alone(self.alloc, (owner, 5, Value::A(9)))?);
-        self.keep(owner, &link, now)
+    fn learn(&mut self, owner: &str, now: u64) -> Result<bool, Starved> {
+        let link = alone(self.alloc, (owner, 5, Value::A(9)))?;
+        let kept = self.keep(owner, &link, now);
+        drop(link);
+        kept
     }
 
-    fn learn_cut(&mut self, at: &str, ttl: u32, now: u64) -> Result<(), Starved> {
-        let cut = cut(self.alloc, at)?;
-        self.stores.keep_cut(self.alloc, &cut, ttl, now)
+    // Keeps a cut with two addresses.
+    fn learn_cut(&mut self, at: &str, ttl: u32, now: u64) -> Result<bool, Starved> {
+        let cut = cut_of(self.alloc, at, GLUE)?;
+        let kept = self.stores.keep_cut(self.alloc, &cut, ttl, now);
+        drop(cut);
+        kept?;
+        Ok(true)
     }
 }
 
-fn alone<A: Heap>(alloc: A, row: Row<'_>) -> Result<RecordSet<A>, Starved> {
-    RecordSet::alone(alloc, record(alloc, row)?)
+fn is_known<A: Heap>(found: &Found<A>) -> bool {
+    matches!(found, Found::Known(_))
 }
 
-fn is_start<A: Heap>(found: &Found<A>, at: &Name<A>) -> bool {
+fn is_start<A: Heap>(alloc: A, found: &Found<A>, at: &str) -> Result<bool, Starved> {
     match found {
-        Found::Known(_) => false,
-        Found::Start(cut) => cut.owner == *at,
+        Found::Known(_) => Ok(false),
+        Found::Start(cut) => is_named(alloc, &cut.owner, at),
     }
 }
 
-fn one_address<A: Heap>(set: &RecordSet<A>) -> Option<(Addr, u32)> {
-    if set.values.len() != 1 {
-        return None;
-    }
-    match set.values.get(0) {
-        RData::A(address) => Some((*address, set.ttl)),
-        _ => None,
-    }
-}
-
-fn address_of<A: Heap>(link: &Link<A>) -> Option<(Addr, u32)> {
-    match link {
-        Link::Found(set) => one_address(set),
-        _ => None,
-    }
-}
-
+// The address that is found, and the TTL with which it goes out.
 fn sent_address<A: Heap>(found: Found<A>, now: u64) -> Option<(Addr, u32)> {
     match found {
-        Found::Known(taken) => address_of(&taken.into_sent(now)),
-        Found::Start(_) => None,
+        Found::Known(taken) => {
+            let link = taken.into_sent(now);
+            let address = address_of(&link);
+            drop(link);
+            address
+        }
+        Found::Start(cut) => {
+            drop(cut);
+            None
+        }
     }
 }
 
-// A cut with two addresses.
 const GLUE: &[Row<'static>] = &[("ns.test", 60, Value::A(1)), ("ns.test", 60, Value::A(9))];
-
-fn cut<A: Heap>(alloc: A, at: &str) -> Result<Cut<A>, Starved> {
-    let at = name(alloc, at)?;
-    let servers = Records::new(alloc);
-    let glue = records(alloc, GLUE)?;
-    Cut::of_records(alloc, at, servers.as_slice(), glue.as_slice())
-}
 
 // What is done with a resolver that has asked nobody, and what has to come of it.
 #[derive(Clone, Copy)]
@@ -150,17 +159,9 @@ impl<A: Heap> Stage for Resolver<A> {
 
     fn goes(&mut self, step: Step) -> Result<bool, Starved> {
         match step {
-            Step::Learn(owner, now) => {
-                self.learn(owner, now)?;
-                Ok(true)
-            }
-            Step::LearnCut(at, ttl, now) => {
-                self.learn_cut(at, ttl, now)?;
-                Ok(true)
-            }
-            Step::Known(asked, now, address, ttl) => {
-                Ok(self.known(asked, now)? == Some((address, ttl)))
-            }
+            Step::Learn(owner, now) => self.learn(owner, now),
+            Step::LearnCut(at, ttl, now) => self.learn_cut(at, ttl, now),
+            Step::Known(asked, now, address, ttl) => self.sends(asked, now, (address, ttl)),
             Step::Starts(asked, now, at) => self.starts(asked, at, now),
         }
     }
@@ -194,41 +195,27 @@ fn each_growth_is_refused_in_turn(rt: HostRuntime) -> Result<(), Fail> {
     Ok(())
 }
 
-fn is_known<A: Heap>(found: &Found<A>) -> bool {
-    matches!(found, Found::Known(_))
-}
-
-// How many growths the look-up of a known name takes.
-fn growths_of<'a, B: Allocator>(
-    heap: &'a Refusing<B>,
-    resolver: &mut Resolver<&'a Refusing<B>>,
-    asked: &Name<&'a Refusing<B>>,
-) -> Result<Option<u64>, Starved> {
-    let before = heap.growths();
-    let found = resolver.find_name(asked, 0)?;
-    let growths = heap.growths().saturating_sub(before);
-    Ok(is_known(&found).then_some(growths))
-}
-
+// Whether a name is known once it is learnt, and how many growths its look-up takes then.
 fn growths_once_learnt<'a, B: Allocator>(
     heap: &'a Refusing<B>,
     resolver: &mut Resolver<&'a Refusing<B>>,
-    asked: &Name<&'a Refusing<B>>,
-) -> Result<Option<u64>, Starved> {
+) -> Result<(bool, u64), Starved> {
     resolver.learn("www.test", 0)?;
-    growths_of(heap, resolver, asked)
+    let asked = name(heap, "www.test")?;
+    heap.refuse_after(u64::MAX);
+    let is_known = resolver.knows(&asked)?;
+    Ok((is_known, heap.growths()))
 }
 
 // How many growths a cached answer of one address takes.
-fn growths_of_find<B: Allocator>(heap: &Refusing<B>) -> Result<Option<u64>, Starved> {
-    let asked = name(heap, "www.test")?;
+fn growths_of_find<B: Allocator>(heap: &Refusing<B>) -> Result<(bool, u64), Starved> {
     let mut resolver = fresh(heap)?;
-    growths_once_learnt(heap, &mut resolver, &asked)
+    growths_once_learnt(heap, &mut resolver)
 }
 
 #[test]
 fn growths_of_a_cached_answer(rt: HostRuntime) -> Result<(), Fail> {
     let heap = Refusing::new(rt.alloc());
-    assert_eq!(rt; growths_of_find(&heap)?, Some(1));
+    assert_eq!(rt; growths_of_find(&heap)?, (true, 1));
     Ok(())
 }

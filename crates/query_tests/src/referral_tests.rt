@@ -8,15 +8,24 @@ use std::test::Fail;
 
 // A zone with one server, which has this address.
 fn cut<A: Heap>(alloc: A, at: &str, last: u8) -> Result<Cut<A>, Starved> {
-    let servers = [(at, 60, Value::Ns("ns.example"))];
-    let glue = [("ns.example", 60, Value::A(last))];
-    cut_of(alloc, at, &servers, &glue)
+    let rows = [
+        (at, 60, Value::Ns("ns.example")),
+        ("ns.example", 60, Value::A(last)),
+    ];
+    cut_of(alloc, at, &rows)
 }
 
 fn last_byte<A: Heap>(addresses: &[ServerAddress<A>]) -> Option<u8> {
     match addresses {
         [server] => Some(server.address.0[3]),
         _ => None,
+    }
+}
+
+fn last_byte_of<A: Heap>(cut: &Option<Cut<A>>) -> Option<u8> {
+    match cut {
+        Some(cut) => last_byte(cut.addresses.as_slice()),
+        None => None,
     }
 }
 
@@ -30,10 +39,19 @@ enum Step {
 }
 
 // Delegations and the allocator that they stand on.
-#[derive(Drop)]
 struct Kept<A: Heap> {
     alloc: A,
     delegations: Delegations<DefaultHasher, A>,
+}
+
+impl<A: Heap> Drop for Kept<A> {
+    fn drop(self) {
+        let Self {
+            alloc: _,
+            delegations,
+        } = self;
+        drop(delegations);
+    }
 }
 
 fn empty<A: Heap>(alloc: A, room: usize) -> Result<Kept<A>, Starved> {
@@ -42,9 +60,10 @@ fn empty<A: Heap>(alloc: A, room: usize) -> Result<Kept<A>, Starved> {
 }
 
 impl<A: Heap> Kept<A> {
-    fn keep(&mut self, at: &str, last: u8, ttl: u32) -> Result<(), Starved> {
+    fn keep(&mut self, at: &str, last: u8, ttl: u32) -> Result<bool, Starved> {
         let cut = cut(self.alloc, at, last)?;
-        self.delegations.keep(cut, ttl, 0)
+        self.delegations.keep(cut, ttl, 0)?;
+        Ok(true)
     }
 
     fn best_cut(&mut self, text: &str, now: u64) -> Result<Option<Cut<A>>, Starved> {
@@ -52,11 +71,11 @@ impl<A: Heap> Kept<A> {
         self.delegations.best(&name, now)
     }
 
-    fn best(&mut self, text: &str, now: u64) -> Result<Option<u8>, Starved> {
-        match self.best_cut(text, now)? {
-            Some(cut) => Ok(last_byte(cut.addresses.as_slice())),
-            None => Ok(None),
-        }
+    fn best(&mut self, text: &str, now: u64, last: Option<u8>) -> Result<bool, Starved> {
+        let cut = self.best_cut(text, now)?;
+        let found = last_byte_of(&cut);
+        drop(cut);
+        Ok(found == last)
     }
 }
 
@@ -65,11 +84,8 @@ impl<A: Heap> Stage for Kept<A> {
 
     fn goes(&mut self, step: Step) -> Result<bool, Starved> {
         match step {
-            Step::Keep(at, last, ttl) => {
-                self.keep(at, last, ttl)?;
-                Ok(true)
-            }
-            Step::Best(text, now, last) => Ok(self.best(text, now)? == last),
+            Step::Keep(at, last, ttl) => self.keep(at, last, ttl),
+            Step::Best(text, now, last) => self.best(text, now, last),
         }
     }
 }

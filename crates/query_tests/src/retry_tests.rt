@@ -12,22 +12,6 @@ const X: Addr = Addr([192, 0, 2, 1]);
 
 const Y: Addr = Addr([192, 0, 2, 2]);
 
-// What a plan of these addresses gives, and how long each is waited for.
-fn asked<A: Heap>(
-    alloc: A,
-    addresses: &[Addr],
-    penalties: &Penalties<DefaultHasher, A>,
-) -> Result<Vec<(Addr, u32), A>, Starved> {
-    let mut plan = Plan::new(alloc, addresses, penalties)?;
-    let mut given = Vec::new(alloc);
-    for _ in 0..5 {
-        if let Some(addr) = plan.next() {
-            given.push((addr, plan.wait_ms()))?;
-        }
-    }
-    Ok(given)
-}
-
 fn rounds(first: Addr, second: Addr) -> [(Addr, u32); 4] {
     [
         (first, 1_000),
@@ -37,6 +21,16 @@ fn rounds(first: Addr, second: Addr) -> [(Addr, u32); 4] {
     ]
 }
 
+// Whether a plan gives both in two rounds, and nobody after them, and each is waited for as long as it has to be.
+fn gives<A: Heap>(plan: &mut Plan<A>, first: Addr, second: Addr) -> bool {
+    for (addr, wait) in rounds(first, second) {
+        if plan.next() != Some(addr) || plan.wait_ms() != wait {
+            return false;
+        }
+    }
+    plan.next().is_none()
+}
+
 // Whether X and Y are asked in two rounds, this one first.
 fn asks_first<A: Heap>(
     alloc: A,
@@ -44,8 +38,18 @@ fn asks_first<A: Heap>(
     first: Addr,
 ) -> Result<bool, Starved> {
     let second = if first == X { Y } else { X };
-    let given = asked(alloc, &[X, Y], penalties)?;
-    Ok(given.as_slice() == rounds(first, second).as_slice())
+    let mut plan = Plan::new(alloc, &[X, Y], penalties)?;
+    let gives = gives(&mut plan, first, second);
+    drop(plan);
+    Ok(gives)
+}
+
+fn times_out<A: Heap>(
+    penalties: &mut Penalties<DefaultHasher, A>,
+    addr: Addr,
+) -> Result<bool, Starved> {
+    penalties.timed_out(addr)?;
+    Ok(true)
 }
 
 // What comes of an ask of a server, and what has to hold then.
@@ -57,10 +61,24 @@ enum Step {
 }
 
 // Penalties and the allocator that they stand on.
-#[derive(Drop)]
 struct Kept<A: Heap> {
     alloc: A,
     penalties: Penalties<DefaultHasher, A>,
+}
+
+impl<A: Heap> Drop for Kept<A> {
+    fn drop(self) {
+        let Self {
+            alloc: _,
+            penalties,
+        } = self;
+        drop(penalties);
+    }
+}
+
+fn empty<A: Heap>(alloc: A, room: usize) -> Result<Kept<A>, Starved> {
+    let penalties = Penalties::new(alloc, capacity(room)?, hasher())?;
+    Ok(Kept { alloc, penalties })
 }
 
 impl<A: Heap> Stage for Kept<A> {
@@ -68,10 +86,7 @@ impl<A: Heap> Stage for Kept<A> {
 
     fn goes(&mut self, step: Step) -> Result<bool, Starved> {
         match step {
-            Step::TimesOut(addr) => {
-                self.penalties.timed_out(addr)?;
-                Ok(true)
-            }
+            Step::TimesOut(addr) => times_out(&mut self.penalties, addr),
             Step::AsksFirst(addr) => asks_first(self.alloc, &self.penalties, addr),
         }
     }
@@ -83,8 +98,8 @@ struct Asks(usize, &'static [Step]);
 
 impl Case for Asks {
     fn wrong_step<A: Heap>(&self, alloc: A) -> Result<Option<usize>, Starved> {
-        let penalties = Penalties::new(alloc, capacity(self.0)?, hasher())?;
-        first_wrong_step(&mut Kept { alloc, penalties }, self.1)
+        let mut kept = empty(alloc, self.0)?;
+        first_wrong_step(&mut kept, self.1)
     }
 }
 
@@ -113,10 +128,10 @@ fn is_unchanged<A: Heap>(penalties: &mut Penalties<DefaultHasher, A>) -> bool {
 }
 
 fn refuses_a_second<B: Allocator>(heap: &Refusing<B>) -> Result<bool, Starved> {
-    let mut penalties = Penalties::new(heap, capacity(2)?, hasher())?;
-    penalties.timed_out(X)?;
+    let mut kept = empty(heap, 2)?;
+    kept.penalties.timed_out(X)?;
     heap.refuse_after(0);
-    Ok(is_unchanged(&mut penalties))
+    Ok(is_unchanged(&mut kept.penalties))
 }
 
 #[test]

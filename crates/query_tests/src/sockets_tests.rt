@@ -10,18 +10,21 @@ use std::test::Fail;
 // A frame of three bytes, and what stands behind it.
 const STREAM: [u8; 7] = [0, 3, 0xaa, 0xbb, 0xcc, 0, 9];
 
+// How many bytes of a stream came of which another frame is told: three of five bytes and more, and none of fewer.
+fn first_mistold() -> Option<usize> {
+    for count in 0..8 {
+        let wanted = if count < 5 { None } else { Some(&STREAM[2..5]) };
+        if framed(&STREAM[..count]) != wanted {
+            return Some(count);
+        }
+    }
+    None
+}
+
 #[test]
 fn the_first_frame_that_came_is_told(rt: HostRuntime) -> Result<(), Fail> {
-    for count in 0..5 {
-        assert!(rt; framed(&STREAM[..count]).is_none(), "of {count} bytes");
-    }
-    for count in 5..8 {
-        assert!(rt;
-            framed(&STREAM[..count]) == Some(&STREAM[2..5]),
-            "of {count} bytes"
-        );
-    }
-    assert!(rt; framed(&[0, 0]).is_some_and(|bytes| bytes.is_empty()));
+    assert_eq!(rt; first_mistold(), None);
+    assert!(rt; framed(&[0, 0]) == Some(&[]));
     Ok(())
 }
 
@@ -32,15 +35,8 @@ struct Source<'a> {
     fault: Option<ErrorKind>,
 }
 
-impl<'a> Source<'a> {
-    fn ending(bytes: &'a [u8]) -> Source<'a> {
-        Source { bytes, fault: None }
-    }
-
-    fn interrupted(bytes: &'a [u8]) -> Source<'a> {
-        let fault = Some(ErrorKind::Interrupted);
-        Source { bytes, fault }
-    }
+fn ending(bytes: &[u8]) -> Source<'_> {
+    Source { bytes, fault: None }
 }
 
 impl<'a> Read for Source<'a> {
@@ -99,7 +95,7 @@ fn stops_at(alloc: Global, room: usize, fault: Option<ErrorKind>) -> bool {
 
 #[test]
 fn a_frame_is_taken_and_the_rest_is_left(rt: HostRuntime) -> Result<(), Fail> {
-    let mut source = Source::ending(&STREAM);
+    let mut source = ending(&STREAM);
     match read_framed(rt.alloc(), &mut source) {
         Ok(Some(bytes)) => assert_eq!(rt; bytes.as_slice(), &STREAM[2..5]),
         _ => assert!(rt; false, "a frame stands there"),
@@ -110,26 +106,38 @@ fn a_frame_is_taken_and_the_rest_is_left(rt: HostRuntime) -> Result<(), Fail> {
 
 #[test]
 fn a_stream_may_end_before_a_frame(rt: HostRuntime) -> Result<(), Fail> {
-    let mut source = Source::ending(&[]);
+    let mut source = ending(&[]);
     assert!(rt; matches!(read_framed(rt.alloc(), &mut source), Ok(None)));
     Ok(())
 }
 
+// After how many bytes, from this many up to four, the end or a fault of the stream is told by another number.
+fn first_other<A: Heap>(
+    alloc: A,
+    fault: Option<ErrorKind>,
+    from: usize,
+    number: u8,
+) -> Option<usize> {
+    for end in from..5 {
+        let bytes = &STREAM[..end];
+        let told = fault_of(alloc, Source { bytes, fault });
+        if told.map(FrameError::number) != Some(number) {
+            return Some(end);
+        }
+    }
+    None
+}
+
 #[test]
 fn a_stream_that_ends_inside_is_short(rt: HostRuntime) -> Result<(), Fail> {
-    for end in 1..5 {
-        let fault = fault_of(rt.alloc(), Source::ending(&STREAM[..end]));
-        assert_eq!(rt; fault.map(FrameError::number), Some(1), "after {end} bytes");
-    }
+    assert_eq!(rt; first_other(rt.alloc(), None, 1, 1), None);
     Ok(())
 }
 
 #[test]
 fn an_interrupted_read_is_a_fault(rt: HostRuntime) -> Result<(), Fail> {
-    for end in 0..5 {
-        let fault = fault_of(rt.alloc(), Source::interrupted(&STREAM[..end]));
-        assert_eq!(rt; fault.map(FrameError::number), Some(2), "after {end} bytes");
-    }
+    let fault = Some(ErrorKind::Interrupted);
+    assert_eq!(rt; first_other(rt.alloc(), fault, 0, 2), None);
     Ok(())
 }
 
@@ -143,15 +151,21 @@ fn a_frame_is_written(rt: HostRuntime) -> Result<(), Fail> {
     Ok(())
 }
 
+// The first room at which a frame does not stop so.
+fn first_unstopped(alloc: Global, fault: Option<ErrorKind>) -> Option<usize> {
+    for room in 0..5 {
+        if !stops_at(alloc, room, fault) {
+            return Some(room);
+        }
+    }
+    None
+}
+
 #[test]
 fn what_was_written_before_a_fault_stands(rt: HostRuntime) -> Result<(), Fail> {
-    for room in 0..5 {
-        assert!(rt;
-            stops_at(rt.alloc(), room, Some(ErrorKind::Interrupted)),
-            "room {room}"
-        );
-        assert!(rt; stops_at(rt.alloc(), room, None), "room {room}");
-    }
+    let fault = Some(ErrorKind::Interrupted);
+    assert_eq!(rt; first_unstopped(rt.alloc(), fault), None);
+    assert_eq!(rt; first_unstopped(rt.alloc(), None), None);
     Ok(())
 }
 
@@ -159,7 +173,7 @@ fn what_was_written_before_a_fault_stands(rt: HostRuntime) -> Result<(), Fail> {
 fn room_for_a_frame_may_be_refused(rt: HostRuntime) -> Result<(), Fail> {
     let heap = Refusing::new(rt.alloc());
     heap.refuse_after(0);
-    let fault = fault_of(&heap, Source::ending(&STREAM));
+    let fault = fault_of(&heap, ending(&STREAM));
     assert_eq!(rt; fault.map(FrameError::number), Some(4));
     Ok(())
 }

@@ -1,15 +1,16 @@
 //! Copies of typed events and actions: each is the same as what it was copied of, and as no other.
+use crate::shared::{client_query, message_bytes, set_of};
 use causes::Cause;
-use events::{Ask, Bytes, ClientQuery, Endpoint, Event, Path, read_asked};
+use events::{Ask, Endpoint, Event, Path, read_asked};
 use front::{End, Outcome, Request};
 use memory::{Heap, Starved};
-use rdata::{RType, Records, set_at};
+use rdata::{RType, Records};
 use record_fixtures::{Row, Value, address, name, records};
 use refusing_alloc::Refusing;
-use std::alloc::Allocator;
+use std::alloc::{Allocator, Global};
 use std::test::Fail;
 use typed::{TypedAction, TypedActions, TypedEvent, read_event, refuse, reply_to, send};
-use wire::{TCP_LIMIT, Via};
+use wire::Via;
 
 // An event, by its moment and the bytes that came; the client, the socket or the ask is always the same.
 #[derive(Clone, Copy)]
@@ -72,13 +73,6 @@ const EVENTS: &[Told] = &[
 // Datagrams that reply to no question: no message, and a query.
 const NO_REPLIES: &[Told] = &[Told::Datagram(5, b""), Told::Datagram(5, QUERY)];
 
-fn message_bytes<A: Heap>(alloc: A, bytes: &[u8]) -> Result<Bytes<A>, Starved> {
-    if bytes.len() > TCP_LIMIT {
-        return Err(Starved);
-    }
-    Ok(Bytes::new(Vec::from_slice(alloc, bytes)?))
-}
-
 fn event<A: Heap>(alloc: A, row: Told) -> Result<Event<A>, Starved> {
     Ok(match row {
         Told::Client(moment, bytes) => Event::Client {
@@ -108,16 +102,32 @@ fn event<A: Heap>(alloc: A, row: Told) -> Result<Event<A>, Starved> {
 
 fn typed_event<A: Heap>(alloc: A, row: Told) -> Result<Option<TypedEvent<A>>, Starved> {
     let event = event(alloc, row)?;
-    read_event(alloc, &event)
+    let read = read_event(alloc, &event);
+    drop(event);
+    read
+}
+
+fn push_event<A: Heap>(
+    events: &mut Vec<TypedEvent<A>, A>,
+    alloc: A,
+    row: Told,
+) -> Result<(), Starved> {
+    match typed_event(alloc, row)? {
+        Some(event) => Ok(events.push(event)?),
+        None => Ok(()),
+    }
+}
+
+fn push_events<A: Heap>(events: &mut Vec<TypedEvent<A>, A>, alloc: A) -> Result<(), Starved> {
+    for row in EVENTS {
+        push_event(events, alloc, *row)?;
+    }
+    Ok(())
 }
 
 fn typed_events<A: Heap>(alloc: A) -> Result<Vec<TypedEvent<A>, A>, Starved> {
     let mut events = Vec::with_capacity(alloc, EVENTS.len())?;
-    for row in EVENTS {
-        if let Some(event) = typed_event(alloc, *row)? {
-            events.push(event)?;
-        }
-    }
+    push_events(&mut events, alloc)?;
     Ok(events)
 }
 
@@ -163,12 +173,8 @@ const SERVERS: &[Row<'static>] = &[("example", 300, Value::Ns("ns.example"))];
 const GLUE: &[Row<'static>] = &[("ns.example", 300, Value::A(4))];
 
 fn found<A: Heap>(alloc: A) -> Result<End<A>, Starved> {
-    let owner = name(alloc, "web.example")?;
     let addresses = records(alloc, ADDRESSES)?;
-    match set_at(alloc, addresses.as_slice(), &owner, RType::A)? {
-        Some(set) => Ok(End::Found(set)),
-        None => Err(Starved),
-    }
+    Ok(End::Found(set_of(alloc, addresses.as_slice())?))
 }
 
 fn answered<A: Heap>(alloc: A) -> Result<Outcome<A>, Starved> {
@@ -188,16 +194,12 @@ fn referred<A: Heap>(alloc: A) -> Result<Outcome<A>, Starved> {
 
 // The reply of that outcome to client 3.
 fn reply<A: Heap>(alloc: A, outcome: Outcome<A>) -> Result<Option<TypedAction<A>>, Starved> {
-    match read_asked(alloc, QUERY)? {
-        Request::Query(query) => {
-            let client_query = ClientQuery {
-                client: 3,
-                way: Via::Tcp,
-                query,
-            };
-            Ok(Some(reply_to(client_query, outcome)))
+    match client_query(alloc, QUERY) {
+        Ok(client_query) => Ok(Some(reply_to(client_query, outcome))),
+        Err(starved) => {
+            drop(outcome);
+            Err(starved)
         }
-        _ => Err(Starved),
     }
 }
 
@@ -233,15 +235,26 @@ fn given<A: Heap>(alloc: A, gives: Gives) -> Result<Option<TypedAction<A>>, Star
     }
 }
 
+fn push_action<A: Heap>(
+    actions: &mut Vec<TypedActions<A>, A>,
+    alloc: A,
+    (gives, more_due): (Gives, bool),
+) -> Result<(), Starved> {
+    let first = given(alloc, gives)?;
+    actions.push(TypedActions { first, more_due })?;
+    Ok(())
+}
+
+fn push_actions<A: Heap>(actions: &mut Vec<TypedActions<A>, A>, alloc: A) -> Result<(), Starved> {
+    for row in ACTIONS {
+        push_action(actions, alloc, *row)?;
+    }
+    Ok(())
+}
+
 fn typed_actions<A: Heap>(alloc: A) -> Result<Vec<TypedActions<A>, A>, Starved> {
     let mut actions = Vec::with_capacity(alloc, ACTIONS.len())?;
-    for (gives, more_due) in ACTIONS {
-        let first = given(alloc, *gives)?;
-        actions.push(TypedActions {
-            first,
-            more_due: *more_due,
-        })?;
-    }
+    push_actions(&mut actions, alloc)?;
     Ok(actions)
 }
 
@@ -308,16 +321,32 @@ fn first_unsaid<T: Copied + Drop, B: Allocator>(
     None
 }
 
+type CopyReport = (Option<usize>, u64, Option<u64>);
+
 // Where a copy goes wrong, its place; else how many growths the copies take, and the first of these that is refused in
 // vain.
 fn copies<T: Copied + Drop, B: Allocator>(
     heap: &Refusing<B>,
     rows: &[T],
-) -> Result<(Option<usize>, u64, Option<u64>), Starved> {
+) -> Result<CopyReport, Starved> {
     let before = heap.growths();
     let wrong = wrong_copy(rows)?;
     let growths = heap.growths().saturating_sub(before);
     Ok((wrong, growths, first_unsaid(heap, rows, growths)))
+}
+
+fn copies_of_events(heap: &Refusing<Global>) -> Result<CopyReport, Starved> {
+    let events = typed_events(heap)?;
+    let copies = copies(heap, &events);
+    drop(events);
+    copies
+}
+
+fn copies_of_actions(heap: &Refusing<Global>) -> Result<CopyReport, Starved> {
+    let actions = typed_actions(heap)?;
+    let copies = copies(heap, &actions);
+    drop(actions);
+    copies
 }
 
 // How many of these rows are read as events.
@@ -338,19 +367,38 @@ fn datagrams_that_reply_to_no_question_are_no_events(rt: HostRuntime) -> Result<
     Ok(())
 }
 
+fn is_read<A: Heap>(alloc: A, event: &Event<A>) -> Result<bool, Starved> {
+    match read_event(alloc, event)? {
+        Some(read) => {
+            drop(read);
+            Ok(true)
+        }
+        None => Ok(false),
+    }
+}
+
 // The first growth of reading an event whose refusal goes unsaid.
-fn first_unread<B: Allocator>(heap: &Refusing<B>, row: Told) -> Result<Option<u64>, Starved> {
-    let event = event(heap, row)?;
+fn first_unread_of<'a, B: Allocator>(
+    heap: &'a Refusing<B>,
+    event: &Event<&'a Refusing<B>>,
+) -> Result<Option<u64>, Starved> {
     let before = heap.growths();
-    read_event(heap, &event)?;
+    is_read(heap, event)?;
     let growths = heap.growths().saturating_sub(before);
     for n in 0..growths {
         heap.refuse_after(n);
-        if read_event(heap, &event).is_ok() {
+        if is_read(heap, event).is_ok() {
             return Ok(Some(n));
         }
     }
     Ok(None)
+}
+
+fn first_unread<B: Allocator>(heap: &Refusing<B>, row: Told) -> Result<Option<u64>, Starved> {
+    let event = event(heap, row)?;
+    let first = first_unread_of(heap, &event);
+    drop(event);
+    first
 }
 
 // The first row, and the first growth of reading it, whose refusal goes unsaid.
@@ -373,19 +421,17 @@ fn each_growth_of_reading_is_refused_in_turn(rt: HostRuntime) -> Result<(), Fail
 #[test]
 fn copies_of_events_are_the_same(rt: HostRuntime) -> Result<(), Fail> {
     let heap = Refusing::new(rt.alloc());
-    let events = typed_events(&heap)?;
     // None for a query, which is shared; one for the question that is refused; two for each answer, whose data are
     // shared, five for the denial, and seven for the referral.
-    assert_eq!(rt; copies(&heap, &events)?, (None, 23, None));
+    assert_eq!(rt; copies_of_events(&heap)?, (None, 23, None));
     Ok(())
 }
 
 #[test]
 fn copies_of_actions_are_the_same(rt: HostRuntime) -> Result<(), Fail> {
     let heap = Refusing::new(rt.alloc());
-    let actions = typed_actions(&heap)?;
     // None for a query, which is shared; four for each answer, whose data are shared, five for the denial, five for the
     // referral; one for the question that is refused, and one for each ask.
-    assert_eq!(rt; copies(&heap, &actions)?, (None, 22, None));
+    assert_eq!(rt; copies_of_actions(&heap)?, (None, 22, None));
     Ok(())
 }

@@ -6,8 +6,8 @@
 //! `query NAME TYPE AT`, `reply SERVER AT FLAG .. : SECTION RECORD ; ..`, `time-out SERVER AT` and `tcp-failed SERVER
 //! AT` are the work on one query; `until-failure` before one of them does it again until the query fails.
 use crate::replies::reply;
-use crate::row::{Row, hasher};
-use crate::shown::{put_asked, put_cut, put_link};
+use crate::row::{Row, hasher, made};
+use crate::shown::{put_addresses, put_asked, put_cut, put_link, put_number};
 use authority::Catalog;
 use classify::read;
 use dname::Name;
@@ -23,21 +23,48 @@ use text_lines::LineKind;
 use wire::{Question, Questions, Via};
 use zone::{Link, Zone};
 
-#[derive(Drop)]
 struct AtHand {
     origin: Name,
     hint: Addr,
     records: Records,
 }
 
-#[derive(Drop)]
+impl Drop for AtHand {
+    fn drop(self) {
+        let Self {
+            origin,
+            hint: _,
+            records,
+        } = self;
+        drop(origin);
+        drop(records);
+    }
+}
+
 struct Asked {
     home: Home,
     stores: Stores<DefaultHasher>,
     frame: Option<Frame>,
     job: Job,
-    // What was asked last.
-    question: Question,
+    // What was asked last, once something was.
+    question: Option<Question>,
+}
+
+impl Drop for Asked {
+    fn drop(self) {
+        let Self {
+            home,
+            stores,
+            frame,
+            job,
+            question,
+        } = self;
+        drop(home);
+        drop(stores);
+        drop(frame);
+        drop(job);
+        drop(question);
+    }
 }
 
 /// What later resolvers have at hand, and the last one.
@@ -50,7 +77,10 @@ pub struct Resolvers {
 fn zone(at_hand: &AtHand) -> Result<Zone, LineKind> {
     let origin = at_hand.origin.clone()?;
     let records = at_hand.records.clone()?;
-    Zone::build(origin, records).map_err(|_| LineKind::BadName)
+    match Zone::build(origin, records) {
+        Ok(zone) => Ok(zone),
+        Err(_) => Err(LineKind::BadName),
+    }
 }
 
 fn home(alloc: Global, at_hand: &AtHand) -> Result<Home, LineKind> {
@@ -81,14 +111,13 @@ fn stores(alloc: Global, room: NonZeroUsize) -> Result<Stores<DefaultHasher>, Li
 
 fn fresh(alloc: Global, at_hand: &AtHand, room: NonZeroUsize) -> Result<Asked, LineKind> {
     let stores = stores(alloc, room)?;
-    let home = home(alloc, at_hand)?;
-    let root = Name::root(alloc)?;
+    let job = Job::new(Name::root(alloc)?, RType::A, 0);
     Ok(Asked {
-        home,
+        home: home(alloc, at_hand)?,
         stores,
         frame: None,
-        question: question(&root, RType::A)?,
-        job: Job::new(root, RType::A, 0),
+        job,
+        question: None,
     })
 }
 
@@ -114,8 +143,7 @@ fn put_done(
     aliases: &[Taken],
     last: &Taken,
 ) -> Result<(), LineKind> {
-    let count = aliases.len();
-    writeln!(out, "answer behind {count}")?;
+    put_number(out, "answer behind ", aliases.len() as u64)?;
     put_aliases(out, alloc, aliases)?;
     put_link(out, alloc, last.link())
 }
@@ -126,42 +154,38 @@ fn put_ask(
     way: &str,
     name: &Name,
     kind: RType,
+    asks: u32,
 ) -> Result<(), LineKind> {
-    write!(out, "ask {server} over {way} for {name} {kind}")?;
-    Ok(())
-}
-
-fn put_count(out: &mut String, asks: u32) -> Result<(), LineKind> {
-    writeln!(out, ", ask {asks}")?;
+    writeln!(out, "ask {server} over {way} for {name} {kind}, ask {asks}")?;
     Ok(())
 }
 
 fn put_next(out: &mut String, alloc: Global, next: &Next, asks: u32) -> Result<(), LineKind> {
     match next {
-        Next::AskUdp(server, name, kind) => put_ask(out, *server, "udp", name, *kind)?,
-        Next::AskTcp(server, name, kind) => put_ask(out, *server, "tcp", name, *kind)?,
-        Next::Done(chain, last) => return put_done(out, alloc, chain.as_slice(), last),
-        Next::Fail(cause) => return put_failure(out, cause.number()),
+        Next::AskUdp(server, name, kind) => put_ask(out, *server, "udp", name, *kind, asks),
+        Next::AskTcp(server, name, kind) => put_ask(out, *server, "tcp", name, *kind, asks),
+        Next::Done(chain, last) => put_done(out, alloc, chain.as_slice(), last),
+        Next::Fail(cause) => put_number(out, "fails, cause ", u64::from(cause.number())),
     }
-    put_count(out, asks)
-}
-
-fn put_failure(out: &mut String, cause: u8) -> Result<(), LineKind> {
-    writeln!(out, "fails, cause {cause}")?;
-    Ok(())
 }
 
 // What is known goes out as it is sent at that moment.
 fn put_found(out: &mut String, alloc: Global, found: Found, now: u64) -> Result<(), LineKind> {
     match found {
         Found::Known(taken) => put_sent(out, alloc, taken, now),
-        Found::Start(cut) => put_cut(out, &cut),
+        Found::Start(cut) => {
+            let put = put_cut(out, &cut);
+            drop(cut);
+            put
+        }
     }
 }
 
 fn put_sent(out: &mut String, alloc: Global, taken: Taken, now: u64) -> Result<(), LineKind> {
     let link = taken.into_sent(now);
-    put_link(out, alloc, &link)
+    let put = put_link(out, alloc, &link);
+    drop(link);
+    put
 }
 
 fn put_taken(out: &mut String, taken: &Taken, later: u64) -> Result<(), LineKind> {
@@ -175,22 +199,25 @@ fn put_taken(out: &mut String, taken: &Taken, later: u64) -> Result<(), LineKind
 }
 
 fn show_accepted(row: &mut Row<'_>, out: &mut String) -> Result<(), LineKind> {
-    let name = row.name()?;
+    let text = row.word()?;
     let now = row.number()?;
     let later = row.number()?;
-    let link = row.alias()?;
-    let taken = Taken::accepted(name, link, now);
+    let name = text_lines::name(row.alloc, text)?;
+    let taken = Taken::accepted(name, row.link_as("alias")?, now);
     put_taken(out, &taken, later)?;
     put_name(out, taken)
 }
 
-fn show_found(row: &mut Row<'_>, out: &mut String) -> Result<(), LineKind> {
+fn found_by(row: &Row<'_>) -> Result<Vec<Addr>, LineKind> {
     let set = row.set()?;
-    let found = found_addresses(row.alloc, &set)?;
-    for address in found.as_slice() {
-        writeln!(out, "{address}")?;
-    }
-    Ok(())
+    let found = found_addresses(row.alloc, &set);
+    drop(set);
+    Ok(found?)
+}
+
+fn show_found(row: &Row<'_>, out: &mut String) -> Result<(), LineKind> {
+    let found = found_by(row)?;
+    put_addresses(out, found.as_slice())
 }
 
 fn put_name(out: &mut String, taken: Taken) -> Result<(), LineKind> {
@@ -203,10 +230,9 @@ impl Asked {
     fn perform(&mut self, row: &mut Row<'_>, out: &mut String) -> Result<(), LineKind> {
         match row.command {
             "learn" => self.learn(row),
-            "learn-cut" => self.learn_cut(row),
+            "learn-cut" | "open" => self.take_cut(row, out),
             "seek" => self.seek(row, out),
             "late-server" | "prompt-server" => self.hear_of(row),
-            "open" => self.open(row, out),
             "join" => self.join(row, out),
             "query" => self.query(row, out),
             "reply" => self.reply(row, out),
@@ -215,132 +241,172 @@ impl Asked {
     }
 
     fn learn(&mut self, row: &mut Row<'_>) -> Result<(), LineKind> {
-        let owner = row.name()?;
-        let now = row.number()?;
-        let link = Link::Found(row.set()?);
-        self.stores.keep_link(&owner, RType::A, &link, now)?;
-        Ok(())
+        let link = row.link_as("set")?;
+        let learnt = self.learn_link(row, &link);
+        drop(link);
+        learnt
     }
 
-    fn learn_cut(&mut self, row: &mut Row<'_>) -> Result<(), LineKind> {
+    fn learn_link(&mut self, row: &mut Row<'_>, link: &Link) -> Result<(), LineKind> {
+        let text = row.word()?;
+        let now = row.number()?;
+        let owner = text_lines::name(row.alloc, text)?;
+        let kept = self.stores.keep_link(&owner, RType::A, link, now);
+        drop(owner);
+        Ok(kept?)
+    }
+
+    fn take_cut(&mut self, row: &mut Row<'_>, out: &mut String) -> Result<(), LineKind> {
         let cut = row.cut()?;
+        let taken = self.take_made(row, &cut, out);
+        drop(cut);
+        taken
+    }
+
+    fn take_made(
+        &mut self,
+        row: &mut Row<'_>,
+        cut: &Cut,
+        out: &mut String,
+    ) -> Result<(), LineKind> {
+        match row.command {
+            "open" => self.open(row, cut, out),
+            _ => self.learn_cut(row, cut),
+        }
+    }
+
+    fn learn_cut(&mut self, row: &mut Row<'_>, cut: &Cut) -> Result<(), LineKind> {
         let ttl = row.seconds()?;
         let now = row.number()?;
-        self.stores.keep_cut(row.alloc, &cut, ttl, now)?;
-        Ok(())
+        Ok(self.stores.keep_cut(row.alloc, cut, ttl, now)?)
     }
 
     fn find(
         &mut self,
-        row: &Row<'_>,
-        name: &Name,
+        alloc: Global,
+        text: &str,
         kind: RType,
         now: u64,
     ) -> Result<Found, LineKind> {
-        Ok(find(row.alloc, &self.home, name, kind, &mut self.stores, now)?)
+        let name = text_lines::name(alloc, text)?;
+        let found = find(alloc, &self.home, &name, kind, &mut self.stores, now);
+        drop(name);
+        Ok(found?)
     }
 
     fn seek(&mut self, row: &mut Row<'_>, out: &mut String) -> Result<(), LineKind> {
-        let name = row.name()?;
+        let text = row.word()?;
         let kind = row.rtype()?;
         let now = row.number()?;
-        let found = self.find(row, &name, kind, now)?;
+        let found = self.find(row.alloc, text, kind, now)?;
         put_found(out, row.alloc, found, now)
     }
 
     fn hear_of(&mut self, row: &mut Row<'_>) -> Result<(), LineKind> {
         let server = row.address()?;
         match row.command {
-            "late-server" => self.stores.timed_out(server)?,
-            _ => self.stores.answered(server),
+            "late-server" => Ok(self.stores.timed_out(server)?),
+            _ => {
+                self.stores.answered(server);
+                Ok(())
+            }
         }
-        Ok(())
     }
 
-    fn open_at(&mut self, row: &Row<'_>, cut: &Cut) -> Result<(), LineKind> {
-        self.frame = Some(self.stores.open(row.alloc, cut, 0)?);
-        Ok(())
-    }
-
-    fn open(&mut self, row: &mut Row<'_>, out: &mut String) -> Result<(), LineKind> {
-        let cut = row.cut()?;
-        self.open_at(row, &cut)?;
+    fn open(&mut self, row: &Row<'_>, cut: &Cut, out: &mut String) -> Result<(), LineKind> {
+        let frame = self.stores.open(row.alloc, cut, 0)?;
+        self.frame = Some(frame);
         self.put_asked(out)
     }
 
     fn put_asked(&mut self, out: &mut String) -> Result<(), LineKind> {
-        match &mut self.frame {
-            Some(frame) => put_asked(out, frame.next_address(), frame.wait_ms()),
-            None => Err(LineKind::UnknownWord),
-        }
+        let frame = made(&mut self.frame)?;
+        put_asked(out, frame.next_address(), frame.wait_ms())
     }
 
     fn add(&mut self, found: &[Addr]) -> Result<(), LineKind> {
-        match &mut self.frame {
-            Some(frame) => Ok(self.stores.add(frame, found)?),
-            None => Err(LineKind::UnknownWord),
-        }
+        let frame = made(&mut self.frame)?;
+        Ok(self.stores.add(frame, found)?)
     }
 
-    fn join(&mut self, row: &mut Row<'_>, out: &mut String) -> Result<(), LineKind> {
-        let set = row.set()?;
-        let found = found_addresses(row.alloc, &set)?;
-        self.add(&found)?;
+    fn join(&mut self, row: &Row<'_>, out: &mut String) -> Result<(), LineKind> {
+        let found = found_by(row)?;
+        let added = self.add(&found);
+        drop(found);
+        added?;
         self.put_asked(out)
     }
 
     // What goes out for a query whose work has begun.
     fn begun(&mut self, begun: Started, alloc: Global, out: &mut String) -> Result<(), LineKind> {
         match begun {
-            Started::Answered(last) => put_done(out, alloc, &[], &last),
+            Started::Answered(last) => {
+                let put = put_done(out, alloc, &[], &last);
+                drop(last);
+                put
+            }
             Started::Working(job, next) => {
                 self.job = job;
-                self.go_out(alloc, &next, out)
+                self.go_out(alloc, next, out)
             }
         }
     }
 
-    // Shows what goes out, and notes what it asks.
-    fn go_out(&mut self, alloc: Global, next: &Next, out: &mut String) -> Result<(), LineKind> {
-        match next {
-            Next::AskUdp(_, name, kind) => self.question = question(name, *kind)?,
-            Next::AskTcp(_, name, kind) => self.question = question(name, *kind)?,
-            Next::Done(..) | Next::Fail(_) => {}
+    fn go_out(&mut self, alloc: Global, next: Next, out: &mut String) -> Result<(), LineKind> {
+        let put = self.put_next(alloc, &next, out);
+        drop(next);
+        put
+    }
+
+    // Notes what goes out and is asked.
+    fn note(&mut self, next: &Next) -> Result<(), LineKind> {
+        if let Next::AskUdp(_, name, kind) | Next::AskTcp(_, name, kind) = next {
+            self.question = Some(question(name, *kind)?);
         }
+        Ok(())
+    }
+
+    // Shows what goes out, and notes what it asks.
+    fn put_next(&mut self, alloc: Global, next: &Next, out: &mut String) -> Result<(), LineKind> {
+        self.note(next)?;
         put_next(out, alloc, next, self.job.asks())
     }
 
     // The question that was asked last.
     fn question(&self) -> Result<Question, LineKind> {
+        let last = self.question.as_ref().ok_or(LineKind::UnknownWord)?;
         Ok(Question {
-            name: self.question.name.clone()?,
-            qtype: self.question.qtype,
-            qclass: self.question.qclass,
+            name: last.name.clone()?,
+            qtype: last.qtype,
+            qclass: last.qclass,
         })
     }
 
     fn begin(
         &mut self,
-        row: &Row<'_>,
-        name: &Name,
+        alloc: Global,
+        text: &str,
         kind: RType,
         now: u32,
     ) -> Result<Started, LineKind> {
-        Ok(begin_query(
-            row.alloc,
-            name,
+        let name = text_lines::name(alloc, text)?;
+        let begun = begin_query(
+            alloc,
+            &name,
             kind,
             &self.home,
             &mut self.stores,
             u64::from(now),
-        )?)
+        );
+        drop(name);
+        Ok(begun?)
     }
 
     fn query(&mut self, row: &mut Row<'_>, out: &mut String) -> Result<(), LineKind> {
-        let name = row.name()?;
+        let text = row.word()?;
         let kind = row.rtype()?;
         let now = row.seconds()?;
-        let begun = self.begin(row, &name, kind, now)?;
+        let begun = self.begin(row.alloc, text, kind, now)?;
         self.begun(begun, row.alloc, out)
     }
 
@@ -359,50 +425,62 @@ impl Asked {
             &mut self.stores,
             now,
         )?;
-        self.go_out(alloc, &next, out)
+        self.go_out(alloc, next, out)
     }
 
     fn told(
         &mut self,
-        row: &Row<'_>,
+        alloc: Global,
         server: Addr,
         bytes: &[u8],
         now: u64,
-        out: &mut String,
-    ) -> Result<(), LineKind> {
-        let reading = read(row.alloc, Via::Udp, bytes)?.ok_or(LineKind::BadHex)?;
+    ) -> Result<Next, LineKind> {
+        let Some(reading) = read(alloc, Via::Udp, bytes)? else {
+            return Err(LineKind::BadHex);
+        };
         if !self.job.seeks(&reading) {
             return Err(LineKind::UnknownWord);
         }
-        let next = advance_by_reply(
-            row.alloc,
+        Ok(advance_by_reply(
+            alloc,
             &mut self.job,
             server,
             &reading,
             &self.home,
             &mut self.stores,
             now,
-        )?;
-        self.go_out(row.alloc, &next, out)
+        )?)
+    }
+
+    // A reply to what was asked last, with the flags that are left and the records of the row.
+    fn replied(&self, row: &mut Row<'_>) -> Result<Vec<u8>, LineKind> {
+        let mut questions = Questions::new(row.alloc);
+        questions.push(self.question()?)?;
+        reply(row, questions)
     }
 
     fn reply(&mut self, row: &mut Row<'_>, out: &mut String) -> Result<(), LineKind> {
         let server = row.address()?;
         let now = row.number()?;
-        let mut questions = Questions::new(row.alloc);
-        questions.push(self.question()?)?;
-        let bytes = reply(row, questions)?;
-        self.told(row, server, &bytes, now, out)
+        let bytes = self.replied(row)?;
+        let next = self.told(row.alloc, server, &bytes, now);
+        drop(bytes);
+        self.go_out(row.alloc, next?, out)
     }
 
     fn lose(&mut self, row: &mut Row<'_>, out: &mut String) -> Result<(), LineKind> {
-        let server = row.address()?;
+        let input = lost(row)?;
         let now = row.number()?;
-        match row.command {
-            "time-out" => self.advance(row.alloc, Input::TimedOut(server), now, out),
-            "tcp-failed" => self.advance(row.alloc, Input::TcpFailed(server), now, out),
-            _ => Err(LineKind::UnknownWord),
-        }
+        self.advance(row.alloc, input, now, out)
+    }
+}
+
+fn lost(row: &mut Row<'_>) -> Result<Input, LineKind> {
+    let server = row.address()?;
+    match row.command {
+        "time-out" => Ok(Input::TimedOut(server)),
+        "tcp-failed" => Ok(Input::TcpFailed(server)),
+        _ => Err(LineKind::UnknownWord),
     }
 }
 
@@ -422,45 +500,51 @@ impl Resolvers {
             "resolver" => self.start(row),
             "accepted" => show_accepted(row, out),
             "found" => show_found(row, out),
-            _ => self.asked()?.perform(row, out),
+            _ => made(&mut self.asked)?.perform(row, out),
         }
     }
 
-    fn asked(&mut self) -> Result<&mut Asked, LineKind> {
-        self.asked.as_mut().ok_or(LineKind::UnknownWord)
-    }
-
     fn hold(&mut self, row: &mut Row<'_>) -> Result<(), LineKind> {
-        let origin = row.name()?;
+        let text = row.word()?;
         let hint = row.address()?;
-        let records = row.records()?;
-        self.at_hand = Some(AtHand {
-            origin,
-            hint,
-            records,
-        });
+        self.at_hand = Some(at_hand(row, text, hint)?);
         Ok(())
     }
 
     fn start(&mut self, row: &mut Row<'_>) -> Result<(), LineKind> {
         let room = row.room()?;
-        let at_hand = self.at_hand.as_ref().ok_or(LineKind::UnknownWord)?;
+        let at_hand = made(&mut self.at_hand)?;
         self.asked = Some(fresh(row.alloc, at_hand, room)?);
         Ok(())
+    }
+
+    // What comes of one of several rows.
+    fn said(&mut self, alloc: Global, text: &str) -> Result<String, LineKind> {
+        let mut said = String::new(alloc);
+        let mut row = Row::new(alloc, text)?;
+        self.perform(&mut row, &mut said)?;
+        Ok(said)
     }
 
     /// What comes of the last of as many such rows as it takes until the query fails, and how many they are.
     pub fn exhaust(&mut self, alloc: Global, text: &str, out: &mut String) -> Result<(), LineKind> {
         for count in 1..100u32 {
-            let mut said = String::new(alloc);
-            let mut row = Row::new(alloc, text)?;
-            self.perform(&mut row, &mut said)?;
+            let said = self.said(alloc, text)?;
             if said.starts_with("fails") {
                 return put_end(out, count, said.as_str());
             }
         }
         Err(LineKind::BadNumber)
     }
+}
+
+fn at_hand(row: &Row<'_>, text: &str, hint: Addr) -> Result<AtHand, LineKind> {
+    let origin = text_lines::name(row.alloc, text)?;
+    Ok(AtHand {
+        origin,
+        hint,
+        records: row.records()?,
+    })
 }
 
 fn put_end(out: &mut String, count: u32, said: &str) -> Result<(), LineKind> {

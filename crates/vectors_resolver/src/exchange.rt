@@ -4,13 +4,11 @@ use crate::replies::way;
 use crate::row::Row;
 use crate::shown::put_action;
 use causes::Cause;
-use dname::Name;
 use events::{Action, Ask, Bytes, ClientQuery, Path, read_asked, refuse, reply_to, send};
-use front::{Outcome, Request};
-use rdata::RType;
+use front::{Outcome, Refusal, Request, Start};
 use std::alloc::Global;
 use text_lines::LineKind;
-use wire::{TCP_LIMIT, Via, Writer};
+use wire::{Echo, TCP_LIMIT, Via, Writer};
 
 const PORT: u16 = 53;
 
@@ -36,23 +34,17 @@ fn path(row: &mut Row<'_>) -> Result<Path, LineKind> {
     }
 }
 
-// The name and the type that are asked for.
-fn question(row: &mut Row<'_>) -> Result<(Name, RType), LineKind> {
-    let word = row.word()?;
-    let kind = row.rtype()?;
-    Ok((text_lines::name(row.alloc, word)?, kind))
-}
-
 fn ask(row: &mut Row<'_>) -> Result<Ask, LineKind> {
     let path = path(row)?;
     let server = row.address()?;
     let id = row.short()?;
-    let (name, kind) = question(row)?;
+    let word = row.word()?;
+    let kind = row.rtype()?;
     Ok(Ask {
         path,
         server,
         id,
-        name,
+        name: text_lines::name(row.alloc, word)?,
         kind,
     })
 }
@@ -83,42 +75,68 @@ impl Exchange {
 
     fn put_sent(&self, row: &Row<'_>, out: &mut String) -> Result<(), LineKind> {
         let action = send(row.alloc, PORT, self.ask()?)?;
-        put_action(out, &action)
+        put_made(out, action)
     }
 }
 
 fn late_reply(alloc: Global, asked: &ClientQuery) -> Result<Action, LineKind> {
     let mut writer = Writer::new(alloc)?;
-    Ok(reply_to(&mut writer, asked, &Outcome::Fail(Cause::DeadlineOver))?)
+    let outcome = Outcome::Fail(Cause::DeadlineOver);
+    let action = reply_to(&mut writer, asked, &outcome);
+    drop(outcome);
+    Ok(action?)
+}
+
+fn refused(
+    alloc: Global,
+    client: u64,
+    way: Via,
+    refusal: Refusal,
+    start: Start,
+    echo: &Option<Echo>,
+) -> Result<Action, LineKind> {
+    let mut writer = Writer::new(alloc)?;
+    Ok(refuse(&mut writer, client, way, refusal, start, echo.as_ref())?)
 }
 
 // What the client gets; nothing where there is nothing to answer.
-fn answer(
+fn put_answer(
     alloc: Global,
     client: u64,
     way: Via,
     request: Request,
-) -> Result<Option<Action>, LineKind> {
+    out: &mut String,
+) -> Result<(), LineKind> {
     match request {
-        Request::Drop => Ok(None),
+        Request::Drop => Ok(out.push_str("nothing\n")?),
         Request::Refuse(refusal, start, echo) => {
-            let mut writer = Writer::new(alloc)?;
-            Ok(Some(refuse(&mut writer, client, way, refusal, start, echo.as_ref())?))
+            let action = refused(alloc, client, way, refusal, start, &echo);
+            drop(echo);
+            put_made(out, action?)
         }
         Request::Query(query) => {
             let asked = ClientQuery { client, way, query };
-            Ok(Some(late_reply(alloc, &asked)?))
+            let action = late_reply(alloc, &asked);
+            drop(asked);
+            put_made(out, action?)
         }
     }
+}
+
+fn put_made(out: &mut String, action: Action) -> Result<(), LineKind> {
+    let put = put_action(out, &action);
+    drop(action);
+    put
+}
+
+fn request(row: &mut Row<'_>) -> Result<Request, LineKind> {
+    let bytes = row.bytes()?;
+    Ok(read_asked(row.alloc, &bytes)?)
 }
 
 fn put_late_answer(row: &mut Row<'_>, out: &mut String) -> Result<(), LineKind> {
     let client = row.number()?;
     let way = way(row)?;
-    let bytes = row.bytes()?;
-    let request = read_asked(row.alloc, &bytes)?;
-    match answer(row.alloc, client, way, request)? {
-        Some(action) => put_action(out, &action),
-        None => Ok(out.push_str("nothing\n")?),
-    }
+    let request = request(row)?;
+    put_answer(row.alloc, client, way, request, out)
 }

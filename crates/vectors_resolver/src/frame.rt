@@ -2,8 +2,8 @@
 //! at what a frame can use of it, which `trim AT : RECORDS` shows. `lost NAME NESTING` is a look-up that failed.
 //! `nesting`, `addresses` and `unknown` show it; `ask COUNT`, `name`, `find SERVER ..` and `find-rounds ROUNDS COUNT`
 //! do something with it.
-use crate::row::Row;
-use crate::shown::{put_asked, put_cut};
+use crate::row::{Row, made};
+use crate::shown::{put_addresses, put_asked, put_cut, put_number};
 use frames::{Failed, Frame, trimmed};
 use lru::DefaultHasher;
 use rdata::Addr;
@@ -11,10 +11,17 @@ use referral::Cut;
 use retry::Penalties;
 use text_lines::LineKind;
 
-#[derive(Drop)]
 struct Opened {
     frame: Frame,
     failed: Failed,
+}
+
+impl Drop for Opened {
+    fn drop(self) {
+        let Self { frame, failed } = self;
+        drop(frame);
+        drop(failed);
+    }
 }
 
 /// A frame, once a row has opened one.
@@ -27,7 +34,9 @@ type Levels = Penalties<DefaultHasher>;
 
 fn trimmed_cut(row: &mut Row<'_>) -> Result<Cut, LineKind> {
     let cut = row.cut()?;
-    Ok(trimmed(row.alloc, &cut)?)
+    let trimmed = trimmed(row.alloc, &cut);
+    drop(cut);
+    Ok(trimmed?)
 }
 
 fn cut(row: &mut Row<'_>) -> Result<Cut, LineKind> {
@@ -68,33 +77,14 @@ fn rounds(row: &mut Row<'_>) -> Result<Vec<Addr>, LineKind> {
 impl Opened {
     fn show(&mut self, row: &mut Row<'_>, out: &mut String) -> Result<(), LineKind> {
         match row.command {
-            "nesting" => self.show_nesting(out),
-            "addresses" => self.show_addresses(out),
-            "known" => self.show_known(out),
+            "nesting" => put_number(out, "", u64::from(self.frame.nesting())),
+            "addresses" => put_addresses(out, self.frame.addresses()),
+            "known" => put_number(out, "", self.frame.addresses().len() as u64),
             "unknown" => self.show_unknown(out),
             "ask" => self.ask(row, out),
             "name" => self.next_name(out),
             _ => self.lose(row),
         }
-    }
-
-    fn show_nesting(&self, out: &mut String) -> Result<(), LineKind> {
-        let nesting = self.frame.nesting();
-        writeln!(out, "{nesting}")?;
-        Ok(())
-    }
-
-    fn show_known(&self, out: &mut String) -> Result<(), LineKind> {
-        let count = self.frame.addresses().len();
-        writeln!(out, "{count}")?;
-        Ok(())
-    }
-
-    fn show_addresses(&self, out: &mut String) -> Result<(), LineKind> {
-        for address in self.frame.addresses() {
-            writeln!(out, "{address}")?;
-        }
-        Ok(())
     }
 
     fn show_unknown(&self, out: &mut String) -> Result<(), LineKind> {
@@ -122,10 +112,12 @@ impl Opened {
     }
 
     fn lose(&mut self, row: &mut Row<'_>) -> Result<(), LineKind> {
-        let name = row.name()?;
+        let text = row.word()?;
         let nesting = row.nesting()?;
-        self.failed.mark(&name, nesting)?;
-        Ok(())
+        let name = text_lines::name(row.alloc, text)?;
+        let marked = self.failed.mark(&name, nesting);
+        drop(name);
+        Ok(marked?)
     }
 
     fn find(&mut self, found: &[Addr], levels: &Levels, out: &mut String) -> Result<(), LineKind> {
@@ -139,10 +131,6 @@ impl Frames {
     /// No frame.
     pub fn new() -> Frames {
         Frames { opened: None }
-    }
-
-    fn opened(&mut self) -> Result<&mut Opened, LineKind> {
-        self.opened.as_mut().ok_or(LineKind::UnknownWord)
     }
 
     /// What comes of a row that opens a frame, or finds addresses for it.
@@ -163,13 +151,15 @@ impl Frames {
     pub fn perform(&mut self, row: &mut Row<'_>, out: &mut String) -> Result<(), LineKind> {
         match row.command {
             "trim" => show_trimmed(row, out),
-            _ => self.opened()?.show(row, out),
+            _ => made(&mut self.opened)?.show(row, out),
         }
     }
 
     fn start(&mut self, row: &mut Row<'_>, levels: &Levels) -> Result<(), LineKind> {
         let cut = cut(row)?;
-        self.opened = Some(open(row, &cut, levels)?);
+        let opened = open(row, &cut, levels);
+        drop(cut);
+        self.opened = Some(opened?);
         Ok(())
     }
 
@@ -180,7 +170,7 @@ impl Frames {
         out: &mut String,
     ) -> Result<(), LineKind> {
         let found = row.addresses()?;
-        self.opened()?.find(&found, levels, out)
+        made(&mut self.opened)?.find(&found, levels, out)
     }
 
     fn find_rounds(
@@ -190,11 +180,13 @@ impl Frames {
         out: &mut String,
     ) -> Result<(), LineKind> {
         let found = rounds(row)?;
-        self.opened()?.find(&found, levels, out)
+        made(&mut self.opened)?.find(&found, levels, out)
     }
 }
 
 fn show_trimmed(row: &mut Row<'_>, out: &mut String) -> Result<(), LineKind> {
     let cut = trimmed_cut(row)?;
-    put_cut(out, &cut)
+    let put = put_cut(out, &cut);
+    drop(cut);
+    put
 }

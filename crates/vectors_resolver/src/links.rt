@@ -1,10 +1,11 @@
 //! Rows about the cache: `cache ROOM`, `keep NAME TYPE TTL AT KIND : RECORDS`, `look NAME TYPE AT [TOP]`, and
 //! `send NAME FOUND SENT`, a hit for type A that is found at one moment and sent at another.
-use crate::row::{Row, hasher};
+use crate::row::{Row, hasher, made};
 use crate::shown::put_link;
 use cache::{Cache, Hit};
 use lru::DefaultHasher;
 use rdata::RType;
+use std::alloc::Global;
 use text_lines::{LineKind, name};
 use zone::Link;
 
@@ -16,8 +17,7 @@ pub struct Links {
 
 fn word(link: &Link) -> &'static str {
     match link {
-        Link::Found(set) if set.len() == 1 => "set of one",
-        Link::Found(_) => "set",
+        Link::Found(set) => if set.len() == 1 { "set of one" } else { "set" },
         Link::Alias(_) => "alias",
         Link::NoData(_) => "no data",
         Link::NxDomain(_) => "name error",
@@ -30,6 +30,13 @@ fn put_hit(out: &mut String, hit: &Hit, now: u64) -> Result<(), LineKind> {
     let left = hit.left(now);
     writeln!(out, "{word} for {ttl} s since {since} ms, {left} s left")?;
     Ok(())
+}
+
+fn put_look(out: &mut String, hit: &Option<Hit>, now: u64) -> Result<(), LineKind> {
+    match hit {
+        Some(hit) => put_hit(out, hit, now),
+        None => Ok(out.push_str("nothing\n")?),
+    }
 }
 
 fn put_sent(row: &Row<'_>, out: &mut String, hit: Hit, sent: u64) -> Result<(), LineKind> {
@@ -64,32 +71,31 @@ impl Links {
         Ok(())
     }
 
-    fn cache(&mut self) -> Result<&mut Cache<DefaultHasher>, LineKind> {
-        self.cache.as_mut().ok_or(LineKind::UnknownWord)
-    }
-
     fn keep(&mut self, row: &mut Row<'_>) -> Result<(), LineKind> {
         let text = row.word()?;
         let kind = row.rtype()?;
         let ttl = row.seconds()?;
         let now = row.number()?;
         let link = row.link()?;
-        self.keep_link(row, text, kind, &link, ttl, now)
+        let kept = self.keep_link(row.alloc, text, kind, &link, ttl, now);
+        drop(link);
+        kept
     }
 
     fn keep_link(
         &mut self,
-        row: &Row<'_>,
+        alloc: Global,
         text: &str,
         kind: RType,
         link: &Link,
         ttl: u32,
         now: u64,
     ) -> Result<(), LineKind> {
-        let owner = name(row.alloc, text)?;
-        let cache = self.cache()?;
-        cache.keep(&owner, kind, link, ttl, now)?;
-        Ok(())
+        let cache = made(&mut self.cache)?;
+        let owner = name(alloc, text)?;
+        let kept = cache.keep(&owner, kind, link, ttl, now);
+        drop(owner);
+        Ok(kept?)
     }
 
     fn hit(
@@ -100,9 +106,9 @@ impl Links {
         top: &str,
         now: u64,
     ) -> Result<Option<Hit>, LineKind> {
+        let cache = made(&mut self.cache)?;
         let owner = name(row.alloc, text)?;
         let top = name(row.alloc, top)?;
-        let cache = self.cache()?;
         Ok(cache.look(&owner, kind, &top, now)?)
     }
 
@@ -111,10 +117,10 @@ impl Links {
         let kind = row.rtype()?;
         let now = row.number()?;
         let top = row.next_word().unwrap_or(".");
-        match self.hit(row, text, kind, top, now)? {
-            Some(hit) => put_hit(out, &hit, now),
-            None => Ok(out.push_str("nothing\n")?),
-        }
+        let hit = self.hit(row, text, kind, top, now)?;
+        let put = put_look(out, &hit, now);
+        drop(hit);
+        put
     }
 
     fn send(&mut self, row: &mut Row<'_>, out: &mut String) -> Result<(), LineKind> {

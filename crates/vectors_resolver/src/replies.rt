@@ -2,12 +2,12 @@
 //! server of that zone was asked, and `received KIND : RECORDS` for how long a link is kept that a server said.
 //! Flags are `aa`, `tc`, `name-error`, `refused` and `failure`; sections `answer`, `authority` and `additional`.
 use crate::row::Row;
-use crate::shown::{put_link, put_records};
+use crate::shown::{put_link, put_number, put_records};
 use classify::{Class, Referral, classify, lifetime, received};
-use dname::Name;
 use rdata::RType;
+use std::alloc::Global;
 use text_lines::LineKind;
-use wire::{Header, Message, Questions, TCP_LIMIT, Via, View, encode};
+use wire::{Header, Message, Questions, TCP_LIMIT, Via, View, encode, rcode};
 
 /// How a message came, as the next word says.
 pub fn way(row: &mut Row<'_>) -> Result<Via, LineKind> {
@@ -23,26 +23,25 @@ fn flagged(header: Header, flag: &str) -> Option<Header> {
     match flag {
         "aa" => Some(Header { aa: true, ..header }),
         "tc" => Some(Header { tc: true, ..header }),
-        "failure" => Some(Header { rcode: 2, ..header }),
-        "name-error" => Some(Header { rcode: 3, ..header }),
-        "refused" => Some(Header { rcode: 5, ..header }),
+        "failure" => Some(Header {
+            rcode: rcode::SERV_FAIL,
+            ..header
+        }),
+        "name-error" => Some(Header {
+            rcode: rcode::NX_DOMAIN,
+            ..header
+        }),
+        "refused" => Some(Header {
+            rcode: rcode::REFUSED,
+            ..header
+        }),
         _ => None,
     }
 }
 
 // The header with the flags that are left.
 fn header(row: &mut Row<'_>) -> Result<Header, LineKind> {
-    let mut header = Header {
-        id: 1,
-        qr: true,
-        opcode: 0,
-        aa: false,
-        tc: false,
-        rd: false,
-        ra: false,
-        z: 0,
-        rcode: 0,
-    };
+    let mut header = Header::reply(1, 0, false);
     for flag in row.rest() {
         header = flagged(header, flag).ok_or(LineKind::UnknownWord)?;
     }
@@ -73,7 +72,9 @@ fn encoded(row: &Row<'_>, message: &Message) -> Result<Vec<u8>, LineKind> {
 pub fn reply(row: &mut Row<'_>, questions: Questions) -> Result<Vec<u8>, LineKind> {
     let header = header(row)?;
     let message = message(row, header, questions)?;
-    encoded(row, &message)
+    let bytes = encoded(row, &message);
+    drop(message);
+    bytes
 }
 
 fn put_referral(out: &mut String, referral: &Referral) -> Result<(), LineKind> {
@@ -91,37 +92,41 @@ fn put_class(row: &Row<'_>, out: &mut String, class: &Class) -> Result<(), LineK
         Class::Answer(link) => put_link(out, row.alloc, link),
         Class::Referral(referral) => put_referral(out, referral),
         Class::Truncated => Ok(out.push_str("truncated\n")?),
-        Class::Failed(failure) => {
-            let number = failure.number();
-            Ok(writeln!(out, "failed {number}")?)
-        }
+        Class::Failed(failure) => put_number(out, "failed ", u64::from(failure.number())),
     }
 }
 
 // What a reply of these bytes is used for.
 fn class(
-    row: &Row<'_>,
-    zone: &Name,
-    name: &Name,
+    alloc: Global,
+    (zone, name): (&str, &str),
     kind: RType,
     via: Via,
     bytes: &[u8],
 ) -> Result<Class, LineKind> {
-    match View::new(row.alloc, bytes) {
-        Ok(reply) => Ok(classify(row.alloc, zone, name, kind, via, &reply)?),
+    let zone = text_lines::name(alloc, zone)?;
+    let name = text_lines::name(alloc, name)?;
+    match View::new(alloc, bytes) {
+        Ok(reply) => Ok(classify(alloc, &zone, &name, kind, via, &reply)?),
         Err(_) => Err(LineKind::BadHex),
     }
 }
 
+fn put_made(row: &Row<'_>, out: &mut String, class: Class) -> Result<(), LineKind> {
+    let put = put_class(row, out, &class);
+    drop(class);
+    put
+}
+
 /// What comes of a row of `classify`.
 pub fn show_class(row: &mut Row<'_>, out: &mut String) -> Result<(), LineKind> {
-    let zone = row.name()?;
-    let name = row.name()?;
+    let names = (row.word()?, row.word()?);
     let kind = row.rtype()?;
     let via = way(row)?;
     let bytes = reply(row, Questions::new(row.alloc))?;
-    let class = class(row, &zone, &name, kind, via, &bytes)?;
-    put_class(row, out, &class)
+    let class = class(row.alloc, names, kind, via, &bytes);
+    drop(bytes);
+    put_made(row, out, class?)
 }
 
 /// What comes of a row of `received`.

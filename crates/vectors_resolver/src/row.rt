@@ -16,6 +16,14 @@ pub fn hasher() -> DefaultHasher {
     BuildHasherDefault::new()
 }
 
+/// What a row has made, where one has.
+pub fn made<T>(kept: &mut Option<T>) -> Result<&mut T, LineKind> {
+    match kept {
+        Some(made) => Ok(made),
+        None => Err(LineKind::UnknownWord),
+    }
+}
+
 /// A row that is read word by word.
 #[derive(Drop)]
 pub struct Row<'r> {
@@ -63,20 +71,17 @@ impl<'r> Row<'r> {
 
     /// The next word as a number of 32 bits, as seconds are.
     pub fn seconds(&mut self) -> Result<u32, LineKind> {
-        let number = self.number()?;
-        u32::try_from(number).map_err(|_| LineKind::BadNumber)
+        Ok(self.words.number(0, u64::from(u32::MAX))? as u32)
     }
 
     /// The next word as a number of 16 bits, as ports are.
     pub fn short(&mut self) -> Result<u16, LineKind> {
-        let number = self.number()?;
-        u16::try_from(number).map_err(|_| LineKind::BadNumber)
+        Ok(self.words.number(0, u64::from(u16::MAX))? as u16)
     }
 
     /// The next word as a count.
     pub fn count(&mut self) -> Result<usize, LineKind> {
-        let number = self.number()?;
-        usize::try_from(number).map_err(|_| LineKind::BadNumber)
+        Ok(self.number()? as usize)
     }
 
     /// The next word as room for so many, at least one.
@@ -87,8 +92,7 @@ impl<'r> Row<'r> {
 
     /// The next word as how deep a look-up stands.
     pub fn nesting(&mut self) -> Result<u8, LineKind> {
-        let number = self.number()?;
-        u8::try_from(number).map_err(|_| LineKind::BadNumber)
+        Ok(self.words.number(0, u64::from(u8::MAX))? as u8)
     }
 
     /// The next word as an address.
@@ -141,8 +145,7 @@ impl<'r> Row<'r> {
     /// The records as a link of the kind that the next word says.
     pub fn link(&mut self) -> Result<Link, LineKind> {
         let word = self.words.word()?;
-        let records = self.records()?;
-        link_of(self.alloc, word, &records)
+        self.link_as(word)
     }
 
     /// The records as a set: those of the first one's owner and type.
@@ -151,18 +154,23 @@ impl<'r> Row<'r> {
         set_of(self.alloc, &records)
     }
 
-    /// The first record as an alias.
-    pub fn alias(&self) -> Result<Link, LineKind> {
+    /// The records as a link of the kind of that word.
+    pub fn link_as(&self, word: &str) -> Result<Link, LineKind> {
         let records = self.records()?;
-        link_of(self.alloc, "alias", &records)
+        link_of(self.alloc, word, &records)
     }
 
     /// The records as a cut, at the name that the next word says.
     pub fn cut(&mut self) -> Result<Cut, LineKind> {
+        let text = self.word()?;
         let records = self.records()?;
-        let at = self.name()?;
-        Ok(Cut::of_records(self.alloc, at, records.as_slice(), records.as_slice())?)
+        cut_of(self.alloc, text, records.as_slice())
     }
+}
+
+fn cut_of(alloc: Global, text: &str, records: &[Record]) -> Result<Cut, LineKind> {
+    let at = text_lines::name(alloc, text)?;
+    Ok(Cut::of_records(alloc, at, records, records)?)
 }
 
 // A line more, where the part begins with the word.

@@ -24,6 +24,77 @@ pub struct Script {
     steps: Steps,
 }
 
+// What does something with a row.
+#[derive(Clone, Copy)]
+enum Part {
+    Links,
+    Servers,
+    // Frames, by the penalties that are kept of servers.
+    FramesByLevels,
+    Frames,
+    Class,
+    Received,
+    Settings,
+    Exchange,
+    Steps,
+    Resolvers,
+}
+
+// All commands but those of resolvers.
+const PARTS: [(&str, Part); 42] = [
+    ("cache", Part::Links),
+    ("keep", Part::Links),
+    ("look", Part::Links),
+    ("send", Part::Links),
+    ("failures", Part::Servers),
+    ("fail", Part::Servers),
+    ("fails", Part::Servers),
+    ("penalties", Part::Servers),
+    ("silent", Part::Servers),
+    ("answers", Part::Servers),
+    ("penalty", Part::Servers),
+    ("plan", Part::Servers),
+    ("delegations", Part::Servers),
+    ("delegate", Part::Servers),
+    ("best", Part::Servers),
+    ("cut", Part::Servers),
+    ("hints", Part::Servers),
+    ("frame", Part::FramesByLevels),
+    ("trimmed-frame", Part::FramesByLevels),
+    ("find", Part::FramesByLevels),
+    ("find-rounds", Part::FramesByLevels),
+    ("trim", Part::Frames),
+    ("lost", Part::Frames),
+    ("nesting", Part::Frames),
+    ("addresses", Part::Frames),
+    ("known", Part::Frames),
+    ("unknown", Part::Frames),
+    ("ask", Part::Frames),
+    ("name", Part::Frames),
+    ("classify", Part::Class),
+    ("received", Part::Received),
+    ("settings", Part::Settings),
+    ("asking", Part::Exchange),
+    ("sent", Part::Exchange),
+    ("answer-late", Part::Exchange),
+    ("core", Part::Steps),
+    ("client", Part::Steps),
+    ("server", Part::Steps),
+    ("stray", Part::Steps),
+    ("tick", Part::Steps),
+    ("client-fronts", Part::Steps),
+    ("server-fronts", Part::Steps),
+];
+
+fn part_of(command: &str) -> Part {
+    for (word, part) in PARTS {
+        if word == command {
+            return part;
+        }
+    }
+    Part::Resolvers
+}
+
 impl Script {
     /// Nothing is made.
     pub fn new() -> Script {
@@ -38,28 +109,20 @@ impl Script {
     }
 
     fn perform(&mut self, row: &mut Row<'_>, out: &mut String) -> Result<(), LineKind> {
-        match row.command {
-            "cache" | "keep" | "look" | "send" => self.links.perform(row, out),
-            "failures" | "fail" | "fails" => self.servers.perform(row, out),
-            "penalties" | "silent" | "answers" | "penalty" | "plan" => {
-                self.servers.perform(row, out)
-            }
-            "delegations" | "delegate" | "best" | "cut" | "hints" => self.servers.perform(row, out),
-            "frame" | "trimmed-frame" | "find" | "find-rounds" => {
+        match part_of(row.command) {
+            Part::Links => self.links.perform(row, out),
+            Part::Servers => self.servers.perform(row, out),
+            Part::FramesByLevels => {
                 let levels = self.servers.penalties()?;
                 self.frames.perform_by(row, levels, out)
             }
-            "trim" | "lost" | "nesting" | "addresses" | "known" | "unknown" | "ask" | "name" => {
-                self.frames.perform(row, out)
-            }
-            "classify" => show_class(row, out),
-            "received" => show_received(row, out),
-            "settings" => show_settings(row, out),
-            "asking" | "sent" | "answer-late" => self.exchange.perform(row, out),
-            "core" | "client" | "server" | "stray" | "tick" | "client-fronts" | "server-fronts" => {
-                self.steps.perform(row, out)
-            }
-            _ => self.resolvers.perform(row, out),
+            Part::Frames => self.frames.perform(row, out),
+            Part::Class => show_class(row, out),
+            Part::Received => show_received(row, out),
+            Part::Settings => show_settings(row, out),
+            Part::Exchange => self.exchange.perform(row, out),
+            Part::Steps => self.steps.perform(row, out),
+            Part::Resolvers => self.resolvers.perform(row, out),
         }
     }
 

@@ -2,14 +2,16 @@
 //! failed to answer; `penalties ROOM`, `silent SERVER`, `answers SERVER`, `penalty SERVER` and `plan SERVER ..` of
 //! the order in which they are asked; `delegations ROOM`, `delegate AT TTL NOW : RECORDS` and `best NAME AT` of cuts;
 //! `cut AT : RECORDS` and `hints SERVER ..` of one cut alone.
-use crate::row::{Row, hasher};
-use crate::shown::{put_asked, put_cut};
+use crate::row::{Row, hasher, made};
+use crate::shown::{put_asked, put_cut, put_number};
 use cache::Failures;
 use dname::Name;
 use lru::DefaultHasher;
 use rdata::{Addr, RType};
 use referral::{Cut, Delegations};
 use retry::{Penalties, Plan};
+use std::alloc::Global;
+use std::num::NonZeroUsize;
 use text_lines::LineKind;
 
 /// What is kept of servers, once rows have made it.
@@ -30,7 +32,7 @@ fn put_plan(out: &mut String, plan: &mut Plan, count: usize) -> Result<(), LineK
 
 fn put_hints(row: &Row<'_>, out: &mut String, hints: &[Addr]) -> Result<(), LineKind> {
     let cut = Cut::of_hints(row.alloc, hints)?;
-    put_cut(out, &cut)
+    put_made(out, cut)
 }
 
 impl Servers {
@@ -62,32 +64,44 @@ impl Servers {
     fn begin(&mut self, row: &mut Row<'_>) -> Result<(), LineKind> {
         let room = row.room()?;
         match row.command {
-            "failures" => self.failures = Some(Failures::new(row.alloc, room, hasher())?),
-            "penalties" => self.penalties = Some(Penalties::new(row.alloc, room, hasher())?),
-            _ => self.delegations = Some(Delegations::new(row.alloc, room, hasher())?),
+            "failures" => self.begin_failures(row.alloc, room),
+            "penalties" => self.begin_penalties(row.alloc, room),
+            _ => self.begin_delegations(row.alloc, room),
         }
+    }
+
+    fn begin_failures(&mut self, alloc: Global, room: NonZeroUsize) -> Result<(), LineKind> {
+        self.failures = Some(Failures::new(alloc, room, hasher())?);
+        Ok(())
+    }
+
+    fn begin_penalties(&mut self, alloc: Global, room: NonZeroUsize) -> Result<(), LineKind> {
+        self.penalties = Some(Penalties::new(alloc, room, hasher())?);
+        Ok(())
+    }
+
+    fn begin_delegations(&mut self, alloc: Global, room: NonZeroUsize) -> Result<(), LineKind> {
+        self.delegations = Some(Delegations::new(alloc, room, hasher())?);
         Ok(())
     }
 
     fn failure(&mut self, row: &mut Row<'_>, out: &mut String) -> Result<(), LineKind> {
-        let name = row.name()?;
+        let text = row.word()?;
         let kind = row.rtype()?;
         let server = row.address()?;
         let now = row.number()?;
-        if row.command == "fail" {
+        let name = text_lines::name(row.alloc, text)?;
+        let done = if row.command == "fail" {
             self.fail(&name, kind, server, now)
         } else {
             self.fails(&name, kind, server, now, out)
-        }
-    }
-
-    fn failures(&mut self) -> Result<&mut Failures<DefaultHasher>, LineKind> {
-        self.failures.as_mut().ok_or(LineKind::UnknownWord)
+        };
+        drop(name);
+        done
     }
 
     fn fail(&mut self, name: &Name, kind: RType, server: Addr, now: u64) -> Result<(), LineKind> {
-        self.failures()?.failed(name, kind, server, now)?;
-        Ok(())
+        Ok(made(&mut self.failures)?.failed(name, kind, server, now)?)
     }
 
     fn fails(
@@ -98,14 +112,13 @@ impl Servers {
         now: u64,
         out: &mut String,
     ) -> Result<(), LineKind> {
-        let fails = self.failures()?.is_failed(name, kind, server, now)?;
-        out.push_str(if fails { "fails\n" } else { "may be asked\n" })?;
-        Ok(())
+        let fails = made(&mut self.failures)?.is_failed(name, kind, server, now)?;
+        Ok(out.push_str(if fails { "fails\n" } else { "may be asked\n" })?)
     }
 
     /// The penalties that are kept.
     pub fn penalties(&mut self) -> Result<&mut Penalties<DefaultHasher>, LineKind> {
-        self.penalties.as_mut().ok_or(LineKind::UnknownWord)
+        made(&mut self.penalties)
     }
 
     fn silent(&mut self, row: &mut Row<'_>) -> Result<(), LineKind> {
@@ -123,19 +136,22 @@ impl Servers {
     fn penalty(&mut self, row: &mut Row<'_>, out: &mut String) -> Result<(), LineKind> {
         let server = row.address()?;
         let penalty = self.penalties()?.of(server);
-        writeln!(out, "{penalty}")?;
-        Ok(())
+        put_number(out, "", u64::from(penalty))
     }
 
     fn plan(&mut self, row: &mut Row<'_>, out: &mut String) -> Result<(), LineKind> {
         let addresses = row.addresses()?;
-        let penalties = self.penalties()?;
-        let mut plan = Plan::new(row.alloc, &addresses, penalties)?;
-        put_plan(out, &mut plan, addresses.len())
+        self.put_plan(row.alloc, &addresses, out)
     }
 
-    fn delegations(&mut self) -> Result<&mut Delegations<DefaultHasher>, LineKind> {
-        self.delegations.as_mut().ok_or(LineKind::UnknownWord)
+    fn put_plan(
+        &mut self,
+        alloc: Global,
+        addresses: &[Addr],
+        out: &mut String,
+    ) -> Result<(), LineKind> {
+        let mut plan = Plan::new(alloc, addresses, self.penalties()?)?;
+        put_plan(out, &mut plan, addresses.len())
     }
 
     fn delegate(&mut self, row: &mut Row<'_>) -> Result<(), LineKind> {
@@ -145,7 +161,7 @@ impl Servers {
 
     fn delegate_cut(&mut self, row: &mut Row<'_>, cut: Cut) -> Result<(), LineKind> {
         let times = times(row);
-        let delegations = self.delegations();
+        let delegations = made(&mut self.delegations);
         match (times, delegations) {
             (Ok((ttl, now)), Ok(delegations)) => Ok(delegations.keep(cut, ttl, now)?),
             (_, _) => {
@@ -156,16 +172,27 @@ impl Servers {
     }
 
     fn best_cut(&mut self, row: &mut Row<'_>) -> Result<Option<Cut>, LineKind> {
-        let name = row.name()?;
+        let text = row.word()?;
         let now = row.number()?;
-        Ok(self.delegations()?.best(&name, now)?)
+        let delegations = made(&mut self.delegations)?;
+        let name = text_lines::name(row.alloc, text)?;
+        let cut = delegations.best(&name, now);
+        drop(name);
+        Ok(cut?)
     }
 
     fn best(&mut self, row: &mut Row<'_>, out: &mut String) -> Result<(), LineKind> {
-        match self.best_cut(row)? {
-            Some(cut) => put_cut(out, &cut),
-            None => Ok(out.push_str("none\n")?),
-        }
+        let cut = self.best_cut(row)?;
+        let put = put_best(out, &cut);
+        drop(cut);
+        put
+    }
+}
+
+fn put_best(out: &mut String, cut: &Option<Cut>) -> Result<(), LineKind> {
+    match cut {
+        Some(cut) => put_cut(out, cut),
+        None => Ok(out.push_str("none\n")?),
     }
 }
 
@@ -176,9 +203,15 @@ fn times(row: &mut Row<'_>) -> Result<(u32, u64), LineKind> {
     Ok((ttl, now))
 }
 
+fn put_made(out: &mut String, cut: Cut) -> Result<(), LineKind> {
+    let put = put_cut(out, &cut);
+    drop(cut);
+    put
+}
+
 fn show_cut(row: &mut Row<'_>, out: &mut String) -> Result<(), LineKind> {
     let cut = row.cut()?;
-    put_cut(out, &cut)
+    put_made(out, cut)
 }
 
 fn show_hints(row: &mut Row<'_>, out: &mut String) -> Result<(), LineKind> {

@@ -1,6 +1,7 @@
 //! `settings LINKS DELEGATIONS PENALTIES FAILURES SOCKETS ZONES`: whether a resolver is made that keeps so many of each,
 //! has so many sockets and so many zones, all of them of one origin.
 use crate::row::Row;
+use crate::shown::put_number;
 use dname::Name;
 use engine::{Config, Core, Settings};
 use std::alloc::Global;
@@ -15,9 +16,11 @@ fn zone(alloc: Global) -> Result<Zone, LineKind> {
 }
 
 fn zone_of(alloc: Global, origin: Name) -> Result<Zone, LineKind> {
-    let records = masterfile::read(alloc, &origin, LAB);
-    match records {
-        Ok(records) => Zone::build(origin, records).map_err(|_| LineKind::BadName),
+    let Ok(records) = masterfile::read(alloc, &origin, LAB) else {
+        return Err(LineKind::BadName);
+    };
+    match Zone::build(origin, records) {
+        Ok(zone) => Ok(zone),
         Err(_) => Err(LineKind::BadName),
     }
 }
@@ -53,11 +56,6 @@ fn config(row: &mut Row<'_>) -> Result<Config, LineKind> {
     })
 }
 
-fn put_number(out: &mut String, number: u8) -> Result<(), LineKind> {
-    writeln!(out, "refused {number}")?;
-    Ok(())
-}
-
 /// What comes of a row.
 pub fn show_settings(row: &mut Row<'_>, out: &mut String) -> Result<(), LineKind> {
     let config = config(row)?;
@@ -66,7 +64,7 @@ pub fn show_settings(row: &mut Row<'_>, out: &mut String) -> Result<(), LineKind
             drop(core);
             out.push_str("made\n")?;
         }
-        Err(error) => put_number(out, error.number())?,
+        Err(error) => put_number(out, "refused ", u64::from(error.number()))?,
     }
     Ok(())
 }

@@ -8,6 +8,12 @@ use text_lines::LineKind;
 use wire::Via;
 use zone::Link;
 
+/// A line of these words and that number.
+pub fn put_number(out: &mut String, words: &str, number: u64) -> Result<(), LineKind> {
+    writeln!(out, "{words}{number}")?;
+    Ok(())
+}
+
 /// A line for each record.
 pub fn put_records(out: &mut String, records: &[Record]) -> Result<(), LineKind> {
     for record in records {
@@ -62,6 +68,14 @@ pub fn put_asked(out: &mut String, asked: Option<Addr>, wait: u32) -> Result<(),
     match asked {
         Some(address) => writeln!(out, "{address} for {wait} ms")?,
         None => writeln!(out, "nobody")?,
+    }
+    Ok(())
+}
+
+/// A line for each address.
+pub fn put_addresses(out: &mut String, addresses: &[Addr]) -> Result<(), LineKind> {
+    for address in addresses {
+        writeln!(out, "{address}")?;
     }
     Ok(())
 }

@@ -3,7 +3,7 @@
 //! `stray BY PORT SERVER AT BYTES` is the same where the socket, or the number over TCP, is greater by BY, from that port;
 //! `tick AT` time. `client-fronts` and `server-fronts` before the words of such a row are each front of the bytes; what
 //! comes of those that follow one another is said once where it is the same.
-use crate::row::Row;
+use crate::row::{Row, made};
 use crate::shown::{put_hex, put_reply};
 use engine_fixture::{Ask, Out, TestResolver, bounded};
 use events::{Action, Actions, Bytes, Endpoint, Event, Path};
@@ -55,90 +55,96 @@ fn front_of(alloc: Global, id: [u8; 2], rest: &[u8], length: usize) -> Result<By
     Ok(bounded(bytes)?)
 }
 
-// What a server says to the last ask.
-fn told(
-    resolver: &TestResolver<Global>,
-    speech: &Speech,
-    length: usize,
-) -> Result<Event, LineKind> {
-    let ask = Ask {
-        server: speech.server,
-        ..resolver.ask()
-    };
-    let bytes = front_of(resolver.heap(), ask.id, &speech.bytes, length)?;
-    Ok(ask.told(speech.moment, bytes))
-}
-
+// What comes of an event, also of one that is not made.
 fn take(
     resolver: &mut TestResolver<Global>,
-    event: &Event,
+    event: Result<Event, LineKind>,
     out: &mut String,
 ) -> Result<(), LineKind> {
-    match resolver.step(event) {
-        Out::Starved => Err(LineKind::Memory),
-        _ => put_actions(out, resolver.last()),
+    let event = event?;
+    let step = resolver.step(&event);
+    drop(event);
+    if step == Out::Starved {
+        return Err(LineKind::Memory);
     }
+    put_actions(out, resolver.last())
+}
+
+// Who speaks: a client, or a server to the last ask.
+#[derive(Clone, Copy)]
+enum Speaker {
+    Client(u64),
+    Server(Addr),
 }
 
 // Who speaks, when and what.
 #[derive(Drop)]
 struct Speech {
-    client: u64,
-    server: Addr,
+    speaker: Speaker,
     moment: u64,
     bytes: Vec<u8>,
 }
 
-fn of_client(row: &mut Row<'_>) -> Result<Speech, LineKind> {
-    let client = row.number()?;
-    let moment = row.number()?;
-    Ok(Speech {
-        client,
-        server: Addr([0, 0, 0, 0]),
-        moment,
-        bytes: row.bytes()?,
-    })
+fn who_speaks(row: &mut Row<'_>) -> Result<Speaker, LineKind> {
+    if row.command.starts_with("client") {
+        Ok(Speaker::Client(row.number()?))
+    } else {
+        Ok(Speaker::Server(row.address()?))
+    }
 }
 
-fn of_server(row: &mut Row<'_>) -> Result<Speech, LineKind> {
-    let server = row.address()?;
+fn read_speech(row: &mut Row<'_>) -> Result<Speech, LineKind> {
+    let speaker = who_speaks(row)?;
     let moment = row.number()?;
     Ok(Speech {
-        client: 0,
-        server,
+        speaker,
         moment,
         bytes: row.bytes()?,
     })
 }
 
 impl Speech {
-    // The client says the first so many bytes.
-    fn ask(
-        &self,
-        resolver: &mut TestResolver<Global>,
-        length: usize,
-        out: &mut String,
-    ) -> Result<(), LineKind> {
-        let bytes = self.bytes.get(..length).unwrap_or(&[]);
-        let event = resolver.query(self.client, self.moment, bytes)?;
-        take(resolver, &event, out)
+    // The first so many bytes of the client's or the server's message.
+    fn event(&self, resolver: &TestResolver<Global>, length: usize) -> Result<Event, LineKind> {
+        match self.speaker {
+            Speaker::Client(client) => {
+                let bytes = self.bytes.get(..length).unwrap_or(&[]);
+                Ok(resolver.query(client, self.moment, bytes)?)
+            }
+            Speaker::Server(server) => self.told(resolver, server, length),
+        }
     }
 
-    // The server says the first so many bytes of its message.
-    fn tell(
+    // What a server says to the last ask.
+    fn told(
+        &self,
+        resolver: &TestResolver<Global>,
+        server: Addr,
+        length: usize,
+    ) -> Result<Event, LineKind> {
+        let ask = Ask {
+            server,
+            ..resolver.ask()
+        };
+        let bytes = front_of(resolver.heap(), ask.id, &self.bytes, length)?;
+        Ok(ask.told(self.moment, bytes))
+    }
+
+    fn say(
         &self,
         resolver: &mut TestResolver<Global>,
         length: usize,
         out: &mut String,
     ) -> Result<(), LineKind> {
-        let event = told(resolver, self, length)?;
-        take(resolver, &event, out)
+        let event = self.event(resolver, length);
+        take(resolver, event, out)
     }
 
     // The server says its message from this port where nobody waits for it, so far behind the ask's socket or number.
     fn stray(
         &self,
         resolver: &TestResolver<Global>,
+        server: Addr,
         by: u16,
         port: u16,
     ) -> Result<Event, LineKind> {
@@ -149,7 +155,7 @@ impl Speech {
                 moment: self.moment,
                 socket: socket.saturating_add(by),
                 from: Endpoint {
-                    address: self.server,
+                    address: server,
                     port,
                 },
                 bytes,
@@ -162,9 +168,12 @@ impl Speech {
         })
     }
 
-    // How long the server's message is, its ID before these bytes.
+    // How long the message is: a server's has its ID before these bytes.
     fn whole(&self) -> usize {
-        self.bytes.len().saturating_add(2)
+        match self.speaker {
+            Speaker::Client(_) => self.bytes.len(),
+            Speaker::Server(_) => self.bytes.len().saturating_add(2),
+        }
     }
 }
 
@@ -210,11 +219,9 @@ impl Steps {
     pub fn perform(&mut self, row: &mut Row<'_>, out: &mut String) -> Result<(), LineKind> {
         match row.command {
             "core" => self.begin(row),
-            "client" => self.ask(row, out),
-            "server" => self.tell(row, out),
+            "client" | "server" => self.say(row, out),
             "stray" => self.stray(row, out),
-            "client-fronts" => self.ask_fronts(row, out),
-            "server-fronts" => self.tell_fronts(row, out),
+            "client-fronts" | "server-fronts" => self.say_fronts(row, out),
             _ => self.tick(row, out),
         }
     }
@@ -229,57 +236,56 @@ impl Steps {
         Ok(())
     }
 
-    fn resolver(&mut self) -> Result<&mut TestResolver<Global>, LineKind> {
-        self.resolver.as_mut().ok_or(LineKind::UnknownWord)
-    }
-
-    fn ask(&mut self, row: &mut Row<'_>, out: &mut String) -> Result<(), LineKind> {
-        let speech = of_client(row)?;
-        speech.ask(self.resolver()?, speech.bytes.len(), out)
-    }
-
-    fn tell(&mut self, row: &mut Row<'_>, out: &mut String) -> Result<(), LineKind> {
-        let speech = of_server(row)?;
-        speech.tell(self.resolver()?, speech.whole(), out)
+    fn say(&mut self, row: &mut Row<'_>, out: &mut String) -> Result<(), LineKind> {
+        let speech = read_speech(row)?;
+        speech.say(made(&mut self.resolver)?, speech.whole(), out)
     }
 
     fn stray(&mut self, row: &mut Row<'_>, out: &mut String) -> Result<(), LineKind> {
         let by = row.short()?;
         let port = row.short()?;
-        let speech = of_server(row)?;
-        let resolver = self.resolver()?;
-        let event = speech.stray(resolver, by, port)?;
-        take(resolver, &event, out)
+        let speech = read_speech(row)?;
+        let resolver = made(&mut self.resolver)?;
+        let event = match speech.speaker {
+            Speaker::Client(_) => Err(LineKind::UnknownWord),
+            Speaker::Server(server) => speech.stray(resolver, server, by, port),
+        };
+        take(resolver, event, out)
     }
 
     fn tick(&mut self, row: &mut Row<'_>, out: &mut String) -> Result<(), LineKind> {
         let moment = row.number()?;
-        take(self.resolver()?, &Event::Tick { moment }, out)
+        take(made(&mut self.resolver)?, Ok(Event::Tick { moment }), out)
     }
 
-    // Each front of the bytes is said to a new resolver.
-    fn ask_fronts(&mut self, row: &mut Row<'_>, out: &mut String) -> Result<(), LineKind> {
-        let speech = of_client(row)?;
-        let mut fronts = no_fronts(row.alloc);
-        for length in 0..speech.bytes.len() {
-            self.renew(row.alloc)?;
-            let mut said = String::new(row.alloc);
-            speech.ask(self.resolver()?, length, &mut said)?;
-            fronts.note(length, said, out)?;
+    // What comes of the first so many bytes: those of a client are said to a new resolver.
+    fn front(&mut self, alloc: Global, speech: &Speech, length: usize) -> Result<String, LineKind> {
+        if let Speaker::Client(_) = speech.speaker {
+            self.renew(alloc)?;
         }
-        fronts.put(speech.bytes.len(), out)
+        let mut said = String::new(alloc);
+        speech.say(made(&mut self.resolver)?, length, &mut said)?;
+        Ok(said)
     }
 
-    // Each front of the message is said to the resolver.
-    fn tell_fronts(&mut self, row: &mut Row<'_>, out: &mut String) -> Result<(), LineKind> {
-        let speech = of_server(row)?;
-        let mut fronts = no_fronts(row.alloc);
+    // Each front of the message is said.
+    fn note_fronts(
+        &mut self,
+        alloc: Global,
+        speech: &Speech,
+        fronts: &mut Fronts,
+        out: &mut String,
+    ) -> Result<(), LineKind> {
         for length in 0..speech.whole() {
-            let mut said = String::new(row.alloc);
-            speech.tell(self.resolver()?, length, &mut said)?;
-            fronts.note(length, said, out)?;
+            fronts.note(length, self.front(alloc, speech, length)?, out)?;
         }
         fronts.put(speech.whole(), out)
+    }
+
+    fn say_fronts(&mut self, row: &mut Row<'_>, out: &mut String) -> Result<(), LineKind> {
+        let speech = read_speech(row)?;
+        let mut fronts = no_fronts(row.alloc);
+        self.note_fronts(row.alloc, &speech, &mut fronts, out)
     }
 }
 

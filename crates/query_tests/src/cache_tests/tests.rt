@@ -1,50 +1,40 @@
-ghost use Rattle.std.specs.Prelude.{◌≤◌};
-ghost use Rattle.rdata.specs.Records.{greatest_ttl};
-
-use super::{empty_cache, set_of};
+use super::empty_cache;
+use crate::shared::{alone, set_of};
 use crate::worked::{Case, Stage, first_wrong_step, unsaid};
 use cache::{Cache, Hit};
 use dname::Name;
 use lru::DefaultHasher;
 use memory::{Heap, Starved};
-use rdata::{GREATEST_TTL, RType, RecordSet};
+use rdata::{GREATEST_TTL, RType};
 use record_fixtures::{Row, Value, name, record, records};
 use refusing_alloc::Refusing;
 use std::alloc::Allocator;
 use std::test::Fail;
 use zone::Link;
 
-// The links that the tests keep, of the name under which they are kept.
+// The links that the tests keep for addresses of a.
 #[derive(Clone, Copy)]
 enum Shape {
-    Set(Value<'static>),
+    Address,
     TwoAddresses,
-    Alias(&'static str),
+    Alias,
     NoData,
     NameError,
 }
 
-fn alone<A: Heap>(alloc: A, row: Row<'_>) -> Result<Link<A>, Starved> {
-    let only = record(alloc, row)?;
-    Ok(Link::Found(RecordSet::alone(alloc, only)?))
+const ADDRESSES: [Row<'static>; 2] = [("a", 300, Value::A(1)), ("a", 300, Value::A(2))];
+
+fn two_addresses<A: Heap>(alloc: A) -> Result<Link<A>, Starved> {
+    let records = records(alloc, &ADDRESSES)?;
+    Ok(Link::Found(set_of(alloc, records.as_slice())?))
 }
 
-fn set_of_two<A: Heap>(alloc: A, owner: &str) -> Result<RecordSet<A>, Starved> {
-    let rows = [(owner, 300, Value::A(1)), (owner, 300, Value::A(2))];
-    let records = records(alloc, &rows)?;
-    set_of(alloc, records.as_slice(), owner, RType::A)
-}
-
-fn two_addresses<A: Heap>(alloc: A, owner: &str) -> Result<Link<A>, Starved> {
-    Ok(Link::Found(set_of_two(alloc, owner)?))
-}
-
-fn link<A: Heap>(alloc: A, owner: &str, shape: Shape) -> Result<Link<A>, Starved> {
-    let soa = (owner, 60, Value::Soa(60));
+fn link<A: Heap>(alloc: A, shape: Shape) -> Result<Link<A>, Starved> {
+    let soa = ("a", 60, Value::Soa(60));
     match shape {
-        Shape::Set(value) => alone(alloc, (owner, 300, value)),
-        Shape::TwoAddresses => two_addresses(alloc, owner),
-        Shape::Alias(to) => Ok(Link::Alias(record(alloc, (owner, 300, Value::Cname(to)))?)),
+        Shape::Address => alone(alloc, ADDRESSES[0]),
+        Shape::TwoAddresses => two_addresses(alloc),
+        Shape::Alias => Ok(Link::Alias(record(alloc, ("a", 300, Value::Cname("a")))?)),
         Shape::NoData => Ok(Link::NoData(record(alloc, soa)?)),
         Shape::NameError => Ok(Link::NxDomain(record(alloc, soa)?)),
     }
@@ -53,19 +43,18 @@ fn link<A: Heap>(alloc: A, owner: &str, shape: Shape) -> Result<Link<A>, Starved
 // The kind of a link, its time to live and the moment since which it is kept.
 type Seen = (&'static str, u32, u64);
 
-// What a cache is told and asked, and what it has to say. Moments are milliseconds, times to live seconds.
+// What a cache is told and asked of a, and what it has to say. Moments are milliseconds, times to live seconds.
 #[derive(Clone, Copy)]
 enum Step {
-    // A link is kept for a name and a type, for so long from a moment on.
-    Keep(&'static str, RType, Shape, u32, u64),
-    // What a look-up at a moment gives.
-    Sees(&'static str, RType, u64, Seen),
+    // A link is kept for type A, for so long from a moment on.
+    Keep(Shape, u32, u64),
+    // What a look-up of a type gives at a moment.
+    Sees(RType, u64, Seen),
 }
 
 fn word<A: Heap>(link: &Link<A>) -> &'static str {
     match link {
-        Link::Found(set) if set.len() == 1 => "set of one",
-        Link::Found(_) => "set",
+        Link::Found(set) => if set.len() == 1 { "set of one" } else { "set" },
         Link::Alias(_) => "alias",
         Link::NoData(_) => "no data",
         Link::NxDomain(_) => "name error",
@@ -79,87 +68,62 @@ fn said<A: Heap>(hit: &Option<Hit<A>>) -> Option<Seen> {
     }
 }
 
-// A cache and the allocator that it stands on.
-#[derive(Drop)]
+// A cache, the allocator that it stands on, and the root's name.
 struct Kept<A: Heap> {
     alloc: A,
     cache: Cache<DefaultHasher, A>,
+    root: Name<A>,
+}
+
+impl<A: Heap> Drop for Kept<A> {
+    fn drop(self) {
+        let Self {
+            alloc: _,
+            cache,
+            root,
+        } = self;
+        drop(cache);
+        drop(root);
+    }
 }
 
 fn empty<A: Heap>(alloc: A, room: usize) -> Result<Kept<A>, Starved> {
-    let cache = empty_cache(alloc, room)?;
-    Ok(Kept { alloc, cache })
+    Ok(Kept {
+        alloc,
+        cache: empty_cache(alloc, room)?,
+        root: Name::root(alloc)?,
+    })
 }
 
 impl<A: Heap> Kept<A> {
-    fn keep(
-        &mut self,
-        text: &str,
-        kind: RType,
-        shape: Shape,
-        ttl: u32,
-        now: u64,
-    ) -> Result<(), Starved> {
-        let link = link(self.alloc, text, shape)?;
-        self.keep_at(text, kind, &link, ttl.min(GREATEST_TTL), now)
+    fn keep(&mut self, shape: Shape, ttl: u32, now: u64) -> Result<bool, Starved> {
+        let link = link(self.alloc, shape)?;
+        let kept = self.keep_link(&link, ttl, now);
+        drop(link);
+        kept
     }
 
-    fn keep_at(
-        &mut self,
-        text: &str,
-        kind: RType,
-        link: &Link<A>,
-        ttl: u32,
-        now: u64,
-    ) -> Result<(), Starved>
-        requires { ttl ≤ greatest_ttl }
-    {
-        let owner = name(self.alloc, text)?;
-        self.cache.keep(&owner, kind, link, ttl, now)
+    fn keep_link(&mut self, link: &Link<A>, ttl: u32, now: u64) -> Result<bool, Starved> {
+        let owner = name(self.alloc, "a")?;
+        let ttl = ttl.min(GREATEST_TTL);
+        let kept = self.cache.keep(&owner, RType::A, link, ttl, now);
+        drop(owner);
+        kept?;
+        Ok(true)
     }
 
-    fn look(
-        &mut self,
-        top: &str,
-        text: &str,
-        kind: RType,
-        now: u64,
-    ) -> Result<Option<Hit<A>>, Starved> {
-        let top = name(self.alloc, top)?;
-        self.look_to(&top, text, kind, now)
+    fn look(&mut self, kind: RType, now: u64) -> Result<Option<Hit<A>>, Starved> {
+        let owner = name(self.alloc, "a")?;
+        let hit = self.cache.look(&owner, kind, &self.root, now);
+        drop(owner);
+        hit
     }
 
-    fn look_to(
-        &mut self,
-        top: &Name<A>,
-        text: &str,
-        kind: RType,
-        now: u64,
-    ) -> Result<Option<Hit<A>>, Starved> {
-        let owner = name(self.alloc, text)?;
-        self.cache.look(&owner, kind, top, now)
-    }
-
-    fn seen(
-        &mut self,
-        top: &str,
-        text: &str,
-        kind: RType,
-        now: u64,
-    ) -> Result<Option<Seen>, Starved> {
-        let hit = self.look(top, text, kind, now)?;
-        Ok(said(&hit))
-    }
-
-    fn sees(
-        &mut self,
-        top: &str,
-        text: &str,
-        kind: RType,
-        now: u64,
-        what: Option<Seen>,
-    ) -> Result<bool, Starved> {
-        Ok(self.seen(top, text, kind, now)? == what)
+    fn sees(&mut self, kind: RType, now: u64, what: Seen) -> Result<bool, Starved> {
+        let hit = self.look(kind, now)?;
+        let said = said(&hit);
+        drop(hit);
+        Ok(said == Some(what))
     }
 }
 
@@ -168,11 +132,8 @@ impl<A: Heap> Stage for Kept<A> {
 
     fn goes(&mut self, step: Step) -> Result<bool, Starved> {
         match step {
-            Step::Keep(owner, kind, shape, ttl, now) => {
-                self.keep(owner, kind, shape, ttl, now)?;
-                Ok(true)
-            }
-            Step::Sees(owner, kind, now, what) => self.sees(".", owner, kind, now, Some(what)),
+            Step::Keep(shape, ttl, now) => self.keep(shape, ttl, now),
+            Step::Sees(kind, now, what) => self.sees(kind, now, what),
         }
     }
 }
@@ -188,15 +149,13 @@ impl Case for Links {
     }
 }
 
-const ADDRESS: Shape = Shape::Set(Value::A(1));
-
 // Keeps an alias, and is told of it for its own type.
 const PLAYED: Links = Links(
     2,
     &[
-        Step::Keep("a", RType::A, Shape::Alias("a"), 10, 0),
-        Step::Keep("a", RType::A, Shape::NoData, 0, 0),
-        Step::Sees("a", RType::Cname, 0, ("set of one", 10, 0)),
+        Step::Keep(Shape::Alias, 10, 0),
+        Step::Keep(Shape::NoData, 0, 0),
+        Step::Sees(RType::Cname, 0, ("set of one", 10, 0)),
     ],
 );
 
@@ -207,12 +166,12 @@ fn each_growth_is_refused_in_turn(rt: HostRuntime) -> Result<(), Fail> {
 }
 
 fn has_error<A: Heap>(kept: &mut Kept<A>) -> Result<bool, Starved> {
-    kept.sees(".", "a", RType::A, 0, Some(("name error", 60, 0)))
+    kept.sees(RType::A, 0, ("name error", 60, 0))
 }
 
 // Whether a `keep` is refused, and the name's error still answers.
 fn stays<A: Heap>(kept: &mut Kept<A>, shape: Shape) -> Result<bool, Starved> {
-    if kept.keep("a", RType::A, shape, 10, 0).is_ok() {
+    if kept.keep(shape, 10, 0).is_ok() {
         return Ok(false);
     }
     has_error(kept)
@@ -243,7 +202,7 @@ fn replaces<'a, B: Allocator>(
     growths: u64,
 ) -> Result<bool, Starved> {
     heap.refuse_after(growths);
-    kept.keep("a", RType::A, shape, 10, 0)?;
+    kept.keep(shape, 10, 0)?;
     heap.refuse_after(u64::MAX);
     Ok(!has_error(kept)?)
 }
@@ -255,7 +214,7 @@ fn is_whole<'a, B: Allocator>(
     shape: Shape,
     growths: u64,
 ) -> Result<bool, Starved> {
-    kept.keep("a", RType::A, Shape::NameError, 60, 0)?;
+    kept.keep(Shape::NameError, 60, 0)?;
     if first_change(heap, kept, shape, growths)?.is_some() {
         return Ok(false);
     }
@@ -274,7 +233,11 @@ fn is_kept_whole<B: Allocator>(
 }
 
 // Links, and how many growths a `keep` of each takes.
-const REFUSED: &[(Shape, u64)] = &[(ADDRESS, 4), (Shape::TwoAddresses, 10), (Shape::NoData, 9)];
+const REFUSED: &[(Shape, u64)] = &[
+    (Shape::Address, 4),
+    (Shape::TwoAddresses, 9),
+    (Shape::NoData, 9),
+];
 
 fn first_spoilt<B: Allocator>(
     heap: &Refusing<B>,

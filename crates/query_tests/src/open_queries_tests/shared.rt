@@ -1,14 +1,15 @@
 //! Queries that are put in and taken out.
 ghost use Rattle.open_queries.specs.Lookups.{HasNo, IsFree};
 
-use dname::Name;
-use events::{Ask, ClientQuery, Path, read_asked};
-use front::Request;
+use crate::shared::client_query;
+use events::{Ask, Path};
 use iterate::Job;
 use memory::{Heap, Starved};
 use open_queries::{Open, Queries};
 use rdata::{Addr, RType};
-use wire::Via;
+use record_fixtures::name;
+
+const WWW: &str = "www.example";
 
 // A client's query for www.example. A, under ID 5 with RD set.
 const QUERY: &[u8] = b"\0\x05\x01\0\0\x01\0\0\0\0\0\0\x03www\x07example\0\0\x01\0\x01";
@@ -20,26 +21,8 @@ pub const SECOND: Addr = Addr([192, 0, 2, 2]);
 // An ask over TCP goes out under its query's number and this much.
 pub const TCP: u64 = 100;
 
-fn client_query<A: Heap>(alloc: A) -> Result<ClientQuery<A>, Starved> {
-    match read_asked(alloc, QUERY)? {
-        Request::Query(query) => Ok(ClientQuery {
-            client: 1,
-            way: Via::Udp,
-            query,
-        }),
-        _ => Err(Starved),
-    }
-}
-
-fn name<A: Heap>(alloc: A) -> Result<Name<A>, Starved> {
-    let Ok(name) = Name::from_text(alloc, "www.example") else {
-        return Err(Starved);
-    };
-    Ok(name)
-}
-
 fn job<A: Heap>(alloc: A) -> Result<Job<A>, Starved> {
-    Ok(Job::new(name(alloc)?, RType::A, 0))
+    Ok(Job::new(name(alloc, WWW)?, RType::A, 0))
 }
 
 // Opens a query that waits for this ask.
@@ -53,7 +36,7 @@ fn open<A: Heap>(
     requires fresh { HasNo queries.old number }
     requires free { IsFree queries.old ask }
 {
-    let client_query = client_query(alloc)?;
+    let client_query = client_query(alloc, QUERY)?;
     let job = job(alloc)?;
     queries.put(Open {
         number,
@@ -79,7 +62,7 @@ fn open_udp<A: Heap>(
     if queries.len() > 1_024 {
         return Ok(());
     }
-    let name = name(alloc)?;
+    let name = name(alloc, WWW)?;
     let id = queries.free_id(socket, server, from);
     let ask = Ask {
         path: Path::Udp(socket),
@@ -105,7 +88,7 @@ fn open_tcp<A: Heap>(
         path: Path::Tcp(under),
         server: FIRST,
         id: 7,
-        name: name(alloc)?,
+        name: name(alloc, WWW)?,
         kind: RType::A,
     };
     match queries.find_tcp(under) {

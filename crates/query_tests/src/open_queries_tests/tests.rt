@@ -4,6 +4,7 @@ use memory::{Heap, Starved};
 use open_queries::Queries;
 use rdata::Addr;
 use refusing_alloc::Refusing;
+use std::alloc::Global;
 use std::test::Fail;
 
 // One query is put in or taken out, by the parts of the word. Of six due moments two lie past the query's own
@@ -25,25 +26,38 @@ fn change<A: Heap>(alloc: A, queries: &mut Queries<A>, word: u32) -> Result<(), 
 
 // A script of 30 changes, by the words of the sequence that starts with this one: how many are followed by look-ups
 // that agree, up to the first that is not.
-fn agreeing<A: Heap>(alloc: A, start: u32) -> Result<u32, Starved> {
-    let mut queries = Queries::new(alloc);
+fn agreeing<A: Heap>(alloc: A, queries: &mut Queries<A>, start: u32) -> Result<u32, Starved> {
     let mut word = start;
     for done in 0..30u32 {
         word = word.wrapping_mul(1_664_525).wrapping_add(1_013_904_223);
-        change(alloc, &mut queries, word >> 4)?;
-        if !agree(&queries) {
+        change(alloc, queries, word >> 4)?;
+        if !agree(queries) {
             return Ok(done);
         }
     }
     Ok(30)
 }
 
+fn agreeing_from<A: Heap>(alloc: A, start: u32) -> Result<u32, Starved> {
+    let mut queries = Queries::new(alloc);
+    let agreeing = agreeing(alloc, &mut queries, start);
+    drop(queries);
+    agreeing
+}
+
+// The first script that does not agree throughout.
+fn first_differing<A: Heap>(alloc: A) -> Result<Option<u32>, Starved> {
+    for start in 0..200u32 {
+        if agreeing_from(alloc, start)? != 30 {
+            return Ok(Some(start));
+        }
+    }
+    Ok(None)
+}
+
 #[test]
 fn indexes_find_what_scans_find(rt: HostRuntime) -> Result<(), Fail> {
-    let alloc = rt.alloc();
-    for start in 0..200u32 {
-        assert_eq!(rt; agreeing(alloc, start)?, 30, "script {start}");
-    }
+    assert_eq!(rt; first_differing(rt.alloc())?, None);
     Ok(())
 }
 
@@ -114,11 +128,17 @@ fn open_four<A: Heap>(alloc: A, queries: &mut Queries<A>) -> Result<(), Starved>
     turn_tcp(alloc, queries, 3, 900)
 }
 
+fn first_wrong_of<A: Heap>(alloc: A, queries: &mut Queries<A>) -> Result<Option<usize>, Starved> {
+    open_four(alloc, queries)?;
+    Ok(first_unfound(queries))
+}
+
 // The place of the first look that finds something else among four queries.
 fn first_wrong<A: Heap>(alloc: A) -> Result<Option<usize>, Starved> {
     let mut queries = Queries::new(alloc);
-    open_four(alloc, &mut queries)?;
-    Ok(first_unfound(&mut queries))
+    let wrong = first_wrong_of(alloc, &mut queries);
+    drop(queries);
+    wrong
 }
 
 #[test]
@@ -140,7 +160,9 @@ fn ten<A: Heap>(alloc: A, queries: &mut Queries<A>) -> Option<u16> {
 
 fn opens_ten<A: Heap>(alloc: A) -> bool {
     let mut queries = Queries::new(alloc);
-    ten(alloc, &mut queries).is_none()
+    let opens = ten(alloc, &mut queries).is_none();
+    drop(queries);
+    opens
 }
 
 // Whether those are open that were before this one, and no other.
@@ -150,13 +172,30 @@ fn are_open<A: Heap>(queries: &Queries<A>, refused: u16) -> bool {
         && queries.find(0, FIRST, refused).is_none()
 }
 
+fn leaves_open<A: Heap>(alloc: A, queries: &mut Queries<A>) -> bool {
+    match ten(alloc, queries) {
+        Some(refused) => are_open(queries, refused),
+        None => false,
+    }
+}
+
 // Whether memory is wanting for one of the ten, and those before it are open.
 fn leaves_what_was_open<A: Heap>(alloc: A) -> bool {
     let mut queries = Queries::new(alloc);
-    match ten(alloc, &mut queries) {
-        Some(refused) => are_open(&queries, refused),
-        None => false,
+    let leaves = leaves_open(alloc, &mut queries);
+    drop(queries);
+    leaves
+}
+
+// The first growth whose refusal leaves something else.
+fn first_lost(heap: &Refusing<Global>, growths: u64) -> Option<u64> {
+    for n in 0..growths {
+        heap.refuse_after(n);
+        if !leaves_what_was_open(heap) {
+            return Some(n);
+        }
     }
+    None
 }
 
 #[test]
@@ -165,9 +204,6 @@ fn want_of_memory_leaves_what_was_open(rt: HostRuntime) -> Result<(), Fail> {
     assert!(rt; opens_ten(&heap));
     let growths = heap.growths();
     assert!(rt; growths > 10);
-    for n in 0..growths {
-        heap.refuse_after(n);
-        assert!(rt; leaves_what_was_open(&heap), "growth {n}");
-    }
+    assert_eq!(rt; first_lost(&heap, growths), None);
     Ok(())
 }
