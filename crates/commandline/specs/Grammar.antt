@@ -45,14 +45,16 @@ trace_app = with_rule (with_rule (config_app (codes "trace")) (word_rule (codes 
 abbrev pub bare_app : App
 bare_app = let a = new_app (codes "resolverd") in record a { top = record a.top { no_binary_name = true; subcommand_required = true } }
 
--- The line with the subcommands that read zone files and play a script.
-abbrev pub first_app : App
-first_app =
-    with_subcommand (with_subcommand (with_subcommand (with_subcommand bare_app ask_app.top) (file_app (codes "check")).top) (file_app (codes "dump")).top) play_app.top
-
 -- The line with all subcommands but the last.
 abbrev pub front_app : App
-front_app = with_subcommand (with_subcommand (with_subcommand first_app storm_app.top) (config_app (codes "serve")).top) (config_app (codes "check-config")).top
+front_app =
+    with_subcommand
+    (with_subcommand
+    (with_subcommand
+    (with_subcommand (with_subcommand (with_subcommand (with_subcommand bare_app ask_app.top) (file_app (codes "check")).top) (file_app (codes "dump")).top) play_app.top)
+    storm_app.top)
+    (config_app (codes "serve")).top)
+    (config_app (codes "check-config")).top
 
 -- The whole line.
 abbrev pub line_app : App
