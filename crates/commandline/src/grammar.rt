@@ -2,7 +2,7 @@
 ghost use Rattle.std.specs.Prelude.{◌≡◌, IfOk, IsOkAnd, true, false};
 ghost use Rattle.clap.specs.Words.{AddsSubcommand, app_of, rule_of};
 ghost use Rattle.clap.specs.declared.builder.command.Command.TheViews.{out-Command};
-ghost use Rattle.commandline.specs.Grammar.{ask_app, bare_app, config_app, file_app, first_app, line_app, play_app, storm_app, trace_app, keep_rule, scripts_rule, word_rule};
+ghost use Rattle.commandline.specs.Grammar.{ask_app, bare_app, config_app, file_app, line_app, play_app, storm_app, trace_app, keep_rule, scripts_rule, word_rule};
 
 use crate::help::Topic;
 use clap::{Arg, ArgAction};
@@ -128,33 +128,22 @@ fn with_line<'a>(
 {
     match subcommand {
         Ok(subcommand) => line.subcommand(subcommand),
-        Err(error) => refused(line, error),
+        Err(error) => {
+            drop(line);
+            Err(error)
+        }
     }
-}
-
-// What has no line, since a subcommand could not be made: the line's memory is freed first.
-fn refused<'a>(line: clap::Command<'a>, error: AllocError) -> Result<clap::Command<'a>, AllocError>
-    ensures { IfOk result (λ _. ⊥) }
-{
-    drop(line);
-    Err(error)
-}
-
-// The line with the subcommands that read zone files and play scripts.
-fn first_line<'a>(alloc: Global) -> Result<clap::Command<'a>, AllocError>
-    ensures { IfOk result (λ c. app_of c ≡ first_app) }
-{
-    let line = with_line(bare_line(alloc), ask_line(alloc))?;
-    let line = with_line(line, file_line(alloc, "check", Topic::Check.usage()))?;
-    let line = with_line(line, file_line(alloc, "dump", Topic::Dump.usage()))?;
-    with_line(line, play_line(alloc))
 }
 
 /// The whole line, after the program's name.
 pub fn line<'a>(alloc: Global) -> Result<clap::Command<'a>, AllocError>
     ensures app { IfOk result (λ c. app_of c ≡ line_app) }
 {
-    let line = with_line(first_line(alloc)?, storm_line(alloc))?;
+    let line = with_line(bare_line(alloc), ask_line(alloc))?;
+    let line = with_line(line, file_line(alloc, "check", Topic::Check.usage()))?;
+    let line = with_line(line, file_line(alloc, "dump", Topic::Dump.usage()))?;
+    let line = with_line(line, play_line(alloc))?;
+    let line = with_line(line, storm_line(alloc))?;
     let line = with_line(line, config_line(alloc, "serve", Topic::Serve.usage()))?;
     let usage = Topic::CheckConfig.usage();
     let line = with_line(line, config_line(alloc, "check-config", usage))?;
