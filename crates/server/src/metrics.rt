@@ -113,30 +113,54 @@ fn serve_one<
     L: Ledger,
     R: Wait + Clock,
 >(rt: &R, context: &Context<'_, M, L>, mut stream: TcpStream) {
+    let mut request = [0u8; MOST_REQUEST];
+    if let Some(count) = request_of(rt, context.common, &mut stream, &mut request) {
+        let stores = pool::sizes(rt, context.shared);
+        respond(rt, context.common, &mut stream, &request[..count], stores);
+    }
+}
+
+// How many bytes a client's request has, which stand at the front of the buffer. None where it can't be read in time.
+fn request_of<R: Wait + Clock>(
+    rt: &R,
+    common: &Common<'_>,
+    stream: &mut TcpStream,
+    buffer: &mut [u8; MOST_REQUEST],
+) -> Option<usize>
+    ensures { IfSome result (λ n. n ≤ MOST_REQUEST) }
+{
     let wait = Some(Duration::from_millis(WAIT_MS));
     if stream.set_read_timeout(wait).is_err() || stream.set_write_timeout(wait).is_err() {
-        return;
+        return None;
     }
-    let mut request = [0u8; MOST_REQUEST];
-    if let Some(count) = read_request(rt, context.common, &mut stream, &mut request)
-        && let Some(response) = response_to(rt, context, &request[..count])
-    {
-        write_response(rt, context.common, &mut stream, response.as_bytes());
+    read_request(rt, common, stream, buffer)
+}
+
+// Writes the response to a request, where memory is left for it.
+fn respond<R: Wait + Clock>(
+    rt: &R,
+    common: &Common<'_>,
+    stream: &mut TcpStream,
+    request: &[u8],
+    stores: StoreSizes,
+) {
+    if let Some(response) = response_to(rt, common, request, stores) {
+        write_response(rt, common, stream, response.as_bytes());
     }
 }
 
 // The response to a request. None where no memory is left for it.
-fn response_to<
-    M: Measured<Event = TypedEvent, Out = TypedActions, Sizes = StoreSizes>,
-    L: Ledger,
-    R: Wait,
->(rt: &R, context: &Context<'_, M, L>, request: &[u8]) -> Option<String> {
-    let tally = context.common.ends.tally.as_ref()?;
+fn response_to<R: Wait>(
+    rt: &R,
+    common: &Common<'_>,
+    request: &[u8],
+    stores: StoreSizes,
+) -> Option<String> {
+    let tally = common.ends.tally.as_ref()?;
     let (cells, waiting) = tally.values(rt);
-    let mut response = String::new(context.common.alloc);
-    let stores = pool::sizes(rt, context.shared);
+    let mut response = String::new(common.alloc);
     put_response(
-        context.common.alloc,
+        common.alloc,
         &mut response,
         request,
         &cells,
