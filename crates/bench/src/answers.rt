@@ -90,46 +90,60 @@ impl Known {
         }
     }
 
-    // A resolver that knows the answer is asked so often.
-    fn times<A: Heap>(self, alloc: A, rounds: u64) -> Result<u64, Starved> {
+    // A resolver that knows the answer is asked so often, by a query whose bytes are read once where that is asked for.
+    fn times<A: Heap>(self, alloc: A, locked: bool, rounds: u64) -> Result<u64, Starved> {
         let query = query(alloc)?;
-        let mut core = core(alloc, self.zones(alloc)?)?;
-        let learnt = self.learn(alloc, &mut core, &query);
-        let sum = step_all(&mut core, &query, rounds);
-        drop(core);
+        let sum = self.ask(alloc, &query, locked, rounds);
         drop(query);
-        learnt?;
         sum
     }
 
-    // The same, of a query whose bytes are read once.
-    fn locked<A: Heap>(self, alloc: A, rounds: u64) -> Result<u64, Starved> {
-        let query = query(alloc)?;
+    fn ask<A: Heap>(
+        self,
+        alloc: A,
+        query: &Event<A>,
+        locked: bool,
+        rounds: u64,
+    ) -> Result<u64, Starved> {
         let mut core = core(alloc, self.zones(alloc)?)?;
-        let learnt = self.learn(alloc, &mut core, &query);
-        let sum = read_and_step_all(alloc, &mut core, &query, rounds);
+        let sum = self.learn_and_step(alloc, &mut core, query, locked, rounds);
         drop(core);
-        drop(query);
-        learnt?;
         sum
+    }
+
+    fn learn_and_step<A: Heap>(
+        self,
+        alloc: A,
+        core: &mut Core<A>,
+        query: &Event<A>,
+        locked: bool,
+        rounds: u64,
+    ) -> Result<u64, Starved> {
+        self.learn(alloc, core, query)?;
+        if locked {
+            read_and_step_all(alloc, core, query, rounds)
+        } else {
+            step_all(core, query, rounds)
+        }
+    }
+
+    // How often memory is asked for by so many answers.
+    fn grown<R: AllocGlobal>(self, rt: &R, locked: bool, rounds: u64) -> Result<u64, Starved> {
+        let alloc = Refusing::new(rt.alloc());
+        self.times(&alloc, locked, rounds)?;
+        Ok(alloc.growths())
     }
 
     /// How often memory is asked for by the second of two such answers.
     pub fn growths<R: Runtime + AllocGlobal>(self, rt: &R) -> Result<u64, Starved> {
-        let one = Refusing::new(rt.alloc());
-        self.times(&one, 1)?;
-        let two = Refusing::new(rt.alloc());
-        self.times(&two, 2)?;
-        Ok(two.growths().saturating_sub(one.growths()))
+        let one = self.grown(rt, false, 1)?;
+        Ok(self.grown(rt, false, 2)?.saturating_sub(one))
     }
 
     /// How often memory is asked for by the step alone of the second of two such answers, which were read before and
     /// are written after: while the lock of a server is held.
     pub fn growths_locked<R: Runtime + AllocGlobal>(self, rt: &R) -> Result<u64, Starved> {
-        let one = Refusing::new(rt.alloc());
-        self.locked(&one, 1)?;
-        let two = Refusing::new(rt.alloc());
-        self.locked(&two, 2)?;
-        Ok(two.growths().saturating_sub(one.growths()))
+        let one = self.grown(rt, true, 1)?;
+        Ok(self.grown(rt, true, 2)?.saturating_sub(one))
     }
 }

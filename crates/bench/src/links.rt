@@ -85,16 +85,27 @@ fn fill(cache: &mut Cache<DefaultHasher>, names: &[Name], links: &[Link]) -> Res
 /// Links of so many names, kept.
 pub fn keep<R: Runtime + AllocGlobal>(rt: &R, says: Says, rounds: u64) -> Result<Done> {
     let names = hosts(rt.alloc(), rounds)?;
-    let links = links(rt.alloc(), says, &names)?;
+    let done = keep_links(rt, says, &names);
+    drop(names);
+    done
+}
+
+// The links of these names, kept.
+fn keep_links<R: Runtime + AllocGlobal>(rt: &R, says: Says, names: &[Name]) -> Result<Done> {
+    let links = links(rt.alloc(), says, names)?;
+    let done = kept(rt, names, &links);
+    drop(links);
+    done
+}
+
+fn kept<R: Runtime + AllocGlobal>(rt: &R, names: &[Name], links: &[Link]) -> Result<Done> {
     let before = resident(rt);
     let mut cache = empty(rt.alloc())?;
     let start = Instant::now(rt);
-    let sum = fill(&mut cache, &names, &links);
+    let sum = fill(&mut cache, names, links);
     let done = finish(rt, start, sum);
     let grown = resident(rt).saturating_sub(before);
     drop(cache);
-    drop(links);
-    drop(names);
     Ok(Done {
         counted: Counted::Resident(grown),
         ..done?
@@ -133,11 +144,21 @@ fn find_all(
 /// Links of so many names, each of so many addresses, found so often in a cache that has nothing else.
 pub fn find<R: Runtime + AllocGlobal>(rt: &R, names: u64, count: u8, times: u64) -> Result<Done> {
     let names = hosts(rt.alloc(), names)?;
-    let mut cache = filled(rt.alloc(), &names, count)?;
+    let done = found_again(rt, &names, count, times);
+    drop(names);
+    done
+}
+
+fn found_again<R: Runtime + AllocGlobal>(
+    rt: &R,
+    names: &[Name],
+    count: u8,
+    times: u64,
+) -> Result<Done> {
+    let mut cache = filled(rt.alloc(), names, count)?;
     let start = Instant::now(rt);
-    let sum = find_all(rt.alloc(), &mut cache, &names, times);
+    let sum = find_all(rt.alloc(), &mut cache, names, times);
     let done = finish(rt, start, sum);
     drop(cache);
-    drop(names);
     done
 }

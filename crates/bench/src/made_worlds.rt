@@ -22,22 +22,33 @@ fn put_zone(text: &mut String, zone: u64) -> Result<(), WorldFault> {
 // The text of a world: the root, and so many zones that it delegates.
 fn text(alloc: Global, zones: u64) -> Result<String, WorldFault> {
     let mut text = String::new(alloc);
+    put_world(&mut text, zones)?;
+    Ok(text)
+}
+
+fn put_world(text: &mut String, zones: u64) -> Result<(), WorldFault> {
     text.push_str(
         "host 10.1.0.1 .\nhint 10.1.0.1\nzone .\n$TTL 300\n@ SOA r h 1 2 3 4 60\n@ NS ns\nns A 10.1.0.1\n",
     )?;
     for zone in 0..zones {
-        write!(
-            text,
-            "z{zone} NS ns.z{zone}\nns.z{zone} A 10.0.{}.{}\n",
-            zone / 256,
-            zone % 256
-        )?;
+        put_delegation(text, zone)?;
     }
     text.push_str("end\n")?;
     for zone in 0..zones {
-        put_zone(&mut text, zone)?;
+        put_zone(text, zone)?;
     }
-    Ok(text)
+    Ok(())
+}
+
+// The lines of the root's zone that delegate that zone.
+fn put_delegation(text: &mut String, zone: u64) -> Result<(), WorldFault> {
+    write!(
+        text,
+        "z{zone} NS ns.z{zone}\nns.z{zone} A 10.0.{}.{}\n",
+        zone / 256,
+        zone % 256
+    )?;
+    Ok(())
 }
 
 // Reads, builds and checks a world of a root and so many zones.

@@ -251,14 +251,29 @@ impl OnSteps {
     /// Does it so often, and takes the time.
     pub fn run<R: Runtime + AllocGlobal>(self, rt: &R, rounds: u64) -> Result<Done> {
         let query = query(rt.alloc())?;
-        let mut core = core(rt.alloc(), self.zones(rt.alloc())?)?;
-        let begun = self.begin(rt.alloc(), &mut core, &query);
-        let start = Instant::now(rt);
-        let sum = self.times(rt.alloc(), &mut core, &query, rounds);
-        let done = finish(rt, start, sum);
-        drop(core);
+        let done = self.asked(rt, &query, rounds);
         drop(query);
-        begun?;
         done
+    }
+
+    // The same, of a resolver that gets this query.
+    fn asked<R: Runtime + AllocGlobal>(self, rt: &R, query: &Event, rounds: u64) -> Result<Done> {
+        let mut core = core(rt.alloc(), self.zones(rt.alloc())?)?;
+        let done = self.timed(rt, &mut core, query, rounds);
+        drop(core);
+        done
+    }
+
+    fn timed<R: Runtime + AllocGlobal>(
+        self,
+        rt: &R,
+        core: &mut Core,
+        query: &Event,
+        rounds: u64,
+    ) -> Result<Done> {
+        self.begin(rt.alloc(), core, query)?;
+        let start = Instant::now(rt);
+        let sum = self.times(rt.alloc(), core, query, rounds);
+        finish(rt, start, sum)
     }
 }

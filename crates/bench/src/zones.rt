@@ -16,12 +16,17 @@ use zone::Zone;
 // A zone file of so many hosts, each with an address, a wildcard and a delegation.
 fn text(alloc: Global, count: u64) -> Result<String, Starved> {
     let mut text = String::new(alloc);
+    put_hosts(&mut text, count)?;
+    Ok(text)
+}
+
+fn put_hosts(text: &mut String, count: u64) -> Result<(), Starved> {
     text.push_str("$TTL 300\n@ SOA ns h 1 2 3 4 60\n@ NS ns\n")?;
     text.push_str("*.wild A 192.0.2.1\ncut NS ns.cut\nns.cut A 192.0.2.2\n")?;
     for host in 0..count {
         write!(text, "host{host} A 192.0.2.{}\n", host % 256)?;
     }
-    Ok(text)
+    Ok(())
 }
 
 // The records of a zone file.
@@ -36,25 +41,35 @@ fn zone(alloc: Global, records: Records) -> Result<Zone, Starved> {
 pub fn read<R: Runtime + AllocGlobal>(rt: &R, rounds: u64) -> Result<Done> {
     let text = text(rt.alloc(), rounds)?;
     let start = Instant::now(rt);
-    let records = records(rt.alloc(), text.as_str())?;
-    let done = finish(rt, start, Ok(low(records.len())));
+    let count = count(rt.alloc(), text.as_str());
+    let done = finish(rt, start, count);
     let counted = Counted::Text(text.len() as u64);
-    drop(records);
     drop(text);
     Ok(Done { counted, ..done? })
 }
 
+// How many records a zone file has.
+fn count(alloc: Global, text: &str) -> Result<u64, Starved> {
+    Ok(low(records(alloc, text)?.len()))
+}
+
 pub fn build<R: Runtime + AllocGlobal>(rt: &R, rounds: u64) -> Result<Done> {
     let text = text(rt.alloc(), rounds)?;
+    let done = built(rt, text.as_str());
+    drop(text);
+    done
+}
+
+// The zone of that text, built.
+fn built<R: Runtime + AllocGlobal>(rt: &R, text: &str) -> Result<Done> {
     let before = resident(rt);
-    let records = records(rt.alloc(), text.as_str())?;
+    let records = records(rt.alloc(), text)?;
     let list = resident(rt).saturating_sub(before);
     let start = Instant::now(rt);
     let zone = zone(rt.alloc(), records)?;
     let done = finish(rt, start, Ok(low(zone.records().len())));
     let grown = resident(rt).saturating_sub(before);
     drop(zone);
-    drop(text);
     Ok(Done {
         counted: Counted::Grown { list, zone: grown },
         ..done?
@@ -96,12 +111,23 @@ pub fn look<R: Runtime + AllocGlobal>(
         Asked::Nowhere => "none.lab.example.",
         Asked::UnderCut => "x.cut.lab.example.",
     };
-    let asked = name(rt.alloc(), text)?;
     let catalog = catalog(rt.alloc(), hosts)?;
-    let start = Instant::now(rt);
-    let sum = look_all(rt.alloc(), &catalog, &asked, rounds);
-    let done = finish(rt, start, sum);
+    let done = looked(rt, &catalog, text, rounds);
     drop(catalog);
+    done
+}
+
+// The name of that text, looked up so often.
+fn looked<R: Runtime + AllocGlobal>(
+    rt: &R,
+    catalog: &Catalog,
+    text: &str,
+    rounds: u64,
+) -> Result<Done> {
+    let asked = name(rt.alloc(), text)?;
+    let start = Instant::now(rt);
+    let sum = look_all(rt.alloc(), catalog, &asked, rounds);
+    let done = finish(rt, start, sum);
     drop(asked);
     done
 }

@@ -28,6 +28,17 @@ topic_of_word w =
     (cond (bytes_eq w (codes "check-config")) (Some CheckConfig)
     (cond (bytes_eq w (codes "trace")) (Some Trace) None)))))))
 
+-- The word that names a command.
+abbrev pub topic_word : Topic → Text
+topic_word Ask = codes "ask"
+topic_word Check = codes "check"
+topic_word Dump = codes "dump"
+topic_word Play = codes "play"
+topic_word Storm = codes "storm"
+topic_word Serve = codes "serve"
+topic_word CheckConfig = codes "check-config"
+topic_word Trace = codes "trace"
+
 abbrev pub asks_help : Text → Bool
 asks_help w = bytes_eq w (codes "--help") || bytes_eq w (codes "-h")
 

@@ -126,7 +126,13 @@ fn with_line<'a>(
 ) -> Result<clap::Command<'a>, AllocError>
     ensures { IfOk result (λ c. IsOkAnd subcommand.entry (λ s. AddsSubcommand line.entry s c)) }
 {
-    line.subcommand(subcommand?)
+    match subcommand {
+        Ok(subcommand) => line.subcommand(subcommand),
+        Err(error) => {
+            drop(line);
+            Err(error)
+        }
+    }
 }
 
 /// The whole line, after the program's name.

@@ -1,7 +1,9 @@
 //! What is printed of the program, of one command, and of the numbers of faults and statuses.
-ghost use Rattle.std.specs.Prelude.{◌≡◌, [], ◌∷◌, map, string_bytes};
+ghost use Rattle.std.specs.Prelude.{◌≡◌, [], ◌∷◌, MatchOption, map, string_bytes};
 ghost use Rattle.std.specs.List.{list_any};
-ghost use Rattle.commandline.specs.Helps.{asks_help, asks_version, topic_of as topic_asked, topic_of_first, topic_of_word};
+ghost use Rattle.commandline.specs.Helps.{asks_help, asks_version, topic_of as topic_asked, topic_of_first, topic_of_word, topic_word};
+ghost use Rattle.commandline.specs.Says.{word_of};
+ghost use Rattle.commandline.specs.declared.subcommands.Command.{Command};
 
 use crate::help_texts::{ASKED, CHECKED, CONFIG_CHECKED, DUMPED, PLAYED, SERVED, STORMED, TRACED};
 
@@ -24,7 +26,8 @@ pub(crate) enum Topic {
 impl Topic {
     /// The command that a word names.
     pub(crate) fn of_word(word: &str) -> Option<Topic>
-        ensures { result ≡ topic_of_word word.now }
+        ensures is { result ≡ topic_of_word word.now }
+        ensures named { MatchOption result ((command : Command) → word.now ≡ word_of command → ⊥) (λ topic. word.now ≡ topic_word topic) }
     {
         match word {
             "ask" => Some(Topic::Ask),

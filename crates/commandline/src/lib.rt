@@ -67,24 +67,48 @@ pub fn help_text(alloc: Global, words: &[String]) -> Result<String, LineFault>
 fn whole_text(alloc: Global) -> Result<String, LineFault>
     ensures { IfErr result (λ e. e ≡ Memory) }
 {
-    let mut text = grammar::line(alloc)?.render_help()?;
-    for part in help_texts::PARTS {
+    let mut text = grammar_text(alloc)?;
+    put_parts(&mut text, help_texts::PARTS)?;
+    Ok(text)
+}
+
+// All that the program can be asked.
+fn grammar_text(alloc: Global) -> Result<String, LineFault>
+    ensures { IfErr result (λ e. e ≡ Memory) }
+{
+    let mut line = grammar::line(alloc)?;
+    let text = line.render_help();
+    drop(line);
+    Ok(text?)
+}
+
+fn put_parts(text: &mut String, parts: &[&str]) -> Result<(), LineFault>
+    ensures { IfErr result (λ e. e ≡ Memory) }
+{
+    for part in parts {
         text.push_str(*part)?;
     }
-    Ok(text)
+    Ok(())
 }
 
 // What can be said of one command.
 fn topic_text(alloc: Global, topic: Topic) -> Result<String, LineFault>
     ensures { IfErr result (λ e. e ≡ Memory) }
 {
-    let mut text = String::from_str(alloc, "resolverd ")?;
+    let mut text = String::new(alloc);
+    put_topic(&mut text, topic)?;
+    put_parts(&mut text, topic.parts())?;
+    Ok(text)
+}
+
+// The line of one command.
+fn put_topic(text: &mut String, topic: Topic) -> Result<(), LineFault>
+    ensures { IfErr result (λ e. e ≡ Memory) }
+{
+    text.push_str("resolverd ")?;
     text.push_str(topic.word())?;
     text.push_str(" ")?;
     text.push_str(topic.usage())?;
     text.push_str("\n")?;
-    for part in topic.parts() {
-        text.push_str(*part)?;
-    }
-    Ok(text)
+    Ok(())
 }

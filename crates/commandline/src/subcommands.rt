@@ -1,11 +1,13 @@
 //! The subcommands, read from what `clap` matched: a function and an arm for each.
 ghost use Rattle.std.specs.Prelude.{◌≡◌, ℕ, IfOk, IfErr, Some, None, codes, map, string_bytes};
 ghost use Rattle.clap.specs.Words.{all_of, found_of, first_of, rows_of, subcommand_rows_of};
+ghost use Rattle.commandline.specs.Helps.{topic_word};
 ghost use Rattle.commandline.specs.Says.{IsKeep, IsNamed, Says};
 ghost use Rattle.commandline.specs.declared.fault.LineFault.TheVariants.{Words, Memory};
 ghost use Rattle.commandline.specs.declared.subcommands.Command.{Command};
 
 use crate::fault::LineFault;
+use crate::help::Topic;
 use clap::ArgMatches;
 use std::alloc::Global;
 use std::str::FromStr;
@@ -218,20 +220,41 @@ fn read_trace(alloc: Global, found: &ArgMatches<'_>) -> Result<Command, LineFaul
     Ok(Command::Trace { config, name, kind })
 }
 
+// The command of a topic, with its words.
+fn read_topic(alloc: Global, topic: Topic, found: &ArgMatches<'_>) -> Result<Command, LineFault>
+    ensures ok { IfOk result (IsNamed (topic_word topic) (rows_of (found_of found.now))) }
+    ensures refused { IfErr result (λ e. e ≡ Words → (command : Command) → IsNamed (topic_word topic) (rows_of (found_of found.now)) command → ⊥) }
+{
+    match topic {
+        Topic::Ask => read_ask(alloc, found),
+        Topic::Check => read_check(alloc, found),
+        Topic::Dump => read_dump(alloc, found),
+        Topic::Play => read_play(alloc, found),
+        Topic::Storm => read_storm(alloc, found),
+        Topic::Serve => read_serve(alloc, found),
+        Topic::CheckConfig => read_check_config(alloc, found),
+        Topic::Trace => read_trace(alloc, found),
+    }
+}
+
+// The command of this name, with its words.
+fn read_named(alloc: Global, word: &str, found: &ArgMatches<'_>) -> Result<Command, LineFault>
+    ensures ok { IfOk result (IsNamed word.now (rows_of (found_of found.now))) }
+    ensures refused { IfErr result (λ e. e ≡ Words → (command : Command) → IsNamed word.now (rows_of (found_of found.now)) command → ⊥) }
+{
+    match Topic::of_word(word) {
+        Some(topic) => read_topic(alloc, topic, found),
+        None => Err(LineFault::Words),
+    }
+}
+
 /// The subcommand that the line names, with its words.
 pub fn read_subcommand(alloc: Global, matches: &ArgMatches<'_>) -> Result<Command, LineFault>
     ensures ok { IfOk result (Says (subcommand_rows_of matches.now)) }
     ensures refused { IfErr result (λ e. e ≡ Words → (command : Command) → Says (subcommand_rows_of matches.now) command → ⊥) }
 {
     match matches.subcommand() {
-        Some(("ask", found)) => read_ask(alloc, found),
-        Some(("check", found)) => read_check(alloc, found),
-        Some(("dump", found)) => read_dump(alloc, found),
-        Some(("play", found)) => read_play(alloc, found),
-        Some(("storm", found)) => read_storm(alloc, found),
-        Some(("serve", found)) => read_serve(alloc, found),
-        Some(("check-config", found)) => read_check_config(alloc, found),
-        Some(("trace", found)) => read_trace(alloc, found),
-        _ => Err(LineFault::Words),
+        Some((word, found)) => read_named(alloc, word, found),
+        None => Err(LineFault::Words),
     }
 }

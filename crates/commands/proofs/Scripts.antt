@@ -1,5 +1,5 @@
 -- Which fault of a command a text of lines is refused for, and which a world's.
-use Rattle.std.proofs.Common.{◌≡◌, refl, sym, subst, ⊎_elim, ℕ, List, Result, Err}
+use Rattle.std.proofs.Common.{◌≡◌, ◌⊎◌, refl, sym, subst, ⊎_elim, ℕ, List, Result, Err}
 use Rattle.std.specs.Prelude.{Option, Some}
 use Rattle.std.specs.Borrow.{Bor}
 use Rattle.masterfile.specs.declared.faults.FileKind.{FileKind}
@@ -17,6 +17,8 @@ use Rattle.world_text.specs.declared.world_fault.WorldFault.{WorldFault}
 use Rattle.world_text.specs.declared.world_fault.WorldFault.TheVariants as of
 use Rattle.world_text.specs.Worlds.{IsNoWorld}
 use Rattle.commands.specs.Texts.{MayHold}
+use Rattle.commands.specs.declared.fault.Fault.{Fault}
+use Rattle.commands.specs.declared.fault.Fault.TheVariants.{Unreadable, Memory}
 use Rattle.commands.specs.Faults.{kind_fault, line_fault, line_kind_fault, block_fault, rule_fault, world_fault}
 use Rattle.commands.specs.Scripts.{HoldsNo, IsRefusedFor, HoldsNoWorld}
 
@@ -74,6 +76,13 @@ module _ (held : List ℕ → Option (Option (List ℕ))) (path : Bor (List ℕ)
 
   pub no_world : (text : List ℕ) (e : WorldFault) → MayHold (held path.now) (Some text) → IsNoWorld text e → HoldsNoWorld held path.now (world_fault path e)
   no_world text e there fails = named e (record { text = text; held = there; fails = fails })
+
+-- ---- a text that is not there
+
+-- Where a text is not read, what holds of an unreadable path and of want of memory holds.
+pub unread : {N : Type 0} (P : Fault → Type 0) (path : Bor (List ℕ)) (f : Fault) → ((f ≡ Unreadable path) × N) ⊎ (f ≡ Memory) → (N → P (Unreadable path)) → P Memory → P f
+unread {N} P path f why none memory =
+    ⊎_elim (λ (h : (f ≡ Unreadable path) × N). subst P (sym h.0) (none h.1)) (λ (is : f ≡ Memory). subst P (sym is) memory) why
 
 -- ---- a text of lines
 

@@ -9,7 +9,7 @@ use std::io::Read;
 use std::net::{Ipv4Addr, Net, SocketAddr, SocketAddrV4, TcpListener, TcpStream, UdpSocket};
 use std::rt::{Env, Files};
 use std::time::Instant;
-use std::{env, fs};
+use std::{env, fs, io};
 use wire::Via;
 
 /// What the start of a server needs besides memory and files.
@@ -79,6 +79,44 @@ fn number_in<R: Env + AllocGlobal>(rt: &R, name: &str) -> Option<u32> {
     }
 }
 
+// The sockets of a server, which show what its file asks for, and tell the service manager where one wants to know.
+fn opened<R>(rt: &R, alloc: Global, listen: Endpoint, shown: Shown) -> io::Result<Ends>
+where
+    R: Net<Listener = TcpListener, Stream = TcpStream> + Env + AllocGlobal,
+{
+    let ends = bound(rt, alloc, listen)?.showing(rt, alloc, shown)?;
+    Ok(telling(rt, ends))
+}
+
+// The sockets that a service manager has handed over, or others.
+fn bound<R: Net + Env + AllocGlobal>(rt: &R, alloc: Global, listen: Endpoint) -> io::Result<Ends> {
+    if has_handed_sockets(rt) {
+        Ok(Ends::handed(rt, alloc, listen)?)
+    } else {
+        Ok(Ends::open(rt, alloc, listen)?)
+    }
+}
+
+// The same, which tell the service manager, where one wants to know.
+fn telling<R: Env + AllocGlobal>(rt: &R, ends: Ends) -> Ends {
+    match env::var(rt, "NOTIFY_SOCKET") {
+        Ok(path) => ends.telling(path.as_str()),
+        Err(_) => ends,
+    }
+}
+
+// The port at which clients find a server.
+fn port_of(ends: &Ends, listen: Endpoint) -> Option<u16>
+    ensures { IfSome result (λ port. (port ≡ listen.port) ⊎ (listen.port ≡ 0)) }
+{
+    let bound = ends.listen().ok()?;
+    if listen.port == 0 {
+        Some(bound.port)
+    } else {
+        Some(listen.port)
+    }
+}
+
 impl<R> Host for Machine<'_, R>
 where
     R: Net<Listener = TcpListener, Stream = TcpStream> + Files + Env + AllocGlobal,
@@ -91,23 +129,16 @@ where
     }
 
     fn open(&mut self, listen: Endpoint, shown: Shown) -> Option<u16> {
-        let rt = self.runtime;
-        let ends = if has_handed_sockets(rt) {
-            Ends::handed(rt, self.alloc, listen).ok()?
-        } else {
-            Ends::open(rt, self.alloc, listen).ok()?
-        };
-        let ends = ends.showing(rt, self.alloc, shown).ok()?;
-        let ends = match env::var(rt, "NOTIFY_SOCKET") {
-            Ok(path) => ends.telling(path.as_str()),
-            Err(_) => ends,
-        };
-        let bound = ends.listen().ok()?;
-        self.ends = Some(ends);
-        if listen.port == 0 {
-            Some(bound.port)
-        } else {
-            Some(listen.port)
+        let ends = opened(self.runtime, self.alloc, listen, shown).ok()?;
+        match port_of(&ends, listen) {
+            Some(port) => {
+                self.ends = Some(ends);
+                Some(port)
+            }
+            None => {
+                drop(ends);
+                None
+            }
         }
     }
 

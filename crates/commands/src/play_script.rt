@@ -4,7 +4,7 @@ ghost use Rattle.script.specs.Orders.{order_seen};
 ghost use Rattle.commands.specs.Scripts.{HoldsWorld, HoldsNoWorld, HoldsOrders, HoldsNoOrders, PrintsScript, IsNoScript};
 
 use crate::fault::Fault;
-use crate::texts::Texts;
+use crate::texts::{Texts, text_at};
 use memory::Heap;
 use script::{Order, read_script};
 use world_text::world_in;
@@ -35,7 +35,7 @@ fn world_at<'a, A: Heap, T: Texts>(
     ensures err { IfErr result (HoldsNoWorld (T.held texts.old) path.entry.now) }
     ensures keeps { T.held texts.new ≡ T.held texts.old }
 {
-    let text = texts.text(alloc, path)?.ok_or(Fault::Unreadable(path))?;
+    let text = text_at(alloc, texts, path)?;
     match world_in(alloc, text.as_str()) {
         Ok(world) => Ok(world),
         Err(error) => Err(Fault::of_world(path, error)),
@@ -51,7 +51,7 @@ fn orders_at<'a, A: Heap, T: Texts>(
     ensures ok { IfOk result (λ v. HoldsOrders (T.held texts.old path.entry.now) (map order_seen v.items)) }
     ensures err { IfErr result (HoldsNoOrders (T.held texts.old) path.entry.now) }
 {
-    let text = texts.text(alloc, path)?.ok_or(Fault::Unreadable(path))?;
+    let text = text_at(alloc, texts, path)?;
     match read_script(alloc, text.as_str()) {
         Ok(orders) => Ok(orders),
         Err(error) => Err(Fault::of_line(path, error)),

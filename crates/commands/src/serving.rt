@@ -5,7 +5,7 @@ use crate::fault::Fault;
 use crate::host::Machine;
 use crate::outcome::Server;
 use crate::run::report;
-use server::ServeError;
+use server::{Ends, ServeError};
 use std::alloc::Global;
 use std::io::Write;
 use std::net::{Net, TcpListener, TcpStream};
@@ -22,14 +22,32 @@ pub fn serve_at<
 >(machine: &Machine<'_, R>, server: Server<Global>, err: &mut E) -> u8
     ensures { IsServed (E.contents err.old) (E.contents err.new) result }
 {
-    let Some(ends) = &machine.ends else {
-        drop(server);
-        return report(&Fault::Socket, err);
-    };
+    match &machine.ends {
+        Some(ends) => told(run(machine.runtime, machine.alloc, ends, server), err),
+        None => {
+            drop(server);
+            report(&Fault::Socket, err)
+        }
+    }
+}
+
+// Runs a server at these sockets, until the program is stopped.
+fn run<R: Net<Listener = TcpListener, Stream = TcpStream> + Threads + Wait + Clock + Sync>(
+    rt: &R,
+    alloc: Global,
+    ends: &Ends,
+    server: Server<Global>,
+) -> Result<(), ServeError> {
     let stop = AtomicBool::new(false);
     let bounds = server.bounds;
-    let core = server.into_core();
-    match server_start::run_server(machine.runtime, machine.alloc, core, ends, bounds, &stop) {
+    server_start::run_server(rt, alloc, server.into_core(), ends, bounds, &stop)
+}
+
+// The exit status of a server that ended so.
+fn told<E: Write>(done: Result<(), ServeError>, err: &mut E) -> u8
+    ensures { IsServed (E.contents err.old) (E.contents err.new) result }
+{
+    match done {
         Ok(()) => 0,
         Err(ServeError::Memory) => report(&Fault::Memory, err),
         Err(ServeError::Clock) | Err(ServeError::Threads) => report(&Fault::Threads, err),

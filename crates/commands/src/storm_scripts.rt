@@ -8,7 +8,7 @@ ghost use Rattle.commands.specs.Scripts.{HoldsWorld, HoldsNoWorld};
 ghost use Rattle.commands.specs.Storms.{HoldAsks, HoldsAsks, HoldsNoAsks, FailsToClose, IsNoStorm, IsRunFault, IsStormIn, PrintsIn, PrintsStorm, RefusesOne, storm_lines};
 
 use crate::fault::Fault;
-use crate::texts::Texts;
+use crate::texts::{Texts, text_at};
 use memory::Starved;
 use play::settings;
 use pool::PoolError;
@@ -68,7 +68,7 @@ fn worlds_at<'a, T: Texts>(
     ensures err { IfErr result (HoldsNoWorld (T.held texts.old) path.entry.now) }
     ensures keeps { T.held texts.new ≡ T.held texts.old }
 {
-    let text = texts.text(alloc, path)?.ok_or(Fault::Unreadable(path))?;
+    let text = text_at(alloc, texts, path)?;
     match worlds_in(alloc, text.as_str()) {
         Ok(worlds) => Ok(worlds),
         Err(error) => Err(Fault::of_world(path, error)),
@@ -114,7 +114,7 @@ fn asks_at<'a, T: Texts>(
     ensures err { IfErr result (HoldsNoAsks (T.held texts.old) path.entry.now) }
     ensures keeps { T.held texts.new ≡ T.held texts.old }
 {
-    let text = texts.text(alloc, path)?.ok_or(Fault::Unreadable(path))?;
+    let text = text_at(alloc, texts, path)?;
     match read_asks(alloc, text.as_str()) {
         Ok(orders) => Ok(orders),
         Err(error) => Err(Fault::of_line(path, error)),

@@ -1,8 +1,10 @@
 //! Where the texts that a command names come from.
-ghost use Rattle.std.specs.Prelude.{◌≡◌, ℕ, List, Option, None, IfOk, string_bytes};
+ghost use Rattle.std.specs.Prelude.{◌≡◌, ◌⊎◌, ℕ, List, Option, Some, None, IfOk, IfErr, string_bytes};
 ghost use Rattle.std.specs.Option.{option_map};
 ghost use Rattle.commands.specs.Texts.{MayHold};
+ghost use Rattle.commands.specs.declared.fault.Fault.TheVariants.{Unreadable, Memory};
 
+use crate::fault::Fault;
 use memory::{Heap, Starved};
 use std::io::ErrorKind;
 use std::rt::Files;
@@ -21,6 +23,23 @@ pub trait Texts {
     /// Why nothing is read at a path, in the words of the system.
     fn reason<A: Heap>(&mut self, alloc: A, path: &str) -> Result<String<A>, Starved>
         ensures { held self.new ≡ held self.old };
+}
+
+/// The text at a path.
+pub(crate) fn text_at<'a, A: Heap, T: Texts>(
+    alloc: A,
+    texts: &mut T,
+    path: &'a str,
+) -> Result<String<A>, Fault<'a>>
+    ensures ok { IfOk result (λ s. MayHold (T.held texts.old path.entry.now) (Some (string_bytes s))) }
+    ensures err { IfErr result (λ f. ((f ≡ Unreadable path.entry) × MayHold (T.held texts.old path.entry.now) None) ⊎ (f ≡ Memory)) }
+    ensures keeps { T.held texts.new ≡ T.held texts.old }
+{
+    match texts.text(alloc, path) {
+        Ok(Some(text)) => Ok(text),
+        Ok(None) => Err(Fault::Unreadable(path)),
+        Err(Starved) => Err(Fault::Memory),
+    }
 }
 
 /// The files that the program can reach.

@@ -114,5 +114,8 @@ fn lines_of<A: Heap, H: Peers>(
 {
     let reach = prepared.server.bounds.reach;
     let core = prepared.server.into_core();
-    Ok(trace::trace(alloc, core, reach, name, kind, host)?)
+    match trace::trace(alloc, core, reach, name, kind, host) {
+        Ok(lines) => Ok(lines),
+        Err(Starved) => Err(Fault::Memory),
+    }
 }

@@ -3,7 +3,7 @@ ghost use Rattle.std.specs.Prelude.{◌≡◌, IfOk, IfErr};
 ghost use Rattle.commands.specs.Zones.{HoldsRecords, HoldsNoRecords, HoldsZone, HoldsNoZone};
 
 use crate::fault::Fault;
-use crate::texts::Texts;
+use crate::texts::{Texts, text_at};
 use dname::Name;
 use memory::Heap;
 use rdata::Records;
@@ -20,7 +20,7 @@ pub fn read_records<'a, A: Heap, T: Texts>(
     ensures err { IfErr result (HoldsNoRecords (T.held texts.old) file.entry.now origin.now) }
     ensures keeps { T.held texts.new ≡ T.held texts.old }
 {
-    let text = texts.text(alloc, file)?.ok_or(Fault::Unreadable(file))?;
+    let text = text_at(alloc, texts, file)?;
     match masterfile::read(alloc, origin, text.as_str()) {
         Ok(records) => Ok(records),
         Err(error) => Err(Fault::of_file(file, error)),

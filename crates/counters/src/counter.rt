@@ -1,5 +1,6 @@
 //! The counters.
-ghost use Rattle.std.specs.Prelude.{◌≡◌, ◌<◌, Some};
+ghost use Rattle.std.specs.Prelude.{◌≡◌, ◌<◌, ◌++◌, Some, codes};
+ghost use Rattle.std.specs.Fmt.{WritesOnOk};
 ghost use Rattle.counters.specs.Counters.{counters, place, series};
 
 use crate::labels::{AskFault, Bucket, QueryType, Rcode, SocketFault, Source, Way, cause_word};
@@ -73,50 +74,62 @@ impl fmt::Display for Counter {
 
     fn fmt<W: fmt::Write>(&self, f: &mut fmt::Formatter<W>) -> fmt::Result {
         match self {
-            Counter::Query(way, kind) => {
-                let (way, kind) = (way.word(), kind.word());
-                write!(
-                    f,
-                    "resolverd_queries_total{{way=\"{way}\",type=\"{kind}\"}}"
-                )
-            }
+            Counter::Query(way, kind) => write_two(
+                f,
+                "resolverd_queries_total{way=\"",
+                way.word(),
+                "\",type=\"",
+                kind.word(),
+            ),
             Counter::Reply(rcode) => {
-                let rcode = rcode.word();
-                write!(f, "resolverd_replies_total{{rcode=\"{rcode}\"}}")
+                write_one(f, "resolverd_replies_total{rcode=\"", rcode.word())
             }
-            Counter::Truncated => write!(f, "resolverd_truncated_replies_total"),
+            Counter::Truncated => f.write_str("resolverd_truncated_replies_total"),
             Counter::Failure(cause) => {
-                let cause = cause_word(*cause);
-                write!(f, "resolverd_failures_total{{cause=\"{cause}\"}}")
+                write_one(f, "resolverd_failures_total{cause=\"", cause_word(*cause))
             }
             Counter::Answer(source) => {
-                let source = source.word();
-                write!(f, "resolverd_answers_total{{source=\"{source}\"}}")
+                write_one(f, "resolverd_answers_total{source=\"", source.word())
             }
-            Counter::Ask(way) => {
-                let way = way.word();
-                write!(f, "resolverd_asks_total{{way=\"{way}\"}}")
-            }
-            Counter::FailedAsk(way, fault) => {
-                let (way, fault) = (way.word(), fault.word());
-                write!(
-                    f,
-                    "resolverd_failed_asks_total{{way=\"{way}\",reason=\"{fault}\"}}"
-                )
-            }
-            Counter::ForeignDatagram => write!(f, "resolverd_foreign_datagrams_total"),
-            Counter::HeldQuery => write!(f, "resolverd_held_queries_total"),
-            Counter::DroppedQuery => write!(f, "resolverd_dropped_queries_total"),
-            Counter::RefusedMemory => write!(f, "resolverd_refused_memory_total"),
+            Counter::Ask(way) => write_one(f, "resolverd_asks_total{way=\"", way.word()),
+            Counter::FailedAsk(way, fault) => write_two(
+                f,
+                "resolverd_failed_asks_total{way=\"",
+                way.word(),
+                "\",reason=\"",
+                fault.word(),
+            ),
+            Counter::ForeignDatagram => f.write_str("resolverd_foreign_datagrams_total"),
+            Counter::HeldQuery => f.write_str("resolverd_held_queries_total"),
+            Counter::DroppedQuery => f.write_str("resolverd_dropped_queries_total"),
+            Counter::RefusedMemory => f.write_str("resolverd_refused_memory_total"),
             Counter::FailedSocket(fault) => {
-                let fault = fault.word();
-                write!(f, "resolverd_socket_faults_total{{kind=\"{fault}\"}}")
+                write_one(f, "resolverd_socket_faults_total{kind=\"", fault.word())
             }
             Counter::Waited(bucket) => {
-                let bound = bucket.bound();
-                write!(f, "resolverd_reply_seconds_bucket{{le=\"{bound}\"}}")
+                write_one(f, "resolverd_reply_seconds_bucket{le=\"", bucket.bound())
             }
-            Counter::WaitedMillis => write!(f, "resolverd_reply_seconds_sum"),
+            Counter::WaitedMillis => f.write_str("resolverd_reply_seconds_sum"),
         }
     }
+}
+
+// A name up to the word of its label, and that word.
+fn write_one<W: fmt::Write>(f: &mut fmt::Formatter<W>, front: &str, word: &str) -> fmt::Result
+    ensures { WritesOnOk W.write_str_gives f.old result (front.now ++ word.now ++ codes "\"}") f.new }
+{
+    write!(f, "{front}{word}\"}}")
+}
+
+// The same of a name with two labels.
+fn write_two<W: fmt::Write>(
+    f: &mut fmt::Formatter<W>,
+    front: &str,
+    word: &str,
+    middle: &str,
+    other: &str,
+) -> fmt::Result
+    ensures { WritesOnOk W.write_str_gives f.old result (front.now ++ word.now ++ middle.now ++ other.now ++ codes "\"}") f.new }
+{
+    write!(f, "{front}{word}{middle}{other}\"}}")
 }

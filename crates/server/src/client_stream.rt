@@ -74,6 +74,11 @@ impl ClientStream {
     /// Writes what it takes, and reads what has come.
     pub fn exchange(&mut self, now: u64, buffer: &mut [u8]) {
         self.due = false;
+        self.write(now);
+        self.read(now, buffer);
+    }
+
+    fn write(&mut self, now: u64) {
         if self.stream.write() {
             self.taken = now;
         }
@@ -81,6 +86,9 @@ impl ClientStream {
             self.unwritten = 0;
             self.since = now;
         }
+    }
+
+    fn read(&mut self, now: u64, buffer: &mut [u8]) {
         self.stream.read(buffer);
         if self.stream.has_ended() && self.left.is_none() {
             self.left = Some(now);
@@ -126,14 +134,19 @@ impl ClientStream {
         let over = if !self.stream.is_written() {
             now.saturating_sub(self.taken) >= WRITE_MS
         } else if self.awaited > 0 {
-            silence >= REPLY_MS
-                || self
-                    .left
-                    .is_some_and(|left| now.saturating_sub(left) >= LEFT_MS)
+            silence >= REPLY_MS || self.has_waited(now)
         } else {
             silence >= IDLE_MS || self.closing || self.left.is_some()
         };
         over || self.stream.fault().is_some()
+    }
+
+    // Whether its client has ended what it sends for as long as replies are awaited then.
+    fn has_waited(&self, now: u64) -> bool {
+        match self.left {
+            Some(left) => now.saturating_sub(left) >= LEFT_MS,
+            None => false,
+        }
     }
 
     /// Why it has failed, if it has.

@@ -1,5 +1,6 @@
 //! The loop that lets time pass, so that queries which are due are served.
-use crate::context::Context;
+use crate::context::{Common, Context};
+use crate::ends::Ends;
 use crate::log::Log;
 use crate::worker::Worker;
 use book::Machine;
@@ -23,28 +24,40 @@ pub(crate) fn pass_time<
     L: Ledger,
     R: Wait + Clock,
 >(rt: &R, context: &Context<'_, M, L>, worker: &mut Worker<L>) {
-    let mut log = Log::new(context.ends.shown.and_then(|shown| shown.log));
+    let common = context.common;
+    let mut log = Log::of(common.ends);
     let mut told = 0;
-    context.ends.tell("READY=1");
+    common.ends.tell("READY=1");
     for _ in rt.forever() {
-        if context.is_over() {
+        if common.is_over() {
             return;
         }
-        let moment = context.moment(rt);
-        let late = context.admission.pass_time(rt, moment);
-        if late > 0 {
-            context.ends.count(Outcome::Dropped(late));
-        }
+        let moment = common.moment(rt);
+        drop_late(rt, common, moment);
         let more_due = context.put(rt, worker, Event::Tick { moment }).more_due;
-        if moment.saturating_sub(told) >= WATCHDOG_MS {
-            told = moment;
-            context.ends.tell("WATCHDOG=1");
-        }
-        log.look(rt, context, moment);
+        told = tell(common.ends, told, moment);
+        log.look(rt, common, moment);
         if !more_due {
             rest(rt);
         }
     }
+}
+
+// Lets time pass in admission.
+fn drop_late<R: Wait>(rt: &R, common: &Common<'_>, moment: u64) {
+    let late = common.admission.pass_time(rt, moment);
+    if late > 0 {
+        common.ends.count(Outcome::Dropped(late));
+    }
+}
+
+// Tells a service manager that steps come back, once a while; when it was told last.
+fn tell(ends: &Ends, told: u64, moment: u64) -> u64 {
+    if moment.saturating_sub(told) < WATCHDOG_MS {
+        return told;
+    }
+    ends.tell("WATCHDOG=1");
+    moment
 }
 
 /// Lets 50 ms pass.

@@ -1,5 +1,6 @@
 //! What the loops share: the machine, the sockets, admission, the channels between the loops, and the flag.
 ghost use Rattle.std.specs.Prelude.{◌≤◌, length, IfOk, IfSome, MatchOption, OnErr};
+ghost use Rattle.book.specs.Histories.{IsLast};
 ghost use Rattle.events.specs.Views.{event_view};
 ghost use Rattle.pool.specs.Closings.{IsEventRefused};
 ghost use Rattle.pool.specs.declared.fault.PoolError.TheVariants.{Memory};
@@ -14,6 +15,7 @@ use crate::query::{Asker, Query};
 use crate::shared_admission::{Entry, Question, SharedAdmission};
 use crate::tally::Arrival;
 use crate::worker::Worker;
+use admission::Held;
 use book::Machine;
 use counters::{Outcome, SocketFault};
 use crossbeam_channel::{Receiver, Sender};
@@ -54,6 +56,18 @@ const NOTHING: StepEffect = StepEffect {
     more_due: false,
 };
 
+// What came of one step, and the number of an ask over TCP that it gives and that can't be made.
+#[derive(Clone, Copy)]
+struct Step {
+    effect: StepEffect,
+    refused: Option<u64>,
+}
+
+const NO_STEP: Step = Step {
+    effect: NOTHING,
+    refused: None,
+};
+
 /// What a server's file says of its loops.
 #[derive(Clone, Copy, Debug, PartialEq, Eq)]
 pub struct Bounds {
@@ -71,11 +85,10 @@ pub struct Bounds {
     pub seed: [u8; 32],
 }
 
-/// What the loops share.
+/// What the loops share beside the machine.
 #[derive(Drop)]
-pub(crate) struct Context<'a, M: Machine, L: Ledger> {
+pub(crate) struct Common<'a> {
     pub alloc: Global,
-    pub shared: &'a Shared<M, L>,
     pub ends: &'a Ends,
     pub bounds: Bounds,
     pub admission: &'a SharedAdmission,
@@ -85,6 +98,13 @@ pub(crate) struct Context<'a, M: Machine, L: Ledger> {
     pub replies: &'a Receiver<StreamReply>,
     pub stop: &'a AtomicBool,
     pub beginning: Beginning,
+}
+
+/// What the loops share.
+#[derive(Drop)]
+pub(crate) struct Context<'a, M: Machine, L: Ledger> {
+    pub shared: &'a Shared<M, L>,
+    pub common: &'a Common<'a>,
 }
 
 // What is read of an event, whose bytes are freed. None for a datagram that replies to no question.
@@ -110,7 +130,22 @@ fn written(
     }
 }
 
-impl<M: Machine<Event = TypedEvent, Out = TypedActions>, L: Ledger> Context<'_, M, L> {
+// What the step of an entry gave, written.
+fn write_entry<M: Machine<Out = TypedActions>>(
+    alloc: Global,
+    writer: &mut Writer,
+    entry: book::Entry<M>,
+) -> Result<Actions, Starved>
+    ensures last { IsLast M.moves M.begins entry }
+    ensures written { IfOk result (λ actions. IsWritten entry.out actions) }
+{
+    entry.last_law();
+    let out = written(alloc, writer, entry.out());
+    drop(entry);
+    out
+}
+
+impl Common<'_> {
     /// Whether the flag is up.
     pub fn is_over(&self) -> bool {
         self.stop.load(Ordering::SeqCst)
@@ -128,6 +163,128 @@ impl<M: Machine<Event = TypedEvent, Out = TypedActions>, L: Ledger> Context<'_, 
         }
     }
 
+    // Counts a query, where queries are counted.
+    fn count_query(&self, query: &Query) {
+        if let Some(tally) = &self.ends.tally {
+            tally.count_query(query);
+        }
+    }
+
+    // Counts what a step gave, tells admission of it, and hands it over; what came of it.
+    fn hand_out<R: Wait + Clock>(
+        &self,
+        rt: &R,
+        question: Option<Question>,
+        came: Option<Arrival>,
+        moment: u64,
+        actions: &Actions,
+    ) -> Step {
+        self.count_step(rt, came, actions);
+        self.tell_admission(rt, question, moment, Some(actions));
+        let Some(action) = &actions.first else {
+            return Step {
+                effect: StepEffect {
+                    speaks: false,
+                    more_due: actions.more_due,
+                },
+                refused: None,
+            };
+        };
+        match self.send_out(rt, moment, action) {
+            Some(number) => Step {
+                effect: NOTHING,
+                refused: Some(number),
+            },
+            None => Step {
+                effect: StepEffect {
+                    speaks: true,
+                    more_due: actions.more_due,
+                },
+                refused: None,
+            },
+        }
+    }
+
+    // The query of an event, where queries are counted. One that was held came at the moment that is given.
+    fn came(&self, event: &Event, held: Option<u64>) -> Option<Arrival> {
+        if self.ends.tally.is_some() {
+            Arrival::of(event, held)
+        } else {
+            None
+        }
+    }
+
+    // Counts what came of a step, where it is counted.
+    fn count_step<R: Wait + Clock>(&self, rt: &R, came: Option<Arrival>, actions: &Actions) {
+        if let Some(tally) = &self.ends.tally
+            && let Some(action) = &actions.first
+        {
+            tally.count_step(rt, came, self.moment(rt), action);
+        }
+    }
+
+    // Tells admission what came of a step, before that is handed over: else a reply might come before its question is
+    // noted. Those who wait for a question that failed get the failure too (RFC 9520, section 3.2).
+    fn tell_admission<R: Wait + Clock>(
+        &self,
+        rt: &R,
+        question: Option<Question>,
+        moment: u64,
+        actions: Option<&Actions>,
+    ) {
+        let action = match actions {
+            Some(actions) => actions.first.as_ref(),
+            None => None,
+        };
+        match (question, action) {
+            (Some(question), action) => self.admission.stepped(rt, question, moment, action),
+            (None, Some(action)) => {
+                self.fail_others(rt, moment, action);
+                self.admission.other_stepped(rt, action);
+            }
+            (None, None) => {}
+        }
+    }
+
+    // Where a query failed, those held for the same question get that failure.
+    fn fail_others<R: Wait + Clock>(&self, rt: &R, moment: u64, failed: &Action) {
+        for _ in 0..MOST_FAILED {
+            if !self.fail_next(rt, moment, failed) {
+                return;
+            }
+        }
+    }
+
+    // Counts and sends that failure for the next of them; whether there is one.
+    fn fail_next<R: Wait + Clock>(&self, rt: &R, moment: u64, failed: &Action) -> bool {
+        match self.admission.next_failed(rt, failed) {
+            Some((since, reply)) => {
+                if let Some(tally) = &self.ends.tally {
+                    tally.count_copy(&reply, since, self.moment(rt));
+                }
+                self.send_out(rt, moment, &reply);
+                drop(reply);
+                true
+            }
+            None => false,
+        }
+    }
+
+    // Hands an action over at its event's moment, to where it goes; the number of an ask over TCP that can't be made.
+    fn send_out<R: Wait + Clock>(&self, rt: &R, moment: u64, action: &Action) -> Option<u64> {
+        let mut outbox = Outbox {
+            rt,
+            ends: self.ends,
+            bounds: self.bounds,
+            to_streams: self.to_streams,
+            to_servers: self.to_servers,
+            moment,
+        };
+        hand_over(&mut outbox, action)
+    }
+}
+
+impl<M: Machine<Event = TypedEvent, Out = TypedActions>, L: Ledger> Context<'_, M, L> {
     /// Puts a client's datagram.
     pub fn put_datagram<R: Wait + Clock>(
         &self,
@@ -142,11 +299,11 @@ impl<M: Machine<Event = TypedEvent, Out = TypedActions>, L: Ledger> Context<'_, 
             client: client_of(from),
             way: Via::Udp,
         };
-        match Vec::from_slice(self.alloc, bytes) {
+        match Vec::from_slice(self.common.alloc, bytes) {
             Ok(bytes) => {
                 self.put_query(rt, worker, asker, bytes);
             }
-            Err(_) => self.ends.count(Outcome::MemoryRefused),
+            Err(_) => self.common.ends.count(Outcome::MemoryRefused),
         }
     }
 
@@ -182,28 +339,40 @@ impl<M: Machine<Event = TypedEvent, Out = TypedActions>, L: Ledger> Context<'_, 
             asker,
             bytes: Bytes::new(bytes),
         };
-        if let Some(tally) = &self.ends.tally {
-            tally.count_query(&query);
+        self.common.count_query(&query);
+        let moment = self.common.moment(rt);
+        match self.common.admission.question(&query) {
+            None => self.put(rt, worker, query.into_event(moment)).speaks,
+            Some(question) => {
+                let answers = self.ask_admission(rt, worker, question, moment, query);
+                self.admit_waiting(rt, worker);
+                answers
+            }
         }
-        let moment = self.moment(rt);
-        let Some(question) = self.admission.question(&query) else {
-            return self.put(rt, worker, query.into_event(moment)).speaks;
-        };
-        let answers = match self.admission.admit(rt, question, moment, query) {
+    }
+
+    // Asks admission for a query, and puts it where that lets it in. Whether it will have a reply, or may have one.
+    fn ask_admission<R: Wait + Clock>(
+        &self,
+        rt: &R,
+        worker: &mut Worker<L>,
+        question: Question,
+        moment: u64,
+        query: Query,
+    ) -> bool {
+        match self.common.admission.admit(rt, question, moment, query) {
             Entry::In(query) => self
                 .put_question(rt, worker, question, moment, query.into_event(moment))
                 .speaks,
             Entry::Held => {
-                self.ends.count(Outcome::Held);
+                self.common.ends.count(Outcome::Held);
                 true
             }
             Entry::Dropped => {
-                self.ends.count(Outcome::Dropped(1));
+                self.common.ends.count(Outcome::Dropped(1));
                 false
             }
-        };
-        self.admit_waiting(rt, worker);
-        answers
+        }
     }
 
     // Puts the event of a question that was admitted, and came at that moment.
@@ -215,28 +384,45 @@ impl<M: Machine<Event = TypedEvent, Out = TypedActions>, L: Ledger> Context<'_, 
         came: u64,
         event: Event,
     ) -> StepEffect {
-        let came = self.came(&event, Some(came));
+        let came = self.common.came(&event, Some(came));
         self.step(rt, worker, event, Some(question), came)
     }
 
     /// Puts the questions that are called in, some of them.
     pub fn admit_waiting<R: Wait + Clock>(&self, rt: &R, worker: &mut Worker<L>) {
         for _ in 0..MOST_ADMITTED {
-            let Some(held) = self.admission.next(rt) else {
+            if !self.admit_next(rt, worker) {
                 return;
-            };
-            let question = Question {
-                key: held.key,
-                client: held.client,
-            };
-            let event = held.payload.into_event(self.moment(rt));
-            self.put_question(rt, worker, question, held.since, event);
+            }
         }
+    }
+
+    // Puts the next question that is called in; whether there is one.
+    fn admit_next<R: Wait + Clock>(&self, rt: &R, worker: &mut Worker<L>) -> bool {
+        match self.common.admission.next(rt) {
+            Some(held) => {
+                self.put_held(rt, worker, held);
+                true
+            }
+            None => false,
+        }
+    }
+
+    // Puts a question that was held.
+    fn put_held<R: Wait + Clock>(&self, rt: &R, worker: &mut Worker<L>, held: Held<Query>) {
+        let Held {
+            key,
+            client,
+            since,
+            payload,
+        } = held;
+        let event = payload.into_event(self.common.moment(rt));
+        self.put_question(rt, worker, Question { key, client }, since, event);
     }
 
     /// Puts an event, and hands over what goes out; what came of it. Then who waited for it is admitted.
     pub fn put<R: Wait + Clock>(&self, rt: &R, worker: &mut Worker<L>, event: Event) -> StepEffect {
-        let came = self.came(&event, None);
+        let came = self.common.came(&event, None);
         let effect = self.step(rt, worker, event, None, came);
         self.admit_waiting(rt, worker);
         effect
@@ -252,32 +438,38 @@ impl<M: Machine<Event = TypedEvent, Out = TypedActions>, L: Ledger> Context<'_, 
         question: Option<Question>,
         came: Option<Arrival>,
     ) -> StepEffect {
-        let mut event = event;
-        let mut question = question;
-        let mut came = came;
-        for _ in 0..MAX_REFUSED_HANDOVERS {
-            let moment = event.moment();
-            let Some(actions) = self.take_step(rt, worker, event) else {
-                self.tell_admission(rt, question, moment, None);
-                return NOTHING;
+        let mut step = self.step_once(rt, worker, event, question, came);
+        for _ in 1..MAX_REFUSED_HANDOVERS {
+            let Some(number) = step.refused else {
+                break;
             };
-            self.count_step(rt, came.take(), &actions);
-            self.tell_admission(rt, question.take(), moment, Some(&actions));
-            let refused = actions
-                .first
-                .as_ref()
-                .and_then(|action| self.send_out(rt, moment, action));
-            match refused {
-                Some(number) => event = stream_reply_event(self.moment(rt), number, None),
-                None => {
-                    return StepEffect {
-                        speaks: actions.first.is_some(),
-                        more_due: actions.more_due,
-                    };
-                }
+            let event = stream_reply_event(self.common.moment(rt), number, None);
+            step = self.step_once(rt, worker, event, None, None);
+        }
+        step.effect
+    }
+
+    // The same, where an ask that can't be made is no event yet.
+    fn step_once<R: Wait + Clock>(
+        &self,
+        rt: &R,
+        worker: &mut Worker<L>,
+        event: Event,
+        question: Option<Question>,
+        came: Option<Arrival>,
+    ) -> Step {
+        let moment = event.moment();
+        match self.take_step(rt, worker, event) {
+            Some(actions) => {
+                let step = self.common.hand_out(rt, question, came, moment, &actions);
+                drop(actions);
+                step
+            }
+            None => {
+                self.common.tell_admission(rt, question, moment, None);
+                NO_STEP
             }
         }
-        NOTHING
     }
 
     // Reads an event, takes the machine's step, and writes what it gives: the machine is locked for the step alone.
@@ -288,7 +480,7 @@ impl<M: Machine<Event = TypedEvent, Out = TypedActions>, L: Ledger> Context<'_, 
         match self.read_and_step(rt, worker, event) {
             Ok(actions) => actions,
             Err(_) => {
-                self.ends.count(Outcome::MemoryRefused);
+                self.common.ends.count(Outcome::MemoryRefused);
                 None
             }
         }
@@ -303,7 +495,7 @@ impl<M: Machine<Event = TypedEvent, Out = TypedActions>, L: Ledger> Context<'_, 
     ) -> Result<Option<Actions>, Starved>
         ensures { IfOk result (λ o. MatchOption o (RepliesToNone (event_view event)) (λ actions. IsPut M.moves M.begins worker.old.ticket (event_view event) actions worker.new.ticket)) }
     {
-        let Some(parsed) = read_whole(self.alloc, event)? else {
+        let Some(parsed) = read_whole(self.common.alloc, event)? else {
             return Ok(None);
         };
         let actions = self.step_and_write(rt, worker, parsed)?;
@@ -322,79 +514,8 @@ impl<M: Machine<Event = TypedEvent, Out = TypedActions>, L: Ledger> Context<'_, 
         ensures err { OnErr result (IsEventRefused worker.old.ticket worker.new.ticket Memory) }
     {
         match submit(rt, self.shared, &mut worker.ticket, parsed) {
-            Ok(entry) => {
-                entry.last_law();
-                written(self.alloc, &mut worker.writer, entry.out())
-            }
+            Ok(entry) => write_entry(self.common.alloc, &mut worker.writer, entry),
             Err(_) => Err(Starved),
         }
-    }
-
-    // The query of an event, where queries are counted. One that was held came at the moment that is given.
-    fn came(&self, event: &Event, held: Option<u64>) -> Option<Arrival> {
-        if self.ends.tally.is_some() {
-            Arrival::of(event, held)
-        } else {
-            None
-        }
-    }
-
-    // Counts what came of a step, where it is counted.
-    fn count_step<R: Wait + Clock>(&self, rt: &R, came: Option<Arrival>, actions: &Actions) {
-        if let Some(tally) = &self.ends.tally
-            && let Some(action) = &actions.first
-        {
-            tally.count_step(rt, came, self.moment(rt), action);
-        }
-    }
-
-    // Tells admission what came of a step, before that is handed over: else a reply might come before its question is
-    // noted. Those who wait for a question that failed get the failure too (RFC 9520, section 3.2).
-    fn tell_admission<R: Wait + Clock>(
-        &self,
-        rt: &R,
-        question: Option<Question>,
-        moment: u64,
-        actions: Option<&Actions>,
-    ) {
-        match (question, actions) {
-            (Some(question), actions) => {
-                let action = actions.and_then(|actions| actions.first.as_ref());
-                self.admission.stepped(rt, question, moment, action);
-            }
-            (None, Some(actions)) => {
-                if let Some(action) = &actions.first {
-                    self.fail_others(rt, moment, action);
-                }
-                self.admission.other_stepped(rt, actions);
-            }
-            (None, None) => {}
-        }
-    }
-
-    // Where a query failed, those held for the same question get that failure.
-    fn fail_others<R: Wait + Clock>(&self, rt: &R, moment: u64, failed: &Action) {
-        for _ in 0..MOST_FAILED {
-            let Some((since, reply)) = self.admission.next_failed(rt, failed) else {
-                return;
-            };
-            if let Some(tally) = &self.ends.tally {
-                tally.count_copy(&reply, since, self.moment(rt));
-            }
-            self.send_out(rt, moment, &reply);
-        }
-    }
-
-    // Hands an action over at its event's moment, to where it goes; the number of an ask over TCP that can't be made.
-    fn send_out<R: Wait + Clock>(&self, rt: &R, moment: u64, action: &Action) -> Option<u64> {
-        let mut outbox = Outbox {
-            rt,
-            ends: self.ends,
-            bounds: self.bounds,
-            to_streams: self.to_streams,
-            to_servers: self.to_servers,
-            moment,
-        };
-        hand_over(&mut outbox, action)
     }
 }

@@ -21,10 +21,10 @@ pub(crate) fn take_datagrams<
 >(rt: &R, context: &Context<'_, M, L>, worker: &mut Worker<L>) {
     let mut buffer = [0u8; MOST_BYTES];
     for _ in rt.forever() {
-        if context.is_over() {
+        if context.common.is_over() {
             return;
         }
-        if let Some((count, from)) = next_datagram(rt, context.ends, &mut buffer) {
+        if let Some((count, from)) = next_datagram(rt, context.common.ends, &mut buffer) {
             context.put_datagram(rt, worker, from, &buffer[..count]);
         }
     }

@@ -12,14 +12,13 @@ use crate::tally::Tally;
 use counters::{Outcome, SocketFault};
 use events::Endpoint;
 use libc::net as c;
-use mio::Interest;
 use mio::net::TcpListener;
 use os::FromRawFd;
 use rdata::Addr;
 use std::alloc::Global;
 use std::io::ErrorKind;
 use std::net::{Ipv4Addr, Net, SocketAddr, SocketAddrV4, UdpSocket};
-use std::os::fd::{AsRawFd, OwnedFd};
+use std::os::fd::{AsRawFd, OwnedFd, RawFd};
 use std::time::Duration;
 use std::{io, net};
 
@@ -87,7 +86,6 @@ pub(crate) fn is_early(error: &io::Error) -> bool {
 }
 
 /// The sockets at which a server meets its clients, and those through which it asks other servers.
-#[derive(Drop)]
 pub struct Ends {
     /// Where the datagrams of clients come, to as many loops as take them.
     pub(crate) clients: UdpSocket,
@@ -109,6 +107,31 @@ pub struct Ends {
     pub(crate) notices: Option<Notices>,
 }
 
+// By hand, so that whatever drops the sockets calls this.
+impl Drop for Ends {
+    fn drop(self) {
+        let Ends {
+            clients,
+            listener,
+            streams,
+            asks,
+            servers,
+            tally,
+            scrapes,
+            shown: _,
+            notices,
+        } = self;
+        drop(clients);
+        drop(listener);
+        drop(streams);
+        drop(asks);
+        drop(servers);
+        drop(tally);
+        drop(scrapes);
+        drop(notices);
+    }
+}
+
 impl Ends {
     /// Binds both sockets for clients at `listen`, where port 0 stands for any that is free for both.
     pub fn open<R: Net>(rt: &R, alloc: Global, listen: Endpoint) -> io::Result<Ends> {
@@ -123,21 +146,20 @@ impl Ends {
         clients: UdpSocket,
         listener: TcpListener,
     ) -> io::Result<Ends> {
-        let streams = Poller::new(rt)?;
-        if !streams.watch(listener.as_raw_fd(), LISTENER, Interest::READABLE) {
-            return Err(io::Error::from(ErrorKind::Other));
+        match waits(rt, alloc, listener.as_raw_fd()) {
+            Ok((streams, asks, servers)) => Ok(Ends {
+                clients,
+                listener,
+                streams,
+                asks,
+                servers,
+                tally: None,
+                scrapes: None,
+                shown: None,
+                notices: None,
+            }),
+            Err(error) => Err(error),
         }
-        Ok(Ends {
-            clients,
-            listener,
-            streams,
-            asks: OpenAsks::new(rt, alloc)?,
-            servers: Poller::new(rt)?,
-            tally: None,
-            scrapes: None,
-            shown: None,
-            notices: None,
-        })
     }
 
     /// The same at two sockets that the service manager bound and handed over, as descriptors 3 and 4: one for
@@ -164,18 +186,16 @@ impl Ends {
         alloc: Global,
         shown: Shown,
     ) -> io::Result<Ends> {
-        let mut ends = self;
-        if shown.metrics.is_some() || shown.log.is_some() {
-            let Some(tally) = Tally::new(alloc) else {
-                return Err(io::Error::from(ErrorKind::OutOfMemory));
-            };
-            ends.tally = Some(tally);
+        match counting(rt, alloc, &shown) {
+            Ok((tally, scrapes)) => {
+                let mut ends = self;
+                ends.tally = tally;
+                ends.scrapes = scrapes;
+                ends.shown = Some(shown);
+                Ok(ends)
+            }
+            Err(error) => Err(error),
         }
-        if let Some(at) = shown.metrics {
-            ends.scrapes = Some(Scrapes::open(rt, at)?);
-        }
-        ends.shown = Some(shown);
-        Ok(ends)
     }
 
     /// The same, which tell the service manager at this socket that they are served, and that steps come back.
@@ -212,6 +232,56 @@ impl Ends {
     }
 }
 
+// What counts, where counters are served or logged, and where they are served.
+fn counting<R: Net<Listener = net::TcpListener, Stream = net::TcpStream>>(
+    rt: &R,
+    alloc: Global,
+    shown: &Shown,
+) -> io::Result<(Option<Tally>, Option<Scrapes>)> {
+    let tally = tally_for(alloc, shown)?;
+    match scrapes_for(rt, shown) {
+        Ok(scrapes) => Ok((tally, scrapes)),
+        Err(error) => Err(error),
+    }
+}
+
+fn tally_for(alloc: Global, shown: &Shown) -> io::Result<Option<Tally>> {
+    if shown.metrics.is_none() && shown.log.is_none() {
+        return Ok(None);
+    }
+    match Tally::new(alloc) {
+        Some(tally) => Ok(Some(tally)),
+        None => Err(io::Error::from(ErrorKind::OutOfMemory)),
+    }
+}
+
+fn scrapes_for<R: Net<Listener = net::TcpListener, Stream = net::TcpStream>>(
+    rt: &R,
+    shown: &Shown,
+) -> io::Result<Option<Scrapes>> {
+    match shown.metrics {
+        Some(at) => Ok(Some(Scrapes::open(rt, at)?)),
+        None => Ok(None),
+    }
+}
+
+// The waits for clients' streams, of which the listener is one, for the asks in datagrams, and for servers' streams.
+fn waits<R: Net>(rt: &R, alloc: Global, listener: RawFd) -> io::Result<(Poller, OpenAsks, Poller)> {
+    let streams = Poller::of_listener(rt, listener)?;
+    match servers_waits(rt, alloc) {
+        Ok((asks, servers)) => Ok((streams, asks, servers)),
+        Err(error) => Err(error),
+    }
+}
+
+fn servers_waits<R: Net>(rt: &R, alloc: Global) -> io::Result<(OpenAsks, Poller)> {
+    let asks = OpenAsks::new(rt, alloc)?;
+    match Poller::new(rt) {
+        Ok(servers) => Ok((asks, servers)),
+        Err(error) => Err(error),
+    }
+}
+
 // The first descriptor that a service manager hands over (sd_listen_fds(3)).
 const FIRST_HANDED: i32 = 3;
 
@@ -232,17 +302,26 @@ const BIND_TRIES: u32 = 16;
 // datagrams is not free for streams, another is tried.
 fn both<R: Net>(rt: &R, listen: Endpoint) -> io::Result<(UdpSocket, TcpListener)> {
     for _ in 1..BIND_TRIES {
-        let clients = datagrams(rt, listen)?;
-        if let Ok(listener) = TcpListener::bind(rt, clients.local_addr()?) {
-            return Ok((clients, listener));
-        }
-        if listen.port != 0 {
-            break;
+        match with_listener(rt, datagrams(rt, listen)?) {
+            Ok(pair) => return Ok(pair),
+            Err(_) if listen.port == 0 => {}
+            Err(_) => break,
         }
     }
-    let clients = datagrams(rt, listen)?;
-    let listener = TcpListener::bind(rt, clients.local_addr()?)?;
-    Ok((clients, listener))
+    Ok(with_listener(rt, datagrams(rt, listen)?)?)
+}
+
+// A socket for datagrams, and one for streams at its port.
+fn with_listener<R: Net>(rt: &R, clients: UdpSocket) -> io::Result<(UdpSocket, TcpListener)> {
+    match listener_at(rt, &clients) {
+        Ok(listener) => Ok((clients, listener)),
+        Err(error) => Err(error),
+    }
+}
+
+// A socket for streams at the port of this one.
+fn listener_at<R: Net>(rt: &R, clients: &UdpSocket) -> io::Result<TcpListener> {
+    TcpListener::bind(rt, clients.local_addr()?)
 }
 
 fn datagrams<R: Net>(rt: &R, end: Endpoint) -> io::Result<UdpSocket> {

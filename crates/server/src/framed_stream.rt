@@ -38,7 +38,6 @@ fn fault_of(error: &io::Error) -> StreamFault {
 }
 
 /// A stream of frames that is not waited for: what came of the next frames, and what is still to be written.
-#[derive(Drop)]
 pub(crate) struct FramedStream {
     stream: TcpStream,
     got: Vec<u8>,
@@ -51,6 +50,25 @@ pub(crate) struct FramedStream {
     // Whether the other side has ended what it sends.
     ended: bool,
     fault: Option<StreamFault>,
+}
+
+// By hand, so that whatever drops it calls this.
+impl Drop for FramedStream {
+    fn drop(self) {
+        let FramedStream {
+            stream,
+            got,
+            out,
+            written: _,
+            readable: _,
+            writable: _,
+            ended: _,
+            fault: _,
+        } = self;
+        drop(stream);
+        drop(got);
+        drop(out);
+    }
 }
 
 impl FramedStream {
@@ -136,17 +154,25 @@ impl FramedStream {
         ensures { IfSome result (λ v. length v.items < 2 ^ 16) }
     {
         for _ in 0..3 {
-            if let Some(frame) = framed(&self.got) {
-                let count = frame.len() + 2;
-                let frame: Result<_, _> = Vec::from_slice(alloc, frame);
-                self.got.drain(..count);
-                return self.kept(frame);
+            if framed(&self.got).is_some() {
+                return self.take_frame(alloc);
             }
             if !self.read(buffer) {
                 return None;
             }
         }
         None
+    }
+
+    // The frame that stands in front, which is taken out.
+    fn take_frame(&mut self, alloc: Global) -> Option<Vec<u8>>
+        ensures { IfSome result (λ v. length v.items < 2 ^ 16) }
+    {
+        let frame = framed(&self.got)?;
+        let count = frame.len() + 2;
+        let frame: Result<_, _> = Vec::from_slice(alloc, frame);
+        self.got.drain(..count);
+        self.kept(frame)
     }
 
     // A frame, where there was memory for it; else the stream has failed.

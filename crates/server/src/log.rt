@@ -1,14 +1,11 @@
 //! What a server logs, where its file asks for it: lines to the standard error, one write each.
-use crate::context::Context;
-use crate::ends::receive_room;
+use crate::context::Common;
+use crate::ends::{Ends, receive_room};
 use crate::tally::Tally;
-use book::Machine;
 use counters::{AskFault, Counter, SocketFault, Way};
 use events::Endpoint;
 use std::alloc::Global;
 use std::sync::Wait;
-use std::sync::ledger::Ledger;
-use typed::{TypedActions, TypedEvent};
 
 // The descriptor of the standard error.
 const STDERR: i32 = 2;
@@ -119,17 +116,20 @@ impl Log {
         }
     }
 
+    /// The same, with as much logged as these sockets show.
+    pub fn of(ends: &Ends) -> Log {
+        match &ends.shown {
+            Some(shown) => Log::new(shown.log),
+            None => Log::new(None),
+        }
+    }
+
     /// Looks what went wrong, and logs it once a minute.
-    pub fn look<M: Machine<Event = TypedEvent, Out = TypedActions>, L: Ledger, R: Wait>(
-        &mut self,
-        rt: &R,
-        context: &Context<'_, M, L>,
-        now: u64,
-    ) {
+    pub fn look<R: Wait>(&mut self, rt: &R, common: &Common<'_>, now: u64) {
         if self.verbosity.is_none() {
             return;
         }
-        let Some(tally) = &context.ends.tally else {
+        let Some(tally) = &common.ends.tally else {
             return;
         };
         self.most_open = self.most_open.max(tally.open_queries(rt));
@@ -137,7 +137,7 @@ impl Log {
             return;
         }
         self.looked = now;
-        self.warn(context.alloc, Troubles::counted(tally));
+        self.warn(common.alloc, Troubles::counted(tally));
     }
 
     // Logs what went wrong since it was logged last, a line a kind.
@@ -172,19 +172,17 @@ impl Log {
 }
 
 /// Logs the start, where it is to be logged: where clients are served, what is held and what is kept.
-pub(crate) fn log_start<M: Machine<Event = TypedEvent, Out = TypedActions>, L: Ledger>(
-    context: &Context<'_, M, L>,
-) {
-    let Some(shown) = context.ends.shown else {
+pub(crate) fn log_start(common: &Common<'_>) {
+    let Some(shown) = common.ends.shown else {
         return;
     };
     if shown.log != Some(Verbosity::All) {
         return;
     }
-    let alloc = context.alloc;
+    let alloc = common.alloc;
     let version = shown.version;
     put(format!(in alloc; "resolverd: info: {version}"));
-    if let Ok(end) = context.ends.listen() {
+    if let Ok(end) = common.ends.listen() {
         let (address, port) = (end.address, end.port);
         put(format!(in alloc; "resolverd: info: serves clients at {address} port {port}\n"));
     }
@@ -192,15 +190,12 @@ pub(crate) fn log_start<M: Machine<Event = TypedEvent, Out = TypedActions>, L: L
         let (address, port) = (end.address, end.port);
         put(format!(in alloc; "resolverd: info: serves counters at {address} port {port}\n"));
     }
-    log_sizes(context, shown);
+    log_sizes(common, shown);
 }
 
 // Logs how much is held and kept at most.
-fn log_sizes<M: Machine<Event = TypedEvent, Out = TypedActions>, L: Ledger>(
-    context: &Context<'_, M, L>,
-    shown: Shown,
-) {
-    let alloc = context.alloc;
+fn log_sizes(common: &Common<'_>, shown: Shown) {
+    let alloc = common.alloc;
     let Shown {
         zones,
         hints,
@@ -211,11 +206,11 @@ fn log_sizes<M: Machine<Event = TypedEvent, Out = TypedActions>, L: Ledger>(
     put(format!(in alloc;
         "resolverd: info: holds {zones} zones, and is told of {hints} servers of the root\n"
     ));
-    let streams = context.bounds.streams;
+    let streams = common.bounds.streams;
     put(format!(in alloc;
         "resolverd: info: keeps {cache} answers and {delegations} delegations, and {streams} streams of clients\n"
     ));
-    if let Some(bytes) = receive_room(&context.ends.clients) {
+    if let Some(bytes) = receive_room(&common.ends.clients) {
         put(format!(in alloc;
             "resolverd: info: the system holds {bytes} bytes of clients' datagrams that wait to be read\n"
         ));

@@ -1,16 +1,16 @@
 //! The counters of a server over HTTP: one request at a time, bounded in time and in size.
 ghost use Rattle.std.specs.Prelude.{◌≤◌, IfSome, length};
 
-use crate::context::Context;
-use crate::ends::{LISTENER, SLICE_MS, accept_fault, address_of, is_early};
+use crate::context::{Common, Context};
+use crate::ends::{Ends, SLICE_MS, accept_fault, address_of, is_early};
 use crate::poller::Poller;
-use book::{Machine, Measured};
+use book::Measured;
 use counters::{MOST_REQUEST, Outcome, SocketFault, StoreSizes, is_request, put_response};
 use events::Endpoint;
-use mio::{Events, Interest};
+use mio::Events;
 use std::alloc::Global;
 use std::io;
-use std::io::{ErrorKind, Read, Write};
+use std::io::{Read, Write};
 use std::net::{Net, TcpListener, TcpStream};
 use std::os::fd::AsRawFd;
 use std::sync::Wait;
@@ -40,14 +40,22 @@ impl Scrapes {
         rt: &R,
         at: Endpoint,
     ) -> io::Result<Scrapes> {
-        let listener = TcpListener::bind(rt, address_of(at))?;
-        listener.set_nonblocking(true)?;
-        let poller = Poller::new(rt)?;
-        if !poller.watch(listener.as_raw_fd(), LISTENER, Interest::READABLE) {
-            return Err(io::Error::from(ErrorKind::Other));
+        let listener = listener_at(rt, at)?;
+        match Poller::of_listener(rt, listener.as_raw_fd()) {
+            Ok(poller) => Ok(Scrapes { poller, listener }),
+            Err(error) => Err(error),
         }
-        Ok(Scrapes { poller, listener })
     }
+}
+
+// A listener at this address that is not waited for.
+fn listener_at<R: Net<Listener = TcpListener, Stream = TcpStream>>(
+    rt: &R,
+    at: Endpoint,
+) -> io::Result<TcpListener> {
+    let listener = TcpListener::bind(rt, address_of(at))?;
+    listener.set_nonblocking(true)?;
+    Ok(listener)
 }
 
 /// Serves the counters until the flag is up. Whatever a client does, it holds up nothing but this loop.
@@ -56,29 +64,47 @@ pub(crate) fn serve_counters<
     L: Ledger,
     R: Wait + Clock,
 >(rt: &R, context: &Context<'_, M, L>) {
-    let Some(scrapes) = &context.ends.scrapes else {
+    let Some(scrapes) = &context.common.ends.scrapes else {
         return;
     };
-    let Ok(mut events) = Events::with_capacity(context.alloc, EVENTS) else {
+    let Ok(mut events) = Events::with_capacity(context.common.alloc, EVENTS) else {
         return;
     };
     let mut poll = scrapes.poller.poll.lock(rt);
     for _ in rt.forever() {
-        if context.is_over() {
-            return;
+        if context.common.is_over() {
+            break;
         }
-        match scrapes.listener.accept() {
-            Ok((stream, _)) => serve_one(rt, context, stream),
-            Err(error) => {
-                if !is_early(&error) {
-                    context
-                        .ends
-                        .count(Outcome::SocketFailed(accept_fault(&error)));
-                }
-                context.wait(&scrapes.poller, &mut poll, &mut events, SLICE_MS);
-            }
+        if !serve_next(rt, context, &scrapes.listener) {
+            context
+                .common
+                .wait(&scrapes.poller, &mut poll, &mut events, SLICE_MS);
         }
     }
+}
+
+// Serves the next client; whether there was one. A fault is counted.
+fn serve_next<
+    M: Measured<Event = TypedEvent, Out = TypedActions, Sizes = StoreSizes>,
+    L: Ledger,
+    R: Wait + Clock,
+>(rt: &R, context: &Context<'_, M, L>, listener: &TcpListener) -> bool {
+    match listener.accept() {
+        Ok((stream, _)) => {
+            serve_one(rt, context, stream);
+            true
+        }
+        Err(error) => {
+            if !is_early(&error) {
+                count_accept_fault(context.common.ends, &error);
+            }
+            false
+        }
+    }
+}
+
+fn count_accept_fault(ends: &Ends, error: &io::Error) {
+    ends.count(Outcome::SocketFailed(accept_fault(error)));
 }
 
 // Serves one client, and closes its stream.
@@ -87,30 +113,54 @@ fn serve_one<
     L: Ledger,
     R: Wait + Clock,
 >(rt: &R, context: &Context<'_, M, L>, mut stream: TcpStream) {
+    let mut request = [0u8; MOST_REQUEST];
+    if let Some(count) = request_of(rt, context.common, &mut stream, &mut request) {
+        let stores = pool::sizes(rt, context.shared);
+        respond(rt, context.common, &mut stream, &request[..count], stores);
+    }
+}
+
+// How many bytes a client's request has, which stand at the front of the buffer. None where it can't be read in time.
+fn request_of<R: Wait + Clock>(
+    rt: &R,
+    common: &Common<'_>,
+    stream: &mut TcpStream,
+    buffer: &mut [u8; MOST_REQUEST],
+) -> Option<usize>
+    ensures { IfSome result (λ n. n ≤ MOST_REQUEST) }
+{
     let wait = Some(Duration::from_millis(WAIT_MS));
     if stream.set_read_timeout(wait).is_err() || stream.set_write_timeout(wait).is_err() {
-        return;
+        return None;
     }
-    let mut request = [0u8; MOST_REQUEST];
-    if let Some(count) = read_request(rt, context, &mut stream, &mut request)
-        && let Some(response) = response_to(rt, context, &request[..count])
-    {
-        write_response(rt, context, &mut stream, response.as_bytes());
+    read_request(rt, common, stream, buffer)
+}
+
+// Writes the response to a request, where memory is left for it.
+fn respond<R: Wait + Clock>(
+    rt: &R,
+    common: &Common<'_>,
+    stream: &mut TcpStream,
+    request: &[u8],
+    stores: StoreSizes,
+) {
+    if let Some(response) = response_to(rt, common, request, stores) {
+        write_response(rt, common, stream, response.as_bytes());
     }
 }
 
 // The response to a request. None where no memory is left for it.
-fn response_to<
-    M: Measured<Event = TypedEvent, Out = TypedActions, Sizes = StoreSizes>,
-    L: Ledger,
-    R: Wait,
->(rt: &R, context: &Context<'_, M, L>, request: &[u8]) -> Option<String> {
-    let tally = context.ends.tally.as_ref()?;
+fn response_to<R: Wait>(
+    rt: &R,
+    common: &Common<'_>,
+    request: &[u8],
+    stores: StoreSizes,
+) -> Option<String> {
+    let tally = common.ends.tally.as_ref()?;
     let (cells, waiting) = tally.values(rt);
-    let mut response = String::new(context.alloc);
-    let stores = pool::sizes(rt, context.shared);
+    let mut response = String::new(common.alloc);
     put_response(
-        context.alloc,
+        common.alloc,
         &mut response,
         request,
         &cells,
@@ -122,18 +172,18 @@ fn response_to<
 }
 
 // How many bytes a request has, which stand at the front of the buffer. None where it is too long, or comes too late.
-fn read_request<M: Machine<Event = TypedEvent, Out = TypedActions>, L: Ledger, R: Wait + Clock>(
+fn read_request<R: Wait + Clock>(
     rt: &R,
-    context: &Context<'_, M, L>,
+    common: &Common<'_>,
     stream: &mut TcpStream,
     buffer: &mut [u8; MOST_REQUEST],
 ) -> Option<usize>
     ensures { IfSome result (λ n. n ≤ MOST_REQUEST) }
 {
-    let began = context.moment(rt);
+    let began = common.moment(rt);
     let mut count = 0usize;
     for _ in 0..MOST_REQUEST {
-        if count >= MOST_REQUEST || context.moment(rt).saturating_sub(began) >= REQUEST_MS {
+        if count >= MOST_REQUEST || common.moment(rt).saturating_sub(began) >= REQUEST_MS {
             return None;
         }
         match stream.read(&mut buffer[count..]) {
@@ -150,22 +200,30 @@ fn read_request<M: Machine<Event = TypedEvent, Out = TypedActions>, L: Ledger, R
 }
 
 // Writes a response, as far as its client takes it in time.
-fn write_response<M: Machine<Event = TypedEvent, Out = TypedActions>, L: Ledger, R: Wait + Clock>(
+fn write_response<R: Wait + Clock>(
     rt: &R,
-    context: &Context<'_, M, L>,
+    common: &Common<'_>,
     stream: &mut TcpStream,
     response: &[u8],
 ) {
-    let began = context.moment(rt);
+    let began = common.moment(rt);
     let mut rest = response;
     for _ in 0..response.len() {
-        if rest.is_empty() || context.moment(rt).saturating_sub(began) >= REQUEST_MS {
+        if rest.is_empty() || common.moment(rt).saturating_sub(began) >= REQUEST_MS {
             return;
         }
-        match stream.write(rest) {
-            Ok(written) => rest = rest.get(written..).unwrap_or(&[]),
-            Err(error) if is_early(&error) => {}
-            Err(_) => return,
+        match write_some(stream, rest) {
+            Some(written) => rest = rest.get(written..).unwrap_or(&[]),
+            None => return,
         }
+    }
+}
+
+// How many of these bytes were taken, which may be none yet. None where no more will be.
+fn write_some(stream: &mut TcpStream, bytes: &[u8]) -> Option<usize> {
+    match stream.write(bytes) {
+        Ok(count) => Some(count),
+        Err(error) if is_early(&error) => Some(0),
+        Err(_) => None,
     }
 }

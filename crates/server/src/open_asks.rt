@@ -14,7 +14,7 @@ use slab::Slab;
 use std::alloc::Global;
 use std::io;
 use std::net::{Net, UdpSocket};
-use std::os::fd::{AsRawFd, OwnedFd};
+use std::os::fd::{AsRawFd, OwnedFd, RawFd};
 use std::sync::atomic::{AtomicU64, Ordering};
 use std::sync::{Mutex, Wait};
 
@@ -44,7 +44,6 @@ pub(crate) struct OpenAsk {
 }
 
 /// The asks in datagrams that are open.
-#[derive(Drop)]
 pub(crate) struct OpenAsks {
     /// The wait for their sockets.
     pub poller: Poller,
@@ -56,6 +55,26 @@ pub(crate) struct OpenAsks {
     crowded: AtomicU64,
     // How often a datagram could not be received, or its socket not be waited for again.
     unread: AtomicU64,
+}
+
+// By hand, so that whatever drops them calls this.
+impl Drop for OpenAsks {
+    fn drop(self) {
+        let OpenAsks {
+            poller,
+            alloc: _,
+            open,
+            most: _,
+            strange,
+            crowded,
+            unread,
+        } = self;
+        drop(poller);
+        drop(open);
+        drop(strange);
+        drop(crowded);
+        drop(unread);
+    }
 }
 
 impl OpenAsks {
@@ -121,14 +140,23 @@ impl OpenAsks {
     // Waits for the replies to an ask from now on, or, where it was taken out, again; whether it can. One that can't
     // be waited for is lost.
     fn put<R: Wait>(&self, rt: &R, ask: OpenAsk, again: bool) -> bool {
-        let socket = ask.socket.as_raw_fd();
-        let mut open = self.open.lock(rt);
+        self.put_in(&mut self.open.lock(rt), ask, again)
+    }
+
+    // The same, among the open ones.
+    fn put_in(&self, open: &mut Slab<OpenAsk>, ask: OpenAsk, again: bool) -> bool {
         if open.len() >= self.most {
-            self.close_oldest(&mut open);
+            self.close_oldest(open);
         }
-        let Ok(key) = open.insert(ask) else {
-            return false;
-        };
+        let socket = ask.socket.as_raw_fd();
+        match open.insert(ask) {
+            Ok(key) => self.watch(open, key, socket, again),
+            Err(_) => false,
+        }
+    }
+
+    // Waits for the socket of the ask of this key; whether it can. One that can't be waited for is closed.
+    fn watch(&self, open: &mut Slab<OpenAsk>, key: usize, socket: RawFd, again: bool) -> bool {
         let watched = if again {
             self.poller.watch_again(socket, key, Interest::READABLE)
         } else {
@@ -230,7 +258,10 @@ fn oldest(open: &Slab<OpenAsk>) -> Option<usize> {
             oldest = Some((key, ask.moment));
         }
     }
-    oldest.map(|(key, _)| key)
+    match oldest {
+        Some((key, _)) => Some(key),
+        None => None,
+    }
 }
 
 // How many asks may be open: as many as leave descriptors for everything else, or half of a few.

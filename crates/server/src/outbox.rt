@@ -55,11 +55,7 @@ impl<R: Wait + Clock> Carrier<Global> for Outbox<'_, R> {
             self.ends.count(Outcome::MemoryRefused);
             return;
         };
-        let reply = StreamReply { client, bytes };
-        if self.to_streams.send(self.rt, reply).is_err() {
-            self.ends.count(Outcome::MemoryRefused);
-        }
-        self.ends.streams.notify();
+        self.hand_back(StreamReply { client, bytes });
     }
 
     fn to_server(&mut self, socket: u16, to: Endpoint, bytes: &Bytes) {
@@ -81,14 +77,28 @@ impl<R: Wait + Clock> Carrier<Global> for Outbox<'_, R> {
             self.ends.count(Outcome::MemoryRefused);
             return false;
         };
-        let ask = StreamAsk {
+        self.hand_on(StreamAsk {
             number,
             to,
             bytes,
             moment: self.moment,
-        };
+        })
+    }
+}
+
+impl<R: Wait + Clock> Outbox<'_, R> {
+    // Hands an ask on to the loop that makes them; whether it could.
+    fn hand_on(&self, ask: StreamAsk) -> bool {
         let sent = self.to_servers.send(self.rt, ask).is_ok();
         self.ends.servers.notify();
         sent
+    }
+
+    // Hands a reply on to the loop of clients' streams.
+    fn hand_back(&self, reply: StreamReply) {
+        if self.to_streams.send(self.rt, reply).is_err() {
+            self.ends.count(Outcome::MemoryRefused);
+        }
+        self.ends.streams.notify();
     }
 }

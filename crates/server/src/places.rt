@@ -159,7 +159,10 @@ impl Places {
                 found = Some((key, silence));
             }
         }
-        found.map(|(key, _)| key)
+        match found {
+            Some((key, _)) => Some(key),
+            None => None,
+        }
     }
 
     // Gives the stream a place.

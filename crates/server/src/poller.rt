@@ -1,8 +1,9 @@
 //! Sockets that one loop waits for, and how others end its wait.
-use crate::ends::is_early;
+use crate::ends::{LISTENER, is_early};
 use mio::unix::SourceFd;
 use mio::{Events, Interest, Poll, Registry, Token, Waker};
 use std::io;
+use std::io::ErrorKind;
 use std::net::Net;
 use std::os::fd::RawFd;
 use std::sync::atomic::{AtomicBool, Ordering};
@@ -13,7 +14,6 @@ use std::time::Duration;
 const HANDED: Token = Token(usize::MAX);
 
 /// Sockets that one loop waits for.
-#[derive(Drop)]
 pub(crate) struct Poller {
     /// Its loop alone takes it, for as long as it runs.
     pub poll: Mutex<Poll>,
@@ -23,18 +23,45 @@ pub(crate) struct Poller {
     asleep: AtomicBool,
 }
 
+// By hand, so that whatever drops it calls this.
+impl Drop for Poller {
+    fn drop(self) {
+        let Poller {
+            poll,
+            registry,
+            waker,
+            asleep,
+        } = self;
+        drop(poll);
+        drop(registry);
+        drop(waker);
+        drop(asleep);
+    }
+}
+
 impl Poller {
+    /// With this listener alone.
+    pub fn of_listener<R: Net>(rt: &R, listener: RawFd) -> io::Result<Poller> {
+        let poller = Poller::new(rt)?;
+        if poller.watch(listener, LISTENER, Interest::READABLE) {
+            Ok(poller)
+        } else {
+            Err(io::Error::from(ErrorKind::Other))
+        }
+    }
+
     /// With no socket.
     pub fn new<R: Net>(rt: &R) -> io::Result<Poller> {
         let poll = Poll::new(rt)?;
-        let registry = poll.registry().try_clone()?;
-        let waker = Waker::new(&registry, HANDED)?;
-        Ok(Poller {
-            poll: Mutex::new(poll),
-            registry,
-            waker,
-            asleep: AtomicBool::new(false),
-        })
+        match waker_of(&poll) {
+            Ok((registry, waker)) => Ok(Poller {
+                poll: Mutex::new(poll),
+                registry,
+                waker,
+                asleep: AtomicBool::new(false),
+            }),
+            Err(error) => Err(error),
+        }
     }
 
     /// From now on the wait ends where the socket can be read, or, if that is asked, written. It is told at once of
@@ -72,5 +99,14 @@ impl Poller {
             Ok(()) => true,
             Err(error) => is_early(&error),
         }
+    }
+}
+
+// The registry of a wait, and what ends that wait.
+fn waker_of(poll: &Poll) -> io::Result<(Registry, Waker)> {
+    let registry = poll.registry().try_clone()?;
+    match Waker::new(&registry, HANDED) {
+        Ok(waker) => Ok((registry, waker)),
+        Err(error) => Err(error),
     }
 }

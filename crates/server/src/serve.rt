@@ -2,7 +2,7 @@
 ghost use Rattle.server.specs.Staff.{IsStaffed};
 
 use crate::clock::pass_time;
-use crate::context::{Bounds, Context};
+use crate::context::{Bounds, Common, Context};
 use crate::datagrams::take_datagrams;
 use crate::ends::Ends;
 use crate::fault::ServeError;
@@ -57,9 +57,8 @@ pub fn serve_until<
     };
     let (to_servers, asks) = crossbeam_channel::unbounded(alloc)?;
     let (to_streams, replies) = crossbeam_channel::unbounded(alloc)?;
-    let context = Context {
+    let common = Common {
         alloc,
-        shared,
         ends,
         bounds,
         admission: &admission,
@@ -69,6 +68,10 @@ pub fn serve_until<
         replies: &replies,
         stop,
         beginning,
+    };
+    let context = Context {
+        shared,
+        common: &common,
     };
     if run(rt, &context, workers) {
         Ok(())
@@ -84,7 +87,7 @@ fn run<
     L: Ledger + Send + Sync,
     R: Net<Listener = TcpListener, Stream = TcpStream> + Threads + Wait + Clock + Sync,
 >(rt: &R, context: &Context<'_, M, L>, workers: Vec<Worker<L>>) -> bool {
-    log_start(context);
+    log_start(context.common);
     thread::scope(
         thread::scope_env(),
         rt,
@@ -124,12 +127,12 @@ fn start_counters<
     L: Ledger + Send + Sync,
     R: Net<Listener = TcpListener, Stream = TcpStream> + Wait + Clock + Sync,
 >(rt: &'s R, scope: &Scope<'s, E>, context: &'s Context<'d, M, L>) -> bool {
-    if context.ends.scrapes.is_none() {
+    if context.common.ends.scrapes.is_none() {
         return true;
     }
     let started = scope.spawn(move || serve_counters(rt, context)).is_ok();
     if !started {
-        context.stop.store(true, Ordering::SeqCst);
+        context.common.stop.store(true, Ordering::SeqCst);
     }
     started
 }
@@ -146,7 +149,7 @@ fn start<
 >(rt: &'s R, scope: &Scope<'s, E>, context: &'s Context<'d, M, L>, worker: Worker<L>) -> bool {
     let started = scope.spawn(move || work(rt, context, worker)).is_ok();
     if !started {
-        context.stop.store(true, Ordering::SeqCst);
+        context.common.stop.store(true, Ordering::SeqCst);
     }
     started
 }

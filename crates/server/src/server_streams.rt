@@ -2,7 +2,7 @@
 ghost use Rattle.std.specs.Prelude.{◌≡◌, ◌<◌, ◌^◌, IfOk, IfSome, length};
 ghost use Rattle.server.specs.Failures.{ask_fault};
 
-use crate::context::{Bounds, Context};
+use crate::context::{Bounds, Common, Context};
 use crate::ends::{SLICE_MS, address_of, lacks_descriptors};
 use crate::framed_stream::{FramedStream, MOST_FRAME_BYTES, StreamFault};
 use crate::outbox::StreamAsk;
@@ -13,7 +13,7 @@ use counters::{AskFault, Outcome, Way};
 use dispatch::stream_reply_event;
 use limits::TCP_WAIT_MS;
 use mio::net::TcpStream;
-use mio::{Events, Interest};
+use mio::{Events, Interest, Poll};
 use rdata::Addr;
 use slab::Slab;
 use std::alloc::Global;
@@ -83,35 +83,54 @@ pub(crate) fn ask_servers<
     L: Ledger,
     R: Net + Wait + Clock,
 >(rt: &R, context: &Context<'_, M, L>, worker: &mut Worker<L>) {
-    let servers = &context.ends.servers;
-    let Ok(mut events) = Events::with_capacity(context.alloc, EVENTS) else {
+    let servers = &context.common.ends.servers;
+    let Ok(mut events) = Events::with_capacity(context.common.alloc, EVENTS) else {
         return;
     };
     let mut poll = servers.poll.lock(rt);
-    let mut talks = Slab::new(context.alloc);
+    let mut talks = Slab::new(context.common.alloc);
     let mut buffer = [0u8; MOST_FRAME_BYTES];
     let mut checked = 0;
     for _ in rt.forever() {
-        if context.is_over() {
-            return;
+        if context.common.is_over() {
+            break;
         }
-        servers.expect_notice();
-        let begins = talks.len() < most_talks(context.bounds) && !context.asks.is_empty();
-        let millis = wait_of(&talks, begins);
-        context.wait(servers, &mut poll, &mut events, millis);
-        for event in events.iter() {
-            stir(&mut talks, event.token().0);
-        }
-        begin_all(rt, context, worker, &mut talks);
-        let now = context.moment(rt);
-        let check = now.saturating_sub(checked) >= CHECK_MS;
-        if check {
-            checked = now;
-        }
-        for key in 0..talks.capacity() {
-            advance(rt, context, worker, &mut talks, key, check, &mut buffer);
-        }
+        await_talks(context.common, &mut poll, &mut events, &mut talks);
+        checked = advance_all(rt, context, worker, &mut talks, checked, &mut buffer);
     }
+}
+
+// Waits until there is something to do, and notes at which talks.
+fn await_talks(common: &Common<'_>, poll: &mut Poll, events: &mut Events, talks: &mut Slab<Talk>) {
+    let servers = &common.ends.servers;
+    servers.expect_notice();
+    let begins = talks.len() < most_talks(common.bounds) && !common.asks.is_empty();
+    common.wait(servers, poll, events, wait_of(talks, begins));
+    for event in events.iter() {
+        stir(talks, event.token().0);
+    }
+}
+
+// Begins what may begin, and goes on with every talk; when it was looked last whose time is over.
+fn advance_all<
+    M: Machine<Event = TypedEvent, Out = TypedActions>,
+    L: Ledger,
+    R: Net + Wait + Clock,
+>(
+    rt: &R,
+    context: &Context<'_, M, L>,
+    worker: &mut Worker<L>,
+    talks: &mut Slab<Talk>,
+    checked: u64,
+    buffer: &mut [u8],
+) -> u64 {
+    begin_all(rt, context, worker, talks);
+    let now = context.common.moment(rt);
+    let check = now.saturating_sub(checked) >= CHECK_MS;
+    for key in 0..talks.capacity() {
+        advance(rt, context, worker, talks, key, check, buffer);
+    }
+    if check { now } else { checked }
 }
 
 // How many asks are under way at most.
@@ -145,29 +164,60 @@ fn begin_all<M: Machine<Event = TypedEvent, Out = TypedActions>, L: Ledger, R: N
     worker: &mut Worker<L>,
     talks: &mut Slab<Talk>,
 ) {
-    let most = most_talks(context.bounds);
+    let most = most_talks(context.common.bounds);
     for _ in 0..most {
-        if talks.len() >= most {
+        if talks.len() >= most || !begin_next(rt, context, worker, talks) {
             return;
-        }
-        let Ok(ask) = context.asks.try_recv(rt) else {
-            return;
-        };
-        let number = ask.number;
-        let begun = begin(
-            rt,
-            context.alloc,
-            &context.ends.servers,
-            talks,
-            ask,
-            context.moment(rt),
-        );
-        if let Err(fault) = begun {
-            context.ends.count(Outcome::AskFailed(Way::Tcp, fault));
-            let event = stream_reply_event(context.moment(rt), number, None);
-            context.put(rt, worker, event);
         }
     }
+}
+
+// Begins the next ask that was handed on; whether there is one.
+fn begin_next<M: Machine<Event = TypedEvent, Out = TypedActions>, L: Ledger, R: Net + Wait + Clock>(
+    rt: &R,
+    context: &Context<'_, M, L>,
+    worker: &mut Worker<L>,
+    talks: &mut Slab<Talk>,
+) -> bool {
+    match context.common.asks.try_recv(rt) {
+        Ok(ask) => {
+            let number = ask.number;
+            let now = context.common.moment(rt);
+            let begun = begin(
+                rt,
+                context.common.alloc,
+                &context.common.ends.servers,
+                talks,
+                &ask,
+                now,
+            );
+            drop(ask);
+            if let Err(fault) = begun {
+                fail(rt, context, worker, number, fault);
+            }
+            true
+        }
+        Err(_) => false,
+    }
+}
+
+// The ask of this number has failed.
+fn fail<M: Machine<Event = TypedEvent, Out = TypedActions>, L: Ledger, R: Wait + Clock>(
+    rt: &R,
+    context: &Context<'_, M, L>,
+    worker: &mut Worker<L>,
+    number: u64,
+    fault: AskFault,
+) {
+    context
+        .common
+        .ends
+        .count(Outcome::AskFailed(Way::Tcp, fault));
+    context.put(
+        rt,
+        worker,
+        stream_reply_event(context.common.moment(rt), number, None),
+    );
 }
 
 // Whether this ask may begin: its time is not over, and fewer than may be are at that server.
@@ -193,33 +243,40 @@ fn begin<R: Net>(
     alloc: Global,
     servers: &Poller,
     talks: &mut Slab<Talk>,
-    ask: StreamAsk,
+    ask: &StreamAsk,
     now: u64,
 ) -> Result<(), AskFault> {
-    may_begin(talks, &ask, now)?;
-    let stream = match TcpStream::connect(rt, address_of(ask.to)) {
-        Ok(stream) => stream,
-        Err(error) if lacks_descriptors(&error) => return Err(AskFault::Descriptors),
-        Err(_) => return Err(AskFault::Refused),
-    };
+    may_begin(talks, ask, now)?;
+    match TcpStream::connect(rt, address_of(ask.to)) {
+        Ok(stream) => watch(servers, talks, talk_of(alloc, ask, stream)),
+        Err(error) if lacks_descriptors(&error) => Err(AskFault::Descriptors),
+        Err(_) => Err(AskFault::Refused),
+    }
+}
+
+// The talk of an ask, at this stream.
+fn talk_of(alloc: Global, ask: &StreamAsk, stream: TcpStream) -> Talk {
     let mut stream = FramedStream::new(alloc, stream);
     stream.put(ask.bytes.as_slice());
-    let socket = stream.descriptor();
-    let talk = Talk {
+    Talk {
         number: ask.number,
         server: ask.to.address,
         moment: ask.moment,
         stream,
         due: false,
-    };
-    let Ok(key) = talks.insert(talk) else {
-        return Err(AskFault::Refused);
-    };
-    if servers.watch(socket, key, Interest::READABLE | Interest::WRITABLE) {
-        Ok(())
-    } else {
-        talks.try_remove(key);
-        Err(AskFault::Refused)
+    }
+}
+
+// Takes up a talk, whose stream is waited for from now on.
+fn watch(servers: &Poller, talks: &mut Slab<Talk>, talk: Talk) -> Result<(), AskFault> {
+    let socket = talk.stream.descriptor();
+    match talks.insert(talk) {
+        Ok(key) if servers.watch(socket, key, Interest::READABLE | Interest::WRITABLE) => Ok(()),
+        Ok(key) => {
+            talks.try_remove(key);
+            Err(AskFault::Refused)
+        }
+        Err(_) => Err(AskFault::Refused),
     }
 }
 
@@ -238,24 +295,35 @@ fn advance<M: Machine<Event = TypedEvent, Out = TypedActions>, L: Ledger, R: Wai
         return;
     };
     let number = talk.number;
-    let end = if talk.due {
-        talk.advance(context.alloc, buffer)
-    } else if check && context.moment(rt).saturating_sub(talk.moment) >= TCP_WAIT_MS {
+    match end_of(rt, context.common, talk, check, buffer) {
+        Some(Ok(frame)) => {
+            talks.try_remove(key);
+            let event = stream_reply_event(context.common.moment(rt), number, Some(frame));
+            context.put(rt, worker, event);
+        }
+        Some(Err(fault)) => {
+            talks.try_remove(key);
+            fail(rt, context, worker, number, fault);
+        }
+        None => {}
+    }
+}
+
+// How a talk ends, where it does.
+fn end_of<R: Wait + Clock>(
+    rt: &R,
+    common: &Common<'_>,
+    talk: &mut Talk,
+    check: bool,
+    buffer: &mut [u8],
+) -> Option<Result<Vec<u8>, AskFault>>
+    ensures { IfSome result (λ end. IfOk end (λ v. length v.items < 2 ^ 16)) }
+{
+    if talk.due {
+        talk.advance(common.alloc, buffer)
+    } else if check && common.moment(rt).saturating_sub(talk.moment) >= TCP_WAIT_MS {
         Some(Err(AskFault::Silent))
     } else {
         None
-    };
-    let Some(end) = end else {
-        return;
-    };
-    talks.try_remove(key);
-    let frame = match end {
-        Ok(frame) => Some(frame),
-        Err(fault) => {
-            context.ends.count(Outcome::AskFailed(Way::Tcp, fault));
-            None
-        }
-    };
-    let event = stream_reply_event(context.moment(rt), number, frame);
-    context.put(rt, worker, event);
+    }
 }

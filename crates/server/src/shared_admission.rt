@@ -6,7 +6,7 @@ ghost use Rattle.server.specs.Entries.{IsEntry, failure_copy};
 use crate::query::{Asker, Query, asker_of};
 use admission::{Admission, Decision, Held, Limits};
 use dispatch::{bytes_of, failure_for, is_failure, is_plain_query, question_end};
-use events::{Action, Actions, Bytes};
+use events::{Action, Bytes};
 use std::alloc::Global;
 use std::hash::{DefaultHasher, Hasher};
 use std::sync::atomic::{AtomicBool, Ordering};
@@ -166,9 +166,8 @@ impl SharedAdmission {
     }
 
     /// Another step gave this. Where it is a reply to a client, its question is no longer open.
-    pub fn other_stepped<R: Wait>(&self, rt: &R, actions: &Actions) {
-        if let Some(action) = &actions.first
-            && let Some(asker) = asker_of(action)
+    pub fn other_stepped<R: Wait>(&self, rt: &R, action: &Action) {
+        if let Some(asker) = asker_of(action)
             && let Some(key) = self.key_in(bytes_of(action).as_slice())
         {
             self.admission
@@ -187,11 +186,19 @@ impl SharedAdmission {
         }
         let key = self.key_in(failure)?;
         let held = self.admission.lock(rt).fail(key)?;
-        let Query { asker, bytes } = held.payload;
-        let query = bytes.as_slice();
+        let reply = self.failure_of(failure, &held.payload.bytes);
+        let (since, asker) = (held.since, held.payload.asker);
+        drop(held);
+        Some((since, copied_failure(failed, asker, reply?)))
+    }
+
+    // The bytes of a failure as the reply to this query. None where no memory is left for them.
+    fn failure_of(&self, failure: &[u8], query: &Bytes) -> Option<Bytes>
+        requires { 12 ≤ length failure.now }
+    {
+        let query = query.as_slice();
         let end = question_end(query)?;
-        let reply = failure_for(self.alloc, failure, query, end).ok()?;
-        Some((held.since, copied_failure(failed, asker, reply)))
+        failure_for(self.alloc, failure, query, end).ok()
     }
 
     /// A question that is called in.

@@ -1,11 +1,13 @@
 //! The loop that takes clients' TCP streams.
-use crate::context::Context;
+use crate::client_stream::ClientStream;
+use crate::context::{Common, Context};
 use crate::ends::{LISTENER, SLICE_MS};
 use crate::framed_stream::MOST_FRAME_BYTES;
+use crate::outbox::StreamReply;
 use crate::places::Places;
 use crate::worker::Worker;
 use book::Machine;
-use mio::Events;
+use mio::{Events, Poll};
 use std::sync::Wait;
 use std::sync::ledger::Ledger;
 use std::time::Clock;
@@ -29,39 +31,66 @@ pub(crate) fn take_streams<
     L: Ledger,
     R: Wait + Clock,
 >(rt: &R, context: &Context<'_, M, L>, worker: &mut Worker<L>) {
-    let streams = &context.ends.streams;
-    let Ok(mut events) = Events::with_capacity(context.alloc, EVENTS) else {
+    let streams = &context.common.ends.streams;
+    let Ok(mut events) = Events::with_capacity(context.common.alloc, EVENTS) else {
         return;
     };
     let mut poll = streams.poll.lock(rt);
-    let mut places = Places::new(context.alloc, context.bounds.streams);
+    let mut places = Places::new(context.common.alloc, context.common.bounds.streams);
     let mut buffer = [0u8; MOST_FRAME_BYTES];
     let mut waits = false;
     for _ in rt.forever() {
-        if context.is_over() {
-            return;
+        if context.common.is_over() {
+            break;
         }
-        streams.expect_notice();
-        let millis = if context.replies.is_empty() {
-            wait_of(&places, waits)
-        } else {
-            0
-        };
-        context.wait(streams, &mut poll, &mut events, millis);
-        for event in events.iter() {
-            match event.token().0 {
-                LISTENER => waits = true,
-                key => stir(&mut places, key),
-            }
-        }
-        hand_out(rt, context, &mut places);
-        for key in 0..places.keys() {
-            take_questions(rt, context, worker, &mut places, key, &mut buffer);
-        }
-        let now = context.moment(rt);
-        places.end_over(context.ends, now);
-        waits = waits && places.welcome(context.ends, now);
+        waits = await_streams(context.common, &mut poll, &mut events, &mut places, waits);
+        waits = serve_places(rt, context, worker, &mut places, waits, &mut buffer);
     }
+}
+
+// Waits until there is something to do, and notes at which streams; whether a stream waits for a place.
+fn await_streams(
+    common: &Common<'_>,
+    poll: &mut Poll,
+    events: &mut Events,
+    places: &mut Places,
+    waited: bool,
+) -> bool {
+    let streams = &common.ends.streams;
+    streams.expect_notice();
+    let millis = if common.replies.is_empty() {
+        wait_of(places, waited)
+    } else {
+        0
+    };
+    common.wait(streams, poll, events, millis);
+    let mut waits = waited;
+    for event in events.iter() {
+        match event.token().0 {
+            LISTENER => waits = true,
+            key => stir(places, key),
+        }
+    }
+    waits
+}
+
+// Hands out the replies, takes the questions, ends what is over, and gives places to those that wait, where some do;
+// whether one still waits.
+fn serve_places<M: Machine<Event = TypedEvent, Out = TypedActions>, L: Ledger, R: Wait + Clock>(
+    rt: &R,
+    context: &Context<'_, M, L>,
+    worker: &mut Worker<L>,
+    places: &mut Places,
+    waits: bool,
+    buffer: &mut [u8],
+) -> bool {
+    hand_out(rt, context.common, places);
+    for key in 0..places.keys() {
+        take_questions(rt, context, worker, places, key, buffer);
+    }
+    let now = context.common.moment(rt);
+    places.end_over(context.common.ends, now);
+    waits && places.welcome(context.common.ends, now)
 }
 
 // How long is waited, in milliseconds.
@@ -83,18 +112,19 @@ fn stir(places: &mut Places, key: usize) {
 }
 
 // Puts the replies that have come on their streams.
-fn hand_out<M: Machine<Event = TypedEvent, Out = TypedActions>, L: Ledger, R: Wait + Clock>(
-    rt: &R,
-    context: &Context<'_, M, L>,
-    places: &mut Places,
-) {
-    let now = context.moment(rt);
+fn hand_out<R: Wait + Clock>(rt: &R, common: &Common<'_>, places: &mut Places) {
+    let now = common.moment(rt);
     for _ in 0..REPLIES_IN_A_ROW {
-        let Ok(reply) = context.replies.try_recv(rt) else {
-            return;
-        };
-        places.reply(reply.client, now, reply.bytes.as_slice());
+        match common.replies.try_recv(rt) {
+            Ok(reply) => put_reply(places, now, reply),
+            Err(_) => return,
+        }
     }
+}
+
+// Puts a reply on its stream.
+fn put_reply(places: &mut Places, now: u64, reply: StreamReply) {
+    places.reply(reply.client, now, reply.bytes.as_slice());
 }
 
 // Writes and reads the stream at this key where there is something to do, and puts the questions that came. Where it is
@@ -113,14 +143,29 @@ fn take_questions<M: Machine<Event = TypedEvent, Out = TypedActions>, L: Ledger,
     if !client.due {
         return;
     }
-    client.exchange(context.moment(rt), buffer);
+    client.exchange(context.common.moment(rt), buffer);
     for _ in rt.forever() {
-        let now = context.moment(rt);
-        let Some(bytes) = client.next_question(context.alloc, now, buffer) else {
+        if !take_question(rt, context, worker, client, buffer) {
             return;
-        };
-        if !context.put_frame(rt, worker, client.number, bytes) {
-            client.close();
         }
+    }
+}
+
+// Puts the next question of a stream; whether one had come.
+fn take_question<M: Machine<Event = TypedEvent, Out = TypedActions>, L: Ledger, R: Wait + Clock>(
+    rt: &R,
+    context: &Context<'_, M, L>,
+    worker: &mut Worker<L>,
+    client: &mut ClientStream,
+    buffer: &mut [u8],
+) -> bool {
+    match client.next_question(context.common.alloc, context.common.moment(rt), buffer) {
+        Some(bytes) => {
+            if !context.put_frame(rt, worker, client.number, bytes) {
+                client.close();
+            }
+            true
+        }
+        None => false,
     }
 }

@@ -3,6 +3,7 @@ ghost use Rattle.std.specs.Prelude.{◌≡◌};
 ghost use Rattle.server.specs.Tallies.{AsksFor, byte_of, id_in, reply_in};
 
 use crate::query::{Asker, Query};
+use causes::Cause;
 use counters::{COUNTERS, Cells, Counter, Outcome, Reply, Way, count};
 use dispatch::question_end;
 use events::{Action, Event};
@@ -81,33 +82,47 @@ impl Tally {
                 bytes,
                 cause,
             } => {
-                let bytes = bytes.as_slice();
                 let asker = Asker {
                     client: *client,
                     way: *way,
                 };
-                let moment = match came {
-                    Some(came) => Some(came.moment),
-                    None => self.end(rt, asker, id_of(bytes)),
-                };
-                let millis = moment.map(|moment| now.saturating_sub(moment));
-                self.count(Outcome::Replied(Reply {
-                    cause: *cause,
-                    ..reply_of(bytes, came.is_none(), millis)
-                }));
+                let bytes = bytes.as_slice();
+                let millis = self.millis_of(rt, came, now, asker, id_of(bytes));
+                self.count_reply(bytes, came.is_none(), *cause, millis);
             }
             Action::Send { .. } => self.count_ask(rt, Way::Udp, came, now),
             Action::TcpAsk { .. } => self.count_ask(rt, Way::Tcp, came, now),
         }
     }
 
+    // How many milliseconds ago the query came to which this is the reply: the one that came with the step, or another.
+    fn millis_of<R: Wait>(
+        &self,
+        rt: &R,
+        came: Option<Arrival>,
+        now: u64,
+        asker: Asker,
+        id: u16,
+    ) -> Option<u64> {
+        let moment = match came {
+            Some(came) => came.moment,
+            None => self.end(rt, asker, id)?,
+        };
+        Some(now.saturating_sub(moment))
+    }
+
+    fn count_reply(&self, bytes: &[u8], asked: bool, cause: Option<Cause>, millis: Option<u64>) {
+        self.count(Outcome::Replied(Reply {
+            cause,
+            ..reply_of(bytes, asked, millis)
+        }));
+    }
+
     /// Counts the failure that a query got which was held since then: a copy of another's.
     pub fn count_copy(&self, copy: &Action, since: u64, now: u64) {
         if let Action::Reply { bytes, cause, .. } = copy {
-            self.count(Outcome::Replied(Reply {
-                cause: *cause,
-                ..reply_of(bytes.as_slice(), true, Some(now.saturating_sub(since)))
-            }));
+            let millis = now.saturating_sub(since);
+            self.count_reply(bytes.as_slice(), true, *cause, Some(millis));
         }
     }
 
@@ -137,23 +152,31 @@ impl Tally {
     // Notes a query that is open. Where too many are noted, those leave whose reply can't come any more; where that
     // makes no room it is not noted, and its time not known.
     fn begin<R: Wait>(&self, rt: &R, came: Arrival, now: u64) {
-        let mut open = self.open.lock(rt);
-        if open.len() >= MOST_OPEN {
-            open.retain(|query| now.saturating_sub(query.moment) < OPEN_MS);
-        }
-        if open.len() < MOST_OPEN {
-            let _ = open.push(came);
-        }
+        note(&mut self.open.lock(rt), came, now);
     }
 
     // When the query came to which this is the reply.
     fn end<R: Wait>(&self, rt: &R, asker: Asker, id: u16) -> Option<u64> {
-        let mut open = self.open.lock(rt);
-        let place = open
-            .iter()
-            .position(|query| query.asker == asker && query.id == id)?;
-        Some(open.swap_remove(place).moment)
+        take(&mut self.open.lock(rt), asker, id)
     }
+}
+
+// One query more that is open.
+fn note(open: &mut Vec<Arrival>, came: Arrival, now: u64) {
+    if open.len() >= MOST_OPEN {
+        open.retain(|query| now.saturating_sub(query.moment) < OPEN_MS);
+    }
+    if open.len() < MOST_OPEN {
+        let _ = open.push(came);
+    }
+}
+
+// When the query came of this client with this ID, which is open no more.
+fn take(open: &mut Vec<Arrival>, asker: Asker, id: u16) -> Option<u64> {
+    let place = open
+        .iter()
+        .position(|query| query.asker == asker && query.id == id)?;
+    Some(open.swap_remove(place).moment)
 }
 
 // What the header of a reply says (RFC 1035, section 4.1.1). Its cause is not in it.

@@ -1,5 +1,5 @@
 //! The loop that takes other servers' datagrams.
-use crate::context::Context;
+use crate::context::{Common, Context};
 use crate::ends::{Ends, MOST_BYTES, SLICE_MS};
 use crate::worker::Worker;
 use book::Machine;
@@ -58,8 +58,8 @@ pub(crate) fn take_answers<
     L: Ledger,
     R: Wait + Clock,
 >(rt: &R, context: &Context<'_, M, L>, worker: &mut Worker<L>) {
-    let asks = &context.ends.asks;
-    let Ok(mut events) = Events::with_capacity(context.alloc, EVENTS) else {
+    let asks = &context.common.ends.asks;
+    let Ok(mut events) = Events::with_capacity(context.common.alloc, EVENTS) else {
         return;
     };
     let mut poll = asks.poller.poll.lock(rt);
@@ -71,20 +71,28 @@ pub(crate) fn take_answers<
         unread: 0,
     };
     for _ in rt.forever() {
-        if context.is_over() {
-            return;
+        if context.common.is_over() {
+            break;
         }
-        context.wait(&asks.poller, &mut poll, &mut events, SLICE_MS);
+        context
+            .common
+            .wait(&asks.poller, &mut poll, &mut events, SLICE_MS);
         for event in events.iter() {
             take_answer(rt, context, worker, event.token().0, &mut buffer);
         }
-        let now = context.moment(rt);
-        if now.saturating_sub(swept) >= SLICE_MS {
-            let silent = asks.close_old(rt, now);
-            count_asks(context.ends, &mut counted, silent);
-            swept = now;
-        }
+        swept = sweep(rt, context.common, swept, &mut counted);
     }
+}
+
+// Closes the asks whose time is over, and counts what came of asks, once a while; when that was done last.
+fn sweep<R: Wait + Clock>(rt: &R, common: &Common<'_>, swept: u64, counted: &mut Counted) -> u64 {
+    let now = common.moment(rt);
+    if now.saturating_sub(swept) < SLICE_MS {
+        return swept;
+    }
+    let silent = common.ends.asks.close_old(rt, now);
+    count_asks(common.ends, counted, silent);
+    now
 }
 
 // Takes what came for the ask of this key, where it repeats it.
@@ -95,12 +103,12 @@ fn take_answer<M: Machine<Event = TypedEvent, Out = TypedActions>, L: Ledger, R:
     key: usize,
     buffer: &mut [u8; MOST_BYTES],
 ) {
-    if let Some((count, ask)) = context.ends.asks.take(rt, key, buffer) {
+    if let Some((count, ask)) = context.common.ends.asks.take(rt, key, buffer) {
         let (number, to) = (ask.number, ask.to);
         drop(ask);
         let event = datagram_event(
-            context.alloc,
-            context.moment(rt),
+            context.common.alloc,
+            context.common.moment(rt),
             number,
             to,
             &buffer[..count],
@@ -109,7 +117,7 @@ fn take_answer<M: Machine<Event = TypedEvent, Out = TypedActions>, L: Ledger, R:
             Ok(event) => {
                 context.put(rt, worker, event);
             }
-            Err(_) => context.ends.count(Outcome::MemoryRefused),
+            Err(_) => context.common.ends.count(Outcome::MemoryRefused),
         }
     }
 }

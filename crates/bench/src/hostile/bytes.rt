@@ -41,9 +41,9 @@ pub fn put_name<A: Heap>(out: &mut Vec<u8, A>, text: &str) -> Result<(), Starved
 
 /// What stands in a record between its owner and its data: type, class IN, a TTL of an hour, how long the data are.
 pub fn put_middle<A: Heap>(out: &mut Vec<u8, A>, kind: u16, length: u16) -> Result<(), Starved> {
-    out.extend_from_slice(&kind.to_be_bytes())?;
-    out.extend_from_slice(&[0, 1, 0, 0, 0x0e, 0x10])?;
-    out.extend_from_slice(&length.to_be_bytes())?;
+    let [high, low] = kind.to_be_bytes();
+    let [long, rest] = length.to_be_bytes();
+    out.extend_from_slice(&[high, low, 0, 1, 0, 0, 0x0e, 0x10, long, rest])?;
     Ok(())
 }
 
@@ -73,14 +73,25 @@ pub fn query<A: Heap>(
     kind: u16,
     records: (u16, &[u8]),
 ) -> Result<Bytes<A>, Starved> {
-    let (count, records) = records;
-    let mut bytes = Vec::from_slice(alloc, &[0, 5, 1, 0, 0, 1, 0, 0, 0, 0])?;
-    bytes.extend_from_slice(&count.to_be_bytes())?;
-    put_name(&mut bytes, name)?;
-    bytes.extend_from_slice(&kind.to_be_bytes())?;
-    bytes.extend_from_slice(&[0, 1])?;
-    bytes.extend_from_slice(records)?;
+    let mut bytes = Vec::new(alloc);
+    put_query(&mut bytes, name, kind, records)?;
     bounded(bytes)
+}
+
+// Appends the bytes of that query.
+fn put_query<A: Heap>(
+    out: &mut Vec<u8, A>,
+    name: &str,
+    kind: u16,
+    (count, records): (u16, &[u8]),
+) -> Result<(), Starved> {
+    let [many, few] = count.to_be_bytes();
+    let [high, low] = kind.to_be_bytes();
+    out.extend_from_slice(&[0, 5, 1, 0, 0, 1, 0, 0, 0, 0, many, few])?;
+    put_name(out, name)?;
+    out.extend_from_slice(&[high, low, 0, 1])?;
+    out.extend_from_slice(records)?;
+    Ok(())
 }
 
 /// These bytes as those of a message; more than 65,535 are refused.

@@ -17,25 +17,33 @@ const OF_ONE_LENGTH: u16 = 230;
 // message, behind header, question and the record's start; the others have a label more than an end of it.
 fn root_servers<A: Heap>(alloc: A) -> Result<Vec<u8, A>, Starved> {
     let mut records = Vec::new(alloc);
-    for n in 0..ROOT_SERVERS {
-        records.push(0)?;
-        if n == 0 {
-            put_middle(&mut records, NS_TYPE, 251)?;
-            put_label(&mut records, b"y")?;
-            for _ in 0..124 {
-                put_label(&mut records, b"z")?;
-            }
-            records.push(0)?;
-        } else {
-            put_middle(&mut records, NS_TYPE, 4)?;
-            put_label(&mut records, &[lower(n % OF_ONE_LENGTH)])?;
-            let end = usize::from(n / OF_ONE_LENGTH)
-                .saturating_mul(2)
-                .saturating_add(28);
-            records.extend_from_slice(&pointer(end))?;
-        }
+    put_first_server(&mut records)?;
+    for n in 1..ROOT_SERVERS {
+        put_server(&mut records, n)?;
     }
     Ok(records)
+}
+
+fn put_first_server<A: Heap>(out: &mut Vec<u8, A>) -> Result<(), Starved> {
+    out.push(0)?;
+    put_middle(out, NS_TYPE, 251)?;
+    put_label(out, b"y")?;
+    for _ in 0..124 {
+        put_label(out, b"z")?;
+    }
+    out.push(0)?;
+    Ok(())
+}
+
+fn put_server<A: Heap>(out: &mut Vec<u8, A>, number: u16) -> Result<(), Starved> {
+    let end = usize::from(number / OF_ONE_LENGTH)
+        .saturating_mul(2)
+        .saturating_add(28);
+    out.push(0)?;
+    put_middle(out, NS_TYPE, 4)?;
+    put_label(out, &[lower(number % OF_ONE_LENGTH)])?;
+    out.extend_from_slice(&pointer(end))?;
+    Ok(())
 }
 
 // One of 230 bytes none of which is an upper case letter.
@@ -50,31 +58,46 @@ fn lower(number: u16) -> u8 {
 
 /// 4,300 servers of the root are in the cache, with names of over 200 bytes.
 pub fn learn_root_servers<A: Heap>(talk: &mut Talk<A>) -> Result<(), Starved> {
-    let records = root_servers(talk.heap())?;
     talk.ask("", NS_TYPE)?;
+    let records = root_servers(talk.heap())?;
     talk.tell_by_tcp(Says::answer(ROOT_SERVERS, &records))
 }
 
 /// A TXT record of 32,000 strings of a byte is in the cache.
 pub fn learn_strings<A: Heap>(talk: &mut Talk<A>) -> Result<(), Starved> {
-    let mut records = Vec::new(talk.heap());
-    records.extend_from_slice(&QUESTION)?;
-    put_middle(&mut records, TXT_TYPE, 64_000)?;
-    for _ in 0..32_000 {
-        put_label(&mut records, b"t")?;
-    }
     talk.ask("t", TXT_TYPE)?;
+    let mut records = Vec::new(talk.heap());
+    put_strings(&mut records)?;
     talk.tell_by_tcp(Says::answer(1, &records))
+}
+
+fn put_strings<A: Heap>(out: &mut Vec<u8, A>) -> Result<(), Starved> {
+    out.extend_from_slice(&QUESTION)?;
+    put_middle(out, TXT_TYPE, 64_000)?;
+    for _ in 0..32_000 {
+        put_label(out, b"t")?;
+    }
+    Ok(())
 }
 
 /// A client's query of 65 kB for a name of 127 labels: 4,800 records, each with that name as its owner.
 pub fn large_query<A: Heap>(alloc: A) -> Result<Bytes<A>, Starved> {
     let mut records = Vec::new(alloc);
+    put_many(&mut records)?;
+    query_with(alloc, &records)
+}
+
+fn put_many<A: Heap>(out: &mut Vec<u8, A>) -> Result<(), Starved> {
     for _ in 0..4_800 {
-        records.extend_from_slice(&QUESTION)?;
-        put_middle(&mut records, 65_280, 1)?;
-        records.push(7)?;
+        out.extend_from_slice(&QUESTION)?;
+        put_middle(out, 65_280, 1)?;
+        out.push(7)?;
     }
+    Ok(())
+}
+
+// The query with these records.
+fn query_with<A: Heap>(alloc: A, records: &[u8]) -> Result<Bytes<A>, Starved> {
     let name = long_name(alloc, 0)?;
-    query(alloc, name.as_str(), A_TYPE, (4_800, &records))
+    query(alloc, name.as_str(), A_TYPE, (4_800, records))
 }

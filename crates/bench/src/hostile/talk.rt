@@ -84,6 +84,18 @@ fn asked<A: Heap>(actions: &Actions<A>) -> Result<Option<Waits<A>>, Starved> {
     })
 }
 
+// The servers of a zone.
+fn put_servers<A: Heap>(
+    out: &mut Vec<u8, A>,
+    zone: &str,
+    servers: &[String<A>],
+) -> Result<(), Starved> {
+    for server in servers {
+        put_ns(out, zone, server.as_str())?;
+    }
+    Ok(())
+}
+
 /// What comes from a client by this way.
 pub fn from_client<A: Heap>(way: Via, bytes: Bytes<A>) -> Event<A> {
     Event::Client {
@@ -137,17 +149,10 @@ impl<A: Heap> Talk<A> {
 
     /// The event in which the server of the last ask says this.
     pub fn told(&self, says: Says<'_>) -> Result<Event<A>, Starved> {
-        let waits = self.waits.as_ref().ok_or(Starved)?;
-        let asked = waits.bytes.as_slice();
-        let mut bytes = Vec::from_slice(self.alloc, asked.get(..2).unwrap_or(&[]))?;
-        bytes.extend_from_slice(&says.flags)?;
-        bytes.extend_from_slice(&[0, 1])?;
-        bytes.extend_from_slice(&says.answers.to_be_bytes())?;
-        bytes.extend_from_slice(&says.authority.to_be_bytes())?;
-        bytes.extend_from_slice(&[0, 0])?;
-        bytes.extend_from_slice(asked.get(12..).unwrap_or(&[]))?;
-        bytes.extend_from_slice(says.records)?;
-        Ok(waits.bring(bounded(bytes)?))
+        match &self.waits {
+            Some(waits) => waits.told(self.alloc, says),
+            None => Err(Starved),
+        }
     }
 
     /// The server of the last ask says this.
@@ -175,18 +180,56 @@ impl<A: Heap> Talk<A> {
     /// A zone is delegated to these servers without addresses. What the query that learns so asks then is not answered.
     pub fn delegate(&mut self, zone: &str, servers: &[String<A>]) -> Result<(), Starved> {
         let mut records = Vec::new(self.alloc);
-        for server in servers {
-            put_ns(&mut records, zone, server.as_str())?;
+        put_servers(&mut records, zone, servers)?;
+        let asked = self.ask_in(zone);
+        let count = u16::try_from(servers.len()).unwrap_or(0);
+        match asked {
+            Ok(()) => self.tell(Says::referral(count, &records)),
+            Err(Starved) => Err(Starved),
         }
+    }
+
+    // A client asks for a name in a zone.
+    fn ask_in(&mut self, zone: &str) -> Result<(), Starved> {
         let mut name = String::new(self.alloc);
         write!(name, "x.{zone}")?;
-        self.ask(name.as_str(), A_TYPE)?;
-        let count = u16::try_from(servers.len()).unwrap_or(0);
-        self.tell(Says::referral(count, &records))
+        self.ask(name.as_str(), A_TYPE)
+    }
+}
+
+impl<'r> Says<'r> {
+    // Appends the bytes of the message in which a server says this of what was asked in these bytes.
+    fn put<A: Heap>(self, out: &mut Vec<u8, A>, asked: &[u8]) -> Result<(), Starved> {
+        let [high, low] = self.flags;
+        let [answers, more_answers] = self.answers.to_be_bytes();
+        let [authority, more_authority] = self.authority.to_be_bytes();
+        out.extend_from_slice(asked.get(..2).unwrap_or(&[]))?;
+        out.extend_from_slice(&[
+            high,
+            low,
+            0,
+            1,
+            answers,
+            more_answers,
+            authority,
+            more_authority,
+            0,
+            0,
+        ])?;
+        out.extend_from_slice(asked.get(12..).unwrap_or(&[]))?;
+        out.extend_from_slice(self.records)?;
+        Ok(())
     }
 }
 
 impl<A: Heap> Waits<A> {
+    // The event in which its server says this.
+    fn told(&self, alloc: A, says: Says<'_>) -> Result<Event<A>, Starved> {
+        let mut bytes = Vec::new(alloc);
+        says.put(&mut bytes, self.bytes.as_slice())?;
+        Ok(self.bring(bounded(bytes)?))
+    }
+
     // These bytes come on its path.
     fn bring(&self, bytes: Bytes<A>) -> Event<A> {
         match self.path {
