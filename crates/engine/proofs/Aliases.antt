@@ -1,5 +1,5 @@
 -- The aliases of a chain, one by one.
-use Rattle.std.proofs.Common.{◌≡◌, ℕ, Bool, Option, Some, None, List, [], ◌∷◌, ◌++◌, refl, sym, ◌∙◌, ap, append_assoc, append-nil, length, arith}
+use Rattle.std.proofs.Common.{◌≡◌, ℕ, Bool, Some, None, List, [], ◌∷◌, ◌++◌, refl, sym, ◌∙◌, ap, append_assoc, append-nil, length, arith}
 use Rattle.std.specs.Prelude.{slice_get}
 use Rattle.rdata.specs.Records.{Record}
 use Rattle.resolution.specs.Jobs.{Source, Local, Cached, Accepted, Taken, sent}
