@@ -1,6 +1,6 @@
 use Rattle.wire.specs.Entries.{message_second}
 use Rattle.wire.proofs.Walks.{gives_failed}
-use Rattle.wire.proofs.Whole.{authority_fails, additional_fails, trailing, last_read}
+use Rattle.wire.proofs.Whole.{authority_fails, additional_fails, last_trailing, last_read}
 use Rattle.wire.proofs.reader.last_sections.Goals as goal
 
 pub returns-in_err-authority : goal.returns-in_err-authority
@@ -19,7 +19,7 @@ returns-in_err-additional g c questions answer =
 
 pub returns-then-at-bytes : goal.returns-then-at-bytes
 returns-then-at-bytes g c questions answer =
-    trailing c.args.bytes.now c.two_at.result c.two_at-2.result c.args.at c.in_ok-authority.at c.in_ok-additional.at questions answer c.in_ok-authority.authority
+    last_trailing c.args.bytes.now c.two_at.result c.two_at-2.result c.args.at c.in_ok-authority.at c.in_ok-additional.at questions answer c.in_ok-authority.authority
     c.in_ok-additional.additional c.two_at.ensures c.in_ok-authority.ensures c.two_at-2.ensures c.in_ok-additional.ensures c.if-at-bytes.true
 
 pub returns : goal.returns
