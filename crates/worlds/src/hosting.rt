@@ -224,7 +224,11 @@ pub fn host_reply<A: Heap>(
     reading_is_one(alloc);
     echo_is_question(alloc);
     match read_query(alloc, bytes)? {
-        Request::Query(query) => Ok(reply_to(alloc, world, address, &query)?),
+        Request::Query(query) => {
+            let given = reply_to(alloc, world, address, &query);
+            drop(query);
+            given
+        }
         Request::Drop | Request::Refuse(_, _, _) => Ok(None),
     }
 }
