@@ -1,7 +1,9 @@
 //! The RRset of an owner and a type, gathered from the records of a zone.
-ghost use Rattle.std.specs.Prelude.{◌≡◌, ◌≢◌, [], IfOk, IfSome, map};
+ghost use Rattle.std.specs.Prelude.{◌≡◌, ◌≢◌, [], IfOk, IfSome, OnOk, cond, map};
 ghost use Rattle.rdata.specs.Types.{type_number};
 ghost use Rattle.rdata.specs.Kept.{datum};
+ghost use Rattle.rdata.specs.Gathering.{add_datum};
+ghost use Rattle.rdata.specs.Later.{AreFound};
 ghost use Rattle.rdata.specs.Rows.{in_set};
 ghost use Rattle.zone.specs.Look.{firsts, with_owner};
 ghost use Rattle.authority.specs.Climb.{target, picked};
@@ -10,7 +12,7 @@ ghost use Rattle.authority.specs.Values.{values_of, HaveOneTtl};
 use crate::plain::{Whose, answers, first_of};
 use dname::Name;
 use memory::{Heap, Starved};
-use rdata::{RData, RType, Record, RecordSet, Records, Values, put_once};
+use rdata::{Later, RData, RType, Record, RecordSet, Records, Values, put_once};
 use std::collections::BTreeSet;
 
 pub(crate) fn owned_by<A: Heap>(owner: &Name<A>, rr: &Record<A>) -> Result<Record<A>, Starved>
@@ -21,6 +23,23 @@ pub(crate) fn owned_by<A: Heap>(owner: &Name<A>, rr: &Record<A>) -> Result<Recor
         ttl: rr.ttl,
         value: rr.value.clone()?,
     })
+}
+
+// Adds the data of a record that is wanted to a set that is being made, unless it has them already.
+pub(crate) fn put_wanted<'a, A: Heap>(
+    values: &mut Vec<RData<A>, A>,
+    later: &mut Later<'a, A>,
+    rr: &'a Record<A>,
+    wanted: bool,
+) -> Result<(), Starved>
+    requires { AreFound later.old (map datum values.old.items) }
+    ensures values { OnOk result (map datum values.new.items ≡ cond wanted (add_datum (map datum values.old.items) rr.now.value) (map datum values.old.items)) }
+    ensures found { OnOk result (AreFound later.new (map datum values.new.items)) }
+{
+    if wanted {
+        return put_once(values, later, &rr.value);
+    }
+    Ok(())
 }
 
 // The data of a type at this name, each once.
@@ -36,9 +55,7 @@ fn values_of<A: Heap>(
     let mut values = Vec::new(alloc);
     let mut later = BTreeSet::new(alloc);
     for rr in records {
-        if answers(rr, name, whose, kind) {
-            put_once(&mut values, &mut later, &rr.value)?;
-        }
+        put_wanted(&mut values, &mut later, rr, answers(rr, name, whose, kind))?;
     }
     Ok(values)
 }

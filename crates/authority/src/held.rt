@@ -10,11 +10,11 @@ ghost use Rattle.zone.specs.Look.{is_type, of_type, firsts, with_owner, said, sa
 ghost use Rattle.zone.specs.Views.{link_view};
 ghost use Rattle.authority.specs.Values.{values_of, AreTimed};
 
-use crate::gather::owned_by;
+use crate::gather::{owned_by, put_wanted};
 use crate::plain::is_kind;
 use dname::Name;
 use memory::{Heap, Starved};
-use rdata::{RData, RType, Record, RecordSet, Values, put_once};
+use rdata::{RData, RType, Record, RecordSet, Values};
 use std::alloc::Allocator;
 use std::collections::BTreeSet;
 use zone::{Held, Link};
@@ -31,9 +31,7 @@ fn values_of<A: Heap>(
     let mut later = BTreeSet::new(alloc);
     for index in 0..held.len() {
         let rr = held.get(index);
-        if is_kind(rr, kind) {
-            put_once(&mut values, &mut later, &rr.value)?;
-        }
+        put_wanted(&mut values, &mut later, rr, is_kind(rr, kind))?;
     }
     Ok(values)
 }

@@ -1,11 +1,9 @@
 -- What is read of bytes.
-use Rattle.std.proofs.Common.{◌≡◌, ℕ, Option, Some, None, MatchOption, List, ⊎_elim, ◌⊎◌, subst}
+use Rattle.std.proofs.Common.{ℕ, Option, Some, None, MatchOption, List, subst}
 use Rattle.message_grammar.specs.Messages.{Message, IsMessage}
 use Rattle.message_grammar.specs.Laws.{AreUnderRoot}
 use Rattle.message_grammar.proofs.Single.{message_one}
 use Rattle.message_grammar.proofs.Roots.{names_end_in_root}
-use Rattle.wire.specs.declared.error.WireError.{WireError}
-use Rattle.wire.specs.declared.error.WireError.TheVariants.{Memory}
 use Rattle.wire.specs.declared.via.Via.{Via}
 use Rattle.classify.specs.Read.{IsReadingOf, IsNoReply, AreRead}
 use Rattle.classify.specs.Views.{reading_view, read_view}

@@ -125,6 +125,27 @@ pub(crate) fn first_in<'a>(mut section: Walk<'a>, kind: RType) -> Option<Lent<'a
     None
 }
 
+// Adds a record whose owner is made already.
+fn put_owned<A: Heap>(
+    alloc: A,
+    records: &mut Records<A>,
+    found: &Lent<'_>,
+    owner: Name<A>,
+) -> Result<(), Starved>
+    ensures { OnOk result (records.new ≡ records.old ++ record { owner = owner; ttl = found.now.ttl; value = found.now.value } ∷ []) }
+{
+    match found.value(alloc) {
+        Err(starved) => {
+            drop(owner);
+            Err(starved)
+        }
+        Ok(value) => {
+            let ttl = found.ttl();
+            records.push(Record { owner, ttl, value })
+        }
+    }
+}
+
 // Adds an address, where it is one of these names at or under the zone.
 fn put_given<A: Heap>(
     alloc: A,
@@ -140,14 +161,10 @@ fn put_given<A: Heap>(
         return Ok(());
     }
     let owner = found.owner(alloc)?;
-    if !owner.is_at_or_under(zone) || !is_one_of(&owner, targets) {
-        return Ok(());
+    if owner.is_at_or_under(zone) && is_one_of(&owner, targets) {
+        return put_owned(alloc, addresses, found, owner);
     }
-    addresses.push(Record {
-        owner,
-        ttl: found.ttl(),
-        value: found.value(alloc)?,
-    })?;
+    drop(owner);
     Ok(())
 }
 

@@ -194,8 +194,13 @@ fn by_cut<A: Heap>(
     if !leads_down(zone, name, &cut) {
         return Ok(Class::Failed(Failure::Foreign));
     }
-    let servers = servers_in(alloc, message.authority(), &cut)?;
-    Ok(refer(alloc, zone, cut, servers, message)?)
+    match servers_in(alloc, message.authority(), &cut) {
+        Err(starved) => {
+            drop(cut);
+            Err(starved)
+        }
+        Ok(servers) => refer(alloc, zone, cut, servers, message),
+    }
 }
 
 // The referral to these servers.
@@ -208,8 +213,14 @@ fn refer<A: Heap>(
 ) -> Result<Class<A>, Starved>
     ensures { IfOk result (λ c. class_view c ≡ refer_by zone.now at servers message.now) }
 {
-    let addresses = addresses_in(alloc, message.additional(), zone, servers.as_slice())?;
-    Ok(Class::Referral(Referral::new(at, servers, addresses)))
+    match addresses_in(alloc, message.additional(), zone, servers.as_slice()) {
+        Err(starved) => {
+            drop(at);
+            drop(servers);
+            Err(starved)
+        }
+        Ok(addresses) => Ok(Class::Referral(Referral::new(at, servers, addresses))),
+    }
 }
 
 // A link is an answer only with the bit AA.

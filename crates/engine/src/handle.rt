@@ -1,6 +1,6 @@
 //! Treatment of an event: the clock goes on to its moment, never back, and then the part for the event's kind is
 //! called.
-ghost use Rattle.std.specs.Result.{IsOkAnd};
+ghost use Rattle.std.specs.Result.{IsErr, IsOkAnd, MatchResult};
 ghost use Rattle.std.specs.Prelude.{◌≡◌, max, Some, None, IfOk, OnErr};
 ghost use Rattle.events.specs.Views.{event_view};
 ghost use Rattle.runs.specs.States.{Event as EventSpec};
@@ -17,14 +17,15 @@ use std::alloc::Allocator;
 use typed::{Parsed, TypedAction, TypedActions};
 
 // One action at most, without word that another query is due.
-fn alone<A: Allocator>(first: Option<TypedAction<A>>) -> TypedActions<A>
-    ensures listed { said_listed result.first result.more_due ≡ if_any first }
-    ensures first { result.first ≡ first }
+fn alone<A: Allocator>(
+    first: Result<Option<TypedAction<A>>, Starved>,
+) -> Result<TypedActions<A>, Starved>
+    ensures { MatchResult first (λ o. IsOkAnd result (λ a. (a.first ≡ o) × (said_listed a.first a.more_due ≡ if_any o))) (λ _. IsErr result) }
 {
-    TypedActions {
-        first,
+    Ok(TypedActions {
+        first: first?,
         more_due: false,
-    }
+    })
 }
 
 impl<A: Heap> ResolverState<A> {
@@ -48,27 +49,18 @@ impl<A: Heap> ResolverState<A> {
                 way,
                 bytes,
                 ..
-            } => {
-                let first = self.client(*client, *way, bytes.as_slice())?;
-                Ok(alone(first))
-            }
+            } => alone(self.client(*client, *way, bytes.as_slice())),
             Event::Datagram {
                 socket,
                 from,
                 bytes,
                 ..
-            } => {
-                let first = self.datagram(*socket, *from, bytes.as_slice())?;
-                Ok(alone(first))
-            }
-            Event::TcpReply { number, bytes, .. } => {
-                let first = self.tcp_reply(*number, bytes.as_slice())?;
-                Ok(alone(first))
-            }
-            Event::TcpFailed { number, .. } => {
-                let first = self.tcp_failed(*number)?;
-                Ok(alone(first))
-            }
+            } => alone(self.datagram(*socket, *from, bytes.as_slice())),
+            Event::TcpReply { number, bytes, .. } => alone(self.tcp_reply(
+                *number,
+                bytes.as_slice(),
+            )),
+            Event::TcpFailed { number, .. } => alone(self.tcp_failed(*number)),
             Event::Tick { .. } => self.tick(),
         }
     }
@@ -86,31 +78,19 @@ impl<A: Heap> ResolverState<A> {
                 way,
                 request,
                 ..
-            } => {
-                let first = self.read_client(*client, *way, request)?;
-                Ok(alone(first))
-            }
+            } => alone(self.read_client(*client, *way, request)),
             Parsed::Datagram {
                 socket,
                 from,
                 reading,
                 ..
-            } => {
-                let first = self.read_datagram(*socket, *from, reading)?;
-                Ok(alone(first))
-            }
+            } => alone(self.read_datagram(*socket, *from, reading)),
             Parsed::TcpReply {
                 number,
                 reading,
                 ..
-            } => {
-                let first = self.read_reply(*number, reading)?;
-                Ok(alone(first))
-            }
-            Parsed::TcpFailed { number, .. } => {
-                let first = self.tcp_failed(*number)?;
-                Ok(alone(first))
-            }
+            } => alone(self.read_reply(*number, reading)),
+            Parsed::TcpFailed { number, .. } => alone(self.tcp_failed(*number)),
             Parsed::Tick { .. } => self.tick(),
         }
     }

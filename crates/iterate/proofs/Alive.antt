@@ -1,6 +1,6 @@
 -- Chains, and the first link of one that has run out.
-use Rattle.std.proofs.Common.{◌≡◌, ℕ, ◌+◌, ◌<◌, ◌≤◌, false, Some, List, [], ◌∷◌, ◌++◌, length, take, drop, get_or, slice_get, refl, sym, ap, ◌∙◌, subst, append_assoc, arith, rules}
-use Rattle.std.proofs.lemmas.List.{take_more, take-append-drop}
+use Rattle.std.proofs.Common.{◌≡◌, ℕ, zero, suc, ◌+◌, ◌<◌, ◌≤◌, true, false, Some, List, [], ◌∷◌, ◌++◌, length, take, drop, get_or, slice_get, refl, sym, ap, ◌∙◌, subst, append_assoc, arith, rules}
+use Rattle.std.proofs.lemmas.List.{take_all, take_more, take-append-drop}
 use Rattle.std.proofs.lemmas.Option.{slice_get_within, get_or_from_slice_get}
 use Rattle.resolution.specs.Jobs.{Taken, is_dead, IsDead, AreFresh}
 use Rattle.iterate.specs.Moves.{IsTakenFrom}
@@ -16,6 +16,19 @@ fresh_whole now xs l all one = fresh_join now xs l all one
 -- One link more of a walk.
 pub fresh_more : (now : ℕ) (xs : List Taken) (k : ℕ) (l : Taken) → k < length xs → l ≡ get_or xs k l → is_dead now l ≡ false → AreFresh now (take k xs) → AreFresh now (take (k + 1) xs)
 fresh_more now xs k l lt is lives all = subst (AreFresh now) (sym (take_more xs k l lt ∙ ap (λ (y : Taken). take k xs ++ y ∷ []) (sym is))) (fresh_join now (take k xs) l all lives)
+
+pub fresh_all : (now : ℕ) (xs : List Taken) (k : ℕ) → length xs ≤ k → AreFresh now (take k xs) → AreFresh now xs
+fresh_all now xs k past all = subst (AreFresh now) (take_all k xs past) all
+
+slice_at : (xs : List Taken) (k : ℕ) (l : Taken) → k < length xs → slice_get xs k ≡ Some (get_or xs k l)
+slice_at [] k l lt = absurd (omega arith)
+slice_at (x ∷ xs) zero l lt = refl
+slice_at (x ∷ xs) (suc k) l lt = slice_at xs k l (omega arith)
+
+-- The link at a place is the first dead one.
+pub dead_there : (now : ℕ) (xs : List Taken) (k : ℕ) (l : Taken) → k < length xs → l ≡ get_or xs k l → is_dead now l ≡ true → AreFresh now (take k xs)
+    → AreFresh now (take k xs) × (d : Taken) × (slice_get xs k ≡ Some d) × IsDead now d
+dead_there now xs k l lt is dead all = (all, l, slice_at xs k l lt ∙ ap (λ (y : Taken). Some y) (sym is), dead)
 
 front_length : (xs : List Taken) (k : ℕ) → k ≤ length xs → length (take k xs) ≡ k
 front_length xs k h = grind (arith, rules)

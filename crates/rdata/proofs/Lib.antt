@@ -9,3 +9,4 @@ pub mod SetRows
 pub mod StringsWire
 pub mod Gathering
 pub mod Words
+pub mod Places

@@ -1,5 +1,5 @@
 -- The test for the same question in the same letters finds equal questions, and no others.
-use Rattle.std.proofs.Common.{◌≡◌, true, nat_eq, ◌&&◌, refl, subst, eqb-true, eq-eqb}
+use Rattle.std.proofs.Common.{◌≡◌, true, nat_eq, refl, subst, eqb-true, eq-eqb}
 use Rattle.std.proofs.lemmas.Bool.{and_parts, and_from}
 use Rattle.dname.specs.Labels.{same_name}
 use Rattle.dname.specs.Laws.{same_name-exact, same_name-refl}

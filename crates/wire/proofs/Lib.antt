@@ -14,6 +14,7 @@ pub mod Heading
 pub mod NamesRead
 pub mod Putting
 pub mod DataRead
+pub mod SoaRead
 pub mod TextsRead
 pub mod EntriesRead
 pub mod Skipping

@@ -6,21 +6,22 @@ use Rattle.dname.specs.Labels.{folded_labels}
 use Rattle.rdata.specs.Data.{Datum}
 use Rattle.rdata.specs.Records.{Record}
 use Rattle.rdata.specs.declared.rtype.RType.{RType}
-use Rattle.message_grammar.specs.Messages.{served_type}
+use Rattle.message_grammar.specs.Messages.{served_type, ttl_of}
 use Rattle.wire.specs.declared.error.WireError.{WireError}
-use Rattle.wire.specs.declared.error.WireError.TheVariants.{Short, BadLabel}
+use Rattle.wire.specs.declared.error.WireError.TheVariants.{Short, BadLabel, BadRdataLength}
 use Rattle.wire.specs.declared.parts.Part.{Part}
+use Rattle.wire.specs.declared.parts.Faults.{Faults}
 use Rattle.wire.specs.declared.parts.Part.TheVariants.{End, Label, Pointer}
 use Rattle.wire.specs.Numbers.{two_at, four_at}
 use Rattle.wire.specs.Parts.{message_faults, part_by, part_at, ends_at, followed, spelt_from, spelt_before, spelt_at, in_lower_case, name_at}
 use Rattle.wire.specs.Values.{form_at, value_at, whole as fills}
-use Rattle.wire.specs.Results.{and_then, end_of}
+use Rattle.wire.specs.Results.{Fails, and_then, end_of}
 use Rattle.wire.specs.Entries.{kept_value, entry_kept, entry_sized, entry_behind, entry_at}
 use Rattle.wire.specs.Skips.{IsSkipping}
 use Rattle.wire.specs.Views.{labels_in}
 use Rattle.std.specs.Result.{IsErrAnd}
-use Rattle.wire.proofs.Walks.{Spelt, unfueled}
-use Rattle.wire.proofs.Ends.{not_ended}
+use Rattle.wire.proofs.Walks.{Spelt, unfueled, fails_is, fails_with}
+use Rattle.wire.proofs.Ends.{ended, not_ended}
 
 -- ---- a record behind its owner
 
@@ -49,23 +50,11 @@ pub behind : (bytes : List ℕ) (at past : ℕ) → Ok past ≡ end_of (name_at 
 behind bytes at past h =
     entry_by bytes at (Ok (owner_at bytes at, past)) (named_there (name_at bytes message_faults (length bytes) at) past h)
 
-pub skip_short : (bytes : List ℕ) (at past : ℕ) → Ok past ≡ end_of (name_at bytes message_faults (length bytes) at) → past ≤ length bytes
-    → length bytes - past < 10 → entry_at bytes at ≡ Err Short
-skip_short bytes at past h within short =
-    let b : nat_lt (length bytes) (past + 10) ≡ true = grind (arith, nat_tests) in
-    behind bytes at past h ∙ yes (nat_lt (length bytes) (past + 10)) _ _ b
-
 pub sized : (bytes : List ℕ) (at past : ℕ) → Ok past ≡ end_of (name_at bytes message_faults (length bytes) at) → 10 ≤ length bytes - past
     → entry_at bytes at ≡ entry_sized bytes (owner_at bytes at) past
 sized bytes at past h there =
     let b : nat_lt (length bytes) (past + 10) ≡ false = grind (arith, nat_tests) in
     behind bytes at past h ∙ no (nat_lt (length bytes) (past + 10)) _ _ b
-
-pub skip_cut : (bytes : List ℕ) (at past : ℕ) → Ok past ≡ end_of (name_at bytes message_faults (length bytes) at) → 10 ≤ length bytes - past
-    → length bytes - (past + 10) < two_at bytes (past + 8) → entry_at bytes at ≡ Err Short
-skip_cut bytes at past h there short =
-    let b : nat_lt (length bytes) (past + 10 + two_at bytes (past + 8)) ≡ true = grind (arith, nat_tests) in
-    sized bytes at past h there ∙ yes (nat_lt (length bytes) (past + 10 + two_at bytes (past + 8))) _ _ b
 
 pub whole : (bytes : List ℕ) (at past : ℕ) (o : Option RType) → Ok past ≡ end_of (name_at bytes message_faults (length bytes) at) → 10 ≤ length bytes - past
     → two_at bytes (past + 8) ≤ length bytes - (past + 10) → o ≡ served_type (two_at bytes past) (two_at bytes (past + 2))
@@ -74,21 +63,6 @@ whole bytes at past o h there fits is =
     let b : nat_lt (length bytes) (past + 10 + two_at bytes (past + 8)) ≡ false = grind (arith, nat_tests) in
     sized bytes at past h there ∙ (no (nat_lt (length bytes) (past + 10 + two_at bytes (past + 8))) _ _ b
     ∙ ap (λ x. entry_kept x bytes (owner_at bytes at) (four_at bytes (past + 4)) (past + 10) (past + 10 + two_at bytes (past + 8))) (sym is))
-
-pub skip_done : (bytes : List ℕ) (at past : ℕ) → Ok past ≡ end_of (name_at bytes message_faults (length bytes) at) → 10 ≤ length bytes - past
-    → two_at bytes (past + 8) ≤ length bytes - (past + 10) → None ≡ served_type (two_at bytes past) (two_at bytes (past + 2))
-    → entry_at bytes at ≡ Ok (None, past + 10 + two_at bytes (past + 8))
-skip_done bytes at past h there fits is = whole bytes at past None h there fits is
-
--- RDATA that are refused in the form of their type.
-pub form_fails : (bytes : List ℕ) (at past : ℕ) (kind : RType) (e : WireError) → Ok past ≡ end_of (name_at bytes message_faults (length bytes) at) → 10 ≤ length bytes - past
-    → two_at bytes (past + 8) ≤ length bytes - (past + 10) → Some kind ≡ served_type (two_at bytes past) (two_at bytes (past + 2))
-    → Err e ≡ end_of (form_at kind bytes (past + 10) (past + 10 + two_at bytes (past + 8))) → Err e ≡ end_of (entry_at bytes at)
-unfolding value_at
-form_fails bytes at past kind e h there fits is bad =
-    let end = past + 10 + two_at bytes (past + 8) in
-    sym (ap end_of (whole bytes at past (Some kind) h there fits is)
-    ∙ ap (λ x. end_of (and_then (and_then x (fills end)) (kept_value (owner_at bytes at) (four_at bytes (past + 4)) end))) (not_ended (form_at kind bytes (past + 10) end) e bad))
 
 abbrev record_in : Result (Option Record × ℕ) WireError → Option Record
 record_in (Ok x) = x.0
@@ -106,12 +80,133 @@ kept_is_some kind bytes owner ttl at end past h = by (value_at kind bytes at end
     by (Ok value) is = let some : Some _ ≡ None = ap record_in is in cc
     by (Err e) is = cc
 
-pub skip_kept : (bytes : List ℕ) (at past : ℕ) (kind : RType) → Ok past ≡ end_of (name_at bytes message_faults (length bytes) at) → 10 ≤ length bytes - past
-    → two_at bytes (past + 8) ≤ length bytes - (past + 10) → Some kind ≡ served_type (two_at bytes past) (two_at bytes (past + 2))
-    → (end : ℕ) → entry_at bytes at ≡ Ok (None, end) → ⊥
-skip_kept bytes at past kind h there fits is end read =
-    kept_is_some kind bytes (owner_at bytes at) (four_at bytes (past + 4)) (past + 10) (past + 10 + two_at bytes (past + 8)) end
-    (sym (whole bytes at past (Some kind) h there fits is) ∙ read)
+-- ---- what stands behind an owner
+
+-- The record behind an owner that ends at `at`, by what stands before its RDATA.
+abbrev pub body_of : List ℕ → ℕ → List (List ℕ) → Option RType × ℕ → Result (Option Record × ℕ) WireError
+body_of bytes at owner b = entry_kept b.0 bytes owner (four_at bytes (at + 4)) (at + 10) (at + 10 + b.1)
+
+abbrev pub IsBody : List ℕ → ℕ → Result (Option RType × ℕ) WireError → Type 0
+IsBody bytes at r = (owner : List (List ℕ)) → entry_behind bytes (owner, at) ≡ and_then r (body_of bytes at owner)
+
+pub body_short : (bytes : List ℕ) (at : ℕ) → at ≤ length bytes → length bytes - at < 10 → IsBody bytes at (Err Short)
+body_short bytes at within short owner =
+    let b : nat_lt (length bytes) (at + 10) ≡ true = grind (arith, nat_tests) in
+    yes (nat_lt (length bytes) (at + 10)) (Err Short) (entry_sized bytes owner at) b
+
+body_sized : (bytes : List ℕ) (at : ℕ) (owner : List (List ℕ)) → 10 ≤ length bytes - at → entry_behind bytes (owner, at) ≡ entry_sized bytes owner at
+body_sized bytes at owner there =
+    let b : nat_lt (length bytes) (at + 10) ≡ false = grind (arith, nat_tests) in
+    no (nat_lt (length bytes) (at + 10)) (Err Short) (entry_sized bytes owner at) b
+
+pub body_cut : (bytes : List ℕ) (at size : ℕ) → 10 ≤ length bytes - at → size ≡ two_at bytes (at + 8) → length bytes - at - 10 < size → IsBody bytes at (Err Short)
+body_cut bytes at size there is short owner =
+    let b : nat_lt (length bytes) (at + 10 + size) ≡ true = grind (arith, nat_tests) in
+    body_sized bytes at owner there
+    ∙ yes (nat_lt (length bytes) (at + 10 + two_at bytes (at + 8))) (Err Short) _ (ap (λ n. nat_lt (length bytes) (at + 10 + n)) (sym is) ∙ b)
+
+pub body_whole : (bytes : List ℕ) (at size : ℕ) (kind : Option RType) → 10 ≤ length bytes - at → size ≡ two_at bytes (at + 8) → size ≤ length bytes - at - 10
+    → kind ≡ served_type (two_at bytes at) (two_at bytes (at + 2)) → IsBody bytes at (Ok (kind, size))
+body_whole bytes at size kind there is fits served owner =
+    let b : nat_lt (length bytes) (at + 10 + size) ≡ false = grind (arith, nat_tests) in
+    body_sized bytes at owner there
+    ∙ (no (nat_lt (length bytes) (at + 10 + two_at bytes (at + 8))) (Err Short) _ (ap (λ n. nat_lt (length bytes) (at + 10 + n)) (sym is) ∙ b)
+    ∙ (λ i. body_of bytes at owner (sym served i, sym is i)))
+
+pub by_body : (bytes : List ℕ) (at past : ℕ) (r : Result (Option RType × ℕ) WireError) → Ok past ≡ end_of (name_at bytes message_faults (length bytes) at) → IsBody bytes past r
+    → entry_at bytes at ≡ and_then r (body_of bytes past (owner_at bytes at))
+by_body bytes at past r h is = behind bytes at past h ∙ is (owner_at bytes at)
+
+pub skip_done : (bytes : List ℕ) (at past size : ℕ) (kind : Option RType) → Ok past ≡ end_of (name_at bytes message_faults (length bytes) at) → IsBody bytes past (Ok (kind, size))
+    → kind ≡ None → entry_at bytes at ≡ Ok (None, past + 10 + size)
+skip_done bytes at past size kind h is none =
+    by_body bytes at past (Ok (kind, size)) h is ∙ ap (λ o. body_of bytes past (owner_at bytes at) (o, size)) none
+
+pub skip_kept : (bytes : List ℕ) (at past size : ℕ) (o : Option RType) (kind : RType) → Ok past ≡ end_of (name_at bytes message_faults (length bytes) at)
+    → IsBody bytes past (Ok (o, size)) → o ≡ Some kind → (end : ℕ) → entry_at bytes at ≡ Ok (None, end) → ⊥
+skip_kept bytes at past size o kind h is some end read =
+    kept_is_some kind bytes (owner_at bytes at) (four_at bytes (past + 4)) (past + 10) (past + 10 + size) end
+    (sym (by_body bytes at past (Ok (o, size)) h is ∙ ap (λ x. body_of bytes past (owner_at bytes at) (x, size)) some) ∙ read)
+
+-- ---- the end of RDATA of a served type
+
+formed : (bytes : List ℕ) (at past size : ℕ) (o : Option RType) (kind : RType) (r : Result (Datum × ℕ) WireError) → Ok past ≡ end_of (name_at bytes message_faults (length bytes) at)
+    → IsBody bytes past (Ok (o, size)) → o ≡ Some kind → form_at kind bytes (past + 10) (past + 10 + size) ≡ r
+    → end_of (entry_at bytes at) ≡ end_of (and_then (and_then r (fills (past + 10 + size))) (kept_value (owner_at bytes at) (four_at bytes (past + 4)) (past + 10 + size)))
+unfolding value_at
+formed bytes at past size o kind r h is some form =
+    ap end_of (by_body bytes at past (Ok (o, size)) h is ∙ ap (λ x. body_of bytes past (owner_at bytes at) (x, size)) some)
+    ∙ ap (λ x. end_of (and_then (and_then x (fills (past + 10 + size))) (kept_value (owner_at bytes at) (four_at bytes (past + 4)) (past + 10 + size)))) form
+
+-- RDATA that are refused in the form of their type.
+pub form_fails : (bytes : List ℕ) (at past size : ℕ) (o : Option RType) (kind : RType) (e : WireError) → Ok past ≡ end_of (name_at bytes message_faults (length bytes) at)
+    → IsBody bytes past (Ok (o, size)) → o ≡ Some kind → Err e ≡ end_of (form_at kind bytes (past + 10) (past + 10 + size)) → Err e ≡ end_of (entry_at bytes at)
+form_fails bytes at past size o kind e h is some bad =
+    sym (formed bytes at past size o kind (Err e) h is some (not_ended (form_at kind bytes (past + 10) (past + 10 + size)) e bad))
+
+-- RDATA that do not fill their length.
+pub form_spare : (bytes : List ℕ) (at past size next : ℕ) (o : Option RType) (kind : RType) → Ok past ≡ end_of (name_at bytes message_faults (length bytes) at)
+    → IsBody bytes past (Ok (o, size)) → o ≡ Some kind → Ok next ≡ end_of (form_at kind bytes (past + 10) (past + 10 + size)) → (next ≡ past + 10 + size → ⊥)
+    → Err BadRdataLength ≡ end_of (entry_at bytes at)
+form_spare bytes at past size next o kind h is some ends other =
+    let (value, form) = ended (form_at kind bytes (past + 10) (past + 10 + size)) next ends in
+    let b : nat_eq next (past + 10 + size) ≡ false = grind (arith, nat_tests) in
+    sym (formed bytes at past size o kind (Ok (value, next)) h is some form
+    ∙ ap (λ c. end_of (and_then (if c then Ok value else Err BadRdataLength) (kept_value (owner_at bytes at) (four_at bytes (past + 4)) (past + 10 + size)))) b)
+
+pub form_fills : (bytes : List ℕ) (at past size next : ℕ) (o : Option RType) (kind : RType) → Ok past ≡ end_of (name_at bytes message_faults (length bytes) at)
+    → IsBody bytes past (Ok (o, size)) → o ≡ Some kind → Ok next ≡ end_of (form_at kind bytes (past + 10) (past + 10 + size)) → next ≡ past + 10 + size
+    → Ok (past + 10 + size) ≡ end_of (entry_at bytes at)
+form_fills bytes at past size next o kind h is some ends same =
+    let (value, form) = ended (form_at kind bytes (past + 10) (past + 10 + size)) next ends in
+    let b : nat_eq next (past + 10 + size) ≡ true = grind (arith, nat_tests) in
+    sym (formed bytes at past size o kind (Ok (value, next)) h is some form
+    ∙ ap (λ c. end_of (and_then (if c then Ok value else Err BadRdataLength) (kept_value (owner_at bytes at) (four_at bytes (past + 4)) (past + 10 + size)))) b)
+
+-- ---- a record that is built
+
+pub named : (bytes : List ℕ) (at : ℕ) (faults : Faults) (r : Spelt) → faults ≡ message_faults → name_at bytes faults (length bytes) at ≡ r
+    → name_at bytes message_faults (length bytes) at ≡ r
+named bytes at faults r are h = ap (λ f. name_at bytes f (length bytes) at) (sym are) ∙ h
+
+pub owner_fails : (bytes : List ℕ) (at : ℕ) (faults : Faults) (e : WireError) → faults ≡ message_faults → Fails e (name_at bytes faults (length bytes) at) → Fails e (entry_at bytes at)
+owner_fails bytes at faults e are h =
+    fails_with e (name_at bytes faults (length bytes) at) (entry_at bytes at) (λ k. entry_by bytes at (Err e) (named bytes at faults (Err e) are k)) h
+
+pub owned : (bytes : List ℕ) (at past : ℕ) (owner : List (List ℕ)) (r : Result (Option RType × ℕ) WireError)
+    → name_at bytes message_faults (length bytes) at ≡ Ok (owner, past) → IsBody bytes past r → entry_at bytes at ≡ and_then r (body_of bytes past owner)
+owned bytes at past owner r h is = entry_by bytes at (Ok (owner, past)) h ∙ is owner
+
+pub body_fails : (bytes : List ℕ) (at past : ℕ) (owner : List (List ℕ)) (e : WireError) → name_at bytes message_faults (length bytes) at ≡ Ok (owner, past) → IsBody bytes past (Err e)
+    → Fails e (entry_at bytes at)
+body_fails bytes at past owner e h is = fails_is e (entry_at bytes at) (owned bytes at past owner (Err e) h is)
+
+pub unserved : (bytes : List ℕ) (at past size : ℕ) (owner : List (List ℕ)) (o : Option RType) → name_at bytes message_faults (length bytes) at ≡ Ok (owner, past)
+    → IsBody bytes past (Ok (o, size)) → o ≡ None → entry_at bytes at ≡ Ok (None, past + 10 + size)
+unserved bytes at past size owner o h is none =
+    owned bytes at past owner (Ok (o, size)) h is ∙ ap (λ x. body_of bytes past owner (x, size)) none
+
+served : (bytes : List ℕ) (at past size : ℕ) (owner : List (List ℕ)) (o : Option RType) (kind : RType) → name_at bytes message_faults (length bytes) at ≡ Ok (owner, past)
+    → IsBody bytes past (Ok (o, size)) → o ≡ Some kind
+    → entry_at bytes at ≡ and_then (value_at kind bytes (past + 10) (past + 10 + size)) (kept_value owner (four_at bytes (past + 4)) (past + 10 + size))
+served bytes at past size owner o kind h is some =
+    owned bytes at past owner (Ok (o, size)) h is ∙ ap (λ x. body_of bytes past owner (x, size)) some
+
+pub value_fails : (bytes : List ℕ) (at past size : ℕ) (owner : List (List ℕ)) (o : Option RType) (kind : RType) (e : WireError)
+    → name_at bytes message_faults (length bytes) at ≡ Ok (owner, past) → IsBody bytes past (Ok (o, size)) → o ≡ Some kind
+    → Fails e (value_at kind bytes (past + 10) (past + 10 + size)) → Fails e (entry_at bytes at)
+value_fails bytes at past size owner o kind e h is some fails =
+    fails_with e (value_at kind bytes (past + 10) (past + 10 + size)) (entry_at bytes at)
+    (λ k. served bytes at past size owner o kind h is some ∙ ap (λ x. and_then x (kept_value owner (four_at bytes (past + 4)) (past + 10 + size))) k) fails
+
+pub record_read : (bytes : List ℕ) (at past size ttl number : ℕ) (owner : List (List ℕ)) (o : Option RType) (kind : RType) (value : Datum)
+    → name_at bytes message_faults (length bytes) at ≡ Ok (owner, past) → IsBody bytes past (Ok (o, size)) → o ≡ Some kind
+    → value_at kind bytes (past + 10) (past + 10 + size) ≡ Ok value → ttl ≡ ttl_of number → number ≡ four_at bytes (past + 4)
+    → entry_at bytes at ≡ Ok (Some (record { owner = owner; ttl = ttl; value = value }), past + 10 + size)
+record_read bytes at past size ttl number owner o kind value h is some read t n =
+    served bytes at past size owner o kind h is some
+    ∙ (ap (λ x. and_then x (kept_value owner (four_at bytes (past + 4)) (past + 10 + size))) read
+    ∙ (λ i. Ok (Some (record { owner = owner; ttl = sym (t ∙ ap ttl_of n) i; value = value }), past + 10 + size)))
 
 -- ---- a record whose owner is a pointer
 

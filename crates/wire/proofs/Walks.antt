@@ -59,6 +59,9 @@ fails_with TrailingBytes read total f h = f h
 fails_with OverLimit read total f h = f h
 fails_with Memory read total f h = tt
 
+pub then_fails : {X Y : Type 0} (r : Result X WireError) (next : X → Result Y WireError) (e : WireError) → Fails e r → Fails e (and_then r next)
+then_fails r next e h = fails_with e r (and_then r next) (λ k. ap (λ x. and_then x next) k) h
+
 -- What a `?` hands on.
 pub gives_failed : {X Y : Type 0} (view : X → Y) (r : Result X WireError) (e : WireError) (read : Result Y WireError) → IsErrAnd r (λ y. y ≡ e) → Fails e read → Gives view r read
 gives_failed view (Ok x) e read h k = absurd h

@@ -1,6 +1,6 @@
 -- What a writer does with a text.
 use Rattle.std.proofs.Common.{◌/◌, ◌%◌, set, ◌≡◌, ℕ, suc, ◌+◌, ◌-◌, ◌<◌, ◌≤◌, List, [], ◌∷◌, ◌++◌, length, take, get_or, Option, Some, None, Result, Ok, Err, refl, sym, ◌∙◌, ap, subst, arith, append_assoc, length-append}
-use Rattle.std.proofs.lemmas.List.{append-nil, take_more}
+use Rattle.std.proofs.lemmas.List.{append-nil, take_all, take_more}
 use Rattle.std.proofs.Math.Seq.{take-append-add, set-append_seam}
 use Rattle.std.specs.Int.{bytes_high_first}
 use Rattle.std.specs.Option.{ok_or}
@@ -140,6 +140,20 @@ three_put t a b d k c n h g e =
     sym (plain_more t (put_flat (put_flat t (plain_bytes (two_of a))) (plain_bytes (two_of b))) (two_of a ++ two_of b) (four_of d) (plain_both t (two_of a) (two_of b)))
     ∙ (λ i. put_flat (put_flat (put_flat t (plain_bytes (two_of (h i)))) (plain_bytes (two_of (g i)))) (plain_bytes (four_of (e i))))
 
+pub five_put : (t : Text) (a b c d e : List ℕ) (v w x y z : ℕ) → a ≡ bytes_high_first 4 v → b ≡ bytes_high_first 4 w → c ≡ bytes_high_first 4 x → d ≡ bytes_high_first 4 y
+    → e ≡ bytes_high_first 4 z
+    → put_flat t (plain_bytes ((((four_of a ++ four_of b) ++ four_of c) ++ four_of d) ++ four_of e))
+    ≡ put_flat (put_flat (put_flat (put_flat (put_flat t (long_number v)) (long_number w)) (long_number x)) (long_number y)) (long_number z)
+five_put t a b c d e v w x y z ha hb hc hd he =
+    let two = put_flat (put_flat t (plain_bytes (four_of a))) (plain_bytes (four_of b)) in
+    let three = put_flat two (plain_bytes (four_of c)) in
+    let four = put_flat three (plain_bytes (four_of d)) in
+    let third = plain_more t two (four_of a ++ four_of b) (four_of c) (plain_both t (four_of a) (four_of b)) in
+    let fourth = plain_more t three ((four_of a ++ four_of b) ++ four_of c) (four_of d) third in
+    sym (plain_more t four (((four_of a ++ four_of b) ++ four_of c) ++ four_of d) (four_of e) fourth)
+    ∙ (λ i. put_flat (put_flat (put_flat (put_flat (put_flat t (plain_bytes (four_of (ha i)))) (plain_bytes (four_of (hb i)))) (plain_bytes (four_of (hc i)))) (plain_bytes (four_of (hd i))))
+    (plain_bytes (four_of (he i))))
+
 pub header_put : (t : Text) (h : Header) (questions answer authority additional high low : ℕ) (i q a n x : List ℕ) → i ≡ bytes_high_first 2 h.id → high ≡ high_flags h → low ≡ low_flags h
     → q ≡ bytes_high_first 2 questions → a ≡ bytes_high_first 2 answer → n ≡ bytes_high_first 2 authority → x ≡ bytes_high_first 2 additional
     → put_flat t (plain_bytes (((((two_of i ++ high ∷ low ∷ []) ++ two_of q) ++ two_of a) ++ two_of n) ++ two_of x))
@@ -170,6 +184,10 @@ row_on pieces before now next xs i x h less e k =
     k ∙ (ap (λ t. after t (pieces x)) h
     ∙ (sym (after-append (flat_map pieces (take i xs)) (pieces x) before)
     ∙ ap (after before) (ap (λ y. flat_map pieces (take i xs) ++ y) (sym last) ∙ (sym (flat_map-append pieces (take i xs) (x ∷ [])) ∙ ap (flat_map pieces) (sym more)))))
+
+pub row_done : {X : Type 0} (pieces : X → List Piece) (before now : Text) (xs : List X) (i : ℕ) → now ≡ after before (flat_map pieces (take i xs)) → length xs ≤ i
+    → now ≡ after before (flat_map pieces xs)
+row_done pieces before now xs i h past = h ∙ ap (λ l. after before (flat_map pieces l)) (take_all i xs past)
 
 -- ---- a name put by what was found among the notes
 

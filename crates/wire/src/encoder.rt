@@ -1,5 +1,5 @@
 //! Messages written, whole or from parts that are borrowed.
-ghost use Rattle.std.specs.Prelude.{◌≡◌, ◌≤◌, ◌<◌, ◌+◌, ◌%◌, length, flat_map, OnOk, IfOk, IfErr, IfSome, MatchOption, Ok};
+ghost use Rattle.std.specs.Prelude.{◌≡◌, ◌≤◌, ◌<◌, ◌+◌, ◌%◌, ◌++◌, length, flat_map, OnOk, IfOk, IfErr, IfSome, MatchOption, Ok};
 ghost use Rattle.std.specs.List.{AllByRecursion};
 ghost use Rattle.std.specs.Option.{option_copied};
 ghost use Rattle.rdata.specs.Rows.{in_set};
@@ -127,6 +127,23 @@ fn put_lent<A: Heap>(
     }
 }
 
+// Writes the sections of records, until the message is over the limit.
+fn put_sections<A: Heap>(
+    writer: &mut Writer<A>,
+    first: &[Record<A>],
+    second: Option<&RecordSet<A>>,
+    authority: &[Record<A>],
+    additional: &[Record<A>],
+    limit: usize,
+) -> Result<(), Starved>
+    ensures { OnOk result (Puts limit (((AllByRecursion IsRecord first.now × AllByRecursion IsRecord (in_set (option_copied second.entry))) × AllByRecursion IsRecord authority.now) × AllByRecursion IsRecord additional.now) (((flat_map record_pieces first.now ++ flat_map record_pieces (in_set (option_copied second.entry))) ++ flat_map record_pieces authority.now) ++ flat_map record_pieces additional.now) writer.old writer.new) }
+{
+    writer.put_records(first, limit)?;
+    put_lent(writer, second, limit)?;
+    writer.put_records(authority, limit)?;
+    writer.put_records(additional, limit)
+}
+
 impl<A: Heap> Draft<'_, A> {
     /// The bytes of the message, in its one encoding; none where they are more than `limit`, which is at most 65,535
     /// (RFC 1035, sections 4.1 and 4.2). The reply to `a. A` with one address has 35 bytes, and none with `limit` 34.
@@ -154,10 +171,14 @@ impl<A: Heap> Draft<'_, A> {
         )?;
         writer.put_questions(self.questions)?;
         put_repeated(writer, self.echo)?;
-        writer.put_records(self.first, limit)?;
-        put_lent(writer, self.second, limit)?;
-        writer.put_records(self.authority, limit)?;
-        writer.put_records(self.additional, limit)?;
+        put_sections(
+            writer,
+            self.first,
+            self.second,
+            self.authority,
+            self.additional,
+            limit,
+        )?;
         Ok(writer.finish(limit))
     }
 }

@@ -1,11 +1,13 @@
 //! Bytes read as a message.
 ghost use Rattle.std.specs.Prelude.{◌≡◌, ◌≢◌, ◌≤◌, ◌⊎◌, List, length, IfOk, IfErr, IfNone, IsOk, MatchOption};
+ghost use Rattle.rdata.specs.Records as plain;
 ghost use Rattle.message_grammar.specs.Messages as layouts;
 ghost use Rattle.message_grammar.specs.Messages.{IsMessage};
 ghost use Rattle.wire.specs.declared.error.WireError.TheVariants.{Memory};
 ghost use Rattle.wire.specs.Chains.{AreChainEnds};
 ghost use Rattle.wire.specs.Numbers.{two_at};
-ghost use Rattle.wire.specs.Entries.{message_first, message_of};
+ghost use Rattle.wire.specs.Entries.{message_first, message_second, message_of};
+ghost use Rattle.wire.specs.Heads.{header_of};
 ghost use Rattle.wire.specs.Asked.{AreBehind, IsOnlyQuestion, HasNotOne};
 ghost use Rattle.wire.specs.Results.{Fails, Gives};
 
@@ -20,9 +22,28 @@ use crate::records::{questions_at, section_at};
 use crate::skips::section_end;
 use dname::Name;
 use memory::Heap;
+use rdata::Records;
+
+// The authority and the additional section from a place on, up to the end of the bytes.
+fn last_sections<A: Heap>(
+    alloc: A,
+    bytes: &[u8],
+    ends: &[u16],
+    at: usize,
+) -> Result<(Records<A>, Records<A>), WireError>
+    requires long { 12 ≤ length bytes.now }
+    requires known { AreChainEnds bytes.now ends.now }
+    ensures { (questions : List layouts.Question) (answer : List plain.Record) → Gives {Y = layouts.Message} (λ r. record { header = header_of bytes.now; questions = questions; answer = answer; authority = r.0; additional = r.1 }) result (message_second bytes.now questions (answer, at)) }
+{
+    let (authority, at) = section_at(alloc, bytes, ends, two_at(bytes, 8), at)?;
+    let (additional, at) = section_at(alloc, bytes, ends, two_at(bytes, 10), at)?;
+    if at != bytes.len() {
+        return Err(WireError::TrailingBytes);
+    }
+    Ok((authority, additional))
+}
 
 // The message that these bytes are, by the table of its chains of pointers.
-#[tactic(auto, using(crate::proofs::Walks::fails_with), unfolding(crate::specs::Entries::message_of))]
 fn message_of<A: Heap>(alloc: A, bytes: &[u8], ends: &[u16]) -> Result<Message<A>, WireError>
     requires { AreChainEnds bytes.now ends.now }
     ensures exact { Gives {Y = layouts.Message} (λ m. m) result (message_of bytes.now) }
@@ -35,11 +56,7 @@ fn message_of<A: Heap>(alloc: A, bytes: &[u8], ends: &[u16]) -> Result<Message<A
     let header = Header::read(bytes);
     let (questions, at) = questions_at(alloc, bytes, ends, two_at(bytes, 4), 12)?;
     let (answer, at) = section_at(alloc, bytes, ends, two_at(bytes, 6), at)?;
-    let (authority, at) = section_at(alloc, bytes, ends, two_at(bytes, 8), at)?;
-    let (additional, at) = section_at(alloc, bytes, ends, two_at(bytes, 10), at)?;
-    if at != bytes.len() {
-        return Err(WireError::TrailingBytes);
-    }
+    let (authority, additional) = last_sections(alloc, bytes, ends, at)?;
     Ok(Message {
         header,
         questions,

@@ -1,11 +1,12 @@
 //! Records and questions, read; records that are not served are skipped.
-ghost use Rattle.std.specs.Prelude.{◌≡◌, ℕ, ◌≤◌, ◌+◌, List, Option, option_to_list, ◌++◌, OnOk, IsOk, IsTrue, Ok, None};
+ghost use Rattle.std.specs.Prelude.{◌≡◌, ℕ, ◌≤◌, ◌+◌, List, Option, option_to_list, ◌++◌, length, OnOk, IfOk, IsOk, IsTrue, Ok, None};
 ghost use Rattle.rdata.specs.Records as plain;
 ghost use Rattle.message_grammar.specs.Messages as layouts;
 ghost use Rattle.message_grammar.specs.Messages.{ttl_of};
 ghost use Rattle.wire.specs.Chains.{AreChainEnds};
-ghost use Rattle.wire.specs.Entries.{entry_at, section_from, question_at, questions_from};
-ghost use Rattle.wire.specs.Results.{Gives};
+ghost use Rattle.wire.specs.Entries.{entry_behind, entry_kept, entry_at, section_from, question_at, questions_from};
+ghost use Rattle.wire.specs.Numbers.{four_at};
+ghost use Rattle.wire.specs.Results.{Gives, and_then};
 ghost use Rattle.wire.specs.Skips.{IsSkipping};
 
 use crate::error::WireError;
@@ -16,7 +17,7 @@ use crate::parts::Faults;
 use crate::served::served_type;
 use crate::values::value_at;
 use memory::{Heap, Starved};
-use rdata::{GREATEST_TTL, Record, Records};
+use rdata::{GREATEST_TTL, RType, Record, Records};
 
 // The TTL of a record: one with its top bit set is 0 (RFC 2181, section 8). So 300 is 300, and 2,147,483,648 is 0.
 pub fn ttl_of(ttl: u32) -> u32
@@ -37,6 +38,23 @@ fn begins_usual(bytes: &[u8], at: usize) -> bool
     served_type(two_at(bytes, at + 2), two_at(bytes, at + 4)).is_some()
 }
 
+// What stands between the owner of a record and its RDATA, which are to end within the bytes: its type, none where type
+// or class is not served, and RDLENGTH.
+pub fn body_at(bytes: &[u8], at: usize) -> Result<(Option<RType>, usize), WireError>
+    requires { at ≤ length bytes.now }
+    ensures is { (owner : List (List ℕ)) → entry_behind bytes.now (owner, at) ≡ and_then result (λ b. entry_kept b.0 bytes.now owner (four_at bytes.now (at + 4)) (at + 10) (at + 10 + b.1)) }
+    ensures within { IfOk result (λ b. at + 10 + b.1 ≤ length bytes.now) }
+{
+    if bytes.len() - at < 10 {
+        return Err(WireError::Short);
+    }
+    let size = usize::from(two_at(bytes, at + 8));
+    if bytes.len() - at - 10 < size {
+        return Err(WireError::Short);
+    }
+    Ok((served_type(two_at(bytes, at), two_at(bytes, at + 2)), size))
+}
+
 // The end of the record at a place, if that is skipped: its owner is walked, and takes no memory.
 fn skipped_end(bytes: &[u8], ends: &[u16], at: usize) -> Result<Option<usize>, WireError>
     requires { AreChainEnds bytes.now ends.now }
@@ -46,22 +64,37 @@ fn skipped_end(bytes: &[u8], ends: &[u16], at: usize) -> Result<Option<usize>, W
         return Ok(None);
     }
     let past = name_end(bytes, ends, at)?;
-    if bytes.len() - past < 10 {
-        return Err(WireError::Short);
-    }
-    let size = usize::from(two_at(bytes, past + 8));
-    let start = past + 10;
-    if bytes.len() - start < size {
-        return Err(WireError::Short);
-    }
-    match served_type(two_at(bytes, past), two_at(bytes, past + 2)) {
-        None => Ok(Some(start + size)),
+    let (kind, size) = body_at(bytes, past)?;
+    match kind {
+        None => Ok(Some(past + 10 + size)),
         Some(_) => Ok(None),
     }
 }
 
+// The record at a place, if it is served, and its end.
+fn record_at<A: Heap>(
+    alloc: A,
+    bytes: &[u8],
+    ends: &[u16],
+    at: usize,
+) -> Result<(Option<Record<A>>, usize), WireError>
+    requires { AreChainEnds bytes.now ends.now }
+    ensures { Gives {Y = Option plain.Record × ℕ} (λ x. (x.0, x.1)) result (entry_at bytes.now at) }
+{
+    let (owner, at) = name_at(alloc, bytes, ends, Faults::in_message(), bytes.len(), at)?;
+    let (kind, size) = body_at(bytes, at)?;
+    let start = at + 10;
+    match kind {
+        None => Ok((None, start + size)),
+        Some(kind) => {
+            let value = value_at(alloc, kind, bytes, ends, start, start + size)?;
+            let ttl = ttl_of(four_at(bytes, at + 4));
+            Ok((Some(Record { owner, ttl, value }), start + size))
+        }
+    }
+}
+
 // The record at a place, unless it is skipped, and its end. A skipped one takes no memory.
-#[tactic(auto, using(crate::proofs::Walks::fails_with), unfolding(crate::specs::Entries::entry_at))]
 fn entry_at<A: Heap>(
     alloc: A,
     bytes: &[u8],
@@ -72,25 +105,9 @@ fn entry_at<A: Heap>(
     ensures is { Gives {Y = Option plain.Record × ℕ} (λ x. (x.0, x.1)) result (entry_at bytes.now at) }
     ensures skipped { (end : ℕ) → entry_at bytes.now at ≡ Ok (None, end) → IsOk result }
 {
-    if let Some(end) = skipped_end(bytes, ends, at)? {
-        return Ok((None, end));
-    }
-    let (owner, at) = name_at(alloc, bytes, ends, Faults::in_message(), bytes.len(), at)?;
-    if bytes.len() - at < 10 {
-        return Err(WireError::Short);
-    }
-    let ttl = ttl_of(four_at(bytes, at + 4));
-    let size = usize::from(two_at(bytes, at + 8));
-    let start = at + 10;
-    if bytes.len() - start < size {
-        return Err(WireError::Short);
-    }
-    match served_type(two_at(bytes, at), two_at(bytes, at + 2)) {
-        None => Ok((None, start + size)),
-        Some(kind) => {
-            let value = value_at(alloc, kind, bytes, ends, start, start + size)?;
-            Ok((Some(Record { owner, ttl, value }), start + size))
-        }
+    match skipped_end(bytes, ends, at)? {
+        Some(end) => Ok((None, end)),
+        None => record_at(alloc, bytes, ends, at),
     }
 }
 

@@ -6,9 +6,8 @@ ghost use Rattle.wire.specs.Results.{end_of};
 ghost use Rattle.wire.specs.Values.{bytes_within, string_at, form_at};
 
 use crate::error::WireError;
-use crate::fields::two_at;
 use crate::names::{full_name_end, name_end, name_end_within};
-use crate::served::served_type;
+use crate::records::body_at;
 use rdata::RType;
 
 // The end of this many bytes.
@@ -115,26 +114,22 @@ fn form_end(
 }
 
 // The end of the record at a place, skipped or not.
-#[tactic(auto, using(crate::proofs::Skipping::handed), unfolding(crate::specs::Entries::entry_at, crate::specs::Values::value_at))]
 fn entry_end(bytes: &[u8], ends: &[u16], at: usize) -> Result<usize, WireError>
     requires { AreChainEnds bytes.now ends.now }
     ensures { result ≡ end_of (entry_at bytes.now at) }
 {
     let past = name_end(bytes, ends, at)?;
-    if bytes.len() - past < 10 {
-        return Err(WireError::Short);
-    }
-    let size = usize::from(two_at(bytes, past + 8));
-    let start = past + 10;
-    if bytes.len() - start < size {
-        return Err(WireError::Short);
-    }
-    if let Some(kind) = served_type(two_at(bytes, past), two_at(bytes, past + 2)) {
-        if form_end(kind, bytes, ends, start, start + size)? != start + size {
-            return Err(WireError::BadRdataLength);
+    let (kind, size) = body_at(bytes, past)?;
+    let end = past + 10 + size;
+    match kind {
+        None => Ok(end),
+        Some(kind) => {
+            if form_end(kind, bytes, ends, past + 10, end)? != end {
+                return Err(WireError::BadRdataLength);
+            }
+            Ok(end)
         }
     }
-    Ok(start + size)
 }
 
 // The end of this many records from a place on: of two of 16 bytes at 19, 51.

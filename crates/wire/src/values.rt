@@ -1,9 +1,10 @@
 //! RDATA read, within the length that RDLENGTH gives.
-ghost use Rattle.std.specs.Prelude.{ℕ, ◌≤◌, List, length, IfOk};
+ghost use Rattle.std.specs.Prelude.{◌≡◌, ℕ, ◌+◌, ◌≤◌, List, length, IfOk};
 ghost use Rattle.rdata.specs.Data.{Datum};
 ghost use Rattle.rdata.specs.Kept.{datum};
 ghost use Rattle.wire.specs.Values.{texts_at, form_at, value_at, name_within};
 ghost use Rattle.wire.specs.Chains.{AreChainEnds};
+ghost use Rattle.wire.specs.Numbers.{four_at};
 ghost use Rattle.wire.specs.Results.{Gives};
 
 use crate::error::WireError;
@@ -41,6 +42,22 @@ fn texts_at<A: Heap>(alloc: A, bytes: &[u8], at: usize, end: usize) -> Result<Te
     Ok(Texts::of_wire(wire))
 }
 
+// An SOA of two names and of the five numbers at a place.
+fn soa_of<A: Heap>(primary: Name<A>, mailbox: Name<A>, bytes: &[u8], at: usize) -> Soa<A>
+    requires { at + 20 ≤ length bytes.now }
+    ensures { result ≡ record { primary = primary; mailbox = mailbox; serial = four_at bytes.now at; refresh = four_at bytes.now (at + 4); retry = four_at bytes.now (at + 8); expire = four_at bytes.now (at + 12); minimum = four_at bytes.now (at + 16) } }
+{
+    Soa {
+        primary,
+        mailbox,
+        serial: four_at(bytes, at),
+        refresh: four_at(bytes, at + 4),
+        retry: four_at(bytes, at + 8),
+        expire: four_at(bytes, at + 12),
+        minimum: four_at(bytes, at + 16),
+    }
+}
+
 fn soa_at<A: Heap>(
     alloc: A,
     bytes: &[u8],
@@ -57,16 +74,8 @@ fn soa_at<A: Heap>(
     if end - at < 20 {
         return Err(WireError::BadRdataLength);
     }
-    let soa = Soa {
-        primary,
-        mailbox,
-        serial: four_at(bytes, at),
-        refresh: four_at(bytes, at + 4),
-        retry: four_at(bytes, at + 8),
-        expire: four_at(bytes, at + 12),
-        minimum: four_at(bytes, at + 16),
-    };
-    Ok((RData::Soa(Box::new(alloc, soa)?), at + 20))
+    let soa = Box::new(alloc, soa_of(primary, mailbox, bytes, at))?;
+    Ok((RData::Soa(soa), at + 20))
 }
 
 fn mx_at<A: Heap>(
@@ -102,11 +111,14 @@ fn srv_at<A: Heap>(
     if end - at < 6 {
         return Err(WireError::BadRdataLength);
     }
+    let priority = two_at(bytes, at);
+    let weight = two_at(bytes, at + 2);
+    let port = two_at(bytes, at + 4);
     let (target, past) = full_name_at(alloc, bytes, Faults::in_rdata(), end, at + 6)?;
     let srv = Srv {
-        priority: two_at(bytes, at),
-        weight: two_at(bytes, at + 2),
-        port: two_at(bytes, at + 4),
+        priority,
+        weight,
+        port,
         target,
     };
     Ok((RData::Srv(Box::new(alloc, srv)?), past))

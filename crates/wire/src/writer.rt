@@ -102,15 +102,6 @@ impl<A: Heap> Writer<A> {
         self.put_bytes(&two)
     }
 
-    // A number of 32 bits.
-    fn put_four(&mut self, number: u32) -> Result<(), Starved>
-        ensures { OnOk result (self.new ≡ put_flat self.old (plain_bytes (bytes_high_first 4 number))) }
-    {
-        let mut four = [0; 4];
-        BigEndian::write_u32(&mut four, number);
-        self.put_bytes(&four)
-    }
-
     // A question's type and class.
     fn put_type_and_class(&mut self, kind: u16, class: u16) -> Result<(), Starved>
         ensures { OnOk result (self.new ≡ put_flat (put_flat self.old (short_number kind)) (short_number class)) }
@@ -192,10 +183,8 @@ impl<A: Heap> Writer<A> {
     {
         match value {
             RData::A(address) => self.put_bytes(&address.0),
-            RData::Ns(name) => self.put_name(name),
-            RData::Cname(name) => self.put_name(name),
+            RData::Ns(name) | RData::Cname(name) | RData::Ptr(name) => self.put_name(name),
             RData::Soa(soa) => self.put_soa(soa),
-            RData::Ptr(name) => self.put_name(name),
             RData::Mx(preference, name) => {
                 self.put_two(*preference)?;
                 self.put_name(name)
@@ -206,17 +195,32 @@ impl<A: Heap> Writer<A> {
         }
     }
 
+    // The five numbers of an SOA.
+    fn put_numbers(
+        &mut self,
+        serial: u32,
+        refresh: u32,
+        retry: u32,
+        expire: u32,
+        minimum: u32,
+    ) -> Result<(), Starved>
+        ensures { OnOk result (self.new ≡ put_flat (put_flat (put_flat (put_flat (put_flat self.old (long_number serial)) (long_number refresh)) (long_number retry)) (long_number expire)) (long_number minimum)) }
+    {
+        let [s, t, u, v] = serial.to_be_bytes();
+        let [f, g, h, i] = refresh.to_be_bytes();
+        let [r, q, p, o] = retry.to_be_bytes();
+        let [e, d, c, b] = expire.to_be_bytes();
+        let [m, n, k, l] = minimum.to_be_bytes();
+        self.put_bytes(&[s, t, u, v, f, g, h, i, r, q, p, o, e, d, c, b, m, n, k, l])
+    }
+
     fn put_soa(&mut self, soa: &Soa<A>) -> Result<(), Starved>
         ensures written { OnOk result (self.new ≡ put_flats self.old (data_flats (plain.Soa soa.now))) }
         ensures fits { OnOk result (FitsRdata (plain.Soa soa.now) × AreNamesOf (plain.Soa soa.now)) }
     {
         self.put_name(&soa.primary)?;
         self.put_name(&soa.mailbox)?;
-        self.put_four(soa.serial)?;
-        self.put_four(soa.refresh)?;
-        self.put_four(soa.retry)?;
-        self.put_four(soa.expire)?;
-        self.put_four(soa.minimum)
+        self.put_numbers(soa.serial, soa.refresh, soa.retry, soa.expire, soa.minimum)
     }
 
     fn put_srv(&mut self, srv: &Srv<A>) -> Result<(), Starved>

@@ -1,12 +1,13 @@
 //! What the servers of a world reply.
-ghost use Rattle.std.specs.Prelude.{◌≡◌, ◌<◌, ◌++◌, ◌||◌, ℕ, List, IfOk, IfSome, OnOk, Some, option_map};
+ghost use Rattle.std.specs.Prelude.{◌≡◌, ◌<◌, ◌++◌, ◌||◌, ℕ, List, Option, IfOk, IfSome, OnOk, Some, option_map};
 ghost use Rattle.rdata.specs.Types.{type_number};
+ghost use Rattle.message_grammar.specs.Messages.{Message};
 ghost use Rattle.zone.specs.Look.{Linked};
 ghost use Rattle.zone.specs.Views.{link_view};
 ghost use Rattle.authority.specs.Catalogs.{looked, among};
 ghost use Rattle.front.specs.declared.queries.Request.TheVariants as asked;
 ghost use Rattle.worlds.specs.Rules.{has_name, serves_at, serves};
-ghost use Rattle.worlds.specs.Hosting.{IsFollowed, host_header, referral_to, answer_to, IsSent, IsReplyFrom, IsHostReply, IsHonestReply};
+ghost use Rattle.worlds.specs.Hosting.{IsFollowed, host_header, referral_to, answer_to, IsReplyBy, IsSent, IsReplyFrom, IsHostReply, IsHonestReply};
 
 use crate::world::{Host, World};
 use authority::{Catalog, Local};
@@ -141,6 +142,55 @@ fn sent<A: Heap>(alloc: A, reply: &Draft<'_, A>) -> Result<Option<Vec<u8, A>>, S
     reply.encode(&mut Writer::new(alloc)?, TCP_LIMIT)
 }
 
+// The bytes of a referral.
+fn refer<A: Heap>(
+    alloc: A,
+    query: &Query<A>,
+    ns: Records<A>,
+    glue: Records<A>,
+) -> Result<Option<Vec<u8, A>>, Starved>
+    ensures { IfOk result (λ r. IsSent (Some (referral_to query.now ns glue)) (option_map (λ v. v.items) r)) }
+{
+    let given = sent(alloc, &referral(query, &ns, &glue));
+    drop(ns);
+    drop(glue);
+    given
+}
+
+// The bytes of the aliases from that link on, and of where they end.
+fn say<A: Heap>(
+    alloc: A,
+    catalog: &Catalog<A>,
+    origins: &[Name<A>],
+    query: &Query<A>,
+    first: Link<A>,
+) -> Result<Option<Vec<u8, A>>, Starved>
+    ensures { looked (among origins.now catalog.now) query.now.name (type_number query.now.kind) ≡ Linked (link_view first)
+        → IfOk result (λ r. (m : Option Message) × IsReplyBy (λ n. looked (among origins.now catalog.now) n (type_number query.now.kind)) query.now (Linked (link_view first)) m × IsSent m (option_map (λ v. v.items) r)) }
+{
+    let (aliases, end) = follow(alloc, catalog, origins, query.kind, first)?;
+    let given = sent(alloc, &answer(query, &aliases, &end));
+    drop(aliases);
+    drop(end);
+    given
+}
+
+// The reply of the zones of those origins.
+fn reply_among<A: Heap>(
+    alloc: A,
+    catalog: &Catalog<A>,
+    origins: &[Name<A>],
+    query: &Query<A>,
+) -> Result<Option<Vec<u8, A>>, Starved>
+    ensures { IfOk result (λ r. (m : Option Message) × IsReplyBy (λ n. looked (among origins.now catalog.now) n (type_number query.now.kind)) query.now (looked (among origins.now catalog.now) query.now.name (type_number query.now.kind)) m × IsSent m (option_map (λ v. v.items) r)) }
+{
+    match catalog.look_among(alloc, origins, &query.name, query.kind)? {
+        Local::NotHere => Ok(None),
+        Local::Cut(_, ns, glue) => refer(alloc, query, ns, glue),
+        Local::Link(first) => say(alloc, catalog, origins, query, first),
+    }
+}
+
 // What the server replies to a query.
 fn reply_to<A: Heap>(
     alloc: A,
@@ -151,16 +201,9 @@ fn reply_to<A: Heap>(
     ensures { IfOk result (λ r. IsReplyFrom world.now address.0 (asked.Query query.now) (option_map (λ v. v.items) r)) }
 {
     let served = served_origins(alloc, world.hosts(), address)?;
-    let origins = served.as_slice();
-    let catalog = world.catalog();
-    match catalog.look_among(alloc, origins, &query.name, query.kind)? {
-        Local::NotHere => Ok(None),
-        Local::Cut(_, ns, glue) => Ok(sent(alloc, &referral(query, &ns, &glue))?),
-        Local::Link(link) => {
-            let (aliases, end) = follow(alloc, catalog, origins, query.kind, link)?;
-            Ok(sent(alloc, &answer(query, &aliases, &end))?)
-        }
-    }
+    let given = reply_among(alloc, world.catalog(), served.as_slice(), query);
+    drop(served);
+    given
 }
 
 /// What the server at an address of the world replies to a client's bytes (RFC 1034, section 4.3.2): nothing
@@ -181,7 +224,11 @@ pub fn host_reply<A: Heap>(
     reading_is_one(alloc);
     echo_is_question(alloc);
     match read_query(alloc, bytes)? {
-        Request::Query(query) => Ok(reply_to(alloc, world, address, &query)?),
+        Request::Query(query) => {
+            let given = reply_to(alloc, world, address, &query);
+            drop(query);
+            given
+        }
         Request::Drop | Request::Refuse(_, _, _) => Ok(None),
     }
 }

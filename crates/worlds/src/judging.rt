@@ -151,8 +151,16 @@ fn is_rest<A: Heap>(
 {
     world.well_formed_law();
     match world.link(name, kind)? {
-        Link::Alias(alias) => Ok(goes_on(world, &alias, kind, answer, left, rcode, authority)?),
-        Link::Found(set) => Ok(is_found(&set, answer, rcode, authority)?),
+        Link::Alias(alias) => {
+            let right = goes_on(world, &alias, kind, answer, left, rcode, authority);
+            drop(alias);
+            right
+        }
+        Link::Found(set) => {
+            let right = is_found(&set, answer, rcode, authority);
+            drop(set);
+            right
+        }
         Link::NoData(soa) => Ok(is_denied(&soa, NO_ERROR, answer, rcode, authority)),
         Link::NxDomain(soa) => Ok(is_denied(&soa, NX_DOMAIN, answer, rcode, authority)),
     }
@@ -212,7 +220,11 @@ pub fn judge<A: Heap>(
     ensures { IfOk result (λ b. IsTrue b ↔ IsRight world.now name.now (type_number kind) bytes.now) }
 {
     match decode(name.allocator(), bytes) {
-        Ok(reply) => Ok(is_right(world, name, kind, &reply)?),
+        Ok(reply) => {
+            let right = is_right(world, name, kind, &reply);
+            drop(reply);
+            right
+        }
         Err(WireError::Memory) => Err(Starved),
         Err(_) => Ok(false),
     }

@@ -116,7 +116,9 @@ fn look_misses<A: Heap>(
     ensures { IfOk result (λ b. b ≡ look_misses hosts.now cut.now (looked catalog.now name.now a_type)) }
 {
     let found = catalog.look(name.allocator(), name, RType::A)?;
-    Ok(found_misses(&found, cut, hosts)?)
+    let missed = found_misses(&found, cut, hosts);
+    drop(found);
+    missed
 }
 
 // Whether a zone has, or the look-up finds, an address of the name that does not serve the cut.

@@ -12,3 +12,4 @@ pub mod LawZones
 pub mod Members
 pub mod Trees
 pub mod LawNames
+pub mod Anys

@@ -86,12 +86,22 @@ fn some_is_wildcard_authority<A: Allocator>(records: &[Record<A>]) -> bool
     records.iter().any(|record| is_wildcard_authority(record))
 }
 
+// Whether the record's owner is a wildcard beneath a cut.
+fn is_wildcard_beneath<A: Heap>(cuts: &Cuts<A>, rr: &Record<A>) -> Result<bool, Starved>
+    ensures { IfOk result (λ b. b ≡ is_wildcard_beneath cuts.now rr.now) }
+{
+    if !rr.owner.is_wildcard() {
+        return Ok(false);
+    }
+    cuts.is_beneath_cut(&rr.owner)
+}
+
 // Whether a wildcard stands beneath a cut.
 fn some_wildcard_is_beneath<A: Heap>(cuts: &Cuts<A>, records: &[Record<A>]) -> Result<bool, Starved>
     ensures { IfOk result (λ b. b ≡ list_any (is_wildcard_beneath cuts.now) records.now) }
 {
     for record in records {
-        if record.owner.is_wildcard() && cuts.is_beneath_cut(&record.owner)? {
+        if is_wildcard_beneath(cuts, record)? {
             return Ok(true);
         }
     }

@@ -1,33 +1,23 @@
-use Rattle.std.proofs.Common.{◌∙◌, true, false, sym, ap, map}
+use Rattle.std.proofs.Common.{◌∙◌, refl, ap, map}
 use Rattle.std.proofs.lemmas.List.{take_all}
 use Rattle.rdata.specs.Kept.{datum}
-use Rattle.rdata.specs.Records.{Record}
 use Rattle.rdata.specs.Types.{type_number}
 use Rattle.rdata.proofs.Found.{none_found}
 use Rattle.authority.specs.Climb.{target, is_picked, picked}
 use Rattle.authority.specs.Values.{values_of}
 use Rattle.authority.proofs.SetRows.{value_more}
 use Rattle.authority.proofs.gather.values_of.Goals as goal
-use Rattle.authority.proofs.gather.values_of.Goals.{then-answers+in_ok-put_once, else-answers}
 
 pub loop-rr-init : goal.loop-rr-init
 loop-rr-init g c = record { made = ap (map datum) c.new-values.ensures.items; found = none_found c.new-later.result c.new-values.result.items c.new-later.ensures.empty c.new-values.ensures.items }
 
 pub loop-rr-preserved : goal.loop-rr-preserved
-loop-rr-preserved g c = elim c.if-answers.branch [
-  | then-answers+in_ok-put_once w ↦ record {
-    made = value_more (is_picked (target c.args.whose c.args.name.now) (type_number c.args.kind)) c.args.records.now (map datum c.loop-rr.values.items) (map datum c.if-answers.values.items) c.loop-rr.rr-index
-        c.rr-item.result (datum c.rr.inside.value) true c.loop-rr-test.true c.rr-item.is (sym w.if-answers.true ∙ c.answers.ensures) (ap (λ (r : Record). r.value) c.rr.view_is) c.loop-rr.invariant.made
-        (ap (λ v. map datum v.items) w.values-is ∙ w.in_ok-put_once.ensures.values);
-    found = rw w.later-is (rw w.values-is w.in_ok-put_once.ensures.found);
-  }
-  | else-answers w ↦ record {
-    made = value_more (is_picked (target c.args.whose c.args.name.now) (type_number c.args.kind)) c.args.records.now (map datum c.loop-rr.values.items) (map datum c.if-answers.values.items) c.loop-rr.rr-index
-        c.rr-item.result (datum c.rr.inside.value) false c.loop-rr-test.true c.rr-item.is (sym w.if-answers.false ∙ c.answers.ensures) (ap (λ (r : Record). r.value) c.rr.view_is) c.loop-rr.invariant.made
-        (ap (λ v. map datum v.items) w.values-is);
-    found = rw w.later-is (rw w.values-is c.loop-rr.invariant.found);
-  }
-]
+loop-rr-preserved g c = record {
+  made = value_more (is_picked (target c.args.whose c.args.name.now) (type_number c.args.kind)) c.args.records.now (map datum c.loop-rr.values.items) (map datum c.put_wanted.new.values.items)
+      c.loop-rr.rr-index c.rr-item.result c.rr-item.result.value c.answers.result c.loop-rr-test.true c.rr-item.is c.answers.ensures refl c.loop-rr.invariant.made
+      c.in_ok-put_wanted.ensures.values;
+  found = c.in_ok-put_wanted.ensures.found;
+}
 
 pub returns : goal.returns
 returns g c =

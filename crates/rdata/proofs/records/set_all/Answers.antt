@@ -9,3 +9,6 @@ loop-record-preserved g c =
 
 pub returns : goal.returns
 returns g c = set_whole c.args.ttl c.args.records.now c.loop-record.records c.loop-record.record-index c.loop-record-test.false c.loop-record.invariant
+
+pub invariant_of-record : goal.invariant_of-record
+invariant_of-record g c = c.requires

@@ -7,7 +7,7 @@ use Rattle.message_grammar.specs.Pieces.{Text, after}
 use Rattle.wire.specs.Drafts.{asked_alone}
 use Rattle.wire.proofs.Writing.{draft_text}
 use Rattle.wire.proofs.Fitting.{all_both}
-use Rattle.wire.proofs.Putting.{GivenText, four_puts, four_after, text_given_out}
+use Rattle.wire.proofs.Putting.{GivenText, four_after, text_given_out}
 use Rattle.wire.proofs.encoder.Draft.encode.Given.{Over}
 use Rattle.wire.proofs.encoder.Draft.encode.Goals as goal
 
@@ -27,9 +27,7 @@ out g c =
     (c.low_count.ensures ∙ ap (λ n. length d.questions.now % 65536 + n % 65536) c.count_of.ensures)
     (c.low_count-2.ensures ∙ ap (λ n. length d.first.now % 65536 + n % 65536) c.len_of.ensures) refl refl
     c.in_ok-put_questions.ensures.written c.in_ok-put_repeated.ensures.written refl refl refl refl in
-    text_given_out (λ v. v.items) c.finish.result c.args.limit (((first ++ second) ++ authority) ++ additional) q c.put_records-3.new.self c.args.self.now
-    (four_puts c.args.limit first second authority additional q c.put_records.new.self c.put_lent.new.writer c.put_records-2.new.self c.put_records-3.new.self
-    c.in_ok-put_records.ensures c.in_ok-put_lent.ensures c.in_ok-put_records-2.ensures c.in_ok-put_records-3.ensures)
+    text_given_out (λ v. v.items) c.finish.result c.args.limit (((first ++ second) ++ authority) ++ additional) q c.put_sections.new.writer c.args.self.now c.in_ok-put_sections.ensures
     (sym (ap (λ (t : Text). t.bytes) (four_after first second authority additional q)) ∙ (text ∙ ap encoding c.self.view_is)) c.finish.ensures c.requires
     (λ f. subst IsWritable c.self.view_is (record {
       header = c.in_ok-put_header.ensures.fits;

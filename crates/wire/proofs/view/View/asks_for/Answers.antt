@@ -1,4 +1,4 @@
-use Rattle.std.proofs.Common.{◌-◌, ◌∙◌, length, sym, ap, arith}
+use Rattle.std.proofs.Common.{◌∙◌, length, sym, ap, arith}
 use Rattle.dname.specs.Laws.{same_name-exact, same_name-equal}
 use Rattle.message_grammar.specs.Messages.{Question, Message}
 use Rattle.wire.specs.Numbers.{two_at}
