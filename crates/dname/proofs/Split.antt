@@ -1,7 +1,6 @@
 -- The first label of a name in wire form, and what stands behind it.
 use Rattle.std.proofs.Common.{◌≡◌, ℕ, ◌+◌, ◌<◌, ◌≤◌, List, [], ◌∷◌, ◌++◌, length, take, drop, get_or, Some, suc, ◌-◌, refl, sym, ◌∙◌, ap, subst, arith, length-append}
 use Rattle.std.proofs.Math.Seq.{take-append_seam, drop-append_seam, take-length, paste}
-use Rattle.std.specs.List.{copy_within}
 use Rattle.dname.specs.Labels.{wire, root, before_root, AreLabels, IsLabel, parent_of}
 use Rattle.dname.specs.Wire.{labels_of, IsWire, IsSplit, IsNameWire}
 use Rattle.dname.specs.Laws.{labels_of-wire}

@@ -4,5 +4,5 @@ use Rattle.dname.specs.declared.bytes.Place.{Place}
 use Rattle.dname.specs.declared.bytes.Place.TheVariants as place
 
 abbrev pub bytes_in : {H : Type 0} → Place H → List ℕ
-bytes_in (place.Inline bs _) = bs.items
+bytes_in (place.Inline bs _) = bs
 bytes_in (place.Heap bs) = bs.items

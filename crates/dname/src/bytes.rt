@@ -1,19 +1,83 @@
 //! Where the bytes of a name lie: a few of them in the value itself, so that most names take no other memory.
-ghost use Rattle.std.specs.Prelude.{◌≡◌, ◌-◌, ◌≤◌, drop, length, map, IfOk, IfSome, OnOk, OnErr};
+ghost use Rattle.std.specs.Prelude.{◌≡◌, ◌-◌, ◌≤◌, drop, length, map, IfOk, OnOk, OnErr};
 ghost use Rattle.std.specs.Char.{to_ascii_lowercase};
 
-use arrayvec::ArrayVec;
 use memory::Heap;
 use std::alloc::{AllocError, Allocator, Global};
 use std::marker::Model;
 
 /// A name of at most so many bytes, with its length bytes and closing zero, takes no memory but the value's own.
-pub const INLINE_NAME: usize = 40;
+pub const INLINE_NAME: usize = 30;
+
+// A few bytes, at the front of an array. With `u8` for their number a name's value has 32 bytes in all.
+#[derive(Drop)]
+pub(crate) struct Inline {
+    size: u8,
+    bytes: [u8; INLINE_NAME],
+}
+
+impl Model for Inline {
+    ghost use Rattle.std.specs.Prelude.{◌≤◌, List, ℕ, take};
+
+    ghost Value = { List ℕ };
+
+    ghost view = { λ i. take i.size i.bytes };
+
+    ghost invariant = { λ i. i.size ≤ 30 };
+}
+
+impl Inline {
+    // These bytes.
+    fn of(bytes: &[u8]) -> Inline
+        requires { length bytes.now ≤ 30 }
+        ensures { result ≡ bytes.now }
+    {
+        let mut all = [0; INLINE_NAME];
+        all[..bytes.len()].copy_from_slice(bytes);
+        Inline {
+            size: bytes.len() as u8,
+            bytes: all,
+        }
+    }
+
+    fn copied(&self) -> Inline
+        ensures { result ≡ self.now }
+    {
+        Inline {
+            size: self.size,
+            bytes: self.bytes,
+        }
+    }
+
+    // The same with letters from A to Z in lower case.
+    fn lower(mut self) -> Inline
+        ensures { result ≡ map to_ascii_lowercase self }
+    {
+        self.bytes.make_ascii_lowercase();
+        self
+    }
+
+    fn as_slice(&self) -> &[u8]
+        ensures is { result.now ≡ self.now }
+        ensures few { length self.now ≤ 30 }
+    {
+        &self.bytes[..usize::from(self.size)]
+    }
+
+    // The last ones, so many of them.
+    fn last(&self, left: usize) -> Inline
+        requires { left ≤ length self.now }
+        ensures { result ≡ drop (length self.now - left) self.now }
+    {
+        let bytes = self.as_slice();
+        Inline::of(&bytes[bytes.len() - left..])
+    }
+}
 
 // Where bytes lie.
 pub(crate) enum Place<A: Allocator> {
     // In the value, with the allocator for longer ones.
-    Inline(ArrayVec<u8, INLINE_NAME>, A),
+    Inline(Inline, A),
     Heap(Vec<u8, A>),
 }
 
@@ -51,17 +115,6 @@ impl<A: Allocator> Drop for NameBytes<A> {
     }
 }
 
-// These bytes, where there are few.
-fn inline(bytes: &[u8]) -> Option<ArrayVec<u8, INLINE_NAME>>
-    ensures { IfSome result (λ a. a.items ≡ bytes.now) }
-{
-    let mut inline = ArrayVec::new();
-    match inline.try_extend_from_slice(bytes) {
-        Ok(()) => Some(inline),
-        Err(_) => None,
-    }
-}
-
 impl<A: Allocator> NameBytes<A> {
     /// The bytes.
     pub(crate) fn as_slice(&self) -> &[u8]
@@ -87,11 +140,7 @@ impl<A: Allocator> NameBytes<A> {
         ensures { self.new ≡ drop (length self.old - left) self.old }
     {
         match &mut self.place {
-            Place::Inline(bytes, _) => {
-                let size = bytes.len();
-                bytes.copy_within(size - left.., 0);
-                bytes.truncate(left);
-            }
+            Place::Inline(bytes, _) => *bytes = bytes.last(left),
             Place::Heap(bytes) => {
                 let size = bytes.len();
                 bytes.copy_within(size - left.., 0);
@@ -106,9 +155,10 @@ impl<A: Heap> NameBytes<A> {
     pub(crate) fn new(alloc: A, bytes: &[u8]) -> Result<NameBytes<A>, AllocError>
         ensures { IfOk result (λ b. b ≡ bytes.now) }
     {
-        let place = match inline(bytes) {
-            Some(inline) => Place::Inline(inline, alloc),
-            None => Place::Heap(Vec::from_slice(alloc, bytes)?),
+        let place = if bytes.len() <= INLINE_NAME {
+            Place::Inline(Inline::of(bytes), alloc)
+        } else {
+            Place::Heap(Vec::from_slice(alloc, bytes)?)
         };
         Ok(NameBytes { place })
     }
@@ -117,9 +167,10 @@ impl<A: Heap> NameBytes<A> {
     pub(crate) fn of_vec(bytes: Vec<u8, A>) -> NameBytes<A>
         ensures { result ≡ bytes.items }
     {
-        let place = match inline(&bytes) {
-            Some(inline) => Place::Inline(inline, *bytes.allocator()),
-            None => Place::Heap(bytes),
+        let place = if bytes.len() <= INLINE_NAME {
+            Place::Inline(Inline::of(&bytes), *bytes.allocator())
+        } else {
+            Place::Heap(bytes)
         };
         NameBytes { place }
     }
@@ -128,12 +179,10 @@ impl<A: Heap> NameBytes<A> {
     pub(crate) fn lower(alloc: A, bytes: &[u8]) -> Result<NameBytes<A>, AllocError>
         ensures { IfOk result (λ b. b ≡ map to_ascii_lowercase bytes.now) }
     {
-        let place = match inline(bytes) {
-            Some(mut inline) => {
-                inline.make_ascii_lowercase();
-                Place::Inline(inline, alloc)
-            }
-            None => Place::Heap(bytes.to_ascii_lowercase(alloc)?),
+        let place = if bytes.len() <= INLINE_NAME {
+            Place::Inline(Inline::of(bytes).lower(), alloc)
+        } else {
+            Place::Heap(bytes.to_ascii_lowercase(alloc)?)
         };
         Ok(NameBytes { place })
     }
@@ -157,6 +206,10 @@ impl<A: Heap> Clone for NameBytes<A> {
     ghost is_clone = { λ x y. y ≡ x };
 
     fn clone(&self) -> Result<NameBytes<A>, AllocError> {
-        NameBytes::new(*self.allocator(), self.as_slice())
+        let place = match &self.place {
+            Place::Inline(bytes, alloc) => Place::Inline(bytes.copied(), *alloc),
+            Place::Heap(bytes) => Place::Heap(Vec::from_slice(*bytes.allocator(), bytes)?),
+        };
+        Ok(NameBytes { place })
     }
 }

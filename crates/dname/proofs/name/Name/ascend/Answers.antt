@@ -1,4 +1,4 @@
-use Rattle.std.proofs.Common.{◌≡◌, rules, length}
+use Rattle.std.proofs.Common.{rules}
 use Rattle.dname.specs.Wire.{IsSplit}
 use Rattle.dname.proofs.Split.{last_front, ascended, ascended_parent}
 use Rattle.dname.proofs.name.Name.ascend.Goals as goal
