@@ -1,4 +1,6 @@
-use Rattle.std.proofs.Common.{◌≡◌, List, [], ◌∷◌, map, sym, ◌∙◌, ap}
+use Rattle.std.proofs.Common.{◌≡◌, List, [], ◌∷◌, map, length, sym, ◌∙◌, ap, arith}
+use Rattle.std.proofs.lemmas.Bool.{false≢true}
+use Rattle.std.proofs.lemmas.List.{length-map}
 use Rattle.rdata.specs.Data.{Datum}
 use Rattle.rdata.specs.Kept.{datum}
 use Rattle.rdata.proofs.Exact.{same_data-exact, same_data-equal, only_item}
@@ -20,3 +22,12 @@ returns-in-len1 g c =
       λ t. alone ∙ ap (λ (d : Datum). d ∷ []) (same_data-exact one other (sym c.eq.ensures ∙ t)),
       λ e. c.eq.ensures ∙ same_data-equal one other (same_first one other (sym alone ∙ e)),
     )
+
+pub returns-in_default-2 : goal.returns-in_default-2
+returns-in_default-2 g c = (
+  λ t. absurd (false≢true t),
+  λ e.
+      let one : length c.as_slice.result.now ≡ 1 = sym (length-map c.as_slice.result.now datum) ∙ ap length (c.as_slice.ensures.is ∙ e) in
+      let more = c.in_default.len_at_least in
+      absurd (omega (arith, one, more)),
+)
