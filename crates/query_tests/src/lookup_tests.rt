@@ -216,6 +216,6 @@ fn growths_of_find<B: Allocator>(heap: &Refusing<B>) -> Result<(bool, u64), Star
 #[test]
 fn growths_of_a_cached_answer(rt: HostRuntime) -> Result<(), Fail> {
     let heap = Refusing::new(rt.alloc());
-    assert_eq!(rt; growths_of_find(&heap)?, (true, 1));
+    assert_eq!(rt; growths_of_find(&heap)?, (true, 0));
     Ok(())
 }
