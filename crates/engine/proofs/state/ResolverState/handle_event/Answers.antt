@@ -1,5 +1,5 @@
 use Rattle.std.proofs.Common.{◌≡◌, ◌∙◌, sym, ap, subst, None, Some}
-use Rattle.events.specs.declared.event.Event.{Event as Typed}
+use Rattle.events.specs.declared.event.Event.{Event as EventSpec}
 use Rattle.runs.specs.States.{Event, Client, Datagram, TcpReply, TcpFailed, Tick}
 use Rattle.events.specs.Paths.{endpoint_view}
 use Rattle.events.specs.Views.{event_view}
@@ -11,7 +11,7 @@ use Rattle.engine.proofs.state.ResolverState.handle_event.Given.{Over}
 use Rattle.engine.proofs.state.ResolverState.handle_event.Goals as goal
 
 at_client : (g : Over) (c : goal.After-alone g) → event_view c.args.event.now ≡ Client c.in-Client.moment c.in-Client.client c.in-Client.way c.as_slice.result.now
-at_client g c = ap (λ (e : Typed g.row.A.Denot). event_view e) c.in-Client.is ∙ ap (λ bytes. Client c.in-Client.moment c.in-Client.client c.in-Client.way bytes) (sym c.as_slice.ensures.is)
+at_client g c = ap (λ (e : EventSpec g.row.A.Denot). event_view e) c.in-Client.is ∙ ap (λ bytes. Client c.in-Client.moment c.in-Client.client c.in-Client.way bytes) (sym c.as_slice.ensures.is)
 
 pub returns-in-Client-clause-ok : goal.returns-in-Client-clause-ok
 returns-in-Client-clause-ok g c =
@@ -27,7 +27,7 @@ pub returns-in-Client-clause-quiet : goal.returns-in-Client-clause-quiet
 returns-in-Client-clause-quiet g c q = alone_quiet c.client.result c.alone.result c.alone.ensures (c.client.ensures.quiet (subst (λ (e : Event). IsQuiet (state_of c.args.self.now) e) (at_client g c) q))
 
 at_datagram : (g : Over) (c : goal.After-alone-in-Datagram g) → event_view c.args.event.now ≡ Datagram c.in-Datagram.moment c.in-Datagram.socket (endpoint_view c.in-Datagram.from) c.as_slice-in-Datagram.result.now
-at_datagram g c = ap (λ (e : Typed g.row.A.Denot). event_view e) c.in-Datagram.is ∙ ap (λ bytes. Datagram c.in-Datagram.moment c.in-Datagram.socket (endpoint_view c.in-Datagram.from) bytes) (sym c.as_slice-in-Datagram.ensures.is)
+at_datagram g c = ap (λ (e : EventSpec g.row.A.Denot). event_view e) c.in-Datagram.is ∙ ap (λ bytes. Datagram c.in-Datagram.moment c.in-Datagram.socket (endpoint_view c.in-Datagram.from) bytes) (sym c.as_slice-in-Datagram.ensures.is)
 
 pub returns-in-Datagram-clause-ok : goal.returns-in-Datagram-clause-ok
 returns-in-Datagram-clause-ok g c =
@@ -43,7 +43,7 @@ pub returns-in-Datagram-clause-quiet : goal.returns-in-Datagram-clause-quiet
 returns-in-Datagram-clause-quiet g c q = alone_quiet c.datagram.result c.alone-in-Datagram.result c.alone-in-Datagram.ensures (c.datagram.ensures.quiet c.in-Datagram.moment (subst (λ (e : Event). IsQuiet (state_of c.args.self.now) e) (at_datagram g c) q))
 
 at_reply : (g : Over) (c : goal.After-alone-in-TcpReply g) → event_view c.args.event.now ≡ TcpReply c.in-TcpReply.moment c.in-TcpReply.number c.as_slice-in-TcpReply.result.now
-at_reply g c = ap (λ (e : Typed g.row.A.Denot). event_view e) c.in-TcpReply.is ∙ ap (λ bytes. TcpReply c.in-TcpReply.moment c.in-TcpReply.number bytes) (sym c.as_slice-in-TcpReply.ensures.is)
+at_reply g c = ap (λ (e : EventSpec g.row.A.Denot). event_view e) c.in-TcpReply.is ∙ ap (λ bytes. TcpReply c.in-TcpReply.moment c.in-TcpReply.number bytes) (sym c.as_slice-in-TcpReply.ensures.is)
 
 pub returns-in-TcpReply-clause-ok : goal.returns-in-TcpReply-clause-ok
 returns-in-TcpReply-clause-ok g c =
@@ -59,7 +59,7 @@ pub returns-in-TcpReply-clause-quiet : goal.returns-in-TcpReply-clause-quiet
 returns-in-TcpReply-clause-quiet g c q = alone_quiet c.tcp_reply.result c.alone-in-TcpReply.result c.alone-in-TcpReply.ensures (c.tcp_reply.ensures.quiet c.in-TcpReply.moment (subst (λ (e : Event). IsQuiet (state_of c.args.self.now) e) (at_reply g c) q))
 
 at_failure : (g : Over) (c : goal.After-alone-in-TcpFailed g) → event_view c.args.event.now ≡ TcpFailed c.in-TcpFailed.moment c.in-TcpFailed.number
-at_failure g c = ap (λ (e : Typed g.row.A.Denot). event_view e) c.in-TcpFailed.is
+at_failure g c = ap (λ (e : EventSpec g.row.A.Denot). event_view e) c.in-TcpFailed.is
 
 pub returns-in-TcpFailed-clause-ok : goal.returns-in-TcpFailed-clause-ok
 returns-in-TcpFailed-clause-ok g c =
@@ -75,7 +75,7 @@ pub returns-in-TcpFailed-clause-quiet : goal.returns-in-TcpFailed-clause-quiet
 returns-in-TcpFailed-clause-quiet g c q = alone_quiet c.tcp_failed.result c.alone-in-TcpFailed.result c.alone-in-TcpFailed.ensures (c.tcp_failed.ensures.quiet c.in-TcpFailed.moment (subst (λ (e : Event). IsQuiet (state_of c.args.self.now) e) (at_failure g c) q))
 
 at_tick : (g : Over) (c : goal.After-tick g) → event_view c.args.event.now ≡ Tick c.in-Tick.moment
-at_tick g c = ap (λ (e : Typed g.row.A.Denot). event_view e) c.in-Tick.is
+at_tick g c = ap (λ (e : EventSpec g.row.A.Denot). event_view e) c.in-Tick.is
 
 pub returns-in-Tick-clause-quiet : goal.returns-in-Tick-clause-quiet
 returns-in-Tick-clause-quiet g c q = c.tick.ensures.quiet c.in-Tick.moment (subst (λ (e : Event). IsQuiet (state_of c.args.self.now) e) (at_tick g c) q)
