@@ -22,34 +22,42 @@ enum Told {
     Tick(u64),
 }
 
-// www.example. A of a client, under ID 5 with RD set.
-const QUERY: &[u8] = b"\0\x05\x01\0\0\x01\0\0\0\0\0\0\x03www\x07example\0\0\x01\0\x01";
+// Names of over 30 bytes, which take a growth each.
+const OWNER: &str = "www-with-a-name-that-takes-its-own-growth.example";
+
+const HOST: &str = "web-with-a-name-that-takes-its-own-growth.example";
+
+// That name's A of a client, under ID 5 with RD set.
+const QUERY: &[u8] =
+    b"\0\x05\x01\0\0\x01\0\0\0\0\0\0\x29www-with-a-name-that-takes-its-own-growth\x07example\0\0\x01\0\x01";
 
 // The same in other letters.
-const LETTERS: &[u8] = b"\0\x05\x01\0\0\x01\0\0\0\0\0\0\x03wWw\x07example\0\0\x01\0\x01";
+const LETTERS: &[u8] =
+    b"\0\x05\x01\0\0\x01\0\0\0\0\0\0\x29wWw-with-a-name-that-takes-its-own-growth\x07example\0\0\x01\0\x01";
 
 // The same of class CH, which is refused.
-const OTHER_CLASS: &[u8] = b"\0\x05\x01\0\0\x01\0\0\0\0\0\0\x03www\x07example\0\0\x01\0\x03";
+const OTHER_CLASS: &[u8] =
+    b"\0\x05\x01\0\0\x01\0\0\0\0\0\0\x29www-with-a-name-that-takes-its-own-growth\x07example\0\0\x01\0\x03";
 
 // 192.0.2.1 and 192.0.2.2 for that name, with TTL 300.
 const ANSWER: &[u8] =
-    b"\x12\x34\x84\0\0\x01\0\x02\0\0\0\0\x03www\x07example\0\0\x01\0\x01\xc0\x0c\0\x01\0\x01\0\0\x01\x2c\0\x04\xc0\0\x02\x01\xc0\x0c\0\x01\0\x01\0\0\x01\x2c\0\x04\xc0\0\x02\x02";
+    b"\x12\x34\x84\0\0\x01\0\x02\0\0\0\0\x29www-with-a-name-that-takes-its-own-growth\x07example\0\0\x01\0\x01\xc0\x0c\0\x01\0\x01\0\0\x01\x2c\0\x04\xc0\0\x02\x01\xc0\x0c\0\x01\0\x01\0\0\x01\x2c\0\x04\xc0\0\x02\x02";
 
 // The same with 192.0.2.3 in place of the second.
 const OTHER_ADDRESS: &[u8] =
-    b"\x12\x34\x84\0\0\x01\0\x02\0\0\0\0\x03www\x07example\0\0\x01\0\x01\xc0\x0c\0\x01\0\x01\0\0\x01\x2c\0\x04\xc0\0\x02\x01\xc0\x0c\0\x01\0\x01\0\0\x01\x2c\0\x04\xc0\0\x02\x03";
+    b"\x12\x34\x84\0\0\x01\0\x02\0\0\0\0\x29www-with-a-name-that-takes-its-own-growth\x07example\0\0\x01\0\x01\xc0\x0c\0\x01\0\x01\0\0\x01\x2c\0\x04\xc0\0\x02\x01\xc0\x0c\0\x01\0\x01\0\0\x01\x2c\0\x04\xc0\0\x02\x03";
 
 // Both with TTL 60.
 const OTHER_TTL: &[u8] =
-    b"\x12\x34\x84\0\0\x01\0\x02\0\0\0\0\x03www\x07example\0\0\x01\0\x01\xc0\x0c\0\x01\0\x01\0\0\0\x3c\0\x04\xc0\0\x02\x01\xc0\x0c\0\x01\0\x01\0\0\0\x3c\0\x04\xc0\0\x02\x02";
+    b"\x12\x34\x84\0\0\x01\0\x02\0\0\0\0\x29www-with-a-name-that-takes-its-own-growth\x07example\0\0\x01\0\x01\xc0\x0c\0\x01\0\x01\0\0\0\x3c\0\x04\xc0\0\x02\x01\xc0\x0c\0\x01\0\x01\0\0\0\x3c\0\x04\xc0\0\x02\x02";
 
 // NXDOMAIN, with the SOA record of example.
 const DENIAL: &[u8] =
-    b"\x12\x34\x84\x03\0\x01\0\0\0\x01\0\0\x03www\x07example\0\0\x01\0\x01\xc0\x10\0\x06\0\x01\0\0\0\x3c\0\x16\0\0\0\0\0\x01\0\0\0\x02\0\0\0\x03\0\0\0\x04\0\0\0\x05";
+    b"\x12\x34\x84\x03\0\x01\0\0\0\x01\0\0\x29www-with-a-name-that-takes-its-own-growth\x07example\0\0\x01\0\x01\xc0\x36\0\x06\0\x01\0\0\0\x3c\0\x16\0\0\0\0\0\x01\0\0\0\x02\0\0\0\x03\0\0\0\x04\0\0\0\x05";
 
 // The referral to example., whose server ns.example. has 192.0.2.4.
 const REFERRAL: &[u8] =
-    b"\x12\x34\x80\0\0\x01\0\0\0\x01\0\x01\x03www\x07example\0\0\x01\0\x01\xc0\x10\0\x02\0\x01\0\0\x01\x2c\0\x05\x02ns\xc0\x10\xc0\x29\0\x01\0\x01\0\0\x01\x2c\0\x04\xc0\0\x02\x04";
+    b"\x12\x34\x80\0\0\x01\0\0\0\x01\0\x01\x29www-with-a-name-that-takes-its-own-growth\x07example\0\0\x01\0\x01\xc0\x36\0\x02\0\x01\0\0\x01\x2c\0\x05\x02ns\xc0\x36\xc0\x4f\0\x01\0\x01\0\0\x01\x2c\0\x04\xc0\0\x02\x04";
 
 const EVENTS: &[Told] = &[
     Told::Client(5, QUERY),
@@ -159,12 +167,9 @@ const ACTIONS: &[(Gives, bool)] = &[
     (Gives::Ask(Path::Tcp(7)), false),
 ];
 
-const ALIAS: &[Row<'static>] = &[("www.example", 300, Value::Cname("web.example"))];
+const ALIAS: &[Row<'static>] = &[(OWNER, 300, Value::Cname(HOST))];
 
-const ADDRESSES: &[Row<'static>] = &[
-    ("web.example", 300, Value::A(1)),
-    ("web.example", 300, Value::A(2)),
-];
+const ADDRESSES: &[Row<'static>] = &[(HOST, 300, Value::A(1)), (HOST, 300, Value::A(2))];
 
 const DENIED: &[Row<'static>] = &[("example", 60, Value::Soa(60))];
 
@@ -211,13 +216,13 @@ fn refusal<A: Heap>(alloc: A, bytes: &[u8]) -> Result<Option<TypedAction<A>>, St
     }
 }
 
-// www.example. A, asked of 192.0.2.1 on that path.
+// A of that name, asked of 192.0.2.1 on that path.
 fn ask<A: Heap>(alloc: A, path: Path) -> Result<Option<TypedAction<A>>, Starved> {
     let ask = Ask {
         path,
         server: address(1),
         id: 4660,
-        name: name(alloc, "www.example")?,
+        name: name(alloc, OWNER)?,
         kind: RType::A,
     };
     Ok(Some(send(alloc, 53, &ask)?))
@@ -422,16 +427,16 @@ fn each_growth_of_reading_is_refused_in_turn(rt: HostRuntime) -> Result<(), Fail
 fn copies_of_events_are_the_same(rt: HostRuntime) -> Result<(), Fail> {
     let heap = Refusing::new(rt.alloc());
     // None for a query, which is shared; one for the question that is refused; two for each answer, whose data are
-    // shared, five for the denial, and seven for the referral.
-    assert_eq!(rt; copies_of_events(&heap)?, (None, 23, None));
+    // shared; two for the denial and three for the referral, whose other names are short.
+    assert_eq!(rt; copies_of_events(&heap)?, (None, 16, None));
     Ok(())
 }
 
 #[test]
 fn copies_of_actions_are_the_same(rt: HostRuntime) -> Result<(), Fail> {
     let heap = Refusing::new(rt.alloc());
-    // None for a query, which is shared; four for each answer, whose data are shared, five for the denial, five for the
-    // referral; one for the question that is refused, and one for each ask.
-    assert_eq!(rt; copies_of_actions(&heap)?, (None, 22, None));
+    // None for a query, which is shared; four for each answer, whose data are shared; two for the denial and two for
+    // the referral, whose names are short; one for the question that is refused, and one for each ask.
+    assert_eq!(rt; copies_of_actions(&heap)?, (None, 16, None));
     Ok(())
 }

@@ -12,7 +12,10 @@ use std::alloc::Allocator;
 use std::test::Fail;
 use zone::Link;
 
-// The links that the tests keep for addresses of a.
+// A name of over 30 bytes, which takes a growth.
+const OWNER: &str = "a-name-that-takes-a-growth-of-its-own.example";
+
+// The links that the tests keep for addresses of that name.
 #[derive(Clone, Copy)]
 enum Shape {
     Address,
@@ -22,7 +25,7 @@ enum Shape {
     NameError,
 }
 
-const ADDRESSES: [Row<'static>; 2] = [("a", 300, Value::A(1)), ("a", 300, Value::A(2))];
+const ADDRESSES: [Row<'static>; 2] = [(OWNER, 300, Value::A(1)), (OWNER, 300, Value::A(2))];
 
 fn two_addresses<A: Heap>(alloc: A) -> Result<Link<A>, Starved> {
     let records = records(alloc, &ADDRESSES)?;
@@ -30,11 +33,11 @@ fn two_addresses<A: Heap>(alloc: A) -> Result<Link<A>, Starved> {
 }
 
 fn link<A: Heap>(alloc: A, shape: Shape) -> Result<Link<A>, Starved> {
-    let soa = ("a", 60, Value::Soa(60));
+    let soa = (OWNER, 60, Value::Soa(60));
     match shape {
         Shape::Address => alone(alloc, ADDRESSES[0]),
         Shape::TwoAddresses => two_addresses(alloc),
-        Shape::Alias => Ok(Link::Alias(record(alloc, ("a", 300, Value::Cname("a")))?)),
+        Shape::Alias => Ok(Link::Alias(record(alloc, (OWNER, 300, Value::Cname(OWNER)))?)),
         Shape::NoData => Ok(Link::NoData(record(alloc, soa)?)),
         Shape::NameError => Ok(Link::NxDomain(record(alloc, soa)?)),
     }
@@ -43,7 +46,7 @@ fn link<A: Heap>(alloc: A, shape: Shape) -> Result<Link<A>, Starved> {
 // The kind of a link, its time to live and the moment since which it is kept.
 type Seen = (&'static str, u32, u64);
 
-// What a cache is told and asked of a, and what it has to say. Moments are milliseconds, times to live seconds.
+// What a cache is told and asked of that name, and what it has to say. Moments are milliseconds, times to live seconds.
 #[derive(Clone, Copy)]
 enum Step {
     // A link is kept for type A, for so long from a moment on.
@@ -104,7 +107,7 @@ impl<A: Heap> Kept<A> {
     }
 
     fn keep_link(&mut self, link: &Link<A>, ttl: u32, now: u64) -> Result<bool, Starved> {
-        let owner = name(self.alloc, "a")?;
+        let owner = name(self.alloc, OWNER)?;
         let ttl = ttl.min(GREATEST_TTL);
         let kept = self.cache.keep(&owner, RType::A, link, ttl, now);
         drop(owner);
@@ -113,7 +116,7 @@ impl<A: Heap> Kept<A> {
     }
 
     fn look(&mut self, kind: RType, now: u64) -> Result<Option<Hit<A>>, Starved> {
-        let owner = name(self.alloc, "a")?;
+        let owner = name(self.alloc, OWNER)?;
         let hit = self.cache.look(&owner, kind, &self.root, now);
         drop(owner);
         hit
