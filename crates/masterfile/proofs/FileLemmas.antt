@@ -34,3 +34,8 @@ first_read rs c t l own origin line text a b o w k =
     let every : with_front rs (read_from c (record { line = line; lead = l; words = t.words } ∷ t.later)) ≡ with_front [] (read_lines origin line text)
     = λ i. with_front (a i) (read_from ((b ∙ ap start o) i) (record { line = line; lead = k i; words = (w i).words } ∷ (w i).later)) in
     every ∙ front_nothing (read_lines origin line text)
+
+-- the last entry of a text, which was read
+pub last_read : (rs new : List Record) (c after : Context) (r : Option Record) (e : Entry) (es : List Entry) (whole : Result (List Record) FileError) → new ≡ rs ++ listed r
+    → entry_in c e.lead e.words ≡ Ok (r, after) → es ≡ [] → with_front rs (read_from c (e ∷ es)) ≡ whole → whole ≡ Ok new
+last_read rs new c after r e es whole n h s w = sym (step_read rs new c after r e es [] whole n h s w) ∙ ap Ok (append-nil new)
