@@ -5,8 +5,8 @@ use Rattle.rdata.specs.Records.{Record}
 use Rattle.rdata.specs.Rows.{first_in}
 use Rattle.message_grammar.specs.Messages.{Message}
 use Rattle.zone.specs.Links.{Found, Alias}
-use Rattle.classify.specs.Classes.{Class, Failed, answer_by, by_alias, by_set}
-use Rattle.classify.specs.declared.class.Failure.TheVariants.{BadCode}
+use Rattle.classify.specs.Classes.{Class, Failed, answer_by, by_alias, by_set, by_cut, refer_by, leads_down, servers_of}
+use Rattle.classify.specs.declared.class.Failure.TheVariants.{BadCode, Foreign}
 
 module _ (f q : Name) (m : Message) where
   pub denied_there : (set : List Record) → 0 < length set → nat_eq m.header.rcode 3 ≡ true → Failed BadCode ≡ by_set f q m set
@@ -20,3 +20,6 @@ module _ (f q : Name) (m : Message) where
   pub alias_there : (set : List Record) (r : Record) → Some r ≡ first_in set → answer_by m (Alias r) ≡ by_alias f q m set
   alias_there [] r e = absurd (cc)
   alias_there (x ∷ rs) r e = let same : r ≡ x = cc in ap (λ (s : Record). answer_by m (Alias s)) same
+
+  pub cut_there : (c : Name) (servers : List Record) → leads_down f q c ≡ true → servers ≡ servers_of c m → refer_by f c servers m ≡ by_cut f q m c
+  cut_there c servers l s = ap (λ (rs : List Record). refer_by f c rs m) s ∙ ap (λ b. cond b (refer_by f c (servers_of c m) m) (Failed Foreign)) (sym l)
