@@ -159,8 +159,9 @@ impl SharedAdmission {
                 self.admission.lock(rt).opened(key, client, moment);
             }
             Some(Action::Reply { .. }) | None => {
-                self.admission.lock(rt).settled(key, client);
-                self.called.store(true, Ordering::SeqCst);
+                let mut admission = self.admission.lock(rt);
+                admission.settled(key, client);
+                self.note_called(&admission);
             }
         }
     }
@@ -170,9 +171,16 @@ impl SharedAdmission {
         if let Some(asker) = asker_of(action)
             && let Some(key) = self.key_in(bytes_of(action).as_slice())
         {
-            self.admission
-                .lock(rt)
-                .closed(key, asker.admission_client());
+            let mut admission = self.admission.lock(rt);
+            admission.closed(key, asker.admission_client());
+            self.note_called(&admission);
+        }
+    }
+
+    // Puts the flag up where someone is called in, while admission is held: most answers call in nobody, and then no
+    // loop asks for whom.
+    fn note_called(&self, admission: &Admission<Query>) {
+        if 0 < admission.ready() {
             self.called.store(true, Ordering::SeqCst);
         }
     }
@@ -224,7 +232,7 @@ impl SharedAdmission {
             }
         }
         let late = admission.drop_late(now) as u64;
-        self.called.store(true, Ordering::SeqCst);
+        self.note_called(&admission);
         late
     }
 }
