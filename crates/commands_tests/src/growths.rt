@@ -2,7 +2,8 @@
 
 use crate::done::Done;
 use crate::plays::{
-    ALIAS, DENIED, KEPT, LOOKED_UP, NESTED, RUN_OUT, SMALL, TRUNCATED, Worked, play,
+    ALIAS, ALIASES, DARK, DENIED, FOLLOWED, KEPT, LOOKED_UP, NESTED, RUN_OUT, SILENT, SMALL,
+    STRANGE, TRUNCATED, Worked, play,
 };
 use crate::scripts::Held;
 use memory::Heap;
@@ -119,4 +120,24 @@ fn a_truncated_reply(rt: HostRuntime) -> Result<(), Fail> {
 #[test]
 fn a_server_whose_address_is_looked_up(rt: HostRuntime) -> Result<(), Fail> {
     see(&rt, NESTED, LOOKED_UP)
+}
+
+#[test]
+fn a_server_without_an_address(rt: HostRuntime) -> Result<(), Fail> {
+    see(&rt, SMALL, DARK)
+}
+
+#[test]
+fn a_silent_server(rt: HostRuntime) -> Result<(), Fail> {
+    see(&rt, SMALL, SILENT)
+}
+
+#[test]
+fn queries_that_are_refused(rt: HostRuntime) -> Result<(), Fail> {
+    see(&rt, SMALL, STRANGE)
+}
+
+#[test]
+fn aliases_of_a_local_zone(rt: HostRuntime) -> Result<(), Fail> {
+    see(&rt, ALIASES, FOLLOWED)
 }

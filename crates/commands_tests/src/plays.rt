@@ -82,13 +82,13 @@ pub const RUN_OUT: Worked = Worked {
 };
 
 // A cut without addresses has no server.
-const DARK: Worked = Worked {
+pub const DARK: Worked = Worked {
     script: "at 0\nask www.dark.example. A\nrun\n",
     printed: "send 1 198.51.100.1 www.dark.example. A\nsend 2 198.51.100.2 www.dark.example. A\nreply 1 SERVFAIL cause 5\nright 0 of 0\n",
 };
 
 // A silent server is asked twice.
-const SILENT: Worked = Worked {
+pub const SILENT: Worked = Worked {
     script: "at 0\nask www.lab.example. A\nat 999\ntick\nat 1000\ntick\nat 2999\ntick\nat 3000\ntick\n",
     printed: "send 1 198.51.100.1 www.lab.example. A\nsend 2 198.51.100.1 www.lab.example. A\nreply 1 SERVFAIL cause 5\nright 0 of 0\n",
 };
@@ -131,7 +131,7 @@ const FORTY: Worked = Worked {
 
 // Clients may send anything: bytes under a header's length, the number of client 2, a message that is none, and queries
 // of no or a strange type.
-const STRANGE: Worked = Worked {
+pub const STRANGE: Worked = Worked {
     script: "raw 0001\nraw 000701000000000000000000\nraw 0005010000010000000000000000ff0001 tcp\nask www.corp.example. A norec\nask www.lab.example. A norec\nask db.corp.example. A tcp norec\nask db.corp.example. A",
     printed: "drop 1\nreply 2 FORMERR\nreply 3 NOTIMP\nreply 4 NXDOMAIN aa\n  ns corp.example. 60 SOA ns.corp.example. h.corp.example. 1 2 3 4 60\nreply 5 REFUSED\nreply 6 NOERROR aa\n  an db.corp.example. 300 A 10.0.0.5\nreply 7 NOERROR aa\n  an db.corp.example. 300 A 10.0.0.5\nright 1 of 1\n",
 };
@@ -143,11 +143,11 @@ const AT_ONCE: Worked = Worked {
 };
 
 // A root, and the local e. with nine aliases and one that leads to itself.
-const ALIASES: &str =
+pub const ALIASES: &str =
     "zone .\n. 3600 IN SOA r. h. 1 2 3 4 60\n. 3600 IN NS ns.\nns. 3600 IN A 198.51.100.1\nend\nlocal e.\n$TTL 60\n@ SOA ns h 1 2 3 4 5\n@ NS ns\nc0 CNAME c1\nc1 CNAME c2\nc2 CNAME c3\nc3 CNAME c4\nc4 CNAME c5\nc5 CNAME c6\nc6 CNAME c7\nc7 CNAME c8\nc8 CNAME c9\nc9 A 192.0.2.1\nl CNAME l\nend\nhost 198.51.100.1 .\nhint 198.51.100.1\n";
 
 // A recursive query follows eight aliases, and neither nine nor those that never end.
-const FOLLOWED: Worked = Worked {
+pub const FOLLOWED: Worked = Worked {
     script: "at 0\nask c1.e. A\nask c0.e. A\nask l.e. A\n",
     printed: "reply 1 NOERROR aa\n  an c1.e. 60 CNAME c2.e.\n  an c2.e. 60 CNAME c3.e.\n  an c3.e. 60 CNAME c4.e.\n  an c4.e. 60 CNAME c5.e.\n  an c5.e. 60 CNAME c6.e.\n  an c6.e. 60 CNAME c7.e.\n  an c7.e. 60 CNAME c8.e.\n  an c8.e. 60 CNAME c9.e.\n  an c9.e. 60 A 192.0.2.1\nreply 2 SERVFAIL cause 3\nreply 3 SERVFAIL cause 3\nright 1 of 1\n",
 };

@@ -3,7 +3,7 @@
 //! Each row of standard input is a command (the modules say which there are) that makes a store, does something with
 //! it or asks it for something. `stdout` holds the rows, each with what has to come of it.
 //!
-//! Not here: refused growths, threads and sockets, of which no row can tell (`query_tests`, `engine_tests`).
+//! Not here: refused growths, threads and sockets, of which no row can tell (`unit_tests`, `resolver_tests`).
 //!
 //! ```text
 //! cache 2

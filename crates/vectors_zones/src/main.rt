@@ -4,7 +4,7 @@
 //! several rows use stands between `text NAME` and `end-text`.
 //!
 //! Promised: nothing; `stdout` holds what must be printed.
-//! Not here: refused growths, and zones made at random (`zones_tests`).
+//! Not here: refused growths, and zones made at random (`unit_tests`).
 //!
 //! ```text
 //! zone example. soa ns: a 60 CNAME b.|a 61 CNAME b.

@@ -1,2 +1,0 @@
-//! The tests of `front`, from outside: by what it makes public.
-mod exchange_tests;
