@@ -1,4 +1,0 @@
-use Rattle.threads_tests.proofs.book_tests.entries_are_compared.Given as goal
-
-abbrev pub ghosts-compared : goal.ghosts-compared
-ghosts-compared g a = record { name = a.blank.name; parts = a.blank.parts }

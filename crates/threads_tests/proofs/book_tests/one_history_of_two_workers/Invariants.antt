@@ -1,4 +1,0 @@
-use Rattle.threads_tests.proofs.book_tests.one_history_of_two_workers.Given as goal
-
-abbrev pub ghosts-four_steps : goal.ghosts-four_steps
-ghosts-four_steps g a = record { name = a.blank.name; parts = a.blank.parts }

@@ -1,4 +1,0 @@
-use Rattle.threads_tests.proofs.workers_tests.a_short_book_forgets.Given as goal
-
-abbrev pub ghosts-run_of_one : goal.ghosts-run_of_one
-ghosts-run_of_one g a = record { name = a.blank.name; parts = a.blank.parts }

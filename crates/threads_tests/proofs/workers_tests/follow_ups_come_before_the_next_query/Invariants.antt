@@ -1,4 +1,0 @@
-use Rattle.threads_tests.proofs.workers_tests.follow_ups_come_before_the_next_query.Given as goal
-
-abbrev pub ghosts-run_of_one : goal.ghosts-run_of_one
-ghosts-run_of_one g a = record { name = a.blank.name; parts = a.blank.parts }
