@@ -1,6 +1,6 @@
 -- Faults of a server's parts are faults of its start, and its zones come one by one.
 use Rattle.std.proofs.Common.{◌≡◌, arith, ◌+◌, ◌<◌, ℕ, zero, suc, true, false, nat_eq, List, [], ◌∷◌, ◌++◌, length, take, get_or, refl, sym, ◌∙◌, ap, subst, Ok, Err, inl, inr, ⊎_elim}
-use Rattle.std.specs.Prelude.{Option, Some, None}
+use Rattle.std.specs.Prelude.{Option, Some, None, IfSome}
 use Rattle.std.proofs.lemmas.Bool.{eq-eqb}
 use Rattle.std.proofs.Math.Dec.{eqb-suc-zero}
 use Rattle.std.proofs.lemmas.List.{take_more}
@@ -29,6 +29,11 @@ three_not is = omega arith
 
 four_not : ◌≡◌ {A = ℕ} 4 0 → ⊥
 four_not is = omega arith
+
+-- What holds anyway holds where something is there.
+pub some_so : {A : Type 0} (o : Option A) (P : Type 0) → P → IfSome o (λ _. P)
+some_so (Some x) P p = p
+some_so None P p = tt
 
 -- No fault has the status of what is done.
 some_status : (f : Fault) → status_of f ≡ 0 → ⊥

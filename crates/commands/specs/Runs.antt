@@ -1,5 +1,5 @@
 -- What a command leaves behind.
-use Rattle.std.specs.Prelude.{◌≡◌, ℕ, cond, List, ◌⊎◌, Option, None, Result, Ok, Err, string_bytes}
+use Rattle.std.specs.Prelude.{◌≡◌, ℕ, Bool, cond, List, ◌⊎◌, Option, None, IfSome, IsTrue, Result, Ok, Err, string_bytes}
 use Rattle.std.specs.Bool.{OnTrue}
 use Rattle.std.specs.Io.KnownBytes.{Appends}
 use Rattle.commandline.specs.Helps.{asks_version, version_line}
@@ -81,6 +81,11 @@ abbrev pub StartsFor : (List ℕ → Option (Option (List ℕ))) → Command →
 StartsFor held (Serve config) status server = Starts held (string_bytes config) status server
 StartsFor _ _ _ server = server ≡ None
 
+-- A server is started, and by `check-config` the file of one is found well, only where its sockets are bound.
+abbrev pub IsBoundFor : Command → ℕ → Option Prepared → Bool → Type 0
+IsBoundFor (CheckConfig config) status server bound = status ≡ 0 → IsTrue bound
+IsBoundFor _ status server bound = IfSome server (λ _. IsTrue bound)
+
 -- The version was printed, with status 0, where the words ask for that; help, with status 2, where they do not; or no
 -- memory was left for it.
 abbrev pub IsExplained : List (List ℕ) → Option (List ℕ) → Option (List ℕ) → Option (List ℕ) → Option (List ℕ) → ℕ → Type 0
@@ -93,9 +98,9 @@ abbrev pub IsRefusedLine : List (List ℕ) → LineFault → Option (List ℕ) �
 IsRefusedLine words Words out out2 err err2 n = IsExplained words out out2 err err2 n
 IsRefusedLine words line_memory out out2 err err2 n = Ended (Err Memory) out out2 err err2 n
 
--- The command that the words name was done, over what is known to stand at a path; where they name none the line was refused,
--- and no server started. Running out of memory may refuse any line.
-abbrev pub IsLineDone : (A : Type 0) → List (List ℕ) → (List ℕ → Option (Option (List ℕ))) → Option (List ℕ) → Option (List ℕ) → Option (List ℕ) → Option (List ℕ) → ℕ → Option Prepared → Type 0
-IsLineDone A words held out out2 err err2 n server =
-    ((command : Command) × Names words command × IsDone A held command out out2 err err2 n × StartsFor held command n server)
+-- The command that the words name was done, over what is known to stand at a path and whether sockets are bound; where they
+-- name none the line was refused, and no server started. Running out of memory may refuse any line.
+abbrev pub IsLineDone : (A : Type 0) → List (List ℕ) → (List ℕ → Option (Option (List ℕ))) → Bool → Option (List ℕ) → Option (List ℕ) → Option (List ℕ) → Option (List ℕ) → ℕ → Option Prepared → Type 0
+IsLineDone A words held bound out out2 err err2 n server =
+    ((command : Command) × Names words command × IsDone A held command out out2 err err2 n × StartsFor held command n server × IsBoundFor command n server bound)
     ⊎ ((fault : LineFault) × (fault ≡ Words → NamesNothing words) × IsRefusedLine words fault out out2 err err2 n × (server ≡ None))

@@ -1,5 +1,5 @@
 //! `check-config`: the file of a server, read and tried as `serve` does, and what is to be said of it.
-ghost use Rattle.std.specs.Prelude.{◌≡◌, ◌⊎◌, [], ◌∷◌, ◌++◌, None, Some, Ok, IfOk, IfErr, OnOk, codes, string_bytes};
+ghost use Rattle.std.specs.Prelude.{◌≡◌, ◌⊎◌, [], ◌∷◌, ◌++◌, None, Some, Ok, IfOk, IfErr, IsTrue, OnOk, codes, string_bytes};
 ghost use Rattle.masterfile.specs.Files.{read_text};
 ghost use Rattle.zone.specs.Faults.{fault_of, IsFault};
 ghost use Rattle.zone.specs.Kept.{zone_with};
@@ -39,7 +39,7 @@ struct Refusal<'t, A: Allocator> {
 
 /// Reads the file of a server at a path, and the files of its zones, and binds its sockets: the exit status is that
 /// which `serve` would have at its start, and so is the line of the fault. What is printed says why in words, or what
-/// the file makes.
+/// the file makes, which is told only where the sockets were bound.
 pub fn check_config<A: Heap, T: Texts, H: Host, O: Write, E: Write>(
     alloc: A,
     path: &str,
@@ -48,7 +48,8 @@ pub fn check_config<A: Heap, T: Texts, H: Host, O: Write, E: Write>(
     out: &mut O,
     err: &mut E,
 ) -> u8
-    ensures { IsRunInWords (PassesCheck (T.held texts.old) path.now) (IsNoServer (T.held texts.old) path.now) (Explains (T.held texts.old)) (O.contents out.old) (O.contents out.new) (E.contents err.old) (E.contents err.new) result }
+    ensures run { IsRunInWords (PassesCheck (T.held texts.old) path.now) (IsNoServer (T.held texts.old) path.now) (Explains (T.held texts.old)) (O.contents out.old) (O.contents out.new) (E.contents err.old) (E.contents err.new) result }
+    ensures bound { result ≡ 0 → IsTrue (H.bound host.new) }
 {
     match texts.text(alloc, path) {
         Ok(Some(text)) => check_text(alloc, path, text.as_str(), texts, host, out, err),
@@ -68,7 +69,8 @@ fn check_text<A: Heap, T: Texts, H: Host, O: Write, E: Write>(
     err: &mut E,
 ) -> u8
     requires { MayHold (T.held texts.old path.now) (Some text.now) }
-    ensures { IsRunInWords (PassesCheck (T.held texts.old) path.now) (IsNoServer (T.held texts.old) path.now) (Explains (T.held texts.old)) (O.contents out.old) (O.contents out.new) (E.contents err.old) (E.contents err.new) result }
+    ensures run { IsRunInWords (PassesCheck (T.held texts.old) path.now) (IsNoServer (T.held texts.old) path.now) (Explains (T.held texts.old)) (O.contents out.old) (O.contents out.new) (E.contents err.old) (E.contents err.new) result }
+    ensures bound { result ≡ 0 → IsTrue (H.bound host.new) }
 {
     match checked(alloc, path, text, texts, host) {
         Ok(summary) => put(&summary, 0, out, err),
@@ -82,7 +84,8 @@ fn refuse<A: Allocator, O: Write, E: Write>(
     out: &mut O,
     err: &mut E,
 ) -> u8
-    ensures { IsTold refusal.now.fault (string_bytes refusal.now.words) (O.contents out.old) (O.contents out.new) (E.contents err.old) (E.contents err.new) result }
+    ensures told { IsTold refusal.now.fault (string_bytes refusal.now.words) (O.contents out.old) (O.contents out.new) (E.contents err.old) (E.contents err.new) result }
+    ensures fails { result ≡ 0 → ⊥ }
 {
     let status = put(&refusal.words, 0, out, err);
     if status == 0 {
@@ -103,6 +106,7 @@ fn checked<'t, A: Heap, T: Texts, H: Host>(
     requires { MayHold (T.held texts.old path.now) (Some text.now) }
     ensures ok { IfOk result (λ s. PassesCheck (T.held texts.old) path.entry.now (string_bytes s)) }
     ensures err { IfErr result (λ r. IsNoServer (T.held texts.old) path.entry.now r.fault × Explains (T.held texts.old) r.fault (string_bytes r.words)) }
+    ensures bound { IfOk result (λ _. IsTrue (H.bound host.new)) }
 {
     match read_config(alloc, text) {
         Ok(config) => checked_config(alloc, config, texts, host),
@@ -119,6 +123,7 @@ fn checked_config<'t, A: Heap, T: Texts, H: Host>(
 ) -> Result<String<A>, Refusal<'t, A>>
     ensures ok { IfOk result (λ s. IsSummary (T.held texts.old) config.entry (string_bytes s)) }
     ensures err { IfErr result (λ r. IsUnstarted (T.held texts.old) config.entry r.fault × Explains (T.held texts.old) r.fault (string_bytes r.words)) }
+    ensures bound { IfOk result (λ _. IsTrue (H.bound host.new)) }
 {
     let zones = checked_zones(alloc, texts, &config.locals)?;
     checked_server(alloc, config, zones, host)
@@ -133,6 +138,7 @@ fn checked_server<'t, A: Heap, H: Host>(
 ) -> Result<String<A>, Refusal<'t, A>>
     ensures ok { IfOk result (λ s. string_bytes s ≡ summary_text config.entry zones.items) }
     ensures err { IfErr result (λ r. TellsUnstarted config.entry r.fault (string_bytes r.words)) }
+    ensures bound { IfOk result (λ _. IsTrue (H.bound host.new)) }
 {
     match summary(alloc, &config, &zones) {
         Ok(summary) => made(alloc, config, zones, host, summary),
@@ -150,6 +156,7 @@ fn made<'t, A: Heap, H: Host>(
 ) -> Result<String<A>, Refusal<'t, A>>
     ensures ok { IfOk result (λ s. s ≡ summary) }
     ensures err { IfErr result (λ r. TellsUnstarted config.entry r.fault (string_bytes r.words)) }
+    ensures bound { IfOk result (λ _. IsTrue (H.bound host.new)) }
 {
     match prepare_zones(alloc, config, zones, host) {
         Ok(prepared) => bound(alloc, prepared.listen, prepared.shown, host, summary),
@@ -167,6 +174,7 @@ fn bound<'t, A: Heap, H: Host>(
 ) -> Result<String<A>, Refusal<'t, A>>
     ensures ok { IfOk result (λ s. s ≡ summary) }
     ensures err { IfErr result (λ r. Tells Socket TellsUnbound r.fault (string_bytes r.words)) }
+    ensures bound { IfOk result (λ _. IsTrue (H.bound host.new)) }
 {
     match host.open(listen, shown) {
         Some(_) => Ok(summary),

@@ -1,5 +1,5 @@
 //! The machine under a server: where its random bytes and its sockets come from. Tests put another in its place.
-ghost use Rattle.std.specs.Prelude.{◌≡◌, ◌⊎◌, IfSome};
+ghost use Rattle.std.specs.Prelude.{◌≡◌, ◌⊎◌, Bool, true, IfSome, IsTrue};
 
 use events::Endpoint;
 use memory::{Heap, Starved};
@@ -14,13 +14,17 @@ use wire::Via;
 
 /// What the start of a server needs besides memory and files.
 pub trait Host {
+    // Whether the sockets of a server are bound there, where that is known.
+    ghost bound: { Self → Bool } = { λ _. true };
+
     /// Bytes from which identifiers may be drawn; none where they can't be read.
     fn seed(&mut self) -> Option<[u8; 32]>;
 
     /// Binds the sockets of a server, and shows what its file asks for: the port at which clients find it, or
     /// none where an address can't be bound.
     fn open(&mut self, listen: Endpoint, shown: Shown) -> Option<u16>
-        ensures { IfSome result (λ port. (port ≡ listen.port) ⊎ (listen.port ≡ 0)) };
+        ensures port { IfSome result (λ port. (port ≡ listen.port) ⊎ (listen.port ≡ 0)) }
+        ensures bound { IfSome result (λ _. IsTrue (bound self.new)) };
 
     /// Why a socket can't be bound there, in the words of the system; none where it can be.
     fn reason<A: Heap>(
@@ -121,6 +125,10 @@ impl<R> Host for Machine<'_, R>
 where
     R: Net<Listener = TcpListener, Stream = TcpStream> + Files + Env + AllocGlobal,
 {
+    ghost use Rattle.std.specs.Option.{is_some};
+
+    ghost bound = { λ m. is_some m.ends };
+
     fn seed(&mut self) -> Option<[u8; 32]> {
         let mut seed = [0u8; 32];
         let mut file = fs::open(self.runtime, RANDOM).ok()?;

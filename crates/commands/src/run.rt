@@ -4,7 +4,7 @@ ghost use Rattle.std.specs.Bool.{OnTrue};
 ghost use Rattle.std.specs.Io.KnownBytes.{Appends};
 ghost use Rattle.std.specs.declared.alloc.Global.{Global};
 ghost use Rattle.commands.specs.Faults.{IsReported};
-ghost use Rattle.commands.specs.Runs.{Ended, IsDone, IsExplained, IsLineDone, IsPrinted, IsRefusedLine, StartsFor, shown};
+ghost use Rattle.commands.specs.Runs.{Ended, IsBoundFor, IsDone, IsExplained, IsLineDone, IsPrinted, IsRefusedLine, StartsFor, shown};
 
 use crate::ask::ask;
 use crate::check_config::check_config;
@@ -34,7 +34,7 @@ pub fn run_words<
     O: Write,
     E: Write,
 >(rt: &R, words: &[String], texts: &mut T, host: &mut H, out: &mut O, err: &mut E) -> Outcome
-    ensures { IsLineDone Global (map string_bytes words.now) (T.held texts.old) (O.contents out.old) (O.contents out.new) (E.contents err.old) (E.contents err.new) result.status result.server }
+    ensures { IsLineDone Global (map string_bytes words.now) (T.held texts.old) (H.bound host.new) (O.contents out.old) (O.contents out.new) (E.contents err.old) (E.contents err.new) result.status result.server }
 {
     let alloc = rt.alloc();
     match read_words(alloc, words) {
@@ -84,6 +84,7 @@ pub fn run_command<
 ) -> Outcome<A>
     ensures run { IsDone A (T.held texts.old) command.now (O.contents out.old) (O.contents out.new) (E.contents err.old) (E.contents err.new) result.status }
     ensures starts { StartsFor (T.held texts.old) command.now result.status result.server }
+    ensures bound { IsBoundFor command.now result.status result.server (H.bound host.new) }
 {
     match command {
         Command::Ask {

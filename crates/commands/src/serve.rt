@@ -1,5 +1,5 @@
 //! `serve`: a server, started from its file.
-ghost use Rattle.std.specs.Prelude.{◌≡◌, Some, None, IfOk, IfErr, string_bytes};
+ghost use Rattle.std.specs.Prelude.{◌≡◌, Some, None, IfOk, IfErr, IfSome, IsTrue, string_bytes};
 ghost use Rattle.commands.specs.Faults.{IsReported};
 ghost use Rattle.commands.specs.declared.fault.Fault.TheVariants.{Settings};
 ghost use Rattle.commands.specs.Runs.{IsPrinted, IsRun};
@@ -45,6 +45,7 @@ pub fn start_server<A: Heap, T: Texts, H: Host, O: Write, E: Write>(
 ) -> Outcome<A>
     ensures run { IsRun (PrintsAddress (T.held texts.old path.now)) (IsNoServer (T.held texts.old) path.now) (O.contents out.old) (O.contents out.new) (E.contents err.old) (E.contents err.new) result.status }
     ensures starts { Starts (T.held texts.old) path.now result.status result.server }
+    ensures bound { IfSome result.server (λ _. IsTrue (H.bound host.new)) }
 {
     match texts.text(alloc, path) {
         Ok(Some(text)) => serve_text(alloc, path, text.as_str(), texts, host, out, err),
@@ -66,6 +67,7 @@ fn serve_text<A: Heap, T: Texts, H: Host, O: Write, E: Write>(
     requires { MayHold (T.held texts.old path.now) (Some text.now) }
     ensures run { IsRun (PrintsAddress (T.held texts.old path.now)) (IsNoServer (T.held texts.old) path.now) (O.contents out.old) (O.contents out.new) (E.contents err.old) (E.contents err.new) result.status }
     ensures starts { Starts (T.held texts.old) path.now result.status result.server }
+    ensures bound { IfSome result.server (λ _. IsTrue (H.bound host.new)) }
 {
     match prepare(alloc, path, text, texts, host) {
         Ok(prepared) => start(alloc, prepared, host, out, err),
@@ -255,6 +257,7 @@ fn start<A: Heap, H: Host, O: Write, E: Write>(
 ) -> Outcome<A>
     ensures run { IsRun (NamesEnd (end_of prepared.listen)) IsUnbound (O.contents out.old) (O.contents out.new) (E.contents err.old) (E.contents err.new) result.status }
     ensures starts { StartsWith prepared.server result.status result.server }
+    ensures bound { IfSome result.server (λ _. IsTrue (H.bound host.new)) }
 {
     match bind(alloc, prepared.listen, prepared.shown, host) {
         Ok(line) => go(&line, prepared.server, out, err),
@@ -300,6 +303,7 @@ fn bind<A: Heap, H: Host>(
 ) -> Result<String<A>, Fault<'static>>
     ensures ok { IfOk result (λ s. NamesEnd (end_of listen) (string_bytes s)) }
     ensures err { IfErr result IsUnbound }
+    ensures bound { IfOk result (λ _. IsTrue (H.bound host.new)) }
 {
     match host.open(listen, shown) {
         Some(port) => Ok(line(alloc, listen, port)?),
