@@ -9,14 +9,6 @@ use text_lines::LineKind;
 const WHOLE: &str =
     "; a server\n\nlisten 127.0.0.1 5300\nport 5353\nhint 198.41.0.4\n hint\t170.247.170.2\nlocal corp.example. corp.zone\nlocal . \tr/\u{e9}.zone \ncache 1000000\ndelegations 1\npenalties 7\nfailures 8\nsockets 16\nworkers 1\nstreams 256\nclients 1024\nloops 16\nseed 000102030405060708090A0b0c0d0e0f101112131415161718191a1b1c1d1e1f\n";
 
-// Whether the text is refused at this line with this number.
-fn is_refused<A: Heap>(alloc: A, text: &str, line: usize, number: u8) -> bool {
-    match read_config(alloc, text) {
-        Ok(_) => false,
-        Err(error) => error.line == line && error.kind.number() == number,
-    }
-}
-
 fn has_numbers<A: Heap>(config: &ServeConfig<'_, A>, numbers: [u32; 10]) -> bool {
     let port = u32::from(config.port);
     numbers
@@ -81,56 +73,6 @@ fn the_greatest_port_is_one(rt: HostRuntime) -> Result<(), Fail> {
         Ok(config) => {
             assert_eq!(rt; (config.listen.port, config.port), (65_535, 65_535));
         }
-    }
-    Ok(())
-}
-
-#[test]
-fn the_first_bad_line_is_named(rt: HostRuntime) -> Result<(), Fail> {
-    for (text, line, number) in [
-        ("", 1, 5),
-        ("port 1\n", 2, 5),
-        ("port 1\n\n", 3, 5),
-        ("Listen 0.0.0.0 0", 1, 1),
-        (" ; no comment", 1, 1),
-        ("listen 0.0.0.0", 1, 5),
-        ("listen 0.0.0 65536", 1, 8),
-        ("listen 0.0.0.0 65536 x", 1, 2),
-        ("listen 0.0.0.0 +1", 1, 2),
-        ("listen 0.0.0.0 1 1", 1, 5),
-        ("listen 0.0.0.0 1\nlisten 0.0.0.0 1", 2, 5),
-        ("port 0", 1, 2),
-        ("port 65536", 1, 2),
-        ("cache 1000001", 1, 2),
-        ("delegations 0", 1, 2),
-        ("penalties 18446744073709551616", 1, 2),
-        ("failures 0", 1, 2),
-        ("failures 1000001", 1, 2),
-        ("failures 1\nfailures 1", 2, 5),
-        ("sockets 0", 1, 2),
-        ("sockets 17", 1, 2),
-        ("workers 0", 1, 2),
-        ("workers 17", 1, 2),
-        ("workers 16\nworkers 16", 2, 5),
-        ("streams 0", 1, 2),
-        ("streams 257", 1, 2),
-        ("streams 8\nstreams 8", 2, 5),
-        ("clients 0", 1, 2),
-        ("clients 1025", 1, 2),
-        ("loops 0", 1, 2),
-        ("loops 17", 1, 2),
-        ("loops", 1, 5),
-        ("loops x", 1, 2),
-        ("loops 2 2", 1, 5),
-        ("loops 2\nloops 2", 2, 5),
-        ("hint 1.2.3.04", 1, 8),
-        ("local a..b x", 1, 3),
-        ("local a", 1, 5),
-        ("local a x\nlocal b x\nlocal A. y", 3, 5),
-        ("seed 0g", 1, 6),
-        ("seed 00", 1, 6),
-    ] {
-        assert!(rt; is_refused(rt.alloc(), text, line, number), "for {text}");
     }
     Ok(())
 }

@@ -5,8 +5,6 @@
 #[cfg(test)]
 mod client;
 #[cfg(test)]
-mod commandline_tests;
-#[cfg(test)]
 mod config_tests;
 #[cfg(test)]
 mod done;
