@@ -2,7 +2,6 @@
 //! what comes while memory is refused, and steps on bytes beside steps on what was read of them.
 mod bytes;
 mod fixtures;
-mod query_tests;
 mod reply_tests;
 mod starved_tests;
 mod talks;

@@ -1,4 +1,4 @@
-//! Bytes of messages, put together, cut short or changed.
+//! Bytes of messages, put together or changed.
 use engine_fixture::{Out, TestResolver, bounded, under};
 use events::{Bytes, Event};
 use memory::{Heap, Starved};
@@ -7,8 +7,6 @@ use memory::{Heap, Starved};
 #[derive(Clone, Copy)]
 pub enum Change {
     Nothing,
-    // The first so many bytes come alone.
-    CutAt(usize),
     // Some bits of the byte at a place are turned.
     Turned(usize, u8),
 }
@@ -39,7 +37,6 @@ fn turn<A: Heap>(bytes: &mut Vec<u8, A>, place: usize, bits: u8) {
 fn make<A: Heap>(bytes: &mut Vec<u8, A>, change: Change) {
     match change {
         Change::Nothing => {}
-        Change::CutAt(length) => bytes.truncate(length),
         Change::Turned(place, bits) => turn(bytes, place, bits),
     }
 }
