@@ -5,9 +5,8 @@ use crate::answers::Known;
 use crate::done::{Done, finish};
 use crate::links::{self, Says};
 use crate::messages::OnMessages;
-use crate::names::OnNames;
 use crate::steps::OnSteps;
-use crate::{made_worlds, open_asks, zones};
+use crate::zones;
 use anyhow::Result;
 use std::fmt;
 use std::rt::Runtime;
@@ -29,7 +28,6 @@ pub enum Asked {
 /// A kind of work, done so many times in a measurement.
 #[derive(Clone, Copy)]
 pub enum Work {
-    Names(OnNames),
     Messages(OnMessages),
     /// A record of a master file; so many records are one file.
     ReadZone,
@@ -39,27 +37,16 @@ pub enum Work {
     BuildHundredThousand,
     /// A look-up in a zone of so many hosts.
     Look(Asked, u64),
-    /// A zone of a world, of ten records; so many zones are one world.
-    CheckWorld,
     /// A link kept in a cache, each for another name; and found again.
     KeepLink(Says),
     FindLink,
     /// A set of so many addresses found in a cache that has nothing else.
     FindSet(u8),
-    /// A datagram's query found among so many open ones, and the query that is due first.
-    FindAskOfOne,
-    FindAskOfMany,
     /// Steps of a resolver.
     Steps(OnSteps),
 }
 
-pub const ALL: [Work; 48] = [
-    Work::Names(OnNames::Read),
-    Work::Names(OnNames::Write),
-    Work::Names(OnNames::Hash),
-    Work::Names(OnNames::Compare),
-    Work::Names(OnNames::TestUnder),
-    Work::Names(OnNames::MakeSet),
+pub const ALL: [Work; 39] = [
     Work::Messages(OnMessages::Decode(1)),
     Work::Messages(OnMessages::See(1)),
     Work::Messages(OnMessages::Encode(1)),
@@ -82,14 +69,11 @@ pub const ALL: [Work; 48] = [
     Work::Look(Asked::UnderCut, 10),
     Work::Look(Asked::UnderCut, 1_000),
     Work::Look(Asked::UnderCut, 100_000),
-    Work::CheckWorld,
     Work::KeepLink(Says::Addresses(1)),
     Work::KeepLink(Says::NxDomain),
     Work::FindLink,
     Work::FindSet(1),
     Work::FindSet(20),
-    Work::FindAskOfOne,
-    Work::FindAskOfMany,
     Work::Steps(OnSteps::Pass(1)),
     Work::Steps(OnSteps::Pass(1_024)),
     Work::Steps(OnSteps::Answer(1)),
@@ -130,20 +114,16 @@ impl fmt::Display for Asked {
 impl fmt::Display for Work {
     fn fmt<W: fmt::Write>(&self, f: &mut fmt::Formatter<W>) -> fmt::Result {
         f.write_str(match self {
-            Work::Names(work) => return write!(f, "{work}"),
             Work::Messages(work) => return write!(f, "{work}"),
             Work::ReadZone => "record of a zone file read",
             Work::BuildThousand => "record of 1,000 built into a zone",
             Work::BuildTenThousand => "record of 10,000 built into a zone",
             Work::BuildHundredThousand => "record of 100,000 built into a zone",
             Work::Look(asked, hosts) => return write!(f, "{asked} looked up among {hosts}"),
-            Work::CheckWorld => "zone of a world of 1,000 checked",
             Work::KeepLink(Says::Addresses(_)) => "link kept",
             Work::KeepLink(Says::NxDomain) => "denial kept",
             Work::FindLink => "link found",
             Work::FindSet(count) => return write!(f, "set of {count} found"),
-            Work::FindAskOfOne => "ask found among 1",
-            Work::FindAskOfMany => "ask found among 1,024",
             Work::Steps(work) => return write!(f, "{work}"),
         })
     }
@@ -155,26 +135,19 @@ impl Work {
         ensures { 0 < result }
     {
         match self {
-            Work::Names(work) => work.rounds(),
             Work::Messages(work) => work.rounds(),
-            Work::FindAskOfOne | Work::FindAskOfMany => 10_000_000,
             Work::Steps(OnSteps::Pass(_)) => 10_000_000,
             Work::Steps(OnSteps::Answer(_) | OnSteps::Serve(_) | OnSteps::Locked(_)) => 1_000_000,
             Work::KeepLink(_) | Work::FindLink | Work::FindSet(_) | Work::Look(..) => 1_000_000,
             Work::ReadZone | Work::BuildHundredThousand => 100_000,
             Work::BuildTenThousand => 10_000,
-            Work::BuildThousand | Work::CheckWorld => 1_000,
+            Work::BuildThousand => 1_000,
         }
     }
 
     /// Does it so often.
     pub fn run<R: Runtime + AllocGlobal>(self, rt: &R, rounds: u64) -> Result<Done> {
         match self {
-            Work::Names(work) => {
-                let start = Instant::now(rt);
-                let sum = work.times(rt.alloc(), rounds)?;
-                finish(rt, start, Ok(sum))
-            }
             Work::Messages(work) => {
                 let start = Instant::now(rt);
                 let sum = work.times(rt.alloc(), rounds)?;
@@ -185,12 +158,9 @@ impl Work {
                 zones::build(rt, rounds)
             }
             Work::Look(asked, hosts) => zones::look(rt, asked, hosts, rounds),
-            Work::CheckWorld => made_worlds::check(rt, rounds),
             Work::KeepLink(says) => links::keep(rt, says, rounds),
             Work::FindLink => links::find(rt, rounds, 1, 1),
             Work::FindSet(count) => links::find(rt, 1, count, rounds),
-            Work::FindAskOfOne => open_asks::find(rt, 1, rounds),
-            Work::FindAskOfMany => open_asks::find(rt, 1_024, rounds),
             Work::Steps(work) => work.run(rt, rounds),
         }
     }
