@@ -18,7 +18,7 @@ const SENDER: Endpoint = Endpoint {
 #[test]
 fn a_number_holds_its_sender(rt: HostRuntime) -> Result<(), Fail> {
     assert_eq!(rt; client_of(SENDER), 0x7f00_0002_14b4);
-    assert!(rt; sender_of(0x7f00_0002_14b4) == SENDER);
+    assert_eq!(rt; sender_of(0x7f00_0002_14b4), SENDER);
     Ok(())
 }
 
@@ -153,7 +153,7 @@ fn streams_have_places(rt: HostRuntime) -> Result<(), Fail> {
     };
     assert_eq!(rt; first_misplaced(), None);
     assert_eq!(rt; number, 0xC000_0209_0000_0304);
-    assert!(rt; sender_of(stream_client(number)) == sender);
+    assert_eq!(rt; sender_of(stream_client(number)), sender);
     assert_eq!(rt; first_other_silence(), None);
     Ok(())
 }
@@ -198,7 +198,7 @@ fn hints_let_their_blocks_be_asked(rt: HostRuntime) -> Result<(), Fail> {
 }
 
 // What was handed over last, and how long it was. It takes no ask over TCP.
-#[derive(Clone, Copy, PartialEq, Eq)]
+#[derive(Clone, Copy, Debug, PartialEq, Eq)]
 enum Last {
     Nothing,
     Client(Endpoint, usize),
@@ -245,18 +245,21 @@ fn handed_over(action: &Action) -> (Last, Option<u64>) {
     (last, refused)
 }
 
-fn reply_goes(alloc: Global, client: u64, way: Via, last: Last) -> Result<bool, Starved> {
+fn reply_sent(alloc: Global, client: u64, way: Via) -> Result<(Last, Option<u64>), Starved> {
     let action = reply(alloc, client, way)?;
     let handed_over = handed_over(&action);
     drop(action);
-    Ok(handed_over == (last, None))
+    Ok(handed_over)
 }
 
 #[test]
 fn a_reply_goes_to_who_asked(rt: HostRuntime) -> Result<(), Fail> {
     let (datagram, frame) = (Last::Client(SENDER, 2), Last::Stream(7, 2));
-    assert!(rt; reply_goes(rt.alloc(), 0x7f00_0002_14b4, Via::Udp, datagram)?);
-    assert!(rt; reply_goes(rt.alloc(), 7, Via::Tcp, frame)?);
+    assert_eq!(rt;
+        reply_sent(rt.alloc(), 0x7f00_0002_14b4, Via::Udp)?,
+        (datagram, None)
+    );
+    assert_eq!(rt; reply_sent(rt.alloc(), 7, Via::Tcp)?, (frame, None));
     Ok(())
 }
 
@@ -273,7 +276,10 @@ fn ask_over_udp(alloc: Global) -> Result<(Last, Option<u64>), Starved> {
 
 #[test]
 fn an_ask_goes_to_its_server(rt: HostRuntime) -> Result<(), Fail> {
-    assert!(rt; ask_over_udp(rt.alloc())? == (Last::Server(3, SENDER, 2), None));
+    assert_eq!(rt;
+        ask_over_udp(rt.alloc())?,
+        (Last::Server(3, SENDER, 2), None)
+    );
     Ok(())
 }
 
@@ -290,6 +296,6 @@ fn ask_over_tcp(alloc: Global) -> Result<(Last, Option<u64>), Starved> {
 
 #[test]
 fn an_ask_that_no_worker_takes_is_told(rt: HostRuntime) -> Result<(), Fail> {
-    assert!(rt; ask_over_tcp(rt.alloc())? == (Last::Nothing, Some(9)));
+    assert_eq!(rt; ask_over_tcp(rt.alloc())?, (Last::Nothing, Some(9)));
     Ok(())
 }
