@@ -7,7 +7,8 @@
 //!
 //! Promised: status, text and fault of each command by one definition (`IsLineDone`, `IsRun`). It says the lines of the
 //! reply that the zone gives (`PrintsAnswer`), the text of a script (`PrintsScript`, `PrintsStorm`), the server made of
-//! its file (`StartsFor`), and which of several faults counts.
+//! its file (`StartsFor`), and which of several faults counts. A server is started, and its file found well, only where
+//! its sockets are bound (`IsBoundFor`).
 //! Not here: the words themselves (`commandline`).
 //!
 //! ```text
