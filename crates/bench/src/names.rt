@@ -8,7 +8,7 @@ pub fn name<A: Heap>(alloc: A, text: &str) -> Result<Name<A>, Starved> {
     Name::from_text(alloc, text).map_err(|_| Starved)
 }
 
-/// So many addresses of a name; of a hundred, two are the same.
+/// So many addresses of a name.
 pub fn addresses<A: Heap>(alloc: A, owner: &Name<A>, count: u8) -> Result<Records<A>, Starved> {
     let mut records = Records::new(alloc);
     for last in 0..count {
@@ -16,7 +16,7 @@ pub fn addresses<A: Heap>(alloc: A, owner: &Name<A>, count: u8) -> Result<Record
         records.push(Record {
             owner,
             ttl: 300,
-            value: RData::A(Addr([192, 0, 2, last % 99])),
+            value: RData::A(Addr([192, 0, 2, last])),
         })?;
     }
     Ok(records)
