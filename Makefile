@@ -20,7 +20,7 @@ ask:
 
 # Proves and builds the program, with all below it.
 prove-program: kit
-	tools/prove-program
+	tools/prove --program
 
 # Says where there is no proved program yet.
 built:
