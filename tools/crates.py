@@ -1,6 +1,7 @@
 """What crates.txt says, for the scripts of this folder."""
 
 import os
+import subprocess
 
 TOP = os.path.dirname(os.path.dirname(os.path.abspath(__file__)))
 
@@ -28,3 +29,8 @@ def with_below(crate, lines):
 
     put(crate)
     return found
+
+
+def lanes():
+    """How many checks run side by side."""
+    return int(subprocess.run([f"{TOP}/tools/lanes"], stdout=subprocess.PIPE, text=True, check=True).stdout)
