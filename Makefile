@@ -64,10 +64,10 @@ test: kit
 	tools/operator
 	tools/fronted
 
-# Tries the edits of single functions, which the gate leaves out: of all crates, or with SINCE=COMMIT of those that
-# differ from that commit's.
+# Proves the libraries, and tries the edits of single functions, which the gate leaves out: of all crates, or with
+# SINCE=COMMIT of those that differ from that commit's.
 turned:
-	tools/turned $(if $(SINCE),--since $(SINCE))
+	$(if $(SINCE),tools/turned --since $(SINCE),tools/prove --turned)
 
 # Puts the program that was built to $(PREFIX)/bin, and its manual pages beside it. It builds nothing.
 install: built
